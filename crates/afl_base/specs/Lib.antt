@@ -1,2 +1,9 @@
 pub mod Causes
+pub mod Fields
+pub mod FileErrors
+pub mod Files
+pub mod Fit
 pub mod Image
+pub mod KeyColumn
+pub mod Names
+pub mod Regions

@@ -1,0 +1,173 @@
+use crate::failed::Failed;
+use crate::ids::FileId;
+use crate::kind::{FileError, Kind};
+use crate::name::Name;
+
+/// At most 32 named files with a flat list of bytes each, and at most one draft.
+///
+/// A file has a room: how many of its regions of 128 bytes may be overwritten, and how many bytes may
+/// be appended. `prepare` makes room, and is the only call on a file that can answer `Space`. A new
+/// file has none. No call may make a file's last byte zero.
+///
+/// An object may tell the bytes of its files, as memory does, or not. What is said of bytes holds
+/// where they are told; names, kinds, sizes and rooms are always known. A call that answers `Failed`
+/// leaves nothing known but the counts.
+pub trait Files {
+    ghost use Rattle.std.specs.Prelude.{◌≡◌, ◌≢◌, ℕ, ◌+◌, ◌*◌, ◌-◌, ◌<◌, ◌≤◌, List, ◌++◌, length, max, replicate, slice_index, slice_range, IsTrue, IsSome, IfSome, IfNone, IfOk, OnOk};
+    ghost use Rattle.afl_base.specs.Causes.{HasCause};
+    ghost use Rattle.afl_base.specs.Fields.{put_at};
+    ghost use Rattle.afl_base.specs.FileErrors.{HasFileCause, OnSpace, UnlessFailed};
+    ghost use Rattle.afl_base.specs.Files.{State, Becomes, Commits, Creates, Drafts, IsKind, IsLive, IsNamed, IsUnnamed, Keeps, Removes, bytes_at, draft_in, file_at, first_pages, is_live, size_at, used};
+    ghost use Rattle.afl_base.specs.Fit.{fit};
+    ghost use Rattle.afl_base.specs.Regions.{regions};
+
+    // All files, the draft, whether bytes are told, and the bytes that all is kept in.
+    ghost state: { Self → State };
+    // How many calls failed, up to the last number of a u64.
+    ghost faults: { Self → ℕ };
+    // How much was read of what lies below.
+    ghost reads: { Self → ℕ };
+    // No extent of so many pages can be had.
+    ghost lacks: { Self → ℕ → Type 0 };
+    // `prepare` of this file for so many overwrites and bytes needs an extent of so many pages.
+    ghost asks: { Self → ℕ → ℕ → ℕ → ℕ → Type 0 };
+
+    /// Whether the place holds a file.
+    fn live(&self, id: FileId) -> bool
+        ensures { result ≡ is_live (state self.now).files id };
+
+    /// The file of this name, `None` exactly where there is none. No two files have one name.
+    fn find(&self, name: Name) -> Option<FileId>
+        ensures found { IfSome result (λ id. IsNamed (state self.now).files id name) }
+        ensures only { IfSome result (λ id. (k : ℕ) → IsNamed (state self.now).files k name → k ≡ id) }
+        ensures none { IfNone result (IsUnnamed (state self.now).files name) };
+
+    /// The file's name, which no other file has.
+    fn name(&self, id: FileId) -> Name
+        requires { IsLive (state self.now).files id }
+        ensures name { result ≡ (file_at (state self.now).files id).name }
+        ensures only { (k : ℕ) → IsNamed (state self.now).files k result → k ≡ id };
+
+    fn kind(&self, id: FileId) -> Kind
+        requires { IsLive (state self.now).files id }
+        ensures { result ≡ (file_at (state self.now).files id).kind };
+
+    /// The number of bytes of the file.
+    fn size(&self, id: FileId) -> u32
+        requires { IsLive (state self.now).files id }
+        ensures { result ≡ size_at (state self.now).files id };
+
+    /// Fills `into` with the bytes of the file from byte `at` on. The count of reads rises by at most
+    /// 3 for each region of 128 bytes that is touched.
+    fn read(&mut self, id: FileId, at: u32, into: &mut [u8]) -> Result<(), Failed>
+        requires live { IsLive (state self.old).files id }
+        requires range { at + length into.old ≤ size_at (state self.old).files id }
+        ensures bytes { IsTrue (state self.old).tells → OnOk result (into.new ≡ slice_range (bytes_at (state self.old).files id) at (at + length into.old)) }
+        ensures same { OnOk result (state self.new ≡ state self.old) }
+        ensures reads { reads self.new ≤ reads self.old + 3 * regions at (length into.old) }
+        ensures reads_later { reads self.old ≤ reads self.new }
+        ensures cause { HasCause (faults self.old) (faults self.new) result };
+
+    /// Adds an empty file. `Space` has `need` 16 for a doubling file, and its number of pages for a
+    /// fixed one.
+    fn create(&mut self, name: Name, kind: Kind) -> Result<FileId, FileError>
+        requires unnamed { IsUnnamed (state self.old).files name }
+        requires place { used (state self.old).files < 32 }
+        requires kind { IsKind kind }
+        requires idle { (state self.old).draft ≡ None }
+        ensures created { IfOk result (λ id. Creates (state self.old) (state self.new) id name kind) }
+        ensures need { OnSpace result (λ need. need ≡ first_pages kind) }
+        ensures lacks { OnSpace result (λ need. lacks self.new need) }
+        ensures kept { OnSpace result (λ _. Keeps (state self.old) (state self.new)) }
+        ensures reads_later { reads self.old ≤ reads self.new }
+        ensures cause { HasFileCause (faults self.old) (faults self.new) result };
+
+    /// Takes the file away. All others stay.
+    fn remove(&mut self, id: FileId) -> Result<(), Failed>
+        requires live { IsLive (state self.old).files id }
+        requires idle { (state self.old).draft ≡ None }
+        ensures removed { OnOk result (Removes (state self.old) (state self.new) id) }
+        ensures reads_later { reads self.old ≤ reads self.new }
+        ensures cause { HasCause (faults self.old) (faults self.new) result };
+
+    /// Makes room in the file for at most 29 overwrites of one region each and for `bytes` more bytes,
+    /// at most 4,096, with which it has at most 4,194,304 and, of kind `Fixed(n)`, at most
+    /// `256 * n - 32`. `Space` names the pages that are asked for and lacking: for a doubling file at
+    /// most twice those that its bytes need, and for a fixed one at most 16. The file's bytes never
+    /// change.
+    fn prepare(&mut self, id: FileId, overwrites: u16, bytes: u32) -> Result<(), FileError>
+        requires live { IsLive (state self.old).files id }
+        requires idle { (state self.old).draft ≡ None }
+        requires overwrites { overwrites ≤ 29 }
+        requires bytes { bytes ≤ 4096 }
+        requires most { size_at (state self.old).files id + bytes ≤ 4194304 }
+        requires fixed { (n : ℕ) → (file_at (state self.old).files id).kind ≡ Kind.Fixed n → size_at (state self.old).files id + bytes + 32 ≤ 256 * n }
+        ensures contents { UnlessFailed result (Becomes (state self.old) (state self.new) id (size_at (state self.old).files id) (bytes_at (state self.old).files id)) }
+        ensures records { OnOk result (overwrites ≤ (file_at (state self.new).files id).records) }
+        ensures room { OnOk result (bytes ≤ (file_at (state self.new).files id).room) }
+        ensures need_doubling { OnSpace result (λ need. (file_at (state self.old).files id).kind ≡ Kind.Doubling → need ≤ max 16 (2 * fit (size_at (state self.old).files id))) }
+        ensures need_fixed { OnSpace result (λ need. (n : ℕ) → (file_at (state self.old).files id).kind ≡ Kind.Fixed n → need ≤ 16) }
+        ensures asked { OnSpace result (λ need. asks self.new id overwrites bytes need) }
+        ensures lacks { OnSpace result (λ need. lacks self.new need) }
+        ensures reads_later { reads self.old ≤ reads self.new }
+        ensures cause { HasFileCause (faults self.old) (faults self.new) result };
+
+    /// Puts `bytes` in the place of those from byte `at` on. It takes one record of the room for each
+    /// region that is touched. The file's last byte may not become zero.
+    fn overwrite(&mut self, id: FileId, at: u32, bytes: &[u8]) -> Result<(), Failed>
+        requires live { IsLive (state self.old).files id }
+        requires some { 1 ≤ length bytes.now }
+        requires range { at + length bytes.now ≤ size_at (state self.old).files id }
+        requires records { regions at (length bytes.now) ≤ (file_at (state self.old).files id).records }
+        requires last { at + length bytes.now ≡ size_at (state self.old).files id → slice_index bytes.now (length bytes.now - 1) ≢ 0 }
+        ensures overwritten { OnOk result (Becomes (state self.old) (state self.new) id (size_at (state self.old).files id) (put_at (bytes_at (state self.old).files id) at bytes.now)) }
+        ensures records { OnOk result ((file_at (state self.new).files id).records + regions at (length bytes.now) ≡ (file_at (state self.old).files id).records) }
+        ensures room { OnOk result ((file_at (state self.new).files id).room ≡ (file_at (state self.old).files id).room) }
+        ensures reads_later { reads self.old ≤ reads self.new }
+        ensures cause { HasCause (faults self.old) (faults self.new) result };
+
+    /// Adds `bytes`, whose last is not zero, to the end of the file. All room for bytes is used up by
+    /// this, and the records stay.
+    fn append(&mut self, id: FileId, bytes: &[u8]) -> Result<(), Failed>
+        requires live { IsLive (state self.old).files id }
+        requires some { 1 ≤ length bytes.now }
+        requires room { length bytes.now ≤ (file_at (state self.old).files id).room }
+        requires last { slice_index bytes.now (length bytes.now - 1) ≢ 0 }
+        ensures appended { OnOk result (Becomes (state self.old) (state self.new) id (size_at (state self.old).files id + length bytes.now) (bytes_at (state self.old).files id ++ bytes.now)) }
+        ensures records { OnOk result ((file_at (state self.new).files id).records ≡ (file_at (state self.old).files id).records) }
+        ensures room { OnOk result ((file_at (state self.new).files id).room ≡ 0) }
+        ensures reads_later { reads self.old ≤ reads self.new }
+        ensures cause { HasCause (faults self.old) (faults self.new) result };
+
+    /// Begins a draft of `size` zero bytes, at most 4,194,304, for a doubling file of this name, new or
+    /// not. `Space` has `need` `fit(size)`.
+    fn draft(&mut self, name: Name, size: u32) -> Result<(), FileError>
+        requires idle { (state self.old).draft ≡ None }
+        requires size { size ≤ 4194304 }
+        requires kind { (k : ℕ) → IsNamed (state self.old).files k name → (file_at (state self.old).files k).kind ≡ Kind.Doubling }
+        requires place { IsUnnamed (state self.old).files name → used (state self.old).files < 32 }
+        ensures begun { OnOk result (Drafts (state self.old) (state self.new) name size (replicate size 0)) }
+        ensures need { OnSpace result (λ need. need ≡ fit size) }
+        ensures lacks { OnSpace result (λ need. lacks self.new need) }
+        ensures kept { OnSpace result (λ _. Keeps (state self.old) (state self.new)) }
+        ensures reads_later { reads self.old ≤ reads self.new }
+        ensures cause { HasFileCause (faults self.old) (faults self.new) result };
+
+    /// Puts `bytes` into the draft from byte `at` on, where it has zeros.
+    fn draft_write(&mut self, at: u32, bytes: &[u8]) -> Result<(), Failed>
+        requires begun { IsSome (state self.old).draft }
+        requires range { at + length bytes.now ≤ length (draft_in (state self.old)).bytes }
+        requires zeros { IsTrue (state self.old).tells → slice_range (draft_in (state self.old)).bytes at (at + length bytes.now) ≡ replicate (length bytes.now) 0 }
+        ensures written { OnOk result (Drafts (state self.old) (state self.new) (draft_in (state self.old)).name (length (draft_in (state self.old)).bytes) (put_at (draft_in (state self.old)).bytes at bytes.now)) }
+        ensures reads_later { reads self.old ≤ reads self.new }
+        ensures cause { HasCause (faults self.old) (faults self.new) result };
+
+    /// Makes the draft, empty or with a last byte that is not zero, the file of its name. A file that
+    /// had the name keeps its place in the table. All other files stay.
+    fn draft_commit(&mut self) -> Result<FileId, Failed>
+        requires begun { IsSome (state self.old).draft }
+        requires last { IsTrue (state self.old).tells → 1 ≤ length (draft_in (state self.old)).bytes → slice_index (draft_in (state self.old)).bytes (length (draft_in (state self.old)).bytes - 1) ≢ 0 }
+        ensures committed { IfOk result (λ id. Commits (state self.old) (state self.new) id) }
+        ensures reads_later { reads self.old ≤ reads self.new }
+        ensures cause { HasCause (faults self.old) (faults self.new) result };
+}

@@ -1,0 +1,19 @@
+ghost use Rattle.std.specs.Prelude.{◌≡◌, ◌≤◌};
+ghost use Rattle.afl_base.specs.Fit.{fit, IsFit};
+
+/// The least number of pages of the form `16 * 2^j` that holds `size` bytes behind a header of 32
+/// bytes: 16 to 32,768.
+pub fn fit(size: u32) -> u16
+    requires { size ≤ 8388576 }
+    ensures value { result ≡ fit size }
+    ensures least { IsFit size result }
+{
+    let mut pages: u16 = 16;
+    'doublings: for turn in 0..11u16 {
+        if size + 32 <= 256 * u32::from(pages) {
+            return pages;
+        }
+        pages *= 2;
+    }
+    pages
+}

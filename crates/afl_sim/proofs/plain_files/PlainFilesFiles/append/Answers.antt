@@ -1,0 +1,20 @@
+use Rattle.std.proofs.Common.{◌++◌, arith}
+use Rattle.afl_base.specs.Files.{bytes_at}
+use Rattle.std.proofs.Common.{◌++◌, length-append}
+use Rattle.afl_sim.proofs.PlainStates.{plain_becomes, plain_kept}
+use Rattle.afl_sim.proofs.plain_files.PlainFilesFiles.append.Goals as goal
+
+pub invariant_of-self : goal.invariant_of-self
+invariant_of-self g c =
+    let a = c.self.inside in
+    rw c.number.ensures.value
+    (plain_kept g.row.CAP a.table a.draft c.args.id c.file-file.result c.append.new.self _ _ _ c.self.invariant
+    (omega (arith, c.number.ensures.below, c.number.ensures.value)) (rw (← c.self.view_is) at c.file-file.ensures.file) c.append.ensures)
+
+pub returns-clause-appended : goal.returns-clause-appended
+returns-clause-appended g c =
+    let a = c.self.inside in
+    rw (← c.self.view_is, c.number.ensures.value)
+    (plain_becomes g.row.CAP a.table a.draft c.args.id c.file-file.result c.append.new.self (λ bytes. bytes ++ c.args.bytes.now) _ _ _ c.self.invariant
+    (omega (arith, c.number.ensures.below, c.number.ensures.value)) (rw (← c.self.view_is) at c.file-file.ensures.file) c.append.ensures
+    (length-append (bytes_at a.table c.args.id) c.args.bytes.now))

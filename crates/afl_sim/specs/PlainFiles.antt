@@ -1,0 +1,46 @@
+-- Files in fixed arrays of so many bytes each.
+use Rattle.std.specs.Prelude.{◌≡◌, ℕ, ◌+◌, ◌*◌, ◌<◌, ◌≤◌, List, [], length, Option, Some, option_map, true}
+use Rattle.afl_base.specs.declared.kind.Kind.{Kind}
+use Rattle.afl_base.specs.declared.kind.Kind.TheVariants.{Doubling, Fixed}
+use Rattle.afl_base.specs.Files.{AreDistinct, File, IsUnnamed, State, Table, used}
+use Rattle.afl_base.specs.Fit.{fit}
+use Rattle.afl_base.specs.Names.{IsPadded}
+
+-- a file lies in an array of cap bytes: size of them, zeros behind them, and room for its room
+pub record IsPlain (cap size room : ℕ) (kind : Kind) (bytes : List ℕ) : Type 0 where
+  pub padded : IsPadded cap size bytes
+  pub fits : size + room ≤ cap
+  pub pages : (n : ℕ) → kind ≡ Fixed n → n ≤ 15
+
+-- what callers see: all files, the draft, and no store
+abbrev pub plain_state : Table → Option File → State
+plain_state files draft = record {
+  tells = true;
+  files = files;
+  draft = option_map (λ (f : File). record { name = f.name; bytes = f.bytes }) draft;
+  store = [];
+}
+
+-- a file that a draft may become
+pub record IsFresh (f : File) : Type 0 where
+  pub kind : f.kind ≡ Doubling
+  pub records : f.records ≡ 0
+  pub room : f.room ≡ 0
+
+-- 32 places, no name twice, and a place for the draft
+pub record ArePlain (cap : ℕ) (files : Table) (draft : Option File) : Type 0 where
+  pub least : 4064 ≤ cap
+  pub most : cap ≤ 16352
+  pub places : length files ≡ 32
+  pub distinct : AreDistinct files
+  pub fresh : (f : File) → draft ≡ Some f → IsFresh f
+  pub space : (f : File) → draft ≡ Some f → IsUnnamed files f.name → used files < 32
+
+-- an extent of n pages has more bytes than an array
+abbrev pub PlainLacks : ℕ → ℕ → Type 0
+PlainLacks cap n = cap + 32 < 256 * n
+
+-- the pages that a file of the kind and size counts as
+abbrev pub plain_pages : Kind → ℕ → ℕ
+plain_pages Doubling size = fit size
+plain_pages (Fixed n) size = n

@@ -1,0 +1,151 @@
+use afl_base::{Failed, Flash, PageId, SectorId};
+use arrayvec::ArrayVec;
+use std::marker::Model;
+
+/// A flash around another one that fails on demand.
+///
+/// Its calls of `read`, `program` and `erase` are numbered together, from 1 up to the last number of
+/// a u64. At the numbers that it was given it answers `Failed`, and does not call the flash inside.
+#[derive(Drop)]
+pub struct FaultFlash<F: Flash + Drop> {
+    inner: F,
+    fails: ArrayVec<u64, 16>,
+    calls: u64,
+    reads: u64,
+    faults: u64,
+}
+
+impl<F: Flash + Drop> Model for FaultFlash<F> {
+    ghost use Rattle.afl_sim.specs.Devices.{FlashWithFaults};
+
+    ghost Value = { FlashWithFaults F };
+
+    ghost view = { λ f. record { inner = f.inner; fails = f.fails.items; calls = f.calls; reads = f.reads; faults = f.faults } };
+}
+
+impl<F: Flash + Drop> FaultFlash<F> {
+    ghost use Rattle.std.specs.Prelude.{◌≡◌, min, ◌+◌, ◌-◌, ◌^◌, is_err, if◌then◌else◌};
+    ghost use Rattle.afl_sim.specs.Devices.{fails_now, number_of_call};
+
+    /// A flash around `inner` that fails at the calls whose numbers stand in `fails`.
+    pub fn new(inner: F, fails: ArrayVec<u64, 16>) -> FaultFlash<F>
+        ensures inner { result.inner ≡ inner }
+        ensures fails { result.fails ≡ fails.items }
+        ensures calls { result.calls ≡ 0 }
+        ensures reads { result.reads ≡ 0 }
+        ensures faults { result.faults ≡ 0 }
+    {
+        FaultFlash {
+            inner,
+            fails,
+            calls: 0,
+            reads: 0,
+            faults: 0,
+        }
+    }
+
+    /// The flash inside.
+    pub fn into_inner(self) -> F
+        ensures { result ≡ self.inner }
+    {
+        let FaultFlash {
+            inner,
+            fails: _,
+            calls: _,
+            reads: _,
+            faults: _,
+        } = self;
+        inner
+    }
+
+    // Counts the call to come, and answers `Failed` where it is one of those that fail.
+    fn count_call(&mut self) -> Result<(), Failed>
+        ensures fails { is_err result ≡ fails_now self.old.fails self.old.calls }
+        ensures calls { self.new.calls ≡ number_of_call self.old.calls }
+        ensures inner { self.new.inner ≡ self.old.inner }
+        ensures list { self.new.fails ≡ self.old.fails }
+        ensures reads { self.new.reads ≡ self.old.reads }
+        ensures faults { self.new.faults ≡ (if is_err result then min (self.old.faults + 1) (2 ^ 64 - 1) else self.old.faults) }
+    {
+        self.calls = self.calls.saturating_add(1);
+        if self.fails.as_slice().contains(&self.calls) {
+            self.faults = self.faults.saturating_add(1);
+            return Err(Failed);
+        }
+        Ok(())
+    }
+}
+
+impl<F: Flash + Drop> Flash for FaultFlash<F> {
+    ghost use Rattle.std.specs.Prelude.{◌≡◌, ◌≢◌, ℕ, ◌+◌, ◌*◌, ◌-◌, ◌^◌, ◌≤◌, min, true, false, length, slice_range, IsTrue, IsErr, OnOk, OnErr};
+    ghost use Rattle.afl_base.specs.Causes.{HasCause, CountsOne, Rose};
+    ghost use Rattle.afl_base.specs.Image.{or_at, zeros_at, page_bytes, sector_bytes};
+    ghost use Rattle.afl_sim.specs.Devices.{fails_now, number_of_call, all_faults};
+
+    ghost tells = { F.tells };
+
+    ghost image = { λ f. F.image f.inner };
+
+    ghost faults = { λ f. all_faults f.faults (F.faults f.inner) };
+
+    ghost reads = { λ f. f.reads };
+
+    fn sectors(&self) -> u16 {
+        self.inner.sectors()
+    }
+
+    fn read(&mut self, page: PageId, at: u16, into: &mut [u8]) -> Result<(), Failed>
+        requires page { 256 * page.0 + 256 ≤ length (F.image self.old.inner) }
+        requires range { at + length into.old ≤ 256 }
+        ensures bytes { IsTrue F.tells → OnOk result (into.new ≡ slice_range (F.image self.old.inner) (256 * page.0 + at) (256 * page.0 + at + length into.old)) }
+        ensures same { F.image self.new.inner ≡ F.image self.old.inner }
+        ensures counted { CountsOne self.old.reads self.new.reads }
+        ensures reads { self.new.reads ≤ self.old.reads + 1 }
+        ensures cause { HasCause (all_faults self.old.faults (F.faults self.old.inner)) (all_faults self.new.faults (F.faults self.new.inner)) result }
+        ensures numbered { self.new.calls ≡ number_of_call self.old.calls }
+        ensures list { self.new.fails ≡ self.old.fails }
+        ensures fails { fails_now self.old.fails self.old.calls ≡ true → IsErr result × (self.new.inner ≡ self.old.inner) }
+        ensures passes { fails_now self.old.fails self.old.calls ≡ false → OnErr result (Rose (F.faults self.old.inner) (F.faults self.new.inner)) }
+    {
+        self.reads = self.reads.saturating_add(1);
+        self.count_call()?;
+        self.inner.read(page, at, into)?;
+        Ok(())
+    }
+
+    fn program(&mut self, page: PageId, at: u16, bytes: &[u8]) -> Result<(), Failed>
+        requires page { 256 * page.0 + 256 ≤ length (F.image self.old.inner) }
+        requires range { at + length bytes.now ≤ 256 }
+        ensures programmed { IsTrue F.tells → OnOk result (F.image self.new.inner ≡ or_at (F.image self.old.inner) (256 * page.0 + at) bytes.now) }
+        ensures page { IsTrue F.tells → OnOk result (page_bytes (F.image self.new.inner) page.0 ≡ or_at (page_bytes (F.image self.old.inner) page.0) at bytes.now) }
+        ensures other_pages { IsTrue F.tells → (p : ℕ) → p ≢ page.0 → page_bytes (F.image self.new.inner) p ≡ page_bytes (F.image self.old.inner) p }
+        ensures size { length (F.image self.new.inner) ≡ length (F.image self.old.inner) }
+        ensures reads { self.new.reads ≡ self.old.reads }
+        ensures cause { HasCause (all_faults self.old.faults (F.faults self.old.inner)) (all_faults self.new.faults (F.faults self.new.inner)) result }
+        ensures numbered { self.new.calls ≡ number_of_call self.old.calls }
+        ensures list { self.new.fails ≡ self.old.fails }
+        ensures fails { fails_now self.old.fails self.old.calls ≡ true → IsErr result × (self.new.inner ≡ self.old.inner) }
+        ensures passes { fails_now self.old.fails self.old.calls ≡ false → OnErr result (Rose (F.faults self.old.inner) (F.faults self.new.inner)) }
+    {
+        self.count_call()?;
+        self.inner.program(page, at, bytes)?;
+        Ok(())
+    }
+
+    fn erase(&mut self, sector: SectorId) -> Result<(), Failed>
+        requires sector { 4096 * sector.0 + 4096 ≤ length (F.image self.old.inner) }
+        ensures erased { IsTrue F.tells → OnOk result (F.image self.new.inner ≡ zeros_at (F.image self.old.inner) (4096 * sector.0) 4096) }
+        ensures other_sectors { IsTrue F.tells → (s : ℕ) → s ≢ sector.0 → sector_bytes (F.image self.new.inner) s ≡ sector_bytes (F.image self.old.inner) s }
+        ensures size { length (F.image self.new.inner) ≡ length (F.image self.old.inner) }
+        ensures reads { self.new.reads ≡ self.old.reads }
+        ensures cause { HasCause (all_faults self.old.faults (F.faults self.old.inner)) (all_faults self.new.faults (F.faults self.new.inner)) result }
+        ensures numbered { self.new.calls ≡ number_of_call self.old.calls }
+        ensures list { self.new.fails ≡ self.old.fails }
+        ensures fails { fails_now self.old.fails self.old.calls ≡ true → IsErr result × (self.new.inner ≡ self.old.inner) }
+        ensures passes { fails_now self.old.fails self.old.calls ≡ false → OnErr result (Rose (F.faults self.old.inner) (F.faults self.new.inner)) }
+    {
+        self.count_call()?;
+        self.inner.erase(sector)?;
+        Ok(())
+    }
+}

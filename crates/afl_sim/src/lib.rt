@@ -1,0 +1,23 @@
+//! Devices behind the traits of the outside: in memory, with faults on demand, and the real ones.
+#![tactic(auto)]
+
+mod bytes;
+mod faulty;
+mod memory;
+mod plain_file;
+mod plain_files;
+mod real;
+mod streams;
+
+pub use faulty::FaultFlash;
+pub use memory::MemFlash;
+pub use plain_files::PlainFiles;
+pub use real::{FileFlash, StdSink, StdSource};
+pub use streams::{MemSink, MemSource};
+
+#[cfg(test)]
+mod plain_tests;
+#[cfg(test)]
+mod rows;
+#[cfg(test)]
+mod tests;

@@ -1,0 +1,295 @@
+ghost use Rattle.std.specs.Prelude.{◌≡◌, ◌≢◌, ◌⊎◌, ◌<◌, ◌≤◌, ◌+◌, ◌*◌, ℕ, IsSome, IfSome, IfNone, MatchBool, Some, None, length, replicate, option_map};
+ghost use Rattle.afl_base.specs.Files.{File, IsLive, IsNamed, IsUnnamed, place, used};
+ghost use Rattle.afl_base.specs.Regions.{regions};
+ghost use Rattle.afl_sim.specs.PlainFiles.{plain_pages};
+
+use crate::plain_file::PlainFile;
+use afl_base::{Failed, FileError, FileId, Files, Kind, Name, fit};
+use std::marker::Model;
+
+/// At most 32 files of at most `CAP` bytes each, and a draft, in fixed arrays. It tells all bytes and
+/// never fails.
+///
+/// A doubling file counts as `fit(size)` pages and a fixed one as its number of pages. An extent is
+/// lacking where it has more bytes than `CAP`. Every room that is asked for is granted exactly.
+#[derive(Drop)]
+pub struct PlainFiles<const CAP: usize> {
+    table: [Option<PlainFile<CAP>>; 32],
+    draft: Option<PlainFile<CAP>>,
+}
+
+impl<const CAP: usize> Model for PlainFiles<CAP> {
+    ghost use Rattle.afl_base.specs.Files.{State};
+    ghost use Rattle.afl_sim.specs.PlainFiles.{ArePlain, plain_state};
+
+    ghost Value = { State };
+
+    ghost view = { λ f. plain_state f.table f.draft };
+
+    ghost invariant = { λ f. ArePlain CAP f.table f.draft };
+}
+
+impl<const CAP: usize> PlainFiles<CAP> {
+    ghost use Rattle.std.specs.Prelude.{◌≡◌, ◌≤◌, ℕ, None, Some, replicate};
+    ghost use Rattle.afl_base.specs.Files.{IsLive, IsNamed, place};
+    ghost use Rattle.afl_sim.specs.PlainFiles.{plain_state};
+
+    /// No files.
+    pub fn new() -> PlainFiles<CAP>
+        requires least { 4064 ≤ CAP }
+        requires most { CAP ≤ 16352 }
+        ensures { result ≡ plain_state (replicate 32 None) None }
+    {
+        PlainFiles {
+            table: [None; 32],
+            draft: None,
+        }
+    }
+
+    // The file under a live id.
+    fn file(&self, id: FileId) -> PlainFile<CAP>
+        requires { IsLive self.now.files id }
+        ensures file { place self.now.files id ≡ Some result }
+        ensures only { (k : ℕ) → IsNamed self.now.files k result.name → k ≡ id }
+        ensures small { CAP ≤ 16352 }
+    {
+        match self.table[id.number() as usize] {
+            Some(file) => file,
+            None => unreachable!(),
+        }
+    }
+}
+
+// The draft that is begun.
+fn drafted<const CAP: usize>(draft: &Option<PlainFile<CAP>>) -> PlainFile<CAP>
+    requires { IsSome draft.now }
+    ensures { draft.now ≡ Some result }
+{
+    match draft {
+        Some(file) => *file,
+        None => unreachable!(),
+    }
+}
+
+// The place of the file of this name, else the first place that holds none.
+fn place_for<const CAP: usize>(table: &[Option<PlainFile<CAP>>], name: &Name) -> FileId
+    requires places { length table.now ≡ 32 }
+    requires free { IsUnnamed table.now name.now → used table.now < 32 }
+    ensures { IsNamed table.now result name.now ⊎ (IsUnnamed table.now name.now × (place table.now result ≡ None)) }
+{
+    if let Some(id) = find_in(table, name) {
+        return id;
+    }
+    free_in(table)
+}
+
+// The pages that a file of this kind and size counts as.
+fn pages(kind: Kind, size: u32) -> u16
+    requires { size ≤ 8388576 }
+    ensures { result ≡ plain_pages kind size }
+{
+    match kind {
+        Kind::Doubling => fit(size),
+        Kind::Fixed(n) => n,
+    }
+}
+
+// Whether an extent of so many pages has more bytes than an array.
+fn is_lacking(cap: usize, pages: u16) -> bool
+    ensures { MatchBool result (cap + 32 < 256 * pages) (256 * pages ≤ cap + 32) }
+{
+    cap < (256 * pages as usize).saturating_sub(32)
+}
+
+// Whether a file of this name stands here.
+fn has_name<const CAP: usize>(place: &Option<PlainFile<CAP>>, name: &Name) -> bool
+    ensures { MatchBool result (option_map (λ (f : File). f.name) place.now ≡ Some name.now) (option_map (λ (f : File). f.name) place.now ≢ Some name.now) }
+{
+    match place {
+        Some(file) => file.name() == *name,
+        None => false,
+    }
+}
+
+// The place of the file of this name.
+fn find_in<const CAP: usize>(table: &[Option<PlainFile<CAP>>], name: &Name) -> Option<FileId>
+    requires { length table.now ≡ 32 }
+    ensures found { IfSome result (λ id. IsNamed table.now id name.now) }
+    ensures none { IfNone result (IsUnnamed table.now name.now) }
+{
+    for number in 0..32u16 {
+        if has_name(&table[number as usize], name) {
+            return Some(id_of(number));
+        }
+    }
+    None
+}
+
+// The first place that holds no file.
+fn free_in<const CAP: usize>(table: &[Option<PlainFile<CAP>>]) -> FileId
+    requires places { length table.now ≡ 32 }
+    requires free { used table.now < 32 }
+    ensures { place table.now result ≡ None }
+{
+    for number in 0..32u16 {
+        if table[number as usize].is_none() {
+            return id_of(number);
+        }
+    }
+    unreachable!()
+}
+
+fn id_of(number: u16) -> FileId
+    requires { number < 32 }
+    ensures { result ≡ number }
+{
+    match FileId::new(number) {
+        Some(id) => id,
+        None => unreachable!(),
+    }
+}
+
+// How many regions of 128 bytes the `len` bytes from `at` on touch.
+fn regions(at: u32, len: usize) -> u16
+    requires some { 1 ≤ len }
+    requires few { at + len ≤ 16352 }
+    ensures { result ≡ regions at len }
+{
+    let first = at as usize / 128;
+    let past = (at as usize + len + 127) / 128;
+    (past - first) as u16
+}
+
+impl<const CAP: usize> Files for PlainFiles<CAP> {
+    ghost use Rattle.std.specs.Prelude.{◌≡◌, ◌+◌, ◌*◌, ◌<◌, ◌≤◌, ℕ, None, OnOk, length, max, replicate};
+    ghost use Rattle.afl_base.specs.FileErrors.{HasFileCause, OnSpace, UnlessFailed};
+    ghost use Rattle.afl_base.specs.Files.{Becomes, Drafts, IsLive, IsNamed, IsUnnamed, Keeps, bytes_at, file_at, size_at, used};
+    ghost use Rattle.afl_base.specs.Fit.{fit};
+    ghost use Rattle.afl_sim.specs.PlainFiles.{PlainLacks, plain_pages};
+
+    ghost state = { λ f. f };
+
+    ghost faults = { λ f. 0 };
+
+    ghost reads = { λ f. 0 };
+
+    ghost lacks = { λ f n. PlainLacks CAP n };
+
+    ghost asks = { λ f id w b n. n ≡ plain_pages (file_at f.files id).kind (size_at f.files id + b) };
+
+    fn live(&self, id: FileId) -> bool {
+        self.table[id.number() as usize].is_some()
+    }
+
+    fn find(&self, name: Name) -> Option<FileId> {
+        find_in(&self.table, &name)
+    }
+
+    fn name(&self, id: FileId) -> Name {
+        self.file(id).name()
+    }
+
+    fn kind(&self, id: FileId) -> Kind {
+        self.file(id).kind()
+    }
+
+    fn size(&self, id: FileId) -> u32 {
+        self.file(id).size() as u32
+    }
+
+    fn read(&mut self, id: FileId, at: u32, into: &mut [u8]) -> Result<(), Failed> {
+        self.file(id).read(at as usize, into);
+        Ok(())
+    }
+
+    fn create(&mut self, name: Name, kind: Kind) -> Result<FileId, FileError> {
+        let id = free_in(&self.table);
+        self.table[id.number() as usize] = Some(PlainFile::new(name, kind, 0));
+        Ok(id)
+    }
+
+    fn remove(&mut self, id: FileId) -> Result<(), Failed> {
+        self.table[id.number() as usize] = None;
+        Ok(())
+    }
+
+    /// `Space` comes exactly where an extent of so many pages as the file would count is lacking.
+    fn prepare(&mut self, id: FileId, overwrites: u16, bytes: u32) -> Result<(), FileError>
+        requires live { IsLive self.old.files id }
+        requires idle { self.old.draft ≡ None }
+        requires overwrites { overwrites ≤ 29 }
+        requires bytes { bytes ≤ 4096 }
+        requires most { size_at self.old.files id + bytes ≤ 4194304 }
+        requires fixed { (n : ℕ) → (file_at self.old.files id).kind ≡ Kind.Fixed n → size_at self.old.files id + bytes + 32 ≤ 256 * n }
+        ensures granted { OnOk result (256 * plain_pages (file_at self.old.files id).kind (size_at self.old.files id + bytes) ≤ CAP + 32) }
+        ensures contents { UnlessFailed result (Becomes self.old self.new id (size_at self.old.files id) (bytes_at self.old.files id)) }
+        ensures records { OnOk result (overwrites ≤ (file_at self.new.files id).records) }
+        ensures room { OnOk result (bytes ≤ (file_at self.new.files id).room) }
+        ensures need_doubling { OnSpace result (λ need. (file_at self.old.files id).kind ≡ Kind.Doubling → need ≤ max 16 (2 * fit (size_at self.old.files id))) }
+        ensures need_fixed { OnSpace result (λ need. (n : ℕ) → (file_at self.old.files id).kind ≡ Kind.Fixed n → need ≤ 16) }
+        ensures asked { OnSpace result (λ need. need ≡ plain_pages (file_at self.new.files id).kind (size_at self.new.files id + bytes)) }
+        ensures lacks { OnSpace result (λ need. PlainLacks CAP need) }
+        ensures reads_later { 0 ≤ 0 }
+        ensures cause { HasFileCause 0 0 result }
+    {
+        let mut file = self.file(id);
+        let need = pages(file.kind(), file.size() as u32 + bytes);
+        if is_lacking(CAP, need) {
+            return Err(FileError::Space { need });
+        }
+        file.grant(overwrites, bytes as usize);
+        self.table[id.number() as usize] = Some(file);
+        Ok(())
+    }
+
+    fn overwrite(&mut self, id: FileId, at: u32, bytes: &[u8]) -> Result<(), Failed> {
+        let mut file = self.file(id);
+        file.overwrite(at as usize, bytes, regions(at, bytes.len()));
+        self.table[id.number() as usize] = Some(file);
+        Ok(())
+    }
+
+    fn append(&mut self, id: FileId, bytes: &[u8]) -> Result<(), Failed> {
+        let mut file = self.file(id);
+        file.append(bytes);
+        self.table[id.number() as usize] = Some(file);
+        Ok(())
+    }
+
+    /// `Space` comes exactly where an extent of `fit(size)` pages is lacking.
+    fn draft(&mut self, name: Name, size: u32) -> Result<(), FileError>
+        requires idle { self.old.draft ≡ None }
+        requires size { size ≤ 4194304 }
+        requires kind { (k : ℕ) → IsNamed self.old.files k name → (file_at self.old.files k).kind ≡ Kind.Doubling }
+        requires place { IsUnnamed self.old.files name → used self.old.files < 32 }
+        ensures granted { OnOk result (256 * fit size ≤ CAP + 32) }
+        ensures begun { OnOk result (Drafts self.old self.new name size (replicate size 0)) }
+        ensures need { OnSpace result (λ need. need ≡ fit size) }
+        ensures lacks { OnSpace result (λ need. PlainLacks CAP need) }
+        ensures kept { OnSpace result (λ _. Keeps self.old self.new) }
+        ensures reads_later { 0 ≤ 0 }
+        ensures cause { HasFileCause 0 0 result }
+    {
+        let need = fit(size);
+        if is_lacking(CAP, need) {
+            return Err(FileError::Space { need });
+        }
+        self.draft = Some(PlainFile::new(name, Kind::Doubling, size as usize));
+        Ok(())
+    }
+
+    fn draft_write(&mut self, at: u32, bytes: &[u8]) -> Result<(), Failed> {
+        let mut draft = drafted(&self.draft);
+        draft.overwrite(at as usize, bytes, 0);
+        self.draft = Some(draft);
+        Ok(())
+    }
+
+    fn draft_commit(&mut self) -> Result<FileId, Failed> {
+        let draft = drafted(&self.draft);
+        let id = place_for(&self.table, &draft.name());
+        self.table[id.number() as usize] = Some(draft);
+        self.draft = None;
+        Ok(id)
+    }
+}

@@ -1,0 +1,242 @@
+ghost use Rattle.std.specs.Prelude.{◌≤◌, IfSome, length};
+
+use crate::bytes::program_bytes;
+use afl_base::{Failed, Flash, PageId, SectorId, Sink, Source};
+use std::fs::File;
+use std::io;
+use std::io::{ErrorKind, Read, Write};
+use std::marker::Model;
+use std::os::unix::fs::FileExt;
+
+const PAGE: u64 = 256;
+
+const SECTOR: u64 = 4096;
+
+const ERASED: [u8; 4096] = [0; 4096];
+
+// How often a call that a signal interrupted is made again.
+const TRIES: u32 = 1_000_000;
+
+/// A flash kept in an open file, byte after byte. It tells no contents, since others may write the
+/// file. What a call on the file failed to do is a fault of this flash.
+#[derive(Drop)]
+pub struct FileFlash {
+    file: File,
+    sectors: u16,
+    reads: u64,
+    faults: u64,
+}
+
+impl Model for FileFlash {
+    ghost use Rattle.std.specs.Prelude.{◌≤◌};
+    ghost use Rattle.afl_sim.specs.Devices.{FlashInFile};
+
+    ghost Value = { FlashInFile };
+
+    ghost view = { λ f. record { sectors = f.sectors; reads = f.reads; faults = f.faults } };
+
+    ghost invariant = { λ f. (4 ≤ f.sectors) × (f.sectors ≤ 4095) };
+}
+
+impl FileFlash {
+    ghost use Rattle.std.specs.Prelude.{◌≡◌, ◌↔◌, ◌*◌, IsSome, IfSome};
+    ghost use Rattle.afl_base.specs.Causes.{HasCause};
+    ghost use Rattle.afl_sim.specs.Lengths.{IsImageLength};
+
+    /// A flash in `file`, which has `length` bytes and was opened for reading and writing. `None`
+    /// comes exactly where `length` is not 4,096 times a number of sectors from 4 to 4,095.
+    pub fn new(file: File, length: u64) -> Option<FileFlash>
+        ensures variant { IsSome result ↔ IsImageLength length }
+        ensures sectors { IfSome result (λ flash. length ≡ 4096 * flash.sectors) }
+        ensures reads { IfSome result (λ flash. flash.reads ≡ 0) }
+        ensures faults { IfSome result (λ flash. flash.faults ≡ 0) }
+    {
+        let sectors = length / SECTOR;
+        if length % SECTOR != 0 || sectors < 4 || sectors > 4095 {
+            return None;
+        }
+        Some(FileFlash {
+            file,
+            sectors: sectors as u16,
+            reads: 0,
+            faults: 0,
+        })
+    }
+
+    // Counts a fault where a call on the file failed.
+    fn judge(&mut self, outcome: io::Result<()>) -> Result<(), Failed>
+        ensures sectors { self.new.sectors ≡ self.old.sectors }
+        ensures reads { self.new.reads ≡ self.old.reads }
+        ensures cause { HasCause self.old.faults self.new.faults result }
+    {
+        match outcome {
+            Ok(()) => Ok(()),
+            Err(_) => {
+                self.faults = self.faults.saturating_add(1);
+                Err(Failed)
+            }
+        }
+    }
+}
+
+impl Flash for FileFlash {
+    ghost use Rattle.std.specs.Prelude.{◌*◌, false, replicate};
+
+    ghost tells = { false };
+
+    ghost image = { λ f. replicate (4096 * f.sectors) 0 };
+
+    ghost faults = { λ f. f.faults };
+
+    ghost reads = { λ f. f.reads };
+
+    fn sectors(&self) -> u16 {
+        self.sectors
+    }
+
+    fn read(&mut self, page: PageId, at: u16, into: &mut [u8]) -> Result<(), Failed> {
+        self.reads = self.reads.saturating_add(1);
+        let outcome = self
+            .file
+            .read_exact_at(into, PAGE * u64::from(page.0) + u64::from(at));
+        self.judge(outcome)?;
+        Ok(())
+    }
+
+    fn program(&mut self, page: PageId, at: u16, bytes: &[u8]) -> Result<(), Failed> {
+        let place = PAGE * u64::from(page.0) + u64::from(at);
+        let mut buffer = [0u8; 256];
+        let part = &mut buffer[..bytes.len()];
+        let outcome = self.file.read_exact_at(part, place);
+        self.judge(outcome)?;
+        program_bytes(part, 0, bytes);
+        let outcome = self.file.write_all_at(part, place);
+        self.judge(outcome)?;
+        Ok(())
+    }
+
+    fn erase(&mut self, sector: SectorId) -> Result<(), Failed> {
+        let outcome = self
+            .file
+            .write_all_at(&ERASED, SECTOR * u64::from(sector.0));
+        self.judge(outcome)?;
+        Ok(())
+    }
+}
+
+// Reads once, and again where a signal came in between. `None` is a failure.
+fn read_once<R: Read>(reader: &mut R, into: &mut [u8]) -> Option<usize>
+    ensures { IfSome result (λ n. n ≤ length into.new) }
+{
+    for _ in 0..TRIES {
+        match reader.read(into) {
+            Ok(n) => return Some(n),
+            Err(error) if error.kind() == ErrorKind::Interrupted => {}
+            Err(_) => return None,
+        }
+    }
+    None
+}
+
+// Writes once, and again where a signal came in between. `None` is a failure, as is a writer that
+// takes nothing.
+fn write_once<W: Write>(writer: &mut W, bytes: &[u8]) -> Option<usize>
+    ensures least { IfSome result (λ n. 1 ≤ n) }
+    ensures most { IfSome result (λ n. n ≤ length bytes.now) }
+{
+    for _ in 0..TRIES {
+        match writer.write(bytes) {
+            Ok(0) => return None,
+            Ok(n) => return Some(n),
+            Err(error) if error.kind() == ErrorKind::Interrupted => {}
+            Err(_) => return None,
+        }
+    }
+    None
+}
+
+/// A source over a reader of the system: an open file or standard input. It tells no contents, and
+/// contracts see it as its count of faults.
+#[derive(Drop)]
+pub struct StdSource<R: Read + Drop> {
+    reader: R,
+    faults: u64,
+}
+
+impl<R: Read + Drop> Model for StdSource<R> {
+    ghost use Rattle.std.specs.Prelude.{ℕ};
+
+    ghost Value = { ℕ };
+
+    ghost view = { λ s. s.faults };
+}
+
+impl<R: Read + Drop> StdSource<R> {
+    ghost use Rattle.std.specs.Prelude.{◌≡◌};
+
+    /// A source of what `reader` gives.
+    pub fn new(reader: R) -> StdSource<R>
+        ensures { result ≡ 0 }
+    {
+        StdSource { reader, faults: 0 }
+    }
+}
+
+impl<R: Read + Drop> Source for StdSource<R> {
+    ghost use Rattle.std.specs.Prelude.{None};
+
+    ghost left = { λ s. None };
+
+    ghost faults = { λ s. s };
+
+    fn read(&mut self, into: &mut [u8]) -> Result<usize, Failed> {
+        let Some(n) = read_once(&mut self.reader, into) else {
+            self.faults = self.faults.saturating_add(1);
+            return Err(Failed);
+        };
+        Ok(n)
+    }
+}
+
+/// A sink over a writer of the system, as standard output. It tells no contents, and contracts see
+/// it as its count of faults.
+#[derive(Drop)]
+pub struct StdSink<W: Write + Drop> {
+    writer: W,
+    faults: u64,
+}
+
+impl<W: Write + Drop> Model for StdSink<W> {
+    ghost use Rattle.std.specs.Prelude.{ℕ};
+
+    ghost Value = { ℕ };
+
+    ghost view = { λ s. s.faults };
+}
+
+impl<W: Write + Drop> StdSink<W> {
+    ghost use Rattle.std.specs.Prelude.{◌≡◌};
+
+    /// A sink that hands on to `writer`.
+    pub fn new(writer: W) -> StdSink<W>
+        ensures { result ≡ 0 }
+    {
+        StdSink { writer, faults: 0 }
+    }
+}
+
+impl<W: Write + Drop> Sink for StdSink<W> {
+    ghost use Rattle.std.specs.Prelude.{None};
+
+    ghost held = { λ s. None };
+
+    ghost faults = { λ s. s };
+
+    fn write(&mut self, bytes: &[u8]) -> Result<usize, Failed> {
+        let Some(n) = write_once(&mut self.writer, bytes) else {
+            self.faults = self.faults.saturating_add(1);
+            return Err(Failed);
+        };
+        Ok(n)
+    }
+}
