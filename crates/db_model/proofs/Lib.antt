@@ -1,0 +1,12 @@
+pub mod Buckets
+pub mod Catalogs
+pub mod Conditions
+pub mod Decoded
+pub mod ReplyTexts
+pub mod Rows
+pub mod Scripts
+pub mod Steps
+pub mod Worked
+pub mod WorkedBytes
+pub mod WorkedLimits
+pub mod WorkedTokens

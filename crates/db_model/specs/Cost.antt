@@ -1,0 +1,163 @@
+-- How many pages a query, an aggregate or a cursor may read: a row and a key touch at most two regions of a file, a bucket
+-- three and a node's number one, and a region costs at most three reads.
+use Rattle.std.specs.Prelude.{ℕ, ℤ, zero, suc, ◌+◌, ◌*◌, ◌/◌, Bool, true, false, ◌==◌, List, [], ◌∷◌, map, length, filter, get_or, Option, Some, None, if◌then◌else◌}
+use Rattle.std.specs.List.{list_any, range_with_len}
+use Rattle.std.specs.Option.{option_map_or}
+use Rattle.std.specs.Ordering.{int_eq}
+use Rattle.db_model.specs.declared.commands.Agg.{Agg}
+use Rattle.db_model.specs.declared.commands.Agg.TheVariants.{Count, Sum, Min, Max, Mean, Median}
+use Rattle.db_model.specs.declared.commands.Command.{Command}
+use Rattle.db_model.specs.declared.commands.Command.TheVariants as command
+use Rattle.db_model.specs.declared.commands.Node.{Node}
+use Rattle.db_model.specs.declared.commands.Query.{Query}
+use Rattle.db_model.specs.declared.commands.Query.TheVariants.{Select, Join}
+use Rattle.db_model.specs.declared.schemas.Range.{Range}
+use Rattle.db_model.specs.declared.schemas.Range.TheVariants.{Between}
+use Rattle.db_model.specs.declared.values.Value.{Value}
+use Rattle.db_model.specs.declared.values.Value.TheVariants as value
+use Rattle.db_model.specs.Answers.{join, live_tuples}
+use Rattle.db_model.specs.Cond.{Cond, condition_of}
+use Rattle.db_model.specs.Database.{Relation, Database, relation_named, indexes_of}
+use Rattle.db_model.specs.HashTree.{same_path}
+use Rattle.db_model.specs.Item.{place_of, value_of}
+use Rattle.db_model.specs.Plan.{Plan, Nothing, Scan, ByOrder, ByTree, ByTable, Kinds, kinds_of, plan, place_at, range_at, ranges_of, lies_in}
+use Rattle.db_model.specs.Ranges.{everything}
+use Rattle.db_model.specs.Row.{Row}
+use Rattle.db_model.specs.Step.{Reply, Refused, keys, step}
+
+-- the number of binary digits of n, 0 for 0, of at most so many
+abbrev pub halvings : ℕ → ℕ → ℕ
+halvings zero n = 0
+halvings (suc turns) zero = 0
+halvings (suc turns) (suc n) = 1 + halvings turns (suc n / 2)
+
+unfoldable pub bits : ℕ → ℕ
+bits n = halvings n n
+
+-- ---- plans
+
+-- how many keys lie in a range
+abbrev pub keys_in : Range → List ℤ → ℕ
+keys_in range keys = length (filter (lies_in range) keys)
+
+-- how many keys are this key, and how many have its path in a hash tree
+abbrev pub keys_equal : ℤ → List ℤ → ℕ
+keys_equal key keys = length (filter (λ k. int_eq k key) keys)
+
+abbrev pub keys_beside : ℤ → List ℤ → ℕ
+keys_beside key keys = length (filter (same_path key) keys)
+
+-- a walk of the hash tree past k pairs of its key, e keys having the same path
+abbrev pub tree_cost : ℕ → ℕ → ℕ
+tree_cost e k = 30 + 9 * (6 + e / 32) + 15 * (k + 1)
+
+-- what a plan reads of a relation, whose slots removed rows count among
+abbrev pub plan_cost : Kinds → List Range → List Row → Plan → ℕ
+plan_cost indexes ranges rows Nothing = 0
+plan_cost indexes ranges rows Scan = 6 * length rows
+plan_cost indexes ranges rows (ByOrder nth) = 6 * (2 * bits (length rows) + keys_in (range_at ranges (place_at indexes nth)) (keys (place_at indexes nth) rows)) + 6
+plan_cost indexes ranges rows (ByTree nth key) = tree_cost (keys_beside key (keys (place_at indexes nth) rows)) (keys_equal key (keys (place_at indexes nth) rows))
+plan_cost indexes ranges rows (ByTable nth key) = 6 * keys_equal key (keys (place_at indexes nth) rows)
+
+-- the same by the plan that the indexes give
+abbrev pub chosen_cost : Kinds → List Range → List Row → ℕ
+chosen_cost indexes ranges rows = plan_cost indexes ranges rows (plan indexes ranges)
+
+-- ---- joins
+
+-- the ranges of the places for `on = value`: one number at the ON attribute's place, where the value is a number
+abbrev pub ranges_at : ℕ → Option Value → List Range
+ranges_at on (Some (value.Number z)) = map (λ place. if place == on then Between z z else everything) (range_with_len 0 8)
+ranges_at on (Some (value.Text bytes)) = map (λ place. everything) (range_with_len 0 8)
+ranges_at on None = map (λ place. everything) (range_with_len 0 8)
+
+-- what the right side reads for a left tuple
+abbrev pub right_cost : Kinds → Relation → Relation → List ℕ → List Value → ℕ
+right_cost indexes l r on tuple =
+    option_map_or (λ place. chosen_cost indexes (ranges_at place (value_of l.schema.attributes tuple on)) r.rows) (place_of on r.schema.attributes) 0
+
+-- costs, one after the other
+abbrev pub added : List ℕ → ℕ
+added [] = 0
+added (n ∷ ns) = n + added ns
+
+-- the same for each live one of some left rows
+abbrev pub right_costs : Kinds → Relation → Relation → List ℕ → List Row → ℕ
+right_costs indexes l r on rows = added (map (right_cost indexes l r on) (live_tuples rows))
+
+-- the rows in some slots
+abbrev pub rows_at : List ℕ → List Row → List Row
+rows_at [] rows = []
+rows_at (slot ∷ slots) rows = get_or rows slot (record { tuple = []; live = false }) ∷ rows_at slots rows
+
+-- ---- queries, aggregates and OPEN
+
+abbrev pub select_cost : Database → ℕ → Relation → Option Cond → ℕ
+select_cost db slot r condition = chosen_cost (kinds_of (indexes_of db slot)) (ranges_of r.schema.attributes condition) r.rows
+
+abbrev pub join_cost : Database → ℕ → Relation → Relation → List ℕ → List (List ℕ) → ℕ
+join_cost db right_slot l r on list =
+    6 * (length l.rows + length (join l.schema.attributes r.schema.attributes on list l.rows r.rows))
+    + right_costs (kinds_of (indexes_of db right_slot)) l r on l.rows
+
+-- what a halving search reads before the first row
+abbrev pub begin_cost : ℕ → Plan → ℕ
+begin_cost slots (ByOrder nth) = 12 * bits slots + 6
+begin_cost slots _ = 0
+
+abbrev pub is_median : Agg × List ℕ → Bool
+is_median item = elim item.0 [ Count ↦ false | Sum ↦ false | Min ↦ false | Max ↦ false | Mean ↦ false | Median ↦ true ]
+
+-- a median takes at most 34 passes over its values
+abbrev pub passes_of : List (Agg × List ℕ) → ℕ
+passes_of list = if list_any is_median list then 34 else 1
+
+abbrev pub query_cost : Database → Query → ℕ
+query_cost db (Select list name nodes) = option_map_or (λ s. select_cost db s.0 s.1 (condition_of nodes)) (relation_named db name) 0
+query_cost db (Join left right on list) =
+    option_map_or (λ l. option_map_or (λ r. join_cost db r.0 l.1 r.1 on list) (relation_named db right) 0) (relation_named db left) 0
+
+abbrev pub aggregate_cost : Database → List (Agg × List ℕ) → List ℕ → List Node → ℕ
+aggregate_cost db list name nodes =
+    option_map_or (λ s. passes_of list * select_cost db s.0 s.1 (condition_of nodes)) (relation_named db name) 0
+
+-- what OPEN reads of a relation
+abbrev pub open_select_cost : Database → ℕ → Relation → Option Cond → ℕ
+open_select_cost db slot r condition = begin_cost (length r.rows) (plan (kinds_of (indexes_of db slot)) (ranges_of r.schema.attributes condition))
+
+abbrev pub open_cost : Database → Query → ℕ
+open_cost db (Select list name nodes) = option_map_or (λ s. open_select_cost db s.0 s.1 (condition_of nodes)) (relation_named db name) 0
+open_cost db (Join left right on list) = 0
+
+-- ---- FETCH
+
+-- the slots that a FETCH passes, of those ahead: up to and with the one that it stops at, all where it stops at none
+abbrev pub passed : Option ℕ → List ℕ → List ℕ
+passed None slots = slots
+passed (Some stop) [] = []
+passed (Some stop) (slot ∷ slots) = if slot == stop then slot ∷ [] else slot ∷ passed (Some stop) slots
+
+-- a FETCH of a SELECT that passes c slots; `indexes` and the plan are those of its OPEN, and the rows those of now
+abbrev pub fetch_select_cost : Kinds → Plan → List Row → ℕ → ℕ
+fetch_select_cost indexes (ByTree nth key) rows c = tree_cost (keys_beside key (keys (place_at indexes nth) rows)) c
+fetch_select_cost indexes _ rows c = 6 * c
+
+-- a FETCH of a JOIN that passes these left slots; `indexes` are the right relation's of its OPEN, and the relations those of now
+abbrev pub fetch_join_cost : Kinds → Relation → Relation → List ℕ → List ℕ → ℕ
+fetch_join_cost indexes l r on slots = 6 * length slots + right_costs indexes l r on (rows_at slots l.rows)
+
+-- ---- commands
+
+abbrev pub is_refused : Reply → Bool
+is_refused (Refused refusal) = true
+is_refused _ = false
+
+-- what a query, an aggregate or an OPEN may read; one that is refused reads nothing, and neither does CLOSE
+abbrev pub command_cost : Database → Command → ℕ
+command_cost db (command.Ask query) = query_cost db query
+command_cost db (command.Aggregate list name nodes) = aggregate_cost db list name nodes
+command_cost db (command.OpenCursor number query) = open_cost db query
+command_cost db _ = 0
+
+abbrev pub cost : Database → Command → ℕ
+cost db c = if is_refused ((step db c).1) then 0 else command_cost db c
