@@ -1,0 +1,23 @@
+-- What `next_token` answers, by cases.
+use Rattle.std.specs.Prelude.{ℕ}
+use Rattle.aql_lex.specs.declared.lexed.Lexed.{Lexed}
+use Rattle.aql_lex.specs.declared.lexed.Lexed.TheVariants.{Token as Found, End, Bad}
+use Rattle.db_model.specs.declared.tokens.Token.{Token}
+
+-- where a token was found: of it, and of the places where it begins and ends
+abbrev pub OnToken : Lexed → (Token → ℕ → ℕ → Type 0) → Type 0
+OnToken (Found token from to) P = P token from to
+OnToken End P = Unit {0}
+OnToken Bad P = Unit {0}
+
+-- where only white space is left
+abbrev pub OnEnd : Lexed → Type 0 → Type 0
+OnEnd (Found token from to) P = Unit {0}
+OnEnd End P = P
+OnEnd Bad P = Unit {0}
+
+-- where no token begins
+abbrev pub OnBad : Lexed → Type 0 → Type 0
+OnBad (Found token from to) P = Unit {0}
+OnBad End P = Unit {0}
+OnBad Bad P = P

@@ -1,0 +1,15 @@
+pub mod Runs
+pub mod Complete
+pub mod CompleteHeads
+pub mod Means
+pub mod SoundConditions
+pub mod SoundHeads
+pub mod Sound
+pub mod Viable
+pub mod Light
+pub mod Turns
+pub mod Cutting
+pub mod Collecting
+pub mod ReadRight
+pub mod BuiltRight
+pub mod Readers

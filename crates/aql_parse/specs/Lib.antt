@@ -1,0 +1,5 @@
+pub mod Kept
+pub mod Machine
+pub mod Moves
+pub mod Built
+pub mod ReadAs

@@ -1,0 +1,23 @@
+//! The reading of commands.
+#![tactic(auto)]
+
+mod built;
+mod conditions;
+mod cut;
+mod heads;
+mod items;
+mod laws;
+mod lists;
+mod machine;
+mod moves;
+mod nodes;
+mod parts;
+mod reading;
+mod stack;
+mod symbols;
+
+pub use laws::{each_command_is_read, readings_are_unique};
+pub use reading::parse;
+
+#[cfg(test)]
+mod tests;
