@@ -1,0 +1,7 @@
+pub mod Code
+pub mod Evaluate
+pub mod Instruction
+pub mod Kind
+pub mod Side
+pub mod Stack
+pub mod Within
