@@ -1,0 +1,9 @@
+pub mod Breaks
+pub mod Changes
+pub mod Choices
+pub mod Decoding
+pub mod Firsts
+pub mod Loading
+pub mod Named
+pub mod Puts
+pub mod Replaced

@@ -1,0 +1,186 @@
+-- A change of one slot, seen by the catalog that the bytes stand for.
+use Rattle.std.proofs.Common.{◌≡◌, ◌≢◌, ◌⊎◌, inr, ℕ, ◌+◌, ◌-◌, ◌*◌, ◌<◌, ◌≤◌, List, [], ◌∷◌, ◌++◌, length, map, set, take, drop, get_or, Option, None, refl, sym, ap, subst, ◌∙◌, arith, length-append}
+use Rattle.std.specs.Prelude.{slice_range}
+use Rattle.std.specs.List.{range_with_len}
+use Rattle.std.proofs.Math.Logic.{⊎_elim}
+use Rattle.std.proofs.lemmas.Bool.{cases_eq, cases_lt}
+use Rattle.std.proofs.lemmas.List.{drop-drop, drop-take, drop_at, ext_get_or, get_or-set_other, get_or-set_same, length-set, length-take-le, take-append-le, take-take, take_at}
+use Rattle.std.proofs.lemmas.List.FromFn.{get_or-map-range_with_len, length-map-range_with_len}
+use Rattle.afl_base.specs.Fields.{put_at}
+use Rattle.afl_base.proofs.FieldLaws.{drop-put_at, length-put_at}
+use Rattle.db_model.specs.declared.schemas.Schema.{Schema}
+use Rattle.db_model.specs.Catalog.{Catalog, Index, IsCatalog, IsRelation, catalog_of, empty_bytes, empty_catalog, in_version_2, index_at, index_slot_bytes, index_slot_of, relation_at, relation_slot_bytes, relation_slot_of, version_mark, with_index_slot, with_relation_slot}
+use Rattle.db_model.proofs.Catalogs.{catalog_back, index_slot_back, length-index_slot, length-relation_slot, relation_slot_back}
+use Rattle.catalog.specs.CatalogFile.{IsCatalogSize}
+use Rattle.catalog.specs.Catalogs.{index_replaced, relation_replaced}
+use Rattle.catalog.proofs.Changes.{long_empty, slot_put}
+
+-- ---- ranges of bytes in which a part is written
+
+take-put_at : (old part : List ℕ) (at n : ℕ) → n ≤ at → at ≤ length old → take n (put_at old at part) ≡ take n old
+unfolding put_at
+take-put_at old part at n before room =
+    let front = length-take-le at old room in
+    let both = length-append (take at old) part in
+    take-append-le n (take at old ++ part) (drop (at + length part) old) (omega (arith, before, front, both))
+    ∙ take-append-le n (take at old) part (omega (arith, before, front))
+    ∙ take-take n at old before
+
+range_front : (xs : List ℕ) (a b : ℕ) → a ≤ b → slice_range xs a b ≡ drop a (take b xs)
+range_front xs a b h = let e : a + (b - a) ≡ b = omega (arith, h) in sym (drop-take a (b - a) xs) ∙ ap (λ (n : ℕ). drop a (take n xs)) e
+
+before_put : (old part : List ℕ) (at a b : ℕ) → a ≤ b → b ≤ at → at ≤ length old → slice_range (put_at old at part) a b ≡ slice_range old a b
+before_put old part at a b h before room = range_front (put_at old at part) a b h ∙ ap (drop a) (take-put_at old part at b before room) ∙ sym (range_front old a b h)
+
+behind_put : (old part : List ℕ) (at a b : ℕ) → at + length part ≤ a → at ≤ length old → slice_range (put_at old at part) a b ≡ slice_range old a b
+unfolding put_at
+behind_put old part at a b behind room =
+    let end : ℕ = at + length part in
+    let more : ℕ = a - end in
+    let front : List ℕ = take at old ++ part in
+    let rest : List ℕ = drop end old in
+    let long : length front ≡ end = length-append (take at old) part ∙ omega (arith, length-take-le at old room) in
+    let same : end + more ≡ a = omega (arith, behind) in
+    ap (take (b - a)) (subst (λ (n : ℕ). drop n (front ++ rest) ≡ drop n old) same
+    (sym (drop-drop more end (front ++ rest)) ∙ ap (drop more) (drop_at front rest end long) ∙ drop-drop more end old))
+
+here_put : (old part : List ℕ) (at n : ℕ) → length part ≡ n → at ≤ length old → slice_range (put_at old at part) at (at + n) ≡ part
+here_put old part at n long room =
+    let m : length part ≡ (at + n) - at = omega (arith, long) in
+    ap (take ((at + n) - at)) (drop-put_at old part at room) ∙ take_at part (drop (at + length part) old) ((at + n) - at) m
+
+-- ---- lists of slots
+
+-- all slots as before, but one
+replaced_list : {X : Type 0} (f g : ℕ → X) (n k : ℕ) (x : X) → k < n → g k ≡ x → ((j : ℕ) → j < n → j ≢ k → g j ≡ f j) → map g (range_with_len 0 n) ≡ set (map f (range_with_len 0 n)) k x
+replaced_list f g n k x inside here others =
+    let old = map f (range_with_len 0 n) in
+    let many : length (map g (range_with_len 0 n)) ≡ n = length-map-range_with_len g 0 n in
+    let long : length old ≡ n = length-map-range_with_len f 0 n in
+    ext_get_or (g 0) (map g (range_with_len 0 n)) (set old k x) (many ∙ sym (length-set old k x ∙ long))
+    (λ i h.
+    let i_inside : i < n = omega (arith, h, many) in
+    let read : get_or (map g (range_with_len 0 n)) i (g 0) ≡ g i = get_or-map-range_with_len g 0 n i i (g 0) i_inside (omega arith) in
+    ⊎_elim
+    (λ (same : i ≡ k). read ∙ ap g same ∙ here ∙ sym (ap (λ j. get_or (set old k x) j (g 0)) same ∙ get_or-set_same old k x (g 0) (omega (arith, inside, long))))
+    (λ (differs : i ≢ k). read ∙ others i i_inside differs ∙ sym (get_or-set_other old k i x (g 0) differs ∙ get_or-map-range_with_len f 0 n i i (g 0) i_inside (omega arith)))
+    (cases_eq i k))
+
+-- all slots as before
+kept_list : {X : Type 0} (f g : ℕ → X) (n : ℕ) → ((j : ℕ) → j < n → g j ≡ f j) → map g (range_with_len 0 n) ≡ map f (range_with_len 0 n)
+kept_list f g n same =
+    let many : length (map g (range_with_len 0 n)) ≡ n = length-map-range_with_len g 0 n in
+    ext_get_or (g 0) (map g (range_with_len 0 n)) (map f (range_with_len 0 n)) (many ∙ sym (length-map-range_with_len f 0 n))
+    (λ i h.
+    let inside : i < n = omega (arith, h, many) in
+    get_or-map-range_with_len g 0 n i i (g 0) inside (omega arith) ∙ same i inside ∙ sym (get_or-map-range_with_len f 0 n i i (g 0) inside (omega arith)))
+
+-- ---- the catalog before the slot is written
+
+-- bytes of version 2 that hold the same slots
+record Stands (bytes version_2 : List ℕ) : Type 0 where
+  is : in_version_2 bytes ≡ version_2
+  long : length version_2 ≡ 1480
+  relations : (j : ℕ) → j < 8 → relation_at version_2 j ≡ relation_at bytes j
+  indexes : (j : ℕ) → j < 8 → index_at version_2 j ≡ index_at bytes j
+
+range_of_front : (xs ys : List ℕ) (a b : ℕ) → a ≤ b → b ≤ length xs → slice_range (xs ++ ys) a b ≡ slice_range xs a b
+range_of_front xs ys a b h inside = range_front (xs ++ ys) a b h ∙ ap (drop a) (take-append-le b xs ys inside) ∙ sym (range_front xs a b h)
+
+stands_2 : (bytes : List ℕ) → length bytes ≡ 1480 → Stands bytes bytes
+stands_2 bytes size = record { is = rw size refl; long = size; relations = λ j h. refl; indexes = λ j h. refl }
+
+stands_1 : (bytes : List ℕ) → length bytes ≡ 1472 → Stands bytes (bytes ++ version_mark)
+stands_1 bytes size = record {
+  is = rw size refl;
+  long = length-append bytes version_mark ∙ ap (λ n. n + 8) size;
+  relations = λ j h. ap relation_slot_of (range_of_front bytes version_mark (176 * j) (176 * j + 176) (omega arith) (omega (arith, size, h)));
+  indexes = λ j h. ap index_slot_of (range_of_front bytes version_mark (1408 + 8 * j) (1408 + 8 * j + 8) (omega arith) (omega (arith, size, h)));
+}
+
+is_empty : IsCatalog empty_catalog
+is_empty = record { version = inr refl; eight_relations = refl; eight_indexes = refl; relations = (tt, (tt, (tt, (tt, (tt, (tt, (tt, (tt, tt)))))))) }
+
+empty_back : catalog_of empty_bytes ≡ catalog_of []
+unfolding empty_bytes
+empty_back = catalog_back empty_catalog is_empty
+
+each_slot : {X : Type 0} (f g : ℕ → X) (n j : ℕ) (d : X) → j < n → map g (range_with_len 0 n) ≡ map f (range_with_len 0 n) → g j ≡ f j
+each_slot f g n j d h e = sym (get_or-map-range_with_len g 0 n j j d h (omega arith)) ∙ ap (λ xs. get_or xs j d) e ∙ get_or-map-range_with_len f 0 n j j d h (omega arith)
+
+stands_0 : (bytes : List ℕ) → length bytes ≡ 0 → Stands bytes empty_bytes
+stands_0 [] size = record {
+  is = refl;
+  long = long_empty;
+  relations = λ j h. each_slot (relation_at []) (relation_at empty_bytes) 8 j None h (ap (λ (c : Catalog). c.relations) empty_back);
+  indexes = λ j h. each_slot (index_at []) (index_at empty_bytes) 8 j None h (ap (λ (c : Catalog). c.indexes) empty_back);
+}
+stands_0 (b ∷ bytes) size = absurd (omega (arith, size))
+
+-- ---- the laws
+
+same_slots : (v w : ℕ) (r s : List (Option Schema)) (i j : List (Option Index)) → v ≡ w → r ≡ s → i ≡ j → ◌≡◌ {A = Catalog} (record { version = v; relations = r; indexes = i }) (record { version = w; relations = s; indexes = j })
+same_slots v w r s i j e f g = rw (e, f, g) refl
+
+relation_put : (bytes version_2 : List ℕ) (k : ℕ) (slot : Option Schema) → Stands bytes version_2 → k < 8 → IsRelation slot → catalog_of (with_relation_slot bytes k slot) ≡ relation_replaced (catalog_of bytes) k slot
+relation_put bytes version_2 k slot stands h good =
+    let part : List ℕ = relation_slot_bytes slot in
+    let n : length part ≡ 176 = length-relation_slot slot good in
+    let at : ℕ = 176 * k in
+    let new : List ℕ = put_at version_2 at part in
+    let room : at ≤ length version_2 = omega (arith, stands.long, h) in
+    let long : length new ≡ 1480 = length-put_at version_2 part at (omega (arith, stands.long, h, n)) ∙ stands.long in
+    let relations : map (relation_at new) (range_with_len 0 8) ≡ set (map (relation_at bytes) (range_with_len 0 8)) k slot =
+    replaced_list (relation_at bytes) (relation_at new) 8 k slot h (ap relation_slot_of (here_put version_2 part at 176 n room) ∙ relation_slot_back slot good)
+    (λ j inside differs. ap relation_slot_of (other j inside differs n room) ∙ stands.relations j inside) in
+    let indexes : map (index_at new) (range_with_len 0 8) ≡ map (index_at bytes) (range_with_len 0 8) =
+    kept_list (index_at bytes) (index_at new) 8 (λ j inside. ap index_slot_of (behind_put version_2 part at (1408 + 8 * j) (1408 + 8 * j + 8) (omega (arith, n, h)) room) ∙ stands.indexes j inside) in
+    ap catalog_of (slot_put bytes version_2 part at stands.is)
+    ∙ same_slots _ 2 _ _ _ _ (rw long refl) relations indexes
+  where
+    other : (j : ℕ) → j < 8 → j ≢ k → length (relation_slot_bytes slot) ≡ 176 → 176 * k ≤ length version_2 → slice_range (put_at version_2 (176 * k) (relation_slot_bytes slot)) (176 * j) (176 * j + 176) ≡ slice_range version_2 (176 * j) (176 * j + 176)
+    other j inside differs n room =
+        ⊎_elim
+        (λ (less : j < k). before_put version_2 (relation_slot_bytes slot) (176 * k) (176 * j) (176 * j + 176) (omega arith) (omega (arith, less)) room)
+        (λ (more : k ≤ j). behind_put version_2 (relation_slot_bytes slot) (176 * k) (176 * j) (176 * j + 176) (omega (arith, n, more, differs)) room)
+        (cases_lt j k)
+
+index_put : (bytes version_2 : List ℕ) (k : ℕ) (slot : Option Index) → Stands bytes version_2 → k < 8 → catalog_of (with_index_slot bytes k slot) ≡ index_replaced (catalog_of bytes) k slot
+index_put bytes version_2 k slot stands h =
+    let part : List ℕ = index_slot_bytes slot in
+    let n : length part ≡ 8 = length-index_slot slot in
+    let at : ℕ = 1408 + 8 * k in
+    let new : List ℕ = put_at version_2 at part in
+    let room : at ≤ length version_2 = omega (arith, stands.long, h) in
+    let long : length new ≡ 1480 = length-put_at version_2 part at (omega (arith, stands.long, h, n)) ∙ stands.long in
+    let relations : map (relation_at new) (range_with_len 0 8) ≡ map (relation_at bytes) (range_with_len 0 8) =
+    kept_list (relation_at bytes) (relation_at new) 8 (λ j inside. ap relation_slot_of (before_put version_2 part at (176 * j) (176 * j + 176) (omega arith) (omega (arith, inside)) room) ∙ stands.relations j inside) in
+    let indexes : map (index_at new) (range_with_len 0 8) ≡ set (map (index_at bytes) (range_with_len 0 8)) k slot =
+    replaced_list (index_at bytes) (index_at new) 8 k slot h (ap index_slot_of (here_put version_2 part at 8 n room) ∙ index_slot_back slot)
+    (λ j inside differs. ap index_slot_of (other j inside differs n room) ∙ stands.indexes j inside) in
+    ap catalog_of (slot_put bytes version_2 part at stands.is)
+    ∙ same_slots _ 2 _ _ _ _ (rw long refl) relations indexes
+  where
+    other : (j : ℕ) → j < 8 → j ≢ k → length (index_slot_bytes slot) ≡ 8 → 1408 + 8 * k ≤ length version_2 → slice_range (put_at version_2 (1408 + 8 * k) (index_slot_bytes slot)) (1408 + 8 * j) (1408 + 8 * j + 8) ≡ slice_range version_2 (1408 + 8 * j) (1408 + 8 * j + 8)
+    other j inside differs n room =
+        ⊎_elim
+        (λ (less : j < k). before_put version_2 (index_slot_bytes slot) (1408 + 8 * k) (1408 + 8 * j) (1408 + 8 * j + 8) (omega arith) (omega (arith, less)) room)
+        (λ (more : k ≤ j). behind_put version_2 (index_slot_bytes slot) (1408 + 8 * k) (1408 + 8 * j) (1408 + 8 * j + 8) (omega (arith, n, more, differs)) room)
+        (cases_lt j k)
+
+by_size : (P : Type 0) (bytes : List ℕ) → IsCatalogSize (length bytes) → ((version_2 : List ℕ) → Stands bytes version_2 → P) → P
+by_size P bytes size use_it =
+    ⊎_elim
+    (λ (none : length bytes ≡ 0). use_it empty_bytes (stands_0 bytes none))
+    (λ (some : (length bytes ≡ 1472) ⊎ (length bytes ≡ 1480)).
+    ⊎_elim
+    (λ (first : length bytes ≡ 1472). use_it (bytes ++ version_mark) (stands_1 bytes first))
+    (λ (second : length bytes ≡ 1480). use_it bytes (stands_2 bytes second))
+    some)
+    size
+
+pub relation_changed : (bytes : List ℕ) (k : ℕ) (slot : Option Schema) → IsCatalogSize (length bytes) → k < 8 → IsRelation slot → catalog_of (with_relation_slot bytes k slot) ≡ relation_replaced (catalog_of bytes) k slot
+relation_changed bytes k slot size h good = by_size _ bytes size (λ (version_2 : List ℕ) (stands : Stands bytes version_2). relation_put bytes version_2 k slot stands h good)
+
+pub index_changed : (bytes : List ℕ) (k : ℕ) (slot : Option Index) → IsCatalogSize (length bytes) → k < 8 → catalog_of (with_index_slot bytes k slot) ≡ index_replaced (catalog_of bytes) k slot
+index_changed bytes k slot size h = by_size _ bytes size (λ (version_2 : List ℕ) (stands : Stands bytes version_2). index_put bytes version_2 k slot stands h)

@@ -1,0 +1,6 @@
+-- Copies of some bytes, one behind the other.
+use Rattle.std.specs.Prelude.{ℕ, zero, suc, List, [], ◌++◌}
+
+unfoldable pub copies : ℕ → List ℕ → List ℕ
+copies zero part = []
+copies (suc n) part = part ++ copies n part

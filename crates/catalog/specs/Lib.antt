@@ -1,0 +1,4 @@
+pub mod CatalogFile
+pub mod Catalogs
+pub mod Copies
+pub mod Rules

@@ -1,0 +1,19 @@
+//! The catalog of a database: which relations and indexes it has, in the file `CAT`.
+#![tactic(auto)]
+
+mod change;
+mod decode;
+mod indexes;
+mod laws;
+mod names;
+mod opening;
+mod relations;
+mod slots;
+#[cfg(test)]
+mod tests;
+mod types;
+
+pub use change::{clear_index, clear_relation, put_index, put_relation, room_for};
+pub use names::{catalog_file, rows_file, tree_file};
+pub use opening::load;
+pub use types::{BadCatalog, Catalog, IndexEntry};

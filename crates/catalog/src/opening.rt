@@ -1,0 +1,160 @@
+ghost use Rattle.std.specs.Prelude.{◌≡◌, ◌<◌, ◌≤◌, ◌+◌, None, Some, IfErr, IfOk, IfSome, IsTrue, OnOk, get_or, is_some, length};
+ghost use Rattle.afl_base.specs.Causes.{HasCause};
+ghost use Rattle.afl_base.specs.Files.{IsLive, bytes_at};
+ghost use Rattle.db_model.specs.Catalog.{catalog_of};
+ghost use Rattle.catalog.specs.CatalogFile.{IsCatalogSize, indexes_in};
+ghost use Rattle.catalog.specs.Catalogs.{catalog_in};
+ghost use Rattle.catalog.specs.Rules.{breaks_files, broken_catalog, catalog_bytes_in, first, first_broken, is_tree, version_in};
+
+use crate::indexes::load_indexes;
+use crate::names::{catalog_file, first_stranger, is_there, rows_file, tree_file};
+use crate::relations::load_relations;
+use crate::slots::VERSION_MARK;
+use crate::types::{BadCatalog, Catalog, IndexEntry};
+use afl_base::{Failed, FileId, Files, IndexId, RelationId};
+use db_model::{IndexKind, Schema};
+
+/// Reads the catalog, and judges it and the names and kinds of all files. The inner `Err` comes exactly
+/// where one of the rules 14 to 18 is broken, and has the first with its place. The files stay. Over
+/// files that do not tell their bytes nothing is said of the answer.
+pub fn load<V: Files>(files: &mut V) -> Result<Result<Catalog, BadCatalog>, Failed>
+    ensures catalog { IsTrue (V.state files.old).tells → IfOk result (λ r. IfOk r (λ catalog. catalog_in catalog ≡ catalog_of (catalog_bytes_in (V.state files.old).files))) }
+    ensures sound { IsTrue (V.state files.old).tells → IfOk result (λ r. OnOk r (first_broken (V.state files.old).files ≡ None)) }
+    ensures broken { IsTrue (V.state files.old).tells → IfOk result (λ r. IfErr r (λ bad. first_broken (V.state files.old).files ≡ Some (bad.rule, bad.place))) }
+    ensures same { OnOk result (V.state files.new ≡ V.state files.old) }
+    ensures reads { V.reads files.new ≤ V.reads files.old + 99 }
+    ensures cause { HasCause (V.faults files.old) (V.faults files.new) result }
+{
+    match first_stranger(files) {
+        Some(place) => return Ok(Err(BadCatalog { rule: 14, place })),
+        None => {},
+    }
+    let catalog = match read_catalog(files)? {
+        Ok(catalog) => catalog,
+        Err(bad) => return Ok(Err(bad)),
+    };
+    match first_unmatched(files, &catalog.relations, &catalog.indexes) {
+        Some(place) => Ok(Err(BadCatalog { rule: 18, place })),
+        None => Ok(Ok(catalog)),
+    }
+}
+
+// The catalog by itself: rules 15 to 17.
+fn read_catalog<V: Files>(files: &mut V) -> Result<Result<Catalog, BadCatalog>, Failed>
+    ensures catalog { IsTrue (V.state files.old).tells → IfOk result (λ r. IfOk r (λ catalog. catalog_in catalog ≡ catalog_of (catalog_bytes_in (V.state files.old).files))) }
+    ensures sound { IsTrue (V.state files.old).tells → IfOk result (λ r. OnOk r (broken_catalog (catalog_bytes_in (V.state files.old).files) ≡ None)) }
+    ensures broken { IsTrue (V.state files.old).tells → IfOk result (λ r. IfErr r (λ bad. broken_catalog (catalog_bytes_in (V.state files.old).files) ≡ Some (bad.rule, bad.place))) }
+    ensures same { OnOk result (V.state files.new ≡ V.state files.old) }
+    ensures reads { V.reads files.new ≤ V.reads files.old + 99 }
+    ensures cause { HasCause (V.faults files.old) (V.faults files.new) result }
+{
+    match files.find(catalog_file()) {
+        Some(cat) => read_file(files, cat),
+        None => Ok(Ok(Catalog::empty())),
+    }
+}
+
+fn read_file<V: Files>(files: &mut V, cat: FileId) -> Result<Result<Catalog, BadCatalog>, Failed>
+    requires { IsLive (V.state files.old).files cat }
+    ensures catalog { IsTrue (V.state files.old).tells → IfOk result (λ r. IfOk r (λ catalog. catalog_in catalog ≡ catalog_of (bytes_at (V.state files.old).files cat))) }
+    ensures sound { IsTrue (V.state files.old).tells → IfOk result (λ r. OnOk r (broken_catalog (bytes_at (V.state files.old).files cat) ≡ None)) }
+    ensures broken { IsTrue (V.state files.old).tells → IfOk result (λ r. IfErr r (λ bad. broken_catalog (bytes_at (V.state files.old).files cat) ≡ Some (bad.rule, bad.place))) }
+    ensures same { OnOk result (V.state files.new ≡ V.state files.old) }
+    ensures reads { V.reads files.new ≤ V.reads files.old + 99 }
+    ensures cause { HasCause (V.faults files.old) (V.faults files.new) result }
+{
+    let version = match read_version(files, cat)? {
+        Some(version) => version,
+        None => return Ok(Err(BadCatalog { rule: 15, place: 0 })),
+    };
+    if files.size(cat) == 0 {
+        return Ok(Ok(Catalog::empty()));
+    }
+    let relations = match load_relations(files, cat, version)? {
+        Ok(relations) => relations,
+        Err(place) => return Ok(Err(BadCatalog { rule: 16, place })),
+    };
+    let indexes = match load_indexes(files, cat, &relations)? {
+        Ok(indexes) => indexes,
+        Err(place) => return Ok(Err(BadCatalog { rule: 17, place })),
+    };
+    Ok(Ok(Catalog {
+        version,
+        relations,
+        indexes,
+    }))
+}
+
+// The version, None where the file has no catalog's size or not the mark of its version.
+fn read_version<V: Files>(files: &mut V, cat: FileId) -> Result<Option<u8>, Failed>
+    requires { IsLive (V.state files.old).files cat }
+    ensures version { IsTrue (V.state files.old).tells → IfOk result (λ version. version ≡ version_in (bytes_at (V.state files.old).files cat)) }
+    ensures size { IfOk result (λ version. IfSome version (λ _. IsCatalogSize (length (bytes_at (V.state files.old).files cat)))) }
+    ensures same { OnOk result (V.state files.new ≡ V.state files.old) }
+    ensures reads { V.reads files.new ≤ V.reads files.old + 3 }
+    ensures cause { HasCause (V.faults files.old) (V.faults files.new) result }
+{
+    match files.size(cat) {
+        0 => Ok(Some(2)),
+        1472 => Ok(Some(1)),
+        1480 => {
+            let mut mark = [0u8; 8];
+            files.read(cat, 1472, &mut mark)?;
+            Ok((mark == VERSION_MARK).then_some(2))
+        },
+        _ => Ok(None),
+    }
+}
+
+// The first slot whose file is there but should not be, or the other way round: a relation slot and its
+// rows, or, 8 more, an index slot and its tree.
+fn first_unmatched<V: Files>(
+    files: &V,
+    relations: &[Option<Schema>],
+    indexes: &[Option<IndexEntry>],
+) -> Option<u16>
+    ensures { result ≡ first 16 (breaks_files (V.state files.now).files relations.now (indexes_in indexes.now)) }
+{
+    for k in 0..16 {
+        if is_unmatched(files, relations, indexes, k) {
+            return Some(k);
+        }
+    }
+    None
+}
+
+#[tactic(auto, unfolding(crate::specs::Rules::breaks_files))]
+fn is_unmatched<V: Files>(
+    files: &V,
+    relations: &[Option<Schema>],
+    indexes: &[Option<IndexEntry>],
+    k: u16,
+) -> bool
+    requires { k < 16 }
+    ensures { result ≡ breaks_files (V.state files.now).files relations.now (indexes_in indexes.now) k }
+{
+    if let Some(id) = RelationId::new(k) {
+        return is_there(files, rows_file(id)) != is_used(relations, k);
+    }
+    match IndexId::new(k - 8) {
+        Some(id) => is_there(files, tree_file(id)) != has_tree(indexes, k - 8),
+        None => false,
+    }
+}
+
+// Whether the relation slot is used.
+fn is_used(relations: &[Option<Schema>], slot: u16) -> bool
+    ensures { result ≡ is_some (get_or relations.now slot None) }
+{
+    matches!(relations.get(slot as usize), Some(Some(_)))
+}
+
+// Whether the index slot has an index with a tree.
+fn has_tree(indexes: &[Option<IndexEntry>], slot: u16) -> bool
+    ensures { result ≡ is_tree (get_or (indexes_in indexes.now) slot None) }
+{
+    match indexes.get(slot as usize) {
+        Some(Some(entry)) => entry.kind == IndexKind::MaxHeap,
+        _ => false,
+    }
+}

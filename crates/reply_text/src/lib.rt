@@ -1,0 +1,16 @@
+//! The texts of replies, written to a sink.
+//!
+//! A writer appends its text whole, or answers `Failed` and has appended a proper prefix of it.
+#![tactic(auto)]
+
+mod bytes;
+mod lines;
+mod refusal;
+mod rows;
+#[cfg(test)]
+mod tests;
+
+pub use bytes::write_all;
+pub use lines::{write_ok, write_rows};
+pub use refusal::write_refusal;
+pub use rows::{write_numbers, write_row};

@@ -1,0 +1,70 @@
+use Rattle.std.proofs.Common.{◌≡◌, ◌∙◌, refl, sym, ap, subst, length, replicate, List, arith}
+use Rattle.std.specs.Fn.{FnReturnsAt}
+use Rattle.afl_base.specs.Files.{Table, bytes_at, draft_in}
+use Rattle.db_model.specs.Row.{Row, row_length}
+use Rattle.tuple_file.specs.Tuples.{IsAnswered, row, slots}
+use Rattle.tuple_file.proofs.Answered.{Rewritten, rewritten_all, rewritten_more, rewritten_none, rewritten_zeros}
+use Rattle.tuple_file.proofs.Slots.{slot_inside}
+use Rattle.tuple_file.proofs.Written.{all_rows, first_rows, length-first_rows, more_rows, no_rows}
+use Rattle.tuple_file.proofs.tuples.Tuples.draft_answered.Goals as goal
+
+pub loop-slot-init : goal.loop-slot-init
+loop-slot-init g c =
+    let attributes = c.args.self.now.schema.attributes in
+    let bytes = bytes_at (g.V.Files.state c.args.files.now).files c.args.self.now.file in
+    let answers = FnReturnsAt g.F.Fn c.args.removed.now in
+    record {
+      only = record { begun = c.requires.begun; name = refl; size = refl; files = refl; tells = refl };
+      faults = omega arith;
+      rewritten = λ told.
+          subst (λ draft. Rewritten answers attributes (length bytes) (first_rows attributes bytes 0) draft) (sym (c.requires.zeros told))
+          (subst (λ (olds : List Row). Rewritten answers attributes (length bytes) olds (replicate (length bytes) 0)) (sym (no_rows attributes bytes)) (rewritten_none answers attributes (length bytes)));
+    }
+
+pub draft_answer-requires-clause-zeros : goal.draft_answer-requires-clause-zeros
+draft_answer-requires-clause-zeros g c told =
+    let attributes = c.args.self.now.schema.attributes in
+    let files = (g.V.Files.state c.args.files.now).files in
+    let bytes = bytes_at files c.args.self.now.file in
+    let slot = c.loop-slot.slot in
+    let inv = c.loop-slot.invariant in
+    let inside = slot_inside (row_length attributes) slot (slots files c.args.self.now) (omega (arith, c.loop-slot-test.true, c.requires.count)) in
+    rewritten_zeros (FnReturnsAt g.F.Fn c.args.removed.now) attributes (length bytes) slot (first_rows attributes bytes slot) (draft_in (g.V.Files.state c.loop-slot.files)).bytes
+    (inv.rewritten (sym inv.only.tells ∙ told)) (length-first_rows attributes bytes slot) (omega (arith, inside, c.requires.holds.whole))
+
+pub loop-slot-preserved : goal.loop-slot-preserved
+loop-slot-preserved g c =
+    let attributes = c.args.self.now.schema.attributes in
+    let files = (g.V.Files.state c.args.files.now).files in
+    let bytes = bytes_at files c.args.self.now.file in
+    let answers = FnReturnsAt g.F.Fn c.args.removed.now in
+    let slot = c.loop-slot.slot in
+    let inv = c.loop-slot.invariant in
+    let done = c.in_ok-draft_answer.ensures in
+    let after = (draft_in (g.V.Files.state c.draft_answer.new.files)).bytes in
+    let inside = slot_inside (row_length attributes) slot (slots files c.args.self.now) (omega (arith, c.loop-slot-test.true, c.requires.count)) in
+    record {
+      only = record { begun = done.only.begun; name = done.only.name ∙ inv.only.name; size = done.only.size ∙ inv.only.size; files = done.only.files ∙ inv.only.files; tells = done.only.tells ∙ inv.only.tells };
+      faults = omega (arith, inv.faults, done.cause.later);
+      rewritten = λ told.
+          let said = done.row (inv.only.tells ∙ told) in
+          let one = subst (λ (now : Table). IsAnswered answers (row now c.args.self.now slot) said.0) inv.only.files said.1 in
+          subst (λ (olds : List Row). Rewritten answers attributes (length bytes) olds after) (sym (more_rows attributes bytes slot))
+          (rewritten_more answers attributes (length bytes) slot (first_rows attributes bytes slot) (row files c.args.self.now slot) said.0 (draft_in (g.V.Files.state c.loop-slot.files)).bytes after
+          (inv.rewritten told) (length-first_rows attributes bytes slot) (omega (arith, inside, c.requires.holds.whole)) one said.2 said.3);
+    }
+
+pub returns-clause-rows : goal.returns-clause-rows
+returns-clause-rows g c told =
+    let attributes = c.args.self.now.schema.attributes in
+    let files = (g.V.Files.state c.args.files.now).files in
+    let bytes = bytes_at files c.args.self.now.file in
+    let answers = FnReturnsAt g.F.Fn c.args.removed.now in
+    let draft = (draft_in (g.V.Files.state c.loop-slot.files)).bytes in
+    let count = slots files c.args.self.now in
+    let inv = c.loop-slot.invariant in
+    let end : c.loop-slot.slot ≡ count = omega (arith, c.loop-slot-test.false, c.loop-slot.auto.slot-end, c.requires.count) in
+    let all : Rewritten answers attributes (length bytes) (first_rows attributes bytes count) draft =
+    subst (λ n. Rewritten answers attributes (length bytes) (first_rows attributes bytes n) draft) end (inv.rewritten told) in
+    let whole = subst (λ (olds : List Row). Rewritten answers attributes (length bytes) olds draft) (all_rows attributes bytes) all in
+    rewritten_all answers attributes (length bytes) count _ draft whole (ap (λ (olds : List Row). length olds) (sym (all_rows attributes bytes)) ∙ length-first_rows attributes bytes count) c.requires.holds.whole

@@ -1,0 +1,18 @@
+use Rattle.std.proofs.Common.{◌≤◌, IsTrue, length}
+use Rattle.std.specs.Fn.{FnReturnsAt}
+use Rattle.afl_base.specs.Files.{bytes_at, draft_in}
+use Rattle.tuple_file.specs.Tuples.{OnlyDraftChanges}
+use Rattle.tuple_file.proofs.Answered.{Rewritten}
+use Rattle.tuple_file.proofs.Written.{first_rows}
+use Rattle.tuple_file.proofs.tuples.Tuples.draft_answered.Given as goal
+
+abbrev pub invariant-loop-slot : goal.invariant-loop-slot
+invariant-loop-slot g l =
+    let attributes = l.fn.self.schema.attributes in
+    let bytes = bytes_at (g.V.Files.state l.fn.files).files l.fn.self.file in
+    record {
+      only : OnlyDraftChanges (g.V.Files.state l.fn.files) (g.V.Files.state l.files);
+      faults : g.V.Files.faults l.fn.files ≤ g.V.Files.faults l.files;
+      rewritten : IsTrue (g.V.Files.state l.fn.files).tells →
+          Rewritten (FnReturnsAt g.F.Fn l.fn.removed) attributes (length bytes) (first_rows attributes bytes l.slot) (draft_in (g.V.Files.state l.files)).bytes;
+    }

@@ -1,0 +1,16 @@
+use Rattle.std.proofs.Common.{◌≤◌, IsTrue}
+use Rattle.afl_base.specs.Files.{bytes_at, draft_in}
+use Rattle.tuple_file.specs.Tuples.{OnlyDraftChanges}
+use Rattle.tuple_file.proofs.Packed.{IsPacked}
+use Rattle.tuple_file.proofs.tuples.Tuples.draft_live.Given as goal
+
+abbrev pub invariant-loop-slot : goal.invariant-loop-slot
+invariant-loop-slot g l =
+    let bytes = bytes_at (g.V.Files.state l.fn.files).files l.fn.self.file in
+    record {
+      only : OnlyDraftChanges (g.V.Files.state l.fn.files) (g.V.Files.state l.files);
+      faults : g.V.Files.faults l.fn.files ≤ g.V.Files.faults l.files;
+      few : l.written ≤ l.room;
+      packed : IsTrue (g.V.Files.state l.fn.files).tells →
+          IsPacked l.fn.self.schema.attributes bytes l.room l.slot l.written (draft_in (g.V.Files.state l.files)).bytes;
+    }

@@ -1,0 +1,71 @@
+-- The rows of a relation in a file, slot by slot.
+use Rattle.std.specs.Prelude.{◌≡◌, ℕ, ◌*◌, ◌<◌, ◌≤◌, Bool, true, not, List, [], ◌∷◌, filter, length, IsSome, IsTrue, MatchBool, ⊤}
+use Rattle.afl_base.specs.declared.kind.Kind.TheVariants.{Doubling}
+use Rattle.afl_base.specs.Files.{Becomes, IsLive, State, Table, bytes_at, draft_in, file_at, size_at}
+use Rattle.db_model.specs.declared.schemas.Attribute.{Attribute}
+use Rattle.db_model.specs.declared.values.Value.{Value}
+use Rattle.db_model.specs.Row.{Row, row_at, row_length, rows_bytes, rows_of, slots_in}
+use Rattle.db_model.specs.Step.{slots_limit}
+use Rattle.tuple_file.specs.declared.tuples.Tuples.{Tuples}
+
+-- a relation's file is there and doubles, and a row has at most 128 bytes
+pub record IsRowFile (files : Table) (tuples : Tuples) : Type 0 where
+  pub live : IsLive files tuples.file
+  pub doubling : (file_at files tuples.file).kind ≡ Doubling
+  pub short : row_length tuples.schema.attributes ≤ 128
+
+-- the slots of a relation's file
+abbrev pub slots : Table → Tuples → ℕ
+slots files tuples = slots_in tuples.schema.attributes (bytes_at files tuples.file)
+
+-- its rows, slot by slot
+abbrev pub rows : Table → Tuples → List Row
+rows files tuples = rows_of tuples.schema.attributes (bytes_at files tuples.file)
+
+-- the row in a slot
+abbrev pub row : Table → Tuples → ℕ → Row
+row files tuples slot = row_at tuples.schema.attributes (bytes_at files tuples.file) slot
+
+-- the file has whole rows, at most 32,768, and its bytes are those of its rows, where they are told
+pub record HoldsRows (state : State) (tuples : Tuples) : Type 0 where
+  pub file : IsRowFile state.files tuples
+  pub whole : size_at state.files tuples.file ≡ row_length tuples.schema.attributes * slots state.files tuples
+  pub few : slots state.files tuples ≤ 32768
+  pub written : IsTrue state.tells → rows_bytes tuples.schema.attributes (rows state.files tuples) ≡ bytes_at state.files tuples.file
+
+-- those that are live
+abbrev pub live_rows : Table → Tuples → List Row
+live_rows files tuples = filter (λ row. row.live) (rows files tuples)
+
+-- a live row has this tuple
+abbrev pub IsLiveTuple : Table → Tuples → List Value → Type 0
+IsLiveTuple files tuples tuple = (slot : ℕ) × (slot < slots files tuples) × (row files tuples slot ≡ record { tuple = tuple; live = true })
+
+-- no file but this one has changed, and this one in its bytes and its room alone
+abbrev pub OnlyRowsChange : State → State → Tuples → Type 0
+OnlyRowsChange old new tuples = Becomes old new tuples.file (size_at new.files tuples.file) (bytes_at new.files tuples.file)
+
+-- the bytes are whole rows, at most as many as the version has slots, and none of a relation without attributes
+pub record AreRows (version : ℕ) (attributes : List Attribute) (bytes : List ℕ) : Type 0 where
+  pub whole : rows_bytes attributes (rows_of attributes bytes) ≡ bytes
+  pub few : slots_in attributes bytes ≤ slots_limit version
+  pub some : attributes ≡ [] → bytes ≡ []
+
+-- a live row is removed with the same fields where the one answer about its tuple is true, and stays where it is false;
+-- nothing is asked about a removed row
+abbrev pub IsAnswered : (List Value → Bool → Type 0) → Row → Row → Type 0
+IsAnswered answers old new = MatchBool old.live ((removed : Bool) × answers old.tuple removed × (new ≡ record old { live = not removed })) (new ≡ old)
+
+-- so is each row at its place, and no slot comes or goes
+abbrev pub AreAnswered : (List Value → Bool → Type 0) → List Row → List Row → Type 0
+AreAnswered answers [] [] = ⊤
+AreAnswered answers (old ∷ olds) (new ∷ news) = IsAnswered answers old new × AreAnswered answers olds news
+AreAnswered answers _ _ = ⊥
+
+-- no more than the draft has changed, and it is of the same name and length
+pub record OnlyDraftChanges (old new : State) : Type 0 where
+  pub begun : IsSome new.draft
+  pub name : (draft_in new).name ≡ (draft_in old).name
+  pub size : length (draft_in new).bytes ≡ length (draft_in old).bytes
+  pub files : new.files ≡ old.files
+  pub tells : new.tells ≡ old.tells

@@ -1,0 +1,278 @@
+//! Changes of many rows at once, by a draft of the file.
+
+#![tactic(auto)]
+
+ghost use Rattle.std.specs.Prelude.{◌≡◌, ◌≢◌, ◌+◌, ◌-◌, ◌*◌, ◌≤◌, ◌<◌, Bool, IfOk, IsOkUnless, IsSome, IsTrue, List, MatchBool, None, OnOk, false, filter, length, not, replicate, slice_index, slice_range, true};
+ghost use Rattle.std.specs.Fn.{FnReturnsAt};
+ghost use Rattle.std.specs.List.{list_all};
+ghost use Rattle.afl_base.specs.Causes.{HasCause};
+ghost use Rattle.afl_base.specs.Fields.{put_at};
+ghost use Rattle.afl_base.specs.FileErrors.{HasFileCause, OnSpace};
+ghost use Rattle.afl_base.specs.Files.{Commits, Drafts, IsLive, Keeps, draft_in, file_at, size_at};
+ghost use Rattle.afl_base.specs.Fit.{fit};
+ghost use Rattle.db_model.specs.Row.{AllRowsSuit, AllSuit, Row, row_bytes, row_length, rows_bytes};
+ghost use Rattle.tuple_file.specs.Tuples.{AreAnswered, HoldsRows, IsAnswered, IsLiveTuple, IsRowFile, OnlyDraftChanges, OnlyRowsChange, live_rows, row, rows, slots};
+
+use crate::rows::{put_row, row_length};
+use crate::tuples::Tuples;
+use afl_base::{Failed, FileError, Files};
+use db_model::Tuple;
+
+impl Tuples {
+    /// Asks `removed` once about each live row, and removes those for which it answers true. Their
+    /// fields stay, and so do all other rows and all slots. It asks nothing about a removed row.
+    ///
+    /// The file is replaced by a draft, for which `Space` has the `need`.
+    pub fn rewrite<V: Files, F: Fn(&Tuple) -> bool>(
+        &self,
+        files: &mut V,
+        removed: F,
+    ) -> Result<(), FileError>
+        requires holds { HoldsRows (V.state files.old) self.now }
+        requires idle { (V.state files.old).draft ≡ None }
+        requires callable { (tuple : _) → AllSuit self.now.schema.attributes tuple.now → (IsTrue (V.state files.old).tells → IsLiveTuple (V.state files.old).files self.now tuple.now) → F.pre removed tuple }
+        ensures rows { IsTrue (V.state files.old).tells → OnOk result (AreAnswered (FnReturnsAt F.Fn removed) (rows (V.state files.old).files self.now) (rows (V.state files.new).files self.now)) }
+        ensures suit { IsTrue (V.state files.old).tells → OnOk result (AllRowsSuit self.now.schema.attributes (rows (V.state files.new).files self.now)) }
+        ensures slots { OnOk result (slots (V.state files.new).files self.now ≡ slots (V.state files.old).files self.now) }
+        ensures holds { OnOk result (HoldsRows (V.state files.new) self.now) }
+        ensures only { OnOk result (OnlyRowsChange (V.state files.old) (V.state files.new) self.now) }
+        ensures need { OnSpace result (λ need. need ≡ fit (size_at (V.state files.old).files self.now.file)) }
+        ensures lacks { OnSpace result (λ need. V.lacks files.new need) }
+        ensures kept { OnSpace result (λ _. Keeps (V.state files.old) (V.state files.new)) }
+        ensures cause { HasFileCause (V.faults files.old) (V.faults files.new) result }
+    {
+        let slots = self.count(files);
+        let size = files.size(self.file);
+        self.begin(files, size)?;
+        self.draft_answered(files, slots, &removed)?;
+        self.commit(files)?;
+        Ok(())
+    }
+
+    // Writes each row into the draft as `removed` answers about it.
+    fn draft_answered<V: Files, F: Fn(&Tuple) -> bool>(
+        &self,
+        files: &mut V,
+        count: u16,
+        removed: &F,
+    ) -> Result<(), Failed>
+        requires holds { HoldsRows (V.state files.old) self.now }
+        requires count { count ≡ slots (V.state files.old).files self.now }
+        requires callable { (tuple : _) → AllSuit self.now.schema.attributes tuple.now → (IsTrue (V.state files.old).tells → IsLiveTuple (V.state files.old).files self.now tuple.now) → F.pre removed.now tuple }
+        requires begun { IsSome (V.state files.old).draft }
+        requires size { length (draft_in (V.state files.old)).bytes ≡ size_at (V.state files.old).files self.now.file }
+        requires zeros { IsTrue (V.state files.old).tells → (draft_in (V.state files.old)).bytes ≡ replicate (size_at (V.state files.old).files self.now.file) 0 }
+        ensures rows { IsTrue (V.state files.old).tells → OnOk result ((news : List Row) × AreAnswered (FnReturnsAt F.Fn removed.now) (rows (V.state files.old).files self.now) news × AllRowsSuit self.now.schema.attributes news × ((draft_in (V.state files.new)).bytes ≡ rows_bytes self.now.schema.attributes news)) }
+        ensures only { OnOk result (OnlyDraftChanges (V.state files.old) (V.state files.new)) }
+        ensures cause { HasCause (V.faults files.old) (V.faults files.new) result }
+    {
+        for slot in 0..count {
+            self.draft_answer(files, slot, removed)?;
+        }
+        Ok(())
+    }
+
+    // Writes the row in the slot into the draft as `removed` answers about it.
+    fn draft_answer<V: Files, F: Fn(&Tuple) -> bool>(
+        &self,
+        files: &mut V,
+        slot: u16,
+        removed: &F,
+    ) -> Result<(), Failed>
+        requires holds { HoldsRows (V.state files.old) self.now }
+        requires slot { slot < slots (V.state files.old).files self.now }
+        requires callable { (tuple : _) → AllSuit self.now.schema.attributes tuple.now → (IsTrue (V.state files.old).tells → IsLiveTuple (V.state files.old).files self.now tuple.now) → F.pre removed.now tuple }
+        requires begun { IsSome (V.state files.old).draft }
+        requires range { row_length self.now.schema.attributes * slot + row_length self.now.schema.attributes ≤ length (draft_in (V.state files.old)).bytes }
+        requires zeros { IsTrue (V.state files.old).tells → slice_range (draft_in (V.state files.old)).bytes (row_length self.now.schema.attributes * slot) (row_length self.now.schema.attributes * slot + row_length self.now.schema.attributes) ≡ replicate (row_length self.now.schema.attributes) 0 }
+        ensures row { IsTrue (V.state files.old).tells → OnOk result ((new : Row) × IsAnswered (FnReturnsAt F.Fn removed.now) (row (V.state files.old).files self.now slot) new × AllSuit self.now.schema.attributes new.tuple × ((draft_in (V.state files.new)).bytes ≡ put_at (draft_in (V.state files.old)).bytes (row_length self.now.schema.attributes * slot) (row_bytes self.now.schema.attributes new))) }
+        ensures only { OnOk result (OnlyDraftChanges (V.state files.old) (V.state files.new)) }
+        ensures cause { HasCause (V.faults files.old) (V.faults files.new) result }
+    {
+        let mut tuple = Tuple::new();
+        let live = self.get(files, slot, &mut tuple)?;
+        let stays = stays(live, &tuple, removed);
+        self.draft_row(files, slot, &tuple, stays)?;
+        Ok(())
+    }
+
+    /// Drops all removed rows; the live ones close up in order. Where no row is removed it begins no
+    /// draft, changes nothing and never answers `Space`.
+    ///
+    /// Else the file is replaced by a draft, for which `Space` has the `need`.
+    pub fn pack<V: Files>(&self, files: &mut V) -> Result<(), FileError>
+        requires holds { HoldsRows (V.state files.old) self.now }
+        requires idle { (V.state files.old).draft ≡ None }
+        ensures rows { IsTrue (V.state files.old).tells → OnOk result (rows (V.state files.new).files self.now ≡ live_rows (V.state files.old).files self.now) }
+        ensures slots { OnOk result (slots (V.state files.new).files self.now ≤ slots (V.state files.old).files self.now) }
+        ensures holds { OnOk result (HoldsRows (V.state files.new) self.now) }
+        ensures only { OnOk result (OnlyRowsChange (V.state files.old) (V.state files.new) self.now) }
+        ensures same { IsTrue (V.state files.old).tells → live_rows (V.state files.old).files self.now ≡ rows (V.state files.old).files self.now → OnOk result (V.state files.new ≡ V.state files.old) }
+        ensures never { IsTrue (V.state files.old).tells → live_rows (V.state files.old).files self.now ≡ rows (V.state files.old).files self.now → IsOkUnless result FileError.Failed }
+        ensures need { IsTrue (V.state files.old).tells → OnSpace result (λ need. need ≡ fit (row_length self.now.schema.attributes * length (live_rows (V.state files.old).files self.now))) }
+        ensures lacks { OnSpace result (λ need. V.lacks files.new need) }
+        ensures kept { OnSpace result (λ _. Keeps (V.state files.old) (V.state files.new)) }
+        ensures cause { HasFileCause (V.faults files.old) (V.faults files.new) result }
+    {
+        let slots = self.count(files);
+        let live = self.count_live(files, slots)?;
+        if live == slots {
+            return Ok(());
+        }
+        let size = row_length(&self.schema.attributes) as u32 * u32::from(live);
+        self.begin(files, size)?;
+        self.draft_live(files, slots, live)?;
+        self.commit(files)?;
+        Ok(())
+    }
+
+    // How many rows are live.
+    fn count_live<V: Files>(&self, files: &mut V, count: u16) -> Result<u16, Failed>
+        requires holds { HoldsRows (V.state files.old) self.now }
+        requires count { count ≡ slots (V.state files.old).files self.now }
+        ensures live { IsTrue (V.state files.old).tells → IfOk result (λ live. live ≡ length (live_rows (V.state files.old).files self.now)) }
+        ensures few { IfOk result (λ live. live ≤ count) }
+        ensures same { OnOk result (V.state files.new ≡ V.state files.old) }
+        ensures cause { HasCause (V.faults files.old) (V.faults files.new) result }
+    {
+        let mut live = 0;
+        for slot in 0..count {
+            live += u16::from(self.is_live(files, slot)?);
+        }
+        Ok(live)
+    }
+
+    // Whether the row in the slot of this number is live, by its mark alone.
+    fn is_live<V: Files>(&self, files: &mut V, slot: u16) -> Result<bool, Failed>
+        requires holds { HoldsRows (V.state files.old) self.now }
+        requires slot { slot < slots (V.state files.old).files self.now }
+        ensures live { IsTrue (V.state files.old).tells → IfOk result (λ live. live ≡ (row (V.state files.old).files self.now slot).live) }
+        ensures same { OnOk result (V.state files.new ≡ V.state files.old) }
+        ensures cause { HasCause (V.faults files.old) (V.faults files.new) result }
+    {
+        let mut mark = [0];
+        let length = row_length(&self.schema.attributes) as u32;
+        files.read(
+            self.file,
+            length * u32::from(slot) + (length - 1),
+            &mut mark,
+        )?;
+        Ok(mark[0] == 1)
+    }
+
+    // Writes the live rows into the draft, which has room for so many.
+    fn draft_live<V: Files>(&self, files: &mut V, count: u16, room: u16) -> Result<(), Failed>
+        requires holds { HoldsRows (V.state files.old) self.now }
+        requires count { count ≡ slots (V.state files.old).files self.now }
+        requires room { IsTrue (V.state files.old).tells → room ≡ length (live_rows (V.state files.old).files self.now) }
+        requires few { room ≤ 32768 }
+        requires begun { IsSome (V.state files.old).draft }
+        requires size { length (draft_in (V.state files.old)).bytes ≡ row_length self.now.schema.attributes * room }
+        requires zeros { IsTrue (V.state files.old).tells → (draft_in (V.state files.old)).bytes ≡ replicate (row_length self.now.schema.attributes * room) 0 }
+        ensures suit { IsTrue (V.state files.old).tells → OnOk result (AllRowsSuit self.now.schema.attributes (live_rows (V.state files.old).files self.now)) }
+        ensures rows { IsTrue (V.state files.old).tells → OnOk result ((draft_in (V.state files.new)).bytes ≡ rows_bytes self.now.schema.attributes (live_rows (V.state files.old).files self.now)) }
+        ensures only { OnOk result (OnlyDraftChanges (V.state files.old) (V.state files.new)) }
+        ensures cause { HasCause (V.faults files.old) (V.faults files.new) result }
+    {
+        let mut written = 0;
+        for slot in 0..count {
+            written = self.draft_if_live(files, slot, written, room)?;
+        }
+        Ok(())
+    }
+
+    // Writes the row in the slot into the draft, where it is live, behind those that are written already.
+    // Answers how many are then. A file that does not tell its bytes may show more live rows than it did
+    // when they were counted; they are left out.
+    fn draft_if_live<V: Files>(
+        &self,
+        files: &mut V,
+        slot: u16,
+        written: u16,
+        room: u16,
+    ) -> Result<u16, Failed>
+        requires holds { HoldsRows (V.state files.old) self.now }
+        requires slot { slot < slots (V.state files.old).files self.now }
+        requires written { written ≤ room }
+        requires few { room ≤ 32768 }
+        requires begun { IsSome (V.state files.old).draft }
+        requires size { length (draft_in (V.state files.old)).bytes ≡ row_length self.now.schema.attributes * room }
+        requires zeros { IsTrue (V.state files.old).tells → written < room → slice_range (draft_in (V.state files.old)).bytes (row_length self.now.schema.attributes * written) (row_length self.now.schema.attributes * written + row_length self.now.schema.attributes) ≡ replicate (row_length self.now.schema.attributes) 0 }
+        ensures live { IsTrue (V.state files.old).tells → written < room → (row (V.state files.old).files self.now slot).live ≡ true → IfOk result (λ now. (now ≡ written + 1) × AllSuit self.now.schema.attributes (row (V.state files.old).files self.now slot).tuple × ((draft_in (V.state files.new)).bytes ≡ put_at (draft_in (V.state files.old)).bytes (row_length self.now.schema.attributes * written) (row_bytes self.now.schema.attributes (row (V.state files.old).files self.now slot)))) }
+        ensures removed { IsTrue (V.state files.old).tells → (row (V.state files.old).files self.now slot).live ≡ false → IfOk result (λ now. (now ≡ written) × ((draft_in (V.state files.new)).bytes ≡ (draft_in (V.state files.old)).bytes)) }
+        ensures few { IfOk result (λ now. now ≤ room) }
+        ensures only { OnOk result (OnlyDraftChanges (V.state files.old) (V.state files.new)) }
+        ensures cause { HasCause (V.faults files.old) (V.faults files.new) result }
+    {
+        let mut tuple = Tuple::new();
+        let live = self.get(files, slot, &mut tuple)?;
+        if !live || written == room {
+            return Ok(written);
+        }
+        self.draft_row(files, written, &tuple, true)?;
+        Ok(written + 1)
+    }
+
+    // Begins a draft of so many zeros for the relation's file.
+    fn begin<V: Files>(&self, files: &mut V, size: u32) -> Result<(), FileError>
+        requires file { IsRowFile (V.state files.old).files self.now }
+        requires idle { (V.state files.old).draft ≡ None }
+        requires size { size ≤ 4194304 }
+        ensures begun { OnOk result (Drafts (V.state files.old) (V.state files.new) (file_at (V.state files.old).files self.now.file).name size (replicate size 0)) }
+        ensures need { OnSpace result (λ need. need ≡ fit size) }
+        ensures lacks { OnSpace result (λ need. V.lacks files.new need) }
+        ensures kept { OnSpace result (λ _. Keeps (V.state files.old) (V.state files.new)) }
+        ensures cause { HasFileCause (V.faults files.old) (V.faults files.new) result }
+    {
+        let name = files.name(self.file);
+        files.draft(name, size)?;
+        Ok(())
+    }
+
+    // Makes the draft of the relation's file that file.
+    fn commit<V: Files>(&self, files: &mut V) -> Result<(), Failed>
+        requires live { IsLive (V.state files.old).files self.now.file }
+        requires begun { IsSome (V.state files.old).draft }
+        requires name { (draft_in (V.state files.old)).name ≡ (file_at (V.state files.old).files self.now.file).name }
+        requires last { IsTrue (V.state files.old).tells → 1 ≤ length (draft_in (V.state files.old)).bytes → slice_index (draft_in (V.state files.old)).bytes (length (draft_in (V.state files.old)).bytes - 1) ≢ 0 }
+        ensures committed { OnOk result (Commits (V.state files.old) (V.state files.new) self.now.file) }
+        ensures cause { HasCause (V.faults files.old) (V.faults files.new) result }
+    {
+        files.draft_commit()?;
+        Ok(())
+    }
+
+    // Puts a row into the draft, behind so many others.
+    fn draft_row<V: Files>(
+        &self,
+        files: &mut V,
+        before: u16,
+        tuple: &Tuple,
+        live: bool,
+    ) -> Result<(), Failed>
+        requires short { row_length self.now.schema.attributes ≤ 128 }
+        requires suits { AllSuit self.now.schema.attributes tuple.now }
+        requires begun { IsSome (V.state files.old).draft }
+        requires range { row_length self.now.schema.attributes * before + row_length self.now.schema.attributes ≤ length (draft_in (V.state files.old)).bytes }
+        requires few { before ≤ 32767 }
+        requires zeros { IsTrue (V.state files.old).tells → slice_range (draft_in (V.state files.old)).bytes (row_length self.now.schema.attributes * before) (row_length self.now.schema.attributes * before + row_length self.now.schema.attributes) ≡ replicate (row_length self.now.schema.attributes) 0 }
+        ensures written { IsTrue (V.state files.old).tells → OnOk result ((draft_in (V.state files.new)).bytes ≡ put_at (draft_in (V.state files.old)).bytes (row_length self.now.schema.attributes * before) (row_bytes self.now.schema.attributes (record { tuple = tuple.now; live = live }))) }
+        ensures only { OnOk result (OnlyDraftChanges (V.state files.old) (V.state files.new)) }
+        ensures cause { HasCause (V.faults files.old) (V.faults files.new) result }
+    {
+        let mut bytes = [0; 128];
+        let row = &mut bytes[..row_length(&self.schema.attributes)];
+        put_row(&self.schema.attributes, tuple, live, row);
+        let at = row_length(&self.schema.attributes) as u32 * u32::from(before);
+        files.draft_write(at, row)?;
+        Ok(())
+    }
+}
+
+// Whether a row is live after `removed` was asked about it.
+fn stays<F: Fn(&Tuple) -> bool>(live: bool, tuple: &Tuple, removed: &F) -> bool
+    requires { IsTrue live → (shown : _) → shown.now ≡ tuple.now → F.pre removed.now shown }
+    ensures { MatchBool live ((answer : Bool) × FnReturnsAt F.Fn removed.now tuple.now answer × (result ≡ not answer)) (result ≡ false) }
+{
+    live && !removed(tuple)
+}

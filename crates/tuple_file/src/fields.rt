@@ -1,0 +1,113 @@
+//! The bytes of one field.
+
+#![tactic(auto)]
+
+ghost use Rattle.std.specs.Prelude.{◌≡◌, ◌+◌, ◌≤◌, IsTrue, drop, length, replicate};
+ghost use Rattle.afl_base.specs.Fields.{put_at};
+ghost use Rattle.db_model.specs.Padded.{padded};
+ghost use Rattle.db_model.specs.Row.{field_bytes, field_of, suits, text_or_empty, time_or_least, up_to_zero, width};
+
+use afl_base::{get_i32, get_i64, get_u16, put_i32, put_i64, put_u16};
+use db_model::{Domain, Text, Value};
+
+// The bytes of a field of the domain.
+pub fn width(domain: Domain) -> usize
+    ensures value { result ≡ width domain }
+    ensures short { result ≤ 255 }
+{
+    match domain {
+        Domain::Int => 2,
+        Domain::Long => 4,
+        Domain::Time => 8,
+        Domain::Str(n) => n as usize,
+    }
+}
+
+// The field that `bytes` begin with, the least value of its domain where they are none.
+#[tactic(auto, unfolding(afl_base::specs::Fields::u16_at, afl_base::specs::Fields::i32_at, afl_base::specs::Fields::i64_at))]
+pub fn get_field(domain: Domain, bytes: &[u8]) -> Value
+    requires { width domain ≤ length bytes.now }
+    ensures { result ≡ field_of domain bytes.now }
+{
+    match domain {
+        Domain::Int => Value::Number(i64::from(get_u16(bytes, 0).cast_signed())),
+        Domain::Long => Value::Number(i64::from(get_i32(bytes, 0))),
+        Domain::Time => Value::Number(time_or_least(get_i64(bytes, 0))),
+        Domain::Str(n) => Value::Text(text_or_empty(up_to_zero(&bytes[..n as usize]))),
+    }
+}
+
+// This number where it is a time, else the least time.
+fn time_or_least(number: i64) -> i64
+    ensures { result ≡ time_or_least number }
+{
+    if (0..=140_737_488_355_327).contains(&number) {
+        number
+    } else {
+        0
+    }
+}
+
+// These bytes where they are a text, else the empty text.
+fn text_or_empty(bytes: &[u8]) -> Text
+    ensures { result ≡ text_or_empty bytes.now }
+{
+    match Text::new(bytes) {
+        Some(text) => text,
+        None => Text::default(),
+    }
+}
+
+// The bytes before the first zero.
+fn up_to_zero(bytes: &[u8]) -> &[u8]
+    ensures { result.now ≡ up_to_zero bytes.now }
+{
+    for (i, byte) in bytes.iter().enumerate() {
+        if *byte == 0 {
+            return &bytes[..i];
+        }
+    }
+    bytes
+}
+
+// Puts the field of the value into the bytes from `at` on. All other bytes stay.
+#[tactic(auto, unfolding(afl_base::specs::Fields::u16_bytes, afl_base::specs::Fields::i32_bytes, afl_base::specs::Fields::i64_bytes))]
+pub fn put_field(bytes: &mut [u8], at: usize, domain: Domain, value: &Value)
+    requires suits { IsTrue (suits domain value.now) }
+    requires room { at + width domain ≤ length bytes.old }
+    ensures { bytes.new ≡ put_at bytes.old at (field_bytes domain value.now) }
+{
+    match (domain, value) {
+        (Domain::Int, Value::Number(n)) => put_u16(bytes, at, (*n as i16).cast_unsigned()),
+        (Domain::Long, Value::Number(n)) => put_i32(bytes, at, *n as i32),
+        (Domain::Time, Value::Number(n)) => put_i64(bytes, at, *n),
+        (Domain::Str(n), Value::Text(text)) => put_text(bytes, at, n as usize, text.bytes()),
+        _ => unreachable!(),
+    }
+}
+
+// Puts the text and zeros behind it into the `n` bytes from `at` on. All other bytes stay.
+fn put_text(bytes: &mut [u8], at: usize, n: usize, text: &[u8])
+    requires short { length text.now ≤ n }
+    requires room { at + n ≤ length bytes.old }
+    ensures { bytes.new ≡ put_at bytes.old at (padded n text.now) }
+{
+    put_bytes(bytes, at, text);
+    put_zeros(bytes, at + text.len(), n - text.len());
+}
+
+// Puts `part` in the place of the bytes from `at` on.
+fn put_bytes(bytes: &mut [u8], at: usize, part: &[u8])
+    requires { at + length part.now ≤ length bytes.old }
+    ensures { bytes.new ≡ put_at bytes.old at part.now }
+{
+    bytes[at..at + part.len()].copy_from_slice(part);
+}
+
+// Puts `n` zeros in the place of the bytes from `at` on.
+fn put_zeros(bytes: &mut [u8], at: usize, n: usize)
+    requires { at + n ≤ length bytes.old }
+    ensures { bytes.new ≡ put_at bytes.old at (replicate n 0) }
+{
+    bytes[at..at + n].fill(0);
+}

@@ -1,0 +1,12 @@
+//! The rows of one relation in a file, over any `Files`.
+#![tactic(auto)]
+
+mod drafts;
+mod fields;
+mod rows;
+mod tuples;
+
+pub use tuples::Tuples;
+
+#[cfg(test)]
+mod tests;

@@ -1,0 +1,87 @@
+//! The bytes of one row.
+
+#![tactic(auto)]
+
+ghost use Rattle.std.specs.Prelude.{◌≡◌, ◌==◌, ◌-◌, ◌+◌, ◌*◌, ◌≤◌, ◌↔◌, IsTrue, length, slice_index};
+ghost use Rattle.db_model.specs.Row.{AllSuit, fields_length, mark, row_bytes, row_length, row_of, tuple_of};
+
+use crate::fields::{get_field, put_field, width};
+use db_model::{Attribute, Attributes, Tuple};
+
+// The bytes of a row: its fields and a mark.
+pub fn row_length(attributes: &Attributes) -> usize
+    ensures value { result ≡ row_length attributes.now }
+    ensures short { result ≤ 2041 }
+{
+    fields_length(attributes.as_slice()) + 1
+}
+
+// The bytes of a row's fields.
+pub fn fields_length(attributes: &[Attribute]) -> usize
+    requires { length attributes.now ≤ 8 }
+    ensures value { result ≡ fields_length attributes.now }
+    ensures short { result ≤ 2040 }
+{
+    let mut length = 0;
+    for attribute in attributes {
+        length += width(attribute.domain);
+    }
+    length
+}
+
+// Whether a row is live.
+pub fn is_live(row: &[u8]) -> bool
+    requires { 1 ≤ length row.now }
+    ensures { result ≡ (slice_index row.now (length row.now - 1) == 1) }
+{
+    row[row.len() - 1] == 1
+}
+
+// Fills `into` with the fields of a row.
+pub fn get_tuple(attributes: &Attributes, row: &[u8], into: &mut Tuple)
+    requires { fields_length attributes.now ≤ length row.now }
+    ensures tuple { into.new ≡ tuple_of attributes.now row.now }
+    ensures suits { AllSuit attributes.now into.new }
+{
+    into.clear();
+    let mut rest = row;
+    for attribute in attributes.as_slice() {
+        into.push(get_field(attribute.domain, rest));
+        rest = &rest[width(attribute.domain)..];
+    }
+}
+
+// Makes the bytes of `row` those of the tuple's row.
+pub fn put_row(attributes: &Attributes, tuple: &Tuple, live: bool, row: &mut [u8])
+    requires suits { AllSuit attributes.now tuple.now }
+    requires size { length row.old ≡ row_length attributes.now }
+    ensures { row.new ≡ row_bytes attributes.now (record { tuple = tuple.now; live = live }) }
+{
+    let mut at = 0;
+    for (i, attribute) in attributes.as_slice().iter().enumerate() {
+        put_field(row, at, attribute.domain, tuple.get(i));
+        at += width(attribute.domain);
+    }
+    row[at] = mark(live);
+}
+
+// The last byte of a row.
+fn mark(live: bool) -> u8
+    ensures { result ≡ mark live }
+{
+    if live { 1 } else { 3 }
+}
+
+// Whether the bytes are those of the row that they are read as.
+pub fn is_row(attributes: &Attributes, row: &[u8]) -> bool
+    requires size { length row.now ≡ row_length attributes.now }
+    requires short { row_length attributes.now ≤ 128 }
+    ensures { IsTrue result ↔ (row_bytes attributes.now (row_of attributes.now row.now) ≡ row.now) }
+{
+    let mut tuple = Tuple::new();
+    get_tuple(attributes, row, &mut tuple);
+    let mut bytes = [0; 128];
+    let again = &mut bytes[..row.len()];
+    put_row(attributes, &tuple, is_live(row), again);
+    *again == *row
+}
