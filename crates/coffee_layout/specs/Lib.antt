@@ -1,0 +1,7 @@
+pub mod FileBytes
+pub mod Files
+pub mod Marks
+pub mod Rules
+pub mod Tiling
+pub mod Units
+pub mod Walks

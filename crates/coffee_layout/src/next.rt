@@ -1,0 +1,44 @@
+ghost use Rattle.std.specs.Prelude.{◌≡◌, ◌+◌, ◌*◌, ◌≤◌, ◌==◌, length, bit_and, IsTrue, IfOk};
+ghost use Rattle.std.specs.List.{list_all};
+ghost use Rattle.afl_base.specs.Causes.{HasCause};
+ghost use Rattle.coffee_layout.specs.Units.{is_zeros, unit_at, unit_of};
+
+use crate::unit::Unit;
+use afl_base::{Failed, Flash, PageId};
+use coffee_header::read_header;
+
+/// The unit that begins at `page`, None exactly where the page's first 32 bytes are no unit's. One
+/// read; the image stays.
+pub fn next_unit<F: Flash>(flash: &mut F, page: PageId) -> Result<Option<Unit>, Failed>
+    requires page { 256 * page.0 + 256 ≤ length (F.image flash.old) }
+    ensures unit { IsTrue F.tells → IfOk result (λ u. u ≡ unit_at (F.image flash.old) page.0) }
+    ensures same { F.image flash.new ≡ F.image flash.old }
+    ensures reads { F.reads flash.new ≤ F.reads flash.old + 1 }
+    ensures cause { HasCause (F.faults flash.old) (F.faults flash.new) result }
+{
+    let mut bytes = [0; 32];
+    flash.read(page, 0, &mut bytes)?;
+    Ok(unit_of(&bytes))
+}
+
+#[tactic(auto, unfolding(crate::specs::Units::unit_of))]
+fn unit_of(bytes: &[u8; 32]) -> Option<Unit>
+    ensures { result ≡ unit_of bytes.now }
+{
+    if is_zeros(bytes) {
+        return Some(Unit::Free);
+    }
+    if bytes[9] & 34 == 34 {
+        return Some(Unit::Isolated);
+    }
+    match read_header(bytes) {
+        Some(header) => Some(Unit::Extent(header)),
+        None => None,
+    }
+}
+
+pub(crate) fn is_zeros(bytes: &[u8]) -> bool
+    ensures { result ≡ is_zeros bytes.now }
+{
+    bytes.iter().all(|b| *b == 0)
+}

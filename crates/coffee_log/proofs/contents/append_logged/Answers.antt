@@ -1,0 +1,27 @@
+use Rattle.std.proofs.Common.{arith, ◌≡◌, ◌+◌, ◌-◌, ◌/◌, ◌≤◌, length, take, drop, None, Some, refl, ap, sym, subst}
+use Rattle.std.proofs.lemmas.List.{length-drop, length-take}
+use Rattle.coffee_layout.specs.FileBytes.{last_in, table_of}
+use Rattle.coffee_log.specs.FileChanges.{FileBecomes, IsFile}
+use Rattle.coffee_log.proofs.Appends.{plain_end}
+use Rattle.coffee_log.proofs.FileSteps.{append_two}
+use Rattle.coffee_log.proofs.contents.append_logged.Goals as goal
+
+pub returns-clause-becomes : goal.returns-clause-becomes
+returns-clause-becomes g c = λ t is.
+    let size0 : length (g.F.Flash.image c.is_logged.new.flash) ≡ length (g.F.Flash.image c.args.flash.now) = ap (λ i. length i) c.in_ok-is_logged.ensures.same in
+    let low : c.min-n.result ≤ length c.args.bytes.now = omega arith in
+    let front : length (take c.min-n.result c.args.bytes.now) ≡ c.min-n.result = omega (arith, length-take c.min-n.result c.args.bytes.now) in
+    let rest : length (take (length c.args.bytes.now - c.min-n.result) (drop c.min-n.result c.args.bytes.now)) ≡ length c.args.bytes.now - c.min-n.result =
+    omega (arith, length-take (length c.args.bytes.now - c.min-n.result) (drop c.min-n.result c.args.bytes.now), length-drop c.min-n.result c.args.bytes.now) in
+    let was : IsFile (g.F.Flash.image c.is_logged.new.flash) c.args.page.0 c.args.pages (Some c.args.log) c.args.used c.args.at = subst (λ i. IsFile i c.args.page.0 c.args.pages (Some c.args.log) c.args.used c.args.at) (sym c.in_ok-is_logged.ensures.same) is in
+    let put : FileBecomes (g.F.Flash.image c.is_logged.new.flash) (g.F.Flash.image c.put_part.new.flash) c.args.page.0 c.args.pages (Some c.args.log) (c.args.used + 1) (c.args.at + c.min-n.result) c.args.at (take c.min-n.result c.args.bytes.now) =
+    c.in_ok-put_part.ensures.becomes t c.args.at (c.args.at + c.min-n.result) was (omega arith) (omega arith) (omega arith) in
+    append_two (g.F.Flash.image c.args.flash.now) (g.F.Flash.image c.put_part.new.flash) (g.F.Flash.image c.append_plain-2.new.flash) c.args.bytes.now _ c.args.page.0 c.args.pages (Some c.args.log) (c.args.used + 1) (c.args.used + 1) c.args.at c.min-n.result _ _ _
+    (subst (λ i. FileBecomes i (g.F.Flash.image c.put_part.new.flash) c.args.page.0 c.args.pages (Some c.args.log) (c.args.used + 1) (c.args.at + c.min-n.result) c.args.at (take c.min-n.result c.args.bytes.now)) c.in_ok-is_logged.ensures.same put)
+    (c.in_ok-append_plain-2.ensures.becomes t c.args.pages (c.args.used + 1) (Some c.args.log) put.kept
+    (λ l e some.
+    let same : c.args.log ≡ l = cc in
+    subst (λ x. last_in (table_of (g.F.Flash.image c.put_part.new.flash) x.0) ((c.args.at + c.min-n.result) / 128) 30 ≡ None) same
+    (plain_end (g.F.Flash.image c.put_part.new.flash) c.args.page.0 c.args.pages c.args.log (c.args.used + 1) (c.args.at + c.min-n.result) put.kept (omega arith)))
+    (omega arith) (omega (arith, size0, c.in_ok-put_part.ensures.size)))
+    refl refl refl low (omega arith) (omega arith)

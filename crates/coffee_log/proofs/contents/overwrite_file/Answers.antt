@@ -1,0 +1,21 @@
+use Rattle.std.proofs.Common.{rules, arith, ◌≡◌, ◌+◌, Some, refl}
+use Rattle.afl_base.specs.Regions.{regions}
+use Rattle.coffee_log.proofs.FileSteps.{becomes_more, regions_more}
+use Rattle.coffee_log.proofs.contents.overwrite_file.Goals as goal
+
+pub loop-done-preserved : goal.loop-done-preserved
+loop-done-preserved g c =
+    let more : regions c.args.at (c.loop-done.done + c.min-n.result) ≡ regions c.args.at c.loop-done.done + 1 =
+    regions_more c.args.at c.loop-done.done c.min-n.result (omega arith) (λ a. c.loop-done.invariant.turn a (omega arith)) (omega arith) in
+    record {
+      within = omega arith;
+      turn = λ a b. omega arith;
+      count = omega arith;
+      size = search rules;
+      becomes = λ t size is ends fits.
+          let b = c.loop-done.invariant.becomes t size is ends fits in
+          becomes_more (g.F.Flash.image c.args.flash.now) (g.F.Flash.image c.loop-done.flash) (g.F.Flash.image c.put_part.new.flash) c.args.bytes.now _ c.args.page.0 c.args.pages (Some c.args.log) c.loop-done.records (c.loop-done.records + 1) size size c.args.at
+          _ c.loop-done.done _ c.min-n.result b (c.in_ok-put_part.ensures.becomes t size size b.kept (omega arith) (omega arith) fits) refl refl (omega arith) (omega arith) (omega arith);
+      reads = omega arith;
+      faults = search rules;
+    }

@@ -1,0 +1,19 @@
+use Rattle.std.proofs.Common.{◌≡◌, ℕ, ◌+◌, ◌-◌, ◌*◌, ◌%◌, ◌≤◌, ◌<◌, length, take, Some, IsTrue}
+use Rattle.afl_base.specs.Regions.{regions}
+use Rattle.coffee_log.specs.FileChanges.{FileBecomes, IsFile}
+use Rattle.coffee_log.proofs.contents.overwrite_file.Given as goal
+
+abbrev pub invariant-loop-done : goal.invariant-loop-done
+invariant-loop-done g l = record {
+  within : l.done ≤ length l.bytes;
+  turn : 0 < l.done → l.done < length l.bytes → (l.at + l.done) % 128 ≡ 0;
+  count : l.records ≡ l.used + regions l.at l.done;
+  size : length (g.F.Flash.image l.flash) ≡ length (g.F.Flash.image l.fn.flash);
+  becomes : IsTrue g.F.Flash.tells → (size : ℕ) → IsFile (g.F.Flash.image l.fn.flash) l.page.0 l.pages (Some l.log) l.used size → l.at + length l.bytes ≤ size → size + 32 ≤ 256 * l.pages
+      → FileBecomes (g.F.Flash.image l.fn.flash) (g.F.Flash.image l.flash) l.page.0 l.pages (Some l.log) l.records size l.at (take l.done l.bytes);
+  reads : g.F.Flash.reads l.flash ≤ g.F.Flash.reads l.fn.flash + 3 * regions l.at l.done;
+  faults : g.F.Flash.faults l.fn.flash ≤ g.F.Flash.faults l.flash;
+}
+
+abbrev pub decreases-loop-done : goal.decreases-loop-done
+decreases-loop-done g l = length l.bytes - l.done

@@ -1,0 +1,2 @@
+pub mod FileChanges
+pub mod Logs

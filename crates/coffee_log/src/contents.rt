@@ -1,0 +1,273 @@
+ghost use Rattle.std.specs.Prelude.{◌≡◌, ℕ, ◌+◌, ◌*◌, ◌%◌, ◌≤◌, ◌<◌, min, true, false, length, slice_index, Option, None, Some, IsTrue, IfOk, OnOk};
+ghost use Rattle.afl_base.specs.Causes.{HasCause};
+ghost use Rattle.afl_base.specs.Regions.{regions};
+ghost use Rattle.flash_range.specs.Range.{Outside};
+ghost use Rattle.coffee_layout.specs.FileBytes.{file_byte, last_in, table_of};
+ghost use Rattle.coffee_layout.specs.Units.{pages_of};
+ghost use Rattle.coffee_layout.specs.Walks.{LogFits};
+ghost use Rattle.coffee_log.specs.FileChanges.{FileBecomes, IsFile, IsPlain, one_if, records_for};
+
+use crate::records::log_put;
+use afl_base::{Failed, Flash, PageId};
+use coffee_layout::{last_record, read_table, region_place};
+use flash_range::{program_range, read_range};
+
+/// Fills `into` with the content of a file from byte `at` on, by the first page of its extent and that
+/// of its log. At most 3 reads for each region of 128 bytes that the range touches.
+pub fn read_file<F: Flash>(
+    flash: &mut F,
+    page: PageId,
+    log: Option<PageId>,
+    at: u32,
+    into: &mut [u8],
+) -> Result<(), Failed>
+    requires placed { 256 * page.0 + 32 + at + length into.old ≤ length (F.image flash.old) }
+    requires log { LogFits (pages_of (F.image flash.old)) log }
+    ensures bytes { IsTrue F.tells → OnOk result ((k : ℕ) → k < length into.old → slice_index into.new k ≡ file_byte (F.image flash.old) page.0 log (at + k)) }
+    ensures same { F.image flash.new ≡ F.image flash.old }
+    ensures reads { F.reads flash.new ≤ F.reads flash.old + 3 * regions at (length into.old) }
+    ensures cause { HasCause (F.faults flash.old) (F.faults flash.new) result }
+{
+    flash.sectors();
+    let mut done = 0;
+    while done < into.len() {
+        let from = at + done as u32;
+        let n = (into.len() - done).min((128 - from % 128) as usize);
+        read_part(flash, page, log, from, &mut into[done..done + n])?;
+        done += n;
+    }
+    Ok(())
+}
+
+// The same of a part of one region.
+fn read_part<F: Flash>(
+    flash: &mut F,
+    page: PageId,
+    log: Option<PageId>,
+    at: u32,
+    into: &mut [u8],
+) -> Result<(), Failed>
+    requires part { at % 128 + length into.old ≤ 128 }
+    requires placed { 256 * page.0 + 32 + at + length into.old ≤ length (F.image flash.old) }
+    requires log { LogFits (pages_of (F.image flash.old)) log }
+    ensures bytes { IsTrue F.tells → OnOk result ((k : ℕ) → k < length into.old → slice_index into.new k ≡ file_byte (F.image flash.old) page.0 log (at + k)) }
+    ensures same { F.image flash.new ≡ F.image flash.old }
+    ensures reads { F.reads flash.new ≤ F.reads flash.old + 3 }
+    ensures cause { HasCause (F.faults flash.old) (F.faults flash.new) result }
+{
+    flash.sectors();
+    let front = at % 128;
+    let place = region_place(flash, page, log, at / 128, front + into.len() as u32)?;
+    read_range(flash, place + front, into)?;
+    Ok(())
+}
+
+/// Writes over content of a file with a log that has `used` records in use: one record more for each
+/// region that the range touches. Answers the records then in use. The file has the bytes from byte
+/// `at` on, and all else stays. At most 3 reads for each of these regions.
+pub fn overwrite_file<F: Flash>(
+    flash: &mut F,
+    page: PageId,
+    pages: u16,
+    log: PageId,
+    used: u8,
+    at: u32,
+    bytes: &[u8],
+) -> Result<u8, Failed>
+    requires placed { page.0 + pages ≤ pages_of (F.image flash.old) }
+    requires log { log.0 + 16 ≤ pages_of (F.image flash.old) }
+    requires free { used + regions at (length bytes.now) ≤ 30 }
+    requires region { at + length bytes.now ≤ 8388480 }
+    requires fits { at + length bytes.now + 32 ≤ 256 * pages }
+    ensures used { IfOk result (λ n. n ≡ used + regions at (length bytes.now)) }
+    ensures becomes { IsTrue F.tells → IfOk result (λ n. (size : ℕ) → IsFile (F.image flash.old) page.0 pages (Some log) used size → at + length bytes.now ≤ size → size + 32 ≤ 256 * pages
+        → FileBecomes (F.image flash.old) (F.image flash.new) page.0 pages (Some log) n size at bytes.now) }
+    ensures size { length (F.image flash.new) ≡ length (F.image flash.old) }
+    ensures reads { F.reads flash.new ≤ F.reads flash.old + 3 * regions at (length bytes.now) }
+    ensures cause { HasCause (F.faults flash.old) (F.faults flash.new) result }
+{
+    flash.sectors();
+    let mut records = used;
+    let mut done = 0;
+    while done < bytes.len() {
+        let from = at + done as u32;
+        let n = (bytes.len() - done).min((128 - from % 128) as usize);
+        put_part(
+            flash,
+            page,
+            pages,
+            log,
+            records,
+            from,
+            &bytes[done..done + n],
+        )?;
+        records += 1;
+        done += n;
+    }
+    Ok(records)
+}
+
+/// Adds bytes to a file of `at` bytes whose log, where it has one, has `used` records in use. Where the
+/// region of byte `at` has a record, its part goes into a further record; all other bytes are programmed
+/// into the extent. Answers the records then in use. All else stays. At most 4 reads.
+pub fn append_file<F: Flash>(
+    flash: &mut F,
+    page: PageId,
+    pages: u16,
+    log: Option<PageId>,
+    used: u8,
+    at: u32,
+    bytes: &[u8],
+) -> Result<u8, Failed>
+    requires placed { page.0 + pages ≤ pages_of (F.image flash.old) }
+    requires log { LogFits (pages_of (F.image flash.old)) log }
+    requires free { (l : PageId) → log ≡ Some l → 1 ≤ length bytes.now → used < 30 }
+    requires region { at + length bytes.now ≤ 8388480 }
+    requires fits { at + length bytes.now + 32 ≤ 256 * pages }
+    ensures used { IsTrue F.tells → IfOk result (λ n. n ≡ used + records_for (F.image flash.old) log at (length bytes.now)) }
+    ensures few { IfOk result (λ n. n ≤ used + min (length bytes.now) 1) }
+    ensures unlogged { log ≡ None → IfOk result (λ n. n ≡ used) }
+    ensures becomes { IsTrue F.tells → IfOk result (λ n. IsFile (F.image flash.old) page.0 pages log used at → FileBecomes (F.image flash.old) (F.image flash.new) page.0 pages log n (at + length bytes.now) at bytes.now) }
+    ensures size { length (F.image flash.new) ≡ length (F.image flash.old) }
+    ensures reads { F.reads flash.new ≤ F.reads flash.old + 4 }
+    ensures cause { HasCause (F.faults flash.old) (F.faults flash.new) result }
+{
+    match log {
+        None => {
+            append_plain(flash, page, at, bytes)?;
+            Ok(used)
+        }
+        Some(log) => append_logged(flash, page, pages, log, used, at, bytes),
+    }
+}
+
+// The same of a file with a log.
+fn append_logged<F: Flash>(
+    flash: &mut F,
+    page: PageId,
+    pages: u16,
+    log: PageId,
+    used: u8,
+    at: u32,
+    bytes: &[u8],
+) -> Result<u8, Failed>
+    requires placed { page.0 + pages ≤ pages_of (F.image flash.old) }
+    requires log { log.0 + 16 ≤ pages_of (F.image flash.old) }
+    requires free { 1 ≤ length bytes.now → used < 30 }
+    requires region { at + length bytes.now ≤ 8388480 }
+    requires fits { at + length bytes.now + 32 ≤ 256 * pages }
+    ensures used { IsTrue F.tells → IfOk result (λ n. n ≡ used + records_for (F.image flash.old) (Some log) at (length bytes.now)) }
+    ensures few { IfOk result (λ n. n ≤ used + min (length bytes.now) 1) }
+    ensures becomes { IsTrue F.tells → IfOk result (λ n. IsFile (F.image flash.old) page.0 pages (Some log) used at → FileBecomes (F.image flash.old) (F.image flash.new) page.0 pages (Some log) n (at + length bytes.now) at bytes.now) }
+    ensures size { length (F.image flash.new) ≡ length (F.image flash.old) }
+    ensures reads { F.reads flash.new ≤ F.reads flash.old + 4 }
+    ensures cause { HasCause (F.faults flash.old) (F.faults flash.new) result }
+{
+    if bytes.is_empty() {
+        return Ok(used);
+    }
+    if !is_logged(flash, log, at / 128)? {
+        append_plain(flash, page, at, bytes)?;
+        return Ok(used);
+    }
+    let n = bytes.len().min((128 - at % 128) as usize);
+    put_part(flash, page, pages, log, used, at, &bytes[..n])?;
+    append_plain(flash, page, at + n as u32, &bytes[n..])?;
+    Ok(used + 1)
+}
+
+// Whether the log has a record of a region.
+fn is_logged<F: Flash>(flash: &mut F, log: PageId, region: u32) -> Result<bool, Failed>
+    requires log { log.0 + 16 ≤ pages_of (F.image flash.old) }
+    requires region { region < 16777216 }
+    ensures plain { IsTrue F.tells → IfOk result (λ b. b ≡ false → last_in (table_of (F.image flash.old) log.0) region 30 ≡ None) }
+    ensures logged { IsTrue F.tells → IfOk result (λ b. b ≡ true → one_if (last_in (table_of (F.image flash.old) log.0) region 30) ≡ 1) }
+    ensures same { F.image flash.new ≡ F.image flash.old }
+    ensures reads { F.reads flash.new ≤ F.reads flash.old + 1 }
+    ensures cause { HasCause (F.faults flash.old) (F.faults flash.new) result }
+{
+    let mut table = [0; 60];
+    read_table(flash, log.0, &mut table)?;
+    match last_record(&table, region) {
+        None => Ok(false),
+        Some(_) => Ok(true),
+    }
+}
+
+// Programs bytes behind the end of a file, where no record hides them.
+fn append_plain<F: Flash>(flash: &mut F, page: PageId, at: u32, bytes: &[u8]) -> Result<(), Failed>
+    requires placed { 256 * page.0 + 32 + at + length bytes.now ≤ length (F.image flash.old) }
+    ensures becomes { IsTrue F.tells → OnOk result ((pages used : ℕ) (log : Option PageId) → IsFile (F.image flash.old) page.0 pages log used at → IsPlain (F.image flash.old) log at (length bytes.now) → at + length bytes.now + 32 ≤ 256 * pages → 256 * (page.0 + pages) ≤ length (F.image flash.old)
+        → FileBecomes (F.image flash.old) (F.image flash.new) page.0 pages log used (at + length bytes.now) at bytes.now) }
+    ensures size { length (F.image flash.new) ≡ length (F.image flash.old) }
+    ensures reads { F.reads flash.new ≡ F.reads flash.old }
+    ensures cause { HasCause (F.faults flash.old) (F.faults flash.new) result }
+{
+    flash.sectors();
+    program_range(flash, 256 * u32::from(page.0) + 32 + at, bytes)?;
+    Ok(())
+}
+
+// Puts a part of one region into the file by a record more of its log, which holds the whole region.
+fn put_part<F: Flash>(
+    flash: &mut F,
+    page: PageId,
+    pages: u16,
+    log: PageId,
+    used: u8,
+    at: u32,
+    bytes: &[u8],
+) -> Result<(), Failed>
+    requires placed { page.0 + pages ≤ pages_of (F.image flash.old) }
+    requires log { log.0 + 16 ≤ pages_of (F.image flash.old) }
+    requires free { used < 30 }
+    requires region { at < 8388480 }
+    requires some { 1 ≤ length bytes.now }
+    requires part { at % 128 + length bytes.now ≤ 128 }
+    requires fits { at + length bytes.now + 32 ≤ 256 * pages }
+    ensures becomes { IsTrue F.tells → OnOk result ((size total : ℕ) → IsFile (F.image flash.old) page.0 pages (Some log) used size → size ≤ total → at + length bytes.now ≤ total → total + 32 ≤ 256 * pages
+        → FileBecomes (F.image flash.old) (F.image flash.new) page.0 pages (Some log) (used + 1) total at bytes.now) }
+    ensures size { length (F.image flash.new) ≡ length (F.image flash.old) }
+    ensures reads { F.reads flash.new ≤ F.reads flash.old + 3 }
+    ensures cause { HasCause (F.faults flash.old) (F.faults flash.new) result }
+{
+    let region = at / 128;
+    // The last region of an extent has 96 bytes of content. What its record holds behind them is zero.
+    let len = (256 * u32::from(pages) - 32 - 128 * region).min(128);
+    let mut buffer = [0; 128];
+    load_front(flash, page, log, 128 * region, len, &mut buffer)?;
+    put_bytes(&mut buffer, (at % 128) as usize, bytes);
+    log_put(flash, log, used, region as u16, &buffer)?;
+    Ok(())
+}
+
+// Fills the first `len` bytes of a buffer with the content from the front of a region on.
+fn load_front<F: Flash>(
+    flash: &mut F,
+    page: PageId,
+    log: PageId,
+    at: u32,
+    len: u32,
+    buffer: &mut [u8; 128],
+) -> Result<(), Failed>
+    requires front { at % 128 ≡ 0 }
+    requires len { len ≤ 128 }
+    requires placed { 256 * page.0 + 32 + at + len ≤ length (F.image flash.old) }
+    requires log { log.0 + 16 ≤ pages_of (F.image flash.old) }
+    ensures bytes { IsTrue F.tells → OnOk result ((k : ℕ) → k < len → slice_index buffer.new k ≡ file_byte (F.image flash.old) page.0 (Some log) (at + k)) }
+    ensures same { F.image flash.new ≡ F.image flash.old }
+    ensures reads { F.reads flash.new ≤ F.reads flash.old + 3 }
+    ensures cause { HasCause (F.faults flash.old) (F.faults flash.new) result }
+{
+    read_part(flash, page, Some(log), at, &mut buffer[..len as usize])?;
+    Ok(())
+}
+
+// Puts bytes into the middle of a region's.
+fn put_bytes(buffer: &mut [u8], at: usize, bytes: &[u8])
+    requires { at + length bytes.now ≤ length buffer.old }
+    ensures here { (k : ℕ) → k < length bytes.now → slice_index buffer.new (at + k) ≡ slice_index bytes.now k }
+    ensures others { (k : ℕ) → Outside at (length bytes.now) k → slice_index buffer.new k ≡ slice_index buffer.old k }
+{
+    buffer[at..at + bytes.len()].copy_from_slice(bytes);
+}

@@ -1,0 +1,11 @@
+pub mod Bits
+pub mod Collected
+pub mod Erasing
+pub mod ExtentsLeft
+pub mod FreeRuns
+pub mod Isolating
+pub mod MarksLeft
+pub mod Obtaining
+pub mod SectorMarks
+pub mod UnitsLeft
+pub mod Walks

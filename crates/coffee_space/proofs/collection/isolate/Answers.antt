@@ -1,0 +1,36 @@
+use Rattle.std.proofs.Common.{rules, ◌*◌, None, Some, arith}
+use Rattle.coffee_layout.specs.Walks.{IsInside}
+use Rattle.coffee_layout.proofs.Searches.{IsRead}
+use Rattle.coffee_space.specs.Sectors.{taken_in}
+use Rattle.coffee_space.proofs.Isolating.{isolating_end, isolating_next, isolating_none, isolating_reads}
+use Rattle.coffee_space.proofs.collection.isolate.Goals as goal
+
+pub returns-in-None-clause-isolated : goal.returns-in-None-clause-isolated
+returns-in-None-clause-isolated g c = λ t building us tiled.
+    let is : IsRead (g.F.Flash.image c.loop-page.flash) c.loop-page.page None = (rw c.in-None.is at (c.in_ok-unit.ensures.unit t)) in
+    absurd (isolating_none (taken_in c.args.sectors.now.used.bits c.args.sectors.now.active.bits) building (g.F.Flash.image c.args.flash.now) (g.F.Flash.image c.loop-page.flash) us c.loop-page.page
+    c.loop-page.invariant.size (omega arith) (c.loop-page.invariant.isolating t building us tiled) is)
+
+pub loop-page-preserved : goal.loop-page-preserved
+loop-page-preserved g c =
+    let inside : IsInside (16 * c.sectors-all.result) c.loop-page.page c.in-Some.unit = (rw c.in-Some.is at c.in_ok-unit.ensures.inside) in
+    record {
+      within = omega arith;
+      total = c.loop-page.invariant.total;
+      size = search rules;
+      reads = omega arith;
+      faults = search rules;
+      isolating = λ t building us tiled.
+          let old = g.F.Flash.image c.args.flash.now in
+          let now = g.F.Flash.image c.loop-page.flash in
+          let new = g.F.Flash.image c.isolate_unit.new.flash in
+          let is : IsRead (g.F.Flash.image c.loop-page.flash) c.loop-page.page (Some c.in-Some.unit) = (rw c.in-Some.is at (c.in_ok-unit.ensures.unit t)) in
+          let before = c.loop-page.invariant.isolating t building us tiled in
+          let stands = isolating_reads (taken_in c.args.sectors.now.used.bits c.args.sectors.now.active.bits) building old now us c.loop-page.page c.in-Some.unit c.loop-page.invariant.size (omega arith) before is in
+          rw c.pages-page.ensures (isolating_next (taken_in c.args.sectors.now.used.bits c.args.sectors.now.active.bits) building old now new us c.loop-page.page c.in-Some.unit stands before
+          (rw (c.unit_in.ensures.same, c.pages.ensures) at (c.in_ok-isolate_unit.ensures.isolated t)));
+    }
+
+pub returns-clause-isolated : goal.returns-clause-isolated
+returns-clause-isolated g c = λ t building us tiled.
+    isolating_end (taken_in c.args.sectors.now.used.bits c.args.sectors.now.active.bits) building (g.F.Flash.image c.args.flash.now) (g.F.Flash.image c.loop-page.flash) us c.loop-page.page (omega arith) (c.loop-page.invariant.isolating t building us tiled)

@@ -1,0 +1,20 @@
+use Rattle.std.proofs.Common.{◌≡◌, ℕ, ◌+◌, ◌-◌, ◌*◌, ◌≤◌, ◌<◌, Bool, List, length, IsTrue}
+use Rattle.coffee_layout.specs.Tiling.{IsTiled}
+use Rattle.coffee_layout.specs.declared.unit.Unit.{Unit}
+use Rattle.coffee_space.proofs.FreeRuns.{Walked}
+use Rattle.coffee_space.proofs.runs.find_run.Given as goal
+
+abbrev pub invariant-loop-page : goal.invariant-loop-page
+invariant-loop-page g l = record {
+  within : l.page ≤ l.all;
+  size : 256 * l.all ≡ length (g.F.Flash.image l.fn.flash);
+  same : g.F.Flash.image l.flash ≡ g.F.Flash.image l.fn.flash;
+  reads : g.F.Flash.reads l.flash ≤ g.F.Flash.reads l.fn.flash + l.page;
+  faults : g.F.Flash.faults l.fn.flash ≤ g.F.Flash.faults l.flash;
+  low : l.run ≤ l.page;
+  few : l.run < l.pages;
+  walked : IsTrue g.F.Flash.tells → (building : ℕ → Bool) (us : List Unit) → IsTiled building (g.F.Flash.image l.fn.flash) us → Walked building (g.F.Flash.image l.fn.flash) us l.pages l.page l.run;
+}
+
+abbrev pub decreases-loop-page : goal.decreases-loop-page
+decreases-loop-page g l = l.all - l.page

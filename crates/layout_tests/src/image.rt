@@ -1,0 +1,79 @@
+ghost use Rattle.std.specs.Prelude.{◌≡◌, ◌<◌, ◌≤◌, true};
+ghost use Rattle.coffee_header.specs.Headers.{is_flags, is_kind};
+
+use afl_base::Name;
+use coffee_header::{Header, write_header};
+
+/// The bytes of four sectors.
+pub const SIZE: usize = 16384;
+
+/// Sets one byte of an image, where it has that byte.
+pub fn set(image: &mut [u8; SIZE], at: usize, byte: u8) {
+    if at < SIZE {
+        image[at] = byte;
+    }
+}
+
+/// Writes a header at the front of a page.
+pub fn put(image: &mut [u8; SIZE], page: usize, header: &Header)
+    requires page { page < 64 }
+    requires kind { is_kind header.now.kind ≡ true }
+    requires flags { is_flags header.now.flags ≡ true }
+{
+    let mut bytes = [0; 32];
+    write_header(header, &mut bytes);
+    for i in 0..32usize {
+        set(image, 256 * page + i, bytes[i]);
+    }
+}
+
+/// The header of an active file with a log whose first page is `log_page - 1`, or with none.
+pub fn file(log_page: u16, pages: u16, fixed: bool, name: Name) -> Header
+    ensures kind { is_kind result.kind ≡ true }
+    ensures flags { is_flags result.flags ≡ true }
+{
+    Header {
+        log_page,
+        log_records: 30,
+        log_record_size: 128,
+        max_pages: pages,
+        kind: if fixed { 1 } else { 0 },
+        flags: if log_page == 0 { 3 } else { 11 },
+        name,
+    }
+}
+
+/// The header of an active log.
+pub fn log(name: Name) -> Header
+    ensures kind { is_kind result.kind ≡ true }
+    ensures flags { is_flags result.flags ≡ true }
+{
+    Header {
+        log_page: 0,
+        log_records: 0,
+        log_record_size: 0,
+        max_pages: 16,
+        kind: 1,
+        flags: 19,
+        name,
+    }
+}
+
+/// `CAT` in pages 0 to 5, `T0` in pages 6 to 21, and the log of `CAT` in pages 22 to 37 with four
+/// records in use, of the regions 0, 0, 11 and 11. `CAT` has 1,472 bytes, the last of which stands in
+/// its last record; `T0` has 10.
+pub fn two_files(image: &mut [u8; SIZE], cat: Name, t0: Name) {
+    put(image, 0, &file(23, 6, true, cat));
+    put(image, 6, &file(0, 16, false, t0));
+    put(image, 22, &log(cat));
+    let table = 256 * 22 + 32;
+    set(image, table, 1);
+    set(image, table + 2, 1);
+    set(image, table + 4, 12);
+    set(image, table + 6, 12);
+    let records = 256 * 22 + 96;
+    set(image, records, 65);
+    set(image, records + 128 * 2 + 100, 1);
+    set(image, records + 128 * 3 + 63, 1);
+    set(image, 256 * 6 + 32 + 9, 1);
+}
