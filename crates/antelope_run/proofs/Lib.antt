@@ -1,0 +1,6 @@
+pub mod Judging
+pub mod Known
+pub mod Parts
+pub mod Pieces
+pub mod Raws
+pub mod Runs

@@ -1,0 +1,6 @@
+pub mod Output
+pub mod Raw
+pub mod Runs
+pub mod Script
+pub mod Top
+pub mod Words
