@@ -14,6 +14,7 @@ mod tests;
 mod types;
 
 pub use change::{clear_index, clear_relation, put_index, put_relation, room_for};
+pub use laws::{one_index_is_replaced, one_relation_is_replaced};
 pub use names::{catalog_file, rows_file, tree_file};
 pub use opening::load;
 pub use types::{BadCatalog, Catalog, IndexEntry};
