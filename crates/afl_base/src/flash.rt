@@ -33,6 +33,7 @@ pub trait Flash {
         ensures same { image self.new ≡ image self.old }
         ensures counted { CountsOne (reads self.old) (reads self.new) }
         ensures reads { reads self.new ≤ reads self.old + 1 }
+        ensures reads_later { reads self.old ≤ reads self.new }
         ensures cause { HasCause (faults self.old) (faults self.new) result };
 
     /// Makes each byte of `page` from byte `at` on `old OR given`. After `Failed` that page may hold

@@ -101,6 +101,7 @@ impl<F: Flash + Drop> Flash for FaultFlash<F> {
         ensures same { F.image self.new.inner ≡ F.image self.old.inner }
         ensures counted { CountsOne self.old.reads self.new.reads }
         ensures reads { self.new.reads ≤ self.old.reads + 1 }
+        ensures reads_later { self.old.reads ≤ self.new.reads }
         ensures cause { HasCause (all_faults self.old.faults (F.faults self.old.inner)) (all_faults self.new.faults (F.faults self.new.inner)) result }
         ensures numbered { self.new.calls ≡ number_of_call self.old.calls }
         ensures list { self.new.fails ≡ self.old.fails }

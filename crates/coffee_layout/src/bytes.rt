@@ -24,6 +24,7 @@ pub fn file_size<F: Flash>(
     ensures within { IfOk result (λ n. n + 32 ≤ 256 * pages) }
     ensures same { F.image flash.new ≡ F.image flash.old }
     ensures reads { F.reads flash.new ≤ F.reads flash.old + 6 * pages }
+    ensures reads_later { F.reads flash.old ≤ F.reads flash.new }
     ensures cause { HasCause (F.faults flash.old) (F.faults flash.new) result }
 {
     flash.sectors();
@@ -57,6 +58,7 @@ fn region_end<F: Flash>(
     ensures within { IfOk result (λ n. n ≤ len) }
     ensures same { F.image flash.new ≡ F.image flash.old }
     ensures reads { F.reads flash.new ≤ F.reads flash.old + 3 }
+    ensures reads_later { F.reads flash.old ≤ F.reads flash.new }
     ensures cause { HasCause (F.faults flash.old) (F.faults flash.new) result }
 {
     let place = region_place(flash, page, log, region, len)?;
@@ -97,6 +99,7 @@ pub fn region_place<F: Flash>(
     ensures inside { IfOk result (λ p. p + len ≤ length (F.image flash.old)) }
     ensures same { F.image flash.new ≡ F.image flash.old }
     ensures reads { F.reads flash.new ≤ F.reads flash.old + 1 }
+    ensures reads_later { F.reads flash.old ≤ F.reads flash.new }
     ensures cause { HasCause (F.faults flash.old) (F.faults flash.new) result }
 {
     flash.sectors();
@@ -119,6 +122,7 @@ fn logged_place<F: Flash>(
     ensures inside { IfOk result (λ p. (p ≡ direct) ⊎ (p + 128 ≤ length (F.image flash.old))) }
     ensures same { F.image flash.new ≡ F.image flash.old }
     ensures reads { F.reads flash.new ≤ F.reads flash.old + 1 }
+    ensures reads_later { F.reads flash.old ≤ F.reads flash.new }
     ensures cause { HasCause (F.faults flash.old) (F.faults flash.new) result }
 {
     flash.sectors();

@@ -38,6 +38,7 @@ pub(crate) fn first_failing<F: Flash>(
         → r ≡ option_map page_id (first_failing (keeps_rule rule (F.image flash.old) files) (extents 0 us))) }
     ensures same { F.image flash.new ≡ F.image flash.old }
     ensures reads { F.reads flash.new ≤ F.reads flash.old + 20 * pages_of (F.image flash.old) }
+    ensures reads_later { F.reads flash.old ≤ F.reads flash.new }
     ensures cause { HasCause (F.faults flash.old) (F.faults flash.new) result }
 {
     let pages = 16 * flash.sectors();
@@ -66,6 +67,7 @@ fn unit_keeps<F: Flash>(
     ensures keeps { IsTrue F.tells → IfOk result (λ r. (files : List Placed) → HasEntries rule (F.image flash.old) table.now files → r ≡ keeps_unit (keeps_rule rule (F.image flash.old) files) page unit.now) }
     ensures same { F.image flash.new ≡ F.image flash.old }
     ensures reads { F.reads flash.new ≤ F.reads flash.old + 19 }
+    ensures reads_later { F.reads flash.old ≤ F.reads flash.new }
     ensures cause { HasCause (F.faults flash.old) (F.faults flash.new) result }
 {
     match unit {
@@ -86,6 +88,7 @@ fn extent_keeps<F: Flash>(
     ensures keeps { IsTrue F.tells → IfOk result (λ r. (files : List Placed) → HasEntries rule (F.image flash.old) table.now files → r ≡ keeps_rule rule (F.image flash.old) files (record { page = page; header = header.now })) }
     ensures same { F.image flash.new ≡ F.image flash.old }
     ensures reads { F.reads flash.new ≤ F.reads flash.old + 19 }
+    ensures reads_later { F.reads flash.old ≤ F.reads flash.new }
     ensures cause { HasCause (F.faults flash.old) (F.faults flash.new) result }
 {
     match rule {

@@ -29,6 +29,7 @@ pub fn check<F: Flash>(flash: &mut F, table: &mut Table) -> Result<Result<(), Ba
     ensures fits { IfOk result (λ r. OnOk r (All (FitsIn (pages_of (F.image flash.old))) table.new.items)) }
     ensures same { F.image flash.new ≡ F.image flash.old }
     ensures reads { F.reads flash.new ≤ F.reads flash.old + 400 * pages_of (F.image flash.old) }
+    ensures reads_later { F.reads flash.old ≤ F.reads flash.new }
     ensures cause { HasCause (F.faults flash.old) (F.faults flash.new) result }
 {
     flash.sectors();
@@ -57,6 +58,7 @@ fn broken_named<F: Flash>(flash: &mut F, table: &[FileAt]) -> Result<Option<BadI
     ensures first { IsTrue F.tells → IfOk result (λ r. (us : List Unit) → IsTiled nowhere (F.image flash.old) us → table.now ≡ map (λ f. entry_with f 0 0) (files_in us) → r ≡ first_some (named_rules (F.image flash.old) us)) }
     ensures same { F.image flash.new ≡ F.image flash.old }
     ensures reads { F.reads flash.new ≤ F.reads flash.old + 32 + 92 * pages_of (F.image flash.old) }
+    ensures reads_later { F.reads flash.old ≤ F.reads flash.new }
     ensures cause { HasCause (F.faults flash.old) (F.faults flash.new) result }
 {
     if let Some(bad) = at_place(6, repeated_name(table)) {
@@ -79,6 +81,7 @@ fn broken_measured<F: Flash>(flash: &mut F, table: &[FileAt]) -> Result<Option<B
     ensures first { IsTrue F.tells → IfOk result (λ r. (us : List Unit) → IsTiled nowhere (F.image flash.old) us → table.now ≡ map (entry_of (F.image flash.old)) (files_in us) → r ≡ first_some (measured_rules (F.image flash.old) us)) }
     ensures same { F.image flash.new ≡ F.image flash.old }
     ensures reads { F.reads flash.new ≤ F.reads flash.old + 40 * pages_of (F.image flash.old) }
+    ensures reads_later { F.reads flash.old ≤ F.reads flash.new }
     ensures cause { HasCause (F.faults flash.old) (F.faults flash.new) result }
 {
     if let Some(bad) = at_place(11, first_failing(flash, table, ExtentRule::Inside)?) {

@@ -39,6 +39,7 @@ pub(crate) fn is_front_filled<F: Flash>(flash: &mut F, page: u16) -> Result<bool
     ensures filled { IsTrue F.tells → IfOk result (λ r. r ≡ is_front_filled (table_of (F.image flash.old) page)) }
     ensures same { F.image flash.new ≡ F.image flash.old }
     ensures reads { F.reads flash.new ≤ F.reads flash.old + 1 }
+    ensures reads_later { F.reads flash.old ≤ F.reads flash.new }
     ensures cause { HasCause (F.faults flash.old) (F.faults flash.new) result }
 {
     let mut table = [0; TABLE];
@@ -52,6 +53,7 @@ pub fn read_table<F: Flash>(flash: &mut F, page: u16, table: &mut [u8; 60]) -> R
     ensures table { IsTrue F.tells → OnOk result (table.new ≡ table_of (F.image flash.old) page) }
     ensures same { F.image flash.new ≡ F.image flash.old }
     ensures reads { F.reads flash.new ≤ F.reads flash.old + 1 }
+    ensures reads_later { F.reads flash.old ≤ F.reads flash.new }
     ensures cause { HasCause (F.faults flash.old) (F.faults flash.new) result }
 {
     flash.read(PageId(page), 32, table)
@@ -96,6 +98,7 @@ pub(crate) fn fits_its_file<F: Flash>(
     ensures fits { IsTrue F.tells → IfOk result (λ r. r ≡ fits_entry page (table_of (F.image flash.old) page) files.now) }
     ensures same { F.image flash.new ≡ F.image flash.old }
     ensures reads { F.reads flash.new ≤ F.reads flash.old + 1 }
+    ensures reads_later { F.reads flash.old ≤ F.reads flash.new }
     ensures cause { HasCause (F.faults flash.old) (F.faults flash.new) result }
 {
     let mut table = [0; TABLE];
@@ -135,6 +138,7 @@ pub(crate) fn is_clear<F: Flash>(flash: &mut F, page: u16) -> Result<bool, Faile
     ensures clear { IsTrue F.tells → IfOk result (λ r. r ≡ is_clear (F.image flash.old) page) }
     ensures same { F.image flash.new ≡ F.image flash.old }
     ensures reads { F.reads flash.new ≤ F.reads flash.old + 19 }
+    ensures reads_later { F.reads flash.old ≤ F.reads flash.new }
     ensures cause { HasCause (F.faults flash.old) (F.faults flash.new) result }
 {
     let mut table = [0; TABLE];
@@ -152,6 +156,7 @@ fn range_is_zeros<F: Flash>(flash: &mut F, from: u32, to: u32) -> Result<bool, F
     ensures zeros { IsTrue F.tells → IfOk result (λ r. r ≡ is_zeros (slice_range (F.image flash.old) from to)) }
     ensures same { F.image flash.new ≡ F.image flash.old }
     ensures reads { F.reads flash.new ≤ F.reads flash.old + pages_touched from (to - from) }
+    ensures reads_later { F.reads flash.old ≤ F.reads flash.new }
     ensures cause { HasCause (F.faults flash.old) (F.faults flash.new) result }
 {
     let end = to.min(4096 * u32::from(flash.sectors()));
@@ -174,6 +179,7 @@ fn piece_is_zeros<F: Flash>(flash: &mut F, place: u32, n: u32) -> Result<bool, F
     ensures zeros { IsTrue F.tells → IfOk result (λ r. r ≡ is_zeros (slice_range (F.image flash.old) place (place + n))) }
     ensures same { F.image flash.new ≡ F.image flash.old }
     ensures reads { F.reads flash.new ≤ F.reads flash.old + 1 }
+    ensures reads_later { F.reads flash.old ≤ F.reads flash.new }
     ensures cause { HasCause (F.faults flash.old) (F.faults flash.new) result }
 {
     let mut bytes = [0; 256];

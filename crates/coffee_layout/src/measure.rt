@@ -21,6 +21,7 @@ pub(crate) fn measure_table<F: Flash>(flash: &mut F, table: &mut Table) -> Resul
     ensures fits { OnOk result (All (FitsIn (pages_of (F.image flash.old))) table.new.items) }
     ensures same { F.image flash.new ≡ F.image flash.old }
     ensures reads { F.reads flash.new ≤ F.reads flash.old + 32 * (1 + 6 * pages_of (F.image flash.old)) }
+    ensures reads_later { F.reads flash.old ≤ F.reads flash.new }
     ensures cause { HasCause (F.faults flash.old) (F.faults flash.new) result }
 {
     measure_all(flash, table.as_mut_slice())?;
@@ -34,6 +35,7 @@ fn measure_all<F: Flash>(flash: &mut F, table: &mut [FileAt]) -> Result<(), Fail
     ensures fits { OnOk result (All (FitsIn (pages_of (F.image flash.old))) table.new) }
     ensures same { F.image flash.new ≡ F.image flash.old }
     ensures reads { F.reads flash.new ≤ F.reads flash.old + 32 * (1 + 6 * pages_of (F.image flash.old)) }
+    ensures reads_later { F.reads flash.old ≤ F.reads flash.new }
     ensures cause { HasCause (F.faults flash.old) (F.faults flash.new) result }
 {
     for i in 0..table.len() {
@@ -50,6 +52,7 @@ fn measured<F: Flash>(flash: &mut F, file: &FileAt) -> Result<FileAt, Failed>
     ensures fits { IfOk result (λ e. FitsIn (pages_of (F.image flash.old)) e) }
     ensures same { F.image flash.new ≡ F.image flash.old }
     ensures reads { F.reads flash.new ≤ F.reads flash.old + (1 + 6 * pages_of (F.image flash.old)) }
+    ensures reads_later { F.reads flash.old ≤ F.reads flash.new }
     ensures cause { HasCause (F.faults flash.old) (F.faults flash.new) result }
 {
     let pages = 16 * flash.sectors();
@@ -90,6 +93,7 @@ fn log_used<F: Flash>(flash: &mut F, log: Option<PageId>) -> Result<u8, Failed>
     ensures none { IfOk result (λ n. log ≡ None → n ≡ 0) }
     ensures same { F.image flash.new ≡ F.image flash.old }
     ensures reads { F.reads flash.new ≤ F.reads flash.old + 1 }
+    ensures reads_later { F.reads flash.old ≤ F.reads flash.new }
     ensures cause { HasCause (F.faults flash.old) (F.faults flash.new) result }
 {
     let Some(log) = log else {

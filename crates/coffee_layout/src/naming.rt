@@ -29,6 +29,7 @@ pub(crate) fn first_unlogged<F: Flash>(
         → r ≡ option_map page_id (first_failing (names_its_log (logs_in us)) (files_in us))) }
     ensures same { F.image flash.new ≡ F.image flash.old }
     ensures reads { F.reads flash.new ≤ F.reads flash.old + 32 * (1 + pages_of (F.image flash.old)) }
+    ensures reads_later { F.reads flash.old ≤ F.reads flash.new }
     ensures cause { HasCause (F.faults flash.old) (F.faults flash.new) result }
 {
     for file in table {
@@ -46,6 +47,7 @@ fn names_its_log<F: Flash>(flash: &mut F, page: PageId) -> Result<bool, Failed>
         → r ≡ names_its_log (logs_in us) f) }
     ensures same { F.image flash.new ≡ F.image flash.old }
     ensures reads { F.reads flash.new ≤ F.reads flash.old + (1 + pages_of (F.image flash.old)) }
+    ensures reads_later { F.reads flash.old ≤ F.reads flash.new }
     ensures cause { HasCause (F.faults flash.old) (F.faults flash.new) result }
 {
     match next_unit(flash, page)? {
@@ -60,6 +62,7 @@ fn header_names_its_log<F: Flash>(flash: &mut F, header: &Header) -> Result<bool
     ensures names { IsTrue F.tells → IfOk result (λ r. (us : List Unit) (f : Placed) → IsTiled nowhere (F.image flash.old) us → f.header ≡ header.now → r ≡ names_its_log (logs_in us) f) }
     ensures same { F.image flash.new ≡ F.image flash.old }
     ensures reads { F.reads flash.new ≤ F.reads flash.old + pages_of (F.image flash.old) }
+    ensures reads_later { F.reads flash.old ≤ F.reads flash.new }
     ensures cause { HasCause (F.faults flash.old) (F.faults flash.new) result }
 {
     if header.flags == 3 {
@@ -76,6 +79,7 @@ fn is_active_log<F: Flash>(flash: &mut F, log: u16, name: &Name) -> Result<bool,
     ensures active { IsTrue F.tells → IfOk result (λ r. (us : List Unit) → IsTiled nowhere (F.image flash.old) us → r ≡ list_any (is_log_at log name.now) (logs_in us)) }
     ensures same { F.image flash.new ≡ F.image flash.old }
     ensures reads { F.reads flash.new ≤ F.reads flash.old + pages_of (F.image flash.old) }
+    ensures reads_later { F.reads flash.old ≤ F.reads flash.new }
     ensures cause { HasCause (F.faults flash.old) (F.faults flash.new) result }
 {
     let pages = 16 * flash.sectors();

@@ -14,6 +14,7 @@ pub fn next_unit<F: Flash>(flash: &mut F, page: PageId) -> Result<Option<Unit>, 
     ensures unit { IsTrue F.tells → IfOk result (λ u. u ≡ unit_at (F.image flash.old) page.0) }
     ensures same { F.image flash.new ≡ F.image flash.old }
     ensures reads { F.reads flash.new ≤ F.reads flash.old + 1 }
+    ensures reads_later { F.reads flash.old ≤ F.reads flash.new }
     ensures cause { HasCause (F.faults flash.old) (F.faults flash.new) result }
 {
     let mut bytes = [0; 32];

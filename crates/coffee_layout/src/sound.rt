@@ -26,6 +26,7 @@ pub(crate) fn sound_unit<F: Flash>(
     ensures inside { IfOk result (λ r. IfOk r (λ u. IsInside pages page u)) }
     ensures same { F.image flash.new ≡ F.image flash.old }
     ensures reads { F.reads flash.new ≤ F.reads flash.old + 2 }
+    ensures reads_later { F.reads flash.old ≤ F.reads flash.new }
     ensures cause { HasCause (F.faults flash.old) (F.faults flash.new) result }
 {
     let unit = match next_unit(flash, PageId(page))? {
@@ -48,6 +49,7 @@ pub fn unit_in<F: Flash>(flash: &mut F, page: u16, pages: u16) -> Result<Option<
     ensures inside { IfOk result (λ r. IfSome r (λ u. IsInside pages page u)) }
     ensures same { F.image flash.new ≡ F.image flash.old }
     ensures reads { F.reads flash.new ≤ F.reads flash.old + 1 }
+    ensures reads_later { F.reads flash.old ≤ F.reads flash.new }
     ensures cause { HasCause (F.faults flash.old) (F.faults flash.new) result }
 {
     let unit = match next_unit(flash, PageId(page))? {
@@ -66,6 +68,7 @@ fn page_is_zeros<F: Flash>(flash: &mut F, page: PageId, unit: &Unit) -> Result<b
     ensures zeros { IsTrue F.tells → is_free unit.now ≡ true → IfOk result (λ z. z ≡ is_zeros (page_bytes (F.image flash.old) page.0)) }
     ensures same { F.image flash.new ≡ F.image flash.old }
     ensures reads { F.reads flash.new ≤ F.reads flash.old + 1 }
+    ensures reads_later { F.reads flash.old ≤ F.reads flash.new }
     ensures cause { HasCause (F.faults flash.old) (F.faults flash.new) result }
 {
     if !unit.is_free() {

@@ -26,6 +26,7 @@ pub fn read_file<F: Flash>(
     ensures bytes { IsTrue F.tells → OnOk result ((k : ℕ) → k < length into.old → slice_index into.new k ≡ file_byte (F.image flash.old) page.0 log (at + k)) }
     ensures same { F.image flash.new ≡ F.image flash.old }
     ensures reads { F.reads flash.new ≤ F.reads flash.old + 3 * regions at (length into.old) }
+    ensures reads_later { F.reads flash.old ≤ F.reads flash.new }
     ensures cause { HasCause (F.faults flash.old) (F.faults flash.new) result }
 {
     flash.sectors();
@@ -53,6 +54,7 @@ fn read_part<F: Flash>(
     ensures bytes { IsTrue F.tells → OnOk result ((k : ℕ) → k < length into.old → slice_index into.new k ≡ file_byte (F.image flash.old) page.0 log (at + k)) }
     ensures same { F.image flash.new ≡ F.image flash.old }
     ensures reads { F.reads flash.new ≤ F.reads flash.old + 3 }
+    ensures reads_later { F.reads flash.old ≤ F.reads flash.new }
     ensures cause { HasCause (F.faults flash.old) (F.faults flash.new) result }
 {
     flash.sectors();
@@ -84,6 +86,7 @@ pub fn overwrite_file<F: Flash>(
         → FileBecomes (F.image flash.old) (F.image flash.new) page.0 pages (Some log) n size at bytes.now) }
     ensures size { length (F.image flash.new) ≡ length (F.image flash.old) }
     ensures reads { F.reads flash.new ≤ F.reads flash.old + 3 * regions at (length bytes.now) }
+    ensures reads_later { F.reads flash.old ≤ F.reads flash.new }
     ensures cause { HasCause (F.faults flash.old) (F.faults flash.new) result }
 {
     flash.sectors();
@@ -130,6 +133,7 @@ pub fn append_file<F: Flash>(
     ensures becomes { IsTrue F.tells → IfOk result (λ n. IsFile (F.image flash.old) page.0 pages log used at → FileBecomes (F.image flash.old) (F.image flash.new) page.0 pages log n (at + length bytes.now) at bytes.now) }
     ensures size { length (F.image flash.new) ≡ length (F.image flash.old) }
     ensures reads { F.reads flash.new ≤ F.reads flash.old + 4 }
+    ensures reads_later { F.reads flash.old ≤ F.reads flash.new }
     ensures cause { HasCause (F.faults flash.old) (F.faults flash.new) result }
 {
     match log {
@@ -161,6 +165,7 @@ fn append_logged<F: Flash>(
     ensures becomes { IsTrue F.tells → IfOk result (λ n. IsFile (F.image flash.old) page.0 pages (Some log) used at → FileBecomes (F.image flash.old) (F.image flash.new) page.0 pages (Some log) n (at + length bytes.now) at bytes.now) }
     ensures size { length (F.image flash.new) ≡ length (F.image flash.old) }
     ensures reads { F.reads flash.new ≤ F.reads flash.old + 4 }
+    ensures reads_later { F.reads flash.old ≤ F.reads flash.new }
     ensures cause { HasCause (F.faults flash.old) (F.faults flash.new) result }
 {
     if bytes.is_empty() {
@@ -184,6 +189,7 @@ fn is_logged<F: Flash>(flash: &mut F, log: PageId, region: u32) -> Result<bool, 
     ensures logged { IsTrue F.tells → IfOk result (λ b. b ≡ true → one_if (last_in (table_of (F.image flash.old) log.0) region 30) ≡ 1) }
     ensures same { F.image flash.new ≡ F.image flash.old }
     ensures reads { F.reads flash.new ≤ F.reads flash.old + 1 }
+    ensures reads_later { F.reads flash.old ≤ F.reads flash.new }
     ensures cause { HasCause (F.faults flash.old) (F.faults flash.new) result }
 {
     let mut table = [0; 60];
@@ -229,6 +235,7 @@ fn put_part<F: Flash>(
         → FileBecomes (F.image flash.old) (F.image flash.new) page.0 pages (Some log) (used + 1) total at bytes.now) }
     ensures size { length (F.image flash.new) ≡ length (F.image flash.old) }
     ensures reads { F.reads flash.new ≤ F.reads flash.old + 3 }
+    ensures reads_later { F.reads flash.old ≤ F.reads flash.new }
     ensures cause { HasCause (F.faults flash.old) (F.faults flash.new) result }
 {
     let region = at / 128;
@@ -257,6 +264,7 @@ fn load_front<F: Flash>(
     ensures bytes { IsTrue F.tells → OnOk result ((k : ℕ) → k < len → slice_index buffer.new k ≡ file_byte (F.image flash.old) page.0 (Some log) (at + k)) }
     ensures same { F.image flash.new ≡ F.image flash.old }
     ensures reads { F.reads flash.new ≤ F.reads flash.old + 3 }
+    ensures reads_later { F.reads flash.old ≤ F.reads flash.new }
     ensures cause { HasCause (F.faults flash.old) (F.faults flash.new) result }
 {
     read_part(flash, page, Some(log), at, &mut buffer[..len as usize])?;

@@ -16,6 +16,7 @@ pub fn log_region<F: Flash>(flash: &mut F, log: PageId, region: u16) -> Result<O
     ensures last { IsTrue F.tells → IfOk result (λ r. r ≡ last_in (table_of (F.image flash.old) log.0) region 30) }
     ensures same { F.image flash.new ≡ F.image flash.old }
     ensures reads { F.reads flash.new ≤ F.reads flash.old + 1 }
+    ensures reads_later { F.reads flash.old ≤ F.reads flash.new }
     ensures cause { HasCause (F.faults flash.old) (F.faults flash.new) result }
 {
     let mut table = [0; 60];
@@ -33,6 +34,7 @@ pub fn log_used<F: Flash>(flash: &mut F, log: PageId) -> Result<u8, Failed>
     ensures few { IfOk result (λ n. n ≤ 30) }
     ensures same { F.image flash.new ≡ F.image flash.old }
     ensures reads { F.reads flash.new ≤ F.reads flash.old + 1 }
+    ensures reads_later { F.reads flash.old ≤ F.reads flash.new }
     ensures cause { HasCause (F.faults flash.old) (F.faults flash.new) result }
 {
     let mut table = [0; 60];

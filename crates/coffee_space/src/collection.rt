@@ -22,6 +22,7 @@ pub fn collect<F: Flash>(flash: &mut F) -> Result<u16, Failed>
     ensures number { IsTrue F.tells → IfOk result (λ n. (building : ℕ → Bool) (us : List Unit) → IsTiled building (F.image flash.old) us → n ≡ number_taken (is_taken us) (length (F.image flash.old) / 4096)) }
     ensures size { length (F.image flash.new) ≡ length (F.image flash.old) }
     ensures reads { F.reads flash.new ≤ F.reads flash.old + 2 * pages_of (F.image flash.old) }
+    ensures reads_later { F.reads flash.old ≤ F.reads flash.new }
     ensures cause { HasCause (F.faults flash.old) (F.faults flash.new) result }
 {
     let sectors = match mark_sectors(flash)? {
@@ -39,6 +40,7 @@ fn isolate<F: Flash>(flash: &mut F, sectors: &Sectors) -> Result<(), Failed>
         → Isolates (taken_in sectors.now.used.bits sectors.now.active.bits) (F.image flash.old) (F.image flash.new) us) }
     ensures size { length (F.image flash.new) ≡ length (F.image flash.old) }
     ensures reads { F.reads flash.new ≤ F.reads flash.old + pages_of (F.image flash.old) }
+    ensures reads_later { F.reads flash.old ≤ F.reads flash.new }
     ensures cause { HasCause (F.faults flash.old) (F.faults flash.new) result }
 {
     let all = 16 * flash.sectors();

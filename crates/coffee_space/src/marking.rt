@@ -33,6 +33,7 @@ pub(crate) fn mark_sectors<F: Flash>(flash: &mut F) -> Result<Option<Sectors>, F
         → MatchOption r ⊥ (λ m. (s : ℕ) → taken_in m.used.bits m.active.bits s ≡ is_taken us s)) }
     ensures same { F.image flash.new ≡ F.image flash.old }
     ensures reads { F.reads flash.new ≤ F.reads flash.old + pages_of (F.image flash.old) }
+    ensures reads_later { F.reads flash.old ≤ F.reads flash.new }
     ensures cause { HasCause (F.faults flash.old) (F.faults flash.new) result }
 {
     let all = 16 * flash.sectors();

@@ -17,6 +17,7 @@ pub fn find_run<F: Flash>(flash: &mut F, pages: u16) -> Result<Option<PageId>, F
     ensures inside { IfOk result (λ r. IfSome r (λ page. 256 * (page.0 + pages) ≤ length (F.image flash.old))) }
     ensures same { F.image flash.new ≡ F.image flash.old }
     ensures reads { F.reads flash.new ≤ F.reads flash.old + pages_of (F.image flash.old) }
+    ensures reads_later { F.reads flash.old ≤ F.reads flash.new }
     ensures cause { HasCause (F.faults flash.old) (F.faults flash.new) result }
 {
     let all = 16 * flash.sectors();

@@ -27,6 +27,7 @@ pub fn obtain<F: Flash>(flash: &mut F, pages: u16) -> Result<PageId, FileError>
     ensures active { IsTrue F.tells → UnlessFailed result ((building : ℕ → Bool) (us : List Unit) → IsTiled building (F.image flash.old) us → (page : ℕ) → slice_index_or (active_pages us) page false ≡ true → page_bytes (F.image flash.new) page ≡ page_bytes (F.image flash.old) page) }
     ensures size { length (F.image flash.new) ≡ length (F.image flash.old) }
     ensures reads { F.reads flash.new ≤ F.reads flash.old + 4 * pages_of (F.image flash.old) }
+    ensures reads_later { F.reads flash.old ≤ F.reads flash.new }
     ensures cause { HasFileCause (F.faults flash.old) (F.faults flash.new) result }
 {
     match find_run(flash, pages)? {
@@ -47,6 +48,7 @@ fn obtain_collected<F: Flash>(flash: &mut F, pages: u16) -> Result<PageId, FileE
     ensures extents { IsTrue F.tells → UnlessFailed result ((building : ℕ → Bool) (us : List Unit) → IsTiled building (F.image flash.old) us → active_extents (units_of (F.image flash.new)) ≡ active_extents us) }
     ensures size { length (F.image flash.new) ≡ length (F.image flash.old) }
     ensures reads { F.reads flash.new ≤ F.reads flash.old + 3 * pages_of (F.image flash.old) }
+    ensures reads_later { F.reads flash.old ≤ F.reads flash.new }
     ensures cause { HasFileCause (F.faults flash.old) (F.faults flash.new) result }
 {
     collect(flash)?;

@@ -11,6 +11,7 @@ pub fn read_range<F: Flash>(flash: &mut F, place: u32, into: &mut [u8]) -> Resul
     ensures bytes { IsTrue F.tells → OnOk result (into.new ≡ slice_range (F.image flash.old) place (place + length into.old)) }
     ensures same { F.image flash.new ≡ F.image flash.old }
     ensures reads { F.reads flash.new ≤ F.reads flash.old + pages_touched place (length into.old) }
+    ensures reads_later { F.reads flash.old ≤ F.reads flash.new }
     ensures counted { OnOk result (min (F.reads flash.old + pages_touched place (length into.old)) (2 ^ 64 - 1) ≤ F.reads flash.new) }
     ensures cause { HasCause (F.faults flash.old) (F.faults flash.new) result }
 {
@@ -31,6 +32,7 @@ fn read_piece<F: Flash>(flash: &mut F, place: u32, into: &mut [u8]) -> Result<us
     ensures bytes { IsTrue F.tells → IfOk result (λ n. (k : ℕ) → k < n → slice_index into.new k ≡ slice_index (F.image flash.old) (place + k)) }
     ensures same { F.image flash.new ≡ F.image flash.old }
     ensures reads { F.reads flash.new ≤ F.reads flash.old + 1 }
+    ensures reads_later { F.reads flash.old ≤ F.reads flash.new }
     ensures counted { min (F.reads flash.old + 1) (2 ^ 64 - 1) ≤ F.reads flash.new }
     ensures cause { HasCause (F.faults flash.old) (F.faults flash.new) result }
 {

@@ -25,6 +25,7 @@ loop-page-preserved g c =
       size = c.loop-page.invariant.size;
       same = search rules;
       reads = omega arith;
+      later = search rules;
       faults = search rules;
       searched = λ t us files tiled h.
           let image = g.F.Flash.image c.args.flash.now in

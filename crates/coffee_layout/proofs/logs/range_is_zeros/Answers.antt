@@ -32,5 +32,6 @@ loop-at-preserved g c = record {
       (λ a b. let turn : c.loop-at.at % 256 ≡ 0 = c.loop-at.invariant.turn (omega arith) (omega arith) in omega arith) in
       let same : pages_touched c.args.from (c.loop-at.at - c.args.from + c.min-n.result) ≡ pages_touched c.args.from (c.loop-at.at + c.min-n.result - c.args.from) = ap (pages_touched c.args.from) further in
       omega arith;
+  later = search rules;
   faults = search rules;
 }

@@ -22,5 +22,6 @@ loop-i-preserved g c =
       reads =
           let file = (rw c.loop-i.invariant.same at c.in_ok-file.ensures.reads) in
           omega (arith, mul_more c.loop-i.i (1 + 6 * pages_of (g.F.Flash.image c.args.flash.now)), file);
+      later = search rules;
       faults = search rules;
     }

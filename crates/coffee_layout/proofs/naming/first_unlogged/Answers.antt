@@ -24,6 +24,7 @@ loop-file-preserved g c = record {
   reads =
       let file = (rw c.loop-file.invariant.same at c.in_ok-names_its_log.ensures.reads) in
       omega (arith, mul_more c.loop-file.file-index (1 + pages_of (g.F.Flash.image c.args.flash.now)), file);
+  later = search rules;
   faults = search rules;
   searched = λ t us tiled all.
       let image = g.F.Flash.image c.args.flash.now in

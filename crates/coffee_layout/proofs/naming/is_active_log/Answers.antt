@@ -26,6 +26,7 @@ loop-page-preserved g c =
       size = c.loop-page.invariant.size;
       same = search rules;
       reads = omega arith;
+      later = search rules;
       faults = search rules;
       searched = λ t us tiled.
           let image = g.F.Flash.image c.args.flash.now in

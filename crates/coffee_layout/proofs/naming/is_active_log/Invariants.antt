@@ -12,6 +12,7 @@ invariant-loop-page g l = record {
   size : 256 * l.pages ≡ length (g.F.Flash.image l.fn.flash);
   same : g.F.Flash.image l.flash ≡ g.F.Flash.image l.fn.flash;
   reads : g.F.Flash.reads l.flash ≤ g.F.Flash.reads l.fn.flash + l.page;
+  later : g.F.Flash.reads l.fn.flash ≤ g.F.Flash.reads l.flash;
   faults : g.F.Flash.faults l.fn.flash ≤ g.F.Flash.faults l.flash;
   searched : IsTrue g.F.Flash.tells → (us : List Unit) → IsTiled nowhere (g.F.Flash.image l.fn.flash) us
       → Searched (λ e. not (is_log e && is_log_at l.log l.name e)) (g.F.Flash.image l.fn.flash) us l.page;

@@ -17,5 +17,6 @@ loop-done-preserved g c =
           becomes_more (g.F.Flash.image c.args.flash.now) (g.F.Flash.image c.loop-done.flash) (g.F.Flash.image c.put_part.new.flash) c.args.bytes.now _ c.args.page.0 c.args.pages (Some c.args.log) c.loop-done.records (c.loop-done.records + 1) size size c.args.at
           _ c.loop-done.done _ c.min-n.result b (c.in_ok-put_part.ensures.becomes t size size b.kept (omega arith) (omega arith) fits) refl refl (omega arith) (omega arith) (omega arith);
       reads = omega arith;
+      later = search rules;
       faults = search rules;
     }

@@ -12,6 +12,7 @@ invariant-loop-done g l = record {
   becomes : IsTrue g.F.Flash.tells → (size : ℕ) → IsFile (g.F.Flash.image l.fn.flash) l.page.0 l.pages (Some l.log) l.used size → l.at + length l.bytes ≤ size → size + 32 ≤ 256 * l.pages
       → FileBecomes (g.F.Flash.image l.fn.flash) (g.F.Flash.image l.flash) l.page.0 l.pages (Some l.log) l.records size l.at (take l.done l.bytes);
   reads : g.F.Flash.reads l.flash ≤ g.F.Flash.reads l.fn.flash + 3 * regions l.at l.done;
+  later : g.F.Flash.reads l.fn.flash ≤ g.F.Flash.reads l.flash;
   faults : g.F.Flash.faults l.fn.flash ≤ g.F.Flash.faults l.flash;
 }
 

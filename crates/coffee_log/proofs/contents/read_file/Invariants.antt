@@ -11,6 +11,7 @@ invariant-loop-done g l = record {
   same : g.F.Flash.image l.flash ≡ g.F.Flash.image l.fn.flash;
   bytes : IsTrue g.F.Flash.tells → (k : ℕ) → k < l.done → get_or l.into k 0 ≡ file_byte (g.F.Flash.image l.fn.flash) l.page.0 l.log (l.at + k);
   reads : g.F.Flash.reads l.flash ≤ g.F.Flash.reads l.fn.flash + 3 * regions l.at l.done;
+  later : g.F.Flash.reads l.fn.flash ≤ g.F.Flash.reads l.flash;
   faults : g.F.Flash.faults l.fn.flash ≤ g.F.Flash.faults l.flash;
 }
 

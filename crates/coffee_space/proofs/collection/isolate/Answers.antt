@@ -19,6 +19,7 @@ loop-page-preserved g c =
       total = c.loop-page.invariant.total;
       size = search rules;
       reads = omega arith;
+      later = search rules;
       faults = search rules;
       isolating = λ t building us tiled.
           let old = g.F.Flash.image c.args.flash.now in

@@ -11,6 +11,7 @@ invariant-loop-page g l = record {
   total : 256 * l.all ≡ length (g.F.Flash.image l.fn.flash);
   size : length (g.F.Flash.image l.flash) ≡ length (g.F.Flash.image l.fn.flash);
   reads : g.F.Flash.reads l.flash ≤ g.F.Flash.reads l.fn.flash + l.page;
+  later : g.F.Flash.reads l.fn.flash ≤ g.F.Flash.reads l.flash;
   faults : g.F.Flash.faults l.fn.flash ≤ g.F.Flash.faults l.flash;
   isolating : IsTrue g.F.Flash.tells → (building : ℕ → Bool) (us : List Unit) → IsTiled building (g.F.Flash.image l.fn.flash) us
       → Isolating (taken_in l.sectors.used.bits l.sectors.active.bits) building (g.F.Flash.image l.fn.flash) (g.F.Flash.image l.flash) us l.page;

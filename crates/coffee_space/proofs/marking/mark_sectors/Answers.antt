@@ -21,6 +21,7 @@ loop-page-preserved g c =
       size = c.loop-page.invariant.size;
       same = search rules;
       reads = omega arith;
+      later = search rules;
       faults = search rules;
       marked = λ t building us tiled.
           let image = g.F.Flash.image c.args.flash.now in

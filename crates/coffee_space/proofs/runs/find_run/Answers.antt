@@ -29,6 +29,7 @@ loop-page-preserved g c =
       size = c.loop-page.invariant.size;
       same = search rules;
       reads = omega arith;
+      later = search rules;
       faults = search rules;
       low = omega (arith, c.run_behind-run.ensures.most);
       few = search rules;

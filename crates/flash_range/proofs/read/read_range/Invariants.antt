@@ -10,6 +10,7 @@ invariant-loop-done g l = record {
   same : g.F.Flash.image l.flash ≡ g.F.Flash.image l.fn.flash;
   bytes : IsTrue g.F.Flash.tells → (k : ℕ) → k < l.done → get_or l.into k 0 ≡ get_or (g.F.Flash.image l.fn.flash) (l.place + k) 0;
   reads : g.F.Flash.reads l.flash ≤ g.F.Flash.reads l.fn.flash + pages_touched l.place l.done;
+  later : g.F.Flash.reads l.fn.flash ≤ g.F.Flash.reads l.flash;
   counted : min (g.F.Flash.reads l.fn.flash + pages_touched l.place l.done) (2 ^ 64 - 1) ≤ g.F.Flash.reads l.flash;
   faults : g.F.Flash.faults l.fn.flash ≤ g.F.Flash.faults l.flash;
 }
