@@ -5,3 +5,4 @@ pub mod FitLaws
 pub mod Images
 pub mod KeyLaws
 pub mod PaddedLaws
+pub mod PutLaws

@@ -1,7 +1,6 @@
 -- Bytes in front of zeros: what a write into the front, or behind it, leaves.
-use Rattle.std.proofs.Common.{◌≡◌, ℕ, ◌+◌, ◌-◌, ◌≤◌, List, ◌++◌, length, take, drop, replicate, sym, ap, ◌∙◌, subst, arith, append_assoc}
-use Rattle.std.proofs.lemmas.List.{drop-drop, length-append, length-replicate, take-replicate, replicate-append-replicate}
-use borrow.Rule.Slice.PartMut.{put_mid}
+use Rattle.std.proofs.Common.{◌≡◌, ℕ, ◌+◌, ◌-◌, ◌≤◌, List, ◌++◌, length, take, replicate, sym, ap, ◌∙◌, subst, arith}
+use Rattle.std.proofs.lemmas.List.{length-append, length-replicate, take-replicate, replicate-append-replicate}
 use Rattle.afl_base.specs.declared.kind.Kind.{Kind}
 use Rattle.afl_base.specs.declared.kind.Kind.TheVariants.{Doubling, Fixed}
 use Rattle.afl_base.specs.Fields.{put_at}
@@ -10,11 +9,6 @@ use Rattle.afl_base.specs.Names.{IsPadded, length-front, padded}
 use Rattle.afl_base.proofs.FieldLaws.{length-put_at}
 use Rattle.afl_base.proofs.PaddedLaws.{front_of_padded, is_padded, put_behind, put_in_front}
 use Rattle.afl_sim.specs.PlainFiles.{IsPlain}
-
--- a write of a whole part
-pub put_mid_whole : (old new bytes : List ℕ) (at k : ℕ) → new ≡ bytes → k ≡ length bytes → put_mid at k old new ≡ put_at old at bytes
-unfolding put_at
-put_mid_whole old new bytes at k is len = rw (is, len, drop-drop (length bytes) at old) (sym (append_assoc (take at old) bytes (drop (at + length bytes) old)))
 
 -- a kind of a file has at most 15 pages where it is fixed
 pages_of : (kind : Kind) (n : ℕ) → IsKind kind → kind ≡ Fixed n → n ≤ 15

@@ -8,7 +8,8 @@ use Rattle.afl_base.proofs.FieldLaws.{length-put_at}
 use Rattle.afl_base.proofs.FileLaws.{becomes_then}
 use Rattle.db_model.specs.Catalog.{empty_bytes, in_version_2, index_slot_bytes, relation_slot_bytes, version_mark, with_slot}
 use Rattle.catalog.specs.Copies.{copies}
-use Rattle.catalog.proofs.Puts.{copies_of, length-copies, put_at-append, put_at-put_at, put_at_all}
+use Rattle.afl_base.proofs.PutLaws.{put_at-put_at}
+use Rattle.catalog.proofs.Puts.{copies_of, length-copies, put_at-append, put_at_all}
 
 -- ---- the empty catalog
 

@@ -1,35 +1,11 @@
 -- Writes into bytes, and copies of a part one behind the other.
-use Rattle.std.proofs.Common.{◌≡◌, ℕ, zero, suc, ◌+◌, ◌*◌, ◌≤◌, List, [], ◌++◌, length, take, drop, flat_map, replicate, refl, sym, ap, ◌∙◌, arith, append_assoc, add-zero}
-use Rattle.std.proofs.lemmas.List.{append-nil, drop-append-le, drop-drop, drop_at, length-append, length-take-le, take_at, take-append-drop, take-append-le}
+use Rattle.std.proofs.Common.{◌≡◌, ℕ, zero, suc, ◌+◌, ◌*◌, ◌≤◌, List, ◌++◌, length, take, drop, flat_map, replicate, refl, sym, ap, ◌∙◌, arith, append_assoc}
+use Rattle.std.proofs.lemmas.List.{append-nil, drop-append-le, length-append, take-append-le}
 use Rattle.std.proofs.lemmas.List.Concat.{flat_map-cons}
 use Rattle.std.proofs.Math.ListN.{drop_of_length-le}
-use borrow.Rule.Slice.PartMut.{put_mid}
 use Rattle.afl_base.specs.Fields.{put_at}
+use Rattle.afl_base.proofs.PutLaws.{put_at-put_at, put_at_nothing}
 use Rattle.catalog.specs.Copies.{copies}
-
--- a write of a whole part
-pub put_mid_whole : (old new bytes : List ℕ) (at k : ℕ) → new ≡ bytes → k ≡ length bytes → put_mid at k old new ≡ put_at old at bytes
-unfolding put_at
-put_mid_whole old new bytes at k is len = rw (is, len, drop-drop (length bytes) at old) (sym (append_assoc (take at old) bytes (drop (at + length bytes) old)))
-
--- nothing is written
-pub put_at_nothing : (old : List ℕ) (at : ℕ) → put_at old at [] ≡ old
-unfolding put_at
-put_at_nothing old at = rw (append-nil (take at old), add-zero at) (take-append-drop at old)
-
--- two writes, the second right behind the first
-pub put_at-put_at : (old first second : List ℕ) (at next : ℕ) → next ≡ at + length first → next ≤ length old → put_at (put_at old at first) next second ≡ put_at old at (first ++ second)
-unfolding put_at
-put_at-put_at old first second at next is room =
-    let front : List ℕ = take at old ++ first in
-    let rest : List ℕ = drop (at + length first) old in
-    let len : length front ≡ next = length-append (take at old) first ∙ omega (arith, is, length-take-le at old (omega (arith, is, room))) in
-    let before : take next (front ++ rest) ≡ front = take_at front rest next len in
-    let both : length (first ++ second) ≡ length first + length second = length-append first second in
-    let behind : drop (next + length second) (front ++ rest) ≡ drop (at + length (first ++ second)) old =
-    sym (drop-drop (length second) next (front ++ rest)) ∙ ap (drop (length second)) (drop_at front rest next len)
-    ∙ drop-drop (length second) (at + length first) old ∙ ap (λ (n : ℕ). drop n old) (omega (arith, both)) in
-    rw (before, behind, append_assoc (take at old) first second) refl
 
 -- all is written
 pub put_at_all : (old new : List ℕ) → length new ≡ length old → put_at old 0 new ≡ new

@@ -4,10 +4,11 @@ use Rattle.std.specs.Prelude.{slice_range}
 use Rattle.std.specs.List.{range_with_len}
 use Rattle.std.proofs.Math.Logic.{⊎_elim}
 use Rattle.std.proofs.lemmas.Bool.{cases_eq, cases_lt}
-use Rattle.std.proofs.lemmas.List.{drop-drop, drop-take, drop_at, ext_get_or, get_or-set_other, get_or-set_same, length-set, length-take-le, take-append-le, take-take, take_at}
+use Rattle.std.proofs.lemmas.List.{drop-drop, drop-take, drop_at, ext_get_or, get_or-set_other, get_or-set_same, length-set, length-take-le, take-append-le, take_at}
 use Rattle.std.proofs.lemmas.List.FromFn.{get_or-map-range_with_len, length-map-range_with_len}
 use Rattle.afl_base.specs.Fields.{put_at}
 use Rattle.afl_base.proofs.FieldLaws.{drop-put_at, length-put_at}
+use Rattle.afl_base.proofs.PutLaws.{take-put_at}
 use Rattle.db_model.specs.declared.schemas.Schema.{Schema}
 use Rattle.db_model.specs.Catalog.{Catalog, Index, IsCatalog, IsRelation, catalog_of, empty_bytes, empty_catalog, in_version_2, index_at, index_slot_bytes, index_slot_of, relation_at, relation_slot_bytes, relation_slot_of, version_mark, with_index_slot, with_relation_slot}
 use Rattle.db_model.proofs.Catalogs.{catalog_back, index_slot_back, length-index_slot, length-relation_slot, relation_slot_back}
@@ -16,15 +17,6 @@ use Rattle.catalog.specs.Catalogs.{index_replaced, relation_replaced}
 use Rattle.catalog.proofs.Changes.{long_empty, slot_put}
 
 -- ---- ranges of bytes in which a part is written
-
-take-put_at : (old part : List ℕ) (at n : ℕ) → n ≤ at → at ≤ length old → take n (put_at old at part) ≡ take n old
-unfolding put_at
-take-put_at old part at n before room =
-    let front = length-take-le at old room in
-    let both = length-append (take at old) part in
-    take-append-le n (take at old ++ part) (drop (at + length part) old) (omega (arith, before, front, both))
-    ∙ take-append-le n (take at old) part (omega (arith, before, front))
-    ∙ take-take n at old before
 
 range_front : (xs : List ℕ) (a b : ℕ) → a ≤ b → slice_range xs a b ≡ drop a (take b xs)
 range_front xs a b h = let e : a + (b - a) ≡ b = omega (arith, h) in sym (drop-take a (b - a) xs) ∙ ap (λ (n : ℕ). drop a (take n xs)) e

@@ -2,7 +2,8 @@ ghost use Rattle.std.specs.Prelude.{◌≡◌, ◌+◌, ◌-◌, ◌*◌, ◌≤
 ghost use Rattle.afl_base.specs.Causes.{HasCause};
 ghost use Rattle.afl_base.specs.Files.{Becomes, IsLive, bytes_at, file_at};
 ghost use Rattle.db_model.specs.Catalog.{with_index_slot, with_relation_slot, with_slot};
-ghost use Rattle.catalog.specs.CatalogFile.{IsCatalogSize, IsPrepared, index_in, room_for};
+ghost use Rattle.catalog.specs.CatalogFile.{IsCatalogSize, IsPrepared, index_in};
+ghost use Rattle.space_model.specs.Wants.{room_for};
 
 use crate::slots::{VERSION_MARK, first_catalog, index_slot, relation_slot, unused_slot};
 use crate::types::IndexEntry;

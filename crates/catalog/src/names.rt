@@ -1,7 +1,7 @@
 ghost use Rattle.std.specs.Prelude.{◌≡◌, ◌<◌, IsTrue};
 ghost use Rattle.afl_base.specs.Files.{is_live};
 ghost use Rattle.afl_base.specs.Names.{is_file_name};
-ghost use Rattle.catalog.specs.CatalogFile.{catalog_file, rows_file, tree_file};
+ghost use Rattle.space_model.specs.Wants.{catalog_file, rows_file, tree_file};
 ghost use Rattle.catalog.specs.Rules.{first, is_numbered, is_of_database, is_stranger, is_there};
 
 use afl_base::{FileId, Files, IndexId, Kind, Name, RelationId};

@@ -3,32 +3,8 @@ use Rattle.std.proofs.Common.{◌≡◌, add-zero, ℕ, ◌+◌, ◌-◌, ◌≤
 use Rattle.std.proofs.lemmas.Grind.{common_steps}
 use Rattle.std.proofs.lemmas.List.{append-nil, drop-drop, drop-take, drop_at, length-append, length-take-le, set_at, take_at, take-append-drop, take-append-le, take-take}
 use Rattle.std.proofs.Math.Seq.{get_or-append_seam}
-use borrow.Rule.Slice.PartMut.{put_mid}
 use Rattle.afl_base.specs.Fields.{put_at}
-
--- a write of a whole part
-pub put_mid_whole : (old new bytes : List ℕ) (at k : ℕ) → new ≡ bytes → k ≡ length bytes → put_mid at k old new ≡ put_at old at bytes
-unfolding put_at
-put_mid_whole old new bytes at k is len = rw (is, len, drop-drop (length bytes) at old) (sym (append_assoc (take at old) bytes (drop (at + length bytes) old)))
-
--- nothing is written
-pub put_at_nothing : (old : List ℕ) (at : ℕ) → put_at old at [] ≡ old
-unfolding put_at
-put_at_nothing old at = rw (append-nil (take at old), add-zero at) (take-append-drop at old)
-
--- two writes, the second right behind the first
-pub put_at-put_at : (old first second : List ℕ) (at next : ℕ) → next ≡ at + length first → next ≤ length old → put_at (put_at old at first) next second ≡ put_at old at (first ++ second)
-unfolding put_at
-put_at-put_at old first second at next is room =
-    let front : List ℕ = take at old ++ first in
-    let rest : List ℕ = drop (at + length first) old in
-    let len : length front ≡ next = length-append (take at old) first ∙ omega (arith, is, length-take-le at old (omega (arith, is, room))) in
-    let before : take next (front ++ rest) ≡ front = take_at front rest next len in
-    let both : length (first ++ second) ≡ length first + length second = length-append first second in
-    let behind : drop (next + length second) (front ++ rest) ≡ drop (at + length (first ++ second)) old =
-    sym (drop-drop (length second) next (front ++ rest)) ∙ ap (drop (length second)) (drop_at front rest next len)
-    ∙ drop-drop (length second) (at + length first) old ∙ ap (λ (n : ℕ). drop n old) (omega (arith, both)) in
-    rw (before, behind, append_assoc (take at old) first second) refl
+use Rattle.afl_base.proofs.PutLaws.{take-put_at}
 
 -- what a write at the front leaves, and then the byte behind it, of bytes that have one more
 pub put_then_set : (old front : List ℕ) (m at : ℕ) → at ≡ length front → length old ≡ at + 1 → set (put_at old 0 front) at m ≡ front ++ m ∷ []
@@ -41,15 +17,6 @@ put_then_set old front m at is len = one (drop (0 + length front) old) (grind (a
     one (b ∷ c ∷ rest) few = absurd (omega (arith, few))
 
 -- ---- what stays round a write, and what stands there
-
-take-put_at : (old written : List ℕ) (at n : ℕ) → n ≤ at → at ≤ length old → take n (put_at old at written) ≡ take n old
-unfolding put_at
-take-put_at old written at n before room =
-    let front = length-take-le at old room in
-    let both = length-append (take at old) written in
-    take-append-le n (take at old ++ written) (drop (at + length written) old) (omega (arith, before, front, both))
-    ∙ take-append-le n (take at old) written (omega (arith, before, front))
-    ∙ take-take n at old before
 
 -- the bytes before it
 pub before-put_at : (old written : List ℕ) (at from n : ℕ) → from + n ≤ at → at ≤ length old → take n (drop from (put_at old at written)) ≡ take n (drop from old)

@@ -1,5 +1,5 @@
 use Rattle.std.proofs.Common.{arith}
-use Rattle.afl_sim.proofs.PlainLemmas.{put_mid_whole}
+use Rattle.afl_base.proofs.PutLaws.{put_mid_whole}
 use Rattle.afl_sim.proofs.bytes.put_bytes.Goals as goal
 
 pub returns : goal.returns

@@ -1,7 +1,7 @@
 use Rattle.std.proofs.Common.{◌≡◌, List, [], Some, ap, refl, subst, sym, ◌∙◌, ℕ, None}
 use Rattle.std.specs.Prelude.{IfErr, IfOk, OnOk}
 use Rattle.db_model.specs.Catalog.{catalog_of}
-use Rattle.catalog.specs.CatalogFile.{catalog_file}
+use Rattle.space_model.specs.Wants.{catalog_file}
 use Rattle.catalog.specs.Catalogs.{catalog_in}
 use Rattle.catalog.specs.Rules.{broken_catalog}
 use Rattle.catalog.proofs.Breaks.{bytes_found, empty_breaks_none, no_bytes}

@@ -1,5 +1,5 @@
 use Rattle.std.proofs.Common.{arith}
-use Rattle.catalog.proofs.Puts.{put_mid_whole}
+use Rattle.afl_base.proofs.PutLaws.{put_mid_whole}
 use Rattle.catalog.proofs.slots.put_bytes.Goals as goal
 
 pub returns : goal.returns

@@ -1,5 +1,5 @@
 use Rattle.std.proofs.Common.{arith}
-use Rattle.tuple_file.proofs.Puts.{put_mid_whole}
+use Rattle.afl_base.proofs.PutLaws.{put_mid_whole}
 use Rattle.tuple_file.proofs.fields.put_bytes.Goals as goal
 
 pub returns : goal.returns

@@ -1,6 +1,6 @@
 use Rattle.std.proofs.Common.{arith, ◌+◌, ◌-◌, length}
 use Rattle.std.specs.Prelude.{replicate}
-use Rattle.tuple_file.proofs.Puts.{put_at-put_at}
+use Rattle.afl_base.proofs.PutLaws.{put_at-put_at}
 use Rattle.tuple_file.proofs.fields.put_text.Goals as goal
 
 pub returns : goal.returns

@@ -1,7 +1,7 @@
 use Rattle.std.proofs.Common.{◌+◌, ◌-◌, ℕ, ap, ◌∙◌, arith, drop}
 use Rattle.std.proofs.lemmas.List.{length-replicate, length-take-le, length-drop}
 use Rattle.std.specs.Prelude.{replicate}
-use Rattle.tuple_file.proofs.Puts.{put_mid_whole}
+use Rattle.afl_base.proofs.PutLaws.{put_mid_whole}
 use Rattle.tuple_file.proofs.fields.put_zeros.Goals as goal
 
 pub returns : goal.returns

@@ -7,7 +7,8 @@ use Rattle.db_model.specs.declared.schemas.Attribute.{Attribute}
 use Rattle.db_model.specs.declared.values.Value.{Value}
 use Rattle.db_model.specs.Row.{AllSuit, field_bytes, fields_bytes, fields_length, mark}
 use Rattle.tuple_file.proofs.Lists.{drop_item}
-use Rattle.tuple_file.proofs.Puts.{put_at-put_at, put_then_set, put_at_nothing}
+use Rattle.afl_base.proofs.PutLaws.{put_at-put_at, put_at_nothing}
+use Rattle.tuple_file.proofs.Puts.{put_then_set}
 use Rattle.tuple_file.proofs.rows.put_row.Goals as goal
 
 pub loop-i-preserved : goal.loop-i-preserved

@@ -1,4 +1,4 @@
-use Rattle.std.proofs.Common.{◌≡◌, ◌∙◌, ap, subst, sym, Some, None, get_or, arith}
+use Rattle.std.proofs.Common.{◌≡◌, ◌∙◌, ap, subst, sym, Some, None, arith}
 use Rattle.std.proofs.lemmas.List.{get_or_default}
 use Rattle.afl_base.specs.Files.{IsNamed, State, Table, place}
 use Rattle.afl_base.proofs.FileLaws.{named_here}
