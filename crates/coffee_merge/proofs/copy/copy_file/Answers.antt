@@ -1,0 +1,33 @@
+use Rattle.std.proofs.Common.{arith, rules, ◌≡◌, subst}
+use Rattle.coffee_merge.proofs.Contents.{CopiesInto, copies_more, copies_none}
+use Rattle.coffee_merge.proofs.Taken.{copy_takes_more, copy_takes_none}
+use Rattle.coffee_merge.proofs.copy.copy_file.Goals as goal
+
+pub loop-done-init : goal.loop-done-init
+loop-done-init g c = record {
+  within = search rules;
+  size = search rules;
+  copied = λ told. copies_none (g.F.Flash.image c.args.flash.now) c.args.page c.args.pages c.args.from.now;
+  taken = λ told. copy_takes_none (g.F.Flash.image c.args.flash.now) c.args.page c.args.pages c.args.from.now;
+  reads = search rules;
+  faults = search rules;
+}
+
+pub loop-done-preserved : goal.loop-done-preserved
+loop-done-preserved g c = record {
+  within = search rules;
+  size = search rules;
+  copied = λ told.
+      copies_more (g.F.Flash.image c.args.flash.now) (g.F.Flash.image c.loop-done.flash) (g.F.Flash.image c.copy_part.new.flash) c.args.page c.args.pages c.args.from.now c.loop-done.done c.min-n.result (omega arith)
+      (c.loop-done.invariant.copied told) (c.in_ok-copy_part.ensures.copied told);
+  taken = λ told.
+      copy_takes_more (g.F.Flash.image c.args.flash.now) (g.F.Flash.image c.loop-done.flash) (g.F.Flash.image c.copy_part.new.flash) c.args.page c.args.pages c.args.from.now c.loop-done.done
+      (c.loop-done.invariant.copied told) (c.loop-done.invariant.taken told) (c.in_ok-copy_part.ensures.taken told);
+  reads = search rules;
+  faults = search rules;
+}
+
+pub returns-clause-copied : goal.returns-clause-copied
+returns-clause-copied g c = λ told.
+    let all : c.loop-done.done ≡ c.args.from.now.size = omega arith in
+    subst (λ n. CopiesInto (g.F.Flash.image c.args.flash.now) (g.F.Flash.image c.loop-done.flash) c.args.page c.args.pages c.args.from.now n) all (c.loop-done.invariant.copied told)

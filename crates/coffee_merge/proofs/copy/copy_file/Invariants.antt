@@ -1,0 +1,17 @@
+use Rattle.std.proofs.Common.{◌≡◌, ◌-◌, ◌≤◌, length, IsTrue}
+use Rattle.coffee_merge.proofs.Contents.{CopiesInto}
+use Rattle.coffee_merge.proofs.Taken.{CopyTakes}
+use Rattle.coffee_merge.proofs.copy.copy_file.Given as goal
+
+abbrev pub invariant-loop-done : goal.invariant-loop-done
+invariant-loop-done g l = record {
+  within : l.done ≤ l.from.size;
+  size : length (g.F.Flash.image l.flash) ≡ length (g.F.Flash.image l.fn.flash);
+  copied : IsTrue g.F.Flash.tells → CopiesInto (g.F.Flash.image l.fn.flash) (g.F.Flash.image l.flash) l.page l.pages l.from l.done;
+  taken : IsTrue g.F.Flash.tells → CopyTakes (g.F.Flash.image l.fn.flash) (g.F.Flash.image l.flash) l.page l.pages l.from;
+  reads : g.F.Flash.reads l.fn.flash ≤ g.F.Flash.reads l.flash;
+  faults : g.F.Flash.faults l.fn.flash ≤ g.F.Flash.faults l.flash;
+}
+
+abbrev pub decreases-loop-done : goal.decreases-loop-done
+decreases-loop-done g l = l.from.size - l.done

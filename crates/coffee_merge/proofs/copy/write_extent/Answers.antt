@@ -1,0 +1,17 @@
+use Rattle.std.proofs.Common.{◌+◌, ◌*◌, ap}
+use Rattle.std.proofs.lemmas.Result.{on_ok_weaker}
+use Rattle.coffee_merge.proofs.Contents.{written_there}
+use Rattle.coffee_merge.proofs.Taken.{write_takes_there}
+use Rattle.coffee_merge.proofs.copy.write_extent.Goals as goal
+
+pub returns-clause-written : goal.returns-clause-written
+returns-clause-written g c = λ told.
+    on_ok_weaker c.program_range.result
+    (λ is. written_there (g.F.Flash.image c.args.flash.now) (g.F.Flash.image c.program_range.new.flash) c.args.page c.args.pages (256 * c.from.result + 32 + c.args.at) c.args.at c.args.bytes.now (ap (λ q. 256 * q + 32 + c.args.at) c.from.ensures) is)
+    (c.program_range.ensures.programmed told)
+
+pub returns-clause-taken : goal.returns-clause-taken
+returns-clause-taken g c = λ told.
+    on_ok_weaker c.program_range.result
+    (λ is. write_takes_there (g.F.Flash.image c.args.flash.now) (g.F.Flash.image c.program_range.new.flash) c.args.page c.args.pages (256 * c.from.result + 32 + c.args.at) c.args.at c.args.bytes.now (ap (λ q. 256 * q + 32 + c.args.at) c.from.ensures) is c.requires.fits)
+    (c.program_range.ensures.programmed told)

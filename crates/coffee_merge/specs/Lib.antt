@@ -1,0 +1,5 @@
+pub mod Begun
+pub mod Flags
+pub mod Holding
+pub mod Obtained
+pub mod TableFiles

@@ -1,0 +1,93 @@
+ghost use Rattle.std.specs.Prelude.{◌≡◌, ◌+◌, ◌*◌, ◌≤◌, ◌<◌, ℕ, None, Some, length, IsTrue, OnOk};
+ghost use Rattle.afl_base.specs.Causes.{HasCause};
+ghost use Rattle.coffee_layout.specs.FileBytes.{file_byte};
+ghost use Rattle.coffee_layout.specs.Files.{FitsIn};
+ghost use Rattle.coffee_layout.specs.Units.{pages_of};
+ghost use Rattle.coffee_layout.specs.declared.file.FileAt.{FileAt};
+ghost use Rattle.coffee_merge.specs.Holding.{Copies, CopiesPart, Holds, IsIn, Table, TakesOnly, Writes};
+
+use afl_base::{Failed, Flash, PageId};
+use coffee_layout::FileAt;
+use coffee_log::read_file;
+use flash_range::program_range;
+
+/// Writes `bytes` into the extent under construction at `page`, from content byte `at` on, where it has
+/// zeros. All else stays.
+pub fn write_extent<F: Flash>(
+    flash: &mut F,
+    page: PageId,
+    pages: u16,
+    at: u32,
+    bytes: &[u8],
+) -> Result<(), Failed>
+    requires placed { page.0 + pages ≤ pages_of (F.image flash.old) }
+    requires fits { at + length bytes.now + 32 ≤ 256 * pages }
+    ensures written { IsTrue F.tells → OnOk result ((table : Table) (d : FileAt) → Holds (F.image flash.old) table (Some d) → d.page ≡ page → d.pages ≡ pages → at + length bytes.now ≤ d.size
+        → ((k : ℕ) → k < length bytes.now → file_byte (F.image flash.old) page.0 None (at + k) ≡ 0)
+        → Writes (F.image flash.old) (F.image flash.new) table d at bytes.now) }
+    ensures taken { IsTrue F.tells → OnOk result ((table : Table) (d : FileAt) → Holds (F.image flash.old) table (Some d) → d.page ≡ page → d.pages ≡ pages → TakesOnly (F.image flash.old) (F.image flash.new) 0 0) }
+    ensures size { length (F.image flash.new) ≡ length (F.image flash.old) }
+    ensures reads { F.reads flash.new ≡ F.reads flash.old }
+    ensures cause { HasCause (F.faults flash.old) (F.faults flash.new) result }
+{
+    flash.sectors();
+    program_range(flash, 256 * u32::from(page.0) + 32 + at, bytes)
+}
+
+/// Copies the content of a file, its log taken into account, into the extent under construction at
+/// `page`, which has no byte but 0. All else stays.
+pub fn copy_file<F: Flash>(
+    flash: &mut F,
+    from: &FileAt,
+    page: PageId,
+    pages: u16,
+) -> Result<(), Failed>
+    requires from { FitsIn (pages_of (F.image flash.old)) from.now }
+    requires placed { page.0 + pages ≤ pages_of (F.image flash.old) }
+    requires fits { from.now.size + 32 ≤ 256 * pages }
+    ensures copied { IsTrue F.tells → OnOk result ((table : Table) (d : FileAt) (i : ℕ) → Holds (F.image flash.old) table (Some d) → d.page ≡ page → d.pages ≡ pages → d.size ≡ from.now.size → IsIn table i from.now
+        → ((p : ℕ) → p + 32 < 256 * pages → file_byte (F.image flash.old) page.0 None p ≡ 0)
+        → Copies (F.image flash.old) (F.image flash.new) table d from.now from.now.size) }
+    ensures taken { IsTrue F.tells → OnOk result ((table : Table) (d : FileAt) (i : ℕ) → Holds (F.image flash.old) table (Some d) → d.page ≡ page → d.pages ≡ pages → d.size ≡ from.now.size → IsIn table i from.now
+        → ((p : ℕ) → p + 32 < 256 * pages → file_byte (F.image flash.old) page.0 None p ≡ 0)
+        → TakesOnly (F.image flash.old) (F.image flash.new) 0 0) }
+    ensures size { length (F.image flash.new) ≡ length (F.image flash.old) }
+    ensures reads_later { F.reads flash.old ≤ F.reads flash.new }
+    ensures cause { HasCause (F.faults flash.old) (F.faults flash.new) result }
+{
+    let mut done = 0;
+    while done < from.size {
+        let n = (from.size - done).min(128);
+        copy_part(flash, from, page, pages, done, n)?;
+        done += n;
+    }
+    Ok(())
+}
+
+// The same of at most 128 bytes, from byte `at` on.
+fn copy_part<F: Flash>(
+    flash: &mut F,
+    from: &FileAt,
+    page: PageId,
+    pages: u16,
+    at: u32,
+    n: u32,
+) -> Result<(), Failed>
+    requires few { n ≤ 128 }
+    requires range { at + n ≤ from.now.size }
+    requires from { FitsIn (pages_of (F.image flash.old)) from.now }
+    requires placed { page.0 + pages ≤ pages_of (F.image flash.old) }
+    requires fits { from.now.size + 32 ≤ 256 * pages }
+    ensures copied { IsTrue F.tells → OnOk result ((table : Table) (d : FileAt) (i : ℕ) → Holds (F.image flash.old) table (Some d) → d.page ≡ page → d.pages ≡ pages → d.size ≡ from.now.size → IsIn table i from.now
+        → ((p : ℕ) → at ≤ p → p + 32 < 256 * pages → file_byte (F.image flash.old) page.0 None p ≡ 0)
+        → CopiesPart (F.image flash.old) (F.image flash.new) table d from.now at n) }
+    ensures taken { IsTrue F.tells → OnOk result ((table : Table) (d : FileAt) → Holds (F.image flash.old) table (Some d) → d.page ≡ page → d.pages ≡ pages → TakesOnly (F.image flash.old) (F.image flash.new) 0 0) }
+    ensures size { length (F.image flash.new) ≡ length (F.image flash.old) }
+    ensures reads_later { F.reads flash.old ≤ F.reads flash.new }
+    ensures cause { HasCause (F.faults flash.old) (F.faults flash.new) result }
+{
+    let mut buffer = [0; 128];
+    let part = &mut buffer[..n as usize];
+    read_file(flash, from.page, from.log, at, part)?;
+    write_extent(flash, page, pages, at, part)
+}
