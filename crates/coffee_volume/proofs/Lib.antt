@@ -1,0 +1,12 @@
+pub mod Changes
+pub mod DraftWrites
+pub mod Drafted
+pub mod MountedTables
+pub mod Moved
+pub mod Rooms
+pub mod Standing
+pub mod States
+pub mod Stepped
+pub mod Tables
+pub mod Takings
+pub mod Written

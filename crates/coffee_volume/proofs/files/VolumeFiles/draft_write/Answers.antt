@@ -1,0 +1,64 @@
+use Rattle.std.proofs.Common.{Option, refl, subst, ◌&&◌, not, length, arith}
+use Rattle.coffee_volume.proofs.DraftWrites.{inside_draft, seen_written, stands_written}
+use Rattle.coffee_volume.proofs.Standing.{stands_failed}
+use Rattle.coffee_layout.specs.declared.file.FileAt.{FileAt}
+use Rattle.coffee_merge.specs.Holding.{Holds}
+use Rattle.coffee_volume.specs.Volumes.{places}
+use Rattle.coffee_volume.proofs.Tables.{told_by}
+use Rattle.coffee_volume.proofs.Takings.{none_taken}
+use Rattle.coffee_volume.proofs.files.VolumeFiles.draft_write.Goals as goal
+
+pub write_extent-requires-clause-placed : goal.write_extent-requires-clause-placed
+write_extent-requires-clause-placed g c = (c.args.self.now.pending c.drafted-draft.result c.drafted-draft.ensures).fits.placed
+
+pub write_extent-requires-clause-fits : goal.write_extent-requires-clause-fits
+write_extent-requires-clause-fits g c =
+    let v = c.args.self.now in
+    let d = c.drafted-draft.result in
+    let inside = inside_draft (g.F.Flash.tells && not v.failed) (g.F.Flash.image v.flash) v.table v.draft d c.args.at (length c.args.bytes.now) c.drafted-draft.ensures c.requires.range in
+    let fits = (v.pending d c.drafted-draft.ensures).fits.size in
+    omega (arith, inside, fits)
+
+pub invariant_of-self : goal.invariant_of-self
+invariant_of-self g c =
+    let v = c.args.self.now in
+    let after =
+    stands_failed g.F.Flash.tells v.failed (g.F.Flash.image v.flash) (g.F.Flash.image c.write_extent.new.flash) v.table v.draft
+    (record { count = v.count; big = v.big; regular = v.regular; pending = v.pending; space = v.space; told = v.told }) c.write_extent.ensures.size in
+    record { count = after.count; big = after.big; regular = after.regular; pending = after.pending; space = after.space; told = after.told }
+
+pub invariant_of-self-2 : goal.invariant_of-self-2
+invariant_of-self-2 g c =
+    let v = c.args.self.now in
+    let after =
+    stands_written g.F.Flash.tells v.failed (g.F.Flash.image v.flash) (g.F.Flash.image c.write_extent.new.flash) v.table v.draft c.drafted-draft.result c.args.at c.args.bytes.now
+    (record {
+      stands = record { count = v.count; big = v.big; regular = v.regular; pending = v.pending; space = v.space; told = v.told };
+      is = c.drafted-draft.ensures;
+      range = c.requires.range;
+      zeros = c.requires.zeros;
+      size = c.write_extent.ensures.size;
+      written = c.in_ok-write_extent.ensures.written;
+    }) in
+    record { count = after.count; big = after.big; regular = after.regular; pending = after.pending; space = after.space; told = after.told }
+
+pub returns-clause-written : goal.returns-clause-written
+returns-clause-written g c =
+    let v = c.args.self.now in
+    seen_written g.F.Flash.tells v.failed (g.F.Flash.image v.flash) (g.F.Flash.image c.write_extent.new.flash) v.table v.draft c.drafted-draft.result c.args.at c.args.bytes.now
+    (record {
+      stands = record { count = v.count; big = v.big; regular = v.regular; pending = v.pending; space = v.space; told = v.told };
+      is = c.drafted-draft.ensures;
+      range = c.requires.range;
+      zeros = c.requires.zeros;
+      size = c.write_extent.ensures.size;
+      written = c.in_ok-write_extent.ensures.written;
+    })
+
+pub returns-clause-taken : goal.returns-clause-taken
+returns-clause-taken g c = λ told.
+    let v = c.args.self.now in
+    let old = g.F.Flash.image v.flash in
+    let both = told_by g.F.Flash.tells v.failed told in
+    none_taken old (g.F.Flash.image c.write_extent.new.flash)
+    (c.in_ok-write_extent.ensures.taken both.0 (places v.table) c.drafted-draft.result (subst (λ (o : Option FileAt). Holds old (places v.table) o) c.drafted-draft.ensures (v.told both.0 both.1)) refl refl)

@@ -1,0 +1,41 @@
+use Rattle.std.proofs.Common.{◌≡◌, true, ◌&&◌, ◌*◌, ◌≤◌, None, length, sym, ap, ◌∙◌, subst, arith}
+use Rattle.std.specs.List.{All}
+use Rattle.coffee_layout.specs.Files.{FitsIn, listed}
+use Rattle.coffee_layout.specs.Rules.{broken_image}
+use Rattle.coffee_layout.specs.Units.{pages_of}
+use Rattle.coffee_merge.specs.Holding.{Holds}
+use Rattle.coffee_volume.specs.Volumes.{AreRegular, places}
+use Rattle.coffee_volume.proofs.MountedTables.{mounted_holds, mounted_keep, mounted_length, mounted_rooms}
+use Rattle.coffee_volume.proofs.volume.Volume.mount.Goals as goal
+
+pub invariant_of-result : goal.invariant_of-result
+invariant_of-result g c =
+    let image = g.F.Flash.image c.args.flash in
+    let files = c.deref.result.now in
+    let most : length files ≤ 32 = c.deref.ensures.1 in
+    let size = c.sectors.ensures.size in
+    let whole : 256 * pages_of image ≡ length image = omega arith in
+    record {
+      count = ap length c.in-Ok.ensures.table ∙ mounted_length files most;
+      big = omega (arith, ap length c.check.ensures.same, c.sectors.ensures.most);
+      regular = subst (λ i. AreRegular (pages_of i) c.in-Ok.table) (sym c.check.ensures.same)
+          (c.in-Ok.ensures.regular (pages_of image) (subst (λ fs. All (FitsIn (pages_of image)) fs) (sym c.deref.ensures.0) (rw c.in-Ok-Ok.field-0-is at c.in-Ok-Ok.ensures.fits)));
+      pending = λ d is. absurd (cc);
+      space = λ d is. absurd (cc);
+      told = λ tells known.
+          let judged : (broken_image image ≡ None) × (c.check.new.table.items ≡ listed image) = (rw c.in-Ok-Ok.field-0-is at c.in-Ok-Ok.ensures.judged) tells in
+          subst (λ i. Holds i (places c.in-Ok.table) None) (sym c.check.ensures.same)
+          (subst (λ t. Holds image (places t) None) (sym c.in-Ok.ensures.table) (mounted_holds image files (c.deref.ensures.0 ∙ judged.1) judged.0 whole));
+    }
+
+pub returns-in-Err-table_of-clause-bad : goal.returns-in-Err-table_of-clause-bad
+returns-in-Err-table_of-clause-bad g c = λ tells.
+    let image = g.F.Flash.image c.args.flash in
+    let files = c.deref.result.now in
+    let size = c.sectors.ensures.size in
+    let whole : 256 * pages_of image ≡ length image = omega arith in
+    let judged : (broken_image image ≡ None) × (c.check.new.table.items ≡ listed image) = (rw c.in-Ok-Ok.field-0-is at c.in-Ok-Ok.ensures.judged) tells in
+    absurd (c.in-Err-table_of.ensures.broken (mounted_keep image files (c.deref.ensures.0 ∙ judged.1) judged.0 whole))
+
+pub returns-in-Ok-clause-rooms : goal.returns-in-Ok-clause-rooms
+returns-in-Ok-clause-rooms g c = λ id. mounted_rooms (g.F.Flash.tells && true) (g.F.Flash.image c.check.new.flash) c.in-Ok.table c.deref.result.now id c.in-Ok.ensures.table

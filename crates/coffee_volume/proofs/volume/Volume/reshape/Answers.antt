@@ -1,0 +1,73 @@
+use Rattle.std.proofs.Common.{◌≡◌, ℕ, Some, ap, sym, subst, ◌∙◌, arith}
+use Rattle.std.proofs.lemmas.Result.{on_ok_weaker}
+use Rattle.afl_base.specs.Files.{File}
+use Rattle.coffee_volume.specs.Steps.{MayTake, NeedsFew, need_of, step_for}
+use Rattle.coffee_volume.specs.Volumes.{Asks, Entries, IsEntry}
+use Rattle.coffee_volume.specs.declared.entry.Entry.{Entry}
+use Rattle.coffee_volume.specs.declared.step.Step.{Step}
+use Rattle.coffee_volume.proofs.Stepped.{step_asks, step_done, step_may, step_needs}
+use Rattle.coffee_volume.proofs.Tables.{one_entry, space_with}
+use Rattle.coffee_volume.proofs.volume.Volume.reshape.Goals as goal
+
+pub take-requires-clause-may : goal.take-requires-clause-may
+take-requires-clause-may g c =
+    let v = c.args.self.now in
+    let e : Entry = c.entry-at.result in
+    let step : Step = c.in-Some.step in
+    let may : MayTake step e.at =
+    step_may _ e c.args.overwrites c.args.bytes step c.entry-at.ensures.regular (sym c.step_for.ensures ∙ c.in-Some.is) c.requires.bytes (omega (arith, c.requires.most, c.entry-at.ensures.size))
+    (λ n is. omega (arith, c.requires.fixed n (ap (λ (f : File). f.kind) c.entry-at.ensures.file ∙ is), c.entry-at.ensures.size)) in
+    λ d is. subst (λ (x : Entry). MayTake step x.at) (one_entry v.table c.args.id e d c.entry-at.ensures.entry is) may
+
+pub returns-in-Some-clause-shaped : goal.returns-in-Some-clause-shaped
+returns-in-Some-clause-shaped g c =
+    let e : Entry = c.entry-at.result in
+    let step : Step = c.in-Some.step in
+    let may : MayTake step e.at =
+    step_may _ e c.args.overwrites c.args.bytes step c.entry-at.ensures.regular (sym c.step_for.ensures ∙ c.in-Some.is) c.requires.bytes (omega (arith, c.requires.most, c.entry-at.ensures.size))
+    (λ n is. omega (arith, c.requires.fixed n (ap (λ (f : File). f.kind) c.entry-at.ensures.file ∙ is), c.entry-at.ensures.size)) in
+    on_ok_weaker c.take.result
+    (λ after d is. step_done _ e d.at c.args.overwrites c.args.bytes step c.entry-at.ensures.regular (sym c.step_for.ensures ∙ c.in-Some.is) may c.requires.bytes (after e d c.entry-at.ensures.entry is))
+    c.take.ensures.after
+
+pub returns-in-Some-clause-asked : goal.returns-in-Some-clause-asked
+returns-in-Some-clause-asked g c =
+    let v = c.args.self.now in
+    let e : Entry = c.entry-at.result in
+    let step : Step = c.in-Some.step in
+    let same : Entries = c.take.new.self.table in
+    space_with c.take.result (λ _. same ≡ v.table) (λ need. (x : Entry) → IsEntry v.table c.args.id x → need ≡ need_of step x.at) (λ need. Asks same c.args.id c.args.overwrites c.args.bytes need)
+    (λ n kept need d is.
+    let here : IsEntry v.table c.args.id d = subst (λ (t : Entries). IsEntry t c.args.id d) kept is in
+    let one = one_entry v.table c.args.id e d c.entry-at.ensures.entry here in
+    let asks : step_for d.at c.args.overwrites c.args.bytes ≡ Some step = subst (λ (x : Entry). step_for x.at c.args.overwrites c.args.bytes ≡ Some step) one (sym c.step_for.ensures ∙ c.in-Some.is) in
+    step_asks d.at c.args.overwrites c.args.bytes step asks ∙ ap (λ (k : ℕ). Some k) (sym (need d here)))
+    c.take.ensures.kept c.take.ensures.need
+
+pub returns-in-Some-clause-need_doubling : goal.returns-in-Some-clause-need_doubling
+returns-in-Some-clause-need_doubling g c =
+    let v = c.args.self.now in
+    let e : Entry = c.entry-at.result in
+    let step : Step = c.in-Some.step in
+    let may : MayTake step e.at =
+    step_may _ e c.args.overwrites c.args.bytes step c.entry-at.ensures.regular (sym c.step_for.ensures ∙ c.in-Some.is) c.requires.bytes (omega (arith, c.requires.most, c.entry-at.ensures.size))
+    (λ n is. omega (arith, c.requires.fixed n (ap (λ (f : File). f.kind) c.entry-at.ensures.file ∙ is), c.entry-at.ensures.size)) in
+    let needs : NeedsFew e.at (need_of step e.at) = step_needs _ e step c.entry-at.ensures.regular may in
+    space_with c.take.result (λ need. (x : Entry) → IsEntry v.table c.args.id x → need ≡ need_of step x.at) (λ need. (x : Entry) → IsEntry v.table c.args.id x → need ≡ need_of step x.at) _
+    (λ n need _ is.
+    rw c.entry-at.ensures.size (omega (arith, need e c.entry-at.ensures.entry, needs.doubling (sym (ap (λ (f : File). f.kind) c.entry-at.ensures.file) ∙ is))))
+    c.take.ensures.need c.take.ensures.need
+
+pub returns-in-Some-clause-need_fixed : goal.returns-in-Some-clause-need_fixed
+returns-in-Some-clause-need_fixed g c =
+    let v = c.args.self.now in
+    let e : Entry = c.entry-at.result in
+    let step : Step = c.in-Some.step in
+    let may : MayTake step e.at =
+    step_may _ e c.args.overwrites c.args.bytes step c.entry-at.ensures.regular (sym c.step_for.ensures ∙ c.in-Some.is) c.requires.bytes (omega (arith, c.requires.most, c.entry-at.ensures.size))
+    (λ n is. omega (arith, c.requires.fixed n (ap (λ (f : File). f.kind) c.entry-at.ensures.file ∙ is), c.entry-at.ensures.size)) in
+    let needs : NeedsFew e.at (need_of step e.at) = step_needs _ e step c.entry-at.ensures.regular may in
+    space_with c.take.result (λ need. (x : Entry) → IsEntry v.table c.args.id x → need ≡ need_of step x.at) (λ need. (x : Entry) → IsEntry v.table c.args.id x → need ≡ need_of step x.at) _
+    (λ n need _ m is.
+    omega (arith, need e c.entry-at.ensures.entry, needs.fixed m (sym (ap (λ (f : File). f.kind) c.entry-at.ensures.file) ∙ is)))
+    c.take.ensures.need c.take.ensures.need

@@ -1,0 +1,95 @@
+use Rattle.std.proofs.Common.{◌<◌, ◌&&◌, not, ℕ, Some, length, subst, arith}
+use Rattle.coffee_layout.specs.Files.{FitsIn}
+use Rattle.coffee_layout.specs.Units.{pages_of}
+use Rattle.coffee_layout.specs.declared.file.FileAt.{FileAt}
+use Rattle.coffee_volume.specs.Taking.{LiesIn}
+use Rattle.coffee_volume.specs.Volumes.{IsEntry, IsRegular, places, roomless}
+use Rattle.coffee_volume.specs.declared.entry.Entry.{Entry}
+use Rattle.coffee_volume.proofs.Moved.{kept_becomes, moved_becomes}
+use Rattle.coffee_volume.proofs.Standing.{Stands, holds_idle, same_pages, stands_idle, stands_still, where_told}
+use Rattle.coffee_volume.proofs.Stepped.{after_regular, after_same}
+use Rattle.coffee_volume.proofs.Tables.{in_places, regular_same, told_by}
+use Rattle.coffee_volume.proofs.Takings.{set_entry}
+use Rattle.coffee_volume.proofs.volume.Volume.take.Goals as goal
+
+pub invariant_of-self-in-Ok : goal.invariant_of-self-in-Ok
+invariant_of-self-in-Ok g c =
+    let v = c.args.self.now in
+    let old = g.F.Flash.image v.flash in
+    let new = g.F.Flash.image c.take_step.new.flash in
+    let e : Entry = c.entry-at.result in
+    let to : FileAt = c.in-Ok.to in
+    let i : ℕ = c.number.result in
+    let s : Stands g.F.Flash.tells v.failed old v.table v.draft = record { count = v.count; big = v.big; regular = v.regular; pending = v.pending; space = v.space; told = v.told } in
+    let is : IsEntry v.table i e = rw c.number.ensures.value c.entry-at.ensures.entry in
+    let inside : i < length v.table = omega (arith, v.count, c.number.ensures.below) in
+    let fits : FitsIn (pages_of old) to = subst (λ (n : ℕ). FitsIn n to) (same_pages old new c.take_step.ensures.size) c.in-Ok.ensures.inside in
+    let fine : IsRegular (pages_of old) (roomless to) = after_regular (pages_of old) c.args.step e to c.entry-at.ensures.regular (c.requires.may e c.entry-at.ensures.entry) c.in-Ok.ensures.after fits in
+    let same = after_same c.args.step e.at to c.in-Ok.ensures.after in
+    let k = stands_idle g.F.Flash.tells v.failed old new v.table v.draft i (Some (roomless to)) s c.requires.idle c.take_step.ensures.size (regular_same (pages_of old) v.table i e (roomless to) v.regular inside is same.name fine)
+    (λ told fine. (c.in-Ok.ensures.moved told (places v.table) i (holds_idle g.F.Flash.tells v.failed old v.table v.draft s c.requires.idle told fine) (in_places v.table i e is)).sets.holds) in
+    record { count = k.count; big = k.big; regular = k.regular; pending = k.pending; space = k.space; told = k.told }
+
+pub invariant_of-self-in-Err-Space : goal.invariant_of-self-in-Err-Space
+invariant_of-self-in-Err-Space g c =
+    let v = c.args.self.now in
+    let old = g.F.Flash.image v.flash in
+    let new = g.F.Flash.image c.take_step.new.flash in
+    let s : Stands g.F.Flash.tells v.failed old v.table v.draft = record { count = v.count; big = v.big; regular = v.regular; pending = v.pending; space = v.space; told = v.told } in
+    let k = stands_still g.F.Flash.tells v.failed old new v.table v.draft s c.requires.idle c.take_step.ensures.size
+    (λ told fine. (rw c.in-Err-Space.field-0-is at (c.in-Err-Space.ensures.kept told) (places v.table) (holds_idle g.F.Flash.tells v.failed old v.table v.draft s c.requires.idle told fine)).holds) in
+    record { count = k.count; big = k.big; regular = k.regular; pending = k.pending; space = k.space; told = k.told }
+
+pub returns-in-Ok-clause-contents : goal.returns-in-Ok-clause-contents
+returns-in-Ok-clause-contents g c =
+    let v = c.args.self.now in
+    let old = g.F.Flash.image v.flash in
+    let new = g.F.Flash.image c.take_step.new.flash in
+    let e : Entry = c.entry-at.result in
+    let id : ℕ = c.args.id in
+    let s : Stands g.F.Flash.tells v.failed old v.table v.draft = record { count = v.count; big = v.big; regular = v.regular; pending = v.pending; space = v.space; told = v.told } in
+    let holds = holds_idle g.F.Flash.tells v.failed old v.table v.draft s c.requires.idle in
+    let inside : id < length v.table = omega (arith, v.count, c.number.ensures.below, c.number.ensures.value) in
+    rw c.number.ensures.value
+    (moved_becomes (g.F.Flash.tells && not v.failed) old new v.table v.draft id e c.in-Ok.to inside c.requires.idle c.entry-at.ensures.entry (after_same c.args.step e.at c.in-Ok.to c.in-Ok.ensures.after)
+    (where_told g.F.Flash.tells v.failed _ holds)
+    (where_told g.F.Flash.tells v.failed _ (λ told fine. c.in-Ok.ensures.moved told (places v.table) id (holds told fine) (in_places v.table id e c.entry-at.ensures.entry))))
+
+pub returns-in-Err-Space-clause-contents : goal.returns-in-Err-Space-clause-contents
+returns-in-Err-Space-clause-contents g c =
+    let v = c.args.self.now in
+    let old = g.F.Flash.image v.flash in
+    let new = g.F.Flash.image c.take_step.new.flash in
+    let e : Entry = c.entry-at.result in
+    let s : Stands g.F.Flash.tells v.failed old v.table v.draft = record { count = v.count; big = v.big; regular = v.regular; pending = v.pending; space = v.space; told = v.told } in
+    kept_becomes (g.F.Flash.tells && not v.failed) old new v.table v.draft c.args.id e c.requires.idle c.entry-at.ensures.entry
+    (where_told g.F.Flash.tells v.failed _ (λ told fine. (rw c.in-Err-Space.field-0-is at (c.in-Err-Space.ensures.kept told) (places v.table) (holds_idle g.F.Flash.tells v.failed old v.table v.draft s c.requires.idle told fine)).kept))
+
+pub returns-in-Err-Space-clause-lacks : goal.returns-in-Err-Space-clause-lacks
+returns-in-Err-Space-clause-lacks g c told =
+    let v = c.args.self.now in
+    let old = g.F.Flash.image v.flash in
+    let s : Stands g.F.Flash.tells v.failed old v.table v.draft = record { count = v.count; big = v.big; regular = v.regular; pending = v.pending; space = v.space; told = v.told } in
+    let both = told_by g.F.Flash.tells v.failed told in
+    rw c.in-Err-Space.need-is (rw c.in-Err-Space.field-0-is at (c.in-Err-Space.ensures.cramped both.0) (places v.table) (holds_idle g.F.Flash.tells v.failed old v.table v.draft s c.requires.idle both.0 both.1))
+
+pub returns-in-Ok-clause-taken : goal.returns-in-Ok-clause-taken
+returns-in-Ok-clause-taken g c = λ told d is p free taken.
+    let v = c.args.self.now in
+    let old = g.F.Flash.image v.flash in
+    let e : Entry = c.entry-at.result in
+    let id : ℕ = c.args.id in
+    let both = told_by g.F.Flash.tells v.failed told in
+    let s : Stands g.F.Flash.tells v.failed old v.table v.draft = record { count = v.count; big = v.big; regular = v.regular; pending = v.pending; space = v.space; told = v.told } in
+    let inside : id < length v.table = omega (arith, v.count, c.number.ensures.below, c.number.ensures.value) in
+    let same = set_entry v.table id (roomless c.in-Ok.to) d inside (rw c.number.ensures.value at is) in
+    subst (λ (x : Entry). LiesIn x.at p) same
+    (c.in-Ok.ensures.taken both.0 (places v.table) id (holds_idle g.F.Flash.tells v.failed old v.table v.draft s c.requires.idle both.0 both.1) (in_places v.table id e c.entry-at.ensures.entry) p free taken)
+
+pub returns-in-Err-Space-clause-untaken : goal.returns-in-Err-Space-clause-untaken
+returns-in-Err-Space-clause-untaken g c told =
+    let v = c.args.self.now in
+    let old = g.F.Flash.image v.flash in
+    let s : Stands g.F.Flash.tells v.failed old v.table v.draft = record { count = v.count; big = v.big; regular = v.regular; pending = v.pending; space = v.space; told = v.told } in
+    let both = told_by g.F.Flash.tells v.failed told in
+    rw c.in-Err-Space.field-0-is at (c.in-Err-Space.ensures.untaken both.0) (places v.table) (holds_idle g.F.Flash.tells v.failed old v.table v.draft s c.requires.idle both.0 both.1)

@@ -1,0 +1,5 @@
+pub mod Mounting
+pub mod Rooms
+pub mod Steps
+pub mod Taking
+pub mod Volumes

@@ -1,0 +1,61 @@
+-- Mounting: the table of a volume that was just mounted, and why a flash could not be.
+use Rattle.std.specs.Prelude.{◌≡◌, ◌≢◌, ⊤, ℕ, ◌-◌, ◌≤◌, true, List, ◌++◌, length, map, replicate, Some, None}
+use Rattle.afl_base.specs.Causes.{Rose}
+use Rattle.afl_base.specs.Files.{File, State}
+use Rattle.coffee_layout.specs.Files.{NamedFile, listed}
+use Rattle.coffee_layout.specs.Walks.{has_few}
+use Rattle.coffee_layout.specs.declared.file.FileAt.{FileAt}
+use Rattle.coffee_layout.specs.declared.unit.BadImage.{BadImage}
+use Rattle.coffee_merge.specs.Holding.{IsIn, Table, has_shape}
+use Rattle.coffee_volume.specs.Volumes.{Entries, entry_name, roomless, state_seen}
+use Rattle.coffee_volume.specs.declared.mount.MountError.{MountError}
+use Rattle.coffee_volume.specs.declared.mount.MountError.TheVariants.{Bad, Failed}
+
+-- THE TABLE
+
+-- files under the ids from 0 on, and free places behind them
+abbrev pub mounted_table : List FileAt → Entries
+mounted_table files = map (λ (at : FileAt). Some (roomless at)) files ++ replicate (32 - length files) None
+
+-- what a sound image is mounted as: its files in page order from id 0, without room and without a draft
+abbrev pub mounted_state : List ℕ → State
+mounted_state image = state_seen true image (mounted_table (listed image)) None
+
+-- a file may follow those of a table by the rules 6, 7 and 13: none has its name, its pages are those
+-- of its kind, and it has few pages
+pub record MayFollow (table : Entries) (at : FileAt) : Type 0 where
+  pub name : (k : ℕ) → entry_name table k ≢ Some at.name
+  pub shape : has_shape at.kind at.pages ≡ true
+  pub few : has_few at ≡ true
+
+-- the files of a table keep these rules
+pub record KeepFileRules (table : Table) : Type 0 where
+  pub names : (i j : ℕ) (e d : FileAt) → IsIn table i e → IsIn table j d → e.name ≡ d.name → i ≡ j
+  pub shapes : (i : ℕ) (e : FileAt) → IsIn table i e → has_shape e.kind e.pages ≡ true
+  pub few : (i : ℕ) (e : FileAt) → IsIn table i e → has_few e ≡ true
+
+-- a file as it is seen in an image: without its room
+abbrev pub named : File → NamedFile
+named f = record { name = f.name; kind = f.kind; bytes = f.bytes }
+
+-- THE ERROR
+
+-- the flash that is handed back
+abbrev pub flash_of : {F : Type 0} → MountError F → F
+flash_of (Bad bad flash) = flash
+flash_of (Failed flash) = flash
+
+-- P of the broken rule, where that is the error
+abbrev pub OnBad : {F : Type 0} → MountError F → (BadImage → Type 0) → Type 0
+OnBad (Bad bad flash) P = P bad
+OnBad (Failed flash) P = ⊤
+
+-- P, where the error is that the flash failed
+abbrev pub OnFailed : {F : Type 0} → MountError F → Type 0 → Type 0
+OnFailed (Bad bad flash) P = ⊤
+OnFailed (Failed flash) P = P
+
+-- the count never falls, and the flash failed only where the count rose
+pub record HasMountCause {F : Type 0} (before now : ℕ) (error : MountError F) : Type 0 where
+  pub later : before ≤ now
+  pub failed : OnFailed error (Rose before now)

@@ -1,0 +1,13 @@
+//! The files of a flash: a `Volume` holds a flash and the table of its files, and meets `Files`.
+#![tactic(auto)]
+
+mod drafts;
+mod entry;
+mod files;
+mod mount;
+mod prepare;
+mod step;
+mod volume;
+
+pub use mount::MountError;
+pub use volume::Volume;
