@@ -1,0 +1,6 @@
+use Rattle.std.proofs.Common.{◌≡◌, None}
+use Rattle.afl_base.specs.Files.{used}
+use Rattle.volume_tests.proofs.runs.mark_rows.Given as goal
+
+abbrev pub invariant-loop-row : goal.invariant-loop-row
+invariant-loop-row g l = ((g.V.Files.state l.files).draft ≡ None) × (used (g.V.Files.state l.files).files ≡ used (g.V.Files.state l.fn.files).files)
