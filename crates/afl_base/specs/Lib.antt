@@ -3,6 +3,7 @@ pub mod Fields
 pub mod FileErrors
 pub mod Files
 pub mod Fit
+pub mod Frames
 pub mod Image
 pub mod KeyColumn
 pub mod Names
