@@ -8,3 +8,4 @@ pub mod Image
 pub mod KeyColumn
 pub mod Names
 pub mod Regions
+pub mod Shares
