@@ -1,3 +1,4 @@
+pub mod Cutting
 pub mod Judging
 pub mod Known
 pub mod Parts

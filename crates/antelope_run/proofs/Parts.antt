@@ -2,11 +2,11 @@
 use Rattle.std.proofs.Common.{◌≡◌, ℕ, ◌+◌, ◌<◌, Bool, true, false, List, [], ◌∷◌, ◌++◌, take, get_or, length, refl, sym, ap, ◌∙◌}
 use Rattle.std.specs.Prelude.{map, Result}
 use Rattle.std.proofs.lemmas.List.{append_assoc, append-nil, map-append, take_more}
-use Rattle.db_model.specs.Pieces.{quoted_behind, piece_behind, ended_by}
+use Rattle.antelope_run.specs.Pieces.{quoted_behind, piece_behind, ended_by}
 use Rattle.db_model.specs.Script.{ends_piece, quoted_after, ended, past_white}
 use Rattle.db_model.specs.declared.commands.Command.{Command}
 use Rattle.db_model.specs.declared.refusals.Refusal.{Refusal}
-use Rattle.db_model.proofs.Scripts.{commands_ended}
+use Rattle.antelope_run.proofs.Cutting.{commands_ended}
 use Rattle.antelope_run.specs.Script.{says, statements}
 use Rattle.antelope_run.specs.Runs.{done_in, left_over}
 

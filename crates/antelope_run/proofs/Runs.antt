@@ -6,7 +6,7 @@ use Rattle.std.proofs.lemmas.List.{append_assoc, append-nil, take-append-drop, l
 use Rattle.antelope_run.specs.declared.statement.Statement.{Statement}
 use Rattle.antelope_run.specs.declared.statement.Statement.TheVariants.{Insert}
 use Rattle.antelope_run.specs.Output.{reply, after, output, values_after, space_line}
-use Rattle.db_model.specs.Pieces.{quoted_behind, piece_behind}
+use Rattle.antelope_run.specs.Pieces.{quoted_behind, piece_behind}
 use Rattle.db_model.specs.declared.commands.Command.{Command}
 use Rattle.db_model.specs.declared.refusals.Refusal.{Refusal}
 use Rattle.antelope_run.specs.Script.{statements}

@@ -1,4 +1,5 @@
 pub mod Output
+pub mod Pieces
 pub mod Raw
 pub mod Runs
 pub mod Script

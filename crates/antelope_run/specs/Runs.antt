@@ -6,7 +6,7 @@ use Rattle.std.specs.Io.KnownBytes.{append_known}
 use Rattle.byteorder.specs.Endian.{little_number}
 use Rattle.afl_base.specs.Causes.{Rose}
 use Rattle.antelope_run.specs.Raw.{HoldsTo, Holds, IsFirstBroken, AreLongs, raw_page, pages_of}
-use Rattle.db_model.specs.Pieces.{ended_by}
+use Rattle.antelope_run.specs.Pieces.{ended_by}
 use Rattle.db_model.specs.Script.{past_white, unended}
 use Rattle.db_model.specs.declared.commands.Command.{Command}
 use Rattle.db_model.specs.declared.refusals.Refusal.{Refusal}

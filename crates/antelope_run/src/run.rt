@@ -1,7 +1,7 @@
 ghost use Rattle.std.specs.Prelude.{◌≡◌, ◌≢◌, ℕ, ◌+◌, ◌*◌, ◌<◌, ◌≤◌, ℤ, List, [], ◌∷◌, ◌++◌, true, false, length, take, drop, IsTrue, OnOk, IfOk, Result, Some, Ok, Err};
 ghost use Rattle.std.specs.Io.KnownBytes.{append_known, prepend_known, IsAtEnd};
 ghost use Rattle.afl_base.specs.Causes.{HasCause, Rose};
-ghost use Rattle.db_model.specs.Pieces.{piece_behind, quoted_behind};
+ghost use Rattle.antelope_run.specs.Pieces.{piece_behind, quoted_behind};
 ghost use Rattle.db_model.specs.Reading.{IsReader};
 ghost use Rattle.db_model.specs.declared.commands.Command.{Command};
 ghost use Rattle.db_model.specs.declared.refusals.Refusal.{Refusal};

@@ -17,8 +17,9 @@ use Rattle.db_model.specs.declared.schemas.Domain.{Domain}
 use Rattle.db_model.specs.declared.schemas.Domain.TheVariants.{Int, Long, Time, Str}
 use Rattle.db_model.specs.declared.values.Value.{Value}
 use Rattle.db_model.specs.declared.values.Value.TheVariants.{Number, Text}
+use Rattle.std.specs.List.{list_all}
 use Rattle.db_model.specs.Names.{is_text}
-use Rattle.db_model.specs.Row.{AllSuit, field_bytes, field_of, fields_bytes, fields_length, is_between, mark, row_bytes, row_length, row_of, suits, text_or_empty, time_or_least, tuple_of, up_to_zero, width}
+use Rattle.db_model.specs.Row.{AllSuit, field_bytes, field_of, fields_bytes, fields_length, is_between, is_text_field, mark, row_bytes, row_length, row_of, suits, text_or_empty, time_or_least, tuple_of, up_to_zero, width}
 
 AreBytes : List ℕ → Type 0
 AreBytes bytes = (i : ℕ) → get_or bytes i 0 < 256
@@ -49,12 +50,13 @@ cut (b ∷ bytes) = either (b == 0) (cut bytes)
 short : (n : ℕ) (bytes : List ℕ) → length (up_to_zero (take n bytes)) ≤ n
 short n bytes = let most : length (take n bytes) ≤ n = grind (arith, common_steps) in omega (arith, cut (take n bytes), most)
 
-text_suits : (n : ℕ) (bytes : List ℕ) → length bytes ≤ n → suits (Str n) (Text (text_or_empty bytes)) ≡ true
-text_suits n bytes few = either (is_text bytes) refl
+text_suits : (n : ℕ) (field : List ℕ) → length (up_to_zero field) ≤ n → suits (Str n) (Text (text_or_empty field)) ≡ true
+text_suits n field few = either (is_text (up_to_zero field)) (list_all (λ b. b == 0) (drop (length (up_to_zero field)) field)) refl
   where
-    either : (b : Bool) → is_text bytes ≡ b → suits (Str n) (Text (if b then bytes else [])) ≡ true
-    either true e = rw (le-leb (length bytes) n few, e) refl
-    either false e = rw (le-leb 0 n (omega arith)) refl
+    either : (a b : Bool) → is_text (up_to_zero field) ≡ a → suits (Str n) (Text (if a && b then up_to_zero field else [])) ≡ true
+    either true true e = rw (le-leb (length (up_to_zero field)) n few, e) refl
+    either true false e = rw (le-leb 0 n (omega arith)) refl
+    either false b e = rw (le-leb 0 n (omega arith)) refl
 
 pub number_front : (n : ℕ) (xs ys : List ℕ) → take n xs ≡ take n ys → little_number n xs ≡ little_number n ys
 number_front n xs ys e = sym (little_from-take 0 n n xs (omega arith)) ∙ ap (little_number n) e ∙ little_from-take 0 n n ys (omega arith)
@@ -70,7 +72,7 @@ field_suits Long bytes small =
     let fits : Fits w32 (little_number 4 bytes) = record { fits = little_from-lt 0 4 bytes small } in
     between 2147483647 (cast_signed w32 (little_number 4 bytes)) (omega (arith, (sfits_to_z {w = w32} fits).sfits))
 field_suits Time bytes small = time_suits (cast_signed w64 (little_number 8 bytes))
-field_suits (Str n) bytes small = text_suits n (up_to_zero (take n bytes)) (short n bytes)
+field_suits (Str n) bytes small = text_suits n (take n bytes) (short n bytes)
 
 pub tuple_suits : (attributes : List Attribute) (bytes : List ℕ) → ((i : ℕ) → get_or bytes i 0 < 256) → AllSuit attributes (tuple_of attributes bytes)
 unfolding AreBytes
@@ -90,7 +92,7 @@ length-field_read : (d : Domain) (bytes : List ℕ) → length (field_bytes d (f
 length-field_read Int bytes = refl
 length-field_read Long bytes = refl
 length-field_read Time bytes = refl
-length-field_read (Str n) bytes = length-padded n (text_or_empty (up_to_zero (take n bytes))) (either (is_text (up_to_zero (take n bytes))))
+length-field_read (Str n) bytes = length-padded n (text_or_empty (take n bytes)) (either (is_text_field (take n bytes)))
   where
     either : (b : Bool) → length (if b then up_to_zero (take n bytes) else []) ≤ n
     either true = short n bytes
@@ -116,7 +118,7 @@ field_front : (d : Domain) (xs ys : List ℕ) → take (width d) xs ≡ take (wi
 field_front Int xs ys e = ap (λ (n : ℕ). Number (cast_signed w16 n)) (number_front 2 xs ys e)
 field_front Long xs ys e = ap (λ (n : ℕ). Number (cast_signed w32 n)) (number_front 4 xs ys e)
 field_front Time xs ys e = ap (λ (n : ℕ). Number (time_or_least (cast_signed w64 n))) (number_front 8 xs ys e)
-field_front (Str n) xs ys e = ap (λ (bytes : List ℕ). Text (text_or_empty (up_to_zero bytes))) e
+field_front (Str n) xs ys e = ap (λ (field : List ℕ). Text (text_or_empty field)) e
 
 pub tuple_front : (attributes : List Attribute) (xs ys : List ℕ) → take (fields_length attributes) xs ≡ take (fields_length attributes) ys → tuple_of attributes xs ≡ tuple_of attributes ys
 tuple_front [] xs ys e = refl

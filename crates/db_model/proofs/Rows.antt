@@ -66,11 +66,17 @@ length-padded n bytes short =
     let zeros : length (replicate {A = ℕ} (n - length bytes) 0) ≡ n - length bytes = length-replicate {A = ℕ} (n - length bytes) 0 in
     length-append bytes (replicate (n - length bytes) 0) ∙ omega (arith, zeros, short)
 
-text_back : (n : ℕ) (bytes rest : List ℕ) → length bytes ≤ n → is_text bytes ≡ true → text_or_empty (up_to_zero (take n (padded n bytes ++ rest))) ≡ bytes
+all_zeros : (k : ℕ) → list_all (λ b. b == 0) (replicate k 0) ≡ true
+all_zeros zero = refl
+all_zeros (suc k) = all_zeros k
+
+text_back : (n : ℕ) (bytes rest : List ℕ) → length bytes ≤ n → is_text bytes ≡ true → text_or_empty (take n (padded n bytes ++ rest)) ≡ bytes
 text_back n bytes rest short e =
     let cut : take n (padded n bytes ++ rest) ≡ padded n bytes = take_front n (padded n bytes) rest (length-padded n bytes short) in
     let texts : (nat_le (length bytes) 32 ≡ true) × (list_all is_text_byte bytes ≡ true) = both (nat_le (length bytes) 32) (list_all is_text_byte bytes) e in
-    rw (cut, up_to_zero-text bytes (n - length bytes) texts.1, e) refl
+    let zeros : list_all (λ b. b == 0) (drop (length bytes) (padded n bytes)) ≡ true =
+    ap (list_all (λ b. b == 0)) (drop-append_seam bytes (replicate (n - length bytes) 0)) ∙ all_zeros (n - length bytes) in
+    rw (cut, up_to_zero-text bytes (n - length bytes) texts.1, e, zeros) refl
 
 -- ---- fields
 

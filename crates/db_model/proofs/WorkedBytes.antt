@@ -86,8 +86,9 @@ pub ten_minutes_range : range samples_attributes 0 ten_minutes ≡ Between (pos 
 ten_minutes_range = refl
 
 pub ten_minutes_plan : plan by_minute (ranges_of samples_attributes (Some ten_minutes)) ≡ ByOrder 0
+unfolding plan ranges_of
 ten_minutes_plan = refl
 
 pub ten_minutes_cost : plan_cost by_minute (ranges_of samples_attributes (Some ten_minutes)) samples_rows (ByOrder 0) ≡ 198
-unfolding bits
+unfolding bits ranges_of
 ten_minutes_cost = refl

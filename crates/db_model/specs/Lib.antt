@@ -9,7 +9,6 @@ pub mod Item
 pub mod Keywords
 pub mod Names
 pub mod Padded
-pub mod Pieces
 pub mod Plan
 pub mod Ranges
 pub mod Reading

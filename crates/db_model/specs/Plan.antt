@@ -32,7 +32,7 @@ abbrev pub range_at : List Range → ℕ → Range
 range_at ranges place = get_or ranges place everything
 
 -- the ranges that a condition gives the eight places
-abbrev pub ranges_of : List Attribute → Option Cond → List Range
+unfoldable pub ranges_of : List Attribute → Option Cond → List Range
 ranges_of attributes condition = map (λ place. range_of attributes place condition) (range_with_len 0 8)
 
 abbrev pub is_empty : Range → Bool
@@ -76,7 +76,7 @@ first_plan usable n [] = None
 first_plan usable n (index ∷ indexes) = option_or (usable n index) (first_plan usable (n + 1) indexes)
 
 -- Nothing where an indexed attribute has no key in its range; else the first usable hash table, hash tree, or order; else a scan
-abbrev pub plan : Kinds → List Range → Plan
+unfoldable pub plan : Kinds → List Range → Plan
 plan indexes ranges =
     if list_any (λ index. is_empty (range_at ranges index.1)) indexes then Nothing else
     unwrap_or

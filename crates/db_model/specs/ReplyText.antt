@@ -70,6 +70,7 @@ reason_text no.NoCursor = codes "cursor"
 reason_text no.CursorOpen = codes "open"
 reason_text (no.Space need) = codes "space " ++ decimal need
 reason_text no.Unbuilt = codes "unbuilt"
+reason_text no.Frame = codes "frame"
 
 unfoldable pub refusal_text : Refusal → List ℕ
 refusal_text refusal = line (codes "no " ++ reason_text refusal)
@@ -95,6 +96,7 @@ refusal_number no.NoCursor = 16
 refusal_number no.CursorOpen = 17
 refusal_number (no.Space need) = 18
 refusal_number no.Unbuilt = 19
+refusal_number no.Frame = 20
 
 -- ---- replies
 

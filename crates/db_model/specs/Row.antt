@@ -1,6 +1,6 @@
 -- Rows, and their bytes in a file.
 use Rattle.std.specs.Prelude.{ℕ, ℤ, pos, negsuc, ◌+◌, ◌*◌, ◌/◌, Bool, true, false, ◌&&◌, ◌==◌, List, [], ◌∷◌, ◌++◌, map, length, take, drop, replicate, if◌then◌else◌, nat_le, int_le, slice_index, slice_range, IsTrue, flat_map, ⊤}
-use Rattle.std.specs.List.{range_with_len}
+use Rattle.std.specs.List.{list_all, range_with_len}
 use Rattle.std.specs.Int.{w16, w32, w64, cast_signed, cast_unsigned}
 use Rattle.byteorder.specs.Endian.{little_bytes, little_number}
 use Rattle.db_model.specs.declared.schemas.Attribute.{Attribute}
@@ -60,9 +60,13 @@ abbrev pub up_to_zero : List ℕ → List ℕ
 up_to_zero [] = []
 up_to_zero (b ∷ bytes) = if b == 0 then [] else b ∷ up_to_zero bytes
 
--- these bytes where they are a text, else the empty text
+-- whether a field is a text with zeros behind it
+abbrev pub is_text_field : List ℕ → Bool
+is_text_field field = is_text (up_to_zero field) && list_all (λ b. b == 0) (drop (length (up_to_zero field)) field)
+
+-- the text of a field, the empty text where it has none
 abbrev pub text_or_empty : List ℕ → List ℕ
-text_or_empty bytes = if is_text bytes then bytes else []
+text_or_empty field = if is_text_field field then up_to_zero field else []
 
 -- this number where it is a time, else the least time
 abbrev pub time_or_least : ℤ → ℤ
@@ -73,7 +77,7 @@ abbrev pub field_of : Domain → List ℕ → Value
 field_of Int bytes = Number (cast_signed w16 (little_number 2 bytes))
 field_of Long bytes = Number (cast_signed w32 (little_number 4 bytes))
 field_of Time bytes = Number (time_or_least (cast_signed w64 (little_number 8 bytes)))
-field_of (Str n) bytes = Text (text_or_empty (up_to_zero (take n bytes)))
+field_of (Str n) bytes = Text (text_or_empty (take n bytes))
 
 -- ---- rows: the fields in attribute order, then a mark
 

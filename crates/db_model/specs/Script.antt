@@ -42,15 +42,25 @@ abbrev pub ends_piece : Bool → ℕ → Bool
 ends_piece true b = false
 ends_piece false b = b == 59
 
--- the entries of a piece so far, inside quotes or not, and the bytes still to come
-abbrev pub entries_after : Bool → List ℕ → List ℕ → List Entry
-entries_after quoted piece [] = unended (past_white piece)
-entries_after quoted piece (b ∷ bs) =
-    if ends_piece quoted b then ended (past_white piece) ++ entries_after false [] bs else entries_after (quoted_after quoted b) (piece ++ b ∷ []) bs
+-- a byte before the first of some pieces
+abbrev pub onto : ℕ → List (List ℕ) → List (List ℕ)
+onto b [] = (b ∷ []) ∷ []
+onto b (piece ∷ pieces) = (b ∷ piece) ∷ pieces
+
+-- the pieces that bytes fall into, which begin inside quotes or not; nothing ends the last one
+abbrev pub pieces : Bool → List ℕ → List (List ℕ)
+pieces quoted [] = [] ∷ []
+pieces quoted (b ∷ bs) = if ends_piece quoted b then [] ∷ pieces false bs else onto b (pieces (quoted_after quoted b) bs)
+
+-- what the pieces are
+abbrev pub entries_of : List (List ℕ) → List Entry
+entries_of [] = []
+entries_of (piece ∷ []) = unended (past_white piece)
+entries_of (piece ∷ next ∷ pieces) = ended (past_white piece) ++ entries_of (next ∷ pieces)
 
 -- the commands of a script
 abbrev pub commands : List ℕ → List Entry
-commands bytes = entries_after false [] bytes
+commands bytes = entries_of (pieces false bytes)
 
 -- the entries without a last one that is unfinished
 abbrev pub finished : List Entry → List Entry

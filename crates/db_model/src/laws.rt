@@ -5,6 +5,7 @@
 ghost use Rattle.std.specs.Prelude.{◌≡◌, ◌≤◌, ℕ, ℤ, List, [], ◌∷◌, Option, Some, None, length};
 ghost use Rattle.std.specs.List.{AllByRecursion};
 ghost use Rattle.db_model.specs.declared.commands.Command.{Command as AnyCommand};
+ghost use Rattle.db_model.specs.declared.commands.Node.{Node};
 ghost use Rattle.db_model.specs.declared.schemas.Attribute.{Attribute};
 ghost use Rattle.db_model.specs.Catalog.{Catalog, IsCatalog, catalog_bytes, catalog_of, empty_catalog};
 ghost use Rattle.db_model.specs.Cond.{Cond, condition_of, postfix};
@@ -43,10 +44,11 @@ pub fn rows_are_read_back()
     ensures { (attributes : List Attribute) (rows : List Row) → AllRowsSuit attributes rows → rows_of attributes (rows_bytes attributes rows) ≡ rows }
 {}
 
-/// A condition is read back from its postfix list.
-#[tactic(auto, using(crate::proofs::Conditions::condition_back))]
+/// A condition is read back from its postfix list, and from no other list.
+#[tactic(auto, using(crate::proofs::Conditions::condition_back, crate::proofs::Conditions::condition_only))]
 pub fn conditions_are_read_back()
-    ensures { (c : Cond) → condition_of (postfix c) ≡ Some c }
+    ensures back { (c : Cond) → condition_of (postfix c) ≡ Some c }
+    ensures only { (nodes : List Node) (c : Cond) → condition_of nodes ≡ Some c → postfix c ≡ nodes }
 {}
 
 /// A hash tree has at most 853 buckets for 16,384 keys, and at most 1,365 for 32,768.

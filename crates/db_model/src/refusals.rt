@@ -64,4 +64,6 @@ pub enum Refusal {
     Space { need: u16 },
     /// The command is not built yet.
     Unbuilt,
+    /// The bytes between two ends are no frame.
+    Frame,
 }

@@ -2,13 +2,14 @@
 
 #![tactic(auto)]
 
-ghost use Rattle.std.specs.Prelude.{◌≡◌, ◌≤◌, List, Option, Some, None, IfOk, OnOk, IfErr, length, map};
+ghost use Rattle.std.specs.Prelude.{◌≡◌, ◌≤◌, List, [], Option, Some, None, IfOk, OnOk, IfErr, length, map};
 ghost use Rattle.db_model.specs.declared.schemas.Attribute.{Attribute};
 ghost use Rattle.db_model.specs.Cond.{Cond, IsCondition, condition_of};
 ghost use Rattle.db_model.specs.Item.{selects};
 ghost use Rattle.db_model.specs.Ranges.{range_of};
 ghost use Rattle.db_model.specs.Typing.{first_false, is_attribute};
 ghost use Rattle.lvm.specs.Code.{IsCodeOf, refusal};
+ghost use Rattle.lvm.specs.Evaluate.{evaluated, verdict};
 ghost use Rattle.lvm.specs.Instruction.{instructions_for, names_among};
 ghost use Rattle.lvm.specs.Within.{HoldsWithin};
 
@@ -66,7 +67,8 @@ impl Code {
 
     /// Whether the tuple satisfies the condition. Where there is no condition, each does.
     pub fn eval(&self, tuple: &Tuple) -> bool
-        ensures { (attributes : List Attribute) (condition : Option Cond)
+        ensures steps { result ≡ verdict (evaluated self.now tuple.now []) }
+        ensures told { (attributes : List Attribute) (condition : Option Cond)
             → IsCodeOf attributes condition self.now
             → result ≡ selects attributes condition tuple.now }
     {

@@ -6,6 +6,7 @@ mod code;
 mod evaluate;
 mod instruction;
 mod kind;
+pub mod laws;
 mod side;
 mod stack;
 

@@ -1,6 +1,6 @@
 use Rattle.std.proofs.Common.{◌<◌, length, take, rules, sym, subst, ◌∙◌, arith, refl}
 use Rattle.antelope_run.specs.Runs.{Gathers}
-use Rattle.db_model.specs.Pieces.{piece_behind}
+use Rattle.antelope_run.specs.Pieces.{piece_behind}
 use Rattle.antelope_run.proofs.Parts.{quoted_more, piece_more}
 use Rattle.antelope_run.proofs.Runs.{ran_more, fills_here}
 use Rattle.antelope_run.proofs.run.feed.Goals as goal

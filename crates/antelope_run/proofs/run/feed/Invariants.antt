@@ -1,6 +1,6 @@
 use Rattle.std.proofs.Common.{◌≡◌, ◌≤◌, List, ℕ, take}
 use Rattle.std.specs.Prelude.{IsTrue, Result}
-use Rattle.db_model.specs.Pieces.{piece_behind, quoted_behind}
+use Rattle.antelope_run.specs.Pieces.{piece_behind, quoted_behind}
 use Rattle.db_model.specs.Reading.{IsReader}
 use Rattle.db_model.specs.declared.commands.Command.{Command}
 use Rattle.db_model.specs.declared.refusals.Refusal.{Refusal}

@@ -2,7 +2,7 @@ use Rattle.std.proofs.Common.{◌≡◌, ◌≤◌, [], ◌++◌, take, rules, r
 use Rattle.std.specs.Io.KnownBytes.{prepend_known}
 use Rattle.std.proofs.lemmas.List.{length-append, length-take}
 use Rattle.std.specs.Prelude.{false}
-use Rattle.db_model.specs.Pieces.{piece_behind}
+use Rattle.antelope_run.specs.Pieces.{piece_behind}
 use Rattle.antelope_run.specs.Runs.{Gathers}
 use Rattle.antelope_run.proofs.Parts.{quoted_append, piece_append}
 use Rattle.antelope_run.proofs.Known.{prepend_twice}

@@ -1,7 +1,7 @@
 use Rattle.std.proofs.Common.{◌≡◌, ◌≤◌, ◌-◌, List, ℕ, [], length}
 use Rattle.std.specs.Prelude.{IsTrue, Result, false}
 use Rattle.std.specs.Io.KnownBytes.{prepend_known}
-use Rattle.db_model.specs.Pieces.{piece_behind, quoted_behind}
+use Rattle.antelope_run.specs.Pieces.{piece_behind, quoted_behind}
 use Rattle.db_model.specs.Reading.{IsReader}
 use Rattle.db_model.specs.declared.commands.Command.{Command}
 use Rattle.db_model.specs.declared.refusals.Refusal.{Refusal}

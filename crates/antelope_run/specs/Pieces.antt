@@ -1,6 +1,12 @@
--- A script that comes in parts: which entries the bytes so far have ended, and what piece is begun.
+-- A script that comes byte by byte: which entries the bytes so far have ended, and what piece is begun.
 use Rattle.std.specs.Prelude.{ℕ, Bool, false, List, [], ◌∷◌, ◌++◌, if◌then◌else◌}
-use Rattle.db_model.specs.Script.{Entry, ends_piece, quoted_after, ended, past_white}
+use Rattle.db_model.specs.Script.{Entry, ends_piece, quoted_after, ended, unended, past_white}
+
+-- the entries of a piece so far, inside quotes or not, and the bytes still to come
+abbrev pub entries_after : Bool → List ℕ → List ℕ → List Entry
+entries_after quoted piece [] = unended (past_white piece)
+entries_after quoted piece (b ∷ bs) =
+    if ends_piece quoted b then ended (past_white piece) ++ entries_after false [] bs else entries_after (quoted_after quoted b) (piece ++ b ∷ []) bs
 
 -- after some bytes, behind a piece so far that stands in quotes or not: whether it stands in quotes then
 abbrev pub quoted_behind : Bool → List ℕ → Bool
