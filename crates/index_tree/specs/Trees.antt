@@ -1,0 +1,17 @@
+-- The hash tree of a list of keys, the first being that of slot 0.
+use Rattle.std.specs.Prelude.{ℕ, ℤ, ◌≡◌, ◌≢◌, ◌+◌, List, [], ◌∷◌}
+use Rattle.index_tree.specs.Pairs.{Pair}
+use Rattle.index_tree.specs.TreeFile.{IsTree, number_of}
+
+-- the pairs of keys whose slots follow one another, from a slot on
+abbrev pub numbered : ℕ → List ℤ → List Pair
+numbered slot [] = []
+numbered slot (key ∷ keys) = record { key = key; slot = slot } ∷ numbered (slot + 1) keys
+
+-- the file is the hash tree of these keys
+abbrev pub IsTreeOf : List ℕ → List ℤ → Type 0
+IsTreeOf bytes keys = IsTree bytes (numbered 0 keys)
+
+-- each bucket has kept its number
+abbrev pub KeepsNumbers : List ℕ → List ℕ → Type 0
+KeepsNumbers old new = (key : ℤ) (hop : ℕ) → number_of old key hop ≢ 0 → number_of new key hop ≡ number_of old key hop
