@@ -5,7 +5,7 @@ use Rattle.index_tree.specs.Pairs.{Pair, goes, reach, sifted}
 use Rattle.index_tree.specs.Places.{IsOnPath}
 use Rattle.index_tree.proofs.Reach.{filter_shorter}
 
-both : (Pair → Bool) → (Pair → Bool) → Pair → Bool
+unfoldable pub both : (Pair → Bool) → (Pair → Bool) → Pair → Bool
 both f g p = cond (g p) (f p) false
 
 cut : (f : Pair → Bool) (n : ℕ) (ps : List Pair) → length (filter f (drop n ps)) ≤ length (filter f ps)
@@ -21,7 +21,7 @@ fuse_step false true p g xs ys e same = rw e same
 fuse_step true false p g xs ys e same = same
 fuse_step false false p g xs ys e same = same
 
-fuse : (g f : Pair → Bool) (ps : List Pair) → filter g (filter f ps) ≡ filter (both g f) ps
+pub fuse : (g f : Pair → Bool) (ps : List Pair) → filter g (filter f ps) ≡ filter (both g f) ps
 unfolding both
 fuse g f [] = refl
 fuse g f (p ∷ ps) = fuse_step (g p) (f p) p g (filter f ps) (filter (both g f) ps) refl (fuse g f ps)
@@ -60,7 +60,6 @@ deep_from test ps h (suc hop) under full =
     (λ (above : hop < h). let same : h ≡ suc hop = omega arith in subst (λ x. 32 * (suc hop - x) + length (reach test (suc hop) ps) ≤ length (reach test x ps)) (sym same) (let z : suc hop - suc hop ≡ 0 = omega arith in rw z (omega arith)))
     (order h hop)
 
--- (used below)
 -- a path has at most 5 + e / 32 buckets, e pairs having its four digits
 bound : (more some here all hop : ℕ) → hop ≡ 4 + more → 32 * more + some ≤ here → here ≤ all → hop ≤ 4 + all / 32
 bound more some here all hop h far e = omega arith

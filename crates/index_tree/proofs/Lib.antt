@@ -18,3 +18,7 @@ pub mod Expected
 pub mod Ruled
 pub mod Converse
 pub mod Law
+pub mod Numbered
+pub mod Stays
+pub mod Beside
+pub mod Paths

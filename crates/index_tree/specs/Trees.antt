@@ -1,7 +1,7 @@
 -- The hash tree of a list of keys, the first being that of slot 0.
-use Rattle.std.specs.Prelude.{ℕ, ℤ, ◌≡◌, ◌≢◌, ◌+◌, List, [], ◌∷◌}
+use Rattle.std.specs.Prelude.{ℕ, ℤ, ◌+◌, List, [], ◌∷◌}
 use Rattle.index_tree.specs.Pairs.{Pair}
-use Rattle.index_tree.specs.TreeFile.{IsTree, number_of}
+use Rattle.index_tree.specs.TreeFile.{IsTree}
 
 -- the pairs of keys whose slots follow one another, from a slot on
 abbrev pub numbered : ℕ → List ℤ → List Pair
@@ -11,7 +11,3 @@ numbered slot (key ∷ keys) = record { key = key; slot = slot } ∷ numbered (s
 -- the file is the hash tree of these keys
 abbrev pub IsTreeOf : List ℕ → List ℤ → Type 0
 IsTreeOf bytes keys = IsTree bytes (numbered 0 keys)
-
--- each bucket has kept its number
-abbrev pub KeepsNumbers : List ℕ → List ℕ → Type 0
-KeepsNumbers old new = (key : ℤ) (hop : ℕ) → number_of old key hop ≢ 0 → number_of new key hop ≡ number_of old key hop
