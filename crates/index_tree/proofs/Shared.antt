@@ -43,14 +43,14 @@ order m n = grind arith
 full_more : (key : ℤ) (ps : List Pair) (hop : ℕ) → Full key ps hop → 32 ≤ length (reach (goes key) hop ps) → Full key ps (hop + 1)
 full_more key ps hop full now = λ i h. ⊎_elim (λ (k : hop ≤ i). let e : i ≡ hop = omega arith in rw e now) (λ (k : i < hop). full i k) (order hop i)
 
-empty_on : (test : ℕ → Pair → Bool) (ps : List Pair) (h m : ℕ) → reach test h ps ≡ [] → h ≤ m → reach test m ps ≡ []
+pub empty_on : (test : ℕ → Pair → Bool) (ps : List Pair) (h m : ℕ) → reach test h ps ≡ [] → h ≤ m → reach test m ps ≡ []
 empty_on test ps h zero e k = let z : h ≡ 0 = omega arith in subst (λ x. reach test x ps ≡ []) z e
 empty_on test ps h (suc m) e k =
   ⊎_elim (λ (below : h ≤ m). ap (λ xs. filter (test m) (drop 32 xs)) (empty_on test ps h m e below))
     (λ (here : m < h). let same : suc m ≡ h = omega arith in subst (λ x. reach test x ps ≡ []) (sym same) e) (order h m)
 
 -- nothing goes on from a bucket with room
-empty_next : (test : ℕ → Pair → Bool) (ps : List Pair) (hop : ℕ) → length (reach test hop ps) ≤ 32 → reach test (suc hop) ps ≡ []
+pub empty_next : (test : ℕ → Pair → Bool) (ps : List Pair) (hop : ℕ) → length (reach test hop ps) ≤ 32 → reach test (suc hop) ps ≡ []
 empty_next test ps hop short = ap (filter (test hop)) (drop_all 32 (reach test hop ps) short)
 
 abbrev pub Sifted : (ℕ → Pair → Bool) → ℕ → Pair → Type 0

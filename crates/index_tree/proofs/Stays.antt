@@ -19,13 +19,17 @@ goes_own key (suc (suc zero)) p mine = rw mine (eq-eqb _ _ refl)
 goes_own key (suc (suc (suc zero))) p mine = rw mine (eq-eqb _ _ refl)
 goes_own key (suc (suc (suc (suc hop)))) p mine = refl
 
+-- a key goes its own way at each hop
+pub goes_mine : (key : ℤ) (hop : ℕ) (p : Pair) → has_key key p ≡ true → goes key hop p ≡ true
+goes_mine key hop p mine = goes_own key hop p (eq_true p.key key mine)
+
 first_of : (a b : Bool) → (a && b) ≡ true → a ≡ true
 first_of true b e = refl
 first_of false b e = cc
 
 -- what is wanted goes the key's way at each hop
 pub goes_wanted : (key : ℤ) (from hop : ℕ) (p : Pair) → is_wanted key from p ≡ true → goes key hop p ≡ true
-goes_wanted key from hop p mine = goes_own key hop p (eq_true p.key key (first_of (has_key key p) (nat_le from p.slot) mine))
+goes_wanted key from hop p mine = goes_mine key hop p (first_of (has_key key p) (nat_le from p.slot) mine)
 
 -- later pairs leave a place good, where buckets keep their numbers
 pub place_stays : (old new : List ℕ) (ps qs : List Pair) (key : ℤ) (from number pair hop : ℕ) → KeepsNumbers old new → IsPlaceAt old ps key from number pair hop → IsPlaceAt new (ps ++ qs) key from number pair hop

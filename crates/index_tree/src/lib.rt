@@ -4,4 +4,4 @@
 
 mod laws;
 
-pub use laws::rules_are_the_tree;
+pub use laws::{a_path_has_the_slots_of_its_key, a_tree_has_few_buckets, rules_are_the_tree};
