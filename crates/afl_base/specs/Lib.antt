@@ -7,4 +7,5 @@ pub mod Frames
 pub mod Image
 pub mod KeyColumn
 pub mod Names
+pub mod Places
 pub mod Regions
