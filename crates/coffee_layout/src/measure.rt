@@ -116,7 +116,8 @@ pub(crate) fn first_oversized(table: &[FileAt]) -> Option<PageId>
     None
 }
 
-fn has_few_pages(file: &FileAt) -> bool
+/// Whether a doubling file has at most twice the pages that its size needs; a fixed one always.
+pub fn has_few_pages(file: &FileAt) -> bool
     ensures { result ≡ has_few file.now }
 {
     match file.kind {
