@@ -2,7 +2,8 @@
 
 #![tactic(auto)]
 
-ghost use Rattle.std.specs.Prelude.{◌≡◌, ◌+◌, ◌≤◌, IsTrue, drop, length, replicate};
+ghost use Rattle.std.specs.Prelude.{◌≡◌, ◌+◌, ◌≤◌, ◌==◌, IsTrue, drop, length, replicate};
+ghost use Rattle.std.specs.List.{list_all};
 ghost use Rattle.afl_base.specs.Fields.{put_at};
 ghost use Rattle.db_model.specs.Padded.{padded};
 ghost use Rattle.db_model.specs.Row.{field_bytes, field_of, suits, text_or_empty, time_or_least, up_to_zero, width};
@@ -33,7 +34,7 @@ pub fn get_field(domain: Domain, bytes: &[u8]) -> Value
         Domain::Int => Value::Number(i64::from(get_u16(bytes, 0).cast_signed())),
         Domain::Long => Value::Number(i64::from(get_i32(bytes, 0))),
         Domain::Time => Value::Number(time_or_least(get_i64(bytes, 0))),
-        Domain::Str(n) => Value::Text(text_or_empty(up_to_zero(&bytes[..n as usize]))),
+        Domain::Str(n) => Value::Text(text_or_empty(&bytes[..n as usize])),
     }
 }
 
@@ -48,19 +49,30 @@ fn time_or_least(number: i64) -> i64
     }
 }
 
-// These bytes where they are a text, else the empty text.
-fn text_or_empty(bytes: &[u8]) -> Text
-    ensures { result ≡ text_or_empty bytes.now }
+// The text of a field, the empty text where it has none.
+fn text_or_empty(field: &[u8]) -> Text
+    ensures { result ≡ text_or_empty field.now }
 {
-    match Text::new(bytes) {
+    let front = up_to_zero(field);
+    if !are_zeros(&field[front.len()..]) {
+        return Text::default();
+    }
+    match Text::new(front) {
         Some(text) => text,
         None => Text::default(),
     }
 }
 
+fn are_zeros(bytes: &[u8]) -> bool
+    ensures { result ≡ list_all (λ b. b == 0) bytes.now }
+{
+    bytes.iter().all(|byte| *byte == 0)
+}
+
 // The bytes before the first zero.
 fn up_to_zero(bytes: &[u8]) -> &[u8]
-    ensures { result.now ≡ up_to_zero bytes.now }
+    ensures front { result.now ≡ up_to_zero bytes.now }
+    ensures short { length result.now ≤ length bytes.now }
 {
     for (i, byte) in bytes.iter().enumerate() {
         if *byte == 0 {
