@@ -1,4 +1,4 @@
-ghost use Rattle.std.specs.Prelude.{◌≡◌, ◌≢◌, ◌+◌, ◌*◌, ◌≤◌, IfOk, IsTrue, OnOk};
+ghost use Rattle.std.specs.Prelude.{◌≡◌, ◌≢◌, ◌+◌, ◌*◌, ◌≤◌, IfOk, IsTrue, OnOk, length};
 ghost use Rattle.afl_base.specs.Causes.{HasCause};
 ghost use Rattle.afl_base.specs.Files.{IsLive, bytes_at, size_at};
 ghost use Rattle.afl_base.specs.KeyColumn.{HasField, IsWidth, key_of, number_at};
@@ -19,6 +19,7 @@ impl KeyColumn {
         ensures key { IsTrue (V.state files.old).tells
             → IfOk result (λ key. key ≡ key_of (V.state files.old) self.now slot) }
         ensures same { OnOk result (V.state files.new ≡ V.state files.old) }
+        ensures store { length (V.state files.new).store ≡ length (V.state files.old).store }
         ensures reads { V.reads files.new ≤ V.reads files.old + 6 }
         ensures reads_later { V.reads files.old ≤ V.reads files.new }
         ensures cause { HasCause (V.faults files.old) (V.faults files.new) result }
@@ -37,6 +38,7 @@ impl KeyColumn {
         ensures key { IsTrue (V.state files.old).tells
             → IfOk result (λ key. key ≡ key_of (V.state files.old) self.now slot) }
         ensures same { OnOk result (V.state files.new ≡ V.state files.old) }
+        ensures store { length (V.state files.new).store ≡ length (V.state files.old).store }
         ensures reads { V.reads files.new ≤ V.reads files.old + 6 }
         ensures reads_later { V.reads files.old ≤ V.reads files.new }
         ensures cause { HasCause (V.faults files.old) (V.faults files.new) result }
@@ -61,6 +63,7 @@ fn read_i16<V: Files>(files: &mut V, file: FileId, at: u32) -> Result<i16, Faile
     ensures number { IsTrue (V.state files.old).tells
         → IfOk result (λ n. n ≡ number_at (bytes_at (V.state files.old).files file) at 2) }
     ensures same { OnOk result (V.state files.new ≡ V.state files.old) }
+    ensures store { length (V.state files.new).store ≡ length (V.state files.old).store }
     ensures reads { V.reads files.new ≤ V.reads files.old + 6 }
     ensures reads_later { V.reads files.old ≤ V.reads files.new }
     ensures cause { HasCause (V.faults files.old) (V.faults files.new) result }
@@ -76,6 +79,7 @@ fn read_i32<V: Files>(files: &mut V, file: FileId, at: u32) -> Result<i32, Faile
     ensures number { IsTrue (V.state files.old).tells
         → IfOk result (λ n. n ≡ number_at (bytes_at (V.state files.old).files file) at 4) }
     ensures same { OnOk result (V.state files.new ≡ V.state files.old) }
+    ensures store { length (V.state files.new).store ≡ length (V.state files.old).store }
     ensures reads { V.reads files.new ≤ V.reads files.old + 6 }
     ensures reads_later { V.reads files.old ≤ V.reads files.new }
     ensures cause { HasCause (V.faults files.old) (V.faults files.new) result }
@@ -91,6 +95,7 @@ fn read_i64<V: Files>(files: &mut V, file: FileId, at: u32) -> Result<i64, Faile
     ensures number { IsTrue (V.state files.old).tells
         → IfOk result (λ n. n ≡ number_at (bytes_at (V.state files.old).files file) at 8) }
     ensures same { OnOk result (V.state files.new ≡ V.state files.old) }
+    ensures store { length (V.state files.new).store ≡ length (V.state files.old).store }
     ensures reads { V.reads files.new ≤ V.reads files.old + 6 }
     ensures reads_later { V.reads files.old ≤ V.reads files.new }
     ensures cause { HasCause (V.faults files.old) (V.faults files.new) result }
