@@ -66,8 +66,8 @@ takes_by old image new page pages file found run others frees = record {
 }
 
 -- and so it is after further changes of these pages and of the headers of a file
-pub takes_more : (old mid new : List ℕ) (page pages : ℕ) (e : FileAt) → Takes old mid page pages None → KeepsPagesBut mid new page pages (Some e) → FreesNone mid new → Takes old new page pages (Some e)
-takes_more old mid new page pages e first keeps frees = record {
+pub takes_more : (old mid new : List ℕ) (page pages : ℕ) (file : Option FileAt) → Takes old mid page pages None → KeepsPagesBut mid new page pages file → FreesNone mid new → Takes old new page pages file
+takes_more old mid new page pages file first keeps frees = record {
   image = first.image;
   found = first.found;
   run = first.run;
@@ -139,6 +139,6 @@ move_lowest old begun copied new file page pages fits some begins takes copies c
     let d : FileAt = extent_of file.name file.kind page.0 pages file.size in
     let b = begins table file.size h fits in
     let c = copies table d i b.holds refl refl refl is (λ p low. b.zeros p low) in
-    takes_more old begun new page.0 pages file (takes table h)
+    takes_more old begun new page.0 pages (Some file) (takes table h)
     (λ p out apart. others p (λ same. out (omega arith) (omega arith)) (not_extent p file apart) (λ l log. not_log p file l apart log) ∙ keeps p out refl)
     (frees_then begun copied new (copy table d i b.holds refl refl refl is (λ p low. b.zeros p low)) (commit table d i c.holds refl is))
