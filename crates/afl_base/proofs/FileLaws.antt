@@ -7,6 +7,7 @@ use Rattle.std.proofs.lemmas.Bool.{cases_eq, cases_lt}
 use Rattle.std.proofs.Math.Logic.{⊎_elim}
 use Rattle.afl_base.specs.declared.kind.Kind.{Kind}
 use Rattle.afl_base.specs.declared.kind.Kind.TheVariants.{Doubling}
+use Rattle.afl_base.specs.Places.{AreTaken}
 use Rattle.afl_base.specs.Files.{Becomes, Commits, Creates, File, IsLive, IsNamed, IsUnnamed, OthersStay, Removes, State, Table, AreDistinct, draft_in, file_at, name_at, new_file, no_file, place, used}
 
 -- a file that stands under an id
@@ -86,13 +87,14 @@ set_becomes old new id f g total told inside was is name kind size bytes draft t
       tells = tells;
     }
 
--- a new file in a free place
+-- a new file in the lowest free place
 pub set_creates : (old new : State) (id : ℕ) (name : List ℕ) (kind : Kind) → id < length old.files → place old.files id ≡ None →
-    new.files ≡ set old.files id (Some (new_file name kind)) → new.draft ≡ old.draft → new.tells ≡ old.tells → Creates old new id name kind
-set_creates old new id name kind inside free is draft tells =
+    ((k : ℕ) → k < id → IsLive old.files k) → new.files ≡ set old.files id (Some (new_file name kind)) → new.draft ≡ old.draft → new.tells ≡ old.tells → Creates old new id name kind
+set_creates old new id name kind inside free lowest is draft tells =
     let o : Option File = Some (new_file name kind) in
     record {
       free = free;
+      lowest = lowest;
       file = ap (λ (t : Table). place t id) is ∙ get_or-set_same old.files id o None inside;
       others = λ k other. ap (λ (t : Table). place t k) is ∙ others_set old.files id o k other;
       names = λ n differs none. subst (λ (t : Table). IsUnnamed t n) (sym is) (unnamed_set old.files id o n inside (λ same. let eq : name ≡ n = cc in differs (sym eq)) none);
@@ -137,10 +139,11 @@ pub record IsCommitted (old : State) (g : File) : Type 0 where
 -- all of a commit but what the place held before
 commits : (old new : State) (id : ℕ) (g : File) → id < length old.files → IsCommitted old g → new.files ≡ set old.files id (Some g) →
     ((k : ℕ) → IsNamed old.files k (draft_in old).name → id ≡ k) → (IsUnnamed old.files (draft_in old).name → place old.files id ≡ None) →
+    (IsUnnamed old.files (draft_in old).name → (k : ℕ) → k < id → IsLive old.files k) →
     ((k : ℕ) → IsNamed old.files k (draft_in old).name → used new.files ≡ used old.files) →
     (IsUnnamed old.files (draft_in old).name → used new.files ≡ used old.files + 1) →
     new.draft ≡ None → new.tells ≡ old.tells → Commits old new id
-commits old new id g inside made is kept free replaced added draft tells =
+commits old new id g inside made is kept free lowest replaced added draft tells =
     let here : place new.files id ≡ Some g = ap (λ (t : Table). place t id) is ∙ get_or-set_same old.files id (Some g) None inside in
     let file : file_at new.files id ≡ g = file_here new.files id g here in
     record {
@@ -153,6 +156,7 @@ commits old new id g inside made is kept free replaced added draft tells =
       room = ap (λ (e : File). e.room) file ∙ made.room;
       kept = kept;
       free = free;
+      lowest = lowest;
       others = λ k other. ap (λ (t : Table). place t k) is ∙ others_set old.files id (Some g) k other;
       names = λ n differs none. subst (λ (t : Table). IsUnnamed t n) (sym is) (unnamed_set old.files id (Some g) n inside (λ same. let eq : g.name ≡ n = cc in differs (sym eq ∙ made.name)) none);
       replaced = replaced;
@@ -170,17 +174,19 @@ set_replaces old new id f g inside was named only made is draft tells =
     commits old new id g inside made is
     (λ k h. sym (only k (h ∙ ap (λ (n : List ℕ). Some n) (sym named))))
     (λ none. absurd (none id had))
+    (λ none. absurd (none id had))
     (λ k h. ap used is ∙ used_same old.files id f g was)
     (λ none. absurd (none id had))
     draft tells
 
--- the draft in a free place, where no file has its name
-pub set_adds : (old new : State) (id : ℕ) (g : File) → id < length old.files → place old.files id ≡ None → IsUnnamed old.files (draft_in old).name →
+-- the draft in the lowest free place, where no file has its name
+pub set_adds : (old new : State) (id : ℕ) (g : File) → id < length old.files → place old.files id ≡ None → ((k : ℕ) → k < id → IsLive old.files k) → IsUnnamed old.files (draft_in old).name →
     IsCommitted old g → new.files ≡ set old.files id (Some g) → new.draft ≡ None → new.tells ≡ old.tells → Commits old new id
-set_adds old new id g inside free none made is draft tells =
+set_adds old new id g inside free lowest none made is draft tells =
     commits old new id g inside made is
     (λ k h. absurd (none k h))
     (λ _. free)
+    (λ _. lowest)
     (λ k h. absurd (none k h))
     (λ _. ap used is ∙ used_more old.files id g inside free)
     draft tells
@@ -247,6 +253,12 @@ pub used_all : (files : Table) → ((k : ℕ) → k < length files → IsLive fi
 used_all [] live = refl
 used_all (None ∷ files) live = let first : IsLive (None ∷ files) 0 = live 0 (omega arith) in absurd (cc)
 used_all (Some f ∷ files) live = let rest = used_all files (λ k below. live (suc k) (omega arith)) in omega (arith, rest)
+
+-- where fewer than 32 files are live, one of the 32 places is free
+pub some_free : (files : Table) → length files ≡ 32 → used files < 32 → AreTaken files 32 → ⊥
+some_free files places few taken =
+    let all : used files ≡ length files = used_all files (λ k inside. taken k (omega arith)) in
+    omega arith
 
 -- a name that no place has, no id has
 pub unnamed_below : (files : Table) (n : List ℕ) → ((k : ℕ) → k < length files → name_at files k ≢ Some n) → IsUnnamed files n

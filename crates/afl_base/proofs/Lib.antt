@@ -2,6 +2,7 @@ pub mod DraftLaws
 pub mod FieldLaws
 pub mod FileLaws
 pub mod FitLaws
+pub mod FrameLaws
 pub mod Images
 pub mod KeyLaws
 pub mod PaddedLaws

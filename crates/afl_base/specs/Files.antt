@@ -1,5 +1,6 @@
 -- Files: a table of at most 32 files by their ids, a draft, and what calls make of them.
-use Rattle.std.specs.Prelude.{◌≡◌, ◌≢◌, ℕ, ◌+◌, ◌≤◌, Bool, List, [], ◌∷◌, length, get_or, Option, Some, None, IsSome, IsTrue, is_some, option_map, unwrap_or, ⊤}
+use Rattle.std.specs.Prelude.{◌≡◌, ◌≢◌, ℕ, ◌+◌, ◌<◌, ◌≤◌, Bool, List, [], ◌∷◌, ◌++◌, length, get_or, Option, Some, None, IsSome, IsTrue, is_some, option_map, unwrap_or, ⊤}
+use Rattle.afl_base.specs.Fields.{put_at}
 use Rattle.afl_base.specs.declared.kind.Kind.{Kind}
 use Rattle.afl_base.specs.declared.kind.Kind.TheVariants.{Doubling, Fixed}
 
@@ -117,9 +118,22 @@ pub record Becomes (old new : State) (id total : ℕ) (told : List ℕ) : Type 0
   pub draft : new.draft ≡ old.draft
   pub tells : new.tells ≡ old.tells
 
--- a place that was free holds a new file, and all else is as before
+-- a file's size and bytes stay
+abbrev pub KeepsBytes : State → State → ℕ → Type 0
+KeepsBytes old new id = Becomes old new id (size_at old.files id) (bytes_at old.files id)
+
+-- these bytes stand in the place of those from a place of a file on
+abbrev pub Overwrites : State → State → (id at : ℕ) → List ℕ → Type 0
+Overwrites old new id at bytes = Becomes old new id (size_at old.files id) (put_at (bytes_at old.files id) at bytes)
+
+-- these bytes are added at the end of a file
+abbrev pub Appends : State → State → ℕ → List ℕ → Type 0
+Appends old new id bytes = Becomes old new id (size_at old.files id + length bytes) (bytes_at old.files id ++ bytes)
+
+-- the lowest place that was free holds a new file, and all else is as before
 pub record Creates (old new : State) (id : ℕ) (name : List ℕ) (kind : Kind) : Type 0 where
   pub free : place old.files id ≡ None
+  pub lowest : (k : ℕ) → k < id → IsLive old.files k
   pub file : place new.files id ≡ Some (new_file name kind)
   pub others : OthersStay old.files new.files id
   pub names : (n : List ℕ) → n ≢ name → IsUnnamed old.files n → IsUnnamed new.files n
@@ -146,8 +160,13 @@ pub record Drafts (old new : State) (given : List ℕ) (total : ℕ) (told : Lis
   pub files : new.files ≡ old.files
   pub tells : new.tells ≡ old.tells
 
+-- these bytes stand in the draft from a place on, and all else is as before
+abbrev pub WritesDraft : State → State → ℕ → List ℕ → Type 0
+WritesDraft old new at bytes =
+    Drafts old new (draft_in old).name (length (draft_in old).bytes) (put_at (draft_in old).bytes at bytes)
+
 -- the draft has become the file of its name, with no room. The name keeps its id where it had one,
--- else takes a place that was free. All other files are as before
+-- else takes the lowest place that was free. All other files are as before
 pub record Commits (old new : State) (id : ℕ) : Type 0 where
   pub live : IsLive new.files id
   pub name : (file_at new.files id).name ≡ (draft_in old).name
@@ -158,6 +177,7 @@ pub record Commits (old new : State) (id : ℕ) : Type 0 where
   pub room : (file_at new.files id).room ≡ 0
   pub kept : (k : ℕ) → IsNamed old.files k (draft_in old).name → id ≡ k
   pub free : IsUnnamed old.files (draft_in old).name → place old.files id ≡ None
+  pub lowest : IsUnnamed old.files (draft_in old).name → (k : ℕ) → k < id → IsLive old.files k
   pub others : OthersStay old.files new.files id
   pub names : (n : List ℕ) → n ≢ (draft_in old).name → IsUnnamed old.files n → IsUnnamed new.files n
   pub replaced : (k : ℕ) → IsNamed old.files k (draft_in old).name → used new.files ≡ used old.files

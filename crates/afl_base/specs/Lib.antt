@@ -3,7 +3,10 @@ pub mod Fields
 pub mod FileErrors
 pub mod Files
 pub mod Fit
+pub mod Frames
 pub mod Image
 pub mod KeyColumn
 pub mod Names
+pub mod Places
 pub mod Regions
+pub mod Shares

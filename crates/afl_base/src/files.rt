@@ -11,13 +11,12 @@ use crate::name::Name;
 ///
 /// An object may tell the bytes of its files, as memory does, or not. What is said of bytes holds
 /// where they are told; names, kinds, sizes and rooms are always known. A call that answers `Failed`
-/// leaves nothing known but the counts.
+/// leaves nothing known but the counts, and the length of what all is kept in.
 pub trait Files {
-    ghost use Rattle.std.specs.Prelude.{◌≡◌, ◌≢◌, ℕ, ◌+◌, ◌*◌, ◌-◌, ◌<◌, ◌≤◌, List, ◌++◌, length, max, replicate, slice_index, slice_range, IsTrue, IsSome, IfSome, IfNone, IfOk, OnOk};
+    ghost use Rattle.std.specs.Prelude.{◌≡◌, ◌≢◌, ℕ, ◌+◌, ◌*◌, ◌-◌, ◌<◌, ◌≤◌, List, length, max, replicate, slice_index, slice_range, IsTrue, IsSome, IfSome, IfNone, IfOk, OnOk};
     ghost use Rattle.afl_base.specs.Causes.{HasCause};
-    ghost use Rattle.afl_base.specs.Fields.{put_at};
     ghost use Rattle.afl_base.specs.FileErrors.{HasFileCause, OnSpace, UnlessFailed};
-    ghost use Rattle.afl_base.specs.Files.{State, Becomes, Commits, Creates, Drafts, IsKind, IsLive, IsNamed, IsUnnamed, Keeps, Removes, bytes_at, draft_in, file_at, first_pages, is_live, size_at, used};
+    ghost use Rattle.afl_base.specs.Files.{State, AreDistinct, Appends, Commits, Creates, Drafts, IsKind, IsLive, IsNamed, IsUnnamed, Keeps, KeepsBytes, Overwrites, Removes, WritesDraft, bytes_at, draft_in, file_at, first_pages, is_live, size_at, used};
     ghost use Rattle.afl_base.specs.Fit.{fit};
     ghost use Rattle.afl_base.specs.Regions.{regions};
 
@@ -32,9 +31,11 @@ pub trait Files {
     // `prepare` of this file for so many overwrites and bytes needs an extent of so many pages.
     ghost asks: { Self → ℕ → ℕ → ℕ → ℕ → Type 0 };
 
-    /// Whether the place holds a file.
+    /// Whether the place holds a file. There are 32 places, and no two files have one name.
     fn live(&self, id: FileId) -> bool
-        ensures { result ≡ is_live (state self.now).files id };
+        ensures live { result ≡ is_live (state self.now).files id }
+        ensures places { length (state self.now).files ≡ 32 }
+        ensures distinct { AreDistinct (state self.now).files };
 
     /// The file of this name, `None` exactly where there is none. No two files have one name.
     fn find(&self, name: Name) -> Option<FileId>
@@ -62,14 +63,16 @@ pub trait Files {
     fn read(&mut self, id: FileId, at: u32, into: &mut [u8]) -> Result<(), Failed>
         requires live { IsLive (state self.old).files id }
         requires range { at + length into.old ≤ size_at (state self.old).files id }
-        ensures bytes { IsTrue (state self.old).tells → OnOk result (into.new ≡ slice_range (bytes_at (state self.old).files id) at (at + length into.old)) }
+        ensures bytes { IsTrue (state self.old).tells → OnOk result
+            (into.new ≡ slice_range (bytes_at (state self.old).files id) at (at + length into.old)) }
         ensures same { OnOk result (state self.new ≡ state self.old) }
         ensures reads { reads self.new ≤ reads self.old + 3 * regions at (length into.old) }
+        ensures store { length (state self.new).store ≡ length (state self.old).store }
         ensures reads_later { reads self.old ≤ reads self.new }
         ensures cause { HasCause (faults self.old) (faults self.new) result };
 
-    /// Adds an empty file. `Space` has `need` 16 for a doubling file, and its number of pages for a
-    /// fixed one.
+    /// Adds an empty file, in the lowest free place. `Space` has `need` 16 for a doubling file, and its
+    /// number of pages for a fixed one.
     fn create(&mut self, name: Name, kind: Kind) -> Result<FileId, FileError>
         requires unnamed { IsUnnamed (state self.old).files name }
         requires place { used (state self.old).files < 32 }
@@ -79,6 +82,7 @@ pub trait Files {
         ensures need { OnSpace result (λ need. need ≡ first_pages kind) }
         ensures lacks { OnSpace result (λ need. lacks self.new need) }
         ensures kept { OnSpace result (λ _. Keeps (state self.old) (state self.new)) }
+        ensures store { length (state self.new).store ≡ length (state self.old).store }
         ensures reads_later { reads self.old ≤ reads self.new }
         ensures cause { HasFileCause (faults self.old) (faults self.new) result };
 
@@ -87,13 +91,15 @@ pub trait Files {
         requires live { IsLive (state self.old).files id }
         requires idle { (state self.old).draft ≡ None }
         ensures removed { OnOk result (Removes (state self.old) (state self.new) id) }
+        ensures store { length (state self.new).store ≡ length (state self.old).store }
         ensures reads_later { reads self.old ≤ reads self.new }
         ensures cause { HasCause (faults self.old) (faults self.new) result };
 
     /// Makes room in the file for at most 29 overwrites of one region each and for `bytes` more bytes,
     /// at most 4,096, with which it has at most 4,194,304 and, of kind `Fixed(n)`, at most
     /// `256 * n - 32`. `Space` names the pages that are asked for and lacking: for a doubling file at
-    /// most twice those that its bytes need, and for a fixed one at most 16. The file's bytes never
+    /// most twice those that its bytes need, and for a fixed one at most 16. It never comes where no
+    /// extent is asked for when the call is made. The file's bytes never
     /// change.
     fn prepare(&mut self, id: FileId, overwrites: u16, bytes: u32) -> Result<(), FileError>
         requires live { IsLive (state self.old).files id }
@@ -101,14 +107,19 @@ pub trait Files {
         requires overwrites { overwrites ≤ 29 }
         requires bytes { bytes ≤ 4096 }
         requires most { size_at (state self.old).files id + bytes ≤ 4194304 }
-        requires fixed { (n : ℕ) → (file_at (state self.old).files id).kind ≡ Kind.Fixed n → size_at (state self.old).files id + bytes + 32 ≤ 256 * n }
-        ensures contents { UnlessFailed result (Becomes (state self.old) (state self.new) id (size_at (state self.old).files id) (bytes_at (state self.old).files id)) }
+        requires fixed { (n : ℕ) → (file_at (state self.old).files id).kind ≡ Kind.Fixed n
+            → size_at (state self.old).files id + bytes + 32 ≤ 256 * n }
+        ensures contents { UnlessFailed result (KeepsBytes (state self.old) (state self.new) id) }
         ensures records { OnOk result (overwrites ≤ (file_at (state self.new).files id).records) }
         ensures room { OnOk result (bytes ≤ (file_at (state self.new).files id).room) }
-        ensures need_doubling { OnSpace result (λ need. (file_at (state self.old).files id).kind ≡ Kind.Doubling → need ≤ max 16 (2 * fit (size_at (state self.old).files id))) }
-        ensures need_fixed { OnSpace result (λ need. (n : ℕ) → (file_at (state self.old).files id).kind ≡ Kind.Fixed n → need ≤ 16) }
+        ensures need_doubling { OnSpace result (λ need. (file_at (state self.old).files id).kind ≡ Kind.Doubling
+            → need ≤ max 16 (2 * fit (size_at (state self.old).files id))) }
+        ensures need_fixed { OnSpace result (λ need. (n : ℕ) → (file_at (state self.old).files id).kind ≡ Kind.Fixed n
+            → need ≤ 16) }
         ensures asked { OnSpace result (λ need. asks self.new id overwrites bytes need) }
+        ensures unasked { ((n : ℕ) → asks self.old id overwrites bytes n → ⊥) → OnSpace result (λ need. ⊥) }
         ensures lacks { OnSpace result (λ need. lacks self.new need) }
+        ensures store { length (state self.new).store ≡ length (state self.old).store }
         ensures reads_later { reads self.old ≤ reads self.new }
         ensures cause { HasFileCause (faults self.old) (faults self.new) result };
 
@@ -119,10 +130,15 @@ pub trait Files {
         requires some { 1 ≤ length bytes.now }
         requires range { at + length bytes.now ≤ size_at (state self.old).files id }
         requires records { regions at (length bytes.now) ≤ (file_at (state self.old).files id).records }
-        requires last { at + length bytes.now ≡ size_at (state self.old).files id → slice_index bytes.now (length bytes.now - 1) ≢ 0 }
-        ensures overwritten { OnOk result (Becomes (state self.old) (state self.new) id (size_at (state self.old).files id) (put_at (bytes_at (state self.old).files id) at bytes.now)) }
-        ensures records { OnOk result ((file_at (state self.new).files id).records + regions at (length bytes.now) ≡ (file_at (state self.old).files id).records) }
-        ensures room { OnOk result ((file_at (state self.new).files id).room ≡ (file_at (state self.old).files id).room) }
+        requires last { at + length bytes.now ≡ size_at (state self.old).files id
+            → slice_index bytes.now (length bytes.now - 1) ≢ 0 }
+        ensures overwritten { OnOk result (Overwrites (state self.old) (state self.new) id at bytes.now) }
+        ensures records { OnOk result
+            ((file_at (state self.new).files id).records + regions at (length bytes.now)
+            ≡ (file_at (state self.old).files id).records) }
+        ensures room { OnOk result
+            ((file_at (state self.new).files id).room ≡ (file_at (state self.old).files id).room) }
+        ensures store { length (state self.new).store ≡ length (state self.old).store }
         ensures reads_later { reads self.old ≤ reads self.new }
         ensures cause { HasCause (faults self.old) (faults self.new) result };
 
@@ -133,9 +149,11 @@ pub trait Files {
         requires some { 1 ≤ length bytes.now }
         requires room { length bytes.now ≤ (file_at (state self.old).files id).room }
         requires last { slice_index bytes.now (length bytes.now - 1) ≢ 0 }
-        ensures appended { OnOk result (Becomes (state self.old) (state self.new) id (size_at (state self.old).files id + length bytes.now) (bytes_at (state self.old).files id ++ bytes.now)) }
-        ensures records { OnOk result ((file_at (state self.new).files id).records ≡ (file_at (state self.old).files id).records) }
+        ensures appended { OnOk result (Appends (state self.old) (state self.new) id bytes.now) }
+        ensures records { OnOk result
+            ((file_at (state self.new).files id).records ≡ (file_at (state self.old).files id).records) }
         ensures room { OnOk result ((file_at (state self.new).files id).room ≡ 0) }
+        ensures store { length (state self.new).store ≡ length (state self.old).store }
         ensures reads_later { reads self.old ≤ reads self.new }
         ensures cause { HasCause (faults self.old) (faults self.new) result };
 
@@ -144,12 +162,14 @@ pub trait Files {
     fn draft(&mut self, name: Name, size: u32) -> Result<(), FileError>
         requires idle { (state self.old).draft ≡ None }
         requires size { size ≤ 4194304 }
-        requires kind { (k : ℕ) → IsNamed (state self.old).files k name → (file_at (state self.old).files k).kind ≡ Kind.Doubling }
+        requires kind { (k : ℕ) → IsNamed (state self.old).files k name
+            → (file_at (state self.old).files k).kind ≡ Kind.Doubling }
         requires place { IsUnnamed (state self.old).files name → used (state self.old).files < 32 }
         ensures begun { OnOk result (Drafts (state self.old) (state self.new) name size (replicate size 0)) }
         ensures need { OnSpace result (λ need. need ≡ fit size) }
         ensures lacks { OnSpace result (λ need. lacks self.new need) }
         ensures kept { OnSpace result (λ _. Keeps (state self.old) (state self.new)) }
+        ensures store { length (state self.new).store ≡ length (state self.old).store }
         ensures reads_later { reads self.old ≤ reads self.new }
         ensures cause { HasFileCause (faults self.old) (faults self.new) result };
 
@@ -157,8 +177,10 @@ pub trait Files {
     fn draft_write(&mut self, at: u32, bytes: &[u8]) -> Result<(), Failed>
         requires begun { IsSome (state self.old).draft }
         requires range { at + length bytes.now ≤ length (draft_in (state self.old)).bytes }
-        requires zeros { IsTrue (state self.old).tells → slice_range (draft_in (state self.old)).bytes at (at + length bytes.now) ≡ replicate (length bytes.now) 0 }
-        ensures written { OnOk result (Drafts (state self.old) (state self.new) (draft_in (state self.old)).name (length (draft_in (state self.old)).bytes) (put_at (draft_in (state self.old)).bytes at bytes.now)) }
+        requires zeros { IsTrue (state self.old).tells
+            → slice_range (draft_in (state self.old)).bytes at (at + length bytes.now) ≡ replicate (length bytes.now) 0 }
+        ensures written { OnOk result (WritesDraft (state self.old) (state self.new) at bytes.now) }
+        ensures store { length (state self.new).store ≡ length (state self.old).store }
         ensures reads_later { reads self.old ≤ reads self.new }
         ensures cause { HasCause (faults self.old) (faults self.new) result };
 
@@ -166,8 +188,10 @@ pub trait Files {
     /// had the name keeps its place in the table. All other files stay.
     fn draft_commit(&mut self) -> Result<FileId, Failed>
         requires begun { IsSome (state self.old).draft }
-        requires last { IsTrue (state self.old).tells → 1 ≤ length (draft_in (state self.old)).bytes → slice_index (draft_in (state self.old)).bytes (length (draft_in (state self.old)).bytes - 1) ≢ 0 }
+        requires last { IsTrue (state self.old).tells → 1 ≤ length (draft_in (state self.old)).bytes
+            → slice_index (draft_in (state self.old)).bytes (length (draft_in (state self.old)).bytes - 1) ≢ 0 }
         ensures committed { IfOk result (λ id. Commits (state self.old) (state self.new) id) }
+        ensures store { length (state self.new).store ≡ length (state self.old).store }
         ensures reads_later { reads self.old ≤ reads self.new }
         ensures cause { HasCause (faults self.old) (faults self.new) result };
 }

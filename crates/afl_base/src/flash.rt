@@ -4,7 +4,8 @@ use crate::ids::{PageId, SectorId};
 /// A NOR flash of 4 to 4,095 sectors, each of 16 pages of 256 bytes. The erased byte is 0.
 ///
 /// A type may tell its image, as memory does, or not, as a file does that others may write. What is
-/// said of bytes holds where the image is told; every call is safe and returns on every flash.
+/// said of bytes holds where the image is told; every call is safe and returns on every flash. A call
+/// that succeeds counts no fault.
 pub trait Flash {
     ghost use Rattle.std.specs.Prelude.{◌≡◌, ◌≢◌, ℕ, ◌+◌, ◌*◌, ◌≤◌, Bool, List, length, slice_range, IsTrue, OnOk, OnErr};
     ghost use Rattle.afl_base.specs.Causes.{HasCause, CountsOne};
@@ -29,11 +30,13 @@ pub trait Flash {
     fn read(&mut self, page: PageId, at: u16, into: &mut [u8]) -> Result<(), Failed>
         requires page { 256 * page.0 + 256 ≤ length (image self.old) }
         requires range { at + length into.old ≤ 256 }
-        ensures bytes { IsTrue tells → OnOk result (into.new ≡ slice_range (image self.old) (256 * page.0 + at) (256 * page.0 + at + length into.old)) }
+        ensures bytes { IsTrue tells → OnOk result
+            (into.new ≡ slice_range (image self.old) (256 * page.0 + at) (256 * page.0 + at + length into.old)) }
         ensures same { image self.new ≡ image self.old }
         ensures counted { CountsOne (reads self.old) (reads self.new) }
         ensures reads { reads self.new ≤ reads self.old + 1 }
         ensures reads_later { reads self.old ≤ reads self.new }
+        ensures faultless { OnOk result (faults self.new ≡ faults self.old) }
         ensures cause { HasCause (faults self.old) (faults self.new) result };
 
     /// Makes each byte of `page` from byte `at` on `old OR given`. After `Failed` that page may hold
@@ -41,20 +44,27 @@ pub trait Flash {
     fn program(&mut self, page: PageId, at: u16, bytes: &[u8]) -> Result<(), Failed>
         requires page { 256 * page.0 + 256 ≤ length (image self.old) }
         requires range { at + length bytes.now ≤ 256 }
-        ensures programmed { IsTrue tells → OnOk result (image self.new ≡ or_at (image self.old) (256 * page.0 + at) bytes.now) }
-        ensures page { IsTrue tells → OnOk result (page_bytes (image self.new) page.0 ≡ or_at (page_bytes (image self.old) page.0) at bytes.now) }
-        ensures other_pages { IsTrue tells → (p : ℕ) → p ≢ page.0 → page_bytes (image self.new) p ≡ page_bytes (image self.old) p }
+        ensures programmed { IsTrue tells → OnOk result
+            (image self.new ≡ or_at (image self.old) (256 * page.0 + at) bytes.now) }
+        ensures page { IsTrue tells → OnOk result
+            (page_bytes (image self.new) page.0 ≡ or_at (page_bytes (image self.old) page.0) at bytes.now) }
+        ensures other_pages { IsTrue tells → (p : ℕ) → p ≢ page.0
+            → page_bytes (image self.new) p ≡ page_bytes (image self.old) p }
         ensures size { length (image self.new) ≡ length (image self.old) }
         ensures reads { reads self.new ≡ reads self.old }
+        ensures faultless { OnOk result (faults self.new ≡ faults self.old) }
         ensures cause { HasCause (faults self.old) (faults self.new) result };
 
     /// Makes all 4,096 bytes of `sector` zero. After `Failed` that sector may hold anything, and all
     /// other sectors stay.
     fn erase(&mut self, sector: SectorId) -> Result<(), Failed>
         requires sector { 4096 * sector.0 + 4096 ≤ length (image self.old) }
-        ensures erased { IsTrue tells → OnOk result (image self.new ≡ zeros_at (image self.old) (4096 * sector.0) 4096) }
-        ensures other_sectors { IsTrue tells → (s : ℕ) → s ≢ sector.0 → sector_bytes (image self.new) s ≡ sector_bytes (image self.old) s }
+        ensures erased { IsTrue tells → OnOk result
+            (image self.new ≡ zeros_at (image self.old) (4096 * sector.0) 4096) }
+        ensures other_sectors { IsTrue tells → (s : ℕ) → s ≢ sector.0
+            → sector_bytes (image self.new) s ≡ sector_bytes (image self.old) s }
         ensures size { length (image self.new) ≡ length (image self.old) }
         ensures reads { reads self.new ≡ reads self.old }
+        ensures faultless { OnOk result (faults self.new ≡ faults self.old) }
         ensures cause { HasCause (faults self.old) (faults self.new) result };
 }

@@ -1,4 +1,4 @@
-ghost use Rattle.std.specs.Prelude.{◌≡◌, ◌≢◌, ◌+◌, ◌*◌, ◌≤◌, IfOk, IsTrue, OnOk};
+ghost use Rattle.std.specs.Prelude.{◌≡◌, ◌≢◌, ◌+◌, ◌*◌, ◌≤◌, IfOk, IsTrue, OnOk, length};
 ghost use Rattle.afl_base.specs.Causes.{HasCause};
 ghost use Rattle.afl_base.specs.Files.{IsLive, bytes_at, size_at};
 ghost use Rattle.afl_base.specs.KeyColumn.{HasField, IsWidth, key_of, number_at};
@@ -16,8 +16,10 @@ impl KeyColumn {
         requires width { IsWidth self.now.width }
         requires narrow { self.now.width ≢ 8 }
         requires field { HasField (V.state files.old) self.now slot }
-        ensures key { IsTrue (V.state files.old).tells → IfOk result (λ key. key ≡ key_of (V.state files.old) self.now slot) }
+        ensures key { IsTrue (V.state files.old).tells
+            → IfOk result (λ key. key ≡ key_of (V.state files.old) self.now slot) }
         ensures same { OnOk result (V.state files.new ≡ V.state files.old) }
+        ensures store { length (V.state files.new).store ≡ length (V.state files.old).store }
         ensures reads { V.reads files.new ≤ V.reads files.old + 6 }
         ensures reads_later { V.reads files.old ≤ V.reads files.new }
         ensures cause { HasCause (V.faults files.old) (V.faults files.new) result }
@@ -33,8 +35,10 @@ impl KeyColumn {
     pub fn key64<V: Files>(&self, files: &mut V, slot: SlotNo) -> Result<i64, Failed>
         requires width { IsWidth self.now.width }
         requires field { HasField (V.state files.old) self.now slot }
-        ensures key { IsTrue (V.state files.old).tells → IfOk result (λ key. key ≡ key_of (V.state files.old) self.now slot) }
+        ensures key { IsTrue (V.state files.old).tells
+            → IfOk result (λ key. key ≡ key_of (V.state files.old) self.now slot) }
         ensures same { OnOk result (V.state files.new ≡ V.state files.old) }
+        ensures store { length (V.state files.new).store ≡ length (V.state files.old).store }
         ensures reads { V.reads files.new ≤ V.reads files.old + 6 }
         ensures reads_later { V.reads files.old ≤ V.reads files.new }
         ensures cause { HasCause (V.faults files.old) (V.faults files.new) result }
@@ -56,8 +60,10 @@ fn field_place(row: u8, slot: SlotNo, at: u8) -> u32
 fn read_i16<V: Files>(files: &mut V, file: FileId, at: u32) -> Result<i16, Failed>
     requires live { IsLive (V.state files.old).files file }
     requires range { at + 2 ≤ size_at (V.state files.old).files file }
-    ensures number { IsTrue (V.state files.old).tells → IfOk result (λ n. n ≡ number_at (bytes_at (V.state files.old).files file) at 2) }
+    ensures number { IsTrue (V.state files.old).tells
+        → IfOk result (λ n. n ≡ number_at (bytes_at (V.state files.old).files file) at 2) }
     ensures same { OnOk result (V.state files.new ≡ V.state files.old) }
+    ensures store { length (V.state files.new).store ≡ length (V.state files.old).store }
     ensures reads { V.reads files.new ≤ V.reads files.old + 6 }
     ensures reads_later { V.reads files.old ≤ V.reads files.new }
     ensures cause { HasCause (V.faults files.old) (V.faults files.new) result }
@@ -70,8 +76,10 @@ fn read_i16<V: Files>(files: &mut V, file: FileId, at: u32) -> Result<i16, Faile
 fn read_i32<V: Files>(files: &mut V, file: FileId, at: u32) -> Result<i32, Failed>
     requires live { IsLive (V.state files.old).files file }
     requires range { at + 4 ≤ size_at (V.state files.old).files file }
-    ensures number { IsTrue (V.state files.old).tells → IfOk result (λ n. n ≡ number_at (bytes_at (V.state files.old).files file) at 4) }
+    ensures number { IsTrue (V.state files.old).tells
+        → IfOk result (λ n. n ≡ number_at (bytes_at (V.state files.old).files file) at 4) }
     ensures same { OnOk result (V.state files.new ≡ V.state files.old) }
+    ensures store { length (V.state files.new).store ≡ length (V.state files.old).store }
     ensures reads { V.reads files.new ≤ V.reads files.old + 6 }
     ensures reads_later { V.reads files.old ≤ V.reads files.new }
     ensures cause { HasCause (V.faults files.old) (V.faults files.new) result }
@@ -84,8 +92,10 @@ fn read_i32<V: Files>(files: &mut V, file: FileId, at: u32) -> Result<i32, Faile
 fn read_i64<V: Files>(files: &mut V, file: FileId, at: u32) -> Result<i64, Failed>
     requires live { IsLive (V.state files.old).files file }
     requires range { at + 8 ≤ size_at (V.state files.old).files file }
-    ensures number { IsTrue (V.state files.old).tells → IfOk result (λ n. n ≡ number_at (bytes_at (V.state files.old).files file) at 8) }
+    ensures number { IsTrue (V.state files.old).tells
+        → IfOk result (λ n. n ≡ number_at (bytes_at (V.state files.old).files file) at 8) }
     ensures same { OnOk result (V.state files.new ≡ V.state files.old) }
+    ensures store { length (V.state files.new).store ≡ length (V.state files.old).store }
     ensures reads { V.reads files.new ≤ V.reads files.old + 6 }
     ensures reads_later { V.reads files.old ≤ V.reads files.new }
     ensures cause { HasCause (V.faults files.old) (V.faults files.new) result }

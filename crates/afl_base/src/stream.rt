@@ -2,9 +2,10 @@ use crate::failed::Failed;
 
 /// Where the bytes of a script come from.
 ///
-/// A source may tell the bytes that it has left, as memory does, or not, as a terminal does.
+/// A source may tell the bytes that it has left, as memory does, or not, as a terminal does. A call
+/// that succeeds counts no fault.
 pub trait Source {
-    ghost use Rattle.std.specs.Prelude.{◌≡◌, ℕ, ◌≤◌, List, Option, length, take, IfOk, OnErr};
+    ghost use Rattle.std.specs.Prelude.{◌≡◌, ℕ, ◌≤◌, List, Option, length, take, IfOk, OnErr, OnOk};
     ghost use Rattle.std.specs.Io.KnownBytes.{prepend_known, IsAtEnd};
     ghost use Rattle.afl_base.specs.Causes.{HasCause};
 
@@ -21,14 +22,17 @@ pub trait Source {
         ensures bytes { IfOk result (λ n. left self.old ≡ prepend_known (take n into.new) (left self.new)) }
         ensures end { IfOk result (λ n. n ≡ 0 → IsAtEnd (left self.new)) }
         ensures failed { OnErr result (left self.new ≡ left self.old) }
+        ensures faultless { OnOk result (faults self.new ≡ faults self.old) }
         ensures cause { HasCause (faults self.old) (faults self.new) result };
 }
 
 /// Where the bytes of replies go.
 ///
-/// A sink may tell the bytes that it holds, as memory does, or not, as a terminal does.
+/// A sink may tell the bytes that it holds, as memory does, or not, as a terminal does. A call that
+/// succeeds counts no fault. A sink may stand before another one that it borrows: every call leaves it
+/// before the same one.
 pub trait Sink {
-    ghost use Rattle.std.specs.Prelude.{◌≡◌, ℕ, ◌≤◌, List, Option, length, take, IfOk, OnErr};
+    ghost use Rattle.std.specs.Prelude.{◌≡◌, ℕ, ◌≤◌, List, Option, length, take, IfOk, OnErr, OnOk};
     ghost use Rattle.std.specs.Io.KnownBytes.{append_known};
     ghost use Rattle.afl_base.specs.Causes.{HasCause};
 
@@ -36,6 +40,8 @@ pub trait Sink {
     ghost held: { Self → Option (List ℕ) };
     // How many calls failed, up to the last number of a u64.
     ghost faults: { Self → ℕ };
+    // What a sink borrows, it holds on to.
+    ghost keeps: { Self → Self → Type 0 };
 
     /// Appends the first `n` of `bytes`, where `Ok(n)` has `n` from 1 to their number. A sink that
     /// would take nothing answers `Failed`, and after `Failed` the bytes held are as before.
@@ -45,5 +51,11 @@ pub trait Sink {
         ensures most { IfOk result (λ n. n ≤ length bytes.now) }
         ensures bytes { IfOk result (λ n. held self.new ≡ append_known (held self.old) (take n bytes.now)) }
         ensures failed { OnErr result (held self.new ≡ held self.old) }
+        ensures keeps { keeps self.old self.new }
+        ensures faultless { OnOk result (faults self.new ≡ faults self.old) }
         ensures cause { HasCause (faults self.old) (faults self.new) result };
+
+    ghost kept: { (a : Self) → keeps a a };
+
+    ghost kept_on: { (a b c : Self) → keeps a b → keeps b c → keeps a c };
 }

@@ -1,0 +1,47 @@
+-- A file that meets the rules is the tree of its slots' pairs, with as many buckets as that has.
+use Rattle.std.proofs.Common.{◌≡◌, ◌≢◌, ◌≤◌, ◌<◌, ◌+◌, ◌*◌, ◌-◌, ◌/◌, ℕ, ℤ, List, length, refl, arith, ap, ◌∙◌, sym}
+use Rattle.std.proofs.lemmas.List.FromFn.{length-map-range_with_len}
+use Rattle.db_model.specs.HashTree.{buckets}
+use Rattle.index_tree.specs.Pairs.{keys_of, pair_of, pairs_of}
+use Rattle.index_tree.specs.Rules.{MeetsRules, bucket_count}
+use Rattle.index_tree.specs.TreeFile.{IsTree, bucket_place}
+use Rattle.index_tree.specs.Keys.{first_keys}
+use Rattle.index_tree.specs.Trees.{IsTreeOf, numbered}
+use Rattle.index_tree.proofs.Converse.{tree_rules}
+use Rattle.index_tree.proofs.Counted.{buckets_few}
+use Rattle.index_tree.proofs.Numbered.{keys_numbered, tree_of_keys, tree_of_pairs}
+use Rattle.index_tree.proofs.Owned.{owned_count}
+use Rattle.index_tree.proofs.Ruled.{each}
+
+pub rules_tree : (bytes : List ℕ) (key : ℕ → ℤ) (slots : ℕ) → slots ≤ 32768 → MeetsRules bytes key slots → IsTree bytes (pairs_of key slots)
+rules_tree bytes key slots few r =
+    let long : length (pairs_of key slots) ≡ slots = length-map-range_with_len (pair_of key) 0 slots in
+    let count : buckets (keys_of (pairs_of key slots)) ≡ bucket_count bytes = owned_count bytes key slots (bucket_count bytes) (λ k h. each bytes key slots r k h) r.named r.owned in
+    record {
+      few = omega (arith, long, few);
+      size = r.whole ∙ ap bucket_place (sym count);
+      mark = r.mark;
+      each = λ k h. each bytes key slots r k h;
+      upper = r.upper;
+    }
+
+pub rules_tree_of : (bytes : List ℕ) (key : ℕ → ℤ) (slots : ℕ) → slots ≤ 32768 → MeetsRules bytes key slots → IsTreeOf bytes (first_keys key slots)
+rules_tree_of bytes key slots few rules = tree_of_pairs bytes key slots (rules_tree bytes key slots few rules)
+
+pub tree_of_rules : (bytes : List ℕ) (key : ℕ → ℤ) (slots : ℕ) → slots ≤ 32768 → IsTreeOf bytes (first_keys key slots) → MeetsRules bytes key slots
+tree_of_rules bytes key slots few tree = tree_rules bytes key slots few (tree_of_keys bytes key slots tree)
+
+pub sized : (bytes : List ℕ) (keys : List ℤ) → IsTreeOf bytes keys → length bytes ≡ bucket_place (buckets keys)
+sized bytes keys tree = tree.size ∙ ap (λ (ks : List ℤ). bucket_place (buckets ks)) (keys_numbered 0 keys)
+
+pub counted : (bytes : List ℕ) (keys : List ℤ) → IsTreeOf bytes keys → bucket_count bytes ≡ buckets keys
+counted bytes keys tree = count (length bytes) (buckets keys) (sized bytes keys tree)
+  where
+    count : (len b : ℕ) → len ≡ bucket_place b → (len - 683) / 195 ≡ b
+    count len b e = omega (arith, e)
+
+pub half_many : (keys : List ℤ) → length keys ≤ 16384 → buckets keys ≤ 853
+half_many keys few = let most = buckets_few keys in omega (arith, few, most)
+
+pub most_many : (keys : List ℤ) → length keys ≤ 32768 → buckets keys ≤ 1365
+most_many keys few = let most = buckets_few keys in omega (arith, few, most)
