@@ -16,22 +16,22 @@ use Rattle.db_model.specs.Script.{Entry, after, last}
 use Rattle.db_model.specs.Step.{step}
 
 module _ (read : List ℕ → Result Command Refusal) where
-  pub costs-append : (db : Database) (aheads : Aheads) (xs ys : List Entry) → costs read db aheads (xs ++ ys) ≡ costs read db aheads xs + costs read (last read db xs) (last_aheads read db aheads xs) ys
-  costs-append db aheads [] ys = omega arith
-  costs-append db aheads (x ∷ xs) ys = let e = costs-append ((after read db x).0) (entry_aheads read db aheads x) xs ys in omega (arith, e)
+  pub costs_append : (db : Database) (aheads : Aheads) (xs ys : List Entry) → costs read db aheads (xs ++ ys) ≡ costs read db aheads xs + costs read (last read db xs) (last_aheads read db aheads xs) ys
+  costs_append db aheads [] ys = omega arith
+  costs_append db aheads (x ∷ xs) ys = let e = costs_append ((after read db x).0) (entry_aheads read db aheads x) xs ys in omega (arith, e)
 
-  pub last_aheads-append : (db : Database) (aheads : Aheads) (xs ys : List Entry) → last_aheads read db aheads (xs ++ ys) ≡ last_aheads read (last read db xs) (last_aheads read db aheads xs) ys
-  last_aheads-append db aheads [] ys = refl
-  last_aheads-append db aheads (x ∷ xs) ys = last_aheads-append ((after read db x).0) (entry_aheads read db aheads x) xs ys
+  pub last_aheads_append : (db : Database) (aheads : Aheads) (xs ys : List Entry) → last_aheads read db aheads (xs ++ ys) ≡ last_aheads read (last read db xs) (last_aheads read db aheads xs) ys
+  last_aheads_append db aheads [] ys = refl
+  last_aheads_append db aheads (x ∷ xs) ys = last_aheads_append ((after read db x).0) (entry_aheads read db aheads x) xs ys
 
   -- the first entries cost no more than all
   pub costs_front : (db : Database) (aheads : Aheads) (xs ys : List Entry) → costs read db aheads xs ≤ costs read db aheads (xs ++ ys)
-  costs_front db aheads xs ys = let e = costs-append db aheads xs ys in omega (arith, e)
+  costs_front db aheads xs ys = let e = costs_append db aheads xs ys in omega (arith, e)
 
   -- one entry more
   pub costs_more : (db : Database) (aheads : Aheads) (xs : List Entry) (x : Entry) (before now cost start : ℕ)
       → before ≤ start + costs read db aheads xs → now ≤ before + cost → cost ≤ entry_cost read (last read db xs) (last_aheads read db aheads xs) x → now ≤ start + costs read db aheads (xs ++ x ∷ [])
-  costs_more db aheads xs x before now cost start a b c = let e = costs-append db aheads xs (x ∷ []) in omega (arith, a, b, c, e)
+  costs_more db aheads xs x before now cost start a b c = let e = costs_append db aheads xs (x ∷ []) in omega (arith, a, b, c, e)
 
 -- ---- a worked run: three rows, the second removed
 

@@ -1,6 +1,6 @@
 -- Each command keeps a database sound.
-use Rattle.std.proofs.Common.{◌≡◌, refl, sym, ap, subst, ◌∙◌, ℕ, ℤ, zero, suc, ◌+◌, ◌-◌, ◌<◌, ◌≤◌, ◌⊎◌, inr, Bool, true, false, List, [], ◌∷◌, ◌++◌, length, map, set, get_or, filter, replicate, cond, Option, Some, None, arith, length-append, ⊎_elim}
-use Rattle.std.specs.Prelude.{pos, negsuc, Ok, Err, Result, IsTrue, ⊤, not, ◌&&◌, ◌==◌, is_some, nat_le, nat_lt, slice_get, drop, take}
+use Rattle.std.proofs.Common.{◌≡◌, refl, sym, ap, subst, ◌∙◌, ℕ, ℤ, ◌+◌, ◌-◌, ◌<◌, ◌≤◌, ◌⊎◌, inr, Bool, true, false, List, [], ◌∷◌, ◌++◌, length, map, set, get_or, filter, cond, Option, Some, None, arith, length-append, ⊎_elim}
+use Rattle.std.specs.Prelude.{pos, negsuc, Ok, Err, Result, IsTrue, not, ◌&&◌, ◌==◌, is_some, nat_le, nat_lt, slice_get, drop, take}
 use Rattle.std.specs.List.{list_any, AllByRecursion}
 use Rattle.std.specs.Str.{bytes_eq}
 use Rattle.std.proofs.lemmas.Bool.Decides.{nat_tests}
@@ -20,20 +20,19 @@ use Rattle.db_model.specs.declared.schemas.DomainAsked.{DomainAsked}
 use Rattle.db_model.specs.declared.schemas.DomainAsked.TheVariants as asked
 use Rattle.db_model.specs.declared.schemas.IndexKind.{IndexKind}
 use Rattle.db_model.specs.declared.schemas.IndexKind.TheVariants.{Inline, MaxHeap, MemHash}
-use Rattle.db_model.specs.declared.schemas.Schema.{Schema}
 use Rattle.db_model.specs.declared.values.Value.{Value}
 use Rattle.db_model.specs.Catalog.{Index, IsDomain}
 use Rattle.db_model.specs.Answers.{selected}
 use Rattle.db_model.specs.Cond.{Cond, condition_of}
-use Rattle.db_model.specs.Database.{Relation, Cursor, Database, empty_database, used, free_from, relation_from, relation_named, named, with_relation, with_index, index_slot, indexes_of, is_on, is_inline, is_hash_table, cursor_place, cursor_at, with_cursor, is_among, reader_of}
+use Rattle.db_model.specs.Database.{Relation, Cursor, Database, empty_database, used, free_from, relation_from, relation_named, named, with_relation, with_index, index_slot, indexes_of, is_inline, is_hash_table, cursor_place, cursor_at, with_cursor, is_among, reader_of}
 use Rattle.db_model.specs.Item.{place_of}
 use Rattle.db_model.specs.Names.{is_name}
 use Rattle.db_model.specs.Refusing.{◌>>=◌, ◌>>◌, refuse_if, refuse_found, found_or}
 use Rattle.db_model.specs.Row.{Row, AllRowsSuit, row_length}
-use Rattle.db_model.specs.Sound.{StandsIn, are_distinct, attribute_names, IsSoundAttribute, IsSoundSchema, IsSoundRelation, SuitKind, IsIndexOf, IsSoundIndex, IsSoundCursor, IsSoundDatabase, BringsNames}
-use Rattle.db_model.specs.Step.{Reply, Fine, Rows, Removed, Numbers, Outcome, add_attribute, aggregate_of, allows, answer_of, ask, asked_by, changed_by, close_cursor, create_index, create_relation, domain_asked, fallen, fallen_from, fetch_cursor, first_fall, insert_into, is_ordered, join_of, key_of, keys, open_cursor, open_cursor_of, outcome, pack, refuse_indexed, refuse_kind, refuse_read, relations_read, remove_from, remove_index, remove_relation, removed_row, replied, select_from, slots_limit, step, unsuited, upgraded, with_attribute}
+use Rattle.db_model.specs.Sound.{StandsIn, IsSoundAttribute, IsSoundRelation, SuitKind, IsIndexOf, IsSoundIndex, IsSoundCursor, IsSoundDatabase, BringsNames}
+use Rattle.db_model.specs.Step.{Reply, Fine, Rows, Removed, Outcome, add_attribute, aggregate_of, allows, answer_of, ask, asked_by, changed_by, close_cursor, create_index, create_relation, domain_asked, fallen, fallen_from, fetch_cursor, first_fall, insert_into, is_ordered, join_of, key_of, keys, open_cursor, open_cursor_of, outcome, pack, refuse_indexed, refuse_kind, refuse_read, relations_read, remove_from, remove_index, remove_relation, removed_row, replied, select_from, slots_limit, step, unsuited, upgraded, with_attribute}
 use Rattle.db_model.specs.Typing.{domain_of, is_attribute, missing_name, ill_typed}
-use Rattle.db_model.proofs.Standing.{all_others, all_same, any_of, count_out, count_put, false_true, found_from, found_of, free_is, IsFree, IsFound, none_of, none_some, not_on, not_read, nothing_stands, one, same_or_other, some_found, some_same, stands_either, stands_once, stands_other, stands_set}
+use Rattle.db_model.proofs.Standing.{all_others, all_same, any_of, count_out, count_put, false_true, found_from, found_of, free_is, IsFree, none_of, none_some, not_on, not_read, nothing_stands, one, same_or_other, some_found, some_same, stands_either, stands_once, stands_other, stands_set}
 use Rattle.db_model.proofs.SoundRows.{distinct_more, domain_at, fewer_live, keys_removed, order_kept, placed_more, rows_live, rows_more, rows_removed, suited, suited_some}
 
 -- ---- what a result yields where it is one
@@ -149,10 +148,10 @@ put_relation db slot r s sound same apart suit = record {
     kept_index : (index : Index) → IsSoundIndex db.relations index → ((old : Relation) → StandsIn db.relations slot old → index.relation ≡ slot → IsIndexOf old index → IsIndexOf r index) → IsSoundIndex (set db.relations slot (Some r)) index
     kept_index index is suit = same_or_other index.relation slot
         (λ i. record {
-            relation = r;
-            stands = subst (λ k. StandsIn (set db.relations slot (Some r)) k r) (sym i) (stands_set db.relations slot is.relation r (subst (λ k. StandsIn db.relations k is.relation) i is.stands));
-            suits = suit is.relation (subst (λ k. StandsIn db.relations k is.relation) i is.stands) i is.suits;
-          })
+          relation = r;
+          stands = subst (λ k. StandsIn (set db.relations slot (Some r)) k r) (sym i) (stands_set db.relations slot is.relation r (subst (λ k. StandsIn db.relations k is.relation) i is.stands));
+          suits = suit is.relation (subst (λ k. StandsIn db.relations k is.relation) i is.stands) i is.suits;
+        })
         (λ n. record { relation = is.relation; stands = stands_other db.relations slot index.relation (Some r) is.relation n is.stands; suits = is.suits })
 
     stays : (name : List ℕ) (k : ℕ) (q : Relation) → StandsIn db.relations k q → q.schema.name ≡ name → is_some (relation_from name 0 (set db.relations slot (Some r))) ≡ true
@@ -184,8 +183,8 @@ out_relation db slot r s at unindexed unread = record {
     stays : (name : List ℕ) → bytes_eq name r.schema.name ≡ false → (k : ℕ) (q : Relation) → StandsIn db.relations k q → q.schema.name ≡ name → is_some (relation_from name 0 (set db.relations slot None)) ≡ true
     stays name other k q e is = same_or_other k slot
         (λ i.
-            let here : q ≡ r = stands_once db.relations slot q r (subst (λ k. StandsIn db.relations k q) i e) at in
-            absurd (false_true (sym other ∙ (bytes_eq-Decides name r.schema.name).1 (sym is ∙ ap (λ r. r.schema.name) here))))
+        let here : q ≡ r = stands_once db.relations slot q r (subst (λ k. StandsIn db.relations k q) i e) at in
+        absurd (false_true (sym other ∙ (bytes_eq-Decides name r.schema.name).1 (sym is ∙ ap (λ r. r.schema.name) here))))
         (λ n. found_of name 0 k (set db.relations slot None) q (stands_other db.relations slot k None q n e) is)
 
 -- ---- an index slot is set
@@ -204,10 +203,10 @@ put_index db slot index s free sound apart few = record {
   indexes = λ k other e. stands_either db.indexes slot k (Some index) other e (λ i is. subst (IsSoundIndex db.relations) (some_same is) sound) (λ n f. s.indexes k other f);
   places = λ j k a b e f relation attribute. stands_either db.indexes slot j (Some index) a e
       (λ i is. stands_either db.indexes slot k (Some index) b f (λ l it. i ∙ sym l)
-          (λ n g. absurd (apart k b g (sym relation ∙ ap (λ i. i.relation) (sym (some_same is))) (sym attribute ∙ ap (λ i. i.attribute) (sym (some_same is))))))
+      (λ n g. absurd (apart k b g (sym relation ∙ ap (λ i. i.relation) (sym (some_same is))) (sym attribute ∙ ap (λ i. i.attribute) (sym (some_same is))))))
       (λ n g. stands_either db.indexes slot k (Some index) b f
-          (λ l it. absurd (apart j a g (relation ∙ ap (λ i. i.relation) (sym (some_same it))) (attribute ∙ ap (λ i. i.attribute) (sym (some_same it)))))
-          (λ m h. s.places j k a b g h relation attribute));
+      (λ l it. absurd (apart j a g (relation ∙ ap (λ i. i.relation) (sym (some_same it))) (attribute ∙ ap (λ i. i.attribute) (sym (some_same it)))))
+      (λ m h. s.places j k a b g h relation attribute));
   few_tables = let more = count_put is_hash_table db.indexes slot index free in omega (arith, few, more);
   cursors = s.cursors;
 }
@@ -328,15 +327,15 @@ kept_changed : (change : ℕ → Database → Relation → Result (Relation × R
 kept_changed change db name s h =
     by_name _ db name (λ s. ◌>>=◌ (change s.0 db s.1) (λ r. Ok (with_relation db s.0 (Some r.0), r.1)))
     (λ t is. yields_by _ (change t.0 db t.1) (λ r. Ok (with_relation db t.0 (Some r.0), r.1))
-        (λ r e. yields_ok _ (with_relation db t.0 (Some r.0), r.1) (change_put db t.0 t.1 r.0 s is.stands ((h t is).yields r e))))
+    (λ r e. yields_ok _ (with_relation db t.0 (Some r.0), r.1) (change_put db t.0 t.1 r.0 s is.stands ((h t is).yields r e))))
 
 kept_changed_later : (change : ℕ → Database → Relation → Result (Relation × Reply) Refusal) (db : Database) (name : List ℕ) → IsSoundDatabase db
     → ((s : ℕ × Relation) → IsNamed db name s → Changes db 2 s (change s.0 db s.1)) → KeepsLater (changed_by change db name)
 kept_changed_later change db name s h =
     by_name _ db name (λ s. ◌>>=◌ (change s.0 db s.1) (λ r. Ok (with_relation db s.0 (Some r.0), r.1)))
     (λ t is. yields_by _ (change t.0 db t.1) (λ r. Ok (with_relation db t.0 (Some r.0), r.1))
-        (λ r e. let c = (h t is).yields r e in
-            yields_ok _ (with_relation db t.0 (Some r.0), r.1) (change_put (in_version_2 db) t.0 t.1 r.0 (later db s) is.stands (record { sound = c.sound; name = c.name; indexes = c.indexes }))))
+    (λ r e. let c = (h t is).yields r e in
+    yields_ok _ (with_relation db t.0 (Some r.0), r.1) (change_put (in_version_2 db) t.0 t.1 r.0 (later db s) is.stands (record { sound = c.sound; name = c.name; indexes = c.indexes }))))
 
 -- ---- CREATE ATTRIBUTE
 
@@ -371,10 +370,10 @@ changes_attribute : (name : List ℕ) (wanted : DomainAsked) (db : Database) (s 
 changes_attribute name wanted db s is sound at =
     yields_unless _ (is_attribute r.schema.attributes name) no.Exists (◌>>=◌ (found_or (domain_asked wanted) no.Domain) with_domain)
     (λ fresh. yields_found _ (domain_asked wanted) no.Domain with_domain
-        (λ d e. yields_unless _ (nat_lt 0 (length r.rows)) no.NotEmpty (behind_rows d)
-            (λ none. yields_unless _ (nat_le 8 (length r.schema.attributes)) (no.Full pool.Attributes 8) (behind_count d)
-                (λ few. yields_unless _ (nat_lt 128 (row_length (grown d).schema.attributes)) (no.Full pool.RowBytes 128) (Ok (grown d, Fine))
-                    (λ short. yields_ok _ (grown d, Fine) (change d fresh (domain_fine wanted d e) none few short))))))
+    (λ d e. yields_unless _ (nat_lt 0 (length r.rows)) no.NotEmpty (behind_rows d)
+    (λ none. yields_unless _ (nat_le 8 (length r.schema.attributes)) (no.Full pool.Attributes 8) (behind_count d)
+    (λ few. yields_unless _ (nat_lt 128 (row_length (grown d).schema.attributes)) (no.Full pool.RowBytes 128) (Ok (grown d, Fine))
+    (λ short. yields_ok _ (grown d, Fine) (change d fresh (domain_fine wanted d e) none few short))))))
   where
     r : Relation
     r = s.1
@@ -428,9 +427,9 @@ changes_insert : (values : List Value) (db : Database) (s : ℕ × Relation) →
 changes_insert values db s sound at =
     yields_none _ (unsuited r.schema.attributes values) no.Value behind_values
     (λ suit. yields_unless _ (nat_le (slots_limit db.version) (length r.rows)) (no.Full pool.Slots (slots_limit db.version)) behind_slots
-        (λ room. yields_none _ (fallen (indexes_of db s.0) (slice_get r.rows (length r.rows - 1)) values) no.NotOrdered behind_order
-            (λ order. yields_unless _ (list_any is_hash_table (indexes_of db s.0) && nat_le 2048 (length r.rows)) (no.Full pool.HashEntries 2048) (Ok (more, Fine))
-                (λ entries. yields_ok _ (more, Fine) (change suit room order entries)))))
+    (λ room. yields_none _ (fallen (indexes_of db s.0) (slice_get r.rows (length r.rows - 1)) values) no.NotOrdered behind_order
+    (λ order. yields_unless _ (list_any is_hash_table (indexes_of db s.0) && nat_le 2048 (length r.rows)) (no.Full pool.HashEntries 2048) (Ok (more, Fine))
+    (λ entries. yields_ok _ (more, Fine) (change suit room order entries)))))
   where
     r : Relation
     r = s.1
@@ -466,7 +465,7 @@ changes_insert values db s sound at =
         order_kept index.kind r.schema.attributes (is_ordered (indexes_of db s.0)) index.attribute on.attribute r.rows values true
         (sound.relations s.0 r at).rows (suited r.schema.attributes values suit) on.placed on.allowed
         (any_of (λ x. is_inline x && x.attribute == index.attribute) (λ x. x.relation == s.0) db.indexes k index e (grind (arith, nat_tests, i))
-            (ap (λ kind. is_inline (record index { kind = kind }) && index.attribute == index.attribute) is ∙ same_number index.attribute))
+        (ap (λ kind. is_inline (record index { kind = kind }) && index.attribute == index.attribute) is ∙ same_number index.attribute))
         (in_order (slice_get r.rows (length r.rows - 1)) order) keys
       where
         same_number : (n : ℕ) → (n == n) ≡ true
@@ -507,7 +506,7 @@ changes_remove : (condition : Option Cond) (db : Database) (s : ℕ × Relation)
 changes_remove condition db s sound at =
     yields_then _ (refuse_found (missing_name r.schema.attributes [] condition) no.NoAttribute) behind_names
     (λ v e. yields_then _ (refuse_found (ill_typed r.schema.attributes [] condition) no.IllTyped) behind_types
-        (λ w f. yields_then _ (refuse_read db r.schema.name) (Ok done) (λ x g. yields_ok _ done change)))
+    (λ w f. yields_then _ (refuse_read db r.schema.name) (Ok done) (λ x g. yields_ok _ done change)))
   where
     r : Relation
     r = s.1
@@ -585,11 +584,11 @@ kept_remove_relation : (db : Database) (name : List ℕ) → IsSoundDatabase db 
 kept_remove_relation db name s =
     by_name _ db name named_one
     (λ t is. yields_none _ (reader_of db name) no.InUse (behind_readers t)
-        (λ unread. yields_unless _ (nat_lt 0 (length (indexes_of db t.0))) no.HasIndex (Ok (with_relation db t.0 None, Fine))
-            (λ none. yields_ok _ (with_relation db t.0 None, Fine)
-                (out_relation (in_version_2 db) t.0 t.1 (later db s) is.stands
-                    (λ k index e on. unindexed db t.0 k index none e on)
-                    (λ k cursor e. ap (λ n. is_among n cursor.reads) is.is ∙ not_read name 1 k db.cursors cursor unread e)))))
+    (λ unread. yields_unless _ (nat_lt 0 (length (indexes_of db t.0))) no.HasIndex (Ok (with_relation db t.0 None, Fine))
+    (λ none. yields_ok _ (with_relation db t.0 None, Fine)
+    (out_relation (in_version_2 db) t.0 t.1 (later db s) is.stands
+    (λ k index e on. unindexed db t.0 k index none e on)
+    (λ k cursor e. ap (λ n. is_among n cursor.reads) is.is ∙ not_read name 1 k db.cursors cursor unread e)))))
   where
     behind_readers : ℕ × Relation → Outcome
     behind_readers t = ◌>>◌ (refuse_indexed db t.0) (Ok (with_relation db t.0 None, Fine))
@@ -632,13 +631,13 @@ kept_create_index : (db : Database) (name attribute : List ℕ) (kind : IndexKin
 kept_create_index db name attribute kind s =
     by_name _ db name named_one
     (λ t is. yields_found _ (place_of attribute t.1.schema.attributes) (no.NoAttribute 1) (placed t)
-        (λ place at. yields_found _ (domain_of t.1.schema.attributes attribute) (no.NoAttribute 1) (of_domain t place)
-            (λ d e. yields_unless _ (not (allows kind d)) no.Domain (behind_domain t place)
-                (λ allowed. yields_unless _ (is_some (index_slot db t.0 place)) no.Exists (behind_exists t place)
-                    (λ fresh. yields_found _ (free_from 0 db.indexes) (no.Full pool.Indexes 8) (free t place)
-                        (λ slot f. yields_then _ (refuse_kind kind db (keys place t.1.rows)) (Ok (with_index db slot (Some (new t place)), Fine))
-                            (λ v g. yields_ok _ (with_index db slot (Some (new t place)), Fine)
-                                (put t place slot d is at e (not_not (allows kind d) allowed) (is_none (index_slot db t.0 place) fresh) (free_is 0 slot db.indexes f) g))))))))
+    (λ place at. yields_found _ (domain_of t.1.schema.attributes attribute) (no.NoAttribute 1) (of_domain t place)
+    (λ d e. yields_unless _ (not (allows kind d)) no.Domain (behind_domain t place)
+    (λ allowed. yields_unless _ (is_some (index_slot db t.0 place)) no.Exists (behind_exists t place)
+    (λ fresh. yields_found _ (free_from 0 db.indexes) (no.Full pool.Indexes 8) (free t place)
+    (λ slot f. yields_then _ (refuse_kind kind db (keys place t.1.rows)) (Ok (with_index db slot (Some (new t place)), Fine))
+    (λ v g. yields_ok _ (with_index db slot (Some (new t place)), Fine)
+    (put t place slot d is at e (not_not (allows kind d) allowed) (is_none (index_slot db t.0 place) fresh) (free_is 0 slot db.indexes f) g))))))))
   where
     new : ℕ × Relation → ℕ → Index
     new t place = record { kind = kind; relation = t.0; attribute = place }
@@ -681,9 +680,9 @@ kept_remove_index : (db : Database) (name attribute : List ℕ) → IsSoundDatab
 kept_remove_index db name attribute s =
     by_name _ db name named_one
     (λ t is. yields_found _ (place_of attribute t.1.schema.attributes) (no.NoAttribute 1) (placed t)
-        (λ place at. yields_found _ (index_slot db t.0 place) no.NoIndex found_one
-            (λ slot e. yields_then _ (refuse_read db name) (Ok (with_index db slot None, Fine))
-                (λ v f. yields_ok _ (with_index db slot None, Fine) (out_index (in_version_2 db) slot (later db s))))))
+    (λ place at. yields_found _ (index_slot db t.0 place) no.NoIndex found_one
+    (λ slot e. yields_then _ (refuse_read db name) (Ok (with_index db slot None, Fine))
+    (λ v f. yields_ok _ (with_index db slot None, Fine) (out_index (in_version_2 db) slot (later db s))))))
   where
     found_one : ℕ → Outcome
     found_one slot = ◌>>◌ (refuse_read db name) (Ok (with_index db slot None, Fine))
@@ -716,9 +715,9 @@ kept_open : (db : Database) (number : ℤ) (query : Query) → IsSoundDatabase d
 kept_open db number query s =
     yields_by _ (found_or (cursor_place number) no.NoCursor) at_place
     (λ place e. yields_then _ (refuse_if (is_some (cursor_at db place)) no.CursorOpen) (◌>>=◌ (answer_of db query) (opened place))
-        (λ v f. yields_by _ (answer_of db query) (opened place)
-            (λ rows g. yields_ok _ (with_cursor db place (Some (new rows)), Fine)
-                (put_cursor db place (Some (new rows)) s (λ c is. subst (IsSoundCursor db) (some_same is) ((query_reads db query).yields rows g))))))
+    (λ v f. yields_by _ (answer_of db query) (opened place)
+    (λ rows g. yields_ok _ (with_cursor db place (Some (new rows)), Fine)
+    (put_cursor db place (Some (new rows)) s (λ c is. subst (IsSoundCursor db) (some_same is) ((query_reads db query).yields rows g))))))
   where
     new : List (List Value) → Cursor
     new rows = record { reads = relations_read query; rows = rows }
@@ -739,8 +738,8 @@ kept_fetch : (db : Database) (number : ℤ) → IsSoundDatabase db → Keeps (fe
 kept_fetch db number s =
     yields_by _ (open_cursor_of db number) (λ c. Ok (with_cursor db c.0 (Some (record c.1 { rows = drop 1 c.1.rows })), Rows (take 1 c.1.rows)))
     (λ c e. yields_ok _ (with_cursor db c.0 (Some (record c.1 { rows = drop 1 c.1.rows })), Rows (take 1 c.1.rows))
-        (put_cursor db c.0 (Some (record c.1 { rows = drop 1 c.1.rows })) s
-            (λ d is. subst (IsSoundCursor db) (some_same is) (s.cursors c.0 c.1 ((open_stands db number).yields c e)))))
+    (put_cursor db c.0 (Some (record c.1 { rows = drop 1 c.1.rows })) s
+    (λ d is. subst (IsSoundCursor db) (some_same is) (s.cursors c.0 c.1 ((open_stands db number).yields c e)))))
 
 kept_close : (db : Database) (number : ℤ) → IsSoundDatabase db → Keeps (close_cursor db number)
 kept_close db number s =

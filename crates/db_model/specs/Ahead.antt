@@ -7,7 +7,6 @@ use Rattle.db_model.specs.declared.commands.Command.TheVariants as command
 use Rattle.db_model.specs.declared.commands.Query.{Query}
 use Rattle.db_model.specs.declared.commands.Query.TheVariants.{Select, Join}
 use Rattle.db_model.specs.declared.schemas.Range.{Range}
-use Rattle.db_model.specs.declared.values.Value.{Value}
 use Rattle.db_model.specs.Answers.{live_tuples, same_value}
 use Rattle.db_model.specs.Cond.{Cond, condition_of}
 use Rattle.db_model.specs.Cost.{aggregate_cost, fetch_join_cost, fetch_select_cost, open_cost, passed, places_of, query_cost}

@@ -53,8 +53,10 @@ tree_cost e k = 30 + 9 * (6 + e / 32) + 15 * (k + 1)
 abbrev pub plan_cost : Kinds → List Range → List Row → Plan → ℕ
 plan_cost indexes ranges rows Nothing = 0
 plan_cost indexes ranges rows Scan = 6 * length rows
-plan_cost indexes ranges rows (ByOrder nth) = 6 * (2 * bits (length rows) + keys_in (range_at ranges (place_at indexes nth)) (keys (place_at indexes nth) rows)) + 6
-plan_cost indexes ranges rows (ByTree nth key) = tree_cost (keys_beside key (keys (place_at indexes nth) rows)) (keys_equal key (keys (place_at indexes nth) rows))
+plan_cost indexes ranges rows (ByOrder nth) =
+    let place = place_at indexes nth in 6 * (2 * bits (length rows) + keys_in (range_at ranges place) (keys place rows)) + 6
+plan_cost indexes ranges rows (ByTree nth key) =
+    let found = keys (place_at indexes nth) rows in tree_cost (keys_beside key found) (keys_equal key found)
 plan_cost indexes ranges rows (ByTable nth key) = 6 * keys_equal key (keys (place_at indexes nth) rows)
 
 -- the same by the plan that the indexes give
