@@ -6,6 +6,7 @@ pub mod ReplyTexts
 pub mod Rows
 pub mod Scripts
 pub mod SoundRows
+pub mod SoundSteps
 pub mod Standing
 pub mod Steps
 pub mod Worked

@@ -9,9 +9,10 @@ ghost use Rattle.db_model.specs.declared.commands.Node.{Node};
 ghost use Rattle.db_model.specs.declared.schemas.Attribute.{Attribute};
 ghost use Rattle.db_model.specs.Catalog.{Catalog, IsCatalog, catalog_bytes, catalog_of, empty_catalog};
 ghost use Rattle.db_model.specs.Cond.{Cond, condition_of, postfix};
-ghost use Rattle.db_model.specs.Database.{Cursor, Database, cursor_at};
+ghost use Rattle.db_model.specs.Database.{Cursor, Database, cursor_at, empty_database};
 ghost use Rattle.db_model.specs.HashTree.{buckets};
 ghost use Rattle.db_model.specs.Row.{AllRowsSuit, Row, rows_bytes, rows_of};
+ghost use Rattle.db_model.specs.Sound.{BringsNames, IsSoundDatabase};
 ghost use Rattle.db_model.specs.Step.{Reads, Spares, after_all, step};
 
 /// An open cursor has the same rows to come after any commands that neither fetch from it nor
@@ -49,6 +50,17 @@ pub fn rows_are_read_back()
 pub fn conditions_are_read_back()
     ensures back { (c : Cond) → condition_of (postfix c) ≡ Some c }
     ensures only { (nodes : List Node) (c : Cond) → condition_of nodes ≡ Some c → postfix c ≡ nodes }
+{}
+
+/// The database of an erased flash is sound, and each command keeps a sound one so, where the names
+/// that the command brings in are NAMEs.
+#[tactic(auto, using(crate::proofs::SoundSteps::empty_sound, crate::proofs::SoundSteps::step_sound))]
+pub fn sound_databases_stay_sound()
+    ensures empty { IsSoundDatabase empty_database }
+    ensures kept { (db : Database) (command : AnyCommand)
+        → BringsNames command
+        → IsSoundDatabase db
+        → IsSoundDatabase ((step db command).0) }
 {}
 
 /// A hash tree has at most 853 buckets for 16,384 keys, and at most 1,365 for 32,768.
