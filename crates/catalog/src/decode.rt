@@ -37,7 +37,7 @@ fn read_schema(slot: &[u8], version: u8) -> Option<Schema>
 {
     let name = Ident::new(up_to_zero(&slot[..16]))?;
     let attributes = read_attributes(slot[160] as usize, &slot[16..], version)?;
-    if !is_row(attributes.as_slice()) {
+    if !is_row(&attributes) {
         return None;
     }
     Some(Schema { name, attributes })
@@ -93,11 +93,10 @@ fn is_domain(version: u8, domain: Domain) -> bool
 }
 
 // Whether a row of the attributes has at most 128 bytes, and no two have one name.
-fn is_row(attributes: &[Attribute]) -> bool
-    requires { length attributes.now ≤ 8 }
+fn is_row(attributes: &Attributes) -> bool
     ensures { result ≡ is_row attributes.now }
 {
-    row_length(attributes) <= 128 && are_distinct(attributes)
+    row_length(attributes) <= 128 && are_distinct(attributes.as_slice())
 }
 
 // Whether no two of the attributes have one name.
