@@ -62,7 +62,8 @@ fn has_log_fields(header: &Header) -> bool
 
 /// Rule 6: the first page of the first file whose name one before it has.
 pub(crate) fn repeated_name(table: &[FileAt]) -> Option<PageId>
-    ensures { (files : List Placed) → table.now ≡ map (λ f. entry_with f 0 0) files → result ≡ option_map page_id (first_repeated [] files) }
+    ensures { (files : List Placed) → table.now ≡ map (λ f. entry_with f 0 0) files
+        → result ≡ option_map page_id (first_repeated [] files) }
 {
     for (i, file) in table.iter().enumerate() {
         if is_named(&table[..i], &file.name) {

@@ -5,6 +5,8 @@ pub mod Decoded
 pub mod ReplyTexts
 pub mod Rows
 pub mod Scripts
+pub mod SoundRows
+pub mod Standing
 pub mod Steps
 pub mod Worked
 pub mod WorkedBytes

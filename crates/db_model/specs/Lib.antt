@@ -16,6 +16,7 @@ pub mod Refusing
 pub mod ReplyText
 pub mod Row
 pub mod Script
+pub mod Sound
 pub mod Spelling
 pub mod Step
 pub mod Tokens

@@ -8,5 +8,3 @@ mod tuples;
 
 pub use tuples::Tuples;
 
-#[cfg(test)]
-mod tests;

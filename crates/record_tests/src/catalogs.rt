@@ -3,7 +3,7 @@ ghost use Rattle.afl_base.specs.Files.{IsLive, bytes_at, file_at, used};
 ghost use Rattle.afl_base.specs.declared.kind.Kind.TheVariants.{Fixed};
 ghost use Rattle.catalog.specs.CatalogFile.{IsCatalogSize};
 
-use crate::{
+use catalog::{
     BadCatalog, IndexEntry, catalog_file, clear_relation, load, put_index, put_relation, room_for,
     rows_file,
 };

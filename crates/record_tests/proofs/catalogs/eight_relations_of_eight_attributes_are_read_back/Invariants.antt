@@ -2,7 +2,7 @@ use Rattle.std.proofs.Common.{◌≡◌, ◌+◌, ◌≤◌, length, None}
 use Rattle.afl_base.specs.declared.kind.Kind.TheVariants.{Fixed}
 use Rattle.afl_base.specs.Files.{IsLive, bytes_at, file_at, used}
 use Rattle.catalog.specs.CatalogFile.{IsCatalogSize}
-use Rattle.catalog.proofs.tests.eight_relations_of_eight_attributes_are_read_back.Given as goal
+use Rattle.record_tests.proofs.catalogs.eight_relations_of_eight_attributes_are_read_back.Given as goal
 
 abbrev pub invariant-puts : goal.invariant-puts
 invariant-puts g l = record {

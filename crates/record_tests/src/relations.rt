@@ -2,7 +2,7 @@ ghost use Rattle.std.specs.Prelude.{◌≡◌, ◌+◌, ◌<◌, ◌≤◌, ℕ,
 ghost use Rattle.db_model.specs.Row.{AllSuit, row_length, suits};
 ghost use Rattle.tuple_file.specs.Tuples.{HoldsRows, slots};
 
-use crate::Tuples;
+use tuple_file::Tuples;
 use afl_base::{FileError, FileId, Files, Kind, Name, SlotNo};
 use afl_sim::PlainFiles;
 use db_model::{Attribute, Attributes, Domain, Ident, Schema, Text, Tuple, Value};
