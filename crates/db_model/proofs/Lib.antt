@@ -4,6 +4,7 @@ pub mod Conditions
 pub mod Decoded
 pub mod ReplyTexts
 pub mod Rows
+pub mod RunCosts
 pub mod Scripts
 pub mod SoundRows
 pub mod SoundSteps
