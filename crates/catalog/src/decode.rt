@@ -5,7 +5,8 @@ ghost use Rattle.db_model.specs.Catalog.{attribute_of, attributes_of, domain_fro
 ghost use Rattle.db_model.specs.Database.{is_among};
 ghost use Rattle.db_model.specs.Row.{row_length, up_to_zero};
 ghost use Rattle.catalog.specs.CatalogFile.{index_in};
-ghost use Rattle.catalog.specs.Rules.{are_distinct, attribute_names, is_attribute, is_domain, is_index_form, is_relation_slot, is_row, is_schema};
+ghost use Rattle.catalog.specs.Rules.{is_attribute, is_domain, is_index_form, is_relation_slot, is_row, is_schema};
+ghost use Rattle.db_model.specs.Sound.{are_distinct, attribute_names};
 
 use crate::slots::{index_slot, relation_slot, unused_slot};
 use crate::types::IndexEntry;
