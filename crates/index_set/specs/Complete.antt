@@ -10,7 +10,7 @@ use Rattle.index_set.specs.declared.info.Access.{Access}
 use Rattle.index_set.specs.declared.info.Access.TheVariants.{Order, Tree, Table}
 use Rattle.index_set.specs.declared.info.IndexInfo.{IndexInfo}
 use Rattle.index_set.specs.Tables.{Tables, entries}
-use Rattle.index_set.specs.Trees.{IsTreeOf}
+use Rattle.index_tree.specs.Trees.{IsTreeOf}
 
 -- ---- complete
 

@@ -13,7 +13,8 @@ use Rattle.index_set.specs.declared.info.TableId.{TableId}
 use Rattle.index_set.specs.declared.info.TableId.TheVariants.{First, Second}
 use Rattle.index_set.specs.declared.trees.Room.{Room}
 use Rattle.index_set.specs.Tables.{Tables, entries}
-use Rattle.index_set.specs.Trees.{HasRoomFor, IsRoomOf, IsTreeOf, room_of}
+use Rattle.index_set.specs.Trees.{HasRoomFor, room_of}
+use Rattle.index_tree.specs.Trees.{IsTreeOf}
 
 -- some index of the list has the property
 abbrev pub SomeOf : (IndexInfo → Type 0) → List IndexInfo → Type 0
@@ -110,7 +111,7 @@ HaveRoom state (room ∷ rooms) (info ∷ infos) = HasRoom state room info.acces
 -- which is what an insert of the key needs
 abbrev pub IsRoomFor : State → ℤ → Room → Access → Type 0
 IsRoomFor state key room Order = ⊤
-IsRoomFor state key room (Tree file) = (keys : List ℤ) → IsTreeOf (bytes_at state.files file) keys → IsRoomOf (bytes_at state.files file) key room
+IsRoomFor state key room (Tree file) = (keys : List ℤ) → IsTreeOf (bytes_at state.files file) keys → room ≡ room_of (bytes_at state.files file) key
 IsRoomFor state key room (Table number) = ⊤
 
 abbrev pub AreRoomFor : State → List Value → List Room → List IndexInfo → Type 0
@@ -123,7 +124,7 @@ abbrev pub AsksFor : (ℕ → ℕ → ℕ → ℕ → Type 0) → State → ℤ 
 AsksFor asks state key n Order = ⊥
 AsksFor asks state key n (Tree file) =
     (keys : List ℤ) → IsTreeOf (bytes_at state.files file) keys
-    → asks file ((room_of (bytes_at state.files file) key).0) ((room_of (bytes_at state.files file) key).1) n
+    → asks file ((room_of (bytes_at state.files file) key).overwrites) ((room_of (bytes_at state.files file) key).bytes) n
 AsksFor asks state key n (Table number) = ⊥
 
 -- by one of the trees of a list

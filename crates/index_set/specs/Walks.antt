@@ -16,7 +16,8 @@ use Rattle.index_set.specs.declared.trees.Place.{Place}
 use Rattle.index_set.specs.Complete.{key_in, no_row}
 use Rattle.index_set.specs.Inserts.{SomeOf}
 use Rattle.index_set.specs.Tables.{Tables, entries}
-use Rattle.index_set.specs.Trees.{IsPlaceOf, IsTreeOf, walk_left}
+use Rattle.index_set.specs.Trees.{IsPlaceOf, walk_left}
+use Rattle.index_tree.specs.Trees.{IsTreeOf}
 
 -- which rows a search answers
 abbrev pub takes : Search → Row → Bool
