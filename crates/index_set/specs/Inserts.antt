@@ -11,9 +11,9 @@ use Rattle.index_set.specs.declared.info.Access.TheVariants.{Order, Tree, Table}
 use Rattle.index_set.specs.declared.info.IndexInfo.{IndexInfo}
 use Rattle.index_set.specs.declared.info.TableId.{TableId}
 use Rattle.index_set.specs.declared.info.TableId.TheVariants.{First, Second}
-use Rattle.index_set.specs.declared.trees.Room.{Room}
+use Rattle.index_maxheap.specs.declared.rooms.Room.{Room}
+use Rattle.index_maxheap.specs.Rooms.{HasRoomFor, room_of}
 use Rattle.index_set.specs.Tables.{Tables, entries}
-use Rattle.index_set.specs.Trees.{HasRoomFor, room_of}
 use Rattle.index_tree.specs.Trees.{IsTreeOf}
 
 -- some index of the list has the property

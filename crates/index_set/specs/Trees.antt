@@ -1,20 +1,8 @@
--- Searches in the hash tree of a list of keys, and what inserts into it need.
+-- Searches in the hash tree of a list of keys.
 use Rattle.std.specs.Prelude.{◌≤◌, ⊤, ℕ, ℤ, ◌+◌, ◌-◌, ◌*◌, ◌/◌, List, min, Option, Some, None}
-use Rattle.afl_base.specs.Files.{State, file_at}
 use Rattle.index_tree.specs.Places.{IsPlaceAt}
 use Rattle.index_tree.specs.Trees.{numbered}
 use Rattle.index_set.specs.declared.trees.Place.{Place}
-use Rattle.index_set.specs.declared.trees.Room.{Room}
-
--- ---- what an insert needs
-
--- the file has this room
-abbrev pub HasRoomFor : State → ℕ → Room → Type 0
-HasRoomFor state file room = (room.overwrites ≤ (file_at state.files file).records) × (room.bytes ≤ (file_at state.files file).room)
-
--- what an insert of a key into the tree of a file needs
-unfoldable pub room_of : List ℕ → ℤ → Room
-room_of bytes key = record { overwrites = 0; bytes = 0 }
 
 -- ---- searches
 

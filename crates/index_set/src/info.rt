@@ -2,9 +2,9 @@
 
 #![tactic(auto)]
 
-use crate::trees::Room;
 use afl_base::{FileId, KeyColumn};
 use db_model::Few;
+use index_maxheap::Room;
 
 /// One of the two hash tables in memory.
 #[derive(Clone, Copy, Debug, PartialEq, Eq)]

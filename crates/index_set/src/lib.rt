@@ -15,4 +15,4 @@ pub use info::{Access, IndexInfo, Indexes, Rooms, TableId};
 pub use inserts::{insert_all, prepare_all};
 pub use laws::{ahead_where_rows_come, waits_where_rows_come};
 pub use tables::HashTables;
-pub use trees::{Place, Room};
+pub use trees::Place;

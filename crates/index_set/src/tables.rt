@@ -2,34 +2,33 @@
 
 #![tactic(auto)]
 
-ghost use Rattle.std.specs.Prelude.{◌≡◌, ◌≢◌, ◌+◌, ◌*◌, ◌<◌, ◌≤◌, ℕ, [], IsTrue, OnErr, OnOk, length, map};
+ghost use Rattle.std.specs.Prelude.{◌≡◌, ◌≢◌, ◌+◌, ◌*◌, ◌<◌, ◌≤◌, ◌++◌, ◌∷◌, ℕ, [], IsTrue, MatchOption, OnOk, length, map};
 ghost use Rattle.std.specs.List.{range_with_len};
+ghost use Rattle.afl_base.specs.Causes.{HasCause};
 ghost use Rattle.afl_base.specs.KeyColumn.{HasField, IsWidth, key_of};
+ghost use Rattle.index_memhash.specs.Keys.{HasNone, IsFirstOf};
 ghost use Rattle.index_set.specs.declared.info.TableId.{TableId as AnyTable};
 ghost use Rattle.index_set.specs.Tables.{entries};
 
 use crate::info::TableId;
-use afl_base::{Failed, Files, KeyColumn};
+use afl_base::{Failed, Files, KeyColumn, SlotNo};
+use index_memhash::{HashPlace, HashTable};
 use std::marker::Model;
 
-/// Two hash tables of at most 2,048 keys each. Entry number i of a table is the key of slot i.
+/// Two hash tables of at most 2,048 keys each. Entry number i of a table is the key of slot i. They
+/// have 28,680 bytes.
 #[derive(Drop)]
 pub struct HashTables {
-    first: [i32; 2048],
-    first_len: u16,
-    second: [i32; 2048],
-    second_len: u16,
+    first: HashTable,
+    second: HashTable,
 }
 
 impl Model for HashTables {
-    ghost use Rattle.std.specs.Prelude.{◌≤◌, take};
     ghost use Rattle.index_set.specs.Tables.{Tables};
 
     ghost Value = { Tables };
 
-    ghost view = { λ t. record { first = take t.first_len t.first; second = take t.second_len t.second } };
-
-    ghost invariant = { λ t. (t.first_len ≤ 2048) × (t.second_len ≤ 2048) };
+    ghost view = { λ t. record { first = t.first; second = t.second } };
 }
 
 impl HashTables {
@@ -38,10 +37,8 @@ impl HashTables {
         ensures { (table : AnyTable) → entries result table ≡ [] }
     {
         HashTables {
-            first: [0; 2048],
-            first_len: 0,
-            second: [0; 2048],
-            second_len: 0,
+            first: HashTable::new(),
+            second: HashTable::new(),
         }
     }
 
@@ -66,7 +63,54 @@ impl HashTables {
         ensures same { OnOk result (V.state files.new ≡ V.state files.old) }
         ensures reads { V.reads files.new ≤ V.reads files.old + 6 * slots }
         ensures reads_later { V.reads files.old ≤ V.reads files.new }
+        ensures store { length (V.state files.new).store ≡ length (V.state files.old).store }
+        ensures cause { HasCause (V.faults files.old) (V.faults files.new) result }
     {
-        Err(Failed)
+        self.clear(table);
+        for at in 0..slots {
+            let Some(slot) = SlotNo::new(at) else {
+                return Err(Failed);
+            };
+            let key = column.key(files, slot)?;
+            self.push(table, &key);
+        }
+        Ok(())
+    }
+
+    // The first slot of the key, from one on.
+    pub(crate) fn next(&self, table: TableId, key: &i32, from: u16) -> Option<SlotNo>
+        ensures { MatchOption result (HasNone key.now (entries self.now table) from) (λ slot. IsFirstOf key.now (entries self.now table) from slot) }
+    {
+        let place = HashPlace { entry: from };
+        let (slot, _) = match table {
+            TableId::First => self.first.next(place, key)?,
+            TableId::Second => self.second.next(place, key)?,
+        };
+        Some(slot)
+    }
+
+    // Puts the key of the next slot into a table.
+    pub(crate) fn push(&mut self, table: TableId, key: &i32)
+        requires room { length (entries self.old table) < 2048 }
+        ensures key { entries self.new table ≡ entries self.old table ++ key.now ∷ [] }
+        ensures other { (other : AnyTable) → other ≢ table
+            → entries self.new other ≡ entries self.old other }
+    {
+        match table {
+            TableId::First => self.first.insert(key),
+            TableId::Second => self.second.insert(key),
+        }
+    }
+
+    // Takes all keys out of a table.
+    fn clear(&mut self, table: TableId)
+        ensures none { entries self.new table ≡ [] }
+        ensures other { (other : AnyTable) → other ≢ table
+            → entries self.new other ≡ entries self.old other }
+    {
+        match table {
+            TableId::First => self.first.clear(),
+            TableId::Second => self.second.clear(),
+        }
     }
 }
