@@ -1,5 +1,5 @@
 -- Places over more keys.
-use Rattle.std.proofs.Common.{◌≡◌, ◌≤◌, ◌<◌, ◌+◌, ◌++◌, List, length, get_or, ℕ, ℤ, pos, Bool, true, false, arith, ap, ◌∙◌, sym, length-append}
+use Rattle.std.proofs.Common.{◌≡◌, ◌≤◌, ◌<◌, ◌++◌, List, length, ℕ, ℤ, pos, arith, ap, ◌∙◌, length-append}
 use Rattle.std.proofs.Math.Logic.{⊎_elim}
 use Rattle.std.proofs.lemmas.Bool.{cases_lt}
 use Rattle.std.specs.Ordering.{int_eq}

@@ -72,7 +72,7 @@ more_here : (chain at : ℕ) (keys : List ℤ) (k : ℤ) → at + length keys < 
 more_here chain at [] k h e is = let yes = same_test (hash k) chain is in rw yes (omega arith)
 more_here chain at (x ∷ keys) k h e is =
     here_case (hash x == chain) at (first_from chain (at + 1) keys) (first_from chain (at + 1) (keys ++ k ∷ [])) (at + length (x ∷ keys)) (omega arith)
-      (λ none. more_here chain (at + 1) keys k (omega arith) none is ∙ omega arith) e
+    (λ none. more_here chain (at + 1) keys k (omega arith) none is ∙ omega arith) e
 
 more_other : (chain at : ℕ) (keys : List ℤ) (k : ℤ) → hash k ≢ chain → first_from chain at (keys ++ k ∷ []) ≡ first_from chain at keys
 more_other chain at [] k differ = let test = other_test (hash k) chain differ in rw test refl
@@ -183,11 +183,11 @@ module _ (keys : List ℤ) (links last : List ℕ) (k : ℤ) (few : length keys 
   leads_on : (link : ℕ) → link < 512 + length keys → link ≢ end → entry_from more_keys (chain_at keys link) (link - 511) ≡ entry_from keys (chain_at keys link) (link - 511)
   leads_on link h differ =
       ⊎_elim
-        (λ (same : hash k ≡ chain_at keys link). entry_same keys k (chain_at keys link) (link - 511) (omega (arith, h))
-          (λ none. one_end keys (hash k) link end (omega (arith, few)) h (old.within (hash k) (hash_small k)) (sym same) (old.own (hash k) (hash_small k))
-            (ap (λ (c : ℕ). entry_from keys c (link - 511)) same ∙ none) (old.ends (hash k) (hash_small k)) differ))
-        (λ (other : hash k ≢ chain_at keys link). entry_other keys k (chain_at keys link) (link - 511) (omega (arith, h)) other)
-        (cases_eq (hash k) (chain_at keys link))
+      (λ (same : hash k ≡ chain_at keys link). entry_same keys k (chain_at keys link) (link - 511) (omega (arith, h))
+      (λ none. one_end keys (hash k) link end (omega (arith, few)) h (old.within (hash k) (hash_small k)) (sym same) (old.own (hash k) (hash_small k))
+      (ap (λ (c : ℕ). entry_from keys c (link - 511)) same ∙ none) (old.ends (hash k) (hash_small k)) differ))
+      (λ (other : hash k ≢ chain_at keys link). entry_other keys k (chain_at keys link) (link - 511) (omega (arith, h)) other)
+      (cases_eq (hash k) (chain_at keys link))
 
   linked_other : (link : ℕ) → link < 512 + length keys → link ≢ end → get_or (set (set links end (length keys)) (512 + length keys) 2048) link 0 ≡ entry_from more_keys (chain_at more_keys link) (link - 511)
   linked_other link h differ =
@@ -198,12 +198,12 @@ module _ (keys : List ℤ) (links last : List ℕ) (k : ℤ) (few : length keys 
   linked_all link h =
       let size = length-append keys (k ∷ []) in
       ⊎_elim
-        (λ (new : link ≡ 512 + length keys). rw new linked_new)
-        (λ (front : link ≢ 512 + length keys). ⊎_elim
-          (λ (is : link ≡ end). rw is linked_end)
-          (λ (differ : link ≢ end). linked_other link (omega (arith, h, size, front)) differ)
-          (cases_eq link end))
-        (cases_eq link (512 + length keys))
+      (λ (new : link ≡ 512 + length keys). rw new linked_new)
+      (λ (front : link ≢ 512 + length keys). ⊎_elim
+      (λ (is : link ≡ end). rw is linked_end)
+      (λ (differ : link ≢ end). linked_other link (omega (arith, h, size, front)) differ)
+      (cases_eq link end))
+      (cases_eq link (512 + length keys))
 
   last_same : get_or (set last (hash k) (512 + length keys)) (hash k) 0 ≡ 512 + length keys
   last_same = let small = hash_small k in get_or-set_same last (hash k) (512 + length keys) 0 (omega (arith, small, last_size))
@@ -223,7 +223,7 @@ module _ (keys : List ℤ) (links last : List ℕ) (k : ℤ) (few : length keys 
         within = at_last (λ chain l. l < 512 + length more_keys) (omega (arith, size)) (λ chain h differ. let below = old.within chain h in omega (arith, size, below));
         own = at_last (λ chain l. chain_at more_keys l ≡ chain) (chain_new keys k) (λ chain h differ. chain_stays keys k (get_or last chain 0) (old.within chain h) ∙ old.own chain h);
         ends = at_last (λ chain l. entry_from more_keys chain (l - 511) ≡ 2048) (past_end more_keys (hash k) (512 + length keys - 511) (omega (arith, size)))
-          (λ chain h differ. let below = old.within chain h in entry_other keys k chain (get_or last chain 0 - 511) (omega (arith, below)) differ ∙ old.ends chain h);
+            (λ chain h differ. let below = old.within chain h in entry_other keys k chain (get_or last chain 0 - 511) (omega (arith, below)) differ ∙ old.ends chain h);
       }
 
 -- ---- a table with no entries
@@ -305,13 +305,13 @@ module _ (keys : List ℤ) (links last : List ℕ) (len : ℕ) (key : ℤ) (size
   step_rest entry at is h e from missed behind i k below here =
       let reaches = behind i k below here in
       ⊎_elim
-        (λ (same : i ≡ entry).
-          let there : is_key_at key keys entry ≡ true = ap (λ (z : ℤ). int_eq z key) (sym (get_or-take len keys entry (pos 0) h)) ∙ subst (λ (n : ℕ). is_key_at key front n ≡ true) same here in
-          let passed : nat_le from entry ≡ true = is_at_most from entry (omega (arith, k, same)) in
-          absurd (both_true (nat_le from entry) (is_key_at key keys entry) passed there missed))
-        (λ (differ : i ≢ entry).
-          found_rest (512 + entry) at is (omega (arith, h)) (chain_of_entry entry e) (entry + 1) (omega arith) i (omega (arith, reaches, differ)) below here)
-        (cases_eq i entry)
+      (λ (same : i ≡ entry).
+      let there : is_key_at key keys entry ≡ true = ap (λ (z : ℤ). int_eq z key) (sym (get_or-take len keys entry (pos 0) h)) ∙ subst (λ (n : ℕ). is_key_at key front n ≡ true) same here in
+      let passed : nat_le from entry ≡ true = is_at_most from entry (omega (arith, k, same)) in
+      absurd (both_true (nat_le from entry) (is_key_at key keys entry) passed there missed))
+      (λ (differ : i ≢ entry).
+      found_rest (512 + entry) at is (omega (arith, h)) (chain_of_entry entry e) (entry + 1) (omega arith) i (omega (arith, reaches, differ)) below here)
+      (cases_eq i entry)
 
 pub table_more : (keys : List ℤ) (links last : List ℕ) (len : ℕ) (k : ℤ) → len < 2048 → IsTable keys links last len
     → IsTable (set keys len k) (set (set links (get_or last (hash k) 0) len) (512 + len) 2048) (set last (hash k) (512 + len)) (len + 1)

@@ -88,7 +88,7 @@ impl HashTable {
     }
 
     /// The place before all entries, where a search of any key begins.
-    pub fn first(&self) -> HashPlace
+    pub fn first() -> HashPlace
         ensures { result.entry ≡ 0 }
     {
         HashPlace { entry: 0 }
@@ -101,7 +101,12 @@ impl HashTable {
         ensures { MatchOption result (HasNone key.now self.now place.entry) (λ found. IsFirstOf key.now self.now place.entry found.0 × (found.1.entry ≡ found.0 + 1)) }
     {
         let slot = find(
-            &self.keys, &self.links, &self.last, self.len, key, place.entry,
+            &self.keys,
+            &self.links,
+            &self.last,
+            self.len,
+            key,
+            place.entry,
         )?;
         Some((
             slot,

@@ -1,5 +1,4 @@
-use Rattle.std.proofs.Common.{rules, arith, ◌≡◌, ◌+◌, ◌-◌, ◌<◌, ◌≤◌, ◌∙◌, ap, ℕ, List, length, take, get_or, sym, subst}
-use Rattle.index_memhash.specs.Chains.{chain_at, hash}
+use Rattle.std.proofs.Common.{rules, arith}
 use Rattle.index_memhash.proofs.Links.{found_own, found_rest, step_own, step_rest, step_less}
 use Rattle.index_memhash.proofs.chains.find.Goals as goal
 

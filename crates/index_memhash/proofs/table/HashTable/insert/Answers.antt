@@ -1,8 +1,7 @@
-use Rattle.std.proofs.Common.{rules, arith, ◌≡◌, ◌<◌, ◌∙◌, ℕ, ap, get_or, length, take}
+use Rattle.std.proofs.Common.{rules, ◌≡◌, ◌<◌, ◌∙◌}
 use Rattle.std.specs.Prelude.{FitsSigned}
 use Rattle.std.specs.Int.{w32}
 use Rattle.std.proofs.lemmas.Int.{to_z-of_z}
-use Rattle.std.proofs.lemmas.List.{length-take-le}
 use Rattle.index_memhash.specs.Chains.{hash}
 use Rattle.index_memhash.proofs.Links.{table_more}
 use Rattle.index_memhash.proofs.table.HashTable.insert.Goals as goal
