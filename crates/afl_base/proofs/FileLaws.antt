@@ -7,6 +7,7 @@ use Rattle.std.proofs.lemmas.Bool.{cases_eq, cases_lt}
 use Rattle.std.proofs.Math.Logic.{⊎_elim}
 use Rattle.afl_base.specs.declared.kind.Kind.{Kind}
 use Rattle.afl_base.specs.declared.kind.Kind.TheVariants.{Doubling}
+use Rattle.afl_base.specs.Places.{AreTaken}
 use Rattle.afl_base.specs.Files.{Becomes, Commits, Creates, File, IsLive, IsNamed, IsUnnamed, OthersStay, Removes, State, Table, AreDistinct, draft_in, file_at, name_at, new_file, no_file, place, used}
 
 -- a file that stands under an id
@@ -252,6 +253,12 @@ pub used_all : (files : Table) → ((k : ℕ) → k < length files → IsLive fi
 used_all [] live = refl
 used_all (None ∷ files) live = let first : IsLive (None ∷ files) 0 = live 0 (omega arith) in absurd (cc)
 used_all (Some f ∷ files) live = let rest = used_all files (λ k below. live (suc k) (omega arith)) in omega (arith, rest)
+
+-- where fewer than 32 files are live, one of the 32 places is free
+pub some_free : (files : Table) → length files ≡ 32 → used files < 32 → AreTaken files 32 → ⊥
+some_free files places few taken =
+    let all : used files ≡ length files = used_all files (λ k inside. taken k (omega arith)) in
+    omega arith
 
 -- a name that no place has, no id has
 pub unnamed_below : (files : Table) (n : List ℕ) → ((k : ℕ) → k < length files → name_at files k ≢ Some n) → IsUnnamed files n

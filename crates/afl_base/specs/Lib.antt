@@ -7,5 +7,6 @@ pub mod Frames
 pub mod Image
 pub mod KeyColumn
 pub mod Names
+pub mod Places
 pub mod Regions
 pub mod Shares

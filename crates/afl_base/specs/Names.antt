@@ -1,7 +1,7 @@
 -- The names of files, and short byte strings in arrays of a fixed width.
 use Rattle.std.specs.Prelude.{◌≡◌, ℕ, ◌-◌, ◌≤◌, Bool, ◌&&◌, List, ◌++◌, length, take, replicate, nat_le}
 use Rattle.std.specs.List.{list_all}
-use Rattle.std.proofs.Common.{arith, length-take-le}
+use Rattle.std.proofs.Common.{length-take-le, subst, sym}
 
 -- a byte of a name: a printing byte of ASCII that is no space
 abbrev pub is_name_byte : ℕ → Bool
@@ -23,4 +23,4 @@ pub record IsPadded (n len : ℕ) (bytes : List ℕ) : Type 0 where
 
 -- the bytes of meaning are len many
 pub length-front : (n len : ℕ) (bytes : List ℕ) → IsPadded n len bytes → length (take len bytes) ≡ len
-length-front n len bytes p = length-take-le len bytes (omega (arith, p.short, p.long))
+length-front n len bytes p = length-take-le len bytes (subst (λ (m : ℕ). len ≤ m) (sym p.long) p.short)

@@ -50,3 +50,11 @@ pub fn put_i64(bytes: &mut [u8], at: usize, value: i64)
 {
     LittleEndian::write_u64(&mut bytes[at..], value.cast_unsigned());
 }
+
+/// Puts `part` in the place of the bytes from `at` on. All other bytes stay.
+pub fn put_bytes(bytes: &mut [u8], at: usize, part: &[u8])
+    requires { at + length part.now ≤ length bytes.old }
+    ensures { bytes.new ≡ put_at bytes.old at part.now }
+{
+    bytes[at..at + part.len()].copy_from_slice(part);
+}

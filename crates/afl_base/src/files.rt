@@ -71,8 +71,8 @@ pub trait Files {
         ensures reads_later { reads self.old ≤ reads self.new }
         ensures cause { HasCause (faults self.old) (faults self.new) result };
 
-    /// Adds an empty file, in the lowest free place. `Space` has `need` 16 for a doubling file, and its number of pages for a
-    /// fixed one.
+    /// Adds an empty file, in the lowest free place. `Space` has `need` 16 for a doubling file, and its
+    /// number of pages for a fixed one.
     fn create(&mut self, name: Name, kind: Kind) -> Result<FileId, FileError>
         requires unnamed { IsUnnamed (state self.old).files name }
         requires place { used (state self.old).files < 32 }
@@ -136,7 +136,8 @@ pub trait Files {
         ensures records { OnOk result
             ((file_at (state self.new).files id).records + regions at (length bytes.now)
             ≡ (file_at (state self.old).files id).records) }
-        ensures room { OnOk result ((file_at (state self.new).files id).room ≡ (file_at (state self.old).files id).room) }
+        ensures room { OnOk result
+            ((file_at (state self.new).files id).room ≡ (file_at (state self.old).files id).room) }
         ensures store { length (state self.new).store ≡ length (state self.old).store }
         ensures reads_later { reads self.old ≤ reads self.new }
         ensures cause { HasCause (faults self.old) (faults self.new) result };
@@ -149,7 +150,8 @@ pub trait Files {
         requires room { length bytes.now ≤ (file_at (state self.old).files id).room }
         requires last { slice_index bytes.now (length bytes.now - 1) ≢ 0 }
         ensures appended { OnOk result (Appends (state self.old) (state self.new) id bytes.now) }
-        ensures records { OnOk result ((file_at (state self.new).files id).records ≡ (file_at (state self.old).files id).records) }
+        ensures records { OnOk result
+            ((file_at (state self.new).files id).records ≡ (file_at (state self.old).files id).records) }
         ensures room { OnOk result ((file_at (state self.new).files id).room ≡ 0) }
         ensures store { length (state self.new).store ≡ length (state self.old).store }
         ensures reads_later { reads self.old ≤ reads self.new }

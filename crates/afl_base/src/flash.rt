@@ -44,7 +44,8 @@ pub trait Flash {
     fn program(&mut self, page: PageId, at: u16, bytes: &[u8]) -> Result<(), Failed>
         requires page { 256 * page.0 + 256 ≤ length (image self.old) }
         requires range { at + length bytes.now ≤ 256 }
-        ensures programmed { IsTrue tells → OnOk result (image self.new ≡ or_at (image self.old) (256 * page.0 + at) bytes.now) }
+        ensures programmed { IsTrue tells → OnOk result
+            (image self.new ≡ or_at (image self.old) (256 * page.0 + at) bytes.now) }
         ensures page { IsTrue tells → OnOk result
             (page_bytes (image self.new) page.0 ≡ or_at (page_bytes (image self.old) page.0) at bytes.now) }
         ensures other_pages { IsTrue tells → (p : ℕ) → p ≢ page.0
@@ -58,7 +59,8 @@ pub trait Flash {
     /// other sectors stay.
     fn erase(&mut self, sector: SectorId) -> Result<(), Failed>
         requires sector { 4096 * sector.0 + 4096 ≤ length (image self.old) }
-        ensures erased { IsTrue tells → OnOk result (image self.new ≡ zeros_at (image self.old) (4096 * sector.0) 4096) }
+        ensures erased { IsTrue tells → OnOk result
+            (image self.new ≡ zeros_at (image self.old) (4096 * sector.0) 4096) }
         ensures other_sectors { IsTrue tells → (s : ℕ) → s ≢ sector.0
             → sector_bytes (image self.new) s ≡ sector_bytes (image self.old) s }
         ensures size { length (image self.new) ≡ length (image self.old) }

@@ -16,7 +16,8 @@ impl KeyColumn {
         requires width { IsWidth self.now.width }
         requires narrow { self.now.width ≢ 8 }
         requires field { HasField (V.state files.old) self.now slot }
-        ensures key { IsTrue (V.state files.old).tells → IfOk result (λ key. key ≡ key_of (V.state files.old) self.now slot) }
+        ensures key { IsTrue (V.state files.old).tells
+            → IfOk result (λ key. key ≡ key_of (V.state files.old) self.now slot) }
         ensures same { OnOk result (V.state files.new ≡ V.state files.old) }
         ensures store { length (V.state files.new).store ≡ length (V.state files.old).store }
         ensures reads { V.reads files.new ≤ V.reads files.old + 6 }
@@ -34,7 +35,8 @@ impl KeyColumn {
     pub fn key64<V: Files>(&self, files: &mut V, slot: SlotNo) -> Result<i64, Failed>
         requires width { IsWidth self.now.width }
         requires field { HasField (V.state files.old) self.now slot }
-        ensures key { IsTrue (V.state files.old).tells → IfOk result (λ key. key ≡ key_of (V.state files.old) self.now slot) }
+        ensures key { IsTrue (V.state files.old).tells
+            → IfOk result (λ key. key ≡ key_of (V.state files.old) self.now slot) }
         ensures same { OnOk result (V.state files.new ≡ V.state files.old) }
         ensures store { length (V.state files.new).store ≡ length (V.state files.old).store }
         ensures reads { V.reads files.new ≤ V.reads files.old + 6 }
@@ -58,7 +60,8 @@ fn field_place(row: u8, slot: SlotNo, at: u8) -> u32
 fn read_i16<V: Files>(files: &mut V, file: FileId, at: u32) -> Result<i16, Failed>
     requires live { IsLive (V.state files.old).files file }
     requires range { at + 2 ≤ size_at (V.state files.old).files file }
-    ensures number { IsTrue (V.state files.old).tells → IfOk result (λ n. n ≡ number_at (bytes_at (V.state files.old).files file) at 2) }
+    ensures number { IsTrue (V.state files.old).tells
+        → IfOk result (λ n. n ≡ number_at (bytes_at (V.state files.old).files file) at 2) }
     ensures same { OnOk result (V.state files.new ≡ V.state files.old) }
     ensures store { length (V.state files.new).store ≡ length (V.state files.old).store }
     ensures reads { V.reads files.new ≤ V.reads files.old + 6 }
@@ -73,7 +76,8 @@ fn read_i16<V: Files>(files: &mut V, file: FileId, at: u32) -> Result<i16, Faile
 fn read_i32<V: Files>(files: &mut V, file: FileId, at: u32) -> Result<i32, Failed>
     requires live { IsLive (V.state files.old).files file }
     requires range { at + 4 ≤ size_at (V.state files.old).files file }
-    ensures number { IsTrue (V.state files.old).tells → IfOk result (λ n. n ≡ number_at (bytes_at (V.state files.old).files file) at 4) }
+    ensures number { IsTrue (V.state files.old).tells
+        → IfOk result (λ n. n ≡ number_at (bytes_at (V.state files.old).files file) at 4) }
     ensures same { OnOk result (V.state files.new ≡ V.state files.old) }
     ensures store { length (V.state files.new).store ≡ length (V.state files.old).store }
     ensures reads { V.reads files.new ≤ V.reads files.old + 6 }
@@ -88,7 +92,8 @@ fn read_i32<V: Files>(files: &mut V, file: FileId, at: u32) -> Result<i32, Faile
 fn read_i64<V: Files>(files: &mut V, file: FileId, at: u32) -> Result<i64, Failed>
     requires live { IsLive (V.state files.old).files file }
     requires range { at + 8 ≤ size_at (V.state files.old).files file }
-    ensures number { IsTrue (V.state files.old).tells → IfOk result (λ n. n ≡ number_at (bytes_at (V.state files.old).files file) at 8) }
+    ensures number { IsTrue (V.state files.old).tells
+        → IfOk result (λ n. n ≡ number_at (bytes_at (V.state files.old).files file) at 8) }
     ensures same { OnOk result (V.state files.new ≡ V.state files.old) }
     ensures store { length (V.state files.new).store ≡ length (V.state files.old).store }
     ensures reads { V.reads files.new ≤ V.reads files.old + 6 }

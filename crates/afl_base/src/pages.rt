@@ -1,5 +1,6 @@
 ghost use Rattle.std.specs.Prelude.{◌≡◌, ◌≤◌};
 ghost use Rattle.afl_base.specs.Fit.{fit, IsFit};
+ghost use Rattle.afl_base.specs.Regions.{regions};
 
 /// The least number of pages of the form `16 * 2^j` that holds `size` bytes behind a header of 32
 /// bytes: 16 to 32,768.
@@ -16,4 +17,17 @@ pub fn fit(size: u32) -> u16
         pages *= 2;
     }
     pages
+}
+
+/// How many regions of 128 bytes the `len` bytes from byte `at` on touch.
+pub fn regions(at: u32, len: usize) -> u16
+    requires { len ≤ 4194304 }
+    ensures { result ≡ regions at len }
+{
+    if len == 0 {
+        return 0;
+    }
+    let first = at as usize / 128;
+    let past = (at as usize + len + 127) / 128;
+    (past - first) as u16
 }

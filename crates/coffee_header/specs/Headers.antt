@@ -5,6 +5,10 @@ use Rattle.afl_base.specs.Fields.{u16_at, u16_bytes}
 use Rattle.afl_base.specs.Names.{is_file_name, is_name_byte, padded}
 use Rattle.coffee_header.specs.declared.header.Header.{Header}
 
+-- all bytes are zero
+abbrev pub is_zeros : List ℕ → Bool
+is_zeros bytes = list_all (λ b. b == 0) bytes
+
 -- The flags are a sum of VALID 1, ALLOCATED 2, OBSOLETE 4, MODIFIED 8 and LOG 16: an extent under
 -- construction (2), an active file (3) and one with a log (11), an active log (19), and the same
 -- three when they are obsolete (7, 15, 23).
@@ -21,7 +25,7 @@ name_in field = take (prefix_len is_name_byte field) field
 
 -- a name field holds a name, and zeros behind it
 abbrev pub is_name_field : List ℕ → Bool
-is_name_field field = is_file_name (name_in field) && list_all (λ b. b == 0) (drop (prefix_len is_name_byte field) field)
+is_name_field field = is_file_name (name_in field) && is_zeros (drop (prefix_len is_name_byte field) field)
 
 -- 32 bytes are a header: byte 8 is the kind, byte 9 the flags, and the bytes from 10 on the name
 abbrev pub is_header : List ℕ → Bool

@@ -7,5 +7,6 @@ use crate::header::Header;
 /// A header is read as it was written, and written as it was read.
 pub fn header_both_ways()
     ensures read { (h : Header) → IsValid h → header_of (header_bytes h) ≡ Some h }
-    ensures written { (bytes : List ℕ) (h : Header) → length bytes ≡ 32 → ((i : ℕ) → slice_index bytes i < 256) → header_of bytes ≡ Some h → header_bytes h ≡ bytes }
+    ensures written { (bytes : List ℕ) (h : Header) → length bytes ≡ 32
+        → ((i : ℕ) → slice_index bytes i < 256) → header_of bytes ≡ Some h → header_bytes h ≡ bytes }
 {}

@@ -1,7 +1,7 @@
 ghost use Rattle.std.specs.Prelude.{◌≡◌, ◌≤◌, ◌==◌, length, if◌then◌else◌};
 ghost use Rattle.std.specs.List.{list_all, prefix_len};
 ghost use Rattle.afl_base.specs.Names.{is_name_byte};
-ghost use Rattle.coffee_header.specs.Headers.{header_of, is_flags, is_kind, is_name_field, name_in};
+ghost use Rattle.coffee_header.specs.Headers.{header_of, is_flags, is_kind, is_name_field, is_zeros, name_in};
 
 use crate::header::Header;
 use afl_base::{Name, get_u16};
@@ -53,8 +53,9 @@ fn name_len(field: &[u8]) -> usize
     field.iter().take_while(|b| 33 <= **b && **b <= 126).count()
 }
 
-fn is_zeros(bytes: &[u8]) -> bool
-    ensures { result ≡ list_all (λ b. b == 0) bytes.now }
+/// Whether all bytes are zero.
+pub fn is_zeros(bytes: &[u8]) -> bool
+    ensures { result ≡ is_zeros bytes.now }
 {
     bytes.iter().all(|b| *b == 0)
 }

@@ -1,18 +1,14 @@
 -- Units: what begins at a page of the flash, by the page's first 32 bytes.
 use Rattle.std.specs.Prelude.{ℕ, ◌/◌, ◌+◌, Bool, true, false, ◌||◌, ◌==◌, bit_and, List, [], ◌∷◌, length, take, slice_index, Option, Some, if◌then◌else◌}
-use Rattle.std.specs.List.{list_all}
 use Rattle.std.specs.Option.{option_map}
 use Rattle.afl_base.specs.Image.{page_bytes}
-use Rattle.coffee_header.specs.Headers.{header_of}
+use Rattle.coffee_header.specs.Headers.{header_of, is_zeros}
 use Rattle.coffee_layout.specs.declared.unit.Unit.{Unit}
 use Rattle.coffee_layout.specs.declared.unit.Unit.TheVariants.{Free, Isolated, Extent}
 
 -- the pages of a flash
 abbrev pub pages_of : List ℕ → ℕ
 pages_of image = length image / 256
-
-abbrev pub is_zeros : List ℕ → Bool
-is_zeros bytes = list_all (λ b. b == 0) bytes
 
 -- the unit that 32 bytes begin: a free page where they are all zero, an isolated page where byte 9
 -- has both bits 2 and 32, an extent where they are a header

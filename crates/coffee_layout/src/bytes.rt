@@ -20,7 +20,8 @@ pub fn file_size<F: Flash>(
     requires some { 1 ≤ pages }
     requires placed { page.0 + pages ≤ pages_of (F.image flash.old) }
     requires log { LogFits (pages_of (F.image flash.old)) log }
-    ensures size { IsTrue F.tells → IfOk result (λ n. IsEnd (file_byte (F.image flash.old) page.0 log) (256 * pages - 32) n) }
+    ensures size { IsTrue F.tells → IfOk result
+        (λ n. IsEnd (file_byte (F.image flash.old) page.0 log) (256 * pages - 32) n) }
     ensures within { IfOk result (λ n. n + 32 ≤ 256 * pages) }
     ensures same { F.image flash.new ≡ F.image flash.old }
     ensures reads { F.reads flash.new ≤ F.reads flash.old + 6 * pages }
@@ -54,7 +55,8 @@ fn region_end<F: Flash>(
     requires few { len ≤ 128 }
     requires placed { 256 * page.0 + 32 + 128 * region + len ≤ length (F.image flash.old) }
     requires log { LogFits (pages_of (F.image flash.old)) log }
-    ensures end { IsTrue F.tells → IfOk result (λ n. IsEnd (λ p. file_byte (F.image flash.old) page.0 log (128 * region + p)) len n) }
+    ensures end { IsTrue F.tells → IfOk result
+        (λ n. IsEnd (λ p. file_byte (F.image flash.old) page.0 log (128 * region + p)) len n) }
     ensures within { IfOk result (λ n. n ≤ len) }
     ensures same { F.image flash.new ≡ F.image flash.old }
     ensures reads { F.reads flash.new ≤ F.reads flash.old + 3 }
@@ -95,7 +97,8 @@ pub fn region_place<F: Flash>(
     requires few { len ≤ 128 }
     requires placed { 256 * page.0 + 32 + 128 * region + len ≤ length (F.image flash.old) }
     requires log { LogFits (pages_of (F.image flash.old)) log }
-    ensures place { IsTrue F.tells → IfOk result (λ p. p ≡ region_place (F.image flash.old) page.0 log region) }
+    ensures place { IsTrue F.tells → IfOk result
+        (λ p. p ≡ region_place (F.image flash.old) page.0 log region) }
     ensures inside { IfOk result (λ p. p + len ≤ length (F.image flash.old)) }
     ensures same { F.image flash.new ≡ F.image flash.old }
     ensures reads { F.reads flash.new ≤ F.reads flash.old + 1 }
@@ -118,7 +121,8 @@ fn logged_place<F: Flash>(
 ) -> Result<u32, Failed>
     requires region { region < 16777216 }
     requires log { log.0 + 16 ≤ pages_of (F.image flash.old) }
-    ensures place { IsTrue F.tells → IfOk result (λ p. p ≡ place_or direct log.0 (last_in (table_of (F.image flash.old) log.0) region 30)) }
+    ensures place { IsTrue F.tells → IfOk result
+        (λ p. p ≡ place_or direct log.0 (last_in (table_of (F.image flash.old) log.0) region 30)) }
     ensures inside { IfOk result (λ p. (p ≡ direct) ⊎ (p + 128 ≤ length (F.image flash.old))) }
     ensures same { F.image flash.new ≡ F.image flash.old }
     ensures reads { F.reads flash.new ≤ F.reads flash.old + 1 }

@@ -34,7 +34,9 @@ pub(crate) fn first_failing<F: Flash>(
     table: &[FileAt],
     rule: ExtentRule,
 ) -> Result<Option<PageId>, Failed>
-    ensures first { IsTrue F.tells → IfOk result (λ r. (us : List Unit) (files : List Placed) → IsTiled nowhere (F.image flash.old) us → HasEntries rule (F.image flash.old) table.now files
+    ensures first { IsTrue F.tells → IfOk result
+        (λ r. (us : List Unit) (files : List Placed) → IsTiled nowhere (F.image flash.old) us
+        → HasEntries rule (F.image flash.old) table.now files
         → r ≡ option_map page_id (first_failing (keeps_rule rule (F.image flash.old) files) (extents 0 us))) }
     ensures same { F.image flash.new ≡ F.image flash.old }
     ensures reads { F.reads flash.new ≤ F.reads flash.old + 20 * pages_of (F.image flash.old) }
@@ -64,7 +66,9 @@ fn unit_keeps<F: Flash>(
     unit: &Unit,
 ) -> Result<bool, Failed>
     requires page { 256 * page + 256 ≤ length (F.image flash.old) }
-    ensures keeps { IsTrue F.tells → IfOk result (λ r. (files : List Placed) → HasEntries rule (F.image flash.old) table.now files → r ≡ keeps_unit (keeps_rule rule (F.image flash.old) files) page unit.now) }
+    ensures keeps { IsTrue F.tells → IfOk result
+        (λ r. (files : List Placed) → HasEntries rule (F.image flash.old) table.now files
+        → r ≡ keeps_unit (keeps_rule rule (F.image flash.old) files) page unit.now) }
     ensures same { F.image flash.new ≡ F.image flash.old }
     ensures reads { F.reads flash.new ≤ F.reads flash.old + 19 }
     ensures reads_later { F.reads flash.old ≤ F.reads flash.new }
@@ -85,7 +89,9 @@ fn extent_keeps<F: Flash>(
     header: &Header,
 ) -> Result<bool, Failed>
     requires page { 256 * page + 256 ≤ length (F.image flash.old) }
-    ensures keeps { IsTrue F.tells → IfOk result (λ r. (files : List Placed) → HasEntries rule (F.image flash.old) table.now files → r ≡ keeps_rule rule (F.image flash.old) files (record { page = page; header = header.now })) }
+    ensures keeps { IsTrue F.tells → IfOk result
+        (λ r. (files : List Placed) → HasEntries rule (F.image flash.old) table.now files
+        → r ≡ keeps_rule rule (F.image flash.old) files (record { page = page; header = header.now })) }
     ensures same { F.image flash.new ≡ F.image flash.old }
     ensures reads { F.reads flash.new ≤ F.reads flash.old + 19 }
     ensures reads_later { F.reads flash.old ≤ F.reads flash.new }

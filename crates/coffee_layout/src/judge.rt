@@ -55,7 +55,10 @@ pub fn check<F: Flash>(flash: &mut F, table: &mut Table) -> Result<Result<(), Ba
 fn broken_named<F: Flash>(flash: &mut F, table: &[FileAt]) -> Result<Option<BadImage>, Failed>
     requires few { length table.now ≤ 32 }
     requires placed { All (λ e. IsPlaced (pages_of (F.image flash.old)) e) table.now }
-    ensures first { IsTrue F.tells → IfOk result (λ r. (us : List Unit) → IsTiled nowhere (F.image flash.old) us → table.now ≡ map (λ f. entry_with f 0 0) (files_in us) → r ≡ first_some (named_rules (F.image flash.old) us)) }
+    ensures first { IsTrue F.tells → IfOk result
+        (λ r. (us : List Unit) → IsTiled nowhere (F.image flash.old) us
+        → table.now ≡ map (λ f. entry_with f 0 0) (files_in us)
+        → r ≡ first_some (named_rules (F.image flash.old) us)) }
     ensures same { F.image flash.new ≡ F.image flash.old }
     ensures reads { F.reads flash.new ≤ F.reads flash.old + 32 + 92 * pages_of (F.image flash.old) }
     ensures reads_later { F.reads flash.old ≤ F.reads flash.new }
@@ -78,7 +81,10 @@ fn broken_named<F: Flash>(flash: &mut F, table: &[FileAt]) -> Result<Option<BadI
 
 // The first of the rules 11 to 13 that is broken: those that look at the sizes, and rule 12 between.
 fn broken_measured<F: Flash>(flash: &mut F, table: &[FileAt]) -> Result<Option<BadImage>, Failed>
-    ensures first { IsTrue F.tells → IfOk result (λ r. (us : List Unit) → IsTiled nowhere (F.image flash.old) us → table.now ≡ map (entry_of (F.image flash.old)) (files_in us) → r ≡ first_some (measured_rules (F.image flash.old) us)) }
+    ensures first { IsTrue F.tells → IfOk result
+        (λ r. (us : List Unit) → IsTiled nowhere (F.image flash.old) us
+        → table.now ≡ map (entry_of (F.image flash.old)) (files_in us)
+        → r ≡ first_some (measured_rules (F.image flash.old) us)) }
     ensures same { F.image flash.new ≡ F.image flash.old }
     ensures reads { F.reads flash.new ≤ F.reads flash.old + 40 * pages_of (F.image flash.old) }
     ensures reads_later { F.reads flash.old ≤ F.reads flash.new }

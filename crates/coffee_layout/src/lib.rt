@@ -20,6 +20,8 @@ pub use file::{FileAt, Table};
 pub use judge::check;
 pub use laws::one_tiling;
 pub use logs::{read_table, records_used};
+pub use measure::has_few_pages;
+pub use memory::is_doubling;
 pub use next::next_unit;
 pub use sound::unit_in;
 pub use unit::{BadImage, Unit};

@@ -5,12 +5,12 @@ ghost use Rattle.afl_base.specs.Fields.{u16_at};
 ghost use Rattle.flash_range.specs.Range.{pages_touched};
 ghost use Rattle.coffee_layout.specs.FileBytes.{number_in, table_of, used_in};
 ghost use Rattle.coffee_layout.specs.Rules.{has_regions_inside, is_clear, is_front_filled, is_region_inside};
-ghost use Rattle.coffee_layout.specs.Units.{is_zeros};
+ghost use Rattle.coffee_header.specs.Headers.{is_zeros};
 ghost use Rattle.coffee_layout.specs.Walks.{fits_entry, is_its_log};
 
 use crate::file::FileAt;
-use crate::next::is_zeros;
 use afl_base::{Failed, Flash, PageId, get_u16};
+use coffee_header::is_zeros;
 use flash_range::read_range;
 
 // The bytes of a log's table: 30 numbers of two bytes.
@@ -36,7 +36,8 @@ fn is_its_log(file: &FileAt, page: u16) -> bool
 /// Rule 10, of the log at `page`.
 pub(crate) fn is_front_filled<F: Flash>(flash: &mut F, page: u16) -> Result<bool, Failed>
     requires page { 256 * page + 256 ≤ length (F.image flash.old) }
-    ensures filled { IsTrue F.tells → IfOk result (λ r. r ≡ is_front_filled (table_of (F.image flash.old) page)) }
+    ensures filled { IsTrue F.tells → IfOk result
+        (λ r. r ≡ is_front_filled (table_of (F.image flash.old) page)) }
     ensures same { F.image flash.new ≡ F.image flash.old }
     ensures reads { F.reads flash.new ≤ F.reads flash.old + 1 }
     ensures reads_later { F.reads flash.old ≤ F.reads flash.new }
@@ -95,7 +96,8 @@ pub(crate) fn fits_its_file<F: Flash>(
     page: u16,
 ) -> Result<bool, Failed>
     requires page { 256 * page + 256 ≤ length (F.image flash.old) }
-    ensures fits { IsTrue F.tells → IfOk result (λ r. r ≡ fits_entry page (table_of (F.image flash.old) page) files.now) }
+    ensures fits { IsTrue F.tells → IfOk result
+        (λ r. r ≡ fits_entry page (table_of (F.image flash.old) page) files.now) }
     ensures same { F.image flash.new ≡ F.image flash.old }
     ensures reads { F.reads flash.new ≤ F.reads flash.old + 1 }
     ensures reads_later { F.reads flash.old ≤ F.reads flash.new }
@@ -153,7 +155,8 @@ pub(crate) fn is_clear<F: Flash>(flash: &mut F, page: u16) -> Result<bool, Faile
 
 // Whether the bytes from one place up to another are zero, as far as the flash has them.
 fn range_is_zeros<F: Flash>(flash: &mut F, from: u32, to: u32) -> Result<bool, Failed>
-    ensures zeros { IsTrue F.tells → IfOk result (λ r. r ≡ is_zeros (slice_range (F.image flash.old) from to)) }
+    ensures zeros { IsTrue F.tells → IfOk result
+        (λ r. r ≡ is_zeros (slice_range (F.image flash.old) from to)) }
     ensures same { F.image flash.new ≡ F.image flash.old }
     ensures reads { F.reads flash.new ≤ F.reads flash.old + pages_touched from (to - from) }
     ensures reads_later { F.reads flash.old ≤ F.reads flash.new }
@@ -176,7 +179,8 @@ fn piece_is_zeros<F: Flash>(flash: &mut F, place: u32, n: u32) -> Result<bool, F
     requires some { 1 ≤ n }
     requires page { place % 256 + n ≤ 256 }
     requires range { place + n ≤ length (F.image flash.old) }
-    ensures zeros { IsTrue F.tells → IfOk result (λ r. r ≡ is_zeros (slice_range (F.image flash.old) place (place + n))) }
+    ensures zeros { IsTrue F.tells → IfOk result
+        (λ r. r ≡ is_zeros (slice_range (F.image flash.old) place (place + n))) }
     ensures same { F.image flash.new ≡ F.image flash.old }
     ensures reads { F.reads flash.new ≤ F.reads flash.old + 1 }
     ensures reads_later { F.reads flash.old ≤ F.reads flash.new }

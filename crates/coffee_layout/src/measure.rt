@@ -17,7 +17,10 @@ use afl_base::{Failed, Flash, Kind, PageId, fit};
 /// Measures the files of the table: their sizes, and how many records of their logs are in use.
 pub(crate) fn measure_table<F: Flash>(flash: &mut F, table: &mut Table) -> Result<(), Failed>
     requires placed { All (λ e. IsPlaced (pages_of (F.image flash.old)) e) table.old.items }
-    ensures measured { IsTrue F.tells → OnOk result ((files : List Placed) → LogsFit (pages_of (F.image flash.old)) files → table.old.items ≡ map (λ f. entry_with f 0 0) files → table.new.items ≡ map (entry_of (F.image flash.old)) files) }
+    ensures measured { IsTrue F.tells → OnOk result
+        ((files : List Placed) → LogsFit (pages_of (F.image flash.old)) files
+        → table.old.items ≡ map (λ f. entry_with f 0 0) files
+        → table.new.items ≡ map (entry_of (F.image flash.old)) files) }
     ensures fits { OnOk result (All (FitsIn (pages_of (F.image flash.old))) table.new.items) }
     ensures same { F.image flash.new ≡ F.image flash.old }
     ensures reads { F.reads flash.new ≤ F.reads flash.old + 32 * (1 + 6 * pages_of (F.image flash.old)) }
@@ -31,7 +34,10 @@ pub(crate) fn measure_table<F: Flash>(flash: &mut F, table: &mut Table) -> Resul
 fn measure_all<F: Flash>(flash: &mut F, table: &mut [FileAt]) -> Result<(), Failed>
     requires few { length table.old ≤ 32 }
     requires placed { All (λ e. IsPlaced (pages_of (F.image flash.old)) e) table.old }
-    ensures measured { IsTrue F.tells → OnOk result ((files : List Placed) → LogsFit (pages_of (F.image flash.old)) files → table.old ≡ map (λ f. entry_with f 0 0) files → table.new ≡ map (entry_of (F.image flash.old)) files) }
+    ensures measured { IsTrue F.tells → OnOk result
+        ((files : List Placed) → LogsFit (pages_of (F.image flash.old)) files
+        → table.old ≡ map (λ f. entry_with f 0 0) files
+        → table.new ≡ map (entry_of (F.image flash.old)) files) }
     ensures fits { OnOk result (All (FitsIn (pages_of (F.image flash.old))) table.new) }
     ensures same { F.image flash.new ≡ F.image flash.old }
     ensures reads { F.reads flash.new ≤ F.reads flash.old + 32 * (1 + 6 * pages_of (F.image flash.old)) }
@@ -106,7 +112,8 @@ fn log_used<F: Flash>(flash: &mut F, log: Option<PageId>) -> Result<u8, Failed>
 
 /// Rule 13: the first page of the first file of the table that has too many pages.
 pub(crate) fn first_oversized(table: &[FileAt]) -> Option<PageId>
-    ensures { (image : List ℕ) (files : List Placed) → table.now ≡ map (entry_of image) files → result ≡ option_map page_id (first_failing (has_few_pages image) files) }
+    ensures { (image : List ℕ) (files : List Placed) → table.now ≡ map (entry_of image) files
+        → result ≡ option_map page_id (first_failing (has_few_pages image) files) }
 {
     for file in table {
         if !has_few_pages(file) {
@@ -116,7 +123,8 @@ pub(crate) fn first_oversized(table: &[FileAt]) -> Option<PageId>
     None
 }
 
-fn has_few_pages(file: &FileAt) -> bool
+/// Whether a doubling file has at most twice the pages that its size needs; a fixed one always.
+pub fn has_few_pages(file: &FileAt) -> bool
     ensures { result ≡ has_few file.now }
 {
     match file.kind {

@@ -40,7 +40,8 @@ fn has_file_pages(kind: u8, pages: u16) -> bool
     }
 }
 
-fn is_doubling(pages: u16) -> bool
+/// Whether a doubling file may have so many pages: 16, 32, 64 and so on, up to 32,768.
+pub fn is_doubling(pages: u16) -> bool
     ensures { result ≡ is_doubling pages }
 {
     matches!(
@@ -61,7 +62,8 @@ fn has_log_fields(header: &Header) -> bool
 
 /// Rule 6: the first page of the first file whose name one before it has.
 pub(crate) fn repeated_name(table: &[FileAt]) -> Option<PageId>
-    ensures { (files : List Placed) → table.now ≡ map (λ f. entry_with f 0 0) files → result ≡ option_map page_id (first_repeated [] files) }
+    ensures { (files : List Placed) → table.now ≡ map (λ f. entry_with f 0 0) files
+        → result ≡ option_map page_id (first_repeated [] files) }
 {
     for (i, file) in table.iter().enumerate() {
         if is_named(&table[..i], &file.name) {

@@ -25,7 +25,9 @@ pub(crate) fn first_unlogged<F: Flash>(
 ) -> Result<Option<PageId>, Failed>
     requires few { length table.now ≤ 32 }
     requires placed { All (λ e. IsPlaced (pages_of (F.image flash.old)) e) table.now }
-    ensures first { IsTrue F.tells → IfOk result (λ r. (us : List Unit) → IsTiled nowhere (F.image flash.old) us → table.now ≡ map (λ f. entry_with f 0 0) (files_in us)
+    ensures first { IsTrue F.tells → IfOk result
+        (λ r. (us : List Unit) → IsTiled nowhere (F.image flash.old) us
+        → table.now ≡ map (λ f. entry_with f 0 0) (files_in us)
         → r ≡ option_map page_id (first_failing (names_its_log (logs_in us)) (files_in us))) }
     ensures same { F.image flash.new ≡ F.image flash.old }
     ensures reads { F.reads flash.new ≤ F.reads flash.old + 32 * (1 + pages_of (F.image flash.old)) }
@@ -43,7 +45,9 @@ pub(crate) fn first_unlogged<F: Flash>(
 // Rule 8, of the file at `page`.
 fn names_its_log<F: Flash>(flash: &mut F, page: PageId) -> Result<bool, Failed>
     requires page { 256 * page.0 + 256 ≤ length (F.image flash.old) }
-    ensures names { IsTrue F.tells → IfOk result (λ r. (us : List Unit) (f : Placed) → IsTiled nowhere (F.image flash.old) us → page.0 ≡ f.page → unit_at (F.image flash.old) f.page ≡ Some (Extent f.header)
+    ensures names { IsTrue F.tells → IfOk result
+        (λ r. (us : List Unit) (f : Placed) → IsTiled nowhere (F.image flash.old) us
+        → page.0 ≡ f.page → unit_at (F.image flash.old) f.page ≡ Some (Extent f.header)
         → r ≡ names_its_log (logs_in us) f) }
     ensures same { F.image flash.new ≡ F.image flash.old }
     ensures reads { F.reads flash.new ≤ F.reads flash.old + (1 + pages_of (F.image flash.old)) }
@@ -59,7 +63,9 @@ fn names_its_log<F: Flash>(flash: &mut F, page: PageId) -> Result<bool, Failed>
 }
 
 fn header_names_its_log<F: Flash>(flash: &mut F, header: &Header) -> Result<bool, Failed>
-    ensures names { IsTrue F.tells → IfOk result (λ r. (us : List Unit) (f : Placed) → IsTiled nowhere (F.image flash.old) us → f.header ≡ header.now → r ≡ names_its_log (logs_in us) f) }
+    ensures names { IsTrue F.tells → IfOk result
+        (λ r. (us : List Unit) (f : Placed) → IsTiled nowhere (F.image flash.old) us
+        → f.header ≡ header.now → r ≡ names_its_log (logs_in us) f) }
     ensures same { F.image flash.new ≡ F.image flash.old }
     ensures reads { F.reads flash.new ≤ F.reads flash.old + pages_of (F.image flash.old) }
     ensures reads_later { F.reads flash.old ≤ F.reads flash.new }
@@ -76,7 +82,9 @@ fn header_names_its_log<F: Flash>(flash: &mut F, header: &Header) -> Result<bool
 
 // Whether an active log of this name begins at the page `log`.
 fn is_active_log<F: Flash>(flash: &mut F, log: u16, name: &Name) -> Result<bool, Failed>
-    ensures active { IsTrue F.tells → IfOk result (λ r. (us : List Unit) → IsTiled nowhere (F.image flash.old) us → r ≡ list_any (is_log_at log name.now) (logs_in us)) }
+    ensures active { IsTrue F.tells → IfOk result
+        (λ r. (us : List Unit) → IsTiled nowhere (F.image flash.old) us
+        → r ≡ list_any (is_log_at log name.now) (logs_in us)) }
     ensures same { F.image flash.new ≡ F.image flash.old }
     ensures reads { F.reads flash.new ≤ F.reads flash.old + pages_of (F.image flash.old) }
     ensures reads_later { F.reads flash.old ≤ F.reads flash.new }

@@ -1,11 +1,12 @@
 ghost use Rattle.std.specs.Prelude.{◌≡◌, ◌+◌, ◌*◌, ◌≤◌, ◌==◌, length, bit_and, IsTrue, IfOk};
 ghost use Rattle.std.specs.List.{list_all};
 ghost use Rattle.afl_base.specs.Causes.{HasCause};
-ghost use Rattle.coffee_layout.specs.Units.{is_zeros, unit_at, unit_of};
+ghost use Rattle.coffee_header.specs.Headers.{is_zeros};
+ghost use Rattle.coffee_layout.specs.Units.{unit_at, unit_of};
 
 use crate::unit::Unit;
 use afl_base::{Failed, Flash, PageId};
-use coffee_header::read_header;
+use coffee_header::{is_zeros, read_header};
 
 /// The unit that begins at `page`, None exactly where the page's first 32 bytes are no unit's. One
 /// read; the image stays.
@@ -36,10 +37,4 @@ fn unit_of(bytes: &[u8; 32]) -> Option<Unit>
         Some(header) => Some(Unit::Extent(header)),
         None => None,
     }
-}
-
-pub(crate) fn is_zeros(bytes: &[u8]) -> bool
-    ensures { result ≡ is_zeros bytes.now }
-{
-    bytes.iter().all(|b| *b == 0)
 }

@@ -2,12 +2,14 @@ ghost use Rattle.std.specs.Prelude.{◌≡◌, ℕ, Bool, ◌+◌, ◌*◌, ◌�
 ghost use Rattle.afl_base.specs.Causes.{HasCause};
 ghost use Rattle.afl_base.specs.Image.{page_bytes};
 ghost use Rattle.coffee_layout.specs.Tiling.{broken_at, broken_suffix, broken_unit, nowhere};
-ghost use Rattle.coffee_layout.specs.Units.{is_free, is_zeros, unit_at};
+ghost use Rattle.coffee_header.specs.Headers.{is_zeros};
+ghost use Rattle.coffee_layout.specs.Units.{is_free, unit_at};
 ghost use Rattle.coffee_layout.specs.Walks.{IsInside};
 
-use crate::next::{is_zeros, next_unit};
+use crate::next::next_unit;
 use crate::unit::Unit;
 use afl_base::{Failed, Flash, PageId};
+use coffee_header::is_zeros;
 
 /// The unit that begins at `page`, or the first of the rules 1 to 4 that is broken there: where
 /// `after_free` says that the unit before is a free page, and no extent may be under construction.
@@ -21,7 +23,8 @@ pub(crate) fn sound_unit<F: Flash>(
     requires page { page < pages }
     requires pages { 256 * pages ≡ length (F.image flash.old) }
     ensures unit { IsTrue F.tells → IfOk result (λ r. MatchResult r
-        (λ u. (unit_at (F.image flash.old) page ≡ Some u) × (broken_at nowhere (F.image flash.old) page after_free ≡ None))
+        (λ u. (unit_at (F.image flash.old) page ≡ Some u)
+        × (broken_at nowhere (F.image flash.old) page after_free ≡ None))
         (λ rule. broken_at nowhere (F.image flash.old) page after_free ≡ Some rule)) }
     ensures inside { IfOk result (λ r. IfOk r (λ u. IsInside pages page u)) }
     ensures same { F.image flash.new ≡ F.image flash.old }
@@ -45,7 +48,9 @@ pub(crate) fn sound_unit<F: Flash>(
 pub fn unit_in<F: Flash>(flash: &mut F, page: u16, pages: u16) -> Result<Option<Unit>, Failed>
     requires page { page < pages }
     requires pages { 256 * pages ≡ length (F.image flash.old) }
-    ensures unit { IsTrue F.tells → (building : ℕ → Bool) (after_free : Bool) → broken_at building (F.image flash.old) page after_free ≡ None → IfOk result (λ r. r ≡ unit_at (F.image flash.old) page) }
+    ensures unit { IsTrue F.tells → (building : ℕ → Bool) (after_free : Bool)
+        → broken_at building (F.image flash.old) page after_free ≡ None → IfOk result
+        (λ r. r ≡ unit_at (F.image flash.old) page) }
     ensures inside { IfOk result (λ r. IfSome r (λ u. IsInside pages page u)) }
     ensures same { F.image flash.new ≡ F.image flash.old }
     ensures reads { F.reads flash.new ≤ F.reads flash.old + 1 }
@@ -65,7 +70,8 @@ pub fn unit_in<F: Flash>(flash: &mut F, page: u16, pages: u16) -> Result<Option<
 // Whether all bytes of a page that is read as free are zero. Of other pages nothing is said.
 fn page_is_zeros<F: Flash>(flash: &mut F, page: PageId, unit: &Unit) -> Result<bool, Failed>
     requires page { 256 * page.0 + 256 ≤ length (F.image flash.old) }
-    ensures zeros { IsTrue F.tells → is_free unit.now ≡ true → IfOk result (λ z. z ≡ is_zeros (page_bytes (F.image flash.old) page.0)) }
+    ensures zeros { IsTrue F.tells → is_free unit.now ≡ true → IfOk result
+        (λ z. z ≡ is_zeros (page_bytes (F.image flash.old) page.0)) }
     ensures same { F.image flash.new ≡ F.image flash.old }
     ensures reads { F.reads flash.new ≤ F.reads flash.old + 1 }
     ensures reads_later { F.reads flash.old ≤ F.reads flash.new }

@@ -21,7 +21,8 @@ pub(crate) fn judge_units<F: Flash>(
 ) -> Result<Result<Option<PageId>, BadImage>, Failed>
     requires empty { table.old.items ≡ [] }
     ensures judged { IsTrue F.tells → IfOk result (λ r. MatchResult r
-        (λ extra. (broken_tiling nowhere (F.image flash.old) ≡ None) × IsSketched table.new.items extra (files_in (units_of (F.image flash.old))))
+        (λ extra. (broken_tiling nowhere (F.image flash.old) ≡ None)
+        × IsSketched table.new.items extra (files_in (units_of (F.image flash.old))))
         (λ bad. broken_tiling nowhere (F.image flash.old) ≡ Some bad)) }
     ensures placed { All (λ e. IsPlaced (pages_of (F.image flash.old)) e) table.new.items }
     ensures same { F.image flash.new ≡ F.image flash.old }
@@ -48,8 +49,10 @@ pub(crate) fn judge_units<F: Flash>(
 // Appends the entry of a unit that is an active file. Where the table is full, the answer is the
 // page of the first such file.
 fn list_unit(table: &mut Table, extra: Option<PageId>, page: u16, unit: &Unit) -> Option<PageId>
-    ensures listed { (files : List Placed) → IsSketched table.old.items extra files → IsSketched table.new.items result (files ++ files_of_unit page unit.now) }
-    ensures placed { (pages : ℕ) → IsInside pages page unit.now → All (λ e. IsPlaced pages e) table.old.items → All (λ e. IsPlaced pages e) table.new.items }
+    ensures listed { (files : List Placed) → IsSketched table.old.items extra files
+        → IsSketched table.new.items result (files ++ files_of_unit page unit.now) }
+    ensures placed { (pages : ℕ) → IsInside pages page unit.now
+        → All (λ e. IsPlaced pages e) table.old.items → All (λ e. IsPlaced pages e) table.new.items }
 {
     match unit {
         Unit::Free => extra,
@@ -63,8 +66,11 @@ fn list_unit(table: &mut Table, extra: Option<PageId>, page: u16, unit: &Unit) -
 }
 
 fn list_file(table: &mut Table, extra: Option<PageId>, page: u16, header: &Header) -> Option<PageId>
-    ensures listed { (files : List Placed) → IsSketched table.old.items extra files → IsSketched table.new.items result (files ++ record { page = page; header = header.now } ∷ []) }
-    ensures placed { (pages : ℕ) → (1 ≤ header.now.max_pages) × (page + header.now.max_pages ≤ pages) → All (λ e. IsPlaced pages e) table.old.items → All (λ e. IsPlaced pages e) table.new.items }
+    ensures listed { (files : List Placed) → IsSketched table.old.items extra files
+        → IsSketched table.new.items result (files ++ record { page = page; header = header.now } ∷ []) }
+    ensures placed { (pages : ℕ) → (1 ≤ header.now.max_pages)
+        × (page + header.now.max_pages ≤ pages) → All (λ e. IsPlaced pages e) table.old.items
+        → All (λ e. IsPlaced pages e) table.new.items }
 {
     if table.is_full() {
         return extra.or(Some(PageId(page)));

@@ -1,14 +1,16 @@
-ghost use Rattle.std.specs.Prelude.{◌≡◌, ℕ, ◌+◌, ◌*◌, ◌%◌, ◌≤◌, ◌<◌, min, true, false, length, slice_index, Option, None, Some, IsTrue, IfOk, OnOk};
+ghost use Rattle.std.specs.Prelude.{◌≡◌, ℕ, ◌+◌, ◌-◌, ◌*◌, ◌/◌, ◌%◌, ◌≤◌, ◌<◌, min, true, false, length, slice_index, Option, None, Some, IsTrue, IfOk, OnOk};
 ghost use Rattle.afl_base.specs.Causes.{HasCause};
+ghost use Rattle.afl_base.specs.Image.{page_bytes};
 ghost use Rattle.afl_base.specs.Regions.{regions};
-ghost use Rattle.flash_range.specs.Range.{Outside};
+ghost use Rattle.flash_range.specs.Range.{PageOutside};
 ghost use Rattle.coffee_layout.specs.FileBytes.{file_byte, last_in, table_of};
 ghost use Rattle.coffee_layout.specs.Units.{pages_of};
 ghost use Rattle.coffee_layout.specs.Walks.{LogFits};
 ghost use Rattle.coffee_log.specs.FileChanges.{FileBecomes, IsFile, IsPlain, one_if, records_for};
+ghost use Rattle.coffee_log.specs.Logs.{AddsRecords, IsLog};
 
 use crate::records::log_put;
-use afl_base::{Failed, Flash, PageId};
+use afl_base::{Failed, Flash, PageId, put_bytes};
 use coffee_layout::{last_record, read_table, region_place};
 use flash_range::{program_range, read_range};
 
@@ -84,6 +86,10 @@ pub fn overwrite_file<F: Flash>(
     ensures used { IfOk result (λ n. n ≡ used + regions at (length bytes.now)) }
     ensures becomes { IsTrue F.tells → IfOk result (λ n. (size : ℕ) → IsFile (F.image flash.old) page.0 pages (Some log) used size → at + length bytes.now ≤ size → size + 32 ≤ 256 * pages
         → FileBecomes (F.image flash.old) (F.image flash.new) page.0 pages (Some log) n size at bytes.now) }
+    ensures adds { IsTrue F.tells → IfOk result (λ n. IsLog (F.image flash.old) log.0 used
+        → AddsRecords (F.image flash.old) (F.image flash.new) log.0 used n (at / 128) (256 * pages - 32)) }
+    ensures other_pages { IsTrue F.tells → (p : ℕ) → PageOutside (256 * log.0) 4096 p
+        → page_bytes (F.image flash.new) p ≡ page_bytes (F.image flash.old) p }
     ensures size { length (F.image flash.new) ≡ length (F.image flash.old) }
     ensures reads { F.reads flash.new ≤ F.reads flash.old + 3 * regions at (length bytes.now) }
     ensures reads_later { F.reads flash.old ≤ F.reads flash.new }
@@ -233,6 +239,10 @@ fn put_part<F: Flash>(
     requires fits { at + length bytes.now + 32 ≤ 256 * pages }
     ensures becomes { IsTrue F.tells → OnOk result ((size total : ℕ) → IsFile (F.image flash.old) page.0 pages (Some log) used size → size ≤ total → at + length bytes.now ≤ total → total + 32 ≤ 256 * pages
         → FileBecomes (F.image flash.old) (F.image flash.new) page.0 pages (Some log) (used + 1) total at bytes.now) }
+    ensures adds { IsTrue F.tells → OnOk result (IsLog (F.image flash.old) log.0 used
+        → AddsRecords (F.image flash.old) (F.image flash.new) log.0 used (used + 1) (at / 128) (256 * pages - 32)) }
+    ensures other_pages { IsTrue F.tells → (p : ℕ) → PageOutside (256 * log.0) 4096 p
+        → page_bytes (F.image flash.new) p ≡ page_bytes (F.image flash.old) p }
     ensures size { length (F.image flash.new) ≡ length (F.image flash.old) }
     ensures reads { F.reads flash.new ≤ F.reads flash.old + 3 }
     ensures reads_later { F.reads flash.old ≤ F.reads flash.new }
@@ -262,6 +272,7 @@ fn load_front<F: Flash>(
     requires placed { 256 * page.0 + 32 + at + len ≤ length (F.image flash.old) }
     requires log { log.0 + 16 ≤ pages_of (F.image flash.old) }
     ensures bytes { IsTrue F.tells → OnOk result ((k : ℕ) → k < len → slice_index buffer.new k ≡ file_byte (F.image flash.old) page.0 (Some log) (at + k)) }
+    ensures behind { (k : ℕ) → len ≤ k → slice_index buffer.new k ≡ slice_index buffer.old k }
     ensures same { F.image flash.new ≡ F.image flash.old }
     ensures reads { F.reads flash.new ≤ F.reads flash.old + 3 }
     ensures reads_later { F.reads flash.old ≤ F.reads flash.new }
@@ -269,13 +280,4 @@ fn load_front<F: Flash>(
 {
     read_part(flash, page, Some(log), at, &mut buffer[..len as usize])?;
     Ok(())
-}
-
-// Puts bytes into the middle of a region's.
-fn put_bytes(buffer: &mut [u8], at: usize, bytes: &[u8])
-    requires { at + length bytes.now ≤ length buffer.old }
-    ensures here { (k : ℕ) → k < length bytes.now → slice_index buffer.new (at + k) ≡ slice_index bytes.now k }
-    ensures others { (k : ℕ) → Outside at (length bytes.now) k → slice_index buffer.new k ≡ slice_index buffer.old k }
-{
-    buffer[at..at + bytes.len()].copy_from_slice(bytes);
 }

@@ -7,12 +7,12 @@ use Rattle.afl_base.specs.Fields.{u16_bytes}
 use Rattle.afl_base.specs.Image.{or_at, page_bytes}
 use Rattle.afl_base.specs.Names.{is_file_name, is_name_byte}
 use Rattle.afl_base.proofs.Images.{byte_in_page, length_or_at, length_range, or_at_range, range_at}
-use Rattle.coffee_header.specs.Headers.{IsValid, header_bytes}
+use Rattle.coffee_header.specs.Headers.{IsValid, header_bytes, is_zeros}
 use Rattle.coffee_header.specs.declared.header.Header.{Header}
 use Rattle.coffee_header.proofs.HeaderLaws.{header_back}
 use Rattle.coffee_layout.specs.Marks.{IsLowestRun, free_pages}
 use Rattle.coffee_layout.specs.Tiling.{IsTiled, KeepRules, broken_at, broken_unit, units_of}
-use Rattle.coffee_layout.specs.Units.{is_active_flags, is_free, is_zeros, pages_of, size_of, total, unit_at, unit_of}
+use Rattle.coffee_layout.specs.Units.{is_active_flags, is_free, pages_of, size_of, total, unit_at, unit_of}
 use Rattle.coffee_layout.specs.declared.unit.Unit.{Unit}
 use Rattle.coffee_layout.specs.declared.unit.Unit.TheVariants.{Free, Isolated, Extent}
 use Rattle.coffee_layout.proofs.Frames.{ends_free, keep_rest, replaced, total-append}

@@ -16,24 +16,24 @@ use Rattle.coffee_layout.proofs.Tilings.{tiled_unbroken}
 use Rattle.coffee_log.specs.FileChanges.{Apart}
 use Rattle.coffee_log.proofs.UnitLaws.{FilesApart}
 use Rattle.coffee_merge.specs.Begun.{unit_begun}
-use Rattle.coffee_merge.specs.Holding.{Holds, IsIn, Table, building_of, draft_header, file_flags, file_header, has_extent_at, is_held, log_header}
+use Rattle.coffee_merge.specs.Holding.{Entries, Holds, IsIn, building_of, draft_header, file_flags, file_header, has_extent_at, is_held, log_header}
 use Rattle.coffee_merge.proofs.Begun.{HavePages, active_begun, begun_apart, have_pages}
 
 -- UNITS
 
-pub holds_tiled : (image : List ℕ) (table : Table) (draft : Option FileAt) → Holds image table draft → IsTiled (building_of draft) image (units_of image)
+pub holds_tiled : (image : List ℕ) (table : Entries) (draft : Option FileAt) → Holds image table draft → IsTiled (building_of draft) image (units_of image)
 holds_tiled image table draft h = tiled_unbroken (building_of draft) image h.whole h.tiled
 
-pub holds_pages : (image : List ℕ) (table : Table) (draft : Option FileAt) → Holds image table draft → HavePages (units_of image)
+pub holds_pages : (image : List ℕ) (table : Entries) (draft : Option FileAt) → Holds image table draft → HavePages (units_of image)
 holds_pages image table draft h = have_pages (building_of draft) image (units_of image) (holds_tiled image table draft h)
 
-pub file_unit : (image : List ℕ) (table : Table) (draft : Option FileAt) (i : ℕ) (e : FileAt) → Holds image table draft → IsIn table i e → unit_begun (units_of image) 0 e.page.0 ≡ Some (Extent (file_header e))
+pub file_unit : (image : List ℕ) (table : Entries) (draft : Option FileAt) (i : ℕ) (e : FileAt) → Holds image table draft → IsIn table i e → unit_begun (units_of image) 0 e.page.0 ≡ Some (Extent (file_header e))
 file_unit image table draft i e h is = (active_begun (units_of image) e.page.0 (file_header e) (h.files i e is)).0
 
-pub log_unit : (image : List ℕ) (table : Table) (draft : Option FileAt) (i : ℕ) (e : FileAt) (l : PageId) → Holds image table draft → IsIn table i e → e.log ≡ Some l → unit_begun (units_of image) 0 l.0 ≡ Some (Extent (log_header e.name))
+pub log_unit : (image : List ℕ) (table : Entries) (draft : Option FileAt) (i : ℕ) (e : FileAt) (l : PageId) → Holds image table draft → IsIn table i e → e.log ≡ Some l → unit_begun (units_of image) 0 l.0 ≡ Some (Extent (log_header e.name))
 log_unit image table draft i e l h is log = (active_begun (units_of image) l.0 (log_header e.name) (h.logs i e l is log)).0
 
-pub draft_unit : (image : List ℕ) (table : Table) (d : FileAt) → Holds image table (Some d) → unit_begun (units_of image) 0 d.page.0 ≡ Some (Extent (draft_header d))
+pub draft_unit : (image : List ℕ) (table : Entries) (d : FileAt) → Holds image table (Some d) → unit_begun (units_of image) 0 d.page.0 ≡ Some (Extent (draft_header d))
 draft_unit image table d h = (active_begun (units_of image) d.page.0 (draft_header d) (h.begun d refl)).0
 
 -- PAGES
@@ -51,7 +51,7 @@ one_header : (g k : Header) → Some (Extent g) ≡ Some (Extent k) → g ≡ k
 one_header g k e = cc
 
 -- two extents with different headers have no page in common
-apart : (image : List ℕ) (table : Table) (draft : Option FileAt) → Holds image table draft → (page other : ℕ) (g k : Header) → unit_begun (units_of image) 0 page ≡ Some (Extent g) → unit_begun (units_of image) 0 other ≡ Some (Extent k) → (g ≡ k → ⊥)
+apart : (image : List ℕ) (table : Entries) (draft : Option FileAt) → Holds image table draft → (page other : ℕ) (g k : Header) → unit_begun (units_of image) 0 page ≡ Some (Extent g) → unit_begun (units_of image) 0 other ≡ Some (Extent k) → (g ≡ k → ⊥)
     → (p : ℕ) → page ≤ p → p < page + g.max_pages → other ≤ p → p < other + k.max_pages → ⊥
 apart image table draft h page other g k first second differ p from to behind before =
     ⊎_elim
@@ -60,7 +60,7 @@ apart image table draft h page other g k first second differ p from to behind be
     (cases_eq page other)
 
 -- files in two places have no page in common, logs included
-pub entries_apart : (image : List ℕ) (table : Table) (draft : Option FileAt) (i j : ℕ) (e d : FileAt) → Holds image table draft → IsIn table i e → IsIn table j d → i ≢ j → FilesApart e.page.0 e.pages e.log d.page.0 d.pages d.log
+pub entries_apart : (image : List ℕ) (table : Entries) (draft : Option FileAt) (i j : ℕ) (e d : FileAt) → Holds image table draft → IsIn table i e → IsIn table j d → i ≢ j → FilesApart e.page.0 e.pages e.log d.page.0 d.pages d.log
 entries_apart image table draft i j e d h is other differ =
     let first = file_unit image table draft i e h is in
     let second = file_unit image table draft j d h other in
@@ -74,7 +74,7 @@ entries_apart image table draft i j e d h is other differ =
     }
 
 -- nor has a file with the draft
-pub draft_apart : (image : List ℕ) (table : Table) (d : FileAt) (i : ℕ) (e : FileAt) → Holds image table (Some d) → IsIn table i e → FilesApart d.page.0 d.pages None e.page.0 e.pages e.log
+pub draft_apart : (image : List ℕ) (table : Entries) (d : FileAt) (i : ℕ) (e : FileAt) → Holds image table (Some d) → IsIn table i e → FilesApart d.page.0 d.pages None e.page.0 e.pages e.log
 draft_apart image table d i e h is =
     let draft = draft_unit image table d h in
     let file = file_unit image table (Some d) i e h is in
@@ -88,12 +88,12 @@ draft_apart image table d i e h is =
     }
 
 -- nor has an extent with its own log
-pub log_apart : (image : List ℕ) (table : Table) (draft : Option FileAt) (i : ℕ) (e : FileAt) (l : PageId) → Holds image table draft → IsIn table i e → e.log ≡ Some l → Apart e.page.0 e.pages l.0
+pub log_apart : (image : List ℕ) (table : Entries) (draft : Option FileAt) (i : ℕ) (e : FileAt) (l : PageId) → Holds image table draft → IsIn table i e → e.log ≡ Some l → Apart e.page.0 e.pages l.0
 log_apart image table draft i e l h is log = (h.stored i e is).file.apart l log
 
 -- PLACES OF A TABLE
 
-pub in_table : (table : Table) (i : ℕ) (e : FileAt) → IsIn table i e → i < length table
+pub in_table : (table : Entries) (i : ℕ) (e : FileAt) → IsIn table i e → i < length table
 in_table table i e is =
     ⊎_elim
     (λ (inside : i < length table). inside)
@@ -104,15 +104,15 @@ in_table table i e is =
     none_some e h = cc
 
 -- the entry that was set
-pub is_in_here : (table : Table) (i : ℕ) (e : FileAt) → i < length table → IsIn (set table i (Some e)) i e
+pub is_in_here : (table : Entries) (i : ℕ) (e : FileAt) → i < length table → IsIn (set table i (Some e)) i e
 is_in_here table i e inside = get_or-set_same table i (Some e) None inside
 
 -- and each other
-pub is_in_there : (table : Table) (i : ℕ) (o : Option FileAt) (k : ℕ) (d : FileAt) → k ≢ i → IsIn table k d → IsIn (set table i o) k d
+pub is_in_there : (table : Entries) (i : ℕ) (o : Option FileAt) (k : ℕ) (d : FileAt) → k ≢ i → IsIn table k d → IsIn (set table i o) k d
 is_in_there table i o k d other is = get_or-set_other table i k o None other ∙ is
 
 -- an entry of the table after a change is the one that was set, or stood there before
-pub is_in_set : (table : Table) (i : ℕ) (o : Option FileAt) (k : ℕ) (d : FileAt) → IsIn (set table i o) k d → ((k ≡ i) × (o ≡ Some d)) ⊎ ((k ≢ i) × IsIn table k d)
+pub is_in_set : (table : Entries) (i : ℕ) (o : Option FileAt) (k : ℕ) (d : FileAt) → IsIn (set table i o) k d → ((k ≡ i) × (o ≡ Some d)) ⊎ ((k ≢ i) × IsIn table k d)
 is_in_set table i o k d is =
     ⊎_elim
     (λ (here : k ≡ i).
@@ -152,17 +152,17 @@ pub log_here : (page : ℕ) (e : FileAt) (l : PageId) → e.log ≡ Some l → l
 log_here page e l is here = true_or (e.page.0 == page) (is_its_log page e.log) (inr (ap (is_its_log page) is ∙ eq_true l.0 page here))
 
 -- one of the files of a table has an extent at a page
-pub record HeldBy (table : Table) (page : ℕ) : Type 0 where
+pub record HeldBy (table : Entries) (page : ℕ) : Type 0 where
   pub place : ℕ
   pub entry : FileAt
   pub is_in : IsIn table place entry
   pub extent : has_extent_at page (Some entry) ≡ true
 
-held_first : (page : ℕ) (o : Option FileAt) (os : Table) → has_extent_at page o ≡ true → HeldBy (o ∷ os) page
+held_first : (page : ℕ) (o : Option FileAt) (os : Entries) → has_extent_at page o ≡ true → HeldBy (o ∷ os) page
 held_first page None os t = cc
 held_first page (Some e) os t = record { place = 0; entry = e; is_in = refl; extent = t }
 
-held_any : (page : ℕ) (table : Table) → list_any (has_extent_at page) table ≡ true → HeldBy table page
+held_any : (page : ℕ) (table : Entries) → list_any (has_extent_at page) table ≡ true → HeldBy table page
 held_any page [] t = cc
 held_any page (o ∷ os) t =
     ⊎_elim
@@ -171,19 +171,19 @@ held_any page (o ∷ os) t =
     (or_true (has_extent_at page o) (list_any (has_extent_at page) os) t)
 
 -- an extent that is held is one of a file's, or of the draft's
-pub held_by : (table : Table) (draft : Option FileAt) (page : ℕ) → is_held table draft page ≡ true → HeldBy table page ⊎ (has_extent_at page draft ≡ true)
+pub held_by : (table : Entries) (draft : Option FileAt) (page : ℕ) → is_held table draft page ≡ true → HeldBy table page ⊎ (has_extent_at page draft ≡ true)
 held_by table draft page t =
     ⊎_elim (λ (a : list_any (has_extent_at page) table ≡ true). inl (held_any page table a)) (λ (b : has_extent_at page draft ≡ true). inr b) (or_true (list_any (has_extent_at page) table) (has_extent_at page draft) t)
 
 -- the extents of a file and of the draft are held
-pub held_in : (table : Table) (draft : Option FileAt) (i : ℕ) (e : FileAt) (page : ℕ) → IsIn table i e → has_extent_at page (Some e) ≡ true → is_held table draft page ≡ true
+pub held_in : (table : Entries) (draft : Option FileAt) (i : ℕ) (e : FileAt) (page : ℕ) → IsIn table i e → has_extent_at page (Some e) ≡ true → is_held table draft page ≡ true
 held_in table draft i e page is t =
     true_or (list_any (has_extent_at page) table) (has_extent_at page draft) (inl (list_any_at (has_extent_at page) table i None (in_table table i e is) (ap (has_extent_at page) is ∙ t)))
 
-pub held_draft : (table : Table) (draft : Option FileAt) (page : ℕ) → has_extent_at page draft ≡ true → is_held table draft page ≡ true
+pub held_draft : (table : Entries) (draft : Option FileAt) (page : ℕ) → has_extent_at page draft ≡ true → is_held table draft page ≡ true
 held_draft table draft page t = true_or (list_any (has_extent_at page) table) (has_extent_at page draft) (inr t)
 
-held_now : (table : Table) (i : ℕ) (now after : Option FileAt) (page : ℕ) → i < length table → (has_extent_at page now ≡ true) ⊎ (has_extent_at page after ≡ true) → is_held (set table i now) after page ≡ true
+held_now : (table : Entries) (i : ℕ) (now after : Option FileAt) (page : ℕ) → i < length table → (has_extent_at page now ≡ true) ⊎ (has_extent_at page after ≡ true) → is_held (set table i now) after page ≡ true
 held_now table i now after page inside t =
     ⊎_elim
     (λ (a : has_extent_at page now ≡ true).
@@ -194,7 +194,7 @@ held_now table i now after page inside t =
 
 -- What a table holds after a change of one place and of the draft: what those of that place and the
 -- old draft's extents are held for is still to be held.
-pub held_set : (table : Table) (i : ℕ) (now draft after : Option FileAt) (page : ℕ) → i < length table → is_held table draft page ≡ true
+pub held_set : (table : Entries) (i : ℕ) (now draft after : Option FileAt) (page : ℕ) → i < length table → is_held table draft page ≡ true
     → ((e : FileAt) → IsIn table i e → has_extent_at page (Some e) ≡ true → (has_extent_at page now ≡ true) ⊎ (has_extent_at page after ≡ true))
     → (has_extent_at page draft ≡ true → (has_extent_at page now ≡ true) ⊎ (has_extent_at page after ≡ true))
     → is_held (set table i now) after page ≡ true

@@ -3,10 +3,12 @@ pub mod Begun
 pub mod Commits
 pub mod Contents
 pub mod Drafting
+pub mod FreeUnits
 pub mod HeaderMarks
 pub mod Holdings
 pub mod Kept
 pub mod Logged
+pub mod Lowest
 pub mod Marked
 pub mod MovedFiles
 pub mod Moving

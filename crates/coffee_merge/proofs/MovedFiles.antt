@@ -19,7 +19,7 @@ use Rattle.coffee_layout.specs.declared.file.FileAt.{FileAt}
 use Rattle.coffee_layout.proofs.Measures.{few_same}
 use Rattle.coffee_layout.proofs.Spelling.{spells_file}
 use Rattle.coffee_layout.proofs.Tests.{true_or_false}
-use Rattle.coffee_merge.specs.Holding.{Holds, IsIn, IsStored, KeepsContent, Moves, Stays, Table}
+use Rattle.coffee_merge.specs.Holding.{Entries, Holds, IsIn, IsStored, KeepsContent, Moves, Stays}
 use Rattle.coffee_merge.specs.TableFiles.{SameFiles, file_of}
 use Rattle.coffee_merge.proofs.Holdings.{in_table, is_in_here, is_in_set, is_in_there}
 use Rattle.coffee_merge.proofs.SoundEntries.{table_by}
@@ -56,19 +56,19 @@ content_same old new e s t kept = let room = s.fits.size in file_same old new e 
 -- FILES
 
 -- a table has a file that is one of another's
-record HasFile (image : List ℕ) (table : Table) (f : NamedFile) : Type 0 where
+record HasFile (image : List ℕ) (table : Entries) (f : NamedFile) : Type 0 where
   place : ℕ
   entry : FileAt
   is_in : IsIn table place entry
   same : file_of image entry ≡ f
 
-same_files : (old new : List ℕ) (table after : Table) → Holds old table None → Holds new after None → ((i : ℕ) (e : FileAt) → IsIn table i e → HasFile new after (file_of old e)) → ((i : ℕ) (e : FileAt) → IsIn after i e → HasFile old table (file_of new e)) → SameFiles old new
+same_files : (old new : List ℕ) (table after : Entries) → Holds old table None → Holds new after None → ((i : ℕ) (e : FileAt) → IsIn table i e → HasFile new after (file_of old e)) → ((i : ℕ) (e : FileAt) → IsIn after i e → HasFile old table (file_of new e)) → SameFiles old new
 same_files old new table after h k there back = record {
   kept = λ f has. let r = file_entry old table f h has in let s = there r.0 r.1 r.2 in subst (Contains (files_of new)) (s.same ∙ sym r.3) (entry_file new after s.place s.entry k s.is_in);
   only = λ f has. let r = file_entry new after f k has in let s = back r.0 r.1 r.2 in subst (Contains (files_of old)) (s.same ∙ sym r.3) (entry_file old table s.place s.entry h s.is_in);
 }
 
-pub stays_files : (old new : List ℕ) (table : Table) → Holds old table None → Stays old new table → SameFiles old new
+pub stays_files : (old new : List ℕ) (table : Entries) → Holds old table None → Stays old new table → SameFiles old new
 stays_files old new table h s =
     let same : (i : ℕ) (e : FileAt) → IsIn table i e → file_of new e ≡ file_of old e = λ i e is. content_same old new e (h.stored i e is) (s.holds.stored i e is) (s.kept i e is) in
     same_files old new table table h s.holds
@@ -81,7 +81,7 @@ pub record KeepsEntry (from to : FileAt) : Type 0 where
   pub kind : to.kind ≡ from.kind
   pub size : to.size ≡ from.size
 
-pub moves_files : (old new : List ℕ) (table : Table) (i : ℕ) (from to : FileAt) → Holds old table None → IsIn table i from → Moves old new table i from to → KeepsEntry from to → SameFiles old new
+pub moves_files : (old new : List ℕ) (table : Entries) (i : ℕ) (from to : FileAt) → Holds old table None → IsIn table i from → Moves old new table i from to → KeepsEntry from to → SameFiles old new
 moves_files old new table i from to h is m keeps =
     let after = set table i (Some to) in
     let here = is_in_here table i to (in_table table i from is) in
@@ -100,19 +100,19 @@ moves_files old new table i from to h is m keeps =
     some_same : (a b : FileAt) → Some a ≡ Some b → a ≡ b
     some_same a b e = cc
 
-    one_entry : (table : Table) (i : ℕ) (a b : FileAt) → IsIn table i a → IsIn table i b → a ≡ b
+    one_entry : (table : Entries) (i : ℕ) (a b : FileAt) → IsIn table i a → IsIn table i b → a ≡ b
     one_entry table i a b p q = let both : Some a ≡ Some b = sym p ∙ q in cc
 
 -- RULES
 
 -- the entries of a table after a change of one place have few pages
-few_after : (table : Table) (i k : ℕ) (to e : FileAt) → ((j : ℕ) (d : FileAt) → IsIn table j d → has_few d ≡ true) → has_few to ≡ true → IsIn (set table i (Some to)) k e → has_few e ≡ true
+few_after : (table : Entries) (i k : ℕ) (to e : FileAt) → ((j : ℕ) (d : FileAt) → IsIn table j d → has_few d ≡ true) → has_few to ≡ true → IsIn (set table i (Some to)) k e → has_few e ≡ true
 few_after table i k to e sparing few at = ⊎_elim
     (λ (a : (k ≡ i) × (Some to ≡ Some e)). let same : to ≡ e = cc in subst (λ (d : FileAt). has_few d ≡ true) same few)
     (λ (a : (k ≢ i) × IsIn table k e). sparing k e a.1)
     (is_in_set table i (Some to) k e at)
 
-few_or_moved : (table : Table) (i k : ℕ) (to e : FileAt) → ((j : ℕ) (d : FileAt) → IsIn table j d → has_few d ≡ true) → IsIn (set table i (Some to)) k e → e.page.0 ≢ to.page.0 → has_few e ≡ true
+few_or_moved : (table : Entries) (i k : ℕ) (to e : FileAt) → ((j : ℕ) (d : FileAt) → IsIn table j d → has_few d ≡ true) → IsIn (set table i (Some to)) k e → e.page.0 ≢ to.page.0 → has_few e ≡ true
 few_or_moved table i k to e sparing at differ = ⊎_elim
     (λ (a : (k ≡ i) × (Some to ≡ Some e)). let same : to ≡ e = cc in absurd (differ (ap (λ (d : FileAt). d.page.0) (sym same))))
     (λ (a : (k ≢ i) × IsIn table k e). sparing k e a.1)
@@ -132,7 +132,7 @@ first_at test page (f ∷ fs) others = ⊎_elim
     true_false e = cc
 
 -- a file that fails rule 13 is the one that moved
-moved_rule : (image : List ℕ) (table : Table) (to : FileAt) → Holds image table None → length table ≤ 32 → ((k : ℕ) (e : FileAt) → IsIn table k e → e.page.0 ≢ to.page.0 → has_few e ≡ true)
+moved_rule : (image : List ℕ) (table : Entries) (to : FileAt) → Holds image table None → length table ≤ 32 → ((k : ℕ) (e : FileAt) → IsIn table k e → e.page.0 ≢ to.page.0 → has_few e ≡ true)
     → IfSome (broken_image image) (λ bad. bad ≡ record { rule = 13; place = to.page.0 })
 moved_rule image table to h few sparing =
     subst (λ o. IfSome o (λ bad. bad ≡ record { rule = 13; place = to.page.0 })) (sym (rules_sound image h.tiled (holds_rules image table h few)))
@@ -154,19 +154,19 @@ length-places [] = refl
 length-places (x ∷ xs) = omega (arith, length-places xs)
 
 -- the table of the files of an image
-abbrev pub table_in : List ℕ → Table
+abbrev pub table_in : List ℕ → Entries
 table_in image = table_by (entry_of image) (files_in (units_of image)) 0
 
-pub sound_stays_files : (old new : List ℕ) → ((table : Table) → Holds old table None → Stays old new table) → broken_image old ≡ None → 256 * pages_of old ≡ length old → SameFiles old new
+pub sound_stays_files : (old new : List ℕ) → ((table : Entries) → Holds old table None → Stays old new table) → broken_image old ≡ None → 256 * pages_of old ≡ length old → SameFiles old new
 sound_stays_files old new stays sound whole = let h = sound_held old 0 sound whole in stays_files old new (table_in old) h (stays (table_in old) h)
 
-pub sound_stays : (old new : List ℕ) → ((table : Table) → Holds old table None → Stays old new table) → broken_image old ≡ None → 256 * pages_of old ≡ length old → broken_image new ≡ None
+pub sound_stays : (old new : List ℕ) → ((table : Entries) → Holds old table None → Stays old new table) → broken_image old ≡ None → 256 * pages_of old ≡ length old → broken_image new ≡ None
 sound_stays old new stays sound whole =
     let h = sound_held old 0 sound whole in
     held_sound new (table_in old) (stays (table_in old) h).holds (omega (arith, length-places (listed old), sound_few old sound whole)) (λ i e is. sound_sparing old 0 i e sound whole is)
 
 abbrev pub MovesIn : (old new : List ℕ) → (from to : FileAt) → Type 0
-MovesIn old new from to = (table : Table) (i : ℕ) → Holds old table None → IsIn table i from → Moves old new table i from to
+MovesIn old new from to = (table : Entries) (i : ℕ) → Holds old table None → IsIn table i from → Moves old new table i from to
 
 pub sound_moves_files : (old new : List ℕ) (from to : FileAt) → MovesIn old new from to → KeepsEntry from to → broken_image old ≡ None → 256 * pages_of old ≡ length old → Contains (listed old) from → SameFiles old new
 sound_moves_files old new from to moves keeps sound whole has =
@@ -198,7 +198,7 @@ listed_among make (x ∷ xs) zero e low is = (x, inl refl, is)
 listed_among make (x ∷ xs) (suc i) e low is = let r = listed_among make xs i e (omega arith) is in let a : Among (r.0) (x ∷ xs) = inr r.1 in (r.0, a, r.2)
 
 -- each entry that is listed is one of the table that is held
-held_listed : (image : List ℕ) (table : Table) (e : FileAt) → Holds image table None → Contains (listed image) e → (k : ℕ) × IsIn table k e
+held_listed : (image : List ℕ) (table : Entries) (e : FileAt) → Holds image table None → Contains (listed image) e → (k : ℕ) × IsIn table k e
 held_listed image table e h has =
     let r = listed_among (entry_of image) (files_in (units_of image)) has.0 e has.1 has.2 in
     let by = file_holder image table r.0 h r.1 in

@@ -3,7 +3,7 @@ use Rattle.std.proofs.Common.{◌≡◌, ◌≢◌, ℕ, ◌+◌, ◌-◌, ◌*�
 use Rattle.afl_base.specs.declared.ids.PageId.{PageId}
 use Rattle.coffee_layout.specs.FileBytes.{file_byte}
 use Rattle.coffee_layout.specs.declared.file.FileAt.{FileAt}
-use Rattle.coffee_merge.specs.Holding.{Begins, Commits, Holds, IsIn, Moves, Table, extent_of}
+use Rattle.coffee_merge.specs.Holding.{Begins, Commits, Entries, Holds, IsIn, Moves, extent_of}
 use Rattle.coffee_merge.proofs.Contents.{CopiesInto}
 
 -- the entry of a file in another extent, with its log put into it
@@ -12,10 +12,10 @@ moved_to file page pages = record file { page = page; pages = pages; log = None;
 
 -- what a new extent, the copy of the file into it and its commit give together
 pub moved : (old begun copied new : List ℕ) (file : FileAt) (page : PageId) (pages : ℕ) → file.size + 32 ≤ 256 * pages
-    → ((table : Table) (size : ℕ) → Holds old table None → size + 32 ≤ 256 * pages → Begins old begun table (extent_of file.name file.kind page.0 pages size))
+    → ((table : Entries) (size : ℕ) → Holds old table None → size + 32 ≤ 256 * pages → Begins old begun table (extent_of file.name file.kind page.0 pages size))
     → CopiesInto begun copied page pages file file.size
-    → ((table : Table) (d : FileAt) (i : ℕ) → Holds copied table (Some d) → d.page ≡ page → IsIn table i file → file.name ≡ d.name → (1 ≤ d.size → file_byte copied page.0 None (d.size - 1) ≢ 0) → Commits copied new table i d)
-    → (table : Table) (i : ℕ) → Holds old table None → IsIn table i file → Moves old new table i file (moved_to file page pages)
+    → ((table : Entries) (d : FileAt) (i : ℕ) → Holds copied table (Some d) → d.page ≡ page → IsIn table i file → file.name ≡ d.name → (1 ≤ d.size → file_byte copied page.0 None (d.size - 1) ≢ 0) → Commits copied new table i d)
+    → (table : Entries) (i : ℕ) → Holds old table None → IsIn table i file → Moves old new table i file (moved_to file page pages)
 moved old begun copied new file page pages fits begins copies commits table i h is =
     let stored = h.stored i file is in
     let room = stored.fits.size in

@@ -16,7 +16,7 @@ use Rattle.coffee_layout.proofs.KeptFiles.{AreActive, KeepsActive, kept_file}
 use Rattle.coffee_layout.proofs.Tilings.{unbroken_tiled}
 use Rattle.coffee_space.specs.Collection.{active_extents}
 use Rattle.coffee_merge.specs.Begun.{active_at}
-use Rattle.coffee_merge.specs.Holding.{Holds, IsIn, Stays, Table, file_header, log_header}
+use Rattle.coffee_merge.specs.Holding.{Entries, Holds, IsIn, Stays, file_header, log_header}
 use Rattle.coffee_merge.proofs.Begun.{active_begun, active_same, begun_marks, have_pages}
 use Rattle.coffee_merge.proofs.Holdings.{holds_pages, holds_tiled}
 use Rattle.coffee_merge.proofs.Kept.{KeepsBodies, bodies_kept, body_kept, holds_bodies}
@@ -28,12 +28,12 @@ active_marks us page h is =
     λ q low high. begun_marks is_active us page (Extent h) q begun.0 low high ∙ begun.1
 
 -- so a file of the table keeps its bytes
-pub file_kept : (old new : List ℕ) (table : Table) (draft : Option FileAt) (i : ℕ) (e : FileAt) → Holds old table draft → KeepsActive old new (active_pages (units_of old)) → IsIn table i e → KeepsFile old new e.page.0 e.pages e.log
+pub file_kept : (old new : List ℕ) (table : Entries) (draft : Option FileAt) (i : ℕ) (e : FileAt) → Holds old table draft → KeepsActive old new (active_pages (units_of old)) → IsIn table i e → KeepsFile old new e.page.0 e.pages e.log
 file_kept old new table draft i e h keeps is =
     kept_file old new (active_pages (units_of old)) e.page.0 e.pages e.log keeps (active_marks (units_of old) e.page.0 (file_header e) (h.files i e is))
     (λ l log. active_marks (units_of old) l.0 (log_header e.name) (h.logs i e l is log))
 
-pub obtained : (old new : List ℕ) (table : Table) → Holds old table None → length new ≡ length old → IsTiled nowhere new (units_of new) → active_extents (units_of new) ≡ active_extents (units_of old)
+pub obtained : (old new : List ℕ) (table : Entries) → Holds old table None → length new ≡ length old → IsTiled nowhere new (units_of new) → active_extents (units_of new) ≡ active_extents (units_of old)
     → KeepsActive old new (active_pages (units_of old)) → Stays old new table
 obtained old new table h long tiled same keeps =
     let bodies : KeepsBodies old new table = λ i e is. body_kept old new e.page.0 e.pages e.log (file_kept old new table None i e h keeps is) in
@@ -68,7 +68,7 @@ pub kept_by : {T : Type 0} (old new : List ℕ) (r : Result T FileError) → len
     → UnlessFailed r ((building : ℕ → Bool) (us : List Unit) → IsTiled building old us → IsTiled building new (units_of new))
     → UnlessFailed r ((building : ℕ → Bool) (us : List Unit) → IsTiled building old us → active_extents (units_of new) ≡ active_extents us)
     → UnlessFailed r ((building : ℕ → Bool) (us : List Unit) → IsTiled building old us → KeepsActive old new (active_pages us))
-    → UnlessFailed r ((table : Table) → Holds old table None → Stays old new table)
+    → UnlessFailed r ((table : Entries) → Holds old table None → Stays old new table)
 kept_by old new r long tiled extents active =
     unless_three r _ _ _ _ tiled extents active (λ p q s table h.
     let was = holds_tiled old table None h in

@@ -12,7 +12,9 @@ use Rattle.coffee_layout.specs.declared.unit.Unit.TheVariants.{Extent}
 use Rattle.coffee_merge.specs.Begun.{active_at, active_header, unit_begun}
 use Rattle.coffee_merge.specs.Flags.{flagged, obsoleted}
 use Rattle.coffee_merge.specs.Holding.{file_flags, file_header, has_extent_at, log_header}
+use Rattle.coffee_merge.specs.Takes.{FreesNone}
 use Rattle.coffee_merge.proofs.Begun.{HavePages, begun_apart, begun_inside}
+use Rattle.coffee_merge.proofs.FreeUnits.{frees_then, reflags_frees}
 use Rattle.coffee_merge.proofs.Holdings.{extent_here, log_here}
 use Rattle.coffee_merge.proofs.Kept.{KeepsBody}
 use Rattle.coffee_merge.proofs.Marked.{Reflags, flagged_extent}
@@ -82,6 +84,7 @@ pub record Retires (old new : List ℕ) (e : FileAt) : Type 0 where
   pub gone_log : (l : PageId) → e.log ≡ Some l → active_at (units_of new) l.0 ≡ None
   pub others : (q : ℕ) → (has_extent_at q (Some e) ≡ true → ⊥) → unit_begun (units_of new) 0 q ≡ unit_begun (units_of old) 0 q
   pub bytes : OnlyFlags old new (units_of old)
+  pub frees : FreesNone old new
 
 obsolete_extent : (old : List ℕ) (e : FileAt) → IsTiled nowhere old (units_of old) → unit_begun (units_of old) 0 e.page.0 ≡ Some (Extent (file_header e)) → Reflags nowhere old (flagged old e.page.0 4) e.page.0 (record (file_header e) { flags = bit_or (file_flags e.log) 4 })
 obsolete_extent old e tiled is =
@@ -99,6 +102,7 @@ retires_by old e None log_is tiled is logged =
       gone_log = λ l some. cc;
       others = λ q out. r.others q (λ same. out (extent_here q e (sym same)));
       bytes = only_one nowhere old (flagged old e.page.0 4) e.page.0 (record (file_header e) { flags = bit_or (file_flags e.log) 4 }) (Extent (file_header e)) r is;
+      frees = reflags_frees nowhere old (flagged old e.page.0 4) e.page.0 (record (file_header e) { flags = bit_or (file_flags e.log) 4 }) r;
     }
 retires_by old e (Some l) log_is tiled is logged =
     let r = obsolete_extent old e tiled is in
@@ -117,6 +121,9 @@ retires_by old e (Some l) log_is tiled is logged =
       others = λ q out. s.others q (λ same. out (log_here q e l log_is (sym same))) ∙ r.others q (λ same. out (extent_here q e (sym same)));
       bytes = only_then nowhere old (flagged old e.page.0 4) (flagged (flagged old e.page.0 4) l.0 4) e.page.0 (record (file_header e) { flags = bit_or (file_flags e.log) 4 }) (Extent (file_header e)) r is
           (only_one nowhere (flagged old e.page.0 4) (flagged (flagged old e.page.0 4) l.0 4) l.0 (record (log_header e.name) { flags = bit_or 19 4 }) (Extent (log_header e.name)) s begun);
+      frees = frees_then old (flagged old e.page.0 4) (flagged (flagged old e.page.0 4) l.0 4)
+          (reflags_frees nowhere old (flagged old e.page.0 4) e.page.0 (record (file_header e) { flags = bit_or (file_flags e.log) 4 }) r)
+          (reflags_frees nowhere (flagged old e.page.0 4) (flagged (flagged old e.page.0 4) l.0 4) l.0 (record (log_header e.name) { flags = bit_or 19 4 }) s);
     }
 
 -- OBSOLETE in the headers of a file and of its log

@@ -12,7 +12,7 @@ use Rattle.coffee_layout.specs.Rules.{first_repeated, same_name}
 use Rattle.coffee_layout.specs.declared.file.FileAt.{FileAt}
 use Rattle.coffee_layout.proofs.Namings.{Each}
 use Rattle.coffee_layout.proofs.Tests.{both, false_eq, true_eq, true_or_false}
-use Rattle.coffee_merge.specs.Holding.{IsIn, Table, file_flags, kind_number, log_number}
+use Rattle.coffee_merge.specs.Holding.{Entries, IsIn, file_flags, kind_number, log_number}
 use Rattle.coffee_merge.proofs.SoundUnits.{Among, Rising, each_all, each_pick, or_second}
 
 -- PLACES
@@ -38,7 +38,7 @@ at_same (x ∷ xs) zero f g a b = sym a ∙ b
 at_same (x ∷ xs) (suc i) f g a b = at_same xs i f g a b
 
 -- the table of the entries of some files, with free places behind them
-abbrev pub table_by : (Placed → FileAt) → List Placed → ℕ → Table
+abbrev pub table_by : (Placed → FileAt) → List Placed → ℕ → Entries
 table_by make files n = map Some (map make files) ++ replicate n None
 
 no_entry : (n i : ℕ) (e : FileAt) → get_or (replicate n None) i None ≡ Some e → ⊥

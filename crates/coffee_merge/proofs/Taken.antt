@@ -1,5 +1,5 @@
 -- Pages that were free stay free, but for those that a new extent takes.
-use Rattle.std.proofs.Common.{◌≡◌, ⊎_elim, ℕ, ◌+◌, ◌-◌, ◌*◌, ◌/◌, ◌≤◌, ◌<◌, Bool, true, false, List, [], ◌∷◌, length, get_or, Option, Some, None, refl, ap, sym, subst, ◌∙◌, arith}
+use Rattle.std.proofs.Common.{◌≡◌, ⊎_elim, ℕ, ◌+◌, ◌-◌, ◌*◌, ◌/◌, ◌≤◌, ◌<◌, Bool, true, false, List, [], ◌∷◌, length, get_or, Some, None, refl, ap, sym, subst, ◌∙◌, arith}
 use Rattle.std.proofs.lemmas.Bool.{cases_lt}
 use Rattle.std.proofs.lemmas.List.{get_or_past}
 use Rattle.std.specs.Prelude.{Result, Ok, Err}
@@ -26,50 +26,17 @@ use Rattle.coffee_space.proofs.MarksLeft.{length-pages_by, mark_left, marks_left
 use Rattle.coffee_space.proofs.Walks.{marks_behind, marks_front}
 use Rattle.coffee_merge.specs.Begun.{unit_begun}
 use Rattle.coffee_merge.specs.Flags.{flagged, obsoleted}
-use Rattle.coffee_merge.specs.Holding.{Begins, Holds, IsIn, Table, TakesOnly, building_of, draft_header, extent_of, file_header, is_free_at, log_header}
+use Rattle.coffee_merge.specs.Holding.{Begins, Entries, Holds, IsIn, TakesOnly, building_of, draft_header, extent_of, file_header, is_free_at, log_header}
 use Rattle.coffee_merge.proofs.Beginning.{IsBegun}
-use Rattle.coffee_merge.proofs.Begun.{HavePages, begun_here, begun_marks, begun_there, have_pages}
+use Rattle.coffee_merge.proofs.Begun.{HavePages, begun_marks, have_pages}
 use Rattle.coffee_merge.proofs.Commits.{replaced_file, replaced_log, replaced_retires, valid}
 use Rattle.coffee_merge.proofs.Contents.{CopiesInto, place_in, write_tiled}
 use Rattle.coffee_merge.proofs.Drafting.{draft_begun}
+use Rattle.coffee_merge.proofs.FreeUnits.{free_or_extent, free_unit, yes_no}
 use Rattle.coffee_merge.proofs.Holdings.{LogAt, draft_unit, extent_read, file_unit, holds_pages, holds_tiled, log_unit}
 use Rattle.coffee_merge.proofs.Logged.{HasLog}
 use Rattle.coffee_merge.proofs.Marked.{Reflags}
 use Rattle.coffee_merge.proofs.Retired.{Retires, retires}
-
-yes_no : {A : Type 0} (b : Bool) → b ≡ true → b ≡ false → A
-yes_no true e f = cc
-yes_no false e f = cc
-
--- FREE UNITS
-
-free_here : (u : Unit) (us : List Unit) (from k : ℕ) → is_free u ≡ true → k < size_of u → unit_begun (u ∷ us) from (from + k) ≡ Some Free
-free_here Free us from k e low = begun_here Free us from (from + k) (omega arith)
-free_here Isolated us from k e low = cc
-free_here (Extent h) us from k e low = cc
-
-free_from : (us : List Unit) (from k : ℕ) → HavePages us → get_or (free_pages us) k false ≡ true → unit_begun us from (from + k) ≡ Some Free
-free_from [] from k h e = cc
-free_from (u ∷ us) from k h e =
-    let some = h.0 in
-    ⊎_elim
-    (λ (here : k < size_of u). free_here u us from k (sym (marks_front (is_free u) (free_pages us) (size_of u) k here) ∙ e) here)
-    (λ (behind : size_of u ≤ k).
-    let back : size_of u + (k - size_of u) ≡ k = omega arith in
-    let place : from + size_of u + (k - size_of u) ≡ from + k = omega arith in
-    begun_there u us from (from + k) (λ s. omega arith)
-    ∙ ap (unit_begun us (from + size_of u)) (sym place)
-    ∙ free_from us (from + size_of u) (k - size_of u) h.1 (sym (marks_behind (is_free u) (free_pages us) (size_of u) (k - size_of u)) ∙ ap (λ j. get_or (free_pages (u ∷ us)) j false) back ∙ e))
-    (cases_lt k (size_of u))
-
--- a free page is a unit
-free_unit : (us : List Unit) (page : ℕ) → HavePages us → get_or (free_pages us) page false ≡ true → unit_begun us 0 page ≡ Some Free
-free_unit us page h e =
-    let place : 0 + page ≡ page = omega arith in
-    ap (unit_begun us 0) (sym place) ∙ free_from us 0 page h e
-
-free_or_extent : (g : Header) (o : Option Unit) → o ≡ Some Free → o ≡ Some (Extent g) → ⊥
-free_or_extent g o e f = let both : Some Free ≡ Some (Extent g) = sym e ∙ f in cc
 
 -- CHANGES
 
@@ -102,39 +69,39 @@ retires_takes old new e pages is logged r =
 
 -- CALLS
 
-pub draft_takes : (old new : List ℕ) (table : Table) (name : List ℕ) (kind : Kind) (page pages : ℕ) → Holds old table None → IsLowestRun (free_pages (units_of old)) pages page → 1 ≤ pages → pages < 65536 → is_file_name name ≡ true
+pub draft_takes : (old new : List ℕ) (table : Entries) (name : List ℕ) (kind : Kind) (page pages : ℕ) → Holds old table None → IsLowestRun (free_pages (units_of old)) pages page → 1 ≤ pages → pages < 65536 → is_file_name name ≡ true
     → new ≡ or_at old (256 * page) (header_bytes (draft_header (extent_of name kind page pages 0))) → TakesOnly old new page pages
 draft_takes old new table name kind page pages h low some small good is = begun_takes _ old new page (draft_header (extent_of name kind page pages 0)) (holds_pages old table None h) (draft_begun old new table name kind page pages 0 h low some small good is)
 
-pub commit_takes : (old : List ℕ) (table : Table) (d : FileAt) (page : PageId) → Holds old table (Some d) → d.page ≡ page → TakesOnly old (flagged old page.0 1) 0 0
+pub commit_takes : (old : List ℕ) (table : Entries) (d : FileAt) (page : PageId) → Holds old table (Some d) → d.page ≡ page → TakesOnly old (flagged old page.0 1) 0 0
 commit_takes old table d page h place =
     subst (λ (p : PageId). TakesOnly old (flagged old p.0 1) 0 0) place
     (reflags_takes _ old (flagged old d.page.0 1) d.page.0 (draft_header d) _ (holds_pages old table (Some d) h) (draft_unit old table d h) (valid old table d h))
 
-pub retire_takes : (old : List ℕ) (table : Table) (i : ℕ) (e : FileAt) → Holds old table None → IsIn table i e → TakesOnly old (obsoleted old e.page.0 e.log) 0 0
+pub retire_takes : (old : List ℕ) (table : Entries) (i : ℕ) (e : FileAt) → Holds old table None → IsIn table i e → TakesOnly old (obsoleted old e.page.0 e.log) 0 0
 retire_takes old table i e h is =
     let unit = file_unit old table None i e h is in
     let logs : (l : PageId) → e.log ≡ Some l → unit_begun (units_of old) 0 l.0 ≡ Some (Extent (log_header e.name)) = λ l log. log_unit old table None i e l h is log in
     retires_takes old (obsoleted old e.page.0 e.log) e (holds_pages old table None h) unit logs (retires old e (holds_tiled old table None h) unit logs)
 
-pub replace_takes : (old : List ℕ) (table : Table) (d e : FileAt) (i : ℕ) (page : PageId) → Holds old table (Some d) → d.page ≡ page → IsIn table i e → TakesOnly old (obsoleted (flagged old page.0 1) e.page.0 e.log) 0 0
+pub replace_takes : (old : List ℕ) (table : Entries) (d e : FileAt) (i : ℕ) (page : PageId) → Holds old table (Some d) → d.page ≡ page → IsIn table i e → TakesOnly old (obsoleted (flagged old page.0 1) e.page.0 e.log) 0 0
 replace_takes old table d e i page h place is =
     subst (λ (p : PageId). TakesOnly old (obsoleted (flagged old p.0 1) e.page.0 e.log) 0 0) place
     (takes_then old (flagged old d.page.0 1) (obsoleted (flagged old d.page.0 1) e.page.0 e.log) 0 0 (commit_takes old table d d.page h refl)
     (retires_takes (flagged old d.page.0 1) (obsoleted (flagged old d.page.0 1) e.page.0 e.log) e (have_pages nowhere (flagged old d.page.0 1) (units_of (flagged old d.page.0 1)) (valid old table d h).tiled)
     (replaced_file old table d e i h is) (λ l log. replaced_log old table d e i l h is log) (replaced_retires old table d e i h is)))
 
-pub write_takes : (old : List ℕ) (table : Table) (d : FileAt) (at : ℕ) (bytes : List ℕ) → Holds old table (Some d) → at + length bytes + 32 ≤ 256 * d.pages → TakesOnly old (or_at old (place_in d at) bytes) 0 0
+pub write_takes : (old : List ℕ) (table : Entries) (d : FileAt) (at : ℕ) (bytes : List ℕ) → Holds old table (Some d) → at + length bytes + 32 ≤ 256 * d.pages → TakesOnly old (or_at old (place_in d at) bytes) 0 0
 write_takes old table d at bytes h fits = takes_same old (or_at old (place_in d at) bytes) (units_tiled (building_of (Some d)) (or_at old (place_in d at) bytes) (units_of old) (write_tiled old table d at bytes h fits))
 
-pub log_takes : (old new : List ℕ) (table : Table) (i : ℕ) (e : FileAt) (log : PageId) → Holds old table None → IsIn table i e → HasLog old new (units_of old) e log → TakesOnly old new log.0 16
+pub log_takes : (old new : List ℕ) (table : Entries) (i : ℕ) (e : FileAt) (log : PageId) → Holds old table None → IsIn table i e → HasLog old new (units_of old) e log → TakesOnly old new log.0 16
 log_takes old new table i e log h is has =
     takes_by old new log.0 16 (holds_pages old table None h)
     (λ p free out. has.units p (λ same. free_or_extent (file_header e) (unit_begun (units_of old) 0 p) free (ap (unit_begun (units_of old) 0) same ∙ file_unit old table None i e h is)) out ∙ free)
 
 -- the same of a place and a page that are named otherwise
 pub write_takes_there : (old new : List ℕ) (page : PageId) (pages place at : ℕ) (bytes : List ℕ) → place ≡ 256 * page.0 + 32 + at → new ≡ or_at old place bytes → at + length bytes + 32 ≤ 256 * pages
-    → (table : Table) (d : FileAt) → Holds old table (Some d) → d.page ≡ page → d.pages ≡ pages → TakesOnly old new 0 0
+    → (table : Entries) (d : FileAt) → Holds old table (Some d) → d.page ≡ page → d.pages ≡ pages → TakesOnly old new 0 0
 write_takes_there old new page pages place at bytes there is fits table d h same_page same_pages =
     let here : place ≡ place_in d at = there ∙ ap (λ (q : PageId). 256 * q.0 + 32 + at) (sym same_page) in
     subst (λ image. TakesOnly old image 0 0) (sym (is ∙ ap (λ k. or_at old k bytes) here)) (write_takes old table d at bytes h (omega arith))
@@ -142,24 +109,24 @@ write_takes_there old new page pages place at bytes there is fits table d h same
 -- a copy of so many bytes takes no page
 abbrev pub CopyTakes : (old new : List ℕ) → PageId → (pages : ℕ) → FileAt → Type 0
 CopyTakes old new page pages from =
-    (table : Table) (d : FileAt) (i : ℕ) → Holds old table (Some d) → d.page ≡ page → d.pages ≡ pages → d.size ≡ from.size → IsIn table i from → ((p : ℕ) → p + 32 < 256 * pages → file_byte old page.0 None p ≡ 0) → TakesOnly old new 0 0
+    (table : Entries) (d : FileAt) (i : ℕ) → Holds old table (Some d) → d.page ≡ page → d.pages ≡ pages → d.size ≡ from.size → IsIn table i from → ((p : ℕ) → p + 32 < 256 * pages → file_byte old page.0 None p ≡ 0) → TakesOnly old new 0 0
 
 pub copy_takes_none : (old : List ℕ) (page : PageId) (pages : ℕ) (from : FileAt) → CopyTakes old old page pages from
 copy_takes_none old page pages from = λ table d i h same_page same_pages same_size is zeros. takes_same old old refl
 
 pub copy_takes_more : (old mid new : List ℕ) (page : PageId) (pages : ℕ) (from : FileAt) (done : ℕ) → CopiesInto old mid page pages from done → CopyTakes old mid page pages from
-    → ((table : Table) (d : FileAt) → Holds mid table (Some d) → d.page ≡ page → d.pages ≡ pages → TakesOnly mid new 0 0) → CopyTakes old new page pages from
+    → ((table : Entries) (d : FileAt) → Holds mid table (Some d) → d.page ≡ page → d.pages ≡ pages → TakesOnly mid new 0 0) → CopyTakes old new page pages from
 copy_takes_more old mid new page pages from done copies takes part = λ table d i h same_page same_pages same_size is zeros.
     takes_then old mid new 0 0 (takes table d i h same_page same_pages same_size is zeros) (part table d (copies table d i h same_page same_pages same_size is zeros).holds same_page same_pages)
 
 -- a file moves into the pages of its new extent
 pub move_takes : (old begun copied new : List ℕ) (file : FileAt) (page : PageId) (pages : ℕ) → file.size + 32 ≤ 256 * pages
-    → ((table : Table) (size : ℕ) → Holds old table None → size + 32 ≤ 256 * pages → Begins old begun table (extent_of file.name file.kind page.0 pages size))
-    → ((table : Table) → Holds old table None → TakesOnly old begun page.0 pages)
+    → ((table : Entries) (size : ℕ) → Holds old table None → size + 32 ≤ 256 * pages → Begins old begun table (extent_of file.name file.kind page.0 pages size))
+    → ((table : Entries) → Holds old table None → TakesOnly old begun page.0 pages)
     → CopiesInto begun copied page pages file file.size
     → CopyTakes begun copied page pages file
-    → ((table : Table) (d : FileAt) (i : ℕ) → Holds copied table (Some d) → d.page ≡ page → IsIn table i file → TakesOnly copied new 0 0)
-    → (table : Table) (i : ℕ) → Holds old table None → IsIn table i file → TakesOnly old new page.0 pages
+    → ((table : Entries) (d : FileAt) (i : ℕ) → Holds copied table (Some d) → d.page ≡ page → IsIn table i file → TakesOnly copied new 0 0)
+    → (table : Entries) (i : ℕ) → Holds old table None → IsIn table i file → TakesOnly old new page.0 pages
 move_takes old begun copied new file page pages fits begins begin_takes copies copy commit table i h is =
     let d : FileAt = extent_of file.name file.kind page.0 pages file.size in
     let b = begins table file.size h fits in
@@ -218,7 +185,7 @@ obtain_takes building old new n untouched collected = λ p free out. ⊎_elim
 -- what an answer that is not Failed says of them
 pub untaken_by : {T : Type 0} (old new : List ℕ) (n : ℕ) (r : Result T FileError) → ((building : ℕ → Bool) (us : List Unit) → IsTiled building old us → (page : ℕ) → IsRun (free_pages us) page n → new ≡ old)
     → UnlessFailed r ((building : ℕ → Bool) (us : List Unit) → IsTiled building old us → NoRun (free_pages us) n → IsCollected building old new us)
-    → UnlessFailed r ((table : Table) → Holds old table None → TakesOnly old new 0 0)
+    → UnlessFailed r ((table : Entries) → Holds old table None → TakesOnly old new 0 0)
 untaken_by old new n r untouched collected =
     unless_weaker r _ _ collected (λ c table h.
     let tiled = holds_tiled old table None h in

@@ -19,11 +19,11 @@ use Rattle.flash_range.specs.Range.{Outside}
 use Rattle.coffee_merge.specs.Begun.{active_at}
 
 -- files in the places of a table
-abbrev pub Table : Type 0
-Table = List (Option FileAt)
+abbrev pub Entries : Type 0
+Entries = List (Option FileAt)
 
 -- a file stands in a place
-abbrev pub IsIn : Table → ℕ → FileAt → Type 0
+abbrev pub IsIn : Entries → ℕ → FileAt → Type 0
 IsIn table i e = get_or table i None ≡ Some e
 
 -- HEADERS
@@ -84,7 +84,7 @@ has_extent_at page None = false
 has_extent_at page (Some e) = e.page.0 == page || is_its_log page e.log
 
 -- one of the files, or the draft, has an extent there
-abbrev pub is_held : Table → Option FileAt → ℕ → Bool
+abbrev pub is_held : Entries → Option FileAt → ℕ → Bool
 is_held table draft page = list_any (has_extent_at page) table || has_extent_at page draft
 
 -- a file lies inside the flash, its log is well formed, and its size is the place after its last
@@ -103,7 +103,7 @@ pub record IsDrafted (image : List ℕ) (d : FileAt) : Type 0 where
   pub no_log : d.log ≡ None
 
 -- the active extents of an image are those of the files in the table, of their logs, and of the draft
-pub record Holds (image : List ℕ) (table : Table) (draft : Option FileAt) : Type 0 where
+pub record Holds (image : List ℕ) (table : Entries) (draft : Option FileAt) : Type 0 where
   pub whole : 256 * pages_of image ≡ length image
   pub tiled : broken_tiling (building_of draft) image ≡ None
   pub files : (i : ℕ) (e : FileAt) → IsIn table i e → active_at (units_of image) e.page.0 ≡ Some (file_header e)
@@ -125,65 +125,65 @@ abbrev pub KeepsContent : (old new : List ℕ) → FileAt → Type 0
 KeepsContent old new e = (p : ℕ) → p + 32 < 256 * e.pages → file_byte new e.page.0 e.log p ≡ file_byte old e.page.0 e.log p
 
 -- and so has each file of the table
-abbrev pub KeepsAll : (old new : List ℕ) → Table → Type 0
+abbrev pub KeepsAll : (old new : List ℕ) → Entries → Type 0
 KeepsAll old new table = (i : ℕ) (e : FileAt) → IsIn table i e → KeepsContent old new e
 
 -- and each but that in a place
-abbrev pub KeepsOthers : (old new : List ℕ) → Table → ℕ → Type 0
+abbrev pub KeepsOthers : (old new : List ℕ) → Entries → ℕ → Type 0
 KeepsOthers old new table i = (k : ℕ) (e : FileAt) → k ≢ i → IsIn table k e → KeepsContent old new e
 
 -- the files are held as they were, and have their content
-pub record Stays (old new : List ℕ) (table : Table) : Type 0 where
+pub record Stays (old new : List ℕ) (table : Entries) : Type 0 where
   pub holds : Holds new table None
   pub kept : KeepsAll old new table
 
 -- a file is under construction, and has no byte but 0 yet; all files have their content
-pub record Begins (old new : List ℕ) (table : Table) (d : FileAt) : Type 0 where
+pub record Begins (old new : List ℕ) (table : Entries) (d : FileAt) : Type 0 where
   pub holds : Holds new table (Some d)
   pub zeros : (p : ℕ) → p + 32 < 256 * d.pages → file_byte new d.page.0 None p ≡ 0
   pub kept : KeepsAll old new table
 
 -- the file under construction has bytes from a place on; all files have their content
-pub record Writes (old new : List ℕ) (table : Table) (d : FileAt) (at : ℕ) (bytes : List ℕ) : Type 0 where
+pub record Writes (old new : List ℕ) (table : Entries) (d : FileAt) (at : ℕ) (bytes : List ℕ) : Type 0 where
   pub holds : Holds new table (Some d)
   pub put : Puts (file_byte old d.page.0 None) (file_byte new d.page.0 None) (256 * d.pages - 32) at bytes
   pub kept : KeepsAll old new table
 
 -- the file under construction has the first n bytes of a file; all files have their content
-pub record Copies (old new : List ℕ) (table : Table) (d from : FileAt) (n : ℕ) : Type 0 where
+pub record Copies (old new : List ℕ) (table : Entries) (d from : FileAt) (n : ℕ) : Type 0 where
   pub holds : Holds new table (Some d)
   pub same : (p : ℕ) → p < n → file_byte new d.page.0 None p ≡ file_byte old from.page.0 from.log p
   pub zeros : (p : ℕ) → n ≤ p → p + 32 < 256 * d.pages → file_byte new d.page.0 None p ≡ 0
   pub kept : KeepsAll old new table
 
 -- a place of the table has an entry, or none, in place of what it had; all other files have their content
-pub record Sets (old new : List ℕ) (table : Table) (i : ℕ) (now : Option FileAt) : Type 0 where
+pub record Sets (old new : List ℕ) (table : Entries) (i : ℕ) (now : Option FileAt) : Type 0 where
   pub holds : Holds new (set table i now) None
   pub others : KeepsOthers old new table i
 
 -- a file has moved into another extent, with its bytes
-pub record Moves (old new : List ℕ) (table : Table) (i : ℕ) (from to : FileAt) : Type 0 where
+pub record Moves (old new : List ℕ) (table : Entries) (i : ℕ) (from to : FileAt) : Type 0 where
   pub sets : Sets old new table i (Some to)
   pub same : (p : ℕ) → p < from.size → file_byte new to.page.0 to.log p ≡ file_byte old from.page.0 from.log p
 
 -- a file under construction has n more bytes of a file, from a place on; all files have their content
-pub record CopiesPart (old new : List ℕ) (table : Table) (d from : FileAt) (at n : ℕ) : Type 0 where
+pub record CopiesPart (old new : List ℕ) (table : Entries) (d from : FileAt) (at n : ℕ) : Type 0 where
   pub holds : Holds new table (Some d)
   pub same : (p : ℕ) → at ≤ p → p < at + n → file_byte new d.page.0 None p ≡ file_byte old from.page.0 from.log p
   pub others : (p : ℕ) → p + 32 < 256 * d.pages → Outside at n p → file_byte new d.page.0 None p ≡ file_byte old d.page.0 None p
   pub kept : KeepsAll old new table
 
 -- no file of the table has the name
-abbrev pub IsNewName : Table → List ℕ → Type 0
+abbrev pub IsNewName : Entries → List ℕ → Type 0
 IsNewName table name = (k : ℕ) (e : FileAt) → IsIn table k e → e.name ≢ name
 
 -- the file under construction is the file of a place, with its content; all other files have theirs
-pub record Commits (old new : List ℕ) (table : Table) (i : ℕ) (d : FileAt) : Type 0 where
+pub record Commits (old new : List ℕ) (table : Entries) (i : ℕ) (d : FileAt) : Type 0 where
   pub sets : Sets old new table i (Some (record d { used = 0 }))
   pub content : (p : ℕ) → p + 32 < 256 * d.pages → file_byte new d.page.0 None p ≡ file_byte old d.page.0 None p
 
 -- a file has an empty log at a page, and its content; all other files have theirs
-pub record Logs (old new : List ℕ) (table : Table) (i : ℕ) (e : FileAt) (log : PageId) : Type 0 where
+pub record Logs (old new : List ℕ) (table : Entries) (i : ℕ) (e : FileAt) (log : PageId) : Type 0 where
   pub sets : Sets old new table i (Some (record e { log = Some log }))
   pub content : (p : ℕ) → p + 32 < 256 * e.pages → file_byte new e.page.0 (Some log) p ≡ file_byte old e.page.0 None p
 

@@ -3,3 +3,4 @@ pub mod Flags
 pub mod Holding
 pub mod Obtained
 pub mod TableFiles
+pub mod Takes

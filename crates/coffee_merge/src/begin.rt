@@ -1,14 +1,15 @@
-ghost use Rattle.std.specs.Prelude.{◌≡◌, ◌+◌, ◌*◌, ◌≤◌, ℕ, true, None, length, IsTrue, IfOk, OnOk};
+ghost use Rattle.std.specs.Prelude.{◌≡◌, ◌≢◌, ◌+◌, ◌*◌, ◌≤◌, ℕ, true, None, length, IsTrue, IfOk, OnOk};
 ghost use Rattle.afl_base.specs.Causes.{HasCause};
 ghost use Rattle.afl_base.specs.FileErrors.{HasFileCause, OnSpace, UnlessFailed};
-ghost use Rattle.afl_base.specs.Image.{or_at};
+ghost use Rattle.afl_base.specs.Image.{or_at, page_bytes};
 ghost use Rattle.afl_base.specs.Names.{is_file_name};
 ghost use Rattle.coffee_header.specs.Headers.{header_bytes, is_flags, is_kind};
 ghost use Rattle.coffee_layout.specs.Marks.{IsCramped};
 ghost use Rattle.coffee_layout.specs.Tiling.{units_of};
 ghost use Rattle.coffee_layout.specs.Units.{pages_of};
-ghost use Rattle.coffee_merge.specs.Holding.{Begins, Holds, Stays, Table, TakesOnly, draft_header, extent_of, has_shape};
+ghost use Rattle.coffee_merge.specs.Holding.{Begins, Entries, Holds, Stays, TakesOnly, draft_header, extent_of, has_shape};
 ghost use Rattle.coffee_merge.specs.Obtained.{IsObtained};
+ghost use Rattle.coffee_merge.specs.Takes.{LooksIn, Takes};
 
 use afl_base::{Failed, FileError, Flash, Kind, Name, PageId};
 use coffee_header::{Header, write_header};
@@ -25,12 +26,16 @@ pub fn begin_extent<F: Flash>(
 ) -> Result<PageId, FileError>
     requires some { 1 ≤ pages }
     requires shape { has_shape kind pages ≡ true }
-    ensures begun { IsTrue F.tells → IfOk result (λ page. (table : Table) (size : ℕ) → Holds (F.image flash.old) table None → size + 32 ≤ 256 * pages
+    ensures begun { IsTrue F.tells → IfOk result (λ page. (table : Entries) (size : ℕ) → Holds (F.image flash.old) table None → size + 32 ≤ 256 * pages
         → Begins (F.image flash.old) (F.image flash.new) table (extent_of name.now kind page.0 pages size)) }
-    ensures kept { IsTrue F.tells → OnSpace result (λ _. (table : Table) → Holds (F.image flash.old) table None → Stays (F.image flash.old) (F.image flash.new) table) }
-    ensures taken { IsTrue F.tells → IfOk result (λ page. (table : Table) → Holds (F.image flash.old) table None → TakesOnly (F.image flash.old) (F.image flash.new) page.0 pages) }
-    ensures untaken { IsTrue F.tells → OnSpace result (λ _. (table : Table) → Holds (F.image flash.old) table None → TakesOnly (F.image flash.old) (F.image flash.new) 0 0) }
-    ensures cramped { IsTrue F.tells → OnSpace result (λ need. (table : Table) → Holds (F.image flash.old) table None → IsCramped (units_of (F.image flash.new)) need) }
+    ensures kept { IsTrue F.tells → OnSpace result (λ _. (table : Entries) → Holds (F.image flash.old) table None → Stays (F.image flash.old) (F.image flash.new) table) }
+    ensures taken { IsTrue F.tells → IfOk result (λ page. (table : Entries) → Holds (F.image flash.old) table None → TakesOnly (F.image flash.old) (F.image flash.new) page.0 pages) }
+    ensures untaken { IsTrue F.tells → OnSpace result (λ _. (table : Entries) → Holds (F.image flash.old) table None → TakesOnly (F.image flash.old) (F.image flash.new) 0 0) }
+    ensures lowest { IsTrue F.tells → IfOk result (λ page. (table : Entries) → Holds (F.image flash.old) table None
+        → Takes (F.image flash.old) (F.image flash.new) page.0 pages None) }
+    ensures looked { IsTrue F.tells → OnSpace result (λ _. (table : Entries) → Holds (F.image flash.old) table None
+        → LooksIn (F.image flash.old) (F.image flash.new) pages) }
+    ensures cramped { IsTrue F.tells → OnSpace result (λ need. (table : Entries) → Holds (F.image flash.old) table None → IsCramped (units_of (F.image flash.new)) need) }
     ensures need { OnSpace result (λ need. need ≡ pages) }
     ensures inside { IfOk result (λ page. page.0 + pages ≤ pages_of (F.image flash.new)) }
     ensures size { length (F.image flash.new) ≡ length (F.image flash.old) }
@@ -45,10 +50,12 @@ pub fn begin_extent<F: Flash>(
 /// The lowest run of `pages` free pages, where all files are kept.
 pub(crate) fn obtain_pages<F: Flash>(flash: &mut F, pages: u16) -> Result<PageId, FileError>
     requires some { 1 ≤ pages }
-    ensures run { IsTrue F.tells → IfOk result (λ page. (table : Table) → Holds (F.image flash.old) table None → IsObtained (F.image flash.old) (F.image flash.new) table pages page.0) }
-    ensures kept { IsTrue F.tells → OnSpace result (λ _. (table : Table) → Holds (F.image flash.old) table None → Stays (F.image flash.old) (F.image flash.new) table) }
-    ensures untaken { IsTrue F.tells → UnlessFailed result ((table : Table) → Holds (F.image flash.old) table None → TakesOnly (F.image flash.old) (F.image flash.new) 0 0) }
-    ensures cramped { IsTrue F.tells → OnSpace result (λ need. (table : Table) → Holds (F.image flash.old) table None → IsCramped (units_of (F.image flash.new)) need) }
+    ensures run { IsTrue F.tells → IfOk result (λ page. (table : Entries) → Holds (F.image flash.old) table None → IsObtained (F.image flash.old) (F.image flash.new) table pages page.0) }
+    ensures kept { IsTrue F.tells → OnSpace result (λ _. (table : Entries) → Holds (F.image flash.old) table None → Stays (F.image flash.old) (F.image flash.new) table) }
+    ensures untaken { IsTrue F.tells → UnlessFailed result ((table : Entries) → Holds (F.image flash.old) table None → TakesOnly (F.image flash.old) (F.image flash.new) 0 0) }
+    ensures looked { IsTrue F.tells → UnlessFailed result ((table : Entries) → Holds (F.image flash.old) table None
+        → LooksIn (F.image flash.old) (F.image flash.new) pages) }
+    ensures cramped { IsTrue F.tells → OnSpace result (λ need. (table : Entries) → Holds (F.image flash.old) table None → IsCramped (units_of (F.image flash.new)) need) }
     ensures need { OnSpace result (λ need. need ≡ pages) }
     ensures inside { IfOk result (λ page. 256 * (page.0 + pages) ≤ length (F.image flash.new)) }
     ensures size { length (F.image flash.new) ≡ length (F.image flash.old) }
@@ -69,6 +76,8 @@ fn put_file_header<F: Flash>(
     requires page { 256 * page.0 + 256 ≤ length (F.image flash.old) }
     ensures name { is_file_name name.now ≡ true }
     ensures written { IsTrue F.tells → OnOk result (F.image flash.new ≡ or_at (F.image flash.old) (256 * page.0) (header_bytes (draft_header (extent_of name.now kind page.0 pages 0)))) }
+    ensures other_pages { IsTrue F.tells → (p : ℕ) → p ≢ page.0
+        → page_bytes (F.image flash.new) p ≡ page_bytes (F.image flash.old) p }
     ensures size { length (F.image flash.new) ≡ length (F.image flash.old) }
     ensures reads { F.reads flash.new ≡ F.reads flash.old }
     ensures cause { HasCause (F.faults flash.old) (F.faults flash.new) result }
@@ -99,6 +108,8 @@ pub(crate) fn put_header<F: Flash>(
     requires flags { is_flags header.now.flags ≡ true }
     ensures name { is_file_name header.now.name ≡ true }
     ensures written { IsTrue F.tells → OnOk result (F.image flash.new ≡ or_at (F.image flash.old) (256 * page.0) (header_bytes header.now)) }
+    ensures other_pages { IsTrue F.tells → (p : ℕ) → p ≢ page.0
+        → page_bytes (F.image flash.new) p ≡ page_bytes (F.image flash.old) p }
     ensures size { length (F.image flash.new) ≡ length (F.image flash.old) }
     ensures reads { F.reads flash.new ≡ F.reads flash.old }
     ensures cause { HasCause (F.faults flash.old) (F.faults flash.new) result }

@@ -7,7 +7,7 @@ ghost use Rattle.coffee_layout.specs.Rules.{broken_image};
 ghost use Rattle.coffee_layout.specs.Units.{pages_of};
 ghost use Rattle.coffee_layout.specs.Walks.{has_few};
 ghost use Rattle.coffee_layout.specs.declared.file.FileAt.{FileAt};
-ghost use Rattle.coffee_merge.specs.Holding.{Holds, IsIn, Table};
+ghost use Rattle.coffee_merge.specs.Holding.{Entries, Holds, IsIn};
 ghost use Rattle.coffee_merge.specs.TableFiles.{file_of};
 
 /// The files of a sound image, in page order and with any number of free places behind them, are a
@@ -22,14 +22,14 @@ pub fn sound_table()
 /// An image that a table of at most 32 places holds is sound where each doubling file has at most twice
 /// the pages that its size needs. Else that rule, the last, is the first that is broken.
 pub fn held_image()
-    ensures sound { (image : List ℕ) (table : Table) → Holds image table None → length table ≤ 32 → ((i : ℕ) (e : FileAt) → IsIn table i e → has_few e ≡ true) → broken_image image ≡ None }
-    ensures rule { (image : List ℕ) (table : Table) → Holds image table None → length table ≤ 32 → IfSome (broken_image image) (λ bad. bad.rule ≡ 13) }
+    ensures sound { (image : List ℕ) (table : Entries) → Holds image table None → length table ≤ 32 → ((i : ℕ) (e : FileAt) → IsIn table i e → has_few e ≡ true) → broken_image image ≡ None }
+    ensures rule { (image : List ℕ) (table : Entries) → Holds image table None → length table ≤ 32 → IfSome (broken_image image) (λ bad. bad.rule ≡ 13) }
 {}
 
 /// The files that an image stands for are those of each table that holds it, and their sizes are the
 /// lengths of their bytes.
 pub fn held_files()
-    ensures each { (image : List ℕ) (table : Table) (i : ℕ) (e : FileAt) → Holds image table None → IsIn table i e → Contains (files_of image) (file_of image e) }
-    ensures only { (image : List ℕ) (table : Table) (f : NamedFile) → Holds image table None → Contains (files_of image) f → (i : ℕ) × (e : FileAt) × IsIn table i e × (f ≡ file_of image e) }
-    ensures size { (image : List ℕ) (table : Table) (i : ℕ) (e : FileAt) → Holds image table None → IsIn table i e → length (file_bytes image e.page.0 e.pages e.log) ≡ e.size }
+    ensures each { (image : List ℕ) (table : Entries) (i : ℕ) (e : FileAt) → Holds image table None → IsIn table i e → Contains (files_of image) (file_of image e) }
+    ensures only { (image : List ℕ) (table : Entries) (f : NamedFile) → Holds image table None → Contains (files_of image) f → (i : ℕ) × (e : FileAt) × IsIn table i e × (f ≡ file_of image e) }
+    ensures size { (image : List ℕ) (table : Entries) (i : ℕ) (e : FileAt) → Holds image table None → IsIn table i e → length (file_bytes image e.page.0 e.pages e.log) ≡ e.size }
 {}

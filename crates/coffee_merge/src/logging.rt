@@ -1,8 +1,8 @@
-ghost use Rattle.std.specs.Prelude.{◌≡◌, ◌+◌, ◌*◌, ◌≤◌, ◌<◌, ℕ, true, None, Some, length, IsTrue, IfOk, OnOk};
+ghost use Rattle.std.specs.Prelude.{◌≡◌, ◌≢◌, ◌+◌, ◌*◌, ◌≤◌, ◌<◌, ℕ, true, None, Some, length, IsTrue, IfOk, OnOk};
 ghost use Rattle.afl_base.specs.Causes.{HasCause};
 ghost use Rattle.afl_base.specs.Fields.{u16_bytes};
 ghost use Rattle.afl_base.specs.FileErrors.{HasFileCause, OnSpace};
-ghost use Rattle.afl_base.specs.Image.{or_at};
+ghost use Rattle.afl_base.specs.Image.{or_at, page_bytes};
 ghost use Rattle.afl_base.specs.Names.{is_file_name};
 ghost use Rattle.coffee_header.specs.Headers.{header_bytes};
 ghost use Rattle.coffee_layout.specs.Files.{FitsIn};
@@ -10,7 +10,8 @@ ghost use Rattle.coffee_layout.specs.Marks.{IsCramped};
 ghost use Rattle.coffee_layout.specs.Tiling.{units_of};
 ghost use Rattle.coffee_layout.specs.Units.{pages_of};
 ghost use Rattle.coffee_merge.specs.Flags.{flagged};
-ghost use Rattle.coffee_merge.specs.Holding.{Holds, IsIn, Logs, Stays, Table, TakesOnly, log_header};
+ghost use Rattle.coffee_merge.specs.Holding.{Entries, Holds, IsIn, Logs, Stays, TakesOnly, log_header};
+ghost use Rattle.coffee_merge.specs.Takes.{LooksIn, Takes};
 
 use crate::begin::{obtain_pages, put_header};
 use afl_base::{Failed, FileError, Flash, Name, PageId, put_u16};
@@ -22,12 +23,16 @@ use coffee_layout::FileAt;
 /// free.
 pub fn add_log<F: Flash>(flash: &mut F, file: &FileAt) -> Result<PageId, FileError>
     requires fits { FitsIn (pages_of (F.image flash.old)) file.now }
-    ensures logged { IsTrue F.tells → IfOk result (λ log. (table : Table) (i : ℕ) → Holds (F.image flash.old) table None → IsIn table i file.now → file.now.log ≡ None
+    ensures logged { IsTrue F.tells → IfOk result (λ log. (table : Entries) (i : ℕ) → Holds (F.image flash.old) table None → IsIn table i file.now → file.now.log ≡ None
         → Logs (F.image flash.old) (F.image flash.new) table i file.now log) }
-    ensures kept { IsTrue F.tells → OnSpace result (λ _. (table : Table) → Holds (F.image flash.old) table None → Stays (F.image flash.old) (F.image flash.new) table) }
-    ensures taken { IsTrue F.tells → IfOk result (λ log. (table : Table) (i : ℕ) → Holds (F.image flash.old) table None → IsIn table i file.now → file.now.log ≡ None → TakesOnly (F.image flash.old) (F.image flash.new) log.0 16) }
-    ensures untaken { IsTrue F.tells → OnSpace result (λ _. (table : Table) → Holds (F.image flash.old) table None → TakesOnly (F.image flash.old) (F.image flash.new) 0 0) }
-    ensures cramped { IsTrue F.tells → OnSpace result (λ need. (table : Table) → Holds (F.image flash.old) table None → IsCramped (units_of (F.image flash.new)) need) }
+    ensures kept { IsTrue F.tells → OnSpace result (λ _. (table : Entries) → Holds (F.image flash.old) table None → Stays (F.image flash.old) (F.image flash.new) table) }
+    ensures taken { IsTrue F.tells → IfOk result (λ log. (table : Entries) (i : ℕ) → Holds (F.image flash.old) table None → IsIn table i file.now → file.now.log ≡ None → TakesOnly (F.image flash.old) (F.image flash.new) log.0 16) }
+    ensures untaken { IsTrue F.tells → OnSpace result (λ _. (table : Entries) → Holds (F.image flash.old) table None → TakesOnly (F.image flash.old) (F.image flash.new) 0 0) }
+    ensures lowest { IsTrue F.tells → IfOk result (λ log. (table : Entries) (i : ℕ) → Holds (F.image flash.old) table None → IsIn table i file.now → file.now.log ≡ None
+        → Takes (F.image flash.old) (F.image flash.new) log.0 16 (Some file.now)) }
+    ensures looked { IsTrue F.tells → OnSpace result (λ _. (table : Entries) → Holds (F.image flash.old) table None
+        → LooksIn (F.image flash.old) (F.image flash.new) 16) }
+    ensures cramped { IsTrue F.tells → OnSpace result (λ need. (table : Entries) → Holds (F.image flash.old) table None → IsCramped (units_of (F.image flash.new)) need) }
     ensures need { OnSpace result (λ need. need ≡ 16) }
     ensures inside { IfOk result (λ log. log.0 + 16 ≤ pages_of (F.image flash.new)) }
     ensures size { length (F.image flash.new) ≡ length (F.image flash.old) }
@@ -46,6 +51,8 @@ fn put_log_header<F: Flash>(flash: &mut F, log: PageId, name: &Name) -> Result<(
     requires page { 256 * log.0 + 256 ≤ length (F.image flash.old) }
     ensures name { is_file_name name.now ≡ true }
     ensures written { IsTrue F.tells → OnOk result (F.image flash.new ≡ or_at (F.image flash.old) (256 * log.0) (header_bytes (log_header name.now))) }
+    ensures other_pages { IsTrue F.tells → (p : ℕ) → p ≢ log.0
+        → page_bytes (F.image flash.new) p ≡ page_bytes (F.image flash.old) p }
     ensures size { length (F.image flash.new) ≡ length (F.image flash.old) }
     ensures reads { F.reads flash.new ≡ F.reads flash.old }
     ensures cause { HasCause (F.faults flash.old) (F.faults flash.new) result }
@@ -67,6 +74,8 @@ fn name_log<F: Flash>(flash: &mut F, page: PageId, log: PageId) -> Result<(), Fa
     requires page { 256 * page.0 + 256 ≤ length (F.image flash.old) }
     requires log { log.0 < 65535 }
     ensures written { IsTrue F.tells → OnOk result (F.image flash.new ≡ flagged (or_at (F.image flash.old) (256 * page.0) (u16_bytes (log.0 + 1))) page.0 8) }
+    ensures other_pages { IsTrue F.tells → (p : ℕ) → p ≢ page.0
+        → page_bytes (F.image flash.new) p ≡ page_bytes (F.image flash.old) p }
     ensures size { length (F.image flash.new) ≡ length (F.image flash.old) }
     ensures reads { F.reads flash.new ≡ F.reads flash.old }
     ensures cause { HasCause (F.faults flash.old) (F.faults flash.new) result }

@@ -11,6 +11,7 @@ mod schemas;
 mod texts;
 mod tokens;
 mod values;
+mod widths;
 
 pub use commands::{Agg, AggList, Command, Compare, Condition, Idents, Node, Query};
 pub use lists::Few;
@@ -20,6 +21,7 @@ pub use schemas::{Attribute, Attributes, Domain, DomainAsked, IndexKind, Range, 
 pub use texts::Text;
 pub use tokens::{Keyword, Sign, Token};
 pub use values::{Tuple, Value};
+pub use widths::{fields_length, row_length, up_to_zero, width};
 
 #[cfg(test)]
 mod tests;

@@ -9,8 +9,10 @@ use afl_base::{Failed, Flash, PageId};
 /// range touches may hold anything, and all other pages stay.
 pub fn program_range<F: Flash>(flash: &mut F, place: u32, bytes: &[u8]) -> Result<(), Failed>
     requires range { place + length bytes.now ≤ length (F.image flash.old) }
-    ensures programmed { IsTrue F.tells → OnOk result (F.image flash.new ≡ or_at (F.image flash.old) place bytes.now) }
-    ensures other_pages { IsTrue F.tells → (p : ℕ) → PageOutside place (length bytes.now) p → page_bytes (F.image flash.new) p ≡ page_bytes (F.image flash.old) p }
+    ensures programmed { IsTrue F.tells → OnOk result
+        (F.image flash.new ≡ or_at (F.image flash.old) place bytes.now) }
+    ensures other_pages { IsTrue F.tells → (p : ℕ) → PageOutside place (length bytes.now) p
+        → page_bytes (F.image flash.new) p ≡ page_bytes (F.image flash.old) p }
     ensures size { length (F.image flash.new) ≡ length (F.image flash.old) }
     ensures reads { F.reads flash.new ≡ F.reads flash.old }
     ensures cause { HasCause (F.faults flash.old) (F.faults flash.new) result }
@@ -29,8 +31,10 @@ fn program_piece<F: Flash>(flash: &mut F, place: u32, bytes: &[u8]) -> Result<us
     requires some { 1 ≤ length bytes.now }
     requires range { place + length bytes.now ≤ length (F.image flash.old) }
     ensures piece { IfOk result (λ n. n ≡ min (length bytes.now) (256 - place % 256)) }
-    ensures programmed { IsTrue F.tells → IfOk result (λ n. F.image flash.new ≡ or_at (F.image flash.old) place (take n bytes.now)) }
-    ensures other_pages { IsTrue F.tells → (p : ℕ) → PageOutside place (length bytes.now) p → page_bytes (F.image flash.new) p ≡ page_bytes (F.image flash.old) p }
+    ensures programmed { IsTrue F.tells → IfOk result
+        (λ n. F.image flash.new ≡ or_at (F.image flash.old) place (take n bytes.now)) }
+    ensures other_pages { IsTrue F.tells → (p : ℕ) → PageOutside place (length bytes.now) p
+        → page_bytes (F.image flash.new) p ≡ page_bytes (F.image flash.old) p }
     ensures size { length (F.image flash.new) ≡ length (F.image flash.old) }
     ensures reads { F.reads flash.new ≡ F.reads flash.old }
     ensures cause { HasCause (F.faults flash.old) (F.faults flash.new) result }

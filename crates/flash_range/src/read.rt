@@ -8,11 +8,13 @@ use afl_base::{Failed, Flash, PageId};
 /// Each page that the range touches is read once.
 pub fn read_range<F: Flash>(flash: &mut F, place: u32, into: &mut [u8]) -> Result<(), Failed>
     requires range { place + length into.old ≤ length (F.image flash.old) }
-    ensures bytes { IsTrue F.tells → OnOk result (into.new ≡ slice_range (F.image flash.old) place (place + length into.old)) }
+    ensures bytes { IsTrue F.tells → OnOk result
+        (into.new ≡ slice_range (F.image flash.old) place (place + length into.old)) }
     ensures same { F.image flash.new ≡ F.image flash.old }
     ensures reads { F.reads flash.new ≤ F.reads flash.old + pages_touched place (length into.old) }
     ensures reads_later { F.reads flash.old ≤ F.reads flash.new }
-    ensures counted { OnOk result (min (F.reads flash.old + pages_touched place (length into.old)) (2 ^ 64 - 1) ≤ F.reads flash.new) }
+    ensures counted { OnOk result
+        (min (F.reads flash.old + pages_touched place (length into.old)) (2 ^ 64 - 1) ≤ F.reads flash.new) }
     ensures cause { HasCause (F.faults flash.old) (F.faults flash.new) result }
 {
     // What the number of sectors promises bounds the place, so that it fits a page number.
@@ -29,7 +31,8 @@ fn read_piece<F: Flash>(flash: &mut F, place: u32, into: &mut [u8]) -> Result<us
     requires some { 1 ≤ length into.old }
     requires range { place + length into.old ≤ length (F.image flash.old) }
     ensures piece { IfOk result (λ n. n ≡ min (length into.old) (256 - place % 256)) }
-    ensures bytes { IsTrue F.tells → IfOk result (λ n. (k : ℕ) → k < n → slice_index into.new k ≡ slice_index (F.image flash.old) (place + k)) }
+    ensures bytes { IsTrue F.tells → IfOk result
+        (λ n. (k : ℕ) → k < n → slice_index into.new k ≡ slice_index (F.image flash.old) (place + k)) }
     ensures same { F.image flash.new ≡ F.image flash.old }
     ensures reads { F.reads flash.new ≤ F.reads flash.old + 1 }
     ensures reads_later { F.reads flash.old ≤ F.reads flash.new }

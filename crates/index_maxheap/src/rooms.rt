@@ -18,3 +18,13 @@ pub struct Room {
     pub bytes: u32,
     pub end: End,
 }
+
+impl Default for Room {
+    fn default() -> Room {
+        Room {
+            overwrites: 0,
+            bytes: 0,
+            end: End::Nowhere,
+        }
+    }
+}

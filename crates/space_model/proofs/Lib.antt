@@ -1,3 +1,5 @@
+pub mod More
+pub mod NamedFiles
 pub mod Queries
 pub mod WantsMost
 pub mod WorkedSpace

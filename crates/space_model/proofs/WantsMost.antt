@@ -1,8 +1,10 @@
 -- No command asks for more than the largest extent that is counted for it.
 use Rattle.std.proofs.Common.{◌≡◌, refl, ap, subst, ◌∙◌, ℕ, ℤ, zero, suc, ◌+◌, ◌-◌, ◌*◌, ◌<◌, ◌≤◌, ◌⊎◌, inl, inr, Bool, true, false, List, [], ◌∷◌, ◌++◌, length, arith, max}
 use Rattle.std.specs.Prelude.{unwrap_or, slice_get, Option, Some, None, IsSomeAnd, get_or, filter, nat_le, cond, ◌==◌}
+use Rattle.std.specs.Option.{option_map_or}
 use Rattle.std.specs.Str.{bytes_eq}
 use Rattle.std.proofs.Math.Nat.{mul-le-mul_left, le-max_left, le-max_right}
+use Rattle.std.proofs.lemmas.List.{length-map}
 use Rattle.std.proofs.lemmas.Bool.{eq-eqb, le-leb, leb-true}
 use Rattle.afl_base.specs.Fit.{fit, first_fit}
 use Rattle.db_model.specs.declared.commands.Command.{Command}
@@ -15,10 +17,12 @@ use Rattle.db_model.specs.Answers.{selected}
 use Rattle.db_model.specs.Cond.{condition_of}
 use Rattle.db_model.specs.Database.{Relation, Database, relation_from, relation_named, indexes_of, used, free_from, index_slot}
 use Rattle.db_model.specs.Item.{place_of}
-use Rattle.db_model.specs.Row.{row_length}
+use Rattle.db_model.specs.Row.{Row, row_length}
+use Rattle.db_model.proofs.Buckets.{buckets_bound}
 use Rattle.db_model.specs.Step.{keys, key_of}
 use Rattle.space_model.specs.Enough.{keys_named, rows_size, rows_in, tree_size, index_sizes, tree_sizes, largest, most_of, most}
-use Rattle.space_model.specs.Wants.{catalog_file, rows_file, tree_file, room_for, WantsCatalog, WantsTree, WantsIndex, WantsMarks, WantsPacked, Wants, IsStoreOf, AsksFew}
+use Rattle.space_model.specs.FileNames.{catalog_file, rows_file, tree_file}
+use Rattle.space_model.specs.Wants.{room_for, WantsCatalog, WantsTree, WantsIndex, WantsMarks, WantsPacked, Wants, IsStoreOf, AsksFew}
 
 -- ---- extents
 
@@ -125,30 +129,55 @@ with_some (Some x) h f = f x refl h
 
 module _ (size_of : List ℕ → Option ℕ) (asks : List ℕ → ℕ → ℕ → ℕ → Type 0) (room : ℕ → ℤ → ℕ × ℕ) where
   catalog_few : AsksFew size_of asks room → (at n need : ℕ) → WantsCatalog size_of asks room at n need → need ≤ 16
-  catalog_few few at n need (inl w) = let e = w.1 in omega (arith, e)
-  catalog_few few at n need (inr w) = with_some (size_of catalog_file) w (λ size e h. few.catalog ((room_for size at n).0) ((room_for size at n).1) need h)
+  catalog_few few at n need w = with_some (size_of catalog_file) w (λ size e h. few.catalog ((room_for size at n).0) ((room_for size at n).1) need h)
 
   -- a change of the catalog asks for 16 pages at most
   change_few : AsksFew size_of asks room → (at n need : ℕ) → WantsCatalog size_of asks room at n need → need ≤ most_of []
   change_few few at n need w = let e = catalog_few few at n need w in omega (arith, e)
 
-  rows_few : (db : Database) → IsStoreOf size_of asks room db → AsksFew size_of asks room → (name : List ℕ) (s : ℕ × Relation) → relation_named db name ≡ Some s
-      → (w b need : ℕ) → asks (rows_file s.0) w b need → need ≤ max 16 (2 * fit (rows_size s.1))
-  rows_few db store few name s e w b need h = few.few (rows_file s.0) w b need (rows_size s.1) (store.rows s.0 s.1 (named_stands db name s e)) h
+  -- the rows of a relation, and the keys of an index, are few
+  rows_short : (db : Database) → IsStoreOf size_of db → (slot : ℕ) (r : Relation) → get_or db.relations slot None ≡ Some r → rows_size r ≤ 4194304
+  rows_short db store slot r e =
+      let short = store.short slot r e in
+      let few = store.few slot r e in
+      let product = mul-le-mul_left (row_length r.schema.attributes) few in
+      omega (arith, short, product)
 
-  tree_few : (db : Database) → IsStoreOf size_of asks room db → AsksFew size_of asks room → (relation : ℕ) (values : List Value) (need slot : ℕ) (o : Option Index)
+  rows_in_few : (db : Database) → IsStoreOf size_of db → (slot : ℕ) → length (rows_in db slot) ≤ 32768
+  rows_in_few db store slot = by_relation (get_or db.relations slot None) refl
+    where
+      by_relation : (o : Option Relation) → get_or db.relations slot None ≡ o → length (option_map_or (λ r. r.rows) o []) ≤ 32768
+      by_relation None e = omega arith
+      by_relation (Some r) e = store.few slot r e
+
+  keys_few : (db : Database) → IsStoreOf size_of db → (index : Index) → tree_size (keys index.attribute (rows_in db index.relation)) ≤ 4194304
+  keys_few db store index =
+      let rows : List Row = rows_in db index.relation in
+      let few = rows_in_few db store index.relation in
+      let bound = buckets_bound (keys index.attribute rows) in
+      let same : length (keys index.attribute rows) ≡ length rows = length-map rows _ in
+      omega (arith, few, bound, same)
+
+  rows_few : (db : Database) → IsStoreOf size_of db → AsksFew size_of asks room → (name : List ℕ) (s : ℕ × Relation) → relation_named db name ≡ Some s
+      → (w b need : ℕ) → b ≤ 4096 → asks (rows_file s.0) w b need → need ≤ max 16 (2 * fit (rows_size s.1))
+  rows_few db store few name s e w b need small h =
+      let there = named_stands db name s e in
+      few.few (rows_file s.0) w b need (rows_size s.1) small (rows_short db store s.0 s.1 there) (store.rows s.0 s.1 there) h
+
+  tree_few : (db : Database) → IsStoreOf size_of db → AsksFew size_of asks room → (relation : ℕ) (values : List Value) (need slot : ℕ) (o : Option Index)
       → get_or db.indexes slot None ≡ o → WantsTree size_of asks room relation values need slot o → need ≤ most_of (tree_sizes db (indexes_of db relation))
   tree_few db store few relation values need slot None e h = absurd h
   tree_few db store few relation values need slot (Some index) e h =
       let size : ℕ = tree_size (keys index.attribute (rows_in db index.relation)) in
       let key : ℤ = key_of (slice_get values index.attribute) in
-      let bound = few.few (tree_file slot) ((room slot key).0) ((room slot key).1) need size (store.trees slot index e h.0) h.2 in
+      let bound = few.few (tree_file slot) ((room slot key).0) ((room slot key).1) need size (few.bucket slot key) (keys_few db store index) (store.trees slot index e h.0) h.2 in
       most_has need size (tree_sizes db (indexes_of db relation)) (tree_among db relation db.indexes slot index e h.0 h.1) bound
 
   -- no command asks for more than is counted for it
-  pub wants_at_most : (db : Database) (c : Command) (need : ℕ) → IsStoreOf size_of asks room db → AsksFew size_of asks room → Wants size_of asks room db c need → need ≤ most db c
-  wants_at_most db (CreateRelation name) need store few (inl w) = with_some (free_from 0 db.relations) w (λ slot e h. change_few few (176 * slot) 176 need h)
-  wants_at_most db (CreateRelation name) need store few (inr e) = omega (arith, e)
+  pub wants_at_most : (db : Database) (c : Command) (need : ℕ) → IsStoreOf size_of db → AsksFew size_of asks room → Wants size_of asks room db c need → need ≤ most db c
+  wants_at_most db (CreateRelation name) need store few (inl w) = let e = w.1 in omega (arith, e)
+  wants_at_most db (CreateRelation name) need store few (inr (inl w)) = with_some (free_from 0 db.relations) w (λ slot e h. change_few few (176 * slot) 176 need h)
+  wants_at_most db (CreateRelation name) need store few (inr (inr e)) = omega (arith, e)
   wants_at_most db (CreateAttribute name domain relation) need store few w = with_some (relation_named db relation) w (λ s e h. change_few few (176 * s.0) 176 need h)
   wants_at_most db (CreateIndex relation attribute Inline) need store few w = with_some (free_from 0 db.indexes) w (λ slot e h. change_few few (1408 + 8 * slot) 8 need h)
   wants_at_most db (CreateIndex relation attribute MemHash) need store few w = with_some (free_from 0 db.indexes) w (λ slot e h. change_few few (1408 + 8 * slot) 8 need h)
@@ -162,13 +191,13 @@ module _ (size_of : List ℕ → Option ℕ) (asks : List ℕ → ℕ → ℕ �
       rows_or_tree : (s : ℕ × Relation) → relation_named db relation ≡ Some s
           → asks (rows_file s.0) 0 (row_length s.1.schema.attributes) need ⊎ ((slot : ℕ) × WantsTree size_of asks room s.0 values need slot (get_or db.indexes slot None))
           → need ≤ most_of (rows_size s.1 ∷ tree_sizes db (indexes_of db s.0))
-      rows_or_tree s e (inl h) = let bound = rows_few db store few relation s e 0 (row_length s.1.schema.attributes) need h in omega (arith, bound)
+      rows_or_tree s e (inl h) = let bound = rows_few db store few relation s e 0 (row_length s.1.schema.attributes) need (let short = store.short s.0 s.1 (named_stands db relation s e) in omega (arith, short)) h in omega (arith, bound)
       rows_or_tree s e (inr h) = let bound = tree_few db store few s.0 values need h.0 (get_or db.indexes h.0 None) refl h.1 in omega (arith, bound)
   wants_at_most db (RemoveFrom relation nodes) need store few w = with_some (relation_named db relation) w (λ s e h. rw e (marks s e h))
     where
       marks : (s : ℕ × Relation) → relation_named db relation ≡ Some s
           → WantsMarks size_of asks room s.0 s.1 (length (selected s.1.schema.attributes (condition_of nodes) s.1.rows)) need → need ≤ most_of (rows_size s.1 ∷ [])
-      marks s e (inl h) = let bound = rows_few db store few relation s e (length (selected s.1.schema.attributes (condition_of nodes) s.1.rows)) 0 need h.2 in omega (arith, bound)
+      marks s e (inl h) = let bound = rows_few db store few relation s e (length (selected s.1.schema.attributes (condition_of nodes) s.1.rows)) 0 need (omega arith) h.2 in omega (arith, bound)
       marks s e (inr h) = let drafted = h.1 in omega (arith, drafted)
   wants_at_most db (Pack relation) need store few w = with_some (relation_named db relation) w (λ s e h. rw e (packed s h))
     where

@@ -37,23 +37,25 @@ tree_sizes db (index ∷ indexes) = index_sizes db index ++ tree_sizes db indexe
 abbrev pub file_sizes : Database → List ℕ
 file_sizes db = map rows_size (used db.relations) ++ tree_sizes db (used db.indexes)
 
--- those and the catalog
-abbrev pub files_of : Database → ℕ
-files_of db = 1 + length (file_sizes db)
-
 -- ---- sectors
 
 -- the sectors that an extent of so many bytes touches at most, wherever it begins
 abbrev pub touched : ℕ → ℕ
 touched size = fit size / 8 + 1
 
--- the sectors that the active extents touch at most: each file's while it is copied, the catalog's, and a log's of each file
-abbrev pub touched_by : Database → ℕ
-touched_by db = added (map touched (file_sizes db)) + 2 + 2 * files_of db
+-- the sectors that the active extents touch at most, beside a catalog and files of these sizes: each file's while it is
+-- copied, the catalog's, and a log's of each file
+abbrev pub touched_by : List ℕ → ℕ
+touched_by sizes = added (map touched sizes) + 2 + 2 * (1 + length sizes)
 
--- sectors with which an extent of n pages can always be had: between the active extents lie at most 2f + 1 gaps
+-- sectors with which an extent of n pages can always be had beside them: between the active extents of f files lie at most
+-- 2f + 1 gaps
+abbrev pub enough_for : List ℕ → ℕ → ℕ
+enough_for sizes n = touched_by sizes + (2 * (1 + length sizes) + 1) * ((n + 15) / 16 - 1) + 1
+
+-- beside the files of a database
 abbrev pub enough : Database → ℕ → ℕ
-enough db n = touched_by db + (2 * files_of db + 1) * ((n + 15) / 16 - 1) + 1
+enough db n = enough_for (file_sizes db) n
 
 -- ---- the largest extent that a command may ask for
 

@@ -2,26 +2,14 @@
 
 #![tactic(auto)]
 
-ghost use Rattle.std.specs.Prelude.{◌≡◌, ◌+◌, ◌≤◌, IsTrue, drop, length, replicate};
+ghost use Rattle.std.specs.Prelude.{◌≡◌, ◌+◌, ◌≤◌, ◌==◌, IsTrue, drop, length, replicate};
+ghost use Rattle.std.specs.List.{list_all};
 ghost use Rattle.afl_base.specs.Fields.{put_at};
 ghost use Rattle.db_model.specs.Padded.{padded};
 ghost use Rattle.db_model.specs.Row.{field_bytes, field_of, suits, text_or_empty, time_or_least, up_to_zero, width};
 
-use afl_base::{get_i32, get_i64, get_u16, put_i32, put_i64, put_u16};
-use db_model::{Domain, Text, Value};
-
-// The bytes of a field of the domain.
-pub fn width(domain: Domain) -> usize
-    ensures value { result ≡ width domain }
-    ensures short { result ≤ 255 }
-{
-    match domain {
-        Domain::Int => 2,
-        Domain::Long => 4,
-        Domain::Time => 8,
-        Domain::Str(n) => n as usize,
-    }
-}
+use afl_base::{get_i32, get_i64, get_u16, put_bytes, put_i32, put_i64, put_u16};
+use db_model::{Domain, Text, Value, up_to_zero};
 
 // The field that `bytes` begin with, the least value of its domain where they are none.
 #[tactic(auto, unfolding(afl_base::specs::Fields::u16_at, afl_base::specs::Fields::i32_at, afl_base::specs::Fields::i64_at))]
@@ -33,7 +21,7 @@ pub fn get_field(domain: Domain, bytes: &[u8]) -> Value
         Domain::Int => Value::Number(i64::from(get_u16(bytes, 0).cast_signed())),
         Domain::Long => Value::Number(i64::from(get_i32(bytes, 0))),
         Domain::Time => Value::Number(time_or_least(get_i64(bytes, 0))),
-        Domain::Str(n) => Value::Text(text_or_empty(up_to_zero(&bytes[..n as usize]))),
+        Domain::Str(n) => Value::Text(text_or_empty(&bytes[..n as usize])),
     }
 }
 
@@ -48,26 +36,24 @@ fn time_or_least(number: i64) -> i64
     }
 }
 
-// These bytes where they are a text, else the empty text.
-fn text_or_empty(bytes: &[u8]) -> Text
-    ensures { result ≡ text_or_empty bytes.now }
+// The text of a field, the empty text where it has none.
+fn text_or_empty(field: &[u8]) -> Text
+    ensures { result ≡ text_or_empty field.now }
 {
-    match Text::new(bytes) {
+    let front = up_to_zero(field);
+    if !are_zeros(&field[front.len()..]) {
+        return Text::default();
+    }
+    match Text::new(front) {
         Some(text) => text,
         None => Text::default(),
     }
 }
 
-// The bytes before the first zero.
-fn up_to_zero(bytes: &[u8]) -> &[u8]
-    ensures { result.now ≡ up_to_zero bytes.now }
+fn are_zeros(bytes: &[u8]) -> bool
+    ensures { result ≡ list_all (λ b. b == 0) bytes.now }
 {
-    for (i, byte) in bytes.iter().enumerate() {
-        if *byte == 0 {
-            return &bytes[..i];
-        }
-    }
-    bytes
+    bytes.iter().all(|byte| *byte == 0)
 }
 
 // Puts the field of the value into the bytes from `at` on. All other bytes stay.
@@ -94,14 +80,6 @@ fn put_text(bytes: &mut [u8], at: usize, n: usize, text: &[u8])
 {
     put_bytes(bytes, at, text);
     put_zeros(bytes, at + text.len(), n - text.len());
-}
-
-// Puts `part` in the place of the bytes from `at` on.
-fn put_bytes(bytes: &mut [u8], at: usize, part: &[u8])
-    requires { at + length part.now ≤ length bytes.old }
-    ensures { bytes.new ≡ put_at bytes.old at part.now }
-{
-    bytes[at..at + part.len()].copy_from_slice(part);
 }
 
 // Puts `n` zeros in the place of the bytes from `at` on.

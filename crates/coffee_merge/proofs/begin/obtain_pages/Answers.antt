@@ -1,6 +1,7 @@
 use Rattle.std.proofs.Common.{None}
 use Rattle.coffee_layout.specs.Tiling.{nowhere, units_of}
 use Rattle.coffee_merge.proofs.Holdings.{holds_tiled}
+use Rattle.coffee_merge.proofs.Lowest.{looked_by}
 use Rattle.coffee_merge.proofs.Obtained.{kept_by, on_ok, on_space, space_then}
 use Rattle.coffee_merge.proofs.Taken.{untaken_by}
 use Rattle.coffee_merge.proofs.begin.obtain_pages.Goals as goal
@@ -24,3 +25,8 @@ pub returns-clause-untaken : goal.returns-clause-untaken
 returns-clause-untaken g c = λ t.
     let e = c.obtain.ensures in
     untaken_by (g.F.Flash.image c.args.flash.now) (g.F.Flash.image c.obtain.new.flash) c.args.pages c.obtain.result (e.untouched t) (e.collected t)
+
+pub returns-clause-looked : goal.returns-clause-looked
+returns-clause-looked g c = λ t.
+    let e = c.obtain.ensures in
+    looked_by (g.F.Flash.image c.args.flash.now) (g.F.Flash.image c.obtain.new.flash) c.args.pages c.obtain.result (e.untouched t) (e.collected t)

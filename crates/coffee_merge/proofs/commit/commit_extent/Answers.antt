@@ -2,6 +2,8 @@ use Rattle.std.proofs.Common.{sym, subst}
 use Rattle.std.proofs.lemmas.Result.{on_ok_weaker}
 use Rattle.coffee_merge.specs.Holding.{Commits, TakesOnly}
 use Rattle.coffee_merge.proofs.Commits.{commits}
+use Rattle.coffee_merge.specs.Takes.{FreesNone}
+use Rattle.coffee_merge.proofs.Lowest.{commit_frees}
 use Rattle.coffee_merge.proofs.Taken.{commit_takes}
 use Rattle.coffee_merge.proofs.commit.commit_extent.Goals as goal
 
@@ -18,4 +20,11 @@ returns-clause-taken g c =
     λ told.
     on_ok_weaker c.program.result
     (λ is table d holds place. subst (λ image. TakesOnly (g.F.Flash.image c.args.flash.now) image 0 0) (sym is) (commit_takes (g.F.Flash.image c.args.flash.now) table d c.args.page holds place))
+    (c.program.ensures.programmed told)
+
+pub returns-clause-freed : goal.returns-clause-freed
+returns-clause-freed g c =
+    λ told.
+    on_ok_weaker c.program.result
+    (λ is table d holds place. subst (λ image. FreesNone (g.F.Flash.image c.args.flash.now) image) (sym is) (commit_frees (g.F.Flash.image c.args.flash.now) table d c.args.page holds place))
     (c.program.ensures.programmed told)

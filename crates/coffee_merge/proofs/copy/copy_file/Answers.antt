@@ -1,5 +1,6 @@
-use Rattle.std.proofs.Common.{arith, rules, ◌≡◌, subst}
+use Rattle.std.proofs.Common.{arith, rules, ◌≡◌, ◌∙◌, refl, subst}
 use Rattle.coffee_merge.proofs.Contents.{CopiesInto, copies_more, copies_none}
+use Rattle.coffee_merge.proofs.Lowest.{copy_frees_more, copy_frees_none}
 use Rattle.coffee_merge.proofs.Taken.{copy_takes_more, copy_takes_none}
 use Rattle.coffee_merge.proofs.copy.copy_file.Goals as goal
 
@@ -9,6 +10,8 @@ loop-done-init g c = record {
   size = search rules;
   copied = λ told. copies_none (g.F.Flash.image c.args.flash.now) c.args.page c.args.pages c.args.from.now;
   taken = λ told. copy_takes_none (g.F.Flash.image c.args.flash.now) c.args.page c.args.pages c.args.from.now;
+  freed = λ told. copy_frees_none (g.F.Flash.image c.args.flash.now) c.args.page c.args.pages c.args.from.now;
+  others = λ told p out apart. refl;
   reads = search rules;
   faults = search rules;
 }
@@ -23,6 +26,10 @@ loop-done-preserved g c = record {
   taken = λ told.
       copy_takes_more (g.F.Flash.image c.args.flash.now) (g.F.Flash.image c.loop-done.flash) (g.F.Flash.image c.copy_part.new.flash) c.args.page c.args.pages c.args.from.now c.loop-done.done
       (c.loop-done.invariant.copied told) (c.loop-done.invariant.taken told) (c.in_ok-copy_part.ensures.taken told);
+  freed = λ told.
+      copy_frees_more (g.F.Flash.image c.args.flash.now) (g.F.Flash.image c.loop-done.flash) (g.F.Flash.image c.copy_part.new.flash) c.args.page c.args.pages c.args.from.now c.loop-done.done
+      (c.loop-done.invariant.copied told) (c.loop-done.invariant.freed told) (c.in_ok-copy_part.ensures.freed told);
+  others = λ told p out apart. c.copy_part.ensures.other_pages told p out apart ∙ c.loop-done.invariant.others told p out apart;
   reads = search rules;
   faults = search rules;
 }

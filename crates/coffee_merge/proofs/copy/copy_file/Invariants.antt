@@ -1,5 +1,7 @@
-use Rattle.std.proofs.Common.{◌≡◌, ◌-◌, ◌≤◌, length, IsTrue}
+use Rattle.std.proofs.Common.{◌≡◌, ◌-◌, ◌≤◌, None, length, IsTrue}
 use Rattle.coffee_merge.proofs.Contents.{CopiesInto}
+use Rattle.coffee_merge.specs.Takes.{KeepsPagesBut}
+use Rattle.coffee_merge.proofs.Lowest.{CopyFrees}
 use Rattle.coffee_merge.proofs.Taken.{CopyTakes}
 use Rattle.coffee_merge.proofs.copy.copy_file.Given as goal
 
@@ -9,6 +11,8 @@ invariant-loop-done g l = record {
   size : length (g.F.Flash.image l.flash) ≡ length (g.F.Flash.image l.fn.flash);
   copied : IsTrue g.F.Flash.tells → CopiesInto (g.F.Flash.image l.fn.flash) (g.F.Flash.image l.flash) l.page l.pages l.from l.done;
   taken : IsTrue g.F.Flash.tells → CopyTakes (g.F.Flash.image l.fn.flash) (g.F.Flash.image l.flash) l.page l.pages l.from;
+  freed : IsTrue g.F.Flash.tells → CopyFrees (g.F.Flash.image l.fn.flash) (g.F.Flash.image l.flash) l.page l.pages l.from;
+  others : IsTrue g.F.Flash.tells → KeepsPagesBut (g.F.Flash.image l.fn.flash) (g.F.Flash.image l.flash) l.page.0 l.pages None;
   reads : g.F.Flash.reads l.fn.flash ≤ g.F.Flash.reads l.flash;
   faults : g.F.Flash.faults l.fn.flash ≤ g.F.Flash.faults l.flash;
 }

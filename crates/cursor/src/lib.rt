@@ -1,0 +1,2 @@
+//! Machines that answer a query row by row.
+#![tactic(auto)]

@@ -1,0 +1,41 @@
+-- The slots whose keys lie in a range, where the keys do not fall.
+use Rattle.std.specs.Prelude.{ℕ, ℤ, ◌≡◌, ◌<◌, ◌≤◌, Bool, true, false, int_lt, int_le}
+use Rattle.db_model.specs.declared.schemas.Range.{Range}
+use Rattle.db_model.specs.declared.schemas.Range.TheVariants.{Empty, Between}
+use Rattle.db_model.specs.Plan.{lies_in}
+
+-- whether a key is less than all of a range
+abbrev pub is_below : Range → ℤ → Bool
+is_below Empty key = false
+is_below (Between lo hi) key = int_lt key lo
+
+-- whether a key is greater than all of a range
+abbrev pub is_above : Range → ℤ → Bool
+is_above Empty key = true
+is_above (Between lo hi) key = int_lt hi key
+
+-- the keys of the slots up to one are below the range, from there up to another in it, and behind that above it
+pub record IsSpan (within : Range) (key : ℕ → ℤ) (slots from to : ℕ) : Type 0 where
+  pub order : from ≤ to
+  pub end : to ≤ slots
+  pub below : (slot : ℕ) → slot < from → is_below within (key slot) ≡ true
+  pub inside : (slot : ℕ) → from ≤ slot → slot < to → lies_in within (key slot) ≡ true
+  pub above : (slot : ℕ) → to ≤ slot → slot < slots → is_above within (key slot) ≡ true
+
+-- ---- the search for one end
+
+-- whether a key comes before an end of a range: it is less than the lower bound, or at most the upper one
+abbrev pub passes : Bool → Range → ℤ → Bool
+passes upper Empty key = false
+passes false (Between lo hi) key = int_lt key lo
+passes true (Between lo hi) key = int_le key hi
+
+-- of two slots the later has no lesser key
+abbrev pub Rises : (ℕ → ℤ) → ℕ → Type 0
+Rises key slots = (i j : ℕ) → i ≤ j → j < slots → int_le (key i) (key j) ≡ true
+
+-- a test is passed in the first slots, and in none behind them
+pub record IsFront (test : ℕ → Bool) (slots front : ℕ) : Type 0 where
+  pub within : front ≤ slots
+  pub passed : (slot : ℕ) → slot < front → test slot ≡ true
+  pub failed : (slot : ℕ) → front ≤ slot → slot < slots → test slot ≡ false

@@ -1,0 +1,70 @@
+ghost use Rattle.std.specs.Prelude.{◌≡◌, ◌+◌, ◌*◌, ◌<◌, ◌≤◌, ℕ, IsTrue, IfOk, OnOk, length};
+ghost use Rattle.afl_base.specs.Causes.{HasCause};
+ghost use Rattle.afl_base.specs.KeyColumn.{HasField, IsWidth, key_of};
+ghost use Rattle.db_model.specs.Cost.{bits};
+ghost use Rattle.index_inline.specs.Span.{IsFront, Rises, passes};
+
+use afl_base::{Failed, Files, KeyColumn, SlotNo};
+use db_model::Range;
+
+/// How many slots come before an end of a range, by halving.
+#[tactic(auto, using(crate::proofs::Digits::bits_less, crate::proofs::Digits::bits_none))]
+pub(crate) fn count_before<V: Files>(
+    files: &mut V,
+    column: &KeyColumn,
+    slots: u16,
+    upper: bool,
+    within: &Range,
+) -> Result<u16, Failed>
+    requires few { slots ≤ 32768 }
+    requires width { IsWidth column.now.width }
+    requires fields { (slot : ℕ) → slot < slots → HasField (V.state files.old) column.now slot }
+    ensures within { IfOk result (λ front. front ≤ slots) }
+    ensures front { IsTrue (V.state files.old).tells → Rises (key_of (V.state files.old) column.now) slots
+        → IfOk result (λ front. IsFront (λ slot. passes upper within.now (key_of (V.state files.old) column.now slot)) slots front) }
+    ensures same { OnOk result (V.state files.new ≡ V.state files.old) }
+    ensures reads { V.reads files.new ≤ V.reads files.old + 6 * bits slots }
+    ensures reads_later { V.reads files.old ≤ V.reads files.new }
+    ensures store { length (V.state files.new).store ≡ length (V.state files.old).store }
+    ensures cause { HasCause (V.faults files.old) (V.faults files.new) result }
+{
+    let mut low = 0;
+    let mut high = slots;
+    'halves: while low < high {
+        let middle = low + (high - low) / 2;
+        if comes_before(files, column, middle, upper, within)? {
+            low = middle + 1;
+        } else {
+            high = middle;
+        }
+    }
+    Ok(low)
+}
+
+// Whether the key of a slot comes before an end of a range.
+fn comes_before<V: Files>(
+    files: &mut V,
+    column: &KeyColumn,
+    slot: u16,
+    upper: bool,
+    within: &Range,
+) -> Result<bool, Failed>
+    requires few { slot < 32768 }
+    requires width { IsWidth column.now.width }
+    requires field { HasField (V.state files.old) column.now slot }
+    ensures test { IsTrue (V.state files.old).tells → IfOk result (λ before. before ≡ passes upper within.now (key_of (V.state files.old) column.now slot)) }
+    ensures same { OnOk result (V.state files.new ≡ V.state files.old) }
+    ensures reads { V.reads files.new ≤ V.reads files.old + 6 }
+    ensures reads_later { V.reads files.old ≤ V.reads files.new }
+    ensures store { length (V.state files.new).store ≡ length (V.state files.old).store }
+    ensures cause { HasCause (V.faults files.old) (V.faults files.new) result }
+{
+    let Some(slot) = SlotNo::new(slot) else {
+        return Err(Failed);
+    };
+    let key = column.key64(files, slot)?;
+    Ok(match within {
+        Range::Empty => false,
+        Range::Between { lo, hi } => { if upper { key <= *hi } else { key < *lo } }
+    })
+}

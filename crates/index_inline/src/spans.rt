@@ -1,0 +1,38 @@
+ghost use Rattle.std.specs.Prelude.{◌≡◌, ◌+◌, ◌*◌, ◌<◌, ◌≤◌, ℕ, IsTrue, IfOk, OnOk, length};
+ghost use Rattle.afl_base.specs.Causes.{HasCause};
+ghost use Rattle.afl_base.specs.KeyColumn.{HasField, IsWidth, key_of};
+ghost use Rattle.db_model.specs.Cost.{bits};
+ghost use Rattle.index_inline.specs.Keys.{NeverFalls, keys_of};
+ghost use Rattle.index_inline.specs.Span.{IsSpan};
+
+use crate::halving::count_before;
+use afl_base::{Failed, Files, KeyColumn};
+use db_model::Range as Keys;
+
+/// The first slot whose key is not below the range, and one past the last whose key is not above it;
+/// both are the same where no key lies in the range. Each end is found by halving. Where the keys
+/// fall, or are not told, the slots are any.
+#[tactic(auto, using(crate::proofs::Falls::rises))]
+pub fn range<V: Files>(
+    files: &mut V,
+    column: &KeyColumn,
+    slots: u16,
+    within: &Keys,
+) -> Result<(u16, u16), Failed>
+    requires few { slots ≤ 32768 }
+    requires width { IsWidth column.now.width }
+    requires fields { (slot : ℕ) → slot < slots → HasField (V.state files.old) column.now slot }
+    ensures span { IsTrue (V.state files.old).tells → NeverFalls (keys_of (V.state files.old) column.now slots)
+        → IfOk result (λ r. IsSpan within.now (key_of (V.state files.old) column.now) slots r.0 r.1) }
+    ensures order { IfOk result (λ r. r.0 ≤ r.1) }
+    ensures end { IfOk result (λ r. r.1 ≤ slots) }
+    ensures same { OnOk result (V.state files.new ≡ V.state files.old) }
+    ensures reads { V.reads files.new ≤ V.reads files.old + 6 * (2 * bits slots) }
+    ensures reads_later { V.reads files.old ≤ V.reads files.new }
+    ensures store { length (V.state files.new).store ≡ length (V.state files.old).store }
+    ensures cause { HasCause (V.faults files.old) (V.faults files.new) result }
+{
+    let from = count_before(files, column, slots, false, within)?;
+    let to = count_before(files, column, slots, true, within)?;
+    Ok((from, to.max(from)))
+}
