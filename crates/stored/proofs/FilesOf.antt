@@ -196,7 +196,7 @@ length-read attributes bytes (k ∷ slots) =
     let more : row_length attributes * (1 + length slots) ≡ row_length attributes + row_length attributes * length slots = grind arith in
     omega (arith, rest, here, all, more)
 
-whole_rows : (version : ℕ) (attributes : List Attribute) (bytes : List ℕ) → AreRows version attributes bytes → length bytes ≡ row_length attributes * length (rows_of attributes bytes)
+pub whole_rows : (version : ℕ) (attributes : List Attribute) (bytes : List ℕ) → AreRows version attributes bytes → length bytes ≡ row_length attributes * length (rows_of attributes bytes)
 whole_rows version attributes bytes r =
     let size = length-read attributes bytes (range_with_len 0 (slots_in attributes bytes)) in
     let slots : length (rows_of attributes bytes) ≡ length (range_with_len 0 (slots_in attributes bytes)) = length-map (range_with_len 0 (slots_in attributes bytes)) (row_at attributes bytes) in
