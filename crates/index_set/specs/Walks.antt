@@ -1,5 +1,5 @@
 -- The slots that candidates have still to answer.
-use Rattle.std.specs.Prelude.{◌≡◌, ◌≤◌, ◌<◌, ⊤, ℕ, ◌+◌, ◌-◌, ◌*◌, Bool, true, false, List, length, filter, get_or, Option}
+use Rattle.std.specs.Prelude.{◌≡◌, ◌≤◌, ◌<◌, ⊤, ℕ, ◌+◌, ◌-◌, ◌*◌, ℤ, Bool, true, false, List, length, filter, get_or, Option, Some, None}
 use Rattle.std.specs.List.{range_with_len}
 use Rattle.std.specs.Ordering.{int_eq}
 use Rattle.afl_base.specs.Files.{State, IsLive, bytes_at}
@@ -17,6 +17,7 @@ use Rattle.index_set.specs.Complete.{key_in, no_row}
 use Rattle.index_set.specs.Inserts.{SomeOf}
 use Rattle.index_set.specs.Tables.{Tables, entries}
 use Rattle.index_set.specs.Trees.{IsPlaceOf, walk_left}
+use Rattle.index_tree.specs.Keys.{is_key_at}
 use Rattle.index_tree.specs.Trees.{IsTreeOf}
 
 -- which rows a search answers
@@ -93,3 +94,23 @@ reads_ahead c all = reads_by c.search c.place all (length (ahead c all))
 -- with the row of each slot
 abbrev pub cost_ahead : Candidates → List Row → ℕ
 cost_ahead c all = 6 * length (ahead c all) + reads_ahead c all
+
+-- ---- steps
+
+-- no slot from one up to another has the key
+abbrev pub LacksKey : ℤ → List ℤ → ℕ → ℕ → Type 0
+LacksKey key keys from end = (i : ℕ) → from ≤ i → i < end → is_key_at key keys i ≡ false
+
+-- their place stands in the tree of these keys
+abbrev pub HasPlace : State → ℕ → ℤ → List ℤ → Candidates → Type 0
+HasPlace state file key keys c = IsTreeOf (bytes_at state.files file) keys × IsPlaceOf (bytes_at state.files file) keys key c.from c.place
+
+-- they have gone behind the slot that was answered, by one, up to the same end; else they are where they were
+abbrev pub IsMoved : Option ℕ → Candidates → Candidates → Type 0
+IsMoved None old new = new ≡ old
+IsMoved (Some slot) old new = (new.from ≡ slot + 1) × (new.slots ≡ old.slots) × (new.search ≡ old.search) × (new.place ≡ old.place)
+
+-- they have gone behind the slot that was answered, and end with their slots
+abbrev pub IsMovedBy : Option ℕ → Candidates → Candidates → Type 0
+IsMovedBy None old new = (new.from ≡ old.from) × (new.end ≡ old.end) × (new.slots ≡ old.slots) × (new.search ≡ old.search)
+IsMovedBy (Some slot) old new = (new.from ≡ slot + 1) × (new.end ≡ new.slots) × (new.slots ≡ old.slots) × (new.search ≡ old.search) × (old.from ≤ slot) × (slot < old.slots)
