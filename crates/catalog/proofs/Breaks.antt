@@ -7,8 +7,8 @@ use Rattle.afl_base.specs.Files.{File, Table, bytes_at, no_file, place}
 use Rattle.db_model.specs.declared.schemas.Schema.{Schema}
 use Rattle.db_model.specs.Catalog.{Index, catalog_of, version_mark, version_of}
 use Rattle.catalog.specs.CatalogFile.{IsCatalogSize}
-use Rattle.space_model.specs.Wants.{catalog_file}
-use Rattle.catalog.specs.Rules.{breaks_files, breaks_index, breaks_relation, broken_catalog, bytes_of, catalog_bytes_in, file_named, first, first_broken, has_form, is_stranger, version_in}
+use Rattle.space_model.specs.FileNames.{bytes_of, catalog_file, file_named}
+use Rattle.catalog.specs.Rules.{breaks_files, breaks_index, breaks_relation, broken_catalog, catalog_bytes_in, first, first_broken, has_form, is_stranger, version_in}
 use Rattle.catalog.proofs.Choices.{not_equal, none_if, some_if, then_some_if}
 
 -- ---- versions

@@ -4,7 +4,7 @@ use Rattle.std.specs.Prelude.{IfNone, IfSome, is_some, option_map}
 use Rattle.std.specs.Str.{bytes_eq}
 use Rattle.std.proofs.lemmas.Slice.Eq.{bytes_eq-Decides}
 use Rattle.afl_base.specs.Files.{File, IsNamed, IsUnnamed, Table, place}
-use Rattle.catalog.specs.Rules.{file_named, is_there}
+use Rattle.space_model.specs.FileNames.{file_named, is_there}
 
 same_name : (m n : List ℕ) → m ≡ n → bytes_eq m n ≡ true
 same_name m n e = (bytes_eq-Decides m n).1 e

@@ -1,8 +1,9 @@
 -- The file of the catalog, and what a change of it asks for.
 use Rattle.std.specs.Prelude.{◌≡◌, ℕ, ◌≤◌, ◌⊎◌, List, length, map, Option, option_map}
-use Rattle.afl_base.specs.Files.{File}
+use Rattle.afl_base.specs.Files.{Becomes, File, State, bytes_at}
 use Rattle.catalog.specs.declared.types.IndexEntry.{IndexEntry}
-use Rattle.db_model.specs.Catalog.{Index}
+use Rattle.db_model.specs.declared.schemas.Schema.{Schema}
+use Rattle.db_model.specs.Catalog.{Index, with_index_slot, with_relation_slot}
 use Rattle.space_model.specs.Wants.{room_for}
 
 -- ---- changes
@@ -15,6 +16,13 @@ IsCatalogSize size = (size ≡ 0) ⊎ (size ≡ 1472) ⊎ (size ≡ 1480)
 pub record IsPrepared (file : File) (at n : ℕ) : Type 0 where
   pub records : (room_for (length file.bytes) at n).0 ≤ file.records
   pub room : (room_for (length file.bytes) at n).1 ≤ file.room
+
+-- a relation slot is replaced in the file of the catalog, which is of version 2 then
+abbrev pub PutsRelation : (old new : State) (cat slot : ℕ) → Option Schema → Type 0
+PutsRelation old new cat slot relation = Becomes old new cat 1480 (with_relation_slot (bytes_at old.files cat) slot relation)
+
+abbrev pub PutsIndex : (old new : State) (cat slot : ℕ) → Option Index → Type 0
+PutsIndex old new cat slot index = Becomes old new cat 1480 (with_index_slot (bytes_at old.files cat) slot index)
 
 -- what an entry says of an index
 abbrev pub index_in : IndexEntry → Index

@@ -5,8 +5,9 @@ use Rattle.catalog.specs.CatalogFile.{indexes_in}
 use Rattle.db_model.specs.declared.schemas.Schema.{Schema}
 use Rattle.db_model.specs.Catalog.{Catalog as Slots, Index}
 
-abbrev pub catalog_in : Catalog → Slots
-catalog_in catalog = record { version = catalog.version; relations = catalog.relations; indexes = indexes_in catalog.indexes }
+-- the version and the slots of a catalog in memory
+abbrev pub slots_of : Catalog → Slots
+slots_of catalog = record { version = catalog.version; relations = catalog.relations; indexes = indexes_in catalog.indexes }
 
 -- one relation slot is another, and the version is 2
 abbrev pub relation_replaced : Slots → ℕ → Option Schema → Slots

@@ -1,8 +1,8 @@
 ghost use Rattle.std.specs.Prelude.{◌≡◌, ◌+◌, ◌-◌, ◌*◌, ◌≤◌, OnOk, Some, None, length, slice_index};
 ghost use Rattle.afl_base.specs.Causes.{HasCause};
 ghost use Rattle.afl_base.specs.Files.{Becomes, IsLive, bytes_at, file_at};
-ghost use Rattle.db_model.specs.Catalog.{with_index_slot, with_relation_slot, with_slot};
-ghost use Rattle.catalog.specs.CatalogFile.{IsCatalogSize, IsPrepared, index_in};
+ghost use Rattle.db_model.specs.Catalog.{with_slot};
+ghost use Rattle.catalog.specs.CatalogFile.{IsCatalogSize, IsPrepared, PutsIndex, PutsRelation, index_in};
 ghost use Rattle.space_model.specs.Wants.{room_for};
 
 use crate::slots::{VERSION_MARK, first_catalog, index_slot, relation_slot, unused_slot};
@@ -36,7 +36,8 @@ pub fn put_relation<V: Files>(
     requires live { IsLive (V.state files.old).files cat }
     requires form { IsCatalogSize (length (bytes_at (V.state files.old).files cat)) }
     requires prepared { IsPrepared (file_at (V.state files.old).files cat) (176 * id) 176 }
-    ensures put { OnOk result (Becomes (V.state files.old) (V.state files.new) cat 1480 (with_relation_slot (bytes_at (V.state files.old).files cat) id (Some schema.now))) }
+    ensures put { OnOk result (PutsRelation (V.state files.old) (V.state files.new) cat id (Some schema.now)) }
+    ensures store { length (V.state files.new).store ≡ length (V.state files.old).store }
     ensures cause { HasCause (V.faults files.old) (V.faults files.new) result }
 {
     replace(
@@ -53,7 +54,8 @@ pub fn clear_relation<V: Files>(files: &mut V, cat: FileId, id: RelationId) -> R
     requires live { IsLive (V.state files.old).files cat }
     requires form { IsCatalogSize (length (bytes_at (V.state files.old).files cat)) }
     requires prepared { IsPrepared (file_at (V.state files.old).files cat) (176 * id) 176 }
-    ensures cleared { OnOk result (Becomes (V.state files.old) (V.state files.new) cat 1480 (with_relation_slot (bytes_at (V.state files.old).files cat) id None)) }
+    ensures cleared { OnOk result (PutsRelation (V.state files.old) (V.state files.new) cat id None) }
+    ensures store { length (V.state files.new).store ≡ length (V.state files.old).store }
     ensures cause { HasCause (V.faults files.old) (V.faults files.new) result }
 {
     let slot: [u8; 176] = unused_slot();
@@ -71,7 +73,8 @@ pub fn put_index<V: Files>(
     requires live { IsLive (V.state files.old).files cat }
     requires form { IsCatalogSize (length (bytes_at (V.state files.old).files cat)) }
     requires prepared { IsPrepared (file_at (V.state files.old).files cat) (1408 + 8 * id) 8 }
-    ensures put { OnOk result (Becomes (V.state files.old) (V.state files.new) cat 1480 (with_index_slot (bytes_at (V.state files.old).files cat) id (Some (index_in entry.now)))) }
+    ensures put { OnOk result (PutsIndex (V.state files.old) (V.state files.new) cat id (Some (index_in entry.now))) }
+    ensures store { length (V.state files.new).store ≡ length (V.state files.old).store }
     ensures cause { HasCause (V.faults files.old) (V.faults files.new) result }
 {
     replace(
@@ -88,7 +91,8 @@ pub fn clear_index<V: Files>(files: &mut V, cat: FileId, id: IndexId) -> Result<
     requires live { IsLive (V.state files.old).files cat }
     requires form { IsCatalogSize (length (bytes_at (V.state files.old).files cat)) }
     requires prepared { IsPrepared (file_at (V.state files.old).files cat) (1408 + 8 * id) 8 }
-    ensures cleared { OnOk result (Becomes (V.state files.old) (V.state files.new) cat 1480 (with_index_slot (bytes_at (V.state files.old).files cat) id None)) }
+    ensures cleared { OnOk result (PutsIndex (V.state files.old) (V.state files.new) cat id None) }
+    ensures store { length (V.state files.new).store ≡ length (V.state files.old).store }
     ensures cause { HasCause (V.faults files.old) (V.faults files.new) result }
 {
     let slot: [u8; 8] = unused_slot();
@@ -103,7 +107,9 @@ fn replace<V: Files>(files: &mut V, cat: FileId, at: u32, slot: &[u8]) -> Result
     requires some { 1 ≤ length slot.now }
     requires last { slice_index slot.now (length slot.now - 1) ≡ 1 }
     requires prepared { IsPrepared (file_at (V.state files.old).files cat) at (length slot.now) }
-    ensures replaced { OnOk result (Becomes (V.state files.old) (V.state files.new) cat 1480 (with_slot (bytes_at (V.state files.old).files cat) at slot.now)) }
+    ensures replaced { OnOk result (Becomes (V.state files.old) (V.state files.new) cat 1480
+        (with_slot (bytes_at (V.state files.old).files cat) at slot.now)) }
+    ensures store { length (V.state files.new).store ≡ length (V.state files.old).store }
     ensures cause { HasCause (V.faults files.old) (V.faults files.new) result }
 {
     let size = files.size(cat);

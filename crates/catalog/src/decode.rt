@@ -3,19 +3,23 @@ ghost use Rattle.std.specs.List.{list_all};
 ghost use Rattle.std.specs.Str.{bytes_eq};
 ghost use Rattle.db_model.specs.Catalog.{attribute_of, attributes_of, domain_from, index_slot_bytes, index_slot_of, kind_from, relation_slot_of, schema_of};
 ghost use Rattle.db_model.specs.Database.{is_among};
-ghost use Rattle.db_model.specs.Row.{fields_length, row_length, up_to_zero, width};
+ghost use Rattle.db_model.specs.Row.{row_length, up_to_zero};
 ghost use Rattle.catalog.specs.CatalogFile.{index_in};
-ghost use Rattle.catalog.specs.Rules.{are_distinct, attribute_names, is_attribute, is_domain, is_index_form, is_relation_slot, is_row, is_schema};
+ghost use Rattle.catalog.specs.Rules.{is_attribute, is_domain, is_index_form, is_relation_slot, is_row, is_schema};
+ghost use Rattle.db_model.specs.Sound.{are_distinct, attribute_names};
 
 use crate::slots::{index_slot, relation_slot, unused_slot};
 use crate::types::IndexEntry;
 use afl_base::RelationId;
-use db_model::{Attribute, Attributes, Domain, Ident, IndexKind, Schema};
+use db_model::{
+    Attribute, Attributes, Domain, Ident, IndexKind, Schema, row_length, up_to_zero,
+};
 
 // What a relation slot holds, None where it is not of the catalog's form.
 pub fn read_relation(slot: &[u8], version: u8) -> Option<Option<Schema>>
     requires { length slot.now ≡ 176 }
-    ensures { result ≡ (if is_relation_slot version slot.now (relation_slot_of slot.now) then Some (relation_slot_of slot.now) else None) }
+    ensures { result ≡ (if is_relation_slot version slot.now (relation_slot_of slot.now)
+        then Some (relation_slot_of slot.now) else None) }
 {
     if slot[0] == 0 {
         let unused: [u8; 176] = unused_slot();
@@ -29,11 +33,12 @@ pub fn read_relation(slot: &[u8], version: u8) -> Option<Option<Schema>>
 // relation has.
 fn read_schema(slot: &[u8], version: u8) -> Option<Schema>
     requires { length slot.now ≡ 176 }
-    ensures { result ≡ (if is_schema version (schema_of slot.now) then Some (schema_of slot.now) else None) }
+    ensures { result ≡ (if is_schema version (schema_of slot.now)
+        then Some (schema_of slot.now) else None) }
 {
     let name = Ident::new(up_to_zero(&slot[..16]))?;
     let attributes = read_attributes(slot[160] as usize, &slot[16..], version)?;
-    if !is_row(attributes.as_slice()) {
+    if !is_row(&attributes) {
         return None;
     }
     Some(Schema { name, attributes })
@@ -42,7 +47,8 @@ fn read_schema(slot: &[u8], version: u8) -> Option<Schema>
 // The first `n` attributes, None where there are more than 8 or one is of no form.
 fn read_attributes(n: usize, bytes: &[u8], version: u8) -> Option<Attributes>
     requires { 144 ≤ length bytes.now }
-    ensures { result ≡ (if nat_le n 8 && list_all (is_attribute version) (attributes_of n bytes.now) then Some (attributes_of n bytes.now) else None) }
+    ensures { result ≡ (if nat_le n 8 && list_all (is_attribute version) (attributes_of n bytes.now)
+        then Some (attributes_of n bytes.now) else None) }
 {
     let mut attributes = Attributes::new();
     if n > 8 {
@@ -57,7 +63,8 @@ fn read_attributes(n: usize, bytes: &[u8], version: u8) -> Option<Attributes>
 // The attribute in 18 bytes, None where its name or its domain is none.
 fn read_attribute(bytes: &[u8], version: u8) -> Option<Attribute>
     requires { length bytes.now ≡ 18 }
-    ensures { result ≡ (if is_attribute version (attribute_of bytes.now) then Some (attribute_of bytes.now) else None) }
+    ensures { result ≡ (if is_attribute version (attribute_of bytes.now)
+        then Some (attribute_of bytes.now) else None) }
 {
     let name = Ident::new(up_to_zero(&bytes[..16]))?;
     let domain = domain_from(bytes[16], bytes[17]);
@@ -87,36 +94,10 @@ fn is_domain(version: u8, domain: Domain) -> bool
 }
 
 // Whether a row of the attributes has at most 128 bytes, and no two have one name.
-fn is_row(attributes: &[Attribute]) -> bool
-    requires { length attributes.now ≤ 8 }
+fn is_row(attributes: &Attributes) -> bool
     ensures { result ≡ is_row attributes.now }
 {
-    row_length(attributes) <= 128 && are_distinct(attributes)
-}
-
-// The bytes of a row of the attributes.
-fn row_length(attributes: &[Attribute]) -> usize
-    requires { length attributes.now ≤ 8 }
-    ensures { result ≡ row_length attributes.now }
-{
-    let mut fields = 0;
-    for attribute in attributes {
-        fields += width(attribute.domain);
-    }
-    fields + 1
-}
-
-// The bytes of a field of the domain.
-fn width(domain: Domain) -> usize
-    ensures value { result ≡ width domain }
-    ensures short { result ≤ 255 }
-{
-    match domain {
-        Domain::Int => 2,
-        Domain::Long => 4,
-        Domain::Time => 8,
-        Domain::Str(n) => n as usize,
-    }
+    row_length(attributes) <= 128 && are_distinct(attributes.as_slice())
 }
 
 // Whether no two of the attributes have one name.
@@ -141,18 +122,6 @@ fn is_among(name: &Ident, attributes: &[Attribute]) -> bool
         }
     }
     false
-}
-
-// The bytes before the first zero.
-fn up_to_zero(bytes: &[u8]) -> &[u8]
-    ensures { result.now ≡ up_to_zero bytes.now }
-{
-    for (at, byte) in bytes.iter().enumerate() {
-        if *byte == 0 {
-            return &bytes[..at];
-        }
-    }
-    bytes
 }
 
 // What an index slot holds, None where it is not of the catalog's form.

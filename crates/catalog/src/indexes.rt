@@ -21,12 +21,17 @@ pub fn load_indexes<V: Files>(
 ) -> Result<Result<[Option<IndexEntry>; 8], u16>, Failed>
     requires live { IsLive (V.state files.old).files cat }
     requires size { 1472 ≤ length (bytes_at (V.state files.old).files cat) }
-    requires relations { IsTrue (V.state files.old).tells → relations.now ≡ (catalog_of (bytes_at (V.state files.old).files cat)).relations }
-    ensures indexes { IsTrue (V.state files.old).tells → IfOk result (λ r. IfOk r (λ indexes. indexes_in indexes ≡ (catalog_of (bytes_at (V.state files.old).files cat)).indexes)) }
-    ensures sound { IsTrue (V.state files.old).tells → IfOk result (λ r. OnOk r (first 8 (breaks_index (bytes_at (V.state files.old).files cat)) ≡ None)) }
-    ensures broken { IsTrue (V.state files.old).tells → IfOk result (λ r. IfErr r (λ slot. first 8 (breaks_index (bytes_at (V.state files.old).files cat)) ≡ Some slot)) }
+    requires relations { IsTrue (V.state files.old).tells → relations.now
+        ≡ (catalog_of (bytes_at (V.state files.old).files cat)).relations }
+    ensures indexes { IsTrue (V.state files.old).tells → IfOk result
+        (λ r. IfOk r (λ indexes. indexes_in indexes ≡ (catalog_of (bytes_at (V.state files.old).files cat)).indexes)) }
+    ensures sound { IsTrue (V.state files.old).tells → IfOk result
+        (λ r. OnOk r (first 8 (breaks_index (bytes_at (V.state files.old).files cat)) ≡ None)) }
+    ensures broken { IsTrue (V.state files.old).tells → IfOk result
+        (λ r. IfErr r (λ slot. first 8 (breaks_index (bytes_at (V.state files.old).files cat)) ≡ Some slot)) }
     ensures same { OnOk result (V.state files.new ≡ V.state files.old) }
     ensures reads { V.reads files.new ≤ V.reads files.old + 24 }
+    ensures store { length (V.state files.new).store ≡ length (V.state files.old).store }
     ensures cause { HasCause (V.faults files.old) (V.faults files.new) result }
 {
     let mut indexes = [None; 8];
@@ -51,9 +56,13 @@ fn load_index<V: Files>(
     requires live { IsLive (V.state files.old).files cat }
     requires size { 1472 ≤ length (bytes_at (V.state files.old).files cat) }
     requires slot { slot < 8 }
-    ensures index { IsTrue (V.state files.old).tells → IfOk result (λ r. option_map (option_map index_in) r ≡ sound_index (slice_range (bytes_at (V.state files.old).files cat) (1408 + 8 * slot) (1408 + 8 * slot + 8)) relations.now (indexes_in before.now)) }
+    ensures index { IsTrue (V.state files.old).tells → IfOk result
+        (λ r. option_map (option_map index_in) r ≡ sound_index
+        (slice_range (bytes_at (V.state files.old).files cat) (1408 + 8 * slot) (1408 + 8 * slot + 8))
+        relations.now (indexes_in before.now)) }
     ensures same { OnOk result (V.state files.new ≡ V.state files.old) }
     ensures reads { V.reads files.new ≤ V.reads files.old + 3 }
+    ensures store { length (V.state files.new).store ≡ length (V.state files.old).store }
     ensures cause { HasCause (V.faults files.old) (V.faults files.new) result }
 {
     let mut bytes = [0u8; 8];

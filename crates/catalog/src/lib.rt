@@ -9,8 +9,6 @@ mod names;
 mod opening;
 mod relations;
 mod slots;
-#[cfg(test)]
-mod tests;
 mod types;
 
 pub use change::{clear_index, clear_relation, put_index, put_relation, room_for};

@@ -1,8 +1,8 @@
 ghost use Rattle.std.specs.Prelude.{◌≡◌, ◌<◌, IsTrue};
 ghost use Rattle.afl_base.specs.Files.{is_live};
 ghost use Rattle.afl_base.specs.Names.{is_file_name};
-ghost use Rattle.space_model.specs.Wants.{catalog_file, rows_file, tree_file};
-ghost use Rattle.catalog.specs.Rules.{first, is_numbered, is_of_database, is_stranger, is_there};
+ghost use Rattle.space_model.specs.FileNames.{catalog_file, is_there, rows_file, tree_file};
+ghost use Rattle.catalog.specs.Rules.{first, is_numbered, is_of_database, is_stranger};
 
 use afl_base::{FileId, Files, IndexId, Kind, Name, RelationId};
 

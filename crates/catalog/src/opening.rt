@@ -3,8 +3,8 @@ ghost use Rattle.afl_base.specs.Causes.{HasCause};
 ghost use Rattle.afl_base.specs.Files.{IsLive, bytes_at};
 ghost use Rattle.db_model.specs.Catalog.{catalog_of};
 ghost use Rattle.catalog.specs.CatalogFile.{IsCatalogSize, indexes_in};
-ghost use Rattle.catalog.specs.Catalogs.{catalog_in};
-ghost use Rattle.catalog.specs.Rules.{breaks_files, broken_catalog, catalog_bytes_in, first, first_broken, is_tree, version_in};
+ghost use Rattle.catalog.specs.Catalogs.{slots_of};
+ghost use Rattle.catalog.specs.Rules.{breaks_files, broken_catalog, catalog_bytes_in, catalog_in, first, first_broken, is_tree, version_in};
 
 use crate::indexes::load_indexes;
 use crate::names::{catalog_file, first_stranger, is_there, rows_file, tree_file};
@@ -18,11 +18,15 @@ use db_model::{IndexKind, Schema};
 /// where one of the rules 14 to 18 is broken, and has the first with its place. The files stay. Over
 /// files that do not tell their bytes nothing is said of the answer.
 pub fn load<V: Files>(files: &mut V) -> Result<Result<Catalog, BadCatalog>, Failed>
-    ensures catalog { IsTrue (V.state files.old).tells → IfOk result (λ r. IfOk r (λ catalog. catalog_in catalog ≡ catalog_of (catalog_bytes_in (V.state files.old).files))) }
-    ensures sound { IsTrue (V.state files.old).tells → IfOk result (λ r. OnOk r (first_broken (V.state files.old).files ≡ None)) }
-    ensures broken { IsTrue (V.state files.old).tells → IfOk result (λ r. IfErr r (λ bad. first_broken (V.state files.old).files ≡ Some (bad.rule, bad.place))) }
+    ensures catalog { IsTrue (V.state files.old).tells → IfOk result
+        (λ r. IfOk r (λ catalog. slots_of catalog ≡ catalog_in (V.state files.old).files)) }
+    ensures sound { IsTrue (V.state files.old).tells → IfOk result
+        (λ r. OnOk r (first_broken (V.state files.old).files ≡ None)) }
+    ensures broken { IsTrue (V.state files.old).tells → IfOk result
+        (λ r. IfErr r (λ bad. first_broken (V.state files.old).files ≡ Some (bad.rule, bad.place))) }
     ensures same { OnOk result (V.state files.new ≡ V.state files.old) }
     ensures reads { V.reads files.new ≤ V.reads files.old + 99 }
+    ensures store { length (V.state files.new).store ≡ length (V.state files.old).store }
     ensures cause { HasCause (V.faults files.old) (V.faults files.new) result }
 {
     match first_stranger(files) {
@@ -41,11 +45,15 @@ pub fn load<V: Files>(files: &mut V) -> Result<Result<Catalog, BadCatalog>, Fail
 
 // The catalog by itself: rules 15 to 17.
 fn read_catalog<V: Files>(files: &mut V) -> Result<Result<Catalog, BadCatalog>, Failed>
-    ensures catalog { IsTrue (V.state files.old).tells → IfOk result (λ r. IfOk r (λ catalog. catalog_in catalog ≡ catalog_of (catalog_bytes_in (V.state files.old).files))) }
-    ensures sound { IsTrue (V.state files.old).tells → IfOk result (λ r. OnOk r (broken_catalog (catalog_bytes_in (V.state files.old).files) ≡ None)) }
-    ensures broken { IsTrue (V.state files.old).tells → IfOk result (λ r. IfErr r (λ bad. broken_catalog (catalog_bytes_in (V.state files.old).files) ≡ Some (bad.rule, bad.place))) }
+    ensures catalog { IsTrue (V.state files.old).tells → IfOk result
+        (λ r. IfOk r (λ catalog. slots_of catalog ≡ catalog_in (V.state files.old).files)) }
+    ensures sound { IsTrue (V.state files.old).tells → IfOk result
+        (λ r. OnOk r (broken_catalog (catalog_bytes_in (V.state files.old).files) ≡ None)) }
+    ensures broken { IsTrue (V.state files.old).tells → IfOk result
+        (λ r. IfErr r (λ bad. broken_catalog (catalog_bytes_in (V.state files.old).files) ≡ Some (bad.rule, bad.place))) }
     ensures same { OnOk result (V.state files.new ≡ V.state files.old) }
     ensures reads { V.reads files.new ≤ V.reads files.old + 99 }
+    ensures store { length (V.state files.new).store ≡ length (V.state files.old).store }
     ensures cause { HasCause (V.faults files.old) (V.faults files.new) result }
 {
     match files.find(catalog_file()) {
@@ -56,11 +64,15 @@ fn read_catalog<V: Files>(files: &mut V) -> Result<Result<Catalog, BadCatalog>, 
 
 fn read_file<V: Files>(files: &mut V, cat: FileId) -> Result<Result<Catalog, BadCatalog>, Failed>
     requires { IsLive (V.state files.old).files cat }
-    ensures catalog { IsTrue (V.state files.old).tells → IfOk result (λ r. IfOk r (λ catalog. catalog_in catalog ≡ catalog_of (bytes_at (V.state files.old).files cat))) }
-    ensures sound { IsTrue (V.state files.old).tells → IfOk result (λ r. OnOk r (broken_catalog (bytes_at (V.state files.old).files cat) ≡ None)) }
-    ensures broken { IsTrue (V.state files.old).tells → IfOk result (λ r. IfErr r (λ bad. broken_catalog (bytes_at (V.state files.old).files cat) ≡ Some (bad.rule, bad.place))) }
+    ensures catalog { IsTrue (V.state files.old).tells → IfOk result
+        (λ r. IfOk r (λ catalog. slots_of catalog ≡ catalog_of (bytes_at (V.state files.old).files cat))) }
+    ensures sound { IsTrue (V.state files.old).tells → IfOk result
+        (λ r. OnOk r (broken_catalog (bytes_at (V.state files.old).files cat) ≡ None)) }
+    ensures broken { IsTrue (V.state files.old).tells → IfOk result
+        (λ r. IfErr r (λ bad. broken_catalog (bytes_at (V.state files.old).files cat) ≡ Some (bad.rule, bad.place))) }
     ensures same { OnOk result (V.state files.new ≡ V.state files.old) }
     ensures reads { V.reads files.new ≤ V.reads files.old + 99 }
+    ensures store { length (V.state files.new).store ≡ length (V.state files.old).store }
     ensures cause { HasCause (V.faults files.old) (V.faults files.new) result }
 {
     let version = match read_version(files, cat)? {
@@ -88,10 +100,13 @@ fn read_file<V: Files>(files: &mut V, cat: FileId) -> Result<Result<Catalog, Bad
 // The version, None where the file has no catalog's size or not the mark of its version.
 fn read_version<V: Files>(files: &mut V, cat: FileId) -> Result<Option<u8>, Failed>
     requires { IsLive (V.state files.old).files cat }
-    ensures version { IsTrue (V.state files.old).tells → IfOk result (λ version. version ≡ version_in (bytes_at (V.state files.old).files cat)) }
-    ensures size { IfOk result (λ version. IfSome version (λ _. IsCatalogSize (length (bytes_at (V.state files.old).files cat)))) }
+    ensures version { IsTrue (V.state files.old).tells → IfOk result
+        (λ version. version ≡ version_in (bytes_at (V.state files.old).files cat)) }
+    ensures size { IfOk result
+        (λ version. IfSome version (λ _. IsCatalogSize (length (bytes_at (V.state files.old).files cat)))) }
     ensures same { OnOk result (V.state files.new ≡ V.state files.old) }
     ensures reads { V.reads files.new ≤ V.reads files.old + 3 }
+    ensures store { length (V.state files.new).store ≡ length (V.state files.old).store }
     ensures cause { HasCause (V.faults files.old) (V.faults files.new) result }
 {
     match files.size(cat) {

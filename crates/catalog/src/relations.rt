@@ -18,11 +18,15 @@ pub fn load_relations<V: Files>(
     requires live { IsLive (V.state files.old).files cat }
     requires size { 1472 ≤ length (bytes_at (V.state files.old).files cat) }
     requires version { IsTrue (V.state files.old).tells → version ≡ version_of (bytes_at (V.state files.old).files cat) }
-    ensures relations { IsTrue (V.state files.old).tells → IfOk result (λ r. IfOk r (λ relations. relations ≡ (catalog_of (bytes_at (V.state files.old).files cat)).relations)) }
-    ensures sound { IsTrue (V.state files.old).tells → IfOk result (λ r. OnOk r (first 8 (breaks_relation (bytes_at (V.state files.old).files cat)) ≡ None)) }
-    ensures broken { IsTrue (V.state files.old).tells → IfOk result (λ r. IfErr r (λ slot. first 8 (breaks_relation (bytes_at (V.state files.old).files cat)) ≡ Some slot)) }
+    ensures relations { IsTrue (V.state files.old).tells → IfOk result
+        (λ r. IfOk r (λ relations. relations ≡ (catalog_of (bytes_at (V.state files.old).files cat)).relations)) }
+    ensures sound { IsTrue (V.state files.old).tells → IfOk result
+        (λ r. OnOk r (first 8 (breaks_relation (bytes_at (V.state files.old).files cat)) ≡ None)) }
+    ensures broken { IsTrue (V.state files.old).tells → IfOk result
+        (λ r. IfErr r (λ slot. first 8 (breaks_relation (bytes_at (V.state files.old).files cat)) ≡ Some slot)) }
     ensures same { OnOk result (V.state files.new ≡ V.state files.old) }
     ensures reads { V.reads files.new ≤ V.reads files.old + 72 }
+    ensures store { length (V.state files.new).store ≡ length (V.state files.old).store }
     ensures cause { HasCause (V.faults files.old) (V.faults files.new) result }
 {
     let mut relations = [None, None, None, None, None, None, None, None];
@@ -47,9 +51,12 @@ fn load_relation<V: Files>(
     requires live { IsLive (V.state files.old).files cat }
     requires size { 1472 ≤ length (bytes_at (V.state files.old).files cat) }
     requires slot { slot < 8 }
-    ensures relation { IsTrue (V.state files.old).tells → IfOk result (λ r. r ≡ sound_relation version (slice_range (bytes_at (V.state files.old).files cat) (176 * slot) (176 * slot + 176)) before.now) }
+    ensures relation { IsTrue (V.state files.old).tells → IfOk result
+        (λ r. r ≡ sound_relation version
+        (slice_range (bytes_at (V.state files.old).files cat) (176 * slot) (176 * slot + 176)) before.now) }
     ensures same { OnOk result (V.state files.new ≡ V.state files.old) }
     ensures reads { V.reads files.new ≤ V.reads files.old + 9 }
+    ensures store { length (V.state files.new).store ≡ length (V.state files.old).store }
     ensures cause { HasCause (V.faults files.old) (V.faults files.new) result }
 {
     let mut bytes = [0u8; 176];

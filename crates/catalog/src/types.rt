@@ -20,12 +20,12 @@ pub struct Catalog {
 
 impl Catalog {
     ghost use Rattle.std.specs.Prelude.{◌≡◌, []};
-    ghost use Rattle.catalog.specs.Catalogs.{catalog_in};
+    ghost use Rattle.catalog.specs.Catalogs.{slots_of};
     ghost use Rattle.db_model.specs.Catalog.{catalog_of};
 
     /// No relation and no index, in version 2: the catalog of an absent or empty file.
     pub fn empty() -> Catalog
-        ensures { catalog_in result ≡ catalog_of [] }
+        ensures { slots_of result ≡ catalog_of [] }
     {
         Catalog {
             version: 2,

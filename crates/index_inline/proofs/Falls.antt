@@ -1,5 +1,5 @@
 -- Keys that do not fall.
-use Rattle.std.proofs.Common.{◌≡◌, ◌≤◌, ◌<◌, ◌+◌, ◌-◌, ◌++◌, ◌∷◌, [], List, length, get_or, map, take, drop, ℕ, zero, suc, ℤ, pos, negsuc, ◌≤ℤ◌, ◌<ℤ◌, Bool, true, false, Option, Some, None, cond, max, arith, refl, ap, ◌∙◌, sym, subst}
+use Rattle.std.proofs.Common.{◌≡◌, ◌≤◌, ◌<◌, ◌+◌, ◌-◌, ◌++◌, ◌∷◌, [], List, length, get_or, map, take, drop, ℕ, zero, suc, ℤ, pos, negsuc, Bool, true, false, Option, Some, None, cond, max, arith, refl, ap, ◌∙◌, sym, subst}
 use Rattle.std.specs.Prelude.{FitsSigned, int_lt, int_le}
 use Rattle.std.specs.Int.{w64}
 use Rattle.std.specs.List.{range_with_len}
@@ -27,9 +27,9 @@ least_first : (a : ℤ) (zs : List ℤ) → first_fall (a ∷ zs) ≡ None → (
 least_first a zs e zero h = grind (arith, ints)
 least_first a [] e (suc j) h = absurd (omega arith)
 least_first a (b ∷ zs) e (suc j) h =
-  let here = not_first (int_lt b a) a (first_fall (b ∷ zs)) e in
-  let deep = least_first b zs (none_behind (int_lt b a) a (first_fall (b ∷ zs)) e) j (omega arith) in
-  grind (arith, ints)
+    let here = not_first (int_lt b a) a (first_fall (b ∷ zs)) e in
+    let deep = least_first b zs (none_behind (int_lt b a) a (first_fall (b ∷ zs)) e) j (omega arith) in
+    grind (arith, ints)
 
 list_rises : (zs : List ℤ) → first_fall zs ≡ None → (i j : ℕ) → i ≤ j → j < length zs → int_le (get_or zs i (pos 0)) (get_or zs j (pos 0)) ≡ true
 list_rises [] e i j h k = absurd (omega arith)
@@ -40,11 +40,11 @@ list_rises (a ∷ b ∷ zs) e (suc i) (suc j) h k = list_rises (b ∷ zs) (none_
 
 pub rises : (key : ℕ → ℤ) (slots : ℕ) → first_fall (map key (range_with_len 0 slots)) ≡ None → Rises key slots
 rises key slots e i j h k =
-  let first : get_or (map key (range_with_len 0 slots)) i (pos 0) ≡ key i = get_or-map-range_with_len key 0 slots i i (pos 0) (omega arith) (omega arith) in
-  let second : get_or (map key (range_with_len 0 slots)) j (pos 0) ≡ key j = get_or-map-range_with_len key 0 slots j j (pos 0) (omega arith) (omega arith) in
-  let size = length-map-range_with_len key 0 slots in
-  let both = list_rises (map key (range_with_len 0 slots)) e i j h (omega (arith, size)) in
-  subst (λ (a : ℤ). int_le a (key j) ≡ true) first (subst (λ (b : ℤ). int_le (get_or (map key (range_with_len 0 slots)) i (pos 0)) b ≡ true) second both)
+    let first : get_or (map key (range_with_len 0 slots)) i (pos 0) ≡ key i = get_or-map-range_with_len key 0 slots i i (pos 0) (omega arith) (omega arith) in
+    let second : get_or (map key (range_with_len 0 slots)) j (pos 0) ≡ key j = get_or-map-range_with_len key 0 slots j j (pos 0) (omega arith) (omega arith) in
+    let size = length-map-range_with_len key 0 slots in
+    let both = list_rises (map key (range_with_len 0 slots)) e i j h (omega (arith, size)) in
+    subst (λ (a : ℤ). int_le a (key j) ≡ true) first (subst (λ (b : ℤ). int_le (get_or (map key (range_with_len 0 slots)) i (pos 0)) b ≡ true) second both)
 
 -- ---- halving
 
@@ -58,7 +58,7 @@ passes_up_to key slots middle upper within rises below passed slot h = passes_be
 
 pub fails_from : (key : ℕ → ℤ) (slots middle : ℕ) (upper : Bool) (within : Range) → Rises key slots → passes upper within (key middle) ≡ false → (slot : ℕ) → middle ≤ slot → slot < slots → passes upper within (key slot) ≡ false
 fails_from key slots middle upper within rises failed slot h below =
-  elim (passes upper within (key slot)) as (λ b. passes upper within (key slot) ≡ b → b ≡ false) [ true ↦ (λ e. let up = passes_below upper within (key middle) (key slot) (rises middle slot h below) e in cc) | false ↦ (λ e. refl) ] refl
+    elim (passes upper within (key slot)) as (λ b. passes upper within (key slot) ≡ b → b ≡ false) [ true ↦ (λ e. let up = passes_below upper within (key middle) (key slot) (rises middle slot h below) e in cc) | false ↦ (λ e. refl) ] refl
 
 -- ---- keys read one by one
 
@@ -108,7 +108,7 @@ falls_next key slots n e test h =
     let front : first_fall (map key (range_with_len 0 (n + 2))) ≡ Some (key n) = next_is key n e ∙ ap (λ (b : Bool). cond b (Some (key n)) None) test in
     let taken : take (n + 2) (map key (range_with_len 0 slots)) ≡ map key (range_with_len 0 (n + 2)) = take-map-range_with_len key 0 slots (n + 2) (omega arith) in
     subst (λ (zs : List ℤ). first_fall zs ≡ Some (key n)) (take-append-drop (n + 2) (map key (range_with_len 0 slots)))
-      (fall_stays (take (n + 2) (map key (range_with_len 0 slots))) (drop (n + 2) (map key (range_with_len 0 slots))) (key n) (ap first_fall taken ∙ front))
+    (fall_stays (take (n + 2) (map key (range_with_len 0 slots))) (drop (n + 2) (map key (range_with_len 0 slots))) (key n) (ap first_fall taken ∙ front))
 
 -- ---- the same over what a loop has at hand: the key before, or the least of all where there is none, and the next key
 

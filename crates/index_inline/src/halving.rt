@@ -1,4 +1,4 @@
-ghost use Rattle.std.specs.Prelude.{◌≡◌, ◌+◌, ◌*◌, ◌<◌, ◌≤◌, ℕ, IsTrue, IfOk, OnOk};
+ghost use Rattle.std.specs.Prelude.{◌≡◌, ◌+◌, ◌*◌, ◌<◌, ◌≤◌, ℕ, IsTrue, IfOk, OnOk, length};
 ghost use Rattle.afl_base.specs.Causes.{HasCause};
 ghost use Rattle.afl_base.specs.KeyColumn.{HasField, IsWidth, key_of};
 ghost use Rattle.db_model.specs.Cost.{bits};
@@ -25,6 +25,7 @@ pub(crate) fn count_before<V: Files>(
     ensures same { OnOk result (V.state files.new ≡ V.state files.old) }
     ensures reads { V.reads files.new ≤ V.reads files.old + 6 * bits slots }
     ensures reads_later { V.reads files.old ≤ V.reads files.new }
+    ensures store { length (V.state files.new).store ≡ length (V.state files.old).store }
     ensures cause { HasCause (V.faults files.old) (V.faults files.new) result }
 {
     let mut low = 0;
@@ -55,6 +56,7 @@ fn comes_before<V: Files>(
     ensures same { OnOk result (V.state files.new ≡ V.state files.old) }
     ensures reads { V.reads files.new ≤ V.reads files.old + 6 }
     ensures reads_later { V.reads files.old ≤ V.reads files.new }
+    ensures store { length (V.state files.new).store ≡ length (V.state files.old).store }
     ensures cause { HasCause (V.faults files.old) (V.faults files.new) result }
 {
     let Some(slot) = SlotNo::new(slot) else {
@@ -63,12 +65,6 @@ fn comes_before<V: Files>(
     let key = column.key64(files, slot)?;
     Ok(match within {
         Range::Empty => false,
-        Range::Between { lo, hi } => {
-            if upper {
-                key <= *hi
-            } else {
-                key < *lo
-            }
-        }
+        Range::Between { lo, hi } => { if upper { key <= *hi } else { key < *lo } }
     })
 }

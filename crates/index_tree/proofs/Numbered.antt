@@ -55,3 +55,6 @@ keys_first (k ∷ ks) = ap (λ (xs : List ℤ). k ∷ xs) (shifted (key_in (k �
 -- one key more
 pub numbered_one : (keys : List ℤ) (key : ℤ) (slot : ℕ) → length keys ≡ slot → numbered 0 (keys ++ key ∷ []) ≡ numbered 0 keys ++ record { key = key; slot = slot } ∷ []
 numbered_one keys key slot e = numbered-append 0 keys (key ∷ []) ∙ ap (λ (n : ℕ). numbered 0 keys ++ record { key = key; slot = n } ∷ []) (let z : 0 + length keys ≡ length keys = omega arith in z ∙ e)
+
+pub keys_pairs : (f : ℕ → ℤ) (slots : ℕ) → keys_of (pairs_of f slots) ≡ first_keys f slots
+keys_pairs f slots = sym (ap (λ (ps : List Pair). keys_of ps) (numbered_pairs f slots)) ∙ keys_numbered 0 (first_keys f slots)

@@ -3,10 +3,9 @@
 
 mod drafts;
 mod fields;
+pub mod laws;
 mod rows;
 mod tuples;
 
 pub use tuples::Tuples;
 
-#[cfg(test)]
-mod tests;

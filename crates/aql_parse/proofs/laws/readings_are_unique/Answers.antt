@@ -5,7 +5,7 @@ pub returns-clause-command : goal.returns-clause-command
 returns-clause-command c = one_command
 
 pub returns-clause-condition : goal.returns-clause-condition
-returns-clause-condition c = one_condition c.conditions_are_read_back.ensures
+returns-clause-condition c = one_condition c.conditions_are_read_back.ensures.back
 
 pub returns-clause-reading : goal.returns-clause-reading
 returns-clause-reading c = one_reading

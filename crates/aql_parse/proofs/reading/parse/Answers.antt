@@ -52,4 +52,4 @@ returns-clause-condition c =
     c.in-Ok.ensures.nodes c.if-nodes.false in
     let same = is_it c.args.bytes.now c.as_slice.result.now c.in-Ok.nodes c.in-Some.read c.command_of.result built
     (c.command_of.ensures ∙ ap (λ ts. command_of ts c.in-Ok.nodes.first) (c.as_slice-2.ensures.items ∙ sym c.as_slice.ensures.items)) c.in-Some.is in
-    subst (λ (x : Command). IsCondition (nodes_of x)) same (spelt_condition c.conditions_are_read_back.ensures built.command (tokens_of c.args.bytes.now).items built.spelt.spelling)
+    subst (λ (x : Command). IsCondition (nodes_of x)) same (spelt_condition c.conditions_are_read_back.ensures.back built.command (tokens_of c.args.bytes.now).items built.spelt.spelling)

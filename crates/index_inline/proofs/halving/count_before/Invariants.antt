@@ -1,4 +1,4 @@
-use Rattle.std.proofs.Common.{◌≡◌, ◌≤◌, ◌<◌, ◌+◌, ◌-◌, ◌*◌, ℕ, true, false}
+use Rattle.std.proofs.Common.{◌≡◌, ◌≤◌, ◌<◌, ◌+◌, ◌-◌, ◌*◌, ℕ, length, true, false}
 use Rattle.std.specs.Prelude.{IsTrue}
 use Rattle.afl_base.specs.KeyColumn.{key_of}
 use Rattle.db_model.specs.Cost.{bits}
@@ -10,11 +10,12 @@ invariant-halves g l = record {
   order : l.low ≤ l.high;
   within : l.high ≤ l.slots;
   same : g.V.Files.state l.files ≡ g.V.Files.state l.fn.files;
+  store : length (g.V.Files.state l.files).store ≡ length (g.V.Files.state l.fn.files).store;
   later : g.V.Files.faults l.fn.files ≤ g.V.Files.faults l.files;
   passed : IsTrue (g.V.Files.state l.fn.files).tells → Rises (key_of (g.V.Files.state l.fn.files) l.column) l.slots
-    → (i : ℕ) → i < l.low → passes l.upper l.within (key_of (g.V.Files.state l.fn.files) l.column i) ≡ true;
+      → (i : ℕ) → i < l.low → passes l.upper l.within (key_of (g.V.Files.state l.fn.files) l.column i) ≡ true;
   failed : IsTrue (g.V.Files.state l.fn.files).tells → Rises (key_of (g.V.Files.state l.fn.files) l.column) l.slots
-    → (i : ℕ) → l.high ≤ i → i < l.slots → passes l.upper l.within (key_of (g.V.Files.state l.fn.files) l.column i) ≡ false;
+      → (i : ℕ) → l.high ≤ i → i < l.slots → passes l.upper l.within (key_of (g.V.Files.state l.fn.files) l.column i) ≡ false;
   reads : g.V.Files.reads l.files + 6 * bits (l.high - l.low) ≤ g.V.Files.reads l.fn.files + 6 * bits l.slots;
   reads_later : g.V.Files.reads l.fn.files ≤ g.V.Files.reads l.files;
 }

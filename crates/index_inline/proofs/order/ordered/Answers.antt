@@ -1,4 +1,4 @@
-use Rattle.std.proofs.Common.{rules, arith, ◌≡◌, ◌+◌, ◌-◌, ◌<◌, ◌∙◌, ap, ℕ, ℤ}
+use Rattle.std.proofs.Common.{rules, arith, ◌≡◌, ◌+◌, ◌-◌, ◌∙◌, ap}
 use Rattle.std.specs.Prelude.{FitsSigned}
 use Rattle.std.specs.Int.{w64}
 use Rattle.std.proofs.lemmas.Int.{to_z-of_z}
@@ -13,7 +13,7 @@ returns-then-key-last-clause-ordered g c = λ told.
     let slot : c.in-Some.slot ≡ c.loop-at.at = search rules in
     let key = (rw inv.same at c.in_ok-key.ensures.key) told in
     falls_at (key_of (g.V.Files.state c.args.files.now) c.args.column.now) c.args.slots c.loop-at.at c.in_ok-key.key _ (inv.rises told) (inv.last told) inv.least fits
-      (key ∙ ap (key_of (g.V.Files.state c.args.files.now) c.args.column.now) slot) (rw (to_z-of_z w64 c.in_ok-key.key fits) at c.if-key-last.true) (search rules)
+    (key ∙ ap (key_of (g.V.Files.state c.args.files.now) c.args.column.now) slot) (rw (to_z-of_z w64 c.in_ok-key.key fits) at c.if-key-last.true) (search rules)
 
 pub loop-at-preserved : goal.loop-at-preserved
 loop-at-preserved g c =
@@ -23,13 +23,14 @@ loop-at-preserved g c =
     let slot : c.in-Some.slot ≡ c.loop-at.at = search rules in
     record {
       same = search rules;
+      store = search rules;
       later = search rules;
       rises = λ told. let key = (rw inv.same at c.in_ok-key.ensures.key) told in
-        rises_at (key_of (g.V.Files.state c.args.files.now) c.args.column.now) c.loop-at.at c.in_ok-key.key _ (inv.rises told) (inv.last told)
+          rises_at (key_of (g.V.Files.state c.args.files.now) c.args.column.now) c.loop-at.at c.in_ok-key.key _ (inv.rises told) (inv.last told)
           (key ∙ ap (key_of (g.V.Files.state c.args.files.now) c.args.column.now) slot) (rw back at c.if-key-last.false);
       last = λ told some. let key = (rw inv.same at c.in_ok-key.ensures.key) told in
-        let here : c.loop-at.at + 1 - 1 ≡ c.loop-at.at = omega arith in
-        rw here (back ∙ key ∙ ap (key_of (g.V.Files.state c.args.files.now) c.args.column.now) slot);
+          let here : c.loop-at.at + 1 - 1 ≡ c.loop-at.at = omega arith in
+          rw here (back ∙ key ∙ ap (key_of (g.V.Files.state c.args.files.now) c.args.column.now) slot);
       least = λ none. absurd (omega (arith, none));
       reads = search rules;
       reads_later = search rules;

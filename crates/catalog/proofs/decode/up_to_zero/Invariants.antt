@@ -1,6 +1,0 @@
-use Rattle.std.proofs.Common.{◌≡◌, ◌++◌, drop, take}
-use Rattle.db_model.specs.Row.{up_to_zero}
-use Rattle.catalog.proofs.decode.up_to_zero.Given as goal
-
-abbrev pub invariant-loop-at : goal.invariant-loop-at
-invariant-loop-at l = up_to_zero l.bytes ≡ take l.at l.bytes ++ up_to_zero (drop l.at l.bytes)

@@ -1,0 +1,20 @@
+use Rattle.std.proofs.Common.{◌≡◌, ◌≤◌, ◌<◌, ◌+◌, ◌*◌, ℕ, List, get_or}
+use Rattle.std.specs.Prelude.{IsTrue}
+use Rattle.afl_base.specs.KeyColumn.{key_of}
+use Rattle.db_model.specs.HashTree.{buckets}
+use Rattle.index_tree.specs.Loads.{Counts}
+use Rattle.index_tree.specs.Pairs.{keys_of, pairs_of}
+use Rattle.index_maxheap.proofs.loads.buckets_for.Given as goal
+
+abbrev pub invariant-loop-slot : goal.invariant-loop-slot
+invariant-loop-slot g l =
+    let ps = pairs_of (key_of (g.V.Files.state l.fn.files) l.fn.column) l.slot in
+    record {
+      same : g.V.Files.state l.files ≡ g.V.Files.state l.fn.files;
+      reads : g.V.Files.reads l.files ≤ g.V.Files.reads l.fn.files + 6 * l.slot;
+      reads_later : g.V.Files.reads l.fn.files ≤ g.V.Files.reads l.files;
+      faults : g.V.Files.faults l.fn.files ≤ g.V.Files.faults l.files;
+      few : (i : ℕ) → get_or l.loads i 0 ≤ l.slot;
+      opened : l.buckets ≤ l.slot;
+      counts : IsTrue (g.V.Files.state l.fn.files).tells → Counts l.loads ps × (l.buckets ≡ buckets (keys_of ps));
+    }

@@ -1,0 +1,114 @@
+//! Walks to the end of a path.
+
+#![tactic(auto)]
+
+ghost use Rattle.std.specs.Prelude.{◌≡◌, ◌≢◌, ◌+◌, ◌*◌, ◌-◌, ◌^◌, ◌<◌, ◌≤◌, ℕ, List, length, IsTrue, IfOk, OnOk};
+ghost use Rattle.afl_base.specs.Causes.{HasCause};
+ghost use Rattle.afl_base.specs.Fields.{u16_at};
+ghost use Rattle.afl_base.specs.Files.{IsLive, bytes_at, size_at};
+ghost use Rattle.index_tree.specs.Ends.{spot_behind};
+ghost use Rattle.index_tree.specs.Pairs.{Pair};
+ghost use Rattle.index_tree.specs.TreeFile.{IsBucket, IsTree, bucket_place};
+ghost use Rattle.index_maxheap.specs.Rooms.{IsWithin};
+ghost use Rattle.index_maxheap.specs.Walks.{Finds, IsSafeLook, Looks};
+
+use crate::path::node;
+use crate::rooms::End;
+use crate::tree::{filled, read_bucket, read_number};
+use afl_base::{Failed, FileId, Files};
+
+/// What a look at the bucket of a number finds.
+#[derive(Clone, Copy)]
+pub enum Look {
+    None,
+    Room { number: u16, pair: u8 },
+    Full { number: u16 },
+}
+
+// Looks at the bucket whose number stands at a place.
+fn look_at<V: Files>(files: &mut V, index: FileId, at: u32) -> Result<Look, Failed>
+    requires live { IsLive (V.state files.old).files index }
+    requires range { at + 2 ≤ size_at (V.state files.old).files index }
+    ensures looks { IsTrue (V.state files.old).tells → (rest : List Pair)
+        → IsBucket (bytes_at (V.state files.old).files index) (u16_at (bytes_at (V.state files.old).files index) at) rest
+        → IfOk result (λ found. Looks found (u16_at (bytes_at (V.state files.old).files index) at) rest) }
+    ensures safe { IfOk result (λ found. IsSafeLook found (size_at (V.state files.old).files index)) }
+    ensures same { OnOk result (V.state files.new ≡ V.state files.old) }
+    ensures store { length (V.state files.new).store ≡ length (V.state files.old).store }
+    ensures reads_later { V.reads files.old ≤ V.reads files.new }
+    ensures cause { HasCause (V.faults files.old) (V.faults files.new) result }
+{
+    let number = read_number(files, index, at)?;
+    if number == 0 {
+        return Ok(Look::None);
+    }
+    if files.size(index) < 683 + 195 * u32::from(number) {
+        return Ok(Look::None);
+    }
+    let mut bytes = [0; 195];
+    read_bucket(files, index, number, &mut bytes)?;
+    let pair = filled(&bytes);
+    if pair < 32 {
+        Ok(Look::Room { number, pair })
+    } else {
+        Ok(Look::Full { number })
+    }
+}
+
+// Where the number of the bucket behind a full one stands.
+fn spot_behind(key: &i32, level: u8, number: u16) -> u32
+    requires level { level ≤ 4 }
+    requires some { number ≢ 0 }
+    ensures spot { result ≡ spot_behind key.now level number }
+    ensures low { result < 2 ^ 25 }
+    ensures safe { (size : ℕ) → 683 ≤ size → bucket_place number ≤ size → result + 3 ≤ size }
+{
+    match level {
+        0 => 2 * u32::from(node(key, 1)),
+        1 => 2 * u32::from(node(key, 2)),
+        2 => 2 * u32::from(node(key, 3)),
+        3 => 2 * u32::from(node(key, 4)),
+        _ => 683 + 195 * (u32::from(number) - 1) + 192,
+    }
+}
+
+// Where a pair of the bucket with a number that is not 0 stands.
+fn pair_place(number: u16, pair: u8) -> u32
+    requires some { number ≢ 0 }
+    requires short { pair < 32 }
+    ensures { result ≡ bucket_place (number - 1) + 6 * pair }
+{
+    683 + 195 * (u32::from(number) - 1) + 6 * u32::from(pair)
+}
+
+/// Where a pair of the key goes, in a file that is not too large for a tree.
+pub fn find_end<V: Files>(files: &mut V, index: FileId, key: &i32) -> Result<End, Failed>
+    requires live { IsLive (V.state files.old).files index }
+    requires heads { 683 ≤ size_at (V.state files.old).files index }
+    requires small { size_at (V.state files.old).files index ≤ 268000 }
+    ensures finds { IsTrue (V.state files.old).tells → (ps : List Pair) → IsTree (bytes_at (V.state files.old).files index) ps
+        → IfOk result (λ end. Finds end (bytes_at (V.state files.old).files index) ps key.now) }
+    ensures within { IfOk result (λ end. IsWithin end (size_at (V.state files.old).files index)) }
+    ensures same { OnOk result (V.state files.new ≡ V.state files.old) }
+    ensures store { length (V.state files.new).store ≡ length (V.state files.old).store }
+    ensures reads_later { V.reads files.old ≤ V.reads files.new }
+    ensures cause { HasCause (V.faults files.old) (V.faults files.new) result }
+{
+    let mut at = 0;
+    let mut level = 0u8;
+    for hops in 0..1026u16 {
+        match look_at(files, index, at)? {
+            Look::None => return Ok(End::Bucket { at }),
+            Look::Room { number, pair } => {
+                return Ok(End::Pair {
+                    at: pair_place(number, pair),
+                });
+            }
+            Look::Full { number } => {
+                at = spot_behind(key, level, number);
+                level = (level + 1).min(4);
+            }
+        }
+    }
+    Ok(End::Nowhere)
+}

@@ -1,0 +1,77 @@
+//! What an insert needs.
+
+#![tactic(auto)]
+
+ghost use Rattle.std.specs.Prelude.{◌≡◌, ◌+◌, ◌*◌, ◌^◌, ◌<◌, ◌≤◌, List, ℤ, length, IsTrue, IfOk, OnOk};
+ghost use Rattle.afl_base.specs.Causes.{HasCause};
+ghost use Rattle.afl_base.specs.Files.{IsLive, bytes_at, size_at};
+ghost use Rattle.afl_base.specs.Regions.{regions};
+ghost use Rattle.index_tree.specs.Trees.{IsTreeOf};
+ghost use Rattle.index_maxheap.specs.Rooms.{IsRoomIn, IsWithin, room_for, room_of};
+
+use crate::ends::find_end;
+use crate::rooms::{End, Room};
+use afl_base::{Failed, FileId, Files};
+
+// The regions that so many bytes from a place on touch.
+fn touched(at: u32, n: u16) -> u16
+    requires { at < 2 ^ 25 }
+    ensures { result ≡ regions at n }
+{
+    let n = u32::from(n);
+    n.min((at + n + 127) / 128 - at / 128) as u16
+}
+
+// What an insert at an end of a path needs.
+fn room_for(end: End, size: u32) -> Room
+    requires small { size ≤ 268000 }
+    requires within { IsWithin end size }
+    ensures room { result ≡ room_for end }
+    ensures end { result.end ≡ end }
+    ensures few { (result.overwrites ≤ 2) × (result.bytes ≤ 195) }
+{
+    match end {
+        End::Pair { at } => Room {
+            overwrites: touched(at, 6),
+            bytes: 0,
+            end,
+        },
+        End::Bucket { at } => Room {
+            overwrites: touched(at, 2),
+            bytes: 195,
+            end,
+        },
+        End::Nowhere => Room {
+            overwrites: 0,
+            bytes: 0,
+            end,
+        },
+    }
+}
+
+/// What an insert of the key needs. Where the pair goes into a bucket that is there, it is the regions
+/// that its 6 bytes touch, and no bytes; where a bucket is appended, the regions that the 2 bytes of its
+/// number touch, and 195.
+pub fn room<V: Files>(files: &mut V, index: FileId, key: &i32) -> Result<Room, Failed>
+    requires live { IsLive (V.state files.old).files index }
+    ensures room { IsTrue (V.state files.old).tells → (keys : List ℤ) → IsTreeOf (bytes_at (V.state files.old).files index) keys
+        → IfOk result (λ room. room ≡ room_of (bytes_at (V.state files.old).files index) key.now) }
+    ensures place { IfOk result (λ room. IsRoomIn room (size_at (V.state files.old).files index)) }
+    ensures few { IfOk result (λ room. (room.overwrites ≤ 2) × (room.bytes ≤ 195)) }
+    ensures small { IfOk result (λ room. 0 < room.overwrites → size_at (V.state files.old).files index ≤ 268000) }
+    ensures same { OnOk result (V.state files.new ≡ V.state files.old) }
+    ensures store { length (V.state files.new).store ≡ length (V.state files.old).store }
+    ensures reads_later { V.reads files.old ≤ V.reads files.new }
+    ensures cause { HasCause (V.faults files.old) (V.faults files.new) result }
+{
+    let size = files.size(index);
+    if size < 683 {
+        return Ok(room_for(End::Nowhere, 0));
+    }
+    if size > 268_000 {
+        return Ok(room_for(End::Nowhere, 0));
+    }
+    let end = find_end(files, index, key)?;
+    let room = room_for(end, size);
+    Ok(room)
+}

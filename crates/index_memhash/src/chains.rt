@@ -1,0 +1,85 @@
+ghost use Rattle.std.specs.Prelude.{◌≡◌, ◌+◌, ◌*◌, ◌-◌, ◌<◌, ◌≤◌, ◌≢◌, ℕ, MatchOption, get_or, take, length, true, false, nat_le, ◌&&◌};
+ghost use Rattle.index_memhash.specs.Chains.{IsChained, chain_at, hash};
+ghost use Rattle.index_memhash.specs.Keys.{HasNone, IsFirstOf, is_key_at, key_in};
+
+use afl_base::SlotNo;
+
+/// The number of chains.
+pub(crate) const CHAINS: u16 = 512;
+
+/// Behind all entries: where a chain ends.
+pub(crate) const END: u16 = 2048;
+
+/// The hash of a key, below 512.
+#[tactic(auto, unfolding(crate::specs::Chains::hash))]
+pub(crate) fn chain_of(key: &i32) -> u16
+    ensures hash { result ≡ hash key.now }
+    ensures few { result < 512 }
+{
+    (key.cast_unsigned().wrapping_mul(2_654_435_769) >> 23) as u16
+}
+
+/// Takes all entries out of the chains: each head leads nowhere, and is the last link of its chain.
+pub(crate) fn empty(links: &mut [u16; 2560], last: &mut [u16; 512])
+    ensures links_size { length links.new ≡ 2560 }
+    ensures last_size { length last.new ≡ 512 }
+    ensures heads { (link : ℕ) → link < 512 → get_or links.new link 0 ≡ 2048 }
+    ensures last { (chain : ℕ) → chain < 512 → get_or last.new chain 0 ≡ chain }
+{
+    for chain in 0..CHAINS {
+        links[usize::from(chain)] = END;
+        last[usize::from(chain)] = chain;
+    }
+}
+
+/// The first slot of a key, from one on, by the chain of its hash.
+pub(crate) fn find(
+    keys: &[i32; 2048],
+    links: &[u16; 2560],
+    last: &[u16; 512],
+    len: u16,
+    key: &i32,
+    from: u16,
+) -> Option<SlotNo>
+    requires few { len ≤ 2048 }
+    requires chained { IsChained (take len keys.now) links.now last.now }
+    ensures { MatchOption result (HasNone key.now (take len keys.now) from) (λ slot. IsFirstOf key.now (take len keys.now) from slot) }
+{
+    let mut entry = links[usize::from(link_before(keys, len, key, from))];
+    'chain: while entry < len {
+        if is_wanted(keys, entry, key, from) {
+            return SlotNo::new(entry);
+        }
+        entry = links[usize::from(512 + entry)];
+    }
+    None
+}
+
+// A link of the key's chain before all entries from one on: that of the entry before it where this
+// has the key, as where it was answered last, else the chain's head.
+fn link_before(keys: &[i32; 2048], len: u16, key: &i32, from: u16) -> u16
+    requires few { len ≤ 2048 }
+    ensures chain { chain_at (take len keys.now) result ≡ hash key.now }
+    ensures within { result < 512 + len }
+    ensures before { result - 511 ≤ from }
+{
+    if 0 < from && from <= len && has_key(keys, from - 1, key) {
+        return 511 + from;
+    }
+    chain_of(key)
+}
+
+// Whether an entry is at or behind one and has the key.
+fn is_wanted(keys: &[i32; 2048], entry: u16, key: &i32, from: u16) -> bool
+    requires within { entry < 2048 }
+    ensures { result ≡ (nat_le from entry && is_key_at key.now keys.now entry) }
+{
+    from <= entry && has_key(keys, entry, key)
+}
+
+fn has_key(keys: &[i32; 2048], slot: u16, key: &i32) -> bool
+    requires within { slot < 2048 }
+    ensures { result ≡ is_key_at key.now keys.now slot }
+{
+    keys[usize::from(slot)] == *key
+}

@@ -1,0 +1,11 @@
+//! A hash table in memory: of each slot its key, and the slots of a key in their order.
+#![tactic(auto)]
+
+mod chains;
+pub mod laws;
+mod table;
+
+pub use table::{HashPlace, HashTable};
+
+#[cfg(test)]
+mod tests;

@@ -1,0 +1,83 @@
+//! Tables beside plain lists of keys.
+
+#![tactic(auto)]
+
+use crate::{HashPlace, HashTable};
+
+// Whether the slots of a key are answered one after the other as a plain list has them.
+fn has_slots(table: &HashTable, keys: &[i32; 2048], key: i32) -> bool {
+    let mut place = HashTable::first();
+    for slot in 0..2048u16 {
+        if keys[usize::from(slot)] == key {
+            let Some((found, behind)) = table.next(place, &key) else {
+                return false;
+            };
+            if found.number() != slot {
+                return false;
+            }
+            place = behind;
+        }
+    }
+    table.next(place, &key).is_none()
+}
+
+// The first slot of a key at or behind an entry.
+fn slot_from(table: &HashTable, entry: u16, key: i32) -> Option<u16> {
+    let (slot, _) = table.next(HashPlace { entry }, &key)?;
+    Some(slot.number())
+}
+
+// Puts the key of the next slot in, where there is room.
+fn put(table: &mut HashTable, key: i32) {
+    if table.len() < 2048 {
+        table.insert(&key);
+    }
+}
+
+#[test]
+fn seeded_keys_are_answered_as_a_plain_list_has_them(rt: HostRuntime) {
+    let mut keys = [0; 2048];
+    let mut table = HashTable::new();
+    let mut seed: u32 = 14;
+    for at in 0..2048usize {
+        seed = seed.wrapping_mul(1_664_525).wrapping_add(1_013_904_223);
+        let key = i32::from((seed >> 24) as u8) - 128;
+        keys[at] = key;
+        put(&mut table, key);
+    }
+    assert!(rt; table.is_full());
+    for key in -129..129 {
+        assert!(rt; has_slots(&table, &keys, key));
+    }
+}
+
+#[test]
+fn a_table_of_one_key_is_full_at_2048_and_empty_when_cleared(rt: HostRuntime) {
+    let mut table = HashTable::new();
+    for at in 0..2048u16 {
+        assert_eq!(rt; table.len(), at);
+        assert!(rt; !table.is_full());
+        put(&mut table, 7);
+    }
+    assert!(rt; table.is_full());
+    assert_eq!(rt; slot_from(&table, 2047, 7), Some(2047));
+    assert_eq!(rt; slot_from(&table, 2048, 7), None);
+    assert_eq!(rt; slot_from(&table, 0, -7), None);
+    table.clear();
+    assert_eq!(rt; table.len(), 0);
+    assert_eq!(rt; slot_from(&table, 0, 7), None);
+}
+
+#[test]
+fn places_stay_good_when_keys_come_behind(rt: HostRuntime) {
+    let mut table = HashTable::new();
+    put(&mut table, -1);
+    assert_eq!(rt; slot_from(&table, 0, -1), Some(0));
+    assert_eq!(rt; slot_from(&table, 1, -1), None);
+    put(&mut table, i32::MIN);
+    put(&mut table, -1);
+    put(&mut table, i32::MAX);
+    assert_eq!(rt; slot_from(&table, 1, -1), Some(2));
+    assert_eq!(rt; slot_from(&table, 0, i32::MIN), Some(1));
+    assert_eq!(rt; slot_from(&table, 0, i32::MAX), Some(3));
+}

@@ -1,0 +1,4 @@
+pub mod Grown
+pub mod Slots
+pub mod Seeks
+pub mod Nexts

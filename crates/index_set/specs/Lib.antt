@@ -1,0 +1,6 @@
+pub mod Tables
+pub mod Trees
+pub mod Plans
+pub mod Complete
+pub mod Inserts
+pub mod Walks

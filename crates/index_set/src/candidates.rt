@@ -1,0 +1,258 @@
+//! The slots of a relation whose keys lie in the ranges of a condition.
+
+#![tactic(auto)]
+
+ghost use Rattle.std.specs.Prelude.{None, ℤ, ◌≡◌, ◌+◌, ◌<◌, ◌≤◌, ◌∷◌, [], List, IfOk, IfSome, IsTrue, OnOk, OnErr, MatchOption, length, max};
+ghost use Rattle.afl_base.specs.Causes.{HasCause};
+ghost use Rattle.afl_base.specs.Files.{IsLive, State};
+ghost use Rattle.db_model.specs.Cost.{begin_cost, chosen_cost, keys_beside};
+ghost use Rattle.db_model.specs.Plan.{plan};
+ghost use Rattle.db_model.specs.Row.{Row};
+ghost use Rattle.index_set.specs.Complete.{AreIndexesOf, AreReadable};
+ghost use Rattle.index_set.specs.Plans.{kinds, slots_passed};
+ghost use Rattle.index_set.specs.Tables.{Tables, entries};
+ghost use Rattle.index_set.specs.Trees.{walk_left};
+ghost use Rattle.index_tree.specs.Keys.{IsFirstOf};
+ghost use Rattle.index_set.specs.Walks.{Fits, HasPlace, IsChosen, IsMoved, IsMovedBy, IsSafeBy, LacksKey, Waits, ahead, cost_ahead, reads_ahead, slots_in};
+
+use crate::info::{Indexes, TableId};
+use crate::tables::HashTables;
+use crate::trees::{Place, next as next_in};
+use afl_base::{Failed, FileId, Files, SlotNo};
+use db_model::Range;
+
+/// How slots are found.
+#[derive(Clone, Copy, Debug, PartialEq, Eq)]
+pub enum Search {
+    Nothing,
+    Scan,
+    Order {
+        attribute: u8,
+        range: Range,
+    },
+    Tree {
+        attribute: u8,
+        file: FileId,
+        key: i32,
+    },
+    Table {
+        attribute: u8,
+        table: TableId,
+        key: i32,
+    },
+}
+
+// Behind all buckets of a path.
+const BEHIND: Place = Place {
+    bucket: 0,
+    pair: 0,
+    hop: 65535,
+};
+
+/// The slots that a search has still to answer: those from `from` on and below `slots`.
+#[derive(Clone, Copy, Debug, PartialEq, Eq)]
+pub struct Candidates {
+    pub search: Search,
+    /// Where in a tree it stands, None for its root.
+    pub place: Option<Place>,
+    pub from: u16,
+    /// Where an order's range ends, or `slots`.
+    pub end: u16,
+    pub slots: u16,
+}
+
+impl Candidates {
+    /// Chooses an index by the ranges of the keys, and finds where to begin. It reads nothing but
+    /// where the keys are in order.
+    pub fn begin<V: Files>(
+        files: &mut V,
+        tables: &HashTables,
+        indexes: &Indexes,
+        ranges: &[Range; 8],
+        slots: u16,
+    ) -> Result<Candidates, Failed>
+        requires few { slots ≤ 32768 }
+        requires readable { AreReadable (V.state files.old) slots indexes.now }
+        ensures ahead { let state = V.state files.old in IsTrue state.tells → IfOk result (λ c.
+            (all : List Row) → slots ≤ length all → AreIndexesOf state tables.now all indexes.now
+            → ahead c all ≡ slots_passed (kinds indexes.now) ranges.now slots all) }
+        ensures fits { let state = V.state files.old in IsTrue state.tells → IfOk result (λ c.
+            (all : List Row) → slots ≤ length all → AreIndexesOf state tables.now all indexes.now
+            → Fits c state tables.now all) }
+        ensures rests { IfOk result (λ c. c.place ≡ None) }
+        ensures safe { IfOk result (λ c. IsSafeBy c.search (V.state files.old)) }
+        ensures chosen { IfOk result (λ c. IsChosen c.search indexes.now) }
+        ensures slots { IfOk result (λ c. c.slots ≡ slots) }
+        ensures order { IfOk result (λ c. c.from ≤ c.end) }
+        ensures within { IfOk result (λ c. c.end ≤ c.slots) }
+        ensures same { OnOk result (V.state files.new ≡ V.state files.old) }
+        ensures reads { let plan = plan (kinds indexes.now) ranges.now in
+            V.reads files.new ≤ V.reads files.old + begin_cost slots plan }
+        ensures reads_later { V.reads files.old ≤ V.reads files.new }
+        ensures cost { let state = V.state files.old in IsTrue state.tells → IfOk result (λ c.
+            (all : List Row) → slots ≤ length all → AreIndexesOf state tables.now all indexes.now
+            → begin_cost slots (plan (kinds indexes.now) ranges.now) + cost_ahead c all
+            ≤ chosen_cost (kinds indexes.now) ranges.now all) }
+    {
+        Err(Failed)
+    }
+
+    /// Forgets where in a tree it stands. The slots to come are the same, and whatever is inserted
+    /// from now on it goes on rightly.
+    pub fn rest(&mut self)
+        ensures rests { self.new.place ≡ None }
+        ensures ahead { (all : List Row) → ahead self.new all ≡ ahead self.old all }
+        ensures waits { (all : List Row) → Waits self.old all → Waits self.new all }
+        ensures fits { (state : State) (tables : Tables) (all : List Row) → Fits self.old state tables all
+            → Fits self.new state tables all }
+        ensures slots { self.new.slots ≡ self.old.slots }
+        ensures search { self.new.search ≡ self.old.search }
+        ensures from { self.new.from ≡ self.old.from }
+        ensures end { self.new.end ≡ self.old.end }
+    {
+        self.place = None;
+    }
+
+    /// Passes the slots below one, where it rests.
+    pub fn skip(&mut self, from: u16)
+        requires within { from ≤ self.old.slots }
+        requires rests { self.old.place ≡ None }
+        ensures from { self.new.from ≡ max self.old.from from }
+        ensures rests { self.new.place ≡ None }
+        ensures slots { self.new.slots ≡ self.old.slots }
+        ensures search { self.new.search ≡ self.old.search }
+        ensures fits { (state : State) (tables : Tables) (all : List Row) → Fits self.old state tables all
+            → Fits self.new state tables all }
+    {
+        if self.from < from {
+            self.from = from;
+        }
+        if self.end < from {
+            self.end = from;
+        }
+    }
+
+    /// The next slot, `None` exactly after the last.
+    pub fn next<V: Files>(
+        &mut self,
+        files: &mut V,
+        tables: &HashTables,
+    ) -> Result<Option<SlotNo>, Failed>
+        requires safe { 0 < self.old.slots → IsSafeBy self.old.search (V.state files.old) }
+        ensures next { let state = V.state files.old in IsTrue state.tells → IfOk result (λ found.
+            (all : List Row) → Fits self.old state tables.now all
+            → MatchOption found (ahead self.old all ≡ []) (λ slot.
+            ahead self.old all ≡ slot ∷ ahead self.new all)) }
+        ensures fits { let state = V.state files.old in IsTrue state.tells → IfOk result (λ found.
+            (all : List Row) → Fits self.old state tables.now all
+            → IfSome found (λ _. Fits self.new state tables.now all)) }
+        ensures waits { OnOk result ((all : List Row) → Waits self.old all → Waits self.new all) }
+        ensures below { IfOk result (λ found. IfSome found (λ slot. slot < self.old.slots)) }
+        ensures forward { IfOk result (λ found. MatchOption found (self.new.from ≡ self.old.from)
+            (λ slot. (self.old.from ≤ slot) × (self.new.from ≡ slot + 1))) }
+        ensures slots { self.new.slots ≡ self.old.slots }
+        ensures search { self.new.search ≡ self.old.search }
+        ensures order { self.old.from ≤ self.old.end → self.new.from ≤ self.new.end }
+        ensures within { self.old.end ≤ self.old.slots → self.new.end ≤ self.new.slots }
+        ensures same { OnOk result (V.state files.new ≡ V.state files.old) }
+        ensures reads { let state = V.state files.old in IsTrue state.tells → OnOk result
+            ((all : List Row) → Fits self.old state tables.now all
+            → V.reads files.new + reads_ahead self.new all
+            ≤ V.reads files.old + reads_ahead self.old all) }
+        ensures reads_err { let state = V.state files.old in IsTrue state.tells → OnErr result
+            ((all : List Row) → Fits self.old state tables.now all
+            → V.reads files.new ≤ V.reads files.old + reads_ahead self.old all) }
+        ensures reads_later { V.reads files.old ≤ V.reads files.new }
+        ensures store { length (V.state files.new).store ≡ length (V.state files.old).store }
+    {
+        let search = self.search;
+        match search {
+            Search::Nothing => Ok(None),
+            Search::Scan => Ok(self.next_below(self.slots)),
+            Search::Order { .. } => Ok(self.next_below(self.end)),
+            Search::Tree { file, key, .. } => self.next_in_tree(files, file, &key),
+            Search::Table { table, key, .. } => Ok(self.next_in_table(tables, table, &key)),
+        }
+    }
+
+    // The next slot, where it is below an end.
+    fn next_below(&mut self, end: u16) -> Option<SlotNo>
+        ensures next { self.old.slots ≤ 32768 → end ≤ self.old.slots → MatchOption result (end ≤ self.old.from) (λ slot. (slot ≡ self.old.from) × (slot < end)) }
+        ensures moved { IsMoved result self.old self.new }
+        ensures below { IfSome result (λ slot. slot < self.old.slots) }
+        ensures from { IfSome result (λ slot. slot ≡ self.old.from) }
+        ensures end { MatchOption result (self.new.end ≡ self.old.end) (λ slot. (self.new.end ≡ end) × (slot < end)) }
+        ensures forward { MatchOption result (self.new.from ≡ self.old.from) (λ slot. (self.old.from ≤ slot) × (self.new.from ≡ slot + 1)) }
+    {
+        if end <= self.from {
+            return None;
+        }
+        if self.slots <= self.from {
+            return None;
+        }
+        let slot = SlotNo::new(self.from)?;
+        self.from += 1;
+        self.end = end;
+        Some(slot)
+    }
+
+    // The next slot of a key, by a tree.
+    fn next_in_tree<V: Files>(&mut self, files: &mut V, file: FileId, key: &i32) -> Result<Option<SlotNo>, Failed>
+        requires live { 0 < self.old.slots → IsLive (V.state files.old).files file }
+        ensures next { IsTrue (V.state files.old).tells → IfOk result (λ found. (keys : List ℤ) → HasPlace (V.state files.old) file key.now keys self.old → self.old.slots ≤ length keys
+            → MatchOption found (LacksKey key.now keys self.old.from self.old.slots) (λ slot. IsFirstOf key.now keys self.old.from slot × HasPlace (V.state files.old) file key.now keys self.new)) }
+        ensures moved { IfOk result (λ found. IsMovedBy found self.old self.new) }
+        ensures forward { IfOk result (λ found. MatchOption found (self.new.from ≡ self.old.from) (λ slot. (self.old.from ≤ slot) × (self.new.from ≡ slot + 1))) }
+        ensures slots { self.new.slots ≡ self.old.slots }
+        ensures search { self.new.search ≡ self.old.search }
+        ensures same { OnOk result (V.state files.new ≡ V.state files.old) }
+        ensures unmoved { OnErr result (self.new ≡ self.old) }
+        ensures unread { self.old.slots ≤ self.old.from → V.reads files.new ≡ V.reads files.old }
+        ensures over { self.old.slots ≤ self.old.from → self.new ≡ self.old }
+        ensures reads { IsTrue (V.state files.old).tells → (keys : List ℤ) → HasPlace (V.state files.old) file key.now keys self.old → self.old.slots ≤ length keys
+            → IfOk result (λ found. MatchOption found
+                (V.reads files.new + walk_left (keys_beside key.now keys) self.new.place ≤ V.reads files.old + walk_left (keys_beside key.now keys) self.old.place)
+                (λ _. V.reads files.new + walk_left (keys_beside key.now keys) self.new.place ≤ V.reads files.old + walk_left (keys_beside key.now keys) self.old.place + 9)) }
+        ensures reads_err { IsTrue (V.state files.old).tells → (keys : List ℤ) → HasPlace (V.state files.old) file key.now keys self.old
+            → V.reads files.new ≤ V.reads files.old + walk_left (keys_beside key.now keys) self.old.place }
+        ensures reads_later { V.reads files.old ≤ V.reads files.new }
+        ensures store { length (V.state files.new).store ≡ length (V.state files.old).store }
+    {
+        if self.slots <= self.from {
+            return Ok(None);
+        }
+        match next_in(files, file, key, self.place, self.from)? {
+            None => {
+                self.place = Some(BEHIND);
+                Ok(None)
+            }
+            Some(found) => {
+                let slot = found.slot;
+                if self.slots <= slot.number() {
+                    self.place = Some(BEHIND);
+                    return Ok(None);
+                }
+                self.place = Some(found.place);
+                self.from = slot.number() + 1;
+                self.end = self.slots;
+                Ok(Some(slot))
+            }
+        }
+    }
+
+    // The next slot of a key, by a table.
+    fn next_in_table(&mut self, tables: &HashTables, table: TableId, key: &i32) -> Option<SlotNo>
+        ensures next { self.old.slots ≤ length (entries tables.now table) → MatchOption result (LacksKey key.now (entries tables.now table) self.old.from self.old.slots) (λ slot. IsFirstOf key.now (entries tables.now table) self.old.from slot) }
+        ensures moved { IsMovedBy result self.old self.new }
+        ensures place { self.new.place ≡ self.old.place }
+        ensures forward { MatchOption result (self.new.from ≡ self.old.from) (λ slot. (self.old.from ≤ slot) × (self.new.from ≡ slot + 1)) }
+    {
+        let slot = tables.next(table, key, self.from)?;
+        if self.slots <= slot.number() {
+            return None;
+        }
+        self.from = slot.number() + 1;
+        self.end = self.slots;
+        Some(slot)
+    }
+}

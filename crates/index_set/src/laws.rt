@@ -1,0 +1,22 @@
+//! Laws of candidates. Each function does nothing: its contract is the law.
+
+#![tactic(auto)]
+
+ghost use Rattle.std.specs.Prelude.{◌≡◌, List};
+ghost use Rattle.db_model.specs.Row.{Row};
+ghost use Rattle.index_set.specs.declared.candidates.Candidates.{Candidates as AnyCandidates};
+ghost use Rattle.index_set.specs.Walks.{RowsGrow, Waits, ahead};
+
+/// The slots to come are the same where rows come behind the others.
+#[tactic(auto, using(crate::proofs::Grown::ahead_kept))]
+pub fn ahead_where_rows_come()
+    ensures { (c : AnyCandidates) (old new : List Row) → RowsGrow old new → Waits c old
+        → ahead c new ≡ ahead c old }
+{}
+
+/// What candidates know of the rows alone stays where rows come behind the others.
+#[tactic(auto, using(crate::proofs::Grown::waits_kept))]
+pub fn waits_where_rows_come()
+    ensures { (c : AnyCandidates) (old new : List Row) → RowsGrow old new → Waits c old
+        → Waits c new }
+{}

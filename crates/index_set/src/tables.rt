@@ -1,0 +1,117 @@
+//! Hash tables in memory.
+
+#![tactic(auto)]
+
+ghost use Rattle.std.specs.Prelude.{◌≡◌, ◌≢◌, ◌+◌, ◌*◌, ◌<◌, ◌≤◌, ◌++◌, ◌∷◌, ℕ, [], IsTrue, MatchOption, OnOk, length, map};
+ghost use Rattle.std.specs.List.{range_with_len};
+ghost use Rattle.afl_base.specs.Causes.{HasCause};
+ghost use Rattle.afl_base.specs.KeyColumn.{HasField, IsWidth, key_of};
+ghost use Rattle.index_set.specs.declared.info.TableId.{TableId as AnyTable};
+ghost use Rattle.index_set.specs.Tables.{entries};
+ghost use Rattle.index_tree.specs.Keys.{HasNone, IsFirstOf};
+
+use crate::info::TableId;
+use afl_base::{Failed, Files, KeyColumn, SlotNo};
+use index_memhash::{HashPlace, HashTable};
+use std::marker::Model;
+
+/// Two hash tables of at most 2,048 keys each. Entry number i of a table is the key of slot i. They
+/// have 28,680 bytes.
+#[derive(Drop)]
+pub struct HashTables {
+    first: HashTable,
+    second: HashTable,
+}
+
+impl Model for HashTables {
+    ghost use Rattle.index_set.specs.Tables.{Tables};
+
+    ghost Value = { Tables };
+
+    ghost view = { λ t. record { first = t.first; second = t.second } };
+}
+
+impl HashTables {
+    /// Two empty tables.
+    pub fn new() -> HashTables
+        ensures { (table : AnyTable) → entries result table ≡ [] }
+    {
+        HashTables {
+            first: HashTable::new(),
+            second: HashTable::new(),
+        }
+    }
+
+    /// Puts the keys of the first slots into a table, in the place of what it had. Each key is read
+    /// once. The other table stays.
+    pub fn fill<V: Files>(
+        &mut self,
+        files: &mut V,
+        table: TableId,
+        column: &KeyColumn,
+        slots: u16,
+    ) -> Result<(), Failed>
+        requires few { slots ≤ 2048 }
+        requires width { IsWidth column.now.width }
+        requires narrow { column.now.width ≢ 8 }
+        requires fields { (slot : ℕ) → slot < slots → HasField (V.state files.old) column.now slot }
+        ensures keys { let state = V.state files.old in IsTrue state.tells → OnOk result
+            (entries self.new table ≡ map (key_of state column.now) (range_with_len 0 slots)) }
+        ensures size { OnOk result (length (entries self.new table) ≡ slots) }
+        ensures other { (other : AnyTable) → other ≢ table
+            → entries self.new other ≡ entries self.old other }
+        ensures same { OnOk result (V.state files.new ≡ V.state files.old) }
+        ensures reads { V.reads files.new ≤ V.reads files.old + 6 * slots }
+        ensures reads_later { V.reads files.old ≤ V.reads files.new }
+        ensures store { length (V.state files.new).store ≡ length (V.state files.old).store }
+        ensures cause { HasCause (V.faults files.old) (V.faults files.new) result }
+    {
+        self.clear(table);
+        for at in 0..slots {
+            let Some(slot) = SlotNo::new(at) else {
+                return Err(Failed);
+            };
+            let key = column.key(files, slot)?;
+            self.push(table, &key);
+        }
+        Ok(())
+    }
+
+    // The first slot of the key, from one on.
+    #[tactic(auto, using(crate::proofs::Nexts::first_same))]
+    pub(crate) fn next(&self, table: TableId, key: &i32, from: u16) -> Option<SlotNo>
+        ensures { MatchOption result (HasNone key.now (entries self.now table) from) (λ slot. IsFirstOf key.now (entries self.now table) from slot) }
+    {
+        let place = HashPlace { entry: from };
+        let (slot, _) = match table {
+            TableId::First => self.first.next(place, key)?,
+            TableId::Second => self.second.next(place, key)?,
+        };
+        Some(slot)
+    }
+
+    // Puts the key of the next slot into a table.
+    pub(crate) fn push(&mut self, table: TableId, key: &i32)
+        requires room { length (entries self.old table) < 2048 }
+        ensures key { entries self.new table ≡ entries self.old table ++ key.now ∷ [] }
+        ensures other { (other : AnyTable) → other ≢ table
+            → entries self.new other ≡ entries self.old other }
+    {
+        match table {
+            TableId::First => self.first.insert(key),
+            TableId::Second => self.second.insert(key),
+        }
+    }
+
+    // Takes all keys out of a table.
+    fn clear(&mut self, table: TableId)
+        ensures none { entries self.new table ≡ [] }
+        ensures other { (other : AnyTable) → other ≢ table
+            → entries self.new other ≡ entries self.old other }
+    {
+        match table {
+            TableId::First => self.first.clear(),
+            TableId::Second => self.second.clear(),
+        }
+    }
+}
