@@ -7,7 +7,7 @@ use Rattle.afl_base.specs.declared.kind.Kind.TheVariants.{Doubling, Fixed}
 use Rattle.db_model.specs.declared.schemas.IndexKind.{IndexKind}
 use Rattle.db_model.specs.declared.schemas.IndexKind.TheVariants.{Inline, MaxHeap, MemHash}
 use Rattle.db_model.specs.Catalog.{Index}
-use Rattle.db_model.specs.Cost.{added}
+use Rattle.db_model.specs.Cost.{sum}
 use Rattle.db_model.specs.Database.{Relation, Database, used}
 use Rattle.db_model.specs.Step.{keys}
 use Rattle.space_model.specs.Enough.{enough, file_sizes, index_sizes, rows_in, rows_size, touched, tree_size, tree_sizes}
@@ -28,7 +28,7 @@ size_shares-append : (gap : ℕ) (xs ys : List ℕ) → size_shares gap (xs ++ y
 size_shares-append gap [] ys = omega arith
 size_shares-append gap (x ∷ xs) ys = let e = size_shares-append gap xs ys in omega (arith, e)
 
-size_shares_are : (gap : ℕ) (sizes : List ℕ) → size_shares gap sizes ≡ added (map touched sizes) + 2 * length sizes + 2 * (length sizes * gap)
+size_shares_are : (gap : ℕ) (sizes : List ℕ) → size_shares gap sizes ≡ sum (map touched sizes) + 2 * length sizes + 2 * (length sizes * gap)
 size_shares_are gap [] = let none : 0 * gap ≡ 0 = grind arith in omega (arith, none)
 size_shares_are gap (size ∷ sizes) =
     let e = size_shares_are gap sizes in
