@@ -2,7 +2,7 @@
 
 #![tactic(auto)]
 
-ghost use Rattle.std.specs.Prelude.{◌≡◌, ◌≤◌, ◌+◌, ◌/◌, ℕ, ℤ, List, filter, length, map};
+ghost use Rattle.std.specs.Prelude.{◌≡◌, ◌≤◌, ◌+◌, ◌-◌, ◌/◌, ℕ, ℤ, List, filter, length, slice_index};
 ghost use Rattle.std.specs.List.{range_with_len};
 ghost use Rattle.db_model.specs.HashTree.{buckets};
 ghost use Rattle.index_tree.specs.Keys.{first_keys, is_key_at, key_in};
@@ -38,4 +38,10 @@ pub fn a_tree_has_few_buckets()
 pub fn a_path_has_the_slots_of_its_key()
     ensures { (bytes : List ℕ) (keys : List ℤ) (key : ℤ) (hops : ℕ) → IsTreeOf bytes keys → 1024 ≤ hops
         → slots_of (filter (has_key key) (pairs_along bytes key hops)) ≡ filter (is_key_at key keys) (range_with_len 0 (length keys)) }
+{}
+
+/// The last byte of a tree is 1, so that it can be committed from a draft.
+#[tactic(auto, using(crate::proofs::Law::ends_marked))]
+pub fn a_tree_ends_in_a_mark()
+    ensures { (bytes : List ℕ) (keys : List ℤ) → IsTreeOf bytes keys → slice_index bytes (length bytes - 1) ≡ 1 }
 {}
