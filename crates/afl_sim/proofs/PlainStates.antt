@@ -1,18 +1,19 @@
 -- Files in fixed arrays, from one call to the next.
-use Rattle.std.proofs.Common.{◌≡◌, ◌≢◌, ◌⊎◌, ℕ, ◌+◌, ◌*◌, ◌<◌, ◌≤◌, List, [], length, set, Option, Some, None, true, refl, sym, ap, ◌∙◌, subst, arith}
-use Rattle.std.specs.Prelude.{max, is_some, option_map}
+use Rattle.std.proofs.Common.{◌≡◌, ◌≢◌, ℕ, ◌+◌, ◌*◌, ◌<◌, ◌≤◌, List, [], length, set, Option, Some, None, true, refl, sym, ap, ◌∙◌, subst, arith}
+use Rattle.std.specs.Prelude.{IfSome, max, is_some, option_map}
 use Rattle.std.proofs.lemmas.List.{length-set}
 use Rattle.std.proofs.lemmas.Bool.{cases_eq}
 use Rattle.std.proofs.Math.Logic.{⊎_elim}
 use Rattle.afl_base.specs.declared.kind.Kind.{Kind}
 use Rattle.afl_base.specs.declared.kind.Kind.TheVariants.{Doubling, Fixed}
-use Rattle.afl_base.specs.Files.{Becomes, Commits, Creates, Drafts, File, IsNamed, IsUnnamed, Removes, Table, bytes_at, name_at, new_file, place, used}
+use Rattle.afl_base.specs.Files.{AreDistinct, Becomes, Commits, Creates, Drafts, File, IsNamed, IsUnnamed, Removes, Table, bytes_at, name_at, new_file, place, used}
 use Rattle.afl_base.specs.Fields.{put_at}
 use Rattle.afl_base.specs.Fit.{fit}
 use Rattle.afl_base.proofs.FieldLaws.{length-put_at}
 use Rattle.afl_base.proofs.FitLaws.{fit_grows, is_fit}
 use Rattle.afl_base.proofs.FileLaws.{IsCommitted, file_here, distinct_new, distinct_same, name_at_here, name_at_there, named_here, set_adds, set_becomes, set_creates, set_removes, set_replaces, used_same}
-use Rattle.afl_sim.specs.PlainFiles.{ArePlain, IsFresh, plain_pages, plain_state}
+use Rattle.afl_base.specs.Places.{AreTaken}
+use Rattle.afl_sim.specs.PlainFiles.{ArePlain, IsFresh, IsNewPlace, IsPlaceFor, plain_pages, plain_state}
 
 -- no draft is seen where none is kept
 pub none_kept : (draft : Option File) → (plain_state [] draft).draft ≡ None → draft ≡ None
@@ -116,10 +117,10 @@ plain_becomes n files draft id f g change total records room plain inside was is
     set_becomes (plain_state files draft) (plain_state (set files id (Some g)) draft) id f g total (change (bytes_at files id)) (omega (arith, plain.places)) was refl
     c.name c.kind (ap length (c.bytes ∙ here) ∙ long) (λ _. c.bytes ∙ here) refl refl
 
-pub plain_creates : (files : Table) (draft : Option File) (id : ℕ) (name : List ℕ) (kind : Kind) → length files ≡ 32 → id < 32 → place files id ≡ None →
+pub plain_creates : (files : Table) (draft : Option File) (id : ℕ) (name : List ℕ) (kind : Kind) → length files ≡ 32 → id < 32 → place files id ≡ None → AreTaken files id →
     Creates (plain_state files draft) (plain_state (set files id (Some (new_file name kind))) draft) id name kind
-plain_creates files draft id name kind places inside free =
-    set_creates (plain_state files draft) (plain_state (set files id (Some (new_file name kind))) draft) id name kind (omega arith) free refl refl refl
+plain_creates files draft id name kind places inside free lowest =
+    set_creates (plain_state files draft) (plain_state (set files id (Some (new_file name kind))) draft) id name kind (omega arith) free lowest refl refl refl
 
 pub plain_removes : (n : ℕ) (files : Table) (draft : Option File) (id : ℕ) (f : File) → ArePlain n files draft → id < 32 → place files id ≡ Some f →
     Removes (plain_state files draft) (plain_state (set files id None) draft) id
@@ -141,7 +142,7 @@ file_named files id n named = of_place (place files id) n named
 
 -- the draft takes the place of its name
 pub plain_committed : (n : ℕ) (files : Table) (id : ℕ) (f : File) → ArePlain n files (Some f) → id < 32 →
-    (IsNamed files id f.name ⊎ (IsUnnamed files f.name × (place files id ≡ None))) → ArePlain n (set files id (Some f)) None
+    IsPlaceFor files id f.name → ArePlain n (set files id (Some f)) None
 plain_committed n files id f plain inside where_ = record {
   least = plain.least;
   most = plain.most;
@@ -150,14 +151,14 @@ plain_committed n files id f plain inside where_ = record {
       let within : id < length files = omega (arith, plain.places) in
       ⊎_elim
       (λ (named : IsNamed files id f.name). let had = file_named files id f.name named in distinct_same files id had.0 f within plain.distinct had.1 (sym had.2))
-      (λ (free : IsUnnamed files f.name × (place files id ≡ None)). distinct_new files id f within plain.distinct free.0)
+      (λ (free : IsNewPlace files id f.name). distinct_new files id f within plain.distinct free.unnamed)
       where_;
   fresh = λ d none. absurd (cc);
   space = λ d none. absurd (cc);
 }
 
 pub plain_commits : (n : ℕ) (files : Table) (id : ℕ) (f : File) → ArePlain n files (Some f) → id < 32 →
-    (IsNamed files id f.name ⊎ (IsUnnamed files f.name × (place files id ≡ None))) →
+    IsPlaceFor files id f.name →
     Commits (plain_state files (Some f)) (plain_state (set files id (Some f)) None) id
 plain_commits n files id f plain inside where_ =
     let within : id < length files = omega (arith, plain.places) in
@@ -168,8 +169,8 @@ plain_commits n files id f plain inside where_ =
     let had = file_named files id f.name named in
     set_replaces (plain_state files (Some f)) (plain_state (set files id (Some f)) None) id had.0 f within had.1 had.2
     (λ k k_named. plain.distinct k id had.0.name k_named (named_here files id had.0 had.1)) made refl refl refl)
-    (λ (free : IsUnnamed files f.name × (place files id ≡ None)).
-    set_adds (plain_state files (Some f)) (plain_state (set files id (Some f)) None) id f within free.1 free.0 made refl refl refl)
+    (λ (free : IsNewPlace files id f.name).
+    set_adds (plain_state files (Some f)) (plain_state (set files id (Some f)) None) id f within free.free free.lowest free.unnamed made refl refl refl)
     where_
 
 -- a size that may be asked for fits the pages that it counts as
@@ -181,3 +182,9 @@ plain_fits (Fixed n) size few fixed = fixed n refl
 pub plain_grows : (kind : Kind) (size more : ℕ) → size + more ≤ 4194304 → more ≤ 4096 → kind ≡ Doubling → plain_pages kind (size + more) ≤ max 16 (2 * fit size)
 plain_grows Doubling size more few least is = omega (arith, fit_grows size more (omega arith) least)
 plain_grows (Fixed n) size more few least is = absurd (cc)
+
+-- where a file of a name was found, no other has it
+pub only_named : (files : Table) (name : List ℕ) (found : Option ℕ) → AreDistinct files → IfSome found (λ id. IsNamed files id name) →
+    IfSome found (λ id. (k : ℕ) → IsNamed files k name → k ≡ id)
+only_named files name None distinct is = is
+only_named files name (Some id) distinct is = λ k named. distinct k id name named is

@@ -1,6 +1,10 @@
 -- What contracts see of the devices of this crate.
-use Rattle.std.specs.Prelude.{ℕ, ◌+◌, ◌-◌, ◌^◌, min, Bool, false, nat_eq, List, Option, None, Some, option_map}
+use Rattle.std.specs.Prelude.{ℕ, ◌+◌, ◌*◌, ◌-◌, ◌^◌, replicate, min, Bool, false, if◌then◌else◌, nat_eq, List, Option, None, Some, option_map}
 use Rattle.std.specs.List.{list_any}
+
+-- a count of faults behind a call: one more where the call failed, up to the last number of a u64
+abbrev pub counted : Bool → ℕ → ℕ
+counted failed before = if failed then min (before + 1) (2 ^ 64 - 1) else before
 
 -- a flash in memory: its bytes, and how often it was read
 pub record FlashInMemory : Type 0 where
@@ -12,6 +16,10 @@ pub record FlashInFile : Type 0 where
   pub sectors : ℕ
   pub reads : ℕ
   pub faults : ℕ
+
+-- an image of its size, whose bytes are not told
+abbrev pub untold : FlashInFile → List ℕ
+untold flash = replicate (4096 * flash.sectors) 0
 
 -- a source in memory: the bytes to come, which call from now fails (none: no call), and how many failed
 pub record SourceInMemory : Type 0 where
@@ -52,5 +60,5 @@ abbrev pub fails_now : List ℕ → ℕ → Bool
 fails_now fails calls = list_any (λ n. nat_eq n (number_of_call calls)) fails
 
 -- the faults of the flash around and of the flash inside, up to the last number of a u64
-abbrev pub all_faults : ℕ → ℕ → ℕ
-all_faults own inner = min (own + inner) (2 ^ 64 - 1)
+abbrev pub all_faults : {F : Type 0} → (F → ℕ) → FlashWithFaults F → ℕ
+all_faults inner flash = min (flash.faults + inner flash.inner) (2 ^ 64 - 1)

@@ -1,10 +1,11 @@
 -- Files in fixed arrays of so many bytes each.
-use Rattle.std.specs.Prelude.{◌≡◌, ℕ, ◌+◌, ◌*◌, ◌<◌, ◌≤◌, List, [], length, Option, Some, option_map, true}
+use Rattle.std.specs.Prelude.{◌≡◌, ◌⊎◌, ℕ, ◌+◌, ◌*◌, ◌<◌, ◌≤◌, List, [], length, Option, None, Some, option_map, true}
 use Rattle.afl_base.specs.declared.kind.Kind.{Kind}
 use Rattle.afl_base.specs.declared.kind.Kind.TheVariants.{Doubling, Fixed}
-use Rattle.afl_base.specs.Files.{AreDistinct, File, IsUnnamed, State, Table, used}
+use Rattle.afl_base.specs.Files.{AreDistinct, File, IsNamed, IsUnnamed, State, Table, file_at, place, size_at, used}
 use Rattle.afl_base.specs.Fit.{fit}
 use Rattle.afl_base.specs.Names.{IsPadded}
+use Rattle.afl_base.specs.Places.{AreTaken}
 
 -- a file lies in an array of cap bytes: size of them, zeros behind them, and room for its room
 pub record IsPlain (cap size room : ℕ) (kind : Kind) (bytes : List ℕ) : Type 0 where
@@ -44,3 +45,17 @@ PlainLacks cap n = cap + 32 < 256 * n
 abbrev pub plain_pages : Kind → ℕ → ℕ
 plain_pages Doubling size = fit size
 plain_pages (Fixed n) size = n
+
+-- the pages that a file would count as with so many bytes more
+abbrev pub asked_pages : Table → ℕ → ℕ → ℕ
+asked_pages files id more = plain_pages (file_at files id).kind (size_at files id + more)
+
+-- no file has the name, and the place is the lowest that is free
+pub record IsNewPlace (files : Table) (id : ℕ) (name : List ℕ) : Type 0 where
+  pub unnamed : IsUnnamed files name
+  pub free : place files id ≡ None
+  pub lowest : AreTaken files id
+
+-- where a file of the name stands or is to stand
+abbrev pub IsPlaceFor : Table → ℕ → List ℕ → Type 0
+IsPlaceFor files id name = IsNamed files id name ⊎ IsNewPlace files id name

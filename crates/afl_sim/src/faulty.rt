@@ -24,8 +24,8 @@ impl<F: Flash + Drop> Model for FaultFlash<F> {
 }
 
 impl<F: Flash + Drop> FaultFlash<F> {
-    ghost use Rattle.std.specs.Prelude.{◌≡◌, min, ◌+◌, ◌-◌, ◌^◌, is_err, if◌then◌else◌};
-    ghost use Rattle.afl_sim.specs.Devices.{fails_now, number_of_call};
+    ghost use Rattle.std.specs.Prelude.{◌≡◌, is_err};
+    ghost use Rattle.afl_sim.specs.Devices.{counted, fails_now, number_of_call};
 
     /// A flash around `inner` that fails at the calls whose numbers stand in `fails`.
     pub fn new(inner: F, fails: ArrayVec<u64, 16>) -> FaultFlash<F>
@@ -65,7 +65,7 @@ impl<F: Flash + Drop> FaultFlash<F> {
         ensures inner { self.new.inner ≡ self.old.inner }
         ensures list { self.new.fails ≡ self.old.fails }
         ensures reads { self.new.reads ≡ self.old.reads }
-        ensures faults { self.new.faults ≡ (if is_err result then min (self.old.faults + 1) (2 ^ 64 - 1) else self.old.faults) }
+        ensures faults { self.new.faults ≡ counted (is_err result) self.old.faults }
     {
         self.calls = self.calls.saturating_add(1);
         if self.fails.as_slice().contains(&self.calls) {
@@ -80,13 +80,13 @@ impl<F: Flash + Drop> Flash for FaultFlash<F> {
     ghost use Rattle.std.specs.Prelude.{◌≡◌, ◌≢◌, ℕ, ◌+◌, ◌*◌, ◌-◌, ◌^◌, ◌≤◌, min, true, false, length, slice_range, IsTrue, IsErr, OnOk, OnErr};
     ghost use Rattle.afl_base.specs.Causes.{HasCause, CountsOne, Rose};
     ghost use Rattle.afl_base.specs.Image.{or_at, zeros_at, page_bytes, sector_bytes};
-    ghost use Rattle.afl_sim.specs.Devices.{fails_now, number_of_call, all_faults};
+    ghost use Rattle.afl_sim.specs.Devices.{all_faults, counted, fails_now, number_of_call};
 
     ghost tells = { F.tells };
 
     ghost image = { λ f. F.image f.inner };
 
-    ghost faults = { λ f. all_faults f.faults (F.faults f.inner) };
+    ghost faults = { λ f. all_faults F.faults f };
 
     ghost reads = { λ f. f.reads };
 
@@ -97,16 +97,21 @@ impl<F: Flash + Drop> Flash for FaultFlash<F> {
     fn read(&mut self, page: PageId, at: u16, into: &mut [u8]) -> Result<(), Failed>
         requires page { 256 * page.0 + 256 ≤ length (F.image self.old.inner) }
         requires range { at + length into.old ≤ 256 }
-        ensures bytes { IsTrue F.tells → OnOk result (into.new ≡ slice_range (F.image self.old.inner) (256 * page.0 + at) (256 * page.0 + at + length into.old)) }
+        ensures bytes { IsTrue F.tells → OnOk result (into.new
+            ≡ slice_range (F.image self.old.inner) (256 * page.0 + at) (256 * page.0 + at + length into.old)) }
         ensures same { F.image self.new.inner ≡ F.image self.old.inner }
         ensures counted { CountsOne self.old.reads self.new.reads }
         ensures reads { self.new.reads ≤ self.old.reads + 1 }
         ensures reads_later { self.old.reads ≤ self.new.reads }
-        ensures cause { HasCause (all_faults self.old.faults (F.faults self.old.inner)) (all_faults self.new.faults (F.faults self.new.inner)) result }
+        ensures faultless { OnOk result (all_faults F.faults self.new ≡ all_faults F.faults self.old) }
+        ensures cause { HasCause (all_faults F.faults self.old) (all_faults F.faults self.new) result }
+        ensures counts { self.new.faults ≡ counted (fails_now self.old.fails self.old.calls) self.old.faults }
         ensures numbered { self.new.calls ≡ number_of_call self.old.calls }
         ensures list { self.new.fails ≡ self.old.fails }
-        ensures fails { fails_now self.old.fails self.old.calls ≡ true → IsErr result × (self.new.inner ≡ self.old.inner) }
-        ensures passes { fails_now self.old.fails self.old.calls ≡ false → OnErr result (Rose (F.faults self.old.inner) (F.faults self.new.inner)) }
+        ensures fails { fails_now self.old.fails self.old.calls ≡ true
+            → IsErr result × (self.new.inner ≡ self.old.inner) }
+        ensures passes { fails_now self.old.fails self.old.calls ≡ false
+            → OnErr result (Rose (F.faults self.old.inner) (F.faults self.new.inner)) }
     {
         self.reads = self.reads.saturating_add(1);
         self.count_call()?;
@@ -117,16 +122,23 @@ impl<F: Flash + Drop> Flash for FaultFlash<F> {
     fn program(&mut self, page: PageId, at: u16, bytes: &[u8]) -> Result<(), Failed>
         requires page { 256 * page.0 + 256 ≤ length (F.image self.old.inner) }
         requires range { at + length bytes.now ≤ 256 }
-        ensures programmed { IsTrue F.tells → OnOk result (F.image self.new.inner ≡ or_at (F.image self.old.inner) (256 * page.0 + at) bytes.now) }
-        ensures page { IsTrue F.tells → OnOk result (page_bytes (F.image self.new.inner) page.0 ≡ or_at (page_bytes (F.image self.old.inner) page.0) at bytes.now) }
-        ensures other_pages { IsTrue F.tells → (p : ℕ) → p ≢ page.0 → page_bytes (F.image self.new.inner) p ≡ page_bytes (F.image self.old.inner) p }
+        ensures programmed { IsTrue F.tells → OnOk result
+            (F.image self.new.inner ≡ or_at (F.image self.old.inner) (256 * page.0 + at) bytes.now) }
+        ensures page { IsTrue F.tells → OnOk result
+            (page_bytes (F.image self.new.inner) page.0 ≡ or_at (page_bytes (F.image self.old.inner) page.0) at bytes.now) }
+        ensures other_pages { IsTrue F.tells → (p : ℕ) → p ≢ page.0
+            → page_bytes (F.image self.new.inner) p ≡ page_bytes (F.image self.old.inner) p }
         ensures size { length (F.image self.new.inner) ≡ length (F.image self.old.inner) }
         ensures reads { self.new.reads ≡ self.old.reads }
-        ensures cause { HasCause (all_faults self.old.faults (F.faults self.old.inner)) (all_faults self.new.faults (F.faults self.new.inner)) result }
+        ensures faultless { OnOk result (all_faults F.faults self.new ≡ all_faults F.faults self.old) }
+        ensures cause { HasCause (all_faults F.faults self.old) (all_faults F.faults self.new) result }
+        ensures counts { self.new.faults ≡ counted (fails_now self.old.fails self.old.calls) self.old.faults }
         ensures numbered { self.new.calls ≡ number_of_call self.old.calls }
         ensures list { self.new.fails ≡ self.old.fails }
-        ensures fails { fails_now self.old.fails self.old.calls ≡ true → IsErr result × (self.new.inner ≡ self.old.inner) }
-        ensures passes { fails_now self.old.fails self.old.calls ≡ false → OnErr result (Rose (F.faults self.old.inner) (F.faults self.new.inner)) }
+        ensures fails { fails_now self.old.fails self.old.calls ≡ true
+            → IsErr result × (self.new.inner ≡ self.old.inner) }
+        ensures passes { fails_now self.old.fails self.old.calls ≡ false
+            → OnErr result (Rose (F.faults self.old.inner) (F.faults self.new.inner)) }
     {
         self.count_call()?;
         self.inner.program(page, at, bytes)?;
@@ -135,15 +147,21 @@ impl<F: Flash + Drop> Flash for FaultFlash<F> {
 
     fn erase(&mut self, sector: SectorId) -> Result<(), Failed>
         requires sector { 4096 * sector.0 + 4096 ≤ length (F.image self.old.inner) }
-        ensures erased { IsTrue F.tells → OnOk result (F.image self.new.inner ≡ zeros_at (F.image self.old.inner) (4096 * sector.0) 4096) }
-        ensures other_sectors { IsTrue F.tells → (s : ℕ) → s ≢ sector.0 → sector_bytes (F.image self.new.inner) s ≡ sector_bytes (F.image self.old.inner) s }
+        ensures erased { IsTrue F.tells → OnOk result
+            (F.image self.new.inner ≡ zeros_at (F.image self.old.inner) (4096 * sector.0) 4096) }
+        ensures other_sectors { IsTrue F.tells → (s : ℕ) → s ≢ sector.0
+            → sector_bytes (F.image self.new.inner) s ≡ sector_bytes (F.image self.old.inner) s }
         ensures size { length (F.image self.new.inner) ≡ length (F.image self.old.inner) }
         ensures reads { self.new.reads ≡ self.old.reads }
-        ensures cause { HasCause (all_faults self.old.faults (F.faults self.old.inner)) (all_faults self.new.faults (F.faults self.new.inner)) result }
+        ensures faultless { OnOk result (all_faults F.faults self.new ≡ all_faults F.faults self.old) }
+        ensures cause { HasCause (all_faults F.faults self.old) (all_faults F.faults self.new) result }
+        ensures counts { self.new.faults ≡ counted (fails_now self.old.fails self.old.calls) self.old.faults }
         ensures numbered { self.new.calls ≡ number_of_call self.old.calls }
         ensures list { self.new.fails ≡ self.old.fails }
-        ensures fails { fails_now self.old.fails self.old.calls ≡ true → IsErr result × (self.new.inner ≡ self.old.inner) }
-        ensures passes { fails_now self.old.fails self.old.calls ≡ false → OnErr result (Rose (F.faults self.old.inner) (F.faults self.new.inner)) }
+        ensures fails { fails_now self.old.fails self.old.calls ≡ true
+            → IsErr result × (self.new.inner ≡ self.old.inner) }
+        ensures passes { fails_now self.old.fails self.old.calls ≡ false
+            → OnErr result (Rose (F.faults self.old.inner) (F.faults self.new.inner)) }
     {
         self.count_call()?;
         self.inner.erase(sector)?;

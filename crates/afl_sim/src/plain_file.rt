@@ -2,8 +2,8 @@ ghost use Rattle.std.specs.Prelude.{◌≡◌, ℕ, ◌+◌, ◌-◌, ◌≤◌,
 ghost use Rattle.afl_base.specs.Fields.{put_at};
 ghost use Rattle.afl_base.specs.Files.{IsKind};
 
-use crate::bytes::{put_bytes, read_bytes};
-use afl_base::{Kind, Name};
+use crate::bytes::read_bytes;
+use afl_base::{Kind, Name, Named, put_bytes};
 use std::marker::Model;
 
 /// A file in an array of `CAP` bytes. Contracts see it as a file of the table.
@@ -59,12 +59,6 @@ impl<const CAP: usize> PlainFile<CAP> {
         }
     }
 
-    pub fn name(&self) -> Name
-        ensures { result ≡ self.now.name }
-    {
-        self.name
-    }
-
     pub fn kind(&self) -> Kind
         ensures value { result ≡ self.now.kind }
         ensures pages { (n : ℕ) → self.now.kind ≡ Kind.Fixed n → n ≤ 15 }
@@ -117,5 +111,13 @@ impl<const CAP: usize> PlainFile<CAP> {
         put_bytes(all, at, bytes);
         self.size += bytes.len();
         self.room = 0;
+    }
+}
+
+impl<const CAP: usize> Named for PlainFile<CAP> {
+    ghost named = { λ f. f.name };
+
+    fn name(&self) -> Name {
+        self.name
     }
 }

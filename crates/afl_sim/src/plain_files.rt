@@ -1,10 +1,11 @@
-ghost use Rattle.std.specs.Prelude.{◌≡◌, ◌≢◌, ◌⊎◌, ◌<◌, ◌≤◌, ◌+◌, ◌*◌, ℕ, IsSome, IfSome, IfNone, MatchBool, Some, None, length, replicate, option_map};
-ghost use Rattle.afl_base.specs.Files.{File, IsLive, IsNamed, IsUnnamed, place, used};
-ghost use Rattle.afl_base.specs.Regions.{regions};
-ghost use Rattle.afl_sim.specs.PlainFiles.{plain_pages};
+ghost use Rattle.std.specs.Prelude.{◌≡◌, ◌<◌, ◌≤◌, ◌+◌, ◌*◌, IsSome, MatchBool, Some, length};
+ghost use Rattle.afl_base.specs.Files.{IsUnnamed, used};
+ghost use Rattle.afl_sim.specs.PlainFiles.{IsPlaceFor, plain_pages};
 
 use crate::plain_file::PlainFile;
-use afl_base::{Failed, FileError, FileId, Files, Kind, Name, fit};
+use afl_base::{
+    Failed, FileError, FileId, Files, Kind, Name, Named, find_in, fit, free_in, regions,
+};
 use std::marker::Model;
 
 /// At most 32 files of at most `CAP` bytes each, and a draft, in fixed arrays. It tells all bytes and
@@ -71,11 +72,11 @@ fn drafted<const CAP: usize>(draft: &Option<PlainFile<CAP>>) -> PlainFile<CAP>
     }
 }
 
-// The place of the file of this name, else the first place that holds none.
+// The place of the file of this name, else the lowest place that holds none.
 fn place_for<const CAP: usize>(table: &[Option<PlainFile<CAP>>], name: &Name) -> FileId
     requires places { length table.now ≡ 32 }
     requires free { IsUnnamed table.now name.now → used table.now < 32 }
-    ensures { IsNamed table.now result name.now ⊎ (IsUnnamed table.now name.now × (place table.now result ≡ None)) }
+    ensures { IsPlaceFor table.now result name.now }
 {
     if let Some(id) = find_in(table, name) {
         return id;
@@ -101,71 +102,12 @@ fn is_lacking(cap: usize, pages: u16) -> bool
     cap < (256 * pages as usize).saturating_sub(32)
 }
 
-// Whether a file of this name stands here.
-fn has_name<const CAP: usize>(place: &Option<PlainFile<CAP>>, name: &Name) -> bool
-    ensures { MatchBool result (option_map (λ (f : File). f.name) place.now ≡ Some name.now) (option_map (λ (f : File). f.name) place.now ≢ Some name.now) }
-{
-    match place {
-        Some(file) => file.name() == *name,
-        None => false,
-    }
-}
-
-// The place of the file of this name.
-fn find_in<const CAP: usize>(table: &[Option<PlainFile<CAP>>], name: &Name) -> Option<FileId>
-    requires { length table.now ≡ 32 }
-    ensures found { IfSome result (λ id. IsNamed table.now id name.now) }
-    ensures none { IfNone result (IsUnnamed table.now name.now) }
-{
-    for number in 0..32u16 {
-        if has_name(&table[number as usize], name) {
-            return Some(id_of(number));
-        }
-    }
-    None
-}
-
-// The first place that holds no file.
-fn free_in<const CAP: usize>(table: &[Option<PlainFile<CAP>>]) -> FileId
-    requires places { length table.now ≡ 32 }
-    requires free { used table.now < 32 }
-    ensures { place table.now result ≡ None }
-{
-    for number in 0..32u16 {
-        if table[number as usize].is_none() {
-            return id_of(number);
-        }
-    }
-    unreachable!()
-}
-
-fn id_of(number: u16) -> FileId
-    requires { number < 32 }
-    ensures { result ≡ number }
-{
-    match FileId::new(number) {
-        Some(id) => id,
-        None => unreachable!(),
-    }
-}
-
-// How many regions of 128 bytes the `len` bytes from `at` on touch.
-fn regions(at: u32, len: usize) -> u16
-    requires some { 1 ≤ len }
-    requires few { at + len ≤ 16352 }
-    ensures { result ≡ regions at len }
-{
-    let first = at as usize / 128;
-    let past = (at as usize + len + 127) / 128;
-    (past - first) as u16
-}
-
 impl<const CAP: usize> Files for PlainFiles<CAP> {
     ghost use Rattle.std.specs.Prelude.{◌≡◌, ◌+◌, ◌*◌, ◌<◌, ◌≤◌, ℕ, None, OnOk, length, max, replicate};
     ghost use Rattle.afl_base.specs.FileErrors.{HasFileCause, OnSpace, UnlessFailed};
-    ghost use Rattle.afl_base.specs.Files.{Becomes, Drafts, IsLive, IsNamed, IsUnnamed, Keeps, bytes_at, file_at, size_at, used};
+    ghost use Rattle.afl_base.specs.Files.{Drafts, IsLive, IsNamed, IsUnnamed, Keeps, KeepsBytes, file_at, size_at, used};
     ghost use Rattle.afl_base.specs.Fit.{fit};
-    ghost use Rattle.afl_sim.specs.PlainFiles.{PlainLacks, plain_pages};
+    ghost use Rattle.afl_sim.specs.PlainFiles.{PlainLacks, asked_pages};
 
     ghost state = { λ f. f };
 
@@ -175,7 +117,7 @@ impl<const CAP: usize> Files for PlainFiles<CAP> {
 
     ghost lacks = { λ f n. PlainLacks CAP n };
 
-    ghost asks = { λ f id w b n. n ≡ plain_pages (file_at f.files id).kind (size_at f.files id + b) };
+    ghost asks = { λ f id w b n. n ≡ asked_pages f.files id b };
 
     fn live(&self, id: FileId) -> bool {
         self.table[id.number() as usize].is_some()
@@ -220,15 +162,23 @@ impl<const CAP: usize> Files for PlainFiles<CAP> {
         requires overwrites { overwrites ≤ 29 }
         requires bytes { bytes ≤ 4096 }
         requires most { size_at self.old.files id + bytes ≤ 4194304 }
-        requires fixed { (n : ℕ) → (file_at self.old.files id).kind ≡ Kind.Fixed n → size_at self.old.files id + bytes + 32 ≤ 256 * n }
-        ensures granted { OnOk result (256 * plain_pages (file_at self.old.files id).kind (size_at self.old.files id + bytes) ≤ CAP + 32) }
-        ensures contents { UnlessFailed result (Becomes self.old self.new id (size_at self.old.files id) (bytes_at self.old.files id)) }
+        requires fixed { (n : ℕ) → (file_at self.old.files id).kind ≡ Kind.Fixed n
+            → size_at self.old.files id + bytes + 32 ≤ 256 * n }
+        ensures granted { OnOk result (256 * asked_pages self.old.files id bytes ≤ CAP + 32) }
+        ensures contents { UnlessFailed result (KeepsBytes self.old self.new id) }
         ensures records { OnOk result (overwrites ≤ (file_at self.new.files id).records) }
         ensures room { OnOk result (bytes ≤ (file_at self.new.files id).room) }
-        ensures need_doubling { OnSpace result (λ need. (file_at self.old.files id).kind ≡ Kind.Doubling → need ≤ max 16 (2 * fit (size_at self.old.files id))) }
-        ensures need_fixed { OnSpace result (λ need. (n : ℕ) → (file_at self.old.files id).kind ≡ Kind.Fixed n → need ≤ 16) }
-        ensures asked { OnSpace result (λ need. need ≡ plain_pages (file_at self.new.files id).kind (size_at self.new.files id + bytes)) }
+        ensures granted_records { OnOk result ((file_at self.new.files id).records ≡ overwrites) }
+        ensures granted_room { OnOk result ((file_at self.new.files id).room ≡ bytes) }
+        ensures need_doubling { OnSpace result (λ need. (file_at self.old.files id).kind ≡ Kind.Doubling
+            → need ≤ max 16 (2 * fit (size_at self.old.files id))) }
+        ensures need_fixed { OnSpace result (λ need. (n : ℕ) → (file_at self.old.files id).kind ≡ Kind.Fixed n
+            → need ≤ 16) }
+        ensures asked { OnSpace result (λ need. need ≡ asked_pages self.new.files id bytes) }
+        ensures unasked { ((n : ℕ) → n ≡ asked_pages self.old.files id bytes → ⊥) → OnSpace result (λ need. ⊥) }
         ensures lacks { OnSpace result (λ need. PlainLacks CAP need) }
+        ensures kept { OnSpace result (λ need. self.new ≡ self.old) }
+        ensures store { length self.new.store ≡ length self.old.store }
         ensures reads_later { 0 ≤ 0 }
         ensures cause { HasFileCause 0 0 result }
     {
@@ -260,13 +210,15 @@ impl<const CAP: usize> Files for PlainFiles<CAP> {
     fn draft(&mut self, name: Name, size: u32) -> Result<(), FileError>
         requires idle { self.old.draft ≡ None }
         requires size { size ≤ 4194304 }
-        requires kind { (k : ℕ) → IsNamed self.old.files k name → (file_at self.old.files k).kind ≡ Kind.Doubling }
+        requires kind { (k : ℕ) → IsNamed self.old.files k name
+            → (file_at self.old.files k).kind ≡ Kind.Doubling }
         requires place { IsUnnamed self.old.files name → used self.old.files < 32 }
         ensures granted { OnOk result (256 * fit size ≤ CAP + 32) }
         ensures begun { OnOk result (Drafts self.old self.new name size (replicate size 0)) }
         ensures need { OnSpace result (λ need. need ≡ fit size) }
         ensures lacks { OnSpace result (λ need. PlainLacks CAP need) }
         ensures kept { OnSpace result (λ _. Keeps self.old self.new) }
+        ensures store { length self.new.store ≡ length self.old.store }
         ensures reads_later { 0 ≤ 0 }
         ensures cause { HasFileCause 0 0 result }
     {

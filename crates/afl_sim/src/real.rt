@@ -39,8 +39,8 @@ impl Model for FileFlash {
 }
 
 impl FileFlash {
-    ghost use Rattle.std.specs.Prelude.{◌≡◌, ◌↔◌, ◌*◌, IsSome, IfSome};
-    ghost use Rattle.afl_base.specs.Causes.{HasCause};
+    ghost use Rattle.std.specs.Prelude.{◌≡◌, ◌↔◌, ◌*◌, IsSome, IfSome, is_err};
+    ghost use Rattle.afl_sim.specs.Devices.{counted};
     ghost use Rattle.afl_sim.specs.Lengths.{IsImageLength};
 
     /// A flash in `file`, which has `length` bytes and was opened for reading and writing. `None`
@@ -67,7 +67,7 @@ impl FileFlash {
     fn judge(&mut self, outcome: io::Result<()>) -> Result<(), Failed>
         ensures sectors { self.new.sectors ≡ self.old.sectors }
         ensures reads { self.new.reads ≡ self.old.reads }
-        ensures cause { HasCause self.old.faults self.new.faults result }
+        ensures counts { self.new.faults ≡ counted (is_err result) self.old.faults }
     {
         match outcome {
             Ok(()) => Ok(()),
@@ -80,11 +80,14 @@ impl FileFlash {
 }
 
 impl Flash for FileFlash {
-    ghost use Rattle.std.specs.Prelude.{◌*◌, false, replicate};
+    ghost use Rattle.std.specs.Prelude.{◌≡◌, ◌≢◌, ℕ, ◌+◌, ◌*◌, ◌≤◌, false, is_err, length, replicate, slice_range, IsTrue, OnOk};
+    ghost use Rattle.afl_base.specs.Causes.{HasCause, CountsOne};
+    ghost use Rattle.afl_base.specs.Image.{or_at, zeros_at, page_bytes, sector_bytes};
+    ghost use Rattle.afl_sim.specs.Devices.{counted, untold};
 
     ghost tells = { false };
 
-    ghost image = { λ f. replicate (4096 * f.sectors) 0 };
+    ghost image = { λ f. untold f };
 
     ghost faults = { λ f. f.faults };
 
@@ -94,7 +97,19 @@ impl Flash for FileFlash {
         self.sectors
     }
 
-    fn read(&mut self, page: PageId, at: u16, into: &mut [u8]) -> Result<(), Failed> {
+    fn read(&mut self, page: PageId, at: u16, into: &mut [u8]) -> Result<(), Failed>
+        requires page { 256 * page.0 + 256 ≤ length (untold self.old) }
+        requires range { at + length into.old ≤ 256 }
+        ensures bytes { IsTrue false → OnOk result
+            (into.new ≡ slice_range (untold self.old) (256 * page.0 + at) (256 * page.0 + at + length into.old)) }
+        ensures same { untold self.new ≡ untold self.old }
+        ensures counted { CountsOne self.old.reads self.new.reads }
+        ensures reads { self.new.reads ≤ self.old.reads + 1 }
+        ensures reads_later { self.old.reads ≤ self.new.reads }
+        ensures faultless { OnOk result (self.new.faults ≡ self.old.faults) }
+        ensures cause { HasCause self.old.faults self.new.faults result }
+        ensures counts { self.new.faults ≡ counted (is_err result) self.old.faults }
+    {
         self.reads = self.reads.saturating_add(1);
         let outcome = self
             .file
@@ -103,7 +118,21 @@ impl Flash for FileFlash {
         Ok(())
     }
 
-    fn program(&mut self, page: PageId, at: u16, bytes: &[u8]) -> Result<(), Failed> {
+    fn program(&mut self, page: PageId, at: u16, bytes: &[u8]) -> Result<(), Failed>
+        requires page { 256 * page.0 + 256 ≤ length (untold self.old) }
+        requires range { at + length bytes.now ≤ 256 }
+        ensures programmed { IsTrue false → OnOk result
+            (untold self.new ≡ or_at (untold self.old) (256 * page.0 + at) bytes.now) }
+        ensures page { IsTrue false → OnOk result
+            (page_bytes (untold self.new) page.0 ≡ or_at (page_bytes (untold self.old) page.0) at bytes.now) }
+        ensures other_pages { IsTrue false → (p : ℕ) → p ≢ page.0
+            → page_bytes (untold self.new) p ≡ page_bytes (untold self.old) p }
+        ensures size { length (untold self.new) ≡ length (untold self.old) }
+        ensures reads { self.new.reads ≡ self.old.reads }
+        ensures faultless { OnOk result (self.new.faults ≡ self.old.faults) }
+        ensures cause { HasCause self.old.faults self.new.faults result }
+        ensures counts { self.new.faults ≡ counted (is_err result) self.old.faults }
+    {
         let place = PAGE * u64::from(page.0) + u64::from(at);
         let mut buffer = [0u8; 256];
         let part = &mut buffer[..bytes.len()];
@@ -115,7 +144,18 @@ impl Flash for FileFlash {
         Ok(())
     }
 
-    fn erase(&mut self, sector: SectorId) -> Result<(), Failed> {
+    fn erase(&mut self, sector: SectorId) -> Result<(), Failed>
+        requires sector { 4096 * sector.0 + 4096 ≤ length (untold self.old) }
+        ensures erased { IsTrue false → OnOk result
+            (untold self.new ≡ zeros_at (untold self.old) (4096 * sector.0) 4096) }
+        ensures other_sectors { IsTrue false → (s : ℕ) → s ≢ sector.0
+            → sector_bytes (untold self.new) s ≡ sector_bytes (untold self.old) s }
+        ensures size { length (untold self.new) ≡ length (untold self.old) }
+        ensures reads { self.new.reads ≡ self.old.reads }
+        ensures faultless { OnOk result (self.new.faults ≡ self.old.faults) }
+        ensures cause { HasCause self.old.faults self.new.faults result }
+        ensures counts { self.new.faults ≡ counted (is_err result) self.old.faults }
+    {
         let outcome = self
             .file
             .write_all_at(&ERASED, SECTOR * u64::from(sector.0));
@@ -183,13 +223,25 @@ impl<R: Read + Drop> StdSource<R> {
 }
 
 impl<R: Read + Drop> Source for StdSource<R> {
-    ghost use Rattle.std.specs.Prelude.{None};
+    ghost use Rattle.std.specs.Prelude.{◌≡◌, ◌≤◌, ℕ, List, Option, None, IfOk, OnErr, OnOk, is_err, length, take};
+    ghost use Rattle.std.specs.Io.KnownBytes.{prepend_known, IsAtEnd};
+    ghost use Rattle.afl_base.specs.Causes.{HasCause};
+    ghost use Rattle.afl_sim.specs.Devices.{counted};
 
     ghost left = { λ s. None };
 
     ghost faults = { λ s. s };
 
-    fn read(&mut self, into: &mut [u8]) -> Result<usize, Failed> {
+    fn read(&mut self, into: &mut [u8]) -> Result<usize, Failed>
+        requires room { 1 ≤ length into.old }
+        ensures within { IfOk result (λ n. n ≤ length into.new) }
+        ensures bytes { IfOk result (λ n. None ≡ prepend_known (take n into.new) None) }
+        ensures end { IfOk result (λ n. n ≡ 0 → IsAtEnd None) }
+        ensures failed { OnErr result (◌≡◌ {A = Option (List ℕ)} None None) }
+        ensures faultless { OnOk result (self.new ≡ self.old) }
+        ensures cause { HasCause self.old self.new result }
+        ensures counts { self.new ≡ counted (is_err result) self.old }
+    {
         let Some(n) = read_once(&mut self.reader, into) else {
             self.faults = self.faults.saturating_add(1);
             return Err(Failed);
@@ -226,13 +278,32 @@ impl<W: Write + Drop> StdSink<W> {
 }
 
 impl<W: Write + Drop> Sink for StdSink<W> {
-    ghost use Rattle.std.specs.Prelude.{None};
+    ghost use Rattle.std.specs.Prelude.{◌≡◌, ◌≤◌, ℕ, List, Option, None, IfOk, OnErr, OnOk, is_err, length, take, ⊤};
+    ghost use Rattle.std.specs.Io.KnownBytes.{append_known};
+    ghost use Rattle.afl_base.specs.Causes.{HasCause};
+    ghost use Rattle.afl_sim.specs.Devices.{counted};
 
     ghost held = { λ s. None };
 
     ghost faults = { λ s. s };
 
-    fn write(&mut self, bytes: &[u8]) -> Result<usize, Failed> {
+    ghost keeps = { λ a b. ⊤ };
+
+    ghost kept = { λ a. tt {0} };
+
+    ghost kept_on = { λ a b c first then. tt {0} };
+
+    fn write(&mut self, bytes: &[u8]) -> Result<usize, Failed>
+        requires some { 1 ≤ length bytes.now }
+        ensures least { IfOk result (λ n. 1 ≤ n) }
+        ensures most { IfOk result (λ n. n ≤ length bytes.now) }
+        ensures bytes { IfOk result (λ n. None ≡ append_known None (take n bytes.now)) }
+        ensures failed { OnErr result (◌≡◌ {A = Option (List ℕ)} None None) }
+        ensures keeps { ⊤ }
+        ensures faultless { OnOk result (self.new ≡ self.old) }
+        ensures cause { HasCause self.old self.new result }
+        ensures counts { self.new ≡ counted (is_err result) self.old }
+    {
         let Some(n) = write_once(&mut self.writer, bytes) else {
             self.faults = self.faults.saturating_add(1);
             return Err(Failed);

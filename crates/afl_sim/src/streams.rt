@@ -36,10 +36,10 @@ impl<'a> MemSource<'a> {
 }
 
 impl Source for MemSource<'_> {
-    ghost use Rattle.std.specs.Prelude.{◌≡◌, ℕ, ◌≤◌, List, Option, Some, is_err, length, take, IfOk, OnErr, min};
+    ghost use Rattle.std.specs.Prelude.{◌≡◌, ℕ, ◌≤◌, List, Option, Some, is_err, length, take, IfOk, OnErr, OnOk, min};
     ghost use Rattle.std.specs.Io.KnownBytes.{prepend_known, IsAtEnd};
     ghost use Rattle.afl_base.specs.Causes.{HasCause};
-    ghost use Rattle.afl_sim.specs.Devices.{nearer, is_first};
+    ghost use Rattle.afl_sim.specs.Devices.{counted, nearer, is_first};
 
     ghost left = { λ s. Some s.left };
 
@@ -48,10 +48,13 @@ impl Source for MemSource<'_> {
     fn read(&mut self, into: &mut [u8]) -> Result<usize, Failed>
         requires room { 1 ≤ length into.old }
         ensures within { IfOk result (λ n. n ≤ length into.new) }
-        ensures bytes { IfOk result (λ n. Some self.old.left ≡ prepend_known (take n into.new) (Some self.new.left)) }
+        ensures bytes { IfOk result (λ n.
+            Some self.old.left ≡ prepend_known (take n into.new) (Some self.new.left)) }
         ensures end { IfOk result (λ n. n ≡ 0 → IsAtEnd (Some self.new.left)) }
         ensures failed { OnErr result (Some self.new.left ≡ Some self.old.left) }
+        ensures faultless { OnOk result (self.new.faults ≡ self.old.faults) }
         ensures cause { HasCause self.old.faults self.new.faults result }
+        ensures counts { self.new.faults ≡ counted (is_err result) self.old.faults }
         ensures most { IfOk result (λ n. n ≡ min (length into.new) (length self.old.left)) }
         ensures fails { is_err result ≡ is_first self.old.fails_in }
         ensures nearer { self.new.fails_in ≡ nearer self.old.fails_in }
@@ -131,22 +134,32 @@ impl<'a> MemSink<'a> {
 }
 
 impl Sink for MemSink<'_> {
-    ghost use Rattle.std.specs.Prelude.{◌≡◌, ℕ, ◌≤◌, ◌||◌, List, Option, Some, is_err, length, take, IfOk, OnErr, nat_eq, min};
+    ghost use Rattle.std.specs.Prelude.{◌≡◌, ℕ, ◌≤◌, ◌||◌, List, Option, Some, is_err, length, take, IfOk, OnErr, OnOk, nat_eq, min, ⊤};
     ghost use Rattle.std.specs.Io.KnownBytes.{append_known};
     ghost use Rattle.afl_base.specs.Causes.{HasCause};
-    ghost use Rattle.afl_sim.specs.Devices.{nearer, is_first};
+    ghost use Rattle.afl_sim.specs.Devices.{counted, nearer, is_first};
 
     ghost held = { λ s. Some s.held };
 
     ghost faults = { λ s. s.faults };
 
+    ghost keeps = { λ a b. ⊤ };
+
+    ghost kept = { λ a. tt {0} };
+
+    ghost kept_on = { λ a b c first then. tt {0} };
+
     fn write(&mut self, bytes: &[u8]) -> Result<usize, Failed>
         requires some { 1 ≤ length bytes.now }
         ensures least { IfOk result (λ n. 1 ≤ n) }
         ensures most { IfOk result (λ n. n ≤ length bytes.now) }
-        ensures bytes { IfOk result (λ n. Some self.new.held ≡ append_known (Some self.old.held) (take n bytes.now)) }
+        ensures bytes { IfOk result (λ n.
+            Some self.new.held ≡ append_known (Some self.old.held) (take n bytes.now)) }
         ensures failed { OnErr result (Some self.new.held ≡ Some self.old.held) }
+        ensures keeps { ⊤ }
+        ensures faultless { OnOk result (self.new.faults ≡ self.old.faults) }
         ensures cause { HasCause self.old.faults self.new.faults result }
+        ensures counts { self.new.faults ≡ counted (is_err result) self.old.faults }
         ensures taken { IfOk result (λ n. n ≡ min (length bytes.now) self.old.room) }
         ensures fails { is_err result ≡ (is_first self.old.fails_in || nat_eq self.old.room 0) }
         ensures nearer { self.new.fails_in ≡ nearer self.old.fails_in }

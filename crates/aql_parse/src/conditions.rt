@@ -157,7 +157,8 @@ fn factor_moves(token: &Token, stack: &mut Stack, nodes: &mut Nodes) -> bool
 
 // The number behind a minus.
 fn negative_moves(token: &Token, nodes: &mut Nodes) -> bool
-    ensures stack { (stack : List SymbolType) → Moved (condition_move Symbol.Negative token.now) stack stack result }
+    ensures stack { (stack : List SymbolType)
+        → Moved (condition_move Symbol.Negative token.now) stack stack result }
     ensures nodes { Kept (condition_move Symbol.Negative token.now) nodes.old nodes.new }
 {
     match token {

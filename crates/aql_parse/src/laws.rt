@@ -17,7 +17,8 @@ use db_model::laws::conditions_are_read_back;
 /// one way alone.
 pub fn readings_are_unique()
     ensures command { (bytes : List ℕ) (c d : AnyCommand) → IsSpelt c bytes → IsSpelt d bytes → c ≡ d }
-    ensures reading { (bytes : List ℕ) (a b : Result AnyCommand AnyRefusal) → IsReading bytes a → IsReading bytes b → a ≡ b }
+    ensures reading { (bytes : List ℕ) (a b : Result AnyCommand AnyRefusal)
+        → IsReading bytes a → IsReading bytes b → a ≡ b }
     ensures condition { (tokens : List Token) (c d : Cond) → Disj c tokens → Disj d tokens → c ≡ d }
 {
     conditions_are_read_back();

@@ -37,6 +37,7 @@ pub fn put_relation<V: Files>(
     requires form { IsCatalogSize (length (bytes_at (V.state files.old).files cat)) }
     requires prepared { IsPrepared (file_at (V.state files.old).files cat) (176 * id) 176 }
     ensures put { OnOk result (PutsRelation (V.state files.old) (V.state files.new) cat id (Some schema.now)) }
+    ensures store { length (V.state files.new).store ≡ length (V.state files.old).store }
     ensures cause { HasCause (V.faults files.old) (V.faults files.new) result }
 {
     replace(
@@ -54,6 +55,7 @@ pub fn clear_relation<V: Files>(files: &mut V, cat: FileId, id: RelationId) -> R
     requires form { IsCatalogSize (length (bytes_at (V.state files.old).files cat)) }
     requires prepared { IsPrepared (file_at (V.state files.old).files cat) (176 * id) 176 }
     ensures cleared { OnOk result (PutsRelation (V.state files.old) (V.state files.new) cat id None) }
+    ensures store { length (V.state files.new).store ≡ length (V.state files.old).store }
     ensures cause { HasCause (V.faults files.old) (V.faults files.new) result }
 {
     let slot: [u8; 176] = unused_slot();
@@ -72,6 +74,7 @@ pub fn put_index<V: Files>(
     requires form { IsCatalogSize (length (bytes_at (V.state files.old).files cat)) }
     requires prepared { IsPrepared (file_at (V.state files.old).files cat) (1408 + 8 * id) 8 }
     ensures put { OnOk result (PutsIndex (V.state files.old) (V.state files.new) cat id (Some (index_in entry.now))) }
+    ensures store { length (V.state files.new).store ≡ length (V.state files.old).store }
     ensures cause { HasCause (V.faults files.old) (V.faults files.new) result }
 {
     replace(
@@ -89,6 +92,7 @@ pub fn clear_index<V: Files>(files: &mut V, cat: FileId, id: IndexId) -> Result<
     requires form { IsCatalogSize (length (bytes_at (V.state files.old).files cat)) }
     requires prepared { IsPrepared (file_at (V.state files.old).files cat) (1408 + 8 * id) 8 }
     ensures cleared { OnOk result (PutsIndex (V.state files.old) (V.state files.new) cat id None) }
+    ensures store { length (V.state files.new).store ≡ length (V.state files.old).store }
     ensures cause { HasCause (V.faults files.old) (V.faults files.new) result }
 {
     let slot: [u8; 8] = unused_slot();
@@ -105,6 +109,7 @@ fn replace<V: Files>(files: &mut V, cat: FileId, at: u32, slot: &[u8]) -> Result
     requires prepared { IsPrepared (file_at (V.state files.old).files cat) at (length slot.now) }
     ensures replaced { OnOk result (Becomes (V.state files.old) (V.state files.new) cat 1480
         (with_slot (bytes_at (V.state files.old).files cat) at slot.now)) }
+    ensures store { length (V.state files.new).store ≡ length (V.state files.old).store }
     ensures cause { HasCause (V.faults files.old) (V.faults files.new) result }
 {
     let size = files.size(cat);

@@ -5,7 +5,8 @@ ghost use Rattle.db_model.specs.Catalog.{attribute_of, attributes_of, domain_fro
 ghost use Rattle.db_model.specs.Database.{is_among};
 ghost use Rattle.db_model.specs.Row.{row_length, up_to_zero};
 ghost use Rattle.catalog.specs.CatalogFile.{index_in};
-ghost use Rattle.catalog.specs.Rules.{are_distinct, attribute_names, is_attribute, is_domain, is_index_form, is_relation_slot, is_row, is_schema};
+ghost use Rattle.catalog.specs.Rules.{is_attribute, is_domain, is_index_form, is_relation_slot, is_row, is_schema};
+ghost use Rattle.db_model.specs.Sound.{are_distinct, attribute_names};
 
 use crate::slots::{index_slot, relation_slot, unused_slot};
 use crate::types::IndexEntry;
@@ -37,7 +38,7 @@ fn read_schema(slot: &[u8], version: u8) -> Option<Schema>
 {
     let name = Ident::new(up_to_zero(&slot[..16]))?;
     let attributes = read_attributes(slot[160] as usize, &slot[16..], version)?;
-    if !is_row(attributes.as_slice()) {
+    if !is_row(&attributes) {
         return None;
     }
     Some(Schema { name, attributes })
@@ -93,11 +94,10 @@ fn is_domain(version: u8, domain: Domain) -> bool
 }
 
 // Whether a row of the attributes has at most 128 bytes, and no two have one name.
-fn is_row(attributes: &[Attribute]) -> bool
-    requires { length attributes.now ≤ 8 }
+fn is_row(attributes: &Attributes) -> bool
     ensures { result ≡ is_row attributes.now }
 {
-    row_length(attributes) <= 128 && are_distinct(attributes)
+    row_length(attributes) <= 128 && are_distinct(attributes.as_slice())
 }
 
 // Whether no two of the attributes have one name.

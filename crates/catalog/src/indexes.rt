@@ -31,6 +31,7 @@ pub fn load_indexes<V: Files>(
         (λ r. IfErr r (λ slot. first 8 (breaks_index (bytes_at (V.state files.old).files cat)) ≡ Some slot)) }
     ensures same { OnOk result (V.state files.new ≡ V.state files.old) }
     ensures reads { V.reads files.new ≤ V.reads files.old + 24 }
+    ensures store { length (V.state files.new).store ≡ length (V.state files.old).store }
     ensures cause { HasCause (V.faults files.old) (V.faults files.new) result }
 {
     let mut indexes = [None; 8];
@@ -61,6 +62,7 @@ fn load_index<V: Files>(
         relations.now (indexes_in before.now)) }
     ensures same { OnOk result (V.state files.new ≡ V.state files.old) }
     ensures reads { V.reads files.new ≤ V.reads files.old + 3 }
+    ensures store { length (V.state files.new).store ≡ length (V.state files.old).store }
     ensures cause { HasCause (V.faults files.old) (V.faults files.new) result }
 {
     let mut bytes = [0u8; 8];

@@ -26,6 +26,7 @@ pub fn load<V: Files>(files: &mut V) -> Result<Result<Catalog, BadCatalog>, Fail
         (λ r. IfErr r (λ bad. first_broken (V.state files.old).files ≡ Some (bad.rule, bad.place))) }
     ensures same { OnOk result (V.state files.new ≡ V.state files.old) }
     ensures reads { V.reads files.new ≤ V.reads files.old + 99 }
+    ensures store { length (V.state files.new).store ≡ length (V.state files.old).store }
     ensures cause { HasCause (V.faults files.old) (V.faults files.new) result }
 {
     match first_stranger(files) {
@@ -52,6 +53,7 @@ fn read_catalog<V: Files>(files: &mut V) -> Result<Result<Catalog, BadCatalog>, 
         (λ r. IfErr r (λ bad. broken_catalog (catalog_bytes_in (V.state files.old).files) ≡ Some (bad.rule, bad.place))) }
     ensures same { OnOk result (V.state files.new ≡ V.state files.old) }
     ensures reads { V.reads files.new ≤ V.reads files.old + 99 }
+    ensures store { length (V.state files.new).store ≡ length (V.state files.old).store }
     ensures cause { HasCause (V.faults files.old) (V.faults files.new) result }
 {
     match files.find(catalog_file()) {
@@ -70,6 +72,7 @@ fn read_file<V: Files>(files: &mut V, cat: FileId) -> Result<Result<Catalog, Bad
         (λ r. IfErr r (λ bad. broken_catalog (bytes_at (V.state files.old).files cat) ≡ Some (bad.rule, bad.place))) }
     ensures same { OnOk result (V.state files.new ≡ V.state files.old) }
     ensures reads { V.reads files.new ≤ V.reads files.old + 99 }
+    ensures store { length (V.state files.new).store ≡ length (V.state files.old).store }
     ensures cause { HasCause (V.faults files.old) (V.faults files.new) result }
 {
     let version = match read_version(files, cat)? {
@@ -103,6 +106,7 @@ fn read_version<V: Files>(files: &mut V, cat: FileId) -> Result<Option<u8>, Fail
         (λ version. IfSome version (λ _. IsCatalogSize (length (bytes_at (V.state files.old).files cat)))) }
     ensures same { OnOk result (V.state files.new ≡ V.state files.old) }
     ensures reads { V.reads files.new ≤ V.reads files.old + 3 }
+    ensures store { length (V.state files.new).store ≡ length (V.state files.old).store }
     ensures cause { HasCause (V.faults files.old) (V.faults files.new) result }
 {
     match files.size(cat) {

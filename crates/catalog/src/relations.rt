@@ -26,6 +26,7 @@ pub fn load_relations<V: Files>(
         (λ r. IfErr r (λ slot. first 8 (breaks_relation (bytes_at (V.state files.old).files cat)) ≡ Some slot)) }
     ensures same { OnOk result (V.state files.new ≡ V.state files.old) }
     ensures reads { V.reads files.new ≤ V.reads files.old + 72 }
+    ensures store { length (V.state files.new).store ≡ length (V.state files.old).store }
     ensures cause { HasCause (V.faults files.old) (V.faults files.new) result }
 {
     let mut relations = [None, None, None, None, None, None, None, None];
@@ -55,6 +56,7 @@ fn load_relation<V: Files>(
         (slice_range (bytes_at (V.state files.old).files cat) (176 * slot) (176 * slot + 176)) before.now) }
     ensures same { OnOk result (V.state files.new ≡ V.state files.old) }
     ensures reads { V.reads files.new ≤ V.reads files.old + 9 }
+    ensures store { length (V.state files.new).store ≡ length (V.state files.old).store }
     ensures cause { HasCause (V.faults files.old) (V.faults files.new) result }
 {
     let mut bytes = [0u8; 176];

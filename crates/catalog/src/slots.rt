@@ -6,6 +6,7 @@ ghost use Rattle.catalog.specs.CatalogFile.{index_in};
 ghost use Rattle.catalog.specs.Copies.{copies};
 
 use crate::types::IndexEntry;
+use afl_base::put_bytes;
 use db_model::{Attribute, Domain, Few, IndexKind, Schema};
 
 // A relation slot of the schema.
@@ -153,11 +154,3 @@ pub fn first_catalog(at: usize, slot: &[u8]) -> [u8; 1480]
 
 // The end of a catalog of version 2.
 pub const VERSION_MARK: [u8; 8] = [2, 0, 0, 0, 0, 0, 0, 1];
-
-// Puts `part` in the place of the bytes from `at` on.
-pub fn put_bytes(bytes: &mut [u8], at: usize, part: &[u8])
-    requires { at + length part.now ≤ length bytes.old }
-    ensures { bytes.new ≡ put_at bytes.old at part.now }
-{
-    bytes[at..at + part.len()].copy_from_slice(part);
-}

@@ -69,6 +69,13 @@ put_at_outside xs bytes at p fits out =
     (λ (a : at ≤ p). ⊎_elim (λ (b : p < at + length bytes). absurd (out a b)) (λ (b : at + length bytes ≤ p). put_at_behind xs bytes at p fits b) (cases_lt p (at + length bytes)))
     (cases_lt p at)
 
+-- the same of a list that is known by an equation
+pub put_here : (old new bytes : List ℕ) (at k : ℕ) → new ≡ put_at old at bytes → at + length bytes ≤ length old → k < length bytes → get_or new (at + k) 0 ≡ get_or bytes k 0
+put_here old new bytes at k is fits low = ap (λ xs. get_or xs (at + k) 0) is ∙ put_at_here old bytes at k fits low
+
+pub put_outside : (old new bytes : List ℕ) (at p : ℕ) → new ≡ put_at old at bytes → at + length bytes ≤ length old → Outside at (length bytes) p → get_or new p 0 ≡ get_or old p 0
+put_outside old new bytes at p is fits out = ap (λ xs. get_or xs p 0) is ∙ put_at_outside old bytes at p fits out
+
 -- a byte of the list is a given one, or stays
 put_at_is : (old new : ℕ → ℕ) (n : ℕ) (xs bytes : List ℕ) (at p : ℕ) → Spells old n xs → Puts old new n at bytes → at + length bytes ≤ length xs → p < length xs → new p ≡ get_or (put_at xs at bytes) p 0
 put_at_is old new n xs bytes at p s put fits low =

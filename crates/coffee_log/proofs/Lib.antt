@@ -1,3 +1,4 @@
+pub mod AddedRecords
 pub mod Appends
 pub mod ContentLaws
 pub mod FileSteps

@@ -1,5 +1,5 @@
 -- Logs: which bytes make a log with so many records in use, and what a further record changes.
-use Rattle.std.specs.Prelude.{◌≡◌, ◌≢◌, ℕ, ◌+◌, ◌*◌, ◌≤◌, ◌<◌, List, slice_index}
+use Rattle.std.specs.Prelude.{◌≡◌, ◌≢◌, ℕ, ◌+◌, ◌-◌, ◌*◌, ◌≤◌, ◌<◌, List, slice_index}
 use Rattle.coffee_layout.specs.FileBytes.{number_in, record_place, table_of}
 use Rattle.flash_range.specs.Range.{Outside}
 
@@ -18,3 +18,12 @@ pub record PutsRecord (old new : List ℕ) (log used region : ℕ) (bytes : List
   pub numbers : (i : ℕ) → i < 30 → i ≢ used → number_in (table_of new log) i ≡ number_in (table_of old log) i
   pub here : (k : ℕ) → k < 128 → slice_index new (record_place log used + k) ≡ slice_index bytes k
   pub others : (k : ℕ) → Outside (record_place log used) 128 k → Outside (256 * log + 32 + 2 * used) 2 k → slice_index new k ≡ slice_index old k
+
+-- the records from one number up to another come to a log, where those before them stay: they name a
+-- region and the next ones, in rising order, and hold zeros for what lies behind the capacity
+pub record AddsRecords (old new : List ℕ) (log from to region capacity : ℕ) : Type 0 where
+  pub more : IsLog new log to
+  pub rising : (i : ℕ) → from ≤ i → i < to → number_in (table_of new log) i ≡ region + (i - from) + 1
+  pub before : (i : ℕ) → i < from → number_in (table_of new log) i ≡ number_in (table_of old log) i
+  pub tail : (i k : ℕ) → from ≤ i → i < to → k < 128 → capacity ≤ 128 * (region + (i - from)) + k → slice_index new (record_place log i + k) ≡ 0
+  pub kept : (k : ℕ) → record_place log 0 ≤ k → k < record_place log from → slice_index new k ≡ slice_index old k

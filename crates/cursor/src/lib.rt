@@ -1,2 +1,9 @@
 //! Machines that answer a query row by row.
 #![tactic(auto)]
+
+mod join;
+mod select;
+mod walk;
+
+pub use join::JoinCursor;
+pub use select::SelectCursor;

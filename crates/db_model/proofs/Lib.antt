@@ -4,8 +4,10 @@ pub mod Conditions
 pub mod Decoded
 pub mod ReplyTexts
 pub mod Rows
+pub mod RunCosts
 pub mod Scripts
 pub mod SoundRows
+pub mod SoundSteps
 pub mod Standing
 pub mod Steps
 pub mod Worked

@@ -1,9 +1,7 @@
 -- What changes of rows and attributes keep: values that suit, and keys that do not fall.
-use Rattle.std.proofs.Common.{◌≡◌, refl, sym, ap, subst, ◌∙◌, ℕ, zero, suc, ◌+◌, ◌-◌, ◌<◌, ◌≤◌, Bool, true, false, List, [], ◌∷◌, ◌++◌, length, map, filter, cond, Option, Some, None, arith, length-append}
-use Rattle.std.specs.Prelude.{ℤ, IsTrue, not, ◌&&◌, ◌||◌, ◌==◌, is_some, int_lt, slice_get, option_map, option_and_then}
-use Rattle.std.specs.List.{AllByRecursion}
+use Rattle.std.proofs.Common.{◌≡◌, refl, sym, ap, subst, ◌∙◌, ℕ, zero, suc, ◌+◌, ◌-◌, ◌≤◌, Bool, true, false, List, [], ◌∷◌, ◌++◌, length, map, filter, cond, Option, Some, None, arith}
+use Rattle.std.specs.Prelude.{ℤ, not, ◌&&◌, ◌||◌, is_some, int_lt, slice_get, option_map, option_and_then}
 use Rattle.std.specs.Str.{bytes_eq}
-use Rattle.std.proofs.lemmas.List.{length-map, map-append}
 use Rattle.std.proofs.lemmas.Slice.Eq.{bytes_eq-Decides}
 use Rattle.db_model.specs.declared.schemas.Attribute.{Attribute}
 use Rattle.db_model.specs.declared.schemas.Domain.{Domain}
@@ -168,11 +166,11 @@ pub order_kept : (kind : IndexKind) (attributes : List Attribute) (ordered : ℕ
 order_kept kind attributes ordered place a rows values live all suit at allowed o not none =
     keys_rise place rows (record { tuple = values; live = live }) none
     (λ last e.
-        let old = number_at kind attributes last.tuple place a (row_at attributes rows (length rows - 1) last all e) at allowed in
-        let new = number_at kind attributes values place a suit at allowed in
-        let is : 0 + place ≡ place = omega arith in
-        ap (λ v. int_lt v (key_of (slice_get last.tuple place))) (ap key_of new.1) ∙ ap (int_lt new.0) (ap key_of old.1)
-        ∙ not_fallen ordered 0 place last.tuple values old.0 new.0 (not last e) (ap ordered is ∙ o) old.1 new.1)
+    let old = number_at kind attributes last.tuple place a (row_at attributes rows (length rows - 1) last all e) at allowed in
+    let new = number_at kind attributes values place a suit at allowed in
+    let is : 0 + place ≡ place = omega arith in
+    ap (λ v. int_lt v (key_of (slice_get last.tuple place))) (ap key_of new.1) ∙ ap (int_lt new.0) (ap key_of old.1)
+    ∙ not_fallen ordered 0 place last.tuple values old.0 new.0 (not last e) (ap ordered is ∙ o) old.1 new.1)
 
 -- ---- attributes
 

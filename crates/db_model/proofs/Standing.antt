@@ -1,5 +1,5 @@
 -- What stands in slots once one of them is set, and what is found in them.
-use Rattle.std.proofs.Common.{◌≡◌, refl, sym, ap, subst, ◌∙◌, ℕ, zero, suc, ◌+◌, ◌<◌, ◌≤◌, Bool, true, false, List, [], ◌∷◌, length, set, get_or, filter, replicate, cond, Option, Some, None, arith}
+use Rattle.std.proofs.Common.{◌≡◌, refl, sym, ap, subst, ◌∙◌, ℕ, zero, suc, ◌+◌, ◌≤◌, Bool, true, false, List, [], ◌∷◌, length, set, get_or, filter, replicate, cond, Option, Some, None, arith}
 use Rattle.std.specs.Prelude.{◌||◌, is_some}
 use Rattle.std.specs.List.{list_any, AllByRecursion}
 use Rattle.std.specs.Str.{bytes_eq}
@@ -71,7 +71,8 @@ free_is n k (Some x ∷ slots) e =
 
 -- ---- tests over what the slots hold
 
-pub one : Bool → ℕ
+-- 1 for true
+abbrev pub one : Bool → ℕ
 one true = 1
 one false = 0
 
@@ -114,7 +115,6 @@ count_both false y xs ys n h = h
 
 -- one more at most, where something is put into an unused slot
 pub count_put : {A : Type 0} (test : A → Bool) (slots : List (Option A)) (k : ℕ) (x : A) → get_or slots k None ≡ None → length (filter test (used (set slots k (Some x)))) ≤ one (test x) + length (filter test (used slots))
-unfolding one
 count_put test [] k x e = omega arith
 count_put test (None ∷ slots) zero x e = by_test (test x)
   where

@@ -1,13 +1,11 @@
 -- How many pages a query, an aggregate or a cursor may read: a row and a key touch at most two regions of a file, a bucket
 -- three and a node's number one, and a region costs at most three reads.
-use Rattle.std.specs.Prelude.{ℕ, ℤ, zero, suc, ◌+◌, ◌*◌, ◌/◌, Bool, true, false, ◌==◌, List, [], ◌∷◌, map, length, filter, get_or, Option, Some, None, if◌then◌else◌}
+use Rattle.std.specs.Prelude.{ℕ, ℤ, zero, suc, ◌+◌, ◌*◌, ◌/◌, Bool, true, false, ◌==◌, List, [], ◌∷◌, map, length, filter, get_or, slice_get, Option, Some, None, unwrap_or, if◌then◌else◌}
 use Rattle.std.specs.List.{list_any, range_with_len}
 use Rattle.std.specs.Option.{option_map_or}
 use Rattle.std.specs.Ordering.{int_eq}
 use Rattle.db_model.specs.declared.commands.Agg.{Agg}
 use Rattle.db_model.specs.declared.commands.Agg.TheVariants.{Count, Sum, Min, Max, Mean, Median}
-use Rattle.db_model.specs.declared.commands.Command.{Command}
-use Rattle.db_model.specs.declared.commands.Command.TheVariants as command
 use Rattle.db_model.specs.declared.commands.Node.{Node}
 use Rattle.db_model.specs.declared.commands.Query.{Query}
 use Rattle.db_model.specs.declared.commands.Query.TheVariants.{Select, Join}
@@ -19,11 +17,11 @@ use Rattle.db_model.specs.Answers.{join, live_tuples}
 use Rattle.db_model.specs.Cond.{Cond, condition_of}
 use Rattle.db_model.specs.Database.{Relation, Database, relation_named, indexes_of}
 use Rattle.db_model.specs.HashTree.{same_path}
-use Rattle.db_model.specs.Item.{place_of, value_of}
+use Rattle.db_model.specs.Item.{place_of}
 use Rattle.db_model.specs.Plan.{Plan, Nothing, Scan, ByOrder, ByTree, ByTable, Kinds, kinds_of, plan, place_at, range_at, ranges_of, lies_in}
 use Rattle.db_model.specs.Ranges.{everything}
-use Rattle.db_model.specs.Row.{Row}
-use Rattle.db_model.specs.Step.{Reply, Refused, keys, step}
+use Rattle.db_model.specs.Row.{Row, no_row}
+use Rattle.db_model.specs.Step.{keys}
 
 -- the number of binary digits of n, 0 for 0, of at most so many
 abbrev pub halvings : ℕ → ℕ → ℕ
@@ -55,8 +53,10 @@ tree_cost e k = 30 + 9 * (6 + e / 32) + 15 * (k + 1)
 abbrev pub plan_cost : Kinds → List Range → List Row → Plan → ℕ
 plan_cost indexes ranges rows Nothing = 0
 plan_cost indexes ranges rows Scan = 6 * length rows
-plan_cost indexes ranges rows (ByOrder nth) = 6 * (2 * bits (length rows) + keys_in (range_at ranges (place_at indexes nth)) (keys (place_at indexes nth) rows)) + 6
-plan_cost indexes ranges rows (ByTree nth key) = tree_cost (keys_beside key (keys (place_at indexes nth) rows)) (keys_equal key (keys (place_at indexes nth) rows))
+plan_cost indexes ranges rows (ByOrder nth) =
+    let place = place_at indexes nth in 6 * (2 * bits (length rows) + keys_in (range_at ranges place) (keys place rows)) + 6
+plan_cost indexes ranges rows (ByTree nth key) =
+    let found = keys (place_at indexes nth) rows in tree_cost (keys_beside key found) (keys_equal key found)
 plan_cost indexes ranges rows (ByTable nth key) = 6 * keys_equal key (keys (place_at indexes nth) rows)
 
 -- the same by the plan that the indexes give
@@ -71,24 +71,26 @@ ranges_at on (Some (value.Number z)) = map (λ place. if place == on then Betwee
 ranges_at on (Some (value.Text bytes)) = map (λ place. everything) (range_with_len 0 8)
 ranges_at on None = map (λ place. everything) (range_with_len 0 8)
 
+-- the places of the ON attribute on the left and on the right; each relation has one where a join is answered
+abbrev pub places_of : List ℕ → Relation → Relation → ℕ × ℕ
+places_of on l r = (unwrap_or (place_of on l.schema.attributes) 0, unwrap_or (place_of on r.schema.attributes) 0)
+
 -- what the right side reads for a left tuple
-abbrev pub right_cost : Kinds → Relation → Relation → List ℕ → List Value → ℕ
-right_cost indexes l r on tuple =
-    option_map_or (λ place. chosen_cost indexes (ranges_at place (value_of l.schema.attributes tuple on)) r.rows) (place_of on r.schema.attributes) 0
+abbrev pub right_cost : Kinds → ℕ × ℕ → List Row → List Value → ℕ
+right_cost indexes on rights tuple = chosen_cost indexes (ranges_at on.1 (slice_get tuple on.0)) rights
 
--- costs, one after the other
-abbrev pub added : List ℕ → ℕ
-added [] = 0
-added (n ∷ ns) = n + added ns
+-- the sum of some costs
+abbrev pub sum : List ℕ → ℕ
+sum [] = 0
+sum (n ∷ ns) = n + sum ns
 
--- the same for each live one of some left rows
-abbrev pub right_costs : Kinds → Relation → Relation → List ℕ → List Row → ℕ
-right_costs indexes l r on rows = added (map (right_cost indexes l r on) (live_tuples rows))
+-- what the right side reads for the live ones of some left rows
+abbrev pub right_costs : Kinds → ℕ × ℕ → List Row → List Row → ℕ
+right_costs indexes on rights lefts = sum (map (right_cost indexes on rights) (live_tuples lefts))
 
 -- the rows in some slots
 abbrev pub rows_at : List ℕ → List Row → List Row
-rows_at [] rows = []
-rows_at (slot ∷ slots) rows = get_or rows slot (record { tuple = []; live = false }) ∷ rows_at slots rows
+rows_at slots rows = map (λ slot. get_or rows slot no_row) slots
 
 -- ---- queries, aggregates and OPEN
 
@@ -98,7 +100,7 @@ select_cost db slot r condition = chosen_cost (kinds_of (indexes_of db slot)) (r
 abbrev pub join_cost : Database → ℕ → Relation → Relation → List ℕ → List (List ℕ) → ℕ
 join_cost db right_slot l r on list =
     6 * (length l.rows + length (join l.schema.attributes r.schema.attributes on list l.rows r.rows))
-    + right_costs (kinds_of (indexes_of db right_slot)) l r on l.rows
+    + right_costs (kinds_of (indexes_of db right_slot)) (places_of on l r) r.rows l.rows
 
 -- what a halving search reads before the first row
 abbrev pub begin_cost : ℕ → Plan → ℕ
@@ -137,27 +139,12 @@ passed None slots = slots
 passed (Some stop) [] = []
 passed (Some stop) (slot ∷ slots) = if slot == stop then slot ∷ [] else slot ∷ passed (Some stop) slots
 
--- a FETCH of a SELECT that passes c slots; `indexes` and the plan are those of its OPEN, and the rows those of now
-abbrev pub fetch_select_cost : Kinds → Plan → List Row → ℕ → ℕ
-fetch_select_cost indexes (ByTree nth key) rows c = tree_cost (keys_beside key (keys (place_at indexes nth) rows)) c
-fetch_select_cost indexes _ rows c = 6 * c
+-- a FETCH of a SELECT that passes c slots, of the rows of now; where its OPEN chose a walk of a hash tree, that is by the
+-- place of an attribute and a key
+abbrev pub fetch_select_cost : Option (ℕ × ℤ) → List Row → ℕ → ℕ
+fetch_select_cost None rows c = 6 * c
+fetch_select_cost (Some walk) rows c = tree_cost (keys_beside walk.1 (keys walk.0 rows)) c
 
--- a FETCH of a JOIN that passes these left slots; `indexes` are the right relation's of its OPEN, and the relations those of now
-abbrev pub fetch_join_cost : Kinds → Relation → Relation → List ℕ → List ℕ → ℕ
-fetch_join_cost indexes l r on slots = 6 * length slots + right_costs indexes l r on (rows_at slots l.rows)
-
--- ---- commands
-
-abbrev pub is_refused : Reply → Bool
-is_refused (Refused refusal) = true
-is_refused _ = false
-
--- what a query, an aggregate or an OPEN may read; one that is refused reads nothing, and neither does CLOSE
-abbrev pub command_cost : Database → Command → ℕ
-command_cost db (command.Ask query) = query_cost db query
-command_cost db (command.Aggregate list name nodes) = aggregate_cost db list name nodes
-command_cost db (command.OpenCursor number query) = open_cost db query
-command_cost db _ = 0
-
-abbrev pub cost : Database → Command → ℕ
-cost db c = if is_refused ((step db c).1) then 0 else command_cost db c
+-- a FETCH of a JOIN that passes these left slots, of the rows of now; `indexes` are the right relation's at its OPEN
+abbrev pub fetch_join_cost : Kinds → ℕ × ℕ → List Row → List Row → List ℕ → ℕ
+fetch_join_cost indexes on lefts rights slots = 6 * length slots + right_costs indexes on rights (rows_at slots lefts)

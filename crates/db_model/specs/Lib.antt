@@ -1,3 +1,4 @@
+pub mod Ahead
 pub mod Answers
 pub mod Catalog
 pub mod Cond
@@ -15,6 +16,7 @@ pub mod Reading
 pub mod Refusing
 pub mod ReplyText
 pub mod Row
+pub mod RunCost
 pub mod Script
 pub mod Sound
 pub mod Spelling

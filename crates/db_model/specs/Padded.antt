@@ -1,6 +1,6 @@
 -- Short byte strings in arrays of a fixed width, the rest of each array zero.
 use Rattle.std.specs.Prelude.{◌≡◌, ℕ, ◌-◌, ◌≤◌, List, ◌++◌, length, take, replicate}
-use Rattle.std.proofs.Common.{arith, length-take-le}
+use Rattle.std.proofs.Common.{length-take-le, subst, sym}
 
 -- bytes, and zeros behind them up to the width n
 abbrev pub padded : ℕ → List ℕ → List ℕ
@@ -14,4 +14,4 @@ pub record IsPadded (n len : ℕ) (bytes : List ℕ) : Type 0 where
 
 -- the bytes of meaning are len many
 pub length-front : (n len : ℕ) (bytes : List ℕ) → IsPadded n len bytes → length (take len bytes) ≡ len
-length-front n len bytes p = length-take-le len bytes (omega (arith, p.short, p.long))
+length-front n len bytes p = length-take-le len bytes (subst (λ (m : ℕ). len ≤ m) (sym p.long) p.short)

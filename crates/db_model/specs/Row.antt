@@ -16,6 +16,10 @@ pub record Row : Type 0 where
   pub tuple : List Value
   pub live : Bool
 
+-- what stands in a slot that there is not
+abbrev pub no_row : Row
+no_row = record { tuple = []; live = false }
+
 -- ---- which values a domain has
 
 abbrev pub is_between : ℤ → ℤ → ℤ → Bool

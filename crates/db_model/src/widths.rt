@@ -5,7 +5,7 @@
 ghost use Rattle.std.specs.Prelude.{◌≡◌, ◌≤◌, length};
 ghost use Rattle.db_model.specs.Row.{fields_length, row_length, up_to_zero, width};
 
-use crate::schemas::{Attribute, Domain};
+use crate::schemas::{Attribute, Attributes, Domain};
 
 /// The bytes of a field of the domain.
 pub fn width(domain: Domain) -> usize
@@ -34,17 +34,17 @@ pub fn fields_length(attributes: &[Attribute]) -> usize
 }
 
 /// The bytes of a row: its fields and a mark.
-pub fn row_length(attributes: &[Attribute]) -> usize
-    requires { length attributes.now ≤ 8 }
+pub fn row_length(attributes: &Attributes) -> usize
     ensures value { result ≡ row_length attributes.now }
     ensures short { result ≤ 2041 }
 {
-    fields_length(attributes) + 1
+    fields_length(attributes.as_slice()) + 1
 }
 
 /// The bytes before the first zero.
 pub fn up_to_zero(bytes: &[u8]) -> &[u8]
-    ensures { result.now ≡ up_to_zero bytes.now }
+    ensures front { result.now ≡ up_to_zero bytes.now }
+    ensures short { length result.now ≤ length bytes.now }
 {
     for (at, byte) in bytes.iter().enumerate() {
         if *byte == 0 {

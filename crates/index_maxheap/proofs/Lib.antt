@@ -1,3 +1,12 @@
 pub mod Walked
 pub mod Told
 pub mod Grows
+pub mod Built
+pub mod Verified
+pub mod Opening
+pub mod Slots
+pub mod Nodes
+pub mod Firsts
+pub mod Scans
+pub mod Onward
+pub mod Roots

@@ -1,2 +1,5 @@
 pub mod Rooms
 pub mod Walks
+pub mod Builds
+pub mod Verify
+pub mod Searches

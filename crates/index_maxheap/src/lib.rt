@@ -1,16 +1,24 @@
 //! The hash tree of a column of keys, in a file of its own, over any `Files`.
 #![tactic(auto)]
 
+mod building;
 mod bytes;
 mod ends;
 mod inserting;
 mod loads;
 mod needs;
 mod path;
+mod places;
 mod rooms;
+mod searching;
 mod tree;
+mod verifying;
 
+pub use building::build;
 pub use inserting::insert;
 pub use loads::buckets_for;
 pub use needs::room;
+pub use places::{Found, Place};
 pub use rooms::{End, Room};
+pub use searching::next;
+pub use verifying::verify;

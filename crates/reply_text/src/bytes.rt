@@ -14,6 +14,8 @@ use itoa::Buffer;
 pub fn write_all<K: Sink>(out: &mut K, bytes: &[u8]) -> Result<(), Failed>
     ensures written { OnOk result (K.held out.new ≡ append_known (K.held out.old) bytes.now) }
     ensures failed { OnErr result (WroteLess (K.held out.old) (K.held out.new) bytes.now) }
+    ensures keeps { K.keeps out.old out.new }
+    ensures faultless { OnOk result (K.faults out.new ≡ K.faults out.old) }
     ensures cause { HasCause (K.faults out.old) (K.faults out.new) result }
 {
     let mut done = 0;
@@ -25,8 +27,11 @@ pub fn write_all<K: Sink>(out: &mut K, bytes: &[u8]) -> Result<(), Failed>
 
 // A number in decimal.
 fn write_number<K: Sink>(out: &mut K, number: u64) -> Result<(), Failed>
-    ensures written { OnOk result (K.held out.new ≡ append_known (K.held out.old) (decimal number)) }
+    ensures written { OnOk result
+        (K.held out.new ≡ append_known (K.held out.old) (decimal number)) }
     ensures failed { OnErr result (WroteLess (K.held out.old) (K.held out.new) (decimal number)) }
+    ensures keeps { K.keeps out.old out.new }
+    ensures faultless { OnOk result (K.faults out.new ≡ K.faults out.old) }
     ensures cause { HasCause (K.faults out.old) (K.faults out.new) result }
 {
     let mut buffer = Buffer::new();
@@ -35,8 +40,12 @@ fn write_number<K: Sink>(out: &mut K, number: u64) -> Result<(), Failed>
 
 // A number in decimal, with `-` before it where it is negative.
 pub fn write_signed<K: Sink>(out: &mut K, number: &i64) -> Result<(), Failed>
-    ensures written { OnOk result (K.held out.new ≡ append_known (K.held out.old) (signed_decimal number.now)) }
-    ensures failed { OnErr result (WroteLess (K.held out.old) (K.held out.new) (signed_decimal number.now)) }
+    ensures written { OnOk result
+        (K.held out.new ≡ append_known (K.held out.old) (signed_decimal number.now)) }
+    ensures failed { OnErr result
+        (WroteLess (K.held out.old) (K.held out.new) (signed_decimal number.now)) }
+    ensures keeps { K.keeps out.old out.new }
+    ensures faultless { OnOk result (K.faults out.new ≡ K.faults out.old) }
     ensures cause { HasCause (K.faults out.old) (K.faults out.new) result }
 {
     let mut buffer = Buffer::new();
@@ -45,8 +54,11 @@ pub fn write_signed<K: Sink>(out: &mut K, number: &i64) -> Result<(), Failed>
 
 // A line of these words.
 pub fn write_line<K: Sink>(out: &mut K, words: &[u8]) -> Result<(), Failed>
-    ensures written { OnOk result (K.held out.new ≡ append_known (K.held out.old) (line words.now)) }
+    ensures written { OnOk result
+        (K.held out.new ≡ append_known (K.held out.old) (line words.now)) }
     ensures failed { OnErr result (WroteLess (K.held out.old) (K.held out.new) (line words.now)) }
+    ensures keeps { K.keeps out.old out.new }
+    ensures faultless { OnOk result (K.faults out.new ≡ K.faults out.old) }
     ensures cause { HasCause (K.faults out.old) (K.faults out.new) result }
 {
     write_all(out, words)?;
@@ -55,8 +67,12 @@ pub fn write_line<K: Sink>(out: &mut K, words: &[u8]) -> Result<(), Failed>
 
 // A line of these words and a number in decimal.
 pub fn write_line_with<K: Sink>(out: &mut K, words: &[u8], count: u64) -> Result<(), Failed>
-    ensures written { OnOk result (K.held out.new ≡ append_known (K.held out.old) (line (words.now ++ decimal count))) }
-    ensures failed { OnErr result (WroteLess (K.held out.old) (K.held out.new) (line (words.now ++ decimal count))) }
+    ensures written { OnOk result
+        (K.held out.new ≡ append_known (K.held out.old) (line (words.now ++ decimal count))) }
+    ensures failed { OnErr result
+        (WroteLess (K.held out.old) (K.held out.new) (line (words.now ++ decimal count))) }
+    ensures keeps { K.keeps out.old out.new }
+    ensures faultless { OnOk result (K.faults out.new ≡ K.faults out.old) }
     ensures cause { HasCause (K.faults out.old) (K.faults out.new) result }
 {
     write_all(out, words)?;
@@ -70,8 +86,12 @@ pub fn write_line_with_signed<K: Sink>(
     words: &[u8],
     number: &i64,
 ) -> Result<(), Failed>
-    ensures written { OnOk result (K.held out.new ≡ append_known (K.held out.old) (line (words.now ++ signed_decimal number.now))) }
-    ensures failed { OnErr result (WroteLess (K.held out.old) (K.held out.new) (line (words.now ++ signed_decimal number.now))) }
+    ensures written { OnOk result
+        (K.held out.new ≡ append_known (K.held out.old) (line (words.now ++ signed_decimal number.now))) }
+    ensures failed { OnErr result
+        (WroteLess (K.held out.old) (K.held out.new) (line (words.now ++ signed_decimal number.now))) }
+    ensures keeps { K.keeps out.old out.new }
+    ensures faultless { OnOk result (K.faults out.new ≡ K.faults out.old) }
     ensures cause { HasCause (K.faults out.old) (K.faults out.new) result }
 {
     write_all(out, words)?;

@@ -12,6 +12,8 @@ use afl_base::{Failed, Sink};
 pub fn write_ok<K: Sink>(out: &mut K) -> Result<(), Failed>
     ensures written { OnOk result (K.held out.new ≡ append_known (K.held out.old) ok_text) }
     ensures failed { OnErr result (WroteLess (K.held out.old) (K.held out.new) ok_text) }
+    ensures keeps { K.keeps out.old out.new }
+    ensures faultless { OnOk result (K.faults out.new ≡ K.faults out.old) }
     ensures cause { HasCause (K.faults out.old) (K.faults out.new) result }
 {
     write_line(out, b"ok")
@@ -21,8 +23,11 @@ pub fn write_ok<K: Sink>(out: &mut K) -> Result<(), Failed>
 /// there.
 #[tactic(auto, unfolding(db_model::specs::ReplyText::count_text))]
 pub fn write_rows<K: Sink>(out: &mut K, count: u64) -> Result<(), Failed>
-    ensures written { OnOk result (K.held out.new ≡ append_known (K.held out.old) (count_text count)) }
+    ensures written { OnOk result
+        (K.held out.new ≡ append_known (K.held out.old) (count_text count)) }
     ensures failed { OnErr result (WroteLess (K.held out.old) (K.held out.new) (count_text count)) }
+    ensures keeps { K.keeps out.old out.new }
+    ensures faultless { OnOk result (K.faults out.new ≡ K.faults out.old) }
     ensures cause { HasCause (K.faults out.old) (K.faults out.new) result }
 {
     write_line_with(out, b"rows ", count)

@@ -11,8 +11,12 @@ use db_model::{Pool, Refusal};
 /// Appends the line of a refusal: `no`, then why. `Failed` leaves a proper prefix of it there.
 #[tactic(auto, unfolding(db_model::specs::ReplyText::refusal_text))]
 pub fn write_refusal<K: Sink>(out: &mut K, refusal: &Refusal) -> Result<(), Failed>
-    ensures written { OnOk result (K.held out.new ≡ append_known (K.held out.old) (refusal_text refusal.now)) }
-    ensures failed { OnErr result (WroteLess (K.held out.old) (K.held out.new) (refusal_text refusal.now)) }
+    ensures written { OnOk result
+        (K.held out.new ≡ append_known (K.held out.old) (refusal_text refusal.now)) }
+    ensures failed { OnErr result
+        (WroteLess (K.held out.old) (K.held out.new) (refusal_text refusal.now)) }
+    ensures keeps { K.keeps out.old out.new }
+    ensures faultless { OnOk result (K.faults out.new ≡ K.faults out.old) }
     ensures cause { HasCause (K.faults out.old) (K.faults out.new) result }
 {
     match refusal {

@@ -14,8 +14,12 @@ use db_model::{Tuple, Value};
 /// Appends the line of a row: its values with `,` between them, a number in decimal, a text between
 /// quotes. `Failed` leaves a proper prefix of it there.
 pub fn write_row<K: Sink>(out: &mut K, tuple: &Tuple) -> Result<(), Failed>
-    ensures written { OnOk result (K.held out.new ≡ append_known (K.held out.old) (row_text tuple.now)) }
-    ensures failed { OnErr result (WroteLess (K.held out.old) (K.held out.new) (row_text tuple.now)) }
+    ensures written { OnOk result
+        (K.held out.new ≡ append_known (K.held out.old) (row_text tuple.now)) }
+    ensures failed { OnErr result
+        (WroteLess (K.held out.old) (K.held out.new) (row_text tuple.now)) }
+    ensures keeps { K.keeps out.old out.new }
+    ensures faultless { OnOk result (K.faults out.new ≡ K.faults out.old) }
     ensures cause { HasCause (K.faults out.old) (K.faults out.new) result }
 {
     for (at, value) in tuple.as_slice().iter().enumerate() {
@@ -27,8 +31,12 @@ pub fn write_row<K: Sink>(out: &mut K, tuple: &Tuple) -> Result<(), Failed>
 /// Appends the line of the answers of aggregates, with `,` between them and `-` for one that has no
 /// value. `Failed` leaves a proper prefix of it there.
 pub fn write_numbers<K: Sink>(out: &mut K, numbers: &[Option<i64>]) -> Result<(), Failed>
-    ensures written { OnOk result (K.held out.new ≡ append_known (K.held out.old) (numbers_text numbers.now)) }
-    ensures failed { OnErr result (WroteLess (K.held out.old) (K.held out.new) (numbers_text numbers.now)) }
+    ensures written { OnOk result
+        (K.held out.new ≡ append_known (K.held out.old) (numbers_text numbers.now)) }
+    ensures failed { OnErr result
+        (WroteLess (K.held out.old) (K.held out.new) (numbers_text numbers.now)) }
+    ensures keeps { K.keeps out.old out.new }
+    ensures faultless { OnOk result (K.faults out.new ≡ K.faults out.old) }
     ensures cause { HasCause (K.faults out.old) (K.faults out.new) result }
 {
     for (at, number) in numbers.iter().enumerate() {
@@ -39,8 +47,11 @@ pub fn write_numbers<K: Sink>(out: &mut K, numbers: &[Option<i64>]) -> Result<()
 
 // A comma, unless the item at the place `at` is the first of its line.
 fn write_comma<K: Sink>(out: &mut K, at: usize) -> Result<(), Failed>
-    ensures written { OnOk result (K.held out.new ≡ append_known (K.held out.old) (comma_before at)) }
+    ensures written { OnOk result
+        (K.held out.new ≡ append_known (K.held out.old) (comma_before at)) }
     ensures failed { OnErr result (WroteLess (K.held out.old) (K.held out.new) (comma_before at)) }
+    ensures keeps { K.keeps out.old out.new }
+    ensures faultless { OnOk result (K.faults out.new ≡ K.faults out.old) }
     ensures cause { HasCause (K.faults out.old) (K.faults out.new) result }
 {
     if at == 0 {
@@ -51,8 +62,12 @@ fn write_comma<K: Sink>(out: &mut K, at: usize) -> Result<(), Failed>
 
 // The value at the place `at` of its line.
 fn write_field<K: Sink>(out: &mut K, at: usize, value: &Value) -> Result<(), Failed>
-    ensures written { OnOk result (K.held out.new ≡ append_known (K.held out.old) (comma_before at ++ value_text value.now)) }
-    ensures failed { OnErr result (WroteLess (K.held out.old) (K.held out.new) (comma_before at ++ value_text value.now)) }
+    ensures written { OnOk result
+        (K.held out.new ≡ append_known (K.held out.old) (comma_before at ++ value_text value.now)) }
+    ensures failed { OnErr result
+        (WroteLess (K.held out.old) (K.held out.new) (comma_before at ++ value_text value.now)) }
+    ensures keeps { K.keeps out.old out.new }
+    ensures faultless { OnOk result (K.faults out.new ≡ K.faults out.old) }
     ensures cause { HasCause (K.faults out.old) (K.faults out.new) result }
 {
     write_comma(out, at)?;
@@ -64,8 +79,12 @@ fn write_field<K: Sink>(out: &mut K, at: usize, value: &Value) -> Result<(), Fai
 
 // The bytes between two such marks.
 fn write_between<K: Sink>(out: &mut K, mark: &[u8], bytes: &[u8]) -> Result<(), Failed>
-    ensures written { OnOk result (K.held out.new ≡ append_known (K.held out.old) (mark.now ++ bytes.now ++ mark.now)) }
-    ensures failed { OnErr result (WroteLess (K.held out.old) (K.held out.new) (mark.now ++ bytes.now ++ mark.now)) }
+    ensures written { OnOk result
+        (K.held out.new ≡ append_known (K.held out.old) (mark.now ++ bytes.now ++ mark.now)) }
+    ensures failed { OnErr result
+        (WroteLess (K.held out.old) (K.held out.new) (mark.now ++ bytes.now ++ mark.now)) }
+    ensures keeps { K.keeps out.old out.new }
+    ensures faultless { OnOk result (K.faults out.new ≡ K.faults out.old) }
     ensures cause { HasCause (K.faults out.old) (K.faults out.new) result }
 {
     write_all(out, mark)?;
@@ -75,8 +94,12 @@ fn write_between<K: Sink>(out: &mut K, mark: &[u8], bytes: &[u8]) -> Result<(), 
 
 // The aggregate at the place `at` of its line.
 fn write_aggregate<K: Sink>(out: &mut K, at: usize, number: &Option<i64>) -> Result<(), Failed>
-    ensures written { OnOk result (K.held out.new ≡ append_known (K.held out.old) (comma_before at ++ number_text number.now)) }
-    ensures failed { OnErr result (WroteLess (K.held out.old) (K.held out.new) (comma_before at ++ number_text number.now)) }
+    ensures written { OnOk result
+        (K.held out.new ≡ append_known (K.held out.old) (comma_before at ++ number_text number.now)) }
+    ensures failed { OnErr result
+        (WroteLess (K.held out.old) (K.held out.new) (comma_before at ++ number_text number.now)) }
+    ensures keeps { K.keeps out.old out.new }
+    ensures faultless { OnOk result (K.faults out.new ≡ K.faults out.old) }
     ensures cause { HasCause (K.faults out.old) (K.faults out.new) result }
 {
     write_comma(out, at)?;

@@ -136,21 +136,21 @@ module _ (size_of : List ℕ → Option ℕ) (asks : List ℕ → ℕ → ℕ �
   change_few few at n need w = let e = catalog_few few at n need w in omega (arith, e)
 
   -- the rows of a relation, and the keys of an index, are few
-  rows_short : (db : Database) → IsStoreOf size_of asks room db → (slot : ℕ) (r : Relation) → get_or db.relations slot None ≡ Some r → rows_size r ≤ 4194304
+  rows_short : (db : Database) → IsStoreOf size_of db → (slot : ℕ) (r : Relation) → get_or db.relations slot None ≡ Some r → rows_size r ≤ 4194304
   rows_short db store slot r e =
       let short = store.short slot r e in
       let few = store.few slot r e in
       let product = mul-le-mul_left (row_length r.schema.attributes) few in
       omega (arith, short, product)
 
-  rows_in_few : (db : Database) → IsStoreOf size_of asks room db → (slot : ℕ) → length (rows_in db slot) ≤ 32768
+  rows_in_few : (db : Database) → IsStoreOf size_of db → (slot : ℕ) → length (rows_in db slot) ≤ 32768
   rows_in_few db store slot = by_relation (get_or db.relations slot None) refl
     where
       by_relation : (o : Option Relation) → get_or db.relations slot None ≡ o → length (option_map_or (λ r. r.rows) o []) ≤ 32768
       by_relation None e = omega arith
       by_relation (Some r) e = store.few slot r e
 
-  keys_few : (db : Database) → IsStoreOf size_of asks room db → (index : Index) → tree_size (keys index.attribute (rows_in db index.relation)) ≤ 4194304
+  keys_few : (db : Database) → IsStoreOf size_of db → (index : Index) → tree_size (keys index.attribute (rows_in db index.relation)) ≤ 4194304
   keys_few db store index =
       let rows : List Row = rows_in db index.relation in
       let few = rows_in_few db store index.relation in
@@ -158,13 +158,13 @@ module _ (size_of : List ℕ → Option ℕ) (asks : List ℕ → ℕ → ℕ �
       let same : length (keys index.attribute rows) ≡ length rows = length-map rows _ in
       omega (arith, few, bound, same)
 
-  rows_few : (db : Database) → IsStoreOf size_of asks room db → AsksFew size_of asks room → (name : List ℕ) (s : ℕ × Relation) → relation_named db name ≡ Some s
+  rows_few : (db : Database) → IsStoreOf size_of db → AsksFew size_of asks room → (name : List ℕ) (s : ℕ × Relation) → relation_named db name ≡ Some s
       → (w b need : ℕ) → b ≤ 4096 → asks (rows_file s.0) w b need → need ≤ max 16 (2 * fit (rows_size s.1))
   rows_few db store few name s e w b need small h =
       let there = named_stands db name s e in
       few.few (rows_file s.0) w b need (rows_size s.1) small (rows_short db store s.0 s.1 there) (store.rows s.0 s.1 there) h
 
-  tree_few : (db : Database) → IsStoreOf size_of asks room db → AsksFew size_of asks room → (relation : ℕ) (values : List Value) (need slot : ℕ) (o : Option Index)
+  tree_few : (db : Database) → IsStoreOf size_of db → AsksFew size_of asks room → (relation : ℕ) (values : List Value) (need slot : ℕ) (o : Option Index)
       → get_or db.indexes slot None ≡ o → WantsTree size_of asks room relation values need slot o → need ≤ most_of (tree_sizes db (indexes_of db relation))
   tree_few db store few relation values need slot None e h = absurd h
   tree_few db store few relation values need slot (Some index) e h =
@@ -174,7 +174,7 @@ module _ (size_of : List ℕ → Option ℕ) (asks : List ℕ → ℕ → ℕ �
       most_has need size (tree_sizes db (indexes_of db relation)) (tree_among db relation db.indexes slot index e h.0 h.1) bound
 
   -- no command asks for more than is counted for it
-  pub wants_at_most : (db : Database) (c : Command) (need : ℕ) → IsStoreOf size_of asks room db → AsksFew size_of asks room → Wants size_of asks room db c need → need ≤ most db c
+  pub wants_at_most : (db : Database) (c : Command) (need : ℕ) → IsStoreOf size_of db → AsksFew size_of asks room → Wants size_of asks room db c need → need ≤ most db c
   wants_at_most db (CreateRelation name) need store few (inl w) = let e = w.1 in omega (arith, e)
   wants_at_most db (CreateRelation name) need store few (inr (inl w)) = with_some (free_from 0 db.relations) w (λ slot e h. change_few few (176 * slot) 176 need h)
   wants_at_most db (CreateRelation name) need store few (inr (inr e)) = omega (arith, e)

@@ -86,15 +86,6 @@ module _ (size_of : List ℕ → Option ℕ) (asks : List ℕ → ℕ → ℕ �
 
   -- ---- what the store of files answers
 
-  -- a relation has at most 32,768 rows of at most 128 bytes, and the files of rows and of hash trees have the sizes of the
-  -- database's
-  pub record IsStoreOf (db : Database) : Type 0 where
-    pub short : (slot : ℕ) (r : Relation) → get_or db.relations slot None ≡ Some r → row_length r.schema.attributes ≤ 128
-    pub few : (slot : ℕ) (r : Relation) → get_or db.relations slot None ≡ Some r → length r.rows ≤ 32768
-    pub rows : (slot : ℕ) (r : Relation) → get_or db.relations slot None ≡ Some r → size_of (rows_file slot) ≡ Some (rows_size r)
-    pub trees : (slot : ℕ) (index : Index) → get_or db.indexes slot None ≡ Some index → index.kind ≡ MaxHeap
-        → size_of (tree_file slot) ≡ Some (tree_size (keys index.attribute (rows_in db index.relation)))
-
   -- for at most 4,096 bytes more a file is grown to at most twice the pages that its size needs, and a log has 16; a key that
   -- comes into a tree adds at most so many bytes
   pub record AsksFew : Type 0 where
@@ -102,6 +93,15 @@ module _ (size_of : List ℕ → Option ℕ) (asks : List ℕ → ℕ → ℕ �
     pub few : (name : List ℕ) (w b need size : ℕ) → b ≤ 4096 → size ≤ 4194304 → size_of name ≡ Some size
         → asks name w b need → need ≤ max 16 (2 * fit size)
     pub catalog : (w b need : ℕ) → asks catalog_file w b need → need ≤ 16
+
+-- a relation has at most 32,768 rows of at most 128 bytes, and the files of rows and of hash trees have the sizes of the
+-- database's
+pub record IsStoreOf (size_of : List ℕ → Option ℕ) (db : Database) : Type 0 where
+  pub short : (slot : ℕ) (r : Relation) → get_or db.relations slot None ≡ Some r → row_length r.schema.attributes ≤ 128
+  pub few : (slot : ℕ) (r : Relation) → get_or db.relations slot None ≡ Some r → length r.rows ≤ 32768
+  pub rows : (slot : ℕ) (r : Relation) → get_or db.relations slot None ≡ Some r → size_of (rows_file slot) ≡ Some (rows_size r)
+  pub trees : (slot : ℕ) (index : Index) → get_or db.indexes slot None ≡ Some index → index.kind ≡ MaxHeap
+      → size_of (tree_file slot) ≡ Some (tree_size (keys index.attribute (rows_in db index.relation)))
 
 -- ---- the same of files by their ids
 

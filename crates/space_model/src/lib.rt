@@ -22,7 +22,7 @@ pub fn reads_need_nothing()
 /// No command asks the files that hold a database for an extent of more pages than are counted for it.
 pub fn commands_want_at_most<V: Files>(files: &V)
     ensures { (room : ℕ → ℤ → ℕ × ℕ) (db : Database) (command : Command) (need : ℕ)
-        → IsStoreOf (size_in (V.state files.now).files) (asks_in (V.asks files.now) (V.state files.now).files) room db
+        → IsStoreOf (size_in (V.state files.now).files) db
         → AsksFew (size_in (V.state files.now).files) (asks_in (V.asks files.now) (V.state files.now).files) room
         → Wants (size_in (V.state files.now).files) (asks_in (V.asks files.now) (V.state files.now).files) room db command need
         → need ≤ most db command }

@@ -1,18 +1,23 @@
 -- The keys of a column are the numbers of its attribute.
-use Rattle.std.proofs.Common.{◌≡◌, refl, sym, ap, ◌∙◌, inl, inr, ℕ, zero, suc, get_or, ◌+◌, ◌-◌, ◌*◌, ◌<◌, ◌≤◌, true, false, List, [], ◌∷◌, length, take, drop, Some, None, arith, w16, w32, w64}
+use Rattle.std.proofs.Common.{◌≡◌, refl, sym, ap, subst, ◌∙◌, IsTrue, inl, inr, ℕ, zero, suc, get_or, ◌+◌, ◌-◌, ◌*◌, ◌<◌, ◌≤◌, true, false, List, [], ◌∷◌, length, take, drop, Some, None, arith, w16, w32, w64}
 use Rattle.std.specs.Prelude.{Option, slice_get, slice_range}
 use Rattle.std.specs.Option.{option_map_or}
 use Rattle.std.specs.Int.{cast_signed}
 use Rattle.std.proofs.lemmas.List.{drop-append-le, drop-drop, drop-take, length-append, length-drop, take-append-le, take-take}
 use Rattle.afl_base.specs.Fields.{i32_at, i64_at}
-use Rattle.afl_base.specs.KeyColumn.{IsWidth, number_at}
+use Rattle.afl_base.specs.Files.{State, Table, bytes_at}
+use Rattle.afl_base.specs.KeyColumn.{HasField, IsWidth, key_of as key_of_column, number_at}
 use Rattle.db_model.specs.declared.schemas.Attribute.{Attribute}
 use Rattle.db_model.specs.declared.schemas.Domain.{Domain}
 use Rattle.db_model.specs.declared.schemas.Domain.TheVariants.{Int, Long, Time, Str}
 use Rattle.db_model.specs.Row.{field_bytes, field_of, fields_bytes, fields_length, mark, row_at, row_bytes, row_length, tuple_of, width}
 use Rattle.db_model.specs.Step.{key_of}
 use Rattle.db_model.proofs.Decoded.{field_inside, field_written, length-row_read, number_front, time_written, value_read}
-use Rattle.tuple_file.specs.Column.{IsNumber, is_number}
+use Rattle.tuple_file.specs.Column.{IsNumber, column_of, is_number}
+use Rattle.tuple_file.specs.Tuples.{HoldsRows, row, rows, slots}
+use Rattle.tuple_file.specs.declared.tuples.Tuples.{Tuples}
+use Rattle.tuple_file.proofs.Slots.{length-rows, slot_inside}
+use Rattle.tuple_file.proofs.Written.{written_each, written_first}
 
 -- the attribute at the place
 pub attribute_at : (attributes : List Attribute) (place : ℕ) → IsNumber attributes place → (a : Attribute) × (slice_get attributes place ≡ Some a) × (is_number a.domain ≡ true)
@@ -81,3 +86,34 @@ pub item_at : (attributes : List Attribute) (place : ℕ) (a b : Attribute) → 
 item_at [] place a b is here = absurd (cc)
 item_at (x ∷ attributes) zero a b is here = let same : x ≡ a = cc in here ∙ same
 item_at (x ∷ attributes) (suc place) a b is here = item_at attributes place a b is here
+
+-- ---- the column of an attribute
+
+wide : (t : Tuples) (place : ℕ) (a : Attribute) → slice_get t.schema.attributes place ≡ Some a → (column_of t place).width ≡ width a.domain
+wide t place a e = ap (λ (o : Option Attribute). option_map_or (λ (x : Attribute). width x.domain) o 0) e
+
+pub column_width : (t : Tuples) (place : ℕ) → IsNumber t.schema.attributes place → IsWidth (column_of t place).width
+column_width t place number =
+    let found = attribute_at t.schema.attributes place number in
+    subst (λ (n : ℕ). IsWidth n) (sym (wide t place found.0 found.1)) (is_width found.0.domain found.2)
+
+pub column_field : (state : State) (t : Tuples) (place slot : ℕ) → IsNumber t.schema.attributes place → HoldsRows state t → slot < slots state.files t → HasField state (column_of t place) slot
+column_field state t place slot number holds below =
+    let found = attribute_at t.schema.attributes place number in
+    let inside = field_inside t.schema.attributes place found.0 found.1 in
+    let slot_end = slot_inside (row_length t.schema.attributes) slot (slots state.files t) below in
+    record { live = holds.file.live; field = omega (arith, wide t place found.0 found.1, inside, slot_end, holds.whole) }
+
+pub column_key : (state : State) (t : Tuples) (place slot : ℕ) → IsNumber t.schema.attributes place → HoldsRows state t → IsTrue state.tells → slot < slots state.files t
+    → key_of_column state (column_of t place) slot ≡ key_of (slice_get (row state.files t slot).tuple place)
+column_key state t place slot number holds told below =
+    let attributes = t.schema.attributes in
+    let bytes = bytes_at state.files t.file in
+    let found = attribute_at attributes place number in
+    let all = holds.written told in
+    let one = written_each attributes bytes (slots state.files t) slot holds.whole below (written_first attributes bytes (slots state.files t) slot holds.whole (omega (arith, below)) all) all in
+    ap (λ (n : ℕ). number_at bytes (row_length attributes * slot + fields_length (take place attributes)) n) (wide t place found.0 found.1)
+    ∙ key_in_slot attributes bytes slot place found.0 found.1 found.2 one
+
+pub rows_counted : (files : Table) (t : Tuples) → length (rows files t) ≡ slots files t
+rows_counted files t = length-rows t.schema.attributes (bytes_at files t.file)

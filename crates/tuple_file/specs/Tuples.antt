@@ -1,10 +1,11 @@
 -- The rows of a relation in a file, slot by slot.
-use Rattle.std.specs.Prelude.{◌≡◌, ℕ, ◌*◌, ◌<◌, ◌≤◌, Bool, true, not, List, [], ◌∷◌, filter, length, IsSome, IsTrue, MatchBool, ⊤}
+use Rattle.std.specs.Prelude.{◌≡◌, ℕ, ◌+◌, ◌*◌, ◌<◌, ◌≤◌, Bool, true, not, List, [], ◌∷◌, ◌++◌, filter, length, IsSome, IsTrue, MatchBool, slice_range, ⊤}
 use Rattle.afl_base.specs.declared.kind.Kind.TheVariants.{Doubling}
+use Rattle.afl_base.specs.Fields.{put_at}
 use Rattle.afl_base.specs.Files.{Becomes, IsLive, State, Table, bytes_at, draft_in, file_at, size_at}
 use Rattle.db_model.specs.declared.schemas.Attribute.{Attribute}
 use Rattle.db_model.specs.declared.values.Value.{Value}
-use Rattle.db_model.specs.Row.{Row, row_at, row_length, rows_bytes, rows_of, slots_in}
+use Rattle.db_model.specs.Row.{Row, fields_length, row_at, row_bytes, row_length, rows_bytes, rows_of, slots_in}
 use Rattle.db_model.specs.Step.{slots_limit}
 use Rattle.tuple_file.specs.declared.tuples.Tuples.{Tuples}
 
@@ -44,6 +45,29 @@ IsLiveTuple files tuples tuple = (slot : ℕ) × (slot < slots files tuples) × 
 -- no file but this one has changed, and this one in its bytes and its room alone
 abbrev pub OnlyRowsChange : State → State → Tuples → Type 0
 OnlyRowsChange old new tuples = Becomes old new tuples.file (size_at new.files tuples.file) (bytes_at new.files tuples.file)
+
+-- a row is added behind those of the file
+abbrev pub AppendsRow : (old new : State) → Tuples → Row → Type 0
+AppendsRow old new tuples row =
+    Becomes old new tuples.file (size_at old.files tuples.file + row_length tuples.schema.attributes)
+    (bytes_at old.files tuples.file ++ row_bytes tuples.schema.attributes row)
+
+-- the mark of a removed row stands in the slot
+abbrev pub MarksRow : (old new : State) → Tuples → ℕ → Type 0
+MarksRow old new tuples slot =
+    Becomes old new tuples.file (size_at old.files tuples.file)
+    (put_at (bytes_at old.files tuples.file) (row_length tuples.schema.attributes * slot + fields_length tuples.schema.attributes) (3 ∷ []))
+
+-- the file has the slot
+abbrev pub IsInFile : Table → Tuples → ℕ → Type 0
+IsInFile files tuples slot =
+    row_length tuples.schema.attributes * slot + row_length tuples.schema.attributes ≤ size_at files tuples.file
+
+-- the bytes of the row in a slot
+abbrev pub slot_bytes : Table → Tuples → ℕ → List ℕ
+slot_bytes files tuples slot =
+    slice_range (bytes_at files tuples.file) (row_length tuples.schema.attributes * slot)
+    (row_length tuples.schema.attributes * slot + row_length tuples.schema.attributes)
 
 -- the bytes are whole rows, at most as many as the version has slots, and none of a relation without attributes
 pub record AreRows (version : ℕ) (attributes : List Attribute) (bytes : List ℕ) : Type 0 where

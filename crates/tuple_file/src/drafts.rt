@@ -11,12 +11,13 @@ ghost use Rattle.afl_base.specs.FileErrors.{HasFileCause, OnSpace};
 ghost use Rattle.afl_base.specs.Files.{Commits, Drafts, IsLive, Keeps, draft_in, file_at, size_at};
 ghost use Rattle.afl_base.specs.Fit.{fit};
 ghost use Rattle.db_model.specs.Row.{AllRowsSuit, AllSuit, Row, row_bytes, row_length, rows_bytes};
+ghost use Rattle.tuple_file.specs.Drafts.{HasSlot, IsZeroDraft, IsZeroSlot, PutsRow};
 ghost use Rattle.tuple_file.specs.Tuples.{AreAnswered, HoldsRows, IsAnswered, IsLiveTuple, IsRowFile, OnlyDraftChanges, OnlyRowsChange, live_rows, row, rows, slots};
 
-use crate::rows::{put_row, row_length};
+use crate::rows::put_row;
 use crate::tuples::Tuples;
 use afl_base::{Failed, FileError, Files};
-use db_model::Tuple;
+use db_model::{Tuple, row_length};
 
 impl Tuples {
     /// Asks `removed` once about each live row, and removes those for which it answers true. Their
@@ -30,15 +31,25 @@ impl Tuples {
     ) -> Result<(), FileError>
         requires holds { HoldsRows (V.state files.old) self.now }
         requires idle { (V.state files.old).draft ≡ None }
-        requires callable { (tuple : _) → AllSuit self.now.schema.attributes tuple.now → (IsTrue (V.state files.old).tells → IsLiveTuple (V.state files.old).files self.now tuple.now) → F.pre removed tuple }
-        ensures rows { IsTrue (V.state files.old).tells → OnOk result (AreAnswered (FnReturnsAt F.Fn removed) (rows (V.state files.old).files self.now) (rows (V.state files.new).files self.now)) }
-        ensures suit { IsTrue (V.state files.old).tells → OnOk result (AllRowsSuit self.now.schema.attributes (rows (V.state files.new).files self.now)) }
-        ensures slots { OnOk result (slots (V.state files.new).files self.now ≡ slots (V.state files.old).files self.now) }
+        requires callable { (tuple : _) → AllSuit self.now.schema.attributes tuple.now
+            → (IsTrue (V.state files.old).tells
+            → IsLiveTuple (V.state files.old).files self.now tuple.now)
+            → F.pre removed tuple }
+        ensures rows { IsTrue (V.state files.old).tells
+            → OnOk result (AreAnswered (FnReturnsAt F.Fn removed) (rows (V.state files.old).files self.now)
+            (rows (V.state files.new).files self.now)) }
+        ensures suit { IsTrue (V.state files.old).tells
+            → OnOk result (AllRowsSuit self.now.schema.attributes
+            (rows (V.state files.new).files self.now)) }
+        ensures slots { OnOk result (slots (V.state files.new).files self.now
+            ≡ slots (V.state files.old).files self.now) }
         ensures holds { OnOk result (HoldsRows (V.state files.new) self.now) }
         ensures only { OnOk result (OnlyRowsChange (V.state files.old) (V.state files.new) self.now) }
-        ensures need { OnSpace result (λ need. need ≡ fit (size_at (V.state files.old).files self.now.file)) }
+        ensures need { OnSpace result (λ need. need
+            ≡ fit (size_at (V.state files.old).files self.now.file)) }
         ensures lacks { OnSpace result (λ need. V.lacks files.new need) }
         ensures kept { OnSpace result (λ _. Keeps (V.state files.old) (V.state files.new)) }
+        ensures store { length (V.state files.new).store ≡ length (V.state files.old).store }
         ensures cause { HasFileCause (V.faults files.old) (V.faults files.new) result }
     {
         let slots = self.count(files);
@@ -58,12 +69,22 @@ impl Tuples {
     ) -> Result<(), Failed>
         requires holds { HoldsRows (V.state files.old) self.now }
         requires count { count ≡ slots (V.state files.old).files self.now }
-        requires callable { (tuple : _) → AllSuit self.now.schema.attributes tuple.now → (IsTrue (V.state files.old).tells → IsLiveTuple (V.state files.old).files self.now tuple.now) → F.pre removed.now tuple }
+        requires callable { (tuple : _) → AllSuit self.now.schema.attributes tuple.now
+            → (IsTrue (V.state files.old).tells
+            → IsLiveTuple (V.state files.old).files self.now tuple.now)
+            → F.pre removed.now tuple }
         requires begun { IsSome (V.state files.old).draft }
-        requires size { length (draft_in (V.state files.old)).bytes ≡ size_at (V.state files.old).files self.now.file }
-        requires zeros { IsTrue (V.state files.old).tells → (draft_in (V.state files.old)).bytes ≡ replicate (size_at (V.state files.old).files self.now.file) 0 }
-        ensures rows { IsTrue (V.state files.old).tells → OnOk result ((news : List Row) × AreAnswered (FnReturnsAt F.Fn removed.now) (rows (V.state files.old).files self.now) news × AllRowsSuit self.now.schema.attributes news × ((draft_in (V.state files.new)).bytes ≡ rows_bytes self.now.schema.attributes news)) }
+        requires size { length (draft_in (V.state files.old)).bytes
+            ≡ size_at (V.state files.old).files self.now.file }
+        requires zeros { IsTrue (V.state files.old).tells
+            → IsZeroDraft (V.state files.old) (size_at (V.state files.old).files self.now.file) }
+        ensures rows { IsTrue (V.state files.old).tells
+            → OnOk result ((news : List Row)
+            × AreAnswered (FnReturnsAt F.Fn removed.now) (rows (V.state files.old).files self.now) news
+            × AllRowsSuit self.now.schema.attributes news
+            × ((draft_in (V.state files.new)).bytes ≡ rows_bytes self.now.schema.attributes news)) }
         ensures only { OnOk result (OnlyDraftChanges (V.state files.old) (V.state files.new)) }
+        ensures store { length (V.state files.new).store ≡ length (V.state files.old).store }
         ensures cause { HasCause (V.faults files.old) (V.faults files.new) result }
     {
         for slot in 0..count {
@@ -81,12 +102,20 @@ impl Tuples {
     ) -> Result<(), Failed>
         requires holds { HoldsRows (V.state files.old) self.now }
         requires slot { slot < slots (V.state files.old).files self.now }
-        requires callable { (tuple : _) → AllSuit self.now.schema.attributes tuple.now → (IsTrue (V.state files.old).tells → IsLiveTuple (V.state files.old).files self.now tuple.now) → F.pre removed.now tuple }
+        requires callable { (tuple : _) → AllSuit self.now.schema.attributes tuple.now
+            → (IsTrue (V.state files.old).tells
+            → IsLiveTuple (V.state files.old).files self.now tuple.now)
+            → F.pre removed.now tuple }
         requires begun { IsSome (V.state files.old).draft }
-        requires range { row_length self.now.schema.attributes * slot + row_length self.now.schema.attributes ≤ length (draft_in (V.state files.old)).bytes }
-        requires zeros { IsTrue (V.state files.old).tells → slice_range (draft_in (V.state files.old)).bytes (row_length self.now.schema.attributes * slot) (row_length self.now.schema.attributes * slot + row_length self.now.schema.attributes) ≡ replicate (row_length self.now.schema.attributes) 0 }
-        ensures row { IsTrue (V.state files.old).tells → OnOk result ((new : Row) × IsAnswered (FnReturnsAt F.Fn removed.now) (row (V.state files.old).files self.now slot) new × AllSuit self.now.schema.attributes new.tuple × ((draft_in (V.state files.new)).bytes ≡ put_at (draft_in (V.state files.old)).bytes (row_length self.now.schema.attributes * slot) (row_bytes self.now.schema.attributes new))) }
+        requires range { HasSlot (V.state files.old) self.now slot }
+        requires zeros { IsTrue (V.state files.old).tells → IsZeroSlot (V.state files.old) self.now slot }
+        ensures row { IsTrue (V.state files.old).tells
+            → OnOk result ((new : Row)
+            × IsAnswered (FnReturnsAt F.Fn removed.now) (row (V.state files.old).files self.now slot) new
+            × AllSuit self.now.schema.attributes new.tuple
+            × PutsRow (V.state files.old) (V.state files.new) self.now slot new) }
         ensures only { OnOk result (OnlyDraftChanges (V.state files.old) (V.state files.new)) }
+        ensures store { length (V.state files.new).store ≡ length (V.state files.old).store }
         ensures cause { HasCause (V.faults files.old) (V.faults files.new) result }
     {
         let mut tuple = Tuple::new();
@@ -103,15 +132,25 @@ impl Tuples {
     pub fn pack<V: Files>(&self, files: &mut V) -> Result<(), FileError>
         requires holds { HoldsRows (V.state files.old) self.now }
         requires idle { (V.state files.old).draft ≡ None }
-        ensures rows { IsTrue (V.state files.old).tells → OnOk result (rows (V.state files.new).files self.now ≡ live_rows (V.state files.old).files self.now) }
-        ensures slots { OnOk result (slots (V.state files.new).files self.now ≤ slots (V.state files.old).files self.now) }
+        ensures rows { IsTrue (V.state files.old).tells
+            → OnOk result (rows (V.state files.new).files self.now
+            ≡ live_rows (V.state files.old).files self.now) }
+        ensures slots { OnOk result (slots (V.state files.new).files self.now
+            ≤ slots (V.state files.old).files self.now) }
         ensures holds { OnOk result (HoldsRows (V.state files.new) self.now) }
         ensures only { OnOk result (OnlyRowsChange (V.state files.old) (V.state files.new) self.now) }
-        ensures same { IsTrue (V.state files.old).tells → live_rows (V.state files.old).files self.now ≡ rows (V.state files.old).files self.now → OnOk result (V.state files.new ≡ V.state files.old) }
-        ensures never { IsTrue (V.state files.old).tells → live_rows (V.state files.old).files self.now ≡ rows (V.state files.old).files self.now → IsOkUnless result FileError.Failed }
-        ensures need { IsTrue (V.state files.old).tells → OnSpace result (λ need. need ≡ fit (row_length self.now.schema.attributes * length (live_rows (V.state files.old).files self.now))) }
+        ensures same { IsTrue (V.state files.old).tells
+            → live_rows (V.state files.old).files self.now ≡ rows (V.state files.old).files self.now
+            → OnOk result (V.state files.new ≡ V.state files.old) }
+        ensures never { IsTrue (V.state files.old).tells
+            → live_rows (V.state files.old).files self.now ≡ rows (V.state files.old).files self.now
+            → IsOkUnless result FileError.Failed }
+        ensures need { IsTrue (V.state files.old).tells
+            → OnSpace result (λ need. need ≡ fit (row_length self.now.schema.attributes
+            * length (live_rows (V.state files.old).files self.now))) }
         ensures lacks { OnSpace result (λ need. V.lacks files.new need) }
         ensures kept { OnSpace result (λ _. Keeps (V.state files.old) (V.state files.new)) }
+        ensures store { length (V.state files.new).store ≡ length (V.state files.old).store }
         ensures cause { HasFileCause (V.faults files.old) (V.faults files.new) result }
     {
         let slots = self.count(files);
@@ -130,9 +169,11 @@ impl Tuples {
     fn count_live<V: Files>(&self, files: &mut V, count: u16) -> Result<u16, Failed>
         requires holds { HoldsRows (V.state files.old) self.now }
         requires count { count ≡ slots (V.state files.old).files self.now }
-        ensures live { IsTrue (V.state files.old).tells → IfOk result (λ live. live ≡ length (live_rows (V.state files.old).files self.now)) }
+        ensures live { IsTrue (V.state files.old).tells
+            → IfOk result (λ live. live ≡ length (live_rows (V.state files.old).files self.now)) }
         ensures few { IfOk result (λ live. live ≤ count) }
         ensures same { OnOk result (V.state files.new ≡ V.state files.old) }
+        ensures store { length (V.state files.new).store ≡ length (V.state files.old).store }
         ensures cause { HasCause (V.faults files.old) (V.faults files.new) result }
     {
         let mut live = 0;
@@ -146,8 +187,10 @@ impl Tuples {
     fn is_live<V: Files>(&self, files: &mut V, slot: u16) -> Result<bool, Failed>
         requires holds { HoldsRows (V.state files.old) self.now }
         requires slot { slot < slots (V.state files.old).files self.now }
-        ensures live { IsTrue (V.state files.old).tells → IfOk result (λ live. live ≡ (row (V.state files.old).files self.now slot).live) }
+        ensures live { IsTrue (V.state files.old).tells
+            → IfOk result (λ live. live ≡ (row (V.state files.old).files self.now slot).live) }
         ensures same { OnOk result (V.state files.new ≡ V.state files.old) }
+        ensures store { length (V.state files.new).store ≡ length (V.state files.old).store }
         ensures cause { HasCause (V.faults files.old) (V.faults files.new) result }
     {
         let mut mark = [0];
@@ -164,14 +207,22 @@ impl Tuples {
     fn draft_live<V: Files>(&self, files: &mut V, count: u16, room: u16) -> Result<(), Failed>
         requires holds { HoldsRows (V.state files.old) self.now }
         requires count { count ≡ slots (V.state files.old).files self.now }
-        requires room { IsTrue (V.state files.old).tells → room ≡ length (live_rows (V.state files.old).files self.now) }
+        requires room { IsTrue (V.state files.old).tells → room
+            ≡ length (live_rows (V.state files.old).files self.now) }
         requires few { room ≤ 32768 }
         requires begun { IsSome (V.state files.old).draft }
-        requires size { length (draft_in (V.state files.old)).bytes ≡ row_length self.now.schema.attributes * room }
-        requires zeros { IsTrue (V.state files.old).tells → (draft_in (V.state files.old)).bytes ≡ replicate (row_length self.now.schema.attributes * room) 0 }
-        ensures suit { IsTrue (V.state files.old).tells → OnOk result (AllRowsSuit self.now.schema.attributes (live_rows (V.state files.old).files self.now)) }
-        ensures rows { IsTrue (V.state files.old).tells → OnOk result ((draft_in (V.state files.new)).bytes ≡ rows_bytes self.now.schema.attributes (live_rows (V.state files.old).files self.now)) }
+        requires size { length (draft_in (V.state files.old)).bytes
+            ≡ row_length self.now.schema.attributes * room }
+        requires zeros { IsTrue (V.state files.old).tells
+            → IsZeroDraft (V.state files.old) (row_length self.now.schema.attributes * room) }
+        ensures suit { IsTrue (V.state files.old).tells
+            → OnOk result (AllRowsSuit self.now.schema.attributes
+            (live_rows (V.state files.old).files self.now)) }
+        ensures rows { IsTrue (V.state files.old).tells
+            → OnOk result ((draft_in (V.state files.new)).bytes
+            ≡ rows_bytes self.now.schema.attributes (live_rows (V.state files.old).files self.now)) }
         ensures only { OnOk result (OnlyDraftChanges (V.state files.old) (V.state files.new)) }
+        ensures store { length (V.state files.new).store ≡ length (V.state files.old).store }
         ensures cause { HasCause (V.faults files.old) (V.faults files.new) result }
     {
         let mut written = 0;
@@ -196,12 +247,23 @@ impl Tuples {
         requires written { written ≤ room }
         requires few { room ≤ 32768 }
         requires begun { IsSome (V.state files.old).draft }
-        requires size { length (draft_in (V.state files.old)).bytes ≡ row_length self.now.schema.attributes * room }
-        requires zeros { IsTrue (V.state files.old).tells → written < room → slice_range (draft_in (V.state files.old)).bytes (row_length self.now.schema.attributes * written) (row_length self.now.schema.attributes * written + row_length self.now.schema.attributes) ≡ replicate (row_length self.now.schema.attributes) 0 }
-        ensures live { IsTrue (V.state files.old).tells → written < room → (row (V.state files.old).files self.now slot).live ≡ true → IfOk result (λ now. (now ≡ written + 1) × AllSuit self.now.schema.attributes (row (V.state files.old).files self.now slot).tuple × ((draft_in (V.state files.new)).bytes ≡ put_at (draft_in (V.state files.old)).bytes (row_length self.now.schema.attributes * written) (row_bytes self.now.schema.attributes (row (V.state files.old).files self.now slot)))) }
-        ensures removed { IsTrue (V.state files.old).tells → (row (V.state files.old).files self.now slot).live ≡ false → IfOk result (λ now. (now ≡ written) × ((draft_in (V.state files.new)).bytes ≡ (draft_in (V.state files.old)).bytes)) }
+        requires size { length (draft_in (V.state files.old)).bytes
+            ≡ row_length self.now.schema.attributes * room }
+        requires zeros { IsTrue (V.state files.old).tells
+            → written < room → IsZeroSlot (V.state files.old) self.now written }
+        ensures live { IsTrue (V.state files.old).tells → written < room
+            → (row (V.state files.old).files self.now slot).live ≡ true
+            → IfOk result (λ now. (now ≡ written + 1)
+            × AllSuit self.now.schema.attributes (row (V.state files.old).files self.now slot).tuple
+            × PutsRow (V.state files.old) (V.state files.new) self.now written
+            (row (V.state files.old).files self.now slot)) }
+        ensures removed { IsTrue (V.state files.old).tells
+            → (row (V.state files.old).files self.now slot).live ≡ false
+            → IfOk result (λ now. (now ≡ written)
+            × ((draft_in (V.state files.new)).bytes ≡ (draft_in (V.state files.old)).bytes)) }
         ensures few { IfOk result (λ now. now ≤ room) }
         ensures only { OnOk result (OnlyDraftChanges (V.state files.old) (V.state files.new)) }
+        ensures store { length (V.state files.new).store ≡ length (V.state files.old).store }
         ensures cause { HasCause (V.faults files.old) (V.faults files.new) result }
     {
         let mut tuple = Tuple::new();
@@ -218,10 +280,12 @@ impl Tuples {
         requires file { IsRowFile (V.state files.old).files self.now }
         requires idle { (V.state files.old).draft ≡ None }
         requires size { size ≤ 4194304 }
-        ensures begun { OnOk result (Drafts (V.state files.old) (V.state files.new) (file_at (V.state files.old).files self.now.file).name size (replicate size 0)) }
+        ensures begun { OnOk result (Drafts (V.state files.old) (V.state files.new)
+            (file_at (V.state files.old).files self.now.file).name size (replicate size 0)) }
         ensures need { OnSpace result (λ need. need ≡ fit size) }
         ensures lacks { OnSpace result (λ need. V.lacks files.new need) }
         ensures kept { OnSpace result (λ _. Keeps (V.state files.old) (V.state files.new)) }
+        ensures store { length (V.state files.new).store ≡ length (V.state files.old).store }
         ensures cause { HasFileCause (V.faults files.old) (V.faults files.new) result }
     {
         let name = files.name(self.file);
@@ -233,9 +297,14 @@ impl Tuples {
     fn commit<V: Files>(&self, files: &mut V) -> Result<(), Failed>
         requires live { IsLive (V.state files.old).files self.now.file }
         requires begun { IsSome (V.state files.old).draft }
-        requires name { (draft_in (V.state files.old)).name ≡ (file_at (V.state files.old).files self.now.file).name }
-        requires last { IsTrue (V.state files.old).tells → 1 ≤ length (draft_in (V.state files.old)).bytes → slice_index (draft_in (V.state files.old)).bytes (length (draft_in (V.state files.old)).bytes - 1) ≢ 0 }
+        requires name { (draft_in (V.state files.old)).name
+            ≡ (file_at (V.state files.old).files self.now.file).name }
+        requires last { IsTrue (V.state files.old).tells
+            → 1 ≤ length (draft_in (V.state files.old)).bytes
+            → slice_index (draft_in (V.state files.old)).bytes (length (draft_in (V.state files.old)).bytes - 1)
+            ≢ 0 }
         ensures committed { OnOk result (Commits (V.state files.old) (V.state files.new) self.now.file) }
+        ensures store { length (V.state files.new).store ≡ length (V.state files.old).store }
         ensures cause { HasCause (V.faults files.old) (V.faults files.new) result }
     {
         files.draft_commit()?;
@@ -253,11 +322,14 @@ impl Tuples {
         requires short { row_length self.now.schema.attributes ≤ 128 }
         requires suits { AllSuit self.now.schema.attributes tuple.now }
         requires begun { IsSome (V.state files.old).draft }
-        requires range { row_length self.now.schema.attributes * before + row_length self.now.schema.attributes ≤ length (draft_in (V.state files.old)).bytes }
+        requires range { HasSlot (V.state files.old) self.now before }
         requires few { before ≤ 32767 }
-        requires zeros { IsTrue (V.state files.old).tells → slice_range (draft_in (V.state files.old)).bytes (row_length self.now.schema.attributes * before) (row_length self.now.schema.attributes * before + row_length self.now.schema.attributes) ≡ replicate (row_length self.now.schema.attributes) 0 }
-        ensures written { IsTrue (V.state files.old).tells → OnOk result ((draft_in (V.state files.new)).bytes ≡ put_at (draft_in (V.state files.old)).bytes (row_length self.now.schema.attributes * before) (row_bytes self.now.schema.attributes (record { tuple = tuple.now; live = live }))) }
+        requires zeros { IsTrue (V.state files.old).tells → IsZeroSlot (V.state files.old) self.now before }
+        ensures written { IsTrue (V.state files.old).tells
+            → OnOk result (PutsRow (V.state files.old) (V.state files.new) self.now before
+            (record { tuple = tuple.now; live = live })) }
         ensures only { OnOk result (OnlyDraftChanges (V.state files.old) (V.state files.new)) }
+        ensures store { length (V.state files.new).store ≡ length (V.state files.old).store }
         ensures cause { HasCause (V.faults files.old) (V.faults files.new) result }
     {
         let mut bytes = [0; 128];
@@ -272,7 +344,8 @@ impl Tuples {
 // Whether a row is live after `removed` was asked about it.
 fn stays<F: Fn(&Tuple) -> bool>(live: bool, tuple: &Tuple, removed: &F) -> bool
     requires { IsTrue live → (shown : _) → shown.now ≡ tuple.now → F.pre removed.now shown }
-    ensures { MatchBool live ((answer : Bool) × FnReturnsAt F.Fn removed.now tuple.now answer × (result ≡ not answer)) (result ≡ false) }
+    ensures { MatchBool live ((answer : Bool) × FnReturnsAt F.Fn removed.now tuple.now answer
+        × (result ≡ not answer)) (result ≡ false) }
 {
     live && !removed(tuple)
 }

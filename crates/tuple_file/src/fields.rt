@@ -8,21 +8,8 @@ ghost use Rattle.afl_base.specs.Fields.{put_at};
 ghost use Rattle.db_model.specs.Padded.{padded};
 ghost use Rattle.db_model.specs.Row.{field_bytes, field_of, suits, text_or_empty, time_or_least, up_to_zero, width};
 
-use afl_base::{get_i32, get_i64, get_u16, put_i32, put_i64, put_u16};
-use db_model::{Domain, Text, Value};
-
-// The bytes of a field of the domain.
-pub fn width(domain: Domain) -> usize
-    ensures value { result ≡ width domain }
-    ensures short { result ≤ 255 }
-{
-    match domain {
-        Domain::Int => 2,
-        Domain::Long => 4,
-        Domain::Time => 8,
-        Domain::Str(n) => n as usize,
-    }
-}
+use afl_base::{get_i32, get_i64, get_u16, put_bytes, put_i32, put_i64, put_u16};
+use db_model::{Domain, Text, Value, up_to_zero};
 
 // The field that `bytes` begin with, the least value of its domain where they are none.
 #[tactic(auto, unfolding(afl_base::specs::Fields::u16_at, afl_base::specs::Fields::i32_at, afl_base::specs::Fields::i64_at))]
@@ -69,19 +56,6 @@ fn are_zeros(bytes: &[u8]) -> bool
     bytes.iter().all(|byte| *byte == 0)
 }
 
-// The bytes before the first zero.
-fn up_to_zero(bytes: &[u8]) -> &[u8]
-    ensures front { result.now ≡ up_to_zero bytes.now }
-    ensures short { length result.now ≤ length bytes.now }
-{
-    for (i, byte) in bytes.iter().enumerate() {
-        if *byte == 0 {
-            return &bytes[..i];
-        }
-    }
-    bytes
-}
-
 // Puts the field of the value into the bytes from `at` on. All other bytes stay.
 #[tactic(auto, unfolding(afl_base::specs::Fields::u16_bytes, afl_base::specs::Fields::i32_bytes, afl_base::specs::Fields::i64_bytes))]
 pub fn put_field(bytes: &mut [u8], at: usize, domain: Domain, value: &Value)
@@ -106,14 +80,6 @@ fn put_text(bytes: &mut [u8], at: usize, n: usize, text: &[u8])
 {
     put_bytes(bytes, at, text);
     put_zeros(bytes, at + text.len(), n - text.len());
-}
-
-// Puts `part` in the place of the bytes from `at` on.
-fn put_bytes(bytes: &mut [u8], at: usize, part: &[u8])
-    requires { at + length part.now ≤ length bytes.old }
-    ensures { bytes.new ≡ put_at bytes.old at part.now }
-{
-    bytes[at..at + part.len()].copy_from_slice(part);
 }
 
 // Puts `n` zeros in the place of the bytes from `at` on.

@@ -3,6 +3,7 @@
 
 mod drafts;
 mod fields;
+pub mod laws;
 mod rows;
 mod tuples;
 

@@ -5,29 +5,8 @@
 ghost use Rattle.std.specs.Prelude.{◌≡◌, ◌==◌, ◌-◌, ◌+◌, ◌*◌, ◌≤◌, ◌↔◌, IsTrue, length, slice_index};
 ghost use Rattle.db_model.specs.Row.{AllSuit, fields_length, mark, row_bytes, row_length, row_of, tuple_of};
 
-use crate::fields::{get_field, put_field, width};
-use db_model::{Attribute, Attributes, Tuple};
-
-// The bytes of a row: its fields and a mark.
-pub fn row_length(attributes: &Attributes) -> usize
-    ensures value { result ≡ row_length attributes.now }
-    ensures short { result ≤ 2041 }
-{
-    fields_length(attributes.as_slice()) + 1
-}
-
-// The bytes of a row's fields.
-pub fn fields_length(attributes: &[Attribute]) -> usize
-    requires { length attributes.now ≤ 8 }
-    ensures value { result ≡ fields_length attributes.now }
-    ensures short { result ≤ 2040 }
-{
-    let mut length = 0;
-    for attribute in attributes {
-        length += width(attribute.domain);
-    }
-    length
-}
+use crate::fields::{get_field, put_field};
+use db_model::{Attributes, Tuple, width};
 
 // Whether a row is live.
 pub fn is_live(row: &[u8]) -> bool

@@ -10,12 +10,11 @@ ghost use Rattle.afl_base.specs.KeyColumn.{HasField, IsWidth, key_of};
 ghost use Rattle.db_model.specs.Row.{AllSuit, fields_length, row_bytes, row_length, rows_bytes};
 ghost use Rattle.db_model.specs.Step.{key_of as key_of_value, slots_limit};
 ghost use Rattle.tuple_file.specs.Column.{IsNumber, column_of};
-ghost use Rattle.tuple_file.specs.Tuples.{AreRows, HoldsRows, IsRowFile, row, rows, slots};
+ghost use Rattle.tuple_file.specs.Tuples.{AppendsRow, AreRows, HoldsRows, IsInFile, IsRowFile, MarksRow, row, rows, slot_bytes, slots};
 
-use crate::fields::width;
-use crate::rows::{fields_length, get_tuple, is_live, is_row, put_row, row_length};
+use crate::rows::{get_tuple, is_live, is_row, put_row};
 use afl_base::{Failed, FileId, Files, KeyColumn, SlotNo};
-use db_model::{Schema, Tuple};
+use db_model::{Attributes, Schema, Tuple, fields_length, row_length, width};
 
 /// The rows of a relation, in a file of its own that doubles. A row has at most 128 bytes: its fields
 /// in attribute order and a mark, which says whether the row is live or removed. Row number i is the
@@ -27,6 +26,19 @@ pub struct Tuples {
 }
 
 impl Tuples {
+    /// The same file with the same schema.
+    pub fn copy(&self) -> Tuples
+        ensures { result ≡ self.now }
+    {
+        Tuples {
+            file: self.file,
+            schema: Schema {
+                name: self.schema.name,
+                attributes: copy_of(&self.schema.attributes),
+            },
+        }
+    }
+
     /// The number of slots, at most 32,768, those of removed rows among them.
     pub fn count<V: Files>(&self, files: &V) -> u16
         requires { HoldsRows (V.state files.now) self.now }
@@ -47,11 +59,14 @@ impl Tuples {
     ) -> Result<bool, Failed>
         requires holds { HoldsRows (V.state files.old) self.now }
         requires slot { slot < slots (V.state files.old).files self.now }
-        ensures row { IsTrue (V.state files.old).tells → IfOk result (λ live. row (V.state files.old).files self.now slot ≡ record { tuple = into.new; live = live }) }
+        ensures row { IsTrue (V.state files.old).tells
+            → IfOk result (λ live. row (V.state files.old).files self.now slot
+            ≡ record { tuple = into.new; live = live }) }
         ensures suits { OnOk result (AllSuit self.now.schema.attributes into.new) }
         ensures size { OnOk result (length into.new ≡ length self.now.schema.attributes) }
         ensures same { OnOk result (V.state files.new ≡ V.state files.old) }
         ensures reads { V.reads files.new ≤ V.reads files.old + 6 }
+        ensures store { length (V.state files.new).store ≡ length (V.state files.old).store }
         ensures cause { HasCause (V.faults files.old) (V.faults files.new) result }
     {
         self.get(files, slot.number(), into)
@@ -66,11 +81,14 @@ impl Tuples {
     ) -> Result<bool, Failed>
         requires holds { HoldsRows (V.state files.old) self.now }
         requires slot { slot < slots (V.state files.old).files self.now }
-        ensures row { IsTrue (V.state files.old).tells → IfOk result (λ live. row (V.state files.old).files self.now slot ≡ record { tuple = into.new; live = live }) }
+        ensures row { IsTrue (V.state files.old).tells
+            → IfOk result (λ live. row (V.state files.old).files self.now slot
+            ≡ record { tuple = into.new; live = live }) }
         ensures suits { OnOk result (AllSuit self.now.schema.attributes into.new) }
         ensures size { OnOk result (length into.new ≡ length self.now.schema.attributes) }
         ensures same { OnOk result (V.state files.new ≡ V.state files.old) }
         ensures reads { V.reads files.new ≤ V.reads files.old + 6 }
+        ensures store { length (V.state files.new).store ≡ length (V.state files.old).store }
         ensures cause { HasCause (V.faults files.old) (V.faults files.new) result }
     {
         let mut bytes = [0; 128];
@@ -85,11 +103,13 @@ impl Tuples {
         requires live { IsLive (V.state files.old).files self.now.file }
         requires size { length into.old ≡ row_length self.now.schema.attributes }
         requires short { row_length self.now.schema.attributes ≤ 128 }
-        requires range { row_length self.now.schema.attributes * slot + row_length self.now.schema.attributes ≤ size_at (V.state files.old).files self.now.file }
+        requires range { IsInFile (V.state files.old).files self.now slot }
         requires slot { slot < 32768 }
-        ensures bytes { IsTrue (V.state files.old).tells → OnOk result (into.new ≡ slice_range (bytes_at (V.state files.old).files self.now.file) (row_length self.now.schema.attributes * slot) (row_length self.now.schema.attributes * slot + row_length self.now.schema.attributes)) }
+        ensures bytes { IsTrue (V.state files.old).tells
+            → OnOk result (into.new ≡ slot_bytes (V.state files.old).files self.now slot) }
         ensures same { OnOk result (V.state files.new ≡ V.state files.old) }
         ensures reads { V.reads files.new ≤ V.reads files.old + 6 }
+        ensures store { length (V.state files.new).store ≡ length (V.state files.old).store }
         ensures cause { HasCause (V.faults files.old) (V.faults files.new) result }
     {
         let at = row_length(&self.schema.attributes) as u32 * u32::from(slot);
@@ -103,8 +123,12 @@ impl Tuples {
         requires number { IsNumber self.now.schema.attributes attribute }
         ensures column { result ≡ column_of self.now attribute }
         ensures width { IsWidth result.width }
-        ensures field { (state : State) (slot : ℕ) → HoldsRows state self.now → slot < slots state.files self.now → HasField state result slot }
-        ensures key { (state : State) (slot : ℕ) → HoldsRows state self.now → IsTrue state.tells → slot < slots state.files self.now → key_of state result slot ≡ key_of_value (slice_get (row state.files self.now slot).tuple attribute) }
+        ensures field { (state : State) (slot : ℕ) → HoldsRows state self.now
+            → slot < slots state.files self.now → HasField state result slot }
+        ensures key { (state : State) (slot : ℕ) → HoldsRows state self.now
+            → IsTrue state.tells → slot < slots state.files self.now
+            → key_of state result slot
+            ≡ key_of_value (slice_get (row state.files self.now slot).tuple attribute) }
     {
         let place = attribute as usize;
         KeyColumn {
@@ -119,12 +143,20 @@ impl Tuples {
     pub fn append<V: Files>(&self, files: &mut V, tuple: &Tuple) -> Result<(), Failed>
         requires holds { HoldsRows (V.state files.old) self.now }
         requires suits { AllSuit self.now.schema.attributes tuple.now }
-        requires room { row_length self.now.schema.attributes ≤ (file_at (V.state files.old).files self.now.file).room }
-        ensures rows { IsTrue (V.state files.old).tells → OnOk result (rows (V.state files.new).files self.now ≡ rows (V.state files.old).files self.now ++ record { tuple = tuple.now; live = true } ∷ []) }
-        ensures slots { OnOk result (slots (V.state files.new).files self.now ≡ slots (V.state files.old).files self.now + 1) }
-        ensures holds { slots (V.state files.old).files self.now < 32768 → OnOk result (HoldsRows (V.state files.new) self.now) }
-        ensures appended { OnOk result (Becomes (V.state files.old) (V.state files.new) self.now.file (size_at (V.state files.old).files self.now.file + row_length self.now.schema.attributes) (bytes_at (V.state files.old).files self.now.file ++ row_bytes self.now.schema.attributes (record { tuple = tuple.now; live = true }))) }
-        ensures records { OnOk result ((file_at (V.state files.new).files self.now.file).records ≡ (file_at (V.state files.old).files self.now.file).records) }
+        requires room { row_length self.now.schema.attributes
+            ≤ (file_at (V.state files.old).files self.now.file).room }
+        ensures rows { IsTrue (V.state files.old).tells
+            → OnOk result (rows (V.state files.new).files self.now
+            ≡ rows (V.state files.old).files self.now ++ record { tuple = tuple.now; live = true } ∷ []) }
+        ensures slots { OnOk result (slots (V.state files.new).files self.now
+            ≡ slots (V.state files.old).files self.now + 1) }
+        ensures holds { slots (V.state files.old).files self.now < 32768
+            → OnOk result (HoldsRows (V.state files.new) self.now) }
+        ensures appended { OnOk result (AppendsRow (V.state files.old) (V.state files.new) self.now
+            (record { tuple = tuple.now; live = true })) }
+        ensures records { OnOk result ((file_at (V.state files.new).files self.now.file).records
+            ≡ (file_at (V.state files.old).files self.now.file).records) }
+        ensures store { length (V.state files.new).store ≡ length (V.state files.old).store }
         ensures cause { HasCause (V.faults files.old) (V.faults files.new) result }
     {
         let mut bytes = [0; 128];
@@ -140,12 +172,19 @@ impl Tuples {
         requires holds { HoldsRows (V.state files.old) self.now }
         requires slot { slot < slots (V.state files.old).files self.now }
         requires record { 1 ≤ (file_at (V.state files.old).files self.now.file).records }
-        ensures rows { IsTrue (V.state files.old).tells → OnOk result (rows (V.state files.new).files self.now ≡ slice_set (rows (V.state files.old).files self.now) slot (record (row (V.state files.old).files self.now slot) { live = false })) }
+        ensures rows { IsTrue (V.state files.old).tells
+            → OnOk result (rows (V.state files.new).files self.now
+            ≡ slice_set (rows (V.state files.old).files self.now) slot
+            (record (row (V.state files.old).files self.now slot) { live = false })) }
         ensures holds { OnOk result (HoldsRows (V.state files.new) self.now) }
-        ensures slots { OnOk result (slots (V.state files.new).files self.now ≡ slots (V.state files.old).files self.now) }
-        ensures marked { OnOk result (Becomes (V.state files.old) (V.state files.new) self.now.file (size_at (V.state files.old).files self.now.file) (put_at (bytes_at (V.state files.old).files self.now.file) (row_length self.now.schema.attributes * slot + fields_length self.now.schema.attributes) (3 ∷ []))) }
-        ensures records { OnOk result ((file_at (V.state files.new).files self.now.file).records + 1 ≡ (file_at (V.state files.old).files self.now.file).records) }
-        ensures room { OnOk result ((file_at (V.state files.new).files self.now.file).room ≡ (file_at (V.state files.old).files self.now.file).room) }
+        ensures slots { OnOk result (slots (V.state files.new).files self.now
+            ≡ slots (V.state files.old).files self.now) }
+        ensures marked { OnOk result (MarksRow (V.state files.old) (V.state files.new) self.now slot) }
+        ensures records { OnOk result ((file_at (V.state files.new).files self.now.file).records + 1
+            ≡ (file_at (V.state files.old).files self.now.file).records) }
+        ensures room { OnOk result ((file_at (V.state files.new).files self.now.file).room
+            ≡ (file_at (V.state files.old).files self.now.file).room) }
+        ensures store { length (V.state files.new).store ≡ length (V.state files.old).store }
         ensures cause { HasCause (V.faults files.old) (V.faults files.new) result }
     {
         let length = row_length(&self.schema.attributes) as u32;
@@ -162,11 +201,16 @@ impl Tuples {
     pub fn valid<V: Files>(&self, files: &mut V, version: u8) -> Result<bool, Failed>
         requires file { IsRowFile (V.state files.old).files self.now }
         requires version { (version ≡ 1) ⊎ (version ≡ 2) }
-        ensures valid { IsTrue (V.state files.old).tells → IfOk result (λ valid. IsTrue valid ↔ AreRows version self.now.schema.attributes (bytes_at (V.state files.old).files self.now.file)) }
+        ensures valid { IsTrue (V.state files.old).tells
+            → IfOk result (λ valid. IsTrue valid
+            ↔ AreRows version self.now.schema.attributes (bytes_at (V.state files.old).files self.now.file)) }
         ensures holds { IfOk result (λ valid. IsTrue valid → HoldsRows (V.state files.old) self.now) }
-        ensures few { IfOk result (λ valid. IsTrue valid → slots (V.state files.old).files self.now ≤ slots_limit version) }
+        ensures few { IfOk result (λ valid. IsTrue valid
+            → slots (V.state files.old).files self.now ≤ slots_limit version) }
         ensures same { OnOk result (V.state files.new ≡ V.state files.old) }
-        ensures reads { V.reads files.new ≤ V.reads files.old + 6 * slots (V.state files.old).files self.now }
+        ensures reads { V.reads files.new
+            ≤ V.reads files.old + 6 * slots (V.state files.old).files self.now }
+        ensures store { length (V.state files.new).store ≡ length (V.state files.old).store }
         ensures cause { HasCause (V.faults files.old) (V.faults files.new) result }
     {
         let size = files.size(self.file);
@@ -185,11 +229,15 @@ impl Tuples {
     fn are_rows<V: Files>(&self, files: &mut V, count: u16) -> Result<bool, Failed>
         requires live { IsLive (V.state files.old).files self.now.file }
         requires short { row_length self.now.schema.attributes ≤ 128 }
-        requires whole { size_at (V.state files.old).files self.now.file ≡ row_length self.now.schema.attributes * count }
+        requires whole { size_at (V.state files.old).files self.now.file
+            ≡ row_length self.now.schema.attributes * count }
         requires few { count ≤ 32768 }
-        ensures valid { IsTrue (V.state files.old).tells → IfOk result (λ valid. IsTrue valid ↔ (rows_bytes self.now.schema.attributes (rows (V.state files.old).files self.now) ≡ bytes_at (V.state files.old).files self.now.file)) }
+        ensures valid { IsTrue (V.state files.old).tells
+            → IfOk result (λ valid. IsTrue valid ↔ (rows_bytes self.now.schema.attributes
+            (rows (V.state files.old).files self.now) ≡ bytes_at (V.state files.old).files self.now.file)) }
         ensures same { OnOk result (V.state files.new ≡ V.state files.old) }
         ensures reads { V.reads files.new ≤ V.reads files.old + 6 * count }
+        ensures store { length (V.state files.new).store ≡ length (V.state files.old).store }
         ensures cause { HasCause (V.faults files.old) (V.faults files.new) result }
     {
         let mut bytes = [0; 128];
@@ -209,4 +257,14 @@ fn slots_limit(version: u8) -> u32
     ensures { result ≡ slots_limit version }
 {
     if version == 1 { 16_384 } else { 32_768 }
+}
+
+fn copy_of(attributes: &Attributes) -> Attributes
+    ensures { result ≡ attributes.now }
+{
+    let mut copy = Attributes::new();
+    for attribute in attributes.as_slice() {
+        copy.push(*attribute);
+    }
+    copy
 }

@@ -1,5 +1,5 @@
 use Rattle.std.proofs.Common.{◌≡◌, drop}
-use Rattle.catalog.specs.Rules.{are_distinct, attribute_names}
+use Rattle.db_model.specs.Sound.{are_distinct, attribute_names}
 use Rattle.catalog.proofs.decode.are_distinct.Given as goal
 
 abbrev pub invariant-loop-at : goal.invariant-loop-at

@@ -1,6 +1,6 @@
 use Rattle.std.proofs.Common.{◌≡◌, drop}
 use Rattle.db_model.specs.Database.{is_among}
-use Rattle.catalog.specs.Rules.{attribute_names}
+use Rattle.db_model.specs.Sound.{attribute_names}
 use Rattle.catalog.proofs.decode.is_among.Given as goal
 
 abbrev pub invariant-loop-attribute : goal.invariant-loop-attribute

@@ -17,13 +17,13 @@ pub returns-then-not-is_row : goal.returns-then-not-is_row
 returns-then-not-is_row c =
     let slot = c.args.slot.now in
     let read = some_if _ _ _ (rw (take_rest slot 16) at c.in_ok-attributes.ensures) in
-    if_none _ (schema_of slot) (row_bad c.args.version slot (ap is_row (sym read.1 ∙ sym c.as_slice.ensures.items) ∙ sym c.if-not-is_row.ensures))
+    if_none _ (schema_of slot) (row_bad c.args.version slot (ap is_row (sym read.1) ∙ sym c.if-not-is_row.ensures))
 
 pub returns : goal.returns
 returns c =
     let slot = c.args.slot.now in
     let read = some_if _ _ _ (rw (take_rest slot 16) at c.in_ok-attributes.ensures) in
-    let name = c.in_ok-name.ensures.name ∙ c.up_to_zero.ensures in
-    let row = ap is_row (sym read.1 ∙ sym c.as_slice.ensures.items) ∙ sym c.if-not-is_row.ensures in
-    let good = schema_good c.args.version slot (ap is_name (sym c.up_to_zero.ensures) ∙ c.in_ok-name.ensures.some) read.0 row in
+    let name = c.in_ok-name.ensures.name ∙ c.up_to_zero.ensures.front in
+    let row = ap is_row (sym read.1) ∙ sym c.if-not-is_row.ensures in
+    let good = schema_good c.args.version slot (ap is_name (sym c.up_to_zero.ensures.front) ∙ c.in_ok-name.ensures.some) read.0 row in
     if_some _ _ (schema_of slot) good (same_schema slot c.in_ok-name.name c.in_ok-attributes.attributes name read.1)

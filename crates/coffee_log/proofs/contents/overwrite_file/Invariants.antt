@@ -1,6 +1,9 @@
-use Rattle.std.proofs.Common.{◌≡◌, ℕ, ◌+◌, ◌-◌, ◌*◌, ◌%◌, ◌≤◌, ◌<◌, length, take, Some, IsTrue}
+use Rattle.std.proofs.Common.{◌≡◌, ℕ, ◌+◌, ◌-◌, ◌*◌, ◌/◌, ◌%◌, ◌≤◌, ◌<◌, length, take, Some, IsTrue}
+use Rattle.afl_base.specs.Image.{page_bytes}
 use Rattle.afl_base.specs.Regions.{regions}
+use Rattle.flash_range.specs.Range.{PageOutside}
 use Rattle.coffee_log.specs.FileChanges.{FileBecomes, IsFile}
+use Rattle.coffee_log.specs.Logs.{AddsRecords, IsLog}
 use Rattle.coffee_log.proofs.contents.overwrite_file.Given as goal
 
 abbrev pub invariant-loop-done : goal.invariant-loop-done
@@ -11,6 +14,8 @@ invariant-loop-done g l = record {
   size : length (g.F.Flash.image l.flash) ≡ length (g.F.Flash.image l.fn.flash);
   becomes : IsTrue g.F.Flash.tells → (size : ℕ) → IsFile (g.F.Flash.image l.fn.flash) l.page.0 l.pages (Some l.log) l.used size → l.at + length l.bytes ≤ size → size + 32 ≤ 256 * l.pages
       → FileBecomes (g.F.Flash.image l.fn.flash) (g.F.Flash.image l.flash) l.page.0 l.pages (Some l.log) l.records size l.at (take l.done l.bytes);
+  adds : IsTrue g.F.Flash.tells → IsLog (g.F.Flash.image l.fn.flash) l.log.0 l.used → AddsRecords (g.F.Flash.image l.fn.flash) (g.F.Flash.image l.flash) l.log.0 l.used l.records (l.at / 128) (256 * l.pages - 32);
+  others : IsTrue g.F.Flash.tells → (p : ℕ) → PageOutside (256 * l.log.0) 4096 p → page_bytes (g.F.Flash.image l.flash) p ≡ page_bytes (g.F.Flash.image l.fn.flash) p;
   reads : g.F.Flash.reads l.flash ≤ g.F.Flash.reads l.fn.flash + 3 * regions l.at l.done;
   later : g.F.Flash.reads l.fn.flash ≤ g.F.Flash.reads l.flash;
   faults : g.F.Flash.faults l.fn.flash ≤ g.F.Flash.faults l.flash;

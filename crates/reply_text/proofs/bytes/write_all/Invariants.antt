@@ -6,7 +6,8 @@ abbrev pub invariant-loop-done : goal.invariant-loop-done
 invariant-loop-done g l = record {
   within : l.done ≤ length l.bytes;
   held : g.K.Sink.held l.out ≡ append_known (g.K.Sink.held l.fn.out) (take l.done l.bytes);
-  faults : g.K.Sink.faults l.fn.out ≤ g.K.Sink.faults l.out;
+  keeps : g.K.Sink.keeps l.fn.out l.out;
+  faults : g.K.Sink.faults l.out ≡ g.K.Sink.faults l.fn.out;
 }
 
 abbrev pub decreases-loop-done : goal.decreases-loop-done

@@ -1,4 +1,4 @@
-use Rattle.std.proofs.Common.{◌≡◌, ◌≤◌, take}
+use Rattle.std.proofs.Common.{◌≡◌, take}
 use Rattle.std.specs.Io.KnownBytes.{append_known}
 use Rattle.db_model.specs.ReplyText.{value_text}
 use Rattle.reply_text.proofs.Pieces.{joined}
@@ -7,5 +7,6 @@ use Rattle.reply_text.proofs.rows.write_row.Given as goal
 abbrev pub invariant-loop-at : goal.invariant-loop-at
 invariant-loop-at g l = record {
   held : g.K.Sink.held l.out ≡ append_known (g.K.Sink.held l.fn.out) (joined value_text (take l.at l.value-items));
-  faults : g.K.Sink.faults l.fn.out ≤ g.K.Sink.faults l.out;
+  keeps : g.K.Sink.keeps l.fn.out l.out;
+  faults : g.K.Sink.faults l.out ≡ g.K.Sink.faults l.fn.out;
 }

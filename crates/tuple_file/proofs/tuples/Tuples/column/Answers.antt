@@ -1,13 +1,10 @@
-use Rattle.std.proofs.Common.{◌≡◌, ℕ, ap, ◌∙◌, sym, subst, refl, ◌*◌, List, take, arith, lit<}
-use Rattle.afl_base.specs.KeyColumn.{IsWidth}
-use Rattle.afl_base.specs.Files.{bytes_at}
+use Rattle.std.proofs.Common.{◌≡◌, ℕ, ap, ◌∙◌, sym, subst, refl, List, take, arith, lit<}
+use Rattle.afl_base.specs.KeyColumn.{HasField, IsWidth, key_of}
+use Rattle.afl_base.specs.declared.key_column.KeyColumn.{KeyColumn}
 use Rattle.db_model.specs.declared.schemas.Attribute.{Attribute}
-use Rattle.db_model.specs.Row.{fields_length, row_length, width}
+use Rattle.db_model.specs.Row.{fields_length, width}
 use Rattle.db_model.proofs.Decoded.{field_inside}
-use Rattle.tuple_file.specs.Tuples.{slots}
-use Rattle.tuple_file.proofs.Columns.{attribute_at, is_width, item_at, key_in_slot, place_inside}
-use Rattle.tuple_file.proofs.Slots.{slot_inside}
-use Rattle.tuple_file.proofs.Written.{written_each, written_first}
+use Rattle.tuple_file.proofs.Columns.{attribute_at, column_field, column_key, column_width, item_at, place_inside}
 use Rattle.tuple_file.proofs.tuples.Tuples.column.Goals as goal
 
 pub overflow_cast-result-2 : goal.overflow_cast-result-2
@@ -34,30 +31,14 @@ returns-clause-column c =
 
 pub returns-clause-width : goal.returns-clause-width
 returns-clause-width c =
-    let attributes = c.args.self.now.schema.attributes in
-    let found = attribute_at attributes c.args.attribute c.requires.number in
-    let wide = c.width.ensures.value ∙ ap (λ (a : Attribute). width a.domain) (item_at attributes c.args.attribute found.0 c.get.result.now found.1 c.get.ensures) in
-    subst (λ (n : ℕ). IsWidth n) (sym wide) (is_width found.0.domain found.2)
+    subst (λ (k : KeyColumn). IsWidth k.width) (sym (returns-clause-column c)) (column_width c.args.self.now c.args.attribute c.requires.number)
 
 pub returns-clause-field : goal.returns-clause-field
 returns-clause-field c state slot holds below =
-    let attributes = c.args.self.now.schema.attributes in
-    let found = attribute_at attributes c.args.attribute c.requires.number in
-    let inside = field_inside attributes c.args.attribute found.0 found.1 in
-    let at = c.fields_length.ensures.value ∙ ap (λ (items : List Attribute). fields_length (take c.args.attribute items)) c.as_slice.ensures.items in
-    let wide = c.width.ensures.value ∙ ap (λ (a : Attribute). width a.domain) (item_at attributes c.args.attribute found.0 c.get.result.now found.1 c.get.ensures) in
-    let slot_end = slot_inside (row_length attributes) slot (slots state.files c.args.self.now) below in
-    let start : c.row_length.result * slot ≡ row_length attributes * slot = ap (λ (n : ℕ). n * slot) c.row_length.ensures.value in
-    record { live = holds.file.live; field = omega (arith, start, at, wide, inside, slot_end, holds.whole) }
+    subst (λ (k : KeyColumn). HasField state k slot) (sym (returns-clause-column c))
+    (column_field state c.args.self.now c.args.attribute slot c.requires.number holds below)
 
 pub returns-clause-key : goal.returns-clause-key
 returns-clause-key c state slot holds told below =
-    let attributes = c.args.self.now.schema.attributes in
-    let bytes = bytes_at state.files c.args.self.now.file in
-    let count = slots state.files c.args.self.now in
-    let found = attribute_at attributes c.args.attribute c.requires.number in
-    let at = c.fields_length.ensures.value ∙ ap (λ (items : List Attribute). fields_length (take c.args.attribute items)) c.as_slice.ensures.items in
-    let wide = c.width.ensures.value ∙ ap (λ (a : Attribute). width a.domain) (item_at attributes c.args.attribute found.0 c.get.result.now found.1 c.get.ensures) in
-    let all = holds.written told in
-    let one = written_each attributes bytes count slot holds.whole below (written_first attributes bytes count slot holds.whole (omega (arith, below)) all) all in
-    rw (c.row_length.ensures.value, at, wide) (key_in_slot attributes bytes slot c.args.attribute found.0 found.1 found.2 one)
+    ap (λ (k : KeyColumn). key_of state k slot) (returns-clause-column c)
+    ∙ column_key state c.args.self.now c.args.attribute slot c.requires.number holds told below

@@ -15,6 +15,7 @@ loop-slot-init g c =
     let answers = FnReturnsAt g.F.Fn c.args.removed.now in
     record {
       only = record { begun = c.requires.begun; name = refl; size = refl; files = refl; tells = refl };
+      store = refl;
       faults = omega arith;
       rewritten = λ told.
           subst (λ draft. Rewritten answers attributes (length bytes) (first_rows attributes bytes 0) draft) (sym (c.requires.zeros told))
@@ -45,6 +46,7 @@ loop-slot-preserved g c =
     let inside = slot_inside (row_length attributes) slot (slots files c.args.self.now) (omega (arith, c.loop-slot-test.true, c.requires.count)) in
     record {
       only = record { begun = done.only.begun; name = done.only.name ∙ inv.only.name; size = done.only.size ∙ inv.only.size; files = done.only.files ∙ inv.only.files; tells = done.only.tells ∙ inv.only.tells };
+      store = done.store ∙ inv.store;
       faults = omega (arith, inv.faults, done.cause.later);
       rewritten = λ told.
           let said = done.row (inv.only.tells ∙ told) in

@@ -10,6 +10,7 @@ loop-slot-init g c =
     let bytes = bytes_at (g.V.Files.state c.args.files.now).files c.args.self.now.file in
     record {
       only = record { begun = c.requires.begun; name = refl; size = refl; files = refl; tells = refl };
+      store = refl;
       faults = omega arith;
       few = omega arith;
       packed = λ told. subst (λ (draft : List ℕ). IsPacked attributes bytes c.args.room 0 0 draft) (sym (c.requires.zeros told)) (packed_none attributes bytes c.args.room);
@@ -30,6 +31,7 @@ loop-slot-preserved g c =
     let done = c.in_ok-written.ensures in
     record {
       only = record { begun = done.only.begun; name = done.only.name ∙ inv.only.name; size = done.only.size ∙ inv.only.size; files = done.only.files ∙ inv.only.files; tells = done.only.tells ∙ inv.only.tells };
+      store = done.store ∙ inv.store;
       faults = omega (arith, inv.faults, done.cause.later);
       few = done.few;
       packed = λ told.

@@ -1,4 +1,4 @@
-use Rattle.std.proofs.Common.{◌≤◌, IsTrue}
+use Rattle.std.proofs.Common.{◌≡◌, ◌≤◌, IsTrue, length}
 use Rattle.afl_base.specs.Files.{bytes_at, draft_in}
 use Rattle.tuple_file.specs.Tuples.{OnlyDraftChanges}
 use Rattle.tuple_file.proofs.Packed.{IsPacked}
@@ -9,6 +9,7 @@ invariant-loop-slot g l =
     let bytes = bytes_at (g.V.Files.state l.fn.files).files l.fn.self.file in
     record {
       only : OnlyDraftChanges (g.V.Files.state l.fn.files) (g.V.Files.state l.files);
+      store : length (g.V.Files.state l.files).store ≡ length (g.V.Files.state l.fn.files).store;
       faults : g.V.Files.faults l.fn.files ≤ g.V.Files.faults l.files;
       few : l.written ≤ l.room;
       packed : IsTrue (g.V.Files.state l.fn.files).tells →

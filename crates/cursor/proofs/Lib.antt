@@ -1,0 +1,5 @@
+pub mod Lists
+pub mod Planned
+pub mod Suited
+pub mod Selected
+pub mod Walking

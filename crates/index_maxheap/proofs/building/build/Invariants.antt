@@ -1,0 +1,25 @@
+use Rattle.std.proofs.Common.{◌≡◌, ◌≤◌, ◌<◌, ◌+◌, ◌*◌, ℕ, List, length, get_or}
+use Rattle.std.specs.Prelude.{IsSome, IsTrue}
+use Rattle.afl_base.specs.Files.{draft_in}
+use Rattle.afl_base.specs.KeyColumn.{key_of}
+use Rattle.index_maxheap.specs.Builds.{Builds, IsSafeBuild, OnlyDraftChanges}
+use Rattle.index_tree.specs.Pairs.{pairs_of}
+use Rattle.index_tree.specs.TreeFile.{bucket_place}
+use Rattle.index_maxheap.proofs.building.build.Given as goal
+
+abbrev pub invariant-loop-slot : goal.invariant-loop-slot
+invariant-loop-slot g l =
+    let old = g.V.Files.state l.fn.files in
+    let now = g.V.Files.state l.files in
+    record {
+      files : now.files ≡ old.files;
+      tells : now.tells ≡ old.tells;
+      begun : IsSome now.draft;
+      size : length (draft_in now).bytes ≡ bucket_place l.fn.most;
+      only : OnlyDraftChanges old now;
+      store : length now.store ≡ length old.store;
+      reads_later : g.V.Files.reads l.fn.files ≤ g.V.Files.reads l.files;
+      faults : g.V.Files.faults l.fn.files ≤ g.V.Files.faults l.files;
+      safe : IsSafeBuild l.loads l.places l.opened l.fn.most l.slot;
+      builds : IsTrue old.tells → Builds l.loads l.places l.opened (draft_in now).bytes (pairs_of (key_of old l.fn.column) l.slot);
+    }

@@ -1,0 +1,41 @@
+-- A tree that is built in a draft, slot by slot.
+use Rattle.std.specs.Prelude.{ℕ, ℤ, ◌≡◌, ◌≢◌, ◌+◌, ◌-◌, ◌*◌, ◌/◌, ◌<◌, ◌≤◌, List, length, get_or}
+use Rattle.afl_base.specs.Files.{Drafts, State, draft_in}
+use Rattle.afl_base.specs.Names.{padded}
+use Rattle.db_model.specs.HashTree.{buckets, node}
+use Rattle.index_tree.specs.Loads.{Counts}
+use Rattle.index_tree.specs.Pairs.{Pair, goes, keys_of, reach}
+use Rattle.index_tree.specs.Places.{Rises}
+use Rattle.index_tree.specs.TreeFile.{IsTree, bucket_place, number_of, place_of}
+
+-- behind a bucket's pairs are zeros
+abbrev pub IsBlank : List ℕ → List Pair → Type 0
+IsBlank bytes ps = (key : ℤ) (hop : ℕ) → number_of bytes key hop ≢ 0 → (x : ℕ) → 6 * length (reach (goes key) hop ps) ≤ x → x < 192 → get_or bytes (place_of (number_of bytes key hop) + x) 0 ≡ 0
+
+-- the place of the last bucket of each node that has one
+abbrev pub AreLast : List ℕ → List ℕ → List ℕ → Type 0
+AreLast loads places tree = (key : ℤ) (level : ℕ) → level ≤ 4 → 0 < get_or loads (node key level) 0 →
+  get_or places (node key level) 0 ≡ place_of (number_of tree key (level + (get_or loads (node key level) 0 - 1) / 32))
+
+-- the draft has the tree of these pairs in front, and zeros behind it
+pub record Builds (loads places : List ℕ) (opened : ℕ) (draft : List ℕ) (ps : List Pair) : Type 0 where
+  pub tree : List ℕ
+  pub is : IsTree tree ps
+  pub rises : Rises ps
+  pub blank : IsBlank tree ps
+  pub counts : Counts loads ps
+  pub long : length places ≡ 341
+  pub ends : AreLast loads places tree
+  pub count : opened ≡ buckets (keys_of ps)
+  pub fits : length tree ≤ length draft
+  pub padding : draft ≡ padded (length draft) tree
+
+-- what is kept where no bytes are told
+pub record IsSafeBuild (loads places : List ℕ) (opened most slot : ℕ) : Type 0 where
+  pub light : (i : ℕ) → get_or loads i 0 ≤ slot
+  pub inside : (i : ℕ) → get_or places i 0 + 195 ≤ bucket_place opened
+  pub under : opened ≤ most
+
+-- the draft has other bytes
+abbrev pub OnlyDraftChanges : State → State → Type 0
+OnlyDraftChanges old new = (bytes : List ℕ) × Drafts old new (draft_in old).name (length (draft_in old).bytes) bytes

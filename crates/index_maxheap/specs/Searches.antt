@@ -1,0 +1,75 @@
+-- Searches along the path of a key, and what they read.
+use Rattle.std.specs.Prelude.{ℕ, ℤ, ⊤, ◌≡◌, ◌≢◌, ◌+◌, ◌-◌, ◌*◌, ◌/◌, ◌<◌, ◌≤◌, min, List, [], ◌∷◌, length, drop, filter, Option, Some, None}
+use Rattle.index_tree.specs.Pairs.{Pair}
+use Rattle.index_tree.specs.Places.{IsPlaceAt, is_wanted, to_come}
+use Rattle.index_tree.specs.Trees.{numbered}
+use Rattle.index_maxheap.specs.declared.places.Place.{Place}
+use Rattle.index_maxheap.specs.declared.searching.Scanned.{Scanned}
+use Rattle.index_maxheap.specs.declared.searching.Scanned.TheVariants as scanned
+use Rattle.index_maxheap.specs.declared.searching.Step.{Step}
+use Rattle.index_maxheap.specs.declared.searching.Step.TheVariants as step
+
+-- ---- places
+
+-- a place from which the slots of a key from one on are to come; None is the root
+abbrev pub IsPlaceOf : List ℕ → List ℤ → ℤ → ℕ → Option Place → Type 0
+IsPlaceOf bytes keys key from None = ⊤
+IsPlaceOf bytes keys key from (Some place) = IsPlaceAt bytes (numbered 0 keys) key from place.bucket place.pair place.hop
+
+-- ---- reads of a walk: a node's number 3, a bucket 9
+
+abbrev pub hops : Option Place → ℕ
+hops None = 0
+hops (Some place) = place.hop
+
+-- the numbers of nodes on the path that are still read
+abbrev pub numbers_left : Option Place → ℕ
+numbers_left None = 5
+numbers_left (Some place) = 4 - min place.hop 4
+
+-- what a walk still reads, e keys having the same path
+abbrev pub walk_left : ℕ → Option Place → ℕ
+walk_left e place = 3 * numbers_left place + 9 * (6 + e / 32 - hops place)
+
+-- ---- steps of a walk
+
+-- what a search from a pair of a bucket on comes to, of the pairs that reach it
+abbrev pub Scans : Scanned → ℤ → ℕ → List Pair → ℕ → Type 0
+Scans (scanned.Found pair slot) key from rest start = (pair < 32) × (pair < length rest)
+    × (filter (is_wanted key from) (drop start rest) ≡ record { key = key; slot = slot } ∷ filter (is_wanted key from) (drop (pair + 1) rest))
+Scans scanned.End key from rest start = filter (is_wanted key from) (drop start rest) ≡ []
+Scans scanned.Passed key from rest start = (32 ≤ length rest) × (filter (is_wanted key from) (drop start rest) ≡ filter (is_wanted key from) (drop 32 rest))
+
+abbrev pub IsShort : Scanned → ℕ → Type 0
+IsShort (scanned.Found pair slot) from = (pair < 32) × (from ≤ slot)
+IsShort scanned.End from = ⊤
+IsShort scanned.Passed from = ⊤
+
+-- a place, or none where no bucket has a pair
+pub record IsStart (bytes : List ℕ) (keys : List ℤ) (key : ℤ) (from : ℕ) (place : Place) : Type 0 where
+  pub none : place.bucket ≡ 0 → keys ≡ []
+  pub some : place.bucket ≢ 0 → IsPlaceOf bytes keys key from (Some place)
+
+-- what a look into one bucket comes to
+abbrev pub Steps : Step → List ℕ → List ℤ → ℤ → ℕ → Type 0
+Steps (step.Found slot place) bytes keys key from =
+    (filter (is_wanted key from) (numbered 0 keys) ≡ record { key = key; slot = slot } ∷ to_come (numbered 0 keys) key from place.hop place.pair)
+    × IsPlaceOf bytes keys key (slot + 1) (Some place)
+Steps step.End bytes keys key from = filter (is_wanted key from) (numbered 0 keys) ≡ []
+Steps (step.Onward place) bytes keys key from = IsPlaceOf bytes keys key from (Some place)
+
+-- a place that may be read from
+abbrev pub IsSafe : Place → Type 0
+IsSafe place = (place.bucket ≢ 0) × (place.pair ≤ 32)
+
+-- a slot is not below where the search begins, and a place is in the bucket at the hop or in the next
+abbrev pub IsSafeStep : Step → ℕ → ℕ → Type 0
+IsSafeStep (step.Found slot place) hop from = (place.hop ≡ hop) × (from ≤ slot)
+IsSafeStep step.End hop from = ⊤
+IsSafeStep (step.Onward place) hop from = IsSafe place × (place.hop ≡ hop + 1)
+
+-- the hop up to which numbers have been read
+abbrev pub hop_after : Step → ℕ → ℕ
+hop_after (step.Found slot place) hop = hop
+hop_after step.End hop = hop + 1
+hop_after (step.Onward place) hop = hop + 1

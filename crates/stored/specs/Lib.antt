@@ -1,0 +1,5 @@
+pub mod Base
+pub mod Files
+pub mod Same
+pub mod Sizes
+pub mod Sound
