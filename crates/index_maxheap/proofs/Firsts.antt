@@ -27,7 +27,7 @@ and_parts false b e = absurd (no e)
     no e = cc
 
 -- what is wanted from a later slot on is wanted from an earlier one on
-later_is : (key : ℤ) (from to : ℕ) → from ≤ to → (p : Pair) → is_wanted key to p ≡ true → is_wanted key from p ≡ true
+pub later_is : (key : ℤ) (from to : ℕ) → from ≤ to → (p : Pair) → is_wanted key to p ≡ true → is_wanted key from p ≡ true
 later_is key from to h p e =
     let parts = and_parts (has_key key p) (nat_le to p.slot) e in
     let up : to ≤ p.slot = le_of to p.slot parts.1 in

@@ -10,3 +10,4 @@ pub mod Firsts
 pub mod Scans
 pub mod Onward
 pub mod Roots
+pub mod Good

@@ -5,6 +5,7 @@ mod building;
 mod bytes;
 mod ends;
 mod inserting;
+mod laws;
 mod loads;
 mod needs;
 mod path;
@@ -16,6 +17,7 @@ mod verifying;
 
 pub use building::build;
 pub use inserting::insert;
+pub use laws::places_stay_good;
 pub use loads::buckets_for;
 pub use needs::room;
 pub use places::{Found, Place};

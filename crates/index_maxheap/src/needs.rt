@@ -2,42 +2,30 @@
 
 #![tactic(auto)]
 
-ghost use Rattle.std.specs.Prelude.{◌≡◌, ◌+◌, ◌*◌, ◌^◌, ◌<◌, ◌≤◌, List, ℤ, length, IsTrue, IfOk, OnOk};
+ghost use Rattle.std.specs.Prelude.{◌≡◌, ◌<◌, ◌≤◌, List, ℤ, length, IsTrue, IfOk, OnOk};
 ghost use Rattle.afl_base.specs.Causes.{HasCause};
 ghost use Rattle.afl_base.specs.Files.{IsLive, bytes_at, size_at};
-ghost use Rattle.afl_base.specs.Regions.{regions};
 ghost use Rattle.index_tree.specs.Trees.{IsTreeOf};
-ghost use Rattle.index_maxheap.specs.Rooms.{IsRoomIn, IsWithin, room_for, room_of};
+ghost use Rattle.index_maxheap.specs.Rooms.{IsRoomIn, room_for, room_of};
 
 use crate::ends::find_end;
 use crate::rooms::{End, Room};
-use afl_base::{Failed, FileId, Files};
-
-// The regions that so many bytes from a place on touch.
-fn touched(at: u32, n: u16) -> u16
-    requires { at < 2 ^ 25 }
-    ensures { result ≡ regions at n }
-{
-    let n = u32::from(n);
-    n.min((at + n + 127) / 128 - at / 128) as u16
-}
+use afl_base::{Failed, FileId, Files, regions};
 
 // What an insert at an end of a path needs.
-fn room_for(end: End, size: u32) -> Room
-    requires small { size ≤ 268000 }
-    requires within { IsWithin end size }
+fn room_for(end: End) -> Room
     ensures room { result ≡ room_for end }
     ensures end { result.end ≡ end }
     ensures few { (result.overwrites ≤ 2) × (result.bytes ≤ 195) }
 {
     match end {
         End::Pair { at } => Room {
-            overwrites: touched(at, 6),
+            overwrites: regions(at, 6),
             bytes: 0,
             end,
         },
         End::Bucket { at } => Room {
-            overwrites: touched(at, 2),
+            overwrites: regions(at, 2),
             bytes: 195,
             end,
         },
@@ -66,12 +54,12 @@ pub fn room<V: Files>(files: &mut V, index: FileId, key: &i32) -> Result<Room, F
 {
     let size = files.size(index);
     if size < 683 {
-        return Ok(room_for(End::Nowhere, 0));
+        return Ok(room_for(End::Nowhere));
     }
     if size > 268_000 {
-        return Ok(room_for(End::Nowhere, 0));
+        return Ok(room_for(End::Nowhere));
     }
     let end = find_end(files, index, key)?;
-    let room = room_for(end, size);
+    let room = room_for(end);
     Ok(room)
 }

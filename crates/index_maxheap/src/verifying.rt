@@ -230,7 +230,6 @@ pub fn verify<V: Files>(files: &mut V, index: FileId, column: KeyColumn, slots: 
     requires fields { (slot : ℕ) → slot < slots → HasField (V.state files.old) column slot }
     ensures tree { IsTrue (V.state files.old).tells → IfOk result (λ meets. meets ≡ true → IsTreeOf (bytes_at (V.state files.old).files index) (first_keys (key_of (V.state files.old) column) slots)) }
     ensures no_tree { IsTrue (V.state files.old).tells → IfOk result (λ meets. meets ≡ false → IsTreeOf (bytes_at (V.state files.old).files index) (first_keys (key_of (V.state files.old) column) slots) → ⊥) }
-    ensures heads { IfOk result (λ meets. meets ≡ true → 683 ≤ size_at (V.state files.old).files index) }
     ensures same { OnOk result (V.state files.new ≡ V.state files.old) }
     ensures reads { V.reads files.new ≤ V.reads files.old + (15 * slots + 2048) }
     ensures store { length (V.state files.new).store ≡ length (V.state files.old).store }
