@@ -67,7 +67,8 @@ impl<F: Flash> Files for Volume<F> {
         ensures taken { IfOk result (λ _.
             WhereTold (⟦<Self as Files>⟧.state self.old) (⟦<Self as Files>⟧.state self.new) (TakesForFile name)) }
         ensures lowest { IfOk result (λ _.
-            WhereTold (⟦<Self as Files>⟧.state self.old) (⟦<Self as Files>⟧.state self.new) (PlacesFile name (first_pages kind))) }
+            WhereTold (⟦<Self as Files>⟧.state self.old) (⟦<Self as Files>⟧.state self.new)
+            (PlacesFile name (first_pages kind))) }
         ensures untaken { OnSpace result (λ _.
             WhereTold (⟦<Self as Files>⟧.state self.old) (⟦<Self as Files>⟧.state self.new) TakesNone) }
         ensures looked { OnSpace result (λ need.
@@ -117,7 +118,8 @@ impl<F: Flash> Files for Volume<F> {
     fn remove(&mut self, id: FileId) -> Result<(), Failed>
         requires live { IsLive (⟦<Self as Files>⟧.state self.old).files id }
         requires idle { (⟦<Self as Files>⟧.state self.old).draft ≡ None }
-        ensures removed { OnOk result (Removes (⟦<Self as Files>⟧.state self.old) (⟦<Self as Files>⟧.state self.new) id) }
+        ensures removed { OnOk result (
+            Removes (⟦<Self as Files>⟧.state self.old) (⟦<Self as Files>⟧.state self.new) id) }
         ensures taken { OnOk result (
             WhereTold (⟦<Self as Files>⟧.state self.old) (⟦<Self as Files>⟧.state self.new) TakesNone) }
         ensures store { length (⟦<Self as Files>⟧.state self.new).store
@@ -183,7 +185,8 @@ impl<F: Flash> Files for Volume<F> {
         requires live { IsLive (⟦<Self as Files>⟧.state self.old).files id }
         requires some { 1 ≤ length bytes.now }
         requires range { at + length bytes.now ≤ size_at (⟦<Self as Files>⟧.state self.old).files id }
-        requires records { regions at (length bytes.now) ≤ (file_at (⟦<Self as Files>⟧.state self.old).files id).records }
+        requires records { regions at (length bytes.now)
+            ≤ (file_at (⟦<Self as Files>⟧.state self.old).files id).records }
         requires last { at + length bytes.now ≡ size_at (⟦<Self as Files>⟧.state self.old).files id
             → slice_index bytes.now (length bytes.now - 1) ≢ 0 }
         ensures overwritten { OnOk result (
@@ -280,7 +283,8 @@ impl<F: Flash> Files for Volume<F> {
         ensures taken { OnOk result (
             WhereTold (⟦<Self as Files>⟧.state self.old) (⟦<Self as Files>⟧.state self.new) (TakesForDraft name)) }
         ensures lowest { OnOk result (
-            WhereTold (⟦<Self as Files>⟧.state self.old) (⟦<Self as Files>⟧.state self.new) (PlacesDraft name (fit size))) }
+            WhereTold (⟦<Self as Files>⟧.state self.old) (⟦<Self as Files>⟧.state self.new)
+            (PlacesDraft name (fit size))) }
         ensures untaken { OnSpace result (λ _.
             WhereTold (⟦<Self as Files>⟧.state self.old) (⟦<Self as Files>⟧.state self.new) TakesNone) }
         ensures looked { OnSpace result (λ need.
@@ -325,7 +329,8 @@ impl<F: Flash> Files for Volume<F> {
         requires begun { IsSome (⟦<Self as Files>⟧.state self.old).draft }
         requires range { at + length bytes.now ≤ length (draft_in (⟦<Self as Files>⟧.state self.old)).bytes }
         requires zeros { IsTrue (⟦<Self as Files>⟧.state self.old).tells
-            → slice_range (draft_in (⟦<Self as Files>⟧.state self.old)).bytes at (at + length bytes.now) ≡ replicate (length bytes.now) 0 }
+            → slice_range (draft_in (⟦<Self as Files>⟧.state self.old)).bytes at (at + length bytes.now)
+            ≡ replicate (length bytes.now) 0 }
         ensures written { OnOk result (
             WritesDraft (⟦<Self as Files>⟧.state self.old) (⟦<Self as Files>⟧.state self.new) at bytes.now) }
         ensures taken { OnOk result (
@@ -348,7 +353,8 @@ impl<F: Flash> Files for Volume<F> {
         requires begun { IsSome (⟦<Self as Files>⟧.state self.old).draft }
         requires last { IsTrue (⟦<Self as Files>⟧.state self.old).tells
             → 1 ≤ length (draft_in (⟦<Self as Files>⟧.state self.old)).bytes
-            → slice_index (draft_in (⟦<Self as Files>⟧.state self.old)).bytes (length (draft_in (⟦<Self as Files>⟧.state self.old)).bytes - 1) ≢ 0 }
+            → slice_index (draft_in (⟦<Self as Files>⟧.state self.old)).bytes
+            (length (draft_in (⟦<Self as Files>⟧.state self.old)).bytes - 1) ≢ 0 }
         ensures committed { IfOk result (λ id.
             Commits (⟦<Self as Files>⟧.state self.old) (⟦<Self as Files>⟧.state self.new) id) }
         ensures taken { OnOk result (

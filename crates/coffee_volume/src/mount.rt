@@ -29,7 +29,8 @@ impl<F: Flash> Volume<F> {
     /// reads for each page of the flash. Nothing is written.
     pub fn mount(mut flash: F) -> Result<Volume<F>, MountError<F>>
         ensures sound { IsTrue F.tells → OnOk result (broken_image (F.image flash) ≡ None) }
-        ensures files { IsTrue F.tells → IfOk result (λ v. ⟦<Self as Files>⟧.state v ≡ mounted_state (F.image flash)) }
+        ensures files { IsTrue F.tells → IfOk result (λ v.
+            ⟦<Self as Files>⟧.state v ≡ mounted_state (F.image flash)) }
         ensures bad { IsTrue F.tells
             → IfErr result (λ error. OnBad error (λ bad. broken_image (F.image flash) ≡ Some bad)) }
         ensures tells { IfOk result (λ v. (⟦<Self as Files>⟧.state v).tells ≡ F.tells) }
@@ -75,8 +76,10 @@ impl<F: Flash> Volume<F> {
         ensures reads { F.reads result ≡ ⟦<Self as Files>⟧.reads self }
         ensures faults { F.faults result ≡ ⟦<Self as Files>⟧.faults self }
         ensures sound { WhereIdle (⟦<Self as Files>⟧.state self) (broken_image (F.image result) ≡ None) }
-        ensures each { WhereIdle (⟦<Self as Files>⟧.state self) (HasEach (⟦<Self as Files>⟧.state self) (F.image result)) }
-        ensures only { WhereIdle (⟦<Self as Files>⟧.state self) (HasOnly (⟦<Self as Files>⟧.state self) (F.image result)) }
+        ensures each { WhereIdle (⟦<Self as Files>⟧.state self)
+            (HasEach (⟦<Self as Files>⟧.state self) (F.image result)) }
+        ensures only { WhereIdle (⟦<Self as Files>⟧.state self)
+            (HasOnly (⟦<Self as Files>⟧.state self) (F.image result)) }
         ensures asked { WhereIdle (⟦<Self as Files>⟧.state self) ((id overwrites bytes need : ℕ)
             → IsLive (⟦<Self as Files>⟧.state self).files id
             → ⟦<Self as Files>⟧.asks self id overwrites bytes need

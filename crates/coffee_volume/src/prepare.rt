@@ -80,7 +80,8 @@ impl<F: Flash> Volume<F> {
         ensures more { OnOk result (FromTo self.old.table self.new.table id
             (λ e d. (p : ℕ) → LiesIn e p → LiesIn d p)) }
         ensures kept { OnSpace result (λ _. self.new.table ≡ self.old.table) }
-        ensures ready { OnOk result (AtEntry self.new.table id (λ e. pages_asked e overwrites bytes ≡ None)) }
+        ensures ready { OnOk result (AtEntry self.new.table id
+            (λ e. pages_asked e overwrites bytes ≡ None)) }
         ensures still { AtEntry self.old.table id (λ e. pages_asked e overwrites bytes ≡ None
             → F.image self.new.flash ≡ F.image self.old.flash) }
         ensures unasked { AtEntry self.old.table id (λ e. pages_asked e overwrites bytes ≡ None

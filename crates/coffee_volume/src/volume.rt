@@ -5,7 +5,7 @@ ghost use Rattle.coffee_layout.specs.declared.file.FileAt.{FileAt};
 ghost use Rattle.coffee_merge.specs.Holding.{Holds, IsStored};
 ghost use Rattle.coffee_volume.specs.Volumes.{AreRegular, IsEntry, IsPending, IsRegular, file_seen, files_seen, places, roomless};
 
-use crate::entry::{EntryTable, Entry};
+use crate::entry::{Entry, EntryTable};
 use afl_base::{FileId, Files, Flash};
 use coffee_layout::FileAt;
 

@@ -1,4 +1,4 @@
-use Rattle.std.proofs.Common.{◌&&◌, not, [], false, arith}
+use Rattle.std.proofs.Common.{◌&&◌, not, false}
 use Rattle.coffee_volume.proofs.DraftWrites.{last_byte}
 use Rattle.coffee_volume.proofs.Tables.{free_entry, unnamed_entries}
 use Rattle.coffee_volume.proofs.files.VolumeFiles.draft_commit.Goals as goal

@@ -108,6 +108,7 @@ returns-in-Ok-clause-lowest g c = λ told x d was is.
     let one : e ≡ x = one_entry v.table id e x c.entry-at.ensures.entry was in
     let same : roomless c.in-Ok.to ≡ d = set_entry v.table id (roomless c.in-Ok.to) d inside (rw c.number.ensures.value at is) in
     subst (λ (y : Entry). StepsTo (Some c.args.step) old new x.at y.at) same
-    (subst (λ (y : Entry). StepsTo (Some c.args.step) old new y.at c.in-Ok.to) one
-    (c.in-Ok.ensures.after,
-    c.in-Ok.ensures.lowest both.0 (places v.table) id (holds_idle g.F.Flash.tells v.failed old v.table v.draft s c.requires.idle both.0 both.1) (in_places v.table id e c.entry-at.ensures.entry)))
+    (subst (λ (y : Entry). StepsTo (Some c.args.step) old new y.at c.in-Ok.to) one (
+      c.in-Ok.ensures.after,
+      c.in-Ok.ensures.lowest both.0 (places v.table) id (holds_idle g.F.Flash.tells v.failed old v.table v.draft s c.requires.idle both.0 both.1) (in_places v.table id e c.entry-at.ensures.entry),
+    ))
