@@ -15,7 +15,7 @@ IsBlank bytes ps = (key : ℤ) (hop : ℕ) → number_of bytes key hop ≢ 0 →
 -- the place of the last bucket of each node that has one
 abbrev pub AreLast : List ℕ → List ℕ → List ℕ → Type 0
 AreLast loads places tree = (key : ℤ) (level : ℕ) → level ≤ 4 → 0 < get_or loads (node key level) 0 →
-  get_or places (node key level) 0 ≡ place_of (number_of tree key (level + (get_or loads (node key level) 0 - 1) / 32))
+    get_or places (node key level) 0 ≡ place_of (number_of tree key (level + (get_or loads (node key level) 0 - 1) / 32))
 
 -- the draft has the tree of these pairs in front, and zeros behind it
 pub record Builds (loads places : List ℕ) (opened : ℕ) (draft : List ℕ) (ps : List Pair) : Type 0 where

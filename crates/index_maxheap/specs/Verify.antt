@@ -42,7 +42,7 @@ Opens (Some tail) bytes number level q = HasPair bytes number 0 q × IsTail byte
 -- the last buckets of the nodes that have one
 abbrev pub AreTails : List ℕ → List ℕ → List ℕ → List ℕ → List ℕ → Type 0
 AreTails bytes loads places nexts fills = (key : ℤ) (level : ℕ) → level ≤ 4 → 0 < get_or loads (node key level) 0 →
-  IsTail bytes (number_of bytes key (hop_of level (get_or loads (node key level) 0))) (get_or places (node key level) 0) (get_or nexts (node key level) 0) (get_or fills (node key level) 0) level
+    IsTail bytes (number_of bytes key (hop_of level (get_or loads (node key level) 0))) (get_or places (node key level) 0) (get_or nexts (node key level) 0) (get_or fills (node key level) 0) level
 
 -- a node has no number, or a last bucket with no pair behind those that were seen
 abbrev pub IsDone : List ℕ → ℕ → ℕ → ℕ → ℕ → Type 0

@@ -1,5 +1,5 @@
 -- Walks to the end of a path.
-use Rattle.std.specs.Prelude.{ℕ, ℤ, ⊤, ◌≡◌, ◌≢◌, ◌+◌, ◌*◌, ◌^◌, ◌<◌, ◌≤◌, min, List, length}
+use Rattle.std.specs.Prelude.{ℕ, ℤ, ⊤, ◌≡◌, ◌≢◌, ◌+◌, ◌*◌, ◌<◌, ◌≤◌, min, List, length}
 use Rattle.afl_base.specs.Fields.{u16_at}
 use Rattle.index_tree.specs.Ends.{IsEnd, spot_of}
 use Rattle.index_tree.specs.Pairs.{Pair, goes, reach}

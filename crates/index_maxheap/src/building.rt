@@ -37,7 +37,13 @@ fn write_pair<V: Files>(files: &mut V, at: u32, key: &i32, slot: SlotNo) -> Resu
 }
 
 // Writes a bucket with one pair behind `opened` buckets, and its number to a place before it.
-fn write_bucket<V: Files>(files: &mut V, at: u32, opened: u16, key: &i32, slot: SlotNo) -> Result<(), Failed>
+fn write_bucket<V: Files>(
+    files: &mut V,
+    at: u32,
+    opened: u16,
+    key: &i32,
+    slot: SlotNo,
+) -> Result<(), Failed>
     requires begun { IsSome (V.state files.old).draft }
     requires few { opened < 65535 }
     requires range { at + 2 ≤ bucket_place opened }
@@ -73,7 +79,15 @@ fn spot(load: u16, node: u16, place: u32) -> u32
 
 // Puts the next slot's pair into the tree in the draft. It answers how many buckets it opens. Where
 // there are more than `most`, which can be only where bytes are not told, it does nothing.
-fn build_slot<V: Files>(files: &mut V, loads: &mut [u16; 341], places: &mut [u32; 341], opened: u16, most: u16, key: &i32, slot: SlotNo) -> Result<u16, Failed>
+fn build_slot<V: Files>(
+    files: &mut V,
+    loads: &mut [u16; 341],
+    places: &mut [u32; 341],
+    opened: u16,
+    most: u16,
+    key: &i32,
+    slot: SlotNo,
+) -> Result<u16, Failed>
     requires begun { IsSome (V.state files.old).draft }
     requires size { length (draft_in (V.state files.old)).bytes ≡ bucket_place most }
     requires safe { IsSafeBuild loads.old places.old opened most slot }
@@ -108,7 +122,12 @@ fn build_slot<V: Files>(files: &mut V, loads: &mut [u16; 341], places: &mut [u32
 /// Builds the tree of the first `slots` keys in the draft, which has as many bytes as that takes and
 /// is erased. Where more than `most` buckets were needed, which can be only where bytes are not told,
 /// the draft is left unfinished.
-pub fn build<V: Files>(files: &mut V, column: KeyColumn, slots: u16, most: u16) -> Result<(), Failed>
+pub fn build<V: Files>(
+    files: &mut V,
+    column: KeyColumn,
+    slots: u16,
+    most: u16,
+) -> Result<(), Failed>
     requires width { IsWidth column.width }
     requires narrow { column.width ≢ 8 }
     requires slots { slots ≤ 32768 }

@@ -30,7 +30,12 @@ pub fn read_number<V: Files>(files: &mut V, index: FileId, at: u32) -> Result<u1
 }
 
 /// The bytes of the bucket with a number that is not 0.
-pub fn read_bucket<V: Files>(files: &mut V, index: FileId, number: u16, into: &mut [u8; 195]) -> Result<(), Failed>
+pub fn read_bucket<V: Files>(
+    files: &mut V,
+    index: FileId,
+    number: u16,
+    into: &mut [u8; 195],
+) -> Result<(), Failed>
     requires live { IsLive (V.state files.old).files index }
     requires some { number ≢ 0 }
     requires range { bucket_place number ≤ size_at (V.state files.old).files index }

@@ -58,7 +58,14 @@ fn is_upper(level: u8, next: u16) -> bool
 }
 
 // The tail of a bucket that the pair of a key and slot opens, at a level.
-fn open_bucket<V: Files>(files: &mut V, index: FileId, number: u16, level: u8, key: &i32, slot: SlotNo) -> Result<Option<Tail>, Failed>
+fn open_bucket<V: Files>(
+    files: &mut V,
+    index: FileId,
+    number: u16,
+    level: u8,
+    key: &i32,
+    slot: SlotNo,
+) -> Result<Option<Tail>, Failed>
     requires live { IsLive (V.state files.old).files index }
     ensures opens { IsTrue (V.state files.old).tells → IfOk result (λ tail. Opens tail (bytes_at (V.state files.old).files index) number level (record { key = key.now; slot = slot })) }
     ensures safe { IfOk result (λ tail. IfSome tail (λ _. (number ≢ 0) × (bucket_place number ≤ size_at (V.state files.old).files index))) }
@@ -97,7 +104,13 @@ fn open_bucket<V: Files>(files: &mut V, index: FileId, number: u16, level: u8, k
 }
 
 // Whether the pair of a key and slot stands at a place.
-fn has_pair<V: Files>(files: &mut V, index: FileId, at: u32, key: &i32, slot: SlotNo) -> Result<bool, Failed>
+fn has_pair<V: Files>(
+    files: &mut V,
+    index: FileId,
+    at: u32,
+    key: &i32,
+    slot: SlotNo,
+) -> Result<bool, Failed>
     requires live { IsLive (V.state files.old).files index }
     requires range { at + 6 ≤ size_at (V.state files.old).files index }
     ensures yes { IsTrue (V.state files.old).tells → IfOk result (λ has. has ≡ true → (i32_at (bytes_at (V.state files.old).files index) at ≡ key.now) × (u16_at (bytes_at (V.state files.old).files index) (at + 4) ≡ slot + 1)) }
@@ -134,7 +147,17 @@ fn number_for(heads: &[u8; 683], node: u16, load: u16, next: u16) -> u16
 
 // Looks at the next slot's pair. It answers how many buckets it opens, or None where the file is no
 // tree with that slot.
-fn verify_slot<V: Files>(files: &mut V, index: FileId, heads: &[u8; 683], loads: &mut [u16; 341], places: &mut [u32; 341], nexts: &mut [u16; 341], fills: &mut [u8; 341], key: &i32, slot: SlotNo) -> Result<Option<u16>, Failed>
+fn verify_slot<V: Files>(
+    files: &mut V,
+    index: FileId,
+    heads: &[u8; 683],
+    loads: &mut [u16; 341],
+    places: &mut [u32; 341],
+    nexts: &mut [u16; 341],
+    fills: &mut [u8; 341],
+    key: &i32,
+    slot: SlotNo,
+) -> Result<Option<u16>, Failed>
     requires live { IsLive (V.state files.old).files index }
     requires light { (i : ℕ) → get_or loads.old i 0 ≤ slot }
     requires inside { (i : ℕ) → get_or places.old i 0 + 195 ≤ size_at (V.state files.old).files index }
@@ -156,7 +179,13 @@ fn verify_slot<V: Files>(files: &mut V, index: FileId, heads: &[u8; 683], loads:
     let n = usize::from(node);
     let load = loads[n];
     if load % 32 != 0 {
-        if !has_pair(files, index, places[n] + 6 * u32::from(load % 32), key, slot)? {
+        if !has_pair(
+            files,
+            index,
+            places[n] + 6 * u32::from(load % 32),
+            key,
+            slot,
+        )? {
             return Ok(None);
         }
         loads[n] = load + 1;
@@ -222,7 +251,12 @@ fn are_done(heads: &[u8; 683], loads: &[u16; 341], nexts: &[u16; 341], fills: &[
 }
 
 /// Whether the file is the tree of the first `slots` keys. It reads each key once.
-pub fn verify<V: Files>(files: &mut V, index: FileId, column: KeyColumn, slots: u16) -> Result<bool, Failed>
+pub fn verify<V: Files>(
+    files: &mut V,
+    index: FileId,
+    column: KeyColumn,
+    slots: u16,
+) -> Result<bool, Failed>
     requires live { IsLive (V.state files.old).files index }
     requires width { IsWidth column.width }
     requires narrow { column.width ≢ 8 }
@@ -256,7 +290,17 @@ pub fn verify<V: Files>(files: &mut V, index: FileId, column: KeyColumn, slots: 
             return Ok(false);
         };
         let key = column.key(files, slot)?;
-        match verify_slot(files, index, &heads, &mut loads, &mut places, &mut nexts, &mut fills, &key, slot)? {
+        match verify_slot(
+            files,
+            index,
+            &heads,
+            &mut loads,
+            &mut places,
+            &mut nexts,
+            &mut fills,
+            &key,
+            slot,
+        )? {
             None => return Ok(false),
             Some(opens) => opened += opens,
         }

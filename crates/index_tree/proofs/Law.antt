@@ -1,5 +1,5 @@
 -- A file that meets the rules is the tree of its slots' pairs, with as many buckets as that has.
-use Rattle.std.proofs.Common.{◌≡◌, ◌≢◌, ◌≤◌, ◌<◌, ◌+◌, ◌*◌, ◌-◌, ◌/◌, ℕ, ℤ, List, length, refl, arith, ap, ◌∙◌, sym, subst, zero, suc}
+use Rattle.std.proofs.Common.{◌≡◌, ◌≤◌, ◌+◌, ◌-◌, ◌/◌, ℕ, ℤ, List, length, refl, arith, ap, ◌∙◌, sym, subst, zero, suc}
 use Rattle.std.specs.Prelude.{slice_index}
 use Rattle.std.proofs.lemmas.List.FromFn.{length-map-range_with_len}
 use Rattle.db_model.specs.HashTree.{buckets}
@@ -7,7 +7,7 @@ use Rattle.index_tree.specs.Pairs.{keys_of, pair_of, pairs_of}
 use Rattle.index_tree.specs.Rules.{MeetsRules, bucket_count}
 use Rattle.index_tree.specs.TreeFile.{IsTree, bucket_place}
 use Rattle.index_tree.specs.Keys.{first_keys, key_in}
-use Rattle.index_tree.specs.Trees.{IsTreeOf, numbered}
+use Rattle.index_tree.specs.Trees.{IsTreeOf}
 use Rattle.index_tree.proofs.Converse.{tree_rules}
 use Rattle.index_tree.proofs.Counted.{buckets_few}
 use Rattle.index_tree.proofs.Numbered.{keys_first, keys_numbered, numbered_length, tree_of_keys, tree_of_pairs}

@@ -1,5 +1,5 @@
 -- Places on the path of a key, and what is still to come from them.
-use Rattle.std.specs.Prelude.{⊤, [], ◌∷◌, ℕ, ℤ, ◌≡◌, ◌≢◌, ◌+◌, ◌-◌, ◌<◌, ◌≤◌, ◌&&◌, nat_le, Bool, List, ◌++◌, length, drop, filter}
+use Rattle.std.specs.Prelude.{⊤, [], ◌∷◌, ℕ, ℤ, ◌≡◌, ◌≢◌, ◌<◌, ◌≤◌, ◌&&◌, nat_le, Bool, List, ◌++◌, length, drop, filter}
 use Rattle.index_tree.specs.Pairs.{Pair, goes, has_key, reach}
 use Rattle.index_tree.specs.TreeFile.{IsTree, number_of}
 

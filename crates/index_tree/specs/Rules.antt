@@ -1,5 +1,5 @@
 -- The five rules of a tree's file, by the buckets of the file and the paths of keys.
-use Rattle.std.specs.Prelude.{ℕ, suc, ℤ, pos, ◌≡◌, ◌≢◌, ◌⊎◌, ◌+◌, ◌-◌, ◌/◌, ◌*◌, ◌<◌, ◌≤◌, min, List, length, slice_index}
+use Rattle.std.specs.Prelude.{ℕ, suc, ℤ, pos, ◌≡◌, ◌≢◌, ◌⊎◌, ◌+◌, ◌-◌, ◌/◌, ◌<◌, ◌≤◌, min, List, length, slice_index}
 use Rattle.db_model.specs.HashTree.{node}
 use Rattle.index_tree.specs.TreeFile.{bucket_place, key_at, last_at, next_at, number_of, place_of, slot_at}
 
