@@ -16,7 +16,7 @@ use Rattle.index_set.specs.declared.candidates.Search.TheVariants as by
 use Rattle.index_set.specs.declared.info.TableId.{TableId}
 use Rattle.index_set.specs.Complete.{key_in, no_row}
 use Rattle.index_set.specs.Tables.{Tables, entries}
-use Rattle.index_set.specs.Trees.{walk_left}
+use Rattle.index_maxheap.specs.Searches.{walk_left}
 use Rattle.index_tree.specs.Keys.{IsFirstOf, is_key_at}
 use Rattle.index_memhash.specs.Keys as table
 use Rattle.index_set.specs.Walks.{Fits, LacksKey, HasIndex, HasPlace, IsMoved, IsMovedBy, KnowsRows, Waits, ahead, reads_ahead, reads_by, slots_in, takes}

@@ -10,9 +10,9 @@ use Rattle.index_tree.specs.Keys.{is_key_at}
 use Rattle.index_tree.specs.Trees.{IsTreeOf}
 use Rattle.index_tree.proofs.Numbered.{numbered_length}
 use Rattle.index_tree.proofs.Reach.{filter_shorter}
-use Rattle.index_set.specs.declared.trees.Place.{Place}
+use Rattle.index_maxheap.specs.declared.places.Place.{Place}
 use Rattle.index_set.specs.Complete.{key_in, no_row}
-use Rattle.index_set.specs.Trees.{walk_left}
+use Rattle.index_maxheap.specs.Searches.{walk_left}
 
 -- a walk that is over reads nothing more
 pub walk_over : (bytes : List ℕ) (ks : List ℤ) (key : ℤ) → IsTreeOf bytes ks → walk_left (keys_beside key ks) (Some (record { bucket = 0; pair = 0; hop = 65535 })) ≡ 0

@@ -12,11 +12,11 @@ use Rattle.index_set.specs.declared.candidates.Search.{Search}
 use Rattle.index_set.specs.declared.candidates.Search.TheVariants as by
 use Rattle.index_set.specs.declared.info.Access.TheVariants.{Tree, Table}
 use Rattle.index_set.specs.declared.info.IndexInfo.{IndexInfo}
-use Rattle.index_set.specs.declared.trees.Place.{Place}
+use Rattle.index_maxheap.specs.declared.places.Place.{Place}
 use Rattle.index_set.specs.Complete.{key_in, no_row}
 use Rattle.index_set.specs.Inserts.{SomeOf}
 use Rattle.index_set.specs.Tables.{Tables, entries}
-use Rattle.index_set.specs.Trees.{IsPlaceOf, walk_left}
+use Rattle.index_maxheap.specs.Searches.{IsPlaceOf, walk_left}
 use Rattle.index_tree.specs.Keys.{is_key_at}
 use Rattle.index_tree.specs.Trees.{IsTreeOf}
 

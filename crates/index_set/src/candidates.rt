@@ -11,15 +11,15 @@ ghost use Rattle.db_model.specs.Row.{Row};
 ghost use Rattle.index_set.specs.Complete.{AreIndexesOf, AreReadable};
 ghost use Rattle.index_set.specs.Plans.{kinds, slots_passed};
 ghost use Rattle.index_set.specs.Tables.{Tables, entries};
-ghost use Rattle.index_set.specs.Trees.{walk_left};
+ghost use Rattle.index_maxheap.specs.Searches.{walk_left};
 ghost use Rattle.index_tree.specs.Keys.{IsFirstOf};
 ghost use Rattle.index_set.specs.Walks.{Fits, HasPlace, IsChosen, IsMoved, IsMovedBy, IsSafeBy, LacksKey, Waits, ahead, cost_ahead, reads_ahead, slots_in};
 
 use crate::info::{Indexes, TableId};
 use crate::tables::HashTables;
-use crate::trees::{Place, next as next_in};
 use afl_base::{Failed, FileId, Files, SlotNo};
 use db_model::Range;
+use index_maxheap::{Place, next as next_in};
 
 /// How slots are found.
 #[derive(Clone, Copy, Debug, PartialEq, Eq)]
@@ -164,6 +164,7 @@ impl Candidates {
             → V.reads files.new ≤ V.reads files.old + reads_ahead self.old all) }
         ensures reads_later { V.reads files.old ≤ V.reads files.new }
         ensures store { length (V.state files.new).store ≡ length (V.state files.old).store }
+        ensures cause { HasCause (V.faults files.old) (V.faults files.new) result }
     {
         let search = self.search;
         match search {
@@ -217,6 +218,7 @@ impl Candidates {
             → V.reads files.new ≤ V.reads files.old + walk_left (keys_beside key.now keys) self.old.place }
         ensures reads_later { V.reads files.old ≤ V.reads files.new }
         ensures store { length (V.state files.new).store ≡ length (V.state files.old).store }
+        ensures cause { HasCause (V.faults files.old) (V.faults files.new) result }
     {
         if self.slots <= self.from {
             return Ok(None);

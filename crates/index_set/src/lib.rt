@@ -7,7 +7,6 @@ mod info;
 mod inserts;
 mod laws;
 mod tables;
-mod trees;
 
 pub use candidates::{Candidates, Search};
 pub use choices::{Plan, choose, verify_all};
@@ -15,4 +14,3 @@ pub use info::{Access, IndexInfo, Indexes, Rooms, TableId};
 pub use inserts::{insert_all, prepare_all};
 pub use laws::{ahead_where_rows_come, waits_where_rows_come};
 pub use tables::HashTables;
-pub use trees::Place;
