@@ -1,9 +1,7 @@
 -- The files of a database take no more than the sectors that are counted for it.
-use Rattle.std.proofs.Common.{◌≡◌, ◌≢◌, ℕ, zero, suc, ◌+◌, ◌-◌, ◌*◌, ◌/◌, ◌<◌, ◌≤◌, ⊎_elim, ◌⊎◌, inl, inr, List, [], ◌∷◌, ◌++◌, length, map, get_or, Option, Some, None, refl, ap, sym, subst, ◌∙◌, arith}
+use Rattle.std.proofs.Common.{◌≡◌, ℕ, zero, suc, ◌+◌, ◌*◌, ◌<◌, ◌≤◌, ◌⊎◌, inl, inr, List, [], ◌∷◌, ◌++◌, length, map, get_or, Option, Some, None, refl, ap, sym, ◌∙◌, arith}
 use Rattle.std.specs.Prelude.{unwrap_or}
-use Rattle.std.proofs.lemmas.List.{length-append, length-map}
-use Rattle.afl_base.specs.Files.{AreDistinct, File, Table, place}
-use Rattle.afl_base.specs.declared.kind.Kind.TheVariants.{Doubling, Fixed}
+use Rattle.afl_base.specs.Files.{AreDistinct, File, Table}
 use Rattle.db_model.specs.declared.schemas.IndexKind.{IndexKind}
 use Rattle.db_model.specs.declared.schemas.IndexKind.TheVariants.{Inline, MaxHeap, MemHash}
 use Rattle.db_model.specs.Catalog.{Index}
@@ -13,7 +11,7 @@ use Rattle.db_model.specs.Step.{keys}
 use Rattle.space_model.specs.Enough.{enough, file_sizes, index_sizes, rows_in, rows_size, touched, tree_size, tree_sizes}
 use Rattle.space_model.specs.FileNames.{catalog_file, rows_file, tree_file}
 use Rattle.stored.specs.Sizes.{HasFilesOf, IsCatalogFile, IsRowsOf, IsTreeFileOf}
-use Rattle.afl_base.specs.Shares.{file_share, gap_for, shares, touched_of}
+use Rattle.afl_base.specs.Shares.{file_share, gap_for, shares}
 use Rattle.stored.proofs.TableSums.{named_part, over, over_le, over_one, over_sum, over_zero, part_here}
 
 -- what a growing file of so many bytes takes
