@@ -27,10 +27,12 @@ pub fn insert<V: Files>(
 ) -> Result<(), Failed>
     requires live { IsLive (V.state files.old).files index }
     requires room { HasRoomFor (V.state files.old) index room.now }
-    ensures grown { IsTrue (V.state files.old).tells → (keys : List ℤ) → IsTreeOf (bytes_at (V.state files.old).files index) keys
+    ensures grown { IsTrue (V.state files.old).tells → (keys : List ℤ)
+        → IsTreeOf (bytes_at (V.state files.old).files index) keys
         → length keys ≡ slot → room.now ≡ room_of (bytes_at (V.state files.old).files index) key.now
         → OnOk result (IsTreeOf (bytes_at (V.state files.new).files index) (keys ++ key.now ∷ [])) }
-    ensures keeps { IsTrue (V.state files.old).tells → (keys : List ℤ) → IsTreeOf (bytes_at (V.state files.old).files index) keys
+    ensures keeps { IsTrue (V.state files.old).tells → (keys : List ℤ)
+        → IsTreeOf (bytes_at (V.state files.old).files index) keys
         → length keys ≡ slot → room.now ≡ room_of (bytes_at (V.state files.old).files index) key.now
         → OnOk result (KeepsNumbers (bytes_at (V.state files.old).files index) (bytes_at (V.state files.new).files index)) }
     ensures only { OnOk result (OnlyIndexChanges (V.state files.old) (V.state files.new) index) }

@@ -60,7 +60,8 @@ fn is_wanted(bytes: &[u8; 195], pair: u8, key: &i32, from: u16) -> bool
 fn scan(bytes: &[u8; 195], start: u8, key: &i32, from: u16) -> Scanned
     requires { start ≤ 32 }
     ensures short { IsShort result from }
-    ensures scans { (rest : List Pair) → Holds bytes.now 0 rest → start ≤ length rest → Scans result key.now from rest start }
+    ensures scans { (rest : List Pair) → Holds bytes.now 0 rest → start ≤ length rest
+        → Scans result key.now from rest start }
 {
     for pair in start..32 {
         let number = slot_in(bytes, pair);
@@ -90,7 +91,8 @@ fn number_onward<V: Files>(
     requires safe { IsSafe place }
     requires bytes { IsTrue (V.state files.old).tells
         → bytes.now ≡ slice_range (bytes_at (V.state files.old).files index) (bucket_place (place.bucket - 1)) (bucket_place (place.bucket - 1) + 195) }
-    ensures number { IsTrue (V.state files.old).tells → place.bucket ≡ number_of (bytes_at (V.state files.old).files index) key.now place.hop
+    ensures number { IsTrue (V.state files.old).tells
+        → place.bucket ≡ number_of (bytes_at (V.state files.old).files index) key.now place.hop
         → IfOk result (λ n. n ≡ number_of (bytes_at (V.state files.old).files index) key.now (place.hop + 1)) }
     ensures same { OnOk result (V.state files.new ≡ V.state files.old) }
     ensures reads { V.reads files.new + 3 * min place.hop 4 ≤ V.reads files.old + 3 * min (place.hop + 1) 4 }
@@ -117,7 +119,8 @@ fn look_in<V: Files>(
     requires heads { 683 ≤ size_at (V.state files.old).files index }
     requires safe { IsSafe place }
     requires near { place.hop < 65535 }
-    ensures steps { IsTrue (V.state files.old).tells → (keys : List ℤ) → IsTreeOf (bytes_at (V.state files.old).files index) keys
+    ensures steps { IsTrue (V.state files.old).tells → (keys : List ℤ)
+        → IsTreeOf (bytes_at (V.state files.old).files index) keys
         → IsPlaceOf (bytes_at (V.state files.old).files index) keys key.now from (Some place)
         → IfOk result (λ s. Steps s (bytes_at (V.state files.old).files index) keys key.now from) }
     ensures safe { IfOk result (λ s. IsSafeStep s place.hop from) }
@@ -172,16 +175,20 @@ fn walk<V: Files>(
 ) -> Result<Option<Found>, Failed>
     requires live { IsLive (V.state files.old).files index }
     requires heads { 683 ≤ size_at (V.state files.old).files index }
-    ensures next { IsTrue (V.state files.old).tells → (keys : List ℤ) → IsTreeOf (bytes_at (V.state files.old).files index) keys
+    ensures next { IsTrue (V.state files.old).tells → (keys : List ℤ)
+        → IsTreeOf (bytes_at (V.state files.old).files index) keys
         → IsStart (bytes_at (V.state files.old).files index) keys key.now from start
         → IfOk result (λ r. MatchOption r (HasNone key.now keys from)
-        (λ f. IsFirstOf key.now keys from f.slot × IsPlaceOf (bytes_at (V.state files.old).files index) keys key.now (f.slot + 1) (Some f.place))) }
+        (λ f. IsFirstOf key.now keys from f.slot
+            × IsPlaceOf (bytes_at (V.state files.old).files index) keys key.now (f.slot + 1) (Some f.place))) }
     ensures forward { IfOk result (λ r. IfSome r (λ f. from ≤ f.slot)) }
     ensures same { OnOk result (V.state files.new ≡ V.state files.old) }
-    ensures reads { IsTrue (V.state files.old).tells → (keys : List ℤ) → IsTreeOf (bytes_at (V.state files.old).files index) keys
+    ensures reads { IsTrue (V.state files.old).tells → (keys : List ℤ)
+        → IsTreeOf (bytes_at (V.state files.old).files index) keys
         → IsStart (bytes_at (V.state files.old).files index) keys key.now from start
         → V.reads files.new ≤ V.reads files.old + walk_left (keys_beside key.now keys) (Some start) }
-    ensures reads_found { IsTrue (V.state files.old).tells → (keys : List ℤ) → IsTreeOf (bytes_at (V.state files.old).files index) keys
+    ensures reads_found { IsTrue (V.state files.old).tells → (keys : List ℤ)
+        → IsTreeOf (bytes_at (V.state files.old).files index) keys
         → IsStart (bytes_at (V.state files.old).files index) keys key.now from start
         → IfOk result (λ r. IfSome r (λ f. V.reads files.new + walk_left (keys_beside key.now keys) (Some f.place)
         ≤ V.reads files.old + walk_left (keys_beside key.now keys) (Some start) + 9)) }
@@ -227,16 +234,20 @@ pub fn next<V: Files>(
     from: u16,
 ) -> Result<Option<Found>, Failed>
     requires live { IsLive (V.state files.old).files index }
-    ensures next { IsTrue (V.state files.old).tells → (keys : List ℤ) → IsTreeOf (bytes_at (V.state files.old).files index) keys
+    ensures next { IsTrue (V.state files.old).tells → (keys : List ℤ)
+        → IsTreeOf (bytes_at (V.state files.old).files index) keys
         → IsPlaceOf (bytes_at (V.state files.old).files index) keys key.now from place
         → IfOk result (λ r. MatchOption r (HasNone key.now keys from)
-        (λ f. IsFirstOf key.now keys from f.slot × IsPlaceOf (bytes_at (V.state files.old).files index) keys key.now (f.slot + 1) (Some f.place))) }
+        (λ f. IsFirstOf key.now keys from f.slot
+            × IsPlaceOf (bytes_at (V.state files.old).files index) keys key.now (f.slot + 1) (Some f.place))) }
     ensures forward { IfOk result (λ r. IfSome r (λ f. from ≤ f.slot)) }
     ensures same { OnOk result (V.state files.new ≡ V.state files.old) }
-    ensures reads { IsTrue (V.state files.old).tells → (keys : List ℤ) → IsTreeOf (bytes_at (V.state files.old).files index) keys
+    ensures reads { IsTrue (V.state files.old).tells → (keys : List ℤ)
+        → IsTreeOf (bytes_at (V.state files.old).files index) keys
         → IsPlaceOf (bytes_at (V.state files.old).files index) keys key.now from place
         → V.reads files.new ≤ V.reads files.old + walk_left (keys_beside key.now keys) place }
-    ensures reads_found { IsTrue (V.state files.old).tells → (keys : List ℤ) → IsTreeOf (bytes_at (V.state files.old).files index) keys
+    ensures reads_found { IsTrue (V.state files.old).tells → (keys : List ℤ)
+        → IsTreeOf (bytes_at (V.state files.old).files index) keys
         → IsPlaceOf (bytes_at (V.state files.old).files index) keys key.now from place
         → IfOk result (λ r. IfSome r (λ f. V.reads files.new + walk_left (keys_beside key.now keys) (Some f.place)
         ≤ V.reads files.old + walk_left (keys_beside key.now keys) place + 9)) }
