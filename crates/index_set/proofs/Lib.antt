@@ -4,3 +4,4 @@ pub mod Seeks
 pub mod Nexts
 pub mod Lists
 pub mod Inserted
+pub mod Choosing
