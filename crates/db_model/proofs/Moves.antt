@@ -143,8 +143,8 @@ join_many left right on list l r at_left at_right =
     ∙ ap (λ rows. sum (map (partners places r.rows) rows)) (all_rows l.rows)
     ∙ many_pairs places r.rows l.rows
     ∙ ap length (sym (same_filter named (meets places) both
-        (λ pair. ap (λ v. same_value v (value_of r.schema.attributes pair.1 on)) (value_at l.schema.attributes pair.0 on at_left)
-            ∙ ap (same_value (slice_get pair.0 places.0)) (value_at r.schema.attributes pair.1 on at_right))))
+    (λ pair. ap (λ v. same_value v (value_of r.schema.attributes pair.1 on)) (value_at l.schema.attributes pair.0 on at_left)
+    ∙ ap (same_value (slice_get pair.0 places.0)) (value_at r.schema.attributes pair.1 on at_right))))
     ∙ sym (length-map (filter named both) (projected_pair l.schema.attributes r.schema.attributes list))
 
 -- ---- OPEN
@@ -162,11 +162,11 @@ opened_ahead : (db : Database) (query : Query) → Yields (IsOpened db query) (a
 opened_ahead db (Select list name nodes) =
     yields_found (IsOpened db query) (relation_named db name) no.NoRelation (λ s. select_from list (condition_of nodes) s.1)
     (λ s e.
-        let found : opened db query ≡ Some (ahead s) = ap (option_map ahead) e in
-        yields_behind (IsOpened db query) (refuse_found (missing_name s.1.schema.attributes list (condition_of nodes)) no.NoAttribute) (typed s)
-        (yields_behind (IsOpened db query) (refuse_found (ill_typed s.1.schema.attributes (map (λ _. true) list) (condition_of nodes)) no.IllTyped) (Ok (rows s))
-            (yields_ok (IsOpened db query) (rows s)
-                (subst (IsAhead (Some (record { reads = relations_read query; rows = rows s }))) (sym found) (select_many name list db s.0 s.1 (condition_of nodes))))))
+    let found : opened db query ≡ Some (ahead s) = ap (option_map ahead) e in
+    yields_behind (IsOpened db query) (refuse_found (missing_name s.1.schema.attributes list (condition_of nodes)) no.NoAttribute) (typed s)
+    (yields_behind (IsOpened db query) (refuse_found (ill_typed s.1.schema.attributes (map (λ _. true) list) (condition_of nodes)) no.IllTyped) (Ok (rows s))
+    (yields_ok (IsOpened db query) (rows s)
+    (subst (IsAhead (Some (record { reads = relations_read query; rows = rows s }))) (sym found) (select_many name list db s.0 s.1 (condition_of nodes))))))
   where
     query : Query
     query = Select list name nodes
@@ -182,15 +182,15 @@ opened_ahead db (Select list name nodes) =
 opened_ahead db (Join left right on list) =
     yields_found (IsOpened db query) (relation_named db left) no.NoRelation (λ l. ◌>>=◌ (named db right) (λ r. join_of on list l.1 r.1))
     (λ l e. yields_found (IsOpened db query) (relation_named db right) no.NoRelation (λ r. join_of on list l.1 r.1)
-        (λ r f.
-            let found : opened db query ≡ Some (ahead l r) =
-                ap (option_and_then (λ l. option_map (ahead l) (relation_named db right))) e ∙ ap (option_map (ahead l)) f in
-            yields_none (IsOpened db query) (missing_in_join l.1.schema.attributes r.1.schema.attributes on list) no.NoAttribute (typed l r)
-            (λ none.
-                let have = both_have (is_attribute l.1.schema.attributes on) (is_attribute r.1.schema.attributes on) (map (λ name. is_attribute l.1.schema.attributes name || is_attribute r.1.schema.attributes name) list) none in
-                yields_behind (IsOpened db query) (refuse_if (not (joins (domain_of l.1.schema.attributes on) (domain_of r.1.schema.attributes on))) (no.IllTyped 1)) (Ok (rows l r))
-                (yields_ok (IsOpened db query) (rows l r)
-                    (subst (IsAhead (Some (record { reads = relations_read query; rows = rows l r }))) (sym found) (join_many left right on list l.1 r.1 have.0 have.1))))))
+    (λ r f.
+    let found : opened db query ≡ Some (ahead l r) =
+    ap (option_and_then (λ l. option_map (ahead l) (relation_named db right))) e ∙ ap (option_map (ahead l)) f in
+    yields_none (IsOpened db query) (missing_in_join l.1.schema.attributes r.1.schema.attributes on list) no.NoAttribute (typed l r)
+    (λ none.
+    let have = both_have (is_attribute l.1.schema.attributes on) (is_attribute r.1.schema.attributes on) (map (λ name. is_attribute l.1.schema.attributes name || is_attribute r.1.schema.attributes name) list) none in
+    yields_behind (IsOpened db query) (refuse_if (not (joins (domain_of l.1.schema.attributes on) (domain_of r.1.schema.attributes on))) (no.IllTyped 1)) (Ok (rows l r))
+    (yields_ok (IsOpened db query) (rows l r)
+    (subst (IsAhead (Some (record { reads = relations_read query; rows = rows l r }))) (sym found) (join_many left right on list l.1 r.1 have.0 have.1))))))
   where
     query : Query
     query = Join left right on list
@@ -233,7 +233,7 @@ open_at : (db : Database) (number : ℤ) → Yields (IsOpenAt db number) (open_c
 open_at db number =
     yields_found (IsOpenAt db number) (cursor_place number) no.NoCursor (λ place. ◌>>=◌ (found_or (cursor_at db place) no.NoCursor) (λ cursor. Ok (place, cursor)))
     (λ place e. yields_found (IsOpenAt db number) (cursor_at db place) no.NoCursor (λ cursor. Ok (place, cursor))
-        (λ cursor f. yields_ok (IsOpenAt db number) (place, cursor) (record { place = e; cursor = f })))
+    (λ cursor f. yields_ok (IsOpenAt db number) (place, cursor) (record { place = e; cursor = f })))
 
 module _ (db : Database) (aheads : Aheads) (are : AreAhead db.cursors aheads) where
   -- after a command that is carried out
@@ -244,10 +244,10 @@ module _ (db : Database) (aheads : Aheads) (are : AreAhead db.cursors aheads) wh
   kept_open number query =
       yields_found (Kept c) (cursor_place number) no.NoCursor at_place
       (λ place e. yields_behind (Kept c) (refuse_if (is_some (cursor_at db place)) no.CursorOpen) (◌>>=◌ (answer_of db query) (opening place))
-          (yields_by (Kept c) (answer_of db query) (opening place)
-              (λ rows f. yields_ok (Kept c) (with_cursor db place (Some (new rows)), Fine)
-                  (subst (AreAhead (set db.cursors place (Some (new rows)))) (sym (moves place e))
-                      (set_both db.cursors aheads place (Some (new rows)) (opened db query) are ((opened_ahead db query).yields rows f))))))
+      (yields_by (Kept c) (answer_of db query) (opening place)
+      (λ rows f. yields_ok (Kept c) (with_cursor db place (Some (new rows)), Fine)
+      (subst (AreAhead (set db.cursors place (Some (new rows)))) (sym (moves place e))
+      (set_both db.cursors aheads place (Some (new rows)) (opened db query) are ((opened_ahead db query).yields rows f))))))
     where
       c : Command
       c = OpenCursor number query
@@ -280,8 +280,8 @@ module _ (db : Database) (aheads : Aheads) (are : AreAhead db.cursors aheads) wh
   kept_close number =
       yields_by (Kept (CloseCursor number)) (open_cursor_of db number) (λ c. Ok (with_cursor db c.0 None, Fine))
       (λ c e. yields_ok (Kept (CloseCursor number)) (with_cursor db c.0 None, Fine)
-          (subst (AreAhead (set db.cursors c.0 None)) (sym (ap (λ o. option_map_or (λ p. set aheads p None) o aheads) ((open_at db number).yields c e).place))
-              (set_both db.cursors aheads c.0 None None are tt)))
+      (subst (AreAhead (set db.cursors c.0 None)) (sym (ap (λ o. option_map_or (λ p. set aheads p None) o aheads) ((open_at db number).yields c e).place))
+      (set_both db.cursors aheads c.0 None None are tt)))
 
   -- ---- the other commands leave the cursors
 
