@@ -2,11 +2,11 @@ ghost use Rattle.std.specs.Prelude.{◌≡◌, ◌+◌, ◌<◌, ◌≤◌, ℕ,
 ghost use Rattle.db_model.specs.Row.{AllSuit, row_length, suits};
 ghost use Rattle.tuple_file.specs.Tuples.{HoldsRows, slots};
 
-use tuple_file::Tuples;
 use afl_base::{FileError, FileId, Files, Kind, Name, SlotNo};
 use afl_sim::PlainFiles;
 use db_model::{Attribute, Attributes, Domain, Ident, Schema, Text, Tuple, Value};
 use std::test::Fail;
+use tuple_file::Tuples;
 
 // Prepares and appends a row.
 fn insert<V: Files>(tuples: &Tuples, files: &mut V, tuple: &Tuple) -> Result<(), FileError>
@@ -41,7 +41,9 @@ fn remove<V: Files>(tuples: &Tuples, files: &mut V, slot: SlotNo) -> Result<(), 
 fn keys_and_texts(file: FileId) -> Option<Tuples>
     ensures file { IfSome result (λ tuples. tuples.file ≡ file) }
     ensures short { IfSome result (λ tuples. row_length tuples.schema.attributes ≡ 8) }
-    ensures suits { IfSome result (λ tuples. (k : ℤ) (t : List ℕ) → IsTrue (suits Domain.Long (Value.Number k)) → IsTrue (suits (Domain.Str 3) (Value.Text t)) → AllSuit tuples.schema.attributes (Value.Number k ∷ Value.Text t ∷ [])) }
+    ensures suits { IfSome result (λ tuples. (k : ℤ) (t : List ℕ) → IsTrue (suits Domain.Long (Value.Number k))
+        → IsTrue (suits (Domain.Str 3) (Value.Text t))
+        → AllSuit tuples.schema.attributes (Value.Number k ∷ Value.Text t ∷ [])) }
 {
     let mut attributes = Attributes::new();
     attributes.push(Attribute {
