@@ -1,10 +1,10 @@
 -- Files in arrays ask for little.
-use Rattle.std.proofs.Common.{◌≡◌, ℕ, ◌+◌, ◌*◌, ◌≤◌, max, ap, ◌∙◌, arith}
-use Rattle.afl_base.specs.Files.{IsLive, Table, file_at, size_at}
+use Rattle.std.proofs.Common.{◌≡◌, ◌+◌, ap, ◌∙◌, arith}
+use Rattle.afl_base.specs.Files.{Table, size_at}
 use Rattle.afl_base.specs.Fit.{fit}
 use Rattle.afl_base.proofs.FitLaws.{fit_grows}
 use Rattle.afl_sim.specs.PlainFiles.{asked_pages, plain_pages}
-use Rattle.space_model.specs.Wants.{AsksLittle, IsGrowing, IsOfSixPages}
+use Rattle.space_model.specs.Wants.{AsksLittle}
 
 pub plain_little : (files : Table) → AsksLittle files (λ id w b n. n ≡ asked_pages files id b)
 plain_little files = record {

@@ -16,7 +16,8 @@ fn insert<V: Files>(tuples: &Tuples, files: &mut V, tuple: &Tuple) -> Result<(),
     requires suits { AllSuit tuples.now.schema.attributes tuple.now }
     ensures holds { OnOk result (HoldsRows (V.state files.new) tuples.now) }
     ensures idle { OnOk result ((V.state files.new).draft ≡ None) }
-    ensures slots { OnOk result (slots (V.state files.new).files tuples.now ≡ slots (V.state files.old).files tuples.now + 1) }
+    ensures slots { OnOk result (slots (V.state files.new).files tuples.now
+        ≡ slots (V.state files.old).files tuples.now + 1) }
 {
     files.prepare(tuples.file, 0, 128)?;
     tuples.append(files, tuple)?;
@@ -30,7 +31,8 @@ fn remove<V: Files>(tuples: &Tuples, files: &mut V, slot: SlotNo) -> Result<(), 
     requires slot { slot < slots (V.state files.old).files tuples.now }
     ensures holds { OnOk result (HoldsRows (V.state files.new) tuples.now) }
     ensures idle { OnOk result ((V.state files.new).draft ≡ None) }
-    ensures slots { OnOk result (slots (V.state files.new).files tuples.now ≡ slots (V.state files.old).files tuples.now) }
+    ensures slots { OnOk result (slots (V.state files.new).files tuples.now
+        ≡ slots (V.state files.old).files tuples.now) }
 {
     files.prepare(tuples.file, 1, 0)?;
     tuples.mark(files, slot)?;
