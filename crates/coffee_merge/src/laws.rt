@@ -1,14 +1,17 @@
-ghost use Rattle.std.specs.Prelude.{◌≡◌, ◌≤◌, ℕ, ◌++◌, ◌*◌, true, List, length, map, replicate, Some, None};
+ghost use Rattle.std.specs.Prelude.{◌≡◌, ◌≤◌, ℕ, ◌++◌, ◌+◌, ◌*◌, true, List, length, map, replicate, Some, None};
 ghost use Rattle.std.specs.List.{Contains};
 ghost use Rattle.std.specs.Option.{IfSome};
+ghost use Rattle.afl_base.specs.Shares.{gap_for, shares};
 ghost use Rattle.coffee_layout.specs.FileBytes.{file_bytes};
 ghost use Rattle.coffee_layout.specs.Files.{NamedFile, files_of, listed};
+ghost use Rattle.coffee_layout.specs.Marks.{IsCramped};
 ghost use Rattle.coffee_layout.specs.Rules.{broken_image};
+ghost use Rattle.coffee_layout.specs.Tiling.{units_of};
 ghost use Rattle.coffee_layout.specs.Units.{pages_of};
 ghost use Rattle.coffee_layout.specs.Walks.{has_few};
 ghost use Rattle.coffee_layout.specs.declared.file.FileAt.{FileAt};
 ghost use Rattle.coffee_merge.specs.Holding.{Entries, Holds, IsIn};
-ghost use Rattle.coffee_merge.specs.TableFiles.{file_of};
+ghost use Rattle.coffee_merge.specs.TableFiles.{file_of, stored_files};
 
 /// The files of a sound image, in page order and with any number of free places behind them, are a
 /// table that holds it. There are at most 32, and a doubling one has at most twice the pages that its
@@ -42,4 +45,11 @@ pub fn held_files()
         → Contains (files_of image) f → (i : ℕ) × (e : FileAt) × IsIn table i e × (f ≡ file_of image e) }
     ensures size { (image : List ℕ) (table : Entries) (i : ℕ) (e : FileAt) → Holds image table None
         → IsIn table i e → length (file_bytes image e.page.0 e.pages e.log) ≡ e.size }
+{}
+
+/// A sound image that is cramped has no more sectors than its files take, and one gap: what a file takes
+/// follows from its kind and its size.
+pub fn cramped_sectors()
+    ensures { (image : List ℕ) (n sectors : ℕ) → broken_image image ≡ None → length image ≡ 4096 * sectors
+        → IsCramped (units_of image) n → sectors ≤ shares (gap_for n) (stored_files image) + gap_for n }
 {}

@@ -2,4 +2,6 @@ pub mod Lists
 pub mod Planned
 pub mod Suited
 pub mod Selected
+pub mod Partners
+pub mod Joins
 pub mod Walking

@@ -56,7 +56,7 @@ filter_swap p q (x ∷ xs) = swap_step p q (p x) (q x) x (filter p xs) (filter q
 
 -- ---- what is read at slots
 
-at_front : {X : Type 0} (xs : List X) (a k : ℕ) (d : X) → a + suc k ≤ length xs → take (suc k) (drop a xs) ≡ get_or xs a d ∷ take k (drop (a + 1) xs)
+pub at_front : {X : Type 0} (xs : List X) (a k : ℕ) (d : X) → a + suc k ≤ length xs → take (suc k) (drop a xs) ≡ get_or xs a d ∷ take k (drop (a + 1) xs)
 at_front [] a k d h = absurd (omega arith)
 at_front (x ∷ xs) zero k d h = refl
 at_front (x ∷ xs) (suc a) k d h =

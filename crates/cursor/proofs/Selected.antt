@@ -29,11 +29,10 @@ use Rattle.lvm.proofs.Codes.{verdict-code}
 use Rattle.lvm.proofs.Within.{within-range_of}
 use Rattle.tuple_file.specs.declared.tuples.Tuples.{Tuples}
 use Rattle.tuple_file.specs.Tuples.{HoldsRows, rows, slots}
-use Rattle.tuple_file.proofs.Slots.{length-rows}
 use Rattle.cursor.specs.Remaining.{AreOnNumbers, is_live_and, passes, passing, selected_slots, tuples_at}
 use Rattle.cursor.proofs.Lists.{filter_alike, filter_weaker, live_at}
 use Rattle.cursor.proofs.Planned.{AllLie, plan_passes, range_there}
-use Rattle.cursor.proofs.Suited.{key_bounds, number_there, rows_suit}
+use Rattle.cursor.proofs.Suited.{count_rows, key_bounds, number_there, rows_suit}
 
 -- what is so of the rows of a relation is so of each slot with a live row that passes
 pub at_slots : (test : List Value → Bool) (P : Row → Type 0) (all : List Row) → ((slot : ℕ) → slot < length all → is_live_and test (get_or all slot no_row) ≡ true → P (get_or all slot no_row))
@@ -44,7 +43,7 @@ at_slots test P all each slot live =
     (λ above. let none : is_live_and test no_row ≡ true = subst (λ (r : Row). is_live_and test r ≡ true) (get_or_past all slot no_row above) live in absurd (cc))
     (cases_lt slot (length all))
 
-lies : (r : Range) (z : ℤ) → IsWithin r z → lies_in r z ≡ true
+pub lies : (r : Range) (z : ℤ) → IsWithin r z → lies_in r z ≡ true
 lies Empty z h = absurd h
 lies (Between lo hi) z h = let low : lo ≤ℤ z = h.0 in let high : z ≤ℤ hi = h.1 in grind (arith, ints)
 
@@ -61,7 +60,7 @@ module _ (attributes : List Attribute) (condition : Option Cond) where
     all_lie tuple suit is infos numbers.1 places.1,
   )
 
-places_of : (state : State) (n : ℕ) (infos : List IndexInfo) → AreReadable state n infos → AllByRecursion (λ info. info.attribute < 8) infos
+pub places_of : (state : State) (n : ℕ) (infos : List IndexInfo) → AreReadable state n infos → AllByRecursion (λ info. info.attribute < 8) infos
 places_of state n [] h = tt
 places_of state n (info ∷ infos) h = (h.0.place, places_of state n infos h.1)
 
@@ -70,15 +69,12 @@ module _ (state : State) (t : Tuples) (told : IsTrue state.tells) (holds : Holds
   alike : (tuple : List Value) → passes code tuple ≡ selects t.schema.attributes condition tuple
   alike tuple = verdict-code t.schema.attributes tuple condition code is
 
-  count : slots state.files t ≡ length (rows state.files t)
-  count = sym (length-rows t.schema.attributes _)
-
   passed : (slot : ℕ) → is_live_and (passes code) (get_or (rows state.files t) slot no_row) ≡ true → is_passed (kinds infos) (ranges_of t.schema.attributes condition) (get_or (rows state.files t) slot no_row) ≡ true
   passed = at_slots (passes code) (λ r. is_passed (kinds infos) (ranges_of t.schema.attributes condition) r ≡ true) (rows state.files t)
       (λ slot below live.
       let r = get_or (rows state.files t) slot no_row in
       plan_passes (ranges_of t.schema.attributes condition) (λ place. key_in place r) (kinds infos)
-      (all_lie t.schema.attributes condition r.tuple (rows_suit state t told holds slot (omega (arith, below, count)))
+      (all_lie t.schema.attributes condition r.tuple (rows_suit state t told holds slot (omega (arith, below, count_rows state t)))
       (sym (alike r.tuple) ∙ (both r.live (passes code r.tuple) live).1) infos numbers (places_of state (slots state.files t) infos readable)))
 
   -- the slots that are answered, among those that the plan passes

@@ -23,6 +23,7 @@ use Rattle.index_set.specs.Complete.{no_row}
 use Rattle.tuple_file.specs.declared.tuples.Tuples.{Tuples}
 use Rattle.tuple_file.specs.Column.{IsNumber, is_number}
 use Rattle.tuple_file.specs.Tuples.{HoldsRows, rows, slots}
+use Rattle.tuple_file.proofs.Slots.{length-rows}
 use Rattle.cursor.proofs.Walking.{row_there}
 
 -- ---- bytes below 256
@@ -132,6 +133,10 @@ rows_suit state t told h slot below =
     let bytes = bytes_at state.files t.file in
     let small : AreBytes bytes = subst (λ (l : List ℕ). AreBytes l) (h.written told) (rows_read attributes bytes (range_with_len 0 (slots state.files t))) in
     subst (λ (r : Row). AllSuit attributes r.tuple) (sym (row_there attributes bytes slot below)) (row_suits attributes bytes slot small)
+
+-- as many rows as slots
+pub count_rows : (state : State) (t : Tuples) → slots state.files t ≡ length (rows state.files t)
+count_rows state t = sym (length-rows t.schema.attributes (bytes_at state.files t.file))
 
 -- ---- numbers
 

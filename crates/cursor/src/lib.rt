@@ -2,6 +2,7 @@
 #![tactic(auto)]
 
 mod join;
+mod partner;
 mod select;
 mod walk;
 

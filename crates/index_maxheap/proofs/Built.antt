@@ -1,10 +1,9 @@
 -- A draft with a tree in front takes one pair more.
-use Rattle.std.proofs.Common.{◌≡◌, ◌≢◌, ◌≤◌, ◌<◌, ◌+◌, ◌*◌, ◌-◌, ◌/◌, ◌%◌, ℕ, ℤ, zero, suc, List, [], ◌∷◌, ◌++◌, length, take, drop, get_or, set, replicate, refl, arith, ap, ◌∙◌, sym, ◌⊎◌, inl, inr, ⊎_elim, subst, length-append}
+use Rattle.std.proofs.Common.{◌≡◌, ◌≢◌, ◌≤◌, ◌<◌, ◌+◌, ◌*◌, ◌-◌, ◌/◌, ◌%◌, ℕ, ℤ, zero, suc, List, [], ◌∷◌, ◌++◌, length, take, drop, get_or, set, replicate, refl, arith, ap, ◌∙◌, sym, inl, inr, ⊎_elim, subst, length-append}
 use Rattle.std.specs.Prelude.{slice_range, slice_index, true}
 use Rattle.std.specs.List.{filter}
-use Rattle.std.proofs.lemmas.List.{drop_all, ext_get_or, get_or-append-add, get_or-drop, get_or-replicate, get_or-set_other, get_or-set_same, get_or-take, get_or_append_left, replicate-append-replicate, length-drop, length-replicate, length-set, length-take-le}
+use Rattle.std.proofs.lemmas.List.{ext_get_or, get_or-append-add, get_or-drop, get_or-replicate, get_or-set_other, get_or-set_same, get_or-take, get_or_append_left, replicate-append-replicate, length-drop, length-replicate, length-set, length-take-le}
 use Rattle.std.proofs.lemmas.List.FromFn.{length-map-range_with_len}
-use Rattle.byteorder.specs.Endian.{little_number}
 use Rattle.afl_base.specs.Fields.{put_at, u16_at}
 use Rattle.afl_base.specs.Files.{Drafts, State, Table, bytes_at, draft_in}
 use Rattle.afl_base.specs.KeyColumn.{key_of, key_place, number_at}
@@ -12,15 +11,15 @@ use Rattle.afl_base.specs.declared.key_column.KeyColumn.{KeyColumn}
 use Rattle.afl_base.specs.Names.{padded}
 use Rattle.afl_base.proofs.FieldLaws.{length-put_at}
 use Rattle.afl_base.proofs.PaddedLaws.{padded_all, put_behind, put_in_front}
-use Rattle.db_model.specs.HashTree.{buckets, digit, node}
+use Rattle.db_model.specs.HashTree.{buckets, node}
 use Rattle.index_tree.specs.Buckets.{IsFirstBucket, IsPairBytes}
 use Rattle.index_maxheap.specs.Builds.{AreLast, Builds, IsBlank, OnlyDraftChanges}
 use Rattle.index_tree.specs.Ends.{IsEnd, spot_of}
 use Rattle.index_tree.specs.Loads.{Counts, IsLevel, load_of, opened}
 use Rattle.index_tree.specs.Pairs.{Pair, goes, keys_of, pair_of, pairs_of, reach}
-use Rattle.index_tree.specs.Places.{Above, IsGrown, Rises}
+use Rattle.index_tree.specs.Places.{Rises}
 use Rattle.index_tree.specs.TreeFile.{IsTree, behind, bucket_place, number_of, place_of}
-use Rattle.index_tree.proofs.Added.{AddsPair, same_bucket, same_or, zero_or, passes_all}
+use Rattle.index_tree.proofs.Added.{same_bucket, same_or, zero_or, passes_all}
 use Rattle.index_tree.proofs.Counted.{buckets_more, chain}
 use Rattle.index_tree.proofs.Filters.{rises_map}
 use Rattle.index_tree.proofs.Loaded.{counts_more, counts_none, end_level, end_there, pairs_more, zeros_few}
@@ -41,7 +40,7 @@ slice_zeros xs at n fits zeros =
     let cut : length (drop at xs) ≡ length xs - at = length-drop at xs in
     let long : length (take n (drop at xs)) ≡ n = length-take-le n (drop at xs) (omega (arith, cut, fits)) in
     rw e (ext_get_or 0 (take n (drop at xs)) (replicate n 0) (long ∙ sym (length-replicate {A = ℕ} n 0))
-      (λ i h. let inside : i < n = omega (arith, h, long) in get_or-take n (drop at xs) i 0 inside ∙ get_or-drop at xs i 0 ∙ zeros i inside ∙ sym (get_or-replicate n i 0 0 inside)))
+    (λ i h. let inside : i < n = omega (arith, h, long) in get_or-take n (drop at xs) i 0 inside ∙ get_or-drop at xs i 0 ∙ zeros i inside ∙ sym (get_or-replicate n i 0 0 inside)))
 
 two_zeros : (xs : List ℕ) (p : ℕ) → u16_at xs p ≡ 0 → (i : ℕ) → i < 2 → get_or xs (p + i) 0 ≡ 0
 unfolding u16_at
@@ -49,8 +48,10 @@ two_zeros xs p z i h = pick i h
   where
     both : (a b : ℕ) → a + 256 * (b + 256 * 0) ≡ 0 → (a ≡ 0) × (b ≡ 0)
     both a b e = (omega arith, omega arith)
+
     parts : (get_or (drop p xs) 0 0 ≡ 0) × (get_or (drop p xs) 1 0 ≡ 0)
     parts = both (get_or (drop p xs) 0 0) (get_or (drop p xs) 1 0) z
+
     pick : (j : ℕ) → j < 2 → get_or xs (p + j) 0 ≡ 0
     pick zero k = sym (get_or-drop p xs 0 0) ∙ parts.0
     pick (suc zero) k = sym (get_or-drop p xs 1 0) ∙ parts.1
@@ -79,16 +80,16 @@ last_some loads ps key level counts low some =
     let each : get_or loads (node key level) 0 ≡ load_of level (length (reach (goes key) level ps)) = counts.each key level low in
     ⊎_elim
     (λ (lowest : 4 ≤ level).
-      let at : level ≡ 4 = omega arith in
-      let j : ℕ = (get_or loads (node key level) 0 - 1) / 32 in
-      let load : get_or loads (node key level) 0 ≡ length (reach (goes key) 4 ps) = each ∙ subst (λ (l : ℕ). load_of l (length (reach (goes key) l ps)) ≡ length (reach (goes key) 4 ps)) (sym at) refl in
-      let long = chain_length key ps j in
-      let hop : last_hop loads key level ≡ chain j = omega (arith, at) in
-      rw hop (omega (arith, long, load, some)))
+    let at : level ≡ 4 = omega arith in
+    let j : ℕ = (get_or loads (node key level) 0 - 1) / 32 in
+    let load : get_or loads (node key level) 0 ≡ length (reach (goes key) 4 ps) = each ∙ subst (λ (l : ℕ). load_of l (length (reach (goes key) l ps)) ≡ length (reach (goes key) 4 ps)) (sym at) refl in
+    let long = chain_length key ps j in
+    let hop : last_hop loads key level ≡ chain j = omega (arith, at) in
+    rw hop (omega (arith, long, load, some)))
     (λ (upper : level < 4).
-      let load = load_low level (length (reach (goes key) level ps)) upper in
-      let hop : last_hop loads key level ≡ level = omega (arith, each, load) in
-      rw hop (omega (arith, each, load, some)))
+    let load = load_low level (length (reach (goes key) level ps)) upper in
+    let hop : last_hop loads key level ≡ level = omega (arith, each, load) in
+    rw hop (omega (arith, each, load, some)))
     (order 4 level)
   where
     load_low : (l n : ℕ) → l < 4 → load_of l n ≤ 32 × (0 < load_of l n → 0 < n)
@@ -106,8 +107,8 @@ grown_length : (key : ℤ) (ps : List Pair) (q : Pair) (h : ℕ) → length (rea
 grown_length key ps q h = ⊎_elim
     (λ (same : reach (goes key) h (ps ++ q ∷ []) ≡ reach (goes key) h ps). let e = ap length same in omega (arith, e))
     (λ (grown : Full key ps h × (reach (goes key) h (ps ++ q ∷ []) ≡ reach (goes key) h ps ++ q ∷ []) × ((i : ℕ) → i < h → Same key q.key i)).
-      let sum : length (reach (goes key) h ps ++ q ∷ []) ≡ length (reach (goes key) h ps) + 1 = length-append (reach (goes key) h ps) (q ∷ []) in
-      let e = ap length grown.1 in omega (arith, e, sum))
+    let sum : length (reach (goes key) h ps ++ q ∷ []) ≡ length (reach (goes key) h ps) + 1 = length-append (reach (goes key) h ps) (q ∷ []) in
+    let e = ap length grown.1 in omega (arith, e, sum))
     (grows key ps q h)
 
 -- at the end itself it gets one more
@@ -135,24 +136,24 @@ blank_pair tree w ps q hop is rises blank end some pair key h now x up down =
     let more = grown_length key ps q h in
     let old : get_or tree (place_of (number_of tree key h) + x) 0 ≡ 0 = blank key h there x (omega (arith, up, more)) down in
     rw same (⊎_elim
-      (λ (e : number_of tree key h ≡ m).
-        let both = same_bucket tree ps is.each rises key q.key h hop there e in
-        let len = end_length key ps q h (subst (λ (g : ℕ). Full q.key ps g) (sym both.0) end.full) both.1 in
-        let len_ = ap (λ (g : ℕ). length (reach (goes q.key) g ps)) both.0 in
-        byte_stays tree w at (place_of (number_of tree key h) + x) (omega (arith, long, fits, room)) (inr (omega (arith, long, e, up, len, len_))) ∙ old)
-      (λ (d : number_of tree key h ≢ m). (adds.others (number_of tree key h) there d).rest x down ∙ old)
-      (same_or (number_of tree key h) m))
+    (λ (e : number_of tree key h ≡ m).
+    let both = same_bucket tree ps is.each rises key q.key h hop there e in
+    let len = end_length key ps q h (subst (λ (g : ℕ). Full q.key ps g) (sym both.0) end.full) both.1 in
+    let len_ = ap (λ (g : ℕ). length (reach (goes q.key) g ps)) both.0 in
+    byte_stays tree w at (place_of (number_of tree key h) + x) (omega (arith, long, fits, room)) (inr (omega (arith, long, e, up, len, len_))) ∙ old)
+    (λ (d : number_of tree key h ≢ m). (adds.others (number_of tree key h) there d).rest x down ∙ old)
+    (same_or (number_of tree key h) m))
 
 blank_bucket : (tree new : List ℕ) (ps : List Pair) (q : Pair) (hop number : ℕ) → Appends tree new ps q hop number → IsBlank tree ps → IsBlank new (ps ++ q ∷ [])
 blank_bucket tree new ps q hop number a blank key h now x up down = ⊎_elim
     (λ (is : IsNew key q hop h).
-      let len = end_length key ps q h (subst (λ (g : ℕ). Full q.key ps g) (sym is.0) a.full) is.1 in
-      rw (named_at tree new ps q hop number a key h is) (a.zeros x (omega (arith, up, len)) down))
+    let len = end_length key ps q h (subst (λ (g : ℕ). Full q.key ps g) (sym is.0) a.full) is.1 in
+    rw (named_at tree new ps q hop number a key h is) (a.zeros x (omega (arith, up, len)) down))
     (λ (other : IsNew key q hop h → ⊥).
-      let same : number_of new key h ≡ number_of tree key h = kept tree new ps q hop number a key h other in
-      let there : number_of tree key h ≢ 0 = rw same at now in
-      let more = grown_length key ps q h in
-      rw same ((bucket_kept tree new ps q hop number a key h there).rest x down ∙ blank key h there x (omega (arith, up, more)) down))
+    let same : number_of new key h ≡ number_of tree key h = kept tree new ps q hop number a key h other in
+    let there : number_of tree key h ≢ 0 = rw same at now in
+    let more = grown_length key ps q h in
+    rw same ((bucket_kept tree new ps q hop number a key h there).rest x down ∙ blank key h there x (omega (arith, up, more)) down))
     (new_or key q hop h)
 
 -- ---- the last buckets stay
@@ -172,19 +173,20 @@ ends_pair loads places tree new ps q level is counts ends lev partial keeps key 
     let small : n ≤ 340 = node_small q.key level lev.low in
     let long : length loads ≡ 341 = counts.long in
     let last : 0 < get_or loads (node key l) 0 → (g : ℕ) → g ≡ last_hop loads key l → get_or places (node key l) 0 ≡ place_of (number_of new key g) = λ s g e.
-        rw e (rw (keeps key (last_hop loads key l) (number_some tree ps key (last_hop loads key l) is (last_some loads ps key l counts low s))) (ends key l low s)) in
+    rw e (rw (keeps key (last_hop loads key l) (number_some tree ps key (last_hop loads key l) is (last_some loads ps key l counts low s))) (ends key l low s)) in
     ⊎_elim
     (λ (e : node key l ≡ n).
-      let here : get_or (set loads n v) (node key l) 0 ≡ v = ap (λ (j : ℕ). get_or (set loads n v) j 0) e ∙ get_or-set_same loads n v 0 (omega (arith, small, long)) in
-      let was : get_or loads (node key l) 0 ≡ get_or loads n 0 = ap (λ (j : ℕ). get_or loads j 0) e in
-      last (omega (arith, was, partial_some (get_or loads n 0) partial)) (l + (get_or (set loads n v) (node key l) 0 - 1) / 32) (same_quotient l (get_or loads n 0) (get_or (set loads n v) (node key l) 0) (get_or loads (node key l) 0) here was partial))
+    let here : get_or (set loads n v) (node key l) 0 ≡ v = ap (λ (j : ℕ). get_or (set loads n v) j 0) e ∙ get_or-set_same loads n v 0 (omega (arith, small, long)) in
+    let was : get_or loads (node key l) 0 ≡ get_or loads n 0 = ap (λ (j : ℕ). get_or loads j 0) e in
+    last (omega (arith, was, partial_some (get_or loads n 0) partial)) (l + (get_or (set loads n v) (node key l) 0 - 1) / 32) (same_quotient l (get_or loads n 0) (get_or (set loads n v) (node key l) 0) (get_or loads (node key l) 0) here was partial))
     (λ (d : node key l ≢ n).
-      let here : get_or (set loads n v) (node key l) 0 ≡ get_or loads (node key l) 0 = get_or-set_other loads n (node key l) v 0 d in
-      last (rw here at some) (l + (get_or (set loads n v) (node key l) 0 - 1) / 32) (ap (λ (m : ℕ). l + (m - 1) / 32) here))
+    let here : get_or (set loads n v) (node key l) 0 ≡ get_or loads (node key l) 0 = get_or-set_other loads n (node key l) v 0 d in
+    last (rw here at some) (l + (get_or (set loads n v) (node key l) 0 - 1) / 32) (ap (λ (m : ℕ). l + (m - 1) / 32) here))
     (same_or (node key l) n)
   where
     partial_some : (m : ℕ) → m % 32 ≢ 0 → 0 < m
     partial_some m p = ⊎_elim (λ (x : m ≤ 0). absurd (p (omega (arith, x)))) (λ (x : 0 < m). x) (order m 0)
+
     same_quotient : (k m a b : ℕ) → a ≡ m + 1 → b ≡ m → m % 32 ≢ 0 → k + (a - 1) / 32 ≡ k + (b - 1) / 32
     same_quotient k m a b e f p = ⊎_elim (λ (x : m % 32 ≤ 0). absurd (p (omega (arith, x)))) (λ (x : 0 < m % 32). omega (arith, x, e, f)) (order (m % 32) 0)
 
@@ -197,21 +199,21 @@ ends_bucket loads places tree new ps q level hop number is counts wide ends lev 
     let long : length loads ≡ 341 = counts.long in
     ⊎_elim
     (λ (e : node key l ≡ n).
-      let both = node_way key q.key l level e in
-      let same_level : l ≡ level = both.0 in
-      let here : get_or (set loads n v) (node key l) 0 ≡ v = ap (λ (j : ℕ). get_or (set loads n v) j 0) e ∙ get_or-set_same loads n v 0 (omega (arith, small, long)) in
-      let place : get_or (set places n (place_of number)) (node key l) 0 ≡ place_of number = ap (λ (j : ℕ). get_or (set places n (place_of number)) j 0) e ∙ get_or-set_same places n (place_of number) 0 (omega (arith, small, wide)) in
-      let g : l + (get_or (set loads n v) (node key l) 0 - 1) / 32 ≡ hop = omega (arith, here, hop_is, same_level) in
-      let upper : level < hop → 4 ≤ level = λ less. ⊎_elim (λ (x : 4 ≤ level). x) (λ (x : level < 4). let room = lev.room x in absurd (omega (arith, room, less, hop_is))) (order 4 level) in
-      let way : Way key q.key hop = way_deep key q.key l hop both.1 (λ less. let u = upper (omega (arith, less, same_level)) in omega (arith, u, same_level)) in
-      rw g (place ∙ ap place_of (sym (named_at tree new ps q hop number a key hop (refl, way)))))
+    let both = node_way key q.key l level e in
+    let same_level : l ≡ level = both.0 in
+    let here : get_or (set loads n v) (node key l) 0 ≡ v = ap (λ (j : ℕ). get_or (set loads n v) j 0) e ∙ get_or-set_same loads n v 0 (omega (arith, small, long)) in
+    let place : get_or (set places n (place_of number)) (node key l) 0 ≡ place_of number = ap (λ (j : ℕ). get_or (set places n (place_of number)) j 0) e ∙ get_or-set_same places n (place_of number) 0 (omega (arith, small, wide)) in
+    let g : l + (get_or (set loads n v) (node key l) 0 - 1) / 32 ≡ hop = omega (arith, here, hop_is, same_level) in
+    let upper : level < hop → 4 ≤ level = λ less. ⊎_elim (λ (x : 4 ≤ level). x) (λ (x : level < 4). let room = lev.room x in absurd (omega (arith, room, less, hop_is))) (order 4 level) in
+    let way : Way key q.key hop = way_deep key q.key l hop both.1 (λ less. let u = upper (omega (arith, less, same_level)) in omega (arith, u, same_level)) in
+    rw g (place ∙ ap place_of (sym (named_at tree new ps q hop number a key hop (refl, way)))))
     (λ (d : node key l ≢ n).
-      let here : get_or (set loads n v) (node key l) 0 ≡ get_or loads (node key l) 0 = get_or-set_other loads n (node key l) v 0 d in
-      let s : 0 < get_or loads (node key l) 0 = rw here at some in
-      let there : number_of tree key (last_hop loads key l) ≢ 0 = number_some tree ps key (last_hop loads key l) is (last_some loads ps key l counts low s) in
-      let grown : number_of new key (last_hop loads key l) ≡ number_of tree key (last_hop loads key l) = kept tree new ps q hop number a key (last_hop loads key l) (old_other tree new ps q hop number a key (last_hop loads key l) there) in
-      let g : l + (get_or (set loads n v) (node key l) 0 - 1) / 32 ≡ last_hop loads key l = ap (λ (m : ℕ). l + (m - 1) / 32) here in
-      rw g (get_or-set_other places n (node key l) (place_of number) 0 d ∙ ends key l low s ∙ ap place_of (sym grown)))
+    let here : get_or (set loads n v) (node key l) 0 ≡ get_or loads (node key l) 0 = get_or-set_other loads n (node key l) v 0 d in
+    let s : 0 < get_or loads (node key l) 0 = rw here at some in
+    let there : number_of tree key (last_hop loads key l) ≢ 0 = number_some tree ps key (last_hop loads key l) is (last_some loads ps key l counts low s) in
+    let grown : number_of new key (last_hop loads key l) ≡ number_of tree key (last_hop loads key l) = kept tree new ps q hop number a key (last_hop loads key l) (old_other tree new ps q hop number a key (last_hop loads key l) there) in
+    let g : l + (get_or (set loads n v) (node key l) 0 - 1) / 32 ≡ last_hop loads key l = ap (λ (m : ℕ). l + (m - 1) / 32) here in
+    rw g (get_or-set_other places n (node key l) (place_of number) 0 d ∙ ends key l low s ∙ ap place_of (sym grown)))
     (same_or (node key l) n)
   where
     old_other : (t u : List ℕ) (xs : List Pair) (r : Pair) (h m : ℕ) → Appends t u xs r h m → (k : ℤ) (g : ℕ) → number_of t k g ≢ 0 → IsNew k r h g → ⊥
@@ -244,7 +246,6 @@ drafts_then a b c given n at first second x y = record {
 }
 
 module _ (loads places : List ℕ) (opens : ℕ) (draft : List ℕ) (ps : List Pair) (key : ℤ) (level : ℕ) (b : Builds loads places opens draft ps) (lev : IsLevel loads key level) where
-
   abbrev pub load : ℕ
   load = get_or loads (node key level) 0
 
@@ -263,13 +264,15 @@ module _ (loads places : List ℕ) (opens : ℕ) (draft : List ℕ) (ps : List P
   open_bucket partial =
       let some : 0 < load % 32 = positive (load % 32) partial in
       let same : level + (load - 1) / 32 ≡ hop = quotient level load hop some end_.2 in
-      let len = end_.3 in
-      (number_some b.tree ps key hop b.is (omega (arith, len, some)),
-       b.ends key level lev.low (omega (arith, some)) ∙ ap (λ (h : ℕ). place_of (number_of b.tree key h)) same)
+      let len = end_.3 in (
+        number_some b.tree ps key hop b.is (omega (arith, len, some)),
+        b.ends key level lev.low (omega (arith, some)) ∙ ap (λ (h : ℕ). place_of (number_of b.tree key h)) same,
+      )
     where
       positive : (n : ℕ) → n ≢ 0 → 0 < n
       positive zero s = absurd (s refl)
       positive (suc n) s = omega arith
+
       quotient : (l n h : ℕ) → 0 < n % 32 → h ≡ l + n / 32 → l + (n - 1) / 32 ≡ h
       quotient l n h s e = omega (arith, s, e)
 
@@ -285,9 +288,9 @@ module _ (loads places : List ℕ) (opens : ℕ) (draft : List ℕ) (ps : List P
       let at = open_.1 in
       slice_zeros draft (place + 6 * (load % 32)) 6 (omega (arith, at, within, fits, some))
       (λ i h.
-          let x : ℕ = 6 * (load % 32) + i in
-          let e : place + 6 * (load % 32) + i ≡ place_of n + x = omega (arith, at) in
-          rw e (draft_front draft b.tree (place_of n + x) b.padding (omega (arith, within, some, h)) ∙ b.blank key hop open_.0 x (omega (arith, len)) (omega (arith, h))))
+      let x : ℕ = 6 * (load % 32) + i in
+      let e : place + 6 * (load % 32) + i ≡ place_of n + x = omega (arith, at) in
+      rw e (draft_front draft b.tree (place_of n + x) b.padding (omega (arith, within, some, h)) ∙ b.blank key hop open_.0 x (omega (arith, len)) (omega (arith, h))))
 
   pub tree_size : length b.tree ≡ bucket_place opens
   tree_size = b.is.size ∙ ap bucket_place (sym b.count)
@@ -309,22 +312,23 @@ module _ (loads places : List ℕ) (opens : ℕ) (draft : List ℕ) (ps : List P
   unfolding hop end_
   spot_is at whole first next = ⊎_elim
       (λ (z : load ≡ 0).
-        let e : hop ≡ level = let is = end_.2 in omega (arith, z, is) in
-        first z ∙ sym (subst (λ (h : ℕ). spot_of b.tree key h ≡ 2 * node key level) (sym e) (node_spot b.tree key level lev.low)))
+      let e : hop ≡ level = let is = end_.2 in omega (arith, z, is) in
+      first z ∙ sym (subst (λ (h : ℕ). spot_of b.tree key h ≡ 2 * node key level) (sym e) (node_spot b.tree key level lev.low)))
       (λ (s : load ≢ 0).
-        let low = lev.low in
-        let deep : 4 ≤ level = ⊎_elim (λ (x : 4 ≤ level). x) (λ (x : level < 4). let room = lev.room x in absurd (s (omega (arith, room, whole)))) (order 4 level) in
-        let is = end_.2 in
-        let some : 0 < load = positive load s in
-        let last : ℕ = level + (load - 1) / 32 in
-        let e : hop ≡ suc last = omega (arith, is, whole, some) in
-        next s ∙ ap (λ (n : ℕ). n + 192) (b.ends key level low some)
-        ∙ sym (subst (λ (h : ℕ). spot_of b.tree key h ≡ place_of (number_of b.tree key last) + 192) (sym e) (chain_spot b.tree key last (omega (arith, deep)))))
+      let low = lev.low in
+      let deep : 4 ≤ level = ⊎_elim (λ (x : 4 ≤ level). x) (λ (x : level < 4). let room = lev.room x in absurd (s (omega (arith, room, whole)))) (order 4 level) in
+      let is = end_.2 in
+      let some : 0 < load = positive load s in
+      let last : ℕ = level + (load - 1) / 32 in
+      let e : hop ≡ suc last = omega (arith, is, whole, some) in
+      next s ∙ ap (λ (n : ℕ). n + 192) (b.ends key level low some)
+      ∙ sym (subst (λ (h : ℕ). spot_of b.tree key h ≡ place_of (number_of b.tree key last) + 192) (sym e) (chain_spot b.tree key last (omega (arith, deep)))))
       (zero_or load)
     where
       positive : (n : ℕ) → n ≢ 0 → 0 < n
       positive zero s = absurd (s refl)
       positive (suc n) s = omega arith
+
       node_spot : (bytes : List ℕ) (k : ℤ) (l : ℕ) → l ≤ 4 → spot_of bytes k l ≡ 2 * node k l
       node_spot bytes k zero h = refl
       node_spot bytes k (suc zero) h = refl
@@ -332,6 +336,7 @@ module _ (loads places : List ℕ) (opens : ℕ) (draft : List ℕ) (ps : List P
       node_spot bytes k (suc (suc (suc zero))) h = refl
       node_spot bytes k (suc (suc (suc (suc zero)))) h = refl
       node_spot bytes k (suc (suc (suc (suc (suc l))))) h = absurd (omega arith)
+
       chain_spot : (bytes : List ℕ) (k : ℤ) (j : ℕ) → 4 ≤ j → spot_of bytes k (suc j) ≡ place_of (number_of bytes k j) + 192
       chain_spot bytes k zero h = absurd (omega arith)
       chain_spot bytes k (suc zero) h = absurd (omega arith)
@@ -431,6 +436,7 @@ module _ (loads places : List ℕ) (opens : ℕ) (draft : List ℕ) (ps : List P
     where
       one_less : (n : ℕ) → n + 1 - 1 ≡ n
       one_less n = omega arith
+
       one_opened : (m l : ℕ) → l ≡ 0 → m + opened l ≡ m + 1
       one_opened m zero e = refl
       one_opened m (suc l) e = absurd (omega (arith, e))
@@ -469,7 +475,6 @@ empty_size : length empty_tree ≡ 683
 unfolding empty_tree
 empty_size = length-put_at (replicate 683 0) (1 ∷ []) 682 (omega arith)
 
-
 mark_of_empty : slice_index empty_tree 682 ≡ 1
 unfolding empty_tree
 mark_of_empty = put_here (replicate 683 0) (1 ∷ []) 682 0 1 (omega arith) (omega arith) 0 (omega arith)
@@ -506,6 +511,7 @@ builds_none new old n is room put =
   where
     zeros_padded : (m : ℕ) → 683 ≤ m → replicate m 0 ≡ padded m (replicate 683 0)
     zeros_padded m h = let e : 683 + (m - 683) ≡ m = omega (arith, h) in sym (replicate-append-replicate 683 (m - 683) 0 ∙ ap (λ (k : ℕ). replicate k 0) e)
+
     front : (m : ℕ) → 683 ≤ m → put_at (padded m (replicate 683 0)) 682 (1 ∷ []) ≡ padded m empty_tree
     front m h = put_in_front m 682 (replicate 683 0) (1 ∷ []) (omega arith) ∙ ap (padded m) empty_is_put
 
@@ -540,14 +546,17 @@ pub length_pairs : (f : ℕ → ℤ) (slot : ℕ) → length (pairs_of f slot) �
 length_pairs f slot = length-map-range_with_len (pair_of f) 0 slot
 
 pub only_then : (a b c : State) → OnlyDraftChanges a b → OnlyDraftChanges b c → OnlyDraftChanges a c
-only_then a b c x y = (y.0, record {
-  begun = y.1.begun;
-  name = y.1.name ∙ x.1.name;
-  size = y.1.size ∙ x.1.size;
-  bytes = λ told. y.1.bytes (x.1.tells ∙ told);
-  files = y.1.files ∙ x.1.files;
-  tells = y.1.tells ∙ x.1.tells;
-})
+only_then a b c x y = (
+  y.0,
+  record {
+    begun = y.1.begun;
+    name = y.1.name ∙ x.1.name;
+    size = y.1.size ∙ x.1.size;
+    bytes = λ told. y.1.bytes (x.1.tells ∙ told);
+    files = y.1.files ∙ x.1.files;
+    tells = y.1.tells ∙ x.1.tells;
+  },
+)
 
 -- a tree with no room behind it is the whole draft
 pub builds_all : (loads places : List ℕ) (opens : ℕ) (draft : List ℕ) (ps : List Pair) (most : ℕ) → Builds loads places opens draft ps → most ≡ buckets (keys_of ps) → length draft ≡ bucket_place most → IsTree draft ps

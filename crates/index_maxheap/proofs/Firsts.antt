@@ -1,5 +1,5 @@
 -- The first slot of a key, from one on, told by the pairs that are wanted.
-use Rattle.std.proofs.Common.{◌≡◌, ◌≢◌, ◌≤◌, ◌<◌, ◌+◌, ◌-◌, ℕ, ℤ, zero, suc, List, [], ◌∷◌, length, Bool, true, false, cond, refl, arith, ap, ◌∙◌, sym, ⊎_elim, subst}
+use Rattle.std.proofs.Common.{◌≡◌, ◌≤◌, ◌<◌, ◌+◌, ◌-◌, ℕ, ℤ, zero, suc, List, [], ◌∷◌, length, Bool, true, false, cond, refl, arith, ap, ◌∙◌, sym}
 use Rattle.std.specs.Prelude.{◌&&◌, nat_le}
 use Rattle.std.specs.List.{filter}
 use Rattle.std.specs.Ordering.{int_eq}
@@ -9,7 +9,6 @@ use Rattle.index_tree.specs.Pairs.{Pair, has_key}
 use Rattle.index_tree.specs.Places.{is_wanted}
 use Rattle.index_tree.specs.Trees.{numbered}
 use Rattle.index_tree.proofs.Reach.{filter_weaker}
-use Rattle.index_tree.proofs.Shared.{order}
 
 -- ---- tests
 
@@ -84,32 +83,33 @@ first_from key from n slot (k ∷ ks) rest e = by_test (int_eq k key && nat_le f
   where
     head : (p q : Pair) (xs ys : List Pair) → p ∷ xs ≡ q ∷ ys → p.slot ≡ q.slot
     head p q xs ys e = cc
+
     by_test : (b : Bool) → (int_eq k key && nat_le from n) ≡ b → cond b (record { key = k; slot = n } ∷ filter (is_wanted key from) (numbered (n + 1) ks)) (filter (is_wanted key from) (numbered (n + 1) ks)) ≡ record { key = key; slot = slot } ∷ rest →
-      (filter (is_wanted key from) (numbered (n + 1) ks) ≡ record { key = key; slot = slot } ∷ rest → IsFirstFrom key from (n + 1) slot ks) → IsFirstFrom key from n slot (k ∷ ks)
+        (filter (is_wanted key from) (numbered (n + 1) ks) ≡ record { key = key; slot = slot } ∷ rest → IsFirstFrom key from (n + 1) slot ks) → IsFirstFrom key from n slot (k ∷ ks)
     by_test true t e deeper =
-      let same : n ≡ slot = head (record { key = k; slot = n }) (record { key = key; slot = slot }) (filter (is_wanted key from) (numbered (n + 1) ks)) rest e in
-      let parts = and_parts (int_eq k key) (nat_le from n) t in
-      let down : from ≤ n = le_of from n parts.1 in
-      let z : slot - n ≡ 0 = omega (arith, same) in
-      record {
-        up = omega (arith, same);
-        within = omega (arith, same);
-        order = omega (arith, same, down);
-        here = rw z parts.0;
-        before = λ i h j. absurd (omega (arith, j, same));
-      }
+        let same : n ≡ slot = head (record { key = k; slot = n }) (record { key = key; slot = slot }) (filter (is_wanted key from) (numbered (n + 1) ks)) rest e in
+        let parts = and_parts (int_eq k key) (nat_le from n) t in
+        let down : from ≤ n = le_of from n parts.1 in
+        let z : slot - n ≡ 0 = omega (arith, same) in
+        record {
+          up = omega (arith, same);
+          within = omega (arith, same);
+          order = omega (arith, same, down);
+          here = rw z parts.0;
+          before = λ i h j. absurd (omega (arith, j, same));
+        }
     by_test false t e deeper =
-      let deep : IsFirstFrom key from (n + 1) slot ks = deeper e in
-      let up = deep.up in
-      let within = deep.within in
-      let next : slot - n ≡ suc (slot - (n + 1)) = omega (arith, up) in
-      record {
-        up = omega (arith, up);
-        within = omega (arith, within);
-        order = deep.order;
-        here = rw next deep.here;
-        before = λ i h j. before_at k key from n slot ks i h j t deep;
-      }
+        let deep : IsFirstFrom key from (n + 1) slot ks = deeper e in
+        let up = deep.up in
+        let within = deep.within in
+        let next : slot - n ≡ suc (slot - (n + 1)) = omega (arith, up) in
+        record {
+          up = omega (arith, up);
+          within = omega (arith, within);
+          order = deep.order;
+          here = rw next deep.here;
+          before = λ i h j. before_at k key from n slot ks i h j t deep;
+        }
 
 pub is_first : (key : ℤ) (from slot : ℕ) (ks : List ℤ) (rest : List Pair) → filter (is_wanted key from) (numbered 0 ks) ≡ record { key = key; slot = slot } ∷ rest → IsFirstOf key ks from slot
 is_first key from slot ks rest e =
@@ -128,8 +128,8 @@ none_from key from n [] e i h j = absurd (omega (arith, j))
 none_from key from n (k ∷ ks) e i h j = by_test (int_eq k key && nat_le from n) refl e i h j (λ d. none_from key from (n + 1) ks d)
   where
     by_test : (b : Bool) → (int_eq k key && nat_le from n) ≡ b → cond b (record { key = k; slot = n } ∷ filter (is_wanted key from) (numbered (n + 1) ks)) (filter (is_wanted key from) (numbered (n + 1) ks)) ≡ [] →
-      (i : ℕ) → from ≤ n + i → i < length (k ∷ ks) →
-      (filter (is_wanted key from) (numbered (n + 1) ks) ≡ [] → (i : ℕ) → from ≤ n + 1 + i → i < length ks → is_key_at key ks i ≡ false) → is_key_at key (k ∷ ks) i ≡ false
+        (i : ℕ) → from ≤ n + i → i < length (k ∷ ks) →
+        (filter (is_wanted key from) (numbered (n + 1) ks) ≡ [] → (i : ℕ) → from ≤ n + 1 + i → i < length ks → is_key_at key ks i ≡ false) → is_key_at key (k ∷ ks) i ≡ false
     by_test true t e i h j deeper = absurd (no (filter (is_wanted key from) (numbered (n + 1) ks)) e)
       where
         no : (xs : List Pair) → record { key = k; slot = n } ∷ xs ≡ [] → ⊥

@@ -1,11 +1,10 @@
 -- Places that stay good.
-use Rattle.std.proofs.Common.{◌≡◌, ◌≢◌, ◌≤◌, ◌+◌, ℕ, ℤ, List, ◌++◌, length, drop, refl, arith, ap, ◌∙◌, sym, subst}
+use Rattle.std.proofs.Common.{◌≢◌, ◌≤◌, ◌+◌, ℕ, ℤ, List, ◌++◌, length, drop, ap, ◌∙◌, sym, subst}
 use Rattle.std.specs.Prelude.{None, Option, Some}
 use Rattle.std.specs.List.{filter}
 use Rattle.index_tree.specs.Pairs.{Pair, goes, reach}
 use Rattle.index_tree.specs.Places.{IsPlaceAt, KeepsNumbers, is_wanted}
 use Rattle.index_tree.specs.Trees.{numbered}
-use Rattle.index_tree.specs.TreeFile.{number_of}
 use Rattle.index_tree.proofs.Numbered.{numbered-append}
 use Rattle.index_tree.proofs.Reach.{filter_weaker}
 use Rattle.index_tree.proofs.Stays.{place_stays}
@@ -17,7 +16,7 @@ pub good_inserts : (old new : List ℕ) (keys more : List ℤ) (key : ℤ) (from
 good_inserts old new keys more key from None keeps at = tt
 good_inserts old new keys more key from (Some place) keeps at =
     subst (λ (ps : List Pair). IsPlaceAt new ps key from place.bucket place.pair place.hop) (sym (numbered-append 0 keys more))
-      (place_stays old new (numbered 0 keys) (numbered (0 + length keys) more) key from place.bucket place.pair place.hop keeps at)
+    (place_stays old new (numbered 0 keys) (numbered (0 + length keys) more) key from place.bucket place.pair place.hop keeps at)
 
 pub good_again : (first then last : List ℕ) → KeepsNumbers first then → KeepsNumbers then last → KeepsNumbers first last
 good_again first then last a b = λ key hop some. b key hop (subst (λ (n : ℕ). n ≢ 0) (sym (a key hop some)) some) ∙ a key hop some
@@ -32,6 +31,6 @@ good_later bytes keys key from to (Some place) h at =
       some = at.some;
       good = at.good;
       rest = sym (filter_weaker (is_wanted key to) (is_wanted key from) (later_is key from to h) rest)
-        ∙ ap (filter (is_wanted key to)) at.rest
-        ∙ filter_weaker (is_wanted key to) (is_wanted key from) (later_is key from to h) ps;
+          ∙ ap (filter (is_wanted key to)) at.rest
+          ∙ filter_weaker (is_wanted key to) (is_wanted key from) (later_is key from to h) ps;
     }

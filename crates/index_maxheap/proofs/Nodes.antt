@@ -1,21 +1,21 @@
 -- Each node lies on the path of a key, and a tree has no number or pair too much.
-use Rattle.std.proofs.Common.{◌≡◌, ◌≢◌, ◌≤◌, ◌<◌, ◌+◌, ◌*◌, ◌-◌, ◌/◌, ◌%◌, ◌^◌, ℕ, ℤ, pos, zero, suc, List, [], ◌∷◌, length, drop, get_or, refl, arith, ap, ◌∙◌, sym, ◌⊎◌, inl, inr, ⊎_elim, subst}
+use Rattle.std.proofs.Common.{◌≡◌, ◌≢◌, ◌≤◌, ◌<◌, ◌+◌, ◌*◌, ◌-◌, ◌/◌, ◌%◌, ℕ, ℤ, zero, suc, List, length, get_or, refl, arith, ap, ◌∙◌, sym, ◌⊎◌, inl, inr, ⊎_elim, subst}
 use Rattle.std.specs.Prelude.{bit_xor, min, slice_range, slice_index}
 use Rattle.std.specs.Int.{w32, cast_signed, cast_unsigned}
 use Rattle.std.specs.Int.Bits.{xor_zero_r}
 use Rattle.std.proofs.lemmas.Int.{of_z-to_z}
 use Rattle.afl_base.specs.Fields.{u16_at}
-use Rattle.db_model.specs.HashTree.{buckets, digit, mixed, node}
-use Rattle.index_tree.specs.Loads.{Counts, load_of}
-use Rattle.index_tree.specs.Pairs.{Pair, goes, keys_of, pairs_of, reach}
-use Rattle.index_tree.specs.TreeFile.{Holds, IsTree, bucket_place, next_at, number_at, number_of, place_of, slot_at}
-use Rattle.index_maxheap.specs.Verify.{AreHeads, AreTails, IsDone, IsTail, Verifies, hop_of}
+use Rattle.db_model.specs.HashTree.{digit, mixed, node}
+use Rattle.index_tree.specs.Loads.{load_of}
+use Rattle.index_tree.specs.Pairs.{Pair, goes, reach}
+use Rattle.index_tree.specs.TreeFile.{Holds, IsTree, next_at, number_of, place_of}
+use Rattle.index_maxheap.specs.Verify.{AreHeads, IsDone, IsTail, Verifies, hop_of}
 use Rattle.index_maxheap.proofs.Built.{chain_length}
 use Rattle.index_tree.proofs.Counted.{chain}
 use Rattle.index_tree.proofs.Frames.{part_same, u16_same}
 use Rattle.index_tree.proofs.PutBucket.{behind_chain}
 use Rattle.index_tree.proofs.Shared.{order}
-use Rattle.index_maxheap.proofs.Verified.{load_upper, number_node, seen_tree}
+use Rattle.index_maxheap.proofs.Verified.{load_upper, number_node}
 
 -- ---- keys for nodes
 
@@ -36,36 +36,36 @@ pub node_key : (n : ℕ) → n < 341 → (key : ℤ) × (level : ℕ) × (level 
 node_key n small = ⊎_elim
     (λ (a : n < 1). (key_for 0, 0, omega arith, omega arith))
     (λ (a : 1 ≤ n). ⊎_elim
-      (λ (b : n < 5).
-        let k : ℕ = n - 1 in
-        let x : digit (key_for k) 0 ≡ n - 1 = digit_is k 0 (n - 1) (omega arith) (λ m. ap (λ (y : ℕ). y % 4) m ∙ omega arith) in
-        (key_for k, 1, omega arith, omega (arith, x)))
-      (λ (b : 5 ≤ n). ⊎_elim
-        (λ (c : n < 21).
-          let m : ℕ = n - 5 in
-          let k : ℕ = m / 4 + 4 * (m % 4) in
-          let x : digit (key_for k) 0 ≡ m / 4 = digit_is k 0 (m / 4) (omega arith) (λ e. ap (λ (y : ℕ). y % 4) e ∙ omega arith) in
-          let y : digit (key_for k) 1 ≡ m % 4 = digit_is k 1 (m % 4) (omega arith) (λ e. ap (λ (z : ℕ). z / 4 % 4) e ∙ omega arith) in
-          (key_for k, 2, omega arith, omega (arith, x, y)))
-        (λ (c : 21 ≤ n). ⊎_elim
-          (λ (d : n < 85).
-            let m : ℕ = n - 21 in
-            let k : ℕ = m / 16 + 4 * (m / 4 % 4) + 16 * (m % 4) in
-            let x : digit (key_for k) 0 ≡ m / 16 = digit_is k 0 (m / 16) (omega arith) (λ e. ap (λ (z : ℕ). z % 4) e ∙ omega arith) in
-            let y : digit (key_for k) 1 ≡ m / 4 % 4 = digit_is k 1 (m / 4 % 4) (omega arith) (λ e. ap (λ (z : ℕ). z / 4 % 4) e ∙ omega arith) in
-            let z : digit (key_for k) 2 ≡ m % 4 = digit_is k 2 (m % 4) (omega arith) (λ e. ap (λ (w : ℕ). w / 16 % 4) e ∙ omega arith) in
-            (key_for k, 3, omega arith, omega (arith, x, y, z)))
-          (λ (d : 85 ≤ n).
-            let m : ℕ = n - 85 in
-            let k : ℕ = m / 64 + 4 * (m / 16 % 4) + 16 * (m / 4 % 4) + 64 * (m % 4) in
-            let x : digit (key_for k) 0 ≡ m / 64 = digit_is k 0 (m / 64) (omega arith) (λ e. ap (λ (z : ℕ). z % 4) e ∙ omega arith) in
-            let y : digit (key_for k) 1 ≡ m / 16 % 4 = digit_is k 1 (m / 16 % 4) (omega arith) (λ e. ap (λ (z : ℕ). z / 4 % 4) e ∙ omega arith) in
-            let z : digit (key_for k) 2 ≡ m / 4 % 4 = digit_is k 2 (m / 4 % 4) (omega arith) (λ e. ap (λ (w : ℕ). w / 16 % 4) e ∙ omega arith) in
-            let w : digit (key_for k) 3 ≡ m % 4 = digit_is k 3 (m % 4) (omega arith) (λ e. ap (λ (v : ℕ). v / 64 % 4) e ∙ omega arith) in
-            (key_for k, 4, omega arith, omega (arith, x, y, z, w)))
-          (low_or n 85))
-        (low_or n 21))
-      (low_or n 5))
+    (λ (b : n < 5).
+    let k : ℕ = n - 1 in
+    let x : digit (key_for k) 0 ≡ n - 1 = digit_is k 0 (n - 1) (omega arith) (λ m. ap (λ (y : ℕ). y % 4) m ∙ omega arith) in
+    (key_for k, 1, omega arith, omega (arith, x)))
+    (λ (b : 5 ≤ n). ⊎_elim
+    (λ (c : n < 21).
+    let m : ℕ = n - 5 in
+    let k : ℕ = m / 4 + 4 * (m % 4) in
+    let x : digit (key_for k) 0 ≡ m / 4 = digit_is k 0 (m / 4) (omega arith) (λ e. ap (λ (y : ℕ). y % 4) e ∙ omega arith) in
+    let y : digit (key_for k) 1 ≡ m % 4 = digit_is k 1 (m % 4) (omega arith) (λ e. ap (λ (z : ℕ). z / 4 % 4) e ∙ omega arith) in
+    (key_for k, 2, omega arith, omega (arith, x, y)))
+    (λ (c : 21 ≤ n). ⊎_elim
+    (λ (d : n < 85).
+    let m : ℕ = n - 21 in
+    let k : ℕ = m / 16 + 4 * (m / 4 % 4) + 16 * (m % 4) in
+    let x : digit (key_for k) 0 ≡ m / 16 = digit_is k 0 (m / 16) (omega arith) (λ e. ap (λ (z : ℕ). z % 4) e ∙ omega arith) in
+    let y : digit (key_for k) 1 ≡ m / 4 % 4 = digit_is k 1 (m / 4 % 4) (omega arith) (λ e. ap (λ (z : ℕ). z / 4 % 4) e ∙ omega arith) in
+    let z : digit (key_for k) 2 ≡ m % 4 = digit_is k 2 (m % 4) (omega arith) (λ e. ap (λ (w : ℕ). w / 16 % 4) e ∙ omega arith) in
+    (key_for k, 3, omega arith, omega (arith, x, y, z)))
+    (λ (d : 85 ≤ n).
+    let m : ℕ = n - 85 in
+    let k : ℕ = m / 64 + 4 * (m / 16 % 4) + 16 * (m / 4 % 4) + 64 * (m % 4) in
+    let x : digit (key_for k) 0 ≡ m / 64 = digit_is k 0 (m / 64) (omega arith) (λ e. ap (λ (z : ℕ). z % 4) e ∙ omega arith) in
+    let y : digit (key_for k) 1 ≡ m / 16 % 4 = digit_is k 1 (m / 16 % 4) (omega arith) (λ e. ap (λ (z : ℕ). z / 4 % 4) e ∙ omega arith) in
+    let z : digit (key_for k) 2 ≡ m / 4 % 4 = digit_is k 2 (m / 4 % 4) (omega arith) (λ e. ap (λ (w : ℕ). w / 16 % 4) e ∙ omega arith) in
+    let w : digit (key_for k) 3 ≡ m % 4 = digit_is k 3 (m % 4) (omega arith) (λ e. ap (λ (v : ℕ). v / 64 % 4) e ∙ omega arith) in
+    (key_for k, 4, omega arith, omega (arith, x, y, z, w)))
+    (low_or n 85))
+    (low_or n 21))
+    (low_or n 5))
     (low_or n 1)
   where
     low_or : (a b : ℕ) → (a < b) ⊎ (b ≤ a)
@@ -78,9 +78,9 @@ fill_is bytes number place next fill level rest tail holds few =
     let most = tail.few in
     ⊎_elim
     (λ (up : fill ≤ length rest). ⊎_elim
-      (λ (down : length rest ≤ fill). omega (arith, up, down))
-      (λ (less : fill < length rest). let z = tail.empty fill (omega (arith, less, few)) (omega arith) in let s = holds.slot fill (omega (arith, less, few)) less in absurd (omega (arith, z, s)))
-      (order (length rest) fill))
+    (λ (down : length rest ≤ fill). omega (arith, up, down))
+    (λ (less : fill < length rest). let z = tail.empty fill (omega (arith, less, few)) (omega arith) in let s = holds.slot fill (omega (arith, less, few)) less in absurd (omega (arith, z, s)))
+    (order (length rest) fill))
     (λ (past : length rest < fill). absurd (tail.some (length rest) past (holds.empty (length rest) (omega (arith, past, most)) (omega arith))))
     (order fill (length rest))
 
@@ -89,12 +89,12 @@ fill_min bytes number place next fill level rest tail holds =
     let most = tail.few in
     ⊎_elim
     (λ (up : fill ≤ length rest). ⊎_elim
-      (λ (all : 32 ≤ fill). omega (arith, all, most, up))
-      (λ (short : fill < 32). ⊎_elim
-        (λ (down : length rest ≤ fill). omega (arith, up, down, short))
-        (λ (less : fill < length rest). let z = tail.empty fill short (omega arith) in let s = holds.slot fill short less in absurd (omega (arith, z, s)))
-        (order (length rest) fill))
-      (order 32 fill))
+    (λ (all : 32 ≤ fill). omega (arith, all, most, up))
+    (λ (short : fill < 32). ⊎_elim
+    (λ (down : length rest ≤ fill). omega (arith, up, down, short))
+    (λ (less : fill < length rest). let z = tail.empty fill short (omega arith) in let s = holds.slot fill short less in absurd (omega (arith, z, s)))
+    (order (length rest) fill))
+    (order 32 fill))
     (λ (past : length rest < fill). absurd (tail.some (length rest) past (holds.empty (length rest) (omega (arith, past, most)) (omega arith))))
     (order fill (length rest))
 
@@ -109,34 +109,34 @@ tree_done bytes loads places nexts fills ps tree v n small =
         let each = v.counts.each key level low in
         ⊎_elim
         (λ (none : get_or loads (node key level) 0 ≤ 0).
-          let z : get_or loads (node key level) 0 ≡ 0 = omega (arith, none) in
-          let empty : length (reach (goes key) level ps) ≡ 0 = zero_of level (length (reach (goes key) level ps)) (sym each ∙ z) in
-          inl (z, sym (number_node bytes key level low) ∙ zero_number key level empty))
+        let z : get_or loads (node key level) 0 ≡ 0 = omega (arith, none) in
+        let empty : length (reach (goes key) level ps) ≡ 0 = zero_of level (length (reach (goes key) level ps)) (sym each ∙ z) in
+        inl (z, sym (number_node bytes key level low) ∙ zero_number key level empty))
         (λ (some : 0 < get_or loads (node key level) 0).
-          let tail = v.tails key level low some in
-          let hop : ℕ = hop_of level (get_or loads (node key level) 0) in
-          ⊎_elim
-          (λ (deep : 4 ≤ level).
-            let at : level ≡ 4 = omega (arith, low, deep) in
-            let load : get_or loads (node key level) 0 ≡ length (reach (goes key) 4 ps) = each ∙ subst (λ (l : ℕ). load_of l (length (reach (goes key) l ps)) ≡ length (reach (goes key) 4 ps)) (sym at) refl in
-            let j : ℕ = (get_or loads (node key level) 0 - 1) / 32 in
-            let is : hop ≡ chain j = omega (arith, at) in
-            let long : length (reach (goes key) hop ps) ≡ length (reach (goes key) 4 ps) - 32 * j = ap (λ (h : ℕ). length (reach (goes key) h ps)) is ∙ chain_length key ps j in
-            let next_is : suc hop ≡ chain (suc j) = omega (arith, at) in
-            let after : length (reach (goes key) (suc hop) ps) ≡ length (reach (goes key) 4 ps) - 32 * suc j = ap (λ (h : ℕ). length (reach (goes key) h ps)) next_is ∙ chain_length key ps (suc j) in
-            let there : 0 < length (reach (goes key) hop ps) = omega (arith, long, load, some) in
-            let number = some_number key hop there in
-            let fill = fill_is bytes (number_of bytes key hop) (get_or places (node key level) 0) (get_or nexts (node key level) 0) (get_or fills (node key level) 0) level (reach (goes key) hop ps) tail ((tree.each key hop).holds number) (omega (arith, long, load, some)) in
-            let onward : number_of bytes key (suc hop) ≡ next_at bytes (place_of (number_of bytes key hop)) = behind_chain bytes key hop (number_of bytes key hop) number (omega (arith, is)) in
-            inr (some, fill ∙ omega (arith, long, load, some), tail.onward ∙ sym onward ∙ zero_number key (suc hop) (omega (arith, after, load, some))))
-          (λ (upper : level < 4).
-            let load = load_upper level (length (reach (goes key) level ps)) upper in
-            let is : hop ≡ level = omega (arith, each, load) in
-            let same : length (reach (goes key) hop ps) ≡ length (reach (goes key) level ps) = ap (λ (h : ℕ). length (reach (goes key) h ps)) is in
-            let there : 0 < length (reach (goes key) hop ps) = omega (arith, same, each, load, some) in
-            let number = some_number key hop there in
-            inr (some, upper_fill key level hop (get_or loads (node key level) 0) tail ((tree.each key hop).holds number) same each load there, tail.upper upper))
-          (order 4 level))
+        let tail = v.tails key level low some in
+        let hop : ℕ = hop_of level (get_or loads (node key level) 0) in
+        ⊎_elim
+        (λ (deep : 4 ≤ level).
+        let at : level ≡ 4 = omega (arith, low, deep) in
+        let load : get_or loads (node key level) 0 ≡ length (reach (goes key) 4 ps) = each ∙ subst (λ (l : ℕ). load_of l (length (reach (goes key) l ps)) ≡ length (reach (goes key) 4 ps)) (sym at) refl in
+        let j : ℕ = (get_or loads (node key level) 0 - 1) / 32 in
+        let is : hop ≡ chain j = omega (arith, at) in
+        let long : length (reach (goes key) hop ps) ≡ length (reach (goes key) 4 ps) - 32 * j = ap (λ (h : ℕ). length (reach (goes key) h ps)) is ∙ chain_length key ps j in
+        let next_is : suc hop ≡ chain (suc j) = omega (arith, at) in
+        let after : length (reach (goes key) (suc hop) ps) ≡ length (reach (goes key) 4 ps) - 32 * suc j = ap (λ (h : ℕ). length (reach (goes key) h ps)) next_is ∙ chain_length key ps (suc j) in
+        let there : 0 < length (reach (goes key) hop ps) = omega (arith, long, load, some) in
+        let number = some_number key hop there in
+        let fill = fill_is bytes (number_of bytes key hop) (get_or places (node key level) 0) (get_or nexts (node key level) 0) (get_or fills (node key level) 0) level (reach (goes key) hop ps) tail ((tree.each key hop).holds number) (omega (arith, long, load, some)) in
+        let onward : number_of bytes key (suc hop) ≡ next_at bytes (place_of (number_of bytes key hop)) = behind_chain bytes key hop (number_of bytes key hop) number (omega (arith, is)) in
+        inr (some, fill ∙ omega (arith, long, load, some), tail.onward ∙ sym onward ∙ zero_number key (suc hop) (omega (arith, after, load, some))))
+        (λ (upper : level < 4).
+        let load = load_upper level (length (reach (goes key) level ps)) upper in
+        let is : hop ≡ level = omega (arith, each, load) in
+        let same : length (reach (goes key) hop ps) ≡ length (reach (goes key) level ps) = ap (λ (h : ℕ). length (reach (goes key) h ps)) is in
+        let there : 0 < length (reach (goes key) hop ps) = omega (arith, same, each, load, some) in
+        let number = some_number key hop there in
+        inr (some, upper_fill key level hop (get_or loads (node key level) 0) tail ((tree.each key hop).holds number) same each load there, tail.upper upper))
+        (order 4 level))
         (order (get_or loads (node key level) 0) 0)
       where
         zero_of : (l m : ℕ) → load_of l m ≡ 0 → m ≡ 0
@@ -145,10 +145,13 @@ tree_done bytes loads places nexts fills ps tree v n small =
         zero_of (suc (suc zero)) m e = omega (arith, e)
         zero_of (suc (suc (suc zero))) m e = omega (arith, e)
         zero_of (suc (suc (suc (suc l)))) m e = e
+
         zero_number : (k : ℤ) (h : ℕ) → length (reach (goes k) h ps) ≡ 0 → number_of bytes k h ≡ 0
         zero_number k h z = ⊎_elim (λ (y : number_of bytes k h ≤ 0). omega (arith, y)) (λ (y : 0 < number_of bytes k h). let s = (tree.each k h).some (λ e. omega (arith, e, y)) in absurd (omega (arith, s, z))) (order (number_of bytes k h) 0)
+
         some_number : (k : ℤ) (h : ℕ) → 0 < length (reach (goes k) h ps) → number_of bytes k h ≢ 0
         some_number k h s = λ z. let e : length (reach (goes k) h ps) ≡ 0 = ap length ((tree.each k h).none z) in omega (arith, e, s)
+
         upper_fill : (k : ℤ) (l h load : ℕ) → IsTail bytes (number_of bytes k h) (get_or places (node k l) 0) (get_or nexts (node k l) 0) (get_or fills (node k l) 0) l → Holds bytes (place_of (number_of bytes k h)) (reach (goes k) h ps) →
             length (reach (goes k) h ps) ≡ length (reach (goes k) l ps) → load ≡ load_of l (length (reach (goes k) l ps)) → load_of l (length (reach (goes k) l ps)) ≡ min 32 (length (reach (goes k) l ps)) → 0 < length (reach (goes k) h ps) → get_or fills (node k l) 0 ≡ (load - 1) % 32 + 1
         upper_fill k l h load tail holds same each min_is there = let fill = fill_min bytes (number_of bytes k h) (get_or places (node k l) 0) (get_or nexts (node k l) 0) (get_or fills (node k l) 0) l (reach (goes k) h ps) tail holds in omega (arith, fill, same, each, min_is, there)

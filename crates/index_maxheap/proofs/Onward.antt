@@ -1,14 +1,13 @@
 -- From one bucket of a path to the next.
-use Rattle.std.proofs.Common.{◌≡◌, ◌≢◌, ◌≤◌, ◌<◌, ◌+◌, ◌*◌, ◌/◌, ◌-◌, add-one, ℕ, ℤ, zero, suc, List, [], ◌∷◌, length, drop, refl, arith, ap, ◌∙◌, sym, subst}
+use Rattle.std.proofs.Common.{◌≡◌, ◌≢◌, ◌≤◌, ◌<◌, ◌+◌, ◌*◌, ◌/◌, ◌-◌, add-one, ℕ, ℤ, List, [], ◌∷◌, drop, arith, ap, ◌∙◌, sym, subst}
 use Rattle.std.specs.Prelude.{Some, min, slice_range}
 use Rattle.std.specs.List.{filter}
 use Rattle.afl_base.specs.Fields.{u16_at}
 use Rattle.db_model.specs.Cost.{keys_beside}
 use Rattle.db_model.specs.HashTree.{node}
-use Rattle.index_tree.specs.Keys.{IsFirstOf}
 use Rattle.index_tree.specs.Pairs.{Pair, goes, reach}
-use Rattle.index_tree.specs.Places.{IsOnPath, IsPlace, is_wanted, to_come}
-use Rattle.index_tree.specs.TreeFile.{Holds, IsTree, behind, bucket_place, number_of, place_of}
+use Rattle.index_tree.specs.Places.{IsOnPath, is_wanted, to_come}
+use Rattle.index_tree.specs.TreeFile.{Holds, behind, bucket_place, number_of, place_of}
 use Rattle.index_tree.specs.Trees.{IsTreeOf, numbered}
 use Rattle.index_tree.proofs.Beside.{path_short}
 use Rattle.index_tree.proofs.Numbered.{numbered_length}
@@ -53,13 +52,15 @@ found_step bytes keys key from place pair slot order at scans =
     let rest : List Pair = reach (goes key) place.hop ps in
     let first : filter (is_wanted key from) ps ≡ record { key = key; slot = slot } ∷ filter (is_wanted key from) (drop (pair + 1) rest) = sym at.rest ∙ scans.2 in
     let short = scans.0 in
-    let within = scans.1 in
-    (first, record {
-      there = at.there;
-      some = at.some;
-      good = record { full = at.good.full; within = omega (arith, within); short = omega (arith, short) };
-      rest = later_wanted key from slot ps (drop (pair + 1) rest) order first;
-    })
+    let within = scans.1 in (
+      first,
+      record {
+        there = at.there;
+        some = at.some;
+        good = record { full = at.good.full; within = omega (arith, within); short = omega (arith, short) };
+        rest = later_wanted key from slot ps (drop (pair + 1) rest) order first;
+      },
+    )
 
 -- a found slot is one of the tree
 pub found_small : {X : Type 0} (bytes : List ℕ) (keys : List ℤ) (key : ℤ) (from : ℕ) (place : Place) (pair slot : ℕ) → IsTreeOf bytes keys → IsPlaceOf bytes keys key from (Some place) → Scans (scanned.Found pair slot) key from (reach (goes key) place.hop (numbered 0 keys)) place.pair → 32768 ≤ slot → X

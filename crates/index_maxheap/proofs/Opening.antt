@@ -1,12 +1,12 @@
 -- What the bytes of a bucket say of the file.
-use Rattle.std.proofs.Common.{◌≡◌, ◌≢◌, ◌≤◌, ◌<◌, ◌+◌, ◌*◌, ◌-◌, ℕ, ℤ, pos, zero, suc, List, length, get_or, Bool, true, false, refl, arith, ap, ◌∙◌, sym, ◌⊎◌, inl, inr, ⊎_elim, subst}
-use Rattle.std.specs.Prelude.{min, slice_range, slice_index}
+use Rattle.std.proofs.Common.{◌≡◌, ◌≢◌, ◌≤◌, ◌<◌, ◌+◌, ℕ, ℤ, pos, List, length, true, false, refl, arith, ◌∙◌, sym, ◌⊎◌, ⊎_elim}
+use Rattle.std.specs.Prelude.{slice_range, slice_index}
 use Rattle.std.specs.Ordering.{int_eq}
 use Rattle.std.proofs.lemmas.Bool.Decides.{Decides-int_eq}
 use Rattle.afl_base.specs.Fields.{i32_at, u16_at}
 use Rattle.index_tree.specs.Buckets.{IsFilled}
 use Rattle.index_tree.specs.Pairs.{Pair}
-use Rattle.index_tree.specs.TreeFile.{Holds, bucket_place, key_at, last_at, next_at, place_of, slot_at}
+use Rattle.index_tree.specs.TreeFile.{Holds, bucket_place, key_at, next_at, place_of, slot_at}
 use Rattle.index_tree.specs.Buckets.{HasPair}
 use Rattle.index_maxheap.specs.Verify.{IsTail}
 use Rattle.index_tree.proofs.Frames.{part_same, u16_same}
@@ -22,7 +22,6 @@ pub next_part : (file part : List ℕ) (place : ℕ) → part ≡ slice_range fi
 next_part file part place is = u16_same part file 192 (place + 192) (part_same file part place (place + 195) 192 2 is (omega arith))
 
 module _ (file part : List ℕ) (number level : ℕ) (q : Pair) (is : part ≡ slice_range file (place_of number) (place_of number + 195)) where
-
   pub wrong_slot : u16_at part 4 ≢ q.slot + 1 → HasPair file number 0 q → ⊥
   wrong_slot wrong has = wrong (slot_part file part (place_of number) 0 is (omega arith) ∙ has.slot)
 

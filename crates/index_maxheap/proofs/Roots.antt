@@ -1,6 +1,6 @@
 -- The root is where a search begins.
-use Rattle.std.proofs.Common.{◌≡◌, ◌≢◌, ◌≤◌, ◌<◌, ◌+◌, ◌*◌, ◌/◌, ◌-◌, ℕ, ℤ, List, [], ◌∷◌, length, refl, arith, ap, sym, ◌∙◌}
-use Rattle.std.specs.Prelude.{Err, IfOk, IfSome, None, Ok, Option, Result, Some, min}
+use Rattle.std.proofs.Common.{◌≡◌, ◌≤◌, ◌+◌, ℕ, ℤ, List, [], ◌∷◌, refl, arith, sym, ◌∙◌}
+use Rattle.std.specs.Prelude.{Err, IfOk, IfSome, None, Ok, Option, Result, Some}
 use Rattle.afl_base.specs.Fields.{u16_at}
 use Rattle.index_tree.specs.Trees.{IsTreeOf, numbered}
 use Rattle.index_maxheap.specs.Searches.{IsPlaceOf, IsStart, walk_left}

@@ -1,5 +1,5 @@
 -- A search in a bucket.
-use Rattle.std.proofs.Common.{◌≡◌, ◌≢◌, ◌≤◌, ◌<◌, ◌+◌, ◌*◌, ◌-◌, ℕ, ℤ, List, [], ◌∷◌, length, drop, get_or, Bool, true, false, refl, arith, ap, ◌∙◌, sym, ⊎_elim}
+use Rattle.std.proofs.Common.{◌≡◌, ◌≢◌, ◌≤◌, ◌<◌, ◌+◌, ◌-◌, ℕ, ℤ, List, [], ◌∷◌, length, drop, get_or, Bool, true, false, refl, arith, ap, ◌∙◌, sym, ⊎_elim}
 use Rattle.std.specs.Prelude.{◌&&◌, nat_le, nat_lt}
 use Rattle.std.specs.List.{filter}
 use Rattle.std.specs.Ordering.{int_eq}
@@ -41,23 +41,23 @@ first_part true b e = refl
 first_part false b e = e
 
 pub found : (bytes : List ℕ) (rest : List Pair) (pair : ℕ) (key : ℤ) (from : ℕ) → Holds bytes 0 rest → pair < 32 → pair < length rest → wants_at bytes key from pair ≡ true →
-  filter (is_wanted key from) (drop pair rest) ≡ record { key = key; slot = slot_at bytes 0 pair - 1 } ∷ filter (is_wanted key from) (drop (pair + 1) rest)
+    filter (is_wanted key from) (drop pair rest) ≡ record { key = key; slot = slot_at bytes 0 pair - 1 } ∷ filter (is_wanted key from) (drop (pair + 1) rest)
 found bytes rest pair key from holds short within same =
-  let p : Pair = get_or rest pair no_pair in
-  let k : key_at bytes 0 pair ≡ p.key = holds.key pair short within in
-  let n : slot_at bytes 0 pair ≡ p.slot + 1 = holds.slot pair short within in
-  let slot : p.slot ≡ slot_at bytes 0 pair - 1 = omega (arith, n) in
-  let mine : is_wanted key from p ≡ true = sym (wants_is bytes rest pair key from holds short within) ∙ same in
-  let its : p.key ≡ key = sym k ∙ eq_true (key_at bytes 0 pair) key (first_part (int_eq (key_at bytes 0 pair) key) (nat_lt from (slot_at bytes 0 pair)) same) in
-  ap (filter (is_wanted key from)) (drop_more rest pair no_pair within)
-  ∙ take_first (is_wanted key from) p (record { key = key; slot = slot_at bytes 0 pair - 1 }) (drop (pair + 1) rest) mine
-      (same_pair p (record { key = key; slot = slot_at bytes 0 pair - 1 }) its slot)
+    let p : Pair = get_or rest pair no_pair in
+    let k : key_at bytes 0 pair ≡ p.key = holds.key pair short within in
+    let n : slot_at bytes 0 pair ≡ p.slot + 1 = holds.slot pair short within in
+    let slot : p.slot ≡ slot_at bytes 0 pair - 1 = omega (arith, n) in
+    let mine : is_wanted key from p ≡ true = sym (wants_is bytes rest pair key from holds short within) ∙ same in
+    let its : p.key ≡ key = sym k ∙ eq_true (key_at bytes 0 pair) key (first_part (int_eq (key_at bytes 0 pair) key) (nat_lt from (slot_at bytes 0 pair)) same) in
+    ap (filter (is_wanted key from)) (drop_more rest pair no_pair within)
+    ∙ take_first (is_wanted key from) p (record { key = key; slot = slot_at bytes 0 pair - 1 }) (drop (pair + 1) rest) mine
+    (same_pair p (record { key = key; slot = slot_at bytes 0 pair - 1 }) its slot)
 
 pub passed : (bytes : List ℕ) (rest : List Pair) (pair : ℕ) (key : ℤ) (from : ℕ) → Holds bytes 0 rest → pair < 32 → pair < length rest → wants_at bytes key from pair ≡ false →
-  filter (is_wanted key from) (drop pair rest) ≡ filter (is_wanted key from) (drop (pair + 1) rest)
+    filter (is_wanted key from) (drop pair rest) ≡ filter (is_wanted key from) (drop (pair + 1) rest)
 passed bytes rest pair key from holds short within other =
-  ap (filter (is_wanted key from)) (drop_more rest pair no_pair within)
-  ∙ skip_first (is_wanted key from) (get_or rest pair no_pair) (drop (pair + 1) rest) (sym (wants_is bytes rest pair key from holds short within) ∙ other)
+    ap (filter (is_wanted key from)) (drop_more rest pair no_pair within)
+    ∙ skip_first (is_wanted key from) (get_or rest pair no_pair) (drop (pair + 1) rest) (sym (wants_is bytes rest pair key from holds short within) ∙ other)
 
 -- nothing comes from an empty pair on
 pub past : (bytes : List ℕ) (rest : List Pair) (pair : ℕ) (key : ℤ) (from : ℕ) → Holds bytes 0 rest → pair < 32 → slot_at bytes 0 pair ≡ 0 → filter (is_wanted key from) (drop pair rest) ≡ []

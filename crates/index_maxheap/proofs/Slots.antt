@@ -1,5 +1,5 @@
 -- The next slot's pair is seen.
-use Rattle.std.proofs.Common.{◌≡◌, ◌≢◌, ◌≤◌, ◌<◌, ◌+◌, ◌*◌, ◌-◌, ◌/◌, ◌%◌, ℕ, ℤ, zero, suc, List, [], ◌∷◌, ◌++◌, length, get_or, replicate, set, refl, arith, ap, ◌∙◌, sym, ◌⊎◌, inl, inr, ⊎_elim, subst}
+use Rattle.std.proofs.Common.{◌≡◌, ◌≢◌, ◌≤◌, ◌<◌, ◌+◌, ◌*◌, ◌/◌, ◌%◌, ℕ, ℤ, zero, suc, List, [], length, get_or, replicate, set, refl, arith, ap, ◌∙◌, sym, ⊎_elim, subst}
 use Rattle.std.specs.Prelude.{None, slice_range}
 use Rattle.std.proofs.lemmas.List.{length-set}
 use Rattle.afl_base.specs.Fields.{i32_at, u16_at}
@@ -7,9 +7,9 @@ use Rattle.db_model.specs.HashTree.{buckets, node}
 use Rattle.index_tree.specs.Ends.{IsEnd}
 use Rattle.index_tree.specs.Loads.{Counts, IsLevel, opened}
 use Rattle.index_tree.specs.Pairs.{Pair, goes, keys_of, pair_of, pairs_of, reach}
-use Rattle.index_tree.specs.TreeFile.{IsTree, bucket_place, key_at, next_at, number_at, number_of, place_of, slot_at}
+use Rattle.index_tree.specs.TreeFile.{IsTree, number_of, place_of}
 use Rattle.index_tree.specs.Buckets.{HasPair}
-use Rattle.index_maxheap.specs.Verify.{AreHeads, AreSeen, AreTails, IsTail, Opens, Verifies, hop_of}
+use Rattle.index_maxheap.specs.Verify.{AreHeads, IsTail, Opens, Verifies, hop_of}
 use Rattle.index_tree.proofs.Added.{zero_or}
 use Rattle.index_tree.proofs.Frames.{i32_same, part_same, u16_same}
 use Rattle.index_tree.proofs.Loaded.{counts_more, counts_none, end_level, loaded, pairs_more, reach_none, zeros_few}
@@ -19,7 +19,6 @@ use Rattle.index_tree.proofs.Expected.{expected}
 use Rattle.index_maxheap.proofs.Verified.{number_node, seen_more, tails_bucket, tails_pair}
 
 module _ (bytes loads places nexts fills : List ℕ) (f : ℕ → ℤ) (slot level : ℕ) (v : Verifies bytes loads places nexts fills (pairs_of f slot)) (lev : IsLevel loads (f slot) level) where
-
   abbrev pub key : ℤ
   key = f slot
 
@@ -52,6 +51,7 @@ module _ (bytes loads places nexts fills : List ℕ) (f : ℕ → ℤ) (slot lev
       positive : (m : ℕ) → m ≢ 0 → 0 < m
       positive zero s = absurd (s refl)
       positive (suc m) s = omega arith
+
       quotient : (l m h : ℕ) → 0 < m % 32 → h ≡ l + m / 32 → hop_of l m ≡ h
       quotient l m h s e = omega (arith, s, e)
 
@@ -96,19 +96,19 @@ module _ (bytes loads places nexts fills : List ℕ) (f : ℕ → ℤ) (slot lev
   unfolding hop end_
   number_is heads number are whole small first later = ⊎_elim
       (λ (z : load ≡ 0).
-        let is = end_.2 in
-        let e : end_.0 ≡ level = omega (arith, z, is) in
-        first z ∙ are n small ∙ sym (number_node bytes (f slot) level lev.low) ∙ ap (number_of bytes (f slot)) (sym e))
+      let is = end_.2 in
+      let e : end_.0 ≡ level = omega (arith, z, is) in
+      first z ∙ are n small ∙ sym (number_node bytes (f slot) level lev.low) ∙ ap (number_of bytes (f slot)) (sym e))
       (λ (s : load ≢ 0).
-        let low = lev.low in
-        let deep : 4 ≤ level = ⊎_elim (λ (x : 4 ≤ level). x) (λ (x : level < 4). let room = lev.room x in absurd (s (omega (arith, room, whole)))) (order 4 level) in
-        let is = end_.2 in
-        let some : 0 < load = positive load s in
-        let last : ℕ = hop_of level load in
-        let e : end_.0 ≡ suc last = omega (arith, is, whole, some) in
-        let before : 32 ≤ length (reach (goes (f slot)) last (pairs_of f slot)) = end_.1.full last (omega (arith, e)) in
-        let there = (v.seen (f slot) last (omega (arith, before))).some in
-        later s ∙ (v.tails (f slot) level low some).onward ∙ sym (behind_chain bytes (f slot) last (number_of bytes (f slot) last) there (omega (arith, deep))) ∙ ap (number_of bytes (f slot)) (sym e))
+      let low = lev.low in
+      let deep : 4 ≤ level = ⊎_elim (λ (x : 4 ≤ level). x) (λ (x : level < 4). let room = lev.room x in absurd (s (omega (arith, room, whole)))) (order 4 level) in
+      let is = end_.2 in
+      let some : 0 < load = positive load s in
+      let last : ℕ = hop_of level load in
+      let e : end_.0 ≡ suc last = omega (arith, is, whole, some) in
+      let before : 32 ≤ length (reach (goes (f slot)) last (pairs_of f slot)) = end_.1.full last (omega (arith, e)) in
+      let there = (v.seen (f slot) last (omega (arith, before))).some in
+      later s ∙ (v.tails (f slot) level low some).onward ∙ sym (behind_chain bytes (f slot) last (number_of bytes (f slot) last) there (omega (arith, deep))) ∙ ap (number_of bytes (f slot)) (sym e))
       (zero_or load)
     where
       positive : (m : ℕ) → m ≢ 0 → 0 < m
@@ -137,9 +137,9 @@ module _ (bytes loads places nexts fills : List ℕ) (f : ℕ → ℤ) (slot lev
       let bucket = tree.each (f slot) end_.0 in
       wrong (reach (goes (f slot)) end_.0 (pairs_of f slots)) here (rw (sym is) at (bucket.holds (rw is at here.some)))
       (λ low.
-          let room = lev.room low in
-          let e : end_.0 ≡ level = let h = end_.2 in omega (arith, h, room) in
-          rw is (tree.upper (f slot) end_.0 (omega (arith, e, low)) (rw is at here.some)))
+      let room = lev.room low in
+      let e : end_.0 ≡ level = let h = end_.2 in omega (arith, h, room) in
+      rw is (tree.upper (f slot) end_.0 (omega (arith, e, low)) (rw is at here.some)))
 
 pub six_slot : (file part : List ℕ) (at : ℕ) → part ≡ slice_range file at (at + 6) → u16_at part 4 ≡ u16_at file (at + 4)
 six_slot file part at is = u16_same part file 4 (at + 4) (part_same file part at (at + 6) 4 2 is (omega arith))

@@ -1,9 +1,8 @@
 -- The room that a walk finds is the one that the bytes tell, and back.
-use Rattle.std.proofs.Common.{◌≡◌, ◌≢◌, ◌≤◌, ◌<◌, ◌+◌, ◌*◌, ◌-◌, ℕ, ℤ, zero, suc, List, [], ◌∷◌, length, refl, arith, ap, ◌∙◌, sym, subst, ⊎_elim}
-use Rattle.std.specs.Prelude.{min}
+use Rattle.std.proofs.Common.{◌≡◌, ◌≢◌, ◌<◌, ◌+◌, ◌*◌, ℕ, ℤ, zero, suc, List, length, refl, arith, ap, ◌∙◌, sym, subst, ⊎_elim}
 use Rattle.index_tree.specs.Ends.{IsEnd, end_of, filled_of, spot_of}
 use Rattle.index_tree.specs.Pairs.{Pair, goes, reach}
-use Rattle.index_tree.specs.TreeFile.{IsBucket, IsTree, number_of, place_of}
+use Rattle.index_tree.specs.TreeFile.{IsTree, number_of, place_of}
 use Rattle.index_tree.specs.Trees.{IsTreeOf, numbered}
 use Rattle.index_tree.proofs.Added.{zero_or}
 use Rattle.index_tree.proofs.Ends.{end_is, filled_bucket}
@@ -68,4 +67,4 @@ room_told room bytes keys key tree is =
     let hop : end_of bytes key ≡ last.0 = end_is bytes ps key last.0 tree last.1 in
     let e : room.end ≡ end_at bytes key last.0 = ap (λ (r : Room). r.end) is ∙ end_for (end_at bytes key (end_of bytes key)) ∙ ap (end_at bytes key) hop in
     subst (λ (x : End). Finds x bytes ps key) (sym e)
-      (finds_by (spot_of bytes key last.0) (place_of (number_of bytes key last.0)) (filled_of bytes (number_of bytes key last.0)) bytes ps key last.0 tree last.1 refl refl (filled_end bytes ps key last.0 tree last.1))
+    (finds_by (spot_of bytes key last.0) (place_of (number_of bytes key last.0)) (filled_of bytes (number_of bytes key last.0)) bytes ps key last.0 tree last.1 refl refl (filled_end bytes ps key last.0 tree last.1))

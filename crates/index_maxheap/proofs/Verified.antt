@@ -1,23 +1,20 @@
 -- Pairs that were seen slot by slot make the file the tree.
-use Rattle.std.proofs.Common.{◌≡◌, ◌≢◌, ◌≤◌, ◌<◌, ◌+◌, ◌*◌, ◌-◌, ◌/◌, ◌%◌, ℕ, ℤ, pos, zero, suc, List, [], ◌∷◌, ◌++◌, length, drop, get_or, set, Bool, true, false, refl, arith, ap, ◌∙◌, sym, ◌⊎◌, inl, inr, ⊎_elim, subst, length-append}
+use Rattle.std.proofs.Common.{◌≡◌, ◌≢◌, ◌≤◌, ◌<◌, ◌+◌, ◌*◌, ◌-◌, ◌/◌, ◌%◌, ℕ, ℤ, pos, zero, suc, List, [], ◌∷◌, ◌++◌, length, get_or, set, refl, arith, ap, ◌∙◌, sym, ⊎_elim, subst, length-append}
 use Rattle.std.specs.Prelude.{min, slice_index}
-use Rattle.std.proofs.lemmas.List.{get_or-set_other, get_or-set_same, get_or_append_left, length-drop}
+use Rattle.std.proofs.lemmas.List.{get_or-set_other, get_or-set_same, get_or_append_left}
 use Rattle.std.proofs.Math.Seq.{get_or-append_seam}
 use Rattle.db_model.specs.HashTree.{buckets, node}
 use Rattle.index_tree.specs.Ends.{IsEnd}
 use Rattle.index_tree.specs.Loads.{Counts, IsLevel, load_of}
-use Rattle.index_tree.specs.Pairs.{Pair, goes, keys_of, no_pair, pair_of, pairs_of, reach}
-use Rattle.index_tree.specs.TreeFile.{Holds, IsBucket, IsTree, behind, bucket_place, key_at, last_at, next_at, number_at, number_of, place_of, slot_at}
+use Rattle.index_tree.specs.Pairs.{Pair, goes, keys_of, no_pair, reach}
+use Rattle.index_tree.specs.TreeFile.{Holds, IsTree, behind, bucket_place, key_at, next_at, number_at, number_of, place_of, slot_at}
 use Rattle.index_maxheap.specs.Verify.{AreSeen, AreTails, Has, IsDone, IsTail, hop_of}
 use Rattle.index_tree.specs.Buckets.{HasPair}
-use Rattle.index_tree.proofs.Added.{number_same, only_end, passes_all, same_or}
+use Rattle.index_tree.proofs.Added.{number_same, only_end, same_or}
 use Rattle.index_maxheap.proofs.Built.{chain_length, node_way, way_deep}
 use Rattle.index_tree.proofs.Counted.{chain}
-use Rattle.index_tree.proofs.Loaded.{pairs_more}
-use Rattle.index_tree.proofs.Owned.{later}
 use Rattle.index_tree.proofs.PutBucket.{Way, behind_chain, behind_node, behind_none}
-use Rattle.index_tree.proofs.Reach.{reach-append}
-use Rattle.index_tree.proofs.Shared.{Full, Same, goes_self, grows, order, reach_same}
+use Rattle.index_tree.proofs.Shared.{Full, Same, grows, order, reach_same}
 use Rattle.index_tree.proofs.Spots.{node_small}
 
 -- ---- the last bucket of a node
@@ -50,8 +47,7 @@ number_node bytes key zero h = refl
 number_node bytes key (suc hop) h = behind_node bytes key hop (number_of bytes key hop) (omega (arith, h))
 
 module _ (bytes loads places nexts fills : List ℕ) (ps : List Pair) (counts : Counts loads ps) (seen : AreSeen bytes ps) (tails : AreTails bytes loads places nexts fills)
-  (done : (n : ℕ) → n < 341 → IsDone bytes n (get_or loads n 0) (get_or nexts n 0) (get_or fills n 0)) where
-
+    (done : (n : ℕ) → n < 341 → IsDone bytes n (get_or loads n 0) (get_or nexts n 0) (get_or fills n 0)) where
   at_node : (key : ℤ) (hop : ℕ) → hop ≤ 4 → length (reach (goes key) hop ps) ≡ 0 → number_of bytes key hop ≡ 0
   at_node key hop low none =
       let small = node_small key hop low in
@@ -76,7 +72,7 @@ module _ (bytes loads places nexts fills : List ℕ) (ps : List Pair) (counts : 
       ⊎_elim
       (λ (x : (get_or loads (node key level) 0 ≡ 0) × (number_at bytes (node key level) ≡ 0)). let z = x.0 in absurd (omega (arith, some, z)))
       (λ (x : (0 < get_or loads (node key level) 0) × (get_or fills (node key level) 0 ≡ (get_or loads (node key level) 0 - 1) % 32 + 1) × (get_or nexts (node key level) 0 ≡ 0)).
-        (subst (λ (h : ℕ). next_at bytes (place_of (number_of bytes key h)) ≡ 0) is (sym tail.onward ∙ x.2), x.1))
+      (subst (λ (h : ℕ). next_at bytes (place_of (number_of bytes key h)) ≡ 0) is (sym tail.onward ∙ x.2), x.1))
       (done (node key level) (omega (arith, small)))
 
   -- a path has no bucket where nothing comes
@@ -84,12 +80,12 @@ module _ (bytes loads places nexts fills : List ℕ) (ps : List Pair) (counts : 
   nothing_there key zero none = at_node key 0 (omega arith) none
   nothing_there key (suc hop) none = ⊎_elim
       (λ (deep : 4 ≤ hop). ⊎_elim
-        (λ (empty : length (reach (goes key) hop ps) ≤ 0). ap (behind bytes key hop) (nothing_there key hop (omega (arith, empty))) ∙ behind_none bytes key hop deep)
-        (λ (some : 0 < length (reach (goes key) hop ps)).
-          let few : length (reach (goes key) hop ps) ≤ 32 = chain_few key hop deep none in
-          let last = chain_hop loads ps key hop counts deep some few in
-          behind_chain bytes key hop (number_of bytes key hop) (seen key hop some).some deep ∙ (end_next key 4 hop (omega arith) last.0 last.1).0)
-        (order (length (reach (goes key) hop ps)) 0))
+      (λ (empty : length (reach (goes key) hop ps) ≤ 0). ap (behind bytes key hop) (nothing_there key hop (omega (arith, empty))) ∙ behind_none bytes key hop deep)
+      (λ (some : 0 < length (reach (goes key) hop ps)).
+      let few : length (reach (goes key) hop ps) ≤ 32 = chain_few key hop deep none in
+      let last = chain_hop loads ps key hop counts deep some few in
+      behind_chain bytes key hop (number_of bytes key hop) (seen key hop some).some deep ∙ (end_next key 4 hop (omega arith) last.0 last.1).0)
+      (order (length (reach (goes key) hop ps)) 0))
       (λ (low : hop < 4). at_node key (suc hop) (omega (arith, low)) none)
       (order 4 hop)
     where
@@ -105,9 +101,9 @@ module _ (bytes loads places nexts fills : List ℕ) (ps : List Pair) (counts : 
   holds_all key hop some =
       let has = seen key hop some in
       let tail : length (reach (goes key) hop ps) < 32 → (l : ℕ) × (l ≤ 4) × (0 < get_or loads (node key l) 0) × (hop_of l (get_or loads (node key l) 0) ≡ hop) × ((get_or loads (node key l) 0 - 1) % 32 + 1 ≡ length (reach (goes key) hop ps)) = λ few. ⊎_elim
-          (λ (deep : 4 ≤ hop). let last = chain_hop loads ps key hop counts deep some (omega (arith, few)) in (4, omega arith, last.0, last.1, last.2))
-          (λ (low : hop < 4). let last = upper_hop loads ps key hop counts low some in (hop, omega (arith, low), last.0, last.1, last.2 (omega (arith, few))))
-          (order 4 hop) in
+      (λ (deep : 4 ≤ hop). let last = chain_hop loads ps key hop counts deep some (omega (arith, few)) in (4, omega arith, last.0, last.1, last.2))
+      (λ (low : hop < 4). let last = upper_hop loads ps key hop counts low some in (hop, omega (arith, low), last.0, last.1, last.2 (omega (arith, few))))
+      (order 4 hop) in
       record {
         slot = has.slot;
         key = has.key;
@@ -143,6 +139,7 @@ module _ (bytes loads places nexts fills : List ℕ) (ps : List Pair) (counts : 
       none_of : (xs : List Pair) → (0 < length xs → ⊥) → xs ≡ []
       none_of [] h = refl
       none_of (x ∷ xs) h = absurd (h (omega arith))
+
       there : (k : ℤ) (h : ℕ) → number_of bytes k h ≢ 0 → 0 < length (reach (goes k) h ps)
       there k h s = ⊎_elim (λ (z : length (reach (goes k) h ps) ≤ 0). absurd (s (nothing_there k h (omega (arith, z))))) (λ (x : 0 < length (reach (goes k) h ps)). x) (order (length (reach (goes k) h ps)) 0)
 
@@ -180,15 +177,15 @@ pub seen_more : (bytes : List ℕ) (ps : List Pair) (q : Pair) (hop : ℕ) → A
 seen_more bytes ps q hop seen end one key h some = ⊎_elim
     (λ (same : reach (goes key) h (ps ++ q ∷ []) ≡ reach (goes key) h ps). subst (λ (xs : List Pair). Has bytes (number_of bytes key h) xs) (sym same) (seen key h (subst (λ (xs : List Pair). 0 < length xs) same some)))
     (λ (grown : Full key ps h × (reach (goes key) h (ps ++ q ∷ []) ≡ reach (goes key) h ps ++ q ∷ []) × ((i : ℕ) → i < h → Same key q.key i)).
-      subst (λ (xs : List Pair). Has bytes (number_of bytes key h) xs) (sym grown.1)
-      (⊎_elim
-        (λ (full : 32 ≤ length (reach (goes key) h ps)). has_more bytes (number_of bytes key h) (reach (goes key) h ps) q full (seen key h (omega (arith, full))))
-        (λ (room : length (reach (goes key) h ps) < 32).
-          let here : h ≡ hop = only_end ps q hop end.full end.room key h grown.0 grown.2 room in
-          let number : number_of bytes key h ≡ number_of bytes q.key hop = number_same bytes key q.key h grown.2 ∙ ap (number_of bytes q.key) here in
-          let len : reach (goes key) h ps ≡ reach (goes q.key) hop ps = reach_same key q.key ps h grown.2 ∙ ap (λ (g : ℕ). reach (goes q.key) g ps) here in
-          has_one bytes (number_of bytes key h) (reach (goes key) h ps) q (rw (number, len) one) (λ s. seen key h s))
-        (order 32 (length (reach (goes key) h ps)))))
+    subst (λ (xs : List Pair). Has bytes (number_of bytes key h) xs) (sym grown.1)
+    (⊎_elim
+    (λ (full : 32 ≤ length (reach (goes key) h ps)). has_more bytes (number_of bytes key h) (reach (goes key) h ps) q full (seen key h (omega (arith, full))))
+    (λ (room : length (reach (goes key) h ps) < 32).
+    let here : h ≡ hop = only_end ps q hop end.full end.room key h grown.0 grown.2 room in
+    let number : number_of bytes key h ≡ number_of bytes q.key hop = number_same bytes key q.key h grown.2 ∙ ap (number_of bytes q.key) here in
+    let len : reach (goes key) h ps ≡ reach (goes q.key) hop ps = reach_same key q.key ps h grown.2 ∙ ap (λ (g : ℕ). reach (goes q.key) g ps) here in
+    has_one bytes (number_of bytes key h) (reach (goes key) h ps) q (rw (number, len) one) (λ s. seen key h s))
+    (order 32 (length (reach (goes key) h ps)))))
     (grows key ps q h)
 
 -- ---- the tails after it
@@ -206,16 +203,16 @@ tails_pair bytes loads places nexts fills q level low long tails partial key l s
     let v : ℕ = get_or loads n 0 + 1 in
     let bound : n ≤ 340 = node_small q level low in
     let tail : (a : ℕ) → 0 < get_or loads (node key l) 0 → hop_of l a ≡ hop_of l (get_or loads (node key l) 0) → IsTail bytes (number_of bytes key (hop_of l a)) (get_or places (node key l) 0) (get_or nexts (node key l) 0) (get_or fills (node key l) 0) l = λ a s e.
-        subst (λ (h : ℕ). IsTail bytes (number_of bytes key h) (get_or places (node key l) 0) (get_or nexts (node key l) 0) (get_or fills (node key l) 0) l) (sym e) (tails key l small s) in
+    subst (λ (h : ℕ). IsTail bytes (number_of bytes key h) (get_or places (node key l) 0) (get_or nexts (node key l) 0) (get_or fills (node key l) 0) l) (sym e) (tails key l small s) in
     ⊎_elim
     (λ (e : node key l ≡ n).
-      let here : get_or (set loads n v) (node key l) 0 ≡ v = ap (λ (j : ℕ). get_or (set loads n v) j 0) e ∙ get_or-set_same loads n v 0 (omega (arith, bound, long)) in
-      let was : get_or loads (node key l) 0 ≡ get_or loads n 0 = ap (λ (j : ℕ). get_or loads j 0) e in
-      let positive = some_load (get_or loads n 0) partial in
-      tail (get_or (set loads n v) (node key l) 0) (omega (arith, was, positive)) (same_quotient l (get_or loads n 0) (get_or (set loads n v) (node key l) 0) (get_or loads (node key l) 0) here was partial))
+    let here : get_or (set loads n v) (node key l) 0 ≡ v = ap (λ (j : ℕ). get_or (set loads n v) j 0) e ∙ get_or-set_same loads n v 0 (omega (arith, bound, long)) in
+    let was : get_or loads (node key l) 0 ≡ get_or loads n 0 = ap (λ (j : ℕ). get_or loads j 0) e in
+    let positive = some_load (get_or loads n 0) partial in
+    tail (get_or (set loads n v) (node key l) 0) (omega (arith, was, positive)) (same_quotient l (get_or loads n 0) (get_or (set loads n v) (node key l) 0) (get_or loads (node key l) 0) here was partial))
     (λ (d : node key l ≢ n).
-      let here : get_or (set loads n v) (node key l) 0 ≡ get_or loads (node key l) 0 = get_or-set_other loads n (node key l) v 0 d in
-      tail (get_or (set loads n v) (node key l) 0) (rw here at some) (ap (hop_of l) here))
+    let here : get_or (set loads n v) (node key l) 0 ≡ get_or loads (node key l) 0 = get_or-set_other loads n (node key l) v 0 d in
+    tail (get_or (set loads n v) (node key l) 0) (rw here at some) (ap (hop_of l) here))
     (same_or (node key l) n)
 
 pub tails_bucket : (bytes loads places nexts fills : List ℕ) (q : ℤ) (level hop place next fill : ℕ) → IsLevel loads q level → length loads ≡ 341 → length places ≡ 341 → length nexts ≡ 341 → length fills ≡ 341 → AreTails bytes loads places nexts fills → hop ≡ level + get_or loads (node q level) 0 / 32 → get_or loads (node q level) 0 % 32 ≡ 0 →
@@ -227,22 +224,22 @@ tails_bucket bytes loads places nexts fills q level hop place next fill lev long
     let bound : n ≤ 340 = node_small q level lev.low in
     ⊎_elim
     (λ (e : node key l ≡ n).
-      let both = node_way key q l level e in
-      let same_level : l ≡ level = both.0 in
-      let here : get_or (set loads n v) (node key l) 0 ≡ v = ap (λ (j : ℕ). get_or (set loads n v) j 0) e ∙ get_or-set_same loads n v 0 (omega (arith, bound, long)) in
-      let p : get_or (set places n place) (node key l) 0 ≡ place = ap (λ (j : ℕ). get_or (set places n place) j 0) e ∙ get_or-set_same places n place 0 (omega (arith, bound, a)) in
-      let x : get_or (set nexts n next) (node key l) 0 ≡ next = ap (λ (j : ℕ). get_or (set nexts n next) j 0) e ∙ get_or-set_same nexts n next 0 (omega (arith, bound, b)) in
-      let f : get_or (set fills n fill) (node key l) 0 ≡ fill = ap (λ (j : ℕ). get_or (set fills n fill) j 0) e ∙ get_or-set_same fills n fill 0 (omega (arith, bound, c)) in
-      let g : hop_of l (get_or (set loads n v) (node key l) 0) ≡ hop = omega (arith, here, hop_is, same_level, whole) in
-      let upper : level < hop → 4 ≤ level = λ less. ⊎_elim (λ (y : 4 ≤ level). y) (λ (y : level < 4). let room = lev.room y in absurd (omega (arith, room, less, hop_is))) (order 4 level) in
-      let way : Way key q hop = way_deep key q l hop both.1 (λ less. let u = upper (omega (arith, less, same_level)) in omega (arith, u, same_level)) in
-      let number : number_of bytes key hop ≡ number_of bytes q hop = number_same bytes key q hop way in
-      rw (g, p, x, f, number, same_level) new)
+    let both = node_way key q l level e in
+    let same_level : l ≡ level = both.0 in
+    let here : get_or (set loads n v) (node key l) 0 ≡ v = ap (λ (j : ℕ). get_or (set loads n v) j 0) e ∙ get_or-set_same loads n v 0 (omega (arith, bound, long)) in
+    let p : get_or (set places n place) (node key l) 0 ≡ place = ap (λ (j : ℕ). get_or (set places n place) j 0) e ∙ get_or-set_same places n place 0 (omega (arith, bound, a)) in
+    let x : get_or (set nexts n next) (node key l) 0 ≡ next = ap (λ (j : ℕ). get_or (set nexts n next) j 0) e ∙ get_or-set_same nexts n next 0 (omega (arith, bound, b)) in
+    let f : get_or (set fills n fill) (node key l) 0 ≡ fill = ap (λ (j : ℕ). get_or (set fills n fill) j 0) e ∙ get_or-set_same fills n fill 0 (omega (arith, bound, c)) in
+    let g : hop_of l (get_or (set loads n v) (node key l) 0) ≡ hop = omega (arith, here, hop_is, same_level, whole) in
+    let upper : level < hop → 4 ≤ level = λ less. ⊎_elim (λ (y : 4 ≤ level). y) (λ (y : level < 4). let room = lev.room y in absurd (omega (arith, room, less, hop_is))) (order 4 level) in
+    let way : Way key q hop = way_deep key q l hop both.1 (λ less. let u = upper (omega (arith, less, same_level)) in omega (arith, u, same_level)) in
+    let number : number_of bytes key hop ≡ number_of bytes q hop = number_same bytes key q hop way in
+    rw (g, p, x, f, number, same_level) new)
     (λ (d : node key l ≢ n).
-      let here : get_or (set loads n v) (node key l) 0 ≡ get_or loads (node key l) 0 = get_or-set_other loads n (node key l) v 0 d in
-      let p : get_or (set places n place) (node key l) 0 ≡ get_or places (node key l) 0 = get_or-set_other places n (node key l) place 0 d in
-      let x : get_or (set nexts n next) (node key l) 0 ≡ get_or nexts (node key l) 0 = get_or-set_other nexts n (node key l) next 0 d in
-      let f : get_or (set fills n fill) (node key l) 0 ≡ get_or fills (node key l) 0 = get_or-set_other fills n (node key l) fill 0 d in
-      let s : 0 < get_or loads (node key l) 0 = rw here at some in
-      rw (here, p, x, f) (tails key l small s))
+    let here : get_or (set loads n v) (node key l) 0 ≡ get_or loads (node key l) 0 = get_or-set_other loads n (node key l) v 0 d in
+    let p : get_or (set places n place) (node key l) 0 ≡ get_or places (node key l) 0 = get_or-set_other places n (node key l) place 0 d in
+    let x : get_or (set nexts n next) (node key l) 0 ≡ get_or nexts (node key l) 0 = get_or-set_other nexts n (node key l) next 0 d in
+    let f : get_or (set fills n fill) (node key l) 0 ≡ get_or fills (node key l) 0 = get_or-set_other fills n (node key l) fill 0 d in
+    let s : 0 < get_or loads (node key l) 0 = rw here at some in
+    rw (here, p, x, f) (tails key l small s))
     (same_or (node key l) n)

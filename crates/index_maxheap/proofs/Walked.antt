@@ -1,12 +1,12 @@
 -- What a look at a bucket finds, and how a walk goes on.
-use Rattle.std.proofs.Common.{◌≡◌, ◌≢◌, ◌≤◌, ◌<◌, ◌+◌, ◌*◌, ◌-◌, ℕ, ℤ, zero, suc, List, [], ◌∷◌, length, get_or, refl, arith, ap, ◌∙◌, sym, ◌⊎◌, inl, inr, ⊎_elim, subst, add-one}
-use Rattle.std.specs.Prelude.{min, slice_range, slice_index}
+use Rattle.std.proofs.Common.{◌≡◌, ◌≢◌, ◌≤◌, ◌<◌, ◌+◌, ◌*◌, ◌-◌, ℕ, ℤ, zero, suc, List, length, get_or, refl, arith, ap, ◌∙◌, sym, ⊎_elim, add-one}
+use Rattle.std.specs.Prelude.{min, slice_range}
 use Rattle.afl_base.specs.Fields.{u16_at}
 use Rattle.index_tree.specs.Buckets.{IsFilled}
-use Rattle.index_tree.specs.Ends.{IsEnd, spot_behind, spot_of}
+use Rattle.index_tree.specs.Ends.{spot_behind, spot_of}
 use Rattle.index_maxheap.specs.Walks.{Walks}
-use Rattle.index_tree.specs.Pairs.{Pair, goes, no_pair, reach}
-use Rattle.index_tree.specs.TreeFile.{Holds, IsBucket, IsTree, behind, bucket_place, key_at, last_at, number_of, place_of, slot_at}
+use Rattle.index_tree.specs.Pairs.{Pair, goes, reach}
+use Rattle.index_tree.specs.TreeFile.{Holds, IsBucket, IsTree, behind, key_at, last_at, number_of, place_of, slot_at}
 use Rattle.index_tree.proofs.Frames.{SameBytes, i32_same, part_same, u16_same}
 use Rattle.index_tree.proofs.Shared.{order}
 use Rattle.index_tree.proofs.Reach.{deep}
@@ -39,12 +39,12 @@ filled_is bytes rest n holds is =
     let most = is.most in
     ⊎_elim
     (λ (up : n ≤ length rest). ⊎_elim
-      (λ (all : 32 ≤ n). omega arith)
-      (λ (short : n < 32). ⊎_elim
-        (λ (down : length rest ≤ n). omega arith)
-        (λ (more : n < length rest). let none = is.empty short in let some = holds.slot n short more in absurd (omega (arith, none, some)))
-        (order (length rest) n))
-      (order 32 n))
+    (λ (all : 32 ≤ n). omega arith)
+    (λ (short : n < 32). ⊎_elim
+    (λ (down : length rest ≤ n). omega arith)
+    (λ (more : n < length rest). let none = is.empty short in let some = holds.slot n short more in absurd (omega (arith, none, some)))
+    (order (length rest) n))
+    (order 32 n))
     (λ (past : length rest < n). absurd (is.some (length rest) past (holds.empty (length rest) (omega arith) (omega arith))))
     (order n (length rest))
 
@@ -76,7 +76,7 @@ pub full_more : (key : ℤ) (ps : List Pair) (hop : ℕ) → ((i : ℕ) → i < 
 full_more key ps hop full now i h = ⊎_elim (λ (k : hop ≤ i). let e : i ≡ hop = omega arith in rw e now) (λ (k : i < hop). full i k) (order hop i)
 
 pub walks_more : (bytes : List ℕ) (ps : List Pair) (key : ℤ) (hop at level n spot : ℕ) → Walks bytes ps key hop at level → u16_at bytes at ≡ n → n ≢ 0 → 32 ≤ length (reach (goes key) hop ps) → spot ≡ spot_behind key level n →
-  Walks bytes ps key (hop + 1) spot (min (level + 1) 4)
+    Walks bytes ps key (hop + 1) spot (min (level + 1) 4)
 walks_more bytes ps key hop at level n spot walks number some full is =
     let here : number_of bytes key hop ≡ n = walks.number ∙ number in
     let there : spot ≡ spot_of bytes key (suc hop) = is ∙ ap (λ (l : ℕ). spot_behind key l n) walks.depth ∙ spot_level key hop n ∙ ap (spot_behind key hop) (sym here) in

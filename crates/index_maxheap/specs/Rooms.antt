@@ -60,5 +60,6 @@ PutsPair old new index at q = (six : List ℕ) × IsPairBytes six q × Overwrite
 
 -- a bucket of one pair stands at the end of the file, and its number at a place before it
 abbrev pub PutsBucket : State → State → (index at : ℕ) → Pair → Type 0
-PutsBucket old new index at q = (bucket two : List ℕ) × IsFirstBucket bucket q × (length two ≡ 2) × (u16_at two 0 ≡ (size_at old.files index - 683) / 195 + 1)
+PutsBucket old new index at q = (bucket two : List ℕ) × IsFirstBucket bucket q × (length two ≡ 2)
+    × (u16_at two 0 ≡ (size_at old.files index - 683) / 195 + 1)
     × Becomes old new index (size_at old.files index + 195) (put_at (bytes_at old.files index ++ bucket) at two)

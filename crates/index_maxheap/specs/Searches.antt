@@ -38,7 +38,8 @@ abbrev pub Scans : Scanned → ℤ → ℕ → List Pair → ℕ → Type 0
 Scans (scanned.Found pair slot) key from rest start = (pair < 32) × (pair < length rest)
     × (filter (is_wanted key from) (drop start rest) ≡ record { key = key; slot = slot } ∷ filter (is_wanted key from) (drop (pair + 1) rest))
 Scans scanned.End key from rest start = filter (is_wanted key from) (drop start rest) ≡ []
-Scans scanned.Passed key from rest start = (32 ≤ length rest) × (filter (is_wanted key from) (drop start rest) ≡ filter (is_wanted key from) (drop 32 rest))
+Scans scanned.Passed key from rest start = (32 ≤ length rest)
+    × (filter (is_wanted key from) (drop start rest) ≡ filter (is_wanted key from) (drop 32 rest))
 
 abbrev pub IsShort : Scanned → ℕ → Type 0
 IsShort (scanned.Found pair slot) from = (pair < 32) × (from ≤ slot)

@@ -12,13 +12,16 @@ use Rattle.index_tree.specs.TreeFile.{Holds, IsTree, bucket_place, key_at, last_
 pub record Has (bytes : List ℕ) (number : ℕ) (rest : List Pair) : Type 0 where
   pub some : number ≢ 0
   pub within : bucket_place number ≤ length bytes
-  pub slot : (pair : ℕ) → pair < 32 → pair < length rest → slot_at bytes (place_of number) pair ≡ (get_or rest pair no_pair).slot + 1
-  pub key : (pair : ℕ) → pair < 32 → pair < length rest → key_at bytes (place_of number) pair ≡ (get_or rest pair no_pair).key
+  pub slot : (pair : ℕ) → pair < 32 → pair < length rest
+      → slot_at bytes (place_of number) pair ≡ (get_or rest pair no_pair).slot + 1
+  pub key : (pair : ℕ) → pair < 32 → pair < length rest
+      → key_at bytes (place_of number) pair ≡ (get_or rest pair no_pair).key
   pub last : last_at bytes (place_of number) ≡ 1
 
 -- each pair is where it should be
 abbrev pub AreSeen : List ℕ → List Pair → Type 0
-AreSeen bytes ps = (key : ℤ) (hop : ℕ) → 0 < length (reach (goes key) hop ps) → Has bytes (number_of bytes key hop) (reach (goes key) hop ps)
+AreSeen bytes ps = (key : ℤ) (hop : ℕ) → 0 < length (reach (goes key) hop ps)
+    → Has bytes (number_of bytes key hop) (reach (goes key) hop ps)
 
 -- the hop of the last bucket of a node with a load
 abbrev pub hop_of : ℕ → ℕ → ℕ
@@ -36,17 +39,21 @@ pub record IsTail (bytes : List ℕ) (number place next filled level : ℕ) : Ty
 
 -- a bucket that a pair opens: its tail, or it is in no tree that has the pair there
 abbrev pub Opens : Option Tail → List ℕ → ℕ → ℕ → Pair → Type 0
-Opens None bytes number level q = (rest : List Pair) → HasPair bytes number 0 q → Holds bytes (place_of number) rest → (level < 4 → next_at bytes (place_of number) ≡ 0) → ⊥
-Opens (Some tail) bytes number level q = HasPair bytes number 0 q × IsTail bytes number (place_of number) tail.next tail.fill level
+Opens None bytes number level q = (rest : List Pair) → HasPair bytes number 0 q
+    → Holds bytes (place_of number) rest → (level < 4 → next_at bytes (place_of number) ≡ 0) → ⊥
+Opens (Some tail) bytes number level q = HasPair bytes number 0 q
+    × IsTail bytes number (place_of number) tail.next tail.fill level
 
 -- the last buckets of the nodes that have one
 abbrev pub AreTails : List ℕ → List ℕ → List ℕ → List ℕ → List ℕ → Type 0
-AreTails bytes loads places nexts fills = (key : ℤ) (level : ℕ) → level ≤ 4 → 0 < get_or loads (node key level) 0 →
-  IsTail bytes (number_of bytes key (hop_of level (get_or loads (node key level) 0))) (get_or places (node key level) 0) (get_or nexts (node key level) 0) (get_or fills (node key level) 0) level
+AreTails bytes loads places nexts fills = (key : ℤ) (level : ℕ) → level ≤ 4
+    → 0 < get_or loads (node key level) 0 →
+    IsTail bytes (number_of bytes key (hop_of level (get_or loads (node key level) 0))) (get_or places (node key level) 0) (get_or nexts (node key level) 0) (get_or fills (node key level) 0) level
 
 -- a node has no number, or a last bucket with no pair behind those that were seen
 abbrev pub IsDone : List ℕ → ℕ → ℕ → ℕ → ℕ → Type 0
-IsDone bytes node load next filled = ((load ≡ 0) × (number_at bytes node ≡ 0)) ⊎ ((0 < load) × (filled ≡ (load - 1) % 32 + 1) × (next ≡ 0))
+IsDone bytes node load next filled = ((load ≡ 0) × (number_at bytes node ≡ 0))
+    ⊎ ((0 < load) × (filled ≡ (load - 1) % 32 + 1) × (next ≡ 0))
 
 -- what is kept while the slots are gone through
 pub record Verifies (bytes loads places nexts fills : List ℕ) (ps : List Pair) : Type 0 where
@@ -62,4 +69,5 @@ AreHeads heads bytes = (node : ℕ) → node ≤ 340 → u16_at heads (2 * node)
 -- the next slot's pair is in its place, or the file is no tree of so many slots
 abbrev pub Goes : Option ℕ → List ℕ → (ℕ → ℤ) → ℕ → (ℕ → Type 0) → Type 0
 Goes None bytes f slot P = (slots : ℕ) → slot < slots → IsTree bytes (pairs_of f slots) → ⊥
-Goes (Some opens) bytes f slot P = P opens × (buckets (keys_of (pairs_of f (slot + 1))) ≡ buckets (keys_of (pairs_of f slot)) + opens)
+Goes (Some opens) bytes f slot P = P opens
+    × (buckets (keys_of (pairs_of f (slot + 1))) ≡ buckets (keys_of (pairs_of f slot)) + opens)

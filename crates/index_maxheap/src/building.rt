@@ -9,7 +9,7 @@ ghost use Rattle.afl_base.specs.Files.{Drafts, draft_in};
 ghost use Rattle.afl_base.specs.KeyColumn.{HasField, IsWidth, key_of};
 ghost use Rattle.db_model.specs.HashTree.{buckets};
 ghost use Rattle.index_tree.specs.Buckets.{IsFirstBucket, IsPairBytes};
-ghost use Rattle.index_maxheap.specs.Builds.{Builds, IsSafeBuild, OnlyDraftChanges};
+ghost use Rattle.index_maxheap.specs.Builds.{Builds, DraftsBucket, DraftsPair, HasZeros, IsSafeBuild, OnlyDraftChanges, with_pair};
 ghost use Rattle.index_tree.specs.Pairs.{Pair, keys_of, pairs_of};
 ghost use Rattle.index_tree.specs.Places.{Rises};
 ghost use Rattle.index_tree.specs.Keys.{first_keys};
@@ -25,8 +25,9 @@ use afl_base::{Failed, Files, KeyColumn, SlotNo, put_u16};
 fn write_pair<V: Files>(files: &mut V, at: u32, key: &i32, slot: SlotNo) -> Result<(), Failed>
     requires begun { IsSome (V.state files.old).draft }
     requires range { at + 6 ≤ length (draft_in (V.state files.old)).bytes }
-    requires zeros { IsTrue (V.state files.old).tells → slice_range (draft_in (V.state files.old)).bytes at (at + 6) ≡ replicate 6 0 }
-    ensures written { OnOk result ((w : List ℕ) × IsPairBytes w (record { key = key.now; slot = slot }) × Drafts (V.state files.old) (V.state files.new) (draft_in (V.state files.old)).name (length (draft_in (V.state files.old)).bytes) (put_at (draft_in (V.state files.old)).bytes at w)) }
+    requires zeros { IsTrue (V.state files.old).tells
+        → HasZeros (draft_in (V.state files.old)).bytes at 6 }
+    ensures written { OnOk result (DraftsPair (V.state files.old) (V.state files.new) at (record { key = key.now; slot = slot })) }
     ensures store { length (V.state files.new).store ≡ length (V.state files.old).store }
     ensures reads_later { V.reads files.old ≤ V.reads files.new }
     ensures cause { HasCause (V.faults files.old) (V.faults files.new) result }
@@ -37,14 +38,22 @@ fn write_pair<V: Files>(files: &mut V, at: u32, key: &i32, slot: SlotNo) -> Resu
 }
 
 // Writes a bucket with one pair behind `opened` buckets, and its number to a place before it.
-fn write_bucket<V: Files>(files: &mut V, at: u32, opened: u16, key: &i32, slot: SlotNo) -> Result<(), Failed>
+fn write_bucket<V: Files>(
+    files: &mut V,
+    at: u32,
+    opened: u16,
+    key: &i32,
+    slot: SlotNo,
+) -> Result<(), Failed>
     requires begun { IsSome (V.state files.old).draft }
     requires few { opened < 65535 }
     requires range { at + 2 ≤ bucket_place opened }
     requires fits { bucket_place (opened + 1) ≤ length (draft_in (V.state files.old)).bytes }
-    requires free { IsTrue (V.state files.old).tells → slice_range (draft_in (V.state files.old)).bytes (bucket_place opened) (bucket_place opened + 195) ≡ replicate 195 0 }
-    requires zeros { IsTrue (V.state files.old).tells → slice_range (draft_in (V.state files.old)).bytes at (at + 2) ≡ replicate 2 0 }
-    ensures written { OnOk result ((w two : List ℕ) × IsFirstBucket w (record { key = key.now; slot = slot }) × (length two ≡ 2) × (u16_at two 0 ≡ opened + 1) × Drafts (V.state files.old) (V.state files.new) (draft_in (V.state files.old)).name (length (draft_in (V.state files.old)).bytes) (put_at (put_at (draft_in (V.state files.old)).bytes (bucket_place opened) w) at two)) }
+    requires free { IsTrue (V.state files.old).tells
+        → HasZeros (draft_in (V.state files.old)).bytes (bucket_place opened) 195 }
+    requires zeros { IsTrue (V.state files.old).tells
+        → HasZeros (draft_in (V.state files.old)).bytes at 2 }
+    ensures written { OnOk result (DraftsBucket (V.state files.old) (V.state files.new) at opened (record { key = key.now; slot = slot })) }
     ensures store { length (V.state files.new).store ≡ length (V.state files.old).store }
     ensures reads_later { V.reads files.old ≤ V.reads files.new }
     ensures cause { HasCause (V.faults files.old) (V.faults files.new) result }
@@ -73,14 +82,27 @@ fn spot(load: u16, node: u16, place: u32) -> u32
 
 // Puts the next slot's pair into the tree in the draft. It answers how many buckets it opens. Where
 // there are more than `most`, which can be only where bytes are not told, it does nothing.
-fn build_slot<V: Files>(files: &mut V, loads: &mut [u16; 341], places: &mut [u32; 341], opened: u16, most: u16, key: &i32, slot: SlotNo) -> Result<u16, Failed>
+fn build_slot<V: Files>(
+    files: &mut V,
+    loads: &mut [u16; 341],
+    places: &mut [u32; 341],
+    opened: u16,
+    most: u16,
+    key: &i32,
+    slot: SlotNo,
+) -> Result<u16, Failed>
     requires begun { IsSome (V.state files.old).draft }
     requires size { length (draft_in (V.state files.old)).bytes ≡ bucket_place most }
     requires safe { IsSafeBuild loads.old places.old opened most slot }
     requires few { most < 65535 }
-    requires told { IsTrue (V.state files.old).tells → (ps : List Pair) × Builds loads.old places.old opened (draft_in (V.state files.old)).bytes ps × (length ps ≡ slot) × (buckets (keys_of (ps ++ record { key = key.now; slot = slot } ∷ [])) ≤ most) }
-    ensures built { IsTrue (V.state files.old).tells → (ps : List Pair) → Builds loads.old places.old opened (draft_in (V.state files.old)).bytes ps → length ps ≡ slot → Rises (ps ++ record { key = key.now; slot = slot } ∷ []) → buckets (keys_of (ps ++ record { key = key.now; slot = slot } ∷ [])) ≤ most →
-        IfOk result (λ opens. Builds loads.new places.new (opened + opens) (draft_in (V.state files.new)).bytes (ps ++ record { key = key.now; slot = slot } ∷ [])) }
+    requires told { IsTrue (V.state files.old).tells → (ps : List Pair)
+        × Builds loads.old places.old opened (draft_in (V.state files.old)).bytes ps
+        × (length ps ≡ slot) × (buckets (keys_of (with_pair ps key.now slot)) ≤ most) }
+    ensures built { IsTrue (V.state files.old).tells → (ps : List Pair)
+        → Builds loads.old places.old opened (draft_in (V.state files.old)).bytes ps
+        → length ps ≡ slot → Rises (with_pair ps key.now slot)
+        → buckets (keys_of (with_pair ps key.now slot)) ≤ most →
+        IfOk result (λ opens. Builds loads.new places.new (opened + opens) (draft_in (V.state files.new)).bytes (with_pair ps key.now slot)) }
     ensures safe { IfOk result (λ opens. IsSafeBuild loads.new places.new (opened + opens) most (slot + 1)) }
     ensures only { OnOk result (OnlyDraftChanges (V.state files.old) (V.state files.new)) }
     ensures store { length (V.state files.new).store ≡ length (V.state files.old).store }
@@ -108,7 +130,12 @@ fn build_slot<V: Files>(files: &mut V, loads: &mut [u16; 341], places: &mut [u32
 /// Builds the tree of the first `slots` keys in the draft, which has as many bytes as that takes and
 /// is erased. Where more than `most` buckets were needed, which can be only where bytes are not told,
 /// the draft is left unfinished.
-pub fn build<V: Files>(files: &mut V, column: KeyColumn, slots: u16, most: u16) -> Result<(), Failed>
+pub fn build<V: Files>(
+    files: &mut V,
+    column: KeyColumn,
+    slots: u16,
+    most: u16,
+) -> Result<(), Failed>
     requires width { IsWidth column.width }
     requires narrow { column.width ≢ 8 }
     requires slots { slots ≤ 32768 }
@@ -116,9 +143,12 @@ pub fn build<V: Files>(files: &mut V, column: KeyColumn, slots: u16, most: u16) 
     requires begun { IsSome (V.state files.old).draft }
     requires size { length (draft_in (V.state files.old)).bytes ≡ bucket_place most }
     requires few { most < 65535 }
-    requires erased { IsTrue (V.state files.old).tells → (draft_in (V.state files.old)).bytes ≡ replicate (bucket_place most) 0 }
-    requires count { IsTrue (V.state files.old).tells → most ≡ buckets (first_keys (key_of (V.state files.old) column) slots) }
-    ensures tree { IsTrue (V.state files.old).tells → OnOk result (IsTreeOf (draft_in (V.state files.new)).bytes (first_keys (key_of (V.state files.old) column) slots)) }
+    requires erased { IsTrue (V.state files.old).tells
+        → (draft_in (V.state files.old)).bytes ≡ replicate (bucket_place most) 0 }
+    requires count { IsTrue (V.state files.old).tells
+        → most ≡ buckets (first_keys (key_of (V.state files.old) column) slots) }
+    ensures tree { IsTrue (V.state files.old).tells
+        → OnOk result (IsTreeOf (draft_in (V.state files.new)).bytes (first_keys (key_of (V.state files.old) column) slots)) }
     ensures only { OnOk result (OnlyDraftChanges (V.state files.old) (V.state files.new)) }
     ensures store { length (V.state files.new).store ≡ length (V.state files.old).store }
     ensures reads_later { V.reads files.old ≤ V.reads files.new }

@@ -86,7 +86,8 @@ pub fn find_end<V: Files>(files: &mut V, index: FileId, key: &i32) -> Result<End
     requires live { IsLive (V.state files.old).files index }
     requires heads { 683 ≤ size_at (V.state files.old).files index }
     requires small { size_at (V.state files.old).files index ≤ 268000 }
-    ensures finds { IsTrue (V.state files.old).tells → (ps : List Pair) → IsTree (bytes_at (V.state files.old).files index) ps
+    ensures finds { IsTrue (V.state files.old).tells → (ps : List Pair)
+        → IsTree (bytes_at (V.state files.old).files index) ps
         → IfOk result (λ end. Finds end (bytes_at (V.state files.old).files index) ps key.now) }
     ensures within { IfOk result (λ end. IsWithin end (size_at (V.state files.old).files index)) }
     ensures same { OnOk result (V.state files.new ≡ V.state files.old) }

@@ -18,13 +18,21 @@ use afl_base::{Failed, FileId, Files, SlotNo, put_u16};
 
 /// Puts the pair of the key and the next slot into the tree, with the room that `room` said it needs.
 /// Where that found no tree, it does nothing.
-pub fn insert<V: Files>(files: &mut V, index: FileId, room: &Room, key: &i32, slot: SlotNo) -> Result<(), Failed>
+pub fn insert<V: Files>(
+    files: &mut V,
+    index: FileId,
+    room: &Room,
+    key: &i32,
+    slot: SlotNo,
+) -> Result<(), Failed>
     requires live { IsLive (V.state files.old).files index }
     requires room { HasRoomFor (V.state files.old) index room.now }
-    ensures grown { IsTrue (V.state files.old).tells → (keys : List ℤ) → IsTreeOf (bytes_at (V.state files.old).files index) keys
+    ensures grown { IsTrue (V.state files.old).tells → (keys : List ℤ)
+        → IsTreeOf (bytes_at (V.state files.old).files index) keys
         → length keys ≡ slot → room.now ≡ room_of (bytes_at (V.state files.old).files index) key.now
         → OnOk result (IsTreeOf (bytes_at (V.state files.new).files index) (keys ++ key.now ∷ [])) }
-    ensures keeps { IsTrue (V.state files.old).tells → (keys : List ℤ) → IsTreeOf (bytes_at (V.state files.old).files index) keys
+    ensures keeps { IsTrue (V.state files.old).tells → (keys : List ℤ)
+        → IsTreeOf (bytes_at (V.state files.old).files index) keys
         → length keys ≡ slot → room.now ≡ room_of (bytes_at (V.state files.old).files index) key.now
         → OnOk result (KeepsNumbers (bytes_at (V.state files.old).files index) (bytes_at (V.state files.new).files index)) }
     ensures only { OnOk result (OnlyIndexChanges (V.state files.old) (V.state files.new) index) }
@@ -40,7 +48,13 @@ pub fn insert<V: Files>(files: &mut V, index: FileId, room: &Room, key: &i32, sl
 }
 
 // Writes a pair at a place.
-fn put_pair<V: Files>(files: &mut V, index: FileId, at: u32, key: &i32, slot: SlotNo) -> Result<(), Failed>
+fn put_pair<V: Files>(
+    files: &mut V,
+    index: FileId,
+    at: u32,
+    key: &i32,
+    slot: SlotNo,
+) -> Result<(), Failed>
     requires live { IsLive (V.state files.old).files index }
     requires range { at + 7 ≤ size_at (V.state files.old).files index }
     requires records { regions at 6 ≤ (file_at (V.state files.old).files index).records }
@@ -55,7 +69,13 @@ fn put_pair<V: Files>(files: &mut V, index: FileId, at: u32, key: &i32, slot: Sl
 }
 
 // Appends a bucket with one pair, and then writes its number to a place.
-fn put_bucket<V: Files>(files: &mut V, index: FileId, at: u32, key: &i32, slot: SlotNo) -> Result<(), Failed>
+fn put_bucket<V: Files>(
+    files: &mut V,
+    index: FileId,
+    at: u32,
+    key: &i32,
+    slot: SlotNo,
+) -> Result<(), Failed>
     requires live { IsLive (V.state files.old).files index }
     requires range { at + 3 ≤ size_at (V.state files.old).files index }
     requires heads { 683 ≤ size_at (V.state files.old).files index }

@@ -11,8 +11,10 @@ ghost use Rattle.index_maxheap.specs.declared.places.Place.{Place as AnyPlace};
 /// search from a later slot on.
 pub fn places_stay_good()
     ensures inserts { (old new : List ℕ) (keys more : List ℤ) (key : ℤ) (from : ℕ) (place : Option AnyPlace)
-        → KeepsNumbers old new → IsPlaceOf old keys key from place → IsPlaceOf new (keys ++ more) key from place }
-    ensures again { (first then last : List ℕ) → KeepsNumbers first then → KeepsNumbers then last → KeepsNumbers first last }
+        → KeepsNumbers old new → IsPlaceOf old keys key from place
+        → IsPlaceOf new (keys ++ more) key from place }
+    ensures again { (first then last : List ℕ) → KeepsNumbers first then → KeepsNumbers then last
+        → KeepsNumbers first last }
     ensures later { (bytes : List ℕ) (keys : List ℤ) (key : ℤ) (from to : ℕ) (place : Option AnyPlace)
         → from ≤ to → IsPlaceOf bytes keys key from place → IsPlaceOf bytes keys key to place }
 {}

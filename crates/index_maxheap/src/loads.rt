@@ -43,7 +43,8 @@ pub fn buckets_for<V: Files>(files: &mut V, column: KeyColumn, slots: u16) -> Re
     requires narrow { column.width ≢ 8 }
     requires slots { slots ≤ 32768 }
     requires fields { (slot : ℕ) → slot < slots → HasField (V.state files.old) column slot }
-    ensures buckets { IsTrue (V.state files.old).tells → IfOk result (λ n. n ≡ buckets (first_keys (key_of (V.state files.old) column) slots)) }
+    ensures buckets { IsTrue (V.state files.old).tells
+        → IfOk result (λ n. n ≡ buckets (first_keys (key_of (V.state files.old) column) slots)) }
     ensures same { OnOk result (V.state files.new ≡ V.state files.old) }
     ensures reads { V.reads files.new ≤ V.reads files.old + 6 * slots }
     ensures store { length (V.state files.new).store ≡ length (V.state files.old).store }

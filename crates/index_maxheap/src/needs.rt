@@ -17,6 +17,7 @@ fn room_for(end: End) -> Room
     ensures room { result ≡ room_for end }
     ensures end { result.end ≡ end }
     ensures few { (result.overwrites ≤ 2) × (result.bytes ≤ 195) }
+    ensures none { result.overwrites ≡ 0 → result.bytes ≡ 0 }
 {
     match end {
         End::Pair { at } => Room {
@@ -42,11 +43,14 @@ fn room_for(end: End) -> Room
 /// number touch, and 195.
 pub fn room<V: Files>(files: &mut V, index: FileId, key: &i32) -> Result<Room, Failed>
     requires live { IsLive (V.state files.old).files index }
-    ensures room { IsTrue (V.state files.old).tells → (keys : List ℤ) → IsTreeOf (bytes_at (V.state files.old).files index) keys
+    ensures room { IsTrue (V.state files.old).tells → (keys : List ℤ)
+        → IsTreeOf (bytes_at (V.state files.old).files index) keys
         → IfOk result (λ room. room ≡ room_of (bytes_at (V.state files.old).files index) key.now) }
     ensures place { IfOk result (λ room. IsRoomIn room (size_at (V.state files.old).files index)) }
     ensures few { IfOk result (λ room. (room.overwrites ≤ 2) × (room.bytes ≤ 195)) }
-    ensures small { IfOk result (λ room. 0 < room.overwrites → size_at (V.state files.old).files index ≤ 268000) }
+    ensures small { IfOk result (λ room. 0 < room.overwrites
+        → size_at (V.state files.old).files index ≤ 268000) }
+    ensures none { IfOk result (λ room. room.overwrites ≡ 0 → room.bytes ≡ 0) }
     ensures same { OnOk result (V.state files.new ≡ V.state files.old) }
     ensures store { length (V.state files.new).store ≡ length (V.state files.old).store }
     ensures reads_later { V.reads files.old ≤ V.reads files.new }

@@ -60,7 +60,8 @@ fn is_wanted(bytes: &[u8; 195], pair: u8, key: &i32, from: u16) -> bool
 fn scan(bytes: &[u8; 195], start: u8, key: &i32, from: u16) -> Scanned
     requires { start ≤ 32 }
     ensures short { IsShort result from }
-    ensures scans { (rest : List Pair) → Holds bytes.now 0 rest → start ≤ length rest → Scans result key.now from rest start }
+    ensures scans { (rest : List Pair) → Holds bytes.now 0 rest → start ≤ length rest
+        → Scans result key.now from rest start }
 {
     for pair in start..32 {
         let number = slot_in(bytes, pair);
@@ -78,13 +79,20 @@ fn scan(bytes: &[u8; 195], start: u8, key: &i32, from: u16) -> Scanned
 }
 
 // The number of the bucket behind a full one, 0 for none. A node's number touches one region.
-fn number_onward<V: Files>(files: &mut V, index: FileId, place: Place, bytes: &[u8; 195], key: &i32) -> Result<u16, Failed>
+fn number_onward<V: Files>(
+    files: &mut V,
+    index: FileId,
+    place: Place,
+    bytes: &[u8; 195],
+    key: &i32,
+) -> Result<u16, Failed>
     requires live { IsLive (V.state files.old).files index }
     requires heads { 683 ≤ size_at (V.state files.old).files index }
     requires safe { IsSafe place }
     requires bytes { IsTrue (V.state files.old).tells
         → bytes.now ≡ slice_range (bytes_at (V.state files.old).files index) (bucket_place (place.bucket - 1)) (bucket_place (place.bucket - 1) + 195) }
-    ensures number { IsTrue (V.state files.old).tells → place.bucket ≡ number_of (bytes_at (V.state files.old).files index) key.now place.hop
+    ensures number { IsTrue (V.state files.old).tells
+        → place.bucket ≡ number_of (bytes_at (V.state files.old).files index) key.now place.hop
         → IfOk result (λ n. n ≡ number_of (bytes_at (V.state files.old).files index) key.now (place.hop + 1)) }
     ensures same { OnOk result (V.state files.new ≡ V.state files.old) }
     ensures reads { V.reads files.new + 3 * min place.hop 4 ≤ V.reads files.old + 3 * min (place.hop + 1) 4 }
@@ -100,12 +108,19 @@ fn number_onward<V: Files>(files: &mut V, index: FileId, place: Place, bytes: &[
 }
 
 // Looks for a key in the bucket of a place.
-fn look_in<V: Files>(files: &mut V, index: FileId, place: Place, key: &i32, from: u16) -> Result<Step, Failed>
+fn look_in<V: Files>(
+    files: &mut V,
+    index: FileId,
+    place: Place,
+    key: &i32,
+    from: u16,
+) -> Result<Step, Failed>
     requires live { IsLive (V.state files.old).files index }
     requires heads { 683 ≤ size_at (V.state files.old).files index }
     requires safe { IsSafe place }
     requires near { place.hop < 65535 }
-    ensures steps { IsTrue (V.state files.old).tells → (keys : List ℤ) → IsTreeOf (bytes_at (V.state files.old).files index) keys
+    ensures steps { IsTrue (V.state files.old).tells → (keys : List ℤ)
+        → IsTreeOf (bytes_at (V.state files.old).files index) keys
         → IsPlaceOf (bytes_at (V.state files.old).files index) keys key.now from (Some place)
         → IfOk result (λ s. Steps s (bytes_at (V.state files.old).files index) keys key.now from) }
     ensures safe { IfOk result (λ s. IsSafeStep s place.hop from) }
@@ -151,22 +166,32 @@ fn look_in<V: Files>(files: &mut V, index: FileId, place: Place, key: &i32, from
 }
 
 // Walks from a place on. No path has more than 1,024 buckets.
-fn walk<V: Files>(files: &mut V, index: FileId, start: Place, key: &i32, from: u16) -> Result<Option<Found>, Failed>
+fn walk<V: Files>(
+    files: &mut V,
+    index: FileId,
+    start: Place,
+    key: &i32,
+    from: u16,
+) -> Result<Option<Found>, Failed>
     requires live { IsLive (V.state files.old).files index }
     requires heads { 683 ≤ size_at (V.state files.old).files index }
-    ensures next { IsTrue (V.state files.old).tells → (keys : List ℤ) → IsTreeOf (bytes_at (V.state files.old).files index) keys
+    ensures next { IsTrue (V.state files.old).tells → (keys : List ℤ)
+        → IsTreeOf (bytes_at (V.state files.old).files index) keys
         → IsStart (bytes_at (V.state files.old).files index) keys key.now from start
         → IfOk result (λ r. MatchOption r (HasNone key.now keys from)
-            (λ f. IsFirstOf key.now keys from f.slot × IsPlaceOf (bytes_at (V.state files.old).files index) keys key.now (f.slot + 1) (Some f.place))) }
+        (λ f. IsFirstOf key.now keys from f.slot
+            × IsPlaceOf (bytes_at (V.state files.old).files index) keys key.now (f.slot + 1) (Some f.place))) }
     ensures forward { IfOk result (λ r. IfSome r (λ f. from ≤ f.slot)) }
     ensures same { OnOk result (V.state files.new ≡ V.state files.old) }
-    ensures reads { IsTrue (V.state files.old).tells → (keys : List ℤ) → IsTreeOf (bytes_at (V.state files.old).files index) keys
+    ensures reads { IsTrue (V.state files.old).tells → (keys : List ℤ)
+        → IsTreeOf (bytes_at (V.state files.old).files index) keys
         → IsStart (bytes_at (V.state files.old).files index) keys key.now from start
         → V.reads files.new ≤ V.reads files.old + walk_left (keys_beside key.now keys) (Some start) }
-    ensures reads_found { IsTrue (V.state files.old).tells → (keys : List ℤ) → IsTreeOf (bytes_at (V.state files.old).files index) keys
+    ensures reads_found { IsTrue (V.state files.old).tells → (keys : List ℤ)
+        → IsTreeOf (bytes_at (V.state files.old).files index) keys
         → IsStart (bytes_at (V.state files.old).files index) keys key.now from start
         → IfOk result (λ r. IfSome r (λ f. V.reads files.new + walk_left (keys_beside key.now keys) (Some f.place)
-            ≤ V.reads files.old + walk_left (keys_beside key.now keys) (Some start) + 9)) }
+        ≤ V.reads files.old + walk_left (keys_beside key.now keys) (Some start) + 9)) }
     ensures store { length (V.state files.new).store ≡ length (V.state files.old).store }
     ensures reads_later { V.reads files.old ≤ V.reads files.new }
     ensures cause { HasCause (V.faults files.old) (V.faults files.new) result }
@@ -183,7 +208,10 @@ fn walk<V: Files>(files: &mut V, index: FileId, start: Place, key: &i32, from: u
     let mut place = start;
     for hops in 0..1026u16 {
         match look_in(files, index, place, key, from)? {
-            Step::Found { slot, place: behind } => {
+            Step::Found {
+                slot,
+                place: behind,
+            } => {
                 return Ok(Some(Found {
                     slot,
                     place: behind,
@@ -198,21 +226,31 @@ fn walk<V: Files>(files: &mut V, index: FileId, start: Place, key: &i32, from: u
 
 /// The first slot of the key, from one on, at or behind a place, and the place behind it. `place` is
 /// None for the root, or came from a call for the same key; `from` may have grown since.
-pub fn next<V: Files>(files: &mut V, index: FileId, key: &i32, place: Option<Place>, from: u16) -> Result<Option<Found>, Failed>
+pub fn next<V: Files>(
+    files: &mut V,
+    index: FileId,
+    key: &i32,
+    place: Option<Place>,
+    from: u16,
+) -> Result<Option<Found>, Failed>
     requires live { IsLive (V.state files.old).files index }
-    ensures next { IsTrue (V.state files.old).tells → (keys : List ℤ) → IsTreeOf (bytes_at (V.state files.old).files index) keys
+    ensures next { IsTrue (V.state files.old).tells → (keys : List ℤ)
+        → IsTreeOf (bytes_at (V.state files.old).files index) keys
         → IsPlaceOf (bytes_at (V.state files.old).files index) keys key.now from place
         → IfOk result (λ r. MatchOption r (HasNone key.now keys from)
-            (λ f. IsFirstOf key.now keys from f.slot × IsPlaceOf (bytes_at (V.state files.old).files index) keys key.now (f.slot + 1) (Some f.place))) }
+        (λ f. IsFirstOf key.now keys from f.slot
+            × IsPlaceOf (bytes_at (V.state files.old).files index) keys key.now (f.slot + 1) (Some f.place))) }
     ensures forward { IfOk result (λ r. IfSome r (λ f. from ≤ f.slot)) }
     ensures same { OnOk result (V.state files.new ≡ V.state files.old) }
-    ensures reads { IsTrue (V.state files.old).tells → (keys : List ℤ) → IsTreeOf (bytes_at (V.state files.old).files index) keys
+    ensures reads { IsTrue (V.state files.old).tells → (keys : List ℤ)
+        → IsTreeOf (bytes_at (V.state files.old).files index) keys
         → IsPlaceOf (bytes_at (V.state files.old).files index) keys key.now from place
         → V.reads files.new ≤ V.reads files.old + walk_left (keys_beside key.now keys) place }
-    ensures reads_found { IsTrue (V.state files.old).tells → (keys : List ℤ) → IsTreeOf (bytes_at (V.state files.old).files index) keys
+    ensures reads_found { IsTrue (V.state files.old).tells → (keys : List ℤ)
+        → IsTreeOf (bytes_at (V.state files.old).files index) keys
         → IsPlaceOf (bytes_at (V.state files.old).files index) keys key.now from place
         → IfOk result (λ r. IfSome r (λ f. V.reads files.new + walk_left (keys_beside key.now keys) (Some f.place)
-            ≤ V.reads files.old + walk_left (keys_beside key.now keys) place + 9)) }
+        ≤ V.reads files.old + walk_left (keys_beside key.now keys) place + 9)) }
     ensures store { length (V.state files.new).store ≡ length (V.state files.old).store }
     ensures reads_later { V.reads files.old ≤ V.reads files.new }
     ensures cause { HasCause (V.faults files.old) (V.faults files.new) result }

@@ -17,7 +17,8 @@ use afl_base::{Failed, FileId, Files, get_u16};
 pub fn read_number<V: Files>(files: &mut V, index: FileId, at: u32) -> Result<u16, Failed>
     requires live { IsLive (V.state files.old).files index }
     requires range { at + 2 ≤ size_at (V.state files.old).files index }
-    ensures number { IsTrue (V.state files.old).tells → IfOk result (λ n. n ≡ u16_at (bytes_at (V.state files.old).files index) at) }
+    ensures number { IsTrue (V.state files.old).tells
+        → IfOk result (λ n. n ≡ u16_at (bytes_at (V.state files.old).files index) at) }
     ensures same { OnOk result (V.state files.new ≡ V.state files.old) }
     ensures reads { V.reads files.new ≤ V.reads files.old + 3 * regions at 2 }
     ensures store { length (V.state files.new).store ≡ length (V.state files.old).store }
@@ -30,11 +31,17 @@ pub fn read_number<V: Files>(files: &mut V, index: FileId, at: u32) -> Result<u1
 }
 
 /// The bytes of the bucket with a number that is not 0.
-pub fn read_bucket<V: Files>(files: &mut V, index: FileId, number: u16, into: &mut [u8; 195]) -> Result<(), Failed>
+pub fn read_bucket<V: Files>(
+    files: &mut V,
+    index: FileId,
+    number: u16,
+    into: &mut [u8; 195],
+) -> Result<(), Failed>
     requires live { IsLive (V.state files.old).files index }
     requires some { number ≢ 0 }
     requires range { bucket_place number ≤ size_at (V.state files.old).files index }
-    ensures bytes { IsTrue (V.state files.old).tells → OnOk result (into.new ≡ slice_range (bytes_at (V.state files.old).files index) (bucket_place (number - 1)) (bucket_place (number - 1) + 195)) }
+    ensures bytes { IsTrue (V.state files.old).tells
+        → OnOk result (into.new ≡ slice_range (bytes_at (V.state files.old).files index) (bucket_place (number - 1)) (bucket_place (number - 1) + 195)) }
     ensures length { length into.new ≡ 195 }
     ensures same { OnOk result (V.state files.new ≡ V.state files.old) }
     ensures reads { V.reads files.new ≤ V.reads files.old + 9 }

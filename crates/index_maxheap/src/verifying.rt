@@ -12,7 +12,7 @@ ghost use Rattle.index_tree.specs.Pairs.{Pair, pairs_of};
 ghost use Rattle.index_tree.specs.Keys.{first_keys};
 ghost use Rattle.index_tree.specs.Trees.{IsTreeOf};
 ghost use Rattle.index_tree.specs.TreeFile.{bucket_place, key_at, slot_at};
-ghost use Rattle.index_maxheap.specs.Verify.{AreHeads, Goes, Opens, Verifies};
+ghost use Rattle.index_maxheap.specs.Verify.{AreHeads, Goes, IsDone, Opens, Verifies};
 
 use crate::loads::level_with_room;
 use crate::path::node;
@@ -35,8 +35,10 @@ fn is_key(bytes: &[u8], at: usize, key: &i32) -> bool
 
 // Whether no pair from one on has a slot or a key.
 fn is_blank(bytes: &[u8; 195], from: u8) -> bool
-    ensures yes { result ≡ true → (i : ℕ) → from ≤ i → i < 32 → (slot_at bytes.now 0 i ≡ 0) × (key_at bytes.now 0 i ≡ pos 0) }
-    ensures no_ { result ≡ false → (i : ℕ) × (from ≤ i) × (i < 32) × ((slot_at bytes.now 0 i ≢ 0) ⊎ (key_at bytes.now 0 i ≢ pos 0)) }
+    ensures yes { result ≡ true → (i : ℕ) → from ≤ i → i < 32 → (slot_at bytes.now 0 i ≡ 0)
+        × (key_at bytes.now 0 i ≡ pos 0) }
+    ensures no_ { result ≡ false → (i : ℕ) × (from ≤ i) × (i < 32)
+        × ((slot_at bytes.now 0 i ≢ 0) ⊎ (key_at bytes.now 0 i ≢ pos 0)) }
 {
     for pair in from..32 {
         if get_u16(bytes, 6 * usize::from(pair) + 4) != 0 {
@@ -58,10 +60,19 @@ fn is_upper(level: u8, next: u16) -> bool
 }
 
 // The tail of a bucket that the pair of a key and slot opens, at a level.
-fn open_bucket<V: Files>(files: &mut V, index: FileId, number: u16, level: u8, key: &i32, slot: SlotNo) -> Result<Option<Tail>, Failed>
+fn open_bucket<V: Files>(
+    files: &mut V,
+    index: FileId,
+    number: u16,
+    level: u8,
+    key: &i32,
+    slot: SlotNo,
+) -> Result<Option<Tail>, Failed>
     requires live { IsLive (V.state files.old).files index }
-    ensures opens { IsTrue (V.state files.old).tells → IfOk result (λ tail. Opens tail (bytes_at (V.state files.old).files index) number level (record { key = key.now; slot = slot })) }
-    ensures safe { IfOk result (λ tail. IfSome tail (λ _. (number ≢ 0) × (bucket_place number ≤ size_at (V.state files.old).files index))) }
+    ensures opens { IsTrue (V.state files.old).tells
+        → IfOk result (λ tail. Opens tail (bytes_at (V.state files.old).files index) number level (record { key = key.now; slot = slot })) }
+    ensures safe { IfOk result (λ tail. IfSome tail (λ _. (number ≢ 0)
+        × (bucket_place number ≤ size_at (V.state files.old).files index))) }
     ensures same { OnOk result (V.state files.new ≡ V.state files.old) }
     ensures reads { V.reads files.new ≤ V.reads files.old + 9 }
     ensures store { length (V.state files.new).store ≡ length (V.state files.old).store }
@@ -97,11 +108,23 @@ fn open_bucket<V: Files>(files: &mut V, index: FileId, number: u16, level: u8, k
 }
 
 // Whether the pair of a key and slot stands at a place.
-fn has_pair<V: Files>(files: &mut V, index: FileId, at: u32, key: &i32, slot: SlotNo) -> Result<bool, Failed>
+fn has_pair<V: Files>(
+    files: &mut V,
+    index: FileId,
+    at: u32,
+    key: &i32,
+    slot: SlotNo,
+) -> Result<bool, Failed>
     requires live { IsLive (V.state files.old).files index }
     requires range { at + 6 ≤ size_at (V.state files.old).files index }
-    ensures yes { IsTrue (V.state files.old).tells → IfOk result (λ has. has ≡ true → (i32_at (bytes_at (V.state files.old).files index) at ≡ key.now) × (u16_at (bytes_at (V.state files.old).files index) (at + 4) ≡ slot + 1)) }
-    ensures no_ { IsTrue (V.state files.old).tells → IfOk result (λ has. has ≡ false → i32_at (bytes_at (V.state files.old).files index) at ≡ key.now → u16_at (bytes_at (V.state files.old).files index) (at + 4) ≢ slot + 1) }
+    ensures yes { IsTrue (V.state files.old).tells
+        → IfOk result (λ has. has ≡ true
+        → (i32_at (bytes_at (V.state files.old).files index) at ≡ key.now)
+        × (u16_at (bytes_at (V.state files.old).files index) (at + 4) ≡ slot + 1)) }
+    ensures no_ { IsTrue (V.state files.old).tells
+        → IfOk result (λ has. has ≡ false
+        → i32_at (bytes_at (V.state files.old).files index) at ≡ key.now
+        → u16_at (bytes_at (V.state files.old).files index) (at + 4) ≢ slot + 1) }
     ensures same { OnOk result (V.state files.new ≡ V.state files.old) }
     ensures reads { V.reads files.new ≤ V.reads files.old + 6 }
     ensures store { length (V.state files.new).store ≡ length (V.state files.old).store }
@@ -134,16 +157,30 @@ fn number_for(heads: &[u8; 683], node: u16, load: u16, next: u16) -> u16
 
 // Looks at the next slot's pair. It answers how many buckets it opens, or None where the file is no
 // tree with that slot.
-fn verify_slot<V: Files>(files: &mut V, index: FileId, heads: &[u8; 683], loads: &mut [u16; 341], places: &mut [u32; 341], nexts: &mut [u16; 341], fills: &mut [u8; 341], key: &i32, slot: SlotNo) -> Result<Option<u16>, Failed>
+fn verify_slot<V: Files>(
+    files: &mut V,
+    index: FileId,
+    heads: &[u8; 683],
+    loads: &mut [u16; 341],
+    places: &mut [u32; 341],
+    nexts: &mut [u16; 341],
+    fills: &mut [u8; 341],
+    key: &i32,
+    slot: SlotNo,
+) -> Result<Option<u16>, Failed>
     requires live { IsLive (V.state files.old).files index }
     requires light { (i : ℕ) → get_or loads.old i 0 ≤ slot }
-    requires inside { (i : ℕ) → get_or places.old i 0 + 195 ≤ size_at (V.state files.old).files index }
+    requires inside { (i : ℕ)
+        → get_or places.old i 0 + 195 ≤ size_at (V.state files.old).files index }
     requires low { (i : ℕ) → get_or places.old i 0 < 2 ^ 25 }
-    ensures goes { IsTrue (V.state files.old).tells → (f : ℕ → ℤ) → key.now ≡ f slot → AreHeads heads.now (bytes_at (V.state files.old).files index) →
+    ensures goes { IsTrue (V.state files.old).tells → (f : ℕ → ℤ) → key.now ≡ f slot
+        → AreHeads heads.now (bytes_at (V.state files.old).files index) →
         Verifies (bytes_at (V.state files.old).files index) loads.old places.old nexts.old fills.old (pairs_of f slot) →
         IfOk result (λ opens. Goes opens (bytes_at (V.state files.old).files index) f slot (λ _. Verifies (bytes_at (V.state files.old).files index) loads.new places.new nexts.new fills.new (pairs_of f (slot + 1)))) }
-    ensures light { IfOk result (λ opens. IfSome opens (λ n. (n ≤ 1) × ((i : ℕ) → get_or loads.new i 0 ≤ slot + 1))) }
-    ensures inside { IfOk result (λ opens. (i : ℕ) → get_or places.new i 0 + 195 ≤ size_at (V.state files.old).files index) }
+    ensures light { IfOk result (λ opens. IfSome opens (λ n. (n ≤ 1)
+        × ((i : ℕ) → get_or loads.new i 0 ≤ slot + 1))) }
+    ensures inside { IfOk result (λ opens. (i : ℕ)
+        → get_or places.new i 0 + 195 ≤ size_at (V.state files.old).files index) }
     ensures low { IfOk result (λ opens. (i : ℕ) → get_or places.new i 0 < 2 ^ 25) }
     ensures same { OnOk result (V.state files.new ≡ V.state files.old) }
     ensures reads { V.reads files.new ≤ V.reads files.old + 9 }
@@ -156,7 +193,13 @@ fn verify_slot<V: Files>(files: &mut V, index: FileId, heads: &[u8; 683], loads:
     let n = usize::from(node);
     let load = loads[n];
     if load % 32 != 0 {
-        if !has_pair(files, index, places[n] + 6 * u32::from(load % 32), key, slot)? {
+        if !has_pair(
+            files,
+            index,
+            places[n] + 6 * u32::from(load % 32),
+            key,
+            slot,
+        )? {
             return Ok(None);
         }
         loads[n] = load + 1;
@@ -179,7 +222,8 @@ fn verify_slot<V: Files>(files: &mut V, index: FileId, heads: &[u8; 683], loads:
 fn read_heads<V: Files>(files: &mut V, index: FileId, heads: &mut [u8; 683]) -> Result<(), Failed>
     requires live { IsLive (V.state files.old).files index }
     requires range { 683 ≤ size_at (V.state files.old).files index }
-    ensures bytes { IsTrue (V.state files.old).tells → OnOk result (heads.new ≡ slice_range (bytes_at (V.state files.old).files index) 0 683) }
+    ensures bytes { IsTrue (V.state files.old).tells
+        → OnOk result (heads.new ≡ slice_range (bytes_at (V.state files.old).files index) 0 683) }
     ensures long { length heads.new ≡ 683 }
     ensures same { OnOk result (V.state files.new ≡ V.state files.old) }
     ensures reads { V.reads files.new ≤ V.reads files.old + 18 }
@@ -195,8 +239,8 @@ fn read_heads<V: Files>(files: &mut V, index: FileId, heads: &mut [u8; 683]) -> 
 // Whether a node has no number, or a last bucket with no pair behind those that were seen.
 fn is_done(heads: &[u8; 683], node: u16, load: u16, next: u16, fill: u8) -> bool
     requires { node ≤ 340 }
-    ensures yes { result ≡ true → ((load ≡ 0) × (u16_at heads.now (2 * node) ≡ 0)) ⊎ ((0 < load) × (fill ≡ (load - 1) % 32 + 1) × (next ≡ 0)) }
-    ensures no_ { result ≡ false → ((load ≡ 0) × (u16_at heads.now (2 * node) ≡ 0)) ⊎ ((0 < load) × (fill ≡ (load - 1) % 32 + 1) × (next ≡ 0)) → ⊥ }
+    ensures yes { result ≡ true → IsDone heads.now node load next fill }
+    ensures no_ { result ≡ false → IsDone heads.now node load next fill → ⊥ }
 {
     if load == 0 {
         return get_u16(heads, 2 * usize::from(node)) == 0;
@@ -209,8 +253,11 @@ fn is_done(heads: &[u8; 683], node: u16, load: u16, next: u16, fill: u8) -> bool
 
 // Whether all nodes are.
 fn are_done(heads: &[u8; 683], loads: &[u16; 341], nexts: &[u16; 341], fills: &[u8; 341]) -> bool
-    ensures yes { result ≡ true → (n : ℕ) → n < 341 → ((get_or loads.now n 0 ≡ 0) × (u16_at heads.now (2 * n) ≡ 0)) ⊎ ((0 < get_or loads.now n 0) × (get_or fills.now n 0 ≡ (get_or loads.now n 0 - 1) % 32 + 1) × (get_or nexts.now n 0 ≡ 0)) }
-    ensures no_ { result ≡ false → (n : ℕ) × (n < 341) × (((get_or loads.now n 0 ≡ 0) × (u16_at heads.now (2 * n) ≡ 0)) ⊎ ((0 < get_or loads.now n 0) × (get_or fills.now n 0 ≡ (get_or loads.now n 0 - 1) % 32 + 1) × (get_or nexts.now n 0 ≡ 0)) → ⊥) }
+    ensures yes { result ≡ true → (n : ℕ) → n < 341
+        → IsDone heads.now n (get_or loads.now n 0) (get_or nexts.now n 0) (get_or fills.now n 0) }
+    ensures no_ { result ≡ false → (n : ℕ) × (n < 341)
+        × (IsDone heads.now n (get_or loads.now n 0) (get_or nexts.now n 0) (get_or fills.now n 0)
+        → ⊥) }
 {
     for node in 0..341u16 {
         let n = usize::from(node);
@@ -222,14 +269,24 @@ fn are_done(heads: &[u8; 683], loads: &[u16; 341], nexts: &[u16; 341], fills: &[
 }
 
 /// Whether the file is the tree of the first `slots` keys. It reads each key once.
-pub fn verify<V: Files>(files: &mut V, index: FileId, column: KeyColumn, slots: u16) -> Result<bool, Failed>
+pub fn verify<V: Files>(
+    files: &mut V,
+    index: FileId,
+    column: KeyColumn,
+    slots: u16,
+) -> Result<bool, Failed>
     requires live { IsLive (V.state files.old).files index }
     requires width { IsWidth column.width }
     requires narrow { column.width ≢ 8 }
     requires slots { slots ≤ 32768 }
     requires fields { (slot : ℕ) → slot < slots → HasField (V.state files.old) column slot }
-    ensures tree { IsTrue (V.state files.old).tells → IfOk result (λ meets. meets ≡ true → IsTreeOf (bytes_at (V.state files.old).files index) (first_keys (key_of (V.state files.old) column) slots)) }
-    ensures no_tree { IsTrue (V.state files.old).tells → IfOk result (λ meets. meets ≡ false → IsTreeOf (bytes_at (V.state files.old).files index) (first_keys (key_of (V.state files.old) column) slots) → ⊥) }
+    ensures tree { IsTrue (V.state files.old).tells
+        → IfOk result (λ meets. meets ≡ true
+        → IsTreeOf (bytes_at (V.state files.old).files index) (first_keys (key_of (V.state files.old) column) slots)) }
+    ensures no_tree { IsTrue (V.state files.old).tells
+        → IfOk result (λ meets. meets ≡ false
+        → IsTreeOf (bytes_at (V.state files.old).files index) (first_keys (key_of (V.state files.old) column) slots)
+        → ⊥) }
     ensures same { OnOk result (V.state files.new ≡ V.state files.old) }
     ensures reads { V.reads files.new ≤ V.reads files.old + (15 * slots + 2048) }
     ensures store { length (V.state files.new).store ≡ length (V.state files.old).store }
@@ -256,7 +313,17 @@ pub fn verify<V: Files>(files: &mut V, index: FileId, column: KeyColumn, slots: 
             return Ok(false);
         };
         let key = column.key(files, slot)?;
-        match verify_slot(files, index, &heads, &mut loads, &mut places, &mut nexts, &mut fills, &key, slot)? {
+        match verify_slot(
+            files,
+            index,
+            &heads,
+            &mut loads,
+            &mut places,
+            &mut nexts,
+            &mut fills,
+            &key,
+            slot,
+        )? {
             None => return Ok(false),
             Some(opens) => opened += opens,
         }

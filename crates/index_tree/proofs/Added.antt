@@ -1,10 +1,10 @@
 -- A pair that is put into the first bucket with room on its path makes the tree of one pair more.
-use Rattle.std.proofs.Common.{◌≡◌, ◌≢◌, ◌≤◌, ◌<◌, ◌+◌, ◌*◌, ◌-◌, ℕ, ℤ, zero, suc, List, [], ◌∷◌, ◌++◌, length, get_or, Bool, true, false, refl, arith, ap, ◌∙◌, sym, ◌⊎◌, inl, inr, ⊎_elim, subst, length-append}
-use Rattle.std.specs.Prelude.{nat_eq, slice_index}
+use Rattle.std.proofs.Common.{◌≡◌, ◌≢◌, ◌≤◌, ◌<◌, ◌+◌, ℕ, ℤ, zero, suc, List, [], ◌∷◌, ◌++◌, length, get_or, true, refl, arith, ap, ◌∙◌, sym, ◌⊎◌, inl, inr, ⊎_elim, subst, length-append}
+use Rattle.std.specs.Prelude.{nat_eq}
 use Rattle.std.proofs.lemmas.List.{get_or_append_left}
 use Rattle.db_model.specs.HashTree.{digit, node}
 use Rattle.index_tree.specs.Pairs.{Pair, goes, no_pair, reach, sifted}
-use Rattle.index_tree.specs.TreeFile.{Holds, IsBucket, IsTree, behind, bucket_place, place_of, key_at, last_at, next_at, number_at, number_of, slot_at}
+use Rattle.index_tree.specs.TreeFile.{Holds, IsBucket, IsTree, behind, place_of, key_at, last_at, number_at, number_of, slot_at}
 use Rattle.index_tree.specs.Places.{Rises}
 use Rattle.index_tree.proofs.Reach.{reach-append}
 use Rattle.index_tree.proofs.Shared.{Same, Full, order, one, grows, apart, reach_same, goes_self}
@@ -57,14 +57,14 @@ holds_kept old new place rest keeps holds = record {
 
 pub holds_more : (bytes : List ℕ) (place : ℕ) (rest : List Pair) (q : Pair) → 32 ≤ length rest → Holds bytes place rest → Holds bytes place (rest ++ q ∷ [])
 holds_more bytes place rest q full holds =
-  let sum : length (rest ++ q ∷ []) ≡ length rest + length (q ∷ []) = length-append rest (q ∷ []) in
-  record {
-    slot = λ i h k. rw (get_or_append_left rest (q ∷ []) no_pair i (omega arith)) (holds.slot i h (omega arith));
-    key = λ i h k. rw (get_or_append_left rest (q ∷ []) no_pair i (omega arith)) (holds.key i h (omega arith));
-    empty = λ i h k. absurd (omega arith);
-    blank = λ i h k. absurd (omega arith);
-    last = holds.last;
-  }
+    let sum : length (rest ++ q ∷ []) ≡ length rest + length (q ∷ []) = length-append rest (q ∷ []) in
+    record {
+      slot = λ i h k. rw (get_or_append_left rest (q ∷ []) no_pair i (omega arith)) (holds.slot i h (omega arith));
+      key = λ i h k. rw (get_or_append_left rest (q ∷ []) no_pair i (omega arith)) (holds.key i h (omega arith));
+      empty = λ i h k. absurd (omega arith);
+      blank = λ i h k. absurd (omega arith);
+      last = holds.last;
+    }
 
 -- all of one pair pass
 pub passes_all : (key : ℤ) (h : ℕ) (q : Pair) → ((i : ℕ) → i < h → goes key i q ≡ true) → sifted (goes key) h (q ∷ []) ≡ q ∷ []
@@ -84,14 +84,14 @@ pub record AddsPair (old new : List ℕ) (ps : List Pair) (q : Pair) (hop : ℕ)
 -- the pair comes to the end of its path and to no other place with room
 pub only_end : (ps : List Pair) (q : Pair) (hop : ℕ) → Full q.key ps hop → length (reach (goes q.key) hop ps) < 32 → (key : ℤ) (h : ℕ) → Full key ps h → ((i : ℕ) → i < h → Same key q.key i) → length (reach (goes key) h ps) < 32 → h ≡ hop
 only_end ps q hop end_full its_room key h full same room =
-  let there : reach (goes key) h ps ≡ reach (goes q.key) h ps = reach_same key q.key ps h same in
-  ⊎_elim
+    let there : reach (goes key) h ps ≡ reach (goes q.key) h ps = reach_same key q.key ps h same in
+    ⊎_elim
     (λ (up : h ≤ hop). ⊎_elim (λ (down : hop ≤ h). omega arith)
-      (λ (less : h < hop). let much : 32 ≤ length (reach (goes q.key) h ps) = end_full h less in let few : length (reach (goes q.key) h ps) < 32 = subst (λ xs. length xs < 32) there room in absurd (omega arith)) (order hop h))
+    (λ (less : h < hop). let much : 32 ≤ length (reach (goes q.key) h ps) = end_full h less in let few : length (reach (goes q.key) h ps) < 32 = subst (λ xs. length xs < 32) there room in absurd (omega arith)) (order hop h))
     (λ (more : hop < h).
-      let much : 32 ≤ length (reach (goes key) hop ps) = full hop more in
-      let shared : reach (goes key) hop ps ≡ reach (goes q.key) hop ps = reach_same key q.key ps hop (λ i k. same i (omega arith)) in
-      let few : 32 ≤ length (reach (goes q.key) hop ps) = subst (λ xs. 32 ≤ length xs) shared much in absurd (omega arith)) (order h hop)
+    let much : 32 ≤ length (reach (goes key) hop ps) = full hop more in
+    let shared : reach (goes key) hop ps ≡ reach (goes q.key) hop ps = reach_same key q.key ps hop (λ i k. same i (omega arith)) in
+    let few : 32 ≤ length (reach (goes q.key) hop ps) = subst (λ xs. 32 ≤ length xs) shared much in absurd (omega arith)) (order h hop)
 
 pub zero_or : (n : ℕ) → (n ≡ 0) ⊎ (n ≢ 0)
 zero_or zero = inl refl
@@ -109,79 +109,83 @@ same_pair p r k s = ap (λ (x : ℤ). record { key = x; slot = p.slot }) k ∙ a
 
 same_first : (bytes : List ℕ) (place : ℕ) (p r : Pair) (xs ys : List Pair) → Holds bytes place (p ∷ xs) → Holds bytes place (r ∷ ys) → p ≡ r
 same_first bytes place p r xs ys one other =
-  let a : slot_at bytes place 0 ≡ p.slot + 1 = one.slot 0 (omega arith) (omega arith) in
-  let b : slot_at bytes place 0 ≡ r.slot + 1 = other.slot 0 (omega arith) (omega arith) in
-  let slot : p.slot ≡ r.slot = omega arith in
-  same_pair p r (sym (one.key 0 (omega arith) (omega arith)) ∙ other.key 0 (omega arith) (omega arith)) slot
+    let a : slot_at bytes place 0 ≡ p.slot + 1 = one.slot 0 (omega arith) (omega arith) in
+    let b : slot_at bytes place 0 ≡ r.slot + 1 = other.slot 0 (omega arith) (omega arith) in
+    let slot : p.slot ≡ r.slot = omega arith in
+    same_pair p r (sym (one.key 0 (omega arith) (omega arith)) ∙ other.key 0 (omega arith) (omega arith)) slot
 
 -- two places of paths that name one bucket are one
 pub same_bucket : (old : List ℕ) (ps : List Pair) → ((key : ℤ) (hop : ℕ) → IsBucket old (number_of old key hop) (reach (goes key) hop ps)) → Rises ps → (a b : ℤ) (h k : ℕ) → number_of old a h ≢ 0 → number_of old a h ≡ number_of old b k → (h ≡ k) × ((i : ℕ) → i < h → Same a b i)
 same_bucket old ps each rises a b h k some e =
-  let x = cons_of (reach (goes a) h ps) ((each a h).some some) in
-  let y = cons_of (reach (goes b) k ps) ((each b k).some (rw (sym e) some)) in
-  let one : Holds old (place_of (number_of old a h)) (x.0 ∷ x.1) = subst (λ xs. Holds old (place_of (number_of old a h)) xs) x.2 ((each a h).holds some) in
-  let there : Holds old (place_of (number_of old b k)) (y.0 ∷ y.1) = subst (λ xs. Holds old (place_of (number_of old b k)) xs) y.2 ((each b k).holds (rw (sym e) some)) in
-  let other : Holds old (place_of (number_of old a h)) (y.0 ∷ y.1) = subst (λ n. Holds old (place_of n) (y.0 ∷ y.1)) (sym e) there in
-  let first : x.0 ≡ y.0 = same_first old (place_of (number_of old a h)) x.0 y.0 x.1 y.1 one other in
-  apart ps a b h k x.0 x.1 y.1 rises x.2 (y.2 ∙ ap (λ r. r ∷ y.1) (sym first))
+    let x = cons_of (reach (goes a) h ps) ((each a h).some some) in
+    let y = cons_of (reach (goes b) k ps) ((each b k).some (rw (sym e) some)) in
+    let one : Holds old (place_of (number_of old a h)) (x.0 ∷ x.1) = subst (λ xs. Holds old (place_of (number_of old a h)) xs) x.2 ((each a h).holds some) in
+    let there : Holds old (place_of (number_of old b k)) (y.0 ∷ y.1) = subst (λ xs. Holds old (place_of (number_of old b k)) xs) y.2 ((each b k).holds (rw (sym e) some)) in
+    let other : Holds old (place_of (number_of old a h)) (y.0 ∷ y.1) = subst (λ n. Holds old (place_of n) (y.0 ∷ y.1)) (sym e) there in
+    let first : x.0 ≡ y.0 = same_first old (place_of (number_of old a h)) x.0 y.0 x.1 y.1 one other in
+    apart ps a b h k x.0 x.1 y.1 rises x.2 (y.2 ∙ ap (λ r. r ∷ y.1) (sym first))
 
 -- the bucket with room has the pair now
 bucket_here : (old new : List ℕ) (ps : List Pair) (q : Pair) (hop : ℕ) → IsTree old ps → AddsPair old new ps q hop → (key : ℤ) (h : ℕ) → number_of old key h ≢ 0 → number_of old key h ≡ number_of old q.key hop → h ≡ hop → ((i : ℕ) → i < h → Same key q.key i) → IsBucket new (number_of old key h) (reach (goes key) h (ps ++ q ∷ []))
 bucket_here old new ps q hop tree adds key h some e here same =
-  let full : Full key ps h = λ i k. subst (λ xs. 32 ≤ length xs) (sym (reach_same key q.key ps i (λ j l. same j (omega arith)))) (adds.full i (omega arith)) in
-  let grown : reach (goes key) h (ps ++ q ∷ []) ≡ reach (goes q.key) hop ps ++ q ∷ [] =
+    let full : Full key ps h = λ i k. subst (λ xs. 32 ≤ length xs) (sym (reach_same key q.key ps i (λ j l. same j (omega arith)))) (adds.full i (omega arith)) in
+    let grown : reach (goes key) h (ps ++ q ∷ []) ≡ reach (goes q.key) hop ps ++ q ∷ [] =
     reach-append (goes key) ps (q ∷ []) h full
     ∙ ap (λ xs. reach (goes key) h ps ++ xs) (passes_all key h q (λ i k. same i k q ∙ goes_self q.key i q refl))
     ∙ ap (λ xs. xs ++ q ∷ []) (reach_same key q.key ps h same ∙ ap (λ x. reach (goes q.key) x ps) here) in
-  let sum : length (reach (goes q.key) hop ps ++ q ∷ []) ≡ length (reach (goes q.key) hop ps) + length (q ∷ []) = length-append (reach (goes q.key) hop ps) (q ∷ []) in
-  rw grown (record {
-    none = λ z. absurd (some z);
-    some = λ z. omega arith;
-    within = λ z. rw adds.size ((tree.each key h).within some);
-    holds = λ z. rw e adds.here;
-  })
+    let sum : length (reach (goes q.key) hop ps ++ q ∷ []) ≡ length (reach (goes q.key) hop ps) + length (q ∷ []) = length-append (reach (goes q.key) hop ps) (q ∷ []) in
+    rw grown (record {
+      none = λ z. absurd (some z);
+      some = λ z. omega arith;
+      within = λ z. rw adds.size ((tree.each key h).within some);
+      holds = λ z. rw e adds.here;
+    })
 
 bucket_other : (old new : List ℕ) (ps : List Pair) (q : Pair) (hop : ℕ) → IsTree old ps → AddsPair old new ps q hop → (key : ℤ) (h : ℕ) → number_of old key h ≢ 0 → number_of old key h ≢ number_of old q.key hop → (rest : List Pair) →
-  (rest ≡ reach (goes key) h ps) ⊎ ((32 ≤ length (reach (goes key) h ps)) × (rest ≡ reach (goes key) h ps ++ q ∷ [])) → IsBucket new (number_of old key h) rest
+    (rest ≡ reach (goes key) h ps) ⊎ ((32 ≤ length (reach (goes key) h ps)) × (rest ≡ reach (goes key) h ps ++ q ∷ [])) → IsBucket new (number_of old key h) rest
 bucket_other old new ps q hop tree adds key h some apart_ rest (inl same) =
-  let keeps = adds.others (number_of old key h) some apart_ in
-  rw same (record { none = λ z. absurd (some z); some = λ z. (tree.each key h).some some; within = λ z. rw adds.size ((tree.each key h).within some); holds = λ z. holds_kept old new (place_of (number_of old key h)) (reach (goes key) h ps) keeps ((tree.each key h).holds some) })
+    let keeps = adds.others (number_of old key h) some apart_ in
+    rw same (record { none = λ z. absurd (some z); some = λ z. (tree.each key h).some some; within = λ z. rw adds.size ((tree.each key h).within some); holds = λ z. holds_kept old new (place_of (number_of old key h)) (reach (goes key) h ps) keeps ((tree.each key h).holds some) })
 bucket_other old new ps q hop tree adds key h some apart_ rest (inr grown) =
-  let keeps = adds.others (number_of old key h) some apart_ in
-  let much : 32 ≤ length (reach (goes key) h ps) = grown.0 in
-  let sum : length (reach (goes key) h ps ++ q ∷ []) ≡ length (reach (goes key) h ps) + length (q ∷ []) = length-append (reach (goes key) h ps) (q ∷ []) in
-  rw grown.1 (record { none = λ z. absurd (some z); some = λ z. omega arith; within = λ z. rw adds.size ((tree.each key h).within some);
-    holds = λ z. holds_kept old new (place_of (number_of old key h)) (reach (goes key) h ps ++ q ∷ []) keeps (holds_more old (place_of (number_of old key h)) (reach (goes key) h ps) q much ((tree.each key h).holds some)) })
+    let keeps = adds.others (number_of old key h) some apart_ in
+    let much : 32 ≤ length (reach (goes key) h ps) = grown.0 in
+    let sum : length (reach (goes key) h ps ++ q ∷ []) ≡ length (reach (goes key) h ps) + length (q ∷ []) = length-append (reach (goes key) h ps) (q ∷ []) in
+    rw grown.1 (record {
+      none = λ z. absurd (some z);
+      some = λ z. omega arith;
+      within = λ z. rw adds.size ((tree.each key h).within some);
+      holds = λ z. holds_kept old new (place_of (number_of old key h)) (reach (goes key) h ps ++ q ∷ []) keeps (holds_more old (place_of (number_of old key h)) (reach (goes key) h ps) q much ((tree.each key h).holds some));
+    })
 
 -- each bucket holds what it should
 pub pair_added : (old new : List ℕ) (ps : List Pair) (q : Pair) (hop : ℕ) → IsTree old ps → Rises ps → AddsPair old new ps q hop → (key : ℤ) (h : ℕ) → IsBucket new (number_of new key h) (reach (goes key) h (ps ++ q ∷ []))
 pair_added old new ps q hop tree rises adds key h =
-  subst (λ n. IsBucket new n (reach (goes key) h (ps ++ q ∷ []))) (sym (adds.numbers key h))
-  (⊎_elim
+    subst (λ n. IsBucket new n (reach (goes key) h (ps ++ q ∷ []))) (sym (adds.numbers key h))
+    (⊎_elim
     (λ (zeroth : number_of old key h ≡ 0).
-      let nothing : reach (goes key) h ps ≡ [] = (tree.each key h).none zeroth in
-      let empty : reach (goes key) h (ps ++ q ∷ []) ≡ [] =
-        ⊎_elim (λ (same : reach (goes key) h (ps ++ q ∷ []) ≡ reach (goes key) h ps). same ∙ nothing)
-          (λ (grown : Full key ps h × (reach (goes key) h (ps ++ q ∷ []) ≡ reach (goes key) h ps ++ q ∷ []) × ((i : ℕ) → i < h → Same key q.key i)).
-            let short : length (reach (goes key) h ps) < 32 = rw nothing (omega arith) in
-            let here : h ≡ hop = only_end ps q hop adds.full adds.room key h grown.0 grown.2 short in
-            absurd (adds.some (ap (number_of old q.key) (sym here) ∙ sym (number_same old key q.key h grown.2) ∙ zeroth)))
-          (grows key ps q h) in
-      record { none = λ z. empty; some = λ z. absurd (z zeroth); within = λ z. absurd (z zeroth); holds = λ z. absurd (z zeroth) })
+    let nothing : reach (goes key) h ps ≡ [] = (tree.each key h).none zeroth in
+    let empty : reach (goes key) h (ps ++ q ∷ []) ≡ [] =
+    ⊎_elim (λ (same : reach (goes key) h (ps ++ q ∷ []) ≡ reach (goes key) h ps). same ∙ nothing)
+    (λ (grown : Full key ps h × (reach (goes key) h (ps ++ q ∷ []) ≡ reach (goes key) h ps ++ q ∷ []) × ((i : ℕ) → i < h → Same key q.key i)).
+    let short : length (reach (goes key) h ps) < 32 = rw nothing (omega arith) in
+    let here : h ≡ hop = only_end ps q hop adds.full adds.room key h grown.0 grown.2 short in
+    absurd (adds.some (ap (number_of old q.key) (sym here) ∙ sym (number_same old key q.key h grown.2) ∙ zeroth)))
+    (grows key ps q h) in
+    record { none = λ z. empty; some = λ z. absurd (z zeroth); within = λ z. absurd (z zeroth); holds = λ z. absurd (z zeroth) })
     (λ (some : number_of old key h ≢ 0).
-      ⊎_elim
-        (λ (one_bucket : number_of old key h ≡ number_of old q.key hop).
-          let both = same_bucket old ps tree.each rises key q.key h hop some one_bucket in
-          bucket_here old new ps q hop tree adds key h some one_bucket both.0 both.1)
-        (λ (two : number_of old key h ≢ number_of old q.key hop).
-          bucket_other old new ps q hop tree adds key h some two (reach (goes key) h (ps ++ q ∷ []))
-            (⊎_elim (λ (same : reach (goes key) h (ps ++ q ∷ []) ≡ reach (goes key) h ps). inl same)
-              (λ (grown : Full key ps h × (reach (goes key) h (ps ++ q ∷ []) ≡ reach (goes key) h ps ++ q ∷ []) × ((i : ℕ) → i < h → Same key q.key i)).
-                ⊎_elim (λ (much : 32 ≤ length (reach (goes key) h ps)). inr (much, grown.1))
-                  (λ (short : length (reach (goes key) h ps) < 32).
-                    let here : h ≡ hop = only_end ps q hop adds.full adds.room key h grown.0 grown.2 short in
-                    absurd (two (number_same old key q.key h grown.2 ∙ ap (number_of old q.key) here)))
-                  (order 32 (length (reach (goes key) h ps))))
-              (grows key ps q h)))
-        (same_or (number_of old key h) (number_of old q.key hop)))
+    ⊎_elim
+    (λ (one_bucket : number_of old key h ≡ number_of old q.key hop).
+    let both = same_bucket old ps tree.each rises key q.key h hop some one_bucket in
+    bucket_here old new ps q hop tree adds key h some one_bucket both.0 both.1)
+    (λ (two : number_of old key h ≢ number_of old q.key hop).
+    bucket_other old new ps q hop tree adds key h some two (reach (goes key) h (ps ++ q ∷ []))
+    (⊎_elim (λ (same : reach (goes key) h (ps ++ q ∷ []) ≡ reach (goes key) h ps). inl same)
+    (λ (grown : Full key ps h × (reach (goes key) h (ps ++ q ∷ []) ≡ reach (goes key) h ps ++ q ∷ []) × ((i : ℕ) → i < h → Same key q.key i)).
+    ⊎_elim (λ (much : 32 ≤ length (reach (goes key) h ps)). inr (much, grown.1))
+    (λ (short : length (reach (goes key) h ps) < 32).
+    let here : h ≡ hop = only_end ps q hop adds.full adds.room key h grown.0 grown.2 short in
+    absurd (two (number_same old key q.key h grown.2 ∙ ap (number_of old q.key) here)))
+    (order 32 (length (reach (goes key) h ps))))
+    (grows key ps q h)))
+    (same_or (number_of old key h) (number_of old q.key hop)))
     (zero_or (number_of old key h)))

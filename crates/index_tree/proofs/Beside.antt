@@ -1,11 +1,11 @@
 -- How long a path is, told by the keys that have its four digits.
-use Rattle.std.proofs.Common.{◌≡◌, ◌≤◌, ◌<◌, ◌+◌, ◌*◌, ◌/◌, ℕ, ℤ, zero, suc, List, [], ◌∷◌, length, Bool, true, false, cond, refl, arith, ap, ◌∙◌, sym, subst}
-use Rattle.std.specs.Prelude.{◌==◌, ◌%◌}
+use Rattle.std.proofs.Common.{◌≡◌, ◌≤◌, ◌+◌, ◌*◌, ◌/◌, ℕ, ℤ, suc, List, [], ◌∷◌, length, Bool, true, false, cond, refl, arith, ap, ◌∙◌}
+use Rattle.std.specs.Prelude.{◌==◌}
 use Rattle.std.specs.List.{filter}
 use Rattle.std.proofs.lemmas.Bool.Decides.{nat_tests}
 use Rattle.db_model.specs.Cost.{keys_beside}
 use Rattle.db_model.specs.HashTree.{digit, node, same_path}
-use Rattle.index_tree.specs.Pairs.{Pair, goes, keys_of, reach, sifted}
+use Rattle.index_tree.specs.Pairs.{Pair, goes, sifted}
 use Rattle.index_tree.specs.Places.{IsOnPath}
 use Rattle.index_tree.specs.Trees.{numbered}
 use Rattle.index_tree.proofs.Lengths.{both, fuse, path_length}
@@ -53,6 +53,7 @@ way_is_path key p e =
   where
     same_test : (m n : ℕ) → m ≡ n → (m == n) ≡ true
     same_test m n e = grind (arith, nat_tests)
+
     nodes : (a b c d e f g h : ℕ) → e ≡ a → f ≡ b → g ≡ c → h ≡ d → 4 * (4 * (4 * (4 * 0 + 1 + a) + 1 + b) + 1 + c) + 1 + d ≡ 4 * (4 * (4 * (4 * 0 + 1 + e) + 1 + f) + 1 + g) + 1 + h
     nodes a b c d e f g h i j k l = omega (arith, i, j, k, l)
 

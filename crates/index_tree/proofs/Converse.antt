@@ -1,21 +1,20 @@
 -- The tree of slots' pairs meets the rules.
-use Rattle.std.proofs.Common.{◌≡◌, ◌≢◌, ◌≤◌, ◌<◌, ◌+◌, ◌*◌, ◌-◌, ◌/◌, ℕ, ℤ, pos, Bool, true, false, zero, suc, List, [], ◌∷◌, ◌++◌, length, drop, take, get_or, refl, arith, ap, ◌∙◌, sym, ◌⊎◌, inl, inr, ⊎_elim, subst, length-append}
+use Rattle.std.proofs.Common.{◌≡◌, ◌≢◌, ◌≤◌, ◌<◌, ◌+◌, ◌-◌, ℕ, ℤ, pos, Bool, true, zero, suc, List, [], ◌∷◌, ◌++◌, length, drop, get_or, refl, arith, ap, ◌∙◌, sym, ◌⊎◌, inl, inr, ⊎_elim, subst}
 use Rattle.std.specs.Prelude.{min}
-use Rattle.db_model.specs.HashTree.{buckets, node}
+use Rattle.db_model.specs.HashTree.{buckets}
 use Rattle.index_tree.specs.Ends.{IsEnd}
 use Rattle.index_tree.specs.Loads.{opened}
 use Rattle.index_tree.specs.Pairs.{Pair, goes, keys_of, no_pair, pair_of, pairs_of, reach}
-use Rattle.index_tree.specs.Places.{Above, Rises}
+use Rattle.index_tree.specs.Places.{Rises}
 use Rattle.index_tree.specs.Rules.{MeetsRules, bucket_count, slot_on}
-use Rattle.index_tree.specs.TreeFile.{Holds, IsBucket, IsTree, bucket_place, key_at, last_at, number_of, place_of, slot_at}
-use Rattle.index_tree.proofs.Added.{number_same, same_bucket, same_node, same_or, passes_all}
+use Rattle.index_tree.specs.TreeFile.{Holds, IsTree, bucket_place, key_at, last_at, number_of, place_of, slot_at}
+use Rattle.index_tree.proofs.Added.{number_same, same_bucket, same_node}
 use Rattle.index_tree.proofs.Bijections.{count, count_more, count_none, onto}
 use Rattle.index_tree.proofs.Counted.{buckets_more}
 use Rattle.index_tree.proofs.Filters.{In, above_in, filter_in, in_pairs, rises_map}
 use Rattle.index_tree.proofs.Loaded.{end_there, pairs_more}
-use Rattle.index_tree.proofs.Owned.{in_drop, in_reach, later, none_of}
-use Rattle.index_tree.proofs.Reach.{reach-append}
-use Rattle.index_tree.proofs.Shared.{Full, Same, goes_self, order, reach_same, rises_reach, same_way}
+use Rattle.index_tree.proofs.Owned.{in_drop, in_reach, none_of}
+use Rattle.index_tree.proofs.Shared.{Same, goes_self, order, reach_same, rises_reach, same_way}
 use Rattle.index_tree.proofs.Expected.{expected}
 
 -- ---- members of lists that rise
@@ -63,7 +62,6 @@ not_open zero h t = omega arith
 not_open (suc l) h t = omega arith
 
 module _ (bytes : List ℕ) (f : ℕ → ℤ) (n : ℕ) (few_slots : n ≤ 32768) (tree : IsTree bytes (pairs_of f n)) where
-
   abbrev pub ps : List Pair
   ps = pairs_of f n
 
@@ -127,15 +125,15 @@ module _ (bytes : List ℕ) (f : ℕ → ℤ) (n : ℕ) (few_slots : n ≤ 32768
   unfolding number
   owned b inside =
       let found = onto (bucket_count bytes) n o (λ s. number s - 1) o_one
-          (λ s small marked. let x = begins s small marked in let y = named (f s) (end_of s).0 in let z = x.0 in omega (arith, y, z))
-          (λ s t a m c d e.
-            let x = begins s a m in let y = begins t c d in
-            let p = x.0 in let q = y.0 in
-            let same : number s ≡ number t = omega (arith, e, p, q) in
-            let u = x.1 in
-            let w : slot_at bytes (place_of (number s)) 0 ≡ t + 1 = rw same y.1 in
-            omega (arith, u, w))
-          (sym (total n) ∙ count_is) b inside in
+      (λ s small marked. let x = begins s small marked in let y = named (f s) (end_of s).0 in let z = x.0 in omega (arith, y, z))
+      (λ s t a m c d e.
+      let x = begins s a m in let y = begins t c d in
+      let p = x.0 in let q = y.0 in
+      let same : number s ≡ number t = omega (arith, e, p, q) in
+      let u = x.1 in
+      let w : slot_at bytes (place_of (number s)) 0 ≡ t + 1 = rw same y.1 in
+      omega (arith, u, w))
+      (sym (total n) ∙ count_is) b inside in
       let s : ℕ = found.0 in
       let x = begins s found.1 found.2 in
       let p = x.0 in
@@ -165,10 +163,10 @@ module _ (bytes : List ℕ) (f : ℕ → ℤ) (n : ℕ) (few_slots : n ≤ 32768
       ⊎_elim
       (λ (less : g < h). let up = earlier_less (goes k) ps (get_or (reach (goes k) h ps) j no_pair) g h i rises_ps less short_i a.0 (in_get (reach (goes k) h ps) j b.0) in omega (arith, p, q, up))
       (λ (same : (g ≡ h) × (i < j)).
-        let there : i < length (reach (goes k) h ps) = subst (λ (l : ℕ). i < length (reach (goes k) l ps)) same.0 a.0 in
-        let up = rises_index (reach (goes k) h ps) i j (rises_reach (goes k) h ps rises_ps) same.1 b.0 in
-        let p_ : slot_on bytes k g i ≡ (get_or (reach (goes k) h ps) i no_pair).slot + 1 = subst (λ (l : ℕ). slot_on bytes k g i ≡ (get_or (reach (goes k) l ps) i no_pair).slot + 1) same.0 p in
-        omega (arith, p_, q, up))
+      let there : i < length (reach (goes k) h ps) = subst (λ (l : ℕ). i < length (reach (goes k) l ps)) same.0 a.0 in
+      let up = rises_index (reach (goes k) h ps) i j (rises_reach (goes k) h ps rises_ps) same.1 b.0 in
+      let p_ : slot_on bytes k g i ≡ (get_or (reach (goes k) h ps) i no_pair).slot + 1 = subst (λ (l : ℕ). slot_on bytes k g i ≡ (get_or (reach (goes k) l ps) i no_pair).slot + 1) same.0 p in
+      omega (arith, p_, q, up))
       where_
 
   -- a pair stands in one place
@@ -301,14 +299,14 @@ module _ (bytes : List ℕ) (f : ℕ → ℤ) (n : ℕ) (few_slots : n ≤ 32768
     known = λ b i inside short. ⊎_elim
         (λ (z : slot_at bytes (bucket_place b) i ≤ 0). omega (arith, z))
         (λ (s : 0 < slot_at bytes (bucket_place b) i).
-          let own = bucket_of b inside in
-          let x : slot_on bytes own.0 own.1 i ≢ 0 = subst (λ (p : ℕ). slot_at bytes p i ≢ 0) (sym own.3) (λ z. omega (arith, z, s)) in
-          let p = stands own.0 own.1 i own.2 short x in
-          let pp = its_pair own.0 own.1 i p.0 in
-          let e = ap (λ (r : Pair). r.slot) pp.2 in
-          let u = p.1 in
-          let small = pp.1 in
-          subst (λ (r : ℕ). slot_at bytes r i ≤ n) own.3 (omega (arith, e, u, small)))
+        let own = bucket_of b inside in
+        let x : slot_on bytes own.0 own.1 i ≢ 0 = subst (λ (p : ℕ). slot_at bytes p i ≢ 0) (sym own.3) (λ z. omega (arith, z, s)) in
+        let p = stands own.0 own.1 i own.2 short x in
+        let pp = its_pair own.0 own.1 i p.0 in
+        let e = ap (λ (r : Pair). r.slot) pp.2 in
+        let u = p.1 in
+        let small = pp.1 in
+        subst (λ (r : ℕ). slot_at bytes r i ≤ n) own.3 (omega (arith, e, u, small)))
         (order (slot_at bytes (bucket_place b) i) 0);
     rise = λ k g h i j where_ short_i short_j some x y. rise k g h i j where_ short_i short_j some x y (earlier_some k g h (⊎_elim (λ (l : g < h). omega (arith, l)) (λ (s : (g ≡ h) × (i < j)). let e = s.0 in omega (arith, e)) where_) some);
   }

@@ -1,10 +1,10 @@
 -- How many buckets there are, and how many more after an insert.
-use Rattle.std.proofs.Common.{◌≡◌, ◌≢◌, ◌≤◌, ◌<◌, ◌+◌, ◌*◌, ◌-◌, ◌/◌, ◌%◌, ℕ, ℤ, zero, suc, List, [], ◌∷◌, ◌++◌, length, drop, map, Bool, true, false, cond, refl, arith, ap, ◌∙◌, sym, ◌⊎◌, inl, inr, ⊎_elim, subst, add-one, length-append}
+use Rattle.std.proofs.Common.{◌≡◌, ◌≤◌, ◌<◌, ◌+◌, ◌*◌, ◌-◌, ◌/◌, ◌%◌, ℕ, ℤ, zero, suc, List, [], ◌∷◌, ◌++◌, length, drop, Bool, true, false, cond, refl, arith, ap, ◌∙◌, sym, ◌⊎◌, inl, inr, ⊎_elim, subst, add-one, length-append}
 use Rattle.std.specs.Prelude.{◌==◌}
 use Rattle.std.specs.List.{filter}
 use Rattle.std.proofs.lemmas.List.{append-nil, drop-append-le, drop_all, length-drop, map-append, length-map}
 use Rattle.std.proofs.lemmas.List.Elements.{filter-append}
-use Rattle.db_model.specs.HashTree.{buckets, buckets_at, digit, mixed, onward}
+use Rattle.db_model.specs.HashTree.{buckets, buckets_at, digit, onward}
 use Rattle.index_tree.specs.Ends.{IsEnd}
 use Rattle.index_tree.specs.Loads.{opened}
 use Rattle.index_tree.specs.Pairs.{Pair, goes, keys_of, reach}
@@ -92,17 +92,17 @@ passes : (above level : ℕ) (keys : List ℤ) (k : ℤ) → 32 ≤ length keys 
 passes above level keys k full =
     ⊎_elim
     (λ (e : digit k level ≡ 0). subst (λ (d : ℕ). Passes above level keys k d) (sym e)
-        (rw (onward_here level 0 keys k full (is_digit k level 0 0 e), onward_other level 1 keys k full (is_digit k level 0 1 e), onward_other level 2 keys k full (is_digit k level 0 2 e), onward_other level 3 keys k full (is_digit k level 0 3 e)) (omega arith)))
+    (rw (onward_here level 0 keys k full (is_digit k level 0 0 e), onward_other level 1 keys k full (is_digit k level 0 1 e), onward_other level 2 keys k full (is_digit k level 0 2 e), onward_other level 3 keys k full (is_digit k level 0 3 e)) (omega arith)))
     (λ (rest : (digit k level ≡ 1) ⊎ ((digit k level ≡ 2) ⊎ (digit k level ≡ 3))). ⊎_elim
-      (λ (e : digit k level ≡ 1). subst (λ (d : ℕ). Passes above level keys k d) (sym e)
-          (rw (onward_other level 0 keys k full (is_digit k level 1 0 e), onward_here level 1 keys k full (is_digit k level 1 1 e), onward_other level 2 keys k full (is_digit k level 1 2 e), onward_other level 3 keys k full (is_digit k level 1 3 e)) (omega arith)))
-      (λ (more : (digit k level ≡ 2) ⊎ (digit k level ≡ 3)). ⊎_elim
-        (λ (e : digit k level ≡ 2). subst (λ (d : ℕ). Passes above level keys k d) (sym e)
-            (rw (onward_other level 0 keys k full (is_digit k level 2 0 e), onward_other level 1 keys k full (is_digit k level 2 1 e), onward_here level 2 keys k full (is_digit k level 2 2 e), onward_other level 3 keys k full (is_digit k level 2 3 e)) (omega arith)))
-        (λ (e : digit k level ≡ 3). subst (λ (d : ℕ). Passes above level keys k d) (sym e)
-            (rw (onward_other level 0 keys k full (is_digit k level 3 0 e), onward_other level 1 keys k full (is_digit k level 3 1 e), onward_other level 2 keys k full (is_digit k level 3 2 e), onward_here level 3 keys k full (is_digit k level 3 3 e)) (omega arith)))
-        more)
-      rest)
+    (λ (e : digit k level ≡ 1). subst (λ (d : ℕ). Passes above level keys k d) (sym e)
+    (rw (onward_other level 0 keys k full (is_digit k level 1 0 e), onward_here level 1 keys k full (is_digit k level 1 1 e), onward_other level 2 keys k full (is_digit k level 1 2 e), onward_other level 3 keys k full (is_digit k level 1 3 e)) (omega arith)))
+    (λ (more : (digit k level ≡ 2) ⊎ (digit k level ≡ 3)). ⊎_elim
+    (λ (e : digit k level ≡ 2). subst (λ (d : ℕ). Passes above level keys k d) (sym e)
+    (rw (onward_other level 0 keys k full (is_digit k level 2 0 e), onward_other level 1 keys k full (is_digit k level 2 1 e), onward_here level 2 keys k full (is_digit k level 2 2 e), onward_other level 3 keys k full (is_digit k level 2 3 e)) (omega arith)))
+    (λ (e : digit k level ≡ 3). subst (λ (d : ℕ). Passes above level keys k d) (sym e)
+    (rw (onward_other level 0 keys k full (is_digit k level 3 0 e), onward_other level 1 keys k full (is_digit k level 3 1 e), onward_other level 2 keys k full (is_digit k level 3 2 e), onward_here level 3 keys k full (is_digit k level 3 3 e)) (omega arith)))
+    more)
+    rest)
     (ways (digit k level) (digit_small k level))
 
 -- ---- one key more
@@ -154,22 +154,22 @@ counts (suc above) level ps key hop deep on full room =
     let one : length (ks ++ key ∷ []) ≡ length ks + 1 = length_one ks key in
     ⊎_elim
     (λ (here : hop ≤ level).
-        let at : hop ≡ level = omega arith in
-        let few : length ks < 32 = rw len (subst (λ (h : ℕ). length (reach (goes key) h ps) < 32) at room) in
-        let after : buckets_at (suc above) level (ks ++ key ∷ []) ≡ 1 = bucket_alone above level (ks ++ key ∷ []) (omega arith) (omega arith) in
-        rw (after, at, sym len)
-        (⊎_elim
-          (λ (some : 1 ≤ length ks). rw (bucket_alone above level ks some (omega arith), opened_some (length ks) some) refl)
-          (λ (none : length ks < 1). (let empty = empty_of ks none in rw (empty) refl))
-          (order 1 (length ks))))
+    let at : hop ≡ level = omega arith in
+    let few : length ks < 32 = rw len (subst (λ (h : ℕ). length (reach (goes key) h ps) < 32) at room) in
+    let after : buckets_at (suc above) level (ks ++ key ∷ []) ≡ 1 = bucket_alone above level (ks ++ key ∷ []) (omega arith) (omega arith) in
+    rw (after, at, sym len)
+    (⊎_elim
+    (λ (some : 1 ≤ length ks). rw (bucket_alone above level ks some (omega arith), opened_some (length ks) some) refl)
+    (λ (none : length ks < 1). (let empty = empty_of ks none in rw (empty) refl))
+    (order 1 (length ks))))
     (λ (more : level < hop).
-        let enough : 32 ≤ length ks = rw len (full level more) in
-        let next = counts above (suc level) ps key hop (omega arith) more full room in
-        let onto = keys_onward key level ps (omega arith) in
-        let same : level + 1 ≡ suc level = add-one level in
-        let sum = passes above level ks key enough in
-        let deeper = rw (onto, sym same) at next in
-        bucket_sum above level (ks ++ key ∷ []) (omega arith) ∙ omega (arith, sum, deeper, bucket_sum above level ks (omega arith)))
+    let enough : 32 ≤ length ks = rw len (full level more) in
+    let next = counts above (suc level) ps key hop (omega arith) more full room in
+    let onto = keys_onward key level ps (omega arith) in
+    let same : level + 1 ≡ suc level = add-one level in
+    let sum = passes above level ks key enough in
+    let deeper = rw (onto, sym same) at next in
+    bucket_sum above level (ks ++ key ∷ []) (omega arith) ∙ omega (arith, sum, deeper, bucket_sum above level ks (omega arith)))
     (order hop level)
   where
     empty_of : (xs : List ℤ) → length xs < 1 → xs ≡ []
@@ -187,9 +187,9 @@ split_step : (level : ℕ) (k : ℤ) (a b c d n : ℕ) → a + b + c + d ≡ n �
 split_step level k a b c d n sum small = ⊎_elim
     (λ (e : digit k level ≡ 0). rw e (omega arith))
     (λ (rest : (digit k level ≡ 1) ⊎ ((digit k level ≡ 2) ⊎ (digit k level ≡ 3))). ⊎_elim
-      (λ (e : digit k level ≡ 1). rw e (omega arith))
-      (λ (more : (digit k level ≡ 2) ⊎ (digit k level ≡ 3)). ⊎_elim (λ (e : digit k level ≡ 2). rw e (omega arith)) (λ (e : digit k level ≡ 3). rw e (omega arith)) more)
-      rest)
+    (λ (e : digit k level ≡ 1). rw e (omega arith))
+    (λ (more : (digit k level ≡ 2) ⊎ (digit k level ≡ 3)). ⊎_elim (λ (e : digit k level ≡ 2). rw e (omega arith)) (λ (e : digit k level ≡ 3). rw e (omega arith)) more)
+    rest)
     (ways (digit k level) small)
 
 length_cond : (b : Bool) (k : ℤ) (ks : List ℤ) → length (cond b (k ∷ ks) ks) ≡ length ks + cond b 1 0

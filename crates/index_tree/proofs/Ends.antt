@@ -1,5 +1,5 @@
 -- The end of a path, read off the bytes of a tree.
-use Rattle.std.proofs.Common.{◌≡◌, ◌≢◌, ℕ, ℤ, pos, zero, suc, ◌+◌, ◌-◌, ◌*◌, ◌<◌, ◌≤◌, ◌⊎◌, inl, inr, List, [], ◌∷◌, length, get_or, refl, ap, sym, ◌∙◌, subst, arith, true, false}
+use Rattle.std.proofs.Common.{◌≡◌, ℕ, ℤ, zero, suc, ◌+◌, ◌<◌, ◌≤◌, List, [], length, get_or, refl, sym, ◌∙◌, subst, arith, true, false}
 use Rattle.std.specs.Prelude.{◌==◌, min, nat_lt}
 use Rattle.std.proofs.Math.Logic.{⊎_elim}
 use Rattle.std.proofs.lemmas.Bool.{cases_eq}
@@ -15,13 +15,13 @@ filled_is zero bytes place pair rest n holds full low high few short = omega (ar
 filled_is (suc turns) bytes place pair rest n holds full low high few short =
     ⊎_elim
     (λ same.
-      let empty : slot_at bytes place pair ≡ 0 = holds.empty pair (omega (arith, full)) (let e = short (omega (arith, full, same)) in omega (arith, e, same)) in
-      rw empty same)
+    let empty : slot_at bytes place pair ≡ 0 = holds.empty pair (omega (arith, full)) (let e = short (omega (arith, full, same)) in omega (arith, e, same)) in
+    rw empty same)
     (λ other.
-      let within : pair < n = omega (arith, low, other) in
-      let slot : slot_at bytes place pair ≡ (get_or rest pair no_pair).slot + 1 = holds.slot pair (omega (arith, full)) (omega (arith, within, few)) in
-      let some : (slot_at bytes place pair == 0) ≡ false = grind (arith, nat_tests) in
-      rw some (filled_is turns bytes place (pair + 1) rest n holds (omega (arith, full)) (omega (arith, within)) high few short))
+    let within : pair < n = omega (arith, low, other) in
+    let slot : slot_at bytes place pair ≡ (get_or rest pair no_pair).slot + 1 = holds.slot pair (omega (arith, full)) (omega (arith, within, few)) in
+    let some : (slot_at bytes place pair == 0) ≡ false = grind (arith, nat_tests) in
+    rw some (filled_is turns bytes place (pair + 1) rest n holds (omega (arith, full)) (omega (arith, within)) high few short))
     (cases_eq pair n)
 
 -- the bytes tell how many pairs the bucket of a number has
@@ -30,10 +30,10 @@ filled_bucket bytes number rest bucket =
     ⊎_elim
     (λ none. let empty : rest ≡ [] = bucket.none none in rw (none, empty) refl)
     (λ some.
-      let there : (number == 0) ≡ false = grind (arith, nat_tests) in
-      let filled : filled_from 32 bytes (place_of number) 0 ≡ min 32 (length rest) =
-        filled_is 32 bytes (place_of number) 0 rest (min 32 (length rest)) (bucket.holds some) refl (omega arith) (omega arith) (omega arith) (λ h. omega (arith, h)) in
-      rw there filled)
+    let there : (number == 0) ≡ false = grind (arith, nat_tests) in
+    let filled : filled_from 32 bytes (place_of number) 0 ≡ min 32 (length rest) =
+    filled_is 32 bytes (place_of number) 0 rest (min 32 (length rest)) (bucket.holds some) refl (omega arith) (omega arith) (omega arith) (λ h. omega (arith, h)) in
+    rw there filled)
     (cases_eq number 0)
 
 -- from a hop before the end on, a walk over the bytes comes to the end

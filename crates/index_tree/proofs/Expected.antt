@@ -1,11 +1,11 @@
 -- Each pair of a tree stands where it was the end of its path.
-use Rattle.std.proofs.Common.{◌≡◌, ◌≢◌, ◌≤◌, ◌<◌, ◌+◌, ◌*◌, ◌-◌, ℕ, ℤ, List, [], ◌∷◌, ◌++◌, length, get_or, refl, arith, ap, ◌∙◌, sym, length-append}
+use Rattle.std.proofs.Common.{◌≡◌, ◌≢◌, ◌<◌, ◌+◌, ◌-◌, ℕ, ℤ, List, [], ◌∷◌, ◌++◌, length, get_or, refl, arith, ap, ◌∙◌, length-append}
 use Rattle.std.proofs.lemmas.List.{get_or_append_left}
 use Rattle.std.proofs.Math.Seq.{get_or-append_seam}
 use Rattle.index_tree.specs.Buckets.{HasPair}
 use Rattle.index_tree.specs.Ends.{IsEnd}
 use Rattle.index_tree.specs.Pairs.{Pair, goes, no_pair, pair_of, pairs_of, reach}
-use Rattle.index_tree.specs.TreeFile.{Holds, IsBucket, IsTree, number_of, place_of}
+use Rattle.index_tree.specs.TreeFile.{IsTree, number_of}
 use Rattle.index_tree.proofs.Added.{passes_all}
 use Rattle.index_tree.proofs.Loaded.{pairs_more}
 use Rattle.index_tree.proofs.Owned.{later}
@@ -26,7 +26,7 @@ expected bytes f slots s hop tree small end =
     let total : length ((front ++ q ∷ []) ++ after.0) ≡ length (front ++ q ∷ []) + length after.0 = length-append (front ++ q ∷ []) after.0 in
     let long = ap length whole in
     let there : get_or (reach (goes key) hop (pairs_of f slots)) (length front) no_pair ≡ q =
-        ap (λ (xs : List Pair). get_or xs (length front) no_pair) whole ∙ get_or_append_left (front ++ q ∷ []) after.0 no_pair (length front) (omega (arith, sum)) ∙ get_or-append_seam front q [] no_pair in
+    ap (λ (xs : List Pair). get_or xs (length front) no_pair) whole ∙ get_or_append_left (front ++ q ∷ []) after.0 no_pair (length front) (omega (arith, sum)) ∙ get_or-append_seam front q [] no_pair in
     let bucket = tree.each key hop in
     let some : number_of bytes key hop ≢ 0 = λ z. let empty : length (reach (goes key) hop (pairs_of f slots)) ≡ 0 = ap length (bucket.none z) in omega (arith, empty, long, total, sum) in
     let room = end.room in

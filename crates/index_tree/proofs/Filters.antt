@@ -1,9 +1,8 @@
 -- Pairs in lists whose slots rise.
-use Rattle.std.proofs.Common.{◌≡◌, ◌≢◌, ◌≤◌, ◌<◌, ◌+◌, ◌-◌, ℕ, ℤ, zero, suc, List, [], ◌∷◌, ◌++◌, length, drop, get_or, map, Bool, true, false, cond, refl, arith, ap, ◌∙◌, sym, ◌⊎◌, inl, inr, ⊎_elim, subst}
-use Rattle.std.specs.Prelude.{⊤}
+use Rattle.std.proofs.Common.{◌≡◌, ◌≤◌, ◌<◌, ◌+◌, ℕ, zero, suc, List, [], ◌∷◌, ◌++◌, length, drop, map, Bool, true, false, cond, refl, arith, ap, ◌∙◌, sym, ◌⊎◌, inl, inr, ⊎_elim}
 use Rattle.std.specs.List.{filter, range_with_len}
 use Rattle.std.proofs.lemmas.List.{append-nil, drop_all, drop_at}
-use Rattle.index_tree.specs.Pairs.{Pair, pair_of}
+use Rattle.index_tree.specs.Pairs.{Pair}
 use Rattle.index_tree.specs.Places.{Above, Rises}
 
 abbrev pub In : Pair → List Pair → Type 0
@@ -88,12 +87,12 @@ split_parts h f g (p ∷ ps) rises parts order =
     ⊎_elim
     (λ (x : (h p ≡ true) × (f p ≡ true) × (g p ≡ false)). rw (x.0, x.1, x.2) (ap (λ (zs : List Pair). p ∷ zs) deep))
     (λ (rest : ((h p ≡ true) × (f p ≡ false) × (g p ≡ true)) ⊎ ((h p ≡ false) × (f p ≡ false) × (g p ≡ false))). ⊎_elim
-      (λ (x : (h p ≡ true) × (f p ≡ false) × (g p ≡ true)).
-        let nothing : filter f ps ≡ [] = none_in f ps (λ q i t. let up : p.slot < q.slot = above_in p.slot q ps rises.0 i in let down : q.slot < p.slot = order q p (inr i) (inl refl) t x.2 in omega (arith, up, down)) in
-        let rest_ : filter h ps ≡ filter g ps = deep ∙ ap (λ (zs : List Pair). zs ++ filter g ps) nothing in
-        rw (x.0, x.1, x.2, nothing) (ap (λ (zs : List Pair). p ∷ zs) rest_))
-      (λ (x : (h p ≡ false) × (f p ≡ false) × (g p ≡ false)). rw (x.0, x.1, x.2) deep)
-      rest)
+    (λ (x : (h p ≡ true) × (f p ≡ false) × (g p ≡ true)).
+    let nothing : filter f ps ≡ [] = none_in f ps (λ q i t. let up : p.slot < q.slot = above_in p.slot q ps rises.0 i in let down : q.slot < p.slot = order q p (inr i) (inl refl) t x.2 in omega (arith, up, down)) in
+    let rest_ : filter h ps ≡ filter g ps = deep ∙ ap (λ (zs : List Pair). zs ++ filter g ps) nothing in
+    rw (x.0, x.1, x.2, nothing) (ap (λ (zs : List Pair). p ∷ zs) rest_))
+    (λ (x : (h p ≡ false) × (f p ≡ false) × (g p ≡ false)). rw (x.0, x.1, x.2) deep)
+    rest)
     (parts p)
 
 commute_step : (f g : Pair → Bool) (p : Pair) (a b : Bool) (fg gf fs gs : List Pair) → f p ≡ a → g p ≡ b → filter f gs ≡ filter g fs → filter f (cond b (p ∷ gs) gs) ≡ filter g (cond a (p ∷ fs) fs)

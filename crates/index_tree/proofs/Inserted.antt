@@ -1,19 +1,18 @@
 -- What an insert makes.
-use Rattle.std.proofs.Common.{◌≡◌, ◌≢◌, ◌≤◌, ◌<◌, ◌+◌, ◌*◌, ◌-◌, ◌/◌, ◌%◌, ◌^◌, ℕ, ℤ, pos, zero, suc, List, [], ◌∷◌, ◌++◌, length, get_or, replicate, refl, arith, ap, ◌∙◌, sym, ◌⊎◌, inl, inr, ⊎_elim, subst, length-append}
-use Rattle.std.specs.Prelude.{FitsSigned, slice_index, slice_set, IsTrue}
+use Rattle.std.proofs.Common.{◌≡◌, ◌≢◌, ◌≤◌, ◌<◌, ◌+◌, ◌*◌, ◌-◌, ◌/◌, ◌^◌, ℕ, ℤ, pos, zero, suc, List, [], ◌∷◌, ◌++◌, length, get_or, replicate, refl, arith, ap, ◌∙◌, sym, ◌⊎◌, inl, inr, ⊎_elim}
+use Rattle.std.specs.Prelude.{FitsSigned, slice_set, IsTrue}
 use Rattle.std.specs.Int.{w32}
 use Rattle.std.specs.Prelude.{Result, Ok, Err, OnOk}
 use Rattle.std.proofs.lemmas.List.{get_or-replicate, get_or-set_other, get_or-set_same, length-set}
 use Rattle.afl_base.specs.Fields.{i32_at, i32_bytes, put_at, u16_at, u16_bytes}
 use Rattle.afl_base.specs.Files.{Becomes, State, bytes_at, size_at}
-use Rattle.afl_base.specs.Regions.{regions}
 use Rattle.afl_base.proofs.FieldLaws.{i32_at-put_at, length-put_at, u16_at-put_at}
 use Rattle.db_model.specs.HashTree.{buckets}
 use Rattle.index_tree.specs.Buckets.{IsFirstBucket, IsPairBytes}
 use Rattle.index_tree.specs.Ends.{IsEnd, spot_of}
-use Rattle.index_tree.specs.Pairs.{Pair, goes, keys_of, no_pair, reach}
+use Rattle.index_tree.specs.Pairs.{Pair, goes, keys_of, reach}
 use Rattle.index_tree.specs.Places.{IsGrown, Rises}
-use Rattle.index_tree.specs.TreeFile.{Holds, IsTree, bucket_place, key_at, last_at, next_at, number_of, place_of, slot_at}
+use Rattle.index_tree.specs.TreeFile.{IsTree, bucket_place, number_of, place_of}
 use Rattle.index_tree.proofs.Counted.{buckets_few, length-keys}
 use Rattle.index_tree.proofs.Frames.{SameBytes, i32_same, u16_same}
 use Rattle.index_tree.proofs.PutBucket.{appends, bucket_put}
@@ -42,7 +41,7 @@ grown_new old new w two_ ps q hop at tree rises few end none spot fits first lon
     let size : length old ≡ bucket_place (buckets (keys_of ps)) = tree.size in
     let n : ℕ = (length old - 683) / 195 + 1 in
     rw (new_is, spot) (bucket_put old (put_at (old ++ w) (spot_of old q.key hop) two_) ps q hop n
-      (appends old w two_ ps q hop n tree rises end none first (rw (sym spot) fits) long number (λ z. omega arith) (place_is (length old) (buckets (keys_of ps)) size)) few end)
+    (appends old w two_ ps q hop n tree rises end none first (rw (sym spot) fits) long number (λ z. omega arith) (place_is (length old) (buckets (keys_of ps)) size)) few end)
   where
     place_is : (len b : ℕ) → len ≡ bucket_place b → place_of ((len - 683) / 195 + 1) ≡ len
     place_is len b e = omega arith
@@ -114,24 +113,24 @@ first_is b c key n slot b_is c_is four two fits is small =
     let long_b : length b ≡ 195 = rw b_is (length-put_at zeros (i32_bytes key) 0 (omega arith)) in
     let long_c : length c ≡ 195 = rw c_is (length-put_at b (u16_bytes n) 4 (omega arith) ∙ long_b) in
     let slots : (p : ℕ) → 6 ≤ p → p + 2 ≤ 194 → u16_at d p ≡ 0 = λ p up down.
-        let one : u16_at d p ≡ u16_at c p = u16_same d c p p (set_same c 194 1 p 2 (inl (omega arith))) in
-        let two_ : u16_at c p ≡ u16_at b p = ap (λ (xs : List ℕ). u16_at xs p) c_is ∙ u16_stays b (u16_bytes n) 4 p (omega (arith, long_b, two)) (inr (omega (arith, two, up))) in
-        let three : u16_at b p ≡ u16_at zeros p = ap (λ (xs : List ℕ). u16_at xs p) b_is ∙ u16_stays zeros (i32_bytes key) 0 p (omega (arith, four)) (inr (omega (arith, four, up))) in
-        one ∙ two_ ∙ three ∙ zero_u16 195 p (omega arith) in
+    let one : u16_at d p ≡ u16_at c p = u16_same d c p p (set_same c 194 1 p 2 (inl (omega arith))) in
+    let two_ : u16_at c p ≡ u16_at b p = ap (λ (xs : List ℕ). u16_at xs p) c_is ∙ u16_stays b (u16_bytes n) 4 p (omega (arith, long_b, two)) (inr (omega (arith, two, up))) in
+    let three : u16_at b p ≡ u16_at zeros p = ap (λ (xs : List ℕ). u16_at xs p) b_is ∙ u16_stays zeros (i32_bytes key) 0 p (omega (arith, four)) (inr (omega (arith, four, up))) in
+    one ∙ two_ ∙ three ∙ zero_u16 195 p (omega arith) in
     let keys : (p : ℕ) → 6 ≤ p → p + 4 ≤ 194 → i32_at d p ≡ pos 0 = λ p up down.
-        let one : i32_at d p ≡ i32_at c p = i32_same d c p p (set_same c 194 1 p 4 (inl (omega arith))) in
-        let two_ : i32_at c p ≡ i32_at b p = ap (λ (xs : List ℕ). i32_at xs p) c_is ∙ i32_stays b (u16_bytes n) 4 p (omega (arith, long_b, two)) (inr (omega (arith, two, up))) in
-        let three : i32_at b p ≡ i32_at zeros p = ap (λ (xs : List ℕ). i32_at xs p) b_is ∙ i32_stays zeros (i32_bytes key) 0 p (omega (arith, four)) (inr (omega (arith, four, up))) in
-        one ∙ two_ ∙ three ∙ zero_i32 195 p (omega arith) in
-    let slot_0 : u16_at d 4 ≡ slot + 1 = 
-        let one : u16_at d 4 ≡ u16_at c 4 = u16_same d c 4 4 (set_same c 194 1 4 2 (inl (omega arith))) in
-        let two_ : u16_at c 4 ≡ n = ap (λ (xs : List ℕ). u16_at xs 4) c_is ∙ u16_at-put_at b 4 n (omega (arith, long_b)) small in
-        one ∙ two_ ∙ is in
+    let one : i32_at d p ≡ i32_at c p = i32_same d c p p (set_same c 194 1 p 4 (inl (omega arith))) in
+    let two_ : i32_at c p ≡ i32_at b p = ap (λ (xs : List ℕ). i32_at xs p) c_is ∙ i32_stays b (u16_bytes n) 4 p (omega (arith, long_b, two)) (inr (omega (arith, two, up))) in
+    let three : i32_at b p ≡ i32_at zeros p = ap (λ (xs : List ℕ). i32_at xs p) b_is ∙ i32_stays zeros (i32_bytes key) 0 p (omega (arith, four)) (inr (omega (arith, four, up))) in
+    one ∙ two_ ∙ three ∙ zero_i32 195 p (omega arith) in
+    let slot_0 : u16_at d 4 ≡ slot + 1 =
+    let one : u16_at d 4 ≡ u16_at c 4 = u16_same d c 4 4 (set_same c 194 1 4 2 (inl (omega arith))) in
+    let two_ : u16_at c 4 ≡ n = ap (λ (xs : List ℕ). u16_at xs 4) c_is ∙ u16_at-put_at b 4 n (omega (arith, long_b)) small in
+    one ∙ two_ ∙ is in
     let key_0 : i32_at d 0 ≡ key =
-        let one : i32_at d 0 ≡ i32_at c 0 = i32_same d c 0 0 (set_same c 194 1 0 4 (inl (omega arith))) in
-        let two_ : i32_at c 0 ≡ i32_at b 0 = ap (λ (xs : List ℕ). i32_at xs 0) c_is ∙ i32_stays b (u16_bytes n) 4 0 (omega (arith, long_b, two)) (inl (omega arith)) in
-        let three : i32_at b 0 ≡ key = ap (λ (xs : List ℕ). i32_at xs 0) b_is ∙ i32_at-put_at zeros 0 key (omega arith) fits in
-        one ∙ two_ ∙ three in
+    let one : i32_at d 0 ≡ i32_at c 0 = i32_same d c 0 0 (set_same c 194 1 0 4 (inl (omega arith))) in
+    let two_ : i32_at c 0 ≡ i32_at b 0 = ap (λ (xs : List ℕ). i32_at xs 0) c_is ∙ i32_stays b (u16_bytes n) 4 0 (omega (arith, long_b, two)) (inl (omega arith)) in
+    let three : i32_at b 0 ≡ key = ap (λ (xs : List ℕ). i32_at xs 0) b_is ∙ i32_at-put_at zeros 0 key (omega arith) fits in
+    one ∙ two_ ∙ three in
     record {
       long = length-set c 194 1 ∙ long_c;
       holds = record {

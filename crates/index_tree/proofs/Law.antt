@@ -1,15 +1,16 @@
 -- A file that meets the rules is the tree of its slots' pairs, with as many buckets as that has.
-use Rattle.std.proofs.Common.{◌≡◌, ◌≢◌, ◌≤◌, ◌<◌, ◌+◌, ◌*◌, ◌-◌, ◌/◌, ℕ, ℤ, List, length, refl, arith, ap, ◌∙◌, sym}
+use Rattle.std.proofs.Common.{◌≡◌, ◌≤◌, ◌+◌, ◌-◌, ◌/◌, ℕ, ℤ, List, length, refl, arith, ap, ◌∙◌, sym, subst, zero, suc}
+use Rattle.std.specs.Prelude.{slice_index}
 use Rattle.std.proofs.lemmas.List.FromFn.{length-map-range_with_len}
 use Rattle.db_model.specs.HashTree.{buckets}
 use Rattle.index_tree.specs.Pairs.{keys_of, pair_of, pairs_of}
 use Rattle.index_tree.specs.Rules.{MeetsRules, bucket_count}
 use Rattle.index_tree.specs.TreeFile.{IsTree, bucket_place}
-use Rattle.index_tree.specs.Keys.{first_keys}
-use Rattle.index_tree.specs.Trees.{IsTreeOf, numbered}
+use Rattle.index_tree.specs.Keys.{first_keys, key_in}
+use Rattle.index_tree.specs.Trees.{IsTreeOf}
 use Rattle.index_tree.proofs.Converse.{tree_rules}
 use Rattle.index_tree.proofs.Counted.{buckets_few}
-use Rattle.index_tree.proofs.Numbered.{keys_numbered, tree_of_keys, tree_of_pairs}
+use Rattle.index_tree.proofs.Numbered.{keys_first, keys_numbered, numbered_length, tree_of_keys, tree_of_pairs}
 use Rattle.index_tree.proofs.Owned.{owned_count}
 use Rattle.index_tree.proofs.Ruled.{each}
 
@@ -45,3 +46,19 @@ half_many keys few = let most = buckets_few keys in omega (arith, few, most)
 
 pub most_many : (keys : List ℤ) → length keys ≤ 32768 → buckets keys ≤ 1365
 most_many keys few = let most = buckets_few keys in omega (arith, few, most)
+
+-- the last byte is that of the last bucket, or stands behind the numbers of the nodes
+mark_last : (bytes : List ℕ) (key : ℕ → ℤ) (slots b : ℕ) → MeetsRules bytes key slots → bucket_count bytes ≡ b → slice_index bytes (length bytes - 1) ≡ 1
+mark_last bytes key slots zero rules is =
+    let whole : length bytes ≡ bucket_place (bucket_count bytes) = rules.whole in
+    let at : length bytes - 1 ≡ 682 = omega (arith, whole, is) in
+    rw at rules.mark
+mark_last bytes key slots (suc b) rules is =
+    let whole : length bytes ≡ bucket_place (bucket_count bytes) = rules.whole in
+    let at : length bytes - 1 ≡ bucket_place b + 194 = omega (arith, whole, is) in
+    rw at (rules.last b (omega (arith, is)))
+
+pub ends_marked : (bytes : List ℕ) (keys : List ℤ) → IsTreeOf bytes keys → slice_index bytes (length bytes - 1) ≡ 1
+ends_marked bytes keys tree =
+    let few : length keys ≤ 32768 = (let long = numbered_length 0 keys in let most = tree.few in omega (arith, long, most)) in
+    mark_last bytes (key_in keys) (length keys) (bucket_count bytes) (tree_of_rules bytes (key_in keys) (length keys) few (subst (λ (ks : List ℤ). IsTreeOf bytes ks) (sym (keys_first keys)) tree)) refl

@@ -1,5 +1,5 @@
 -- The end of a key's path by the loads of nodes, and the loads after one pair more.
-use Rattle.std.proofs.Common.{◌≡◌, ◌≢◌, ◌≤◌, ◌<◌, ◌+◌, ◌*◌, ◌-◌, ◌/◌, ◌%◌, ℕ, ℤ, zero, suc, List, [], ◌∷◌, ◌++◌, length, get_or, set, replicate, refl, arith, ap, ◌∙◌, sym, ◌⊎◌, inl, inr, ⊎_elim, subst, length-append}
+use Rattle.std.proofs.Common.{◌≡◌, ◌≢◌, ◌≤◌, ◌<◌, ◌+◌, ◌*◌, ◌-◌, ◌/◌, ◌%◌, ℕ, ℤ, zero, suc, List, [], ◌∷◌, ◌++◌, length, get_or, set, replicate, refl, arith, ap, ◌∙◌, sym, ◌⊎◌, ⊎_elim, subst, length-append}
 use Rattle.std.specs.Prelude.{min}
 use Rattle.std.proofs.lemmas.List.{get_or_past, get_or-replicate, get_or-set_other, get_or-set_same, length-set}
 use Rattle.std.proofs.lemmas.List.FromFn.{map-range_with_len_more}
@@ -58,20 +58,20 @@ end_level loads ps key level counts is =
     let end = end_there key ps in
     ⊎_elim
     (λ (upper : level < 4).
-      let room = is.room upper in
-      let load = load_upper level (length (reach (goes key) level ps)) upper in
-      (level, record { full = full; room = omega (arith, room, each, load) }, omega (arith, room), omega (arith, room, each, load)))
+    let room = is.room upper in
+    let load = load_upper level (length (reach (goes key) level ps)) upper in
+    (level, record { full = full; room = omega (arith, room, each, load) }, omega (arith, room), omega (arith, room, each, load)))
     (λ (lowest : 4 ≤ level).
-      let at : level ≡ 4 = omega (arith, low, lowest) in
-      let load = load_lowest level (length (reach (goes key) level ps)) lowest in
-      let hop : ℕ = end.0 in
-      let far : 4 ≤ hop = ⊎_elim (λ (x : 4 ≤ hop). x) (λ (x : hop < 4). let much = full hop (omega (arith, at, x)) in let few = end.1.room in absurd (omega (arith, much, few))) (order 4 hop) in
-      let is_chain : hop ≡ chain (hop - 4) = omega (arith, far) in
-      let long = reach_chain key ps (hop - 4) (subst (λ (h : ℕ). Full key ps h) is_chain end.1.full) in
-      let here : length (reach (goes key) 4 ps) ≡ 32 * (hop - 4) + length (reach (goes key) hop ps) = subst (λ (h : ℕ). length (reach (goes key) 4 ps) ≡ 32 * (hop - 4) + length (reach (goes key) h ps)) (sym is_chain) long in
-      let same : length (reach (goes key) level ps) ≡ length (reach (goes key) 4 ps) = ap (λ (l : ℕ). length (reach (goes key) l ps)) at in
-      let room = end.1.room in
-      (hop, end.1, omega (arith, at, each, load, here, same, room, far), omega (arith, each, load, here, same, room, far)))
+    let at : level ≡ 4 = omega (arith, low, lowest) in
+    let load = load_lowest level (length (reach (goes key) level ps)) lowest in
+    let hop : ℕ = end.0 in
+    let far : 4 ≤ hop = ⊎_elim (λ (x : 4 ≤ hop). x) (λ (x : hop < 4). let much = full hop (omega (arith, at, x)) in let few = end.1.room in absurd (omega (arith, much, few))) (order 4 hop) in
+    let is_chain : hop ≡ chain (hop - 4) = omega (arith, far) in
+    let long = reach_chain key ps (hop - 4) (subst (λ (h : ℕ). Full key ps h) is_chain end.1.full) in
+    let here : length (reach (goes key) 4 ps) ≡ 32 * (hop - 4) + length (reach (goes key) hop ps) = subst (λ (h : ℕ). length (reach (goes key) 4 ps) ≡ 32 * (hop - 4) + length (reach (goes key) h ps)) (sym is_chain) long in
+    let same : length (reach (goes key) level ps) ≡ length (reach (goes key) 4 ps) = ap (λ (l : ℕ). length (reach (goes key) l ps)) at in
+    let room = end.1.room in
+    (hop, end.1, omega (arith, at, each, load, here, same, room, far), omega (arith, each, load, here, same, room, far)))
     (low_or level 4)
 
 -- the loads with one pair more at the level
@@ -103,11 +103,11 @@ here_more loads ps q level key counts is way =
     let more : length (reach (goes key) level (ps ++ q ∷ [])) ≡ length (reach (goes key) level ps) + 1 = ap length grown ∙ sum in
     ⊎_elim
     (λ (upper : level < 4).
-      let room = is.room upper in
-      let each = counts.each q.key level low in
-      let load = load_upper level (length (reach (goes q.key) level ps)) upper in
-      let len = ap length same in
-      load_more level (length (reach (goes key) level ps)) (length (reach (goes key) level (ps ++ q ∷ []))) upper (omega (arith, room, each, load, len)) more)
+    let room = is.room upper in
+    let each = counts.each q.key level low in
+    let load = load_upper level (length (reach (goes q.key) level ps)) upper in
+    let len = ap length same in
+    load_more level (length (reach (goes key) level ps)) (length (reach (goes key) level (ps ++ q ∷ []))) upper (omega (arith, room, each, load, len)) more)
     (λ (lowest : 4 ≤ level). load_lowest level (length (reach (goes key) level (ps ++ q ∷ []))) lowest ∙ more ∙ ap (λ (n : ℕ). n + 1) (sym (load_lowest level (length (reach (goes key) level ps)) lowest)))
     (low_or level 4)
 
@@ -117,26 +117,26 @@ other_same : (loads : List ℕ) (ps : List Pair) (q : Pair) (level : ℕ) (key :
 other_same loads ps q level key l counts is small other = ⊎_elim
     (λ (same : reach (goes key) l (ps ++ q ∷ []) ≡ reach (goes key) l ps). ap (λ (xs : List Pair). load_of l (length xs)) same)
     (λ (grown : Full key ps l × (reach (goes key) l (ps ++ q ∷ []) ≡ reach (goes key) l ps ++ q ∷ []) × ((i : ℕ) → i < l → Same key q.key i)).
-      let low = is.low in
-      let sum : length (reach (goes key) l ps ++ q ∷ []) ≡ length (reach (goes key) l ps) + 1 = length-append (reach (goes key) l ps) (q ∷ []) in
-      let more : length (reach (goes key) l (ps ++ q ∷ [])) ≡ length (reach (goes key) l ps) + 1 = ap length grown.1 ∙ sum in
-      let shared : reach (goes key) l ps ≡ reach (goes q.key) l ps = reach_same key q.key ps l grown.2 in
-      ⊎_elim
-      (λ (up : l ≤ level). ⊎_elim
-        (λ (down : level ≤ l). let e : l ≡ level = omega (arith, up, down) in absurd (other (same_way_node key q.key l grown.2 small ∙ ap (node q.key) e)))
-        (λ (less : l < level).
-          let much = full_level loads ps q.key level counts is l less in
-          let len = ap length shared in
-          load_same l (length (reach (goes key) l ps)) (length (reach (goes key) l (ps ++ q ∷ []))) (omega (arith, low, less)) (omega (arith, much, len)) more)
-        (order level l))
-      (λ (deeper : level < l).
-        let much = grown.0 level deeper in
-        let len = ap length (reach_same key q.key ps level (λ i h. grown.2 i (omega (arith, h, deeper)))) in
-        let room = is.room (omega (arith, deeper, small)) in
-        let each = counts.each q.key level low in
-        let load = load_upper level (length (reach (goes q.key) level ps)) (omega (arith, deeper, small)) in
-        absurd (omega (arith, much, len, room, each, load)))
-      (order l level))
+    let low = is.low in
+    let sum : length (reach (goes key) l ps ++ q ∷ []) ≡ length (reach (goes key) l ps) + 1 = length-append (reach (goes key) l ps) (q ∷ []) in
+    let more : length (reach (goes key) l (ps ++ q ∷ [])) ≡ length (reach (goes key) l ps) + 1 = ap length grown.1 ∙ sum in
+    let shared : reach (goes key) l ps ≡ reach (goes q.key) l ps = reach_same key q.key ps l grown.2 in
+    ⊎_elim
+    (λ (up : l ≤ level). ⊎_elim
+    (λ (down : level ≤ l). let e : l ≡ level = omega (arith, up, down) in absurd (other (same_way_node key q.key l grown.2 small ∙ ap (node q.key) e)))
+    (λ (less : l < level).
+    let much = full_level loads ps q.key level counts is l less in
+    let len = ap length shared in
+    load_same l (length (reach (goes key) l ps)) (length (reach (goes key) l (ps ++ q ∷ []))) (omega (arith, low, less)) (omega (arith, much, len)) more)
+    (order level l))
+    (λ (deeper : level < l).
+    let much = grown.0 level deeper in
+    let len = ap length (reach_same key q.key ps level (λ i h. grown.2 i (omega (arith, h, deeper)))) in
+    let room = is.room (omega (arith, deeper, small)) in
+    let each = counts.each q.key level low in
+    let load = load_upper level (length (reach (goes q.key) level ps)) (omega (arith, deeper, small)) in
+    absurd (omega (arith, much, len, room, each, load)))
+    (order l level))
     (grows key ps q l)
   where
     same_way_node : (a b : ℤ) (h : ℕ) → ((i : ℕ) → i < h → Same a b i) → h ≤ 4 → node a h ≡ node b h
@@ -152,23 +152,23 @@ counts_more loads ps q level counts is =
       long = length-set loads n v ∙ long;
       each = λ key l h. ⊎_elim
           (λ (e : node key l ≡ n).
-            let both = node_same key q.key l level e in
-            let at : l ≡ level = both.0 in
-            let way : (i : ℕ) → i < l → Same key q.key i = λ i k. digit_same key q.key i (both.1 i k) in
-            ap (λ (j : ℕ). get_or (set loads n v) j 0) e ∙ get_or-set_same loads n v 0 (omega (arith, small, long))
-            ∙ ap (λ (x : ℕ). x + 1) (ap (λ (j : ℕ). get_or loads j 0) (sym e) ∙ counts.each key l h)
-            ∙ sym (subst (λ (x : ℕ). load_of x (length (reach (goes key) x (ps ++ q ∷ []))) ≡ load_of x (length (reach (goes key) x ps)) + 1) (sym at) (here_more loads ps q level key counts is (λ i k. way i (omega (arith, at, k))))))
+          let both = node_same key q.key l level e in
+          let at : l ≡ level = both.0 in
+          let way : (i : ℕ) → i < l → Same key q.key i = λ i k. digit_same key q.key i (both.1 i k) in
+          ap (λ (j : ℕ). get_or (set loads n v) j 0) e ∙ get_or-set_same loads n v 0 (omega (arith, small, long))
+          ∙ ap (λ (x : ℕ). x + 1) (ap (λ (j : ℕ). get_or loads j 0) (sym e) ∙ counts.each key l h)
+          ∙ sym (subst (λ (x : ℕ). load_of x (length (reach (goes key) x (ps ++ q ∷ []))) ≡ load_of x (length (reach (goes key) x ps)) + 1) (sym at) (here_more loads ps q level key counts is (λ i k. way i (omega (arith, at, k))))))
           (λ (d : node key l ≢ n). get_or-set_other loads n (node key l) v 0 d ∙ counts.each key l h ∙ sym (other_same loads ps q level key l counts is h d))
           (same_or (node key l) n);
     }
 
 pub loaded : (loads : List ℕ) (key : ℤ) (level : ℕ) → IsLevel loads key level → Loads loads (set loads (node key level) (get_or loads (node key level) 0 + 1)) key (opened (get_or loads (node key level) 0 % 32))
 loaded loads key level is = record {
-    counts = λ ps slot counts. counts_more loads ps (record { key = key; slot = slot }) level counts is;
-    buckets = λ ps slot counts.
-        let end = end_level loads ps key level counts is in
-        buckets_more ps (record { key = key; slot = slot }) end.0 end.1 ∙ ap (λ (n : ℕ). buckets (keys_of ps) + opened n) end.3;
-  }
+  counts = λ ps slot counts. counts_more loads ps (record { key = key; slot = slot }) level counts is;
+  buckets = λ ps slot counts.
+      let end = end_level loads ps key level counts is in
+      buckets_more ps (record { key = key; slot = slot }) end.0 end.1 ∙ ap (λ (n : ℕ). buckets (keys_of ps) + opened n) end.3;
+}
 
 pub reach_none : (key : ℤ) (l : ℕ) → reach (goes key) l [] ≡ []
 reach_none key zero = refl
@@ -176,9 +176,9 @@ reach_none key (suc l) = rw (reach_none key l) refl
 
 pub counts_none : Counts (replicate 341 0) []
 counts_none = record {
-    long = refl;
-    each = λ key l h. let small = node_small key l h in get_or-replicate 341 (node key l) 0 0 (omega (arith, small)) ∙ sym (ap (λ (xs : List Pair). load_of l (length xs)) (reach_none key l) ∙ load_zero l);
-  }
+  long = refl;
+  each = λ key l h. let small = node_small key l h in get_or-replicate 341 (node key l) 0 0 (omega (arith, small)) ∙ sym (ap (λ (xs : List Pair). load_of l (length xs)) (reach_none key l) ∙ load_zero l);
+}
   where
     load_zero : (l : ℕ) → load_of l 0 ≡ 0
     load_zero zero = refl

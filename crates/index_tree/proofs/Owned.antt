@@ -1,10 +1,10 @@
 -- A file whose buckets are all on paths has as many as the tree of its keys.
-use Rattle.std.proofs.Common.{◌≡◌, ◌≢◌, ◌≤◌, ◌<◌, ◌+◌, ◌*◌, ◌-◌, ℕ, ℤ, zero, suc, List, [], ◌∷◌, ◌++◌, length, drop, get_or, map, Bool, true, false, refl, arith, ap, ◌∙◌, sym, ◌⊎◌, inl, inr, ⊎_elim, subst, append_assoc, length-append}
+use Rattle.std.proofs.Common.{◌≡◌, ◌≢◌, ◌≤◌, ◌<◌, ◌+◌, ◌-◌, ℕ, ℤ, zero, suc, List, [], ◌∷◌, ◌++◌, length, drop, Bool, refl, arith, ap, ◌∙◌, sym, ◌⊎◌, inl, inr, ⊎_elim, subst, append_assoc}
 use Rattle.std.proofs.lemmas.List.{append-nil}
 use Rattle.db_model.specs.HashTree.{buckets}
 use Rattle.index_tree.specs.Ends.{IsEnd}
 use Rattle.index_tree.specs.Loads.{opened}
-use Rattle.index_tree.specs.Pairs.{Pair, goes, keys_of, no_pair, pair_of, pairs_of, reach}
+use Rattle.index_tree.specs.Pairs.{Pair, goes, keys_of, pair_of, pairs_of, reach}
 use Rattle.index_tree.specs.TreeFile.{Holds, IsBucket, bucket_place, number_of, place_of, slot_at}
 use Rattle.index_tree.proofs.Added.{cons_of, number_same, passes_all}
 use Rattle.index_tree.proofs.Bijections.{bijection, count, count_more, count_none}
@@ -13,7 +13,7 @@ use Rattle.index_tree.proofs.Filters.{In, filter_in, in_pairs}
 use Rattle.index_tree.proofs.Loaded.{end_there, pairs_more}
 use Rattle.index_tree.proofs.Reach.{reach-append}
 use Rattle.index_tree.proofs.Inserted.{one_end}
-use Rattle.index_tree.proofs.Shared.{Full, Same, goes_self, grows, order, reach_same}
+use Rattle.index_tree.proofs.Shared.{Full, Same, goes_self, grows, reach_same}
 
 pub in_drop : (p : Pair) (n : ℕ) (xs : List Pair) → In p (drop n xs) → In p xs
 in_drop p zero xs i = i
@@ -39,10 +39,12 @@ later f key h m (suc d) =
     let q : Pair = pair_of f (m + d) in
     ⊎_elim
     (λ (same : reach (goes key) h (pairs_of f (m + d) ++ q ∷ []) ≡ reach (goes key) h (pairs_of f (m + d))).
-      (before.0, rw (e, pairs_more f (m + d)) (same ∙ before.1), before.2))
-    (λ (grown : Full key (pairs_of f (m + d)) h × (reach (goes key) h (pairs_of f (m + d) ++ q ∷ []) ≡ reach (goes key) h (pairs_of f (m + d)) ++ q ∷ []) × ((i : ℕ) → i < h → Same key q.key i)).
-      (before.0 ++ q ∷ [], rw (e, pairs_more f (m + d)) (grown.1 ∙ ap (λ xs. xs ++ q ∷ []) before.1 ∙ append_assoc (reach (goes key) h (pairs_of f m)) before.0 (q ∷ [])),
-       λ p i. ⊎_elim (λ (j : In p before.0). before.2 p j) (λ (x : p ≡ q). let s : p.slot ≡ m + d = ap (λ (y : Pair). y.slot) x in omega (arith, s)) (in_one p before.0 q i)))
+    (before.0, rw (e, pairs_more f (m + d)) (same ∙ before.1), before.2))
+    (λ (grown : Full key (pairs_of f (m + d)) h × (reach (goes key) h (pairs_of f (m + d) ++ q ∷ []) ≡ reach (goes key) h (pairs_of f (m + d)) ++ q ∷ []) × ((i : ℕ) → i < h → Same key q.key i)). (
+      before.0 ++ q ∷ [],
+      rw (e, pairs_more f (m + d)) (grown.1 ∙ ap (λ xs. xs ++ q ∷ []) before.1 ∙ append_assoc (reach (goes key) h (pairs_of f m)) before.0 (q ∷ [])),
+      λ p i. ⊎_elim (λ (j : In p before.0). before.2 p j) (λ (x : p ≡ q). let s : p.slot ≡ m + d = ap (λ (y : Pair). y.slot) x in omega (arith, s)) (in_one p before.0 q i),
+    ))
     (grows key (pairs_of f (m + d)) q h)
 
 first_of : (p : Pair) (rest xs more : List Pair) → xs ++ more ≡ p ∷ rest → 0 < length xs → In p xs
@@ -57,8 +59,7 @@ none_of [] h = refl
 none_of (x ∷ xs) h = absurd (h (omega arith))
 
 module _ (bytes : List ℕ) (f : ℕ → ℤ) (n many : ℕ) (each : (key : ℤ) (hop : ℕ) → IsBucket bytes (number_of bytes key hop) (reach (goes key) hop (pairs_of f n)))
-  (named : (key : ℤ) (hop : ℕ) → number_of bytes key hop ≤ many) (owned : (b : ℕ) → b < many → (key : ℤ) × (hop : ℕ) × (number_of bytes key hop ≡ b + 1)) where
-
+    (named : (key : ℤ) (hop : ℕ) → number_of bytes key hop ≤ many) (owned : (b : ℕ) → b < many → (key : ℤ) × (hop : ℕ) × (number_of bytes key hop ≡ b + 1)) where
   e : (i : ℕ) → (hop : ℕ) × IsEnd (pairs_of f i) (f i) hop
   e i = end_there (f i) (pairs_of f i)
 
@@ -111,33 +112,36 @@ module _ (bytes : List ℕ) (f : ℕ → ℤ) (n many : ℕ) (each : (key : ℤ)
       let all : s + (n - s) ≡ n = omega (arith, small) in
       let whole : reach (goes key) h (pairs_of f s) ++ split.0 ≡ p ∷ list.1 = sym (rw all at split.1) ∙ list.2 in
       let none : reach (goes key) h (pairs_of f s) ≡ [] = none_of (reach (goes key) h (pairs_of f s)) (λ x.
-          let inside_ = in_pairs (pair_of f) p 0 s (in_reach (goes key) h (pairs_of f s) p (first_of p list.1 (reach (goes key) h (pairs_of f s)) split.0 whole x)) in
-          let lower : inside_.0 < 0 + s = inside_.2 in
-          let same : p.slot ≡ inside_.0 = ap (λ (y : Pair). y.slot) inside_.3 in
-          omega (arith, lower, same, its_slot)) in
+      let inside_ = in_pairs (pair_of f) p 0 s (in_reach (goes key) h (pairs_of f s) p (first_of p list.1 (reach (goes key) h (pairs_of f s)) split.0 whole x)) in
+      let lower : inside_.0 < 0 + s = inside_.2 in
+      let same : p.slot ≡ inside_.0 = ap (λ (y : Pair). y.slot) inside_.3 in
+      omega (arith, lower, same, its_slot)) in
       let q : Pair = pair_of f s in
       let way = ⊎_elim
-          (λ (same : reach (goes key) h (pairs_of f s ++ q ∷ []) ≡ reach (goes key) h (pairs_of f s)).
-            let after = later f key h (s + 1) (n - (s + 1)) in
-            let all_ : s + 1 + (n - (s + 1)) ≡ n = omega (arith, small) in
-            let nothing : reach (goes key) h (pairs_of f (s + 1)) ≡ [] = rw (pairs_more f s) (same ∙ none) in
-            let whole_ : p ∷ list.1 ≡ after.0 = sym list.2 ∙ rw all_ at after.1 ∙ ap (λ (xs : List Pair). xs ++ after.0) nothing in
-            let up = after.2 p (subst (λ (xs : List Pair). In p xs) whole_ (inl refl)) in
-            absurd (omega (arith, up, its_slot)))
-          (λ (grown : Full key (pairs_of f s) h × (reach (goes key) h (pairs_of f s ++ q ∷ []) ≡ reach (goes key) h (pairs_of f s) ++ q ∷ []) × ((i : ℕ) → i < h → Same key q.key i)). grown)
-          (grows key (pairs_of f s) q h) in
+      (λ (same : reach (goes key) h (pairs_of f s ++ q ∷ []) ≡ reach (goes key) h (pairs_of f s)).
+      let after = later f key h (s + 1) (n - (s + 1)) in
+      let all_ : s + 1 + (n - (s + 1)) ≡ n = omega (arith, small) in
+      let nothing : reach (goes key) h (pairs_of f (s + 1)) ≡ [] = rw (pairs_more f s) (same ∙ none) in
+      let whole_ : p ∷ list.1 ≡ after.0 = sym list.2 ∙ rw all_ at after.1 ∙ ap (λ (xs : List Pair). xs ++ after.0) nothing in
+      let up = after.2 p (subst (λ (xs : List Pair). In p xs) whole_ (inl refl)) in
+      absurd (omega (arith, up, its_slot)))
+      (λ (grown : Full key (pairs_of f s) h × (reach (goes key) h (pairs_of f s ++ q ∷ []) ≡ reach (goes key) h (pairs_of f s) ++ q ∷ []) × ((i : ℕ) → i < h → Same key q.key i)). grown)
+      (grows key (pairs_of f s) q h) in
       let there : reach (goes (f s)) h (pairs_of f s) ≡ [] = sym (reach_same key (f s) (pairs_of f s) h way.2) ∙ none in
       let end : IsEnd (pairs_of f s) (f s) h = record {
         full = λ i k. subst (λ (xs : List Pair). 32 ≤ length xs) (reach_same key (f s) (pairs_of f s) i (λ j l. way.2 j (omega (arith, k, l)))) (way.0 i k);
         room = rw there (omega arith);
       } in
       let same_hop : (e s).0 ≡ h = one_end (pairs_of f s) (f s) (e s).0 h (e s).1 end in
-      rw is (omega (arith, small),
+      rw is (
+        omega (arith, small),
         ap (λ (g : ℕ). opened (length (reach (goes (f s)) g (pairs_of f s)))) same_hop ∙ ap (λ (xs : List Pair). opened (length xs)) there,
-        ap (number_of bytes (f s)) same_hop ∙ sym (number_same bytes key (f s) h way.2) ∙ own.2)
+        ap (number_of bytes (f s)) same_hop ∙ sym (number_same bytes key (f s) h way.2) ∙ own.2,
+      )
     where
       plus : (a c : ℕ) → a ≡ 0 → a ≡ c + 1 → ⊥
       plus a c z i = omega (arith, z, i)
+
       less : (c : ℕ) → c + 1 - 1 ≡ c
       less c = omega arith
 
@@ -169,7 +173,7 @@ module _ (bytes : List ℕ) (f : ℕ → ℤ) (n many : ℕ) (each : (key : ℤ)
   owned_count = total n ∙ bijection many n o first o_one
       (λ b h. let x = opener b h in (x.0, x.1))
       (λ b c h k same. let x = opener b h in let y = opener c k in
-          let i : number_of bytes (f (first b)) (e (first b)).0 ≡ b + 1 = x.2 in
-          let j : number_of bytes (f (first b)) (e (first b)).0 ≡ c + 1 = subst (λ (s : ℕ). number_of bytes (f s) (e s).0 ≡ c + 1) (sym same) y.2 in
-          omega (arith, i, j))
+      let i : number_of bytes (f (first b)) (e (first b)).0 ≡ b + 1 = x.2 in
+      let j : number_of bytes (f (first b)) (e (first b)).0 ≡ c + 1 = subst (λ (s : ℕ). number_of bytes (f s) (e s).0 ≡ c + 1) (sym same) y.2 in
+      omega (arith, i, j))
       opens

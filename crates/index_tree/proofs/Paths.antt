@@ -1,19 +1,18 @@
 -- The pairs of a key along its path are the slots with that key.
-use Rattle.std.proofs.Common.{◌≡◌, ◌≢◌, ◌≤◌, ◌<◌, ◌+◌, ◌*◌, ◌-◌, ℕ, ℤ, zero, suc, List, [], ◌∷◌, ◌++◌, length, take, drop, get_or, map, Bool, true, false, cond, refl, arith, ap, ◌∙◌, sym, append_assoc, ⊎_elim, subst}
+use Rattle.std.proofs.Common.{◌≡◌, ◌≢◌, ◌≤◌, ◌<◌, ◌+◌, ℕ, ℤ, zero, suc, List, [], ◌∷◌, ◌++◌, length, take, drop, get_or, map, Bool, true, false, cond, refl, arith, ap, ◌∙◌, sym, append_assoc, ⊎_elim, subst}
 use Rattle.std.specs.Prelude.{min}
 use Rattle.std.specs.List.{filter, range_with_len}
 use Rattle.std.specs.Ordering.{int_eq}
 use Rattle.std.proofs.lemmas.List.{append-nil, take-append-drop}
 use Rattle.std.proofs.lemmas.List.Elements.{filter-append}
-use Rattle.index_tree.specs.Ends.{IsEnd, filled_of}
+use Rattle.index_tree.specs.Ends.{filled_of}
 use Rattle.index_tree.specs.Keys.{is_key_at}
 use Rattle.index_tree.specs.Pairs.{Pair, goes, has_key, no_pair, reach, slots_of}
 use Rattle.index_tree.specs.Trees.{IsTreeOf, numbered, pair_in, pairs_along, pairs_in}
-use Rattle.index_tree.specs.TreeFile.{Holds, IsBucket, IsTree, key_at, number_of, place_of, slot_at}
+use Rattle.index_tree.specs.TreeFile.{IsBucket, IsTree, number_of, place_of, slot_at}
 use Rattle.index_tree.proofs.Added.{same_pair, zero_or}
 use Rattle.index_tree.proofs.Ends.{filled_bucket}
 use Rattle.index_tree.proofs.Loaded.{end_there}
-use Rattle.index_tree.proofs.Numbered.{numbered_length}
 use Rattle.index_tree.proofs.Reach.{deep, filter_weaker}
 use Rattle.index_tree.proofs.Shared.{empty_next, empty_on, order}
 use Rattle.index_tree.proofs.Stays.{goes_mine}
@@ -40,12 +39,12 @@ bucket_pairs bytes number rest bucket =
     ⊎_elim
     (λ (none : number ≡ 0). let empty : rest ≡ [] = bucket.none none in rw (filled, empty) refl)
     (λ (some : number ≢ 0).
-      let holds = bucket.holds some in
-      rw filled (front_is (pair_in bytes (place_of number)) 0 (min 32 (length rest)) rest (omega arith)
-        (λ i h. let n : slot_at bytes (place_of number) i ≡ (get_or rest i no_pair).slot + 1 = holds.slot i (omega (arith, h)) (omega (arith, h)) in
-          let z : 0 + i ≡ i = omega arith in
-          rw z (same_pair (pair_in bytes (place_of number) i) (get_or rest i no_pair) (holds.key i (omega (arith, h)) (omega (arith, h))) (omega (arith, n))))
-        ∙ take_min 32 rest))
+    let holds = bucket.holds some in
+    rw filled (front_is (pair_in bytes (place_of number)) 0 (min 32 (length rest)) rest (omega arith)
+    (λ i h. let n : slot_at bytes (place_of number) i ≡ (get_or rest i no_pair).slot + 1 = holds.slot i (omega (arith, h)) (omega (arith, h)) in
+    let z : 0 + i ≡ i = omega arith in
+    rw z (same_pair (pair_in bytes (place_of number) i) (get_or rest i no_pair) (holds.key i (omega (arith, h)) (omega (arith, h))) (omega (arith, n))))
+    ∙ take_min 32 rest))
     (zero_or number)
 
 -- ---- a path
@@ -75,8 +74,8 @@ none_there key ps hop few far =
     let long = deep (goes key) ps end.0 end.1.full in
     ⊎_elim
     (λ (here : hop ≤ end.0). let empty : length (reach (goes key) end.0 ps) ≡ 0 = omega (arith, few, far, here, long) in
-      let same : hop ≡ end.0 = omega (arith, few, far, here, long) in
-      subst (λ (h : ℕ). reach (goes key) h ps ≡ []) (sym same) (no_length (reach (goes key) end.0 ps) empty))
+    let same : hop ≡ end.0 = omega (arith, few, far, here, long) in
+    subst (λ (h : ℕ). reach (goes key) h ps ≡ []) (sym same) (no_length (reach (goes key) end.0 ps) empty))
     (λ (behind : end.0 < hop). empty_on (goes key) ps (suc end.0) hop (empty_next (goes key) ps end.0 (omega (arith, room))) (omega (arith, behind)))
     (order hop end.0)
   where
@@ -104,5 +103,5 @@ slots_along bytes keys key hops tree far =
     let ps : List Pair = numbered 0 keys in
     let none : reach (goes key) hops ps ≡ [] = none_there key ps hops tree.few far in
     let all : filter (has_key key) (pairs_along bytes key hops) ≡ filter (has_key key) ps =
-        sym (append-nil (filter (has_key key) (pairs_along bytes key hops))) ∙ sym (ap (λ (xs : List Pair). filter (has_key key) (pairs_along bytes key hops) ++ filter (has_key key) xs) none) ∙ split_at bytes ps key hops tree in
+    sym (append-nil (filter (has_key key) (pairs_along bytes key hops))) ∙ sym (ap (λ (xs : List Pair). filter (has_key key) (pairs_along bytes key hops) ++ filter (has_key key) xs) none) ∙ split_at bytes ps key hops tree in
     ap slots_of all ∙ slots_from key (is_key_at key keys) 0 keys (λ i h. let e : 0 + i ≡ i = omega arith in rw e refl)

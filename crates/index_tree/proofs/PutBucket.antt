@@ -1,16 +1,15 @@
 -- A bucket that is appended and then named where a path ends.
 use Rattle.std.proofs.Common.{◌≡◌, ◌≢◌, ◌≤◌, ◌<◌, ◌+◌, ◌*◌, ◌-◌, ℕ, ℤ, zero, suc, List, [], ◌∷◌, ◌++◌, length, get_or, refl, arith, ap, ◌∙◌, sym, ◌⊎◌, inl, inr, ⊎_elim, subst, length-append}
 use Rattle.std.specs.Prelude.{slice_index}
-use Rattle.afl_base.specs.Fields.{i32_at, put_at, u16_at}
+use Rattle.afl_base.specs.Fields.{put_at, u16_at}
 use Rattle.afl_base.proofs.FieldLaws.{length-put_at}
 use Rattle.db_model.specs.HashTree.{buckets, digit, node}
 use Rattle.index_tree.specs.Buckets.{IsFirstBucket}
-use Rattle.index_tree.specs.Ends.{IsEnd, spot_behind, spot_of}
-use Rattle.index_tree.specs.Loads.{opened}
+use Rattle.index_tree.specs.Ends.{IsEnd, spot_of}
 use Rattle.index_tree.specs.Pairs.{Pair, goes, keys_of, reach}
 use Rattle.index_tree.specs.Places.{IsGrown, Rises}
-use Rattle.index_tree.specs.TreeFile.{Holds, IsTree, behind, bucket_place, key_at, last_at, next_at, number_at, number_of, place_of, slot_at}
-use Rattle.index_tree.proofs.Added.{KeepsBucket, holds_kept, number_same, same_bucket, same_digit, same_node, same_or, zero_or}
+use Rattle.index_tree.specs.TreeFile.{Holds, IsTree, behind, bucket_place, next_at, number_at, number_of, place_of}
+use Rattle.index_tree.proofs.Added.{KeepsBucket, number_same, same_bucket, same_digit, same_node, same_or, zero_or}
 use Rattle.index_tree.proofs.Counted.{buckets_more}
 use Rattle.index_tree.proofs.Frames.{SameBytes, append_before, append_here, i32_same, put_here, put_outside, trans_same, u16_same}
 use Rattle.index_tree.proofs.Grown.{AddsBucket, bucket_added}
@@ -29,12 +28,12 @@ way_or : (a b : ℤ) (h : ℕ) → Way a b h ⊎ (Way a b h → ⊥)
 way_or a b zero = inl (λ i k. absurd (omega arith))
 way_or a b (suc h) = ⊎_elim
     (λ (way : Way a b h). ⊎_elim
-      (λ (deep : 4 ≤ h). inl (way_more a b h way (chain_same a b h deep)))
-      (λ (low : h < 4). ⊎_elim
-        (λ (e : digit a h ≡ digit b h). inl (way_more a b h way (digit_same a b h e)))
-        (λ (n : digit a h ≢ digit b h). inr (λ (w : Way a b (suc h)). n (same_digit a b h low (w h (omega arith)))))
-        (same_or (digit a h) (digit b h)))
-      (order 4 h))
+    (λ (deep : 4 ≤ h). inl (way_more a b h way (chain_same a b h deep)))
+    (λ (low : h < 4). ⊎_elim
+    (λ (e : digit a h ≡ digit b h). inl (way_more a b h way (digit_same a b h e)))
+    (λ (n : digit a h ≢ digit b h). inr (λ (w : Way a b (suc h)). n (same_digit a b h low (w h (omega arith)))))
+    (same_or (digit a h) (digit b h)))
+    (order 4 h))
     (λ (no_way : Way a b h → ⊥). inr (λ (w : Way a b (suc h)). no_way (λ i k. w i (omega arith))))
     (way_or a b h)
 
@@ -125,25 +124,25 @@ next_kept old new ps q hop number a key h some other =
     let within : bucket_place n ≤ length old = (a.tree.each key h).within some in
     u16_kept old new ps q hop number (place_of n + 192) a (omega arith)
     (⊎_elim
-      (λ (at : IsNodeSpot spot q.key hop). let small : node q.key hop ≤ 340 = node_small q.key hop at.0 in let is : spot ≡ 2 * node q.key hop = at.1 in inr (omega (arith, small, is)))
-      (λ (at : IsChainSpot spot old q.key hop).
-        let k : ℕ = at.0 in
-        let m : ℕ = number_of old q.key k in
-        let is : spot ≡ place_of m + 192 = at.3 in
-        let last : hop ≡ suc k = at.1 in
-        let there : m ≢ 0 = before_some old new ps q hop number k a (omega arith) in
-        ⊎_elim
-        (λ (e : n ≡ m).
-          let both = same_bucket old ps a.tree.each a.rises key q.key h k some e in
-          let same : h ≡ k = both.0 in
-          let deep : 4 ≤ h = rw same at.2 in
-          absurd (other deep (ap suc same ∙ sym last, way_more key q.key h both.1 (chain_same key q.key h deep))))
-        (λ (d : n ≢ m). ⊎_elim
-          (λ (x : place_of n + 192 + 2 ≤ place_of m + 192). inl (omega (arith, x, is)))
-          (λ (x : place_of m + 192 + 2 ≤ place_of n + 192). inr (omega (arith, x, is)))
-          (apart_places n m 192 192 2 2 some there d (omega arith) (omega arith)))
-        (same_or n m))
-      (spot_is old q.key hop))
+    (λ (at : IsNodeSpot spot q.key hop). let small : node q.key hop ≤ 340 = node_small q.key hop at.0 in let is : spot ≡ 2 * node q.key hop = at.1 in inr (omega (arith, small, is)))
+    (λ (at : IsChainSpot spot old q.key hop).
+    let k : ℕ = at.0 in
+    let m : ℕ = number_of old q.key k in
+    let is : spot ≡ place_of m + 192 = at.3 in
+    let last : hop ≡ suc k = at.1 in
+    let there : m ≢ 0 = before_some old new ps q hop number k a (omega arith) in
+    ⊎_elim
+    (λ (e : n ≡ m).
+    let both = same_bucket old ps a.tree.each a.rises key q.key h k some e in
+    let same : h ≡ k = both.0 in
+    let deep : 4 ≤ h = rw same at.2 in
+    absurd (other deep (ap suc same ∙ sym last, way_more key q.key h both.1 (chain_same key q.key h deep))))
+    (λ (d : n ≢ m). ⊎_elim
+    (λ (x : place_of n + 192 + 2 ≤ place_of m + 192). inl (omega (arith, x, is)))
+    (λ (x : place_of m + 192 + 2 ≤ place_of n + 192). inr (omega (arith, x, is)))
+    (apart_places n m 192 192 2 2 some there d (omega arith) (omega arith)))
+    (same_or n m))
+    (spot_is old q.key hop))
 
 -- a number of a node stays, but for that which names the new bucket
 node_kept : (old new : List ℕ) (ps : List Pair) (q : Pair) (hop number : ℕ) → Appends old new ps q hop number → (key : ℤ) (h : ℕ) → h ≤ 4 → (IsNew key q hop h → ⊥) → number_at new (node key h) ≡ number_at old (node key h)
@@ -153,32 +152,32 @@ node_kept old new ps q hop number a key h low other =
     let size : length old ≡ bucket_place (buckets (keys_of ps)) = a.tree.size in
     u16_kept old new ps q hop number (2 * node key h) a (omega (arith, small, size))
     (⊎_elim
-      (λ (at : IsNodeSpot spot q.key hop).
-        let is : spot ≡ 2 * node q.key hop = at.1 in
-        ⊎_elim
-        (λ (e : node key h ≡ node q.key hop). absurd (other (node_way key q.key h hop e)))
-        (λ (d : node key h ≢ node q.key hop). ⊎_elim
-          (λ (up : node key h ≤ node q.key hop). ⊎_elim (λ (down : node q.key hop ≤ node key h). absurd (d (omega arith))) (λ (less : node key h < node q.key hop). inl (omega (arith, is, less))) (order (node q.key hop) (node key h)))
-          (λ (less : node q.key hop < node key h). inr (omega (arith, is, less)))
-          (order (node key h) (node q.key hop)))
-        (same_or (node key h) (node q.key hop)))
-      (λ (at : IsChainSpot spot old q.key hop). let is : spot ≡ place_of (number_of old q.key at.0) + 192 = at.3 in inl (omega (arith, small, is)))
-      (spot_is old q.key hop))
+    (λ (at : IsNodeSpot spot q.key hop).
+    let is : spot ≡ 2 * node q.key hop = at.1 in
+    ⊎_elim
+    (λ (e : node key h ≡ node q.key hop). absurd (other (node_way key q.key h hop e)))
+    (λ (d : node key h ≢ node q.key hop). ⊎_elim
+    (λ (up : node key h ≤ node q.key hop). ⊎_elim (λ (down : node q.key hop ≤ node key h). absurd (d (omega arith))) (λ (less : node key h < node q.key hop). inl (omega (arith, is, less))) (order (node q.key hop) (node key h)))
+    (λ (less : node q.key hop < node key h). inr (omega (arith, is, less)))
+    (order (node key h) (node q.key hop)))
+    (same_or (node key h) (node q.key hop)))
+    (λ (at : IsChainSpot spot old q.key hop). let is : spot ≡ place_of (number_of old q.key at.0) + 192 = at.3 in inl (omega (arith, small, is)))
+    (spot_is old q.key hop))
 
 -- one hop on
 step_kept : (old new : List ℕ) (ps : List Pair) (q : Pair) (hop number : ℕ) → Appends old new ps q hop number → (key : ℤ) (h : ℕ) → (4 ≤ h → number_of new key h ≡ number_of old key h) → (IsNew key q hop (suc h) → ⊥) → number_of new key (suc h) ≡ number_of old key (suc h)
 step_kept old new ps q hop number a key h before other = ⊎_elim
     (λ (deep : 4 ≤ h). ⊎_elim
-      (λ (z : number_of old key h ≡ 0). ap (behind new key h) (before deep ∙ z) ∙ behind_none new key h deep ∙ sym (ap (behind old key h) z ∙ behind_none old key h deep))
-      (λ (some : number_of old key h ≢ 0).
-        ap (behind new key h) (before deep) ∙ behind_chain new key h (number_of old key h) some deep
-        ∙ next_kept old new ps q hop number a key h some (λ d. other)
-        ∙ sym (behind_chain old key h (number_of old key h) some deep))
-      (zero_or (number_of old key h)))
+    (λ (z : number_of old key h ≡ 0). ap (behind new key h) (before deep ∙ z) ∙ behind_none new key h deep ∙ sym (ap (behind old key h) z ∙ behind_none old key h deep))
+    (λ (some : number_of old key h ≢ 0).
+    ap (behind new key h) (before deep) ∙ behind_chain new key h (number_of old key h) some deep
+    ∙ next_kept old new ps q hop number a key h some (λ d. other)
+    ∙ sym (behind_chain old key h (number_of old key h) some deep))
+    (zero_or (number_of old key h)))
     (λ (low : h < 4).
-      behind_node new key h (number_of new key h) low
-      ∙ node_kept old new ps q hop number a key (suc h) (omega arith) other
-      ∙ sym (behind_node old key h (number_of old key h) low))
+    behind_node new key h (number_of new key h) low
+    ∙ node_kept old new ps q hop number a key (suc h) (omega arith) other
+    ∙ sym (behind_node old key h (number_of old key h) low))
     (order 4 h)
 
 -- before the end of the path all numbers stay
@@ -194,13 +193,13 @@ named_at old new ps q hop number a key (suc h) is =
     let named : u16_at new (spot_of old q.key (suc h)) ≡ number = subst (λ (x : ℕ). u16_at new (spot_of old q.key x) ≡ number) (sym at) a.named in
     ⊎_elim
     (λ (deep : 4 ≤ h).
-      let same : number_of old key h ≡ number_of old q.key h = number_same old key q.key h (λ i k. is.1 i (omega arith)) in
-      let some : number_of old q.key h ≢ 0 = before_some old new ps q hop number h a (omega arith) in
-      ap (behind new key h) (early old new ps q hop number a key h (omega arith) ∙ same) ∙ behind_chain new key h (number_of old q.key h) some deep
-      ∙ subst (λ (x : ℕ). u16_at new x ≡ number) (spot_chain old q.key h deep) named)
+    let same : number_of old key h ≡ number_of old q.key h = number_same old key q.key h (λ i k. is.1 i (omega arith)) in
+    let some : number_of old q.key h ≢ 0 = before_some old new ps q hop number h a (omega arith) in
+    ap (behind new key h) (early old new ps q hop number a key h (omega arith) ∙ same) ∙ behind_chain new key h (number_of old q.key h) some deep
+    ∙ subst (λ (x : ℕ). u16_at new x ≡ number) (spot_chain old q.key h deep) named)
     (λ (low : h < 4).
-      behind_node new key h (number_of new key h) low ∙ ap (number_at new) (same_node key q.key (suc h) (omega arith) is.1)
-      ∙ subst (λ (x : ℕ). u16_at new x ≡ number) (spot_node old q.key h low) named)
+    behind_node new key h (number_of new key h) low ∙ ap (number_at new) (same_node key q.key (suc h) (omega arith) is.1)
+    ∙ subst (λ (x : ℕ). u16_at new x ≡ number) (spot_node old q.key h low) named)
     (order 4 h)
   where
     spot_chain : (bytes : List ℕ) (k : ℤ) (j : ℕ) → 4 ≤ j → spot_of bytes k (suc j) ≡ place_of (number_of bytes k j) + 192
@@ -209,6 +208,7 @@ named_at old new ps q hop number a key (suc h) is =
     spot_chain bytes k (suc (suc zero)) h = absurd (omega arith)
     spot_chain bytes k (suc (suc (suc zero))) h = absurd (omega arith)
     spot_chain bytes k (suc (suc (suc (suc j)))) h = refl
+
     spot_node : (bytes : List ℕ) (k : ℤ) (j : ℕ) → j < 4 → spot_of bytes k (suc j) ≡ 2 * node k (suc j)
     spot_node bytes k zero h = refl
     spot_node bytes k (suc zero) h = refl
@@ -221,12 +221,12 @@ pub kept : (old new : List ℕ) (ps : List Pair) (q : Pair) (hop number : ℕ) �
 kept old new ps q hop number a key zero other = node_kept old new ps q hop number a key 0 (omega arith) other
 kept old new ps q hop number a key (suc h) other = ⊎_elim
     (λ (is : IsNew key q hop h). ⊎_elim
-      (λ (deep : 4 ≤ h).
-        let named : number_of new key h ≡ number = named_at old new ps q hop number a key h is in
-        let none : number_of old key h ≡ 0 = number_same old key q.key h is.1 ∙ ap (number_of old q.key) is.0 ∙ a.none in
-        ap (behind new key h) named ∙ behind_chain new key h number a.some deep ∙ a.next ∙ sym (ap (behind old key h) none ∙ behind_none old key h deep))
-      (λ (low : h < 4). step_kept old new ps q hop number a key h (λ deep. absurd (omega arith)) other)
-      (order 4 h))
+    (λ (deep : 4 ≤ h).
+    let named : number_of new key h ≡ number = named_at old new ps q hop number a key h is in
+    let none : number_of old key h ≡ 0 = number_same old key q.key h is.1 ∙ ap (number_of old q.key) is.0 ∙ a.none in
+    ap (behind new key h) named ∙ behind_chain new key h number a.some deep ∙ a.next ∙ sym (ap (behind old key h) none ∙ behind_none old key h deep))
+    (λ (low : h < 4). step_kept old new ps q hop number a key h (λ deep. absurd (omega arith)) other)
+    (order 4 h))
     (λ (n : IsNew key q hop h → ⊥). step_kept old new ps q hop number a key h (λ d. kept old new ps q hop number a key h n) other)
     (new_or key q hop h)
 
@@ -241,20 +241,20 @@ bucket_kept old new ps q hop number a key h some =
     let within : bucket_place n ≤ length old = (a.tree.each key h).within some in
     -- the spot lies outside of the first 192 bytes and the last byte of the bucket
     let apart : (x k : ℕ) → (x + k ≤ 192) ⊎ (194 ≤ x) → x + k ≤ 195 → (place_of n + x + k ≤ spot) ⊎ (spot + 2 ≤ place_of n + x) = λ x k inside fits. ⊎_elim
-        (λ (at : IsNodeSpot spot q.key hop). let small : node q.key hop ≤ 340 = node_small q.key hop at.0 in let is : spot ≡ 2 * node q.key hop = at.1 in inr (omega (arith, small, is)))
-        (λ (at : IsChainSpot spot old q.key hop).
-          let m : ℕ = number_of old q.key at.0 in
-          let is : spot ≡ place_of m + 192 = at.3 in
-          let last : hop ≡ suc at.0 = at.1 in
-          let there : m ≢ 0 = before_some old new ps q hop number at.0 a (omega arith) in
-          ⊎_elim
-          (λ (e : n ≡ m). ⊎_elim (λ (i : x + k ≤ 192). inl (omega (arith, is, e, i))) (λ (i : 194 ≤ x). inr (omega (arith, is, e, i))) inside)
-          (λ (d : n ≢ m). ⊎_elim
-            (λ (y : place_of n + x + k ≤ place_of m + 192). inl (omega (arith, y, is)))
-            (λ (y : place_of m + 192 + 2 ≤ place_of n + x). inr (omega (arith, y, is)))
-            (apart_places n m x 192 k 2 some there d fits (omega arith)))
-          (same_or n m))
-        (spot_is old q.key hop) in
+    (λ (at : IsNodeSpot spot q.key hop). let small : node q.key hop ≤ 340 = node_small q.key hop at.0 in let is : spot ≡ 2 * node q.key hop = at.1 in inr (omega (arith, small, is)))
+    (λ (at : IsChainSpot spot old q.key hop).
+    let m : ℕ = number_of old q.key at.0 in
+    let is : spot ≡ place_of m + 192 = at.3 in
+    let last : hop ≡ suc at.0 = at.1 in
+    let there : m ≢ 0 = before_some old new ps q hop number at.0 a (omega arith) in
+    ⊎_elim
+    (λ (e : n ≡ m). ⊎_elim (λ (i : x + k ≤ 192). inl (omega (arith, is, e, i))) (λ (i : 194 ≤ x). inr (omega (arith, is, e, i))) inside)
+    (λ (d : n ≢ m). ⊎_elim
+    (λ (y : place_of n + x + k ≤ place_of m + 192). inl (omega (arith, y, is)))
+    (λ (y : place_of m + 192 + 2 ≤ place_of n + x). inr (omega (arith, y, is)))
+    (apart_places n m x 192 k 2 some there d fits (omega arith)))
+    (same_or n m))
+    (spot_is old q.key hop) in
     record {
       slot = λ i s. let e : place_of n + (6 * i + 4) ≡ place_of n + 6 * i + 4 = omega arith in
           u16_same new old (place_of n + 6 * i + 4) (place_of n + 6 * i + 4) (rw e at (a.stays (place_of n + (6 * i + 4)) 2 (omega arith) (apart (6 * i + 4) 2 (inl (omega arith)) (omega arith))));
@@ -303,8 +303,8 @@ bucket_put old new ps q hop number a few end =
         upper = λ key h low z. ⊎_elim
             (λ (is : IsNew key q hop h). rw (named_at old new ps q hop number a key h is) a.next)
             (λ (n : IsNew key q hop h → ⊥).
-              let same = kept old new ps q hop number a key h n in
-              rw same (next_kept old new ps q hop number a key h (rw same at z) (λ deep x. omega arith) ∙ a.tree.upper key h low (rw same at z)))
+            let same = kept old new ps q hop number a key h n in
+            rw same (next_kept old new ps q hop number a key h (rw same at z) (λ deep x. omega arith) ∙ a.tree.upper key h low (rw same at z)))
             (new_or key q hop h);
       };
       keeps = λ key h z. kept old new ps q hop number a key h (old_is_other old new ps q hop number a key h z);
@@ -313,9 +313,9 @@ bucket_put old new ps q hop number a few end =
     mark_kept : slice_index new 682 ≡ 1
     mark_kept =
         let at_mark : (682 + 1 ≤ spot_of old q.key hop) ⊎ (spot_of old q.key hop + 2 ≤ 682) = ⊎_elim
-            (λ (at : IsNodeSpot (spot_of old q.key hop) q.key hop). let small : node q.key hop ≤ 340 = node_small q.key hop at.0 in let is : spot_of old q.key hop ≡ 2 * node q.key hop = at.1 in inr (omega (arith, small, is)))
-            (λ (at : IsChainSpot (spot_of old q.key hop) old q.key hop). let is : spot_of old q.key hop ≡ place_of (number_of old q.key at.0) + 192 = at.3 in inl (omega (arith, is)))
-            (spot_is old q.key hop) in
+        (λ (at : IsNodeSpot (spot_of old q.key hop) q.key hop). let small : node q.key hop ≤ 340 = node_small q.key hop at.0 in let is : spot_of old q.key hop ≡ 2 * node q.key hop = at.1 in inr (omega (arith, small, is)))
+        (λ (at : IsChainSpot (spot_of old q.key hop) old q.key hop). let is : spot_of old q.key hop ≡ place_of (number_of old q.key at.0) + 192 = at.3 in inl (omega (arith, is)))
+        (spot_is old q.key hop) in
         let size : length old ≡ bucket_place (buckets (keys_of ps)) = a.tree.size in
         a.stays 682 1 (omega (arith, size)) at_mark 0 (omega arith) ∙ a.tree.mark
 
@@ -331,7 +331,7 @@ appends old w two_ ps q hop number tree rises end none is fits long two_is some 
     let sum : length mid ≡ length old + length w = length-append old w in
     -- the bytes of the new bucket
     let fresh : (x n : ℕ) → SameBytes new w (length old + x) x n = λ x n. trans_same new mid w (length old + x) (length old + x) x n
-        (put_outside mid two_ spot (length old + x) n (omega (arith, sum, long)) (inr (omega (arith, long)))) (append_here old w (length old) x n refl) in
+    (put_outside mid two_ spot (length old + x) n (omega (arith, sum, long)) (inr (omega (arith, long)))) (append_here old w (length old) x n refl) in
     record {
       tree = tree;
       rises = rises;

@@ -1,17 +1,16 @@
 -- A pair that is written behind those of a bucket.
-use Rattle.std.proofs.Common.{◌≡◌, ◌≢◌, ◌≤◌, ◌<◌, ◌+◌, ◌*◌, ◌-◌, ℕ, ℤ, zero, suc, List, [], ◌∷◌, ◌++◌, length, get_or, refl, arith, ap, ◌∙◌, sym, ◌⊎◌, inl, inr, ⊎_elim, subst, length-append}
-use Rattle.std.specs.Prelude.{slice_index}
-use Rattle.std.proofs.lemmas.List.{get_or_append_left, map-append}
+use Rattle.std.proofs.Common.{◌≡◌, ◌≢◌, ◌≤◌, ◌<◌, ◌+◌, ◌*◌, ℕ, zero, suc, List, [], ◌∷◌, ◌++◌, length, get_or, refl, arith, ap, ◌∙◌, sym, ◌⊎◌, inl, inr, ⊎_elim, subst, length-append}
+use Rattle.std.proofs.lemmas.List.{get_or_append_left}
 use Rattle.std.proofs.Math.Seq.{get_or-append_seam}
 use Rattle.afl_base.specs.Fields.{i32_at, put_at, u16_at}
 use Rattle.afl_base.proofs.FieldLaws.{length-put_at}
-use Rattle.db_model.specs.HashTree.{buckets, node}
+use Rattle.db_model.specs.HashTree.{buckets}
 use Rattle.index_tree.specs.Buckets.{IsPairBytes}
 use Rattle.index_tree.specs.Ends.{IsEnd}
 use Rattle.index_tree.specs.Loads.{opened}
 use Rattle.index_tree.specs.Pairs.{Pair, goes, keys_of, no_pair, reach}
 use Rattle.index_tree.specs.Places.{IsGrown, Rises}
-use Rattle.index_tree.specs.TreeFile.{Holds, IsTree, bucket_place, key_at, last_at, next_at, number_of, place_of, slot_at}
+use Rattle.index_tree.specs.TreeFile.{Holds, IsTree, bucket_place, key_at, next_at, number_of, place_of, slot_at}
 use Rattle.index_tree.proofs.Added.{AddsPair, KeepsBucket, pair_added}
 use Rattle.index_tree.proofs.Counted.{buckets_more}
 use Rattle.index_tree.proofs.Frames.{i32_same, put_here, u16_same}
@@ -63,15 +62,15 @@ holds_put old w place rest q holds room is fits =
 -- another bucket keeps its pairs
 bucket_apart : (old w : List ℕ) (n m pair : ℕ) → n ≢ 0 → m ≢ 0 → n ≢ m → length w ≡ 6 → pair < 32 → bucket_place m ≤ length old → KeepsBucket old (put_at old (place_of m + 6 * pair) w) (place_of n)
 bucket_apart old w n m pair some more other long short fits = record {
-    slot = λ i h. u16_stays old w (place_of m + 6 * pair) (place_of n + 6 * i + 4) (omega arith)
-        (⊎_elim (λ (a : place_of n + (6 * i + 4) + 2 ≤ place_of m + 6 * pair). inl (omega arith)) (λ (b : place_of m + 6 * pair + 6 ≤ place_of n + (6 * i + 4)). inr (omega arith)) (apart_places n m (6 * i + 4) (6 * pair) 2 6 some more other (omega arith) (omega arith)));
-    key = λ i h. i32_stays old w (place_of m + 6 * pair) (place_of n + 6 * i) (omega arith)
-        (⊎_elim (λ (a : place_of n + 6 * i + 4 ≤ place_of m + 6 * pair). inl (omega arith)) (λ (b : place_of m + 6 * pair + 6 ≤ place_of n + 6 * i). inr (omega arith)) (apart_places n m (6 * i) (6 * pair) 4 6 some more other (omega arith) (omega arith)));
-    last = byte_stays old w (place_of m + 6 * pair) (place_of n + 194) (omega arith)
-        (⊎_elim (λ (a : place_of n + 194 + 1 ≤ place_of m + 6 * pair). inl (omega arith)) (λ (b : place_of m + 6 * pair + 6 ≤ place_of n + 194). inr (omega arith)) (apart_places n m 194 (6 * pair) 1 6 some more other (omega arith) (omega arith)));
-    rest = λ x h. byte_stays old w (place_of m + 6 * pair) (place_of n + x) (omega arith)
-        (⊎_elim (λ (a : place_of n + x + 1 ≤ place_of m + 6 * pair). inl (omega arith)) (λ (b : place_of m + 6 * pair + 6 ≤ place_of n + x). inr (omega arith)) (apart_places n m x (6 * pair) 1 6 some more other (omega arith) (omega arith)));
-  }
+  slot = λ i h. u16_stays old w (place_of m + 6 * pair) (place_of n + 6 * i + 4) (omega arith)
+      (⊎_elim (λ (a : place_of n + (6 * i + 4) + 2 ≤ place_of m + 6 * pair). inl (omega arith)) (λ (b : place_of m + 6 * pair + 6 ≤ place_of n + (6 * i + 4)). inr (omega arith)) (apart_places n m (6 * i + 4) (6 * pair) 2 6 some more other (omega arith) (omega arith)));
+  key = λ i h. i32_stays old w (place_of m + 6 * pair) (place_of n + 6 * i) (omega arith)
+      (⊎_elim (λ (a : place_of n + 6 * i + 4 ≤ place_of m + 6 * pair). inl (omega arith)) (λ (b : place_of m + 6 * pair + 6 ≤ place_of n + 6 * i). inr (omega arith)) (apart_places n m (6 * i) (6 * pair) 4 6 some more other (omega arith) (omega arith)));
+  last = byte_stays old w (place_of m + 6 * pair) (place_of n + 194) (omega arith)
+      (⊎_elim (λ (a : place_of n + 194 + 1 ≤ place_of m + 6 * pair). inl (omega arith)) (λ (b : place_of m + 6 * pair + 6 ≤ place_of n + 194). inr (omega arith)) (apart_places n m 194 (6 * pair) 1 6 some more other (omega arith) (omega arith)));
+  rest = λ x h. byte_stays old w (place_of m + 6 * pair) (place_of n + x) (omega arith)
+      (⊎_elim (λ (a : place_of n + x + 1 ≤ place_of m + 6 * pair). inl (omega arith)) (λ (b : place_of m + 6 * pair + 6 ≤ place_of n + x). inr (omega arith)) (apart_places n m x (6 * pair) 1 6 some more other (omega arith) (omega arith)));
+}
 
 next_stays : (old w : List ℕ) (n m pair : ℕ) → n ≢ 0 → m ≢ 0 → length w ≡ 6 → pair < 32 → bucket_place m ≤ length old → next_at (put_at old (place_of m + 6 * pair) w) (place_of n) ≡ next_at old (place_of n)
 next_stays old w n m pair some more long short fits =

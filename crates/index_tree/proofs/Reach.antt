@@ -1,6 +1,6 @@
-use Rattle.std.proofs.Common.{◌≡◌, ◌≤◌, ◌<◌, ◌+◌, ◌-◌, ◌*◌, ℕ, zero, suc, List, [], ◌∷◌, ◌++◌, length, take, drop, get_or, Bool, true, false, cond, refl, arith, ap, ◌∙◌, sym, append_assoc, ◌⊎◌, inl, inr, add-one, length-append}
+use Rattle.std.proofs.Common.{◌≡◌, ◌≤◌, ◌<◌, ◌+◌, ◌-◌, ◌*◌, ℕ, zero, suc, List, [], ◌∷◌, ◌++◌, length, drop, get_or, Bool, true, false, cond, refl, arith, ap, ◌∙◌, sym, add-one, length-append}
 use Rattle.std.specs.List.{filter}
-use Rattle.std.proofs.lemmas.List.{append-nil, take-append-drop, take-append-le, drop-append-le, drop_all, drop_more, length-drop}
+use Rattle.std.proofs.lemmas.List.{drop-append-le, drop_all, drop_more, length-drop}
 use Rattle.std.proofs.lemmas.List.Elements.{filter-append}
 use Rattle.index_tree.specs.Pairs.{reach, sifted}
 use Rattle.index_tree.specs.Places.{IsPlace, ahead}
@@ -18,7 +18,7 @@ weaker_step mine test p xs ys false false e m t w = e
 pub filter_weaker : {P : Type 0} (mine test : P → Bool) → ((p : P) → mine p ≡ true → test p ≡ true) → (ps : List P) → filter mine (filter test ps) ≡ filter mine ps
 filter_weaker mine test weaker [] = refl
 filter_weaker mine test weaker (p ∷ ps) =
-  weaker_step mine test p (filter test ps) (filter mine ps) (mine p) (test p) (filter_weaker mine test weaker ps) refl refl (weaker p)
+    weaker_step mine test p (filter test ps) (filter mine ps) (mine p) (test p) (filter_weaker mine test weaker ps) refl refl (weaker p)
 
 -- a place at the end of a full bucket is one at the start of the next
 pub ahead_hop : {P : Type 0} (mine : P → Bool) (test : ℕ → P → Bool) → ((hop : ℕ) (p : P) → mine p ≡ true → test hop p ≡ true) → (ps : List P) (hop : ℕ) → ahead mine test ps hop 32 ≡ ahead mine test ps (hop + 1) 0
@@ -32,17 +32,17 @@ sifted-mine mine test goes (suc hop) ps = filter_weaker mine (test hop) (goes ho
 pub reach-append : {P : Type 0} (test : ℕ → P → Bool) (ps qs : List P) (hop : ℕ) → ((i : ℕ) → i < hop → 32 ≤ length (reach test i ps)) → reach test hop (ps ++ qs) ≡ reach test hop ps ++ sifted test hop qs
 reach-append test ps qs zero full = refl
 reach-append test ps qs (suc hop) full =
-  ap (λ xs. filter (test hop) (drop 32 xs)) (reach-append test ps qs hop (λ i h. full i (omega arith)))
-  ∙ ap (filter (test hop)) (drop-append-le 32 (reach test hop ps) (sifted test hop qs) (full hop (omega arith)))
-  ∙ filter-append (test hop) (drop 32 (reach test hop ps)) (sifted test hop qs)
+    ap (λ xs. filter (test hop) (drop 32 xs)) (reach-append test ps qs hop (λ i h. full i (omega arith)))
+    ∙ ap (filter (test hop)) (drop-append-le 32 (reach test hop ps) (sifted test hop qs) (full hop (omega arith)))
+    ∙ filter-append (test hop) (drop 32 (reach test hop ps)) (sifted test hop qs)
 
 -- later pairs of the key come behind those that were ahead
 pub ahead-append : {P : Type 0} (mine : P → Bool) (test : ℕ → P → Bool) → ((hop : ℕ) (p : P) → mine p ≡ true → test hop p ≡ true) → (ps qs : List P) (hop pair : ℕ) → IsPlace test ps hop pair → ahead mine test (ps ++ qs) hop pair ≡ ahead mine test ps hop pair ++ filter mine qs
 ahead-append mine test goes ps qs hop pair place =
-  ap (λ xs. filter mine (drop pair xs)) (reach-append test ps qs hop place.full)
-  ∙ ap (filter mine) (drop-append-le pair (reach test hop ps) (sifted test hop qs) place.within)
-  ∙ filter-append mine (drop pair (reach test hop ps)) (sifted test hop qs)
-  ∙ ap (λ xs. filter mine (drop pair (reach test hop ps)) ++ xs) (sifted-mine mine test goes hop qs)
+    ap (λ xs. filter mine (drop pair xs)) (reach-append test ps qs hop place.full)
+    ∙ ap (filter mine) (drop-append-le pair (reach test hop ps) (sifted test hop qs) place.within)
+    ∙ filter-append mine (drop pair (reach test hop ps)) (sifted test hop qs)
+    ∙ ap (λ xs. filter mine (drop pair (reach test hop ps)) ++ xs) (sifted-mine mine test goes hop qs)
 
 pub reach-longer : {P : Type 0} (test : ℕ → P → Bool) (ps qs : List P) (hop : ℕ) → ((i : ℕ) → i < hop → 32 ≤ length (reach test i ps)) → length (reach test hop ps) ≤ length (reach test hop (ps ++ qs))
 reach-longer test ps qs hop full = rw (reach-append test ps qs hop full) (rw (length-append (reach test hop ps) (sifted test hop qs)) (omega arith))
@@ -57,7 +57,7 @@ place-append test ps qs hop pair place = record {
 
 -- one pair of a bucket is passed
 pub ahead_pair : {P : Type 0} (mine : P → Bool) (test : ℕ → P → Bool) (ps : List P) (hop pair : ℕ) (d : P) → pair < length (reach test hop ps) →
-  ahead mine test ps hop pair ≡ cond (mine (get_or (reach test hop ps) pair d)) (get_or (reach test hop ps) pair d ∷ ahead mine test ps hop (pair + 1)) (ahead mine test ps hop (pair + 1))
+    ahead mine test ps hop pair ≡ cond (mine (get_or (reach test hop ps) pair d)) (get_or (reach test hop ps) pair d ∷ ahead mine test ps hop (pair + 1)) (ahead mine test ps hop (pair + 1))
 ahead_pair mine test ps hop pair d h = ap (filter mine) (drop_more (reach test hop ps) pair d h)
 
 -- nothing is ahead at the end of a bucket that is not full
@@ -76,8 +76,8 @@ filter_shorter test (p ∷ ps) = elim (test p) as (λ b. length (cond b (p ∷ f
 pub deep : {P : Type 0} (test : ℕ → P → Bool) (ps : List P) (hop : ℕ) → ((i : ℕ) → i < hop → 32 ≤ length (reach test i ps)) → 32 * hop + length (reach test hop ps) ≤ length ps
 deep test ps zero full = omega arith
 deep test ps (suc hop) full =
-  let before : 32 * hop + length (reach test hop ps) ≤ length ps = deep test ps hop (λ i h. full i (omega arith)) in
-  let enough : 32 ≤ length (reach test hop ps) = full hop (omega arith) in
-  let less : length (filter (test hop) (drop 32 (reach test hop ps))) ≤ length (drop 32 (reach test hop ps)) = filter_shorter (test hop) (drop 32 (reach test hop ps)) in
-  let cut : length (drop 32 (reach test hop ps)) ≡ length (reach test hop ps) - 32 = length-drop 32 (reach test hop ps) in
-  omega arith
+    let before : 32 * hop + length (reach test hop ps) ≤ length ps = deep test ps hop (λ i h. full i (omega arith)) in
+    let enough : 32 ≤ length (reach test hop ps) = full hop (omega arith) in
+    let less : length (filter (test hop) (drop 32 (reach test hop ps))) ≤ length (drop 32 (reach test hop ps)) = filter_shorter (test hop) (drop 32 (reach test hop ps)) in
+    let cut : length (drop 32 (reach test hop ps)) ≡ length (reach test hop ps) - 32 = length-drop 32 (reach test hop ps) in
+    omega arith

@@ -1,17 +1,17 @@
 -- A file that meets the rules is the tree of its slots' pairs.
-use Rattle.std.proofs.Common.{◌≡◌, ◌≢◌, ◌≤◌, ◌<◌, ◌+◌, ◌*◌, ◌-◌, ℕ, ℤ, pos, zero, suc, List, [], ◌∷◌, ◌++◌, length, drop, get_or, map, Bool, true, false, cond, refl, arith, ap, ◌∙◌, sym, ◌⊎◌, inl, inr, ⊎_elim, subst, length-append}
+use Rattle.std.proofs.Common.{◌≡◌, ◌≢◌, ◌≤◌, ◌<◌, ◌+◌, ◌-◌, ℕ, ℤ, zero, suc, List, [], ◌∷◌, ◌++◌, length, drop, get_or, map, Bool, true, false, refl, arith, ap, ◌∙◌, sym, ◌⊎◌, inl, inr, ⊎_elim, subst, length-append}
 use Rattle.std.specs.Prelude.{◌==◌, nat_eq, nat_le, min}
 use Rattle.std.specs.List.{filter, range_with_len}
 use Rattle.std.proofs.lemmas.Bool.Decides.{nat_tests}
-use Rattle.std.proofs.lemmas.List.{append-nil, get_or_append_left}
+use Rattle.std.proofs.lemmas.List.{get_or_append_left}
 use Rattle.std.proofs.lemmas.List.FromFn.{get_or-map-range_with_len, length-map-range_with_len}
-use Rattle.db_model.specs.HashTree.{digit, node}
+use Rattle.db_model.specs.HashTree.{node}
 use Rattle.index_tree.specs.Pairs.{Pair, goes, no_pair, pair_of, pairs_of, reach, sifted}
 use Rattle.index_tree.specs.Places.{Rises}
 use Rattle.index_tree.specs.Rules.{MeetsRules, bucket_count, slot_on}
-use Rattle.index_tree.specs.TreeFile.{Holds, IsBucket, bucket_place, key_at, last_at, number_of, place_of, slot_at}
-use Rattle.index_tree.proofs.Added.{number_same, same_or, zero_or}
-use Rattle.index_tree.proofs.Filters.{In, Parts, drop_first, filter_commutes, filter_in, in_append, in_filter, in_pairs, in_some, pairs_in, rises_map, rises_same, some_in, split_parts}
+use Rattle.index_tree.specs.TreeFile.{Holds, IsBucket, number_of, place_of, slot_at}
+use Rattle.index_tree.proofs.Added.{number_same, zero_or}
+use Rattle.index_tree.proofs.Filters.{In, Parts, drop_first, filter_commutes, filter_in, in_filter, in_pairs, in_some, pairs_in, rises_map, rises_same, some_in, split_parts}
 use Rattle.index_tree.proofs.Shared.{Same, goes_self, order, rises_filter, same_way}
 use Rattle.index_tree.proofs.Spots.{chain_same, digit_same, node_same}
 
@@ -54,9 +54,9 @@ front_to : (f : ℕ → ℕ) (n : ℕ) → n ≤ 32 → ((i : ℕ) → i + 1 < 3
 front_to f zero h front = inl (λ i k. absurd (omega arith))
 front_to f (suc n) h front = ⊎_elim
     (λ (all : (i : ℕ) → i < n → f i ≢ 0). ⊎_elim
-      (λ (z : f n ≡ 0). inr (n, record { most = omega arith; some = all; none = λ i a b. let e : i ≡ n + (i - n) = omega arith in subst (λ (j : ℕ). f j ≡ 0) (sym e) (up_from f n (i - n) front z (omega arith)) }))
-      (λ (s : f n ≢ 0). inl (λ i k. ⊎_elim (λ (here : n ≤ i). let e : i ≡ n = omega arith in rw e s) (λ (less : i < n). all i less) (order n i)))
-      (zero_or (f n)))
+    (λ (z : f n ≡ 0). inr (n, record { most = omega arith; some = all; none = λ i a b. let e : i ≡ n + (i - n) = omega arith in subst (λ (j : ℕ). f j ≡ 0) (sym e) (up_from f n (i - n) front z (omega arith)) }))
+    (λ (s : f n ≢ 0). inl (λ i k. ⊎_elim (λ (here : n ≤ i). let e : i ≡ n = omega arith in rw e s) (λ (less : i < n). all i less) (order n i)))
+    (zero_or (f n)))
     (λ (found : (m : ℕ) × Front f m). inr found)
     (front_to f n (omega arith) front)
 
@@ -75,18 +75,21 @@ hop_parts : (hop : ℕ → ℕ) (h : ℕ) (p : Pair) → Parts (from_hop hop h) 
 unfolding at_hop from_hop
 hop_parts hop h p = ⊎_elim
     (λ (low : h ≤ hop p.slot). ⊎_elim
-      (λ (here : hop p.slot ≤ h). let e : hop p.slot ≡ h = omega arith in inl (yes_le h (hop p.slot) low, yes_eq (hop p.slot) h e, no_le (suc h) (hop p.slot) (omega arith)))
-      (λ (deep : h < hop p.slot). inr (inl (yes_le h (hop p.slot) low, no_eq (hop p.slot) h (λ e. omega arith), yes_le (suc h) (hop p.slot) (omega arith))))
-      (order (hop p.slot) h))
+    (λ (here : hop p.slot ≤ h). let e : hop p.slot ≡ h = omega arith in inl (yes_le h (hop p.slot) low, yes_eq (hop p.slot) h e, no_le (suc h) (hop p.slot) (omega arith)))
+    (λ (deep : h < hop p.slot). inr (inl (yes_le h (hop p.slot) low, no_eq (hop p.slot) h (λ e. omega arith), yes_le (suc h) (hop p.slot) (omega arith))))
+    (order (hop p.slot) h))
     (λ (up : hop p.slot < h). inr (inr (no_le h (hop p.slot) up, no_eq (hop p.slot) h (λ e. omega arith), no_le (suc h) (hop p.slot) (omega arith))))
     (order h (hop p.slot))
   where
     yes_le : (m n : ℕ) → m ≤ n → nat_le m n ≡ true
     yes_le m n h = grind (arith, nat_tests)
+
     no_le : (m n : ℕ) → n < m → nat_le m n ≡ false
     no_le m n h = grind (arith, nat_tests)
+
     yes_eq : (m n : ℕ) → m ≡ n → nat_eq m n ≡ true
     yes_eq m n h = grind (arith, nat_tests)
+
     no_eq : (m n : ℕ) → m ≢ n → nat_eq m n ≡ false
     no_eq m n h = grind (arith, nat_tests)
 
@@ -122,7 +125,6 @@ from_zero hop (p ∷ ps) = rw (zero_le (hop p.slot)) (ap (λ (zs : List Pair). p
 -- ---- a file that meets the rules
 
 module _ (bytes : List ℕ) (key : ℕ → ℤ) (slots : ℕ) (r : MeetsRules bytes key slots) where
-
   abbrev pub ps : List Pair
   ps = pairs_of key slots
 
@@ -142,7 +144,6 @@ module _ (bytes : List ℕ) (key : ℕ → ℤ) (slots : ℕ) (r : MeetsRules by
   below k h some = let n = r.named k h in omega arith
 
   in_ps : (p : Pair) → In p ps → (p.slot < slots) × (p ≡ pair_of key p.slot)
-
   in_ps p i =
       let found = in_pairs (pair_of key) p 0 slots i in
       let e : p.slot ≡ found.0 = ap (λ (q : Pair). q.slot) found.3 in
@@ -150,11 +151,9 @@ module _ (bytes : List ℕ) (key : ℕ → ℤ) (slots : ℕ) (r : MeetsRules by
       (omega arith, found.3 ∙ ap (pair_of key) (sym e))
 
   ps_in : (s : ℕ) → s < slots → In (pair_of key s) ps
-
   ps_in s h = pairs_in (pair_of key) 0 slots s (omega arith) (omega arith)
 
   rises_ps : Rises ps
-
   rises_ps = rises_map (pair_of key) 0 slots (λ i j a b c. b)
 
   -- the pairs that go the way of a key to a hop
@@ -222,34 +221,35 @@ module _ (bytes : List ℕ) (key : ℕ → ℤ) (slots : ℕ) (r : MeetsRules by
       rises_same (filter (A h) (S k h)) (held k h m)
       (rises_filter (A h) (S k h) (rises_sifted (goes k) h ps rises_ps))
       (rises_map (entry k h) 0 m (λ i j a b c.
-          let most = front.most in
-          let x : slot_on bytes k h i ≢ 0 = front.some i (omega arith) in
-          let y : slot_on bytes k h j ≢ 0 = front.some j (omega arith) in
-          let up : slot_on bytes k h i < slot_on bytes k h j = r.rise k h h i j (inr (refl, b)) (omega arith) (omega arith) some x y in
-          less_by_one (slot_on bytes k h i) (slot_on bytes k h j) x up))
+      let most = front.most in
+      let x : slot_on bytes k h i ≢ 0 = front.some i (omega arith) in
+      let y : slot_on bytes k h j ≢ 0 = front.some j (omega arith) in
+      let up : slot_on bytes k h i < slot_on bytes k h j = r.rise k h h i j (inr (refl, b)) (omega arith) (omega arith) some x y in
+      less_by_one (slot_on bytes k h i) (slot_on bytes k h j) x up))
       (λ p i.
-          let both = filter_in (A h) p (S k h) i in
-          let at : r.hop p.slot ≡ h = is_at r.hop h p both.0 in
-          let small = (in_ps p (in_S k h p both.1)).0 in
-          let there = slot_there k h p both.1 at in
-          let n : ℕ = r.pair p.slot in
-          let short : n < 32 = r.short p.slot small in
-          let is : slot_on bytes k h n ≡ p.slot + 1 = there.1 in
-          let inside : n < m = ⊎_elim (λ (out : m ≤ n). absurd (plus_one p.slot (sym is ∙ front.none n out short))) (λ (in_ : n < m). in_) (order m n) in
-          let e : slot_on bytes k h n - 1 ≡ p.slot = omega (arith, is) in
-          let same : entry k h n ≡ p = ap (pair_of key) e ∙ sym (in_ps p (in_S k h p both.1)).1 in
-          subst (λ (q : Pair). In q (held k h m)) same (pairs_in (entry k h) 0 m n (omega arith) (omega arith)))
+      let both = filter_in (A h) p (S k h) i in
+      let at : r.hop p.slot ≡ h = is_at r.hop h p both.0 in
+      let small = (in_ps p (in_S k h p both.1)).0 in
+      let there = slot_there k h p both.1 at in
+      let n : ℕ = r.pair p.slot in
+      let short : n < 32 = r.short p.slot small in
+      let is : slot_on bytes k h n ≡ p.slot + 1 = there.1 in
+      let inside : n < m = ⊎_elim (λ (out : m ≤ n). absurd (plus_one p.slot (sym is ∙ front.none n out short))) (λ (in_ : n < m). in_) (order m n) in
+      let e : slot_on bytes k h n - 1 ≡ p.slot = omega (arith, is) in
+      let same : entry k h n ≡ p = ap (pair_of key) e ∙ sym (in_ps p (in_S k h p both.1)).1 in
+      subst (λ (q : Pair). In q (held k h m)) same (pairs_in (entry k h) 0 m n (omega arith) (omega arith)))
       (λ p i.
-          let found = in_pairs (entry k h) p 0 m i in
-          let n : ℕ = found.0 in
-          let inside : n < 0 + m = found.2 in
-          let most = front.most in
-          let its = its_slot k h n some (omega arith) (front.some n (omega arith)) in
-          subst (λ (q : Pair). In q (filter (A h) (S k h))) (sym found.3)
-          (in_filter (A h) (entry k h n) (S k h) (S_in k h (entry k h n) (ps_in (slot_on bytes k h n - 1) its.0) its.3) (at_is r.hop h (entry k h n) its.1)))
+      let found = in_pairs (entry k h) p 0 m i in
+      let n : ℕ = found.0 in
+      let inside : n < 0 + m = found.2 in
+      let most = front.most in
+      let its = its_slot k h n some (omega arith) (front.some n (omega arith)) in
+      subst (λ (q : Pair). In q (filter (A h) (S k h))) (sym found.3)
+      (in_filter (A h) (entry k h n) (S k h) (S_in k h (entry k h n) (ps_in (slot_on bytes k h n - 1) its.0) its.3) (at_is r.hop h (entry k h n) its.1)))
     where
       less_by_one : (a b : ℕ) → a ≢ 0 → a < b → a - 1 < b - 1
       less_by_one a b s h = omega arith
+
       plus_one : (a : ℕ) → a + 1 ≡ 0 → ⊥
       plus_one a e = omega arith
 
@@ -276,9 +276,10 @@ module _ (bytes : List ℕ) (key : ℕ → ℤ) (slots : ℕ) (r : MeetsRules by
       let deep : suc h ≤ r.hop q.slot = is_from r.hop (suc h) q d in
       let small = (in_ps q (in_S k h q j)).0 in
       let its_key : q.key ≡ key q.slot = key_is q (in_S k h q j) in
-      let same : number_of bytes k h ≡ number_of bytes (key q.slot) h = number_same bytes k q.key h (way k h q j) ∙ ap (λ (z : ℤ). number_of bytes z h) its_key in
-      (rw same (lower (key q.slot) h (r.hop q.slot) (omega arith) (r.there q.slot small)),
-       rw same (full_before (key q.slot) h (r.hop q.slot) (omega arith) (r.there q.slot small)))
+      let same : number_of bytes k h ≡ number_of bytes (key q.slot) h = number_same bytes k q.key h (way k h q j) ∙ ap (λ (z : ℤ). number_of bytes z h) its_key in (
+        rw same (lower (key q.slot) h (r.hop q.slot) (omega arith) (r.there q.slot small)),
+        rw same (full_before (key q.slot) h (r.hop q.slot) (omega arith) (r.there q.slot small)),
+      )
 
   parts : (k : ℤ) (h : ℕ) → filter (D h) (S k h) ≡ filter (A h) (S k h) ++ filter (D (suc h)) (S k h)
   unfolding A D S
@@ -301,13 +302,13 @@ module _ (bytes : List ℕ) (key : ℕ → ℤ) (slots : ℕ) (r : MeetsRules by
   at_few k h = ⊎_elim
       (λ (none : length (filter (A h) (S k h)) ≤ 0). omega arith)
       (λ (some : 0 < length (filter (A h) (S k h))).
-        let p = some_in (filter (A h) (S k h)) some in
-        let both = filter_in (A h) p.0 (S k h) p.1 in
-        let there = slot_there k h p.0 both.1 (is_at r.hop h p.0 both.0) in
-        let front = filled k h there.0 in
-        let most = front.1.most in
-        let len : length (filter (A h) (S k h)) ≡ front.0 = ap length (held_is k h front.0 there.0 front.1) ∙ length-map-range_with_len (entry k h) 0 front.0 in
-        omega (arith, len, most))
+      let p = some_in (filter (A h) (S k h)) some in
+      let both = filter_in (A h) p.0 (S k h) p.1 in
+      let there = slot_there k h p.0 both.1 (is_at r.hop h p.0 both.0) in
+      let front = filled k h there.0 in
+      let most = front.1.most in
+      let len : length (filter (A h) (S k h)) ≡ front.0 = ap length (held_is k h front.0 there.0 front.1) ∙ length-map-range_with_len (entry k h) 0 front.0 in
+      omega (arith, len, most))
       (order (length (filter (A h) (S k h))) 0)
 
   -- what reaches a bucket are the pairs of this way that lie there or deeper
@@ -334,13 +335,13 @@ module _ (bytes : List ℕ) (key : ℕ → ℤ) (slots : ℕ) (r : MeetsRules by
       let sum : length (held k h m ++ deep) ≡ length (held k h m) + length deep = length-append (held k h m) deep in
       let total : length (reach (goes k) h ps) ≡ m + length deep = ap length is ∙ omega (arith, sum, long) in
       let inside : (i : ℕ) → i < 32 → i < length (reach (goes k) h ps) → i < m = λ i a c. ⊎_elim
-          (λ (out : m ≤ i).
-            let more : 0 < length deep = omega (arith, total, c, out) in
-            let full : m ≡ 32 = sym long ∙ ap length (sym (held_is k h m some front.1)) ∙ at_full k h more in
-            absurd (omega (arith, full, out, a)))
-          (λ (in_ : i < m). in_) (order m i) in
+      (λ (out : m ≤ i).
+      let more : 0 < length deep = omega (arith, total, c, out) in
+      let full : m ≡ 32 = sym long ∙ ap length (sym (held_is k h m some front.1)) ∙ at_full k h more in
+      absurd (omega (arith, full, out, a)))
+      (λ (in_ : i < m). in_) (order m i) in
       let there : (i : ℕ) → i < m → get_or (reach (goes k) h ps) i no_pair ≡ entry k h i = λ i a.
-          ap (λ (zs : List Pair). get_or zs i no_pair) is ∙ get_or_append_left (held k h m) deep no_pair i (omega (arith, long, a)) ∙ get_or-map-range_with_len (entry k h) 0 m i i no_pair a (omega arith) in
+      ap (λ (zs : List Pair). get_or zs i no_pair) is ∙ get_or_append_left (held k h m) deep no_pair i (omega (arith, long, a)) ∙ get_or-map-range_with_len (entry k h) 0 m i i no_pair a (omega arith) in
       record {
         slot = λ i a c.
             let s : slot_on bytes k h i ≢ 0 = front.1.some i (inside i a c) in
@@ -385,5 +386,6 @@ module _ (bytes : List ℕ) (key : ℕ → ℤ) (slots : ℕ) (r : MeetsRules by
       empty_of : (xs : List Pair) → (0 < length xs → ⊥) → xs ≡ []
       empty_of [] no_more = refl
       empty_of (x ∷ xs) no_more = absurd (no_more (omega arith))
+
       entry_ : ℤ → ℕ → Pair
       entry_ j g = pair_of key (slot_on bytes j g 0 - 1)

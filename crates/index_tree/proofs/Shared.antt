@@ -1,10 +1,8 @@
-use Rattle.std.proofs.Common.{◌≡◌, ◌≢◌, ◌≤◌, ◌<◌, ◌+◌, ◌*◌, ◌-◌, ℕ, ℤ, zero, suc, List, [], ◌∷◌, ◌++◌, length, take, drop, get_or, Bool, true, false, cond, refl, arith, ap, ◌∙◌, sym, add-one, ◌⊎◌, inl, inr, eq-eqb, ⊎_elim, length-append, subst}
+use Rattle.std.proofs.Common.{◌≡◌, ◌≤◌, ◌<◌, ◌+◌, ℕ, ℤ, zero, suc, List, [], ◌∷◌, ◌++◌, length, drop, Bool, true, false, cond, refl, arith, ap, ◌∙◌, sym, add-one, ◌⊎◌, inl, inr, eq-eqb, ⊎_elim, length-append, subst}
 use Rattle.std.specs.Prelude.{nat_eq, ⊤}
 use Rattle.std.specs.List.{filter}
-use Rattle.std.proofs.lemmas.List.{append-nil, drop_all, length-drop}
-use Rattle.std.proofs.lemmas.List.Elements.{filter-append}
+use Rattle.std.proofs.lemmas.List.{append-nil, drop_all}
 use Rattle.index_tree.specs.Pairs.{Pair, goes, reach, sifted}
-use Rattle.db_model.specs.HashTree.{digit}
 use Rattle.index_tree.specs.Places.{Above, Rises}
 use Rattle.index_tree.proofs.Reach.{reach-append}
 
@@ -31,8 +29,8 @@ filter_same f g same (p ∷ ps) = rw (same p) (ap (λ xs. cond (g p) (p ∷ xs) 
 pub reach_same : (a b : ℤ) (ps : List Pair) (hop : ℕ) → ((i : ℕ) → i < hop → Same a b i) → reach (goes a) hop ps ≡ reach (goes b) hop ps
 reach_same a b ps zero same = refl
 reach_same a b ps (suc hop) same =
-  filter_same (goes a hop) (goes b hop) (same hop (omega arith)) (drop 32 (reach (goes a) hop ps))
-  ∙ ap (λ xs. filter (goes b hop) (drop 32 xs)) (reach_same a b ps hop (λ i h. same i (omega arith)))
+    filter_same (goes a hop) (goes b hop) (same hop (omega arith)) (drop 32 (reach (goes a) hop ps))
+    ∙ ap (λ xs. filter (goes b hop) (drop 32 xs)) (reach_same a b ps hop (λ i h. same i (omega arith)))
 
 abbrev pub Full : ℤ → List Pair → ℕ → Type 0
 Full key ps hop = (i : ℕ) → i < hop → 32 ≤ length (reach (goes key) i ps)
@@ -46,7 +44,7 @@ full_more key ps hop full now = λ i h. ⊎_elim (λ (k : hop ≤ i). let e : i 
 pub empty_on : (test : ℕ → Pair → Bool) (ps : List Pair) (h m : ℕ) → reach test h ps ≡ [] → h ≤ m → reach test m ps ≡ []
 empty_on test ps h zero e k = let z : h ≡ 0 = omega arith in subst (λ x. reach test x ps ≡ []) z e
 empty_on test ps h (suc m) e k =
-  ⊎_elim (λ (below : h ≤ m). ap (λ xs. filter (test m) (drop 32 xs)) (empty_on test ps h m e below))
+    ⊎_elim (λ (below : h ≤ m). ap (λ xs. filter (test m) (drop 32 xs)) (empty_on test ps h m e below))
     (λ (here : m < h). let same : suc m ≡ h = omega arith in subst (λ x. reach test x ps ≡ []) (sym same) e) (order h m)
 
 -- nothing goes on from a bucket with room
@@ -63,7 +61,7 @@ one_more test hop q false e same passes = inl (rw same (rw e refl))
 pub one : (test : ℕ → Pair → Bool) (hop : ℕ) (q : Pair) → Sifted test hop q
 one test zero q = inr (refl, λ i h. absurd (omega arith))
 one test (suc hop) q =
-  ⊎_elim (λ (none : sifted test hop (q ∷ []) ≡ []). inl (ap (filter (test hop)) none))
+    ⊎_elim (λ (none : sifted test hop (q ∷ []) ≡ []). inl (ap (filter (test hop)) none))
     (λ (all : (sifted test hop (q ∷ []) ≡ q ∷ []) × ((i : ℕ) → i < hop → test i q ≡ true)). one_more test hop q (test hop q) refl all.0 all.1) (one test hop q)
 
 sifted_short : (test : ℕ → Pair → Bool) (hop : ℕ) (q : Pair) → length (sifted test hop (q ∷ [])) ≤ 1
@@ -71,30 +69,30 @@ sifted_short test hop q = ⊎_elim (λ (none : sifted test hop (q ∷ []) ≡ []
 
 -- behind a bucket with room nothing changes
 pub stays : (key : ℤ) (ps : List Pair) (q : Pair) (hop later : ℕ) → Full key ps hop → length (reach (goes key) hop ps) < 32 → hop < later →
-  reach (goes key) later (ps ++ q ∷ []) ≡ reach (goes key) later ps
+    reach (goes key) later (ps ++ q ∷ []) ≡ reach (goes key) later ps
 stays key ps q hop later full room after =
-  let grown : reach (goes key) hop (ps ++ q ∷ []) ≡ reach (goes key) hop ps ++ sifted (goes key) hop (q ∷ []) = reach-append (goes key) ps (q ∷ []) hop full in
-  let few : length (sifted (goes key) hop (q ∷ [])) ≤ 1 = sifted_short (goes key) hop q in
-  let sum : length (reach (goes key) hop ps ++ sifted (goes key) hop (q ∷ [])) ≡ length (reach (goes key) hop ps) + length (sifted (goes key) hop (q ∷ [])) = length-append (reach (goes key) hop ps) (sifted (goes key) hop (q ∷ [])) in
-  let short : length (reach (goes key) hop (ps ++ q ∷ [])) ≤ 32 = rw grown (omega arith) in
-  empty_on (goes key) (ps ++ q ∷ []) (suc hop) later (empty_next (goes key) (ps ++ q ∷ []) hop short) (omega arith)
-  ∙ sym (empty_on (goes key) ps (suc hop) later (empty_next (goes key) ps hop (omega arith)) (omega arith))
+    let grown : reach (goes key) hop (ps ++ q ∷ []) ≡ reach (goes key) hop ps ++ sifted (goes key) hop (q ∷ []) = reach-append (goes key) ps (q ∷ []) hop full in
+    let few : length (sifted (goes key) hop (q ∷ [])) ≤ 1 = sifted_short (goes key) hop q in
+    let sum : length (reach (goes key) hop ps ++ sifted (goes key) hop (q ∷ [])) ≡ length (reach (goes key) hop ps) + length (sifted (goes key) hop (q ∷ [])) = length-append (reach (goes key) hop ps) (sifted (goes key) hop (q ∷ [])) in
+    let short : length (reach (goes key) hop (ps ++ q ∷ [])) ≤ 32 = rw grown (omega arith) in
+    empty_on (goes key) (ps ++ q ∷ []) (suc hop) later (empty_next (goes key) (ps ++ q ∷ []) hop short) (omega arith)
+    ∙ sym (empty_on (goes key) ps (suc hop) later (empty_next (goes key) ps hop (omega arith)) (omega arith))
 
 -- the first bucket with room before a hop, if there is one
 pub full_or_room : (key : ℤ) (ps : List Pair) (hop : ℕ) → Full key ps hop ⊎ ((i : ℕ) × (i < hop) × Full key ps i × (length (reach (goes key) i ps) < 32))
 full_or_room key ps zero = inl (λ i h. absurd (omega arith))
 full_or_room key ps (suc hop) =
-  ⊎_elim
+    ⊎_elim
     (λ (full : Full key ps hop). ⊎_elim (λ (now : 32 ≤ length (reach (goes key) hop ps)). inl (rw (sym (add-one hop)) (full_more key ps hop full now)))
-      (λ (room : length (reach (goes key) hop ps) < 32). inr (hop, omega arith, full, room)) (order 32 (length (reach (goes key) hop ps))))
+    (λ (room : length (reach (goes key) hop ps) < 32). inr (hop, omega arith, full, room)) (order 32 (length (reach (goes key) hop ps))))
     (λ (found : (i : ℕ) × (i < hop) × Full key ps i × (length (reach (goes key) i ps) < 32)). let before : found.0 < hop = found.1 in inr (found.0, omega arith, found.2, found.3))
     (full_or_room key ps hop)
 
 -- what reaches a bucket after an insert: the same, or the pair behind it where the two keys share the way there
 abbrev pub Grows : ℤ → List Pair → Pair → ℕ → Type 0
 Grows key ps q hop =
-  (reach (goes key) hop (ps ++ q ∷ []) ≡ reach (goes key) hop ps)
-  ⊎ (Full key ps hop × (reach (goes key) hop (ps ++ q ∷ []) ≡ reach (goes key) hop ps ++ q ∷ []) × ((i : ℕ) → i < hop → Same key q.key i))
+    (reach (goes key) hop (ps ++ q ∷ []) ≡ reach (goes key) hop ps)
+    ⊎ (Full key ps hop × (reach (goes key) hop (ps ++ q ∷ []) ≡ reach (goes key) hop ps ++ q ∷ []) × ((i : ℕ) → i < hop → Same key q.key i))
 
 pub goes_self : (key : ℤ) (hop : ℕ) (q : Pair) → key ≡ q.key → goes key hop q ≡ true
 goes_self key zero q e = rw e (eq-eqb _ _ refl)
@@ -105,14 +103,14 @@ goes_self key (suc (suc (suc (suc hop)))) q e = refl
 
 pub grows : (key : ℤ) (ps : List Pair) (q : Pair) (hop : ℕ) → Grows key ps q hop
 grows key ps q hop =
-  ⊎_elim
+    ⊎_elim
     (λ (full : Full key ps hop).
-      let grown : reach (goes key) hop (ps ++ q ∷ []) ≡ reach (goes key) hop ps ++ sifted (goes key) hop (q ∷ []) = reach-append (goes key) ps (q ∷ []) hop full in
-      ⊎_elim
-        (λ (none : sifted (goes key) hop (q ∷ []) ≡ []). inl (grown ∙ ap (λ xs. reach (goes key) hop ps ++ xs) none ∙ append-nil (reach (goes key) hop ps)))
-        (λ (all : (sifted (goes key) hop (q ∷ []) ≡ q ∷ []) × ((i : ℕ) → i < hop → goes key i q ≡ true)).
-          inr (full, grown ∙ ap (λ xs. reach (goes key) hop ps ++ xs) all.0, λ i h. same_way key q.key i q (all.1 i h) (goes_self q.key i q refl)))
-        (one (goes key) hop q))
+    let grown : reach (goes key) hop (ps ++ q ∷ []) ≡ reach (goes key) hop ps ++ sifted (goes key) hop (q ∷ []) = reach-append (goes key) ps (q ∷ []) hop full in
+    ⊎_elim
+    (λ (none : sifted (goes key) hop (q ∷ []) ≡ []). inl (grown ∙ ap (λ xs. reach (goes key) hop ps ++ xs) none ∙ append-nil (reach (goes key) hop ps)))
+    (λ (all : (sifted (goes key) hop (q ∷ []) ≡ q ∷ []) × ((i : ℕ) → i < hop → goes key i q ≡ true)).
+    inr (full, grown ∙ ap (λ xs. reach (goes key) hop ps ++ xs) all.0, λ i h. same_way key q.key i q (all.1 i h) (goes_self q.key i q refl)))
+    (one (goes key) hop q))
     (λ (found : (i : ℕ) × (i < hop) × Full key ps i × (length (reach (goes key) i ps) < 32)). inl (stays key ps q found.0 hop found.2 found.3 found.1))
     (full_or_room key ps hop)
 
@@ -141,13 +139,13 @@ rises_reach test (suc hop) ps h = rises_filter (test hop) (drop 32 (reach test h
 -- what goes on from a bucket lies above its first pair
 above_next : (test : ℕ → Pair → Bool) (hop : ℕ) (ps : List Pair) (p : Pair) (rest : List Pair) → Rises ps → reach test hop ps ≡ p ∷ rest → Above p.slot (reach test (suc hop) ps)
 above_next test hop ps p rest rises is =
-  let risen : Rises (p ∷ rest) = subst (λ xs. Rises xs) is (rises_reach test hop ps rises) in
-  above_filter (test hop) p.slot (drop 32 (reach test hop ps)) (rw is (above_drop 31 p.slot rest risen.0))
+    let risen : Rises (p ∷ rest) = subst (λ xs. Rises xs) is (rises_reach test hop ps rises) in
+    above_filter (test hop) p.slot (drop 32 (reach test hop ps)) (rw is (above_drop 31 p.slot rest risen.0))
 
 above_later : (test : ℕ → Pair → Bool) (hop later : ℕ) (ps : List Pair) (s : ℕ) → Above s (reach test (suc hop) ps) → hop < later → Above s (reach test later ps)
 above_later test hop zero ps s h k = absurd (omega arith)
 above_later test hop (suc later) ps s h k =
-  ⊎_elim (λ (here : later ≤ hop). let same : later ≡ hop = omega arith in subst (λ x. Above s (reach test (suc x) ps)) (sym same) h)
+    ⊎_elim (λ (here : later ≤ hop). let same : later ≡ hop = omega arith in subst (λ x. Above s (reach test (suc x) ps)) (sym same) h)
     (λ (on : hop < later). above_filter (test later) s (drop 32 (reach test later ps)) (above_drop 32 s (reach test later ps) (above_later test hop later ps s h on))) (order later hop)
 
 -- each pair that reaches a bucket passes the tests before it
@@ -175,7 +173,7 @@ pass_drop other (suc n) (p ∷ ps) all = pass_drop other n ps all.1
 pass_reach : (test : ℕ → Pair → Bool) (hop i : ℕ) (ps : List Pair) → i < hop → AllPass (test i) (reach test hop ps)
 pass_reach test zero i ps h = absurd (omega arith)
 pass_reach test (suc hop) i ps h =
-  ⊎_elim (λ (here : hop ≤ i). let same : hop ≡ i = omega arith in subst (λ x. AllPass (test x) (reach test (suc hop) ps)) same (pass_filter (test hop) (drop 32 (reach test hop ps))))
+    ⊎_elim (λ (here : hop ≤ i). let same : hop ≡ i = omega arith in subst (λ x. AllPass (test x) (reach test (suc hop) ps)) same (pass_filter (test hop) (drop 32 (reach test hop ps))))
     (λ (before : i < hop). pass_keep (test hop) (test i) (drop 32 (reach test hop ps)) (pass_drop (test i) 32 (reach test hop ps) (pass_reach test hop i ps before))) (order hop i)
 
 head_passes : (test : ℕ → Pair → Bool) (hop i : ℕ) (ps : List Pair) (p : Pair) (rest : List Pair) → reach test hop ps ≡ p ∷ rest → i < hop → test i p ≡ true
@@ -183,16 +181,16 @@ head_passes test hop i ps p rest is h = let all : AllPass (test i) (p ∷ rest) 
 
 below_itself : (ps : List Pair) (a b : ℤ) (h k : ℕ) (p : Pair) (xs ys : List Pair) → Rises ps → reach (goes a) h ps ≡ p ∷ xs → reach (goes b) k ps ≡ p ∷ ys → h < k → ⊥
 below_itself ps a b h k p xs ys rises here there less =
-  let same : reach (goes a) h ps ≡ reach (goes b) h ps = reach_same a b ps h (λ i j. same_way a b i p (head_passes (goes a) h i ps p xs here j) (head_passes (goes b) k i ps p ys there (omega arith))) in
-  let above : Above p.slot (p ∷ ys) = subst (λ xs. Above p.slot xs) there (above_later (goes b) h k ps p.slot (above_next (goes b) h ps p xs rises (sym same ∙ here)) less) in
-  let absurdity : p.slot < p.slot = above.0 in
-  omega arith
+    let same : reach (goes a) h ps ≡ reach (goes b) h ps = reach_same a b ps h (λ i j. same_way a b i p (head_passes (goes a) h i ps p xs here j) (head_passes (goes b) k i ps p ys there (omega arith))) in
+    let above : Above p.slot (p ∷ ys) = subst (λ xs. Above p.slot xs) there (above_later (goes b) h k ps p.slot (above_next (goes b) h ps p xs rises (sym same ∙ here)) less) in
+    let absurdity : p.slot < p.slot = above.0 in
+    omega arith
 
 -- two buckets with the same first pair are one
 pub apart : (ps : List Pair) (a b : ℤ) (h k : ℕ) (p : Pair) (xs ys : List Pair) → Rises ps → reach (goes a) h ps ≡ p ∷ xs → reach (goes b) k ps ≡ p ∷ ys → (h ≡ k) × ((i : ℕ) → i < h → Same a b i)
 apart ps a b h k p xs ys rises here there =
-  ⊎_elim
+    ⊎_elim
     (λ (up : h ≤ k). ⊎_elim
-      (λ (down : k ≤ h). let same : h ≡ k = omega arith in (same, λ i j. same_way a b i p (head_passes (goes a) h i ps p xs here j) (head_passes (goes b) k i ps p ys there (omega arith))))
-      (λ (less : h < k). absurd (below_itself ps a b h k p xs ys rises here there less)) (order k h))
+    (λ (down : k ≤ h). let same : h ≡ k = omega arith in (same, λ i j. same_way a b i p (head_passes (goes a) h i ps p xs here j) (head_passes (goes b) k i ps p ys there (omega arith))))
+    (λ (less : h < k). absurd (below_itself ps a b h k p xs ys rises here there less)) (order k h))
     (λ (less : k < h). absurd (below_itself ps b a k h p ys xs rises there here less)) (order h k)

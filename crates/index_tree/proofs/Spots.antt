@@ -1,12 +1,9 @@
 -- Places of the file that lie apart.
-use Rattle.std.proofs.Common.{◌≡◌, ◌≢◌, ◌≤◌, ◌<◌, ◌+◌, ◌*◌, ◌-◌, ℕ, ℤ, zero, suc, List, [], ◌∷◌, ◌++◌, length, get_or, refl, arith, ap, ◌∙◌, sym, ◌⊎◌, inl, inr, ⊎_elim, subst, eq-eqb}
+use Rattle.std.proofs.Common.{◌≡◌, ◌≢◌, ◌≤◌, ◌<◌, ◌+◌, ◌*◌, ◌-◌, ℕ, ℤ, zero, suc, List, length, get_or, refl, arith, ap, ◌∙◌, sym, ◌⊎◌, inl, inr, ⊎_elim, subst}
 use Rattle.std.specs.Prelude.{slice_index}
 use Rattle.afl_base.specs.Fields.{i32_at, put_at, u16_at}
 use Rattle.db_model.specs.HashTree.{digit, node}
-use Rattle.index_tree.specs.Ends.{spot_behind, spot_of}
-use Rattle.index_tree.specs.Pairs.{Pair, goes}
-use Rattle.index_tree.specs.TreeFile.{behind, bucket_place, next_at, number_at, number_of, place_of}
-use Rattle.index_tree.proofs.Added.{same_or, same_node}
+use Rattle.index_tree.specs.TreeFile.{behind, next_at, number_of, place_of}
 use Rattle.index_tree.proofs.Counted.{digit_small}
 use Rattle.index_tree.proofs.Frames.{i32_same, put_outside, u16_same}
 use Rattle.index_tree.proofs.Shared.{Same, order}

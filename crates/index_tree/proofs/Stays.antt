@@ -1,12 +1,11 @@
 -- Places that stay good while pairs are inserted.
-use Rattle.std.proofs.Common.{◌≡◌, ◌≢◌, ◌≤◌, ◌<◌, ◌+◌, ℕ, ℤ, zero, suc, List, ◌++◌, length, Bool, true, false, refl, arith, ap, ◌∙◌, sym, eq-eqb, subst}
+use Rattle.std.proofs.Common.{◌≡◌, ◌≢◌, ℕ, ℤ, zero, suc, List, ◌++◌, Bool, true, false, refl, arith, ap, ◌∙◌, sym, eq-eqb, subst}
 use Rattle.std.specs.Prelude.{◌&&◌, nat_le}
 use Rattle.std.specs.List.{filter}
 use Rattle.std.specs.Ordering.{int_eq}
 use Rattle.std.proofs.lemmas.List.Elements.{filter-append}
-use Rattle.index_tree.specs.Pairs.{Pair, goes, has_key, reach}
-use Rattle.index_tree.specs.Places.{IsPlace, IsPlaceAt, KeepsNumbers, is_wanted, to_come}
-use Rattle.index_tree.specs.TreeFile.{number_of}
+use Rattle.index_tree.specs.Pairs.{Pair, goes, has_key}
+use Rattle.index_tree.specs.Places.{IsPlaceAt, KeepsNumbers, is_wanted}
 use Rattle.index_tree.proofs.Reach.{ahead-append, place-append}
 
 pub eq_true : (a b : ℤ) → int_eq a b ≡ true → a ≡ b
@@ -38,6 +37,6 @@ place_stays old new ps qs key from number pair hop keeps place = record {
   some = place.some;
   good = place-append (goes key) ps qs hop pair place.good;
   rest = ahead-append (is_wanted key from) (goes key) (goes_wanted key from) ps qs hop pair place.good
-    ∙ ap (λ (xs : List Pair). xs ++ filter (is_wanted key from) qs) place.rest
-    ∙ sym (filter-append (is_wanted key from) ps qs);
+      ∙ ap (λ (xs : List Pair). xs ++ filter (is_wanted key from) qs) place.rest
+      ∙ sym (filter-append (is_wanted key from) ps qs);
 }

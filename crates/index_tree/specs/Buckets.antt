@@ -1,5 +1,5 @@
 -- What is seen of one bucket.
-use Rattle.std.specs.Prelude.{ℕ, ◌≡◌, ◌≢◌, ◌+◌, ◌*◌, ◌<◌, ◌≤◌, List, [], ◌∷◌, get_or, length}
+use Rattle.std.specs.Prelude.{ℕ, ◌≡◌, ◌≢◌, ◌+◌, ◌<◌, ◌≤◌, List, [], ◌∷◌, get_or, length}
 use Rattle.afl_base.specs.Fields.{i32_at, u16_at}
 use Rattle.index_tree.specs.Pairs.{Pair}
 use Rattle.index_tree.specs.TreeFile.{Holds, bucket_place, key_at, last_at, next_at, place_of, slot_at}

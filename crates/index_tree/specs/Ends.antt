@@ -1,5 +1,5 @@
 -- Where the path of a key ends, read off the pairs and off the bytes.
-use Rattle.std.specs.Prelude.{ℕ, zero, suc, ℤ, ◌≡◌, ◌+◌, ◌*◌, ◌<◌, ◌≤◌, ◌==◌, List, length, nat_lt, if◌then◌else◌}
+use Rattle.std.specs.Prelude.{ℕ, zero, suc, ℤ, ◌+◌, ◌*◌, ◌<◌, ◌≤◌, ◌==◌, List, length, nat_lt, if◌then◌else◌}
 use Rattle.db_model.specs.HashTree.{node}
 use Rattle.index_tree.specs.Pairs.{Pair, goes, reach}
 use Rattle.index_tree.specs.TreeFile.{number_of, place_of, slot_at}

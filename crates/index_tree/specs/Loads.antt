@@ -14,7 +14,8 @@ load_of (suc (suc (suc (suc more)))) n = n
 -- the numbers are those of the 341 nodes of the tree of these pairs
 pub record Counts (loads : List ℕ) (ps : List Pair) : Type 0 where
   pub long : length loads ≡ 341
-  pub each : (key : ℤ) (level : ℕ) → level ≤ 4 → get_or loads (node key level) 0 ≡ load_of level (length (reach (goes key) level ps))
+  pub each : (key : ℤ) (level : ℕ) → level ≤ 4
+      → get_or loads (node key level) 0 ≡ load_of level (length (reach (goes key) level ps))
 
 -- the level of the first node on the path of a key that holds one pair more
 pub record IsLevel (loads : List ℕ) (key : ℤ) (level : ℕ) : Type 0 where
@@ -29,5 +30,7 @@ opened (suc n) = 0
 
 -- one key more, and whether it opens a bucket
 pub record Loads (old new : List ℕ) (key : ℤ) (opens : ℕ) : Type 0 where
-  pub counts : (ps : List Pair) (slot : ℕ) → Counts old ps → Counts new (ps ++ record { key = key; slot = slot } ∷ [])
-  pub buckets : (ps : List Pair) (slot : ℕ) → Counts old ps → buckets (keys_of (ps ++ record { key = key; slot = slot } ∷ [])) ≡ buckets (keys_of ps) + opens
+  pub counts : (ps : List Pair) (slot : ℕ) → Counts old ps
+      → Counts new (ps ++ record { key = key; slot = slot } ∷ [])
+  pub buckets : (ps : List Pair) (slot : ℕ) → Counts old ps
+      → buckets (keys_of (ps ++ record { key = key; slot = slot } ∷ [])) ≡ buckets (keys_of ps) + opens

@@ -1,5 +1,5 @@
 -- Places on the path of a key, and what is still to come from them.
-use Rattle.std.specs.Prelude.{⊤, [], ◌∷◌, ℕ, ℤ, ◌≡◌, ◌≢◌, ◌+◌, ◌-◌, ◌<◌, ◌≤◌, ◌&&◌, nat_le, Bool, List, ◌++◌, length, drop, filter}
+use Rattle.std.specs.Prelude.{⊤, [], ◌∷◌, ℕ, ℤ, ◌≡◌, ◌≢◌, ◌<◌, ◌≤◌, ◌&&◌, nat_le, Bool, List, ◌++◌, length, drop, filter}
 use Rattle.index_tree.specs.Pairs.{Pair, goes, has_key, reach}
 use Rattle.index_tree.specs.TreeFile.{IsTree, number_of}
 
@@ -37,7 +37,8 @@ pub record IsPlaceAt (bytes : List ℕ) (ps : List Pair) (key : ℤ) (from numbe
 
 -- each bucket has kept its number
 abbrev pub KeepsNumbers : List ℕ → List ℕ → Type 0
-KeepsNumbers old new = (key : ℤ) (hop : ℕ) → number_of old key hop ≢ 0 → number_of new key hop ≡ number_of old key hop
+KeepsNumbers old new = (key : ℤ) (hop : ℕ) → number_of old key hop ≢ 0
+    → number_of new key hop ≡ number_of old key hop
 
 -- the tree of more pairs, in which each bucket kept its number
 pub record IsGrown (old new : List ℕ) (ps qs : List Pair) : Type 0 where

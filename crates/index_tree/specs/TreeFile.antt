@@ -52,8 +52,10 @@ number_of bytes key (suc hop) = behind bytes key hop (number_of bytes key hop)
 
 -- the bucket at a place holds the first 32 of these pairs, and nothing else
 pub record Holds (bytes : List ℕ) (place : ℕ) (rest : List Pair) : Type 0 where
-  pub slot : (pair : ℕ) → pair < 32 → pair < length rest → slot_at bytes place pair ≡ (get_or rest pair no_pair).slot + 1
-  pub key : (pair : ℕ) → pair < 32 → pair < length rest → key_at bytes place pair ≡ (get_or rest pair no_pair).key
+  pub slot : (pair : ℕ) → pair < 32 → pair < length rest
+      → slot_at bytes place pair ≡ (get_or rest pair no_pair).slot + 1
+  pub key : (pair : ℕ) → pair < 32 → pair < length rest
+      → key_at bytes place pair ≡ (get_or rest pair no_pair).key
   pub empty : (pair : ℕ) → pair < 32 → length rest ≤ pair → slot_at bytes place pair ≡ 0
   pub blank : (pair : ℕ) → pair < 32 → length rest ≤ pair → key_at bytes place pair ≡ pos 0
   pub last : last_at bytes place ≡ 1
@@ -70,5 +72,7 @@ pub record IsTree (bytes : List ℕ) (ps : List Pair) : Type 0 where
   pub few : length ps ≤ 32768
   pub size : length bytes ≡ bucket_place (buckets (keys_of ps))
   pub mark : slice_index bytes 682 ≡ 1
-  pub each : (key : ℤ) (hop : ℕ) → IsBucket bytes (number_of bytes key hop) (reach (goes key) hop ps)
-  pub upper : (key : ℤ) (hop : ℕ) → hop < 4 → number_of bytes key hop ≢ 0 → next_at bytes (place_of (number_of bytes key hop)) ≡ 0
+  pub each : (key : ℤ) (hop : ℕ)
+      → IsBucket bytes (number_of bytes key hop) (reach (goes key) hop ps)
+  pub upper : (key : ℤ) (hop : ℕ) → hop < 4 → number_of bytes key hop ≢ 0
+      → next_at bytes (place_of (number_of bytes key hop)) ≡ 0

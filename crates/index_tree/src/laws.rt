@@ -2,7 +2,7 @@
 
 #![tactic(auto)]
 
-ghost use Rattle.std.specs.Prelude.{◌≡◌, ◌≤◌, ◌+◌, ◌/◌, ℕ, ℤ, List, filter, length, map};
+ghost use Rattle.std.specs.Prelude.{◌≡◌, ◌≤◌, ◌+◌, ◌-◌, ◌/◌, ℕ, ℤ, List, filter, length, slice_index};
 ghost use Rattle.std.specs.List.{range_with_len};
 ghost use Rattle.db_model.specs.HashTree.{buckets};
 ghost use Rattle.index_tree.specs.Keys.{first_keys, is_key_at, key_in};
@@ -26,8 +26,10 @@ pub fn rules_are_the_tree()
 /// for each 32 keys and 341 more.
 #[tactic(auto, using(crate::proofs::Law::counted, crate::proofs::Law::sized, crate::proofs::Counted::buckets_few, crate::proofs::Law::half_many, crate::proofs::Law::most_many))]
 pub fn a_tree_has_few_buckets()
-    ensures buckets { (bytes : List ℕ) (keys : List ℤ) → IsTreeOf bytes keys → bucket_count bytes ≡ buckets keys }
-    ensures size { (bytes : List ℕ) (keys : List ℤ) → IsTreeOf bytes keys → length bytes ≡ bucket_place (buckets keys) }
+    ensures buckets { (bytes : List ℕ) (keys : List ℤ) → IsTreeOf bytes keys
+        → bucket_count bytes ≡ buckets keys }
+    ensures size { (bytes : List ℕ) (keys : List ℤ) → IsTreeOf bytes keys
+        → length bytes ≡ bucket_place (buckets keys) }
     ensures few { (keys : List ℤ) → buckets keys ≤ length keys / 32 + 341 }
     ensures half { (keys : List ℤ) → length keys ≤ 16384 → buckets keys ≤ 853 }
     ensures most { (keys : List ℤ) → length keys ≤ 32768 → buckets keys ≤ 1365 }
@@ -36,6 +38,14 @@ pub fn a_tree_has_few_buckets()
 /// The pairs of a key along its path are the slots with that key, in order. No path has more than 1,024
 /// buckets.
 pub fn a_path_has_the_slots_of_its_key()
-    ensures { (bytes : List ℕ) (keys : List ℤ) (key : ℤ) (hops : ℕ) → IsTreeOf bytes keys → 1024 ≤ hops
+    ensures { (bytes : List ℕ) (keys : List ℤ) (key : ℤ) (hops : ℕ) → IsTreeOf bytes keys
+        → 1024 ≤ hops
         → slots_of (filter (has_key key) (pairs_along bytes key hops)) ≡ filter (is_key_at key keys) (range_with_len 0 (length keys)) }
+{}
+
+/// The last byte of a tree is 1, so that it can be committed from a draft.
+#[tactic(auto, using(crate::proofs::Law::ends_marked))]
+pub fn a_tree_ends_in_a_mark()
+    ensures { (bytes : List ℕ) (keys : List ℤ) → IsTreeOf bytes keys
+        → slice_index bytes (length bytes - 1) ≡ 1 }
 {}

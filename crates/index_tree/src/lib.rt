@@ -4,4 +4,7 @@
 
 mod laws;
 
-pub use laws::{a_path_has_the_slots_of_its_key, a_tree_has_few_buckets, rules_are_the_tree};
+pub use laws::{
+    a_path_has_the_slots_of_its_key, a_tree_ends_in_a_mark, a_tree_has_few_buckets,
+    rules_are_the_tree,
+};

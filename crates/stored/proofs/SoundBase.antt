@@ -1,22 +1,21 @@
 -- A sound table of files stands for a sound database.
-use Rattle.std.proofs.Common.{◌≡◌, ◌≢◌, ℕ, ℤ, zero, suc, ◌+◌, ◌-◌, ◌*◌, ◌/◌, ◌<◌, ◌≤◌, ⊎_elim, ◌⊎◌, inl, inr, Bool, true, false, not, ◌&&◌, ◌||◌, ◌==◌, nat_le, nat_lt, List, [], ◌∷◌, ◌++◌, length, map, take, get_or, filter, replicate, Option, Some, None, if◌then◌else◌, refl, ap, sym, subst, ◌∙◌, arith, IsTrue}
-use Rattle.std.specs.Prelude.{is_some, option_map, slice_get, unwrap_or, ⊤}
-use Rattle.std.specs.List.{AllByRecursion, list_any, range_with_len}
+use Rattle.std.proofs.Common.{◌≡◌, ℕ, ℤ, zero, suc, ◌+◌, ◌<◌, ◌≤◌, ⊎_elim, ◌⊎◌, inl, inr, Bool, true, false, ◌&&◌, ◌==◌, nat_le, List, [], ◌∷◌, length, take, get_or, filter, replicate, Option, Some, None, if◌then◌else◌, refl, ap, sym, subst, ◌∙◌, arith}
+use Rattle.std.specs.Prelude.{option_map, slice_get}
+use Rattle.std.specs.List.{list_any}
 use Rattle.std.specs.Option.{option_map_or}
-use Rattle.std.specs.Str.{bytes_eq}
 use Rattle.std.proofs.lemmas.Bool.{cases_lt}
 use Rattle.std.proofs.lemmas.Bool.Decides.{nat_tests}
 use Rattle.std.proofs.lemmas.List.FromFn.{get_or-map-range_with_len, length-map-range_with_len}
 use Rattle.std.proofs.lemmas.Slice.Eq.{bytes_eq-Decides}
-use Rattle.afl_base.specs.Files.{AreDistinct, Table}
-use Rattle.catalog.specs.Rules.{allows_at, catalog_bytes_in, catalog_in, has_name, how_many, is_same_place, is_table, is_third_table, stands_on}
+use Rattle.afl_base.specs.Files.{Table}
+use Rattle.catalog.specs.Rules.{catalog_bytes_in, catalog_in, has_name, how_many, is_same_place, is_table, stands_on}
 use Rattle.db_model.specs.declared.schemas.Attribute.{Attribute}
 use Rattle.db_model.specs.declared.schemas.IndexKind.{IndexKind}
 use Rattle.db_model.specs.declared.schemas.IndexKind.TheVariants.{Inline, MaxHeap, MemHash}
 use Rattle.db_model.specs.declared.schemas.Schema.{Schema}
 use Rattle.db_model.specs.Catalog.{Index, catalog_of, index_at, relation_at, version_of}
-use Rattle.db_model.specs.Database.{Cursor, Database, Relation, is_hash_table, is_on, used}
-use Rattle.db_model.specs.Row.{Row, rows_of, slots_in}
+use Rattle.db_model.specs.Database.{Cursor, Relation, is_hash_table, used}
+use Rattle.db_model.specs.Row.{Row, rows_of}
 use Rattle.db_model.specs.Sound.{IsIndexOf, IsSoundDatabase, IsSoundIndex, IsSoundRelation, StandsIn, SuitKind}
 use Rattle.db_model.specs.Step.{allows, keys}
 use Rattle.space_model.specs.Enough.{rows_in}
@@ -24,7 +23,7 @@ use Rattle.space_model.specs.FileNames.{bytes_named, rows_file, tree_file}
 use Rattle.stored.specs.Base.{base_of, relation_in}
 use Rattle.stored.specs.Sound.{IsComplete, IsSoundTable, keys_in}
 use Rattle.stored.proofs.FilesOf.{unbroken}
-use Rattle.stored.proofs.SoundSlots.{IsBelow, IsSoundIndexSlot, IsSoundSlot, IsUnbroken, among_first, no_some, slot_below, sound_index_slot, sound_schema, sound_slot, some_same, unbroken_slots}
+use Rattle.stored.proofs.SoundSlots.{IsUnbroken, among_first, no_some, slot_below, sound_index_slot, sound_schema, sound_slot, some_same, unbroken_slots}
 use Rattle.stored.proofs.WrittenBytes.{rows_count, rows_suit}
 
 eq_true : (m n : ℕ) → m ≡ n → m == n ≡ true

@@ -1,26 +1,21 @@
 -- What the rules 16 and 17 say of each slot of a sound catalog.
-use Rattle.std.proofs.Common.{◌≡◌, ◌≢◌, ℕ, zero, suc, ◌+◌, ◌-◌, ◌*◌, ◌<◌, ◌≤◌, ⊎_elim, ◌⊎◌, inl, inr, Bool, true, false, not, ◌&&◌, ◌||◌, ◌==◌, nat_le, nat_lt, List, [], ◌∷◌, ◌++◌, length, map, take, get_or, filter, Option, Some, None, if◌then◌else◌, refl, ap, sym, subst, ◌∙◌, arith, IsTrue}
-use Rattle.std.specs.Prelude.{is_some, option_map, replicate, slice_get, slice_range, unwrap_or}
+use Rattle.std.proofs.Common.{◌≡◌, ℕ, zero, suc, ◌+◌, ◌*◌, ◌<◌, ◌≤◌, ⊎_elim, Bool, true, false, not, ◌&&◌, ◌||◌, ◌==◌, nat_le, List, [], ◌∷◌, length, map, take, get_or, Option, Some, None, if◌then◌else◌, refl, ap, sym, subst, ◌∙◌, arith}
+use Rattle.std.specs.Prelude.{replicate, slice_range, unwrap_or}
 use Rattle.std.specs.List.{AllByRecursion, list_all, list_any, range_with_len}
 use Rattle.std.specs.Str.{bytes_eq}
 use Rattle.std.proofs.lemmas.Bool.{cases_lt}
 use Rattle.std.proofs.lemmas.Bool.Decides.{nat_tests}
 use Rattle.std.proofs.lemmas.List.{get_or_past}
 use Rattle.std.proofs.lemmas.List.FromFn.{get_or-map-range_with_len, length-map-range_with_len}
-use Rattle.std.proofs.lemmas.Slice.Eq.{bytes_eq-Decides}
-use Rattle.afl_base.specs.Files.{Table}
-use Rattle.catalog.specs.Rules.{allows_at, breaks_index, breaks_relation, broken_at, broken_catalog, catalog_bytes_in, catalog_in, earliest, first, first_slot, has_form, has_name, how_many, is_attribute, is_behind, is_domain, is_index_behind, is_index_form, is_named_among, is_relation_slot, is_row, is_same_place, is_schema, is_sound_index, is_sound_relation, is_table, is_third_table, stands_on}
+use Rattle.catalog.specs.Rules.{breaks_index, breaks_relation, broken_at, broken_catalog, first, first_slot, has_form, has_name, is_attribute, is_behind, is_domain, is_index_form, is_named_among, is_relation_slot, is_row, is_same_place, is_schema, is_sound_index, is_sound_relation, is_third_table, stands_on}
 use Rattle.db_model.specs.declared.schemas.Attribute.{Attribute}
 use Rattle.db_model.specs.declared.schemas.Domain.{Domain}
 use Rattle.db_model.specs.declared.schemas.Domain.TheVariants.{Int, Long, Time, Str}
-use Rattle.db_model.specs.declared.schemas.IndexKind.TheVariants.{Inline, MaxHeap, MemHash}
 use Rattle.db_model.specs.declared.schemas.Schema.{Schema}
-use Rattle.db_model.specs.Catalog.{Index, IsDomain, catalog_of, index_at, index_slot_of, relation_at, relation_slot_of, version_of}
-use Rattle.db_model.specs.Database.{is_hash_table, is_on, used}
+use Rattle.db_model.specs.Catalog.{Index, IsDomain, catalog_of, index_at, relation_at, version_of}
 use Rattle.db_model.specs.Names.{is_name}
 use Rattle.db_model.specs.Row.{row_length}
 use Rattle.db_model.specs.Sound.{IsSoundAttribute, IsSoundSchema, StandsIn, are_distinct, attribute_names}
-use Rattle.db_model.specs.Step.{allows}
 use Rattle.stored.proofs.FilesOf.{earliest_none, first_false, nothing_broken}
 
 -- ---- tests

@@ -1,13 +1,13 @@
 -- The files of a sound table have the sizes of its database's.
-use Rattle.std.proofs.Common.{◌≡◌, ℕ, ◌+◌, ◌*◌, ◌<◌, ◌≤◌, Bool, true, false, ◌==◌, List, length, get_or, Option, Some, None, if◌then◌else◌, refl, ap, sym, subst, ◌∙◌, arith}
+use Rattle.std.proofs.Common.{◌≡◌, ℕ, ◌*◌, ◌≤◌, Bool, true, false, ◌==◌, List, length, get_or, Option, Some, None, if◌then◌else◌, ap, sym, subst, ◌∙◌, arith}
 use Rattle.std.specs.Prelude.{is_some}
-use Rattle.afl_base.specs.Files.{AreDistinct, File, IsNamed, Table, file_at, size_at}
-use Rattle.catalog.specs.Rules.{catalog_bytes_in, catalog_in, is_tree}
+use Rattle.afl_base.specs.Files.{AreDistinct, File, Table, size_at}
+use Rattle.catalog.specs.Rules.{catalog_in, is_tree}
 use Rattle.db_model.specs.declared.schemas.IndexKind.{IndexKind}
 use Rattle.db_model.specs.declared.schemas.IndexKind.TheVariants.{Inline, MaxHeap, MemHash}
 use Rattle.db_model.specs.declared.schemas.Schema.{Schema}
 use Rattle.db_model.specs.Catalog.{Index}
-use Rattle.db_model.specs.Database.{Database, Relation}
+use Rattle.db_model.specs.Database.{Relation}
 use Rattle.db_model.specs.Row.{row_length, rows_of}
 use Rattle.db_model.specs.Step.{keys, slots_limit}
 use Rattle.index_tree.proofs.Law.{sized}
@@ -16,11 +16,11 @@ use Rattle.space_model.specs.FileNames.{bytes_named, bytes_of, rows_file, size_i
 use Rattle.space_model.specs.Wants.{IsStoreOf}
 use Rattle.space_model.proofs.NamedFiles.{named_found, size_found}
 use Rattle.stored.specs.Base.{base_of}
-use Rattle.stored.specs.Files.{HasGrowing, HasItsFiles, IsMatched}
+use Rattle.stored.specs.Files.{HasGrowing, IsMatched}
 use Rattle.stored.specs.Sound.{IsComplete, IsSoundTable, keys_in}
 use Rattle.stored.proofs.FilesOf.{whole_rows}
 use Rattle.stored.proofs.HasFiles.{its_files}
-use Rattle.stored.proofs.SoundBase.{IsUsed, IsUsedIndex, sound_relation, used_index, used_slot}
+use Rattle.stored.proofs.SoundBase.{sound_relation, used_index, used_slot}
 
 limit_most : (version : ℕ) → slots_limit version ≤ 32768
 limit_most version = by_test (version == 1)

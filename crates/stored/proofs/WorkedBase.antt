@@ -1,18 +1,15 @@
 -- A worked table of files: it is sound, and its database is the one that its bytes were written for.
-use Rattle.std.proofs.Common.{◌≡◌, refl, ℕ, zero, suc, pos, [], ◌∷◌, List, Some, None, true, arith}
+use Rattle.std.proofs.Common.{◌≡◌, refl, pos, [], ◌∷◌, List, Some, None, true}
 use Rattle.std.specs.Prelude.{codes, replicate}
-use Rattle.afl_base.specs.Files.{File, Table}
-use Rattle.afl_base.specs.Fit.{fit}
+use Rattle.afl_base.specs.Files.{Table}
 use Rattle.afl_base.specs.declared.kind.Kind.TheVariants.{Doubling, Fixed}
 use Rattle.db_model.specs.declared.schemas.Attribute.{Attribute}
 use Rattle.db_model.specs.declared.schemas.Domain.TheVariants.{Int}
-use Rattle.db_model.specs.declared.schemas.IndexKind.TheVariants.{Inline, MaxHeap}
+use Rattle.db_model.specs.declared.schemas.IndexKind.TheVariants.{Inline}
 use Rattle.db_model.specs.declared.values.Value.TheVariants.{Number}
 use Rattle.db_model.specs.Catalog.{Catalog, catalog_bytes}
-use Rattle.db_model.specs.Database.{Database, empty_database}
 use Rattle.db_model.specs.Keywords.{keyword_of, keywords}
 use Rattle.db_model.specs.Row.{Row, rows_bytes}
-use Rattle.space_model.specs.Enough.{enough}
 use Rattle.space_model.specs.FileNames.{catalog_file, rows_file}
 use Rattle.stored.specs.Base.{base_of}
 use Rattle.catalog.specs.Rules.{first, first_broken, broken_catalog, breaks_relation, breaks_index, breaks_files}

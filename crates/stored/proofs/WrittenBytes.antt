@@ -1,20 +1,15 @@
 -- Rows that are written as they were read suit their attributes.
-use Rattle.std.proofs.Common.{◌≡◌, ℕ, zero, suc, ◌+◌, ◌-◌, ◌*◌, ◌<◌, ◌≤◌, ⊎_elim, Bool, true, false, ◌&&◌, List, [], ◌∷◌, ◌++◌, length, map, take, drop, get_or, replicate, refl, ap, sym, subst, ◌∙◌, arith, w16, w32, w64}
+use Rattle.std.proofs.Common.{◌≡◌, ℕ, zero, suc, ◌+◌, ◌*◌, ◌<◌, ◌≤◌, Bool, true, false, ◌&&◌, List, [], ◌∷◌, ◌++◌, length, map, take, drop, get_or, replicate, refl, ap, sym, subst, ◌∙◌, arith}
 use Rattle.std.specs.Prelude.{if◌then◌else◌, slice_range, ◌==◌, nat_le, not, ⊤}
 use Rattle.std.specs.Int.{is_in_range}
 use Rattle.std.specs.Int.{byte_at, bytes_low_first}
 use Rattle.std.specs.List.{list_all, range_with_len}
-use Rattle.std.proofs.lemmas.Bool.{cases_lt}
-use Rattle.std.proofs.lemmas.List.{get_or_past}
 use Rattle.std.proofs.lemmas.Bool.Decides.{nat_tests}
 use Rattle.db_model.specs.declared.schemas.Attribute.{Attribute}
 use Rattle.db_model.specs.declared.schemas.Domain.{Domain}
 use Rattle.db_model.specs.declared.schemas.Domain.TheVariants.{Int, Long, Time, Str}
-use Rattle.db_model.specs.declared.values.Value.{Value}
-use Rattle.db_model.specs.declared.values.Value.TheVariants.{Number, Text}
 use Rattle.db_model.specs.Names.{is_text, is_text_byte}
-use Rattle.db_model.specs.Padded.{padded}
-use Rattle.db_model.specs.Row.{AllRowsSuit, AllSuit, Row, field_bytes, field_of, fields_bytes, fields_length, mark, row_at, row_bytes, row_length, row_of, rows_bytes, rows_of, slots_in, text_or_empty, tuple_of, up_to_zero, width}
+use Rattle.db_model.specs.Row.{AllRowsSuit, AllSuit, field_bytes, field_of, fields_bytes, mark, row_at, row_bytes, row_length, row_of, rows_of, slots_in, text_or_empty, tuple_of, up_to_zero, width}
 use Rattle.db_model.proofs.Decoded.{tuple_suits}
 use Rattle.tuple_file.specs.Tuples.{AreRows}
 use Rattle.tuple_file.proofs.Slots.{length-rows}

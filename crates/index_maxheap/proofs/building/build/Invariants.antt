@@ -1,4 +1,4 @@
-use Rattle.std.proofs.Common.{◌≡◌, ◌≤◌, ◌<◌, ◌+◌, ◌*◌, ℕ, List, length, get_or}
+use Rattle.std.proofs.Common.{◌≡◌, ◌≤◌, length}
 use Rattle.std.specs.Prelude.{IsSome, IsTrue}
 use Rattle.afl_base.specs.Files.{draft_in}
 use Rattle.afl_base.specs.KeyColumn.{key_of}

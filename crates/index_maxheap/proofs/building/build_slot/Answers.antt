@@ -1,5 +1,4 @@
-use Rattle.std.proofs.Common.{rules, arith, refl, add-zero, ◌≡◌, ◌≢◌, ◌≤◌, ◌<◌, ◌+◌, ◌*◌, ◌%◌, ◌∙◌, sym, ap, subst, length, get_or, ℕ, List}
-use Rattle.afl_base.specs.Fields.{put_at}
+use Rattle.std.proofs.Common.{rules, arith, add-zero, ◌≡◌, ◌≤◌, ◌+◌, ◌*◌, ◌∙◌, ap}
 use Rattle.afl_base.specs.Files.{draft_in}
 use Rattle.db_model.specs.HashTree.{node}
 use Rattle.index_tree.specs.TreeFile.{bucket_place}

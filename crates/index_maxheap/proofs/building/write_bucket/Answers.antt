@@ -1,4 +1,4 @@
-use Rattle.std.proofs.Common.{rules, arith, refl, ◌≡◌, ◌+◌, ◌*◌, ◌∙◌, sym, ap, length, ℕ, List}
+use Rattle.std.proofs.Common.{arith, ◌≡◌, ◌+◌, length}
 use Rattle.std.specs.Prelude.{replicate}
 use Rattle.afl_base.specs.Fields.{put_at, u16_at, u16_bytes}
 use Rattle.afl_base.specs.Files.{draft_in}

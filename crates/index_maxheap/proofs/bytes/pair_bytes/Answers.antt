@@ -1,8 +1,7 @@
-use Rattle.std.proofs.Common.{rules, arith, refl, ◌≡◌, ◌+◌, length}
+use Rattle.std.proofs.Common.{rules, arith, refl, ◌+◌}
 use Rattle.std.specs.Prelude.{replicate, FitsSigned}
 use Rattle.std.specs.Int.{w32}
 use Rattle.std.proofs.lemmas.Int.{to_z-of_z}
-use Rattle.afl_base.specs.Fields.{i32_bytes, u16_bytes}
 use Rattle.index_tree.proofs.Inserted.{long_i32, long_u16, pair_is}
 use Rattle.index_maxheap.proofs.bytes.pair_bytes.Goals as goal
 

@@ -1,9 +1,6 @@
-use Rattle.std.proofs.Common.{rules, arith, ◌≡◌, ◌≢◌, ◌≤◌, ◌<◌, ◌+◌, ℕ, length, sym, ◌∙◌}
-use Rattle.std.specs.Prelude.{min}
+use Rattle.std.proofs.Common.{rules, arith, sym, ◌∙◌}
 use Rattle.afl_base.specs.Files.{bytes_at}
-use Rattle.index_maxheap.specs.Walks.{Walks}
 use Rattle.index_tree.specs.Pairs.{goes, reach}
-use Rattle.index_tree.specs.TreeFile.{IsBucket, number_of}
 use Rattle.index_maxheap.proofs.Walked.{walk_ends, walks_more}
 use Rattle.index_maxheap.proofs.ends.find_end.Goals as goal
 

@@ -1,4 +1,4 @@
-use Rattle.std.proofs.Common.{◌≡◌, ◌≤◌, ◌<◌, ◌+◌, ◌^◌, ℕ, List}
+use Rattle.std.proofs.Common.{◌≡◌, ◌≤◌, ◌<◌, ◌+◌, ◌^◌, List}
 use Rattle.std.specs.Prelude.{IsTrue}
 use Rattle.afl_base.specs.Files.{bytes_at, size_at}
 use Rattle.index_maxheap.specs.Walks.{Walks}

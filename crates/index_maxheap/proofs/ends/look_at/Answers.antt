@@ -1,7 +1,6 @@
-use Rattle.std.proofs.Common.{rules, arith, ◌≡◌, ◌≢◌, ◌≤◌, ◌<◌, ℕ, length, sym, subst}
-use Rattle.std.specs.Prelude.{min, slice_range}
+use Rattle.std.proofs.Common.{arith, ℕ, sym, subst}
 use Rattle.afl_base.specs.Files.{bytes_at}
-use Rattle.index_tree.specs.TreeFile.{IsBucket, place_of}
+use Rattle.index_tree.specs.TreeFile.{IsBucket}
 use Rattle.index_maxheap.proofs.Walked.{looked}
 use Rattle.index_maxheap.proofs.ends.look_at.Goals as goal
 

@@ -1,4 +1,4 @@
-use Rattle.std.proofs.Common.{rules, arith, ◌≡◌, ◌<◌, ◌≤◌, ◌+◌, List, ℕ, ℤ}
+use Rattle.std.proofs.Common.{rules}
 use Rattle.afl_base.specs.Files.{bytes_at, size_at}
 use Rattle.index_tree.proofs.Inserted.{on_ok}
 use Rattle.index_maxheap.proofs.Grows.{grown_bucket, grown_pair, keeps_itself, tree_grown}

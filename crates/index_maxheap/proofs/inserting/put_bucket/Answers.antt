@@ -1,4 +1,4 @@
-use Rattle.std.proofs.Common.{rules, arith, refl, ◌≡◌, ◌+◌, ◌-◌, ◌/◌, ◌++◌, ◌∙◌, sym, ap, length}
+use Rattle.std.proofs.Common.{arith, ◌≡◌, ◌+◌, ◌-◌, ◌/◌, ◌++◌, ◌∙◌, ap, length}
 use Rattle.std.specs.Prelude.{replicate}
 use Rattle.afl_base.specs.Fields.{put_at, u16_at, u16_bytes}
 use Rattle.afl_base.specs.Files.{bytes_at, size_at}
@@ -20,6 +20,11 @@ returns-clause-put g c =
     let number = (c.size.result - 683) / 195 + 1 in
     let long : length two ≡ 2 = rw c.put_u16.ensures (length-put_at (replicate 2 0) (u16_bytes number) 0 (omega (arith, long_u16 number))) in
     let is : u16_at two 0 ≡ number = rw c.put_u16.ensures (u16_at-put_at (replicate 2 0) 0 number (omega arith) (omega (arith, c.requires.small, size))) in
-    let both = becomes_then old mid new id (size_at old.files id + length w) (size_at mid.files id) (bytes_at old.files id ++ w) (put_at (bytes_at mid.files id) c.args.at two) first c.in_ok-overwrite.ensures.overwritten in
-    (w, two, c.first_bucket-bucket.ensures, long, rw size at is,
-      becomes_as old new id (size_at mid.files id) (size_at old.files id + 195) (put_at (bytes_at mid.files id) c.args.at two) (put_at (bytes_at old.files id ++ w) c.args.at two) both (first.size ∙ ap (λ n. size_at old.files id + n) c.first_bucket-bucket.ensures.long) (λ told. ap (λ xs. put_at xs c.args.at two) (first.bytes told)))
+    let both = becomes_then old mid new id (size_at old.files id + length w) (size_at mid.files id) (bytes_at old.files id ++ w) (put_at (bytes_at mid.files id) c.args.at two) first c.in_ok-overwrite.ensures.overwritten in (
+      w,
+      two,
+      c.first_bucket-bucket.ensures,
+      long,
+      rw size at is,
+      becomes_as old new id (size_at mid.files id) (size_at old.files id + 195) (put_at (bytes_at mid.files id) c.args.at two) (put_at (bytes_at old.files id ++ w) c.args.at two) both (first.size ∙ ap (λ n. size_at old.files id + n) c.first_bucket-bucket.ensures.long) (λ told. ap (λ xs. put_at xs c.args.at two) (first.bytes told)),
+    )

@@ -1,4 +1,4 @@
-use Rattle.std.proofs.Common.{rules, arith, refl, ◌≡◌, ◌≢◌, ◌<◌, ◌≤◌, ◌+◌, ◌%◌, ◌∙◌, ℕ, sym, ap, get_or}
+use Rattle.std.proofs.Common.{refl, ◌+◌, ◌%◌, ◌∙◌, get_or}
 use Rattle.index_tree.proofs.Loaded.{loads_some, opened_none, opened_some}
 use Rattle.index_maxheap.proofs.loads.add.Goals as goal
 

@@ -1,4 +1,4 @@
-use Rattle.std.proofs.Common.{rules, arith, ◌≡◌, ◌∙◌, sym}
+use Rattle.std.proofs.Common.{arith, ◌∙◌}
 use Rattle.afl_base.specs.Files.{bytes_at}
 use Rattle.index_tree.specs.Trees.{numbered}
 use Rattle.index_tree.proofs.Inserted.{tree_small}

@@ -1,5 +1,4 @@
-use Rattle.std.proofs.Common.{rules, arith, ◌≡◌, ◌≢◌, ◌+◌, ◌*◌, ◌<◌, ◌≤◌, ℕ, List, length, drop, [], ◌∙◌, sym, ap}
-use Rattle.std.specs.Prelude.{min, IsTrue}
+use Rattle.std.proofs.Common.{rules, ◌≡◌, ◌∙◌, sym}
 use Rattle.afl_base.specs.Files.{bytes_at}
 use Rattle.index_tree.specs.Pairs.{goes, reach}
 use Rattle.index_tree.specs.Trees.{numbered}

@@ -1,4 +1,4 @@
-use Rattle.std.proofs.Common.{rules, arith, ◌≡◌, ◌≢◌, ◌+◌, ◌*◌, ◌<◌, ◌≤◌, ℕ, ◌∙◌, sym, ap, subst, add-one}
+use Rattle.std.proofs.Common.{arith, ◌∙◌}
 use Rattle.afl_base.specs.Files.{bytes_at}
 use Rattle.index_maxheap.proofs.Onward.{onward_chain, onward_node}
 use Rattle.index_maxheap.proofs.searching.number_onward.Goals as goal

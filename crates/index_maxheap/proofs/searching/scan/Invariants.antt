@@ -1,4 +1,4 @@
-use Rattle.std.proofs.Common.{◌≡◌, ◌≤◌, ◌<◌, ℕ, List, length, drop}
+use Rattle.std.proofs.Common.{◌≡◌, ◌≤◌, List, length, drop}
 use Rattle.std.specs.List.{filter}
 use Rattle.index_tree.specs.Pairs.{Pair}
 use Rattle.index_tree.specs.Places.{is_wanted}

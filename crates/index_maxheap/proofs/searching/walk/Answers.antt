@@ -1,12 +1,12 @@
-use Rattle.std.proofs.Common.{rules, arith, ◌≡◌, ◌≢◌, ◌+◌, ◌*◌, ◌<◌, ◌≤◌, ℕ, ◌∷◌, ◌∙◌, sym, ap}
-use Rattle.std.specs.Prelude.{Some, min}
+use Rattle.std.proofs.Common.{arith, ◌∙◌}
+use Rattle.std.specs.Prelude.{Some}
 use Rattle.afl_base.specs.Files.{bytes_at}
 use Rattle.db_model.specs.Cost.{keys_beside}
 use Rattle.index_tree.specs.Places.{to_come}
 use Rattle.index_tree.specs.Trees.{numbered}
 use Rattle.index_maxheap.specs.Searches.{walk_left}
 use Rattle.index_maxheap.proofs.Firsts.{has_none, is_first}
-use Rattle.index_maxheap.proofs.Onward.{found_paid, look_paid, onward_paid, place_far, place_near}
+use Rattle.index_maxheap.proofs.Onward.{look_paid, onward_paid, place_far, place_near}
 use Rattle.index_maxheap.proofs.searching.walk.Goals as goal
 
 pub returns-then-start-gt1024-clause-next : goal.returns-then-start-gt1024-clause-next

@@ -1,4 +1,4 @@
-use Rattle.std.proofs.Common.{◌≡◌, ◌≤◌, ◌<◌, ◌+◌, ℕ, ℤ, List}
+use Rattle.std.proofs.Common.{◌≡◌, ◌≤◌, ◌+◌, ℤ, List}
 use Rattle.std.specs.Prelude.{IsTrue, Some}
 use Rattle.afl_base.specs.Files.{bytes_at}
 use Rattle.db_model.specs.Cost.{keys_beside}

@@ -1,4 +1,4 @@
-use Rattle.std.proofs.Common.{◌≡◌, ◌≢◌, ◌<◌, ℕ}
+use Rattle.std.proofs.Common.{◌≢◌, ◌<◌, ℕ}
 use Rattle.index_tree.specs.TreeFile.{slot_at}
 use Rattle.index_maxheap.proofs.tree.filled.Given as goal
 

@@ -1,4 +1,4 @@
-use Rattle.std.proofs.Common.{rules, arith, refl, ◌≡◌, ◌≢◌, ◌≤◌, ◌<◌, ◌+◌, ◌∙◌, sym, ap, length, ℕ, true, false}
+use Rattle.std.proofs.Common.{◌+◌, ◌∙◌, sym, ap}
 use Rattle.afl_base.specs.Files.{bytes_at}
 use Rattle.index_maxheap.proofs.Opening.{eq_false, eq_true}
 use Rattle.index_maxheap.proofs.Slots.{six_key, six_slot}
@@ -16,6 +16,7 @@ returns-then-not-is_key-clause-no_ g c = λ told f key slot.
 
 pub returns-clause-yes : goal.returns-clause-yes
 returns-clause-yes g c = λ told t.
-    let bytes = bytes_at (g.V.Files.state c.args.files.now).files c.args.index in
-    (sym (six_key bytes c.read.new.into c.args.at (c.in_ok-read.ensures.bytes told)) ∙ eq_true _ _ (sym c.is_key.ensures ∙ c.if-not-is_key.false),
-     sym (six_slot bytes c.read.new.into c.args.at (c.in_ok-read.ensures.bytes told)) ∙ sym c.get_u16.ensures ∙ c.if-get_u16-number.false ∙ ap (λ n. n + 1) c.number.ensures.value)
+    let bytes = bytes_at (g.V.Files.state c.args.files.now).files c.args.index in (
+      sym (six_key bytes c.read.new.into c.args.at (c.in_ok-read.ensures.bytes told)) ∙ eq_true _ _ (sym c.is_key.ensures ∙ c.if-not-is_key.false),
+      sym (six_slot bytes c.read.new.into c.args.at (c.in_ok-read.ensures.bytes told)) ∙ sym c.get_u16.ensures ∙ c.if-get_u16-number.false ∙ ap (λ n. n + 1) c.number.ensures.value,
+    )

@@ -1,5 +1,4 @@
-use Rattle.std.proofs.Common.{rules, arith, refl, ◌≡◌, ◌≢◌, ◌≤◌, ◌<◌, ◌+◌, ◌∙◌, sym, ap, length, ℕ, true, false}
-use Rattle.std.specs.Prelude.{not}
+use Rattle.std.proofs.Common.{arith, ◌+◌, ◌∙◌, sym, ap}
 use Rattle.afl_base.specs.Files.{bytes_at}
 use Rattle.index_tree.specs.Pairs.{Pair}
 use Rattle.index_maxheap.proofs.Opening.{eq_false, eq_true, right_pair, right_tail, wrong_blank, wrong_key, wrong_next, wrong_slot}
@@ -35,6 +34,7 @@ pub returns-clause-opens : goal.returns-clause-opens
 returns-clause-opens g c = λ told.
     let q : Pair = record { key = c.args.key.now; slot = c.args.slot } in
     let bytes = bytes_at (g.V.Files.state c.args.files.now).files c.args.index in
-    let is = c.in_ok-read_bucket.ensures.bytes told in
-    (right_pair bytes c.read_bucket.new.into c.args.number c.args.level q is c.if-number-eq0.false (omega (arith, c.if-size-from.false, c.size.ensures, c.from.ensures)) (sym c.get_u16.ensures ∙ c.if-get_u16-number.false ∙ ap (λ n. n + 1) c.number.ensures.value) (eq_true _ _ (sym c.is_key.ensures ∙ c.if-not-is_key.false)) c.if-bytes-ne1.false,
-     right_tail bytes c.read_bucket.new.into c.args.number c.args.level q is c.filled-fill.result c.get_u16-next.result c.filled-fill.ensures (c.is_blank.ensures.yes c.if-not-is_blank.false) c.get_u16-next.ensures (c.is_upper.ensures.no_ c.if-is_upper.false))
+    let is = c.in_ok-read_bucket.ensures.bytes told in (
+      right_pair bytes c.read_bucket.new.into c.args.number c.args.level q is c.if-number-eq0.false (omega (arith, c.if-size-from.false, c.size.ensures, c.from.ensures)) (sym c.get_u16.ensures ∙ c.if-get_u16-number.false ∙ ap (λ n. n + 1) c.number.ensures.value) (eq_true _ _ (sym c.is_key.ensures ∙ c.if-not-is_key.false)) c.if-bytes-ne1.false,
+      right_tail bytes c.read_bucket.new.into c.args.number c.args.level q is c.filled-fill.result c.get_u16-next.result c.filled-fill.ensures (c.is_blank.ensures.yes c.if-not-is_blank.false) c.get_u16-next.ensures (c.is_upper.ensures.no_ c.if-is_upper.false),
+    )

@@ -1,11 +1,10 @@
-use Rattle.std.proofs.Common.{rules, arith, refl, ◌≡◌, ◌≢◌, ◌≤◌, ◌<◌, ◌+◌, ◌*◌, ◌∙◌, sym, ap, subst, length, get_or, ℕ, ℤ, true, false}
-use Rattle.std.specs.Prelude.{FitsSigned, IsTrue}
+use Rattle.std.proofs.Common.{rules, arith, refl, ◌≡◌, ◌+◌, ◌∙◌, sym, ap, get_or, ℕ}
+use Rattle.std.specs.Prelude.{FitsSigned}
 use Rattle.std.specs.Int.{w32}
 use Rattle.std.proofs.lemmas.Int.{to_z-of_z}
-use Rattle.afl_base.specs.Files.{bytes_at, size_at}
+use Rattle.afl_base.specs.Files.{bytes_at}
 use Rattle.afl_base.specs.KeyColumn.{key_of}
-use Rattle.db_model.specs.HashTree.{buckets}
-use Rattle.index_tree.specs.Pairs.{keys_of, pairs_of}
+use Rattle.index_tree.specs.Pairs.{pairs_of}
 use Rattle.index_tree.specs.TreeFile.{bucket_place}
 use Rattle.index_maxheap.proofs.Built.{length_pairs}
 use Rattle.index_tree.proofs.Loaded.{zeros_few}

@@ -1,4 +1,4 @@
-use Rattle.std.proofs.Common.{◌≡◌, ◌≤◌, ◌<◌, ◌+◌, ◌*◌, ◌^◌, ℕ, List, get_or}
+use Rattle.std.proofs.Common.{◌≡◌, ◌≤◌, ◌<◌, ◌+◌, ◌*◌, ◌^◌, ℕ, get_or}
 use Rattle.std.specs.Prelude.{IsTrue}
 use Rattle.afl_base.specs.Files.{bytes_at, size_at}
 use Rattle.afl_base.specs.KeyColumn.{key_of}
