@@ -5,3 +5,7 @@ pub mod Nexts
 pub mod Lists
 pub mod Inserted
 pub mod Choosing
+pub mod Costs
+pub mod Fronts
+pub mod Begins
+pub mod Verified

@@ -18,6 +18,7 @@ use Rattle.index_set.specs.Inserts.{SomeOf}
 use Rattle.index_set.specs.Tables.{Tables, entries}
 use Rattle.index_maxheap.specs.Searches.{IsPlaceOf, walk_left}
 use Rattle.index_tree.specs.Keys.{is_key_at}
+use Rattle.index_tree.specs.Places.{KeepsNumbers}
 use Rattle.index_tree.specs.Trees.{IsTreeOf}
 
 -- which rows a search answers
@@ -70,6 +71,13 @@ HasIndex _ place state tables all from = ⊤
 pub record Fits (c : Candidates) (state : State) (tables : Tables) (all : List Row) : Type 0 where
   pub waits : Waits c all
   pub index : 0 < c.slots → HasIndex c.search c.place state tables all c.from
+
+-- the index knows the keys of these rows, and the buckets of a tree have kept their numbers, as after inserts
+abbrev pub HasGrown : Search → State → State → Tables → List Row → Type 0
+HasGrown (by.Tree attribute file key) old new tables all =
+    IsTreeOf (bytes_at new.files file) (keys attribute all) × KeepsNumbers (bytes_at old.files file) (bytes_at new.files file)
+HasGrown (by.Table attribute number key) old new tables all = entries tables number ≡ keys attribute all
+HasGrown _ old new tables all = ⊤
 
 -- a tree's file may be read
 abbrev pub IsSafeBy : Search → State → Type 0

@@ -15,10 +15,12 @@ ghost use Rattle.index_maxheap.specs.Searches.{walk_left};
 ghost use Rattle.index_tree.specs.Keys.{IsFirstOf};
 ghost use Rattle.index_set.specs.Walks.{Fits, HasPlace, IsChosen, IsMoved, IsMovedBy, IsSafeBy, LacksKey, Waits, ahead, cost_ahead, reads_ahead, slots_in};
 
+use crate::choices::{Plan, choose, range_of};
 use crate::info::{Indexes, TableId};
 use crate::tables::HashTables;
 use afl_base::{Failed, FileId, Files, SlotNo};
 use db_model::Range;
+use index_inline::range as slots_within;
 use index_maxheap::{Place, next as next_in};
 
 /// How slots are found.
@@ -93,8 +95,51 @@ impl Candidates {
             (all : List Row) → slots ≤ length all → AreIndexesOf state tables.now all indexes.now
             → begin_cost slots (plan (kinds indexes.now) ranges.now) + cost_ahead c all
             ≤ chosen_cost (kinds indexes.now) ranges.now all) }
+        ensures store { length (V.state files.new).store ≡ length (V.state files.old).store }
+        ensures cause { HasCause (V.faults files.old) (V.faults files.new) result }
     {
-        Err(Failed)
+        let plan = choose(indexes, ranges);
+        match plan {
+            Plan::Nothing => Ok(at_start(Search::Nothing, slots)),
+            Plan::Scan => Ok(at_start(Search::Scan, slots)),
+            Plan::Order { nth } => {
+                let info = indexes.get(usize::from(nth));
+                let range = range_of(ranges, info.attribute);
+                let (from, end) = slots_within(files, &info.column, slots, &range)?;
+                Ok(Candidates {
+                    search: Search::Order {
+                        attribute: info.attribute,
+                        range,
+                    },
+                    place: None,
+                    from,
+                    end,
+                    slots,
+                })
+            }
+            Plan::Tree { nth, file, key } => {
+                let attribute = indexes.get(usize::from(nth)).attribute;
+                Ok(at_start(
+                    Search::Tree {
+                        attribute,
+                        file,
+                        key,
+                    },
+                    slots,
+                ))
+            }
+            Plan::Table { nth, table, key } => {
+                let attribute = indexes.get(usize::from(nth)).attribute;
+                Ok(at_start(
+                    Search::Table {
+                        attribute,
+                        table,
+                        key,
+                    },
+                    slots,
+                ))
+            }
+        }
     }
 
     /// Forgets where in a tree it stands. The slots to come are the same, and whatever is inserted
@@ -256,5 +301,22 @@ impl Candidates {
         self.from = slot.number() + 1;
         self.end = self.slots;
         Some(slot)
+    }
+}
+
+// A search of all slots, which has answered none.
+fn at_start(search: Search, slots: u16) -> Candidates
+    ensures search { result.search ≡ search }
+    ensures place { result.place ≡ None }
+    ensures from { result.from ≡ 0 }
+    ensures end { result.end ≡ slots }
+    ensures slots { result.slots ≡ slots }
+{
+    Candidates {
+        search,
+        place: None,
+        from: 0,
+        end: slots,
+        slots,
     }
 }

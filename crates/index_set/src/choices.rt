@@ -2,20 +2,29 @@
 
 #![tactic(auto)]
 
-ghost use Rattle.std.specs.Prelude.{◌≡◌, ◌+◌, ◌*◌, ◌<◌, ◌≤◌, List, None, IsTrue, IfOk, OnOk, IfSome, MatchOption, length, option_map, ℕ};
+ghost use Rattle.std.specs.Prelude.{◌≡◌, ◌≢◌, ◌+◌, ◌*◌, ◌<◌, ◌≤◌, List, None, IsTrue, IfOk, OnOk, IfSome, MatchOption, length, option_map, ℕ};
+ghost use Rattle.std.specs.Bool.{Decides};
 ghost use Rattle.std.specs.List.{list_any};
+ghost use Rattle.afl_base.specs.Causes.{HasCause};
+ghost use Rattle.afl_base.specs.KeyColumn.{HasField, IsWidth};
 ghost use Rattle.db_model.specs.declared.schemas.Range.{Range as AnyRange};
 ghost use Rattle.db_model.specs.Plan as model;
 ghost use Rattle.db_model.specs.Plan.{first_plan, is_empty, is_everything, only_key, plan, range_at};
 ghost use Rattle.db_model.specs.Row.{Row};
-ghost use Rattle.index_set.specs.Complete.{AreComplete, AreReadable, HaveKeysOf, IsFirstIncomplete};
-ghost use Rattle.index_set.specs.Inserts.{AreApart, KeepsTables};
+ghost use Rattle.db_model.specs.Step.{first_fall};
+ghost use Rattle.index_inline.specs.Keys.{keys_of};
+ghost use Rattle.index_set.specs.declared.info.TableId.{TableId as AnyTable};
+ghost use Rattle.index_set.specs.Complete.{AreComplete, AreReadable, HaveKeysOf, IsComplete, IsFirstIncomplete, IsReadable};
+ghost use Rattle.index_set.specs.Inserts.{AreApart, IsNoTable, KeepsTables};
+ghost use Rattle.index_set.specs.Tables.{entries};
 ghost use Rattle.index_set.specs.Plans.{IsBy, IsOf, by_kind, kind_of, kinds, plan_in};
 
-use crate::info::{Access, Indexes, TableId};
+use crate::info::{Access, IndexInfo, Indexes, TableId};
 use crate::tables::HashTables;
-use afl_base::{Failed, FileId, Files};
+use afl_base::{Failed, FileId, Files, KeyColumn};
 use db_model::{IndexKind, Range};
+use index_inline::ordered;
+use index_maxheap::verify;
 
 /// How the rows of a relation are found: by the index of that number in its list, counted from 0.
 #[derive(Clone, Copy, Debug, PartialEq, Eq)]
@@ -198,6 +207,80 @@ pub fn verify_all<V: Files>(
     ensures tables { KeepsTables tables.old tables.new indexes.now }
     ensures same { OnOk result (V.state files.new ≡ V.state files.old) }
     ensures reads_later { V.reads files.old ≤ V.reads files.new }
+    ensures store { length (V.state files.new).store ≡ length (V.state files.old).store }
+    ensures cause { HasCause (V.faults files.old) (V.faults files.new) result }
 {
-    Err(Failed)
+    let count = indexes.len();
+    for nth in 0..count {
+        let info = indexes.get(nth);
+        let whole = is_complete(files, tables, info, slots)?;
+        if !whole {
+            return Ok(Some(nth as u8));
+        }
+    }
+    Ok(None)
+}
+
+// Whether an index is complete for the keys of the first slots, its table being filled with them.
+fn is_complete<V: Files>(
+    files: &mut V,
+    tables: &mut HashTables,
+    info: &IndexInfo,
+    slots: u16,
+) -> Result<bool, Failed>
+    requires few { slots ≤ 32768 }
+    requires readable { IsReadable (V.state files.old) slots info.now }
+    ensures complete { IsTrue (V.state files.old).tells → IfOk result (λ whole. Decides whole (IsComplete (V.state files.old) tables.new info.now.access (keys_of (V.state files.old) info.now.column slots))) }
+    ensures tables { (number : AnyTable) → IsNoTable number info.now.access → entries tables.new number ≡ entries tables.old number }
+    ensures same { OnOk result (V.state files.new ≡ V.state files.old) }
+    ensures reads_later { V.reads files.old ≤ V.reads files.new }
+    ensures store { length (V.state files.new).store ≡ length (V.state files.old).store }
+    ensures cause { HasCause (V.faults files.old) (V.faults files.new) result }
+{
+    let access = info.access;
+    match access {
+        Access::Order => is_ordered(files, &info.column, slots),
+        Access::Tree(file) => verify(files, file, info.column, slots),
+        Access::Table(table) => fill_whole(files, tables, table, &info.column, slots),
+    }
+}
+
+// Whether the keys do not fall.
+fn is_ordered<V: Files>(files: &mut V, column: &KeyColumn, slots: u16) -> Result<bool, Failed>
+    requires few { slots ≤ 32768 }
+    requires width { IsWidth column.now.width }
+    requires fields { (slot : ℕ) → slot < slots → HasField (V.state files.old) column.now slot }
+    ensures ordered { IsTrue (V.state files.old).tells → IfOk result (λ whole. Decides whole (first_fall (keys_of (V.state files.old) column.now slots) ≡ None)) }
+    ensures same { OnOk result (V.state files.new ≡ V.state files.old) }
+    ensures reads_later { V.reads files.old ≤ V.reads files.new }
+    ensures store { length (V.state files.new).store ≡ length (V.state files.old).store }
+    ensures cause { HasCause (V.faults files.old) (V.faults files.new) result }
+{
+    let fall = ordered(files, column, slots)?;
+    Ok(fall.is_none())
+}
+
+// Fills a table, and answers whether it holds the keys of all slots. It has no room for more than 2,048.
+fn fill_whole<V: Files>(
+    files: &mut V,
+    tables: &mut HashTables,
+    table: TableId,
+    column: &KeyColumn,
+    slots: u16,
+) -> Result<bool, Failed>
+    requires width { IsWidth column.now.width }
+    requires narrow { column.now.width ≢ 8 }
+    requires fields { (slot : ℕ) → slot < slots → HasField (V.state files.old) column.now slot }
+    ensures whole { IsTrue (V.state files.old).tells → IfOk result (λ whole. Decides whole (entries tables.new table ≡ keys_of (V.state files.old) column.now slots)) }
+    ensures other { (other : AnyTable) → other ≢ table → entries tables.new other ≡ entries tables.old other }
+    ensures same { OnOk result (V.state files.new ≡ V.state files.old) }
+    ensures reads_later { V.reads files.old ≤ V.reads files.new }
+    ensures store { length (V.state files.new).store ≡ length (V.state files.old).store }
+    ensures cause { HasCause (V.faults files.old) (V.faults files.new) result }
+{
+    if slots > 2048 {
+        return Ok(tables.len(table) == slots);
+    }
+    tables.fill(files, table, column, slots)?;
+    Ok(true)
 }

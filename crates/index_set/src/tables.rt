@@ -77,6 +77,17 @@ impl HashTables {
         Ok(())
     }
 
+    // The number of keys in a table.
+    pub(crate) fn len(&self, table: TableId) -> u16
+        ensures len { result ≡ length (entries self.now table) }
+        ensures few { result ≤ 2048 }
+    {
+        match table {
+            TableId::First => self.first.len(),
+            TableId::Second => self.second.len(),
+        }
+    }
+
     // The first slot of the key, from one on.
     #[tactic(auto, using(crate::proofs::Nexts::first_same))]
     pub(crate) fn next(&self, table: TableId, key: &i32, from: u16) -> Option<SlotNo>
