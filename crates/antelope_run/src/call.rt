@@ -40,16 +40,25 @@ fn carry_out<F: Flash, S: Source, K: Sink>(
 ) -> (u8, F)
     requires within { used ≤ 51 * pages_of (F.image flash) }
     requires few { used ≤ 3341520 }
-    ensures only { (result.0 ≡ 0) ⊎ (result.0 ≡ 2) ⊎ (result.0 ≡ 3) ⊎ (result.0 ≡ 4) ⊎ (result.0 ≡ 5) ⊎ (result.0 ≡ 8) }
+    ensures only { (result.0 ≡ 0) ⊎ (result.0 ≡ 2) ⊎ (result.0 ≡ 3) ⊎ (result.0 ≡ 4)
+        ⊎ (result.0 ≡ 5) ⊎ (result.0 ≡ 8) }
     ensures end { result.0 ≡ 0 → IsAtEnd (S.left script.new) }
     ensures short { result.0 ≡ 0 → (text : List ℕ) → S.left script.old ≡ Some text → length text ≤ 16777216 }
-    ensures done { IsTrue F.tells → result.0 ≡ 0 → (values : List ℤ) → Stands (F.image flash) used values → (read : List ℕ → Result Command Refusal) → IsReader read → (text : List ℕ) → S.left script.old ≡ Some text → (K.held out.new ≡ append_known (K.held out.old) (output values (statements read text))) × Holds (F.image result.1) (values_after values (statements read text)) }
+    ensures done { IsTrue F.tells → result.0 ≡ 0 → (values : List ℤ)
+        → Stands (F.image flash) used values → (read : List ℕ → Result Command Refusal)
+        → IsReader read → (text : List ℕ) → S.left script.old ≡ Some text
+        → (K.held out.new ≡ append_known (K.held out.old) (output values (statements read text)))
+        × Holds (F.image result.1) (values_after values (statements read text)) }
     ensures script { result.0 ≡ 2 → Rose (S.faults script.old) (S.faults script.new) }
-    ensures space { IsTrue F.tells → result.0 ≡ 3 → (values : List ℤ) → Stands (F.image flash) used values → (read : List ℕ → Result Command Refusal) → IsReader read → (text : List ℕ) → S.left script.old ≡ Some text → EndsFull (F.image result.1) (K.held out.old) (K.held out.new) (statements read text) values }
+    ensures space { IsTrue F.tells → result.0 ≡ 3 → (values : List ℤ)
+        → Stands (F.image flash) used values → (read : List ℕ → Result Command Refusal)
+        → IsReader read → (text : List ℕ) → S.left script.old ≡ Some text
+        → EndsFull (F.image result.1) (K.held out.old) (K.held out.new) (statements read text) values }
     ensures flash { result.0 ≡ 4 → Rose (F.faults flash) (F.faults result.1) }
     ensures sink { result.0 ≡ 5 → Rose (K.faults out.old) (K.faults out.new) }
     ensures long { result.0 ≡ 8 → (text : List ℕ) → S.left script.old ≡ Some text → 16777216 < length text }
-    ensures one_more { result.0 ≡ 8 → (text : List ℕ) → S.left script.old ≡ Some text → S.left script.new ≡ Some (drop 16777217 text) }
+    ensures one_more { result.0 ≡ 8 → (text : List ℕ) → S.left script.old ≡ Some text
+        → S.left script.new ≡ Some (drop 16777217 text) }
     ensures later { F.faults flash ≤ F.faults result.1 }
 {
     let mut log = Log::new(flash, used);
@@ -84,27 +93,44 @@ pub fn top<F: Flash, S: Source, K: Sink>(
     out: &mut K,
     flash: F,
 ) -> (u8, F)
-    ensures only { (result.0 ≡ 0) ⊎ (result.0 ≡ 1) ⊎ (result.0 ≡ 2) ⊎ (result.0 ≡ 3) ⊎ (result.0 ≡ 4) ⊎ (result.0 ≡ 5) ⊎ (result.0 ≡ 6) ⊎ (result.0 ≡ 8) }
+    ensures only { (result.0 ≡ 0) ⊎ (result.0 ≡ 1) ⊎ (result.0 ≡ 2) ⊎ (result.0 ≡ 3)
+        ⊎ (result.0 ≡ 4) ⊎ (result.0 ≡ 5) ⊎ (result.0 ≡ 6) ⊎ (result.0 ≡ 8) }
     ensures words { (result.0 ≡ 1) ↔ (form_of words.now ≡ None) }
     ensures words_leave_script { result.0 ≡ 1 → script.new ≡ script.old }
     ensures words_leave_sink { result.0 ≡ 1 → out.new ≡ out.old }
     ensures words_leave_flash { result.0 ≡ 1 → result.1 ≡ flash }
     ensures end { result.0 ≡ 0 → IsAtEnd (S.left script.new) }
     ensures short { result.0 ≡ 0 → (text : List ℕ) → S.left script.old ≡ Some text → length text ≤ 16777216 }
-    ensures replies { IsTrue F.tells → result.0 ≡ 0 → (values : List ℤ) → Holds (F.image flash) values → (read : List ℕ → Result Command Refusal) → IsReader read → (text : List ℕ) → S.left script.old ≡ Some text → K.held out.new ≡ append_known (K.held out.old) (output values (statements read text)) }
-    ensures image { IsTrue F.tells → result.0 ≡ 0 → (values : List ℤ) → Holds (F.image flash) values → (read : List ℕ → Result Command Refusal) → IsReader read → (text : List ℕ) → S.left script.old ≡ Some text → Holds (F.image result.1) (values_after values (statements read text)) }
+    ensures replies { IsTrue F.tells → result.0 ≡ 0 → (values : List ℤ)
+        → Holds (F.image flash) values → (read : List ℕ → Result Command Refusal) → IsReader read
+        → (text : List ℕ) → S.left script.old ≡ Some text
+        → K.held out.new ≡ append_known (K.held out.old) (output values (statements read text)) }
+    ensures image { IsTrue F.tells → result.0 ≡ 0 → (values : List ℤ) → Holds (F.image flash) values
+        → (read : List ℕ → Result Command Refusal) → IsReader read → (text : List ℕ)
+        → S.left script.old ≡ Some text
+        → Holds (F.image result.1) (values_after values (statements read text)) }
     ensures script { result.0 ≡ 2 → Rose (S.faults script.old) (S.faults script.new) }
-    ensures space { IsTrue F.tells → result.0 ≡ 3 → (values : List ℤ) → Holds (F.image flash) values → (read : List ℕ → Result Command Refusal) → IsReader read → (text : List ℕ) → S.left script.old ≡ Some text → EndsFull (F.image result.1) (K.held out.old) (K.held out.new) (statements read text) values }
+    ensures space { IsTrue F.tells → result.0 ≡ 3 → (values : List ℤ) → Holds (F.image flash) values
+        → (read : List ℕ → Result Command Refusal) → IsReader read → (text : List ℕ)
+        → S.left script.old ≡ Some text
+        → EndsFull (F.image result.1) (K.held out.old) (K.held out.new) (statements read text) values }
     ensures flash { result.0 ≡ 4 → Rose (F.faults flash) (F.faults result.1) }
     ensures sink { result.0 ≡ 5 → Rose (K.faults out.old) (K.faults out.new) }
-    ensures broken { IsTrue F.tells → result.0 ≡ 6 → NamesPage (F.image flash) (K.held out.old) (K.held out.new) }
+    ensures broken { IsTrue F.tells → result.0 ≡ 6
+        → NamesPage (F.image flash) (K.held out.old) (K.held out.new) }
     ensures unsound { IsTrue F.tells → result.0 ≡ 6 → IsSound (F.image flash) → ⊥ }
     ensures broken_leaves_script { result.0 ≡ 6 → script.new ≡ script.old }
     ensures broken_leaves_image { result.0 ≡ 6 → F.image result.1 ≡ F.image flash }
-    ensures refuses { IsTrue F.tells → (IsSound (F.image flash) → ⊥) → (result.0 ≡ 1) ⊎ (result.0 ≡ 4) ⊎ (result.0 ≡ 5) ⊎ (result.0 ≡ 6) }
+    ensures refuses { IsTrue F.tells → (IsSound (F.image flash) → ⊥) → (result.0 ≡ 1)
+        ⊎ (result.0 ≡ 4) ⊎ (result.0 ≡ 5) ⊎ (result.0 ≡ 6) }
     ensures long { result.0 ≡ 8 → (text : List ℕ) → S.left script.old ≡ Some text → 16777216 < length text }
-    ensures one_more { result.0 ≡ 8 → (text : List ℕ) → S.left script.old ≡ Some text → S.left script.new ≡ Some (drop 16777217 text) }
-    ensures no_fault { IsTrue F.tells → form_of words.now ≢ None → IsSound (F.image flash) → (Rose (S.faults script.old) (S.faults script.new) → ⊥) → (Rose (F.faults flash) (F.faults result.1) → ⊥) → (Rose (K.faults out.old) (K.faults out.new) → ⊥) → (text : List ℕ) → S.left script.old ≡ Some text → length text ≤ 16777216 → (result.0 ≡ 0) ⊎ (result.0 ≡ 3) }
+    ensures one_more { result.0 ≡ 8 → (text : List ℕ) → S.left script.old ≡ Some text
+        → S.left script.new ≡ Some (drop 16777217 text) }
+    ensures no_fault { IsTrue F.tells → form_of words.now ≢ None → IsSound (F.image flash)
+        → (Rose (S.faults script.old) (S.faults script.new) → ⊥)
+        → (Rose (F.faults flash) (F.faults result.1) → ⊥)
+        → (Rose (K.faults out.old) (K.faults out.new) → ⊥) → (text : List ℕ)
+        → S.left script.old ≡ Some text → length text ≤ 16777216 → (result.0 ≡ 0) ⊎ (result.0 ≡ 3) }
 {
     if form(words).is_none() {
         return (1, flash);

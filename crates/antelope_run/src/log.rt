@@ -46,8 +46,11 @@ impl<F: Flash> Log<F> {
 
     // Adds a value behind the others. `Ok(false)` comes exactly where every record is in use.
     pub fn insert(&mut self, value: &i32) -> Result<bool, Failed>
-        ensures added { IsTrue F.tells → result ≡ Ok true → (vs : List ℤ) → Stands (F.image self.old.flash) self.old.used vs → Stands (F.image self.new.flash) self.new.used (vs ++ value.now ∷ []) }
-        ensures full { result ≡ Ok false → (self.new ≡ self.old) × (self.old.used ≡ 51 * pages_of (F.image self.old.flash)) }
+        ensures added { IsTrue F.tells → result ≡ Ok true → (vs : List ℤ)
+            → Stands (F.image self.old.flash) self.old.used vs
+            → Stands (F.image self.new.flash) self.new.used (vs ++ value.now ∷ []) }
+        ensures full { result ≡ Ok false → (self.new ≡ self.old)
+            × (self.old.used ≡ 51 * pages_of (F.image self.old.flash)) }
         ensures cause { HasCause (F.faults self.old.flash) (F.faults self.new.flash) result }
     {
         if self.used >= RECORDS_A_PAGE * PAGES_A_SECTOR * u32::from(self.flash.sectors()) {
@@ -63,7 +66,9 @@ impl<F: Flash> Log<F> {
 
     // Writes all values, one a line, and then how many they are.
     pub fn select<K: Sink>(&mut self, out: &mut K) -> Result<(), Stop>
-        ensures written { IsTrue F.tells → OnOk result ((vs : List ℤ) → Stands (F.image self.old.flash) self.old.used vs → K.held out.new ≡ append_known (K.held out.old) (select_lines vs)) }
+        ensures written { IsTrue F.tells → OnOk result ((vs : List ℤ)
+            → Stands (F.image self.old.flash) self.old.used vs
+            → K.held out.new ≡ append_known (K.held out.old) (select_lines vs)) }
         ensures image { F.image self.new.flash ≡ F.image self.old.flash }
         ensures used { self.new.used ≡ self.old.used }
         ensures causes { HasCauses (F.faults self.old.flash) (F.faults self.new.flash) (K.faults out.old) (K.faults out.new) result }
@@ -84,7 +89,10 @@ impl<F: Flash> Log<F> {
     // Writes the values on a page, one a line.
     fn write_page<K: Sink>(&mut self, page: u32, out: &mut K) -> Result<(), Stop>
         requires { 51 * page + 1 ≤ self.old.used }
-        ensures written { IsTrue F.tells → OnOk result ((vs : List ℤ) → Stands (F.image self.old.flash) self.old.used vs → K.held out.new ≡ append_known (K.held out.old) (flat_map value_line (values_on page vs))) }
+        ensures written { IsTrue F.tells → OnOk result ((vs : List ℤ)
+            → Stands (F.image self.old.flash) self.old.used vs
+            → K.held out.new
+            ≡ append_known (K.held out.old) (flat_map value_line (values_on page vs))) }
         ensures image { F.image self.new.flash ≡ F.image self.old.flash }
         ensures used { self.new.used ≡ self.old.used }
         ensures causes { HasCauses (F.faults self.old.flash) (F.faults self.new.flash) (K.faults out.old) (K.faults out.new) result }

@@ -46,7 +46,8 @@ impl Piece {
 
     // Takes the next byte of the piece.
     pub fn push(&mut self, byte: u8)
-        ensures gathers { (p : List ℕ) → Gathers p self.old.bytes.items self.old.long → Gathers (p ++ byte ∷ []) self.new.bytes.items self.new.long }
+        ensures gathers { (p : List ℕ) → Gathers p self.old.bytes.items self.old.long
+            → Gathers (p ++ byte ∷ []) self.new.bytes.items self.new.long }
         ensures quoted { self.new.quoted ≡ quoted_after self.old.quoted byte }
     {
         self.quoted = quoted_after(self.quoted, byte);
@@ -54,7 +55,8 @@ impl Piece {
     }
 
     fn keep(&mut self, byte: u8)
-        ensures gathers { (p : List ℕ) → Gathers p self.old.bytes.items self.old.long → Gathers (p ++ byte ∷ []) self.new.bytes.items self.new.long }
+        ensures gathers { (p : List ℕ) → Gathers p self.old.bytes.items self.old.long
+            → Gathers (p ++ byte ∷ []) self.new.bytes.items self.new.long }
         ensures quoted { self.new.quoted ≡ self.old.quoted }
     {
         if self.bytes.is_empty() && is_white(byte) {
@@ -69,7 +71,9 @@ impl Piece {
 
     // What the piece asks for where a `;` ends it. White space alone asks for nothing.
     pub fn said(&self) -> Option<Statement>
-        ensures { (read : List ℕ → Result Command AnyRefusal) → IsReader read → (p : List ℕ) → Gathers p self.now.bytes.items self.now.long → map (says read) (ended (past_white p)) ≡ option_to_list result }
+        ensures { (read : List ℕ → Result Command AnyRefusal) → IsReader read → (p : List ℕ)
+            → Gathers p self.now.bytes.items self.now.long
+            → map (says read) (ended (past_white p)) ≡ option_to_list result }
     {
         if self.long {
             return Some(Statement::Refused(Refusal::Long));
@@ -82,7 +86,9 @@ impl Piece {
 
     // What the piece asks for where the script ends.
     pub fn unclosed(&self) -> Option<Statement>
-        ensures { (read : List ℕ → Result Command AnyRefusal) → (p : List ℕ) → Gathers p self.now.bytes.items self.now.long → map (says read) (unended (past_white p)) ≡ option_to_list result }
+        ensures { (read : List ℕ → Result Command AnyRefusal) → (p : List ℕ)
+            → Gathers p self.now.bytes.items self.now.long
+            → map (says read) (unended (past_white p)) ≡ option_to_list result }
     {
         if self.bytes.is_empty() {
             return None;

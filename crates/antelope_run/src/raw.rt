@@ -43,7 +43,8 @@ fn leading_records(page: &[u8]) -> usize
     ensures few { result ≤ 51 }
     ensures longs { AreLongs (values_in page.now result) }
     ensures front { take (5 * result) page.now ≡ flat_map record_bytes (values_in page.now result) }
-    ensures exact { (vs : List ℤ) → length vs ≤ 51 → AreLongs vs → page.now ≡ raw_page vs → result ≡ length vs }
+    ensures exact { (vs : List ℤ) → length vs ≤ 51 → AreLongs vs → page.now ≡ raw_page vs
+        → result ≡ length vs }
 {
     for k in 0..51 {
         if !is_record(&page[5 * k..5 * k + 5]) {
@@ -62,7 +63,8 @@ fn are_zeros(bytes: &[u8]) -> bool
 // How many records of a page are in use. `None` comes where the page is no page of such records.
 fn count_records(page: &[u8]) -> Option<u32>
     requires { length page.now ≡ 256 }
-    ensures { MatchOption result ((vs : List ℤ) → length vs ≤ 51 → AreLongs vs → page.now ≢ raw_page vs) (λ n. IsPage page.now n) }
+    ensures { MatchOption result ((vs : List ℤ) → length vs ≤ 51 → AreLongs vs
+        → page.now ≢ raw_page vs) (λ n. IsPage page.now n) }
 {
     let used = leading_records(page);
     if are_zeros(&page[5 * used..]) {
@@ -77,7 +79,9 @@ fn count_records(page: &[u8]) -> Option<u32>
 fn judge_page<F: Flash>(flash: &mut F, page: u16, used: u32) -> Result<Option<u32>, Failed>
     requires page { 256 * page + 256 ≤ length (F.image flash.old) }
     requires used { used ≤ 51 * page }
-    ensures judged { IsTrue F.tells → IfOk result (λ r. (vs : List ℤ) → HoldsTo (F.image flash.old) page vs → length vs ≡ used → MatchOption r (IsFirstBroken (F.image flash.old) page) (λ n. HoldsSome (F.image flash.old) (page + 1) n)) }
+    ensures judged { IsTrue F.tells → IfOk result (λ r. (vs : List ℤ)
+        → HoldsTo (F.image flash.old) page vs → length vs ≡ used
+        → MatchOption r (IsFirstBroken (F.image flash.old) page) (λ n. HoldsSome (F.image flash.old) (page + 1) n)) }
     ensures bound { IfOk result (λ r. IfSome r (λ n. n ≤ 51 * (page + 1))) }
     ensures same { F.image flash.new ≡ F.image flash.old }
     ensures cause { HasCause (F.faults flash.old) (F.faults flash.new) result }
@@ -116,7 +120,8 @@ pub fn judge<F: Flash>(flash: &mut F) -> Result<Judged, Failed>
 pub fn write_values<K: Sink>(out: &mut K, page: &[u8], count: usize) -> Result<(), Failed>
     requires page { length page.now ≡ 256 }
     requires count { count ≤ 51 }
-    ensures all { OnOk result (K.held out.new ≡ append_known (K.held out.old) (flat_map value_line (values_in page.now count))) }
+    ensures all { OnOk result (K.held out.new
+        ≡ append_known (K.held out.old) (flat_map value_line (values_in page.now count))) }
     ensures cause { HasCause (K.faults out.old) (K.faults out.new) result }
 {
     for k in 0..count {

@@ -12,7 +12,8 @@ use db_model::{Command, Ident, Query, Refusal, Value};
 // What the bytes of a command ask for.
 pub fn read_statement(bytes: &[u8]) -> Statement
     requires { length bytes.now ≤ 512 }
-    ensures { (read : List ℕ → Result AnyCommand AnyRefusal) → IsReader read → result ≡ asked_by (read bytes.now) }
+    ensures { (read : List ℕ → Result AnyCommand AnyRefusal) → IsReader read
+        → result ≡ asked_by (read bytes.now) }
 {
     readings_are_unique();
     let mut command = Command::FetchCursor { number: 0 };

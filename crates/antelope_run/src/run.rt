@@ -25,9 +25,14 @@ pub fn answer<F: Flash, K: Sink>(
     out: &mut K,
     statement: &Statement,
 ) -> Result<(), Stop>
-    ensures ran { IsTrue F.tells → OnOk result (Runs (state (F.image log.old.flash) log.old.used (K.held out.old)) (state (F.image log.new.flash) log.new.used (K.held out.new)) (statement.now ∷ [])) }
-    ensures fills { IsTrue F.tells → result ≡ Err Stop.Space → Fills (state (F.image log.old.flash) log.old.used (K.held out.old)) (state (F.image log.new.flash) log.new.used (K.held out.new)) (statement.now ∷ []) }
-    ensures causes { HasCauses (F.faults log.old.flash) (F.faults log.new.flash) (K.faults out.old) (K.faults out.new) result }
+    ensures ran { IsTrue F.tells
+        → OnOk result (Runs (state (F.image log.old.flash) log.old.used (K.held out.old))
+        (state (F.image log.new.flash) log.new.used (K.held out.new)) (statement.now ∷ [])) }
+    ensures fills { IsTrue F.tells → result ≡ Err Stop.Space
+        → Fills (state (F.image log.old.flash) log.old.used (K.held out.old))
+        (state (F.image log.new.flash) log.new.used (K.held out.new)) (statement.now ∷ []) }
+    ensures causes { HasCauses
+        (F.faults log.old.flash) (F.faults log.new.flash) (K.faults out.old) (K.faults out.new) result }
 {
     match statement {
         Statement::Insert(value) => insert(log, out, value),
@@ -41,9 +46,14 @@ pub fn answer<F: Flash, K: Sink>(
 
 // Adds a value and writes the reply.
 fn insert<F: Flash, K: Sink>(log: &mut Log<F>, out: &mut K, value: &i32) -> Result<(), Stop>
-    ensures ran { IsTrue F.tells → OnOk result (Runs (state (F.image log.old.flash) log.old.used (K.held out.old)) (state (F.image log.new.flash) log.new.used (K.held out.new)) (Statement.Insert value.now ∷ [])) }
-    ensures fills { IsTrue F.tells → result ≡ Err Stop.Space → Fills (state (F.image log.old.flash) log.old.used (K.held out.old)) (state (F.image log.new.flash) log.new.used (K.held out.new)) (Statement.Insert value.now ∷ []) }
-    ensures causes { HasCauses (F.faults log.old.flash) (F.faults log.new.flash) (K.faults out.old) (K.faults out.new) result }
+    ensures ran { IsTrue F.tells
+        → OnOk result (Runs (state (F.image log.old.flash) log.old.used (K.held out.old))
+        (state (F.image log.new.flash) log.new.used (K.held out.new)) (Statement.Insert value.now ∷ [])) }
+    ensures fills { IsTrue F.tells → result ≡ Err Stop.Space
+        → Fills (state (F.image log.old.flash) log.old.used (K.held out.old))
+        (state (F.image log.new.flash) log.new.used (K.held out.new)) (Statement.Insert value.now ∷ []) }
+    ensures causes { HasCauses
+        (F.faults log.old.flash) (F.faults log.new.flash) (K.faults out.old) (K.faults out.new) result }
 {
     let Ok(added) = log.insert(value) else {
         return Err(Stop::Flash);
@@ -67,11 +77,22 @@ fn feed_byte<F: Flash, K: Sink>(
     piece: &mut Piece,
     byte: u8,
 ) -> Result<(), Stop>
-    ensures piece { OnOk result ((p : List ℕ) → Gathers p piece.old.bytes.items piece.old.long → Gathers (piece_behind piece.old.quoted p (byte ∷ [])) piece.new.bytes.items piece.new.long) }
+    ensures piece { OnOk result ((p : List ℕ) → Gathers p piece.old.bytes.items piece.old.long
+        → Gathers (piece_behind piece.old.quoted p (byte ∷ [])) piece.new.bytes.items piece.new.long) }
     ensures quoted { OnOk result (piece.new.quoted ≡ quoted_behind piece.old.quoted (byte ∷ [])) }
-    ensures ran { IsTrue F.tells → OnOk result ((read : List ℕ → Result Command Refusal) → IsReader read → (p : List ℕ) → Gathers p piece.old.bytes.items piece.old.long → Runs (state (F.image log.old.flash) log.old.used (K.held out.old)) (state (F.image log.new.flash) log.new.used (K.held out.new)) (done_in read piece.old.quoted p (byte ∷ []))) }
-    ensures fills { IsTrue F.tells → result ≡ Err Stop.Space → (read : List ℕ → Result Command Refusal) → IsReader read → (p : List ℕ) → Gathers p piece.old.bytes.items piece.old.long → Fills (state (F.image log.old.flash) log.old.used (K.held out.old)) (state (F.image log.new.flash) log.new.used (K.held out.new)) (done_in read piece.old.quoted p (byte ∷ [])) }
-    ensures causes { HasCauses (F.faults log.old.flash) (F.faults log.new.flash) (K.faults out.old) (K.faults out.new) result }
+    ensures ran { IsTrue F.tells → OnOk result ((read : List ℕ → Result Command Refusal)
+        → IsReader read → (p : List ℕ) → Gathers p piece.old.bytes.items piece.old.long
+        → Runs (state (F.image log.old.flash) log.old.used (K.held out.old))
+        (state (F.image log.new.flash) log.new.used (K.held out.new))
+        (done_in read piece.old.quoted p (byte ∷ []))) }
+    ensures fills { IsTrue F.tells → result ≡ Err Stop.Space
+        → (read : List ℕ → Result Command Refusal) → IsReader read → (p : List ℕ)
+        → Gathers p piece.old.bytes.items piece.old.long
+        → Fills (state (F.image log.old.flash) log.old.used (K.held out.old))
+        (state (F.image log.new.flash) log.new.used (K.held out.new))
+        (done_in read piece.old.quoted p (byte ∷ [])) }
+    ensures causes { HasCauses
+        (F.faults log.old.flash) (F.faults log.new.flash) (K.faults out.old) (K.faults out.new) result }
 {
     if !piece.ends_at(byte) {
         piece.push(byte);
@@ -92,11 +113,22 @@ fn feed<F: Flash, K: Sink>(
     piece: &mut Piece,
     bytes: &[u8],
 ) -> Result<(), Stop>
-    ensures piece { OnOk result ((p : List ℕ) → Gathers p piece.old.bytes.items piece.old.long → Gathers (piece_behind piece.old.quoted p bytes.now) piece.new.bytes.items piece.new.long) }
+    ensures piece { OnOk result ((p : List ℕ) → Gathers p piece.old.bytes.items piece.old.long
+        → Gathers (piece_behind piece.old.quoted p bytes.now) piece.new.bytes.items piece.new.long) }
     ensures quoted { OnOk result (piece.new.quoted ≡ quoted_behind piece.old.quoted bytes.now) }
-    ensures ran { IsTrue F.tells → OnOk result ((read : List ℕ → Result Command Refusal) → IsReader read → (p : List ℕ) → Gathers p piece.old.bytes.items piece.old.long → Runs (state (F.image log.old.flash) log.old.used (K.held out.old)) (state (F.image log.new.flash) log.new.used (K.held out.new)) (done_in read piece.old.quoted p bytes.now)) }
-    ensures fills { IsTrue F.tells → result ≡ Err Stop.Space → (read : List ℕ → Result Command Refusal) → IsReader read → (p : List ℕ) → Gathers p piece.old.bytes.items piece.old.long → Fills (state (F.image log.old.flash) log.old.used (K.held out.old)) (state (F.image log.new.flash) log.new.used (K.held out.new)) (done_in read piece.old.quoted p bytes.now) }
-    ensures causes { HasCauses (F.faults log.old.flash) (F.faults log.new.flash) (K.faults out.old) (K.faults out.new) result }
+    ensures ran { IsTrue F.tells → OnOk result ((read : List ℕ → Result Command Refusal)
+        → IsReader read → (p : List ℕ) → Gathers p piece.old.bytes.items piece.old.long
+        → Runs (state (F.image log.old.flash) log.old.used (K.held out.old))
+        (state (F.image log.new.flash) log.new.used (K.held out.new))
+        (done_in read piece.old.quoted p bytes.now)) }
+    ensures fills { IsTrue F.tells → result ≡ Err Stop.Space
+        → (read : List ℕ → Result Command Refusal) → IsReader read → (p : List ℕ)
+        → Gathers p piece.old.bytes.items piece.old.long
+        → Fills (state (F.image log.old.flash) log.old.used (K.held out.old))
+        (state (F.image log.new.flash) log.new.used (K.held out.new))
+        (done_in read piece.old.quoted p bytes.now) }
+    ensures causes { HasCauses
+        (F.faults log.old.flash) (F.faults log.new.flash) (K.faults out.old) (K.faults out.new) result }
 {
     for byte in bytes {
         match feed_byte(log, out, piece, *byte) {
@@ -109,9 +141,17 @@ fn feed<F: Flash, K: Sink>(
 
 // Carries out what is left at the end of the script.
 fn close<F: Flash, K: Sink>(log: &mut Log<F>, out: &mut K, piece: &Piece) -> Result<(), Stop>
-    ensures ran { IsTrue F.tells → OnOk result ((read : List ℕ → Result Command Refusal) → IsReader read → (p : List ℕ) → Gathers p piece.now.bytes.items piece.now.long → Runs (state (F.image log.old.flash) log.old.used (K.held out.old)) (state (F.image log.new.flash) log.new.used (K.held out.new)) (left_over read p)) }
-    ensures fills { IsTrue F.tells → result ≡ Err Stop.Space → (read : List ℕ → Result Command Refusal) → IsReader read → (p : List ℕ) → Gathers p piece.now.bytes.items piece.now.long → Fills (state (F.image log.old.flash) log.old.used (K.held out.old)) (state (F.image log.new.flash) log.new.used (K.held out.new)) (left_over read p) }
-    ensures causes { HasCauses (F.faults log.old.flash) (F.faults log.new.flash) (K.faults out.old) (K.faults out.new) result }
+    ensures ran { IsTrue F.tells → OnOk result ((read : List ℕ → Result Command Refusal)
+        → IsReader read → (p : List ℕ) → Gathers p piece.now.bytes.items piece.now.long
+        → Runs (state (F.image log.old.flash) log.old.used (K.held out.old))
+        (state (F.image log.new.flash) log.new.used (K.held out.new)) (left_over read p)) }
+    ensures fills { IsTrue F.tells → result ≡ Err Stop.Space
+        → (read : List ℕ → Result Command Refusal) → IsReader read → (p : List ℕ)
+        → Gathers p piece.now.bytes.items piece.now.long
+        → Fills (state (F.image log.old.flash) log.old.used (K.held out.old))
+        (state (F.image log.new.flash) log.new.used (K.held out.new)) (left_over read p) }
+    ensures causes { HasCauses
+        (F.faults log.old.flash) (F.faults log.new.flash) (K.faults out.old) (K.faults out.new) result }
 {
     match piece.unclosed() {
         None => Ok(()),
@@ -124,7 +164,8 @@ fn read_front<S: Source>(script: &mut S, buffer: &mut [u8], want: usize) -> Resu
     requires some { 1 ≤ want }
     requires room { want ≤ length buffer.old }
     ensures within { IfOk result (λ n. n ≤ want) }
-    ensures bytes { IfOk result (λ n. S.left script.old ≡ prepend_known (take n buffer.new) (S.left script.new)) }
+    ensures bytes { IfOk result (λ n. S.left script.old
+        ≡ prepend_known (take n buffer.new) (S.left script.new)) }
     ensures end { IfOk result (λ n. n ≡ 0 → IsAtEnd (S.left script.new)) }
     ensures cause { HasCause (S.faults script.old) (S.faults script.new) result }
 {
@@ -140,10 +181,19 @@ pub fn run<F: Flash, S: Source, K: Sink>(
 ) -> Result<(), Stop>
     ensures end { OnOk result (IsAtEnd (S.left script.new)) }
     ensures short { OnOk result ((text : List ℕ) → S.left script.old ≡ Some text → length text ≤ 16777216) }
-    ensures ran { IsTrue F.tells → OnOk result ((read : List ℕ → Result Command Refusal) → IsReader read → (text : List ℕ) → S.left script.old ≡ Some text → Runs (state (F.image log.old.flash) log.old.used (K.held out.old)) (state (F.image log.new.flash) log.new.used (K.held out.new)) (statements read text)) }
-    ensures fills { IsTrue F.tells → result ≡ Err Stop.Space → (read : List ℕ → Result Command Refusal) → IsReader read → (text : List ℕ) → S.left script.old ≡ Some text → Fills (state (F.image log.old.flash) log.old.used (K.held out.old)) (state (F.image log.new.flash) log.new.used (K.held out.new)) (statements read text) }
-    ensures long { result ≡ Err Stop.Long → (text : List ℕ) → S.left script.old ≡ Some text → 16777216 < length text }
-    ensures one_more { result ≡ Err Stop.Long → (text : List ℕ) → S.left script.old ≡ Some text → S.left script.new ≡ Some (drop 16777217 text) }
+    ensures ran { IsTrue F.tells → OnOk result ((read : List ℕ → Result Command Refusal)
+        → IsReader read → (text : List ℕ) → S.left script.old ≡ Some text
+        → Runs (state (F.image log.old.flash) log.old.used (K.held out.old))
+        (state (F.image log.new.flash) log.new.used (K.held out.new)) (statements read text)) }
+    ensures fills { IsTrue F.tells → result ≡ Err Stop.Space
+        → (read : List ℕ → Result Command Refusal) → IsReader read → (text : List ℕ)
+        → S.left script.old ≡ Some text
+        → Fills (state (F.image log.old.flash) log.old.used (K.held out.old))
+        (state (F.image log.new.flash) log.new.used (K.held out.new)) (statements read text) }
+    ensures long { result ≡ Err Stop.Long → (text : List ℕ) → S.left script.old ≡ Some text
+        → 16777216 < length text }
+    ensures one_more { result ≡ Err Stop.Long → (text : List ℕ) → S.left script.old ≡ Some text
+        → S.left script.new ≡ Some (drop 16777217 text) }
     ensures script { result ≡ Err Stop.Script → Rose (S.faults script.old) (S.faults script.new) }
     ensures flash { result ≡ Err Stop.Flash → Rose (F.faults log.old.flash) (F.faults log.new.flash) }
     ensures sink { result ≡ Err Stop.Sink → Rose (K.faults out.old) (K.faults out.new) }

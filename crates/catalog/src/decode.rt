@@ -11,9 +11,7 @@ ghost use Rattle.db_model.specs.Sound.{are_distinct, attribute_names};
 use crate::slots::{index_slot, relation_slot, unused_slot};
 use crate::types::IndexEntry;
 use afl_base::RelationId;
-use db_model::{
-    Attribute, Attributes, Domain, Ident, IndexKind, Schema, row_length, up_to_zero,
-};
+use db_model::{Attribute, Attributes, Domain, Ident, IndexKind, Schema, row_length, up_to_zero};
 
 // What a relation slot holds, None where it is not of the catalog's form.
 pub fn read_relation(slot: &[u8], version: u8) -> Option<Option<Schema>>

@@ -1,10 +1,8 @@
 -- A file is kept where the pages of the active extents stay.
-use Rattle.std.proofs.Common.{◌≡◌, ℕ, zero, suc, ◌+◌, ◌-◌, ◌*◌, ◌/◌, ◌%◌, ◌≤◌, ◌<◌, ⊎_elim, Bool, true, false, List, [], ◌∷◌, ◌++◌, length, replicate, get_or, Option, Some, None, refl, ap, sym, ◌∙◌, arith}
-use Rattle.std.proofs.lemmas.Bool.{cases_lt}
+use Rattle.std.proofs.Common.{◌≡◌, ℕ, ◌+◌, ◌*◌, ◌/◌, ◌%◌, ◌≤◌, ◌<◌, Bool, true, false, List, get_or, Option, Some, ap, sym, ◌∙◌, arith}
 use Rattle.afl_base.specs.Image.{page_bytes}
 use Rattle.afl_base.specs.declared.ids.PageId.{PageId}
 use Rattle.afl_base.proofs.Images.{byte_in_page}
-use Rattle.coffee_layout.specs.Marks.{active_pages}
 use Rattle.coffee_layout.proofs.Frames.{KeepsFile}
 
 -- the pages from a page on are active

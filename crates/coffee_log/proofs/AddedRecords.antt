@@ -1,9 +1,12 @@
 -- Records that come to a log one after the other.
-use Rattle.std.proofs.Common.{◌≡◌, ◌≢◌, ℕ, zero, suc, ◌+◌, ◌-◌, ◌*◌, ◌/◌, ◌%◌, ◌≤◌, ◌<◌, List, length, get_or, refl, ap, sym, subst, ◌∙◌, arith, ⊎_elim}
+use Rattle.std.proofs.Common.{◌≡◌, ℕ, zero, suc, ◌+◌, ◌-◌, ◌*◌, ◌/◌, ◌%◌, ◌≤◌, ◌<◌, List, get_or, refl, ap, sym, subst, ◌∙◌, arith, ⊎_elim}
 use Rattle.std.proofs.lemmas.Bool.{cases_lt}
 use Rattle.afl_base.specs.Regions.{regions}
 use Rattle.coffee_layout.specs.FileBytes.{number_in, record_place, table_of}
+use Rattle.flash_range.specs.Range.{Outside}
+use Rattle.coffee_log.specs.FileChanges.{Apart}
 use Rattle.coffee_log.specs.Logs.{AddsRecords, IsLog, PutsRecord}
+use Rattle.coffee_log.proofs.RecordLaws.{kept_number, number_place}
 
 -- no record
 pub adds_none : (image : List ℕ) (log used region capacity : ℕ) → IsLog image log used → AddsRecords image image log used used region capacity
@@ -53,3 +56,30 @@ adds_more old mid new log from to region next capacity rises is first second = r
 pub next_region : (at done records used : ℕ) → records ≡ used + regions at done → (0 < done → (at + done) % 128 ≡ 0) → (at + done) / 128 ≡ at / 128 + (records - used)
 next_region at zero records used count turn = omega arith
 next_region at (suc d) records used count turn = let t : (at + suc d) % 128 ≡ 0 = turn (omega arith) in omega arith
+
+-- they stay where the log does
+pub adds_kept : (old mid new : List ℕ) (log from to region capacity : ℕ) → from ≤ to → AddsRecords old mid log from to region capacity
+    → ((k : ℕ) → 256 * log + 32 ≤ k → k < 256 * log + 4096 → get_or new k 0 ≡ get_or mid k 0) → AddsRecords old new log from to region capacity
+adds_kept old mid new log from to region capacity rises first same =
+    let was = first.more in
+    let few = was.few in
+    let number : (i : ℕ) → i < 30 → number_in (table_of new log) i ≡ number_in (table_of mid log) i =
+    λ i low. kept_number mid new log i low (same (number_place log i) (omega arith) (omega arith)) (same (number_place log i + 1) (omega arith) (omega arith)) in
+    record {
+      more = record {
+        few = was.few;
+        used_are = λ i low none. was.used_are i low (sym (number i (omega arith)) ∙ none);
+        free_are = λ i low high. number i high ∙ was.free_are i low high;
+        gap = λ k low high. same k (omega arith) (omega arith) ∙ was.gap k low high;
+        clear = λ k low high. same k (omega arith) (omega arith) ∙ was.clear k low high;
+      };
+      rising = λ i low high. number i (omega arith) ∙ first.rising i low high;
+      before = λ i low. number i (omega arith) ∙ first.before i low;
+      tail = λ i k low high small behind. same (record_place log i + k) (omega arith) (omega arith) ∙ first.tail i k low high small behind;
+      kept = λ k low high. same k (omega arith) (omega arith) ∙ first.kept k low high;
+    }
+
+-- a range of an extent lies outside of its log
+pub range_apart : (old new : List ℕ) (page pages at n log : ℕ) → Apart page pages log → at + n + 32 ≤ 256 * pages → ((k : ℕ) → Outside (256 * page + 32 + at) n k → get_or new k 0 ≡ get_or old k 0)
+    → (k : ℕ) → 256 * log + 32 ≤ k → k < 256 * log + 4096 → get_or new k 0 ≡ get_or old k 0
+range_apart old new page pages at n log apart fits others = λ k from to. others k (λ a b. apart (k / 256) (omega arith) (omega arith) (omega arith) (omega arith))

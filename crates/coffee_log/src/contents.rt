@@ -2,7 +2,7 @@ ghost use Rattle.std.specs.Prelude.{◌≡◌, ℕ, ◌+◌, ◌-◌, ◌*◌, �
 ghost use Rattle.afl_base.specs.Causes.{HasCause};
 ghost use Rattle.afl_base.specs.Image.{page_bytes};
 ghost use Rattle.afl_base.specs.Regions.{regions};
-ghost use Rattle.flash_range.specs.Range.{PageOutside};
+ghost use Rattle.flash_range.specs.Range.{Outside, PageOutside};
 ghost use Rattle.coffee_layout.specs.FileBytes.{file_byte, last_in, table_of};
 ghost use Rattle.coffee_layout.specs.Units.{pages_of};
 ghost use Rattle.coffee_layout.specs.Walks.{LogFits};
@@ -25,7 +25,9 @@ pub fn read_file<F: Flash>(
 ) -> Result<(), Failed>
     requires placed { 256 * page.0 + 32 + at + length into.old ≤ length (F.image flash.old) }
     requires log { LogFits (pages_of (F.image flash.old)) log }
-    ensures bytes { IsTrue F.tells → OnOk result ((k : ℕ) → k < length into.old → slice_index into.new k ≡ file_byte (F.image flash.old) page.0 log (at + k)) }
+    ensures bytes { IsTrue F.tells → OnOk result
+        ((k : ℕ)
+        → k < length into.old → slice_index into.new k ≡ file_byte (F.image flash.old) page.0 log (at + k)) }
     ensures same { F.image flash.new ≡ F.image flash.old }
     ensures reads { F.reads flash.new ≤ F.reads flash.old + 3 * regions at (length into.old) }
     ensures reads_later { F.reads flash.old ≤ F.reads flash.new }
@@ -53,7 +55,9 @@ fn read_part<F: Flash>(
     requires part { at % 128 + length into.old ≤ 128 }
     requires placed { 256 * page.0 + 32 + at + length into.old ≤ length (F.image flash.old) }
     requires log { LogFits (pages_of (F.image flash.old)) log }
-    ensures bytes { IsTrue F.tells → OnOk result ((k : ℕ) → k < length into.old → slice_index into.new k ≡ file_byte (F.image flash.old) page.0 log (at + k)) }
+    ensures bytes { IsTrue F.tells → OnOk result
+        ((k : ℕ)
+        → k < length into.old → slice_index into.new k ≡ file_byte (F.image flash.old) page.0 log (at + k)) }
     ensures same { F.image flash.new ≡ F.image flash.old }
     ensures reads { F.reads flash.new ≤ F.reads flash.old + 3 }
     ensures reads_later { F.reads flash.old ≤ F.reads flash.new }
@@ -84,7 +88,9 @@ pub fn overwrite_file<F: Flash>(
     requires region { at + length bytes.now ≤ 8388480 }
     requires fits { at + length bytes.now + 32 ≤ 256 * pages }
     ensures used { IfOk result (λ n. n ≡ used + regions at (length bytes.now)) }
-    ensures becomes { IsTrue F.tells → IfOk result (λ n. (size : ℕ) → IsFile (F.image flash.old) page.0 pages (Some log) used size → at + length bytes.now ≤ size → size + 32 ≤ 256 * pages
+    ensures becomes { IsTrue F.tells → IfOk result
+        (λ n. (size : ℕ) → IsFile (F.image flash.old) page.0 pages (Some log) used size
+        → at + length bytes.now ≤ size → size + 32 ≤ 256 * pages
         → FileBecomes (F.image flash.old) (F.image flash.new) page.0 pages (Some log) n size at bytes.now) }
     ensures adds { IsTrue F.tells → IfOk result (λ n. IsLog (F.image flash.old) log.0 used
         → AddsRecords (F.image flash.old) (F.image flash.new) log.0 used n (at / 128) (256 * pages - 32)) }
@@ -133,10 +139,16 @@ pub fn append_file<F: Flash>(
     requires free { (l : PageId) → log ≡ Some l → 1 ≤ length bytes.now → used < 30 }
     requires region { at + length bytes.now ≤ 8388480 }
     requires fits { at + length bytes.now + 32 ≤ 256 * pages }
-    ensures used { IsTrue F.tells → IfOk result (λ n. n ≡ used + records_for (F.image flash.old) log at (length bytes.now)) }
+    ensures used { IsTrue F.tells → IfOk result
+        (λ n. n ≡ used + records_for (F.image flash.old) log at (length bytes.now)) }
     ensures few { IfOk result (λ n. n ≤ used + min (length bytes.now) 1) }
     ensures unlogged { log ≡ None → IfOk result (λ n. n ≡ used) }
-    ensures becomes { IsTrue F.tells → IfOk result (λ n. IsFile (F.image flash.old) page.0 pages log used at → FileBecomes (F.image flash.old) (F.image flash.new) page.0 pages log n (at + length bytes.now) at bytes.now) }
+    ensures becomes { IsTrue F.tells → IfOk result
+        (λ n. IsFile (F.image flash.old) page.0 pages log used at
+        → FileBecomes (F.image flash.old) (F.image flash.new) page.0 pages log n (at + length bytes.now) at bytes.now) }
+    ensures adds { IsTrue F.tells → (l : PageId) → log ≡ Some l
+        → IfOk result (λ n. IsFile (F.image flash.old) page.0 pages log used at
+        → AddsRecords (F.image flash.old) (F.image flash.new) l.0 used n (at / 128) (256 * pages - 32)) }
     ensures size { length (F.image flash.new) ≡ length (F.image flash.old) }
     ensures reads { F.reads flash.new ≤ F.reads flash.old + 4 }
     ensures reads_later { F.reads flash.old ≤ F.reads flash.new }
@@ -166,9 +178,15 @@ fn append_logged<F: Flash>(
     requires free { 1 ≤ length bytes.now → used < 30 }
     requires region { at + length bytes.now ≤ 8388480 }
     requires fits { at + length bytes.now + 32 ≤ 256 * pages }
-    ensures used { IsTrue F.tells → IfOk result (λ n. n ≡ used + records_for (F.image flash.old) (Some log) at (length bytes.now)) }
+    ensures used { IsTrue F.tells → IfOk result
+        (λ n. n ≡ used + records_for (F.image flash.old) (Some log) at (length bytes.now)) }
     ensures few { IfOk result (λ n. n ≤ used + min (length bytes.now) 1) }
-    ensures becomes { IsTrue F.tells → IfOk result (λ n. IsFile (F.image flash.old) page.0 pages (Some log) used at → FileBecomes (F.image flash.old) (F.image flash.new) page.0 pages (Some log) n (at + length bytes.now) at bytes.now) }
+    ensures becomes { IsTrue F.tells → IfOk result
+        (λ n. IsFile (F.image flash.old) page.0 pages (Some log) used at
+        → FileBecomes (F.image flash.old) (F.image flash.new) page.0 pages (Some log) n (at + length bytes.now) at bytes.now) }
+    ensures adds { IsTrue F.tells → IfOk result
+        (λ n. IsFile (F.image flash.old) page.0 pages (Some log) used at
+        → AddsRecords (F.image flash.old) (F.image flash.new) log.0 used n (at / 128) (256 * pages - 32)) }
     ensures size { length (F.image flash.new) ≡ length (F.image flash.old) }
     ensures reads { F.reads flash.new ≤ F.reads flash.old + 4 }
     ensures reads_later { F.reads flash.old ≤ F.reads flash.new }
@@ -191,8 +209,10 @@ fn append_logged<F: Flash>(
 fn is_logged<F: Flash>(flash: &mut F, log: PageId, region: u32) -> Result<bool, Failed>
     requires log { log.0 + 16 ≤ pages_of (F.image flash.old) }
     requires region { region < 16777216 }
-    ensures plain { IsTrue F.tells → IfOk result (λ b. b ≡ false → last_in (table_of (F.image flash.old) log.0) region 30 ≡ None) }
-    ensures logged { IsTrue F.tells → IfOk result (λ b. b ≡ true → one_if (last_in (table_of (F.image flash.old) log.0) region 30) ≡ 1) }
+    ensures plain { IsTrue F.tells → IfOk result
+        (λ b. b ≡ false → last_in (table_of (F.image flash.old) log.0) region 30 ≡ None) }
+    ensures logged { IsTrue F.tells → IfOk result
+        (λ b. b ≡ true → one_if (last_in (table_of (F.image flash.old) log.0) region 30) ≡ 1) }
     ensures same { F.image flash.new ≡ F.image flash.old }
     ensures reads { F.reads flash.new ≤ F.reads flash.old + 1 }
     ensures reads_later { F.reads flash.old ≤ F.reads flash.new }
@@ -209,8 +229,15 @@ fn is_logged<F: Flash>(flash: &mut F, log: PageId, region: u32) -> Result<bool, 
 // Programs bytes behind the end of a file, where no record hides them.
 fn append_plain<F: Flash>(flash: &mut F, page: PageId, at: u32, bytes: &[u8]) -> Result<(), Failed>
     requires placed { 256 * page.0 + 32 + at + length bytes.now ≤ length (F.image flash.old) }
-    ensures becomes { IsTrue F.tells → OnOk result ((pages used : ℕ) (log : Option PageId) → IsFile (F.image flash.old) page.0 pages log used at → IsPlain (F.image flash.old) log at (length bytes.now) → at + length bytes.now + 32 ≤ 256 * pages → 256 * (page.0 + pages) ≤ length (F.image flash.old)
+    ensures becomes { IsTrue F.tells → OnOk result
+        ((pages used : ℕ) (log : Option PageId)
+        → IsFile (F.image flash.old) page.0 pages log used at
+        → IsPlain (F.image flash.old) log at (length bytes.now)
+        → at + length bytes.now + 32 ≤ 256 * pages → 256 * (page.0 + pages) ≤ length (F.image flash.old)
         → FileBecomes (F.image flash.old) (F.image flash.new) page.0 pages log used (at + length bytes.now) at bytes.now) }
+    ensures others { IsTrue F.tells → OnOk result
+        ((k : ℕ) → Outside (256 * page.0 + 32 + at) (length bytes.now) k
+        → slice_index (F.image flash.new) k ≡ slice_index (F.image flash.old) k) }
     ensures size { length (F.image flash.new) ≡ length (F.image flash.old) }
     ensures reads { F.reads flash.new ≡ F.reads flash.old }
     ensures cause { HasCause (F.faults flash.old) (F.faults flash.new) result }
@@ -237,7 +264,9 @@ fn put_part<F: Flash>(
     requires some { 1 ≤ length bytes.now }
     requires part { at % 128 + length bytes.now ≤ 128 }
     requires fits { at + length bytes.now + 32 ≤ 256 * pages }
-    ensures becomes { IsTrue F.tells → OnOk result ((size total : ℕ) → IsFile (F.image flash.old) page.0 pages (Some log) used size → size ≤ total → at + length bytes.now ≤ total → total + 32 ≤ 256 * pages
+    ensures becomes { IsTrue F.tells → OnOk result
+        ((size total : ℕ) → IsFile (F.image flash.old) page.0 pages (Some log) used size
+        → size ≤ total → at + length bytes.now ≤ total → total + 32 ≤ 256 * pages
         → FileBecomes (F.image flash.old) (F.image flash.new) page.0 pages (Some log) (used + 1) total at bytes.now) }
     ensures adds { IsTrue F.tells → OnOk result (IsLog (F.image flash.old) log.0 used
         → AddsRecords (F.image flash.old) (F.image flash.new) log.0 used (used + 1) (at / 128) (256 * pages - 32)) }
@@ -271,7 +300,9 @@ fn load_front<F: Flash>(
     requires len { len ≤ 128 }
     requires placed { 256 * page.0 + 32 + at + len ≤ length (F.image flash.old) }
     requires log { log.0 + 16 ≤ pages_of (F.image flash.old) }
-    ensures bytes { IsTrue F.tells → OnOk result ((k : ℕ) → k < len → slice_index buffer.new k ≡ file_byte (F.image flash.old) page.0 (Some log) (at + k)) }
+    ensures bytes { IsTrue F.tells → OnOk result
+        ((k : ℕ)
+        → k < len → slice_index buffer.new k ≡ file_byte (F.image flash.old) page.0 (Some log) (at + k)) }
     ensures behind { (k : ℕ) → len ≤ k → slice_index buffer.new k ≡ slice_index buffer.old k }
     ensures same { F.image flash.new ≡ F.image flash.old }
     ensures reads { F.reads flash.new ≤ F.reads flash.old + 3 }

@@ -13,7 +13,8 @@ use flash_range::program_range;
 /// The last record of a region, 0 to 29: None exactly where the log at `log` has none of it. One read.
 pub fn log_region<F: Flash>(flash: &mut F, log: PageId, region: u16) -> Result<Option<u8>, Failed>
     requires log { log.0 + 16 ≤ pages_of (F.image flash.old) }
-    ensures last { IsTrue F.tells → IfOk result (λ r. r ≡ last_in (table_of (F.image flash.old) log.0) region 30) }
+    ensures last { IsTrue F.tells → IfOk result
+        (λ r. r ≡ last_in (table_of (F.image flash.old) log.0) region 30) }
     ensures same { F.image flash.new ≡ F.image flash.old }
     ensures reads { F.reads flash.new ≤ F.reads flash.old + 1 }
     ensures reads_later { F.reads flash.old ≤ F.reads flash.new }
@@ -55,8 +56,11 @@ pub fn log_put<F: Flash>(
     requires log { log.0 + 16 ≤ pages_of (F.image flash.old) }
     requires free { used < 30 }
     requires region { region < 65535 }
-    ensures put { IsTrue F.tells → OnOk result (IsLog (F.image flash.old) log.0 used → PutsRecord (F.image flash.old) (F.image flash.new) log.0 used region bytes.now) }
-    ensures other_pages { IsTrue F.tells → (p : ℕ) → PageOutside (256 * log.0) 4096 p → page_bytes (F.image flash.new) p ≡ page_bytes (F.image flash.old) p }
+    ensures put { IsTrue F.tells → OnOk result
+        (IsLog (F.image flash.old) log.0 used
+        → PutsRecord (F.image flash.old) (F.image flash.new) log.0 used region bytes.now) }
+    ensures other_pages { IsTrue F.tells → (p : ℕ) → PageOutside (256 * log.0) 4096 p
+        → page_bytes (F.image flash.new) p ≡ page_bytes (F.image flash.old) p }
     ensures size { length (F.image flash.new) ≡ length (F.image flash.old) }
     ensures reads { F.reads flash.new ≡ F.reads flash.old }
     ensures cause { HasCause (F.faults flash.old) (F.faults flash.new) result }

@@ -2,7 +2,10 @@ pub mod Beginning
 pub mod Begun
 pub mod Commits
 pub mod Contents
+pub mod CrampedImages
 pub mod Drafting
+pub mod ExtentShares
+pub mod FileShares
 pub mod FreeUnits
 pub mod HeaderMarks
 pub mod Holdings
@@ -14,6 +17,7 @@ pub mod MovedFiles
 pub mod Moving
 pub mod Numbered
 pub mod Obtained
+pub mod Pigeons
 pub mod Retired
 pub mod SoundEntries
 pub mod SoundFiles
@@ -23,5 +27,6 @@ pub mod SoundLogs
 pub mod SoundRules
 pub mod SoundTables
 pub mod SoundUnits
+pub mod TableShares
 pub mod Taken
 pub mod Turned

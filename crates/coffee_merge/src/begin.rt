@@ -26,16 +26,27 @@ pub fn begin_extent<F: Flash>(
 ) -> Result<PageId, FileError>
     requires some { 1 ≤ pages }
     requires shape { has_shape kind pages ≡ true }
-    ensures begun { IsTrue F.tells → IfOk result (λ page. (table : Entries) (size : ℕ) → Holds (F.image flash.old) table None → size + 32 ≤ 256 * pages
+    ensures begun { IsTrue F.tells → IfOk result
+        (λ page. (table : Entries) (size : ℕ) → Holds (F.image flash.old) table None → size + 32 ≤ 256 * pages
         → Begins (F.image flash.old) (F.image flash.new) table (extent_of name.now kind page.0 pages size)) }
-    ensures kept { IsTrue F.tells → OnSpace result (λ _. (table : Entries) → Holds (F.image flash.old) table None → Stays (F.image flash.old) (F.image flash.new) table) }
-    ensures taken { IsTrue F.tells → IfOk result (λ page. (table : Entries) → Holds (F.image flash.old) table None → TakesOnly (F.image flash.old) (F.image flash.new) page.0 pages) }
-    ensures untaken { IsTrue F.tells → OnSpace result (λ _. (table : Entries) → Holds (F.image flash.old) table None → TakesOnly (F.image flash.old) (F.image flash.new) 0 0) }
-    ensures lowest { IsTrue F.tells → IfOk result (λ page. (table : Entries) → Holds (F.image flash.old) table None
+    ensures kept { IsTrue F.tells → OnSpace result
+        (λ _. (table : Entries) → Holds (F.image flash.old) table None
+        → Stays (F.image flash.old) (F.image flash.new) table) }
+    ensures taken { IsTrue F.tells → IfOk result
+        (λ page. (table : Entries) → Holds (F.image flash.old) table None
+        → TakesOnly (F.image flash.old) (F.image flash.new) page.0 pages) }
+    ensures untaken { IsTrue F.tells → OnSpace result
+        (λ _. (table : Entries) → Holds (F.image flash.old) table None
+        → TakesOnly (F.image flash.old) (F.image flash.new) 0 0) }
+    ensures lowest { IsTrue F.tells → IfOk result
+        (λ page. (table : Entries) → Holds (F.image flash.old) table None
         → Takes (F.image flash.old) (F.image flash.new) page.0 pages None) }
-    ensures looked { IsTrue F.tells → OnSpace result (λ _. (table : Entries) → Holds (F.image flash.old) table None
+    ensures looked { IsTrue F.tells → OnSpace result
+        (λ _. (table : Entries) → Holds (F.image flash.old) table None
         → LooksIn (F.image flash.old) (F.image flash.new) pages) }
-    ensures cramped { IsTrue F.tells → OnSpace result (λ need. (table : Entries) → Holds (F.image flash.old) table None → IsCramped (units_of (F.image flash.new)) need) }
+    ensures cramped { IsTrue F.tells → OnSpace result
+        (λ need. (table : Entries) → Holds (F.image flash.old) table None
+        → IsCramped (units_of (F.image flash.new)) need) }
     ensures need { OnSpace result (λ need. need ≡ pages) }
     ensures inside { IfOk result (λ page. page.0 + pages ≤ pages_of (F.image flash.new)) }
     ensures size { length (F.image flash.new) ≡ length (F.image flash.old) }
@@ -50,12 +61,21 @@ pub fn begin_extent<F: Flash>(
 /// The lowest run of `pages` free pages, where all files are kept.
 pub(crate) fn obtain_pages<F: Flash>(flash: &mut F, pages: u16) -> Result<PageId, FileError>
     requires some { 1 ≤ pages }
-    ensures run { IsTrue F.tells → IfOk result (λ page. (table : Entries) → Holds (F.image flash.old) table None → IsObtained (F.image flash.old) (F.image flash.new) table pages page.0) }
-    ensures kept { IsTrue F.tells → OnSpace result (λ _. (table : Entries) → Holds (F.image flash.old) table None → Stays (F.image flash.old) (F.image flash.new) table) }
-    ensures untaken { IsTrue F.tells → UnlessFailed result ((table : Entries) → Holds (F.image flash.old) table None → TakesOnly (F.image flash.old) (F.image flash.new) 0 0) }
-    ensures looked { IsTrue F.tells → UnlessFailed result ((table : Entries) → Holds (F.image flash.old) table None
+    ensures run { IsTrue F.tells → IfOk result
+        (λ page. (table : Entries) → Holds (F.image flash.old) table None
+        → IsObtained (F.image flash.old) (F.image flash.new) table pages page.0) }
+    ensures kept { IsTrue F.tells → OnSpace result
+        (λ _. (table : Entries) → Holds (F.image flash.old) table None
+        → Stays (F.image flash.old) (F.image flash.new) table) }
+    ensures untaken { IsTrue F.tells → UnlessFailed result
+        ((table : Entries) → Holds (F.image flash.old) table None
+        → TakesOnly (F.image flash.old) (F.image flash.new) 0 0) }
+    ensures looked { IsTrue F.tells → UnlessFailed result
+        ((table : Entries) → Holds (F.image flash.old) table None
         → LooksIn (F.image flash.old) (F.image flash.new) pages) }
-    ensures cramped { IsTrue F.tells → OnSpace result (λ need. (table : Entries) → Holds (F.image flash.old) table None → IsCramped (units_of (F.image flash.new)) need) }
+    ensures cramped { IsTrue F.tells → OnSpace result
+        (λ need. (table : Entries) → Holds (F.image flash.old) table None
+        → IsCramped (units_of (F.image flash.new)) need) }
     ensures need { OnSpace result (λ need. need ≡ pages) }
     ensures inside { IfOk result (λ page. 256 * (page.0 + pages) ≤ length (F.image flash.new)) }
     ensures size { length (F.image flash.new) ≡ length (F.image flash.old) }
@@ -75,7 +95,8 @@ fn put_file_header<F: Flash>(
 ) -> Result<(), Failed>
     requires page { 256 * page.0 + 256 ≤ length (F.image flash.old) }
     ensures name { is_file_name name.now ≡ true }
-    ensures written { IsTrue F.tells → OnOk result (F.image flash.new ≡ or_at (F.image flash.old) (256 * page.0) (header_bytes (draft_header (extent_of name.now kind page.0 pages 0)))) }
+    ensures written { IsTrue F.tells → OnOk result
+        (F.image flash.new ≡ or_at (F.image flash.old) (256 * page.0) (header_bytes (draft_header (extent_of name.now kind page.0 pages 0)))) }
     ensures other_pages { IsTrue F.tells → (p : ℕ) → p ≢ page.0
         → page_bytes (F.image flash.new) p ≡ page_bytes (F.image flash.old) p }
     ensures size { length (F.image flash.new) ≡ length (F.image flash.old) }
@@ -107,7 +128,8 @@ pub(crate) fn put_header<F: Flash>(
     requires kind { is_kind header.now.kind ≡ true }
     requires flags { is_flags header.now.flags ≡ true }
     ensures name { is_file_name header.now.name ≡ true }
-    ensures written { IsTrue F.tells → OnOk result (F.image flash.new ≡ or_at (F.image flash.old) (256 * page.0) (header_bytes header.now)) }
+    ensures written { IsTrue F.tells → OnOk result
+        (F.image flash.new ≡ or_at (F.image flash.old) (256 * page.0) (header_bytes header.now)) }
     ensures other_pages { IsTrue F.tells → (p : ℕ) → p ≢ page.0
         → page_bytes (F.image flash.new) p ≡ page_bytes (F.image flash.old) p }
     ensures size { length (F.image flash.new) ≡ length (F.image flash.old) }

@@ -16,11 +16,16 @@ use coffee_layout::FileAt;
 /// has its name. It takes a free place of the table. All files have their content.
 pub fn commit_extent<F: Flash>(flash: &mut F, page: PageId) -> Result<(), Failed>
     requires page { 256 * page.0 + 256 ≤ length (F.image flash.old) }
-    ensures committed { IsTrue F.tells → OnOk result ((table : Entries) (d : FileAt) (i : ℕ) → Holds (F.image flash.old) table (Some d) → d.page ≡ page → i < length table → get_or table i None ≡ None → IsNewName table d.name
+    ensures committed { IsTrue F.tells → OnOk result
+        ((table : Entries) (d : FileAt) (i : ℕ) → Holds (F.image flash.old) table (Some d)
+        → d.page ≡ page → i < length table → get_or table i None ≡ None → IsNewName table d.name
         → (1 ≤ d.size → file_byte (F.image flash.old) page.0 None (d.size - 1) ≢ 0)
         → Commits (F.image flash.old) (F.image flash.new) table i d) }
-    ensures taken { IsTrue F.tells → OnOk result ((table : Entries) (d : FileAt) → Holds (F.image flash.old) table (Some d) → d.page ≡ page → TakesOnly (F.image flash.old) (F.image flash.new) 0 0) }
-    ensures freed { IsTrue F.tells → OnOk result ((table : Entries) (d : FileAt) → Holds (F.image flash.old) table (Some d) → d.page ≡ page
+    ensures taken { IsTrue F.tells → OnOk result
+        ((table : Entries) (d : FileAt) → Holds (F.image flash.old) table (Some d) → d.page ≡ page
+        → TakesOnly (F.image flash.old) (F.image flash.new) 0 0) }
+    ensures freed { IsTrue F.tells → OnOk result
+        ((table : Entries) (d : FileAt) → Holds (F.image flash.old) table (Some d) → d.page ≡ page
         → FreesNone (F.image flash.old) (F.image flash.new)) }
     ensures other_pages { IsTrue F.tells → (p : ℕ) → p ≢ page.0
         → page_bytes (F.image flash.new) p ≡ page_bytes (F.image flash.old) p }
@@ -37,15 +42,23 @@ pub fn commit_extent<F: Flash>(flash: &mut F, page: PageId) -> Result<(), Failed
 pub fn replace_file<F: Flash>(flash: &mut F, page: PageId, old: &FileAt) -> Result<(), Failed>
     requires page { 256 * page.0 + 256 ≤ length (F.image flash.old) }
     requires fits { FitsIn (pages_of (F.image flash.old)) old.now }
-    ensures replaced { IsTrue F.tells → OnOk result ((table : Entries) (d : FileAt) (i : ℕ) → Holds (F.image flash.old) table (Some d) → d.page ≡ page → IsIn table i old.now → old.now.name ≡ d.name
+    ensures replaced { IsTrue F.tells → OnOk result
+        ((table : Entries) (d : FileAt) (i : ℕ) → Holds (F.image flash.old) table (Some d)
+        → d.page ≡ page → IsIn table i old.now → old.now.name ≡ d.name
         → (1 ≤ d.size → file_byte (F.image flash.old) page.0 None (d.size - 1) ≢ 0)
         → Commits (F.image flash.old) (F.image flash.new) table i d) }
-    ensures taken { IsTrue F.tells → OnOk result ((table : Entries) (d : FileAt) (i : ℕ) → Holds (F.image flash.old) table (Some d) → d.page ≡ page → IsIn table i old.now → TakesOnly (F.image flash.old) (F.image flash.new) 0 0) }
-    ensures freed { IsTrue F.tells → OnOk result ((table : Entries) (d : FileAt) (i : ℕ) → Holds (F.image flash.old) table (Some d) → d.page ≡ page → IsIn table i old.now
+    ensures taken { IsTrue F.tells → OnOk result
+        ((table : Entries) (d : FileAt) (i : ℕ) → Holds (F.image flash.old) table (Some d)
+        → d.page ≡ page → IsIn table i old.now → TakesOnly (F.image flash.old) (F.image flash.new) 0 0) }
+    ensures freed { IsTrue F.tells → OnOk result
+        ((table : Entries) (d : FileAt) (i : ℕ) → Holds (F.image flash.old) table (Some d)
+        → d.page ≡ page → IsIn table i old.now
         → FreesNone (F.image flash.old) (F.image flash.new)) }
     ensures other_pages { IsTrue F.tells → (p : ℕ) → p ≢ page.0 → p ≢ old.now.page.0
-        → ((l : PageId) → old.now.log ≡ Some l → p ≢ l.0) → page_bytes (F.image flash.new) p ≡ page_bytes (F.image flash.old) p }
-    ensures survives { IsTrue F.tells → page.0 ≢ old.now.page.0 → ((l : PageId) → old.now.log ≡ Some l → page.0 ≢ l.0)
+        → ((l : PageId) → old.now.log ≡ Some l → p ≢ l.0)
+        → page_bytes (F.image flash.new) p ≡ page_bytes (F.image flash.old) p }
+    ensures survives { IsTrue F.tells → page.0 ≢ old.now.page.0
+        → ((l : PageId) → old.now.log ≡ Some l → page.0 ≢ l.0)
         → (page_bytes (F.image flash.new) old.now.page.0 ≡ page_bytes (F.image flash.old) old.now.page.0) ⊎ (page_bytes (F.image flash.new) page.0 ≡ or_at (page_bytes (F.image flash.old) page.0) 9 (1 ∷ [])) }
     ensures size { length (F.image flash.new) ≡ length (F.image flash.old) }
     ensures reads { F.reads flash.new ≡ F.reads flash.old }
@@ -58,10 +71,15 @@ pub fn replace_file<F: Flash>(flash: &mut F, page: PageId, old: &FileAt) -> Resu
 /// Makes a file obsolete, with its log. All other files have their content.
 pub fn retire_file<F: Flash>(flash: &mut F, file: &FileAt) -> Result<(), Failed>
     requires fits { FitsIn (pages_of (F.image flash.old)) file.now }
-    ensures retired { IsTrue F.tells → OnOk result ((table : Entries) (i : ℕ) → Holds (F.image flash.old) table None → IsIn table i file.now → Sets (F.image flash.old) (F.image flash.new) table i None) }
-    ensures taken { IsTrue F.tells → OnOk result ((table : Entries) (i : ℕ) → Holds (F.image flash.old) table None → IsIn table i file.now → TakesOnly (F.image flash.old) (F.image flash.new) 0 0) }
+    ensures retired { IsTrue F.tells → OnOk result
+        ((table : Entries) (i : ℕ) → Holds (F.image flash.old) table None → IsIn table i file.now
+        → Sets (F.image flash.old) (F.image flash.new) table i None) }
+    ensures taken { IsTrue F.tells → OnOk result
+        ((table : Entries) (i : ℕ) → Holds (F.image flash.old) table None → IsIn table i file.now
+        → TakesOnly (F.image flash.old) (F.image flash.new) 0 0) }
     ensures other_pages { IsTrue F.tells → (p : ℕ) → p ≢ file.now.page.0
-        → ((l : PageId) → file.now.log ≡ Some l → p ≢ l.0) → page_bytes (F.image flash.new) p ≡ page_bytes (F.image flash.old) p }
+        → ((l : PageId) → file.now.log ≡ Some l → p ≢ l.0)
+        → page_bytes (F.image flash.new) p ≡ page_bytes (F.image flash.old) p }
     ensures size { length (F.image flash.new) ≡ length (F.image flash.old) }
     ensures reads { F.reads flash.new ≡ F.reads flash.old }
     ensures cause { HasCause (F.faults flash.old) (F.faults flash.new) result }
@@ -72,8 +90,11 @@ pub fn retire_file<F: Flash>(flash: &mut F, file: &FileAt) -> Result<(), Failed>
 // Programs OBSOLETE into the headers of a file and of its log.
 fn mark_obsolete<F: Flash>(flash: &mut F, file: &FileAt) -> Result<(), Failed>
     requires fits { FitsIn (pages_of (F.image flash.old)) file.now }
-    ensures obsolete { IsTrue F.tells → OnOk result (F.image flash.new ≡ obsoleted (F.image flash.old) file.now.page.0 file.now.log) }
-    ensures others { IsTrue F.tells → (q : ℕ) → q ≢ file.now.page.0 → ((l : PageId) → file.now.log ≡ Some l → q ≢ l.0) → page_bytes (F.image flash.new) q ≡ page_bytes (F.image flash.old) q }
+    ensures obsolete { IsTrue F.tells → OnOk result
+        (F.image flash.new ≡ obsoleted (F.image flash.old) file.now.page.0 file.now.log) }
+    ensures others { IsTrue F.tells → (q : ℕ) → q ≢ file.now.page.0
+        → ((l : PageId) → file.now.log ≡ Some l → q ≢ l.0)
+        → page_bytes (F.image flash.new) q ≡ page_bytes (F.image flash.old) q }
     ensures size { length (F.image flash.new) ≡ length (F.image flash.old) }
     ensures reads { F.reads flash.new ≡ F.reads flash.old }
     ensures cause { HasCause (F.faults flash.old) (F.faults flash.new) result }

@@ -23,13 +23,20 @@ pub fn write_extent<F: Flash>(
 ) -> Result<(), Failed>
     requires placed { page.0 + pages ≤ pages_of (F.image flash.old) }
     requires fits { at + length bytes.now + 32 ≤ 256 * pages }
-    ensures written { IsTrue F.tells → OnOk result ((table : Entries) (d : FileAt) → Holds (F.image flash.old) table (Some d) → d.page ≡ page → d.pages ≡ pages → at + length bytes.now ≤ d.size
+    ensures written { IsTrue F.tells → OnOk result
+        ((table : Entries) (d : FileAt) → Holds (F.image flash.old) table (Some d) → d.page ≡ page
+        → d.pages ≡ pages → at + length bytes.now ≤ d.size
         → ((k : ℕ) → k < length bytes.now → file_byte (F.image flash.old) page.0 None (at + k) ≡ 0)
         → Writes (F.image flash.old) (F.image flash.new) table d at bytes.now) }
-    ensures taken { IsTrue F.tells → OnOk result ((table : Entries) (d : FileAt) → Holds (F.image flash.old) table (Some d) → d.page ≡ page → d.pages ≡ pages → TakesOnly (F.image flash.old) (F.image flash.new) 0 0) }
-    ensures freed { IsTrue F.tells → OnOk result ((table : Entries) (d : FileAt) → Holds (F.image flash.old) table (Some d) → d.page ≡ page → d.pages ≡ pages
+    ensures taken { IsTrue F.tells → OnOk result
+        ((table : Entries) (d : FileAt) → Holds (F.image flash.old) table (Some d) → d.page ≡ page
+        → d.pages ≡ pages → TakesOnly (F.image flash.old) (F.image flash.new) 0 0) }
+    ensures freed { IsTrue F.tells → OnOk result
+        ((table : Entries) (d : FileAt) → Holds (F.image flash.old) table (Some d) → d.page ≡ page
+        → d.pages ≡ pages
         → FreesNone (F.image flash.old) (F.image flash.new)) }
-    ensures other_pages { IsTrue F.tells → KeepsPagesBut (F.image flash.old) (F.image flash.new) page.0 pages None }
+    ensures other_pages { IsTrue F.tells
+        → KeepsPagesBut (F.image flash.old) (F.image flash.new) page.0 pages None }
     ensures size { length (F.image flash.new) ≡ length (F.image flash.old) }
     ensures reads { F.reads flash.new ≡ F.reads flash.old }
     ensures cause { HasCause (F.faults flash.old) (F.faults flash.new) result }
@@ -49,16 +56,23 @@ pub fn copy_file<F: Flash>(
     requires from { FitsIn (pages_of (F.image flash.old)) from.now }
     requires placed { page.0 + pages ≤ pages_of (F.image flash.old) }
     requires fits { from.now.size + 32 ≤ 256 * pages }
-    ensures copied { IsTrue F.tells → OnOk result ((table : Entries) (d : FileAt) (i : ℕ) → Holds (F.image flash.old) table (Some d) → d.page ≡ page → d.pages ≡ pages → d.size ≡ from.now.size → IsIn table i from.now
+    ensures copied { IsTrue F.tells → OnOk result
+        ((table : Entries) (d : FileAt) (i : ℕ) → Holds (F.image flash.old) table (Some d)
+        → d.page ≡ page → d.pages ≡ pages → d.size ≡ from.now.size → IsIn table i from.now
         → ((p : ℕ) → p + 32 < 256 * pages → file_byte (F.image flash.old) page.0 None p ≡ 0)
         → Copies (F.image flash.old) (F.image flash.new) table d from.now from.now.size) }
-    ensures taken { IsTrue F.tells → OnOk result ((table : Entries) (d : FileAt) (i : ℕ) → Holds (F.image flash.old) table (Some d) → d.page ≡ page → d.pages ≡ pages → d.size ≡ from.now.size → IsIn table i from.now
+    ensures taken { IsTrue F.tells → OnOk result
+        ((table : Entries) (d : FileAt) (i : ℕ) → Holds (F.image flash.old) table (Some d)
+        → d.page ≡ page → d.pages ≡ pages → d.size ≡ from.now.size → IsIn table i from.now
         → ((p : ℕ) → p + 32 < 256 * pages → file_byte (F.image flash.old) page.0 None p ≡ 0)
         → TakesOnly (F.image flash.old) (F.image flash.new) 0 0) }
-    ensures freed { IsTrue F.tells → OnOk result ((table : Entries) (d : FileAt) (i : ℕ) → Holds (F.image flash.old) table (Some d) → d.page ≡ page → d.pages ≡ pages → d.size ≡ from.now.size → IsIn table i from.now
+    ensures freed { IsTrue F.tells → OnOk result
+        ((table : Entries) (d : FileAt) (i : ℕ) → Holds (F.image flash.old) table (Some d)
+        → d.page ≡ page → d.pages ≡ pages → d.size ≡ from.now.size → IsIn table i from.now
         → ((p : ℕ) → p + 32 < 256 * pages → file_byte (F.image flash.old) page.0 None p ≡ 0)
         → FreesNone (F.image flash.old) (F.image flash.new)) }
-    ensures other_pages { IsTrue F.tells → KeepsPagesBut (F.image flash.old) (F.image flash.new) page.0 pages None }
+    ensures other_pages { IsTrue F.tells
+        → KeepsPagesBut (F.image flash.old) (F.image flash.new) page.0 pages None }
     ensures size { length (F.image flash.new) ≡ length (F.image flash.old) }
     ensures reads_later { F.reads flash.old ≤ F.reads flash.new }
     ensures cause { HasCause (F.faults flash.old) (F.faults flash.new) result }
@@ -86,13 +100,20 @@ fn copy_part<F: Flash>(
     requires from { FitsIn (pages_of (F.image flash.old)) from.now }
     requires placed { page.0 + pages ≤ pages_of (F.image flash.old) }
     requires fits { from.now.size + 32 ≤ 256 * pages }
-    ensures copied { IsTrue F.tells → OnOk result ((table : Entries) (d : FileAt) (i : ℕ) → Holds (F.image flash.old) table (Some d) → d.page ≡ page → d.pages ≡ pages → d.size ≡ from.now.size → IsIn table i from.now
+    ensures copied { IsTrue F.tells → OnOk result
+        ((table : Entries) (d : FileAt) (i : ℕ) → Holds (F.image flash.old) table (Some d)
+        → d.page ≡ page → d.pages ≡ pages → d.size ≡ from.now.size → IsIn table i from.now
         → ((p : ℕ) → at ≤ p → p + 32 < 256 * pages → file_byte (F.image flash.old) page.0 None p ≡ 0)
         → CopiesPart (F.image flash.old) (F.image flash.new) table d from.now at n) }
-    ensures taken { IsTrue F.tells → OnOk result ((table : Entries) (d : FileAt) → Holds (F.image flash.old) table (Some d) → d.page ≡ page → d.pages ≡ pages → TakesOnly (F.image flash.old) (F.image flash.new) 0 0) }
-    ensures freed { IsTrue F.tells → OnOk result ((table : Entries) (d : FileAt) → Holds (F.image flash.old) table (Some d) → d.page ≡ page → d.pages ≡ pages
+    ensures taken { IsTrue F.tells → OnOk result
+        ((table : Entries) (d : FileAt) → Holds (F.image flash.old) table (Some d) → d.page ≡ page
+        → d.pages ≡ pages → TakesOnly (F.image flash.old) (F.image flash.new) 0 0) }
+    ensures freed { IsTrue F.tells → OnOk result
+        ((table : Entries) (d : FileAt) → Holds (F.image flash.old) table (Some d) → d.page ≡ page
+        → d.pages ≡ pages
         → FreesNone (F.image flash.old) (F.image flash.new)) }
-    ensures other_pages { IsTrue F.tells → KeepsPagesBut (F.image flash.old) (F.image flash.new) page.0 pages None }
+    ensures other_pages { IsTrue F.tells
+        → KeepsPagesBut (F.image flash.old) (F.image flash.new) page.0 pages None }
     ensures size { length (F.image flash.new) ≡ length (F.image flash.old) }
     ensures reads_later { F.reads flash.old ≤ F.reads flash.new }
     ensures cause { HasCause (F.faults flash.old) (F.faults flash.new) result }

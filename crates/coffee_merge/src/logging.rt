@@ -23,16 +23,30 @@ use coffee_layout::FileAt;
 /// free.
 pub fn add_log<F: Flash>(flash: &mut F, file: &FileAt) -> Result<PageId, FileError>
     requires fits { FitsIn (pages_of (F.image flash.old)) file.now }
-    ensures logged { IsTrue F.tells → IfOk result (λ log. (table : Entries) (i : ℕ) → Holds (F.image flash.old) table None → IsIn table i file.now → file.now.log ≡ None
+    ensures logged { IsTrue F.tells → IfOk result
+        (λ log. (table : Entries) (i : ℕ) → Holds (F.image flash.old) table None
+        → IsIn table i file.now → file.now.log ≡ None
         → Logs (F.image flash.old) (F.image flash.new) table i file.now log) }
-    ensures kept { IsTrue F.tells → OnSpace result (λ _. (table : Entries) → Holds (F.image flash.old) table None → Stays (F.image flash.old) (F.image flash.new) table) }
-    ensures taken { IsTrue F.tells → IfOk result (λ log. (table : Entries) (i : ℕ) → Holds (F.image flash.old) table None → IsIn table i file.now → file.now.log ≡ None → TakesOnly (F.image flash.old) (F.image flash.new) log.0 16) }
-    ensures untaken { IsTrue F.tells → OnSpace result (λ _. (table : Entries) → Holds (F.image flash.old) table None → TakesOnly (F.image flash.old) (F.image flash.new) 0 0) }
-    ensures lowest { IsTrue F.tells → IfOk result (λ log. (table : Entries) (i : ℕ) → Holds (F.image flash.old) table None → IsIn table i file.now → file.now.log ≡ None
+    ensures kept { IsTrue F.tells → OnSpace result
+        (λ _. (table : Entries) → Holds (F.image flash.old) table None
+        → Stays (F.image flash.old) (F.image flash.new) table) }
+    ensures taken { IsTrue F.tells → IfOk result
+        (λ log. (table : Entries) (i : ℕ) → Holds (F.image flash.old) table None
+        → IsIn table i file.now → file.now.log ≡ None
+        → TakesOnly (F.image flash.old) (F.image flash.new) log.0 16) }
+    ensures untaken { IsTrue F.tells → OnSpace result
+        (λ _. (table : Entries) → Holds (F.image flash.old) table None
+        → TakesOnly (F.image flash.old) (F.image flash.new) 0 0) }
+    ensures lowest { IsTrue F.tells → IfOk result
+        (λ log. (table : Entries) (i : ℕ) → Holds (F.image flash.old) table None
+        → IsIn table i file.now → file.now.log ≡ None
         → Takes (F.image flash.old) (F.image flash.new) log.0 16 (Some file.now)) }
-    ensures looked { IsTrue F.tells → OnSpace result (λ _. (table : Entries) → Holds (F.image flash.old) table None
+    ensures looked { IsTrue F.tells → OnSpace result
+        (λ _. (table : Entries) → Holds (F.image flash.old) table None
         → LooksIn (F.image flash.old) (F.image flash.new) 16) }
-    ensures cramped { IsTrue F.tells → OnSpace result (λ need. (table : Entries) → Holds (F.image flash.old) table None → IsCramped (units_of (F.image flash.new)) need) }
+    ensures cramped { IsTrue F.tells → OnSpace result
+        (λ need. (table : Entries) → Holds (F.image flash.old) table None
+        → IsCramped (units_of (F.image flash.new)) need) }
     ensures need { OnSpace result (λ need. need ≡ 16) }
     ensures inside { IfOk result (λ log. log.0 + 16 ≤ pages_of (F.image flash.new)) }
     ensures size { length (F.image flash.new) ≡ length (F.image flash.old) }
@@ -50,7 +64,8 @@ pub fn add_log<F: Flash>(flash: &mut F, file: &FileAt) -> Result<PageId, FileErr
 fn put_log_header<F: Flash>(flash: &mut F, log: PageId, name: &Name) -> Result<(), Failed>
     requires page { 256 * log.0 + 256 ≤ length (F.image flash.old) }
     ensures name { is_file_name name.now ≡ true }
-    ensures written { IsTrue F.tells → OnOk result (F.image flash.new ≡ or_at (F.image flash.old) (256 * log.0) (header_bytes (log_header name.now))) }
+    ensures written { IsTrue F.tells → OnOk result
+        (F.image flash.new ≡ or_at (F.image flash.old) (256 * log.0) (header_bytes (log_header name.now))) }
     ensures other_pages { IsTrue F.tells → (p : ℕ) → p ≢ log.0
         → page_bytes (F.image flash.new) p ≡ page_bytes (F.image flash.old) p }
     ensures size { length (F.image flash.new) ≡ length (F.image flash.old) }
@@ -73,7 +88,8 @@ fn put_log_header<F: Flash>(flash: &mut F, log: PageId, name: &Name) -> Result<(
 fn name_log<F: Flash>(flash: &mut F, page: PageId, log: PageId) -> Result<(), Failed>
     requires page { 256 * page.0 + 256 ≤ length (F.image flash.old) }
     requires log { log.0 < 65535 }
-    ensures written { IsTrue F.tells → OnOk result (F.image flash.new ≡ flagged (or_at (F.image flash.old) (256 * page.0) (u16_bytes (log.0 + 1))) page.0 8) }
+    ensures written { IsTrue F.tells → OnOk result
+        (F.image flash.new ≡ flagged (or_at (F.image flash.old) (256 * page.0) (u16_bytes (log.0 + 1))) page.0 8) }
     ensures other_pages { IsTrue F.tells → (p : ℕ) → p ≢ page.0
         → page_bytes (F.image flash.new) p ≡ page_bytes (F.image flash.old) p }
     ensures size { length (F.image flash.new) ≡ length (F.image flash.old) }

@@ -18,8 +18,12 @@ use coffee_layout::unit_in;
 /// that the rules 1 to 4 do not allow it may do nothing and answer 0. After `Failed` the image may be
 /// between the two, and a page or a sector of it may hold anything.
 pub fn collect<F: Flash>(flash: &mut F) -> Result<u16, Failed>
-    ensures collected { IsTrue F.tells → OnOk result ((building : ℕ → Bool) (us : List Unit) → IsTiled building (F.image flash.old) us → IsCollected building (F.image flash.old) (F.image flash.new) us) }
-    ensures number { IsTrue F.tells → IfOk result (λ n. (building : ℕ → Bool) (us : List Unit) → IsTiled building (F.image flash.old) us → n ≡ number_taken (is_taken us) (length (F.image flash.old) / 4096)) }
+    ensures collected { IsTrue F.tells → OnOk result
+        ((building : ℕ → Bool) (us : List Unit) → IsTiled building (F.image flash.old) us
+        → IsCollected building (F.image flash.old) (F.image flash.new) us) }
+    ensures number { IsTrue F.tells → IfOk result
+        (λ n. (building : ℕ → Bool) (us : List Unit) → IsTiled building (F.image flash.old) us
+        → n ≡ number_taken (is_taken us) (length (F.image flash.old) / 4096)) }
     ensures size { length (F.image flash.new) ≡ length (F.image flash.old) }
     ensures reads { F.reads flash.new ≤ F.reads flash.old + 2 * pages_of (F.image flash.old) }
     ensures reads_later { F.reads flash.old ≤ F.reads flash.new }
@@ -36,7 +40,8 @@ pub fn collect<F: Flash>(flash: &mut F) -> Result<u16, Failed>
 
 // Isolates the pages outside of the taken sectors that belong to a unit with a page inside.
 fn isolate<F: Flash>(flash: &mut F, sectors: &Sectors) -> Result<(), Failed>
-    ensures isolated { IsTrue F.tells → OnOk result ((building : ℕ → Bool) (us : List Unit) → IsTiled building (F.image flash.old) us
+    ensures isolated { IsTrue F.tells → OnOk result
+        ((building : ℕ → Bool) (us : List Unit) → IsTiled building (F.image flash.old) us
         → Isolates (taken_in sectors.now.used.bits sectors.now.active.bits) (F.image flash.old) (F.image flash.new) us) }
     ensures size { length (F.image flash.new) ≡ length (F.image flash.old) }
     ensures reads { F.reads flash.new ≤ F.reads flash.old + pages_of (F.image flash.old) }
@@ -64,7 +69,8 @@ fn isolate_unit<F: Flash>(
     pages: u16,
 ) -> Result<(), Failed>
     requires inside { 256 * (page + pages) ≤ length (F.image flash.old) }
-    ensures isolated { IsTrue F.tells → OnOk result (IsolatesPages (taken_in sectors.now.used.bits sectors.now.active.bits) (touches (taken_in sectors.now.used.bits sectors.now.active.bits) page pages) (F.image flash.old) (F.image flash.new) page pages) }
+    ensures isolated { IsTrue F.tells → OnOk result
+        (IsolatesPages (taken_in sectors.now.used.bits sectors.now.active.bits) (touches (taken_in sectors.now.used.bits sectors.now.active.bits) page pages) (F.image flash.old) (F.image flash.new) page pages) }
     ensures size { length (F.image flash.new) ≡ length (F.image flash.old) }
     ensures reads { F.reads flash.new ≡ F.reads flash.old }
     ensures cause { HasCause (F.faults flash.old) (F.faults flash.new) result }
@@ -103,9 +109,13 @@ fn is_cut(sectors: &Sectors, page: u16, pages: u16) -> bool
 // Programs the mark of an isolated page, where it is wanted.
 fn isolate_page<F: Flash>(flash: &mut F, wanted: bool, page: u16) -> Result<(), Failed>
     requires page { 256 * page + 256 ≤ length (F.image flash.old) }
-    ensures isolated { IsTrue F.tells → OnOk result (wanted ≡ true → page_bytes (F.image flash.new) page ≡ or_at (page_bytes (F.image flash.old) page) 9 (34 ∷ [])) }
-    ensures unwanted { IsTrue F.tells → OnOk result (wanted ≡ false → page_bytes (F.image flash.new) page ≡ page_bytes (F.image flash.old) page) }
-    ensures others { IsTrue F.tells → OnOk result ((q : ℕ) → (q ≡ page → ⊥) → page_bytes (F.image flash.new) q ≡ page_bytes (F.image flash.old) q) }
+    ensures isolated { IsTrue F.tells → OnOk result
+        (wanted ≡ true
+        → page_bytes (F.image flash.new) page ≡ or_at (page_bytes (F.image flash.old) page) 9 (34 ∷ [])) }
+    ensures unwanted { IsTrue F.tells → OnOk result
+        (wanted ≡ false → page_bytes (F.image flash.new) page ≡ page_bytes (F.image flash.old) page) }
+    ensures others { IsTrue F.tells → OnOk result
+        ((q : ℕ) → (q ≡ page → ⊥) → page_bytes (F.image flash.new) q ≡ page_bytes (F.image flash.old) q) }
     ensures size { length (F.image flash.new) ≡ length (F.image flash.old) }
     ensures reads { F.reads flash.new ≡ F.reads flash.old }
     ensures cause { HasCause (F.faults flash.old) (F.faults flash.new) result }
@@ -119,8 +129,10 @@ fn isolate_page<F: Flash>(flash: &mut F, wanted: bool, page: u16) -> Result<(), 
 
 // Erases the taken sectors, and answers their number.
 fn erase<F: Flash>(flash: &mut F, sectors: &Sectors) -> Result<u16, Failed>
-    ensures erased { IsTrue F.tells → OnOk result (Erases (taken_in sectors.now.used.bits sectors.now.active.bits) (F.image flash.old) (F.image flash.new)) }
-    ensures number { IfOk result (λ n. n ≡ number_taken (taken_in sectors.now.used.bits sectors.now.active.bits) (length (F.image flash.old) / 4096)) }
+    ensures erased { IsTrue F.tells → OnOk result
+        (Erases (taken_in sectors.now.used.bits sectors.now.active.bits) (F.image flash.old) (F.image flash.new)) }
+    ensures number { IfOk result
+        (λ n. n ≡ number_taken (taken_in sectors.now.used.bits sectors.now.active.bits) (length (F.image flash.old) / 4096)) }
     ensures size { length (F.image flash.new) ≡ length (F.image flash.old) }
     ensures reads { F.reads flash.new ≡ F.reads flash.old }
     ensures cause { HasCause (F.faults flash.old) (F.faults flash.new) result }
@@ -139,9 +151,12 @@ fn erase<F: Flash>(flash: &mut F, sectors: &Sectors) -> Result<u16, Failed>
 fn erase_sector<F: Flash>(flash: &mut F, wanted: bool, sector: u16) -> Result<u16, Failed>
     requires sector { 4096 * sector + 4096 ≤ length (F.image flash.old) }
     ensures number { IfOk result (λ n. n ≡ (if wanted then 1 else 0)) }
-    ensures erased { IsTrue F.tells → OnOk result (wanted ≡ true → (q : ℕ) → q / 16 ≡ sector → page_bytes (F.image flash.new) q ≡ replicate 256 0) }
+    ensures erased { IsTrue F.tells → OnOk result
+        (wanted ≡ true → (q : ℕ) → q / 16 ≡ sector → page_bytes (F.image flash.new) q ≡ replicate 256 0) }
     ensures unwanted { IsTrue F.tells → OnOk result (wanted ≡ false → F.image flash.new ≡ F.image flash.old) }
-    ensures others { IsTrue F.tells → OnOk result ((q : ℕ) → (q / 16 ≡ sector → ⊥) → page_bytes (F.image flash.new) q ≡ page_bytes (F.image flash.old) q) }
+    ensures others { IsTrue F.tells → OnOk result
+        ((q : ℕ)
+        → (q / 16 ≡ sector → ⊥) → page_bytes (F.image flash.new) q ≡ page_bytes (F.image flash.old) q) }
     ensures size { length (F.image flash.new) ≡ length (F.image flash.old) }
     ensures reads { F.reads flash.new ≡ F.reads flash.old }
     ensures cause { HasCause (F.faults flash.old) (F.faults flash.new) result }

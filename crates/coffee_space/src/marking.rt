@@ -29,7 +29,8 @@ impl Sectors {
 
 // The sectors of the flash, None only where a page is met at which no unit begins.
 pub(crate) fn mark_sectors<F: Flash>(flash: &mut F) -> Result<Option<Sectors>, Failed>
-    ensures marked { IsTrue F.tells → IfOk result (λ r. (building : ℕ → Bool) (us : List Unit) → IsTiled building (F.image flash.old) us
+    ensures marked { IsTrue F.tells → IfOk result
+        (λ r. (building : ℕ → Bool) (us : List Unit) → IsTiled building (F.image flash.old) us
         → MatchOption r ⊥ (λ m. (s : ℕ) → taken_in m.used.bits m.active.bits s ≡ is_taken us s)) }
     ensures same { F.image flash.new ≡ F.image flash.old }
     ensures reads { F.reads flash.new ≤ F.reads flash.old + pages_of (F.image flash.old) }

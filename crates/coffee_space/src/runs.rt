@@ -12,9 +12,11 @@ use coffee_layout::{Unit, unit_in};
 /// no such pages. The image stays. Each unit is read once.
 pub fn find_run<F: Flash>(flash: &mut F, pages: u16) -> Result<Option<PageId>, Failed>
     requires some { 1 ≤ pages }
-    ensures run { IsTrue F.tells → IfOk result (λ r. (building : ℕ → Bool) (us : List Unit) → IsTiled building (F.image flash.old) us
+    ensures run { IsTrue F.tells → IfOk result
+        (λ r. (building : ℕ → Bool) (us : List Unit) → IsTiled building (F.image flash.old) us
         → MatchOption r (NoRun (free_pages us) pages) (λ page. IsLowestRun (free_pages us) pages page.0)) }
-    ensures inside { IfOk result (λ r. IfSome r (λ page. 256 * (page.0 + pages) ≤ length (F.image flash.old))) }
+    ensures inside { IfOk result
+        (λ r. IfSome r (λ page. 256 * (page.0 + pages) ≤ length (F.image flash.old))) }
     ensures same { F.image flash.new ≡ F.image flash.old }
     ensures reads { F.reads flash.new ≤ F.reads flash.old + pages_of (F.image flash.old) }
     ensures reads_later { F.reads flash.old ≤ F.reads flash.new }

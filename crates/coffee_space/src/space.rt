@@ -16,15 +16,30 @@ use afl_base::{FileError, Flash, PageId};
 /// is free, and a further collection would take no sector. Nothing is written into the run.
 pub fn obtain<F: Flash>(flash: &mut F, pages: u16) -> Result<PageId, FileError>
     requires some { 1 ≤ pages }
-    ensures run { IsTrue F.tells → IfOk result (λ page. (building : ℕ → Bool) (us : List Unit) → IsTiled building (F.image flash.old) us → IsLowestRun (free_pages (units_of (F.image flash.new))) pages page.0) }
+    ensures run { IsTrue F.tells → IfOk result
+        (λ page. (building : ℕ → Bool) (us : List Unit) → IsTiled building (F.image flash.old) us
+        → IsLowestRun (free_pages (units_of (F.image flash.new))) pages page.0) }
     ensures inside { IfOk result (λ page. 256 * (page.0 + pages) ≤ length (F.image flash.new)) }
-    ensures cramped { IsTrue F.tells → OnSpace result (λ need. (building : ℕ → Bool) (us : List Unit) → IsTiled building (F.image flash.old) us → IsCramped (units_of (F.image flash.new)) need) }
+    ensures cramped { IsTrue F.tells → OnSpace result
+        (λ need. (building : ℕ → Bool) (us : List Unit) → IsTiled building (F.image flash.old) us
+        → IsCramped (units_of (F.image flash.new)) need) }
     ensures need { OnSpace result (λ need. need ≡ pages) }
-    ensures untouched { IsTrue F.tells → (building : ℕ → Bool) (us : List Unit) → IsTiled building (F.image flash.old) us → (page : ℕ) → IsRun (free_pages us) page pages → F.image flash.new ≡ F.image flash.old }
-    ensures collected { IsTrue F.tells → UnlessFailed result ((building : ℕ → Bool) (us : List Unit) → IsTiled building (F.image flash.old) us → NoRun (free_pages us) pages → IsCollected building (F.image flash.old) (F.image flash.new) us) }
-    ensures tiled { IsTrue F.tells → UnlessFailed result ((building : ℕ → Bool) (us : List Unit) → IsTiled building (F.image flash.old) us → IsTiled building (F.image flash.new) (units_of (F.image flash.new))) }
-    ensures extents { IsTrue F.tells → UnlessFailed result ((building : ℕ → Bool) (us : List Unit) → IsTiled building (F.image flash.old) us → active_extents (units_of (F.image flash.new)) ≡ active_extents us) }
-    ensures active { IsTrue F.tells → UnlessFailed result ((building : ℕ → Bool) (us : List Unit) → IsTiled building (F.image flash.old) us → (page : ℕ) → slice_index_or (active_pages us) page false ≡ true → page_bytes (F.image flash.new) page ≡ page_bytes (F.image flash.old) page) }
+    ensures untouched { IsTrue F.tells → (building : ℕ → Bool) (us : List Unit)
+        → IsTiled building (F.image flash.old) us → (page : ℕ) → IsRun (free_pages us) page pages
+        → F.image flash.new ≡ F.image flash.old }
+    ensures collected { IsTrue F.tells → UnlessFailed result
+        ((building : ℕ → Bool) (us : List Unit) → IsTiled building (F.image flash.old) us
+        → NoRun (free_pages us) pages → IsCollected building (F.image flash.old) (F.image flash.new) us) }
+    ensures tiled { IsTrue F.tells → UnlessFailed result
+        ((building : ℕ → Bool) (us : List Unit) → IsTiled building (F.image flash.old) us
+        → IsTiled building (F.image flash.new) (units_of (F.image flash.new))) }
+    ensures extents { IsTrue F.tells → UnlessFailed result
+        ((building : ℕ → Bool) (us : List Unit) → IsTiled building (F.image flash.old) us
+        → active_extents (units_of (F.image flash.new)) ≡ active_extents us) }
+    ensures active { IsTrue F.tells → UnlessFailed result
+        ((building : ℕ → Bool) (us : List Unit) → IsTiled building (F.image flash.old) us
+        → (page : ℕ) → slice_index_or (active_pages us) page false ≡ true
+        → page_bytes (F.image flash.new) page ≡ page_bytes (F.image flash.old) page) }
     ensures size { length (F.image flash.new) ≡ length (F.image flash.old) }
     ensures reads { F.reads flash.new ≤ F.reads flash.old + 4 * pages_of (F.image flash.old) }
     ensures reads_later { F.reads flash.old ≤ F.reads flash.new }
@@ -39,13 +54,23 @@ pub fn obtain<F: Flash>(flash: &mut F, pages: u16) -> Result<PageId, FileError>
 // The same after a collection.
 fn obtain_collected<F: Flash>(flash: &mut F, pages: u16) -> Result<PageId, FileError>
     requires some { 1 ≤ pages }
-    ensures run { IsTrue F.tells → IfOk result (λ page. (building : ℕ → Bool) (us : List Unit) → IsTiled building (F.image flash.old) us → IsLowestRun (free_pages (units_of (F.image flash.new))) pages page.0) }
+    ensures run { IsTrue F.tells → IfOk result
+        (λ page. (building : ℕ → Bool) (us : List Unit) → IsTiled building (F.image flash.old) us
+        → IsLowestRun (free_pages (units_of (F.image flash.new))) pages page.0) }
     ensures inside { IfOk result (λ page. 256 * (page.0 + pages) ≤ length (F.image flash.new)) }
-    ensures cramped { IsTrue F.tells → OnSpace result (λ need. (building : ℕ → Bool) (us : List Unit) → IsTiled building (F.image flash.old) us → IsCramped (units_of (F.image flash.new)) need) }
+    ensures cramped { IsTrue F.tells → OnSpace result
+        (λ need. (building : ℕ → Bool) (us : List Unit) → IsTiled building (F.image flash.old) us
+        → IsCramped (units_of (F.image flash.new)) need) }
     ensures need { OnSpace result (λ need. need ≡ pages) }
-    ensures collected { IsTrue F.tells → UnlessFailed result ((building : ℕ → Bool) (us : List Unit) → IsTiled building (F.image flash.old) us → IsCollected building (F.image flash.old) (F.image flash.new) us) }
-    ensures tiled { IsTrue F.tells → UnlessFailed result ((building : ℕ → Bool) (us : List Unit) → IsTiled building (F.image flash.old) us → IsTiled building (F.image flash.new) (units_of (F.image flash.new))) }
-    ensures extents { IsTrue F.tells → UnlessFailed result ((building : ℕ → Bool) (us : List Unit) → IsTiled building (F.image flash.old) us → active_extents (units_of (F.image flash.new)) ≡ active_extents us) }
+    ensures collected { IsTrue F.tells → UnlessFailed result
+        ((building : ℕ → Bool) (us : List Unit) → IsTiled building (F.image flash.old) us
+        → IsCollected building (F.image flash.old) (F.image flash.new) us) }
+    ensures tiled { IsTrue F.tells → UnlessFailed result
+        ((building : ℕ → Bool) (us : List Unit) → IsTiled building (F.image flash.old) us
+        → IsTiled building (F.image flash.new) (units_of (F.image flash.new))) }
+    ensures extents { IsTrue F.tells → UnlessFailed result
+        ((building : ℕ → Bool) (us : List Unit) → IsTiled building (F.image flash.old) us
+        → active_extents (units_of (F.image flash.new)) ≡ active_extents us) }
     ensures size { length (F.image flash.new) ≡ length (F.image flash.old) }
     ensures reads { F.reads flash.new ≤ F.reads flash.old + 3 * pages_of (F.image flash.old) }
     ensures reads_later { F.reads flash.old ≤ F.reads flash.new }

@@ -1,6 +1,7 @@
 -- What a volume keeps where no draft is begun, where a file is new, and where a draft begins.
 use Rattle.std.proofs.Common.{◌≡◌, ◌≢◌, ℕ, ◌+◌, ◌-◌, ◌*◌, ◌<◌, ◌≤◌, Bool, false, not, ◌&&◌, List, length, replicate, set, get_or, Option, Some, None, IsTrue, refl, sym, ◌∙◌, subst, arith}
 use Rattle.afl_base.specs.Files.{Creates, Drafts, IsKind, IsUnnamed, Keeps, first_pages, used}
+use Rattle.afl_base.specs.Places.{AreTaken}
 use Rattle.afl_base.specs.declared.ids.PageId.{PageId}
 use Rattle.afl_base.specs.declared.kind.Kind.{Kind}
 use Rattle.afl_base.specs.declared.kind.Kind.TheVariants.{Doubling}
@@ -9,8 +10,8 @@ use Rattle.coffee_layout.specs.Marks.{IsCramped}
 use Rattle.coffee_layout.specs.Tiling.{units_of}
 use Rattle.coffee_layout.specs.Units.{pages_of}
 use Rattle.coffee_layout.specs.declared.file.FileAt.{FileAt}
-use Rattle.coffee_merge.specs.Holding.{Begins, Commits, Holds, IsNewName, KeepsAll, Sets, Stays, Table, extent_of}
-use Rattle.coffee_volume.specs.Volumes.{Entries, IsPending, IsRegular, Lacks, files_seen, places, roomless, state_seen}
+use Rattle.coffee_merge.specs.Holding.{Begins, Commits, Holds, IsNewName, KeepsAll, Sets, Stays, Entries, extent_of}
+use Rattle.coffee_volume.specs.Volumes.{EntryTable, IsPending, IsRegular, Lacks, files_seen, places, roomless, state_seen}
 use Rattle.coffee_volume.specs.declared.entry.Entry.{Entry}
 use Rattle.coffee_volume.proofs.Drafted.{begun_sets, created_regular, first_some, free_place}
 use Rattle.coffee_volume.proofs.Standing.{Stands, same_pages, set_stored, stands_draft, stands_idle, stands_kept, where_told}
@@ -18,16 +19,16 @@ use Rattle.coffee_volume.proofs.States.{seen_begins, seen_creates, seen_keeps}
 use Rattle.coffee_volume.proofs.Tables.{length_places, new_name, no_entry, regular_new, unnamed_seen, used_seen}
 
 -- what the table says of the old image, where it is told
-pub held : (tells failed : Bool) (old : List ℕ) (table : Entries) (draft : Option FileAt) → (IsTrue tells → failed ≡ false → Holds old (places table) draft) → draft ≡ None → IsTrue tells → failed ≡ false → Holds old (places table) None
+pub held : (tells failed : Bool) (old : List ℕ) (table : EntryTable) (draft : Option FileAt) → (IsTrue tells → failed ≡ false → Holds old (places table) draft) → draft ≡ None → IsTrue tells → failed ≡ false → Holds old (places table) None
 held tells failed old table draft told idle t fine = subst (Holds old (places table)) idle (told t fine)
 
 -- NEW FILES
 
 -- an extent that is begun and committed is a new file
-new_sets : (tells : Bool) (image old mid new : List ℕ) (table : Entries) (draft : Option FileAt) (i : ℕ) (name : List ℕ) (kind : Kind) (page : PageId) (pages : ℕ) → Holds old (places table) draft → draft ≡ None → i < length table → get_or table i None ≡ None
+new_sets : (tells : Bool) (image old mid new : List ℕ) (table : EntryTable) (draft : Option FileAt) (i : ℕ) (name : List ℕ) (kind : Kind) (page : PageId) (pages : ℕ) → Holds old (places table) draft → draft ≡ None → i < length table → get_or table i None ≡ None
     → IsUnnamed (files_seen tells image table) name → 1 ≤ pages
-    → ((t : Table) (size : ℕ) → Holds old t None → size + 32 ≤ 256 * pages → Begins old mid t (extent_of name kind page.0 pages size))
-    → ((t : Table) (d : FileAt) (k : ℕ) → Holds mid t (Some d) → d.page ≡ page → k < length t → get_or t k None ≡ None → IsNewName t d.name → (1 ≤ d.size → file_byte mid page.0 None (d.size - 1) ≢ 0) → Commits mid new t k d)
+    → ((t : Entries) (size : ℕ) → Holds old t None → size + 32 ≤ 256 * pages → Begins old mid t (extent_of name kind page.0 pages size))
+    → ((t : Entries) (d : FileAt) (k : ℕ) → Holds mid t (Some d) → d.page ≡ page → k < length t → get_or t k None ≡ None → IsNewName t d.name → (1 ≤ d.size → file_byte mid page.0 None (d.size - 1) ≢ 0) → Commits mid new t k d)
     → Sets old new (places table) i (Some (extent_of name kind page.0 pages 0))
 new_sets tells image old mid new table draft i name kind page pages held idle inside free unnamed some begun committed =
     let d : FileAt = extent_of name kind page.0 pages 0 in
@@ -36,11 +37,12 @@ new_sets tells image old mid new table draft i name kind page pages held idle in
     begun_sets old mid new (places table) i name kind page.0 pages b c
 
 -- an extent is begun and committed in a free place, for a new file
-pub record MakesFile (tells failed : Bool) (old mid new : List ℕ) (table : Entries) (draft : Option FileAt) (i : ℕ) (name : List ℕ) (kind : Kind) (page : PageId) (pages : ℕ) (f : Entry) : Type 0 where
+pub record MakesFile (tells failed : Bool) (old mid new : List ℕ) (table : EntryTable) (draft : Option FileAt) (i : ℕ) (name : List ℕ) (kind : Kind) (page : PageId) (pages : ℕ) (f : Entry) : Type 0 where
   pub stands : Stands tells failed old table draft
   pub idle : draft ≡ None
   pub inside : i < length table
   pub free : get_or table i None ≡ None
+  pub lowest : AreTaken table i
   pub unnamed : IsUnnamed (files_seen (tells && not failed) old table) name
   pub is_kind : IsKind kind
   pub number : pages ≡ first_pages kind
@@ -48,17 +50,17 @@ pub record MakesFile (tells failed : Bool) (old mid new : List ℕ) (table : Ent
   pub entry : f ≡ roomless (extent_of name kind page.0 pages 0)
   pub size : length mid ≡ length old
   pub size_then : length new ≡ length mid
-  pub begun : IsTrue tells → (t : Table) (size : ℕ) → Holds old t None → size + 32 ≤ 256 * pages → Begins old mid t (extent_of name kind page.0 pages size)
-  pub committed : IsTrue tells → (t : Table) (d : FileAt) (k : ℕ) → Holds mid t (Some d) → d.page ≡ page → k < length t → get_or t k None ≡ None → IsNewName t d.name → (1 ≤ d.size → file_byte mid page.0 None (d.size - 1) ≢ 0) → Commits mid new t k d
+  pub begun : IsTrue tells → (t : Entries) (size : ℕ) → Holds old t None → size + 32 ≤ 256 * pages → Begins old mid t (extent_of name kind page.0 pages size)
+  pub committed : IsTrue tells → (t : Entries) (d : FileAt) (k : ℕ) → Holds mid t (Some d) → d.page ≡ page → k < length t → get_or t k None ≡ None → IsNewName t d.name → (1 ≤ d.size → file_byte mid page.0 None (d.size - 1) ≢ 0) → Commits mid new t k d
 
-pub made_sets : (tells failed : Bool) (old mid new : List ℕ) (table : Entries) (draft : Option FileAt) (i : ℕ) (name : List ℕ) (kind : Kind) (page : PageId) (pages : ℕ) (f : Entry) → MakesFile tells failed old mid new table draft i name kind page pages f
+pub made_sets : (tells failed : Bool) (old mid new : List ℕ) (table : EntryTable) (draft : Option FileAt) (i : ℕ) (name : List ℕ) (kind : Kind) (page : PageId) (pages : ℕ) (f : Entry) → MakesFile tells failed old mid new table draft i name kind page pages f
     → IsTrue tells → failed ≡ false → Sets old new (places table) i (Some (extent_of name kind page.0 pages 0))
 made_sets tells failed old mid new table draft i name kind page pages f m told fine =
     let some = first_some kind m.is_kind in
     let number = m.number in
     new_sets (tells && not failed) old old mid new table draft i name kind page pages (m.stands.told told fine) m.idle m.inside m.free m.unnamed (omega arith) (m.begun told) (m.committed told)
 
-pub stands_made : (tells failed : Bool) (old mid new : List ℕ) (table : Entries) (draft : Option FileAt) (i : ℕ) (name : List ℕ) (kind : Kind) (page : PageId) (pages : ℕ) (f : Entry) → MakesFile tells failed old mid new table draft i name kind page pages f
+pub stands_made : (tells failed : Bool) (old mid new : List ℕ) (table : EntryTable) (draft : Option FileAt) (i : ℕ) (name : List ℕ) (kind : Kind) (page : PageId) (pages : ℕ) (f : Entry) → MakesFile tells failed old mid new table draft i name kind page pages f
     → Stands tells failed new (set table i (Some f)) draft
 stands_made tells failed old mid new table draft i name kind page pages f m =
     let e : Entry = roomless (extent_of name kind page.0 pages 0) in
@@ -68,33 +70,33 @@ stands_made tells failed old mid new table draft i name kind page pages f m =
     (stands_idle tells failed old new table draft i (Some e) m.stands m.idle (m.size_then ∙ m.size) (regular_new (pages_of old) table i e m.stands.regular m.inside (no_entry (tells && not failed) old table name m.unnamed) regular)
     (λ told fine. (made_sets tells failed old mid new table draft i name kind page pages f m told fine).holds))
 
-pub seen_made : (tells failed : Bool) (old mid new : List ℕ) (table : Entries) (draft : Option FileAt) (i : ℕ) (name : List ℕ) (kind : Kind) (page : PageId) (pages : ℕ) (f : Entry) → MakesFile tells failed old mid new table draft i name kind page pages f
+pub seen_made : (tells failed : Bool) (old mid new : List ℕ) (table : EntryTable) (draft : Option FileAt) (i : ℕ) (name : List ℕ) (kind : Kind) (page : PageId) (pages : ℕ) (f : Entry) → MakesFile tells failed old mid new table draft i name kind page pages f
     → Creates (state_seen (tells && not failed) old table draft) (state_seen (tells && not failed) new (set table i (Some f)) draft) i name kind
 seen_made tells failed old mid new table draft i name kind page pages f m =
     let d : FileAt = extent_of name kind page.0 pages 0 in
     let sets : IsTrue (tells && not failed) → Sets old new (places table) i (Some d) = where_told tells failed (Sets old new (places table) i (Some d)) (made_sets tells failed old mid new table draft i name kind page pages f m) in
     subst (λ (now : Entry). Creates (state_seen (tells && not failed) old table draft) (state_seen (tells && not failed) new (set table i (Some now)) draft) i name kind) (sym m.entry)
     (subst (λ (was : Option FileAt). Creates (state_seen (tells && not failed) old table was) (state_seen (tells && not failed) new (set table i (Some (roomless d))) was) i name kind) (sym m.idle)
-    (seen_creates (tells && not failed) old new table i name kind page.0 pages m.inside m.free (λ t. (sets t).others) (λ t. set_stored new table None i d m.inside (sets t).holds)))
+    (seen_creates (tells && not failed) old new table i name kind page.0 pages m.inside m.free m.lowest (λ t. (sets t).others) (λ t. set_stored new table None i d m.inside (sets t).holds)))
 
 -- DRAFTS
 
 -- where an extent could not be had
-pub stands_stayed : (tells failed : Bool) (old new : List ℕ) (table : Entries) (draft : Option FileAt) → Stands tells failed old table draft → draft ≡ None → length new ≡ length old
-    → (IsTrue tells → (t : Table) → Holds old t None → Stays old new t) → Stands tells failed new table draft
+pub stands_stayed : (tells failed : Bool) (old new : List ℕ) (table : EntryTable) (draft : Option FileAt) → Stands tells failed old table draft → draft ≡ None → length new ≡ length old
+    → (IsTrue tells → (t : Entries) → Holds old t None → Stays old new t) → Stands tells failed new table draft
 stands_stayed tells failed old new table draft s idle long stays =
     stands_kept tells failed old new table draft s long
     (λ told no. subst (Holds new (places table)) (sym idle) (stays told (places table) (subst (Holds old (places table)) idle (s.told told no))).holds)
 
 -- a draft is begun where there was none
-pub stands_begun : (tells failed : Bool) (old new : List ℕ) (table : Entries) (draft : Option FileAt) (d : FileAt) → Stands tells failed old table draft → draft ≡ None → length new ≡ length old → IsPending (pages_of old) d
+pub stands_begun : (tells failed : Bool) (old new : List ℕ) (table : EntryTable) (draft : Option FileAt) (d : FileAt) → Stands tells failed old table draft → draft ≡ None → length new ≡ length old → IsPending (pages_of old) d
     → (IsUnnamed (files_seen (tells && not failed) old table) d.name → used (files_seen (tells && not failed) old table) < 32) → (IsTrue tells → failed ≡ false → Holds new (places table) (Some d)) → Stands tells failed new table (Some d)
 stands_begun tells failed old new table draft d s idle long pending space holds =
     stands_draft tells failed old new table d (subst (Stands tells failed old table) idle s) long pending
     (λ none. let few = space (unnamed_seen false (tells && not failed) old old table d.name none) in omega (arith, used_seen false (tells && not failed) old old table)) holds
 
-pub seen_begun : (tells failed : Bool) (old new : List ℕ) (table : Entries) (draft : Option FileAt) (name : List ℕ) (page pages size : ℕ) (d : FileAt) → d ≡ extent_of name Doubling page pages size → draft ≡ None → (IsTrue tells → failed ≡ false → Holds old (places table) draft)
-    → size + 32 ≤ 256 * pages → (IsTrue tells → (t : Table) (n : ℕ) → Holds old t None → n + 32 ≤ 256 * pages → Begins old new t (extent_of name Doubling page pages n))
+pub seen_begun : (tells failed : Bool) (old new : List ℕ) (table : EntryTable) (draft : Option FileAt) (name : List ℕ) (page pages size : ℕ) (d : FileAt) → d ≡ extent_of name Doubling page pages size → draft ≡ None → (IsTrue tells → failed ≡ false → Holds old (places table) draft)
+    → size + 32 ≤ 256 * pages → (IsTrue tells → (t : Entries) (n : ℕ) → Holds old t None → n + 32 ≤ 256 * pages → Begins old new t (extent_of name Doubling page pages n))
     → Drafts (state_seen (tells && not failed) old table draft) (state_seen (tells && not failed) new table (Some d)) name size (replicate size 0)
 seen_begun tells failed old new table draft name page pages size d is idle told fits begun =
     let e : FileAt = extent_of name Doubling page pages size in
@@ -104,13 +106,13 @@ seen_begun tells failed old new table draft name page pages size d is idle told 
     (seen_begins (tells && not failed) old new table e (λ t. (all t).kept) (λ t p low. (all t).zeros p (omega arith))))
 
 -- where an extent could not be had, all files are as they were
-pub seen_stayed : (tells failed : Bool) (old new : List ℕ) (table : Entries) (draft : Option FileAt) → draft ≡ None → (IsTrue tells → failed ≡ false → Holds old (places table) draft) → (IsTrue tells → (t : Table) → Holds old t None → Stays old new t)
+pub seen_stayed : (tells failed : Bool) (old new : List ℕ) (table : EntryTable) (draft : Option FileAt) → draft ≡ None → (IsTrue tells → failed ≡ false → Holds old (places table) draft) → (IsTrue tells → (t : Entries) → Holds old t None → Stays old new t)
     → Keeps (state_seen (tells && not failed) old table draft) (state_seen (tells && not failed) new table draft)
 seen_stayed tells failed old new table draft idle told stays =
     subst (λ (was : Option FileAt). Keeps (state_seen (tells && not failed) old table was) (state_seen (tells && not failed) new table was)) (sym idle)
     (seen_keeps (tells && not failed) old new table (where_told tells failed (KeepsAll old new (places table)) (λ t no. (stays t (places table) (held tells failed old table draft told idle t no)).kept)))
 
-pub lacks_stayed : (tells failed : Bool) (old new : List ℕ) (table : Entries) (draft : Option FileAt) (need : ℕ) → draft ≡ None → (IsTrue tells → failed ≡ false → Holds old (places table) draft) → (IsTrue tells → (t : Table) → Holds old t None → IsCramped (units_of new) need)
+pub lacks_stayed : (tells failed : Bool) (old new : List ℕ) (table : EntryTable) (draft : Option FileAt) (need : ℕ) → draft ≡ None → (IsTrue tells → failed ≡ false → Holds old (places table) draft) → (IsTrue tells → (t : Entries) → Holds old t None → IsCramped (units_of new) need)
     → Lacks (tells && not failed) new need
 lacks_stayed tells failed old new table draft need idle told cramped =
     where_told tells failed (IsCramped (units_of new) need) (λ t no. cramped t (places table) (held tells failed old table draft told idle t no))

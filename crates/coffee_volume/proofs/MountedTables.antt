@@ -9,14 +9,14 @@ use Rattle.coffee_layout.specs.Rules.{broken_image}
 use Rattle.coffee_layout.specs.Units.{pages_of}
 use Rattle.coffee_layout.specs.Walks.{has_few}
 use Rattle.coffee_layout.specs.declared.file.FileAt.{FileAt}
-use Rattle.coffee_merge.specs.Holding.{Holds, IsIn, Table}
+use Rattle.coffee_merge.specs.Holding.{Holds, IsIn, Entries}
 use Rattle.coffee_merge.specs.TableFiles.{file_of}
 use Rattle.coffee_merge.proofs.SoundFiles.{entry_file, file_entry}
 use Rattle.coffee_merge.proofs.SoundImages.{held_sound}
 use Rattle.coffee_merge.proofs.SoundTables.{sound_held, sound_sparing}
 use Rattle.coffee_volume.specs.Mounting.{KeepFileRules, MayFollow, mounted_table, named}
 use Rattle.coffee_volume.specs.Rooms.{HasRoom}
-use Rattle.coffee_volume.specs.Volumes.{AreRegular, Entries, draft_seen, file_seen, files_seen, places, roomless}
+use Rattle.coffee_volume.specs.Volumes.{AreRegular, EntryTable, draft_seen, file_seen, files_seen, places, roomless}
 use Rattle.coffee_volume.specs.declared.entry.Entry.{Entry}
 use Rattle.coffee_volume.proofs.Tables.{entry_of_place, entry_seen, file_of as file_of_entry, in_places, length_places, regular_new, seen_is, seen_live, told_by}
 
@@ -40,8 +40,8 @@ in_entry (f ∷ fs) n (suc k) d low = in_entry fs n k d (omega arith)
 
 places_in : (files : List FileAt) (n : ℕ) → places (map (λ (at : FileAt). Some (roomless at)) files ++ replicate n None) ≡ map Some files ++ replicate n None
 places_in [] zero = refl
-places_in [] (suc n) = ap (λ (t : Table). None ∷ t) (places_in [] n)
-places_in (f ∷ fs) n = ap (λ (t : Table). Some f ∷ t) (places_in fs n)
+places_in [] (suc n) = ap (λ (t : Entries). None ∷ t) (places_in [] n)
+places_in (f ∷ fs) n = ap (λ (t : Entries). Some f ∷ t) (places_in fs n)
 
 -- the files of a table that was just mounted
 pub mounted_places : (files : List FileAt) → places (mounted_table files) ≡ map Some files ++ replicate (32 - length files) None
@@ -62,7 +62,7 @@ pub mounted_more : (files : List FileAt) (i : ℕ) (at : FileAt) → i < length 
 mounted_more files i at low few is =
     let had : length (take i files) ≡ i = length-take-le i files (omega arith) in
     let has : length (take (i + 1) files) ≡ i + 1 = length-take-le (i + 1) files (omega arith) in
-    let entries : List FileAt → Entries = map (λ (f : FileAt). Some (roomless f)) in
+    let entries : List FileAt → EntryTable = map (λ (f : FileAt). Some (roomless f)) in
     let long : length (entries (take i files)) ≡ i = length-map (take i files) (λ (f : FileAt). Some (roomless f)) ∙ had in
     let none : i - i ≡ 0 = omega arith in
     let less : 32 - i - 1 ≡ 32 - (i + 1) = omega arith in
@@ -84,7 +84,7 @@ no_room_seen tells image None none = (refl, refl)
 no_room_seen tells image (Some e) none = none e refl
 
 -- no file has room
-pub mounted_rooms : (tells : Bool) (image : List ℕ) (table : Entries) (files : List FileAt) (id : ℕ) → table ≡ mounted_table files
+pub mounted_rooms : (tells : Bool) (image : List ℕ) (table : EntryTable) (files : List FileAt) (id : ℕ) → table ≡ mounted_table files
     → ((file_at (files_seen tells image table) id).records ≡ 0) × ((file_at (files_seen tells image table) id).room ≡ 0)
 mounted_rooms tells image table files id is =
     subst (λ o. ((unwrap_or o no_file).records ≡ 0) × ((unwrap_or o no_file).room ≡ 0)) (sym (seen_is tells image table id))
@@ -130,7 +130,7 @@ no_room pages at fits = record {
 pub regular_none : (pages n : ℕ) → AreRegular pages (replicate n None)
 regular_none pages n = record { each = λ i e is. absurd (no_entry n i e is); names = λ i j e d is other same. absurd (no_entry n i e is) }
 
-pub regular_more : (pages : ℕ) (table : Entries) (i : ℕ) (at : FileAt) → AreRegular pages table → i < length table → MayFollow table at → FitsIn pages at → AreRegular pages (set table i (Some (roomless at)))
+pub regular_more : (pages : ℕ) (table : EntryTable) (i : ℕ) (at : FileAt) → AreRegular pages table → i < length table → MayFollow table at → FitsIn pages at → AreRegular pages (set table i (Some (roomless at)))
 regular_more pages table i at regular inside is fits =
     regular_new pages table i (roomless at) regular inside
     (λ k d stands same. is.name k (ap (option_map (λ (e : Entry). e.at.name)) stands ∙ ap (λ n. Some n) same))
@@ -162,24 +162,24 @@ no_draft tells image None none = refl
 no_draft tells image (Some d) none = cc
 
 -- the table holds the image where no call failed and no draft is begun
-pub idle_holds : (tells failed : Bool) (image : List ℕ) (table : Entries) (draft : Option FileAt) → (IsTrue tells → failed ≡ false → Holds image (places table) draft)
+pub idle_holds : (tells failed : Bool) (image : List ℕ) (table : EntryTable) (draft : Option FileAt) → (IsTrue tells → failed ≡ false → Holds image (places table) draft)
     → IsTrue (tells && not failed) → option_map (draft_seen (tells && not failed) image) draft ≡ None → Holds image (places table) None
 idle_holds tells failed image table draft holds told none =
     let known = told_by tells failed told in
     subst (λ d. Holds image (places table) d) (no_draft (tells && not failed) image draft none) (holds known.0 known.1)
 
-pub image_sound : (image : List ℕ) (pages : ℕ) (table : Entries) → Holds image (places table) None → AreRegular pages table → length table ≡ 32 → broken_image image ≡ None
+pub image_sound : (image : List ℕ) (pages : ℕ) (table : EntryTable) → Holds image (places table) None → AreRegular pages table → length table ≡ 32 → broken_image image ≡ None
 image_sound image pages table holds regular long =
     held_sound image (places table) holds (omega (arith, length_places table))
     (λ i e is. let d = entry_of_place table i e is in ap has_few (sym d.2) ∙ (regular.each i d.0 d.1).few)
 
-pub image_each : (tells : Bool) (image : List ℕ) (table : Entries) (id : ℕ) → IsTrue tells → Holds image (places table) None → IsLive (files_seen tells image table) id → Contains (files_of image) (named (file_at (files_seen tells image table) id))
+pub image_each : (tells : Bool) (image : List ℕ) (table : EntryTable) (id : ℕ) → IsTrue tells → Holds image (places table) None → IsLive (files_seen tells image table) id → Contains (files_of image) (named (file_at (files_seen tells image table) id))
 image_each false image table id told holds live = absurd (cc)
 image_each true image table id told holds live =
     let e = entry_seen true image table id live in
     subst (λ (f : File). Contains (files_of image) (named f)) (sym (file_of_entry true image table id e.0 e.1)) (entry_file image (places table) id e.0.at holds (in_places table id e.0 e.1))
 
-pub image_only : (tells : Bool) (image : List ℕ) (table : Entries) (n : NamedFile) → IsTrue tells → Holds image (places table) None → Contains (files_of image) n
+pub image_only : (tells : Bool) (image : List ℕ) (table : EntryTable) (n : NamedFile) → IsTrue tells → Holds image (places table) None → Contains (files_of image) n
     → (id : ℕ) × IsLive (files_seen tells image table) id × (named (file_at (files_seen tells image table) id) ≡ n)
 image_only false image table n told holds has = absurd (cc)
 image_only true image table n told holds has =

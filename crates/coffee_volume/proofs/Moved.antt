@@ -6,9 +6,9 @@ use Rattle.afl_base.specs.Files.{Becomes, File, IsLive, IsUnnamed, State, bytes_
 use Rattle.coffee_layout.specs.FileBytes.{file_byte, file_bytes}
 use Rattle.coffee_layout.specs.declared.file.FileAt.{FileAt}
 use Rattle.coffee_layout.proofs.Spelling.{spells_file, spelt_file}
-use Rattle.coffee_merge.specs.Holding.{Holds, IsIn, IsStored, KeepsAll, Moves, Table}
+use Rattle.coffee_merge.specs.Holding.{Holds, IsIn, IsStored, KeepsAll, Moves, Entries}
 use Rattle.coffee_volume.specs.Rooms.{pages_asked}
-use Rattle.coffee_volume.specs.Volumes.{Asks, Entries, IsEntry, bytes_seen, draft_seen, files_seen, places, roomless, state_seen}
+use Rattle.coffee_volume.specs.Volumes.{Asks, EntryTable, IsEntry, bytes_seen, draft_seen, files_seen, places, roomless, state_seen}
 use Rattle.coffee_volume.specs.declared.entry.Entry.{Entry}
 use Rattle.coffee_volume.proofs.Standing.{set_stored}
 use Rattle.coffee_volume.proofs.States.{seen_becomes}
@@ -35,7 +35,7 @@ no_drafts tells old new None idle = refl
 no_drafts tells old new (Some d) idle = absurd (cc)
 
 -- a file has moved
-pub moved_becomes : (tells : Bool) (old new : List ℕ) (table : Entries) (draft : Option FileAt) (i : ℕ) (e : Entry) (to : FileAt) → i < length table → draft ≡ None → IsEntry table i e → IsSame e.at to
+pub moved_becomes : (tells : Bool) (old new : List ℕ) (table : EntryTable) (draft : Option FileAt) (i : ℕ) (e : Entry) (to : FileAt) → i < length table → draft ≡ None → IsEntry table i e → IsSame e.at to
     → (IsTrue tells → Holds old (places table) None) → (IsTrue tells → Moves old new (places table) i e.at to)
     → Becomes (state_seen tells old table draft) (state_seen tells new (set table i (Some (roomless to))) draft) i (size_at (files_seen tells old table) i) (bytes_at (files_seen tells old table) i)
 moved_becomes tells old new table draft i e to inside idle is same holds moves =
@@ -61,13 +61,13 @@ same_becomes old new id live files draft tells = record {
   tells = tells;
 }
 
-pub kept_becomes : (tells : Bool) (old new : List ℕ) (table : Entries) (draft : Option FileAt) (i : ℕ) (e : Entry) → draft ≡ None → IsEntry table i e → (IsTrue tells → KeepsAll old new (places table))
+pub kept_becomes : (tells : Bool) (old new : List ℕ) (table : EntryTable) (draft : Option FileAt) (i : ℕ) (e : Entry) → draft ≡ None → IsEntry table i e → (IsTrue tells → KeepsAll old new (places table))
     → Becomes (state_seen tells old table draft) (state_seen tells new table draft) i (size_at (files_seen tells old table) i) (bytes_at (files_seen tells old table) i)
 kept_becomes tells old new table draft i e idle is kept =
     same_becomes (state_seen tells old table draft) (state_seen tells new table draft) i (seen_live tells old table i e is) (seen_kept tells old new table kept) (no_drafts tells old new draft idle) refl
 
 -- a file has another room
-pub room_becomes : (tells : Bool) (image : List ℕ) (table : Entries) (draft : Option FileAt) (i : ℕ) (e : Entry) (records room : ℕ) → i < length table → IsEntry table i e
+pub room_becomes : (tells : Bool) (image : List ℕ) (table : EntryTable) (draft : Option FileAt) (i : ℕ) (e : Entry) (records room : ℕ) → i < length table → IsEntry table i e
     → Becomes (state_seen tells image table draft) (state_seen tells image (set table i (Some (record { at = e.at; records = records; room = room }))) draft) i (size_at (files_seen tells image table) i) (bytes_at (files_seen tells image table) i)
 room_becomes tells image table draft i e records room inside is =
     let file : bytes_at (files_seen tells image table) i ≡ bytes_seen tells image e.at = ap (λ (x : File). x.bytes) (file_of tells image table i e is) in
@@ -75,7 +75,7 @@ room_becomes tells image table draft i e records room inside is =
     (λ told k d other there p low. refl) (ap length (sym file)) (λ told. sym file) refl
 
 -- the table of files does not have the rooms
-pub same_place : (table : Table) (i : ℕ) (d : FileAt) → IsIn table i d → set table i (Some d) ≡ table
+pub same_place : (table : Entries) (i : ℕ) (d : FileAt) → IsIn table i d → set table i (Some d) ≡ table
 same_place table i d is = ap (λ (o : Option FileAt). set table i o) (sym is) ∙ set-get_or table i None
 
 -- two changes that leave a file's bytes
@@ -98,6 +98,6 @@ none_of : (o : Option ℕ) → ((n : ℕ) → o ≡ Some n → ⊥) → o ≡ No
 none_of None never = refl
 none_of (Some n) never = absurd (never n refl)
 
-pub none_wanted : (table : Entries) (i : ℕ) (e : Entry) (overwrites bytes : ℕ) → IsEntry table i e → ((need : ℕ) → Asks table i overwrites bytes need → ⊥) → pages_asked e.at overwrites bytes ≡ None
+pub none_wanted : (table : EntryTable) (i : ℕ) (e : Entry) (overwrites bytes : ℕ) → IsEntry table i e → ((need : ℕ) → Asks table i overwrites bytes need → ⊥) → pages_asked e.at overwrites bytes ≡ None
 none_wanted table i e overwrites bytes is never =
     none_of (pages_asked e.at overwrites bytes) (λ n asks. never n (λ d there. ap (λ (x : Entry). pages_asked x.at overwrites bytes) (one_entry table i d e there is) ∙ asks))

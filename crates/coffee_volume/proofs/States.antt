@@ -7,6 +7,7 @@ use Rattle.std.proofs.lemmas.Bool.{cases_eq, cases_lt}
 use Rattle.std.proofs.Math.Logic.{⊎_elim}
 use Rattle.afl_base.specs.Fields.{put_at}
 use Rattle.afl_base.specs.Files.{Becomes, Commits, Creates, Draft, Drafts, File, IsUnnamed, Keeps, Removes, new_file, place, used}
+use Rattle.afl_base.specs.Places.{AreTaken}
 use Rattle.afl_base.specs.declared.kind.Kind.{Kind}
 use Rattle.afl_base.specs.declared.kind.Kind.TheVariants.{Doubling}
 use Rattle.afl_base.proofs.FieldLaws.{length-put_at}
@@ -18,9 +19,9 @@ use Rattle.coffee_layout.proofs.Spelling.{spelt_file}
 use Rattle.coffee_log.specs.FileChanges.{Puts}
 use Rattle.coffee_log.proofs.ContentLaws.{put_at_here, put_at_outside}
 use Rattle.coffee_merge.specs.Holding.{IsDrafted, IsStored, KeepsAll, KeepsOthers, extent_of}
-use Rattle.coffee_volume.specs.Volumes.{AreRegular, Entries, IsEntry, bytes_seen, draft_seen, drafted_bytes, file_seen, files_seen, places, roomless, state_seen}
+use Rattle.coffee_volume.specs.Volumes.{AreRegular, EntryTable, IsEntry, bytes_seen, draft_seen, drafted_bytes, file_seen, files_seen, places, roomless, state_seen}
 use Rattle.coffee_volume.specs.declared.entry.Entry.{Entry}
-use Rattle.coffee_volume.proofs.Tables.{entry_of_name, length_seen, name_seen, only_named, seen_here, seen_kept, seen_named, seen_none, seen_others, seen_set, size_seen}
+use Rattle.coffee_volume.proofs.Tables.{entry_of_name, length_seen, name_seen, only_named, seen_here, seen_kept, seen_named, seen_none, seen_others, seen_set, size_seen, taken_live}
 
 -- DRAFTS
 
@@ -53,7 +54,7 @@ none_drafted tells image (Some d) none = absurd (cc)
 
 -- CHANGES OF A FILE
 
-pub seen_becomes : (tells : Bool) (old new : List ℕ) (table : Entries) (draft : Option FileAt) (i : ℕ) (e f : Entry) (total : ℕ) (told : List ℕ) → i < length table → IsEntry table i e → f.at.name ≡ e.at.name → f.at.kind ≡ e.at.kind
+pub seen_becomes : (tells : Bool) (old new : List ℕ) (table : EntryTable) (draft : Option FileAt) (i : ℕ) (e f : Entry) (total : ℕ) (told : List ℕ) → i < length table → IsEntry table i e → f.at.name ≡ e.at.name → f.at.kind ≡ e.at.kind
     → (IsTrue tells → KeepsOthers old new (places table) i) → length (bytes_seen tells new f.at) ≡ total → (IsTrue tells → bytes_seen tells new f.at ≡ told)
     → option_map (draft_seen tells new) draft ≡ option_map (draft_seen tells old) draft
     → Becomes (state_seen tells old table draft) (state_seen tells new (set table i (Some f)) draft) i total told
@@ -62,20 +63,20 @@ seen_becomes tells old new table draft i e f total told inside is name kind kept
     (omega (arith, length_seen tells old table)) (seen_here tells old table i e is) (seen_others tells old new table i (Some f) inside kept) name kind long bytes same refl
 
 -- the room after a change
-pub room_set : (tells : Bool) (image : List ℕ) (table : Entries) (i : ℕ) (f : Entry) → i < length table → place (files_seen tells image (set table i (Some f))) i ≡ Some (file_seen tells image f)
+pub room_set : (tells : Bool) (image : List ℕ) (table : EntryTable) (i : ℕ) (f : Entry) → i < length table → place (files_seen tells image (set table i (Some f))) i ≡ Some (file_seen tells image f)
 room_set tells image table i f inside = seen_here tells image (set table i (Some f)) i f (get_or-set_same table i (Some f) None inside)
 
-pub seen_creates : (tells : Bool) (old new : List ℕ) (table : Entries) (i : ℕ) (name : List ℕ) (kind : Kind) (page pages : ℕ) → i < length table → get_or table i None ≡ None
+pub seen_creates : (tells : Bool) (old new : List ℕ) (table : EntryTable) (i : ℕ) (name : List ℕ) (kind : Kind) (page pages : ℕ) → i < length table → get_or table i None ≡ None → AreTaken table i
     → (IsTrue tells → KeepsOthers old new (places table) i) → (IsTrue tells → IsStored new (extent_of name kind page pages 0))
     → Creates (state_seen tells old table None) (state_seen tells new (set table i (Some (roomless (extent_of name kind page pages 0)))) None) i name kind
-seen_creates tells old new table i name kind page pages inside free kept stored =
+seen_creates tells old new table i name kind page pages inside free lowest kept stored =
     let e : FileAt = extent_of name kind page pages 0 in
     let empty : bytes_seen tells new e ≡ [] = nil_from_length (bytes_seen tells new e) (size_seen tells new e stored) in
     let file : file_seen tells new (roomless e) ≡ new_file name kind = ap (λ (bytes : List ℕ). let f : File = record { name = name; kind = kind; bytes = bytes; records = 0; room = 0 } in f) empty in
-    set_creates (state_seen tells old table None) (state_seen tells new (set table i (Some (roomless e))) None) i name kind (omega (arith, length_seen tells old table)) (seen_none tells old table i free)
+    set_creates (state_seen tells old table None) (state_seen tells new (set table i (Some (roomless e))) None) i name kind (omega (arith, length_seen tells old table)) (seen_none tells old table i free) (taken_live tells old table i lowest)
     (seen_others tells old new table i (Some (roomless e)) inside kept ∙ ap (λ (f : File). set (files_seen tells old table) i (Some f)) file) refl refl
 
-pub seen_removes : (tells : Bool) (old new : List ℕ) (pages : ℕ) (table : Entries) (i : ℕ) (e : Entry) → i < length table → IsEntry table i e → AreRegular pages table
+pub seen_removes : (tells : Bool) (old new : List ℕ) (pages : ℕ) (table : EntryTable) (i : ℕ) (e : Entry) → i < length table → IsEntry table i e → AreRegular pages table
     → (IsTrue tells → KeepsOthers old new (places table) i)
     → Removes (state_seen tells old table None) (state_seen tells new (set table i None) None) i
 seen_removes tells old new pages table i e inside is regular kept =
@@ -83,7 +84,7 @@ seen_removes tells old new pages table i e inside is regular kept =
     (only_named tells old pages table i e regular is) (seen_others tells old new table i None inside kept) refl refl
 
 -- all files keep their bytes
-pub seen_keeps : (tells : Bool) (old new : List ℕ) (table : Entries) → (IsTrue tells → KeepsAll old new (places table)) → Keeps (state_seen tells old table None) (state_seen tells new table None)
+pub seen_keeps : (tells : Bool) (old new : List ℕ) (table : EntryTable) → (IsTrue tells → KeepsAll old new (places table)) → Keeps (state_seen tells old table None) (state_seen tells new table None)
 seen_keeps tells old new table kept = record { files = seen_kept tells old new table kept; draft = refl; tells = refl }
 
 -- CHANGES OF THE DRAFT
@@ -94,7 +95,7 @@ zero_drafted true image d told zeros =
     (λ p low. let below : p < d.size = omega (arith, length_drafted true image d) in drafted_at image d p below ∙ zeros p below ∙ sym (get_or-replicate d.size p 0 0 below))
 zero_drafted false image d told zeros = refl
 
-pub seen_begins : (tells : Bool) (old new : List ℕ) (table : Entries) (d : FileAt) → (IsTrue tells → KeepsAll old new (places table)) → (IsTrue tells → (p : ℕ) → p < d.size → file_byte new d.page.0 None p ≡ 0)
+pub seen_begins : (tells : Bool) (old new : List ℕ) (table : EntryTable) (d : FileAt) → (IsTrue tells → KeepsAll old new (places table)) → (IsTrue tells → (p : ℕ) → p < d.size → file_byte new d.page.0 None p ≡ 0)
     → Drafts (state_seen tells old table None) (state_seen tells new table (Some d)) d.name d.size (replicate d.size 0)
 seen_begins tells old new table d kept zeros = record {
   begun = refl;
@@ -125,7 +126,7 @@ put_drafted true old new d at bytes told fits within put =
     (cases_lt p at))
 put_drafted false old new d at bytes told fits within put = absurd (cc)
 
-pub seen_writes : (tells : Bool) (old new : List ℕ) (table : Entries) (d : FileAt) (at : ℕ) (bytes : List ℕ) → d.size + 32 ≤ 256 * d.pages → at + length bytes ≤ d.size
+pub seen_writes : (tells : Bool) (old new : List ℕ) (table : EntryTable) (d : FileAt) (at : ℕ) (bytes : List ℕ) → d.size + 32 ≤ 256 * d.pages → at + length bytes ≤ d.size
     → (IsTrue tells → KeepsAll old new (places table)) → (IsTrue tells → Puts (file_byte old d.page.0 None) (file_byte new d.page.0 None) (256 * d.pages - 32) at bytes)
     → Drafts (state_seen tells old table (Some d)) (state_seen tells new table (Some d)) d.name (length (drafted_bytes tells old d)) (put_at (drafted_bytes tells old d) at bytes)
 seen_writes tells old new table d at bytes fits within kept put = record {
@@ -184,7 +185,7 @@ committed_seen : (tells : Bool) (old new : List ℕ) (d : FileAt) → IsTrue tel
 committed_seen true old new d told none t = committed_bytes old new d none t.drafted t.content t.last
 committed_seen false old new d told none t = absurd (cc)
 
-is_committed : (tells : Bool) (old new : List ℕ) (table : Entries) (d : FileAt) → d.kind ≡ Doubling → d.log ≡ None → (IsTrue tells → Turns old new d) → IsCommitted (state_seen tells old table (Some d)) (file_seen tells new (roomless d))
+is_committed : (tells : Bool) (old new : List ℕ) (table : EntryTable) (d : FileAt) → d.kind ≡ Doubling → d.log ≡ None → (IsTrue tells → Turns old new d) → IsCommitted (state_seen tells old table (Some d)) (file_seen tells new (roomless d))
 is_committed tells old new table d kind none turns = record {
   name = refl;
   kind = kind;
@@ -194,24 +195,24 @@ is_committed tells old new table d kind none turns = record {
   room = refl;
 }
 
-pub seen_replaces : (tells : Bool) (old new : List ℕ) (pages : ℕ) (table : Entries) (i : ℕ) (e : Entry) (d : FileAt) → i < length table → IsEntry table i e → e.at.name ≡ d.name → AreRegular pages table → d.kind ≡ Doubling → d.log ≡ None
+pub seen_replaces : (tells : Bool) (old new : List ℕ) (pages : ℕ) (table : EntryTable) (i : ℕ) (e : Entry) (d : FileAt) → i < length table → IsEntry table i e → e.at.name ≡ d.name → AreRegular pages table → d.kind ≡ Doubling → d.log ≡ None
     → (IsTrue tells → Turns old new d) → (IsTrue tells → KeepsOthers old new (places table) i)
     → Commits (state_seen tells old table (Some d)) (state_seen tells new (set table i (Some (roomless d))) None) i
 seen_replaces tells old new pages table i e d inside is name regular kind none turns kept =
     set_replaces (state_seen tells old table (Some d)) (state_seen tells new (set table i (Some (roomless d))) None) i (file_seen tells old e) (file_seen tells new (roomless d)) (omega (arith, length_seen tells old table))
     (seen_here tells old table i e is) name (only_named tells old pages table i e regular is) (is_committed tells old new table d kind none turns) (seen_others tells old new table i (Some (roomless d)) inside kept) refl refl
 
-pub seen_adds : (tells : Bool) (old new : List ℕ) (table : Entries) (i : ℕ) (d : FileAt) → i < length table → get_or table i None ≡ None → IsUnnamed (files_seen tells old table) d.name → d.kind ≡ Doubling → d.log ≡ None
+pub seen_adds : (tells : Bool) (old new : List ℕ) (table : EntryTable) (i : ℕ) (d : FileAt) → i < length table → get_or table i None ≡ None → AreTaken table i → IsUnnamed (files_seen tells old table) d.name → d.kind ≡ Doubling → d.log ≡ None
     → (IsTrue tells → Turns old new d) → (IsTrue tells → KeepsOthers old new (places table) i)
     → Commits (state_seen tells old table (Some d)) (state_seen tells new (set table i (Some (roomless d))) None) i
-seen_adds tells old new table i d inside free unnamed kind none turns kept =
+seen_adds tells old new table i d inside free lowest unnamed kind none turns kept =
     set_adds (state_seen tells old table (Some d)) (state_seen tells new (set table i (Some (roomless d))) None) i (file_seen tells new (roomless d)) (omega (arith, length_seen tells old table))
-    (seen_none tells old table i free) unnamed (is_committed tells old new table d kind none turns) (seen_others tells old new table i (Some (roomless d)) inside kept) refl refl
+    (seen_none tells old table i free) (taken_live tells old table i lowest) unnamed (is_committed tells old new table d kind none turns) (seen_others tells old new table i (Some (roomless d)) inside kept) refl refl
 
 -- THE PLACE OF A DRAFT
 
 -- a file in the place of one of its name leaves the names, and the number of files
-pub space_same : (image : List ℕ) (table : Entries) (i : ℕ) (e f : Entry) (n : List ℕ) → i < length table → IsEntry table i e → f.at.name ≡ e.at.name
+pub space_same : (image : List ℕ) (table : EntryTable) (i : ℕ) (e f : Entry) (n : List ℕ) → i < length table → IsEntry table i e → f.at.name ≡ e.at.name
     → (IsUnnamed (files_seen false image table) n → used (files_seen false image table) < 32) → IsUnnamed (files_seen false image (set table i (Some f))) n → used (files_seen false image (set table i (Some f))) < 32
 space_same image table i e f n inside is name space none =
     let before : used (files_seen false image table) < 32 =

@@ -1,31 +1,32 @@
 -- The table of a volume, its files without their room, and what callers see of it.
 use Rattle.std.proofs.Common.{◌≡◌, ◌≢◌, ℕ, ◌+◌, ◌-◌, ◌*◌, ◌<◌, ◌≤◌, Bool, true, false, not, ◌&&◌, List, [], ◌∷◌, length, set, get_or, slice_range, Option, Some, None, IsTrue, refl, sym, ap, ◌∙◌, subst, arith}
 use Rattle.std.specs.Prelude.{option_map, is_some, IfNone, IfSome}
-use Rattle.std.proofs.Math.ListN.{get_or-map, get_or-eq_default}
+use Rattle.std.proofs.Math.ListN.{get_or-map}
 use Rattle.std.proofs.lemmas.List.{ext_get_or, get_or-set_same, get_or-set_other, length-map, length-set, length-replicate, map-set}
-use Rattle.std.proofs.lemmas.Bool.{cases_eq, cases_lt}
+use Rattle.std.proofs.lemmas.Bool.{cases_eq}
 use Rattle.std.proofs.Math.Logic.{⊎_elim}
 use Rattle.std.specs.Prelude.{Result, Ok, Err}
 use Rattle.afl_base.specs.FileErrors.{OnSpace}
 use Rattle.afl_base.specs.declared.kind.FileError.{FileError}
 use Rattle.afl_base.specs.declared.kind.FileError.TheVariants.{Space, Failed}
-use Rattle.afl_base.specs.Files.{File, IsLive, IsNamed, IsUnnamed, bytes_at, file_at, name_at, place, used}
-use Rattle.afl_base.proofs.FileLaws.{file_here, named_here, used_all}
+use Rattle.afl_base.specs.Files.{AreDistinct, File, IsLive, IsNamed, IsUnnamed, bytes_at, file_at, name_at, place, used}
+use Rattle.afl_base.specs.Places.{AreTaken}
+use Rattle.afl_base.proofs.FileLaws.{file_here, named_here, some_free, used_all}
 use Rattle.coffee_layout.specs.FileBytes.{file_byte, file_bytes}
 use Rattle.coffee_layout.specs.declared.file.FileAt.{FileAt}
 use Rattle.coffee_layout.proofs.Sizes.{end_spelt}
 use Rattle.coffee_layout.proofs.Spelling.{spells_file, spelt_file}
 use Rattle.coffee_log.proofs.ContentLaws.{read_bytes}
 use Rattle.coffee_merge.specs.Holding.{Holds, IsIn, IsNewName, IsStored, KeepsAll, KeepsContent, KeepsOthers}
-use Rattle.coffee_volume.specs.Volumes.{AreRegular, Entries, IsEntry, IsRegular, bytes_seen, entry_name, file_seen, files_seen, places}
+use Rattle.coffee_volume.specs.Volumes.{AreRegular, EntryTable, IsEntry, IsRegular, bytes_seen, entry_name, file_seen, files_seen, places}
 use Rattle.coffee_volume.specs.declared.entry.Entry.{Entry}
 
 -- ENTRIES AND PLACES
 
-pub place_is : (table : Entries) (i : ℕ) → get_or (places table) i None ≡ option_map (λ (e : Entry). e.at) (get_or table i None)
+pub place_is : (table : EntryTable) (i : ℕ) → get_or (places table) i None ≡ option_map (λ (e : Entry). e.at) (get_or table i None)
 place_is table i = get_or-map (option_map (λ (e : Entry). e.at)) table i None
 
-pub in_places : (table : Entries) (i : ℕ) (e : Entry) → IsEntry table i e → IsIn (places table) i e.at
+pub in_places : (table : EntryTable) (i : ℕ) (e : Entry) → IsEntry table i e → IsIn (places table) i e.at
 in_places table i e is = place_is table i ∙ ap (option_map (λ (d : Entry). d.at)) is
 
 -- the entry that an option of one holds
@@ -33,37 +34,37 @@ held : (o : Option Entry) (d : FileAt) → option_map (λ (e : Entry). e.at) o �
 held None d is = absurd (cc)
 held (Some e) d is = (e, refl, cc)
 
-pub entry_of_place : (table : Entries) (i : ℕ) (d : FileAt) → IsIn (places table) i d → (e : Entry) × IsEntry table i e × (e.at ≡ d)
+pub entry_of_place : (table : EntryTable) (i : ℕ) (d : FileAt) → IsIn (places table) i d → (e : Entry) × IsEntry table i e × (e.at ≡ d)
 entry_of_place table i d is = held (get_or table i None) d (sym (place_is table i) ∙ is)
 
-pub places_set : (table : Entries) (i : ℕ) (o : Option Entry) → places (set table i o) ≡ set (places table) i (option_map (λ (e : Entry). e.at) o)
+pub places_set : (table : EntryTable) (i : ℕ) (o : Option Entry) → places (set table i o) ≡ set (places table) i (option_map (λ (e : Entry). e.at) o)
 places_set table i o = map-set (option_map (λ (e : Entry). e.at)) table i o
 
-pub length_places : (table : Entries) → length (places table) ≡ length table
+pub length_places : (table : EntryTable) → length (places table) ≡ length table
 length_places table = length-map table (option_map (λ (e : Entry). e.at))
 
 some_same : (e d : Entry) → Some e ≡ Some d → e ≡ d
 some_same e d is = cc
 
 -- a place holds one entry
-pub one_entry : (table : Entries) (i : ℕ) (e d : Entry) → IsEntry table i e → IsEntry table i d → e ≡ d
+pub one_entry : (table : EntryTable) (i : ℕ) (e d : Entry) → IsEntry table i e → IsEntry table i d → e ≡ d
 one_entry table i e d first second = some_same e d (sym first ∙ second)
 
 -- WHAT CALLERS SEE
 
-pub seen_is : (tells : Bool) (image : List ℕ) (table : Entries) (i : ℕ) → place (files_seen tells image table) i ≡ option_map (file_seen tells image) (get_or table i None)
+pub seen_is : (tells : Bool) (image : List ℕ) (table : EntryTable) (i : ℕ) → place (files_seen tells image table) i ≡ option_map (file_seen tells image) (get_or table i None)
 seen_is tells image table i = get_or-map (option_map (file_seen tells image)) table i None
 
-pub seen_here : (tells : Bool) (image : List ℕ) (table : Entries) (i : ℕ) (e : Entry) → IsEntry table i e → place (files_seen tells image table) i ≡ Some (file_seen tells image e)
+pub seen_here : (tells : Bool) (image : List ℕ) (table : EntryTable) (i : ℕ) (e : Entry) → IsEntry table i e → place (files_seen tells image table) i ≡ Some (file_seen tells image e)
 seen_here tells image table i e is = seen_is tells image table i ∙ ap (option_map (file_seen tells image)) is
 
-pub seen_none : (tells : Bool) (image : List ℕ) (table : Entries) (i : ℕ) → get_or table i None ≡ None → place (files_seen tells image table) i ≡ None
+pub seen_none : (tells : Bool) (image : List ℕ) (table : EntryTable) (i : ℕ) → get_or table i None ≡ None → place (files_seen tells image table) i ≡ None
 seen_none tells image table i is = seen_is tells image table i ∙ ap (option_map (file_seen tells image)) is
 
-pub length_seen : (tells : Bool) (image : List ℕ) (table : Entries) → length (files_seen tells image table) ≡ length table
+pub length_seen : (tells : Bool) (image : List ℕ) (table : EntryTable) → length (files_seen tells image table) ≡ length table
 length_seen tells image table = length-map table (option_map (file_seen tells image))
 
-pub seen_set : (tells : Bool) (image : List ℕ) (table : Entries) (i : ℕ) (o : Option Entry) → files_seen tells image (set table i o) ≡ set (files_seen tells image table) i (option_map (file_seen tells image) o)
+pub seen_set : (tells : Bool) (image : List ℕ) (table : EntryTable) (i : ℕ) (o : Option Entry) → files_seen tells image (set table i o) ≡ set (files_seen tells image table) i (option_map (file_seen tells image) o)
 seen_set tells image table i o = map-set (option_map (file_seen tells image)) table i o
 
 -- an entry stands where a file is seen, and under its name
@@ -71,75 +72,80 @@ live_entry : (tells : Bool) (image : List ℕ) (o : Option Entry) → is_some (o
 live_entry tells image None live = absurd (cc)
 live_entry tells image (Some e) live = (e, refl)
 
-pub entry_seen : (tells : Bool) (image : List ℕ) (table : Entries) (i : ℕ) → IsLive (files_seen tells image table) i → (e : Entry) × IsEntry table i e
+pub entry_seen : (tells : Bool) (image : List ℕ) (table : EntryTable) (i : ℕ) → IsLive (files_seen tells image table) i → (e : Entry) × IsEntry table i e
 entry_seen tells image table i live = live_entry tells image (get_or table i None) (ap is_some (sym (seen_is tells image table i)) ∙ live)
 
-pub seen_live : (tells : Bool) (image : List ℕ) (table : Entries) (i : ℕ) (e : Entry) → IsEntry table i e → IsLive (files_seen tells image table) i
+pub seen_live : (tells : Bool) (image : List ℕ) (table : EntryTable) (i : ℕ) (e : Entry) → IsEntry table i e → IsLive (files_seen tells image table) i
 seen_live tells image table i e is = rw (seen_here tells image table i e is) refl
 
 same_live : (tells : Bool) (image : List ℕ) (o : Option Entry) → is_some (option_map (file_seen tells image) o) ≡ is_some o
 same_live tells image None = refl
 same_live tells image (Some e) = refl
 
-pub seen_is_live : (tells : Bool) (image : List ℕ) (table : Entries) (i : ℕ) → is_some (place (files_seen tells image table) i) ≡ is_some (get_or table i None)
+pub seen_is_live : (tells : Bool) (image : List ℕ) (table : EntryTable) (i : ℕ) → is_some (place (files_seen tells image table) i) ≡ is_some (get_or table i None)
 seen_is_live tells image table i = ap is_some (seen_is tells image table i) ∙ same_live tells image (get_or table i None)
+
+-- where all places below some number hold entries, files are live there
+pub taken_live : (tells : Bool) (image : List ℕ) (table : EntryTable) (i : ℕ) → AreTaken table i → (k : ℕ) → k < i → IsLive (files_seen tells image table) k
+taken_live tells image table i taken k low = seen_is_live tells image table k ∙ taken k low
+
+-- where fewer than 32 files are live, a place is free
+pub free_entry : (tells : Bool) (image : List ℕ) (table : EntryTable) → length table ≡ 32 → used (files_seen tells image table) < 32 → AreTaken table 32 → ⊥
+free_entry tells image table long few taken =
+    some_free (files_seen tells image table) (length_seen tells image table ∙ long) few (taken_live tells image table 32 taken)
 
 named_entry : (tells : Bool) (image : List ℕ) (o : Option Entry) (n : List ℕ) → option_map (λ (f : File). f.name) (option_map (file_seen tells image) o) ≡ Some n → (e : Entry) × (o ≡ Some e) × (e.at.name ≡ n)
 named_entry tells image None n named = absurd (cc)
 named_entry tells image (Some e) n named = (e, refl, cc)
 
-pub entry_named : (tells : Bool) (image : List ℕ) (table : Entries) (i : ℕ) (n : List ℕ) → IsNamed (files_seen tells image table) i n → (e : Entry) × IsEntry table i e × (e.at.name ≡ n)
+pub entry_named : (tells : Bool) (image : List ℕ) (table : EntryTable) (i : ℕ) (n : List ℕ) → IsNamed (files_seen tells image table) i n → (e : Entry) × IsEntry table i e × (e.at.name ≡ n)
 entry_named tells image table i n named = named_entry tells image (get_or table i None) n (ap (option_map (λ (f : File). f.name)) (sym (seen_is tells image table i)) ∙ named)
 
-pub seen_named : (tells : Bool) (image : List ℕ) (table : Entries) (i : ℕ) (e : Entry) → IsEntry table i e → IsNamed (files_seen tells image table) i e.at.name
+pub seen_named : (tells : Bool) (image : List ℕ) (table : EntryTable) (i : ℕ) (e : Entry) → IsEntry table i e → IsNamed (files_seen tells image table) i e.at.name
 seen_named tells image table i e is = named_here (files_seen tells image table) i (file_seen tells image e) (seen_here tells image table i e is)
 
 same_entry_name : (tells : Bool) (image : List ℕ) (o : Option Entry) → option_map (λ (f : File). f.name) (option_map (file_seen tells image) o) ≡ option_map (λ (e : Entry). e.at.name) o
 same_entry_name tells image None = refl
 same_entry_name tells image (Some e) = refl
 
-pub name_seen : (tells : Bool) (image : List ℕ) (table : Entries) (i : ℕ) → name_at (files_seen tells image table) i ≡ entry_name table i
+pub name_seen : (tells : Bool) (image : List ℕ) (table : EntryTable) (i : ℕ) → name_at (files_seen tells image table) i ≡ entry_name table i
 name_seen tells image table i = ap (option_map (λ (f : File). f.name)) (seen_is tells image table i) ∙ same_entry_name tells image (get_or table i None)
 
-pub unnamed_entries : (tells : Bool) (image : List ℕ) (table : Entries) (n : List ℕ) → ((k : ℕ) → entry_name table k ≢ Some n) → IsUnnamed (files_seen tells image table) n
+pub unnamed_entries : (tells : Bool) (image : List ℕ) (table : EntryTable) (n : List ℕ) → ((k : ℕ) → entry_name table k ≢ Some n) → IsUnnamed (files_seen tells image table) n
 unnamed_entries tells image table n none k named = none k (sym (name_seen tells image table k) ∙ named)
 
-none_past : (n : List ℕ) → option_map (λ (e : Entry). e.at.name) None ≢ Some n
-none_past n same = cc
-
--- a name that no place has
-pub unnamed_table : (table : Entries) (n : List ℕ) → ((k : ℕ) → k < length table → entry_name table k ≢ Some n) → (k : ℕ) → entry_name table k ≢ Some n
-unnamed_table table n none k named =
-    ⊎_elim
-    (λ (inside : k < length table). none k inside named)
-    (λ (past : length table ≤ k). none_past n (sym (ap (option_map (λ (e : Entry). e.at.name)) (get_or-eq_default table None past)) ∙ named))
-    (cases_lt k (length table))
-
 -- the file under a live id
-pub file_of : (tells : Bool) (image : List ℕ) (table : Entries) (i : ℕ) (e : Entry) → IsEntry table i e → file_at (files_seen tells image table) i ≡ file_seen tells image e
+pub file_of : (tells : Bool) (image : List ℕ) (table : EntryTable) (i : ℕ) (e : Entry) → IsEntry table i e → file_at (files_seen tells image table) i ≡ file_seen tells image e
 file_of tells image table i e is = file_here (files_seen tells image table) i (file_seen tells image e) (seen_here tells image table i e is)
 
-pub only_named : (tells : Bool) (image : List ℕ) (pages : ℕ) (table : Entries) (i : ℕ) (e : Entry) → AreRegular pages table → IsEntry table i e → (k : ℕ) → IsNamed (files_seen tells image table) k e.at.name → k ≡ i
+pub only_named : (tells : Bool) (image : List ℕ) (pages : ℕ) (table : EntryTable) (i : ℕ) (e : Entry) → AreRegular pages table → IsEntry table i e → (k : ℕ) → IsNamed (files_seen tells image table) k e.at.name → k ≡ i
 only_named tells image pages table i e regular is k named =
     let d = entry_named tells image table k e.at.name named in
     regular.names k i d.0 e d.1 is d.2
+
+-- no two files have one name
+pub seen_distinct : (tells : Bool) (image : List ℕ) (pages : ℕ) (table : EntryTable) → AreRegular pages table → AreDistinct (files_seen tells image table)
+seen_distinct tells image pages table regular i j n first second =
+    let e = entry_named tells image table i n first in
+    let d = entry_named tells image table j n second in
+    regular.names i j e.0 d.0 e.1 d.1 (e.2 ∙ sym d.2)
 
 -- the entry that has a name
 of_name : (o : Option Entry) (n : List ℕ) → option_map (λ (e : Entry). e.at.name) o ≡ Some n → (e : Entry) × (o ≡ Some e) × (e.at.name ≡ n)
 of_name None n is = absurd (cc)
 of_name (Some e) n is = (e, refl, cc)
 
-pub entry_of_name : (table : Entries) (i : ℕ) (n : List ℕ) → entry_name table i ≡ Some n → (e : Entry) × IsEntry table i e × (e.at.name ≡ n)
+pub entry_of_name : (table : EntryTable) (i : ℕ) (n : List ℕ) → entry_name table i ≡ Some n → (e : Entry) × IsEntry table i e × (e.at.name ≡ n)
 entry_of_name table i n is = of_name (get_or table i None) n is
 
-pub found_only : (tells : Bool) (image : List ℕ) (pages : ℕ) (table : Entries) (n : List ℕ) (o : Option ℕ) → AreRegular pages table → IfSome o (λ id. entry_name table id ≡ Some n) → IfSome o (λ id. (k : ℕ) → IsNamed (files_seen tells image table) k n → k ≡ id)
+pub found_only : (tells : Bool) (image : List ℕ) (pages : ℕ) (table : EntryTable) (n : List ℕ) (o : Option ℕ) → AreRegular pages table → IfSome o (λ id. entry_name table id ≡ Some n) → IfSome o (λ id. (k : ℕ) → IsNamed (files_seen tells image table) k n → k ≡ id)
 found_only tells image pages table n None regular found = tt
 found_only tells image pages table n (Some id) regular found = λ k named.
     let e = entry_of_name table id n found in
     let d = entry_named tells image table k n named in
     regular.names k id d.0 e.0 d.1 e.1 (d.2 ∙ sym e.2)
 
-pub found_none : (tells : Bool) (image : List ℕ) (table : Entries) (n : List ℕ) (o : Option ℕ) → IfNone o ((k : ℕ) → entry_name table k ≢ Some n) → IfNone o (IsUnnamed (files_seen tells image table) n)
+pub found_none : (tells : Bool) (image : List ℕ) (table : EntryTable) (n : List ℕ) (o : Option ℕ) → IfNone o ((k : ℕ) → entry_name table k ≢ Some n) → IfNone o (IsUnnamed (files_seen tells image table) n)
 found_none tells image table n None none = unnamed_entries tells image table n none
 found_none tells image table n (Some id) none = tt
 
@@ -149,25 +155,25 @@ same_name : (tells seen : Bool) (image other : List ℕ) (o : Option Entry) → 
 same_name tells seen image other None = refl
 same_name tells seen image other (Some e) = refl
 
-pub names_seen : (tells seen : Bool) (image other : List ℕ) (table : Entries) (i : ℕ) → name_at (files_seen tells image table) i ≡ name_at (files_seen seen other table) i
+pub names_seen : (tells seen : Bool) (image other : List ℕ) (table : EntryTable) (i : ℕ) → name_at (files_seen tells image table) i ≡ name_at (files_seen seen other table) i
 names_seen tells seen image other table i =
     ap (option_map (λ (f : File). f.name)) (seen_is tells image table i) ∙ same_name tells seen image other (get_or table i None)
     ∙ sym (ap (option_map (λ (f : File). f.name)) (seen_is seen other table i))
 
-pub unnamed_seen : (tells seen : Bool) (image other : List ℕ) (table : Entries) (n : List ℕ) → IsUnnamed (files_seen tells image table) n → IsUnnamed (files_seen seen other table) n
+pub unnamed_seen : (tells seen : Bool) (image other : List ℕ) (table : EntryTable) (n : List ℕ) → IsUnnamed (files_seen tells image table) n → IsUnnamed (files_seen seen other table) n
 unnamed_seen tells seen image other table n none k named = none k (names_seen tells seen image other table k ∙ named)
 
-pub used_seen : (tells seen : Bool) (image other : List ℕ) (table : Entries) → used (files_seen tells image table) ≡ used (files_seen seen other table)
+pub used_seen : (tells seen : Bool) (image other : List ℕ) (table : EntryTable) → used (files_seen tells image table) ≡ used (files_seen seen other table)
 used_seen tells seen image other [] = refl
 used_seen tells seen image other (None ∷ table) = used_seen tells seen image other table
 used_seen tells seen image other (Some e ∷ table) = ap (λ (n : ℕ). n + 1) (used_seen tells seen image other table)
 
-pub new_name : (tells : Bool) (image : List ℕ) (table : Entries) (n : List ℕ) → IsUnnamed (files_seen tells image table) n → IsNewName (places table) n
+pub new_name : (tells : Bool) (image : List ℕ) (table : EntryTable) (n : List ℕ) → IsUnnamed (files_seen tells image table) n → IsNewName (places table) n
 new_name tells image table n none k d is same =
     let had = entry_of_place table k d is in
     none k (seen_named tells image table k had.0 had.1 ∙ ap (λ (m : List ℕ). Some m) (ap (λ (a : FileAt). a.name) had.2 ∙ same))
 
-pub no_entry : (tells : Bool) (image : List ℕ) (table : Entries) (n : List ℕ) → IsUnnamed (files_seen tells image table) n → (k : ℕ) (d : Entry) → IsEntry table k d → d.at.name ≢ n
+pub no_entry : (tells : Bool) (image : List ℕ) (table : EntryTable) (n : List ℕ) → IsUnnamed (files_seen tells image table) n → (k : ℕ) (d : Entry) → IsEntry table k d → d.at.name ≢ n
 no_entry tells image table n none k d is same = none k (seen_named tells image table k d is ∙ ap (λ (m : List ℕ). Some m) same)
 
 -- BYTES
@@ -178,7 +184,7 @@ stored_size image e is =
     end_spelt (file_byte image e.page.0 e.log) (256 * e.pages - 32) e.size
     (record { within = omega (arith, is.fits.size); zeros = is.file.zeros; last = is.last })
 
-pub stored_here : (image : List ℕ) (table : Entries) (draft : Option FileAt) (i : ℕ) (e : Entry) → Holds image (places table) draft → IsEntry table i e → IsStored image e.at
+pub stored_here : (image : List ℕ) (table : EntryTable) (draft : Option FileAt) (i : ℕ) (e : Entry) → Holds image (places table) draft → IsEntry table i e → IsStored image e.at
 stored_here image table draft i e holds is = holds.stored i e.at (in_places table i e is)
 
 pub size_seen : (tells : Bool) (image : List ℕ) (e : FileAt) → (IsTrue tells → IsStored image e) → length (bytes_seen tells image e) ≡ e.size
@@ -208,13 +214,13 @@ same_seen tells old new None kept = refl
 same_seen tells old new (Some e) kept = ap (λ (f : File). Some f) (kept_seen tells old new e (kept e refl))
 
 -- where all files of the table kept their content, callers see the same
-pub seen_kept : (tells : Bool) (old new : List ℕ) (table : Entries) → (IsTrue tells → KeepsAll old new (places table)) → files_seen tells new table ≡ files_seen tells old table
+pub seen_kept : (tells : Bool) (old new : List ℕ) (table : EntryTable) → (IsTrue tells → KeepsAll old new (places table)) → files_seen tells new table ≡ files_seen tells old table
 seen_kept tells old new table kept =
     ext_get_or None (files_seen tells new table) (files_seen tells old table) (length_seen tells new table ∙ sym (length_seen tells old table))
     (λ k low. seen_is tells new table k ∙ same_seen tells old new (get_or table k None) (λ e is told. kept told k e.at (in_places table k e is)) ∙ sym (seen_is tells old table k))
 
 -- where all but one did, that one is set
-pub seen_others : (tells : Bool) (old new : List ℕ) (table : Entries) (i : ℕ) (o : Option Entry) → i < length table → (IsTrue tells → KeepsOthers old new (places table) i)
+pub seen_others : (tells : Bool) (old new : List ℕ) (table : EntryTable) (i : ℕ) (o : Option Entry) → i < length table → (IsTrue tells → KeepsOthers old new (places table) i)
     → files_seen tells new (set table i o) ≡ set (files_seen tells old table) i (option_map (file_seen tells new) o)
 seen_others tells old new table i o inside kept =
     seen_set tells new table i o
@@ -232,7 +238,7 @@ seen_others tells old new table i o inside kept =
     (cases_eq k i))
 
 -- what was read byte by byte is a part of the file's bytes
-pub read_seen : (tells : Bool) (image : List ℕ) (table : Entries) (i : ℕ) (e : Entry) (at : ℕ) (old into : List ℕ) → IsTrue tells → IsEntry table i e → at + length old ≤ length (bytes_at (files_seen tells image table) i) → length into ≡ length old
+pub read_seen : (tells : Bool) (image : List ℕ) (table : EntryTable) (i : ℕ) (e : Entry) (at : ℕ) (old into : List ℕ) → IsTrue tells → IsEntry table i e → at + length old ≤ length (bytes_at (files_seen tells image table) i) → length into ≡ length old
     → ((k : ℕ) → k < length old → get_or into k 0 ≡ file_byte image e.at.page.0 e.at.log (at + k)) → into ≡ slice_range (bytes_at (files_seen tells image table) i) at (at + length old)
 read_seen true image table i e at old into told is range long here =
     let all : List ℕ = file_bytes image e.at.page.0 e.at.pages e.at.log in
@@ -246,13 +252,13 @@ read_seen false image table i e at old into told is range long here = absurd (cc
 -- REGULAR TABLES
 
 -- which entry stands where after a place is set
-entry_set : (table : Entries) (i k : ℕ) (o : Option Entry) (d : Entry) → i < length table → k ≡ i → IsEntry (set table i o) k d → o ≡ Some d
+entry_set : (table : EntryTable) (i k : ℕ) (o : Option Entry) (d : Entry) → i < length table → k ≡ i → IsEntry (set table i o) k d → o ≡ Some d
 entry_set table i k o d inside here is = sym (get_or-set_same table i o None inside) ∙ ap (λ (j : ℕ). get_or (set table i o) j None) (sym here) ∙ is
 
-entry_other : (table : Entries) (i k : ℕ) (o : Option Entry) (d : Entry) → k ≢ i → IsEntry (set table i o) k d → IsEntry table k d
+entry_other : (table : EntryTable) (i k : ℕ) (o : Option Entry) (d : Entry) → k ≢ i → IsEntry (set table i o) k d → IsEntry table k d
 entry_other table i k o d there is = sym (get_or-set_other table i k o None there) ∙ is
 
-pub regular_set : (pages : ℕ) (table : Entries) (i : ℕ) (o : Option Entry) → AreRegular pages table → i < length table
+pub regular_set : (pages : ℕ) (table : EntryTable) (i : ℕ) (o : Option Entry) → AreRegular pages table → i < length table
     → ((e : Entry) → o ≡ Some e → IsRegular pages e) → ((e : Entry) → o ≡ Some e → (k : ℕ) (d : Entry) → IsEntry table k d → d.at.name ≡ e.at.name → k ≡ i) → AreRegular pages (set table i o)
 regular_set pages table i o regular inside fine only = record {
   each = λ k d is. ⊎_elim
@@ -272,25 +278,25 @@ regular_set pages table i o regular inside fine only = record {
 }
 
 -- an entry in the place of one of its name
-pub regular_same : (pages : ℕ) (table : Entries) (i : ℕ) (e f : Entry) → AreRegular pages table → i < length table → IsEntry table i e → f.at.name ≡ e.at.name → IsRegular pages f → AreRegular pages (set table i (Some f))
+pub regular_same : (pages : ℕ) (table : EntryTable) (i : ℕ) (e f : Entry) → AreRegular pages table → i < length table → IsEntry table i e → f.at.name ≡ e.at.name → IsRegular pages f → AreRegular pages (set table i (Some f))
 regular_same pages table i e f regular inside was name fine =
     regular_set pages table i (Some f) regular inside
     (λ d is. let same : f ≡ d = cc in subst (λ (x : Entry). IsRegular pages x) same fine)
     (λ d is k x there same. let eq : f ≡ d = cc in regular.names k i x e there was (same ∙ ap (λ (y : Entry). y.at.name) (sym eq) ∙ name))
 
 -- an entry of a name that none has
-pub regular_new : (pages : ℕ) (table : Entries) (i : ℕ) (f : Entry) → AreRegular pages table → i < length table → ((k : ℕ) (d : Entry) → IsEntry table k d → d.at.name ≢ f.at.name) → IsRegular pages f
+pub regular_new : (pages : ℕ) (table : EntryTable) (i : ℕ) (f : Entry) → AreRegular pages table → i < length table → ((k : ℕ) (d : Entry) → IsEntry table k d → d.at.name ≢ f.at.name) → IsRegular pages f
     → AreRegular pages (set table i (Some f))
 regular_new pages table i f regular inside none fine =
     regular_set pages table i (Some f) regular inside
     (λ d is. let same : f ≡ d = cc in subst (λ (x : Entry). IsRegular pages x) same fine)
     (λ d is k x there same. let eq : f ≡ d = cc in absurd (none k x there (same ∙ ap (λ (y : Entry). y.at.name) (sym eq))))
 
-pub regular_gone : (pages : ℕ) (table : Entries) (i : ℕ) → AreRegular pages table → i < length table → AreRegular pages (set table i None)
+pub regular_gone : (pages : ℕ) (table : EntryTable) (i : ℕ) → AreRegular pages table → i < length table → AreRegular pages (set table i None)
 regular_gone pages table i regular inside = regular_set pages table i None regular inside (λ d is. absurd (cc)) (λ d is. absurd (cc))
 
 -- a table with no free place
-pub used_full : (table : Entries) → ((k : ℕ) → k < length table → is_some (get_or table k None) ≡ true) → used (files_seen false [] table) ≡ length table
+pub used_full : (table : EntryTable) → ((k : ℕ) → k < length table → is_some (get_or table k None) ≡ true) → used (files_seen false [] table) ≡ length table
 used_full table full = used_all (files_seen false [] table) (λ k low. seen_is_live false [] table k ∙ full k (omega (arith, length_seen false [] table))) ∙ length_seen false [] table
 
 -- ANSWERS WITHOUT SPACE

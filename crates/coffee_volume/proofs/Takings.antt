@@ -1,10 +1,11 @@
 -- Which pages that were free a change leaves in use.
-use Rattle.std.proofs.Common.{◌≡◌, inl, inr, ⊎_elim, ℕ, ◌+◌, ◌*◌, ◌<◌, ◌≤◌, Bool, true, false, not, ◌&&◌, List, length, set, Option, Some, None, IsTrue, refl, sym, ap, ◌∙◌, subst, arith}
+use Rattle.std.proofs.Common.{◌≡◌, ◌≢◌, inl, inr, ⊎_elim, ℕ, ◌+◌, ◌*◌, ◌<◌, ◌≤◌, Bool, true, false, not, ◌&&◌, List, length, set, Option, Some, None, IsTrue, refl, sym, ap, ◌∙◌, subst, arith}
 use Rattle.std.specs.Prelude.{Result, Ok, Err}
 use Rattle.std.proofs.lemmas.Bool.{cases_lt}
 use Rattle.std.proofs.lemmas.List.{get_or-set_same}
 use Rattle.afl_base.specs.FileErrors.{OnSpace, UnlessFailed}
-use Rattle.afl_base.specs.Files.{Becomes, File, bytes_at, file_at, size_at}
+use Rattle.afl_base.specs.Files.{Becomes, File, IsLive, bytes_at, file_at, size_at}
+use Rattle.afl_base.specs.Image.{page_bytes}
 use Rattle.afl_base.specs.declared.ids.PageId.{PageId}
 use Rattle.afl_base.specs.declared.kind.FileError.{FileError}
 use Rattle.afl_base.specs.declared.kind.FileError.TheVariants.{Space, Failed}
@@ -12,10 +13,14 @@ use Rattle.afl_base.specs.declared.kind.Kind.{Kind}
 use Rattle.afl_base.specs.declared.kind.Kind.TheVariants.{Doubling}
 use Rattle.coffee_layout.specs.declared.file.FileAt.{FileAt}
 use Rattle.coffee_layout.proofs.Tests.{true_or_false}
-use Rattle.coffee_merge.specs.Holding.{Begins, Holds, IsIn, Table, TakesOnly, extent_of, is_free_at}
+use Rattle.coffee_merge.specs.Holding.{Begins, Holds, IsIn, Entries, TakesOnly, extent_of, is_free_at}
+use Rattle.coffee_merge.specs.Takes.{FreesNone, LooksIn, Takes}
+use Rattle.coffee_merge.proofs.Lowest.{takes_more}
 use Rattle.coffee_merge.proofs.Taken.{takes_then}
-use Rattle.coffee_volume.specs.Taking.{LiesIn, TakesForDraft, TakesForFile, TakesNone, TakesWithin}
-use Rattle.coffee_volume.specs.Volumes.{Entries, IsEntry, files_seen, places, state_seen}
+use Rattle.coffee_volume.specs.Lowest.{PlacesDraft, PlacesFile, Provides, StepsTo, log_for}
+use Rattle.coffee_volume.specs.Steps.{step_for}
+use Rattle.coffee_volume.specs.Taking.{IsFileOf, LiesIn, TakesForDraft, TakesForFile, TakesNone, TakesWithin}
+use Rattle.coffee_volume.specs.Volumes.{EntryTable, FromTo, IsEntry, files_seen, places, state_seen}
 use Rattle.coffee_volume.specs.declared.entry.Entry.{Entry}
 use Rattle.coffee_volume.proofs.Changes.{MakesFile, held, made_sets}
 use Rattle.coffee_volume.proofs.Drafted.{first_some}
@@ -39,40 +44,40 @@ pub none_taken : (old new : List ℕ) → TakesOnly old new 0 0 → TakesNone ol
 none_taken old new takes = λ p free. takes p free (λ a b. omega arith)
 
 -- the pages of an extent
-pub extent_taken : (old new : List ℕ) (e : FileAt) → TakesOnly old new e.page.0 e.pages → TakesWithin old new e
+pub extent_taken : (old new : List ℕ) (e : FileAt) → TakesOnly old new e.page.0 e.pages → TakesWithin e old new
 extent_taken old new e takes = λ p free taken. inl (only_lies old new e.page.0 e.pages p takes free taken)
 
 -- the pages of a log
-pub log_taken : (old new : List ℕ) (e : FileAt) (l : PageId) → e.log ≡ Some l → TakesOnly old new l.0 16 → TakesWithin old new e
+pub log_taken : (old new : List ℕ) (e : FileAt) (l : PageId) → e.log ≡ Some l → TakesOnly old new l.0 16 → TakesWithin e old new
 log_taken old new e l log takes = λ p free taken. inr (let both = only_lies old new l.0 16 p takes free taken in (l, log, both.0, both.1))
 
 -- none
-pub nothing_taken : (old new : List ℕ) (e : FileAt) → TakesNone old new → TakesWithin old new e
+pub nothing_taken : (old new : List ℕ) (e : FileAt) → TakesNone old new → TakesWithin e old new
 nothing_taken old new e takes = λ p free taken. free_not (is_free_at new p) (takes p free) taken
 
 -- a file of the table takes pages
-pub file_taken : (old new : List ℕ) (table : Table) (draft : Option FileAt) (i : ℕ) (e : FileAt) → Holds new table draft → IsIn table i e → TakesWithin old new e → TakesForFile old new e.name
+pub file_taken : (old new : List ℕ) (table : Entries) (draft : Option FileAt) (i : ℕ) (e : FileAt) → Holds new table draft → IsIn table i e → TakesWithin e old new → TakesForFile e.name old new
 file_taken old new table draft i e h is takes = λ p free taken.
     (e, record { name = refl; active = h.files i e is; logged = λ l log. h.logs i e l is log }, takes p free taken)
 
 -- a draft does
-pub draft_taken : (old new : List ℕ) (table : Table) (d : FileAt) → Holds new table (Some d) → TakesWithin old new d → TakesForDraft old new d.name
+pub draft_taken : (old new : List ℕ) (table : Entries) (d : FileAt) → Holds new table (Some d) → TakesWithin d old new → TakesForDraft d.name old new
 draft_taken old new table d h takes = λ p free taken.
     (d, record { name = refl; begun = h.begun d refl; no_log = (h.drafted d refl).no_log }, takes p free taken)
 
 -- CALLS
 
 -- a call that takes no page
-pub stayed_taken : (tells failed : Bool) (old new : List ℕ) (table : Entries) (draft : Option FileAt) → draft ≡ None → (IsTrue tells → failed ≡ false → Holds old (places table) draft) → (IsTrue tells → (t : Table) → Holds old t None → TakesOnly old new 0 0)
+pub stayed_taken : (tells failed : Bool) (old new : List ℕ) (table : EntryTable) (draft : Option FileAt) → draft ≡ None → (IsTrue tells → failed ≡ false → Holds old (places table) draft) → (IsTrue tells → (t : Entries) → Holds old t None → TakesOnly old new 0 0)
     → IsTrue (tells && not failed) → TakesNone old new
 stayed_taken tells failed old new table draft idle says takes told =
     let both = told_by tells failed told in
     none_taken old new (takes both.0 (places table) (held tells failed old table draft says idle both.0 both.1))
 
 -- an extent that is begun and committed for a new file
-pub made_taken : (tells failed : Bool) (old mid new : List ℕ) (table : Entries) (draft : Option FileAt) (i : ℕ) (name : List ℕ) (kind : Kind) (page : PageId) (pages : ℕ) (f : Entry) → MakesFile tells failed old mid new table draft i name kind page pages f
-    → (IsTrue tells → (t : Table) → Holds old t None → TakesOnly old mid page.0 pages) → (IsTrue tells → (t : Table) (d : FileAt) → Holds mid t (Some d) → d.page ≡ page → TakesOnly mid new 0 0)
-    → IsTrue (tells && not failed) → TakesForFile old new name
+pub made_taken : (tells failed : Bool) (old mid new : List ℕ) (table : EntryTable) (draft : Option FileAt) (i : ℕ) (name : List ℕ) (kind : Kind) (page : PageId) (pages : ℕ) (f : Entry) → MakesFile tells failed old mid new table draft i name kind page pages f
+    → (IsTrue tells → (t : Entries) → Holds old t None → TakesOnly old mid page.0 pages) → (IsTrue tells → (t : Entries) (d : FileAt) → Holds mid t (Some d) → d.page ≡ page → TakesOnly mid new 0 0)
+    → IsTrue (tells && not failed) → TakesForFile name old new
 made_taken tells failed old mid new table draft i name kind page pages f m first second told =
     let both = told_by tells failed told in
     let e : FileAt = extent_of name kind page.0 pages 0 in
@@ -85,30 +90,75 @@ made_taken tells failed old mid new table draft i name kind page pages f m first
     let inside : i < length (places table) = omega (arith, length_places table, m.inside) in
     file_taken old new (set (places table) i (Some e)) None i e sets.holds (get_or-set_same (places table) i (Some e) None inside) (extent_taken old new e takes)
 
+pub made_lowest : (tells failed : Bool) (old mid new : List ℕ) (table : EntryTable) (draft : Option FileAt) (i : ℕ) (name : List ℕ) (kind : Kind) (page : PageId) (pages : ℕ) (f : Entry) → MakesFile tells failed old mid new table draft i name kind page pages f
+    → (IsTrue tells → (t : Entries) → Holds old t None → Takes old mid page.0 pages None) → (IsTrue tells → (t : Entries) (d : FileAt) → Holds mid t (Some d) → d.page ≡ page → FreesNone mid new)
+    → (IsTrue tells → (p : ℕ) → p ≢ page.0 → page_bytes new p ≡ page_bytes mid p)
+    → IsTrue (tells && not failed) → PlacesFile name pages old new
+made_lowest tells failed old mid new table draft i name kind page pages f m first frees others told =
+    let both = told_by tells failed told in
+    let e : FileAt = extent_of name kind page.0 pages 0 in
+    let some = first_some kind m.is_kind in
+    let number = m.number in
+    let h = held tells failed old table draft m.stands.told m.idle both.0 both.1 in
+    let b = m.begun both.0 (places table) 0 h (omega arith) in
+    let sets = made_sets tells failed old mid new table draft i name kind page pages f m both.0 both.1 in
+    let inside : i < length (places table) = omega (arith, length_places table, m.inside) in
+    let is : IsIn (set (places table) i (Some e)) i e = get_or-set_same (places table) i (Some e) None inside in
+    record {
+      file = e;
+      is = record { name = refl; active = sets.holds.files i e is; logged = λ l log. absurd (cc) };
+      many = refl;
+      takes = takes_more old mid new page.0 pages None (first both.0 (places table) h)
+          (λ p out apart. others both.0 p (λ same. out (omega (arith, same)) (omega (arith, same))))
+          (frees both.0 (places table) e b.holds refl);
+    }
+
 -- a draft that is begun
-pub begun_taken : (tells failed : Bool) (old new : List ℕ) (table : Entries) (draft : Option FileAt) (name : List ℕ) (page pages size : ℕ) → draft ≡ None → (IsTrue tells → failed ≡ false → Holds old (places table) draft) → size + 32 ≤ 256 * pages
-    → (IsTrue tells → (t : Table) (n : ℕ) → Holds old t None → n + 32 ≤ 256 * pages → Begins old new t (extent_of name Doubling page pages n)) → (IsTrue tells → (t : Table) → Holds old t None → TakesOnly old new page pages)
-    → IsTrue (tells && not failed) → TakesForDraft old new name
+pub begun_taken : (tells failed : Bool) (old new : List ℕ) (table : EntryTable) (draft : Option FileAt) (name : List ℕ) (page pages size : ℕ) → draft ≡ None → (IsTrue tells → failed ≡ false → Holds old (places table) draft) → size + 32 ≤ 256 * pages
+    → (IsTrue tells → (t : Entries) (n : ℕ) → Holds old t None → n + 32 ≤ 256 * pages → Begins old new t (extent_of name Doubling page pages n)) → (IsTrue tells → (t : Entries) → Holds old t None → TakesOnly old new page pages)
+    → IsTrue (tells && not failed) → TakesForDraft name old new
 begun_taken tells failed old new table draft name page pages size idle says fits begun takes told =
     let both = told_by tells failed told in
     let d : FileAt = extent_of name Doubling page pages size in
     let h = held tells failed old table draft says idle both.0 both.1 in
     draft_taken old new (places table) d (begun both.0 (places table) size h fits).holds (extent_taken old new d (takes both.0 (places table) h))
 
+pub begun_lowest : (tells failed : Bool) (old new : List ℕ) (table : EntryTable) (draft : Option FileAt) (name : List ℕ) (page pages size : ℕ) → draft ≡ None → (IsTrue tells → failed ≡ false → Holds old (places table) draft) → size + 32 ≤ 256 * pages
+    → (IsTrue tells → (t : Entries) (n : ℕ) → Holds old t None → n + 32 ≤ 256 * pages → Begins old new t (extent_of name Doubling page pages n)) → (IsTrue tells → (t : Entries) → Holds old t None → Takes old new page pages None)
+    → IsTrue (tells && not failed) → PlacesDraft name pages old new
+begun_lowest tells failed old new table draft name page pages size idle says fits begun takes told =
+    let both = told_by tells failed told in
+    let d : FileAt = extent_of name Doubling page pages size in
+    let h = held tells failed old table draft says idle both.0 both.1 in
+    let now = (begun both.0 (places table) size h fits).holds in
+    record {
+      draft = d;
+      is = record { name = refl; begun = now.begun d refl; no_log = refl };
+      many = refl;
+      takes = takes both.0 (places table) h;
+    }
+
+-- where pages were looked for, and there are none
+pub stayed_looked : (tells failed : Bool) (old new : List ℕ) (table : EntryTable) (draft : Option FileAt) (n : ℕ) → draft ≡ None → (IsTrue tells → failed ≡ false → Holds old (places table) draft) → (IsTrue tells → (t : Entries) → Holds old t None → LooksIn old new n)
+    → IsTrue (tells && not failed) → LooksIn old new n
+stayed_looked tells failed old new table draft n idle says looked told =
+    let both = told_by tells failed told in
+    looked both.0 (places table) (held tells failed old table draft says idle both.0 both.1)
+
 -- where an extent could not be had
-pub space_untaken : {T : Type 0} (r : Result T FileError) (old new : List ℕ) → OnSpace r (λ need. (table : Table) → Holds old table None → TakesOnly old new 0 0) → OnSpace r (λ need. (table : Table) → Holds old table None → TakesNone old new)
+pub space_untaken : {T : Type 0} (r : Result T FileError) (old new : List ℕ) → OnSpace r (λ need. (table : Entries) → Holds old table None → TakesOnly old new 0 0) → OnSpace r (λ need. (table : Entries) → Holds old table None → TakesNone old new)
 space_untaken (Ok x) old new takes = tt
 space_untaken (Err (Space need)) old new takes = λ table h. none_taken old new (takes table h)
 space_untaken (Err Failed) old new takes = tt
 
-pub error_untaken : (T U : Type 0) (e : FileError) (old new : List ℕ) → OnSpace {T = T} (Err e) (λ need. (table : Table) → Holds old table None → TakesOnly old new 0 0) → OnSpace {T = U} (Err e) (λ need. (table : Table) → Holds old table None → TakesNone old new)
+pub error_untaken : (T U : Type 0) (e : FileError) (old new : List ℕ) → OnSpace {T = T} (Err e) (λ need. (table : Entries) → Holds old table None → TakesOnly old new 0 0) → OnSpace {T = U} (Err e) (λ need. (table : Entries) → Holds old table None → TakesNone old new)
 error_untaken T U (Space need) old new takes = λ table h. none_taken old new (takes table h)
 error_untaken T U Failed old new takes = tt
 
 -- THE STEPS OF A FILE
 
 -- the entry in a place that was set
-pub set_entry : (table : Entries) (i : ℕ) (f e : Entry) → i < length table → IsEntry (set table i (Some f)) i e → f ≡ e
+pub set_entry : (table : EntryTable) (i : ℕ) (f e : Entry) → i < length table → IsEntry (set table i (Some f)) i e → f ≡ e
 set_entry table i f e inside is = one_entry (set table i (Some f)) i f e (get_or-set_same table i (Some f) None inside) is
 
 -- a file that got a log has its pages still
@@ -120,23 +170,23 @@ log_lies from to p is bare (inl within) =
 log_lies from to p is bare (inr logged) = absurd (let both : None ≡ Some logged.0 = sym bare ∙ logged.1 in cc)
 
 -- one step after another
-both_taken : (old mid new : List ℕ) (e d : FileAt) → TakesWithin old mid e → ((p : ℕ) → LiesIn e p → LiesIn d p) → TakesWithin mid new d → TakesWithin old new d
+both_taken : (old mid new : List ℕ) (e d : FileAt) → TakesWithin e old mid → ((p : ℕ) → LiesIn e p → LiesIn d p) → TakesWithin d mid new → TakesWithin d old new
 both_taken old mid new e d first more second = λ p free taken. ⊎_elim
     (λ (still : is_free_at mid p ≡ true). second p still taken)
     (λ (gone : is_free_at mid p ≡ false). more p (first p free gone))
     (true_or_false (is_free_at mid p))
 
 -- what `prepare` leaves of a file after its steps
-pub record Steps (tells before between failed : Bool) (old mid new : List ℕ) (table turned now : Entries) (draft begun left : Option FileAt) (i : ℕ) : Type 0 where
+pub record Steps (tells before between failed : Bool) (old mid new : List ℕ) (table turned now : EntryTable) (draft begun left : Option FileAt) (i : ℕ) : Type 0 where
   pub first : Becomes (state_seen (tells && not before) old table draft) (state_seen (tells && not between) mid turned begun) i (size_at (files_seen (tells && not before) old table) i) (bytes_at (files_seen (tells && not before) old table) i)
   pub second : Becomes (state_seen (tells && not between) mid turned begun) (state_seen (tells && not failed) new now left) i (size_at (files_seen (tells && not between) mid turned) i) (bytes_at (files_seen (tells && not between) mid turned) i)
   pub told : IsTrue tells → failed ≡ false → Holds new (places now) left
-  pub taken : IsTrue (tells && not before) → (e : Entry) → IsEntry turned i e → TakesWithin old mid e.at
+  pub taken : IsTrue (tells && not before) → (e : Entry) → IsEntry turned i e → TakesWithin e.at old mid
   pub more : (e d : Entry) → IsEntry turned i e → IsEntry now i d → (p : ℕ) → LiesIn e.at p → LiesIn d.at p
-  pub then_taken : IsTrue (tells && not between) → (d : Entry) → IsEntry now i d → TakesWithin mid new d.at
+  pub then_taken : IsTrue (tells && not between) → (d : Entry) → IsEntry now i d → TakesWithin d.at mid new
 
-pub steps_taken : (tells before between failed : Bool) (old mid new : List ℕ) (table turned now : Entries) (draft begun left : Option FileAt) (i : ℕ) → Steps tells before between failed old mid new table turned now draft begun left i
-    → IsTrue (tells && not before) → TakesForFile old new (file_at (files_seen (tells && not before) old table) i).name
+pub steps_taken : (tells before between failed : Bool) (old mid new : List ℕ) (table turned now : EntryTable) (draft begun left : Option FileAt) (i : ℕ) → Steps tells before between failed old mid new table turned now draft begun left i
+    → IsTrue (tells && not before) → TakesForFile (file_at (files_seen (tells && not before) old table) i).name old new
 steps_taken tells before between failed old mid new table turned now draft begun left i s told =
     let a = s.first in
     let b = s.second in
@@ -145,11 +195,48 @@ steps_taken tells before between failed old mid new table turned now draft begun
     let then : IsTrue (tells && not between) = a.tells ∙ told in
     let both = told_by tells failed (b.tells ∙ then) in
     let name : d.0.at.name ≡ (file_at (files_seen (tells && not before) old table) i).name = ap (λ (f : File). f.name) (sym (file_of (tells && not failed) new now i d.0 d.1)) ∙ b.name ∙ a.name in
-    subst (λ n. TakesForFile old new n) name
+    subst (λ n. TakesForFile n old new) name
     (file_taken old new (places now) left i d.0.at (s.told both.0 both.1) (in_places now i d.0 d.1) (both_taken old mid new e.0.at d.0.at (s.taken told e.0 e.1) (s.more e.0 d.0 e.1 d.1) (s.then_taken then d.0 d.1)))
 
+-- what `prepare` has done with a file after its steps
+pub record Turns (tells before between failed : Bool) (old mid new : List ℕ) (table turned now : EntryTable) (draft begun left : Option FileAt) (i overwrites bytes : ℕ) : Type 0 where
+  pub live : IsLive (files_seen (tells && not before) old table) i
+  pub held : IsTrue tells → before ≡ false → Holds old (places table) draft
+  pub first : Becomes (state_seen (tells && not before) old table draft) (state_seen (tells && not between) mid turned begun) i (size_at (files_seen (tells && not before) old table) i) (bytes_at (files_seen (tells && not before) old table) i)
+  pub second : Becomes (state_seen (tells && not between) mid turned begun) (state_seen (tells && not failed) new now left) i (size_at (files_seen (tells && not between) mid turned) i) (bytes_at (files_seen (tells && not between) mid turned) i)
+  pub told : IsTrue tells → failed ≡ false → Holds new (places now) left
+  pub lowest : IsTrue (tells && not before) → FromTo table turned i (λ e. StepsTo (step_for e overwrites bytes) old mid e)
+  pub then_lowest : IsTrue (tells && not between) → FromTo turned now i (λ e. StepsTo (log_for e overwrites bytes) mid new e)
+
+file_of_held : (image : List ℕ) (table : Entries) (draft : Option FileAt) (i : ℕ) (e : FileAt) (n : List ℕ) → Holds image table draft → IsIn table i e → e.name ≡ n → IsFileOf image n e
+file_of_held image table draft i e n h is name = record { name = name; active = h.files i e is; logged = λ l log. h.logs i e l is log }
+
+pub turns_lowest : (tells before between failed : Bool) (old mid new : List ℕ) (table turned now : EntryTable) (draft begun left : Option FileAt) (i overwrites bytes : ℕ) → Turns tells before between failed old mid new table turned now draft begun left i overwrites bytes
+    → IsTrue (tells && not before) → Provides (file_at (files_seen (tells && not before) old table) i).name overwrites bytes old new
+turns_lowest tells before between failed old mid new table turned now draft begun left i overwrites bytes t told =
+    let a = t.first in
+    let b = t.second in
+    let c = entry_seen (tells && not before) old table i t.live in
+    let e = entry_seen (tells && not between) mid turned i a.live in
+    let d = entry_seen (tells && not failed) new now i b.live in
+    let then : IsTrue (tells && not between) = a.tells ∙ told in
+    let was = told_by tells before told in
+    let both = told_by tells failed (b.tells ∙ then) in
+    let had : c.0.at.name ≡ (file_at (files_seen (tells && not before) old table) i).name = ap (λ (f : File). f.name) (sym (file_of (tells && not before) old table i c.0 c.1)) in
+    let name : d.0.at.name ≡ (file_at (files_seen (tells && not before) old table) i).name = ap (λ (f : File). f.name) (sym (file_of (tells && not failed) new now i d.0 d.1)) ∙ b.name ∙ a.name in
+    record {
+      middle = mid;
+      from = c.0.at;
+      between = e.0.at;
+      to = d.0.at;
+      was = file_of_held old (places table) draft i c.0.at _ (t.held was.0 was.1) (in_places table i c.0 c.1) had;
+      first = t.lowest told c.0 e.0 c.1 e.1;
+      last = t.then_lowest then e.0 d.0 e.1 d.1;
+      is = file_of_held new (places now) left i d.0.at _ (t.told both.0 both.1) (in_places now i d.0 d.1) name;
+    }
+
 -- the second step could not be taken
-pub same_more : (turned now : Entries) (i : ℕ) → now ≡ turned → (e d : Entry) → IsEntry turned i e → IsEntry now i d → (p : ℕ) → LiesIn e.at p → LiesIn d.at p
+pub same_more : (turned now : EntryTable) (i : ℕ) → now ≡ turned → (e d : Entry) → IsEntry turned i e → IsEntry now i d → (p : ℕ) → LiesIn e.at p → LiesIn d.at p
 same_more turned now i kept e d was is p lies = subst (λ (x : Entry). LiesIn x.at p) (one_entry turned i e d was (subst (λ t. IsEntry t i d) kept is)) lies
 
 -- what is known where an error is handed on
@@ -158,3 +245,8 @@ handed_on {T = T} {U = U} r q (Space need) B K N P is same b k n gives =
     subst (λ (x : Result U FileError). UnlessFailed x P) (sym same)
     (gives (subst (λ (x : Result T FileError). UnlessFailed x B) is b) (subst (λ (x : Result T FileError). OnSpace x (λ need. K)) is k) (subst (λ (x : Result T FileError). OnSpace x (λ need. N)) is n))
 handed_on {T = T} {U = U} r q Failed B K N P is same b k n gives = subst (λ (x : Result U FileError). UnlessFailed x P) (sym same) tt
+
+-- an answer without space that is handed on
+pub space_handed : {T U : Type 0} (r : Result T FileError) (q : Result U FileError) (e : FileError) (P : ℕ → Type 0) → r ≡ Err e → q ≡ Err e → OnSpace r P → OnSpace q P
+space_handed {T = T} {U = U} r q (Space need) P is same p = subst (λ (x : Result U FileError). OnSpace x P) (sym same) (subst (λ (x : Result T FileError). OnSpace x P) is p)
+space_handed {T = T} {U = U} r q Failed P is same p = subst (λ (x : Result U FileError). OnSpace x P) (sym same) tt

@@ -1,3 +1,5 @@
+pub mod Asking
+pub mod Lowest
 pub mod Mounting
 pub mod Rooms
 pub mod Steps

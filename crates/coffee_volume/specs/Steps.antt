@@ -1,8 +1,9 @@
 -- Steps: what `prepare` does with a file.
-use Rattle.std.specs.Prelude.{◌≡◌, ◌≢◌, ⊤, ℕ, ◌+◌, ◌*◌, ◌≤◌, Option, Some, None, max, nat_lt, if◌then◌else◌}
+use Rattle.std.specs.Prelude.{◌≡◌, ◌≢◌, ⊤, ℕ, ◌+◌, ◌*◌, ◌≤◌, List, Option, Some, None, max, nat_lt, if◌then◌else◌}
 use Rattle.afl_base.specs.Fit.{fit}
 use Rattle.afl_base.specs.declared.kind.Kind.TheVariants.{Doubling, Fixed}
 use Rattle.coffee_layout.specs.declared.file.FileAt.{FileAt}
+use Rattle.coffee_merge.specs.Holding.{Entries, Holds, IsIn}
 use Rattle.coffee_volume.specs.Rooms.{has_too_few, records_needed}
 use Rattle.coffee_volume.specs.declared.step.Step.{Step}
 use Rattle.coffee_volume.specs.declared.step.Step.TheVariants.{Grow, Merge, Log}
@@ -35,3 +36,11 @@ abbrev pub IsAfter : Step → (from to : FileAt) → Type 0
 IsAfter Grow from to = to ≡ record from { page = to.page; pages = 2 * from.pages; log = None; used = 0 }
 IsAfter Merge from to = to ≡ record from { page = to.page; log = None; used = 0 }
 IsAfter Log from to = (to ≡ record from { log = to.log }) × (to.log ≢ None)
+
+-- P of each table of files that an image holds, with no draft
+abbrev pub WhereHeld : List ℕ → (Entries → Type 0) → Type 0
+WhereHeld image P = (table : Entries) → Holds image table None → P table
+
+-- P of each such table, and of the place of a file in it
+abbrev pub WhereStands : List ℕ → FileAt → (Entries → ℕ → Type 0) → Type 0
+WhereStands image file P = (table : Entries) (i : ℕ) → Holds image table None → IsIn table i file → P table i

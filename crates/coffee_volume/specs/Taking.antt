@@ -23,17 +23,21 @@ abbrev pub LiesIn : FileAt → ℕ → Type 0
 LiesIn e p = ((e.page.0 ≤ p) × (p < e.page.0 + e.pages)) ⊎ ((l : PageId) × (e.log ≡ Some l) × (l.0 ≤ p) × (p < l.0 + 16))
 
 -- a page that was free and is not lies in the extent or in the log of the file of this name
-abbrev pub TakesForFile : (old new given : List ℕ) → Type 0
-TakesForFile old new given = (p : ℕ) → is_free_at old p ≡ true → is_free_at new p ≡ false → (e : FileAt) × IsFileOf new given e × LiesIn e p
+abbrev pub TakesForFile : (given old new : List ℕ) → Type 0
+TakesForFile given old new = (p : ℕ) → is_free_at old p ≡ true → is_free_at new p ≡ false → (e : FileAt) × IsFileOf new given e × LiesIn e p
 
 -- a page that was free and is not lies in the draft, which has this name
-abbrev pub TakesForDraft : (old new given : List ℕ) → Type 0
-TakesForDraft old new given = (p : ℕ) → is_free_at old p ≡ true → is_free_at new p ≡ false → (d : FileAt) × IsDraftOf new given d × LiesIn d p
+abbrev pub TakesForDraft : (given old new : List ℕ) → Type 0
+TakesForDraft given old new = (p : ℕ) → is_free_at old p ≡ true → is_free_at new p ≡ false → (d : FileAt) × IsDraftOf new given d × LiesIn d p
 
 -- each page that was free is free
 abbrev pub TakesNone : (old new : List ℕ) → Type 0
 TakesNone old new = (p : ℕ) → is_free_at old p ≡ true → is_free_at new p ≡ true
 
 -- of the pages that were free, only those of a file and of its log may be in use now
-abbrev pub TakesWithin : (old new : List ℕ) → FileAt → Type 0
-TakesWithin old new e = (p : ℕ) → is_free_at old p ≡ true → is_free_at new p ≡ false → LiesIn e p
+abbrev pub TakesWithin : FileAt → (old new : List ℕ) → Type 0
+TakesWithin e old new = (p : ℕ) → is_free_at old p ≡ true → is_free_at new p ≡ false → LiesIn e p
+
+-- all units stay, and so does each free page
+abbrev pub KeepsUnits : (old new : List ℕ) → Type 0
+KeepsUnits old new = units_of new ≡ units_of old

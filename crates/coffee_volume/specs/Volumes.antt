@@ -15,23 +15,31 @@ use Rattle.coffee_volume.specs.declared.entry.Entry.{Entry}
 
 -- THE TABLE
 
-abbrev pub Entries : Type 0
-Entries = List (Option Entry)
+abbrev pub EntryTable : Type 0
+EntryTable = List (Option Entry)
 
 -- an entry stands in a place
-abbrev pub IsEntry : Entries → ℕ → Entry → Type 0
+abbrev pub IsEntry : EntryTable → ℕ → Entry → Type 0
 IsEntry table i e = get_or table i None ≡ Some e
+
+-- P of the file in a place
+abbrev pub AtEntry : EntryTable → ℕ → (FileAt → Type 0) → Type 0
+AtEntry table i P = (e : Entry) → IsEntry table i e → P e.at
+
+-- P of the file in a place, before and now
+abbrev pub FromTo : (old new : EntryTable) → ℕ → (FileAt → FileAt → Type 0) → Type 0
+FromTo old new i P = (e d : Entry) → IsEntry old i e → IsEntry new i d → P e.at d.at
 
 -- the entry of a file without room
 abbrev pub roomless : FileAt → Entry
 roomless at = record { at = at; records = 0; room = 0 }
 
 -- the name of the entry in a place
-abbrev pub entry_name : Entries → ℕ → Option (List ℕ)
+abbrev pub entry_name : EntryTable → ℕ → Option (List ℕ)
 entry_name table i = option_map (λ (e : Entry). e.at.name) (get_or table i None)
 
 -- the files of the table, without their room
-abbrev pub places : Entries → List (Option FileAt)
+abbrev pub places : EntryTable → List (Option FileAt)
 places table = map (option_map (λ (e : Entry). e.at)) table
 
 -- What is known of an entry on any flash: it lies inside, its pages are those of its kind, a doubling
@@ -43,7 +51,7 @@ pub record IsRegular (pages : ℕ) (e : Entry) : Type 0 where
   pub room : HasRoom e
 
 -- all entries are, and no two have one name
-pub record AreRegular (pages : ℕ) (table : Entries) : Type 0 where
+pub record AreRegular (pages : ℕ) (table : EntryTable) : Type 0 where
   pub each : (i : ℕ) (e : Entry) → IsEntry table i e → IsRegular pages e
   pub names : (i j : ℕ) (e d : Entry) → IsEntry table i e → IsEntry table j d → e.at.name ≡ d.at.name → i ≡ j
 
@@ -74,10 +82,10 @@ drafted_bytes false image d = replicate d.size 0
 abbrev pub draft_seen : Bool → List ℕ → FileAt → Draft
 draft_seen tells image d = record { name = d.name; bytes = drafted_bytes tells image d }
 
-abbrev pub files_seen : Bool → List ℕ → Entries → List (Option File)
+abbrev pub files_seen : Bool → List ℕ → EntryTable → List (Option File)
 files_seen tells image table = map (option_map (file_seen tells image)) table
 
-abbrev pub state_seen : Bool → List ℕ → Entries → Option FileAt → State
+abbrev pub state_seen : Bool → List ℕ → EntryTable → Option FileAt → State
 state_seen tells image table draft = record {
   tells = tells;
   files = files_seen tells image table;
@@ -85,10 +93,14 @@ state_seen tells image table draft = record {
   store = image;
 }
 
+-- P of the bytes that all is kept in, before and now, where they are told
+abbrev pub WhereTold : (old new : State) → (List ℕ → List ℕ → Type 0) → Type 0
+WhereTold old new P = IsTrue old.tells → P old.store new.store
+
 -- no extent of so many pages can be had: the image is cramped, where it is told
 abbrev pub Lacks : Bool → List ℕ → ℕ → Type 0
 Lacks tells image n = IsTrue tells → IsCramped (units_of image) n
 
 -- `prepare` asks for an extent of so many pages
-abbrev pub Asks : Entries → (id overwrites bytes need : ℕ) → Type 0
+abbrev pub Asks : EntryTable → (id overwrites bytes need : ℕ) → Type 0
 Asks table id overwrites bytes need = (e : Entry) → IsEntry table id e → pages_asked e.at overwrites bytes ≡ Some need

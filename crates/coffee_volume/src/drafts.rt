@@ -1,13 +1,14 @@
-ghost use Rattle.std.specs.Prelude.{◌≡◌, ◌≢◌, ◌-◌, ◌≤◌, ◌&&◌, not, ℕ, Some, None, get_or, IsTrue, OnOk};
+ghost use Rattle.std.specs.Prelude.{◌≡◌, ◌≢◌, ◌-◌, ◌≤◌, ℕ, Some, None, length, get_or, IsTrue, OnOk};
 ghost use Rattle.afl_base.specs.Causes.{HasCause};
 ghost use Rattle.afl_base.specs.Files.{Commits};
+ghost use Rattle.afl_base.specs.Places.{AreTaken};
 ghost use Rattle.coffee_layout.specs.FileBytes.{file_byte};
 ghost use Rattle.coffee_volume.specs.Taking.{TakesNone};
-ghost use Rattle.coffee_volume.specs.Volumes.{entry_name, state_seen};
+ghost use Rattle.coffee_volume.specs.Volumes.{WhereTold, entry_name};
 
 use crate::entry::Entry;
 use crate::volume::Volume;
-use afl_base::{Failed, FileId, Flash};
+use afl_base::{Failed, FileId, Files, Flash};
 use coffee_layout::FileAt;
 use coffee_merge::{commit_extent, replace_file};
 
@@ -16,9 +17,13 @@ impl<F: Flash> Volume<F> {
     pub(crate) fn replace_by(&mut self, id: FileId, draft: FileAt) -> Result<(), Failed>
         requires begun { self.old.draft ≡ Some draft }
         requires named { entry_name self.old.table id ≡ Some draft.name }
-        requires last { IsTrue (F.tells && not self.old.failed) → 1 ≤ draft.size → file_byte (F.image self.old.flash) draft.page.0 None (draft.size - 1) ≢ 0 }
-        ensures committed { OnOk result (Commits (state_seen (F.tells && not self.old.failed) (F.image self.old.flash) self.old.table self.old.draft) (state_seen (F.tells && not self.new.failed) (F.image self.new.flash) self.new.table self.new.draft) id) }
-        ensures taken { IsTrue (F.tells && not self.old.failed) → OnOk result (TakesNone (F.image self.old.flash) (F.image self.new.flash)) }
+        requires last { IsTrue (⟦<Self as Files>⟧.state self.old).tells → 1 ≤ draft.size
+            → file_byte (⟦<Self as Files>⟧.state self.old).store draft.page.0 None (draft.size - 1) ≢ 0 }
+        ensures committed { OnOk result (
+            Commits (⟦<Self as Files>⟧.state self.old) (⟦<Self as Files>⟧.state self.new) id) }
+        ensures taken { OnOk result (
+            WhereTold (⟦<Self as Files>⟧.state self.old) (⟦<Self as Files>⟧.state self.new) TakesNone) }
+        ensures store { length (F.image self.new.flash) ≡ length (F.image self.old.flash) }
         ensures reads_later { F.reads self.old.flash ≤ F.reads self.new.flash }
         ensures cause { HasCause (F.faults self.old.flash) (F.faults self.new.flash) result }
     {
@@ -40,10 +45,15 @@ impl<F: Flash> Volume<F> {
     pub(crate) fn add(&mut self, id: FileId, draft: FileAt) -> Result<(), Failed>
         requires begun { self.old.draft ≡ Some draft }
         requires free { get_or self.old.table id None ≡ None }
+        requires lowest { AreTaken self.old.table id }
         requires unnamed { (k : ℕ) → entry_name self.old.table k ≢ Some draft.name }
-        requires last { IsTrue (F.tells && not self.old.failed) → 1 ≤ draft.size → file_byte (F.image self.old.flash) draft.page.0 None (draft.size - 1) ≢ 0 }
-        ensures committed { OnOk result (Commits (state_seen (F.tells && not self.old.failed) (F.image self.old.flash) self.old.table self.old.draft) (state_seen (F.tells && not self.new.failed) (F.image self.new.flash) self.new.table self.new.draft) id) }
-        ensures taken { IsTrue (F.tells && not self.old.failed) → OnOk result (TakesNone (F.image self.old.flash) (F.image self.new.flash)) }
+        requires last { IsTrue (⟦<Self as Files>⟧.state self.old).tells → 1 ≤ draft.size
+            → file_byte (⟦<Self as Files>⟧.state self.old).store draft.page.0 None (draft.size - 1) ≢ 0 }
+        ensures committed { OnOk result (
+            Commits (⟦<Self as Files>⟧.state self.old) (⟦<Self as Files>⟧.state self.new) id) }
+        ensures taken { OnOk result (
+            WhereTold (⟦<Self as Files>⟧.state self.old) (⟦<Self as Files>⟧.state self.new) TakesNone) }
+        ensures store { length (F.image self.new.flash) ≡ length (F.image self.old.flash) }
         ensures reads_later { F.reads self.old.flash ≤ F.reads self.new.flash }
         ensures cause { HasCause (F.faults self.old.flash) (F.faults self.new.flash) result }
     {

@@ -1,3 +1,4 @@
+use afl_base::{Name, Named};
 use coffee_layout::FileAt;
 
 /// An active file, and the room that is left of what was prepared.
@@ -10,5 +11,13 @@ pub(crate) struct Entry {
     pub(crate) room: u32,
 }
 
-/// The places of the table of files.
-pub(crate) type Table = [Option<Entry>; 32];
+/// The entries of the files, each in its place.
+pub(crate) type EntryTable = [Option<Entry>; 32];
+
+impl Named for Entry {
+    ghost named = { λ e. e.at.name };
+
+    fn name(&self) -> Name {
+        self.at.name
+    }
+}

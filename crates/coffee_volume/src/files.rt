@@ -3,23 +3,22 @@ ghost use Rattle.afl_base.specs.Files.{first_pages};
 ghost use Rattle.coffee_layout.specs.declared.file.FileAt.{FileAt};
 
 use crate::entry::Entry;
-use crate::volume::{Volume, find_in, free_in};
-use afl_base::{Failed, FileError, FileId, Files, Flash, Kind, Name, fit};
+use crate::volume::Volume;
+use afl_base::{Failed, FileError, FileId, Files, Flash, Kind, Name, find_in, fit, free_in};
 use coffee_layout::FileAt;
 use coffee_log::{append_file, overwrite_file, read_file};
 use coffee_merge::{begin_extent, commit_extent, retire_file, write_extent};
 
 impl<F: Flash> Files for Volume<F> {
-    ghost use Rattle.std.specs.Prelude.{◌≡◌, ◌≢◌, ℕ, ◌+◌, ◌-◌, ◌*◌, ◌<◌, ◌≤◌, max, ◌&&◌, not, ◌++◌, None, length, replicate, slice_index, slice_range, IfOk, IsSome, IsTrue, OnOk};
+    ghost use Rattle.std.specs.Prelude.{◌≡◌, ◌≢◌, ℕ, ◌+◌, ◌-◌, ◌*◌, ◌<◌, ◌≤◌, max, ◌&&◌, not, None, length, replicate, slice_index, slice_range, IfOk, IsSome, IsTrue, OnOk};
     ghost use Rattle.afl_base.specs.Causes.{HasCause};
-    ghost use Rattle.afl_base.specs.Fields.{put_at};
     ghost use Rattle.afl_base.specs.FileErrors.{HasFileCause, OnSpace, UnlessFailed};
-    ghost use Rattle.afl_base.specs.Files.{Becomes, Commits, Creates, Drafts, IsKind, IsLive, IsNamed, IsUnnamed, Keeps, Removes, bytes_at, draft_in, file_at, first_pages, size_at, used};
+    ghost use Rattle.afl_base.specs.Files.{Appends, Commits, Creates, Drafts, IsKind, IsLive, IsNamed, IsUnnamed, Keeps, KeepsBytes, Overwrites, Removes, WritesDraft, draft_in, file_at, first_pages, size_at, used};
     ghost use Rattle.afl_base.specs.Fit.{fit};
     ghost use Rattle.afl_base.specs.Regions.{regions};
-    ghost use Rattle.coffee_layout.specs.Tiling.{units_of};
-    ghost use Rattle.coffee_volume.specs.Taking.{TakesForDraft, TakesForFile, TakesNone};
-    ghost use Rattle.coffee_volume.specs.Volumes.{Asks, Lacks, state_seen};
+    ghost use Rattle.coffee_volume.specs.Lowest.{Looks, PlacesDraft, PlacesFile, Provides};
+    ghost use Rattle.coffee_volume.specs.Taking.{KeepsUnits, TakesForDraft, TakesForFile, TakesNone};
+    ghost use Rattle.coffee_volume.specs.Volumes.{Asks, Lacks, WhereTold, state_seen};
 
     ghost state = { λ v. state_seen (F.tells && not v.failed) (F.image v.flash) v.table v.draft };
 
@@ -59,18 +58,30 @@ impl<F: Flash> Files for Volume<F> {
 
     /// Of the pages that were free, only those of the new file are taken.
     fn create(&mut self, name: Name, kind: Kind) -> Result<FileId, FileError>
-        requires unnamed { IsUnnamed (⟦<Volume<F> as Files>⟧.state self.old).files name }
-        requires place { used (⟦<Volume<F> as Files>⟧.state self.old).files < 32 }
+        requires unnamed { IsUnnamed (⟦<Self as Files>⟧.state self.old).files name }
+        requires place { used (⟦<Self as Files>⟧.state self.old).files < 32 }
         requires kind { IsKind kind }
-        requires idle { (⟦<Volume<F> as Files>⟧.state self.old).draft ≡ None }
-        ensures created { IfOk result (λ id. Creates (⟦<Volume<F> as Files>⟧.state self.old) (⟦<Volume<F> as Files>⟧.state self.new) id name kind) }
-        ensures taken { IsTrue (⟦<Volume<F> as Files>⟧.state self.old).tells → IfOk result (λ _. TakesForFile (⟦<Volume<F> as Files>⟧.state self.old).store (⟦<Volume<F> as Files>⟧.state self.new).store name) }
-        ensures untaken { IsTrue (⟦<Volume<F> as Files>⟧.state self.old).tells → OnSpace result (λ _. TakesNone (⟦<Volume<F> as Files>⟧.state self.old).store (⟦<Volume<F> as Files>⟧.state self.new).store) }
+        requires idle { (⟦<Self as Files>⟧.state self.old).draft ≡ None }
+        ensures created { IfOk result (λ id.
+            Creates (⟦<Self as Files>⟧.state self.old) (⟦<Self as Files>⟧.state self.new) id name kind) }
+        ensures taken { IfOk result (λ _.
+            WhereTold (⟦<Self as Files>⟧.state self.old) (⟦<Self as Files>⟧.state self.new) (TakesForFile name)) }
+        ensures lowest { IfOk result (λ _.
+            WhereTold (⟦<Self as Files>⟧.state self.old) (⟦<Self as Files>⟧.state self.new)
+            (PlacesFile name (first_pages kind))) }
+        ensures untaken { OnSpace result (λ _.
+            WhereTold (⟦<Self as Files>⟧.state self.old) (⟦<Self as Files>⟧.state self.new) TakesNone) }
+        ensures looked { OnSpace result (λ need.
+            WhereTold (⟦<Self as Files>⟧.state self.old) (⟦<Self as Files>⟧.state self.new) (Looks need)) }
         ensures need { OnSpace result (λ need. need ≡ first_pages kind) }
-        ensures lacks { OnSpace result (λ need. ⟦<Volume<F> as Files>⟧.lacks self.new need) }
-        ensures kept { OnSpace result (λ _. Keeps (⟦<Volume<F> as Files>⟧.state self.old) (⟦<Volume<F> as Files>⟧.state self.new)) }
-        ensures reads_later { ⟦<Volume<F> as Files>⟧.reads self.old ≤ ⟦<Volume<F> as Files>⟧.reads self.new }
-        ensures cause { HasFileCause (⟦<Volume<F> as Files>⟧.faults self.old) (⟦<Volume<F> as Files>⟧.faults self.new) result }
+        ensures lacks { OnSpace result (λ need. ⟦<Self as Files>⟧.lacks self.new need) }
+        ensures kept { OnSpace result (λ _.
+            Keeps (⟦<Self as Files>⟧.state self.old) (⟦<Self as Files>⟧.state self.new)) }
+        ensures store { length (⟦<Self as Files>⟧.state self.new).store
+            ≡ length (⟦<Self as Files>⟧.state self.old).store }
+        ensures reads_later { ⟦<Self as Files>⟧.reads self.old ≤ ⟦<Self as Files>⟧.reads self.new }
+        ensures cause { HasFileCause (⟦<Self as Files>⟧.faults self.old)
+            (⟦<Self as Files>⟧.faults self.new) result }
     {
         let id = free_in(&self.table);
         let pages = first_pages(kind);
@@ -105,12 +116,16 @@ impl<F: Flash> Files for Volume<F> {
 
     /// No page that was free is taken.
     fn remove(&mut self, id: FileId) -> Result<(), Failed>
-        requires live { IsLive (⟦<Volume<F> as Files>⟧.state self.old).files id }
-        requires idle { (⟦<Volume<F> as Files>⟧.state self.old).draft ≡ None }
-        ensures removed { OnOk result (Removes (⟦<Volume<F> as Files>⟧.state self.old) (⟦<Volume<F> as Files>⟧.state self.new) id) }
-        ensures taken { IsTrue (⟦<Volume<F> as Files>⟧.state self.old).tells → OnOk result (TakesNone (⟦<Volume<F> as Files>⟧.state self.old).store (⟦<Volume<F> as Files>⟧.state self.new).store) }
-        ensures reads_later { ⟦<Volume<F> as Files>⟧.reads self.old ≤ ⟦<Volume<F> as Files>⟧.reads self.new }
-        ensures cause { HasCause (⟦<Volume<F> as Files>⟧.faults self.old) (⟦<Volume<F> as Files>⟧.faults self.new) result }
+        requires live { IsLive (⟦<Self as Files>⟧.state self.old).files id }
+        requires idle { (⟦<Self as Files>⟧.state self.old).draft ≡ None }
+        ensures removed { OnOk result (
+            Removes (⟦<Self as Files>⟧.state self.old) (⟦<Self as Files>⟧.state self.new) id) }
+        ensures taken { OnOk result (
+            WhereTold (⟦<Self as Files>⟧.state self.old) (⟦<Self as Files>⟧.state self.new) TakesNone) }
+        ensures store { length (⟦<Self as Files>⟧.state self.new).store
+            ≡ length (⟦<Self as Files>⟧.state self.old).store }
+        ensures reads_later { ⟦<Self as Files>⟧.reads self.old ≤ ⟦<Self as Files>⟧.reads self.new }
+        ensures cause { HasCause (⟦<Self as Files>⟧.faults self.old) (⟦<Self as Files>⟧.faults self.new) result }
     {
         let file = self.entry(id).at;
         let failed = self.failed;
@@ -124,23 +139,40 @@ impl<F: Flash> Files for Volume<F> {
     /// Of the pages that were free, only those of the file and of its log are taken. The image stays
     /// where no extent is asked for.
     fn prepare(&mut self, id: FileId, overwrites: u16, bytes: u32) -> Result<(), FileError>
-        requires live { IsLive (⟦<Volume<F> as Files>⟧.state self.old).files id }
-        requires idle { (⟦<Volume<F> as Files>⟧.state self.old).draft ≡ None }
+        requires live { IsLive (⟦<Self as Files>⟧.state self.old).files id }
+        requires idle { (⟦<Self as Files>⟧.state self.old).draft ≡ None }
         requires overwrites { overwrites ≤ 29 }
         requires bytes { bytes ≤ 4096 }
-        requires most { size_at (⟦<Volume<F> as Files>⟧.state self.old).files id + bytes ≤ 4194304 }
-        requires fixed { (n : ℕ) → (file_at (⟦<Volume<F> as Files>⟧.state self.old).files id).kind ≡ Kind.Fixed n → size_at (⟦<Volume<F> as Files>⟧.state self.old).files id + bytes + 32 ≤ 256 * n }
-        ensures contents { UnlessFailed result (Becomes (⟦<Volume<F> as Files>⟧.state self.old) (⟦<Volume<F> as Files>⟧.state self.new) id (size_at (⟦<Volume<F> as Files>⟧.state self.old).files id) (bytes_at (⟦<Volume<F> as Files>⟧.state self.old).files id)) }
-        ensures records { OnOk result (overwrites ≤ (file_at (⟦<Volume<F> as Files>⟧.state self.new).files id).records) }
-        ensures room { OnOk result (bytes ≤ (file_at (⟦<Volume<F> as Files>⟧.state self.new).files id).room) }
-        ensures taken { IsTrue (⟦<Volume<F> as Files>⟧.state self.old).tells → UnlessFailed result (TakesForFile (⟦<Volume<F> as Files>⟧.state self.old).store (⟦<Volume<F> as Files>⟧.state self.new).store (file_at (⟦<Volume<F> as Files>⟧.state self.old).files id).name) }
-        ensures still { ((need : ℕ) → ⟦<Volume<F> as Files>⟧.asks self.old id overwrites bytes need → ⊥) → (⟦<Volume<F> as Files>⟧.state self.new).store ≡ (⟦<Volume<F> as Files>⟧.state self.old).store }
-        ensures need_doubling { OnSpace result (λ need. (file_at (⟦<Volume<F> as Files>⟧.state self.old).files id).kind ≡ Kind.Doubling → need ≤ max 16 (2 * fit (size_at (⟦<Volume<F> as Files>⟧.state self.old).files id))) }
-        ensures need_fixed { OnSpace result (λ need. (n : ℕ) → (file_at (⟦<Volume<F> as Files>⟧.state self.old).files id).kind ≡ Kind.Fixed n → need ≤ 16) }
-        ensures asked { OnSpace result (λ need. ⟦<Volume<F> as Files>⟧.asks self.new id overwrites bytes need) }
-        ensures lacks { OnSpace result (λ need. ⟦<Volume<F> as Files>⟧.lacks self.new need) }
-        ensures reads_later { ⟦<Volume<F> as Files>⟧.reads self.old ≤ ⟦<Volume<F> as Files>⟧.reads self.new }
-        ensures cause { HasFileCause (⟦<Volume<F> as Files>⟧.faults self.old) (⟦<Volume<F> as Files>⟧.faults self.new) result }
+        requires most { size_at (⟦<Self as Files>⟧.state self.old).files id + bytes ≤ 4194304 }
+        requires fixed { (n : ℕ)
+            → (file_at (⟦<Self as Files>⟧.state self.old).files id).kind ≡ Kind.Fixed n
+            → size_at (⟦<Self as Files>⟧.state self.old).files id + bytes + 32 ≤ 256 * n }
+        ensures contents { UnlessFailed result (
+            KeepsBytes (⟦<Self as Files>⟧.state self.old) (⟦<Self as Files>⟧.state self.new) id) }
+        ensures records { OnOk result (overwrites ≤ (file_at (⟦<Self as Files>⟧.state self.new).files id).records) }
+        ensures room { OnOk result (bytes ≤ (file_at (⟦<Self as Files>⟧.state self.new).files id).room) }
+        ensures taken { UnlessFailed result (
+            WhereTold (⟦<Self as Files>⟧.state self.old) (⟦<Self as Files>⟧.state self.new)
+            (TakesForFile (file_at (⟦<Self as Files>⟧.state self.old).files id).name)) }
+        ensures lowest { OnOk result (
+            WhereTold (⟦<Self as Files>⟧.state self.old) (⟦<Self as Files>⟧.state self.new)
+            (Provides (file_at (⟦<Self as Files>⟧.state self.old).files id).name overwrites bytes)) }
+        ensures still { ((n : ℕ) → ⟦<Self as Files>⟧.asks self.old id overwrites bytes n → ⊥)
+            → (⟦<Self as Files>⟧.state self.new).store ≡ (⟦<Self as Files>⟧.state self.old).store }
+        ensures unasked { ((n : ℕ) → ⟦<Self as Files>⟧.asks self.old id overwrites bytes n → ⊥)
+            → OnSpace result (λ need. ⊥) }
+        ensures need_doubling { OnSpace result (λ need.
+            (file_at (⟦<Self as Files>⟧.state self.old).files id).kind ≡ Kind.Doubling
+            → need ≤ max 16 (2 * fit (size_at (⟦<Self as Files>⟧.state self.old).files id))) }
+        ensures need_fixed { OnSpace result (λ need. (n : ℕ)
+            → (file_at (⟦<Self as Files>⟧.state self.old).files id).kind ≡ Kind.Fixed n → need ≤ 16) }
+        ensures asked { OnSpace result (λ need. ⟦<Self as Files>⟧.asks self.new id overwrites bytes need) }
+        ensures lacks { OnSpace result (λ need. ⟦<Self as Files>⟧.lacks self.new need) }
+        ensures store { length (⟦<Self as Files>⟧.state self.new).store
+            ≡ length (⟦<Self as Files>⟧.state self.old).store }
+        ensures reads_later { ⟦<Self as Files>⟧.reads self.old ≤ ⟦<Self as Files>⟧.reads self.new }
+        ensures cause { HasFileCause (⟦<Self as Files>⟧.faults self.old)
+            (⟦<Self as Files>⟧.faults self.new) result }
     {
         self.reshape(id, overwrites, bytes)?;
         self.provide_log(id, overwrites, bytes)?;
@@ -150,17 +182,25 @@ impl<F: Flash> Files for Volume<F> {
 
     /// All units of the image stay, and so does each free page.
     fn overwrite(&mut self, id: FileId, at: u32, bytes: &[u8]) -> Result<(), Failed>
-        requires live { IsLive (⟦<Volume<F> as Files>⟧.state self.old).files id }
+        requires live { IsLive (⟦<Self as Files>⟧.state self.old).files id }
         requires some { 1 ≤ length bytes.now }
-        requires range { at + length bytes.now ≤ size_at (⟦<Volume<F> as Files>⟧.state self.old).files id }
-        requires records { regions at (length bytes.now) ≤ (file_at (⟦<Volume<F> as Files>⟧.state self.old).files id).records }
-        requires last { at + length bytes.now ≡ size_at (⟦<Volume<F> as Files>⟧.state self.old).files id → slice_index bytes.now (length bytes.now - 1) ≢ 0 }
-        ensures overwritten { OnOk result (Becomes (⟦<Volume<F> as Files>⟧.state self.old) (⟦<Volume<F> as Files>⟧.state self.new) id (size_at (⟦<Volume<F> as Files>⟧.state self.old).files id) (put_at (bytes_at (⟦<Volume<F> as Files>⟧.state self.old).files id) at bytes.now)) }
-        ensures records { OnOk result ((file_at (⟦<Volume<F> as Files>⟧.state self.new).files id).records + regions at (length bytes.now) ≡ (file_at (⟦<Volume<F> as Files>⟧.state self.old).files id).records) }
-        ensures room { OnOk result ((file_at (⟦<Volume<F> as Files>⟧.state self.new).files id).room ≡ (file_at (⟦<Volume<F> as Files>⟧.state self.old).files id).room) }
-        ensures units { IsTrue (⟦<Volume<F> as Files>⟧.state self.old).tells → OnOk result (units_of (⟦<Volume<F> as Files>⟧.state self.new).store ≡ units_of (⟦<Volume<F> as Files>⟧.state self.old).store) }
-        ensures reads_later { ⟦<Volume<F> as Files>⟧.reads self.old ≤ ⟦<Volume<F> as Files>⟧.reads self.new }
-        ensures cause { HasCause (⟦<Volume<F> as Files>⟧.faults self.old) (⟦<Volume<F> as Files>⟧.faults self.new) result }
+        requires range { at + length bytes.now ≤ size_at (⟦<Self as Files>⟧.state self.old).files id }
+        requires records { regions at (length bytes.now)
+            ≤ (file_at (⟦<Self as Files>⟧.state self.old).files id).records }
+        requires last { at + length bytes.now ≡ size_at (⟦<Self as Files>⟧.state self.old).files id
+            → slice_index bytes.now (length bytes.now - 1) ≢ 0 }
+        ensures overwritten { OnOk result (
+            Overwrites (⟦<Self as Files>⟧.state self.old) (⟦<Self as Files>⟧.state self.new) id at bytes.now) }
+        ensures records { OnOk result ((file_at (⟦<Self as Files>⟧.state self.new).files id).records
+            + regions at (length bytes.now) ≡ (file_at (⟦<Self as Files>⟧.state self.old).files id).records) }
+        ensures room { OnOk result ((file_at (⟦<Self as Files>⟧.state self.new).files id).room
+            ≡ (file_at (⟦<Self as Files>⟧.state self.old).files id).room) }
+        ensures units { OnOk result (
+            WhereTold (⟦<Self as Files>⟧.state self.old) (⟦<Self as Files>⟧.state self.new) KeepsUnits) }
+        ensures store { length (⟦<Self as Files>⟧.state self.new).store
+            ≡ length (⟦<Self as Files>⟧.state self.old).store }
+        ensures reads_later { ⟦<Self as Files>⟧.reads self.old ≤ ⟦<Self as Files>⟧.reads self.new }
+        ensures cause { HasCause (⟦<Self as Files>⟧.faults self.old) (⟦<Self as Files>⟧.faults self.new) result }
     {
         let entry = self.entry(id);
         let file = entry.at;
@@ -191,16 +231,21 @@ impl<F: Flash> Files for Volume<F> {
 
     /// All units of the image stay, and so does each free page.
     fn append(&mut self, id: FileId, bytes: &[u8]) -> Result<(), Failed>
-        requires live { IsLive (⟦<Volume<F> as Files>⟧.state self.old).files id }
+        requires live { IsLive (⟦<Self as Files>⟧.state self.old).files id }
         requires some { 1 ≤ length bytes.now }
-        requires room { length bytes.now ≤ (file_at (⟦<Volume<F> as Files>⟧.state self.old).files id).room }
+        requires room { length bytes.now ≤ (file_at (⟦<Self as Files>⟧.state self.old).files id).room }
         requires last { slice_index bytes.now (length bytes.now - 1) ≢ 0 }
-        ensures appended { OnOk result (Becomes (⟦<Volume<F> as Files>⟧.state self.old) (⟦<Volume<F> as Files>⟧.state self.new) id (size_at (⟦<Volume<F> as Files>⟧.state self.old).files id + length bytes.now) (bytes_at (⟦<Volume<F> as Files>⟧.state self.old).files id ++ bytes.now)) }
-        ensures records { OnOk result ((file_at (⟦<Volume<F> as Files>⟧.state self.new).files id).records ≡ (file_at (⟦<Volume<F> as Files>⟧.state self.old).files id).records) }
-        ensures room { OnOk result ((file_at (⟦<Volume<F> as Files>⟧.state self.new).files id).room ≡ 0) }
-        ensures units { IsTrue (⟦<Volume<F> as Files>⟧.state self.old).tells → OnOk result (units_of (⟦<Volume<F> as Files>⟧.state self.new).store ≡ units_of (⟦<Volume<F> as Files>⟧.state self.old).store) }
-        ensures reads_later { ⟦<Volume<F> as Files>⟧.reads self.old ≤ ⟦<Volume<F> as Files>⟧.reads self.new }
-        ensures cause { HasCause (⟦<Volume<F> as Files>⟧.faults self.old) (⟦<Volume<F> as Files>⟧.faults self.new) result }
+        ensures appended { OnOk result (
+            Appends (⟦<Self as Files>⟧.state self.old) (⟦<Self as Files>⟧.state self.new) id bytes.now) }
+        ensures records { OnOk result ((file_at (⟦<Self as Files>⟧.state self.new).files id).records
+            ≡ (file_at (⟦<Self as Files>⟧.state self.old).files id).records) }
+        ensures room { OnOk result ((file_at (⟦<Self as Files>⟧.state self.new).files id).room ≡ 0) }
+        ensures units { OnOk result (
+            WhereTold (⟦<Self as Files>⟧.state self.old) (⟦<Self as Files>⟧.state self.new) KeepsUnits) }
+        ensures store { length (⟦<Self as Files>⟧.state self.new).store
+            ≡ length (⟦<Self as Files>⟧.state self.old).store }
+        ensures reads_later { ⟦<Self as Files>⟧.reads self.old ≤ ⟦<Self as Files>⟧.reads self.new }
+        ensures cause { HasCause (⟦<Self as Files>⟧.faults self.old) (⟦<Self as Files>⟧.faults self.new) result }
     {
         let entry = self.entry(id);
         let file = entry.at;
@@ -227,18 +272,32 @@ impl<F: Flash> Files for Volume<F> {
 
     /// Of the pages that were free, only those of the draft are taken.
     fn draft(&mut self, name: Name, size: u32) -> Result<(), FileError>
-        requires idle { (⟦<Volume<F> as Files>⟧.state self.old).draft ≡ None }
+        requires idle { (⟦<Self as Files>⟧.state self.old).draft ≡ None }
         requires size { size ≤ 4194304 }
-        requires kind { (k : ℕ) → IsNamed (⟦<Volume<F> as Files>⟧.state self.old).files k name → (file_at (⟦<Volume<F> as Files>⟧.state self.old).files k).kind ≡ Kind.Doubling }
-        requires place { IsUnnamed (⟦<Volume<F> as Files>⟧.state self.old).files name → used (⟦<Volume<F> as Files>⟧.state self.old).files < 32 }
-        ensures begun { OnOk result (Drafts (⟦<Volume<F> as Files>⟧.state self.old) (⟦<Volume<F> as Files>⟧.state self.new) name size (replicate size 0)) }
-        ensures taken { IsTrue (⟦<Volume<F> as Files>⟧.state self.old).tells → OnOk result (TakesForDraft (⟦<Volume<F> as Files>⟧.state self.old).store (⟦<Volume<F> as Files>⟧.state self.new).store name) }
-        ensures untaken { IsTrue (⟦<Volume<F> as Files>⟧.state self.old).tells → OnSpace result (λ _. TakesNone (⟦<Volume<F> as Files>⟧.state self.old).store (⟦<Volume<F> as Files>⟧.state self.new).store) }
+        requires kind { (k : ℕ) → IsNamed (⟦<Self as Files>⟧.state self.old).files k name
+            → (file_at (⟦<Self as Files>⟧.state self.old).files k).kind ≡ Kind.Doubling }
+        requires place { IsUnnamed (⟦<Self as Files>⟧.state self.old).files name
+            → used (⟦<Self as Files>⟧.state self.old).files < 32 }
+        ensures begun { OnOk result (
+            Drafts (⟦<Self as Files>⟧.state self.old) (⟦<Self as Files>⟧.state self.new) name size (replicate size 0)) }
+        ensures taken { OnOk result (
+            WhereTold (⟦<Self as Files>⟧.state self.old) (⟦<Self as Files>⟧.state self.new) (TakesForDraft name)) }
+        ensures lowest { OnOk result (
+            WhereTold (⟦<Self as Files>⟧.state self.old) (⟦<Self as Files>⟧.state self.new)
+            (PlacesDraft name (fit size))) }
+        ensures untaken { OnSpace result (λ _.
+            WhereTold (⟦<Self as Files>⟧.state self.old) (⟦<Self as Files>⟧.state self.new) TakesNone) }
+        ensures looked { OnSpace result (λ need.
+            WhereTold (⟦<Self as Files>⟧.state self.old) (⟦<Self as Files>⟧.state self.new) (Looks need)) }
         ensures need { OnSpace result (λ need. need ≡ fit size) }
-        ensures lacks { OnSpace result (λ need. ⟦<Volume<F> as Files>⟧.lacks self.new need) }
-        ensures kept { OnSpace result (λ _. Keeps (⟦<Volume<F> as Files>⟧.state self.old) (⟦<Volume<F> as Files>⟧.state self.new)) }
-        ensures reads_later { ⟦<Volume<F> as Files>⟧.reads self.old ≤ ⟦<Volume<F> as Files>⟧.reads self.new }
-        ensures cause { HasFileCause (⟦<Volume<F> as Files>⟧.faults self.old) (⟦<Volume<F> as Files>⟧.faults self.new) result }
+        ensures lacks { OnSpace result (λ need. ⟦<Self as Files>⟧.lacks self.new need) }
+        ensures kept { OnSpace result (λ _.
+            Keeps (⟦<Self as Files>⟧.state self.old) (⟦<Self as Files>⟧.state self.new)) }
+        ensures store { length (⟦<Self as Files>⟧.state self.new).store
+            ≡ length (⟦<Self as Files>⟧.state self.old).store }
+        ensures reads_later { ⟦<Self as Files>⟧.reads self.old ≤ ⟦<Self as Files>⟧.reads self.new }
+        ensures cause { HasFileCause (⟦<Self as Files>⟧.faults self.old)
+            (⟦<Self as Files>⟧.faults self.new) result }
     {
         let pages = fit(size);
         let failed = self.failed;
@@ -267,13 +326,19 @@ impl<F: Flash> Files for Volume<F> {
 
     /// No page that was free is taken.
     fn draft_write(&mut self, at: u32, bytes: &[u8]) -> Result<(), Failed>
-        requires begun { IsSome (⟦<Volume<F> as Files>⟧.state self.old).draft }
-        requires range { at + length bytes.now ≤ length (draft_in (⟦<Volume<F> as Files>⟧.state self.old)).bytes }
-        requires zeros { IsTrue (⟦<Volume<F> as Files>⟧.state self.old).tells → slice_range (draft_in (⟦<Volume<F> as Files>⟧.state self.old)).bytes at (at + length bytes.now) ≡ replicate (length bytes.now) 0 }
-        ensures written { OnOk result (Drafts (⟦<Volume<F> as Files>⟧.state self.old) (⟦<Volume<F> as Files>⟧.state self.new) (draft_in (⟦<Volume<F> as Files>⟧.state self.old)).name (length (draft_in (⟦<Volume<F> as Files>⟧.state self.old)).bytes) (put_at (draft_in (⟦<Volume<F> as Files>⟧.state self.old)).bytes at bytes.now)) }
-        ensures taken { IsTrue (⟦<Volume<F> as Files>⟧.state self.old).tells → OnOk result (TakesNone (⟦<Volume<F> as Files>⟧.state self.old).store (⟦<Volume<F> as Files>⟧.state self.new).store) }
-        ensures reads_later { ⟦<Volume<F> as Files>⟧.reads self.old ≤ ⟦<Volume<F> as Files>⟧.reads self.new }
-        ensures cause { HasCause (⟦<Volume<F> as Files>⟧.faults self.old) (⟦<Volume<F> as Files>⟧.faults self.new) result }
+        requires begun { IsSome (⟦<Self as Files>⟧.state self.old).draft }
+        requires range { at + length bytes.now ≤ length (draft_in (⟦<Self as Files>⟧.state self.old)).bytes }
+        requires zeros { IsTrue (⟦<Self as Files>⟧.state self.old).tells
+            → slice_range (draft_in (⟦<Self as Files>⟧.state self.old)).bytes at (at + length bytes.now)
+            ≡ replicate (length bytes.now) 0 }
+        ensures written { OnOk result (
+            WritesDraft (⟦<Self as Files>⟧.state self.old) (⟦<Self as Files>⟧.state self.new) at bytes.now) }
+        ensures taken { OnOk result (
+            WhereTold (⟦<Self as Files>⟧.state self.old) (⟦<Self as Files>⟧.state self.new) TakesNone) }
+        ensures store { length (⟦<Self as Files>⟧.state self.new).store
+            ≡ length (⟦<Self as Files>⟧.state self.old).store }
+        ensures reads_later { ⟦<Self as Files>⟧.reads self.old ≤ ⟦<Self as Files>⟧.reads self.new }
+        ensures cause { HasCause (⟦<Self as Files>⟧.faults self.old) (⟦<Self as Files>⟧.faults self.new) result }
     {
         let draft = drafted(&self.draft);
         let failed = self.failed;
@@ -285,12 +350,19 @@ impl<F: Flash> Files for Volume<F> {
 
     /// No page that was free is taken.
     fn draft_commit(&mut self) -> Result<FileId, Failed>
-        requires begun { IsSome (⟦<Volume<F> as Files>⟧.state self.old).draft }
-        requires last { IsTrue (⟦<Volume<F> as Files>⟧.state self.old).tells → 1 ≤ length (draft_in (⟦<Volume<F> as Files>⟧.state self.old)).bytes → slice_index (draft_in (⟦<Volume<F> as Files>⟧.state self.old)).bytes (length (draft_in (⟦<Volume<F> as Files>⟧.state self.old)).bytes - 1) ≢ 0 }
-        ensures committed { IfOk result (λ id. Commits (⟦<Volume<F> as Files>⟧.state self.old) (⟦<Volume<F> as Files>⟧.state self.new) id) }
-        ensures taken { IsTrue (⟦<Volume<F> as Files>⟧.state self.old).tells → OnOk result (TakesNone (⟦<Volume<F> as Files>⟧.state self.old).store (⟦<Volume<F> as Files>⟧.state self.new).store) }
-        ensures reads_later { ⟦<Volume<F> as Files>⟧.reads self.old ≤ ⟦<Volume<F> as Files>⟧.reads self.new }
-        ensures cause { HasCause (⟦<Volume<F> as Files>⟧.faults self.old) (⟦<Volume<F> as Files>⟧.faults self.new) result }
+        requires begun { IsSome (⟦<Self as Files>⟧.state self.old).draft }
+        requires last { IsTrue (⟦<Self as Files>⟧.state self.old).tells
+            → 1 ≤ length (draft_in (⟦<Self as Files>⟧.state self.old)).bytes
+            → slice_index (draft_in (⟦<Self as Files>⟧.state self.old)).bytes
+            (length (draft_in (⟦<Self as Files>⟧.state self.old)).bytes - 1) ≢ 0 }
+        ensures committed { IfOk result (λ id.
+            Commits (⟦<Self as Files>⟧.state self.old) (⟦<Self as Files>⟧.state self.new) id) }
+        ensures taken { OnOk result (
+            WhereTold (⟦<Self as Files>⟧.state self.old) (⟦<Self as Files>⟧.state self.new) TakesNone) }
+        ensures store { length (⟦<Self as Files>⟧.state self.new).store
+            ≡ length (⟦<Self as Files>⟧.state self.old).store }
+        ensures reads_later { ⟦<Self as Files>⟧.reads self.old ≤ ⟦<Self as Files>⟧.reads self.new }
+        ensures cause { HasCause (⟦<Self as Files>⟧.faults self.old) (⟦<Self as Files>⟧.faults self.new) result }
     {
         let draft = drafted(&self.draft);
         match find_in(&self.table, &draft.name) {

@@ -4,10 +4,12 @@
 mod drafts;
 mod entry;
 mod files;
+mod laws;
 mod mount;
 mod prepare;
 mod step;
 mod volume;
 
+pub use laws::cramped_volume_is_small;
 pub use mount::MountError;
 pub use volume::Volume;

@@ -1,19 +1,20 @@
 ghost use Rattle.std.specs.Prelude.{◌≡◌, ℕ, ◌+◌, ◌*◌, ◌≤◌, None, Some, length, IsTrue, IfOk, IfErr, OnOk, MatchOption, MatchResult};
-ghost use Rattle.std.specs.List.{All, Contains};
-ghost use Rattle.afl_base.specs.Files.{IsLive, file_at};
-ghost use Rattle.coffee_layout.specs.Files.{FitsIn, NamedFile, files_of};
+ghost use Rattle.std.specs.List.{All};
+ghost use Rattle.afl_base.specs.Files.{AreDistinct, IsLive, file_at};
+ghost use Rattle.coffee_layout.specs.Files.{FitsIn};
+ghost use Rattle.coffee_layout.specs.Marks.{IsCramped};
 ghost use Rattle.coffee_layout.specs.Rules.{broken_image};
+ghost use Rattle.coffee_layout.specs.Tiling.{units_of};
 ghost use Rattle.coffee_layout.specs.Units.{pages_of};
-ghost use Rattle.coffee_layout.specs.Walks.{has_few};
-ghost use Rattle.coffee_layout.specs.declared.file.FileAt.{FileAt};
 ghost use Rattle.coffee_merge.specs.Holding.{has_shape};
-ghost use Rattle.coffee_volume.specs.Mounting.{HasMountCause, KeepFileRules, MayFollow, OnBad, flash_of, mounted_state, mounted_table, named};
+ghost use Rattle.coffee_volume.specs.Asking.{AsksOf};
+ghost use Rattle.coffee_volume.specs.Mounting.{HasEach, HasMountCause, HasOnly, HaveNoRoom, KeepFileRules, MayFollow, OnBad, WhereIdle, flash_of, mounted_state, mounted_table};
 ghost use Rattle.coffee_volume.specs.Volumes.{AreRegular, places};
 
-use crate::entry::Table;
-use crate::volume::{Volume, entry_of, find_in};
-use afl_base::{Files, Flash, Kind, fit};
-use coffee_layout::{BadImage, FileAt, check};
+use crate::entry::EntryTable;
+use crate::volume::{Volume, entry_of};
+use afl_base::{Files, Flash, Kind, find_in};
+use coffee_layout::{BadImage, FileAt, check, has_few_pages, is_doubling};
 
 /// Why a flash could not be mounted. It is handed back.
 pub enum MountError<F> {
@@ -28,16 +29,27 @@ impl<F: Flash> Volume<F> {
     /// reads for each page of the flash. Nothing is written.
     pub fn mount(mut flash: F) -> Result<Volume<F>, MountError<F>>
         ensures sound { IsTrue F.tells → OnOk result (broken_image (F.image flash) ≡ None) }
-        ensures files { IsTrue F.tells → IfOk result (λ v. ⟦<Volume<F> as Files>⟧.state v ≡ mounted_state (F.image flash)) }
-        ensures bad { IsTrue F.tells → IfErr result (λ error. OnBad error (λ bad. broken_image (F.image flash) ≡ Some bad)) }
-        ensures tells { IfOk result (λ v. (⟦<Volume<F> as Files>⟧.state v).tells ≡ F.tells) }
-        ensures idle { IfOk result (λ v. (⟦<Volume<F> as Files>⟧.state v).draft ≡ None) }
-        ensures rooms { IfOk result (λ v. (id : ℕ) → ((file_at (⟦<Volume<F> as Files>⟧.state v).files id).records ≡ 0) × ((file_at (⟦<Volume<F> as Files>⟧.state v).files id).room ≡ 0)) }
-        ensures places { IfOk result (λ v. length (⟦<Volume<F> as Files>⟧.state v).files ≡ 32) }
-        ensures same { MatchResult result (λ v. (⟦<Volume<F> as Files>⟧.state v).store ≡ F.image flash) (λ error. F.image (flash_of error) ≡ F.image flash) }
-        ensures reads { MatchResult result (λ v. ⟦<Volume<F> as Files>⟧.reads v ≤ F.reads flash + 448 * pages_of (F.image flash)) (λ error. F.reads (flash_of error) ≤ F.reads flash + 448 * pages_of (F.image flash)) }
-        ensures reads_later { MatchResult result (λ v. F.reads flash ≤ ⟦<Volume<F> as Files>⟧.reads v) (λ error. F.reads flash ≤ F.reads (flash_of error)) }
-        ensures cause { MatchResult result (λ v. F.faults flash ≤ ⟦<Volume<F> as Files>⟧.faults v) (λ error. HasMountCause (F.faults flash) (F.faults (flash_of error)) error) }
+        ensures files { IsTrue F.tells → IfOk result (λ v.
+            ⟦<Self as Files>⟧.state v ≡ mounted_state (F.image flash)) }
+        ensures bad { IsTrue F.tells
+            → IfErr result (λ error. OnBad error (λ bad. broken_image (F.image flash) ≡ Some bad)) }
+        ensures tells { IfOk result (λ v. (⟦<Self as Files>⟧.state v).tells ≡ F.tells) }
+        ensures idle { IfOk result (λ v. (⟦<Self as Files>⟧.state v).draft ≡ None) }
+        ensures rooms { IfOk result (λ v. HaveNoRoom (⟦<Self as Files>⟧.state v).files) }
+        ensures places { IfOk result (λ v. length (⟦<Self as Files>⟧.state v).files ≡ 32) }
+        ensures distinct { IfOk result (λ v. AreDistinct (⟦<Self as Files>⟧.state v).files) }
+        ensures same { MatchResult result
+            (λ v. (⟦<Self as Files>⟧.state v).store ≡ F.image flash)
+            (λ error. F.image (flash_of error) ≡ F.image flash) }
+        ensures reads { MatchResult result
+            (λ v. ⟦<Self as Files>⟧.reads v ≤ F.reads flash + 448 * pages_of (F.image flash))
+            (λ error. F.reads (flash_of error) ≤ F.reads flash + 448 * pages_of (F.image flash)) }
+        ensures reads_later { MatchResult result
+            (λ v. F.reads flash ≤ ⟦<Self as Files>⟧.reads v)
+            (λ error. F.reads flash ≤ F.reads (flash_of error)) }
+        ensures cause { MatchResult result
+            (λ v. F.faults flash ≤ ⟦<Self as Files>⟧.faults v)
+            (λ error. HasMountCause (F.faults flash) (F.faults (flash_of error)) error) }
     {
         flash.sectors();
         let mut listed = coffee_layout::Table::new();
@@ -60,12 +72,20 @@ impl<F: Flash> Volume<F> {
     /// Hands the flash back. A draft that was not committed is lost. Where none is begun and no call
     /// failed, the image keeps its rules, and its files are those of the volume.
     pub fn unmount(self) -> F
-        ensures image { F.image result ≡ (⟦<Volume<F> as Files>⟧.state self).store }
-        ensures reads { F.reads result ≡ ⟦<Volume<F> as Files>⟧.reads self }
-        ensures faults { F.faults result ≡ ⟦<Volume<F> as Files>⟧.faults self }
-        ensures sound { IsTrue (⟦<Volume<F> as Files>⟧.state self).tells → (⟦<Volume<F> as Files>⟧.state self).draft ≡ None → broken_image (F.image result) ≡ None }
-        ensures each { IsTrue (⟦<Volume<F> as Files>⟧.state self).tells → (⟦<Volume<F> as Files>⟧.state self).draft ≡ None → (id : ℕ) → IsLive (⟦<Volume<F> as Files>⟧.state self).files id → Contains (files_of (F.image result)) (named (file_at (⟦<Volume<F> as Files>⟧.state self).files id)) }
-        ensures only { IsTrue (⟦<Volume<F> as Files>⟧.state self).tells → (⟦<Volume<F> as Files>⟧.state self).draft ≡ None → (n : NamedFile) → Contains (files_of (F.image result)) n → (id : ℕ) × IsLive (⟦<Volume<F> as Files>⟧.state self).files id × (named (file_at (⟦<Volume<F> as Files>⟧.state self).files id) ≡ n) }
+        ensures image { F.image result ≡ (⟦<Self as Files>⟧.state self).store }
+        ensures reads { F.reads result ≡ ⟦<Self as Files>⟧.reads self }
+        ensures faults { F.faults result ≡ ⟦<Self as Files>⟧.faults self }
+        ensures sound { WhereIdle (⟦<Self as Files>⟧.state self) (broken_image (F.image result) ≡ None) }
+        ensures each { WhereIdle (⟦<Self as Files>⟧.state self)
+            (HasEach (⟦<Self as Files>⟧.state self) (F.image result)) }
+        ensures only { WhereIdle (⟦<Self as Files>⟧.state self)
+            (HasOnly (⟦<Self as Files>⟧.state self) (F.image result)) }
+        ensures asked { WhereIdle (⟦<Self as Files>⟧.state self) ((id overwrites bytes need : ℕ)
+            → IsLive (⟦<Self as Files>⟧.state self).files id
+            → ⟦<Self as Files>⟧.asks self id overwrites bytes need
+            → AsksOf (F.image result) (file_at (⟦<Self as Files>⟧.state self).files id).name overwrites bytes need) }
+        ensures cramped { IsTrue (⟦<Self as Files>⟧.state self).tells
+            → (n : ℕ) → ⟦<Self as Files>⟧.lacks self n → IsCramped (units_of (F.image result)) n }
     {
         let Volume {
             flash,
@@ -79,9 +99,8 @@ impl<F: Flash> Volume<F> {
 
 // The entries of the files that were listed. On a flash that answers otherwise at each read they may
 // break a rule all the same: then the answer is that rule, with its place.
-fn table_of(listed: &[FileAt]) -> Result<Table, BadImage>
+fn table_of(listed: &[FileAt]) -> Result<EntryTable, BadImage>
     requires most { length listed.now ≤ 32 }
-    requires inside { All (λ (e : FileAt). e.size + 32 ≤ 256 * e.pages) listed.now }
     ensures table { IfOk result (λ table. table ≡ mounted_table listed.now) }
     ensures regular { IfOk result (λ table. (pages : ℕ) → All (FitsIn pages) listed.now → AreRegular pages table) }
     ensures broken { IfErr result (λ _. KeepFileRules (places (mounted_table listed.now)) → ⊥) }
@@ -100,8 +119,7 @@ fn table_of(listed: &[FileAt]) -> Result<Table, BadImage>
 }
 
 // The first of the rules 6, 7 and 13 that a further file breaks.
-fn broken_by(table: &Table, at: &FileAt) -> Option<u8>
-    requires { at.now.size + 32 ≤ 256 * at.now.pages }
+fn broken_by(table: &EntryTable, at: &FileAt) -> Option<u8>
     ensures { MatchOption result (MayFollow table.now at.now) (λ _. MayFollow table.now at.now → ⊥) }
 {
     if find_in(table, &at.name).is_some() {
@@ -110,7 +128,7 @@ fn broken_by(table: &Table, at: &FileAt) -> Option<u8>
     if !has_shape(at) {
         return Some(7);
     }
-    if !has_few(at) {
+    if !has_few_pages(at) {
         return Some(13);
     }
     None
@@ -121,21 +139,7 @@ fn has_shape(at: &FileAt) -> bool
     ensures { result ≡ has_shape at.now.kind at.now.pages }
 {
     match at.kind {
-        Kind::Doubling => matches!(
-            at.pages,
-            16 | 32 | 64 | 128 | 256 | 512 | 1024 | 2048 | 4096 | 8192 | 16384 | 32768
-        ),
+        Kind::Doubling => is_doubling(at.pages),
         Kind::Fixed(n) => n == at.pages && 1 <= n && n <= 15,
-    }
-}
-
-// Whether a doubling file has at most twice the pages that its size needs.
-fn has_few(at: &FileAt) -> bool
-    requires { at.now.kind ≡ Kind.Doubling → at.now.size ≤ 8388576 }
-    ensures { result ≡ has_few at.now }
-{
-    match at.kind {
-        Kind::Doubling => u32::from(at.pages) <= 2 * u32::from(fit(at.size)),
-        Kind::Fixed(_) => true,
     }
 }

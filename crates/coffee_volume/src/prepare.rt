@@ -1,17 +1,17 @@
-ghost use Rattle.std.specs.Prelude.{◌≡◌, ℕ, ◌+◌, ◌*◌, ◌≤◌, ◌&&◌, not, max, None, IsTrue, OnOk};
+ghost use Rattle.std.specs.Prelude.{◌≡◌, ℕ, ◌+◌, ◌*◌, ◌≤◌, max, None, Some, length, OnOk};
 ghost use Rattle.afl_base.specs.FileErrors.{HasFileCause, OnSpace, UnlessFailed};
-ghost use Rattle.afl_base.specs.Files.{Becomes, IsLive, bytes_at, file_at, size_at};
+ghost use Rattle.afl_base.specs.Files.{IsLive, KeepsBytes, file_at, size_at};
 ghost use Rattle.afl_base.specs.Fit.{fit};
+ghost use Rattle.coffee_volume.specs.Lowest.{StepsTo, log_for};
 ghost use Rattle.coffee_volume.specs.Rooms.{pages_asked};
 ghost use Rattle.coffee_volume.specs.Steps.{IsAfter, MayTake, need_of, step_for};
 ghost use Rattle.coffee_volume.specs.Taking.{LiesIn, TakesNone, TakesWithin};
-ghost use Rattle.coffee_volume.specs.Volumes.{Asks, IsEntry, Lacks, files_seen, state_seen};
-ghost use Rattle.coffee_volume.specs.declared.entry.Entry.{Entry};
+ghost use Rattle.coffee_volume.specs.Volumes.{AtEntry, FromTo, WhereTold};
 
 use crate::entry::Entry;
 use crate::step::{Step, lacks_log, step_for, take_step};
 use crate::volume::Volume;
-use afl_base::{FileError, FileId, Flash, Kind};
+use afl_base::{FileError, FileId, Files, Flash, Kind};
 
 impl<F: Flash> Volume<F> {
     // The first two steps of `prepare`: where the bytes do not fit, the file is grown, and else, where its
@@ -22,22 +22,38 @@ impl<F: Flash> Volume<F> {
         overwrites: u16,
         bytes: u32,
     ) -> Result<(), FileError>
-        requires live { IsLive (files_seen (F.tells && not self.old.failed) (F.image self.old.flash) self.old.table) id }
+        requires live { IsLive (⟦<Self as Files>⟧.state self.old).files id }
         requires idle { self.old.draft ≡ None }
         requires overwrites { overwrites ≤ 29 }
         requires bytes { bytes ≤ 4096 }
-        requires most { size_at (files_seen (F.tells && not self.old.failed) (F.image self.old.flash) self.old.table) id + bytes ≤ 4194304 }
-        requires fixed { (n : ℕ) → (file_at (files_seen (F.tells && not self.old.failed) (F.image self.old.flash) self.old.table) id).kind ≡ Kind.Fixed n → size_at (files_seen (F.tells && not self.old.failed) (F.image self.old.flash) self.old.table) id + bytes + 32 ≤ 256 * n }
-        ensures contents { UnlessFailed result (Becomes (state_seen (F.tells && not self.old.failed) (F.image self.old.flash) self.old.table self.old.draft) (state_seen (F.tells && not self.new.failed) (F.image self.new.flash) self.new.table self.new.draft) id
-            (size_at (files_seen (F.tells && not self.old.failed) (F.image self.old.flash) self.old.table) id) (bytes_at (files_seen (F.tells && not self.old.failed) (F.image self.old.flash) self.old.table) id)) }
-        ensures shaped { OnOk result ((e : Entry) → IsEntry self.new.table id e → step_for e.at overwrites bytes ≡ None) }
-        ensures still { (e : Entry) → IsEntry self.old.table id e → step_for e.at overwrites bytes ≡ None → (F.image self.new.flash ≡ F.image self.old.flash) × (self.new.table ≡ self.old.table) }
-        ensures asked { OnSpace result (λ need. Asks self.new.table id overwrites bytes need) }
-        ensures need_doubling { OnSpace result (λ need. (file_at (files_seen (F.tells && not self.old.failed) (F.image self.old.flash) self.old.table) id).kind ≡ Kind.Doubling → need ≤ max 16 (2 * fit (size_at (files_seen (F.tells && not self.old.failed) (F.image self.old.flash) self.old.table) id))) }
-        ensures need_fixed { OnSpace result (λ need. (n : ℕ) → (file_at (files_seen (F.tells && not self.old.failed) (F.image self.old.flash) self.old.table) id).kind ≡ Kind.Fixed n → need ≤ 16) }
-        ensures taken { IsTrue (F.tells && not self.old.failed) → OnOk result ((e : Entry) → IsEntry self.new.table id e → TakesWithin (F.image self.old.flash) (F.image self.new.flash) e.at) }
-        ensures untaken { IsTrue (F.tells && not self.old.failed) → OnSpace result (λ _. TakesNone (F.image self.old.flash) (F.image self.new.flash)) }
-        ensures lacks { OnSpace result (λ need. Lacks (F.tells && not self.new.failed) (F.image self.new.flash) need) }
+        requires most { size_at (⟦<Self as Files>⟧.state self.old).files id + bytes ≤ 4194304 }
+        requires fixed { (n : ℕ)
+            → (file_at (⟦<Self as Files>⟧.state self.old).files id).kind ≡ Kind.Fixed n
+            → size_at (⟦<Self as Files>⟧.state self.old).files id + bytes + 32 ≤ 256 * n }
+        ensures contents { UnlessFailed result (
+            KeepsBytes (⟦<Self as Files>⟧.state self.old) (⟦<Self as Files>⟧.state self.new) id) }
+        ensures shaped { OnOk result (AtEntry self.new.table id (λ e. step_for e overwrites bytes ≡ None)) }
+        ensures still { AtEntry self.old.table id (λ e. step_for e overwrites bytes ≡ None
+            → (F.image self.new.flash ≡ F.image self.old.flash) × (self.new.table ≡ self.old.table)) }
+        ensures unasked { AtEntry self.old.table id (λ e. step_for e overwrites bytes ≡ None
+            → OnSpace result (λ _. ⊥)) }
+        ensures asked { OnSpace result (λ need. ⟦<Self as Files>⟧.asks self.new id overwrites bytes need) }
+        ensures need_doubling { OnSpace result (λ need.
+            (file_at (⟦<Self as Files>⟧.state self.old).files id).kind ≡ Kind.Doubling
+            → need ≤ max 16 (2 * fit (size_at (⟦<Self as Files>⟧.state self.old).files id))) }
+        ensures need_fixed { OnSpace result (λ need. (n : ℕ)
+            → (file_at (⟦<Self as Files>⟧.state self.old).files id).kind ≡ Kind.Fixed n → need ≤ 16) }
+        ensures taken { OnOk result (
+            WhereTold (⟦<Self as Files>⟧.state self.old) (⟦<Self as Files>⟧.state self.new)
+            (λ old new. AtEntry self.new.table id (λ e. TakesWithin e old new))) }
+        ensures lowest { OnOk result (
+            WhereTold (⟦<Self as Files>⟧.state self.old) (⟦<Self as Files>⟧.state self.new)
+            (λ old new. FromTo self.old.table self.new.table id
+            (λ e. StepsTo (step_for e overwrites bytes) old new e))) }
+        ensures untaken { OnSpace result (λ _.
+            WhereTold (⟦<Self as Files>⟧.state self.old) (⟦<Self as Files>⟧.state self.new) TakesNone) }
+        ensures lacks { OnSpace result (λ need. ⟦<Self as Files>⟧.lacks self.new need) }
+        ensures store { length (F.image self.new.flash) ≡ length (F.image self.old.flash) }
         ensures reads_later { F.reads self.old.flash ≤ F.reads self.new.flash }
         ensures cause { HasFileCause (F.faults self.old.flash) (F.faults self.new.flash) result }
     {
@@ -55,21 +71,34 @@ impl<F: Flash> Volume<F> {
         overwrites: u16,
         bytes: u32,
     ) -> Result<(), FileError>
-        requires live { IsLive (files_seen (F.tells && not self.old.failed) (F.image self.old.flash) self.old.table) id }
+        requires live { IsLive (⟦<Self as Files>⟧.state self.old).files id }
         requires idle { self.old.draft ≡ None }
         requires overwrites { overwrites ≤ 29 }
-        requires shaped { (e : Entry) → IsEntry self.old.table id e → step_for e.at overwrites bytes ≡ None }
-        ensures contents { UnlessFailed result (Becomes (state_seen (F.tells && not self.old.failed) (F.image self.old.flash) self.old.table self.old.draft) (state_seen (F.tells && not self.new.failed) (F.image self.new.flash) self.new.table self.new.draft) id
-            (size_at (files_seen (F.tells && not self.old.failed) (F.image self.old.flash) self.old.table) id) (bytes_at (files_seen (F.tells && not self.old.failed) (F.image self.old.flash) self.old.table) id)) }
-        ensures more { OnOk result ((e d : Entry) → IsEntry self.old.table id e → IsEntry self.new.table id d → (p : ℕ) → LiesIn e.at p → LiesIn d.at p) }
+        requires shaped { AtEntry self.old.table id (λ e. step_for e overwrites bytes ≡ None) }
+        ensures contents { UnlessFailed result (
+            KeepsBytes (⟦<Self as Files>⟧.state self.old) (⟦<Self as Files>⟧.state self.new) id) }
+        ensures more { OnOk result (FromTo self.old.table self.new.table id
+            (λ e d. (p : ℕ) → LiesIn e p → LiesIn d p)) }
         ensures kept { OnSpace result (λ _. self.new.table ≡ self.old.table) }
-        ensures ready { OnOk result ((e : Entry) → IsEntry self.new.table id e → pages_asked e.at overwrites bytes ≡ None) }
-        ensures still { (e : Entry) → IsEntry self.old.table id e → pages_asked e.at overwrites bytes ≡ None → F.image self.new.flash ≡ F.image self.old.flash }
-        ensures asked { OnSpace result (λ need. Asks self.new.table id overwrites bytes need) }
+        ensures ready { OnOk result (AtEntry self.new.table id
+            (λ e. pages_asked e overwrites bytes ≡ None)) }
+        ensures still { AtEntry self.old.table id (λ e. pages_asked e overwrites bytes ≡ None
+            → F.image self.new.flash ≡ F.image self.old.flash) }
+        ensures unasked { AtEntry self.old.table id (λ e. pages_asked e overwrites bytes ≡ None
+            → OnSpace result (λ _. ⊥)) }
+        ensures asked { OnSpace result (λ need. ⟦<Self as Files>⟧.asks self.new id overwrites bytes need) }
         ensures need { OnSpace result (λ need. need ≡ 16) }
-        ensures taken { IsTrue (F.tells && not self.old.failed) → OnOk result ((e : Entry) → IsEntry self.new.table id e → TakesWithin (F.image self.old.flash) (F.image self.new.flash) e.at) }
-        ensures untaken { IsTrue (F.tells && not self.old.failed) → OnSpace result (λ _. TakesNone (F.image self.old.flash) (F.image self.new.flash)) }
-        ensures lacks { OnSpace result (λ need. Lacks (F.tells && not self.new.failed) (F.image self.new.flash) need) }
+        ensures taken { OnOk result (
+            WhereTold (⟦<Self as Files>⟧.state self.old) (⟦<Self as Files>⟧.state self.new)
+            (λ old new. AtEntry self.new.table id (λ e. TakesWithin e old new))) }
+        ensures lowest { OnOk result (
+            WhereTold (⟦<Self as Files>⟧.state self.old) (⟦<Self as Files>⟧.state self.new)
+            (λ old new. FromTo self.old.table self.new.table id
+            (λ e. StepsTo (log_for e overwrites bytes) old new e))) }
+        ensures untaken { OnSpace result (λ _.
+            WhereTold (⟦<Self as Files>⟧.state self.old) (⟦<Self as Files>⟧.state self.new) TakesNone) }
+        ensures lacks { OnSpace result (λ need. ⟦<Self as Files>⟧.lacks self.new need) }
+        ensures store { length (F.image self.new.flash) ≡ length (F.image self.old.flash) }
         ensures reads_later { F.reads self.old.flash ≤ F.reads self.new.flash }
         ensures cause { HasFileCause (F.faults self.old.flash) (F.faults self.new.flash) result }
     {
@@ -82,17 +111,24 @@ impl<F: Flash> Volume<F> {
 
     // Takes a step with a file, which has no room then.
     fn take(&mut self, id: FileId, step: Step) -> Result<(), FileError>
-        requires live { IsLive (files_seen (F.tells && not self.old.failed) (F.image self.old.flash) self.old.table) id }
+        requires live { IsLive (⟦<Self as Files>⟧.state self.old).files id }
         requires idle { self.old.draft ≡ None }
-        requires may { (e : Entry) → IsEntry self.old.table id e → MayTake step e.at }
-        ensures contents { UnlessFailed result (Becomes (state_seen (F.tells && not self.old.failed) (F.image self.old.flash) self.old.table self.old.draft) (state_seen (F.tells && not self.new.failed) (F.image self.new.flash) self.new.table self.new.draft) id
-            (size_at (files_seen (F.tells && not self.old.failed) (F.image self.old.flash) self.old.table) id) (bytes_at (files_seen (F.tells && not self.old.failed) (F.image self.old.flash) self.old.table) id)) }
-        ensures after { OnOk result ((e d : Entry) → IsEntry self.old.table id e → IsEntry self.new.table id d → IsAfter step e.at d.at) }
+        requires may { AtEntry self.old.table id (MayTake step) }
+        ensures contents { UnlessFailed result (
+            KeepsBytes (⟦<Self as Files>⟧.state self.old) (⟦<Self as Files>⟧.state self.new) id) }
+        ensures after { OnOk result (FromTo self.old.table self.new.table id (IsAfter step)) }
         ensures kept { OnSpace result (λ _. self.new.table ≡ self.old.table) }
-        ensures need { OnSpace result (λ need. (e : Entry) → IsEntry self.old.table id e → need ≡ need_of step e.at) }
-        ensures taken { IsTrue (F.tells && not self.old.failed) → OnOk result ((e : Entry) → IsEntry self.new.table id e → TakesWithin (F.image self.old.flash) (F.image self.new.flash) e.at) }
-        ensures untaken { IsTrue (F.tells && not self.old.failed) → OnSpace result (λ _. TakesNone (F.image self.old.flash) (F.image self.new.flash)) }
-        ensures lacks { OnSpace result (λ need. Lacks (F.tells && not self.new.failed) (F.image self.new.flash) need) }
+        ensures need { OnSpace result (λ need. AtEntry self.old.table id (λ e. need ≡ need_of step e)) }
+        ensures taken { OnOk result (
+            WhereTold (⟦<Self as Files>⟧.state self.old) (⟦<Self as Files>⟧.state self.new)
+            (λ old new. AtEntry self.new.table id (λ e. TakesWithin e old new))) }
+        ensures lowest { OnOk result (
+            WhereTold (⟦<Self as Files>⟧.state self.old) (⟦<Self as Files>⟧.state self.new)
+            (λ old new. FromTo self.old.table self.new.table id (StepsTo (Some step) old new))) }
+        ensures untaken { OnSpace result (λ _.
+            WhereTold (⟦<Self as Files>⟧.state self.old) (⟦<Self as Files>⟧.state self.new) TakesNone) }
+        ensures lacks { OnSpace result (λ need. ⟦<Self as Files>⟧.lacks self.new need) }
+        ensures store { length (F.image self.new.flash) ≡ length (F.image self.old.flash) }
         ensures reads_later { F.reads self.old.flash ≤ F.reads self.new.flash }
         ensures cause { HasFileCause (F.faults self.old.flash) (F.faults self.new.flash) result }
     {
@@ -119,13 +155,12 @@ impl<F: Flash> Volume<F> {
 
     // Grants what was prepared.
     pub(crate) fn grant(&mut self, id: FileId, records: u16, room: u32)
-        requires live { IsLive (files_seen (F.tells && not self.old.failed) (F.image self.old.flash) self.old.table) id }
-        requires ready { (e : Entry) → IsEntry self.old.table id e → pages_asked e.at records room ≡ None }
-        requires most { size_at (files_seen (F.tells && not self.old.failed) (F.image self.old.flash) self.old.table) id + room ≤ 4194304 }
-        ensures contents { Becomes (state_seen (F.tells && not self.old.failed) (F.image self.old.flash) self.old.table self.old.draft) (state_seen (F.tells && not self.new.failed) (F.image self.new.flash) self.new.table self.new.draft) id
-            (size_at (files_seen (F.tells && not self.old.failed) (F.image self.old.flash) self.old.table) id) (bytes_at (files_seen (F.tells && not self.old.failed) (F.image self.old.flash) self.old.table) id) }
-        ensures records { (file_at (files_seen (F.tells && not self.new.failed) (F.image self.new.flash) self.new.table) id).records ≡ records }
-        ensures room { (file_at (files_seen (F.tells && not self.new.failed) (F.image self.new.flash) self.new.table) id).room ≡ room }
+        requires live { IsLive (⟦<Self as Files>⟧.state self.old).files id }
+        requires ready { AtEntry self.old.table id (λ e. pages_asked e records room ≡ None) }
+        requires most { size_at (⟦<Self as Files>⟧.state self.old).files id + room ≤ 4194304 }
+        ensures contents { KeepsBytes (⟦<Self as Files>⟧.state self.old) (⟦<Self as Files>⟧.state self.new) id }
+        ensures records { (file_at (⟦<Self as Files>⟧.state self.new).files id).records ≡ records }
+        ensures room { (file_at (⟦<Self as Files>⟧.state self.new).files id).room ≡ room }
         ensures flash { self.new.flash ≡ self.old.flash }
     {
         let entry = self.entry(id);

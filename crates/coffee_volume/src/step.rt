@@ -4,9 +4,11 @@ ghost use Rattle.coffee_layout.specs.Files.{FitsIn};
 ghost use Rattle.coffee_layout.specs.Marks.{IsCramped};
 ghost use Rattle.coffee_layout.specs.Tiling.{units_of};
 ghost use Rattle.coffee_layout.specs.Units.{pages_of};
-ghost use Rattle.coffee_merge.specs.Holding.{Holds, IsIn, Moves, Stays, Table, has_shape};
+ghost use Rattle.coffee_merge.specs.Holding.{Moves, Stays, has_shape};
+ghost use Rattle.coffee_merge.specs.Takes.{Takes};
+ghost use Rattle.coffee_volume.specs.Lowest.{log_page, page_taken, pages_taken};
 ghost use Rattle.coffee_volume.specs.Rooms.{has_too_few, lacks_log, own_record, records_needed};
-ghost use Rattle.coffee_volume.specs.Steps.{IsAfter, MayTake, need_of, step_for};
+ghost use Rattle.coffee_volume.specs.Steps.{IsAfter, MayTake, WhereHeld, WhereStands, need_of, step_for};
 ghost use Rattle.coffee_volume.specs.Taking.{TakesNone, TakesWithin};
 
 use afl_base::{FileError, Flash};
@@ -62,12 +64,19 @@ pub(crate) fn take_step<F: Flash>(
     requires fits { FitsIn (pages_of (F.image flash.old)) file.now }
     requires shape { has_shape file.now.kind file.now.pages ≡ true }
     requires may { MayTake step file.now }
-    ensures moved { IsTrue F.tells → IfOk result (λ to. (table : Table) (i : ℕ) → Holds (F.image flash.old) table None → IsIn table i file.now → Moves (F.image flash.old) (F.image flash.new) table i file.now to) }
+    ensures moved { IsTrue F.tells → IfOk result (λ to. WhereStands (F.image flash.old) file.now
+        (λ table i. Moves (F.image flash.old) (F.image flash.new) table i file.now to)) }
     ensures after { IfOk result (λ to. IsAfter step file.now to) }
-    ensures kept { IsTrue F.tells → OnSpace result (λ _. (table : Table) → Holds (F.image flash.old) table None → Stays (F.image flash.old) (F.image flash.new) table) }
-    ensures taken { IsTrue F.tells → IfOk result (λ to. (table : Table) (i : ℕ) → Holds (F.image flash.old) table None → IsIn table i file.now → TakesWithin (F.image flash.old) (F.image flash.new) to) }
-    ensures untaken { IsTrue F.tells → OnSpace result (λ _. (table : Table) → Holds (F.image flash.old) table None → TakesNone (F.image flash.old) (F.image flash.new)) }
-    ensures cramped { IsTrue F.tells → OnSpace result (λ need. (table : Table) → Holds (F.image flash.old) table None → IsCramped (units_of (F.image flash.new)) need) }
+    ensures kept { IsTrue F.tells → OnSpace result (λ _. WhereHeld (F.image flash.old)
+        (λ table. Stays (F.image flash.old) (F.image flash.new) table)) }
+    ensures taken { IsTrue F.tells → IfOk result (λ to. WhereStands (F.image flash.old) file.now
+        (λ table i. TakesWithin to (F.image flash.old) (F.image flash.new))) }
+    ensures untaken { IsTrue F.tells → OnSpace result (λ _. WhereHeld (F.image flash.old)
+        (λ table. TakesNone (F.image flash.old) (F.image flash.new))) }
+    ensures lowest { IsTrue F.tells → IfOk result (λ to. WhereStands (F.image flash.old) file.now
+        (λ table i. Takes (F.image flash.old) (F.image flash.new) (page_taken step to) (pages_taken step to) (Some file.now))) }
+    ensures cramped { IsTrue F.tells → OnSpace result (λ need. WhereHeld (F.image flash.old)
+        (λ table. IsCramped (units_of (F.image flash.new)) need)) }
     ensures need { OnSpace result (λ need. need ≡ need_of step file.now) }
     ensures inside { IfOk result (λ to. FitsIn (pages_of (F.image flash.new)) to) }
     ensures size { length (F.image flash.new) ≡ length (F.image flash.old) }
@@ -85,13 +94,20 @@ pub(crate) fn take_step<F: Flash>(
 fn log<F: Flash>(flash: &mut F, file: &FileAt) -> Result<FileAt, FileError>
     requires fits { FitsIn (pages_of (F.image flash.old)) file.now }
     requires none { file.now.log ≡ None }
-    ensures moved { IsTrue F.tells → IfOk result (λ to. (table : Table) (i : ℕ) → Holds (F.image flash.old) table None → IsIn table i file.now → Moves (F.image flash.old) (F.image flash.new) table i file.now to) }
+    ensures moved { IsTrue F.tells → IfOk result (λ to. WhereStands (F.image flash.old) file.now
+        (λ table i. Moves (F.image flash.old) (F.image flash.new) table i file.now to)) }
     ensures after { IfOk result (λ to. to ≡ record file.now { log = to.log }) }
     ensures logged { IfOk result (λ to. to.log ≢ None) }
-    ensures kept { IsTrue F.tells → OnSpace result (λ _. (table : Table) → Holds (F.image flash.old) table None → Stays (F.image flash.old) (F.image flash.new) table) }
-    ensures taken { IsTrue F.tells → IfOk result (λ to. (table : Table) (i : ℕ) → Holds (F.image flash.old) table None → IsIn table i file.now → TakesWithin (F.image flash.old) (F.image flash.new) to) }
-    ensures untaken { IsTrue F.tells → OnSpace result (λ _. (table : Table) → Holds (F.image flash.old) table None → TakesNone (F.image flash.old) (F.image flash.new)) }
-    ensures cramped { IsTrue F.tells → OnSpace result (λ need. (table : Table) → Holds (F.image flash.old) table None → IsCramped (units_of (F.image flash.new)) need) }
+    ensures kept { IsTrue F.tells → OnSpace result (λ _. WhereHeld (F.image flash.old)
+        (λ table. Stays (F.image flash.old) (F.image flash.new) table)) }
+    ensures taken { IsTrue F.tells → IfOk result (λ to. WhereStands (F.image flash.old) file.now
+        (λ table i. TakesWithin to (F.image flash.old) (F.image flash.new))) }
+    ensures untaken { IsTrue F.tells → OnSpace result (λ _. WhereHeld (F.image flash.old)
+        (λ table. TakesNone (F.image flash.old) (F.image flash.new))) }
+    ensures lowest { IsTrue F.tells → IfOk result (λ to. WhereStands (F.image flash.old) file.now
+        (λ table i. Takes (F.image flash.old) (F.image flash.new) (log_page to.log) 16 (Some file.now))) }
+    ensures cramped { IsTrue F.tells → OnSpace result (λ need. WhereHeld (F.image flash.old)
+        (λ table. IsCramped (units_of (F.image flash.new)) need)) }
     ensures need { OnSpace result (λ need. need ≡ 16) }
     ensures inside { IfOk result (λ to. FitsIn (pages_of (F.image flash.new)) to) }
     ensures size { length (F.image flash.new) ≡ length (F.image flash.old) }

@@ -2,6 +2,7 @@ pub mod Buckets
 pub mod Catalogs
 pub mod Conditions
 pub mod Decoded
+pub mod Moves
 pub mod ReplyTexts
 pub mod Rows
 pub mod RunCosts
@@ -14,3 +15,4 @@ pub mod Worked
 pub mod WorkedBytes
 pub mod WorkedLimits
 pub mod WorkedTokens
+pub mod Yielding

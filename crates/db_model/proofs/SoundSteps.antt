@@ -33,44 +33,8 @@ use Rattle.db_model.specs.Sound.{StandsIn, IsSoundAttribute, IsSoundRelation, Su
 use Rattle.db_model.specs.Step.{Reply, Fine, Rows, Removed, Outcome, add_attribute, aggregate_of, allows, answer_of, ask, asked_by, changed_by, close_cursor, create_index, create_relation, domain_asked, fallen, fallen_from, fetch_cursor, first_fall, insert_into, is_ordered, join_of, key_of, keys, open_cursor, open_cursor_of, outcome, pack, refuse_indexed, refuse_kind, refuse_read, relations_read, remove_from, remove_index, remove_relation, removed_row, replied, select_from, slots_limit, step, unsuited, upgraded, with_attribute}
 use Rattle.db_model.specs.Typing.{domain_of, is_attribute, missing_name, ill_typed}
 use Rattle.db_model.proofs.Standing.{all_others, all_same, any_of, count_out, count_put, false_true, found_from, found_of, free_is, IsFree, none_of, none_some, not_on, not_read, nothing_stands, one, same_or_other, some_found, some_same, stands_either, stands_once, stands_other, stands_set}
+use Rattle.db_model.proofs.Yielding.{Yields, err_ok, found_ok, yields_by, yields_found, yields_none, yields_ok, yields_then, yields_unless}
 use Rattle.db_model.proofs.SoundRows.{distinct_more, domain_at, fewer_live, keys_removed, order_kept, placed_more, rows_live, rows_more, rows_removed, suited, suited_some}
-
--- ---- what a result yields where it is one
-
-record Yields {A : Type 0} (Q : A → Type 0) (x : Result A Refusal) : Type 0 where
-  yields : (d : A) → x ≡ Ok d → Q d
-
-ok_same : {A : Type 0} {x y : A} → ◌≡◌ {A = Result A Refusal} (Ok x) (Ok y) → x ≡ y
-ok_same e = cc
-
-err_ok : {A : Type 0} {refusal : Refusal} {x : A} → ◌≡◌ {A = Result A Refusal} (Err refusal) (Ok x) → ⊥
-err_ok e = cc
-
-yields_ok : {A : Type 0} (Q : A → Type 0) (x : A) → Q x → Yields Q (Ok x)
-yields_ok Q x q = record { yields = λ d e. subst Q (ok_same e) q }
-
-yields_by : {A B : Type 0} (Q : B → Type 0) (x : Result A Refusal) (f : A → Result B Refusal) → ((v : A) → x ≡ Ok v → Yields Q (f v)) → Yields Q (◌>>=◌ x f)
-yields_by Q (Ok v) f h = h v refl
-yields_by Q (Err refusal) f h = record { yields = λ d e. absurd (err_ok e) }
-
-yields_then : {A B : Type 0} (Q : B → Type 0) (x : Result A Refusal) (rest : Result B Refusal) → ((v : A) → x ≡ Ok v → Yields Q rest) → Yields Q (◌>>◌ x rest)
-yields_then Q (Ok v) rest h = h v refl
-yields_then Q (Err refusal) rest h = record { yields = λ d e. absurd (err_ok e) }
-
-yields_unless : {B : Type 0} (Q : B → Type 0) (b : Bool) (refusal : Refusal) (rest : Result B Refusal) → (b ≡ false → Yields Q rest) → Yields Q (◌>>◌ (refuse_if b refusal) rest)
-yields_unless Q true refusal rest h = record { yields = λ d e. absurd (err_ok e) }
-yields_unless Q false refusal rest h = h refl
-
-yields_none : {A B : Type 0} (Q : B → Type 0) (o : Option A) (refusal : A → Refusal) (rest : Result B Refusal) → (o ≡ None → Yields Q rest) → Yields Q (◌>>◌ (refuse_found o refusal) rest)
-yields_none Q None refusal rest h = h refl
-yields_none Q (Some x) refusal rest h = record { yields = λ d e. absurd (err_ok e) }
-
-found_ok : {A : Type 0} (o : Option A) (refusal : Refusal) (x : A) → found_or o refusal ≡ Ok x → o ≡ Some x
-found_ok None refusal x e = absurd (err_ok e)
-found_ok (Some y) refusal x e = ap (λ x. Some x) (ok_same e)
-
-yields_found : {A B : Type 0} (Q : B → Type 0) (o : Option A) (refusal : Refusal) (f : A → Result B Refusal) → ((v : A) → o ≡ Some v → Yields Q (f v)) → Yields Q (◌>>=◌ (found_or o refusal) f)
-yields_found Q o refusal f h = yields_by Q (found_or o refusal) f (λ v e. h v (found_ok o refusal v e))
 
 -- ---- databases of version 2
 

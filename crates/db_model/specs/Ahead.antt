@@ -1,5 +1,5 @@
 -- What is ahead of the open cursors, and what a command may read: a FETCH pays for the slots that it passes.
-use Rattle.std.specs.Prelude.{ℕ, ℤ, ◌-◌, Bool, true, false, ◌&&◌, List, [], ◌∷◌, length, drop, filter, flat_map, get_or, set, replicate, Option, Some, None, option_map, option_and_then, if◌then◌else◌, slice_get}
+use Rattle.std.specs.Prelude.{◌≡◌, ⊤, ℕ, ℤ, ◌-◌, Bool, true, false, ◌&&◌, List, [], ◌∷◌, length, drop, filter, flat_map, get_or, set, replicate, Option, Some, None, option_map, option_and_then, if◌then◌else◌, slice_get}
 use Rattle.std.specs.List.{range_with_len}
 use Rattle.std.specs.Option.{option_map_or}
 use Rattle.db_model.specs.declared.commands.Command.{Command}
@@ -10,7 +10,7 @@ use Rattle.db_model.specs.declared.schemas.Range.{Range}
 use Rattle.db_model.specs.Answers.{live_tuples, same_value}
 use Rattle.db_model.specs.Cond.{Cond, condition_of}
 use Rattle.db_model.specs.Cost.{aggregate_cost, fetch_join_cost, fetch_select_cost, open_cost, passed, places_of, query_cost}
-use Rattle.db_model.specs.Database.{Relation, Database, cursor_place, indexes_of, relation_named}
+use Rattle.db_model.specs.Database.{Relation, Cursor, Database, cursor_place, indexes_of, relation_named}
 use Rattle.db_model.specs.Item.{selects}
 use Rattle.db_model.specs.Plan.{Kinds, Plan, ByTree, kinds_of, passes, place_at, plan, ranges_of}
 use Rattle.db_model.specs.Row.{Row, no_row}
@@ -111,6 +111,17 @@ Aheads = List (Option Ahead)
 
 abbrev pub no_cursors : Aheads
 no_cursors = replicate 4 None
+
+-- an open cursor, and no other, has something ahead: one stop for each row to come
+abbrev pub IsAhead : Option Cursor → Option Ahead → Type 0
+IsAhead None None = ⊤
+IsAhead (Some cursor) (Some ahead) = length ahead.stops ≡ length cursor.rows
+IsAhead _ _ = ⊥
+
+abbrev pub AreAhead : List (Option Cursor) → Aheads → Type 0
+AreAhead [] [] = ⊤
+AreAhead (cursor ∷ cursors) (ahead ∷ aheads) = IsAhead cursor ahead × AreAhead cursors aheads
+AreAhead _ _ = ⊥
 
 abbrev pub ahead_of : Aheads → ℤ → Option Ahead
 ahead_of aheads number = option_and_then (λ place. get_or aheads place None) (cursor_place number)

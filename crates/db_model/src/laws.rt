@@ -8,10 +8,10 @@ ghost use Rattle.db_model.specs.declared.commands.Command.{Command as AnyCommand
 ghost use Rattle.db_model.specs.declared.commands.Node.{Node};
 ghost use Rattle.db_model.specs.declared.refusals.Refusal.{Refusal as AnyRefusal};
 ghost use Rattle.db_model.specs.declared.schemas.Attribute.{Attribute};
-ghost use Rattle.db_model.specs.Ahead.{Aheads};
+ghost use Rattle.db_model.specs.Ahead.{Aheads, AreAhead, aheads_after, no_cursors};
 ghost use Rattle.db_model.specs.Catalog.{Catalog, IsCatalog, catalog_bytes, catalog_of, empty_catalog};
 ghost use Rattle.db_model.specs.Cond.{Cond, condition_of, postfix};
-ghost use Rattle.db_model.specs.Database.{Cursor, Database, cursor_at, empty_database};
+ghost use Rattle.db_model.specs.Database.{Cursor, Database, bare, cursor_at, empty_database};
 ghost use Rattle.db_model.specs.HashTree.{buckets};
 ghost use Rattle.db_model.specs.Row.{AllRowsSuit, Row, rows_bytes, rows_of};
 ghost use Rattle.db_model.specs.RunCost.{costs, last_aheads};
@@ -74,6 +74,16 @@ pub fn sound_databases_stay_sound()
         → BringsNames command
         → IsSoundDatabase db
         → IsSoundDatabase ((step db command).0) }
+{}
+
+/// What is ahead of the cursors goes along with the rows that they have still to answer: none at
+/// first, and after each command one stop for each row to come.
+#[tactic(auto, using(crate::proofs::Moves::none_ahead, crate::proofs::Moves::ahead_kept))]
+pub fn rows_to_come_are_ahead()
+    ensures first { (db : Database) → AreAhead (bare db).cursors no_cursors }
+    ensures kept { (db : Database) (aheads : Aheads) (command : AnyCommand)
+        → AreAhead db.cursors aheads
+        → AreAhead ((step db command).0).cursors (aheads_after db aheads command) }
 {}
 
 /// What entries may read is what the first of them may read, and then the others.

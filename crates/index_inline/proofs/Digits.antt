@@ -18,6 +18,10 @@ bits_less v (suc w) h k =
     let deep : halvings v v ≤ halvings w (suc w / 2) = halvings_grow v w v (suc w / 2) (omega arith) (omega arith) in
     omega arith
 
+pub bits_grow : (v w : ℕ) → v ≤ w → bits v ≤ bits w
+unfolding bits
+bits_grow v w h = halvings_grow v w v w h h
+
 pub bits_none : bits 0 ≡ 0
 unfolding bits
 bits_none = refl

@@ -1,13 +1,20 @@
 -- What candidates have ahead, where rows come behind the others.
-use Rattle.std.proofs.Common.{◌≡◌, ℕ, zero, suc, ◌+◌, ◌-◌, ◌<◌, ◌≤◌, Bool, true, false, cond, List, ◌∷◌, length, get_or, filter, refl, ap, ◌∙◌, arith}
+use Rattle.std.proofs.Common.{◌≡◌, ℕ, zero, suc, ◌+◌, ◌-◌, ◌<◌, ◌≤◌, Bool, true, false, cond, ℤ, List, [], ◌∷◌, ◌++◌, length, get_or, take, drop, filter, Option, refl, ap, sym, ◌∙◌, subst, arith}
+use Rattle.std.proofs.lemmas.List.{ext_get_or, get_or-take, length-take-le, take-append-drop}
 use Rattle.std.specs.List.{range_with_len}
+use Rattle.afl_base.specs.Files.{State, bytes_at}
 use Rattle.db_model.specs.Plan.{lies_in}
 use Rattle.db_model.specs.Row.{Row}
+use Rattle.db_model.specs.Step.{keys}
+use Rattle.index_maxheap.specs.declared.places.Place.{Place}
+use Rattle.index_maxheap.specs.Searches.{IsPlaceOf}
+use Rattle.index_maxheap.proofs.Good.{good_inserts}
 use Rattle.index_set.specs.declared.candidates.Candidates.{Candidates}
 use Rattle.index_set.specs.declared.candidates.Search.{Search}
 use Rattle.index_set.specs.declared.candidates.Search.TheVariants as by
 use Rattle.index_set.specs.Complete.{key_in, no_row}
-use Rattle.index_set.specs.Walks.{KnowsRows, RowsGrow, Waits, ahead, takes}
+use Rattle.index_set.specs.Tables.{Tables}
+use Rattle.index_set.specs.Walks.{Fits, HasGrown, HasIndex, KnowsRows, RowsGrow, Waits, ahead, takes}
 
 step : (b c : Bool) → b ≡ c → (a : ℕ) (xs ys : List ℕ) → xs ≡ ys → cond b (a ∷ xs) xs ≡ cond c (a ∷ ys) ys
 step true true e a xs ys same = ap (λ (zs : List ℕ). a ∷ zs) same
@@ -45,4 +52,38 @@ waits_kept c old new grow w = record {
   order = w.order;
   within = w.within;
   knows = knows_kept c.search old new c.from c.end c.slots grow w.within w.few w.knows;
+}
+
+-- ---- inserts
+
+keys_joined : (attribute : ℕ) (xs ys : List Row) → keys attribute (xs ++ ys) ≡ keys attribute xs ++ keys attribute ys
+keys_joined attribute [] ys = refl
+keys_joined attribute (row ∷ xs) ys = ap (λ (ks : List ℤ). key_in attribute row ∷ ks) (keys_joined attribute xs ys)
+
+-- rows that have come stand behind the others
+rows_behind : (old new : List Row) → RowsGrow old new → new ≡ old ++ drop (length old) new
+rows_behind old new grow =
+    let size = length-take-le (length old) new grow.more in
+    let front : take (length old) new ≡ old = ext_get_or no_row (take (length old) new) old size
+        (λ i h. get_or-take (length old) new i no_row (omega (arith, h, size)) ∙ grow.same i (omega (arith, h, size))) in
+    sym (take-append-drop (length old) new) ∙ ap (λ (rows : List Row). rows ++ drop (length old) new) front
+
+keys_behind : (attribute : ℕ) (old new : List Row) → RowsGrow old new → keys attribute old ++ keys attribute (drop (length old) new) ≡ keys attribute new
+keys_behind attribute old new grow = sym (keys_joined attribute old (drop (length old) new)) ∙ ap (keys attribute) (sym (rows_behind old new grow))
+
+index_kept : (s : Search) (place : Option Place) (before now : State) (tables tables_now : Tables) (old new : List Row) (from : ℕ) → RowsGrow old new → HasGrown s before now tables_now new → HasIndex s place before tables old from → HasIndex s place now tables_now new from
+index_kept by.Nothing place before now tables tables_now old new from grow grown index = tt
+index_kept by.Scan place before now tables tables_now old new from grow grown index = tt
+index_kept (by.Order attribute range) place before now tables tables_now old new from grow grown index = tt
+index_kept (by.Tree attribute file key) place before now tables tables_now old new from grow grown index = (
+  grown.0,
+  subst (λ (ks : List ℤ). IsPlaceOf (bytes_at now.files file) ks key from place) (keys_behind attribute old new grow)
+    (good_inserts (bytes_at before.files file) (bytes_at now.files file) (keys attribute old) (keys attribute (drop (length old) new)) key from place grown.1 index.1),
+)
+index_kept (by.Table attribute number key) place before now tables tables_now old new from grow grown index = grown
+
+pub fits_kept : (c : Candidates) (before now : State) (tables tables_now : Tables) (old new : List Row) → RowsGrow old new → HasGrown c.search before now tables_now new → Fits c before tables old → Fits c now tables_now new
+fits_kept c before now tables tables_now old new grow grown fits = record {
+  waits = waits_kept c old new grow fits.waits;
+  index = λ some. index_kept c.search c.place before now tables tables_now old new c.from grow grown (fits.index some);
 }

@@ -1,1 +1,11 @@
 pub mod Grown
+pub mod Slots
+pub mod Seeks
+pub mod Nexts
+pub mod Lists
+pub mod Inserted
+pub mod Choosing
+pub mod Costs
+pub mod Fronts
+pub mod Begins
+pub mod Verified

@@ -1,7 +1,8 @@
 -- What an insert needs of the indexes of a relation, and what it leaves.
 use Rattle.std.specs.Prelude.{◌≡◌, ◌≢◌, ◌<◌, ◌⊎◌, ⊤, ℕ, ℤ, pos, negsuc, ◌++◌, [], ◌∷◌, Bool, false, List, Option, Some, None, IsTrue, slice_get}
 use Rattle.std.specs.List.{AllByRecursion}
-use Rattle.afl_base.specs.Files.{State, bytes_at}
+use Rattle.afl_base.specs.declared.kind.Kind.TheVariants.{Doubling}
+use Rattle.afl_base.specs.Files.{State, IsLive, bytes_at, file_at}
 use Rattle.db_model.specs.declared.values.Value.{Value}
 use Rattle.db_model.specs.declared.values.Value.TheVariants.{Number, Text}
 use Rattle.db_model.specs.Row.{Row, is_between}
@@ -22,6 +23,12 @@ SomeOf P [] = ⊥
 SomeOf P (info ∷ infos) = P info ⊎ SomeOf P infos
 
 -- ---- which files and tables the indexes of a list have
+
+-- a tree's file is there, and doubles
+abbrev pub IsDoublingTree : State → Access → Type 0
+IsDoublingTree state Order = ⊤
+IsDoublingTree state (Tree file) = IsLive state.files file × ((file_at state.files file).kind ≡ Doubling)
+IsDoublingTree state (Table number) = ⊤
 
 -- a tree's file is not this one
 abbrev pub IsApart : ℕ → Access → Type 0

@@ -1,5 +1,4 @@
 pub mod Tables
-pub mod Trees
 pub mod Plans
 pub mod Complete
 pub mod Inserts

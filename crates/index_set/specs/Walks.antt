@@ -1,5 +1,5 @@
 -- The slots that candidates have still to answer.
-use Rattle.std.specs.Prelude.{◌≡◌, ◌≤◌, ◌<◌, ⊤, ℕ, ◌+◌, ◌-◌, ◌*◌, Bool, true, false, List, length, filter, get_or, Option}
+use Rattle.std.specs.Prelude.{◌≡◌, ◌≤◌, ◌<◌, ⊤, ℕ, ◌+◌, ◌-◌, ◌*◌, ℤ, Bool, true, false, List, length, filter, get_or, Option, Some, None}
 use Rattle.std.specs.List.{range_with_len}
 use Rattle.std.specs.Ordering.{int_eq}
 use Rattle.afl_base.specs.Files.{State, IsLive, bytes_at}
@@ -12,11 +12,13 @@ use Rattle.index_set.specs.declared.candidates.Search.{Search}
 use Rattle.index_set.specs.declared.candidates.Search.TheVariants as by
 use Rattle.index_set.specs.declared.info.Access.TheVariants.{Tree, Table}
 use Rattle.index_set.specs.declared.info.IndexInfo.{IndexInfo}
-use Rattle.index_set.specs.declared.trees.Place.{Place}
+use Rattle.index_maxheap.specs.declared.places.Place.{Place}
 use Rattle.index_set.specs.Complete.{key_in, no_row}
 use Rattle.index_set.specs.Inserts.{SomeOf}
 use Rattle.index_set.specs.Tables.{Tables, entries}
-use Rattle.index_set.specs.Trees.{IsPlaceOf, walk_left}
+use Rattle.index_maxheap.specs.Searches.{IsPlaceOf, walk_left}
+use Rattle.index_tree.specs.Keys.{is_key_at}
+use Rattle.index_tree.specs.Places.{KeepsNumbers}
 use Rattle.index_tree.specs.Trees.{IsTreeOf}
 
 -- which rows a search answers
@@ -70,6 +72,13 @@ pub record Fits (c : Candidates) (state : State) (tables : Tables) (all : List R
   pub waits : Waits c all
   pub index : 0 < c.slots → HasIndex c.search c.place state tables all c.from
 
+-- the index knows the keys of these rows, and the buckets of a tree have kept their numbers, as after inserts
+abbrev pub HasGrown : Search → State → State → Tables → List Row → Type 0
+HasGrown (by.Tree attribute file key) old new tables all =
+    IsTreeOf (bytes_at new.files file) (keys attribute all) × KeepsNumbers (bytes_at old.files file) (bytes_at new.files file)
+HasGrown (by.Table attribute number key) old new tables all = entries tables number ≡ keys attribute all
+HasGrown _ old new tables all = ⊤
+
 -- a tree's file may be read
 abbrev pub IsSafeBy : Search → State → Type 0
 IsSafeBy (by.Tree attribute file key) state = IsLive state.files file
@@ -93,3 +102,23 @@ reads_ahead c all = reads_by c.search c.place all (length (ahead c all))
 -- with the row of each slot
 abbrev pub cost_ahead : Candidates → List Row → ℕ
 cost_ahead c all = 6 * length (ahead c all) + reads_ahead c all
+
+-- ---- steps
+
+-- no slot from one up to another has the key
+abbrev pub LacksKey : ℤ → List ℤ → ℕ → ℕ → Type 0
+LacksKey key keys from end = (i : ℕ) → from ≤ i → i < end → is_key_at key keys i ≡ false
+
+-- their place stands in the tree of these keys
+abbrev pub HasPlace : State → ℕ → ℤ → List ℤ → Candidates → Type 0
+HasPlace state file key keys c = IsTreeOf (bytes_at state.files file) keys × IsPlaceOf (bytes_at state.files file) keys key c.from c.place
+
+-- they have gone behind the slot that was answered, by one, up to the same end; else they are where they were
+abbrev pub IsMoved : Option ℕ → Candidates → Candidates → Type 0
+IsMoved None old new = new ≡ old
+IsMoved (Some slot) old new = (new.from ≡ slot + 1) × (new.slots ≡ old.slots) × (new.search ≡ old.search) × (new.place ≡ old.place)
+
+-- they have gone behind the slot that was answered, and end with their slots
+abbrev pub IsMovedBy : Option ℕ → Candidates → Candidates → Type 0
+IsMovedBy None old new = (new.from ≡ old.from) × (new.end ≡ old.end) × (new.slots ≡ old.slots) × (new.search ≡ old.search)
+IsMovedBy (Some slot) old new = (new.from ≡ slot + 1) × (new.end ≡ new.slots) × (new.slots ≡ old.slots) × (new.search ≡ old.search) × (old.from ≤ slot) × (slot < old.slots)

@@ -2,21 +2,26 @@
 
 #![tactic(auto)]
 
-ghost use Rattle.std.specs.Prelude.{None, ◌≡◌, ◌+◌, ◌<◌, ◌≤◌, ◌∷◌, [], List, IfOk, IfSome, IsTrue, OnOk, OnErr, MatchOption, length, max};
-ghost use Rattle.afl_base.specs.Files.{State};
-ghost use Rattle.db_model.specs.Cost.{begin_cost, chosen_cost};
+ghost use Rattle.std.specs.Prelude.{None, ℤ, ◌≡◌, ◌+◌, ◌<◌, ◌≤◌, ◌∷◌, [], List, IfOk, IfSome, IsTrue, OnOk, OnErr, MatchOption, length, max};
+ghost use Rattle.afl_base.specs.Causes.{HasCause};
+ghost use Rattle.afl_base.specs.Files.{IsLive, State};
+ghost use Rattle.db_model.specs.Cost.{begin_cost, chosen_cost, keys_beside};
 ghost use Rattle.db_model.specs.Plan.{plan};
 ghost use Rattle.db_model.specs.Row.{Row};
 ghost use Rattle.index_set.specs.Complete.{AreIndexesOf, AreReadable};
 ghost use Rattle.index_set.specs.Plans.{kinds, slots_passed};
-ghost use Rattle.index_set.specs.Tables.{Tables};
-ghost use Rattle.index_set.specs.Walks.{Fits, IsChosen, IsSafeBy, Waits, ahead, cost_ahead, reads_ahead, slots_in};
+ghost use Rattle.index_set.specs.Tables.{Tables, entries};
+ghost use Rattle.index_maxheap.specs.Searches.{walk_left};
+ghost use Rattle.index_tree.specs.Keys.{IsFirstOf};
+ghost use Rattle.index_set.specs.Walks.{Fits, HasPlace, IsChosen, IsMoved, IsMovedBy, IsSafeBy, LacksKey, Waits, ahead, cost_ahead, reads_ahead, slots_in};
 
+use crate::choices::{Plan, choose, range_of};
 use crate::info::{Indexes, TableId};
 use crate::tables::HashTables;
-use crate::trees::Place;
 use afl_base::{Failed, FileId, Files, SlotNo};
 use db_model::Range;
+use index_inline::range as slots_within;
+use index_maxheap::{Place, next as next_in};
 
 /// How slots are found.
 #[derive(Clone, Copy, Debug, PartialEq, Eq)]
@@ -38,6 +43,13 @@ pub enum Search {
         key: i32,
     },
 }
+
+// Behind all buckets of a path.
+const BEHIND: Place = Place {
+    bucket: 0,
+    pair: 0,
+    hop: 65535,
+};
 
 /// The slots that a search has still to answer: those from `from` on and below `slots`.
 #[derive(Clone, Copy, Debug, PartialEq, Eq)]
@@ -83,8 +95,51 @@ impl Candidates {
             (all : List Row) → slots ≤ length all → AreIndexesOf state tables.now all indexes.now
             → begin_cost slots (plan (kinds indexes.now) ranges.now) + cost_ahead c all
             ≤ chosen_cost (kinds indexes.now) ranges.now all) }
+        ensures store { length (V.state files.new).store ≡ length (V.state files.old).store }
+        ensures cause { HasCause (V.faults files.old) (V.faults files.new) result }
     {
-        Err(Failed)
+        let plan = choose(indexes, ranges);
+        match plan {
+            Plan::Nothing => Ok(at_start(Search::Nothing, slots)),
+            Plan::Scan => Ok(at_start(Search::Scan, slots)),
+            Plan::Order { nth } => {
+                let info = indexes.get(usize::from(nth));
+                let range = range_of(ranges, info.attribute);
+                let (from, end) = slots_within(files, &info.column, slots, &range)?;
+                Ok(Candidates {
+                    search: Search::Order {
+                        attribute: info.attribute,
+                        range,
+                    },
+                    place: None,
+                    from,
+                    end,
+                    slots,
+                })
+            }
+            Plan::Tree { nth, file, key } => {
+                let attribute = indexes.get(usize::from(nth)).attribute;
+                Ok(at_start(
+                    Search::Tree {
+                        attribute,
+                        file,
+                        key,
+                    },
+                    slots,
+                ))
+            }
+            Plan::Table { nth, table, key } => {
+                let attribute = indexes.get(usize::from(nth)).attribute;
+                Ok(at_start(
+                    Search::Table {
+                        attribute,
+                        table,
+                        key,
+                    },
+                    slots,
+                ))
+            }
+        }
     }
 
     /// Forgets where in a tree it stands. The slots to come are the same, and whatever is inserted
@@ -153,7 +208,115 @@ impl Candidates {
             ((all : List Row) → Fits self.old state tables.now all
             → V.reads files.new ≤ V.reads files.old + reads_ahead self.old all) }
         ensures reads_later { V.reads files.old ≤ V.reads files.new }
+        ensures store { length (V.state files.new).store ≡ length (V.state files.old).store }
+        ensures cause { HasCause (V.faults files.old) (V.faults files.new) result }
     {
-        Err(Failed)
+        let search = self.search;
+        match search {
+            Search::Nothing => Ok(None),
+            Search::Scan => Ok(self.next_below(self.slots)),
+            Search::Order { .. } => Ok(self.next_below(self.end)),
+            Search::Tree { file, key, .. } => self.next_in_tree(files, file, &key),
+            Search::Table { table, key, .. } => Ok(self.next_in_table(tables, table, &key)),
+        }
+    }
+
+    // The next slot, where it is below an end.
+    fn next_below(&mut self, end: u16) -> Option<SlotNo>
+        ensures next { self.old.slots ≤ 32768 → end ≤ self.old.slots → MatchOption result (end ≤ self.old.from) (λ slot. (slot ≡ self.old.from) × (slot < end)) }
+        ensures moved { IsMoved result self.old self.new }
+        ensures below { IfSome result (λ slot. slot < self.old.slots) }
+        ensures from { IfSome result (λ slot. slot ≡ self.old.from) }
+        ensures end { MatchOption result (self.new.end ≡ self.old.end) (λ slot. (self.new.end ≡ end) × (slot < end)) }
+        ensures forward { MatchOption result (self.new.from ≡ self.old.from) (λ slot. (self.old.from ≤ slot) × (self.new.from ≡ slot + 1)) }
+    {
+        if end <= self.from {
+            return None;
+        }
+        if self.slots <= self.from {
+            return None;
+        }
+        let slot = SlotNo::new(self.from)?;
+        self.from += 1;
+        self.end = end;
+        Some(slot)
+    }
+
+    // The next slot of a key, by a tree.
+    fn next_in_tree<V: Files>(&mut self, files: &mut V, file: FileId, key: &i32) -> Result<Option<SlotNo>, Failed>
+        requires live { 0 < self.old.slots → IsLive (V.state files.old).files file }
+        ensures next { IsTrue (V.state files.old).tells → IfOk result (λ found. (keys : List ℤ) → HasPlace (V.state files.old) file key.now keys self.old → self.old.slots ≤ length keys
+            → MatchOption found (LacksKey key.now keys self.old.from self.old.slots) (λ slot. IsFirstOf key.now keys self.old.from slot × HasPlace (V.state files.old) file key.now keys self.new)) }
+        ensures moved { IfOk result (λ found. IsMovedBy found self.old self.new) }
+        ensures forward { IfOk result (λ found. MatchOption found (self.new.from ≡ self.old.from) (λ slot. (self.old.from ≤ slot) × (self.new.from ≡ slot + 1))) }
+        ensures slots { self.new.slots ≡ self.old.slots }
+        ensures search { self.new.search ≡ self.old.search }
+        ensures same { OnOk result (V.state files.new ≡ V.state files.old) }
+        ensures unmoved { OnErr result (self.new ≡ self.old) }
+        ensures unread { self.old.slots ≤ self.old.from → V.reads files.new ≡ V.reads files.old }
+        ensures over { self.old.slots ≤ self.old.from → self.new ≡ self.old }
+        ensures reads { IsTrue (V.state files.old).tells → (keys : List ℤ) → HasPlace (V.state files.old) file key.now keys self.old → self.old.slots ≤ length keys
+            → IfOk result (λ found. MatchOption found
+                (V.reads files.new + walk_left (keys_beside key.now keys) self.new.place ≤ V.reads files.old + walk_left (keys_beside key.now keys) self.old.place)
+                (λ _. V.reads files.new + walk_left (keys_beside key.now keys) self.new.place ≤ V.reads files.old + walk_left (keys_beside key.now keys) self.old.place + 9)) }
+        ensures reads_err { IsTrue (V.state files.old).tells → (keys : List ℤ) → HasPlace (V.state files.old) file key.now keys self.old
+            → V.reads files.new ≤ V.reads files.old + walk_left (keys_beside key.now keys) self.old.place }
+        ensures reads_later { V.reads files.old ≤ V.reads files.new }
+        ensures store { length (V.state files.new).store ≡ length (V.state files.old).store }
+        ensures cause { HasCause (V.faults files.old) (V.faults files.new) result }
+    {
+        if self.slots <= self.from {
+            return Ok(None);
+        }
+        match next_in(files, file, key, self.place, self.from)? {
+            None => {
+                self.place = Some(BEHIND);
+                Ok(None)
+            }
+            Some(found) => {
+                let slot = found.slot;
+                if self.slots <= slot.number() {
+                    self.place = Some(BEHIND);
+                    return Ok(None);
+                }
+                self.place = Some(found.place);
+                self.from = slot.number() + 1;
+                self.end = self.slots;
+                Ok(Some(slot))
+            }
+        }
+    }
+
+    // The next slot of a key, by a table.
+    fn next_in_table(&mut self, tables: &HashTables, table: TableId, key: &i32) -> Option<SlotNo>
+        ensures next { self.old.slots ≤ length (entries tables.now table) → MatchOption result (LacksKey key.now (entries tables.now table) self.old.from self.old.slots) (λ slot. IsFirstOf key.now (entries tables.now table) self.old.from slot) }
+        ensures moved { IsMovedBy result self.old self.new }
+        ensures place { self.new.place ≡ self.old.place }
+        ensures forward { MatchOption result (self.new.from ≡ self.old.from) (λ slot. (self.old.from ≤ slot) × (self.new.from ≡ slot + 1)) }
+    {
+        let slot = tables.next(table, key, self.from)?;
+        if self.slots <= slot.number() {
+            return None;
+        }
+        self.from = slot.number() + 1;
+        self.end = self.slots;
+        Some(slot)
+    }
+}
+
+// A search of all slots, which has answered none.
+fn at_start(search: Search, slots: u16) -> Candidates
+    ensures search { result.search ≡ search }
+    ensures place { result.place ≡ None }
+    ensures from { result.from ≡ 0 }
+    ensures end { result.end ≡ slots }
+    ensures slots { result.slots ≡ slots }
+{
+    Candidates {
+        search,
+        place: None,
+        from: 0,
+        end: slots,
+        slots,
     }
 }

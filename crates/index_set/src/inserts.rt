@@ -2,17 +2,26 @@
 
 #![tactic(auto)]
 
-ghost use Rattle.std.specs.Prelude.{◌≡◌, ◌+◌, ◌<◌, ◌≤◌, ◌++◌, ◌∷◌, [], List, None, IsTrue, OnOk, IfOk, length};
-ghost use Rattle.afl_base.specs.FileErrors.{OnSpace, UnlessFailed};
+ghost use Rattle.std.specs.Prelude.{◌≡◌, ◌≢◌, ◌+◌, ◌<◌, ◌≤◌, ◌++◌, ◌∷◌, [], ℤ, pos, negsuc, List, None, IsTrue, OnOk, IfOk, length, slice_get};
+ghost use Rattle.afl_base.specs.declared.kind.Kind.TheVariants as Kind;
+ghost use Rattle.afl_base.specs.Causes.{HasCause};
+ghost use Rattle.afl_base.specs.FileErrors.{HasFileCause, OnSpace, UnlessFailed};
+ghost use Rattle.afl_base.specs.Files.{IsLive, bytes_at, file_at};
 ghost use Rattle.afl_base.specs.Frames.{Prepares, Spares};
-ghost use Rattle.db_model.specs.Row.{Row};
-ghost use Rattle.index_set.specs.Complete.{AreComplete, AreHeld};
-ghost use Rattle.index_set.specs.Inserts.{AreApart, AreOpenFor, AreRoomFor, HaveKeys, HaveRoom, IsNoTree, KeepsTables, MayAllFollow, OneAsksFor};
+ghost use Rattle.db_model.specs.Row.{Row, is_between};
+ghost use Rattle.db_model.specs.Step.{key_of};
+ghost use Rattle.index_maxheap.specs.Rooms.{HasRoomFor, room_of};
+ghost use Rattle.index_set.specs.declared.info.TableId.{TableId as AnyTable};
+ghost use Rattle.index_set.specs.Complete.{AreComplete, AreHeld, IsComplete, IsHeld};
+ghost use Rattle.index_set.specs.Inserts.{AreApart, AreOpenFor, AreRoomFor, AsksFor, HasRoom, HaveKeys, HaveRoom, IsApart, IsDoublingTree, IsNoTable, IsNoTree, IsOpenFor, IsRoomFor, KeepsTables, MayAllFollow, MayFollow, OneAsksFor, is_key};
+ghost use Rattle.index_set.specs.Tables.{entries};
+ghost use Rattle.index_tree.specs.Trees.{IsTreeOf};
 
-use crate::info::{Indexes, Rooms};
+use crate::info::{Access, Indexes, Rooms};
 use crate::tables::HashTables;
-use afl_base::{Failed, FileError, Files, SlotNo};
-use db_model::Tuple;
+use afl_base::{Failed, FileError, FileId, Files, SlotNo};
+use db_model::{Tuple, Value};
+use index_maxheap::{Room, insert, room};
 
 /// Makes room in each tree of the list for the tuple's key. No contents change.
 pub fn prepare_all<V: Files>(
@@ -35,8 +44,88 @@ pub fn prepare_all<V: Files>(
         OneAsksFor (V.asks files.new) (V.state files.new) tuple.now need indexes.now) }
     ensures lacks { OnSpace result (λ need. V.lacks files.new need) }
     ensures reads_later { V.reads files.old ≤ V.reads files.new }
+    ensures store { length (V.state files.new).store ≡ length (V.state files.old).store }
+    ensures cause { HasFileCause (V.faults files.old) (V.faults files.new) result }
 {
-    Err(FileError::Failed)
+    let mut rooms = Rooms::new();
+    let count = indexes.len();
+    for nth in 0..count {
+        let info = *indexes.get(nth);
+        let key = key_in(tuple, info.attribute);
+        let room = match prepare_one(files, info.access, &key) {
+            Ok(room) => room,
+            Err(error) => return Err(error),
+        };
+        rooms.push(room);
+    }
+    Ok(rooms)
+}
+
+// The number at a place of a tuple, where it is one of 32 bits.
+fn key_in(tuple: &Tuple, attribute: u8) -> i32
+    ensures { IsTrue (is_key (slice_get tuple.now attribute)) → result ≡ key_of (slice_get tuple.now attribute) }
+{
+    let at = usize::from(attribute);
+    if at >= tuple.len() {
+        return 0;
+    }
+    match tuple.get(at) {
+        Value::Number(number) => narrow(*number),
+        Value::Text(_) => 0,
+    }
+}
+
+fn narrow(number: i64) -> i32
+    ensures { IsTrue (is_between (negsuc 2147483647) (pos 2147483647) number) → result ≡ number }
+{
+    if number < -2147483648 || number > 2147483647 {
+        return 0;
+    }
+    number as i32
+}
+
+// Makes room in one index for a key.
+fn prepare_one<V: Files>(files: &mut V, access: Access, key: &i32) -> Result<Room, FileError>
+    requires idle { (V.state files.old).draft ≡ None }
+    requires tree { IsDoublingTree (V.state files.old) access }
+    ensures contents { UnlessFailed result (Prepares (V.state files.old) (V.state files.new) (λ id. IsApart id access)) }
+    ensures room { IfOk result (λ room. HasRoom (V.state files.new) room access) }
+    ensures exact { IsTrue (V.state files.old).tells → IfOk result (λ room. IsRoomFor (V.state files.old) key.now room access) }
+    ensures asked { IsTrue (V.state files.old).tells → OnSpace result (λ need. AsksFor (V.asks files.new) (V.state files.new) key.now need access) }
+    ensures lacks { OnSpace result (λ need. V.lacks files.new need) }
+    ensures reads_later { V.reads files.old ≤ V.reads files.new }
+    ensures store { length (V.state files.new).store ≡ length (V.state files.old).store }
+    ensures cause { HasFileCause (V.faults files.old) (V.faults files.new) result }
+{
+    match access {
+        Access::Order => Ok(Room::default()),
+        Access::Tree(file) => prepare_tree(files, file, key),
+        Access::Table(_) => Ok(Room::default()),
+    }
+}
+
+// Makes room in a tree for a key. Where the file is no tree, nothing is needed.
+#[tactic(auto, using(afl_base::proofs::FrameLaws::keeps_prepares, afl_base::proofs::FrameLaws::prepares_same, crate::proofs::Lists::room_made, crate::proofs::Lists::nothing_needed))]
+fn prepare_tree<V: Files>(files: &mut V, file: FileId, key: &i32) -> Result<Room, FileError>
+    requires idle { (V.state files.old).draft ≡ None }
+    requires live { IsLive (V.state files.old).files file }
+    requires kind { (file_at (V.state files.old).files file).kind ≡ Kind.Doubling }
+    ensures contents { UnlessFailed result (Prepares (V.state files.old) (V.state files.new) (λ id. id ≢ file)) }
+    ensures room { IfOk result (λ room. HasRoomFor (V.state files.new) file room) }
+    ensures exact { IsTrue (V.state files.old).tells → (keys : List ℤ) → IsTreeOf (bytes_at (V.state files.old).files file) keys → IfOk result (λ room. room ≡ room_of (bytes_at (V.state files.old).files file) key.now) }
+    ensures asked { IsTrue (V.state files.old).tells → (keys : List ℤ) → IsTreeOf (bytes_at (V.state files.old).files file) keys
+        → OnSpace result (λ need. V.asks files.new file ((room_of (bytes_at (V.state files.old).files file) key.now).overwrites) ((room_of (bytes_at (V.state files.old).files file) key.now).bytes) need) }
+    ensures lacks { OnSpace result (λ need. V.lacks files.new need) }
+    ensures reads_later { V.reads files.old ≤ V.reads files.new }
+    ensures store { length (V.state files.new).store ≡ length (V.state files.old).store }
+    ensures cause { HasFileCause (V.faults files.old) (V.faults files.new) result }
+{
+    let room = room(files, file, key)?;
+    if room.overwrites == 0 {
+        return Ok(room);
+    }
+    files.prepare(file, room.overwrites, room.bytes)?;
+    Ok(room)
 }
 
 /// Adds the tuple's keys, as those of the next slot, to each index of the list, in the rooms that
@@ -66,6 +155,47 @@ pub fn insert_all<V: Files>(
         (Spares (V.state files.old) (V.state files.new) (IsNoTree indexes.now)) }
     ensures tables { OnOk result (KeepsTables tables.old tables.new indexes.now) }
     ensures reads_later { V.reads files.old ≤ V.reads files.new }
+    ensures store { length (V.state files.new).store ≡ length (V.state files.old).store }
+    ensures cause { HasCause (V.faults files.old) (V.faults files.new) result }
 {
-    Err(Failed)
+    let count = indexes.len();
+    for nth in 0..count {
+        let info = *indexes.get(nth);
+        let key = key_in(tuple, info.attribute);
+        let room = rooms.get(nth);
+        insert_one(files, tables, info.access, room, &key, slot)?;
+    }
+    Ok(())
+}
+
+// Adds a key to one index, as that of the next slot.
+#[tactic(auto, using(crate::proofs::Lists::only_spares))]
+fn insert_one<V: Files>(
+    files: &mut V,
+    tables: &mut HashTables,
+    access: Access,
+    room: &Room,
+    key: &i32,
+    slot: SlotNo,
+) -> Result<(), Failed>
+    requires held { IsHeld (V.state files.old) tables.old slot access }
+    requires open { IsOpenFor slot access }
+    requires room { HasRoom (V.state files.old) room.now access }
+    ensures complete { IsTrue (V.state files.old).tells → OnOk result ((keys : List ℤ) → length keys ≡ slot → IsComplete (V.state files.old) tables.old access keys
+        → IsRoomFor (V.state files.old) key.now room.now access → MayFollow keys key.now access → IsComplete (V.state files.new) tables.new access (keys ++ key.now ∷ [])) }
+    ensures held { OnOk result (IsHeld (V.state files.new) tables.new (slot + 1) access) }
+    ensures others { OnOk result (Spares (V.state files.old) (V.state files.new) (λ id. IsApart id access)) }
+    ensures tables { OnOk result ((number : AnyTable) → IsNoTable number access → entries tables.new number ≡ entries tables.old number) }
+    ensures reads_later { V.reads files.old ≤ V.reads files.new }
+    ensures store { length (V.state files.new).store ≡ length (V.state files.old).store }
+    ensures cause { HasCause (V.faults files.old) (V.faults files.new) result }
+{
+    match access {
+        Access::Order => Ok(()),
+        Access::Tree(file) => insert(files, file, room, key, slot),
+        Access::Table(table) => {
+            tables.push(table, key);
+            Ok(())
+        }
+    }
 }

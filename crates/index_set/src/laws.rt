@@ -3,9 +3,11 @@
 #![tactic(auto)]
 
 ghost use Rattle.std.specs.Prelude.{◌≡◌, List};
+ghost use Rattle.afl_base.specs.Files.{State};
 ghost use Rattle.db_model.specs.Row.{Row};
 ghost use Rattle.index_set.specs.declared.candidates.Candidates.{Candidates as AnyCandidates};
-ghost use Rattle.index_set.specs.Walks.{RowsGrow, Waits, ahead};
+ghost use Rattle.index_set.specs.Tables.{Tables};
+ghost use Rattle.index_set.specs.Walks.{Fits, HasGrown, RowsGrow, Waits, ahead};
 
 /// The slots to come are the same where rows come behind the others.
 #[tactic(auto, using(crate::proofs::Grown::ahead_kept))]
@@ -19,4 +21,12 @@ pub fn ahead_where_rows_come()
 pub fn waits_where_rows_come()
     ensures { (c : AnyCandidates) (old new : List Row) → RowsGrow old new → Waits c old
         → Waits c new }
+{}
+
+/// Candidates stand where they should, and have the same slots to come, after inserts into their index.
+#[tactic(auto, using(crate::proofs::Grown::fits_kept))]
+pub fn fits_where_rows_are_inserted()
+    ensures { (c : AnyCandidates) (before now : State) (tables tables_now : Tables) (old new : List Row)
+        → RowsGrow old new → HasGrown c.search before now tables_now new → Fits c before tables old
+        → Fits c now tables_now new }
 {}

@@ -6,9 +6,9 @@ ghost use Rattle.std.specs.Prelude.{◌≡◌, ◌≢◌, ◌+◌, ◌*◌, ◌<
 ghost use Rattle.std.specs.List.{range_with_len};
 ghost use Rattle.afl_base.specs.Causes.{HasCause};
 ghost use Rattle.afl_base.specs.KeyColumn.{HasField, IsWidth, key_of};
-ghost use Rattle.index_memhash.specs.Keys.{HasNone, IsFirstOf};
 ghost use Rattle.index_set.specs.declared.info.TableId.{TableId as AnyTable};
 ghost use Rattle.index_set.specs.Tables.{entries};
+ghost use Rattle.index_tree.specs.Keys.{HasNone, IsFirstOf};
 
 use crate::info::TableId;
 use afl_base::{Failed, Files, KeyColumn, SlotNo};
@@ -77,7 +77,19 @@ impl HashTables {
         Ok(())
     }
 
+    // The number of keys in a table.
+    pub(crate) fn len(&self, table: TableId) -> u16
+        ensures len { result ≡ length (entries self.now table) }
+        ensures few { result ≤ 2048 }
+    {
+        match table {
+            TableId::First => self.first.len(),
+            TableId::Second => self.second.len(),
+        }
+    }
+
     // The first slot of the key, from one on.
+    #[tactic(auto, using(crate::proofs::Nexts::first_same))]
     pub(crate) fn next(&self, table: TableId, key: &i32, from: u16) -> Option<SlotNo>
         ensures { MatchOption result (HasNone key.now (entries self.now table) from) (λ slot. IsFirstOf key.now (entries self.now table) from slot) }
     {

@@ -6,7 +6,7 @@ use Rattle.db_model.specs.declared.commands.Command.{Command}
 use Rattle.db_model.specs.declared.commands.Command.TheVariants as command
 use Rattle.db_model.specs.declared.schemas.IndexKind.TheVariants.{Inline, MaxHeap, MemHash}
 use Rattle.db_model.specs.Catalog.{Index}
-use Rattle.db_model.specs.Cost.{added}
+use Rattle.db_model.specs.Cost.{sum}
 use Rattle.db_model.specs.Database.{Relation, Database, relation_named, indexes_of, used}
 use Rattle.db_model.specs.HashTree.{buckets}
 use Rattle.db_model.specs.Item.{place_of}
@@ -46,7 +46,7 @@ touched size = fit size / 8 + 1
 -- the sectors that the active extents touch at most, beside a catalog and files of these sizes: each file's while it is
 -- copied, the catalog's, and a log's of each file
 abbrev pub touched_by : List ℕ → ℕ
-touched_by sizes = added (map touched sizes) + 2 + 2 * (1 + length sizes)
+touched_by sizes = sum (map touched sizes) + 2 + 2 * (1 + length sizes)
 
 -- sectors with which an extent of n pages can always be had beside them: between the active extents of f files lie at most
 -- 2f + 1 gaps

@@ -1,5 +1,5 @@
 -- A sound table of files takes fewer sectors than are enough for its database.
-use Rattle.std.proofs.Common.{◌≡◌, ℕ, ◌+◌, ◌<◌, ◌≤◌, ⊎_elim, inl, inr, List, length, Option, Some, None, sym, ◌∙◌, ap}
+use Rattle.std.proofs.Common.{◌≡◌, ℕ, ◌+◌, ◌<◌, ◌≤◌, inl, inr, length, Option, Some, None, sym, ◌∙◌}
 use Rattle.afl_base.specs.Files.{AreDistinct, Table}
 use Rattle.afl_base.specs.Shares.{gap_for, shares}
 use Rattle.space_model.specs.Enough.{enough}

@@ -1,19 +1,17 @@
 -- The files of a database take no more than the sectors that are counted for it.
-use Rattle.std.proofs.Common.{◌≡◌, ◌≢◌, ℕ, zero, suc, ◌+◌, ◌-◌, ◌*◌, ◌/◌, ◌<◌, ◌≤◌, ⊎_elim, ◌⊎◌, inl, inr, List, [], ◌∷◌, ◌++◌, length, map, get_or, Option, Some, None, refl, ap, sym, subst, ◌∙◌, arith}
+use Rattle.std.proofs.Common.{◌≡◌, ℕ, zero, suc, ◌+◌, ◌*◌, ◌<◌, ◌≤◌, ◌⊎◌, inl, inr, List, [], ◌∷◌, ◌++◌, length, map, get_or, Option, Some, None, refl, ap, sym, ◌∙◌, arith}
 use Rattle.std.specs.Prelude.{unwrap_or}
-use Rattle.std.proofs.lemmas.List.{length-append, length-map}
-use Rattle.afl_base.specs.Files.{AreDistinct, File, Table, place}
-use Rattle.afl_base.specs.declared.kind.Kind.TheVariants.{Doubling, Fixed}
+use Rattle.afl_base.specs.Files.{AreDistinct, File, Table}
 use Rattle.db_model.specs.declared.schemas.IndexKind.{IndexKind}
 use Rattle.db_model.specs.declared.schemas.IndexKind.TheVariants.{Inline, MaxHeap, MemHash}
 use Rattle.db_model.specs.Catalog.{Index}
-use Rattle.db_model.specs.Cost.{added}
+use Rattle.db_model.specs.Cost.{sum}
 use Rattle.db_model.specs.Database.{Relation, Database, used}
 use Rattle.db_model.specs.Step.{keys}
 use Rattle.space_model.specs.Enough.{enough, file_sizes, index_sizes, rows_in, rows_size, touched, tree_size, tree_sizes}
 use Rattle.space_model.specs.FileNames.{catalog_file, rows_file, tree_file}
 use Rattle.stored.specs.Sizes.{HasFilesOf, IsCatalogFile, IsRowsOf, IsTreeFileOf}
-use Rattle.afl_base.specs.Shares.{file_share, gap_for, shares, touched_of}
+use Rattle.afl_base.specs.Shares.{file_share, gap_for, shares}
 use Rattle.stored.proofs.TableSums.{named_part, over, over_le, over_one, over_sum, over_zero, part_here}
 
 -- what a growing file of so many bytes takes
@@ -28,7 +26,7 @@ size_shares-append : (gap : ℕ) (xs ys : List ℕ) → size_shares gap (xs ++ y
 size_shares-append gap [] ys = omega arith
 size_shares-append gap (x ∷ xs) ys = let e = size_shares-append gap xs ys in omega (arith, e)
 
-size_shares_are : (gap : ℕ) (sizes : List ℕ) → size_shares gap sizes ≡ added (map touched sizes) + 2 * length sizes + 2 * (length sizes * gap)
+size_shares_are : (gap : ℕ) (sizes : List ℕ) → size_shares gap sizes ≡ sum (map touched sizes) + 2 * length sizes + 2 * (length sizes * gap)
 size_shares_are gap [] = let none : 0 * gap ≡ 0 = grind arith in omega (arith, none)
 size_shares_are gap (size ∷ sizes) =
     let e = size_shares_are gap sizes in

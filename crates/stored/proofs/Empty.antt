@@ -1,5 +1,5 @@
 -- No files are a sound and empty database.
-use Rattle.std.proofs.Common.{◌≡◌, ℕ, zero, suc, ◌<◌, List, [], ◌∷◌, replicate, get_or, Option, Some, None, refl, sym, ◌∙◌}
+use Rattle.std.proofs.Common.{◌≡◌, ℕ, zero, suc, replicate, get_or, Option, Some, None, refl, sym, ◌∙◌}
 use Rattle.afl_base.specs.Files.{Table}
 use Rattle.catalog.specs.Rules.{breaks_files, breaks_index, breaks_relation, broken_catalog, first, first_broken}
 use Rattle.db_model.specs.Database.{empty_database}

@@ -1,5 +1,5 @@
 -- The files of a sound image are those of the database that it stands for.
-use Rattle.std.proofs.Common.{◌≡◌, ◌≢◌, ℕ, zero, suc, ◌+◌, ◌-◌, ◌*◌, ◌<◌, ◌≤◌, ⊎_elim, ◌⊎◌, inl, inr, Bool, true, false, not, ◌&&◌, ◌||◌, ◌==◌, nat_lt, nat_le, List, [], ◌∷◌, ◌++◌, length, map, get_or, Option, Some, None, if◌then◌else◌, refl, ap, sym, subst, ◌∙◌, arith}
+use Rattle.std.proofs.Common.{◌≡◌, ℕ, zero, suc, ◌+◌, ◌-◌, ◌*◌, ◌<◌, ◌≤◌, ⊎_elim, ◌⊎◌, inl, inr, Bool, true, false, not, ◌&&◌, ◌||◌, ◌==◌, nat_lt, nat_le, List, [], ◌∷◌, length, map, get_or, Option, Some, None, if◌then◌else◌, refl, ap, sym, subst, ◌∙◌, arith}
 use Rattle.std.specs.Prelude.{is_some, option_map, flat_map, unwrap_or}
 use Rattle.std.specs.Int.{is_in_range}
 use Rattle.std.specs.List.{range_with_len}
@@ -7,9 +7,9 @@ use Rattle.std.specs.Str.{bytes_eq}
 use Rattle.std.proofs.lemmas.Bool.{cases_lt}
 use Rattle.std.proofs.lemmas.Bool.Decides.{nat_tests}
 use Rattle.std.proofs.lemmas.List.{get_or_past, length-append, length-map}
-use Rattle.std.proofs.lemmas.List.FromFn.{get_or-map-range_with_len, length-map-range_with_len}
+use Rattle.std.proofs.lemmas.List.FromFn.{get_or-map-range_with_len}
 use Rattle.std.proofs.lemmas.Slice.Eq.{bytes_eq-Decides}
-use Rattle.afl_base.specs.Files.{AreDistinct, File, IsNamed, Table, place}
+use Rattle.afl_base.specs.Files.{AreDistinct, File, Table, place}
 use Rattle.afl_base.specs.declared.kind.Kind.{Kind}
 use Rattle.afl_base.specs.declared.kind.Kind.TheVariants.{Doubling, Fixed}
 use Rattle.db_model.specs.declared.schemas.Attribute.{Attribute}
@@ -17,11 +17,9 @@ use Rattle.db_model.specs.declared.schemas.IndexKind.{IndexKind}
 use Rattle.db_model.specs.declared.schemas.IndexKind.TheVariants.{Inline, MaxHeap, MemHash}
 use Rattle.db_model.specs.declared.schemas.Schema.{Schema}
 use Rattle.db_model.specs.Catalog.{Index}
-use Rattle.db_model.specs.Database.{Database, Relation}
-use Rattle.db_model.specs.Row.{Row, row_at, row_bytes, row_length, rows_bytes, rows_of, slots_in}
-use Rattle.db_model.specs.Step.{keys}
+use Rattle.db_model.specs.Database.{Relation}
+use Rattle.db_model.specs.Row.{row_at, row_bytes, row_length, rows_of, slots_in}
 use Rattle.db_model.proofs.Decoded.{length-row_read}
-use Rattle.space_model.specs.Enough.{rows_in, rows_size, tree_size}
 use Rattle.space_model.specs.FileNames.{catalog_file, rows_file, tree_file}
 use Rattle.tuple_file.specs.Tuples.{AreRows}
 use Rattle.stored.specs.Sound.{IsComplete, IsSoundTable, keys_in}
@@ -32,7 +30,7 @@ use Rattle.catalog.specs.Rules.{catalog_in}
 use Rattle.catalog.specs.Rules.{breaks_files, broken_at, broken_catalog, catalog_bytes_in, differ, earliest, first, first_broken, is_numbered, is_of_database, is_stranger, is_tree}
 use Rattle.space_model.specs.FileNames.{bytes_of, file_named, is_there}
 use Rattle.space_model.proofs.NamedFiles.{named_here}
-use Rattle.stored.specs.Sizes.{HasFilesOf, IsCatalogFile, IsRowsOf, IsTreeFileOf}
+use Rattle.stored.specs.Sizes.{HasFilesOf, IsRowsOf, IsTreeFileOf}
 
 -- files stand under the ids 0 to 31 alone
 abbrev pub AreInTable : Table → Type 0
@@ -196,7 +194,7 @@ length-read attributes bytes (k ∷ slots) =
     let more : row_length attributes * (1 + length slots) ≡ row_length attributes + row_length attributes * length slots = grind arith in
     omega (arith, rest, here, all, more)
 
-whole_rows : (version : ℕ) (attributes : List Attribute) (bytes : List ℕ) → AreRows version attributes bytes → length bytes ≡ row_length attributes * length (rows_of attributes bytes)
+pub whole_rows : (version : ℕ) (attributes : List Attribute) (bytes : List ℕ) → AreRows version attributes bytes → length bytes ≡ row_length attributes * length (rows_of attributes bytes)
 whole_rows version attributes bytes r =
     let size = length-read attributes bytes (range_with_len 0 (slots_in attributes bytes)) in
     let slots : length (rows_of attributes bytes) ≡ length (range_with_len 0 (slots_in attributes bytes)) = length-map (range_with_len 0 (slots_in attributes bytes)) (row_at attributes bytes) in

@@ -1,19 +1,18 @@
 -- Which files stand beside a sound catalog, and that they are few.
-use Rattle.std.proofs.Common.{◌≡◌, ◌≢◌, ℕ, zero, suc, ◌+◌, ◌-◌, ◌<◌, ◌≤◌, ⊎_elim, ◌⊎◌, inl, inr, Bool, true, false, not, ◌&&◌, ◌||◌, ◌==◌, List, [], ◌∷◌, length, get_or, Option, Some, None, if◌then◌else◌, refl, ap, sym, subst, ◌∙◌, arith}
+use Rattle.std.proofs.Common.{◌≡◌, ℕ, zero, suc, ◌+◌, ◌<◌, ◌≤◌, ⊎_elim, ◌⊎◌, inl, inr, Bool, true, false, not, ◌&&◌, ◌||◌, ◌==◌, List, [], ◌∷◌, length, get_or, Option, Some, None, if◌then◌else◌, refl, ap, sym, subst, ◌∙◌, arith}
 use Rattle.std.specs.Prelude.{is_some, option_map, slice_range, unwrap_or}
 use Rattle.std.specs.Str.{bytes_eq}
-use Rattle.std.proofs.lemmas.Bool.{cases_lt, cases_eq}
+use Rattle.std.proofs.lemmas.Bool.{cases_lt}
 use Rattle.std.proofs.lemmas.Bool.Decides.{nat_tests}
-use Rattle.afl_base.specs.Files.{AreDistinct, File, IsLive, IsNamed, IsUnnamed, Table, bytes_at, file_at, name_at, no_file, place, size_at, used}
-use Rattle.afl_base.specs.declared.kind.Kind.{Kind}
+use Rattle.afl_base.specs.Files.{AreDistinct, File, IsLive, IsNamed, IsUnnamed, Table, file_at, no_file, place, used}
 use Rattle.afl_base.specs.declared.kind.Kind.TheVariants.{Doubling, Fixed}
 use Rattle.catalog.specs.CatalogFile.{IsCatalogSize}
-use Rattle.catalog.specs.Rules.{breaks_files, breaks_index, breaks_relation, broken_at, broken_catalog, catalog_bytes_in, catalog_in, differ, earliest, first, first_broken, first_slot, has_form, is_of_database, is_stranger, is_tree}
+use Rattle.catalog.specs.Rules.{breaks_files, breaks_index, breaks_relation, broken_at, broken_catalog, catalog_bytes_in, catalog_in, differ, first_broken, first_slot, has_form, is_of_database, is_stranger, is_tree}
 use Rattle.db_model.specs.Catalog.{version_mark}
 use Rattle.space_model.specs.FileNames.{bytes_of, catalog_file, file_named, is_there, rows_file, tree_file}
 use Rattle.space_model.specs.Wants.{IsGrowing, IsOfSixPages}
 use Rattle.space_model.proofs.NamedFiles.{named_found, named_place}
-use Rattle.stored.specs.Files.{HasCatalog, HasGrowing, HasItsFiles, IsMatched}
+use Rattle.stored.specs.Files.{HasCatalog, HasItsFiles, IsMatched}
 use Rattle.stored.proofs.FilesOf.{AreInTable, IsNumbered, Unbroken, by_kind, earliest_none, first_false, in_table, nothing_broken, rows_wanted, tree_wanted, unbroken}
 use Rattle.stored.proofs.TableSums.{named_part, over, over_le, over_one, over_sum, over_zero, part_here}
 

@@ -4,4 +4,9 @@ pub mod DatabaseShares
 pub mod FilesOf
 pub mod HasFiles
 pub mod SameBase
+pub mod SoundBase
+pub mod SoundSlots
+pub mod StoreOf
 pub mod TableSums
+pub mod WorkedBase
+pub mod WrittenBytes

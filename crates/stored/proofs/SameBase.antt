@@ -1,28 +1,23 @@
 -- The database that files stand for does not depend on their order.
-use Rattle.std.proofs.Common.{◌≡◌, ℕ, zero, suc, ◌+◌, ◌-◌, ◌<◌, ◌≤◌, ⊎_elim, ◌⊎◌, inl, inr, Bool, true, false, not, ◌==◌, List, [], ◌∷◌, length, map, get_or, Option, Some, None, if◌then◌else◌, refl, ap, sym, subst, ◌∙◌, arith}
-use Rattle.std.specs.Prelude.{is_some, option_map, unwrap_or}
+use Rattle.std.proofs.Common.{◌≡◌, ℕ, zero, suc, ◌-◌, ◌<◌, Bool, false, not, List, [], ◌∷◌, map, get_or, Option, Some, None, if◌then◌else◌, refl, ap, sym, subst, ◌∙◌, arith}
+use Rattle.std.specs.Prelude.{is_some, option_map}
 use Rattle.std.specs.List.{range_with_len}
-use Rattle.std.specs.Str.{bytes_eq}
-use Rattle.std.proofs.lemmas.Bool.{cases_lt}
-use Rattle.std.proofs.lemmas.List.{get_or_past}
-use Rattle.std.proofs.lemmas.Slice.Eq.{bytes_eq-Decides}
 use Rattle.afl_base.specs.Files.{AreDistinct, File, Table, place}
-use Rattle.db_model.specs.declared.schemas.IndexKind.TheVariants.{MaxHeap}
 use Rattle.db_model.specs.declared.schemas.Schema.{Schema}
 use Rattle.db_model.specs.Catalog.{Index, catalog_of}
 use Rattle.db_model.specs.Database.{Database, Relation}
 use Rattle.db_model.specs.Row.{rows_of}
 use Rattle.db_model.specs.Step.{keys}
-use Rattle.space_model.specs.Enough.{rows_in, tree_size}
+use Rattle.space_model.specs.Enough.{rows_in}
 use Rattle.space_model.specs.FileNames.{catalog_file, rows_file, tree_file}
 use Rattle.tuple_file.specs.Tuples.{AreRows}
 use Rattle.stored.specs.Sound.{IsComplete, IsSoundTable}
 use Rattle.space_model.specs.FileNames.{bytes_named}
 use Rattle.stored.specs.Base.{base_of, relation_in}
 use Rattle.catalog.specs.Rules.{catalog_in}
-use Rattle.catalog.specs.Rules.{breaks_files, broken_at, broken_catalog, catalog_bytes_in, differ, earliest, first, first_broken, is_of_database, is_stranger, is_tree}
+use Rattle.catalog.specs.Rules.{breaks_files, broken_at, broken_catalog, catalog_bytes_in, earliest, first, first_broken, is_of_database, is_stranger}
 use Rattle.space_model.specs.FileNames.{bytes_of, file_named, is_there}
-use Rattle.stored.specs.Same.{HasLike, HaveSameFiles}
+use Rattle.stored.specs.Same.{HaveSameFiles}
 use Rattle.space_model.proofs.NamedFiles.{named_here, named_place}
 use Rattle.stored.proofs.FilesOf.{AreInTable, first_false, unbroken}
 

@@ -1,5 +1,5 @@
 -- Which files stand beside a sound catalog.
-use Rattle.std.specs.Prelude.{◌≡◌, ◌≤◌, ◌<◌, ◌⊎◌, ℕ, Bool, true, false, List, get_or, None, is_some}
+use Rattle.std.specs.Prelude.{◌≤◌, ◌<◌, ◌⊎◌, ℕ, Bool, true, false, List, get_or, None, is_some}
 use Rattle.afl_base.specs.Files.{IsLive, IsNamed, IsUnnamed, Table, size_at, used}
 use Rattle.catalog.specs.CatalogFile.{IsCatalogSize}
 use Rattle.catalog.specs.Rules.{catalog_in, is_tree}

@@ -7,7 +7,10 @@ ghost use Rattle.afl_base.specs.Files.{AreDistinct, Table};
 ghost use Rattle.afl_base.specs.Shares.{gap_for, shares};
 ghost use Rattle.catalog.specs.Rules.{first_broken};
 ghost use Rattle.db_model.specs.Database.{empty_database};
+ghost use Rattle.db_model.specs.Sound.{IsSoundDatabase};
 ghost use Rattle.space_model.specs.Enough.{enough};
+ghost use Rattle.space_model.specs.FileNames.{size_in};
+ghost use Rattle.space_model.specs.Wants.{IsStoreOf};
 ghost use Rattle.stored.specs.Base.{base_of};
 ghost use Rattle.stored.specs.Files.{HasItsFiles};
 ghost use Rattle.stored.specs.Same.{HaveSameFiles};
@@ -43,4 +46,15 @@ pub fn sound_catalogs_have_their_files()
 pub fn no_files_are_an_empty_database()
     ensures base { base_of (replicate 32 None) ≡ empty_database }
     ensures sound { IsSoundTable (replicate 32 None) }
+{}
+
+/// Sound files stand for a sound database.
+pub fn sound_files_are_a_sound_database()
+    ensures { (files : Table) → IsSoundTable files → IsSoundDatabase (base_of files) }
+{}
+
+/// Sound files have the sizes that their database says.
+pub fn sound_files_have_their_sizes()
+    ensures { (files : Table) → length files ≡ 32 → AreDistinct files → IsSoundTable files
+        → IsStoreOf (size_in files) (base_of files) }
 {}

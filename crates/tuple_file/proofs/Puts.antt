@@ -1,7 +1,7 @@
 -- Writes into bytes, one behind another.
-use Rattle.std.proofs.Common.{◌≡◌, add-zero, ℕ, ◌+◌, ◌-◌, ◌≤◌, List, [], ◌∷◌, ◌++◌, length, take, drop, get_or, set, refl, sym, ap, subst, ◌∙◌, arith, append_assoc}
+use Rattle.std.proofs.Common.{◌≡◌, ℕ, ◌+◌, ◌-◌, ◌≤◌, List, [], ◌∷◌, ◌++◌, length, take, drop, get_or, set, sym, ap, subst, ◌∙◌, arith, append_assoc}
 use Rattle.std.proofs.lemmas.Grind.{common_steps}
-use Rattle.std.proofs.lemmas.List.{append-nil, drop-drop, drop-take, drop_at, length-append, length-take-le, set_at, take_at, take-append-drop, take-append-le, take-take}
+use Rattle.std.proofs.lemmas.List.{drop-drop, drop-take, drop_at, length-append, length-take-le, set_at}
 use Rattle.std.proofs.Math.Seq.{get_or-append_seam}
 use Rattle.afl_base.specs.Fields.{put_at}
 use Rattle.afl_base.proofs.PutLaws.{take-put_at}

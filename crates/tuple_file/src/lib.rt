@@ -8,4 +8,3 @@ mod rows;
 mod tuples;
 
 pub use tuples::Tuples;
-

@@ -1,7 +1,9 @@
-use Rattle.std.proofs.Common.{arith, ◌≡◌, ◌+◌, ◌-◌, ◌/◌, ◌≤◌, length, take, drop, None, Some, refl, ap, sym, subst}
+use Rattle.std.proofs.Common.{arith, ◌≡◌, ◌+◌, ◌-◌, ◌*◌, ◌/◌, ◌≤◌, length, take, drop, None, Some, refl, ap, sym, subst}
 use Rattle.std.proofs.lemmas.List.{length-drop, length-take}
 use Rattle.coffee_layout.specs.FileBytes.{last_in, table_of}
 use Rattle.coffee_log.specs.FileChanges.{FileBecomes, IsFile}
+use Rattle.coffee_log.specs.Logs.{AddsRecords}
+use Rattle.coffee_log.proofs.AddedRecords.{adds_kept, adds_none, range_apart}
 use Rattle.coffee_log.proofs.Appends.{plain_end}
 use Rattle.coffee_log.proofs.FileSteps.{append_two}
 use Rattle.coffee_log.proofs.contents.append_logged.Goals as goal
@@ -25,3 +27,20 @@ returns-clause-becomes g c = λ t is.
     (plain_end (g.F.Flash.image c.put_part.new.flash) c.args.page.0 c.args.pages c.args.log (c.args.used + 1) (c.args.at + c.min-n.result) put.kept (omega arith)))
     (omega arith) (omega (arith, size0, c.in_ok-put_part.ensures.size)))
     refl refl refl low (omega arith) (omega arith)
+
+pub returns-clause-adds : goal.returns-clause-adds
+returns-clause-adds g c = λ t is.
+    let was : IsFile (g.F.Flash.image c.is_logged.new.flash) c.args.page.0 c.args.pages (Some c.args.log) c.args.used c.args.at = subst (λ i. IsFile i c.args.page.0 c.args.pages (Some c.args.log) c.args.used c.args.at) (sym c.in_ok-is_logged.ensures.same) is in
+    let front : length (take c.min-n.result c.args.bytes.now) ≡ c.min-n.result = omega (arith, length-take c.min-n.result c.args.bytes.now) in
+    let rest : length (take (length c.args.bytes.now - c.min-n.result) (drop c.min-n.result c.args.bytes.now)) ≡ length c.args.bytes.now - c.min-n.result =
+    omega (arith, length-take (length c.args.bytes.now - c.min-n.result) (drop c.min-n.result c.args.bytes.now), length-drop c.min-n.result c.args.bytes.now) in
+    adds_kept (g.F.Flash.image c.args.flash.now) (g.F.Flash.image c.put_part.new.flash) (g.F.Flash.image c.append_plain-2.new.flash) c.args.log.0 c.args.used (c.args.used + 1) (c.args.at / 128) (256 * c.args.pages - 32) (omega arith)
+    (subst (λ i. AddsRecords i (g.F.Flash.image c.put_part.new.flash) c.args.log.0 c.args.used (c.args.used + 1) (c.args.at / 128) (256 * c.args.pages - 32)) c.in_ok-is_logged.ensures.same (c.in_ok-put_part.ensures.adds t (was.logged c.args.log refl)))
+    (range_apart (g.F.Flash.image c.put_part.new.flash) (g.F.Flash.image c.append_plain-2.new.flash) c.args.page.0 c.args.pages (c.args.at + c.min-n.result) _ c.args.log.0 (is.apart c.args.log refl) (omega arith) (c.in_ok-append_plain-2.ensures.others t))
+
+pub returns-then-not-branch-clause-adds : goal.returns-then-not-branch-clause-adds
+returns-then-not-branch-clause-adds g c = λ t is.
+    let none = adds_none (g.F.Flash.image c.args.flash.now) c.args.log.0 c.args.used (c.args.at / 128) (256 * c.args.pages - 32) (is.logged c.args.log refl) in
+    adds_kept (g.F.Flash.image c.args.flash.now) (g.F.Flash.image c.is_logged.new.flash) (g.F.Flash.image c.append_plain.new.flash) c.args.log.0 c.args.used c.args.used (c.args.at / 128) (256 * c.args.pages - 32) (omega arith)
+    (subst (λ i. AddsRecords (g.F.Flash.image c.args.flash.now) i c.args.log.0 c.args.used c.args.used (c.args.at / 128) (256 * c.args.pages - 32)) (sym c.in_ok-is_logged.ensures.same) none)
+    (range_apart (g.F.Flash.image c.is_logged.new.flash) (g.F.Flash.image c.append_plain.new.flash) c.args.page.0 c.args.pages c.args.at _ c.args.log.0 (is.apart c.args.log refl) (omega arith) (c.in_ok-append_plain.ensures.others t))

@@ -1,4 +1,4 @@
-use Rattle.std.proofs.Common.{◌+◌, ◌-◌, ◌*◌, ◌/◌, arith, ◌∙◌}
+use Rattle.std.proofs.Common.{◌-◌, ◌*◌, ◌/◌, arith, ◌∙◌}
 use Rattle.std.proofs.lemmas.List.{get_or-replicate}
 use Rattle.coffee_log.proofs.AddedRecords.{part_adds}
 use Rattle.coffee_log.proofs.ContentLaws.{put_here, put_outside}

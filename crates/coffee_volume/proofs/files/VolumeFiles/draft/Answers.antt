@@ -1,7 +1,9 @@
-use Rattle.std.proofs.Common.{◌≡◌, ◌≤◌, ◌+◌, ◌*◌, ◌&&◌, not, IsTrue, false, refl, subst, arith}
+use Rattle.std.proofs.Common.{◌≡◌, ℕ, ◌≤◌, ◌+◌, ◌*◌, ◌&&◌, not, IsTrue, false, refl, sym, subst, arith}
 use Rattle.afl_base.specs.Fit.{fit}
 use Rattle.coffee_layout.specs.Units.{pages_of}
 use Rattle.coffee_merge.specs.Holding.{Holds, extent_of}
+use Rattle.coffee_merge.specs.Takes.{LooksIn}
+use Rattle.coffee_volume.specs.Lowest.{PlacesDraft}
 use Rattle.coffee_layout.specs.declared.file.FileAt.{FileAt}
 use Rattle.afl_base.specs.declared.kind.Kind.TheVariants.{Doubling}
 use Rattle.coffee_volume.specs.Volumes.{IsPending, places}
@@ -9,7 +11,7 @@ use Rattle.coffee_volume.proofs.Changes.{lacks_stayed, seen_begun, seen_stayed, 
 use Rattle.coffee_volume.proofs.Drafted.{begun_pending, fit_shape}
 use Rattle.coffee_volume.proofs.Standing.{same_pages}
 use Rattle.coffee_volume.proofs.States.{none_drafted}
-use Rattle.coffee_volume.proofs.Takings.{begun_taken, stayed_taken}
+use Rattle.coffee_volume.proofs.Takings.{begun_lowest, begun_taken, stayed_looked, stayed_taken}
 use Rattle.coffee_volume.proofs.files.VolumeFiles.draft.Goals as goal
 
 pub begin_extent-requires-clause-shape : goal.begin_extent-requires-clause-shape
@@ -78,3 +80,23 @@ returns-in-Err-Space-clause-untaken g c =
     let old = g.F.Flash.image v.flash in
     let idle = none_drafted (g.F.Flash.tells && not v.failed) old v.draft c.requires.idle in
     stayed_taken g.F.Flash.tells v.failed old (g.F.Flash.image c.begin_extent.new.flash) v.table v.draft idle v.told (rw c.in-Err-Space.field-0-is at c.in-Err-Space.ensures.untaken)
+
+pub returns-in-Ok-clause-lowest : goal.returns-in-Ok-clause-lowest
+returns-in-Ok-clause-lowest g c = λ told.
+    let v = c.args.self.now in
+    let old = g.F.Flash.image v.flash in
+    let new = g.F.Flash.image c.begin_extent.new.flash in
+    let idle = none_drafted (g.F.Flash.tells && not v.failed) old v.draft c.requires.idle in
+    subst (λ (n : ℕ). PlacesDraft c.args.name n old new) c.fit-pages.ensures.value
+    (begun_lowest g.F.Flash.tells v.failed old new v.table v.draft c.args.name c.in-Ok.page.0 c.fit-pages.result c.args.size idle v.told c.fit-pages.ensures.least.holds c.in-Ok.ensures.begun c.in-Ok.ensures.lowest told)
+
+pub returns-in-Err-Space-clause-looked : goal.returns-in-Err-Space-clause-looked
+returns-in-Err-Space-clause-looked g c =
+    let v = c.args.self.now in
+    let old = g.F.Flash.image v.flash in
+    let new = g.F.Flash.image c.begin_extent.new.flash in
+    let idle = none_drafted (g.F.Flash.tells && not v.failed) old v.draft c.requires.idle in
+    let need : c.in-Err-Space.need ≡ c.fit-pages.result = rw c.in-Err-Space.field-0-is at c.in-Err-Space.ensures.need in
+    rw c.in-Err-Space.field-0-is
+    (λ told. subst (λ (n : ℕ). LooksIn old new n) (sym need)
+    (stayed_looked g.F.Flash.tells v.failed old new v.table v.draft c.fit-pages.result idle v.told (rw c.in-Err-Space.field-0-is at c.in-Err-Space.ensures.looked) told))

@@ -1,6 +1,6 @@
-use Rattle.std.proofs.Common.{◌&&◌, not, [], false, arith}
+use Rattle.std.proofs.Common.{◌&&◌, not, false}
 use Rattle.coffee_volume.proofs.DraftWrites.{last_byte}
-use Rattle.coffee_volume.proofs.Tables.{unnamed_entries, used_seen}
+use Rattle.coffee_volume.proofs.Tables.{free_entry, unnamed_entries}
 use Rattle.coffee_volume.proofs.files.VolumeFiles.draft_commit.Goals as goal
 
 pub replace_by-requires-clause-last : goal.replace_by-requires-clause-last
@@ -12,8 +12,8 @@ pub free_in-id-requires-clause-free : goal.free_in-id-requires-clause-free
 free_in-id-requires-clause-free g c =
     let v = c.args.self.now in
     let d = c.drafted-draft.result in
-    let few = v.space d c.drafted-draft.ensures (unnamed_entries false (g.F.Flash.image v.flash) v.table d.name c.in-None.ensures.none) in
-    omega (arith, few, used_seen false false [] (g.F.Flash.image v.flash) v.table)
+    let none = unnamed_entries false (g.F.Flash.image v.flash) v.table d.name c.in-None.ensures.none in
+    free_entry false (g.F.Flash.image v.flash) v.table v.count (v.space d c.drafted-draft.ensures none)
 
 pub add-requires-clause-last : goal.add-requires-clause-last
 add-requires-clause-last g c =

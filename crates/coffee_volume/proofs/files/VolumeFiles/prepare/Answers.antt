@@ -2,11 +2,11 @@ use Rattle.std.proofs.Common.{◌≡◌, ◌∙◌, ◌&&◌, not, ℕ, None, ap
 use Rattle.std.specs.Prelude.{Err}
 use Rattle.std.proofs.lemmas.Result.{err_from_is_err_and}
 use Rattle.coffee_volume.specs.Rooms.{pages_asked}
-use Rattle.coffee_volume.specs.Volumes.{Entries, IsEntry}
+use Rattle.coffee_volume.specs.Volumes.{EntryTable, IsEntry}
 use Rattle.coffee_volume.proofs.Moved.{none_wanted}
 use Rattle.coffee_volume.proofs.Stepped.{asked_step}
 use Rattle.coffee_volume.proofs.Tables.{entry_seen}
-use Rattle.coffee_volume.proofs.Takings.{handed_on, nothing_taken, same_more, steps_taken}
+use Rattle.coffee_volume.proofs.Takings.{handed_on, nothing_taken, same_more, space_handed, steps_taken, turns_lowest}
 use Rattle.coffee_volume.proofs.files.VolumeFiles.prepare.Goals as goal
 
 pub returns-in_err-reshape-clause-still : goal.returns-in_err-reshape-clause-still
@@ -26,7 +26,7 @@ returns-in_err-provide_log-clause-still g c never =
     let had = entry_seen (g.F.Flash.tells && not v.failed) (g.F.Flash.image v.flash) v.table c.args.id c.requires.live in
     let none : pages_asked had.0.at w b ≡ None = none_wanted v.table c.args.id had.0 w b had.1 never in
     let first = c.reshape.ensures.still had.0 had.1 (asked_step had.0.at w b none) in
-    let still : IsEntry c.reshape.new.self.table c.args.id had.0 = subst (λ (t : Entries). IsEntry t c.args.id had.0) (sym first.1) had.1 in
+    let still : IsEntry c.reshape.new.self.table c.args.id had.0 = subst (λ (t : EntryTable). IsEntry t c.args.id had.0) (sym first.1) had.1 in
     c.provide_log.ensures.still had.0 still none ∙ first.0
 
 pub returns-clause-still : goal.returns-clause-still
@@ -37,7 +37,7 @@ returns-clause-still g c never =
     let had = entry_seen (g.F.Flash.tells && not v.failed) (g.F.Flash.image v.flash) v.table c.args.id c.requires.live in
     let none : pages_asked had.0.at w b ≡ None = none_wanted v.table c.args.id had.0 w b had.1 never in
     let first = c.reshape.ensures.still had.0 had.1 (asked_step had.0.at w b none) in
-    let still : IsEntry c.reshape.new.self.table c.args.id had.0 = subst (λ (t : Entries). IsEntry t c.args.id had.0) (sym first.1) had.1 in
+    let still : IsEntry c.reshape.new.self.table c.args.id had.0 = subst (λ (t : EntryTable). IsEntry t c.args.id had.0) (sym first.1) had.1 in
     ap g.F.Flash.image c.grant.ensures.flash ∙ c.provide_log.ensures.still had.0 still none ∙ first.0
 
 pub returns-clause-taken : goal.returns-clause-taken
@@ -57,7 +57,7 @@ returns-clause-taken g c =
     }))
 
 pub returns-in_err-provide_log-clause-taken : goal.returns-in_err-provide_log-clause-taken
-returns-in_err-provide_log-clause-taken g c = λ told.
+returns-in_err-provide_log-clause-taken g c =
     let v = c.args.self.now in
     let m = c.reshape.new.self in
     let n = c.provide_log.new.self in
@@ -66,13 +66,54 @@ returns-in_err-provide_log-clause-taken g c = λ told.
     let first = c.in_ok-reshape.ensures.contents in
     let said = err_from_is_err_and c.from_residual-in_err-provide_log.result c.from_residual-in_err-provide_log.ensures.1 in
     handed_on c.provide_log.result c.from_residual-in_err-provide_log.result c.in_err-provide_log.field-0.0 _ _ _ _ c.in_err-provide_log.was (said.1 ∙ ap (λ e. Err e) said.2)
-    c.provide_log.ensures.contents c.provide_log.ensures.kept (c.provide_log.ensures.untaken (first.tells ∙ told))
-    (λ second kept none. steps_taken g.F.Flash.tells v.failed m.failed n.failed (g.F.Flash.image v.flash) mid new v.table m.table n.table v.draft m.draft n.draft c.args.id
+    c.provide_log.ensures.contents c.provide_log.ensures.kept c.provide_log.ensures.untaken
+    (λ second kept none told. steps_taken g.F.Flash.tells v.failed m.failed n.failed (g.F.Flash.image v.flash) mid new v.table m.table n.table v.draft m.draft n.draft c.args.id
     (record {
       first = first;
       second = second;
       told = n.told;
       taken = c.in_ok-reshape.ensures.taken;
       more = same_more m.table n.table c.args.id kept;
-      then_taken = λ then d is. nothing_taken mid new d.at none;
+      then_taken = λ then d is. nothing_taken mid new d.at (none then);
     }) told)
+
+pub returns-clause-lowest : goal.returns-clause-lowest
+returns-clause-lowest g c =
+    let v = c.args.self.now in
+    let m = c.reshape.new.self in
+    let n = c.provide_log.new.self in
+    rw c.grant.ensures.flash
+    (turns_lowest g.F.Flash.tells v.failed m.failed n.failed (g.F.Flash.image v.flash) (g.F.Flash.image m.flash) (g.F.Flash.image n.flash) v.table m.table n.table v.draft m.draft n.draft c.args.id c.args.overwrites c.args.bytes
+    (record {
+      live = c.requires.live;
+      held = v.told;
+      first = c.in_ok-reshape.ensures.contents;
+      second = c.in_ok-provide_log.ensures.contents;
+      told = n.told;
+      lowest = c.in_ok-reshape.ensures.lowest;
+      then_lowest = c.in_ok-provide_log.ensures.lowest;
+    }))
+
+pub returns-in_err-reshape-clause-unasked : goal.returns-in_err-reshape-clause-unasked
+returns-in_err-reshape-clause-unasked g c never =
+    let v = c.args.self.now in
+    let w : ℕ = c.args.overwrites in
+    let b : ℕ = c.args.bytes in
+    let had = entry_seen (g.F.Flash.tells && not v.failed) (g.F.Flash.image v.flash) v.table c.args.id c.requires.live in
+    let none : pages_asked had.0.at w b ≡ None = none_wanted v.table c.args.id had.0 w b had.1 never in
+    let said = err_from_is_err_and c.from_residual.result c.from_residual.ensures.1 in
+    space_handed c.reshape.result c.from_residual.result c.in_err-reshape.field-0.0 _ c.in_err-reshape.was (said.1 ∙ ap (λ e. Err e) said.2)
+    (c.reshape.ensures.unasked had.0 had.1 (asked_step had.0.at w b none))
+
+pub returns-in_err-provide_log-clause-unasked : goal.returns-in_err-provide_log-clause-unasked
+returns-in_err-provide_log-clause-unasked g c never =
+    let v = c.args.self.now in
+    let w : ℕ = c.args.overwrites in
+    let b : ℕ = c.args.bytes in
+    let had = entry_seen (g.F.Flash.tells && not v.failed) (g.F.Flash.image v.flash) v.table c.args.id c.requires.live in
+    let none : pages_asked had.0.at w b ≡ None = none_wanted v.table c.args.id had.0 w b had.1 never in
+    let first = c.reshape.ensures.still had.0 had.1 (asked_step had.0.at w b none) in
+    let still : IsEntry c.reshape.new.self.table c.args.id had.0 = subst (λ (t : EntryTable). IsEntry t c.args.id had.0) (sym first.1) had.1 in
+    let said = err_from_is_err_and c.from_residual-in_err-provide_log.result c.from_residual-in_err-provide_log.ensures.1 in
+    space_handed c.provide_log.result c.from_residual-in_err-provide_log.result c.in_err-provide_log.field-0.0 _ c.in_err-provide_log.was (said.1 ∙ ap (λ e. Err e) said.2)
+    (c.provide_log.ensures.unasked had.0 still none)

@@ -60,7 +60,7 @@ returns-clause-committed g c =
     let holds : IsTrue g.F.Flash.tells → v.failed ≡ false → Holds old (places v.table) (Some d) = λ told fine. subst (λ (o : Option FileAt). Holds old (places v.table) o) c.requires.begun (v.told told fine) in
     let commits : IsTrue g.F.Flash.tells → v.failed ≡ false → Commits old new (places v.table) i d = λ told fine. c.in_ok-commit_extent.ensures.committed told (places v.table) d i (holds told fine) refl (omega (arith, inside, length_places v.table)) (free_place v.table i free) (new_name (g.F.Flash.tells && not v.failed) old v.table d.name unnamed) (c.requires.last (tells_by g.F.Flash.tells v.failed told fine)) in
     rw (c.number.ensures.value, c.requires.begun)
-    (seen_adds (g.F.Flash.tells && not v.failed) old new v.table i d inside free unnamed pending.kind pending.log
+    (seen_adds (g.F.Flash.tells && not v.failed) old new v.table i d inside free c.requires.lowest unnamed pending.kind pending.log
     (where_told g.F.Flash.tells v.failed _ (λ told fine. commit_turns old new v.table i d inside pending.used (holds told fine) (c.requires.last (tells_by g.F.Flash.tells v.failed told fine)) (commits told fine)))
     (where_told g.F.Flash.tells v.failed _ (λ told fine. (commits told fine).sets.others)))
 

@@ -6,6 +6,7 @@ use Rattle.coffee_layout.specs.Units.{pages_of}
 use Rattle.coffee_merge.specs.Holding.{Holds}
 use Rattle.coffee_volume.specs.Volumes.{AreRegular, places}
 use Rattle.coffee_volume.proofs.MountedTables.{mounted_holds, mounted_keep, mounted_length, mounted_rooms}
+use Rattle.coffee_volume.proofs.Tables.{seen_distinct}
 use Rattle.coffee_volume.proofs.volume.Volume.mount.Goals as goal
 
 pub invariant_of-result : goal.invariant_of-result
@@ -39,3 +40,9 @@ returns-in-Err-table_of-clause-bad g c = λ tells.
 
 pub returns-in-Ok-clause-rooms : goal.returns-in-Ok-clause-rooms
 returns-in-Ok-clause-rooms g c = λ id. mounted_rooms (g.F.Flash.tells && true) (g.F.Flash.image c.check.new.flash) c.in-Ok.table c.deref.result.now id c.in-Ok.ensures.table
+
+pub returns-in-Ok-clause-distinct : goal.returns-in-Ok-clause-distinct
+returns-in-Ok-clause-distinct g c =
+    let image = g.F.Flash.image c.args.flash in
+    seen_distinct (g.F.Flash.tells && true) (g.F.Flash.image c.check.new.flash) (pages_of image) c.in-Ok.table
+    (c.in-Ok.ensures.regular (pages_of image) (subst (λ fs. All (FitsIn (pages_of image)) fs) (sym c.deref.ensures.0) (rw c.in-Ok-Ok.field-0-is at c.in-Ok-Ok.ensures.fits)))

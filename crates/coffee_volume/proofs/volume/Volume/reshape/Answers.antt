@@ -1,8 +1,9 @@
-use Rattle.std.proofs.Common.{◌≡◌, ℕ, Some, ap, sym, subst, ◌∙◌, arith}
+use Rattle.std.proofs.Common.{◌≡◌, ℕ, Option, Some, ap, sym, subst, ◌∙◌, arith}
 use Rattle.std.proofs.lemmas.Result.{on_ok_weaker}
 use Rattle.afl_base.specs.Files.{File}
+use Rattle.coffee_volume.specs.Lowest.{StepsTo}
 use Rattle.coffee_volume.specs.Steps.{MayTake, NeedsFew, need_of, step_for}
-use Rattle.coffee_volume.specs.Volumes.{Asks, Entries, IsEntry}
+use Rattle.coffee_volume.specs.Volumes.{Asks, EntryTable, IsEntry}
 use Rattle.coffee_volume.specs.declared.entry.Entry.{Entry}
 use Rattle.coffee_volume.specs.declared.step.Step.{Step}
 use Rattle.coffee_volume.proofs.Stepped.{step_asks, step_done, step_may, step_needs}
@@ -35,10 +36,10 @@ returns-in-Some-clause-asked g c =
     let v = c.args.self.now in
     let e : Entry = c.entry-at.result in
     let step : Step = c.in-Some.step in
-    let same : Entries = c.take.new.self.table in
+    let same : EntryTable = c.take.new.self.table in
     space_with c.take.result (λ _. same ≡ v.table) (λ need. (x : Entry) → IsEntry v.table c.args.id x → need ≡ need_of step x.at) (λ need. Asks same c.args.id c.args.overwrites c.args.bytes need)
     (λ n kept need d is.
-    let here : IsEntry v.table c.args.id d = subst (λ (t : Entries). IsEntry t c.args.id d) kept is in
+    let here : IsEntry v.table c.args.id d = subst (λ (t : EntryTable). IsEntry t c.args.id d) kept is in
     let one = one_entry v.table c.args.id e d c.entry-at.ensures.entry here in
     let asks : step_for d.at c.args.overwrites c.args.bytes ≡ Some step = subst (λ (x : Entry). step_for x.at c.args.overwrites c.args.bytes ≡ Some step) one (sym c.step_for.ensures ∙ c.in-Some.is) in
     step_asks d.at c.args.overwrites c.args.bytes step asks ∙ ap (λ (k : ℕ). Some k) (sym (need d here)))
@@ -71,3 +72,15 @@ returns-in-Some-clause-need_fixed g c =
     (λ n need _ m is.
     omega (arith, need e c.entry-at.ensures.entry, needs.fixed m (sym (ap (λ (f : File). f.kind) c.entry-at.ensures.file) ∙ is)))
     c.take.ensures.need c.take.ensures.need
+
+pub returns-in-Some-clause-lowest : goal.returns-in-Some-clause-lowest
+returns-in-Some-clause-lowest g c =
+    let v = c.args.self.now in
+    let e : Entry = c.entry-at.result in
+    let step : Step = c.in-Some.step in
+    on_ok_weaker c.take.result
+    (λ lowest told x d was is.
+    let one = one_entry v.table c.args.id e x c.entry-at.ensures.entry was in
+    let asks : step_for x.at c.args.overwrites c.args.bytes ≡ Some step = subst (λ (y : Entry). step_for y.at c.args.overwrites c.args.bytes ≡ Some step) one (sym c.step_for.ensures ∙ c.in-Some.is) in
+    subst (λ (o : Option Step). StepsTo o (g.F.Flash.image v.flash) (g.F.Flash.image c.take.new.self.flash) x.at d.at) (sym asks) (lowest told x d was is))
+    c.take.ensures.lowest

@@ -1,14 +1,15 @@
-use Rattle.std.proofs.Common.{◌<◌, ◌&&◌, not, ℕ, Some, length, subst, arith}
+use Rattle.std.proofs.Common.{◌≡◌, ◌<◌, ◌&&◌, not, ℕ, Some, length, subst, arith}
 use Rattle.coffee_layout.specs.Files.{FitsIn}
 use Rattle.coffee_layout.specs.Units.{pages_of}
 use Rattle.coffee_layout.specs.declared.file.FileAt.{FileAt}
+use Rattle.coffee_volume.specs.Lowest.{StepsTo}
 use Rattle.coffee_volume.specs.Taking.{LiesIn}
 use Rattle.coffee_volume.specs.Volumes.{IsEntry, IsRegular, places, roomless}
 use Rattle.coffee_volume.specs.declared.entry.Entry.{Entry}
 use Rattle.coffee_volume.proofs.Moved.{kept_becomes, moved_becomes}
 use Rattle.coffee_volume.proofs.Standing.{Stands, holds_idle, same_pages, stands_idle, stands_still, where_told}
 use Rattle.coffee_volume.proofs.Stepped.{after_regular, after_same}
-use Rattle.coffee_volume.proofs.Tables.{in_places, regular_same, told_by}
+use Rattle.coffee_volume.proofs.Tables.{in_places, one_entry, regular_same, told_by}
 use Rattle.coffee_volume.proofs.Takings.{set_entry}
 use Rattle.coffee_volume.proofs.volume.Volume.take.Goals as goal
 
@@ -93,3 +94,21 @@ returns-in-Err-Space-clause-untaken g c told =
     let s : Stands g.F.Flash.tells v.failed old v.table v.draft = record { count = v.count; big = v.big; regular = v.regular; pending = v.pending; space = v.space; told = v.told } in
     let both = told_by g.F.Flash.tells v.failed told in
     rw c.in-Err-Space.field-0-is at (c.in-Err-Space.ensures.untaken both.0) (places v.table) (holds_idle g.F.Flash.tells v.failed old v.table v.draft s c.requires.idle both.0 both.1)
+
+pub returns-in-Ok-clause-lowest : goal.returns-in-Ok-clause-lowest
+returns-in-Ok-clause-lowest g c = λ told x d was is.
+    let v = c.args.self.now in
+    let old = g.F.Flash.image v.flash in
+    let new = g.F.Flash.image c.take_step.new.flash in
+    let e : Entry = c.entry-at.result in
+    let id : ℕ = c.args.id in
+    let both = told_by g.F.Flash.tells v.failed told in
+    let s : Stands g.F.Flash.tells v.failed old v.table v.draft = record { count = v.count; big = v.big; regular = v.regular; pending = v.pending; space = v.space; told = v.told } in
+    let inside : id < length v.table = omega (arith, v.count, c.number.ensures.below, c.number.ensures.value) in
+    let one : e ≡ x = one_entry v.table id e x c.entry-at.ensures.entry was in
+    let same : roomless c.in-Ok.to ≡ d = set_entry v.table id (roomless c.in-Ok.to) d inside (rw c.number.ensures.value at is) in
+    subst (λ (y : Entry). StepsTo (Some c.args.step) old new x.at y.at) same
+    (subst (λ (y : Entry). StepsTo (Some c.args.step) old new y.at c.in-Ok.to) one (
+      c.in-Ok.ensures.after,
+      c.in-Ok.ensures.lowest both.0 (places v.table) id (holds_idle g.F.Flash.tells v.failed old v.table v.draft s c.requires.idle both.0 both.1) (in_places v.table id e c.entry-at.ensures.entry),
+    ))

@@ -1,4 +1,4 @@
-use Rattle.std.proofs.Common.{◌≡◌, ℕ, ap, ◌∙◌, sym, subst, refl, List, take, arith, lit<}
+use Rattle.std.proofs.Common.{ap, ◌∙◌, sym, subst, refl, List, take, arith, lit<}
 use Rattle.afl_base.specs.KeyColumn.{HasField, IsWidth, key_of}
 use Rattle.afl_base.specs.declared.key_column.KeyColumn.{KeyColumn}
 use Rattle.db_model.specs.declared.schemas.Attribute.{Attribute}

@@ -1,0 +1,18 @@
+use Rattle.std.proofs.Common.{◌≡◌, ◌≤◌, ◌-◌, IsTrue}
+use Rattle.tuple_file.specs.Tuples.{rows}
+use Rattle.cursor.specs.Pairs.{FitsPairs, MayReadPairs}
+use Rattle.cursor.proofs.Joins.{Joining}
+use Rattle.cursor.proofs.join.JoinCursor.next.Given as goal
+
+abbrev pub invariant-lefts : goal.invariant-lefts
+invariant-lefts g l = record {
+  same : g.V.Files.state l.files ≡ g.V.Files.state l.fn.files;
+  stands : l.self ≡ record l.fn.self { at = l.self.at; from = l.self.from; inner = l.self.inner };
+  later : l.fn.self.at ≤ l.self.at;
+  may_read : MayReadPairs (g.V.Files.state l.fn.files) l.self;
+  told : IsTrue (g.V.Files.state l.fn.files).tells → FitsPairs l.fn.self (g.V.Files.state l.fn.files) l.tables
+      → Joining (g.V.Files.state l.fn.files) l.tables l.fn.self l.self (g.V.Files.reads l.fn.files) (g.V.Files.reads l.files);
+}
+
+abbrev pub decreases-lefts : goal.decreases-lefts
+decreases-lefts g l = l.self.left_slots - l.self.at

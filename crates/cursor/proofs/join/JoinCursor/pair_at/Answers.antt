@@ -1,0 +1,109 @@
+use Rattle.std.proofs.Common.{rules, ◌≡◌, ◌≢◌, ◌+◌, ◌<◌, ◌≤◌, ◌∷◌, [], ◌∙◌, Bool, true, false, cond, List, ℕ, length, ap, subst, arith, nat_lt}
+use Rattle.tuple_file.specs.Tuples.{row, rows}
+use Rattle.cursor.specs.Pairs.{FitsPairs, join_cost_ahead}
+use Rattle.cursor.proofs.Joins.{left_cost, no_live, no_right, partner_costs, partner_fault, partner_fits, partner_pairs, row_stands, slot_made}
+use Rattle.cursor.proofs.Suited.{count_rows}
+use Rattle.cursor.proofs.join.JoinCursor.pair_at.Goals as goal
+
+pub returns-then-not-branch-clause-next : goal.returns-then-not-branch-clause-next
+returns-then-not-branch-clause-next g c = λ told fits.
+    let state = g.V.Files.state c.args.files.now in
+    let k = c.args.self.now in
+    let t = c.row.new.into in
+    let read : row state.files k.left k.at ≡ record { tuple = t; live = c.in_ok-row.field-0 } =
+    subst (λ (n : ℕ). row state.files k.left n ≡ record { tuple = t; live = c.in_ok-row.field-0 }) (slot_made k.at c.in-Some.slot (nat_lt k.at 32768) c.in-Some.ensures) (c.in_ok-row.ensures.row told) in
+    let dead : c.in_ok-row.field-0 ≡ false = search rules in
+    no_live k (rows state.files k.left) (rows state.files k.right)
+    (row_stands state k t c.in_ok-row.field-0 c.requires.may_read c.requires.here read ∙ ap (λ (b : Bool). cond b (t ∷ []) []) dead)
+
+pub returns-then-not-branch-clause-reads : goal.returns-then-not-branch-clause-reads
+returns-then-not-branch-clause-reads g c = λ told fits.
+    let state = g.V.Files.state c.args.files.now in
+    let k = c.args.self.now in
+    left_cost k (rows state.files k.left) (rows state.files k.right) (g.V.Files.reads c.args.files.now) (g.V.Files.reads c.row.new.files) c.requires.here
+    (returns-then-not-branch-clause-next g c told fits) (omega (arith, c.in_ok-row.ensures.reads))
+
+pub returns-then-self-eq0-clause-next : goal.returns-then-self-eq0-clause-next
+returns-then-self-eq0-clause-next g c = λ told fits.
+    let state = g.V.Files.state c.args.files.now in
+    let k = c.args.self.now in
+    let t = c.row.new.into in
+    let read : row state.files k.left k.at ≡ record { tuple = t; live = c.in_ok-row.field-0 } =
+    subst (λ (n : ℕ). row state.files k.left n ≡ record { tuple = t; live = c.in_ok-row.field-0 }) (slot_made k.at c.in-Some.slot (nat_lt k.at 32768) c.in-Some.ensures) (c.in_ok-row.ensures.row told) in
+    let alive : c.in_ok-row.field-0 ≡ true = search rules in
+    let nothing : k.right_slots ≡ 0 = search rules in
+    no_right k (rows state.files k.left) (rows state.files k.right) t
+    (row_stands state k t c.in_ok-row.field-0 c.requires.may_read c.requires.here read ∙ ap (λ (b : Bool). cond b (t ∷ []) []) alive) nothing c.requires.may_read.within
+
+pub returns-then-self-eq0-clause-reads : goal.returns-then-self-eq0-clause-reads
+returns-then-self-eq0-clause-reads g c = λ told fits.
+    let state = g.V.Files.state c.args.files.now in
+    let k = c.args.self.now in
+    left_cost k (rows state.files k.left) (rows state.files k.right) (g.V.Files.reads c.args.files.now) (g.V.Files.reads c.row.new.files) c.requires.here
+    (returns-then-self-eq0-clause-next g c told fits) (omega (arith, c.in_ok-row.ensures.reads))
+
+pub returns-in_err-found-clause-reads_err : goal.returns-in_err-found-clause-reads_err
+returns-in_err-found-clause-reads_err g c = λ told.
+    let state = g.V.Files.state c.args.files.now in
+    let k = c.args.self.now in
+    let t = c.row.new.into in
+    let lefts = rows state.files k.left in
+    let rights = rows state.files k.right in
+    let read : row state.files k.left k.at ≡ record { tuple = t; live = c.in_ok-row.field-0 } =
+    subst (λ (n : ℕ). row state.files k.left n ≡ record { tuple = t; live = c.in_ok-row.field-0 }) (slot_made k.at c.in-Some.slot (nat_lt k.at 32768) c.in-Some.ensures) (c.in_ok-row.ensures.row told) in
+    let alive : c.in_ok-row.field-0 ≡ true = search rules in
+    let some : 0 < k.right_slots = search rules in
+    let few : k.right_slots ≤ length rights = omega (arith, c.requires.may_read.right_slots some, count_rows state k.right) in
+    let stands = row_stands state k t c.in_ok-row.field-0 c.requires.may_read c.requires.here read ∙ ap (λ (b : Bool). cond b (t ∷ []) []) alive in
+    let most : FitsPairs k state c.args.tables.now → g.V.Files.reads c.next_partner.new.files ≤ g.V.Files.reads c.args.files.now + join_cost_ahead k lefts rights =
+    λ fits. partner_fault k lefts rights t stands c.requires.may_read.within few (g.V.Files.reads c.args.files.now) (g.V.Files.reads c.row.new.files) (g.V.Files.reads c.next_partner.new.files) c.requires.here
+    c.in_ok-row.ensures.reads ((rw (c.in_ok-row.ensures.same, c.value_at.ensures) at c.in_err-found.ensures.reads_err) told (fits.indexes some) (fits.inner some)) in
+    search (rules, most)
+
+pub returns-clause-next : goal.returns-clause-next
+returns-clause-next g c = λ told fits.
+    let state = g.V.Files.state c.args.files.now in
+    let k = c.args.self.now in
+    let t = c.row.new.into in
+    let lefts = rows state.files k.left in
+    let rights = rows state.files k.right in
+    let read : row state.files k.left k.at ≡ record { tuple = t; live = c.in_ok-row.field-0 } =
+    subst (λ (n : ℕ). row state.files k.left n ≡ record { tuple = t; live = c.in_ok-row.field-0 }) (slot_made k.at c.in-Some.slot (nat_lt k.at 32768) c.in-Some.ensures) (c.in_ok-row.ensures.row told) in
+    let alive : c.in_ok-row.field-0 ≡ true = search rules in
+    let some : 0 < k.right_slots = search rules in
+    let few : k.right_slots ≤ length rights = omega (arith, c.requires.may_read.right_slots some, count_rows state k.right) in
+    let stands = row_stands state k t c.in_ok-row.field-0 c.requires.may_read c.requires.here read ∙ ap (λ (b : Bool). cond b (t ∷ []) []) alive in
+    partner_pairs k lefts rights t stands c.requires.may_read.within few c.in_ok-found.found c.next_partner.new.into
+    ((rw (c.in_ok-row.ensures.same, c.value_at.ensures) at c.in_ok-found.ensures.next) told (fits.indexes some) (fits.inner some) (fits.ahead some t stands))
+    ((rw c.in_ok-row.ensures.same at c.in_ok-found.ensures.row) told) c.in_ok-found.ensures.below
+
+pub returns-clause-fits : goal.returns-clause-fits
+returns-clause-fits g c = λ told fits.
+    let state = g.V.Files.state c.args.files.now in
+    let k = c.args.self.now in
+    let t = c.row.new.into in
+    let read : row state.files k.left k.at ≡ record { tuple = t; live = c.in_ok-row.field-0 } =
+    subst (λ (n : ℕ). row state.files k.left n ≡ record { tuple = t; live = c.in_ok-row.field-0 }) (slot_made k.at c.in-Some.slot (nat_lt k.at 32768) c.in-Some.ensures) (c.in_ok-row.ensures.row told) in
+    let alive : c.in_ok-row.field-0 ≡ true = search rules in
+    let some : 0 < k.right_slots = search rules in
+    let stands = row_stands state k t c.in_ok-row.field-0 c.requires.may_read c.requires.here read ∙ ap (λ (b : Bool). cond b (t ∷ []) []) alive in
+    partner_fits k state c.args.tables.now t fits stands c.in_ok-found.found
+    ((rw (c.in_ok-row.ensures.same, c.value_at.ensures) at c.in_ok-found.ensures.stands) told (fits.indexes some) (fits.inner some) (fits.ahead some t stands))
+
+pub returns-clause-reads : goal.returns-clause-reads
+returns-clause-reads g c = λ told fits.
+    let state = g.V.Files.state c.args.files.now in
+    let k = c.args.self.now in
+    let t = c.row.new.into in
+    let lefts = rows state.files k.left in
+    let rights = rows state.files k.right in
+    let read : row state.files k.left k.at ≡ record { tuple = t; live = c.in_ok-row.field-0 } =
+    subst (λ (n : ℕ). row state.files k.left n ≡ record { tuple = t; live = c.in_ok-row.field-0 }) (slot_made k.at c.in-Some.slot (nat_lt k.at 32768) c.in-Some.ensures) (c.in_ok-row.ensures.row told) in
+    let alive : c.in_ok-row.field-0 ≡ true = search rules in
+    let some : 0 < k.right_slots = search rules in
+    let few : k.right_slots ≤ length rights = omega (arith, c.requires.may_read.right_slots some, count_rows state k.right) in
+    let stands = row_stands state k t c.in_ok-row.field-0 c.requires.may_read c.requires.here read ∙ ap (λ (b : Bool). cond b (t ∷ []) []) alive in
+    partner_costs k lefts rights t stands c.requires.may_read.within few c.in_ok-found.found c.next_partner.new.into
+    (g.V.Files.reads c.args.files.now) (g.V.Files.reads c.row.new.files) (g.V.Files.reads c.next_partner.new.files) c.requires.here c.in_ok-row.ensures.reads
+    (returns-clause-next g c told fits)
+    ((rw (c.in_ok-row.ensures.same, c.value_at.ensures) at c.in_ok-found.ensures.reads) told (fits.indexes some) (fits.inner some))

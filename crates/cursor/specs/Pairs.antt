@@ -1,0 +1,114 @@
+-- The pairs that a cursor of two relations has still to answer.
+use Rattle.std.specs.Prelude.{◌≡◌, ◌≤◌, ◌<◌, ⊤, ℕ, ◌+◌, ◌*◌, ◌-◌, Bool, List, [], ◌++◌, map, filter, length, take, drop, slice_get, ◌∷◌, Option, Some, None}
+use Rattle.std.specs.List.{range_with_len}
+use Rattle.afl_base.specs.Files.{State}
+use Rattle.db_model.specs.declared.values.Value.{Value}
+use Rattle.db_model.specs.Answers.{live_tuples, pairs, same_value}
+use Rattle.db_model.specs.Cost.{added, chosen_cost, ranges_at}
+use Rattle.db_model.specs.Row.{Row}
+use Rattle.index_set.specs.declared.candidates.Candidates.{Candidates}
+use Rattle.index_set.specs.declared.info.IndexInfo.{IndexInfo}
+use Rattle.index_set.specs.Complete.{AreIndexesOf, AreReadable}
+use Rattle.index_set.specs.Plans.{kinds}
+use Rattle.index_set.specs.Tables.{Tables}
+use Rattle.index_set.specs.Walks.{Fits, IsSafeBy, ahead, cost_ahead}
+use Rattle.tuple_file.specs.Tuples.{HoldsRows, rows, slots}
+use Rattle.cursor.specs.declared.join.JoinCursor.{JoinCursor}
+use Rattle.cursor.specs.Remaining.{passing}
+
+-- of the live tuples of some rows, the pairs with the same value at two places
+abbrev pub matching : ℕ → ℕ → List Row → List Row → List (List Value × List Value)
+matching left_on right_on lefts rights =
+    filter (λ pair. same_value (slice_get pair.0 left_on) (slice_get pair.1 right_on)) (pairs (live_tuples lefts) (live_tuples rights))
+
+-- the rows of the slots at the beginning
+abbrev pub lefts_of : JoinCursor → List Row → List Row
+lefts_of c lefts = take c.left_slots lefts
+
+abbrev pub rights_of : JoinCursor → List Row → List Row
+rights_of c rights = take c.right_slots rights
+
+-- the pairs of the left row at which it stands from a right slot on, then those of the left rows behind it
+abbrev pub pairs_left : JoinCursor → List Row → List Row → List (List Value × List Value)
+pairs_left c lefts rights =
+    matching c.left_on c.right_on (take 1 (drop c.at (lefts_of c lefts))) (drop c.from (rights_of c rights))
+    ++ matching c.left_on c.right_on (drop (c.at + 1) (lefts_of c lefts)) (rights_of c rights)
+
+-- it has answered the pair at a right slot
+abbrev pub behind_pair : JoinCursor → ℕ → Candidates → JoinCursor
+behind_pair c slot inner = record c { from = slot + 1; inner = Some inner }
+
+-- it stands at the next left row
+abbrev pub at_next_left : JoinCursor → JoinCursor
+at_next_left c = record c { at = c.at + 1; from = 0; inner = None }
+
+-- ---- what holds also where files do not tell
+
+abbrev pub IsSafeInner : Option Candidates → State → Type 0
+IsSafeInner None state = ⊤
+IsSafeInner (Some inner) state = IsSafeBy inner.search state
+
+abbrev pub HasSlots : Option Candidates → ℕ → Type 0
+HasSlots None slots = ⊤
+HasSlots (Some inner) slots = inner.slots ≡ slots
+
+-- it may go on reading; a relation that had no slot is free
+pub record MayReadPairs (state : State) (c : JoinCursor) : Type 0 where
+  pub left : 0 < c.left_slots → HoldsRows state c.left
+  pub left_slots : 0 < c.left_slots → c.left_slots ≤ slots state.files c.left
+  pub right : 0 < c.right_slots → HoldsRows state c.right
+  pub right_slots : 0 < c.right_slots → c.right_slots ≤ slots state.files c.right
+  pub readable : 0 < c.right_slots → AreReadable state c.right_slots c.right_indexes
+  pub safe : 0 < c.right_slots → IsSafeInner c.inner state
+  pub inner : HasSlots c.inner c.right_slots
+  pub within : c.from ≤ c.right_slots
+
+-- ---- where the right side stands
+
+abbrev pub FitsInner : Option Candidates → State → Tables → List Row → Type 0
+FitsInner None state tables rights = ⊤
+FitsInner (Some inner) state tables rights = Fits inner state tables rights
+
+-- the rows that pass a test, from a slot on, are ahead
+abbrev pub HasAhead : Option Candidates → (List Value → Bool) → List Row → ℕ → ℕ → Type 0
+HasAhead None test rights from slots = ⊤
+HasAhead (Some inner) test rights from slots =
+    passing test rights (ahead inner rights) ≡ passing test rights (range_with_len from (slots - from))
+
+-- whether a right tuple belongs to a value
+abbrev pub belongs : Option Value → ℕ → List Value → Bool
+belongs value on tuple = same_value value (slice_get tuple on)
+
+-- all that belongs to the left row at which it stands is ahead
+abbrev pub HasAllAhead : JoinCursor → List Row → List Row → Type 0
+HasAllAhead c lefts rights =
+    (left : List Value) → live_tuples (take 1 (drop c.at (lefts_of c lefts))) ≡ left ∷ []
+    → HasAhead c.inner (belongs (slice_get left c.left_on) c.right_on) rights c.from c.right_slots
+
+-- its indexes are those of the right relation, and its right side stands where it should
+pub record FitsPairs (c : JoinCursor) (state : State) (tables : Tables) : Type 0 where
+  pub indexes : 0 < c.right_slots → AreIndexesOf state tables (rows state.files c.right) c.right_indexes
+  pub inner : 0 < c.right_slots → FitsInner c.inner state tables (rows state.files c.right)
+  pub ahead : 0 < c.right_slots → HasAllAhead c (rows state.files c.left) (rows state.files c.right)
+
+-- ---- what is still read
+
+-- the right side for a value
+abbrev pub right_cost : List IndexInfo → ℕ → Option Value → List Row → ℕ
+right_cost infos on value rights = chosen_cost (kinds infos) (ranges_at on value) rights
+
+-- for each live one of some left rows
+abbrev pub right_costs : JoinCursor → List Row → List Row → ℕ
+right_costs c rights lefts = added (map (λ left. right_cost c.right_indexes c.right_on (slice_get left c.left_on) rights) (live_tuples lefts))
+
+-- a right side that has begun has paid for its beginning
+abbrev pub inner_cost : Option Candidates → ℕ → List Row → ℕ
+inner_cost None cost rights = cost
+inner_cost (Some inner) cost rights = cost_ahead inner rights
+
+-- six pages for each left slot and for each pair, and the right side of each live left row
+abbrev pub join_cost_ahead : JoinCursor → List Row → List Row → ℕ
+join_cost_ahead c lefts rights =
+    6 * (c.left_slots - c.at + length (pairs_left c lefts rights))
+    + inner_cost c.inner (right_costs c rights (take 1 (drop c.at (lefts_of c lefts)))) rights
+    + right_costs c rights (drop (c.at + 1) (lefts_of c lefts))

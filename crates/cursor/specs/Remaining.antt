@@ -1,0 +1,60 @@
+-- The rows that a cursor of one relation has still to answer.
+use Rattle.std.specs.Prelude.{◌≡◌, ◌≤◌, ◌<◌, ℕ, Bool, ◌&&◌, List, [], filter, get_or, length, map, Option}
+use Rattle.std.specs.List.{AllByRecursion, range_with_len}
+use Rattle.afl_base.specs.Files.{State}
+use Rattle.db_model.specs.declared.schemas.Attribute.{Attribute}
+use Rattle.db_model.specs.declared.values.Value.{Value}
+use Rattle.db_model.specs.Cond.{Cond}
+use Rattle.db_model.specs.Item.{selects}
+use Rattle.db_model.specs.Row.{Row}
+use Rattle.index_set.specs.declared.candidates.Candidates.{Candidates}
+use Rattle.index_set.specs.declared.info.IndexInfo.{IndexInfo}
+use Rattle.index_set.specs.Complete.{no_row}
+use Rattle.index_set.specs.Walks.{IsSafeBy, ahead}
+use Rattle.lvm.specs.declared.instruction.Instruction.{Instruction}
+use Rattle.lvm.specs.Evaluate.{evaluated, verdict}
+use Rattle.tuple_file.specs.declared.tuples.Tuples.{Tuples}
+use Rattle.tuple_file.specs.Column.{IsNumber}
+use Rattle.tuple_file.specs.Tuples.{HoldsRows, slots}
+use Rattle.cursor.specs.declared.select.SelectCursor.{SelectCursor}
+
+-- a row is live, and its tuple passes a test
+abbrev pub is_live_and : (List Value → Bool) → Row → Bool
+is_live_and test row = row.live && test row.tuple
+
+-- of some slots those whose rows are so
+abbrev pub passing : (List Value → Bool) → List Row → List ℕ → List ℕ
+passing test all slots = filter (λ slot. is_live_and test (get_or all slot no_row)) slots
+
+abbrev pub tuples_at : List ℕ → List Row → List (List Value)
+tuples_at slots all = map (λ slot. (get_or all slot no_row).tuple) slots
+
+-- ---- cursors
+
+-- whether a compiled condition selects a tuple
+abbrev pub passes : List Instruction → List Value → Bool
+passes code tuple = verdict (evaluated code tuple [])
+
+-- the slots that a cursor has still to answer: of those ahead the live ones that the condition selects
+abbrev pub slots_left : SelectCursor → List Row → List ℕ
+slots_left c all = passing (passes c.code) all (ahead c.candidates all)
+
+-- and their tuples
+abbrev pub remaining : SelectCursor → List Row → List (List Value)
+remaining c all = tuples_at (slots_left c all) all
+
+-- the slots of the live rows that a condition selects
+abbrev pub selected_slots : List Attribute → Option Cond → List Row → List ℕ
+selected_slots attributes condition all = passing (selects attributes condition) all (range_with_len 0 (length all))
+
+-- ---- what holds also where files do not tell
+
+-- each index of a list is on an attribute of numbers
+abbrev pub AreOnNumbers : List Attribute → List IndexInfo → Type 0
+AreOnNumbers attributes infos = AllByRecursion (λ info. IsNumber attributes info.attribute) infos
+
+-- the rows of the candidates may be read: their relation has its slots still. One that began without slots is free
+pub record MayRead (state : State) (tuples : Tuples) (c : Candidates) : Type 0 where
+  pub holds : 0 < c.slots → HoldsRows state tuples
+  pub slots : 0 < c.slots → c.slots ≤ slots state.files tuples
+  pub safe : 0 < c.slots → IsSafeBy c.search state

@@ -1,0 +1,199 @@
+//! Cursors of one relation.
+
+#![tactic(auto)]
+
+ghost use Rattle.std.specs.Prelude.{None, ◌≡◌, ◌+◌, ◌<◌, ◌≤◌, ◌∷◌, [], IfOk, IfSome, IsTrue, MatchOption, OnErr, OnOk, Option, List, length};
+ghost use Rattle.db_model.specs.declared.schemas.Attribute.{Attribute};
+ghost use Rattle.db_model.specs.Answers.{selected};
+ghost use Rattle.db_model.specs.Cond.{Cond};
+ghost use Rattle.db_model.specs.Cost.{begin_cost, chosen_cost};
+ghost use Rattle.db_model.specs.Plan.{plan, ranges_of};
+ghost use Rattle.db_model.specs.Row.{AllSuit, Row};
+ghost use Rattle.index_set.specs.Complete.{AreIndexesOf, AreReadable};
+ghost use Rattle.index_set.specs.Plans.{kinds};
+ghost use Rattle.index_set.specs.Walks.{Fits, IsChosen, Waits, cost_ahead};
+ghost use Rattle.lvm.specs.Code.{IsCodeOf};
+ghost use Rattle.tuple_file.specs.Tuples.{HoldsRows, rows, slots};
+ghost use Rattle.cursor.specs.Remaining.{AreOnNumbers, MayRead, remaining, selected_slots, slots_left};
+
+use crate::walk::{Test, next_row};
+use afl_base::{Failed, Files, SlotNo};
+use db_model::{Range, Tuple};
+use index_set::{Candidates, HashTables, Indexes};
+use lvm::Code;
+use tuple_file::Tuples;
+
+/// The rows of a relation that satisfy a condition, one after the other.
+#[derive(Drop)]
+pub struct SelectCursor {
+    pub tuples: Tuples,
+    pub code: Code,
+    pub candidates: Candidates,
+}
+
+impl Test for Code {
+    ghost use Rattle.cursor.specs.Remaining.{passes};
+
+    ghost passes = { passes };
+
+    fn holds(&self, tuple: &Tuple) -> bool {
+        self.eval(tuple)
+    }
+}
+
+// The ranges of the attributes at the eight places.
+fn ranges_of(code: &Code) -> [Range; 8]
+    ensures { (attributes : List Attribute) (condition : Option Cond) → IsCodeOf attributes condition code.now
+        → result ≡ ranges_of attributes condition }
+{
+    [
+        code.derive(0),
+        code.derive(1),
+        code.derive(2),
+        code.derive(3),
+        code.derive(4),
+        code.derive(5),
+        code.derive(6),
+        code.derive(7),
+    ]
+}
+
+impl SelectCursor {
+    /// Begins over the slots that the relation has now. What is answered is fixed with that: the rows
+    /// of these slots that the condition of the code selects.
+    pub fn begin<V: Files>(
+        files: &mut V,
+        tables: &HashTables,
+        tuples: Tuples,
+        indexes: &Indexes,
+        code: Code,
+    ) -> Result<SelectCursor, Failed>
+        requires holds { HoldsRows (V.state files.old) tuples }
+        requires numbers { AreOnNumbers tuples.schema.attributes indexes.now }
+        requires readable { let state = V.state files.old in
+            AreReadable state (slots state.files tuples) indexes.now }
+        ensures remaining { let state = V.state files.old in let all = rows state.files tuples in
+            IsTrue state.tells → IfOk result (λ c.
+            (condition : Option Cond) → IsCodeOf tuples.schema.attributes condition code
+            → AreIndexesOf state tables.now all indexes.now
+            → remaining c all ≡ selected tuples.schema.attributes condition all) }
+        ensures slots_left { let state = V.state files.old in let all = rows state.files tuples in
+            IsTrue state.tells → IfOk result (λ c.
+            (condition : Option Cond) → IsCodeOf tuples.schema.attributes condition code
+            → AreIndexesOf state tables.now all indexes.now
+            → slots_left c all ≡ selected_slots tuples.schema.attributes condition all) }
+        ensures fits { let state = V.state files.old in let all = rows state.files tuples in
+            IsTrue state.tells → IfOk result (λ c.
+            AreIndexesOf state tables.now all indexes.now → Fits c.candidates state tables.now all) }
+        ensures cost { let state = V.state files.old in let all = rows state.files tuples in
+            let ranges = ranges_of tuples.schema.attributes in
+            IsTrue state.tells → IfOk result (λ c.
+            (condition : Option Cond) → IsCodeOf tuples.schema.attributes condition code
+            → AreIndexesOf state tables.now all indexes.now
+            → begin_cost (length all) (plan (kinds indexes.now) (ranges condition))
+            + cost_ahead c.candidates all ≤ chosen_cost (kinds indexes.now) (ranges condition) all) }
+        ensures tuples { IfOk result (λ c. c.tuples ≡ tuples) }
+        ensures code { IfOk result (λ c. c.code ≡ code) }
+        ensures slots { let state = V.state files.old in
+            IfOk result (λ c. c.candidates.slots ≡ slots state.files tuples) }
+        ensures order { IfOk result (λ c. c.candidates.from ≤ c.candidates.end) }
+        ensures within { IfOk result (λ c. c.candidates.end ≤ c.candidates.slots) }
+        ensures rests { IfOk result (λ c. c.candidates.place ≡ None) }
+        ensures chosen { IfOk result (λ c. IsChosen c.candidates.search indexes.now) }
+        ensures may_read { IfOk result (λ c. MayRead (V.state files.old) tuples c.candidates) }
+        ensures same { OnOk result (V.state files.new ≡ V.state files.old) }
+        ensures reads { let state = V.state files.old in
+            let ranges = ranges_of tuples.schema.attributes in
+            (condition : Option Cond) → IsCodeOf tuples.schema.attributes condition code
+            → V.reads files.new ≤ V.reads files.old
+            + begin_cost (slots state.files tuples) (plan (kinds indexes.now) (ranges condition)) }
+    {
+        let ranges = ranges_of(&code);
+        let slots = tuples.count(files);
+        let candidates = Candidates::begin(files, tables, indexes, &ranges, slots)?;
+        Ok(SelectCursor {
+            tuples,
+            code,
+            candidates,
+        })
+    }
+
+    /// Forgets where in a tree it stands: what remains is the same, and it goes on rightly whatever is
+    /// inserted from now on.
+    pub fn rest(&mut self)
+        ensures rests { self.new.candidates.place ≡ None }
+        ensures remaining { (all : List Row) → remaining self.new all ≡ remaining self.old all }
+        ensures slots_left { (all : List Row) → slots_left self.new all ≡ slots_left self.old all }
+        ensures waits { (all : List Row) → Waits self.old.candidates all
+            → Waits self.new.candidates all }
+        ensures tuples { self.new.tuples ≡ self.old.tuples }
+        ensures code { self.new.code ≡ self.old.code }
+        ensures from { self.new.candidates.from ≡ self.old.candidates.from }
+        ensures end { self.new.candidates.end ≡ self.old.candidates.end }
+        ensures slots { self.new.candidates.slots ≡ self.old.candidates.slots }
+        ensures search { self.new.candidates.search ≡ self.old.candidates.search }
+    {
+        let mut candidates = self.candidates;
+        candidates.rest();
+        self.candidates = candidates;
+    }
+
+    /// Puts the next tuple into `into` and answers its slot, `None` exactly after the last.
+    pub fn next<V: Files>(
+        &mut self,
+        files: &mut V,
+        tables: &HashTables,
+        into: &mut Tuple,
+    ) -> Result<Option<SlotNo>, Failed>
+        requires may_read { MayRead (V.state files.old) self.old.tuples self.old.candidates }
+        ensures next { let state = V.state files.old in let all = rows state.files self.old.tuples in
+            IsTrue state.tells → IfOk result (λ found. Fits self.old.candidates state tables.now all
+            → MatchOption found (remaining self.old all ≡ []) (λ _.
+            remaining self.old all ≡ into.new ∷ remaining self.new all)) }
+        ensures slot { let state = V.state files.old in let all = rows state.files self.old.tuples in
+            IsTrue state.tells → IfOk result (λ found. Fits self.old.candidates state tables.now all
+            → MatchOption found (slots_left self.old all ≡ []) (λ slot.
+            slots_left self.old all ≡ slot ∷ slots_left self.new all)) }
+        ensures ended { let state = V.state files.old in let all = rows state.files self.old.tuples in
+            IsTrue state.tells → IfOk result (λ found. Fits self.old.candidates state tables.now all
+            → MatchOption found (remaining self.new all ≡ []) (λ _.
+            Fits self.new.candidates state tables.now all)) }
+        ensures waits { OnOk result ((all : List Row) → Waits self.old.candidates all
+            → Waits self.new.candidates all) }
+        ensures suits { IfOk result (λ found. IfSome found (λ _.
+            AllSuit self.old.tuples.schema.attributes into.new)) }
+        ensures below { IfOk result (λ found. IfSome found (λ slot. slot < self.old.candidates.slots)) }
+        ensures forward { IfOk result (λ found. IfSome found (λ _.
+            self.old.candidates.from < self.new.candidates.from)) }
+        ensures tuples { self.new.tuples ≡ self.old.tuples }
+        ensures code { self.new.code ≡ self.old.code }
+        ensures slots { self.new.candidates.slots ≡ self.old.candidates.slots }
+        ensures search { self.new.candidates.search ≡ self.old.candidates.search }
+        ensures order { self.old.candidates.from ≤ self.old.candidates.end
+            → self.new.candidates.from ≤ self.new.candidates.end }
+        ensures within { self.old.candidates.end ≤ self.old.candidates.slots
+            → self.new.candidates.end ≤ self.new.candidates.slots }
+        ensures may_read { MayRead (V.state files.old) self.new.tuples self.new.candidates }
+        ensures same { OnOk result (V.state files.new ≡ V.state files.old) }
+        ensures reads { let state = V.state files.old in let all = rows state.files self.old.tuples in
+            IsTrue state.tells → OnOk result (Fits self.old.candidates state tables.now all
+            → V.reads files.new + cost_ahead self.new.candidates all
+            ≤ V.reads files.old + cost_ahead self.old.candidates all) }
+        ensures reads_err { let state = V.state files.old in
+            let all = rows state.files self.old.tuples in
+            IsTrue state.tells → OnErr result (Fits self.old.candidates state tables.now all
+            → V.reads files.new ≤ V.reads files.old + cost_ahead self.old.candidates all) }
+    {
+        let mut candidates = self.candidates;
+        let found = next_row(
+            files,
+            tables,
+            &self.tuples,
+            &mut candidates,
+            &self.code,
+            into,
+        )?;
+        self.candidates = candidates;
+        Ok(found)
+    }
+}

@@ -1,0 +1,106 @@
+//! The live rows among candidates whose tuples pass a test.
+
+#![tactic(auto)]
+
+ghost use Rattle.std.specs.Prelude.{None, ◌≡◌, ◌+◌, ◌<◌, ◌≤◌, ◌∷◌, [], true, IfOk, IfSome, IsTrue, MatchOption, OnErr, OnOk, List, get_or, length};
+ghost use Rattle.db_model.specs.Row.{AllSuit, Row};
+ghost use Rattle.index_set.specs.Complete.{no_row};
+ghost use Rattle.index_set.specs.Walks.{Fits, Waits, ahead, cost_ahead};
+ghost use Rattle.tuple_file.specs.Tuples.{HoldsRows, row, rows, slots};
+ghost use Rattle.cursor.specs.Remaining.{MayRead, is_live_and, passing};
+
+use afl_base::{Failed, Files, SlotNo};
+use db_model::Tuple;
+use index_set::{Candidates, HashTables};
+use tuple_file::Tuples;
+
+/// A test of tuples.
+pub(crate) trait Test {
+    ghost use Rattle.std.specs.Prelude.{◌≡◌, Bool, List};
+    ghost use Rattle.db_model.specs.declared.values.Value.{Value};
+
+    /// Whether a tuple passes.
+    ghost passes: { Self → List Value → Bool };
+
+    /// Whether the tuple passes.
+    fn holds(&self, tuple: &Tuple) -> bool
+        ensures { result ≡ passes self.now tuple.now };
+}
+
+// Whether the row in a slot is live and passes. Its tuple stands in `into`.
+fn is_answer<V: Files, T: Test>(
+    files: &mut V,
+    tuples: &Tuples,
+    slot: SlotNo,
+    test: &T,
+    into: &mut Tuple,
+) -> Result<bool, Failed>
+    requires holds { HoldsRows (V.state files.old) tuples.now }
+    requires slot { slot < slots (V.state files.old).files tuples.now }
+    ensures answer { let state = V.state files.old in let all = rows state.files tuples.now in
+        IsTrue state.tells → IfOk result (λ yes.
+        yes ≡ is_live_and (T.passes test.now) (get_or all slot no_row)) }
+    ensures row { let state = V.state files.old in let all = rows state.files tuples.now in
+        IsTrue state.tells → IfOk result (λ yes. IsTrue yes
+        → get_or all slot no_row ≡ record { tuple = into.new; live = true }) }
+    ensures suits { OnOk result (AllSuit tuples.now.schema.attributes into.new) }
+    ensures same { OnOk result (V.state files.new ≡ V.state files.old) }
+    ensures reads { V.reads files.new ≤ V.reads files.old + 6 }
+{
+    let live = tuples.row(files, slot, into)?;
+    Ok(live && test.holds(into))
+}
+
+/// The next slot of the candidates whose row is live and passes, `None` exactly after the last. Its
+/// tuple stands in `into`. Each row is read once.
+pub(crate) fn next_row<V: Files, T: Test>(
+    files: &mut V,
+    tables: &HashTables,
+    tuples: &Tuples,
+    candidates: &mut Candidates,
+    test: &T,
+    into: &mut Tuple,
+) -> Result<Option<SlotNo>, Failed>
+    requires may_read { MayRead (V.state files.old) tuples.now candidates.old }
+    ensures next { let state = V.state files.old in let all = rows state.files tuples.now in
+        IsTrue state.tells → IfOk result (λ found. Fits candidates.old state tables.now all
+        → MatchOption found (passing (T.passes test.now) all (ahead candidates.old all) ≡ []) (λ slot.
+        passing (T.passes test.now) all (ahead candidates.old all)
+        ≡ slot ∷ passing (T.passes test.now) all (ahead candidates.new all))) }
+    ensures ended { let state = V.state files.old in let all = rows state.files tuples.now in
+        IsTrue state.tells → IfOk result (λ found. Fits candidates.old state tables.now all
+        → MatchOption found (ahead candidates.new all ≡ []) (λ _. Fits candidates.new state tables.now all)) }
+    ensures row { let state = V.state files.old in let all = rows state.files tuples.now in
+        IsTrue state.tells → IfOk result (λ found. IfSome found (λ slot.
+        get_or all slot no_row ≡ record { tuple = into.new; live = true })) }
+    ensures suits { IfOk result (λ found. IfSome found (λ _.
+        AllSuit tuples.now.schema.attributes into.new)) }
+    ensures waits { OnOk result ((all : List Row) → Waits candidates.old all → Waits candidates.new all) }
+    ensures below { IfOk result (λ found. IfSome found (λ slot. slot < candidates.old.slots)) }
+    ensures behind { IfOk result (λ found. IfSome found (λ slot. candidates.new.from ≡ slot + 1)) }
+    ensures forward { IfOk result (λ found. IfSome found (λ slot. candidates.old.from ≤ slot)) }
+    ensures slots { candidates.new.slots ≡ candidates.old.slots }
+    ensures search { candidates.new.search ≡ candidates.old.search }
+    ensures order { candidates.old.from ≤ candidates.old.end → candidates.new.from ≤ candidates.new.end }
+    ensures within { candidates.old.end ≤ candidates.old.slots
+        → candidates.new.end ≤ candidates.new.slots }
+    ensures same { OnOk result (V.state files.new ≡ V.state files.old) }
+    ensures reads { let state = V.state files.old in let all = rows state.files tuples.now in
+        IsTrue state.tells → OnOk result (Fits candidates.old state tables.now all
+        → V.reads files.new + cost_ahead candidates.new all
+        ≤ V.reads files.old + cost_ahead candidates.old all) }
+    ensures reads_err { let state = V.state files.old in let all = rows state.files tuples.now in
+        IsTrue state.tells → OnErr result (Fits candidates.old state tables.now all
+        → V.reads files.new ≤ V.reads files.old + cost_ahead candidates.old all) }
+{
+    'slots: loop {
+        match candidates.next(files, tables)? {
+            None => return Ok(None),
+            Some(slot) => {
+                if is_answer(files, tuples, slot, test, into)? {
+                    return Ok(Some(slot));
+                }
+            }
+        }
+    }
+}

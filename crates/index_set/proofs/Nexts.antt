@@ -1,0 +1,316 @@
+-- The next of the slots that a search has ahead.
+use Rattle.std.proofs.Common.{◌≡◌, ◌≤◌, ◌<◌, ◌+◌, ◌-◌, ◌*◌, ◌/◌, ◌⊎◌, inl, inr, ℕ, ℤ, pos, zero, suc, List, [], ◌∷◌, length, get_or, map, Bool, true, false, Option, Some, None, refl, arith, ap, ◌∙◌, sym, subst, IsTrue}
+use Rattle.std.specs.Prelude.{⊤, Result, Ok, Err, IfOk, OnOk, OnErr, IfSome, MatchOption, min}
+use Rattle.std.proofs.Math.Logic.{⊎_elim}
+use Rattle.std.specs.Ordering.{int_eq}
+use Rattle.afl_base.specs.declared.failed.Failed.{Failed}
+use Rattle.afl_base.specs.Files.{State, bytes_at}
+use Rattle.db_model.specs.declared.schemas.Range.{Range}
+use Rattle.db_model.specs.Cost.{keys_beside}
+use Rattle.db_model.specs.Plan.{lies_in}
+use Rattle.db_model.specs.Row.{Row}
+use Rattle.db_model.specs.Step.{keys}
+use Rattle.index_set.specs.declared.candidates.Candidates.{Candidates}
+use Rattle.index_set.specs.declared.candidates.Search.{Search}
+use Rattle.index_set.specs.declared.candidates.Search.TheVariants as by
+use Rattle.index_set.specs.declared.info.TableId.{TableId}
+use Rattle.index_set.specs.Complete.{key_in, no_row}
+use Rattle.index_set.specs.Tables.{Tables, entries}
+use Rattle.index_maxheap.specs.Searches.{walk_left}
+use Rattle.index_tree.specs.Keys.{IsFirstOf, is_key_at}
+use Rattle.index_memhash.specs.Keys as table
+use Rattle.index_set.specs.Walks.{Fits, LacksKey, HasIndex, HasPlace, IsMoved, IsMovedBy, KnowsRows, Waits, ahead, reads_ahead, reads_by, slots_in, takes}
+use Rattle.index_set.proofs.Seeks.{key_of_slot}
+use Rattle.index_set.proofs.Slots.{between_first, between_here, between_none}
+
+zero_or_some : (n : ℕ) → (n ≡ 0) ⊎ (0 < n)
+zero_or_some zero = inl refl
+zero_or_some (suc n) = inr (omega arith)
+
+length_keys : (attribute : ℕ) (rows : List Row) → length (keys attribute rows) ≡ length rows
+length_keys attribute [] = refl
+length_keys attribute (row ∷ rows) = ap suc (length_keys attribute rows)
+
+-- ---- what is ahead
+
+pub ahead_by : (new old : Candidates) (rows : List Row) (from : ℕ) → new.search ≡ old.search → new.slots ≡ old.slots → new.from ≡ from → ahead new rows ≡ slots_in old.search rows from old.slots
+ahead_by new old rows from a b e = rw (a, b, e) refl
+
+pub ahead_none : (c : Candidates) (rows : List Row) → ((i : ℕ) → c.from ≤ i → i < c.slots → takes c.search (get_or rows i no_row) ≡ false) → ahead c rows ≡ []
+ahead_none c rows fails = between_none (λ slot. takes c.search (get_or rows slot no_row)) c.from c.slots fails
+
+pub ahead_first : (new old : Candidates) (rows : List Row) (slot : ℕ) → new.search ≡ old.search → new.slots ≡ old.slots → new.from ≡ slot + 1 → old.from ≤ slot → slot < old.slots
+    → takes old.search (get_or rows slot no_row) ≡ true → ((i : ℕ) → old.from ≤ i → i < slot → takes old.search (get_or rows i no_row) ≡ false) → ahead old rows ≡ slot ∷ ahead new rows
+ahead_first new old rows slot a b e order below here before =
+    between_first (λ i. takes old.search (get_or rows i no_row)) old.from slot old.slots order below here before
+    ∙ ap (λ (xs : List ℕ). slot ∷ xs) (sym (ahead_by new old rows (slot + 1) a b e))
+
+pub nothing_ahead : (c : Candidates) (rows : List Row) → c.search ≡ by.Nothing → ahead c rows ≡ []
+nothing_ahead c rows e = ahead_none c rows (λ i a b. ap (λ (s : Search). takes s (get_or rows i no_row)) e)
+
+-- ---- in order
+
+pub order_next : (old new : Candidates) (state : State) (tables : Tables) (rows : List Row) (attribute : ℕ) (range : Range) (r : Option ℕ) → old.search ≡ by.Order attribute range → Fits old state tables rows
+    → MatchOption r (old.end ≤ old.from) (λ slot. (slot ≡ old.from) × (slot < old.end)) → IsMoved r old new → MatchOption r (new.end ≡ old.end) (λ slot. (new.end ≡ old.end) × (slot < old.end))
+    → MatchOption r (ahead old rows ≡ []) (λ slot. (ahead old rows ≡ slot ∷ ahead new rows) × Fits new state tables rows)
+order_next old new state tables rows attribute range None is fits found moved end =
+    let K : Search → Type 0 = λ s. KnowsRows s rows old.from old.end old.slots in
+    let knows = subst K is fits.waits.knows in
+    ahead_none old rows (λ i a b. ap (λ (s : Search). takes s (get_or rows i no_row)) is ∙ knows.1 i (omega (arith, found, a)) b)
+order_next old new state tables rows attribute range (Some slot) is fits found moved end =
+    let K : Search → Type 0 = λ s. KnowsRows s rows old.from old.end old.slots in
+    let knows = subst K is fits.waits.knows in
+    let within = fits.waits.within in
+    let few = fits.waits.few in
+    let small = fits.waits.small in
+    let at = found.0 in
+    let below = found.1 in
+    let from = moved.0 in
+    let slots = moved.1 in
+    let stop = end.0 in
+    let searched : new.search ≡ by.Order attribute range = moved.2 ∙ is in
+    let N : Search → Type 0 = λ s. KnowsRows s rows new.from new.end new.slots in
+    let I : Search → Type 0 = λ s. HasIndex s new.place state tables rows new.from in
+    (
+      ahead_first new old rows slot moved.2 slots from (omega (arith, at)) (omega (arith, below, within))
+        (ap (λ (s : Search). takes s (get_or rows slot no_row)) is ∙ knows.0 slot (omega (arith, at)) below) (λ i a b. absurd (omega (arith, at, a, b))),
+      record {
+        waits = record {
+          few = omega (arith, few, slots);
+          small = omega (arith, small, slots);
+          order = omega (arith, from, stop, below);
+          within = omega (arith, stop, slots, within);
+          knows = subst N (sym searched) (λ i a b. knows.0 i (omega (arith, a, from, at)) (omega (arith, b, stop)), λ i a b. knows.1 i (omega (arith, a, stop)) (omega (arith, b, slots)));
+        };
+        index = λ _. subst I (sym searched) tt;
+      },
+    )
+
+-- ---- by a key
+
+-- what a search for a key has found, over rows
+module _ (old new : Candidates) (rows : List Row) (attribute : ℕ) (key : ℤ) (same : (i : ℕ) → takes old.search (get_or rows i no_row) ≡ int_eq (key_in attribute (get_or rows i no_row)) key) where
+  pub lacks_ahead : LacksKey key (keys attribute rows) old.from old.slots → ahead old rows ≡ []
+  lacks_ahead lacks = ahead_none old rows (λ i a b. same i ∙ sym (key_of_slot attribute key rows i) ∙ lacks i a b)
+
+  pub found_ahead : (slot : ℕ) → IsMovedBy (Some slot) old new → IsFirstOf key (keys attribute rows) old.from slot → ahead old rows ≡ slot ∷ ahead new rows
+  found_ahead slot moved first =
+      ahead_first new old rows slot moved.3 moved.2 moved.0 first.order (moved.5)
+      (same slot ∙ sym (key_of_slot attribute key rows slot) ∙ first.here) (λ i a b. same i ∙ sym (key_of_slot attribute key rows i) ∙ first.before i a b)
+
+pub moved_waits : (old new : Candidates) (rows : List Row) (slot : ℕ) → IsMovedBy (Some slot) old new → Waits old rows → KnowsRows new.search rows new.from new.end new.slots → Waits new rows
+moved_waits old new rows slot moved waits knows =
+    let few = waits.few in
+    let small = waits.small in
+    let from = moved.0 in
+    let end = moved.1 in
+    let slots = moved.2 in
+    let below = moved.5 in
+    record {
+      few = omega (arith, few, slots);
+      small = omega (arith, small, slots);
+      order = omega (arith, from, end, slots, below);
+      within = omega (arith, end);
+      knows = knows;
+    }
+
+no_slots : (c : Candidates) (rows : List Row) → c.slots ≡ 0 → ahead c rows ≡ []
+no_slots c rows none = ahead_none c rows (λ i a b. absurd (omega (arith, none, b)))
+
+module _ (old new : Candidates) (state : State) (tables : Tables) (rows : List Row) (attribute file : ℕ) (key : ℤ) (is : old.search ≡ by.Tree attribute file key) (fits : Fits old state tables rows) where
+  tests : (i : ℕ) → takes old.search (get_or rows i no_row) ≡ int_eq (key_in attribute (get_or rows i no_row)) key
+  tests i = ap (λ (s : Search). takes s (get_or rows i no_row)) is
+
+  placed : 0 < old.slots → HasPlace state file key (keys attribute rows) old
+  placed some = let I : Search → Type 0 = λ s. HasIndex s old.place state tables rows old.from in subst I is (fits.index some)
+
+  enough : old.slots ≤ length (keys attribute rows)
+  enough = let few = fits.waits.few in let same = length_keys attribute rows in omega (arith, few, same)
+
+  tree_option : (r : Option ℕ) → (HasPlace state file key (keys attribute rows) old → old.slots ≤ length (keys attribute rows)
+        → MatchOption r (LacksKey key (keys attribute rows) old.from old.slots) (λ slot. IsFirstOf key (keys attribute rows) old.from slot × HasPlace state file key (keys attribute rows) new))
+      → IsMovedBy r old new → MatchOption r (ahead old rows ≡ []) (λ slot. (ahead old rows ≡ slot ∷ ahead new rows) × Fits new state tables rows)
+  tree_option None found moved = ⊎_elim (λ none. no_slots old rows none) (λ some. lacks_ahead old new rows attribute key tests (found (placed some) enough)) (zero_or_some old.slots)
+  tree_option (Some slot) found moved =
+      let below = moved.5 in
+      let h = found (placed (omega (arith, below))) enough in
+      let searched : new.search ≡ by.Tree attribute file key = moved.3 ∙ is in
+      let N : Search → Type 0 = λ s. KnowsRows s rows new.from new.end new.slots in
+      let I : Search → Type 0 = λ s. HasIndex s new.place state tables rows new.from in
+      (
+        found_ahead old new rows attribute key tests slot moved h.0,
+        record { waits = moved_waits old new rows slot moved fits.waits (subst N (sym searched) tt); index = λ _. subst I (sym searched) h.1 },
+      )
+
+  abbrev pub walk_of : Candidates → ℕ
+  walk_of c = walk_left (keys_beside key (keys attribute rows)) c.place
+
+  left : (c : Candidates) → c.search ≡ by.Tree attribute file key → reads_ahead c rows ≡ 15 + walk_left (keys_beside key (keys attribute rows)) c.place + 9 * (length (ahead c rows) + 1)
+  left c e = ap (λ (s : Search). reads_by s c.place rows (length (ahead c rows))) e ∙ omega arith
+
+  pub tree_result : (r : Result (Option ℕ) Failed) → IfOk r (λ found. (ks : List ℤ) → HasPlace state file key ks old → old.slots ≤ length ks
+        → MatchOption found (LacksKey key ks old.from old.slots) (λ slot. IsFirstOf key ks old.from slot × HasPlace state file key ks new))
+      → IfOk r (λ found. IsMovedBy found old new) → IfOk r (λ found. MatchOption found (ahead old rows ≡ []) (λ slot. (ahead old rows ≡ slot ∷ ahead new rows) × Fits new state tables rows))
+  tree_result (Ok found) h moved = tree_option found (h (keys attribute rows)) moved
+  tree_result (Err e) h moved = tt
+
+  spent : (before after : ℕ) (found : Option ℕ) → IsMovedBy found old new
+      → MatchOption found (ahead old rows ≡ []) (λ slot. (ahead old rows ≡ slot ∷ ahead new rows) × Fits new state tables rows)
+      → MatchOption found (after + walk_of new ≤ before + walk_of old) (λ _. after + walk_of new ≤ before + walk_of old + 9)
+      → after + reads_ahead new rows ≤ before + reads_ahead old rows
+  spent before after None moved next h =
+      let same : ahead new rows ≡ ahead old rows = ahead_by new old rows old.from moved.3 moved.2 moved.0 in
+      let n : length (ahead new rows) ≡ length (ahead old rows) = ap (λ (xs : List ℕ). length xs) same in
+      let a = left old is in
+      let b = left new (moved.3 ∙ is) in
+      omega (arith, a, b, n, h)
+  spent before after (Some slot) moved next h =
+      let n : length (ahead old rows) ≡ length (ahead new rows) + 1 = ap (λ (xs : List ℕ). length xs) next.0 ∙ omega arith in
+      let a = left old is in
+      let b = left new (moved.3 ∙ is) in
+      omega (arith, a, b, n, h)
+
+  idle : old.slots ≡ 0 → old.slots ≤ old.from
+  idle none = omega (arith, none)
+
+  pub tree_reads : (before after : ℕ) (r : Result (Option ℕ) Failed) → (old.slots ≤ old.from → after ≡ before) → (old.slots ≤ old.from → new ≡ old) → IfOk r (λ found. IsMovedBy found old new)
+      → IfOk r (λ found. MatchOption found (ahead old rows ≡ []) (λ slot. (ahead old rows ≡ slot ∷ ahead new rows) × Fits new state tables rows))
+      → (HasPlace state file key (keys attribute rows) old → old.slots ≤ length (keys attribute rows)
+        → IfOk r (λ found. MatchOption found (after + walk_of new ≤ before + walk_of old) (λ _. after + walk_of new ≤ before + walk_of old + 9)))
+      → OnOk r (after + reads_ahead new rows ≤ before + reads_ahead old rows)
+  tree_reads before after (Ok found) unread over moved next h =
+      ⊎_elim
+      (λ none. let n = ap (λ (c : Candidates). reads_ahead c rows) (over (idle none)) in let m = unread (idle none) in omega (arith, n, m))
+      (λ some. spent before after found moved next (h (placed some) enough))
+      (zero_or_some old.slots)
+  tree_reads before after (Err e) unread over moved next h = tt
+
+-- ---- by a table
+
+module _ (old new : Candidates) (state : State) (tables : Tables) (rows : List Row) (attribute : ℕ) (number : TableId) (key : ℤ) (is : old.search ≡ by.Table attribute number key) (fits : Fits old state tables rows) where
+  trials : (i : ℕ) → takes old.search (get_or rows i no_row) ≡ int_eq (key_in attribute (get_or rows i no_row)) key
+  trials i = ap (λ (s : Search). takes s (get_or rows i no_row)) is
+
+  entered : 0 < old.slots → entries tables number ≡ keys attribute rows
+  entered some = let I : Search → Type 0 = λ s. HasIndex s old.place state tables rows old.from in subst I is (fits.index some)
+
+  reached : entries tables number ≡ keys attribute rows → old.slots ≤ length (entries tables number)
+  reached e = let few = fits.waits.few in let n = length_keys attribute rows in let m : length (entries tables number) ≡ length (keys attribute rows) = ap (λ (xs : List ℤ). length xs) e in omega (arith, few, n, m)
+
+  pub table_next : (r : Option ℕ) → (old.slots ≤ length (entries tables number) → MatchOption r (LacksKey key (entries tables number) old.from old.slots) (λ slot. IsFirstOf key (entries tables number) old.from slot))
+      → IsMovedBy r old new → MatchOption r (ahead old rows ≡ []) (λ slot. (ahead old rows ≡ slot ∷ ahead new rows) × Fits new state tables rows)
+  table_next None found moved =
+      ⊎_elim (λ none. no_slots old rows none)
+      (λ some. let e = entered some in let P : List ℤ → Type 0 = λ ks. LacksKey key ks old.from old.slots in lacks_ahead old new rows attribute key trials (subst P e (found (reached e))))
+      (zero_or_some old.slots)
+  table_next (Some slot) found moved =
+      let below = moved.5 in
+      let e = entered (omega (arith, below)) in
+      let P : List ℤ → Type 0 = λ ks. IsFirstOf key ks old.from slot in
+      let searched : new.search ≡ by.Table attribute number key = moved.3 ∙ is in
+      let N : Search → Type 0 = λ s. KnowsRows s rows new.from new.end new.slots in
+      let I : Search → Type 0 = λ s. HasIndex s new.place state tables rows new.from in
+      (
+        found_ahead old new rows attribute key trials slot moved (subst P e (found (reached e))),
+        record { waits = moved_waits old new rows slot moved fits.waits (subst N (sym searched) tt); index = λ _. subst I (sym searched) e },
+      )
+
+-- ---- whatever the rows
+
+module _ (old new : Candidates) (state : State) (tables : Tables) (attribute file : ℕ) (key : ℤ) (is : old.search ≡ by.Tree attribute file key) where
+  pub tree_all : (r : Result (Option ℕ) Failed) → IfOk r (λ found. (ks : List ℤ) → HasPlace state file key ks old → old.slots ≤ length ks
+        → MatchOption found (LacksKey key ks old.from old.slots) (λ slot. IsFirstOf key ks old.from slot × HasPlace state file key ks new))
+      → IfOk r (λ found. IsMovedBy found old new)
+      → IfOk r (λ found. (rows : List Row) → Fits old state tables rows → MatchOption found (ahead old rows ≡ []) (λ slot. (ahead old rows ≡ slot ∷ ahead new rows) × Fits new state tables rows))
+  tree_all (Ok found) h moved = λ rows fits. tree_result old new state tables rows attribute file key is fits (Ok found) h moved
+  tree_all (Err e) h moved = tt
+
+  pub reads_all : (before after : ℕ) (r : Result (Option ℕ) Failed) → (old.slots ≤ old.from → after ≡ before) → (old.slots ≤ old.from → new ≡ old)
+      → IfOk r (λ found. (ks : List ℤ) → HasPlace state file key ks old → old.slots ≤ length ks
+        → MatchOption found (LacksKey key ks old.from old.slots) (λ slot. IsFirstOf key ks old.from slot × HasPlace state file key ks new))
+      → IfOk r (λ found. IsMovedBy found old new)
+      → ((ks : List ℤ) → HasPlace state file key ks old → old.slots ≤ length ks
+        → IfOk r (λ found. MatchOption found (after + walk_left (keys_beside key ks) new.place ≤ before + walk_left (keys_beside key ks) old.place) (λ _. after + walk_left (keys_beside key ks) new.place ≤ before + walk_left (keys_beside key ks) old.place + 9)))
+      → OnOk r ((rows : List Row) → Fits old state tables rows → after + reads_ahead new rows ≤ before + reads_ahead old rows)
+  reads_all before after (Ok found) unread over h moved spends = λ rows fits.
+      tree_reads old new state tables rows attribute file key is fits before after (Ok found) unread over moved (tree_result old new state tables rows attribute file key is fits (Ok found) h moved) (spends (keys attribute rows))
+  reads_all before after (Err e) unread over h moved spends = tt
+
+-- ---- the two halves
+
+pub ahead_of : (A B : Type 0) (C : ℕ → Type 0) (r : Option ℕ) → MatchOption r A (λ slot. C slot × B) → MatchOption r A C
+ahead_of A B C None h = h
+ahead_of A B C (Some slot) h = h.0
+
+pub fits_of : (A B : Type 0) (C : ℕ → Type 0) (r : Option ℕ) → MatchOption r A (λ slot. C slot × B) → IfSome r (λ slot. B)
+fits_of A B C None h = tt
+fits_of A B C (Some slot) h = h.1
+
+module _ (old new : Candidates) (state : State) (tables : Tables) where
+  pub all_ahead : (r : Result (Option ℕ) Failed) → IfOk r (λ found. (rows : List Row) → Fits old state tables rows → MatchOption found (ahead old rows ≡ []) (λ slot. (ahead old rows ≡ slot ∷ ahead new rows) × Fits new state tables rows))
+      → IfOk r (λ found. (rows : List Row) → Fits old state tables rows → MatchOption found (ahead old rows ≡ []) (λ slot. ahead old rows ≡ slot ∷ ahead new rows))
+  all_ahead (Ok found) h = λ rows fits. ahead_of (ahead old rows ≡ []) (Fits new state tables rows) (λ slot. ahead old rows ≡ slot ∷ ahead new rows) found (h rows fits)
+  all_ahead (Err e) h = tt
+
+  pub all_fits : (r : Result (Option ℕ) Failed) → IfOk r (λ found. (rows : List Row) → Fits old state tables rows → MatchOption found (ahead old rows ≡ []) (λ slot. (ahead old rows ≡ slot ∷ ahead new rows) × Fits new state tables rows))
+      → IfOk r (λ found. (rows : List Row) → Fits old state tables rows → IfSome found (λ slot. Fits new state tables rows))
+  all_fits (Ok found) h = λ rows fits. fits_of (ahead old rows ≡ []) (Fits new state tables rows) (λ slot. ahead old rows ≡ slot ∷ ahead new rows) found (h rows fits)
+  all_fits (Err e) h = tt
+
+-- ---- what is known of the rows
+
+pub waits_by : (old new : Candidates) (r : Option ℕ) (s : Search) → old.search ≡ s → ((rows : List Row) (from end slots : ℕ) → KnowsRows s rows from end slots) → IsMovedBy r old new → (rows : List Row) → Waits old rows → Waits new rows
+waits_by old new None s is free moved rows w =
+    let from = moved.0 in
+    let end = moved.1 in
+    let slots = moved.2 in
+    let few = w.few in
+    let small = w.small in
+    let order = w.order in
+    let within = w.within in
+    record {
+      few = omega (arith, few, slots);
+      small = omega (arith, small, slots);
+      order = omega (arith, order, from, end);
+      within = omega (arith, within, end, slots);
+      knows = subst (λ (t : Search). KnowsRows t rows new.from new.end new.slots) (sym (moved.3 ∙ is)) (free rows new.from new.end new.slots);
+    }
+waits_by old new (Some slot) s is free moved rows w = moved_waits old new rows slot moved w (subst (λ (t : Search). KnowsRows t rows new.from new.end new.slots) (sym (moved.3 ∙ is)) (free rows new.from new.end new.slots))
+
+pub waits_all : (old new : Candidates) (r : Result (Option ℕ) Failed) (s : Search) → old.search ≡ s → ((rows : List Row) (from end slots : ℕ) → KnowsRows s rows from end slots) → IfOk r (λ found. IsMovedBy found old new) → OnOk r ((rows : List Row) → Waits old rows → Waits new rows)
+waits_all old new (Ok found) s is free moved = waits_by old new found s is free moved
+waits_all old new (Err e) s is free moved = tt
+
+-- in the order of the slots, up to an end
+pub waits_below : (old new : Candidates) (r : Option ℕ) (end : ℕ) → IsMoved r old new → MatchOption r (new.end ≡ old.end) (λ slot. (new.end ≡ end) × (slot < end)) → IfSome r (λ slot. slot ≡ old.from)
+    → ((rows : List Row) → Waits old rows → (end ≤ old.slots) × ((from : ℕ) → old.from ≤ from → KnowsRows old.search rows from end old.slots)) → (rows : List Row) → Waits old rows → Waits new rows
+waits_below old new None end moved stop at knows rows w = subst (λ (c : Candidates). Waits c rows) (sym moved) w
+waits_below old new (Some slot) end moved stop at knows rows w =
+    let from = moved.0 in
+    let slots = moved.1 in
+    let few = w.few in
+    let small = w.small in
+    let k = knows rows w in
+    let last = stop.0 in
+    let below = stop.1 in
+    let short = k.0 in
+    let known : KnowsRows old.search rows new.from end old.slots = k.1 new.from (omega (arith, from, at)) in
+    record {
+      few = omega (arith, few, slots);
+      small = omega (arith, small, slots);
+      order = omega (arith, from, last, below);
+      within = omega (arith, last, short, slots);
+      knows = subst (λ (t : Search). KnowsRows t rows new.from new.end new.slots) (sym moved.2) (subst (λ (n : ℕ). KnowsRows old.search rows new.from n new.slots) (sym last) (subst (λ (n : ℕ). KnowsRows old.search rows new.from end n) (sym slots) known));
+    }
+
+pub order_known : (c : Candidates) (attribute : ℕ) (range : Range) → c.search ≡ by.Order attribute range → (rows : List Row) → Waits c rows → (c.end ≤ c.slots) × ((from : ℕ) → c.from ≤ from → KnowsRows c.search rows from c.end c.slots)
+order_known c attribute range is rows w =
+    let knows = subst (λ (s : Search). KnowsRows s rows c.from c.end c.slots) is w.knows in
+    (w.within, λ from h. subst (λ (s : Search). KnowsRows s rows from c.end c.slots) (sym is) (λ i a b. knows.0 i (omega (arith, h, a)) b, λ i a b. knows.1 i a b))
+
+pub scan_known : (c : Candidates) → c.search ≡ by.Scan → (rows : List Row) → Waits c rows → (c.slots ≤ c.slots) × ((from : ℕ) → c.from ≤ from → KnowsRows c.search rows from c.slots c.slots)
+scan_known c is rows w = (omega arith, λ from h. subst (λ (s : Search). KnowsRows s rows from c.slots c.slots) (sym is) tt)
+
+-- a first slot in the words of a table
+pub first_same : (key : ℤ) (keys : List ℤ) (from slot : ℕ) → table.IsFirstOf key keys from slot → IsFirstOf key keys from slot
+first_same key keys from slot f = record { order = f.order; within = f.within; here = f.here; before = f.before }
