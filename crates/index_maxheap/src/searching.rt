@@ -180,7 +180,7 @@ fn walk<V: Files>(
         → IsStart (bytes_at (V.state files.old).files index) keys key.now from start
         → IfOk result (λ r. MatchOption r (HasNone key.now keys from)
         (λ f. IsFirstOf key.now keys from f.slot
-            × IsPlaceOf (bytes_at (V.state files.old).files index) keys key.now (f.slot + 1) (Some f.place))) }
+        × IsPlaceOf (bytes_at (V.state files.old).files index) keys key.now (f.slot + 1) (Some f.place))) }
     ensures forward { IfOk result (λ r. IfSome r (λ f. from ≤ f.slot)) }
     ensures same { OnOk result (V.state files.new ≡ V.state files.old) }
     ensures reads { IsTrue (V.state files.old).tells → (keys : List ℤ)
@@ -239,7 +239,7 @@ pub fn next<V: Files>(
         → IsPlaceOf (bytes_at (V.state files.old).files index) keys key.now from place
         → IfOk result (λ r. MatchOption r (HasNone key.now keys from)
         (λ f. IsFirstOf key.now keys from f.slot
-            × IsPlaceOf (bytes_at (V.state files.old).files index) keys key.now (f.slot + 1) (Some f.place))) }
+        × IsPlaceOf (bytes_at (V.state files.old).files index) keys key.now (f.slot + 1) (Some f.place))) }
     ensures forward { IfOk result (λ r. IfSome r (λ f. from ≤ f.slot)) }
     ensures same { OnOk result (V.state files.new ≡ V.state files.old) }
     ensures reads { IsTrue (V.state files.old).tells → (keys : List ℤ)

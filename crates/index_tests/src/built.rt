@@ -1,0 +1,79 @@
+ghost use Rattle.std.specs.Prelude.{◌≡◌, OnOk};
+ghost use Rattle.afl_base.specs.Files.{IsLive};
+
+use crate::trees::{built_tree, column};
+use afl_base::{Failed, FileId, Files, Kind, Name, get_u16};
+use afl_sim::PlainFiles;
+use index_maxheap::verify;
+use std::test::Fail;
+
+// 256 rows of one key.
+fn rows_of(low: u8, high: u8) -> [u8; 768] {
+    let mut rows = [1; 768];
+    for row in 0..256usize {
+        rows[3 * row] = low;
+        rows[3 * row + 1] = high;
+    }
+    rows
+}
+
+// The numbers that stand at five places.
+fn numbers_at<V: Files>(files: &mut V, index: FileId, places: [u32; 5]) -> Result<[u16; 5], Failed>
+    requires live { IsLive (V.state files.old).files index }
+    ensures same { OnOk result (V.state files.new ≡ V.state files.old) }
+{
+    let mut numbers = [9; 5];
+    for i in 0..5usize {
+        let mut two = [0; 2];
+        if places[i] < 16_000 && places[i] + 2 <= files.size(index) {
+            files.read(index, places[i], &mut two)?;
+            numbers[i] = get_u16(&two, 0);
+        }
+    }
+    Ok(numbers)
+}
+
+#[test]
+fn equal_keys_fill_a_path_and_its_chain(rt: HostRuntime) -> Result<(), Fail> {
+    let mut files: PlainFiles<4064> = PlainFiles::new();
+    let t = Name::new(b"T0").ok_or("no name")?;
+    let x = Name::new(b"X0").ok_or("no name")?;
+    assert_eq!(rt; files.find(t), None);
+    let rows = files.create(t, Kind::Doubling)?;
+    let bytes = rows_of(7, 0);
+    assert_eq!(rt; bytes[767], 1);
+    files.prepare(rows, 0, 768)?;
+    files.append(rows, &bytes)?;
+    assert_eq!(rt; files.size(rows), 768);
+    assert_eq!(rt; files.find(x), None);
+    let index = built_tree(&mut files, x, rows, 256)?;
+    assert_eq!(rt; files.size(index), 2243);
+    let nodes = numbers_at(&mut files, index, [0, 2 * 4, 2 * 18, 2 * 73, 2 * 293])?;
+    assert_eq!(rt; nodes, [1, 2, 3, 4, 5]);
+    let chain = numbers_at(&mut files, index, [2 * 5, 1655, 1850, 2045, 2240])?;
+    assert_eq!(rt; chain, [0, 6, 7, 8, 0]);
+    assert!(rt; files.live(rows));
+    assert_eq!(rt; files.size(rows), 768);
+    assert!(rt; verify(&mut files, index, column(rows), 256)?);
+    assert!(rt; !verify(&mut files, index, column(rows), 255)?);
+    Ok(())
+}
+
+#[test]
+fn a_key_below_zero_has_its_path(rt: HostRuntime) -> Result<(), Fail> {
+    let mut files: PlainFiles<4064> = PlainFiles::new();
+    let t = Name::new(b"T0").ok_or("no name")?;
+    let x = Name::new(b"X0").ok_or("no name")?;
+    assert_eq!(rt; files.find(t), None);
+    let rows = files.create(t, Kind::Doubling)?;
+    let bytes = rows_of(255, 255);
+    assert_eq!(rt; bytes[767], 1);
+    files.prepare(rows, 0, 768)?;
+    files.append(rows, &bytes)?;
+    assert_eq!(rt; files.size(rows), 768);
+    assert_eq!(rt; files.find(x), None);
+    let index = built_tree(&mut files, x, rows, 256)?;
+    let nodes = numbers_at(&mut files, index, [0, 2, 2 * 5, 2 * 21, 2 * 85])?;
+    assert_eq!(rt; nodes, [1, 2, 3, 4, 5]);
+    Ok(())
+}
