@@ -243,7 +243,12 @@ impl Candidates {
     }
 
     // The next slot of a key, by a tree.
-    fn next_in_tree<V: Files>(&mut self, files: &mut V, file: FileId, key: &i32) -> Result<Option<SlotNo>, Failed>
+    fn next_in_tree<V: Files>(
+        &mut self,
+        files: &mut V,
+        file: FileId,
+        key: &i32,
+    ) -> Result<Option<SlotNo>, Failed>
         requires live { 0 < self.old.slots → IsLive (V.state files.old).files file }
         ensures next { IsTrue (V.state files.old).tells → IfOk result (λ found. (keys : List ℤ) → HasPlace (V.state files.old) file key.now keys self.old → self.old.slots ≤ length keys
             → MatchOption found (LacksKey key.now keys self.old.from self.old.slots) (λ slot. IsFirstOf key.now keys self.old.from slot × HasPlace (V.state files.old) file key.now keys self.new)) }
@@ -257,8 +262,8 @@ impl Candidates {
         ensures over { self.old.slots ≤ self.old.from → self.new ≡ self.old }
         ensures reads { IsTrue (V.state files.old).tells → (keys : List ℤ) → HasPlace (V.state files.old) file key.now keys self.old → self.old.slots ≤ length keys
             → IfOk result (λ found. MatchOption found
-                (V.reads files.new + walk_left (keys_beside key.now keys) self.new.place ≤ V.reads files.old + walk_left (keys_beside key.now keys) self.old.place)
-                (λ _. V.reads files.new + walk_left (keys_beside key.now keys) self.new.place ≤ V.reads files.old + walk_left (keys_beside key.now keys) self.old.place + 9)) }
+            (V.reads files.new + walk_left (keys_beside key.now keys) self.new.place ≤ V.reads files.old + walk_left (keys_beside key.now keys) self.old.place)
+            (λ _. V.reads files.new + walk_left (keys_beside key.now keys) self.new.place ≤ V.reads files.old + walk_left (keys_beside key.now keys) self.old.place + 9)) }
         ensures reads_err { IsTrue (V.state files.old).tells → (keys : List ℤ) → HasPlace (V.state files.old) file key.now keys self.old
             → V.reads files.new ≤ V.reads files.old + walk_left (keys_beside key.now keys) self.old.place }
         ensures reads_later { V.reads files.old ≤ V.reads files.new }
