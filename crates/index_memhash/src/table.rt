@@ -98,7 +98,8 @@ impl HashTable {
     /// there is none. Every place is good, also after later inserts. A search touches the entries of one
     /// chain alone, and goes on from the entry that was answered last.
     pub fn next(&self, place: HashPlace, key: &i32) -> Option<(SlotNo, HashPlace)>
-        ensures { MatchOption result (HasNone key.now self.now place.entry) (λ found. IsFirstOf key.now self.now place.entry found.0 × (found.1.entry ≡ found.0 + 1)) }
+        ensures { MatchOption result (HasNone key.now self.now place.entry)
+            (λ found. IsFirstOf key.now self.now place.entry found.0 × (found.1.entry ≡ found.0 + 1)) }
     {
         let slot = find(
             &self.keys,
