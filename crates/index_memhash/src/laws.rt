@@ -9,7 +9,8 @@ ghost use Rattle.index_memhash.specs.Keys.{HasNone, IsFirstOf};
 /// nothing it leads to what was put in later.
 #[tactic(auto, using(crate::proofs::Later::still_first, crate::proofs::Later::later_first, crate::proofs::Later::later_none))]
 pub fn places_stay_good()
-    ensures found { (key : ℤ) (keys more : List ℤ) (from slot : ℕ) → IsFirstOf key keys from slot → IsFirstOf key (keys ++ more) from slot }
+    ensures found { (key : ℤ) (keys more : List ℤ) (from slot : ℕ) → IsFirstOf key keys from slot
+        → IsFirstOf key (keys ++ more) from slot }
     ensures later { (key : ℤ) (keys more : List ℤ) (from slot : ℕ) → HasNone key keys from → from ≤ length keys
         → IsFirstOf key (keys ++ more) (length keys) slot → IsFirstOf key (keys ++ more) from slot }
     ensures none { (key : ℤ) (keys more : List ℤ) (from : ℕ) → HasNone key keys from

@@ -1,15 +1,15 @@
 -- Where candidates begin, by each plan.
-use Rattle.std.proofs.Common.{◌≡◌, ◌≤◌, ◌<◌, ◌+◌, ◌-◌, ◌*◌, ◌/◌, ℕ, ℤ, pos, zero, suc, List, [], ◌∷◌, ◌++◌, length, get_or, map, take, Bool, true, false, cond, Option, Some, None, refl, arith, ap, ◌∙◌, sym, subst, IsTrue}
-use Rattle.std.specs.Prelude.{⊤, ◌&&◌, int_lt, int_le}
+use Rattle.std.proofs.Common.{◌≡◌, ◌≤◌, ◌<◌, ◌+◌, ◌-◌, ◌*◌, ℕ, ℤ, zero, suc, List, [], ◌∷◌, length, get_or, Bool, true, false, Option, None, refl, arith, ap, ◌∙◌, sym, subst}
+use Rattle.std.specs.Prelude.{◌&&◌, int_le}
 use Rattle.index_maxheap.specs.declared.places.Place.{Place}
-use Rattle.std.specs.List.{AllByRecursion, filter, range_with_len}
+use Rattle.std.specs.List.{filter, range_with_len}
 use Rattle.std.specs.Ordering.{int_eq}
 use Rattle.std.proofs.lemmas.Int.{ints}
-use Rattle.afl_base.specs.Files.{State, IsLive, bytes_at}
+use Rattle.afl_base.specs.Files.{State, IsLive}
 use Rattle.afl_base.specs.KeyColumn.{key_of}
 use Rattle.db_model.specs.declared.schemas.Range.{Range}
 use Rattle.db_model.specs.declared.schemas.Range.TheVariants.{Empty, Between}
-use Rattle.db_model.specs.Cost.{begin_cost, bits, chosen_cost, keys_beside, keys_equal, keys_in, plan_cost}
+use Rattle.db_model.specs.Cost.{begin_cost, chosen_cost, keys_beside, keys_equal, keys_in, plan_cost}
 use Rattle.db_model.specs.Plan as model
 use Rattle.db_model.specs.Plan.{ByOrder, ByTable, ByTree, Nothing, Scan, lies_in, passes, place_at, plan, range_at}
 use Rattle.db_model.specs.Row.{Row}
@@ -25,15 +25,13 @@ use Rattle.index_set.specs.declared.info.Access.TheVariants.{Order, Tree, Table 
 use Rattle.index_set.specs.declared.info.IndexInfo.{IndexInfo}
 use Rattle.index_set.specs.declared.info.TableId.{TableId}
 use Rattle.index_set.specs.Complete.{AreIndexesOf, AreReadable, HasKeys, HasTree, IsComplete, IsIndexOf, IsReadable, key_in, no_row}
-use Rattle.index_set.specs.Inserts.{SomeOf}
 use Rattle.index_set.specs.Plans.{kinds, slots_passed}
-use Rattle.index_set.specs.Tables.{Tables, entries}
-use Rattle.index_set.specs.Walks.{Fits, HasIndex, IsChosen, IsSafeBy, KnowsRows, Waits, ahead, cost_ahead, reads_by, slots_in, takes}
+use Rattle.index_set.specs.Tables.{Tables}
+use Rattle.index_set.specs.Walks.{Fits, IsChosen, KnowsRows, Waits, ahead, cost_ahead, reads_by, slots_in, takes}
 use Rattle.index_set.proofs.Costs.{all_counted, few_counted}
 use Rattle.index_set.proofs.Fronts.{keys_front, level_front}
 use Rattle.index_set.proofs.Lists.{here_of, some_of}
 use Rattle.index_set.proofs.Slots.{between_pass, between_same}
-use Rattle.index_tree.specs.Trees.{IsTreeOf}
 
 -- the attribute's place of the index with a number
 place_of : (xs : List IndexInfo) (n : ℕ) (y : IndexInfo) → n < length xs → y ≡ get_or xs n y → place_at (kinds xs) n ≡ y.attribute
@@ -49,8 +47,8 @@ module _ (infos : List IndexInfo) (ranges : List Range) (slots : ℕ) where
       let none : slots - 0 ≡ slots = omega arith in
       let P : model.Plan → Type 0 = λ q. slots_in s all 0 slots ≡ filter (λ slot. passes (kinds infos) ranges q (λ place. key_in place (get_or all slot no_row))) (range_with_len 0 slots) in
       subst P (sym is)
-        (between_same (λ slot. takes s (get_or all slot no_row)) (λ slot. passes (kinds infos) ranges p (λ place. key_in place (get_or all slot no_row))) 0 slots (λ i a b. same (get_or all i no_row))
-        ∙ ap (λ (n : ℕ). filter (λ slot. passes (kinds infos) ranges p (λ place. key_in place (get_or all slot no_row))) (range_with_len 0 n)) none)
+      (between_same (λ slot. takes s (get_or all slot no_row)) (λ slot. passes (kinds infos) ranges p (λ place. key_in place (get_or all slot no_row))) 0 slots (λ i a b. same (get_or all i no_row))
+      ∙ ap (λ (n : ℕ). filter (λ slot. passes (kinds infos) ranges p (λ place. key_in place (get_or all slot no_row))) (range_with_len 0 n)) none)
 
   pub begun_ahead : (c : Candidates) (s : Search) (p : model.Plan) → c.search ≡ s → c.from ≡ 0 → c.slots ≡ slots → plan (kinds infos) ranges ≡ p
       → ((row : Row) → takes s row ≡ passes (kinds infos) ranges p (λ place. key_in place row)) → (all : List Row) → ahead c all ≡ slots_passed (kinds infos) ranges slots all
@@ -85,13 +83,13 @@ module _ (infos : List IndexInfo) (ranges : List Range) (slots : ℕ) where
       let none : length (slots_in by.Nothing all 0 slots) ≤ 0 = none_taken slots all in
       let cost = ahead_cost c by.Nothing (length (slots_in by.Nothing all 0 slots)) all searched rests count in
       cost_by Nothing all (cost_ahead c all) is (omega (arith, none, cost))
-      where
-        none_in : (from n : ℕ) → length (filter (λ slot. false) (range_with_len from n)) ≤ 0
-        none_in from zero = omega arith
-        none_in from (suc n) = none_in (from + 1) n
+    where
+      none_in : (from n : ℕ) → length (filter (λ slot. false) (range_with_len from n)) ≤ 0
+      none_in from zero = omega arith
+      none_in from (suc n) = none_in (from + 1) n
 
-        none_taken : (n : ℕ) (all : List Row) → length (slots_in by.Nothing all 0 n) ≤ 0
-        none_taken n all = none_in 0 (n - 0)
+      none_taken : (n : ℕ) (all : List Row) → length (slots_in by.Nothing all 0 n) ≤ 0
+      none_taken n all = none_in 0 (n - 0)
 
   pub scan_cost : (c : Candidates) → c.search ≡ by.Scan → c.place ≡ None → plan (kinds infos) ranges ≡ Scan → (all : List Row) → slots ≤ length all → ahead c all ≡ slots_passed (kinds infos) ranges slots all
       → begin_cost slots (plan (kinds infos) ranges) + cost_ahead c all ≤ chosen_cost (kinds infos) ranges all
@@ -228,7 +226,7 @@ module _ (infos : List IndexInfo) (ranges : List Range) (slots : ℕ) where
           let most : length (filter (λ slot. takes s (get_or all slot no_row)) (range_with_len 0 slots)) ≤ keys_in range (keys y.attribute all) = few_counted (lies_in range) y.attribute all slots few in
           let cost = ahead_cost c s (length (filter (λ slot. takes s (get_or all slot no_row)) (range_with_len 0 slots))) all searched rests found in
           let same : keys_in (range_at ranges (place_at (kinds infos) nth)) (keys (place_at (kinds infos) nth) all) ≡ keys_in range (keys y.attribute all) =
-              ap (λ (n : ℕ). keys_in (range_at ranges n) (keys n all)) attribute_is ∙ ap (λ (r : Range). keys_in r (keys y.attribute all)) (sym range_is) in
+          ap (λ (n : ℕ). keys_in (range_at ranges n) (keys n all)) attribute_is ∙ ap (λ (r : Range). keys_in r (keys y.attribute all)) (sym range_is) in
           let digits = bits_grow slots (length all) few in
           cost_by (ByOrder nth) all (cost_ahead c all) is (omega (arith, most, cost, same, digits))
 

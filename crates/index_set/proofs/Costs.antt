@@ -1,5 +1,5 @@
 -- As many slots as keys pass a test, and what each plan may read.
-use Rattle.std.proofs.Common.{◌≡◌, ◌≤◌, ◌<◌, ◌+◌, ◌-◌, ◌*◌, ◌/◌, ℕ, ℤ, zero, suc, List, [], ◌∷◌, length, get_or, map, Bool, true, false, cond, refl, arith, ap, ◌∙◌, sym}
+use Rattle.std.proofs.Common.{◌≡◌, ◌≤◌, ◌+◌, ℕ, ℤ, zero, suc, List, [], ◌∷◌, length, get_or, Bool, true, false, cond, refl, arith, ap, ◌∙◌}
 use Rattle.std.specs.List.{filter, range_with_len}
 use Rattle.db_model.specs.Row.{Row}
 use Rattle.db_model.specs.Step.{keys}
@@ -20,7 +20,7 @@ counted : (test : ℤ → Bool) (attribute : ℕ) (rows : List Row) → length (
 counted test attribute [] = refl
 counted test attribute (row ∷ rows) =
     longer (test (key_in attribute row)) 0 (key_in attribute row) (filter (λ slot. test (key_in attribute (get_or (row ∷ rows) slot no_row))) (range_with_len 1 (length rows))) (filter test (keys attribute rows))
-      (moved (λ slot. test (key_in attribute (get_or (row ∷ rows) slot no_row))) (λ slot. test (key_in attribute (get_or rows slot no_row))) 0 (length rows) (λ i. refl) ∙ counted test attribute rows)
+    (moved (λ slot. test (key_in attribute (get_or (row ∷ rows) slot no_row))) (λ slot. test (key_in attribute (get_or rows slot no_row))) 0 (length rows) (λ i. refl) ∙ counted test attribute rows)
 
 -- of fewer slots no more pass
 with_one : (b : Bool) (x : ℕ) (xs ys : List ℕ) → length xs ≤ length ys → length (cond b (x ∷ xs) xs) ≤ length (cond b (x ∷ ys) ys)

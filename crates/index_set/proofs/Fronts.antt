@@ -1,7 +1,6 @@
 -- The keys of the first rows.
-use Rattle.std.proofs.Common.{◌≡◌, ◌≤◌, ◌<◌, ◌+◌, ℕ, ℤ, pos, zero, suc, List, [], ◌∷◌, length, get_or, map, take, Bool, true, false, cond, Option, Some, None, refl, arith, ap, ◌∙◌, sym, min}
+use Rattle.std.proofs.Common.{◌≡◌, ◌≤◌, ◌<◌, ℕ, ℤ, pos, zero, suc, List, [], ◌∷◌, length, get_or, take, Bool, true, false, cond, Option, Some, None, refl, arith, ap, ◌∙◌, sym}
 use Rattle.std.specs.Prelude.{int_lt}
-use Rattle.std.specs.List.{range_with_len}
 use Rattle.std.proofs.lemmas.List.{ext_get_or, get_or-take, length-take-le, take_all}
 use Rattle.std.proofs.lemmas.List.FromFn.{get_or-map-range_with_len, length-map-range_with_len}
 use Rattle.afl_base.specs.Files.{State}
@@ -28,10 +27,10 @@ keys_front state y all slots few column =
     let size = length-map-range_with_len (key_of state y.column) 0 slots in
     let front = length-take-le slots (keys y.attribute all) (omega (arith, few, n)) in
     ext_get_or (pos 0) (keys_of state y.column slots) (take slots (keys y.attribute all)) (omega (arith, size, front))
-      (λ i below.
-        let h : i < slots = omega (arith, below, size) in
-        get_or-map-range_with_len (key_of state y.column) 0 slots i i (pos 0) h (omega arith) ∙ column i (omega (arith, h, few)) ∙ sym (key_at_slot y.attribute all i)
-        ∙ sym (get_or-take slots (keys y.attribute all) i (pos 0) h))
+    (λ i below.
+    let h : i < slots = omega (arith, below, size) in
+    get_or-map-range_with_len (key_of state y.column) 0 slots i i (pos 0) h (omega arith) ∙ column i (omega (arith, h, few)) ∙ sym (key_at_slot y.attribute all i)
+    ∙ sym (get_or-take slots (keys y.attribute all) i (pos 0) h))
 
 pub keys_whole : (state : State) (y : IndexInfo) (all : List Row) (slots : ℕ) → length all ≡ slots → HasKeys state all y → keys_of state y.column slots ≡ keys y.attribute all
 keys_whole state y all slots count column =

@@ -65,7 +65,7 @@ rows_behind : (old new : List Row) → RowsGrow old new → new ≡ old ++ drop 
 rows_behind old new grow =
     let size = length-take-le (length old) new grow.more in
     let front : take (length old) new ≡ old = ext_get_or no_row (take (length old) new) old size
-        (λ i h. get_or-take (length old) new i no_row (omega (arith, h, size)) ∙ grow.same i (omega (arith, h, size))) in
+    (λ i h. get_or-take (length old) new i no_row (omega (arith, h, size)) ∙ grow.same i (omega (arith, h, size))) in
     sym (take-append-drop (length old) new) ∙ ap (λ (rows : List Row). rows ++ drop (length old) new) front
 
 keys_behind : (attribute : ℕ) (old new : List Row) → RowsGrow old new → keys attribute old ++ keys attribute (drop (length old) new) ≡ keys attribute new
@@ -78,7 +78,7 @@ index_kept (by.Order attribute range) place before now tables tables_now old new
 index_kept (by.Tree attribute file key) place before now tables tables_now old new from grow grown index = (
   grown.0,
   subst (λ (ks : List ℤ). IsPlaceOf (bytes_at now.files file) ks key from place) (keys_behind attribute old new grow)
-    (good_inserts (bytes_at before.files file) (bytes_at now.files file) (keys attribute old) (keys attribute (drop (length old) new)) key from place grown.1 index.1),
+      (good_inserts (bytes_at before.files file) (bytes_at now.files file) (keys attribute old) (keys attribute (drop (length old) new)) key from place grown.1 index.1),
 )
 index_kept (by.Table attribute number key) place before now tables tables_now old new from grow grown index = grown
 

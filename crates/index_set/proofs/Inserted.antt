@@ -1,5 +1,5 @@
 -- Inserts into one index after the other.
-use Rattle.std.proofs.Common.{◌≡◌, ◌≢◌, ℕ, ℤ, zero, suc, ◌+◌, ◌<◌, ◌≤◌, List, [], ◌∷◌, ◌++◌, length, take, get_or, Option, Some, None, unwrap_or, refl, ap, sym, ◌∙◌, subst, arith, IsTrue}
+use Rattle.std.proofs.Common.{◌≡◌, ℕ, ℤ, zero, suc, ◌+◌, ◌<◌, ◌≤◌, List, [], ◌∷◌, ◌++◌, length, take, get_or, Option, unwrap_or, refl, ap, sym, ◌∙◌, subst, arith, IsTrue}
 use Rattle.std.specs.Prelude.{⊤, slice_get}
 use Rattle.std.specs.List.{AllByRecursion}
 use Rattle.afl_base.specs.Files.{File, State, bytes_at, no_file}
@@ -205,8 +205,8 @@ module _ (xs : List IndexInfo) (n : ℕ) (y : IndexInfo) (h : n < length xs) (e 
         let C : List ℤ → Type 0 = λ zs. IsComplete c t2 y.access zs in
         let P : List IndexInfo → Type 0 = λ ys. AreComplete c t2 (rows ++ row ∷ []) ys in
         subst P (sym (taken xs n y h e))
-          (all_more (λ info. IsComplete c t2 info.access (keys info.attribute (rows ++ row ∷ []))) (take n xs) y
-            (complete_before b c t1 t2 y.access g k2 (rows ++ row ∷ []) (take n xs) (before_it xs n y h e apart) before) (subst C (sym same) new))
+        (all_more (λ info. IsComplete c t2 info.access (keys info.attribute (rows ++ row ∷ []))) (take n xs) y
+        (complete_before b c t1 t2 y.access g k2 (rows ++ row ∷ []) (take n xs) (before_it xs n y h e apart) before) (subst C (sym same) new))
 
 pub complete_all : (s : State) (t : Tables) (rows : List Row) (xs : List IndexInfo) (n : ℕ) → length xs ≤ n → AreComplete s t rows (take n xs) → AreComplete s t rows xs
 complete_all s t rows [] n h all = tt

@@ -1,11 +1,9 @@
 -- Indexes of a list one by one, and the rooms of their trees.
 use Rattle.std.proofs.Common.{length-append, ◌≡◌, ◌≢◌, ℕ, ℤ, ◌+◌, ◌<◌, ◌≤◌, List, [], ◌∷◌, ◌++◌, length, take, get_or, zero, suc, add-one, Option, unwrap_or, refl, ap, sym, ◌∙◌, subst, arith, inl, inr, IsTrue}
-use Rattle.std.specs.Prelude.{⊤, Err, slice_get}
+use Rattle.std.specs.Prelude.{Err, slice_get}
 use Rattle.std.specs.List.{AllByRecursion}
 use Rattle.afl_base.specs.declared.kind.FileError.{FileError}
 use Rattle.afl_base.specs.declared.kind.FileError.TheVariants.{Space, Failed}
-use Rattle.afl_base.specs.declared.kind.Kind.{Kind}
-use Rattle.afl_base.specs.declared.kind.Kind.TheVariants.{Doubling}
 use Rattle.afl_base.specs.FileErrors.{OnSpace, UnlessFailed}
 use Rattle.afl_base.specs.Files.{File, IsLive, State, bytes_at, file_at, no_file, place, size_at}
 use Rattle.afl_base.specs.Frames.{Prepares, Spares}
@@ -167,7 +165,7 @@ module _ (xs : List IndexInfo) (n : ℕ) (y : IndexInfo) (h : n < length xs) (e 
         let Q : List IndexInfo → Type 0 = λ ys. P (rooms ++ room ∷ []) ys in
         let R : List Room → Type 0 = λ rs. P rs (take (n + 1) xs) in
         subst R (sym is) (subst Q (sym taken)
-          (rooms_more c rooms (take n xs) room y (count ∙ sym (take_length xs n h)) (rooms_stay b c y.access rooms (take n xs) g.spares (before_it apart) all) here))
+        (rooms_more c rooms (take n xs) room y (count ∙ sym (take_length xs n h)) (rooms_stay b c y.access rooms (take n xs) g.spares (before_it apart) all) here))
 
   pub exact_next : (a : State) (tuple : List Value) (rooms new : List Room) (room : Room) → new ≡ rooms ++ room ∷ [] → length rooms ≡ n → AreRoomFor a tuple rooms (take n xs)
       → IsRoomFor a (key_of (slice_get tuple y.attribute)) room y.access → AreRoomFor a tuple new (take (n + 1) xs)

@@ -1,13 +1,12 @@
 -- The next of the slots that a search has ahead.
-use Rattle.std.proofs.Common.{◌≡◌, ◌≤◌, ◌<◌, ◌+◌, ◌-◌, ◌*◌, ◌/◌, ◌⊎◌, inl, inr, ℕ, ℤ, pos, zero, suc, List, [], ◌∷◌, length, get_or, map, Bool, true, false, Option, Some, None, refl, arith, ap, ◌∙◌, sym, subst, IsTrue}
-use Rattle.std.specs.Prelude.{⊤, Result, Ok, Err, IfOk, OnOk, OnErr, IfSome, MatchOption, min}
+use Rattle.std.proofs.Common.{◌≡◌, ◌≤◌, ◌<◌, ◌+◌, ◌*◌, ◌⊎◌, inl, inr, ℕ, ℤ, zero, suc, List, [], ◌∷◌, length, get_or, true, false, Option, Some, None, refl, arith, ap, ◌∙◌, sym, subst}
+use Rattle.std.specs.Prelude.{Result, Ok, Err, IfOk, OnOk, IfSome, MatchOption}
 use Rattle.std.proofs.Math.Logic.{⊎_elim}
 use Rattle.std.specs.Ordering.{int_eq}
 use Rattle.afl_base.specs.declared.failed.Failed.{Failed}
-use Rattle.afl_base.specs.Files.{State, bytes_at}
+use Rattle.afl_base.specs.Files.{State}
 use Rattle.db_model.specs.declared.schemas.Range.{Range}
 use Rattle.db_model.specs.Cost.{keys_beside}
-use Rattle.db_model.specs.Plan.{lies_in}
 use Rattle.db_model.specs.Row.{Row}
 use Rattle.db_model.specs.Step.{keys}
 use Rattle.index_set.specs.declared.candidates.Candidates.{Candidates}
@@ -17,11 +16,11 @@ use Rattle.index_set.specs.declared.info.TableId.{TableId}
 use Rattle.index_set.specs.Complete.{key_in, no_row}
 use Rattle.index_set.specs.Tables.{Tables, entries}
 use Rattle.index_maxheap.specs.Searches.{walk_left}
-use Rattle.index_tree.specs.Keys.{IsFirstOf, is_key_at}
+use Rattle.index_tree.specs.Keys.{IsFirstOf}
 use Rattle.index_memhash.specs.Keys as table
 use Rattle.index_set.specs.Walks.{Fits, LacksKey, HasIndex, HasPlace, IsMoved, IsMovedBy, KnowsRows, Waits, ahead, reads_ahead, reads_by, slots_in, takes}
 use Rattle.index_set.proofs.Seeks.{key_of_slot}
-use Rattle.index_set.proofs.Slots.{between_first, between_here, between_none}
+use Rattle.index_set.proofs.Slots.{between_first, between_none}
 
 zero_or_some : (n : ℕ) → (n ≡ 0) ⊎ (0 < n)
 zero_or_some zero = inl refl
@@ -70,10 +69,9 @@ order_next old new state tables rows attribute range (Some slot) is fits found m
     let stop = end.0 in
     let searched : new.search ≡ by.Order attribute range = moved.2 ∙ is in
     let N : Search → Type 0 = λ s. KnowsRows s rows new.from new.end new.slots in
-    let I : Search → Type 0 = λ s. HasIndex s new.place state tables rows new.from in
-    (
+    let I : Search → Type 0 = λ s. HasIndex s new.place state tables rows new.from in (
       ahead_first new old rows slot moved.2 slots from (omega (arith, at)) (omega (arith, below, within))
-        (ap (λ (s : Search). takes s (get_or rows slot no_row)) is ∙ knows.0 slot (omega (arith, at)) below) (λ i a b. absurd (omega (arith, at, a, b))),
+          (ap (λ (s : Search). takes s (get_or rows slot no_row)) is ∙ knows.0 slot (omega (arith, at)) below) (λ i a b. absurd (omega (arith, at, a, b))),
       record {
         waits = record {
           few = omega (arith, few, slots);
@@ -128,7 +126,7 @@ module _ (old new : Candidates) (state : State) (tables : Tables) (rows : List R
   enough = let few = fits.waits.few in let same = length_keys attribute rows in omega (arith, few, same)
 
   tree_option : (r : Option ℕ) → (HasPlace state file key (keys attribute rows) old → old.slots ≤ length (keys attribute rows)
-        → MatchOption r (LacksKey key (keys attribute rows) old.from old.slots) (λ slot. IsFirstOf key (keys attribute rows) old.from slot × HasPlace state file key (keys attribute rows) new))
+      → MatchOption r (LacksKey key (keys attribute rows) old.from old.slots) (λ slot. IsFirstOf key (keys attribute rows) old.from slot × HasPlace state file key (keys attribute rows) new))
       → IsMovedBy r old new → MatchOption r (ahead old rows ≡ []) (λ slot. (ahead old rows ≡ slot ∷ ahead new rows) × Fits new state tables rows)
   tree_option None found moved = ⊎_elim (λ none. no_slots old rows none) (λ some. lacks_ahead old new rows attribute key tests (found (placed some) enough)) (zero_or_some old.slots)
   tree_option (Some slot) found moved =
@@ -136,8 +134,7 @@ module _ (old new : Candidates) (state : State) (tables : Tables) (rows : List R
       let h = found (placed (omega (arith, below))) enough in
       let searched : new.search ≡ by.Tree attribute file key = moved.3 ∙ is in
       let N : Search → Type 0 = λ s. KnowsRows s rows new.from new.end new.slots in
-      let I : Search → Type 0 = λ s. HasIndex s new.place state tables rows new.from in
-      (
+      let I : Search → Type 0 = λ s. HasIndex s new.place state tables rows new.from in (
         found_ahead old new rows attribute key tests slot moved h.0,
         record { waits = moved_waits old new rows slot moved fits.waits (subst N (sym searched) tt); index = λ _. subst I (sym searched) h.1 },
       )
@@ -149,7 +146,7 @@ module _ (old new : Candidates) (state : State) (tables : Tables) (rows : List R
   left c e = ap (λ (s : Search). reads_by s c.place rows (length (ahead c rows))) e ∙ omega arith
 
   pub tree_result : (r : Result (Option ℕ) Failed) → IfOk r (λ found. (ks : List ℤ) → HasPlace state file key ks old → old.slots ≤ length ks
-        → MatchOption found (LacksKey key ks old.from old.slots) (λ slot. IsFirstOf key ks old.from slot × HasPlace state file key ks new))
+      → MatchOption found (LacksKey key ks old.from old.slots) (λ slot. IsFirstOf key ks old.from slot × HasPlace state file key ks new))
       → IfOk r (λ found. IsMovedBy found old new) → IfOk r (λ found. MatchOption found (ahead old rows ≡ []) (λ slot. (ahead old rows ≡ slot ∷ ahead new rows) × Fits new state tables rows))
   tree_result (Ok found) h moved = tree_option found (h (keys attribute rows)) moved
   tree_result (Err e) h moved = tt
@@ -176,7 +173,7 @@ module _ (old new : Candidates) (state : State) (tables : Tables) (rows : List R
   pub tree_reads : (before after : ℕ) (r : Result (Option ℕ) Failed) → (old.slots ≤ old.from → after ≡ before) → (old.slots ≤ old.from → new ≡ old) → IfOk r (λ found. IsMovedBy found old new)
       → IfOk r (λ found. MatchOption found (ahead old rows ≡ []) (λ slot. (ahead old rows ≡ slot ∷ ahead new rows) × Fits new state tables rows))
       → (HasPlace state file key (keys attribute rows) old → old.slots ≤ length (keys attribute rows)
-        → IfOk r (λ found. MatchOption found (after + walk_of new ≤ before + walk_of old) (λ _. after + walk_of new ≤ before + walk_of old + 9)))
+      → IfOk r (λ found. MatchOption found (after + walk_of new ≤ before + walk_of old) (λ _. after + walk_of new ≤ before + walk_of old + 9)))
       → OnOk r (after + reads_ahead new rows ≤ before + reads_ahead old rows)
   tree_reads before after (Ok found) unread over moved next h =
       ⊎_elim
@@ -209,8 +206,7 @@ module _ (old new : Candidates) (state : State) (tables : Tables) (rows : List R
       let P : List ℤ → Type 0 = λ ks. IsFirstOf key ks old.from slot in
       let searched : new.search ≡ by.Table attribute number key = moved.3 ∙ is in
       let N : Search → Type 0 = λ s. KnowsRows s rows new.from new.end new.slots in
-      let I : Search → Type 0 = λ s. HasIndex s new.place state tables rows new.from in
-      (
+      let I : Search → Type 0 = λ s. HasIndex s new.place state tables rows new.from in (
         found_ahead old new rows attribute key trials slot moved (subst P e (found (reached e))),
         record { waits = moved_waits old new rows slot moved fits.waits (subst N (sym searched) tt); index = λ _. subst I (sym searched) e },
       )
@@ -219,7 +215,7 @@ module _ (old new : Candidates) (state : State) (tables : Tables) (rows : List R
 
 module _ (old new : Candidates) (state : State) (tables : Tables) (attribute file : ℕ) (key : ℤ) (is : old.search ≡ by.Tree attribute file key) where
   pub tree_all : (r : Result (Option ℕ) Failed) → IfOk r (λ found. (ks : List ℤ) → HasPlace state file key ks old → old.slots ≤ length ks
-        → MatchOption found (LacksKey key ks old.from old.slots) (λ slot. IsFirstOf key ks old.from slot × HasPlace state file key ks new))
+      → MatchOption found (LacksKey key ks old.from old.slots) (λ slot. IsFirstOf key ks old.from slot × HasPlace state file key ks new))
       → IfOk r (λ found. IsMovedBy found old new)
       → IfOk r (λ found. (rows : List Row) → Fits old state tables rows → MatchOption found (ahead old rows ≡ []) (λ slot. (ahead old rows ≡ slot ∷ ahead new rows) × Fits new state tables rows))
   tree_all (Ok found) h moved = λ rows fits. tree_result old new state tables rows attribute file key is fits (Ok found) h moved
@@ -227,10 +223,10 @@ module _ (old new : Candidates) (state : State) (tables : Tables) (attribute fil
 
   pub reads_all : (before after : ℕ) (r : Result (Option ℕ) Failed) → (old.slots ≤ old.from → after ≡ before) → (old.slots ≤ old.from → new ≡ old)
       → IfOk r (λ found. (ks : List ℤ) → HasPlace state file key ks old → old.slots ≤ length ks
-        → MatchOption found (LacksKey key ks old.from old.slots) (λ slot. IsFirstOf key ks old.from slot × HasPlace state file key ks new))
+      → MatchOption found (LacksKey key ks old.from old.slots) (λ slot. IsFirstOf key ks old.from slot × HasPlace state file key ks new))
       → IfOk r (λ found. IsMovedBy found old new)
       → ((ks : List ℤ) → HasPlace state file key ks old → old.slots ≤ length ks
-        → IfOk r (λ found. MatchOption found (after + walk_left (keys_beside key ks) new.place ≤ before + walk_left (keys_beside key ks) old.place) (λ _. after + walk_left (keys_beside key ks) new.place ≤ before + walk_left (keys_beside key ks) old.place + 9)))
+      → IfOk r (λ found. MatchOption found (after + walk_left (keys_beside key ks) new.place ≤ before + walk_left (keys_beside key ks) old.place) (λ _. after + walk_left (keys_beside key ks) new.place ≤ before + walk_left (keys_beside key ks) old.place + 9)))
       → OnOk r ((rows : List Row) → Fits old state tables rows → after + reads_ahead new rows ≤ before + reads_ahead old rows)
   reads_all before after (Ok found) unread over h moved spends = λ rows fits.
       tree_reads old new state tables rows attribute file key is fits before after (Ok found) unread over moved (tree_result old new state tables rows attribute file key is fits (Ok found) h moved) (spends (keys attribute rows))

@@ -1,5 +1,5 @@
 -- Indexes that are found complete one after the other.
-use Rattle.std.proofs.Common.{◌≡◌, ◌≢◌, ◌<◌, ◌≤◌, ◌+◌, ◌==◌, ℕ, ℤ, zero, suc, List, [], ◌∷◌, ◌++◌, length, get_or, take, Bool, true, false, Some, None, refl, arith, ap, ◌∙◌, sym, subst}
+use Rattle.std.proofs.Common.{◌≡◌, ◌<◌, ◌≤◌, ◌+◌, ◌==◌, ℕ, ℤ, zero, suc, List, [], ◌∷◌, length, get_or, take, Bool, true, false, Some, refl, arith, ap, ◌∙◌, sym, subst}
 use Rattle.std.specs.Prelude.{Result, Ok, Err, IfOk, slice_get}
 use Rattle.afl_base.specs.declared.failed.Failed.{Failed}
 use Rattle.std.specs.Bool.{Decides}
@@ -21,7 +21,7 @@ use Rattle.index_set.specs.Complete.{AreComplete, HasKeys, HaveKeysOf, IsComplet
 use Rattle.index_set.specs.Inserts.{AreApart, IsApart, IsNoTable, KeepsTables}
 use Rattle.index_set.specs.Tables.{Tables, entries}
 use Rattle.index_set.proofs.Fronts.{keys_whole}
-use Rattle.index_set.proofs.Inserted.{all_less, all_more, complete_all, complete_before}
+use Rattle.index_set.proofs.Inserted.{all_less, all_more, complete_before}
 use Rattle.index_set.proofs.Lists.{before_it, here_of, take_of, taken}
 use Rattle.index_tree.specs.Keys.{first_keys}
 use Rattle.index_tree.specs.Trees.{IsTreeOf}

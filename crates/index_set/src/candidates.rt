@@ -243,23 +243,35 @@ impl Candidates {
     }
 
     // The next slot of a key, by a tree.
-    fn next_in_tree<V: Files>(&mut self, files: &mut V, file: FileId, key: &i32) -> Result<Option<SlotNo>, Failed>
+    fn next_in_tree<V: Files>(
+        &mut self,
+        files: &mut V,
+        file: FileId,
+        key: &i32,
+    ) -> Result<Option<SlotNo>, Failed>
         requires live { 0 < self.old.slots → IsLive (V.state files.old).files file }
-        ensures next { IsTrue (V.state files.old).tells → IfOk result (λ found. (keys : List ℤ) → HasPlace (V.state files.old) file key.now keys self.old → self.old.slots ≤ length keys
-            → MatchOption found (LacksKey key.now keys self.old.from self.old.slots) (λ slot. IsFirstOf key.now keys self.old.from slot × HasPlace (V.state files.old) file key.now keys self.new)) }
+        ensures next { IsTrue (V.state files.old).tells → IfOk result (λ found.
+            (keys : List ℤ) → HasPlace (V.state files.old) file key.now keys self.old → self.old.slots ≤ length keys
+            → MatchOption found (LacksKey key.now keys self.old.from self.old.slots)
+            (λ slot. IsFirstOf key.now keys self.old.from slot × HasPlace (V.state files.old) file key.now keys self.new)) }
         ensures moved { IfOk result (λ found. IsMovedBy found self.old self.new) }
-        ensures forward { IfOk result (λ found. MatchOption found (self.new.from ≡ self.old.from) (λ slot. (self.old.from ≤ slot) × (self.new.from ≡ slot + 1))) }
+        ensures forward { IfOk result (λ found. MatchOption found (self.new.from ≡ self.old.from)
+            (λ slot. (self.old.from ≤ slot) × (self.new.from ≡ slot + 1))) }
         ensures slots { self.new.slots ≡ self.old.slots }
         ensures search { self.new.search ≡ self.old.search }
         ensures same { OnOk result (V.state files.new ≡ V.state files.old) }
         ensures unmoved { OnErr result (self.new ≡ self.old) }
         ensures unread { self.old.slots ≤ self.old.from → V.reads files.new ≡ V.reads files.old }
         ensures over { self.old.slots ≤ self.old.from → self.new ≡ self.old }
-        ensures reads { IsTrue (V.state files.old).tells → (keys : List ℤ) → HasPlace (V.state files.old) file key.now keys self.old → self.old.slots ≤ length keys
+        ensures reads { IsTrue (V.state files.old).tells
+            → (keys : List ℤ) → HasPlace (V.state files.old) file key.now keys self.old → self.old.slots ≤ length keys
             → IfOk result (λ found. MatchOption found
-                (V.reads files.new + walk_left (keys_beside key.now keys) self.new.place ≤ V.reads files.old + walk_left (keys_beside key.now keys) self.old.place)
-                (λ _. V.reads files.new + walk_left (keys_beside key.now keys) self.new.place ≤ V.reads files.old + walk_left (keys_beside key.now keys) self.old.place + 9)) }
-        ensures reads_err { IsTrue (V.state files.old).tells → (keys : List ℤ) → HasPlace (V.state files.old) file key.now keys self.old
+            (V.reads files.new + walk_left (keys_beside key.now keys) self.new.place
+                ≤ V.reads files.old + walk_left (keys_beside key.now keys) self.old.place)
+            (λ _. V.reads files.new + walk_left (keys_beside key.now keys) self.new.place
+                ≤ V.reads files.old + walk_left (keys_beside key.now keys) self.old.place + 9)) }
+        ensures reads_err { IsTrue (V.state files.old).tells
+            → (keys : List ℤ) → HasPlace (V.state files.old) file key.now keys self.old
             → V.reads files.new ≤ V.reads files.old + walk_left (keys_beside key.now keys) self.old.place }
         ensures reads_later { V.reads files.old ≤ V.reads files.new }
         ensures store { length (V.state files.new).store ≡ length (V.state files.old).store }
@@ -289,7 +301,9 @@ impl Candidates {
 
     // The next slot of a key, by a table.
     fn next_in_table(&mut self, tables: &HashTables, table: TableId, key: &i32) -> Option<SlotNo>
-        ensures next { self.old.slots ≤ length (entries tables.now table) → MatchOption result (LacksKey key.now (entries tables.now table) self.old.from self.old.slots) (λ slot. IsFirstOf key.now (entries tables.now table) self.old.from slot) }
+        ensures next { let keys = entries tables.now table in self.old.slots ≤ length keys
+            → MatchOption result (LacksKey key.now keys self.old.from self.old.slots)
+            (λ slot. IsFirstOf key.now keys self.old.from slot) }
         ensures moved { IsMovedBy result self.old self.new }
         ensures place { self.new.place ≡ self.old.place }
         ensures forward { MatchOption result (self.new.from ≡ self.old.from) (λ slot. (self.old.from ≤ slot) × (self.new.from ≡ slot + 1)) }

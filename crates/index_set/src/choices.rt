@@ -90,7 +90,8 @@ fn first_of(indexes: &Indexes, ranges: &[Range; 8], kind: IndexKind) -> Option<P
 
 // The plan that an index gives, if it is of a kind and usable.
 fn usable(access: Access, range: &Range, kind: IndexKind, nth: u8) -> Option<Plan>
-    ensures plan { (ranges : List AnyRange) (place : ℕ) → range_at ranges place ≡ range.now → option_map plan_in result ≡ by_kind kind ranges nth (kind_of access, place) }
+    ensures plan { (ranges : List AnyRange) (place : ℕ) → range_at ranges place ≡ range.now
+        → option_map plan_in result ≡ by_kind kind ranges nth (kind_of access, place) }
     ensures index { IfSome result (λ plan. IsBy plan nth access) }
 {
     match kind {
@@ -101,7 +102,8 @@ fn usable(access: Access, range: &Range, kind: IndexKind, nth: u8) -> Option<Pla
 }
 
 fn by_order(access: Access, range: &Range, nth: u8) -> Option<Plan>
-    ensures plan { (ranges : List AnyRange) (place : ℕ) → range_at ranges place ≡ range.now → option_map plan_in result ≡ model.by_order ranges nth (kind_of access, place) }
+    ensures plan { (ranges : List AnyRange) (place : ℕ) → range_at ranges place ≡ range.now
+        → option_map plan_in result ≡ model.by_order ranges nth (kind_of access, place) }
     ensures index { IfSome result (λ plan. IsBy plan nth access) }
 {
     match access {
@@ -117,7 +119,8 @@ fn by_order(access: Access, range: &Range, nth: u8) -> Option<Plan>
 }
 
 fn by_tree(access: Access, range: &Range, nth: u8) -> Option<Plan>
-    ensures plan { (ranges : List AnyRange) (place : ℕ) → range_at ranges place ≡ range.now → option_map plan_in result ≡ model.by_tree ranges nth (kind_of access, place) }
+    ensures plan { (ranges : List AnyRange) (place : ℕ) → range_at ranges place ≡ range.now
+        → option_map plan_in result ≡ model.by_tree ranges nth (kind_of access, place) }
     ensures index { IfSome result (λ plan. IsBy plan nth access) }
 {
     match access {
@@ -131,7 +134,8 @@ fn by_tree(access: Access, range: &Range, nth: u8) -> Option<Plan>
 }
 
 fn by_table(access: Access, range: &Range, nth: u8) -> Option<Plan>
-    ensures plan { (ranges : List AnyRange) (place : ℕ) → range_at ranges place ≡ range.now → option_map plan_in result ≡ model.by_table ranges nth (kind_of access, place) }
+    ensures plan { (ranges : List AnyRange) (place : ℕ) → range_at ranges place ≡ range.now
+        → option_map plan_in result ≡ model.by_table ranges nth (kind_of access, place) }
     ensures index { IfSome result (λ plan. IsBy plan nth access) }
 {
     match access {
@@ -230,7 +234,8 @@ fn is_complete<V: Files>(
 ) -> Result<bool, Failed>
     requires few { slots ≤ 32768 }
     requires readable { IsReadable (V.state files.old) slots info.now }
-    ensures complete { IsTrue (V.state files.old).tells → IfOk result (λ whole. Decides whole (IsComplete (V.state files.old) tables.new info.now.access (keys_of (V.state files.old) info.now.column slots))) }
+    ensures complete { let state = V.state files.old in IsTrue state.tells → IfOk result (λ whole.
+        Decides whole (IsComplete state tables.new info.now.access (keys_of state info.now.column slots))) }
     ensures tables { (number : AnyTable) → IsNoTable number info.now.access → entries tables.new number ≡ entries tables.old number }
     ensures same { OnOk result (V.state files.new ≡ V.state files.old) }
     ensures reads_later { V.reads files.old ≤ V.reads files.new }
@@ -250,7 +255,8 @@ fn is_ordered<V: Files>(files: &mut V, column: &KeyColumn, slots: u16) -> Result
     requires few { slots ≤ 32768 }
     requires width { IsWidth column.now.width }
     requires fields { (slot : ℕ) → slot < slots → HasField (V.state files.old) column.now slot }
-    ensures ordered { IsTrue (V.state files.old).tells → IfOk result (λ whole. Decides whole (first_fall (keys_of (V.state files.old) column.now slots) ≡ None)) }
+    ensures ordered { let state = V.state files.old in IsTrue state.tells → IfOk result (λ whole.
+        Decides whole (first_fall (keys_of state column.now slots) ≡ None)) }
     ensures same { OnOk result (V.state files.new ≡ V.state files.old) }
     ensures reads_later { V.reads files.old ≤ V.reads files.new }
     ensures store { length (V.state files.new).store ≡ length (V.state files.old).store }
@@ -271,7 +277,8 @@ fn fill_whole<V: Files>(
     requires width { IsWidth column.now.width }
     requires narrow { column.now.width ≢ 8 }
     requires fields { (slot : ℕ) → slot < slots → HasField (V.state files.old) column.now slot }
-    ensures whole { IsTrue (V.state files.old).tells → IfOk result (λ whole. Decides whole (entries tables.new table ≡ keys_of (V.state files.old) column.now slots)) }
+    ensures whole { let state = V.state files.old in IsTrue state.tells → IfOk result (λ whole.
+        Decides whole (entries tables.new table ≡ keys_of state column.now slots)) }
     ensures other { (other : AnyTable) → other ≢ table → entries tables.new other ≡ entries tables.old other }
     ensures same { OnOk result (V.state files.new ≡ V.state files.old) }
     ensures reads_later { V.reads files.old ≤ V.reads files.new }

@@ -112,9 +112,11 @@ fn prepare_tree<V: Files>(files: &mut V, file: FileId, key: &i32) -> Result<Room
     requires kind { (file_at (V.state files.old).files file).kind ≡ Kind.Doubling }
     ensures contents { UnlessFailed result (Prepares (V.state files.old) (V.state files.new) (λ id. id ≢ file)) }
     ensures room { IfOk result (λ room. HasRoomFor (V.state files.new) file room) }
-    ensures exact { IsTrue (V.state files.old).tells → (keys : List ℤ) → IsTreeOf (bytes_at (V.state files.old).files file) keys → IfOk result (λ room. room ≡ room_of (bytes_at (V.state files.old).files file) key.now) }
-    ensures asked { IsTrue (V.state files.old).tells → (keys : List ℤ) → IsTreeOf (bytes_at (V.state files.old).files file) keys
-        → OnSpace result (λ need. V.asks files.new file ((room_of (bytes_at (V.state files.old).files file) key.now).overwrites) ((room_of (bytes_at (V.state files.old).files file) key.now).bytes) need) }
+    ensures exact { let bytes = bytes_at (V.state files.old).files file in IsTrue (V.state files.old).tells
+        → (keys : List ℤ) → IsTreeOf bytes keys → IfOk result (λ room. room ≡ room_of bytes key.now) }
+    ensures asked { let bytes = bytes_at (V.state files.old).files file in IsTrue (V.state files.old).tells
+        → (keys : List ℤ) → IsTreeOf bytes keys → OnSpace result (λ need.
+        V.asks files.new file ((room_of bytes key.now).overwrites) ((room_of bytes key.now).bytes) need) }
     ensures lacks { OnSpace result (λ need. V.lacks files.new need) }
     ensures reads_later { V.reads files.old ≤ V.reads files.new }
     ensures store { length (V.state files.new).store ≡ length (V.state files.old).store }
@@ -181,8 +183,10 @@ fn insert_one<V: Files>(
     requires held { IsHeld (V.state files.old) tables.old slot access }
     requires open { IsOpenFor slot access }
     requires room { HasRoom (V.state files.old) room.now access }
-    ensures complete { IsTrue (V.state files.old).tells → OnOk result ((keys : List ℤ) → length keys ≡ slot → IsComplete (V.state files.old) tables.old access keys
-        → IsRoomFor (V.state files.old) key.now room.now access → MayFollow keys key.now access → IsComplete (V.state files.new) tables.new access (keys ++ key.now ∷ [])) }
+    ensures complete { let state = V.state files.old in IsTrue state.tells → OnOk result
+        ((keys : List ℤ) → length keys ≡ slot → IsComplete state tables.old access keys
+        → IsRoomFor state key.now room.now access → MayFollow keys key.now access
+        → IsComplete (V.state files.new) tables.new access (keys ++ key.now ∷ [])) }
     ensures held { OnOk result (IsHeld (V.state files.new) tables.new (slot + 1) access) }
     ensures others { OnOk result (Spares (V.state files.old) (V.state files.new) (λ id. IsApart id access)) }
     ensures tables { OnOk result ((number : AnyTable) → IsNoTable number access → entries tables.new number ≡ entries tables.old number) }

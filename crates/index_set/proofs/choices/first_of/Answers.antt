@@ -1,7 +1,6 @@
-use Rattle.std.proofs.Common.{rules, ◌≡◌, ◌<◌, ◌∙◌, sym, ap, length, get_or, ℕ, true, false}
-use Rattle.std.specs.Prelude.{is_some, option_map}
-use Rattle.index_set.specs.Plans.{by_kind, plan_in}
-use Rattle.index_set.proofs.Choosing.{given_index, given_plan, kind_at, no_given}
+use Rattle.std.proofs.Common.{rules, ◌≡◌, ◌<◌, sym, length, get_or}
+use Rattle.index_set.specs.Plans.{by_kind}
+use Rattle.index_set.proofs.Choosing.{given_plan, no_given}
 use Rattle.index_set.proofs.choices.first_of.Goals as goal
 
 pub returns-then-is_some-clause-plan : goal.returns-then-is_some-clause-plan

@@ -1,4 +1,4 @@
-use Rattle.std.proofs.Common.{◌≡◌, ℕ, drop}
+use Rattle.std.proofs.Common.{◌≡◌, drop}
 use Rattle.db_model.specs.Plan.{first_plan}
 use Rattle.index_set.specs.Plans.{by_kind, kinds}
 use Rattle.index_set.proofs.choices.first_of.Given as goal

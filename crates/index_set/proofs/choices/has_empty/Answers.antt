@@ -1,4 +1,4 @@
-use Rattle.std.proofs.Common.{rules, ◌≡◌, ◌<◌, ◌∙◌, sym, ap, length, get_or, ℕ, true, false}
+use Rattle.std.proofs.Common.{rules, ◌≡◌, ◌<◌, ◌∙◌, sym, ap, length, get_or, true, false}
 use Rattle.db_model.specs.Plan.{is_empty, range_at}
 use Rattle.index_set.proofs.Choosing.{found_any, passed_any}
 use Rattle.index_set.proofs.choices.has_empty.Goals as goal

@@ -1,4 +1,4 @@
-use Rattle.std.proofs.Common.{◌≡◌, ℕ, drop}
+use Rattle.std.proofs.Common.{◌≡◌, drop}
 use Rattle.std.specs.List.{list_any}
 use Rattle.db_model.specs.Plan.{is_empty, range_at}
 use Rattle.index_set.specs.Plans.{kinds}

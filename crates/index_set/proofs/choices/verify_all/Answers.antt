@@ -1,4 +1,4 @@
-use Rattle.std.proofs.Common.{rules, ◌≡◌, ◌<◌, ◌≤◌, ◌+◌, ◌∙◌, sym, ap, length, get_or, ℕ, List, Bool, true, false}
+use Rattle.std.proofs.Common.{rules, ◌≡◌, ◌<◌, length, get_or}
 use Rattle.index_set.proofs.Verified.{first_broken, keeps_more, one_more, to_false, to_true}
 use Rattle.index_set.proofs.choices.verify_all.Goals as goal
 
@@ -35,8 +35,8 @@ loop-nth-preserved g c =
       same = search rules;
       tables = keeps_more xs n y below e t0 t1 t2 inv.tables k2;
       complete = λ told all count columns.
-        let whole = (rw inv.same at c.in_ok-whole.ensures.complete) told in
-        one_more xs n y below e t0 t1 t2 inv.tables k2 c.requires.apart start all c.args.slots count columns (inv.complete told all count columns) (to_true c.in_ok-whole.whole _ whole c.if-not-whole.false);
+          let whole = (rw inv.same at c.in_ok-whole.ensures.complete) told in
+          one_more xs n y below e t0 t1 t2 inv.tables k2 c.requires.apart start all c.args.slots count columns (inv.complete told all count columns) (to_true c.in_ok-whole.whole _ whole c.if-not-whole.false);
       store = search rules;
       faults = search rules;
       reads = search rules;

@@ -1,4 +1,4 @@
-use Rattle.std.proofs.Common.{◌≡◌, ◌≤◌, ℕ, List, length, take}
+use Rattle.std.proofs.Common.{◌≡◌, ◌≤◌, List, length, take}
 use Rattle.std.specs.Prelude.{IsTrue}
 use Rattle.db_model.specs.Row.{Row}
 use Rattle.index_set.specs.Complete.{AreComplete, HaveKeysOf}
@@ -7,12 +7,12 @@ use Rattle.index_set.proofs.choices.verify_all.Given as goal
 
 abbrev pub invariant-loop-nth : goal.invariant-loop-nth
 invariant-loop-nth g l =
-  let start = g.V.Files.state l.fn.files in
-  record {
-    same : g.V.Files.state l.files ≡ start;
-    tables : KeepsTables l.fn.tables l.tables (take l.nth l.indexes);
-    complete : IsTrue start.tells → (all : List Row) → length all ≡ l.slots → HaveKeysOf start all l.indexes → AreComplete start l.tables all (take l.nth l.indexes);
-    store : length (g.V.Files.state l.files).store ≡ length start.store;
-    faults : g.V.Files.faults l.fn.files ≤ g.V.Files.faults l.files;
-    reads : g.V.Files.reads l.fn.files ≤ g.V.Files.reads l.files;
-  }
+    let start = g.V.Files.state l.fn.files in
+    record {
+      same : g.V.Files.state l.files ≡ start;
+      tables : KeepsTables l.fn.tables l.tables (take l.nth l.indexes);
+      complete : IsTrue start.tells → (all : List Row) → length all ≡ l.slots → HaveKeysOf start all l.indexes → AreComplete start l.tables all (take l.nth l.indexes);
+      store : length (g.V.Files.state l.files).store ≡ length start.store;
+      faults : g.V.Files.faults l.fn.files ≤ g.V.Files.faults l.files;
+      reads : g.V.Files.reads l.fn.files ≤ g.V.Files.reads l.files;
+    }

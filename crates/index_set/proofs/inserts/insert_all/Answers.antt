@@ -1,4 +1,4 @@
-use Rattle.std.proofs.Common.{rules, arith, ◌≡◌, ◌∙◌, ◌<◌, ◌+◌, ◌++◌, ◌∷◌, [], sym, length, ℕ, List, get_or}
+use Rattle.std.proofs.Common.{rules, arith, ◌≡◌, ◌∙◌, ◌<◌, ◌+◌, ◌++◌, ◌∷◌, [], length, get_or}
 use Rattle.std.specs.Prelude.{FitsSigned, slice_get}
 use Rattle.std.specs.Int.{w32}
 use Rattle.std.proofs.lemmas.Int.{to_z-of_z}
@@ -60,7 +60,7 @@ loop-nth-preserved g c =
       tables = tables_next xs n y below e c.requires.apart start before now t0 t1 t2 inv.spares inv.tables put.others put.tables;
       held = held_next xs n y below e c.requires.apart start before now t0 t1 t2 inv.spares inv.tables put.others put.tables (c.args.slot + 1) inv.held put.held;
       complete = λ told rows row count is all exact may.
-        complete_next xs n y below e c.requires.apart start before now t0 t1 t2 inv.spares inv.tables put.others put.tables rows row c.args.tuple.now c.args.rooms.now c.get-room.result.now c.args.slot c.key_in-key.result
+          complete_next xs n y below e c.requires.apart start before now t0 t1 t2 inv.spares inv.tables put.others put.tables rows row c.args.tuple.now c.args.rooms.now c.get-room.result.now c.args.slot c.key_in-key.result
           count is c.get-room.ensures has c.key_in-key.ensures (rw (to_z-of_z w32 _ fits) at (put.complete (inv.spares.tells ∙ told))) all exact may (inv.complete told rows row count is all exact may);
       store = search rules;
       faults = search rules;

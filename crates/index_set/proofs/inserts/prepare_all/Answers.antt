@@ -1,10 +1,10 @@
-use Rattle.std.proofs.Common.{rules, arith, ◌≡◌, ◌∙◌, ◌<◌, sym, length, ℕ, List, get_or}
+use Rattle.std.proofs.Common.{rules, ◌≡◌, ◌∙◌, ◌<◌, length, List, get_or}
 use Rattle.std.specs.Prelude.{FitsSigned, slice_get}
 use Rattle.std.specs.Int.{w32}
 use Rattle.std.proofs.lemmas.Int.{to_z-of_z}
 use Rattle.db_model.specs.Step.{key_of}
 use Rattle.index_maxheap.specs.declared.rooms.Room.{Room}
-use Rattle.index_set.specs.Inserts.{AsksFor, HasKeyFor, IsApart, SomeOf}
+use Rattle.index_set.specs.Inserts.{AsksFor, HasKeyFor, SomeOf}
 use Rattle.index_set.proofs.Lists.{asks_key, count_more, exact_next, here_of, key_for, on_space, prepares_all, prepares_more, room_for, rooms_next, some_of, unless_failed}
 use Rattle.index_set.proofs.inserts.prepare_all.Goals as goal
 
@@ -29,9 +29,9 @@ returns-in-Err-clause-asked g c = λ told.
     let asks = g.V.Files.asks c.prepare_one.new.files in
     let now = g.V.Files.state c.prepare_one.new.files in
     on_space Room (List Room) c.in-Err.error (λ need. AsksFor asks now c.key_in-key.result need y.access) (λ need. SomeOf (λ info. AsksFor asks now (key_of (slice_get c.args.tuple.now info.attribute)) need info.access) xs)
-      (λ need asked. some_of xs n y below e (λ info. AsksFor asks now (key_of (slice_get c.args.tuple.now info.attribute)) need info.access)
-        (asks_key asks (slice_get c.args.tuple.now y.attribute) c.key_in-key.result now need y.access has c.key_in-key.ensures asked))
-      (rw (to_z-of_z w32 _ fits) at (c.in-Err.ensures.asked (c.loop-nth.invariant.prepares.spares.tells ∙ told)))
+    (λ need asked. some_of xs n y below e (λ info. AsksFor asks now (key_of (slice_get c.args.tuple.now info.attribute)) need info.access)
+    (asks_key asks (slice_get c.args.tuple.now y.attribute) c.key_in-key.result now need y.access has c.key_in-key.ensures asked))
+    (rw (to_z-of_z w32 _ fits) at (c.in-Err.ensures.asked (c.loop-nth.invariant.prepares.spares.tells ∙ told)))
 
 pub loop-nth-preserved : goal.loop-nth-preserved
 loop-nth-preserved g c =
@@ -51,7 +51,7 @@ loop-nth-preserved g c =
       prepares = prepares_more xs n y below e start before now inv.prepares c.in-Ok.ensures.contents;
       room = rooms_next xs n y below e start before now inv.prepares c.in-Ok.ensures.contents c.loop-nth.rooms c.push.new.self c.in-Ok.room c.requires.apart c.push.ensures inv.count inv.room c.in-Ok.ensures.room;
       exact = λ told. exact_next xs n y below e start c.args.tuple.now c.loop-nth.rooms c.push.new.self c.in-Ok.room c.push.ensures inv.count (inv.exact told)
-        (key_for (slice_get c.args.tuple.now y.attribute) c.key_in-key.result start c.in-Ok.room y.access has c.key_in-key.ensures
+          (key_for (slice_get c.args.tuple.now y.attribute) c.key_in-key.result start c.in-Ok.room y.access has c.key_in-key.ensures
           (room_for start before c.key_in-key.result c.in-Ok.room y.access (inv.prepares.bytes told) (rw (to_z-of_z w32 _ fits) at (c.in-Ok.ensures.exact (inv.prepares.spares.tells ∙ told)))));
       store = search rules;
       faults = search rules;

@@ -1,4 +1,4 @@
-use Rattle.std.proofs.Common.{◌≡◌, ◌≤◌, ℕ, length, take}
+use Rattle.std.proofs.Common.{◌≡◌, ◌≤◌, length, take}
 use Rattle.std.specs.Prelude.{IsTrue}
 use Rattle.afl_base.specs.Frames.{Prepares}
 use Rattle.index_set.specs.Inserts.{AreRoomFor, HaveRoom, IsNoTree}

@@ -1,12 +1,10 @@
-use Rattle.std.proofs.Common.{rules, arith, ◌≡◌, ◌<◌, ◌≤◌, ◌+◌, ◌∙◌, None, sym, ap, subst, refl, List, length, get_or, ℕ}
+use Rattle.std.proofs.Common.{rules, ◌≡◌, None, sym, subst, refl, get_or, ℕ}
 use Rattle.std.specs.Prelude.{FitsSigned}
 use Rattle.std.specs.Int.{w32}
 use Rattle.std.proofs.lemmas.Int.{to_z-of_z}
-use Rattle.afl_base.specs.KeyColumn.{key_of}
-use Rattle.db_model.specs.Plan.{ByOrder, ByTable, ByTree, Nothing, Scan}
+use Rattle.db_model.specs.Plan.{ByTable, ByTree, Nothing, Scan}
 use Rattle.index_set.specs.declared.candidates.Candidates.{Candidates}
 use Rattle.index_set.specs.declared.candidates.Search.TheVariants as by
-use Rattle.index_set.specs.Walks.{IsChosen}
 use Rattle.index_set.proofs.Begins.{begun_ahead, nothing_cost, order_ahead, order_cost_met, order_fits, order_level, scan_cost, table_chosen, table_cost_met, table_same, tree_chosen, tree_cost_met, tree_same}
 use Rattle.index_set.proofs.candidates.Candidates.begin.Goals as goal
 
@@ -189,4 +187,3 @@ returns-in_ok-from-in-Order-clause-cost g c = λ told all few indexes.
     let w : Candidates = record { search = by.Order y.attribute range; place = None; from = c.in_ok-from-in-Order.from; end = c.in_ok-from-in-Order.end; slots = n } in
     let level = order_level xs rs n nth y has.within e at tables all few (has.access_is y e) indexes in
     order_cost_met xs rs n nth y has.within e w range at tables all few c.requires.few refl refl refl c.range_of-range.ensures is indexes (c.in_ok-from-in-Order.ensures.span told level)
-

@@ -1,4 +1,4 @@
-use Rattle.std.proofs.Common.{rules, arith, ◌≡◌, ◌∙◌, ◌+◌, ◌∷◌, ◌++◌, [], sym, ap, length, ℕ, ℤ, List, length-append, map}
+use Rattle.std.proofs.Common.{rules, arith, ◌≡◌, ◌∙◌, ◌∷◌, ◌++◌, [], sym, ap, length, ℤ, List, length-append, map}
 use Rattle.std.specs.Prelude.{FitsSigned}
 use Rattle.std.specs.Int.{w32}
 use Rattle.std.specs.List.{range_with_len}
@@ -17,10 +17,10 @@ loop-at-preserved g c =
     record {
       same = c.in_ok-key.ensures.same ∙ inv.same;
       keys = λ told.
-        let key = (rw inv.same at c.in_ok-key.ensures.key) told in
-        let more = map-range_with_len_more (key_of (g.V.Files.state c.args.files.now) c.args.column.now) 0 c.loop-at.at c.loop-at.at (omega arith) in
-        put ∙ ap (λ (ks : List ℤ). ks ++ c.in_ok-key.key ∷ []) (inv.keys told)
-        ∙ ap (λ (k : ℤ). map (key_of (g.V.Files.state c.args.files.now) c.args.column.now) (range_with_len 0 c.loop-at.at) ++ k ∷ []) (key ∙ ap (key_of (g.V.Files.state c.args.files.now) c.args.column.now) slot) ∙ sym more;
+          let key = (rw inv.same at c.in_ok-key.ensures.key) told in
+          let more = map-range_with_len_more (key_of (g.V.Files.state c.args.files.now) c.args.column.now) 0 c.loop-at.at c.loop-at.at (omega arith) in
+          put ∙ ap (λ (ks : List ℤ). ks ++ c.in_ok-key.key ∷ []) (inv.keys told)
+          ∙ ap (λ (k : ℤ). map (key_of (g.V.Files.state c.args.files.now) c.args.column.now) (range_with_len 0 c.loop-at.at) ++ k ∷ []) (key ∙ ap (key_of (g.V.Files.state c.args.files.now) c.args.column.now) slot) ∙ sym more;
       size = (let size = inv.size in ap (λ (ks : List ℤ). length ks) put ∙ length-append (entries c.loop-at.self c.args.table) (c.in_ok-key.key ∷ []) ∙ omega (arith, size));
       other = λ other not. c.push.ensures.other other not ∙ inv.other other not;
       store = search rules;
