@@ -26,7 +26,7 @@ use Rattle.index_set.specs.declared.candidates.Candidates.{Candidates}
 use Rattle.index_set.specs.declared.candidates.Search.{Search}
 use Rattle.index_set.specs.declared.candidates.Search.TheVariants as by
 use Rattle.index_set.specs.declared.info.IndexInfo.{IndexInfo}
-use Rattle.index_set.specs.declared.trees.Place.{Place}
+use Rattle.index_maxheap.specs.declared.places.Place.{Place}
 use Rattle.index_set.specs.Complete.{key_in, no_row}
 use Rattle.index_set.specs.Plans.{is_passed, kinds, slots_passed}
 use Rattle.index_set.specs.Walks.{ahead, cost_ahead, reads_by, slots_in, takes}

@@ -3,6 +3,7 @@
 #![tactic(auto)]
 
 ghost use Rattle.std.specs.Prelude.{None, ◌≡◌, ◌+◌, ◌*◌, ◌<◌, ◌≤◌, ◌∷◌, [], false, IfOk, IfSome, IsTrue, MatchBool, MatchOption, OnErr, OnOk, List, length};
+ghost use Rattle.afl_base.specs.Causes.{HasCause};
 ghost use Rattle.db_model.specs.Row.{Row};
 ghost use Rattle.index_set.specs.Complete.{AreReadable};
 ghost use Rattle.tuple_file.specs.Tuples.{HoldsRows, rows, slots};
@@ -113,6 +114,8 @@ impl JoinCursor {
             MayReadPairs (V.state files.old) (behind_pair self.now p.slot p.inner))) }
         ensures below { IfOk result (λ found. IfSome found (λ p. p.slot < self.now.right_slots)) }
         ensures same { OnOk result (V.state files.new ≡ V.state files.old) }
+        ensures store { length (V.state files.new).store ≡ length (V.state files.old).store }
+        ensures cause { HasCause (V.faults files.old) (V.faults files.new) result }
         ensures reads { let state = V.state files.old in let lefts = rows state.files self.now.left in
             let rights = rows state.files self.now.right in
             IsTrue state.tells → IfOk result (λ found.
@@ -181,6 +184,8 @@ impl JoinCursor {
             ≡ record self.old { at = self.new.at; from = self.new.from; inner = self.new.inner }) }
         ensures later { OnOk result (self.old.at ≤ self.new.at) }
         ensures same { OnOk result (V.state files.new ≡ V.state files.old) }
+        ensures store { length (V.state files.new).store ≡ length (V.state files.old).store }
+        ensures cause { HasCause (V.faults files.old) (V.faults files.new) result }
         ensures reads { let state = V.state files.old in let lefts = rows state.files self.old.left in
             let rights = rows state.files self.old.right in
             IsTrue state.tells → OnOk result (FitsPairs self.old state tables.now

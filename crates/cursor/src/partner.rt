@@ -4,6 +4,7 @@
 
 ghost use Rattle.std.specs.Prelude.{None, ◌≡◌, ◌==◌, ◌+◌, ◌-◌, ◌<◌, ◌≤◌, ◌∷◌, [], true, IfOk, IfSome, IsTrue, MatchOption, OnErr, OnOk, get_or, length, slice_get, if◌then◌else◌};
 ghost use Rattle.std.specs.List.{range_with_len};
+ghost use Rattle.afl_base.specs.Causes.{HasCause};
 ghost use Rattle.db_model.specs.declared.schemas.Range.TheVariants.{Between};
 ghost use Rattle.db_model.specs.Answers.{same_value};
 ghost use Rattle.db_model.specs.Cost.{ranges_at};
@@ -129,6 +130,8 @@ fn right_side<V: Files>(
         → HasAhead inner.now test all from slots
         → passing test all (ahead c all) ≡ passing test all (range_with_len from (slots - from))) }
     ensures same { OnOk result (V.state files.new ≡ V.state files.old) }
+    ensures store { length (V.state files.new).store ≡ length (V.state files.old).store }
+    ensures cause { HasCause (V.faults files.old) (V.faults files.new) result }
     ensures reads { let state = V.state files.old in let all = rows state.files right.now in
         let cost = right_cost indexes.now partner.now.on partner.now.value all in
         IsTrue state.tells → IfOk result (λ c. AreIndexesOf state tables.now all indexes.now
@@ -196,6 +199,8 @@ pub(crate) fn next_partner<V: Files>(
     ensures safe { IfOk result (λ found. IfSome found (λ p.
         IsSafeBy p.inner.search (V.state files.old))) }
     ensures same { OnOk result (V.state files.new ≡ V.state files.old) }
+    ensures store { length (V.state files.new).store ≡ length (V.state files.old).store }
+    ensures cause { HasCause (V.faults files.old) (V.faults files.new) result }
     ensures reads { let state = V.state files.old in let all = rows state.files right.now in
         let cost = right_cost indexes.now partner.now.on partner.now.value all in
         IsTrue state.tells → IfOk result (λ found. AreIndexesOf state tables.now all indexes.now

@@ -3,6 +3,7 @@
 #![tactic(auto)]
 
 ghost use Rattle.std.specs.Prelude.{None, ◌≡◌, ◌+◌, ◌<◌, ◌≤◌, ◌∷◌, [], IfOk, IfSome, IsTrue, MatchOption, OnErr, OnOk, Option, List, length};
+ghost use Rattle.afl_base.specs.Causes.{HasCause};
 ghost use Rattle.db_model.specs.declared.schemas.Attribute.{Attribute};
 ghost use Rattle.db_model.specs.Answers.{selected};
 ghost use Rattle.db_model.specs.Cond.{Cond};
@@ -102,6 +103,8 @@ impl SelectCursor {
         ensures chosen { IfOk result (λ c. IsChosen c.candidates.search indexes.now) }
         ensures may_read { IfOk result (λ c. MayRead (V.state files.old) tuples c.candidates) }
         ensures same { OnOk result (V.state files.new ≡ V.state files.old) }
+        ensures store { length (V.state files.new).store ≡ length (V.state files.old).store }
+        ensures cause { HasCause (V.faults files.old) (V.faults files.new) result }
         ensures reads { let state = V.state files.old in
             let ranges = ranges_of tuples.schema.attributes in
             (condition : Option Cond) → IsCodeOf tuples.schema.attributes condition code
@@ -175,6 +178,8 @@ impl SelectCursor {
             → self.new.candidates.end ≤ self.new.candidates.slots }
         ensures may_read { MayRead (V.state files.old) self.new.tuples self.new.candidates }
         ensures same { OnOk result (V.state files.new ≡ V.state files.old) }
+        ensures store { length (V.state files.new).store ≡ length (V.state files.old).store }
+        ensures cause { HasCause (V.faults files.old) (V.faults files.new) result }
         ensures reads { let state = V.state files.old in let all = rows state.files self.old.tuples in
             IsTrue state.tells → OnOk result (Fits self.old.candidates state tables.now all
             → V.reads files.new + cost_ahead self.new.candidates all

@@ -3,6 +3,7 @@
 #![tactic(auto)]
 
 ghost use Rattle.std.specs.Prelude.{None, ◌≡◌, ◌+◌, ◌<◌, ◌≤◌, ◌∷◌, [], true, IfOk, IfSome, IsTrue, MatchOption, OnErr, OnOk, List, get_or, length};
+ghost use Rattle.afl_base.specs.Causes.{HasCause};
 ghost use Rattle.db_model.specs.Row.{AllSuit, Row};
 ghost use Rattle.index_set.specs.Complete.{no_row};
 ghost use Rattle.index_set.specs.Walks.{Fits, Waits, ahead, cost_ahead};
@@ -45,6 +46,8 @@ fn is_answer<V: Files, T: Test>(
         → get_or all slot no_row ≡ record { tuple = into.new; live = true }) }
     ensures suits { OnOk result (AllSuit tuples.now.schema.attributes into.new) }
     ensures same { OnOk result (V.state files.new ≡ V.state files.old) }
+    ensures store { length (V.state files.new).store ≡ length (V.state files.old).store }
+    ensures cause { HasCause (V.faults files.old) (V.faults files.new) result }
     ensures reads { V.reads files.new ≤ V.reads files.old + 6 }
 {
     let live = tuples.row(files, slot, into)?;
@@ -85,6 +88,8 @@ pub(crate) fn next_row<V: Files, T: Test>(
     ensures within { candidates.old.end ≤ candidates.old.slots
         → candidates.new.end ≤ candidates.new.slots }
     ensures same { OnOk result (V.state files.new ≡ V.state files.old) }
+    ensures store { length (V.state files.new).store ≡ length (V.state files.old).store }
+    ensures cause { HasCause (V.faults files.old) (V.faults files.new) result }
     ensures reads { let state = V.state files.old in let all = rows state.files tuples.now in
         IsTrue state.tells → OnOk result (Fits candidates.old state tables.now all
         → V.reads files.new + cost_ahead candidates.new all

@@ -8,6 +8,7 @@ use Rattle.cursor.proofs.walk.next_row.Given as goal
 abbrev pub invariant-slots : goal.invariant-slots
 invariant-slots g l = record {
   same : g.V.Files.state l.files ≡ g.V.Files.state l.fn.files;
+  faults : g.V.Files.faults l.fn.files ≤ g.V.Files.faults l.files;
   slots : l.candidates.slots ≡ l.fn.candidates.slots;
   search : l.candidates.search ≡ l.fn.candidates.search;
   later : l.fn.candidates.from ≤ l.candidates.from;

@@ -53,6 +53,7 @@ lefts-preserved g c =
     let inv = c.lefts.invariant in
     record {
       same = c.in_ok-partnered.ensures.same ∙ inv.same;
+      faults = omega (arith, inv.faults, c.in_ok-partnered.ensures.cause.later);
       stands = ap (λ (x : JoinCursor). record x { at = now.at + 1; from = 0; inner = None }) inv.stands;
       later = omega (arith, inv.later);
       may_read = next_may state now inv.may_read;

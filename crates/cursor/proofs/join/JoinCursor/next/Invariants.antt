@@ -7,6 +7,7 @@ use Rattle.cursor.proofs.join.JoinCursor.next.Given as goal
 abbrev pub invariant-lefts : goal.invariant-lefts
 invariant-lefts g l = record {
   same : g.V.Files.state l.files ≡ g.V.Files.state l.fn.files;
+  faults : g.V.Files.faults l.fn.files ≤ g.V.Files.faults l.files;
   stands : l.self ≡ record l.fn.self { at = l.self.at; from = l.self.from; inner = l.self.inner };
   later : l.fn.self.at ≤ l.self.at;
   may_read : MayReadPairs (g.V.Files.state l.fn.files) l.self;
