@@ -1,5 +1,5 @@
 -- Pairs of a join: one left row after the other, and the right rows that belong to each.
-use Rattle.std.proofs.Common.{◌≡◌, ◌≢◌, ℕ, zero, suc, ◌+◌, ◌-◌, ◌*◌, ◌<◌, ◌≤◌, Bool, true, false, cond, List, [], ◌∷◌, ◌++◌, length, map, get_or, filter, take, drop, Option, Some, None, refl, ap, sym, ◌∙◌, subst, arith, IsTrue, slice_get, append-nil}
+use Rattle.std.proofs.Common.{◌≡◌, ℕ, ◌+◌, ◌-◌, ◌*◌, ◌<◌, ◌≤◌, Bool, true, false, cond, List, [], ◌∷◌, ◌++◌, length, map, get_or, filter, take, drop, Option, Some, None, refl, ap, sym, ◌∙◌, subst, arith, slice_get, append-nil}
 use Rattle.std.specs.Prelude.{IfSome, MatchOption, flat_map}
 use Rattle.std.specs.List.{range_with_len}
 use Rattle.std.proofs.lemmas.Grind.{flat_map-append}
@@ -9,7 +9,7 @@ use Rattle.std.proofs.lemmas.List.Concat.{flat_map-cons}
 use Rattle.std.proofs.lemmas.List.Elements.{filter-append}
 use Rattle.afl_base.specs.Files.{State, bytes_at}
 use Rattle.db_model.specs.declared.values.Value.{Value}
-use Rattle.db_model.specs.Answers.{live_tuples, pairs, same_value}
+use Rattle.db_model.specs.Answers.{live_tuples, same_value}
 use Rattle.db_model.specs.Cost.{sum}
 use Rattle.db_model.specs.Row.{Row}
 use Rattle.index_set.specs.declared.candidates.Candidates.{Candidates}
@@ -157,7 +157,7 @@ module _ (c : JoinCursor) (lefts rights : List Row) where
     left_cost same paid =
         let long : length (pairs_left c lefts rights) ≡ length (pairs_left (at_next_left c) lefts rights) = ap length same in
         let behind : right_costs c rights (drop (c.at + 1) (lefts_of c lefts))
-            ≡ right_costs c rights (take 1 (drop (c.at + 1) (lefts_of c lefts))) + right_costs c rights (drop (c.at + 1 + 1) (lefts_of c lefts)) =
+        ≡ right_costs c rights (take 1 (drop (c.at + 1) (lefts_of c lefts))) + right_costs c rights (drop (c.at + 1 + 1) (lefts_of c lefts)) =
         first_costs c rights (drop (c.at + 1) (lefts_of c lefts))
         ∙ ap (λ (l : List Row). right_costs c rights (take 1 (drop (c.at + 1) (lefts_of c lefts))) + right_costs c rights l) (drop-drop 1 (c.at + 1) (lefts_of c lefts)) in
         omega (arith, long, behind, paid)

@@ -1,5 +1,5 @@
 -- The right rows of a value: those that the plan passes from a slot on, and what they cost.
-use Rattle.std.proofs.Common.{◌≡◌, ◌≢◌, ℕ, ℤ, zero, suc, ◌+◌, ◌-◌, ◌*◌, ◌/◌, ◌<◌, ◌≤◌, ◌⊎◌, Bool, true, false, cond, not, ◌==◌, List, [], ◌∷◌, length, map, get_or, filter, Option, Some, None, refl, ap, sym, ◌∙◌, subst, arith, IsTrue, slice_get, nat_le, eqb-true}
+use Rattle.std.proofs.Common.{◌≡◌, ℕ, ℤ, zero, suc, ◌+◌, ◌-◌, ◌*◌, ◌/◌, ◌<◌, ◌≤◌, Bool, true, false, cond, not, ◌==◌, List, [], ◌∷◌, length, map, get_or, filter, Option, Some, None, refl, ap, sym, ◌∙◌, subst, arith, IsTrue, slice_get, nat_le, eqb-true}
 use Rattle.std.specs.Prelude.{max, if◌then◌else◌}
 use Rattle.std.specs.List.{AllByRecursion, range_with_len}
 use Rattle.std.specs.Ordering.{int_eq}
@@ -12,7 +12,7 @@ use Rattle.std.proofs.lemmas.List.FromFn.{get_or-map-range_with_len}
 use Rattle.afl_base.specs.Files.{State}
 use Rattle.db_model.specs.declared.schemas.Attribute.{Attribute}
 use Rattle.db_model.specs.declared.schemas.Range.{Range}
-use Rattle.db_model.specs.declared.schemas.Range.TheVariants.{Empty, Between}
+use Rattle.db_model.specs.declared.schemas.Range.TheVariants.{Between}
 use Rattle.db_model.specs.declared.values.Value.{Value}
 use Rattle.db_model.specs.declared.values.Value.TheVariants.{Number, Text}
 use Rattle.db_model.specs.Answers.{same_value}

@@ -1,11 +1,10 @@
 -- What a cursor of one relation has still to answer at its beginning is what the condition selects.
-use Rattle.std.proofs.Common.{◌≡◌, ◌≢◌, ℕ, ℤ, zero, suc, ◌+◌, ◌-◌, ◌<◌, ◌≤◌, ◌≤ℤ◌, ◌⊎◌, Bool, true, false, ◌&&◌, List, [], ◌∷◌, length, map, get_or, filter, take, drop, Option, Some, refl, ap, sym, ◌∙◌, subst, arith, IsTrue, slice_get}
+use Rattle.std.proofs.Common.{◌≡◌, ℕ, ℤ, ◌<◌, ◌≤ℤ◌, Bool, true, ◌&&◌, List, [], ◌∷◌, length, get_or, filter, Option, ap, sym, ◌∙◌, subst, arith, IsTrue, slice_get}
 use Rattle.std.specs.List.{AllByRecursion, range_with_len}
 use Rattle.std.proofs.Math.Logic.{⊎_elim}
 use Rattle.std.proofs.lemmas.Bool.{cases_lt}
 use Rattle.std.proofs.lemmas.Int.{ints}
 use Rattle.std.proofs.lemmas.List.{get_or_past, take_all}
-
 use Rattle.afl_base.specs.Files.{State}
 use Rattle.db_model.specs.declared.schemas.Attribute.{Attribute}
 use Rattle.db_model.specs.declared.schemas.Range.{Range}
@@ -14,7 +13,7 @@ use Rattle.db_model.specs.declared.values.Value.{Value}
 use Rattle.db_model.specs.Answers.{live_tuples, selected}
 use Rattle.db_model.specs.Cond.{Cond}
 use Rattle.db_model.specs.Item.{selects}
-use Rattle.db_model.specs.Plan.{lies_in, range_at, ranges_of}
+use Rattle.db_model.specs.Plan.{lies_in, ranges_of}
 use Rattle.db_model.specs.Ranges.{range_of}
 use Rattle.db_model.specs.Row.{AllSuit, Row}
 use Rattle.db_model.specs.Step.{key_of}
@@ -54,9 +53,9 @@ module _ (attributes : List Attribute) (condition : Option Cond) where
   all_lie tuple suit is [] numbers places = tt
   all_lie tuple suit is (info ∷ infos) numbers places = (
     subst (λ (r : Range). lies_in r (key_of (slice_get tuple info.attribute)) ≡ true) (sym (range_there attributes condition info.attribute places.0))
-    (lies (range_of attributes info.attribute condition) (key_of (slice_get tuple info.attribute))
-    (within-range_of attributes tuple info.attribute condition (key_of (slice_get tuple info.attribute))
-    ((key_bounds attributes tuple info.attribute suit).0) ((key_bounds attributes tuple info.attribute suit).1) (number_there attributes tuple info.attribute numbers.0 suit) is)),
+        (lies (range_of attributes info.attribute condition) (key_of (slice_get tuple info.attribute))
+        (within-range_of attributes tuple info.attribute condition (key_of (slice_get tuple info.attribute))
+        ((key_bounds attributes tuple info.attribute suit).0) ((key_bounds attributes tuple info.attribute suit).1) (number_there attributes tuple info.attribute numbers.0 suit) is)),
     all_lie tuple suit is infos numbers.1 places.1,
   )
 

@@ -1,6 +1,5 @@
 -- The tuples of a relation's rows suit its attributes, since the file has the bytes of its rows.
-use Rattle.std.proofs.Common.{◌≡◌, ◌≢◌, ℕ, ℤ, zero, suc, pos, negsuc, ◌+◌, ◌-◌, ◌*◌, ◌%◌, ◌<◌, ◌≤◌, ◌≤ℤ◌, Bool, true, false, cond, ◌&&◌, not, ◌==◌, List, [], ◌∷◌, ◌++◌, length, map, get_or, Option, Some, None, take, drop, replicate, refl, ap, sym, ◌∙◌, subst, arith, IsTrue, slice_get, slice_range, nat_le}
-use Rattle.std.specs.Prelude.{flat_map, int_le}
+use Rattle.std.proofs.Common.{◌≡◌, ℕ, zero, suc, ◌+◌, ◌-◌, ◌*◌, ◌<◌, ◌≤ℤ◌, Bool, true, false, cond, ◌&&◌, ◌==◌, List, [], ◌∷◌, ◌++◌, length, map, get_or, Some, take, drop, replicate, refl, ap, sym, subst, arith, IsTrue, slice_get, slice_range, nat_le}
 use Rattle.std.specs.List.{list_all, range_with_len}
 use Rattle.std.proofs.lemmas.Bool.Decides.{nat_tests}
 use Rattle.std.proofs.lemmas.Int.{ints}
@@ -17,7 +16,7 @@ use Rattle.db_model.specs.declared.values.Value.{Value}
 use Rattle.db_model.specs.declared.values.Value.TheVariants.{Number, Text}
 use Rattle.db_model.specs.Names.{is_text, is_text_byte}
 use Rattle.db_model.specs.Ranges.{highest, lowest}
-use Rattle.db_model.specs.Row.{AllSuit, Row, field_bytes, field_of, fields_bytes, fields_length, is_text_field, mark, row_at, row_bytes, row_length, row_of, rows_bytes, rows_of, suits, text_or_empty, tuple_of, up_to_zero, width}
+use Rattle.db_model.specs.Row.{AllSuit, Row, field_bytes, field_of, fields_bytes, mark, row_at, row_bytes, row_length, row_of, rows_bytes, suits, text_or_empty, tuple_of, up_to_zero, width}
 use Rattle.db_model.proofs.Decoded.{tuple_suits}
 use Rattle.index_set.specs.Complete.{no_row}
 use Rattle.tuple_file.specs.declared.tuples.Tuples.{Tuples}

@@ -1,5 +1,5 @@
 -- The pairs that a cursor of two relations has still to answer.
-use Rattle.std.specs.Prelude.{◌≡◌, ◌≤◌, ◌<◌, ⊤, ℕ, ◌+◌, ◌*◌, ◌-◌, Bool, List, [], ◌++◌, map, filter, length, take, drop, slice_get, ◌∷◌, Option, Some, None}
+use Rattle.std.specs.Prelude.{◌≡◌, ◌≤◌, ◌<◌, ⊤, ℕ, ◌+◌, ◌*◌, ◌-◌, Bool, List, [], ◌++◌, filter, length, take, drop, slice_get, ◌∷◌, Option, Some, None}
 use Rattle.std.specs.List.{range_with_len}
 use Rattle.afl_base.specs.Files.{State}
 use Rattle.db_model.specs.declared.values.Value.{Value}

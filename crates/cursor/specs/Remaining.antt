@@ -1,5 +1,5 @@
 -- The rows that a cursor of one relation has still to answer.
-use Rattle.std.specs.Prelude.{◌≡◌, ◌≤◌, ◌<◌, ℕ, Bool, ◌&&◌, List, [], filter, get_or, length, map, Option}
+use Rattle.std.specs.Prelude.{◌≤◌, ◌<◌, ℕ, Bool, ◌&&◌, List, [], filter, get_or, length, map, Option}
 use Rattle.std.specs.List.{AllByRecursion, range_with_len}
 use Rattle.afl_base.specs.Files.{State}
 use Rattle.db_model.specs.declared.schemas.Attribute.{Attribute}

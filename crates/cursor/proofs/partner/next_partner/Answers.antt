@@ -1,4 +1,4 @@
-use Rattle.std.proofs.Common.{rules, ◌≡◌, ◌∙◌, ap, sym, List, ℕ, ◌∷◌}
+use Rattle.std.proofs.Common.{◌∙◌, ap, sym, List, ℕ, ◌∷◌}
 use Rattle.index_set.specs.Walks.{ahead}
 use Rattle.tuple_file.specs.Tuples.{rows}
 use Rattle.cursor.specs.Pairs.{belongs}
@@ -25,6 +25,7 @@ returns-in-Some-clause-stands g c = λ told indexes fits all_ahead.
     let before = c.in_ok-stands.ensures.ahead told indexes all_ahead in
     let stands = c.in_ok-stands.ensures.fits told indexes fits in
     let found = (rw (c.in-Some.is, c.in_ok-stands.ensures.same) at c.in_ok-next_row.ensures.next) told stands in
-    let e = sym before ∙ found in
-    ((rw (c.in-Some.is, c.in_ok-stands.ensures.same) at c.in_ok-next_row.ensures.ended) told stands,
-    partners_behind test all c.args.from c.args.slots c.in-Some.slot (passing test all (ahead c.next_row.new.candidates all)) c.requires.from e)
+    let e = sym before ∙ found in (
+      (rw (c.in-Some.is, c.in_ok-stands.ensures.same) at c.in_ok-next_row.ensures.ended) told stands,
+      partners_behind test all c.args.from c.args.slots c.in-Some.slot (passing test all (ahead c.next_row.new.candidates all)) c.requires.from e,
+    )

@@ -1,10 +1,10 @@
-use Rattle.std.proofs.Common.{rules, ◌≡◌, ◌+◌, ◌≤◌, ◌∙◌, ap, sym, subst, arith, List, length, ℕ}
+use Rattle.std.proofs.Common.{rules, ◌≡◌, ◌+◌, ◌≤◌, ◌∙◌, sym, subst, arith, List, length}
 use Rattle.db_model.specs.declared.schemas.Range.{Range}
 use Rattle.db_model.specs.Cost.{begin_cost, chosen_cost, ranges_at}
 use Rattle.db_model.specs.Plan.{plan}
 use Rattle.index_set.specs.Plans.{kinds}
 use Rattle.index_set.specs.Walks.{cost_ahead}
-use Rattle.tuple_file.specs.Tuples.{rows, slots}
+use Rattle.tuple_file.specs.Tuples.{rows}
 use Rattle.cursor.specs.Pairs.{right_cost}
 use Rattle.cursor.proofs.Partners.{beginning, partners_ahead, skip_cost}
 use Rattle.cursor.proofs.Selected.{places_of}

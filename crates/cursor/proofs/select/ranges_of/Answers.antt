@@ -1,5 +1,3 @@
-use Rattle.std.proofs.Common.{◌≡◌, ◌∷◌, [], List, refl, ap, ◌∙◌}
-use Rattle.db_model.specs.Plan.{ranges_of}
 use Rattle.cursor.proofs.Planned.{eight_ranges}
 use Rattle.cursor.proofs.select.ranges_of.Goals as goal
 

@@ -1,6 +1,4 @@
-use Rattle.std.proofs.Common.{◌≡◌, ◌∙◌, ap, sym, Bool, true, List}
-use Rattle.db_model.specs.Row.{Row}
-use Rattle.cursor.specs.Remaining.{is_live_and}
+use Rattle.std.proofs.Common.{◌∙◌, ap, Bool}
 use Rattle.cursor.proofs.Walking.{is_answer, row_there}
 use Rattle.cursor.proofs.walk.is_answer.Goals as goal
 

@@ -1,8 +1,7 @@
-use Rattle.std.proofs.Common.{rules, ◌≡◌, ◌+◌, ◌<◌, ◌≤◌, ◌∷◌, [], ◌∙◌, List, None, ap, sym, subst, arith}
-use Rattle.tuple_file.specs.declared.tuples.Tuples.{Tuples}
+use Rattle.std.proofs.Common.{rules, ◌+◌, ◌≤◌, ◌∙◌, None, ap, arith}
 use Rattle.tuple_file.specs.Tuples.{rows}
 use Rattle.cursor.specs.declared.join.JoinCursor.{JoinCursor}
-use Rattle.cursor.specs.Pairs.{FitsPairs, at_next_left, behind_pair, join_cost_ahead}
+use Rattle.cursor.specs.Pairs.{FitsPairs, behind_pair, join_cost_ahead}
 use Rattle.cursor.proofs.Joins.{joining_cost, joining_fault, joining_more, joining_pair, next_may}
 use Rattle.cursor.proofs.join.JoinCursor.next.Goals as goal
 

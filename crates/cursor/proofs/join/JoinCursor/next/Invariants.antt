@@ -1,5 +1,4 @@
 use Rattle.std.proofs.Common.{◌≡◌, ◌≤◌, ◌-◌, IsTrue}
-use Rattle.tuple_file.specs.Tuples.{rows}
 use Rattle.cursor.specs.Pairs.{FitsPairs, MayReadPairs}
 use Rattle.cursor.proofs.Joins.{Joining}
 use Rattle.cursor.proofs.join.JoinCursor.next.Given as goal

@@ -1,4 +1,4 @@
-use Rattle.std.proofs.Common.{rules, ◌≡◌, ◌≢◌, ◌+◌, ◌<◌, ◌≤◌, ◌∷◌, [], ◌∙◌, Bool, true, false, cond, List, ℕ, length, ap, subst, arith, nat_lt}
+use Rattle.std.proofs.Common.{rules, ◌≡◌, ◌+◌, ◌<◌, ◌≤◌, ◌∷◌, [], ◌∙◌, Bool, true, false, cond, ℕ, length, ap, subst, arith, nat_lt}
 use Rattle.tuple_file.specs.Tuples.{row, rows}
 use Rattle.cursor.specs.Pairs.{FitsPairs, join_cost_ahead}
 use Rattle.cursor.proofs.Joins.{left_cost, no_live, no_right, partner_costs, partner_fault, partner_fits, partner_pairs, row_stands, slot_made}

@@ -1,4 +1,4 @@
-use Rattle.std.proofs.Common.{◌≡◌, ◌≤◌, ◌∙◌, ap, subst, arith, List, ℕ}
+use Rattle.std.proofs.Common.{◌∙◌, ap, arith, List, ℕ}
 use Rattle.tuple_file.specs.Tuples.{rows}
 use Rattle.cursor.specs.Remaining.{tuples_at}
 use Rattle.cursor.proofs.Selected.{slots_selected, tuples_selected}
