@@ -2,7 +2,7 @@
 use Rattle.std.proofs.Common.{◌≡◌, ℕ, ◌+◌, ◌≤◌, List, [], ◌++◌, length, replicate, sym, ap, ◌∙◌}
 use Rattle.afl_base.specs.Fields.{put_at}
 use Rattle.afl_base.specs.Files.{Drafts, State, draft_in}
-use Rattle.afl_base.specs.Names.{padded}
+use Rattle.padded.specs.Padded.{padded}
 use Rattle.afl_base.proofs.PaddedLaws.{padded_all, padded_none, put_behind}
 
 -- a draft that is begun has nothing in front of its zeros

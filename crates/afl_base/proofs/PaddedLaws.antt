@@ -4,7 +4,7 @@ use Rattle.std.proofs.lemmas.List.{append-nil, drop-append-le, drop-drop, drop-r
 use Rattle.std.proofs.Math.ListN.{drop_of_length-le}
 use Rattle.std.proofs.lemmas.Grind.{common_steps}
 use Rattle.afl_base.specs.Fields.{put_at}
-use Rattle.afl_base.specs.Names.{IsPadded, padded}
+use Rattle.padded.specs.Padded.{IsPadded, padded}
 use Rattle.afl_base.proofs.FieldLaws.{length-put_at}
 
 -- bytes with zeros behind them are padded

@@ -2,8 +2,10 @@ ghost use Rattle.std.specs.Prelude.{◌≡◌, ◌≤◌, if◌then◌else◌, d
 ghost use Rattle.std.specs.List.{list_all};
 ghost use Rattle.std.specs.Cmp.{partial_equiv_from_equiv};
 ghost use Rattle.std.specs.Cmp.Lexicographic.{nat_list_eq_equiv, pointwise};
-ghost use Rattle.afl_base.specs.Names.{is_file_name, is_name_byte, padded};
+ghost use Rattle.afl_base.specs.Names.{is_file_name, is_name_byte};
+ghost use Rattle.padded.specs.Padded.{padded};
 
+use padded::padded_to;
 use std::marker::Model;
 
 /// The name of a file: 1 to 15 bytes, each from 0x21 to 0x7E. Contracts see it as its list of bytes.
@@ -15,7 +17,8 @@ pub struct Name {
 
 impl Model for Name {
     ghost use Rattle.std.specs.Prelude.{◌≡◌, ℕ, List, length, refl, take, true};
-    ghost use Rattle.afl_base.specs.Names.{is_file_name, IsPadded, length-front, padded};
+    ghost use Rattle.afl_base.specs.Names.{is_file_name};
+    ghost use Rattle.padded.specs.Padded.{IsPadded, length-front, padded};
 
     ghost Value = { List ℕ };
 
@@ -74,24 +77,6 @@ fn is_name_byte(b: u8) -> bool
     ensures { result ≡ is_name_byte b }
 {
     33 <= b && b <= 126
-}
-
-// `bytes`, at most 15, followed by zeros.
-fn padded_to(bytes: &[u8]) -> [u8; 15]
-    requires { length bytes.now ≤ 15 }
-    ensures { result ≡ padded 15 bytes.now }
-{
-    let mut filled = [0; 15];
-    put_front(&mut filled, bytes);
-    filled
-}
-
-// Puts `bytes` in front of `into`.
-fn put_front(into: &mut [u8], bytes: &[u8])
-    requires { length bytes.now ≤ length into.old }
-    ensures { into.new ≡ bytes.now ++ drop (length bytes.now) into.old }
-{
-    into[..bytes.len()].copy_from_slice(bytes);
 }
 
 impl PartialEq for Name {

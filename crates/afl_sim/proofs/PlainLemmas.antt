@@ -5,7 +5,7 @@ use Rattle.afl_base.specs.declared.kind.Kind.{Kind}
 use Rattle.afl_base.specs.declared.kind.Kind.TheVariants.{Doubling, Fixed}
 use Rattle.afl_base.specs.Fields.{put_at}
 use Rattle.afl_base.specs.Files.{IsKind}
-use Rattle.afl_base.specs.Names.{IsPadded, length-front, padded}
+use Rattle.padded.specs.Padded.{IsPadded, length-front, padded}
 use Rattle.afl_base.proofs.FieldLaws.{length-put_at}
 use Rattle.afl_base.proofs.PaddedLaws.{front_of_padded, is_padded, put_behind, put_in_front}
 use Rattle.afl_sim.specs.PlainFiles.{IsPlain}

@@ -4,7 +4,7 @@ use Rattle.afl_base.specs.declared.kind.Kind.{Kind}
 use Rattle.afl_base.specs.declared.kind.Kind.TheVariants.{Doubling, Fixed}
 use Rattle.afl_base.specs.Files.{AreDistinct, File, IsNamed, IsUnnamed, State, Table, file_at, place, size_at, used}
 use Rattle.afl_base.specs.Fit.{fit}
-use Rattle.afl_base.specs.Names.{IsPadded}
+use Rattle.padded.specs.Padded.{IsPadded}
 use Rattle.afl_base.specs.Places.{AreTaken}
 
 -- a file lies in an array of cap bytes: size of them, zeros behind them, and room for its room

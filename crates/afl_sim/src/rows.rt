@@ -1,9 +1,8 @@
 //! A first user of files, generic over them: it adds a row, reads it back, changes a byte and puts a
 //! draft in the place of the file.
-ghost use Rattle.std.specs.Prelude.{◌≡◌, ◌≢◌, ◌+◌, ◌-◌, ◌<◌, ◌≤◌, ◌++◌, ◌∷◌, [], ℕ, length, slice_index, IfOk, IsTrue, OnOk, None};
-ghost use Rattle.afl_base.specs.Fields.{put_at};
+ghost use Rattle.std.specs.Prelude.{◌≡◌, ◌≢◌, ◌+◌, ◌-◌, ◌<◌, ◌≤◌, ◌∷◌, [], ℕ, length, slice_index, IfOk, IsTrue, OnOk, None};
 ghost use Rattle.afl_base.specs.FileErrors.{HasFileCause, OnSpace};
-ghost use Rattle.afl_base.specs.Files.{Becomes, IsLive, IsNamed, IsUnnamed, OthersStay, bytes_at, file_at, place, size_at, used};
+ghost use Rattle.afl_base.specs.Files.{Appends, IsLive, IsNamed, IsUnnamed, KeepsBytes, OthersStay, Overwrites, bytes_at, file_at, place, size_at, used};
 
 use afl_base::{Failed, FileError, FileId, Files, Kind, Name};
 
@@ -16,8 +15,8 @@ pub fn add_row<V: Files>(files: &mut V, id: FileId, row: &[u8]) -> Result<(), Fi
     requires few { length row.now ≤ 128 }
     requires last { slice_index row.now (length row.now - 1) ≢ 0 }
     requires most { size_at (V.state files.old).files id + length row.now ≤ 4194304 }
-    ensures added { OnOk result (Becomes (V.state files.old) (V.state files.new) id (size_at (V.state files.old).files id + length row.now) (bytes_at (V.state files.old).files id ++ row.now)) }
-    ensures space { OnSpace result (λ need. Becomes (V.state files.old) (V.state files.new) id (size_at (V.state files.old).files id) (bytes_at (V.state files.old).files id)) }
+    ensures added { OnOk result (Appends (V.state files.old) (V.state files.new) id row.now) }
+    ensures space { OnSpace result (λ need. KeepsBytes (V.state files.old) (V.state files.new) id) }
     ensures cause { HasFileCause (V.faults files.old) (V.faults files.new) result }
 {
     files.prepare(id, 0, row.len() as u32)?;
@@ -33,8 +32,8 @@ pub fn change_byte<V: Files>(files: &mut V, id: FileId, at: u32, byte: u8) -> Re
     requires below { at + 1 ≤ size_at (V.state files.old).files id }
     requires most { size_at (V.state files.old).files id ≤ 4194304 }
     requires byte { byte ≢ 0 }
-    ensures changed { OnOk result (Becomes (V.state files.old) (V.state files.new) id (size_at (V.state files.old).files id) (put_at (bytes_at (V.state files.old).files id) at (byte ∷ []))) }
-    ensures space { OnSpace result (λ need. Becomes (V.state files.old) (V.state files.new) id (size_at (V.state files.old).files id) (bytes_at (V.state files.old).files id)) }
+    ensures changed { OnOk result (Overwrites (V.state files.old) (V.state files.new) id at (byte ∷ [])) }
+    ensures space { OnSpace result (λ need. KeepsBytes (V.state files.old) (V.state files.new) id) }
     ensures cause { HasFileCause (V.faults files.old) (V.faults files.new) result }
 {
     files.prepare(id, 1, 0)?;
@@ -86,7 +85,8 @@ pub fn all_of_it<V: Files>(
     ensures read { IsTrue (V.state files.old).tells → IfOk result (λ same. IsTrue same) }
     ensures size { OnOk result (size_at (V.state files.new).files id ≡ size_at (V.state files.old).files id + 4) }
     ensures replaced { IsTrue (V.state files.old).tells → OnOk result (bytes_at (V.state files.new).files other ≡ row.now) }
-    ensures others { OnOk result ((k : ℕ) → k ≢ id → k ≢ other → place (V.state files.new).files k ≡ place (V.state files.old).files k) }
+    ensures others { OnOk result ((k : ℕ) → k ≢ id → k ≢ other
+        → place (V.state files.new).files k ≡ place (V.state files.old).files k) }
     ensures cause { HasFileCause (V.faults files.old) (V.faults files.new) result }
 {
     let at = files.size(id);

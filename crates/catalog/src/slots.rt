@@ -1,6 +1,6 @@
 ghost use Rattle.std.specs.Prelude.{◌≡◌, ◌+◌, ◌-◌, ◌*◌, ◌≤◌, ◌∷◌, ◌++◌, [], None, Some, length, replicate, flat_map, slice_index};
 ghost use Rattle.db_model.specs.Catalog.{attribute_bytes, domain_code, domain_length, empty_bytes, index_slot_bytes, kind_code, relation_slot_bytes};
-ghost use Rattle.db_model.specs.Padded.{padded};
+ghost use Rattle.padded.specs.Padded.{padded};
 ghost use Rattle.afl_base.specs.Fields.{put_at};
 ghost use Rattle.catalog.specs.CatalogFile.{index_in};
 ghost use Rattle.catalog.specs.Copies.{copies};

@@ -6,7 +6,8 @@ use Rattle.std.proofs.lemmas.List.{length-drop, take-append-drop, take_at, drop_
 use Rattle.std.proofs.lemmas.List.Folds.{length-prefix_len}
 use Rattle.afl_base.specs.Fields.{u16_at, u16_bytes}
 use Rattle.afl_base.specs.Image.{or_at, or_front}
-use Rattle.afl_base.specs.Names.{is_file_name, is_name_byte, padded}
+use Rattle.afl_base.specs.Names.{is_file_name, is_name_byte}
+use Rattle.padded.specs.Padded.{padded}
 use Rattle.coffee_header.specs.Headers.{header_of, header_bytes, is_kind, is_flags, is_name_field, is_header, name_in, fields, IsValid}
 use Rattle.coffee_header.specs.declared.header.Header.{Header}
 

@@ -2,7 +2,8 @@
 use Rattle.std.specs.Prelude.{◌≡◌, ◌<◌, ℕ, true, Bool, ◌&&◌, ◌||◌, ◌==◌, List, [], ◌∷◌, ◌++◌, take, drop, slice_index, Option, Some, None, if◌then◌else◌}
 use Rattle.std.specs.List.{list_all, prefix_len}
 use Rattle.afl_base.specs.Fields.{u16_at, u16_bytes}
-use Rattle.afl_base.specs.Names.{is_file_name, is_name_byte, padded}
+use Rattle.afl_base.specs.Names.{is_file_name, is_name_byte}
+use Rattle.padded.specs.Padded.{padded}
 use Rattle.coffee_header.specs.declared.header.Header.{Header}
 
 -- all bytes are zero

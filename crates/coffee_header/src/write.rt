@@ -1,5 +1,5 @@
 ghost use Rattle.std.specs.Prelude.{◌≡◌, ◌≤◌, true, length};
-ghost use Rattle.afl_base.specs.Names.{padded};
+ghost use Rattle.padded.specs.Padded.{padded};
 ghost use Rattle.coffee_header.specs.Headers.{header_bytes, is_flags, is_kind};
 
 use crate::header::Header;

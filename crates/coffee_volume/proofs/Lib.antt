@@ -2,6 +2,7 @@ pub mod Asking
 pub mod Changes
 pub mod DraftWrites
 pub mod Drafted
+pub mod Little
 pub mod MountedShares
 pub mod MountedTables
 pub mod Moved

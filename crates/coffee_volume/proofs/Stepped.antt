@@ -55,7 +55,7 @@ not_half p q k j is_p is_q less =
     (cases_lt j k)
 
 -- A doubling file in which at most 4,096 bytes more do not fit has at most the pages that its size needs.
-pub full_few : (p size more : ℕ) → is_doubling p ≡ true → size + 32 ≤ 256 * p → size + more ≤ 4194304 → more ≤ 4096 → 256 * p < size + more + 32 → p ≤ fit size
+pub full_few : (p size more : ℕ) → is_doubling p ≡ true → size + 32 ≤ 256 * p → size ≤ 4194304 → more ≤ 4096 → 256 * p < size + more + 32 → p ≤ fit size
 full_few p size more shape holds most few full =
     let a = power_of p shape in
     let b = is_fit size (omega arith) in
@@ -79,7 +79,7 @@ doubled_few p f few = grind (arith, nat_tests)
 few_is : (p f : ℕ) → nat_le p (2 * f) ≡ true → p ≤ 2 * f
 few_is p f is = grind (arith, nat_tests)
 
-fixed_shape : (n p : ℕ) → has_shape (Fixed n) p ≡ true → (n ≡ p) × (p ≤ 15)
+pub fixed_shape : (n p : ℕ) → has_shape (Fixed n) p ≡ true → (n ≡ p) × (p ≤ 15)
 fixed_shape n p is = (grind (arith, nat_tests), grind (arith, nat_tests))
 
 -- AFTER A STEP
@@ -187,7 +187,7 @@ holds_test pages size bytes is = grind (arith, nat_tests)
 -- the file grows
 may_grow : (kind : Kind) (pages size bytes : ℕ) → has_shape kind pages ≡ true → size + 32 ≤ 256 * pages → bytes ≤ 4096 → size + bytes ≤ 4194304 → ((n : ℕ) → kind ≡ Fixed n → size + bytes + 32 ≤ 256 * n) → 256 * pages < size + bytes + 32
     → (kind ≡ Doubling) × (pages ≤ 16384) × (pages ≤ fit size)
-may_grow Doubling pages size bytes shape holds few most fixed full = (refl, omega arith, full_few pages size bytes shape holds most few full)
+may_grow Doubling pages size bytes shape holds few most fixed full = (refl, omega arith, full_few pages size bytes shape holds (omega (arith, most)) few full)
 may_grow (Fixed n) pages size bytes shape holds few most fixed full = let s = fixed_shape n pages shape in absurd (omega (arith, fixed n refl, s.0))
 
 may_step : (a b : Bool) (e : FileAt) (step : Step) → (if a then Some Grow else (if b then Some Merge else None)) ≡ Some step → (a ≡ true → (e.kind ≡ Doubling) × (e.pages ≤ 16384) × (e.pages ≤ fit e.size)) → MayTake step e

@@ -1,12 +1,13 @@
-ghost use Rattle.std.specs.Prelude.{◌≡◌, ◌<◌, ◌≤◌, ℕ, false, Some, length, IsTrue};
+ghost use Rattle.std.specs.Prelude.{◌≡◌, ◌*◌, ◌<◌, ◌≤◌, ℕ, false, max, Some, length, IsTrue};
 ghost use Rattle.afl_base.specs.Files.{IsLive, IsNamed, IsUnnamed, file_at, size_at, used};
+ghost use Rattle.afl_base.specs.Fit.{fit};
 ghost use Rattle.coffee_layout.specs.Units.{pages_of};
 ghost use Rattle.coffee_layout.specs.declared.file.FileAt.{FileAt};
 ghost use Rattle.coffee_merge.specs.Holding.{Holds, IsStored};
 ghost use Rattle.coffee_volume.specs.Volumes.{AreRegular, IsEntry, IsPending, IsRegular, file_seen, files_seen, places, roomless};
 
 use crate::entry::{Entry, EntryTable};
-use afl_base::{FileId, Files, Flash};
+use afl_base::{FileId, Files, Flash, Kind};
 use coffee_layout::FileAt;
 
 /// The files of a flash. It keeps 32 entries, one for each file, and no heap.
@@ -47,6 +48,19 @@ impl<F: Flash> Volume<F> {
             None => unreachable!(),
         }
     }
+
+    /// What the files ask for is little: a growing one asks for at most twice the pages that its size needs,
+    /// while at most 4,096 bytes more are prepared for, and one of 6 pages for at most 16.
+    pub fn asks_for_little(&self)
+        ensures growing { (id overwrites bytes need : ℕ) → IsLive (⟦<Self as Files>⟧.state self.now).files id
+            → (file_at (⟦<Self as Files>⟧.state self.now).files id).kind ≡ Kind.Doubling
+            → bytes ≤ 4096 → size_at (⟦<Self as Files>⟧.state self.now).files id ≤ 4194304
+            → ⟦<Self as Files>⟧.asks self.now id overwrites bytes need
+            → need ≤ max 16 (2 * fit (size_at (⟦<Self as Files>⟧.state self.now).files id)) }
+        ensures fixed { (id overwrites bytes need : ℕ) → IsLive (⟦<Self as Files>⟧.state self.now).files id
+            → (file_at (⟦<Self as Files>⟧.state self.now).files id).kind ≡ Kind.Fixed 6
+            → ⟦<Self as Files>⟧.asks self.now id overwrites bytes need → need ≤ 16 }
+    {}
 }
 
 /// The entry of a file without room.

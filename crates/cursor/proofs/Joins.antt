@@ -10,7 +10,7 @@ use Rattle.std.proofs.lemmas.List.Elements.{filter-append}
 use Rattle.afl_base.specs.Files.{State, bytes_at}
 use Rattle.db_model.specs.declared.values.Value.{Value}
 use Rattle.db_model.specs.Answers.{live_tuples, pairs, same_value}
-use Rattle.db_model.specs.Cost.{sum}
+use Rattle.db_model.specs.Cost.{added}
 use Rattle.db_model.specs.Row.{Row}
 use Rattle.index_set.specs.declared.candidates.Candidates.{Candidates}
 use Rattle.index_set.specs.Complete.{no_row}
@@ -47,15 +47,15 @@ matching_append left_on right_on xs ys rights =
 first_matching : (left_on right_on : ℕ) (xs rights : List Row) → matching left_on right_on xs rights ≡ matching left_on right_on (take 1 xs) rights ++ matching left_on right_on (drop 1 xs) rights
 first_matching left_on right_on xs rights = ap (λ (l : List Row). matching left_on right_on l rights) (sym (take-append-drop 1 xs)) ∙ matching_append left_on right_on (take 1 xs) (drop 1 xs) rights
 
-sum_append : (f : List Value → ℕ) (xs ys : List (List Value)) → sum (map f (xs ++ ys)) ≡ sum (map f xs) + sum (map f ys)
-sum_append f [] ys = omega arith
-sum_append f (x ∷ xs) ys = omega (arith, sum_append f xs ys)
+added_append : (f : List Value → ℕ) (xs ys : List (List Value)) → added (map f (xs ++ ys)) ≡ added (map f xs) + added (map f ys)
+added_append f [] ys = omega arith
+added_append f (x ∷ xs) ys = omega (arith, added_append f xs ys)
 
 first_costs : (c : JoinCursor) (rights xs : List Row) → right_costs c rights xs ≡ right_costs c rights (take 1 xs) + right_costs c rights (drop 1 xs)
 first_costs c rights xs =
     ap (right_costs c rights) (sym (take-append-drop 1 xs))
-    ∙ ap (λ (l : List (List Value)). sum (map (λ left. right_cost c.right_indexes c.right_on (slice_get left c.left_on) rights) l)) (live_append (take 1 xs) (drop 1 xs))
-    ∙ sum_append (λ left. right_cost c.right_indexes c.right_on (slice_get left c.left_on) rights) (live_tuples (take 1 xs)) (live_tuples (drop 1 xs))
+    ∙ ap (λ (l : List (List Value)). added (map (λ left. right_cost c.right_indexes c.right_on (slice_get left c.left_on) rights) l)) (live_append (take 1 xs) (drop 1 xs))
+    ∙ added_append (λ left. right_cost c.right_indexes c.right_on (slice_get left c.left_on) rights) (live_tuples (take 1 xs)) (live_tuples (drop 1 xs))
 
 -- ---- the right rows of a left tuple
 
@@ -79,8 +79,8 @@ one_left left_on right_on lefts rights t from n live order few =
     let f = λ (pair : List Value × List Value). same_value (slice_get pair.0 left_on) (slice_get pair.1 right_on) in
     let part = drop from (take n rights) in
     let g = λ (x : List Value). map (λ (y : List Value). (x, y)) (live_tuples part) in
-    let whole : n ≡ from + (n - from) = omega arith in
-    let parts : part ≡ take (n - from) (drop from rights) = ap (λ (m : ℕ). drop from (take m rights)) whole ∙ drop-take from (n - from) rights in
+    let sum : n ≡ from + (n - from) = omega arith in
+    let parts : part ≡ take (n - from) (drop from rights) = ap (λ (m : ℕ). drop from (take m rights)) sum ∙ drop-take from (n - from) rights in
     ap (λ (l : List (List Value)). filter f (flat_map g l)) live
     ∙ ap (filter f) (flat_map-cons g t [] ∙ append-nil (g t))
     ∙ matched left_on right_on t (live_tuples part)
@@ -145,8 +145,8 @@ module _ (c : JoinCursor) (lefts rights : List Row) where
 
     pub one_cost : right_costs c rights (take 1 (drop c.at (lefts_of c lefts))) ≡ right_cost c.right_indexes c.right_on (slice_get t c.left_on) rights
     one_cost =
-        let whole : right_cost c.right_indexes c.right_on (slice_get t c.left_on) rights + 0 ≡ right_cost c.right_indexes c.right_on (slice_get t c.left_on) rights = omega arith in
-        ap (λ (l : List (List Value)). sum (map (λ left. right_cost c.right_indexes c.right_on (slice_get left c.left_on) rights) l)) live ∙ whole
+        let sum : right_cost c.right_indexes c.right_on (slice_get t c.left_on) rights + 0 ≡ right_cost c.right_indexes c.right_on (slice_get t c.left_on) rights = omega arith in
+        ap (λ (l : List (List Value)). added (map (λ left. right_cost c.right_indexes c.right_on (slice_get left c.left_on) rights) l)) live ∙ sum
 
   -- ---- what the step costs: the left row, and what the right side was to cost
 

@@ -4,4 +4,5 @@ pub mod Suited
 pub mod Selected
 pub mod Partners
 pub mod Joins
+pub mod Waiting
 pub mod Walking

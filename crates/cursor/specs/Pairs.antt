@@ -4,7 +4,7 @@ use Rattle.std.specs.List.{range_with_len}
 use Rattle.afl_base.specs.Files.{State}
 use Rattle.db_model.specs.declared.values.Value.{Value}
 use Rattle.db_model.specs.Answers.{live_tuples, pairs, same_value}
-use Rattle.db_model.specs.Cost.{chosen_cost, ranges_at, sum}
+use Rattle.db_model.specs.Cost.{added, chosen_cost, ranges_at}
 use Rattle.db_model.specs.Row.{Row}
 use Rattle.index_set.specs.declared.candidates.Candidates.{Candidates}
 use Rattle.index_set.specs.declared.info.IndexInfo.{IndexInfo}
@@ -99,7 +99,7 @@ right_cost infos on value rights = chosen_cost (kinds infos) (ranges_at on value
 
 -- for each live one of some left rows
 abbrev pub right_costs : JoinCursor → List Row → List Row → ℕ
-right_costs c rights lefts = sum (map (λ left. right_cost c.right_indexes c.right_on (slice_get left c.left_on) rights) (live_tuples lefts))
+right_costs c rights lefts = added (map (λ left. right_cost c.right_indexes c.right_on (slice_get left c.left_on) rights) (live_tuples lefts))
 
 -- a right side that has begun has paid for its beginning
 abbrev pub inner_cost : Option Candidates → ℕ → List Row → ℕ

@@ -2,9 +2,13 @@
 #![tactic(auto)]
 
 mod join;
+mod laws;
 mod partner;
 mod select;
 mod walk;
 
 pub use join::JoinCursor;
+pub use laws::{
+    nothing_is_left_of_no_slots, rows_that_come_change_no_answer, rows_that_come_change_no_pair,
+};
 pub use select::SelectCursor;

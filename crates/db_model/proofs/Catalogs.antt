@@ -16,7 +16,7 @@ use Rattle.db_model.specs.declared.schemas.Schema.{Schema}
 use Rattle.db_model.specs.Catalog.{Index, Catalog, IsDomain, IsAttribute, IsRelation, IsCatalog, domain_code, domain_length, domain_from, attribute_bytes, attribute_of, attributes_of, relation_slot_bytes, relation_slot_of, index_slot_bytes, index_slot_of, version_mark, version_bytes, catalog_bytes, version_of, relation_at, index_at, catalog_of}
 use Rattle.db_model.specs.Keywords.{keyword_of}
 use Rattle.db_model.specs.Names.{is_name, is_word, is_word_byte}
-use Rattle.db_model.specs.Padded.{padded}
+use Rattle.padded.specs.Padded.{padded}
 use Rattle.db_model.specs.Row.{up_to_zero}
 use Rattle.db_model.proofs.Rows.{both, take_front, drop_front, length-padded}
 

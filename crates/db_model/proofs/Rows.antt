@@ -20,7 +20,7 @@ use Rattle.db_model.specs.declared.schemas.Domain.TheVariants.{Int, Long, Time, 
 use Rattle.db_model.specs.declared.values.Value.{Value}
 use Rattle.db_model.specs.declared.values.Value.TheVariants.{Number, Text}
 use Rattle.db_model.specs.Names.{is_text, is_text_byte}
-use Rattle.db_model.specs.Padded.{padded}
+use Rattle.padded.specs.Padded.{padded}
 use Rattle.db_model.specs.Row.{Row, suits, is_between, AllSuit, AllRowsSuit, width, field_bytes, field_of, time_or_least, up_to_zero, text_or_empty, fields_length, row_length, mark, fields_bytes, row_bytes, rows_bytes, tuple_of, row_of, row_at, rows_of}
 
 pub both : (a b : Bool) → (a && b) ≡ true → (a ≡ true) × (b ≡ true)

@@ -8,7 +8,7 @@ use Rattle.db_model.specs.declared.schemas.IndexKind.{IndexKind}
 use Rattle.db_model.specs.declared.schemas.IndexKind.TheVariants.{Inline, MaxHeap, MemHash}
 use Rattle.db_model.specs.declared.schemas.Schema.{Schema}
 use Rattle.db_model.specs.Names.{is_name}
-use Rattle.db_model.specs.Padded.{padded}
+use Rattle.padded.specs.Padded.{padded}
 use Rattle.db_model.specs.Row.{up_to_zero}
 
 -- an index: its kind, the slot of its relation, and the place of its attribute, counted from 0

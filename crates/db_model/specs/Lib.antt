@@ -9,7 +9,6 @@ pub mod HashTree
 pub mod Item
 pub mod Keywords
 pub mod Names
-pub mod Padded
 pub mod Plan
 pub mod Ranges
 pub mod Reading

@@ -9,7 +9,7 @@ use Rattle.db_model.specs.declared.schemas.Domain.TheVariants.{Int, Long, Time, 
 use Rattle.db_model.specs.declared.values.Value.{Value}
 use Rattle.db_model.specs.declared.values.Value.TheVariants.{Number, Text}
 use Rattle.db_model.specs.Names.{is_text}
-use Rattle.db_model.specs.Padded.{padded}
+use Rattle.padded.specs.Padded.{padded}
 
 -- a row of a relation; a removed one keeps its slot
 pub record Row : Type 0 where

@@ -5,7 +5,6 @@ mod commands;
 pub mod laws;
 mod lists;
 mod names;
-mod padding;
 mod refusals;
 mod schemas;
 mod texts;

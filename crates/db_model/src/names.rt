@@ -9,8 +9,8 @@ ghost use Rattle.std.specs.List.{list_all};
 ghost use Rattle.std.specs.Prelude.{nat_eq, ◌∷◌, []};
 ghost use Rattle.db_model.specs.Names.{is_name, is_word, is_word_byte};
 
-use crate::padding::padded_to;
 use crate::tokens::Keyword;
+use padded::padded_to;
 use std::marker::Model;
 
 /// A NAME of the language: a letter, then letters, digits and `_`, 1 to 15 bytes of ASCII in all,
@@ -24,7 +24,7 @@ pub struct Ident {
 impl Model for Ident {
     ghost use Rattle.std.specs.Prelude.{◌≡◌, ℕ, List, IsTrue, length, refl, take};
     ghost use Rattle.db_model.specs.Names.{is_name};
-    ghost use Rattle.db_model.specs.Padded.{IsPadded, length-front, padded};
+    ghost use Rattle.padded.specs.Padded.{IsPadded, length-front, padded};
 
     ghost Value = { List ℕ };
 

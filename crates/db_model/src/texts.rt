@@ -9,7 +9,7 @@ ghost use Rattle.std.specs.List.{list_all};
 ghost use Rattle.std.specs.Prelude.{nat_eq};
 ghost use Rattle.db_model.specs.Names.{is_text, is_text_byte};
 
-use crate::padding::padded_to;
+use padded::padded_to;
 use std::marker::Model;
 
 /// A text: 0 to 32 bytes from 0x20 to 0x7E without the quote 0x27. Contracts see it as its list
@@ -23,7 +23,7 @@ pub struct Text {
 impl Model for Text {
     ghost use Rattle.std.specs.Prelude.{◌≡◌, ℕ, List, IsTrue, length, refl, take};
     ghost use Rattle.db_model.specs.Names.{is_text};
-    ghost use Rattle.db_model.specs.Padded.{IsPadded, length-front, padded};
+    ghost use Rattle.padded.specs.Padded.{IsPadded, length-front, padded};
 
     ghost Value = { List ℕ };
 

@@ -8,7 +8,7 @@ use Rattle.afl_base.specs.Fields.{put_at, u16_at}
 use Rattle.afl_base.specs.Files.{Drafts, State, Table, bytes_at, draft_in}
 use Rattle.afl_base.specs.KeyColumn.{key_of, key_place, number_at}
 use Rattle.afl_base.specs.declared.key_column.KeyColumn.{KeyColumn}
-use Rattle.afl_base.specs.Names.{padded}
+use Rattle.padded.specs.Padded.{padded}
 use Rattle.afl_base.proofs.FieldLaws.{length-put_at}
 use Rattle.afl_base.proofs.PaddedLaws.{padded_all, put_behind, put_in_front}
 use Rattle.db_model.specs.HashTree.{buckets, node}

@@ -2,7 +2,7 @@
 use Rattle.std.specs.Prelude.{ℕ, ℤ, ◌≡◌, ◌≢◌, ◌+◌, ◌-◌, ◌*◌, ◌/◌, ◌<◌, ◌≤◌, List, [], ◌∷◌, ◌++◌, length, get_or, replicate, slice_range}
 use Rattle.afl_base.specs.Fields.{put_at, u16_at}
 use Rattle.afl_base.specs.Files.{Drafts, State, WritesDraft, draft_in}
-use Rattle.afl_base.specs.Names.{padded}
+use Rattle.padded.specs.Padded.{padded}
 use Rattle.db_model.specs.HashTree.{buckets, node}
 use Rattle.index_tree.specs.Buckets.{IsFirstBucket, IsPairBytes}
 use Rattle.index_tree.specs.Loads.{Counts}

@@ -41,11 +41,18 @@ counted bytes keys tree = count (length bytes) (buckets keys) (sized bytes keys 
     count : (len b : ℕ) → len ≡ bucket_place b → (len - 683) / 195 ≡ b
     count len b e = omega (arith, e)
 
-pub half_many : (keys : List ℤ) → length keys ≤ 16384 → buckets keys ≤ 853
-half_many keys few = let most = buckets_few keys in omega (arith, few, most)
+pub half_many : (bytes : List ℕ) (keys : List ℤ) → IsTreeOf bytes keys → length keys ≤ 16384 → bucket_count bytes ≤ 853
+half_many bytes keys tree few =
+    let most = buckets_few keys in
+    let count = counted bytes keys tree in
+    omega (arith, few, most, count)
 
-pub most_many : (keys : List ℤ) → length keys ≤ 32768 → buckets keys ≤ 1365
-most_many keys few = let most = buckets_few keys in omega (arith, few, most)
+pub most_many : (bytes : List ℕ) (keys : List ℤ) → IsTreeOf bytes keys → bucket_count bytes ≤ 1365
+most_many bytes keys tree =
+    let few : length keys ≤ 32768 = (let long = numbered_length 0 keys in let most = tree.few in omega (arith, long, most)) in
+    let most = buckets_few keys in
+    let count = counted bytes keys tree in
+    omega (arith, few, most, count)
 
 -- the last byte is that of the last bucket, or stands behind the numbers of the nodes
 mark_last : (bytes : List ℕ) (key : ℕ → ℤ) (slots b : ℕ) → MeetsRules bytes key slots → bucket_count bytes ≡ b → slice_index bytes (length bytes - 1) ≡ 1

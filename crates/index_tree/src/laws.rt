@@ -2,7 +2,7 @@
 
 #![tactic(auto)]
 
-ghost use Rattle.std.specs.Prelude.{◌≡◌, ◌≤◌, ◌+◌, ◌-◌, ◌/◌, ℕ, ℤ, List, filter, length, slice_index};
+ghost use Rattle.std.specs.Prelude.{◌≡◌, ◌≤◌, ◌-◌, ℕ, ℤ, List, filter, length, slice_index};
 ghost use Rattle.std.specs.List.{range_with_len};
 ghost use Rattle.db_model.specs.HashTree.{buckets};
 ghost use Rattle.index_tree.specs.Keys.{first_keys, is_key_at, key_in};
@@ -22,17 +22,17 @@ pub fn rules_are_the_tree()
     ensures keys { (keys : List ℤ) → first_keys (key_in keys) (length keys) ≡ keys }
 {}
 
-/// A tree has as many buckets as its keys need, and no other bytes behind its numbers: at most one bucket
-/// for each 32 keys and 341 more.
-#[tactic(auto, using(crate::proofs::Law::counted, crate::proofs::Law::sized, crate::proofs::Counted::buckets_few, crate::proofs::Law::half_many, crate::proofs::Law::most_many))]
+/// A tree has as many buckets as its keys need, and no other bytes behind its numbers: at most 853 buckets
+/// for 16,384 keys, and never more than 1,365.
+#[tactic(auto, using(crate::proofs::Law::counted, crate::proofs::Law::sized, crate::proofs::Law::half_many, crate::proofs::Law::most_many))]
 pub fn a_tree_has_few_buckets()
     ensures buckets { (bytes : List ℕ) (keys : List ℤ) → IsTreeOf bytes keys
         → bucket_count bytes ≡ buckets keys }
     ensures size { (bytes : List ℕ) (keys : List ℤ) → IsTreeOf bytes keys
         → length bytes ≡ bucket_place (buckets keys) }
-    ensures few { (keys : List ℤ) → buckets keys ≤ length keys / 32 + 341 }
-    ensures half { (keys : List ℤ) → length keys ≤ 16384 → buckets keys ≤ 853 }
-    ensures most { (keys : List ℤ) → length keys ≤ 32768 → buckets keys ≤ 1365 }
+    ensures half { (bytes : List ℕ) (keys : List ℤ) → IsTreeOf bytes keys → length keys ≤ 16384
+        → bucket_count bytes ≤ 853 }
+    ensures most { (bytes : List ℕ) (keys : List ℤ) → IsTreeOf bytes keys → bucket_count bytes ≤ 1365 }
 {}
 
 /// The pairs of a key along its path are the slots with that key, in order. No path has more than 1,024

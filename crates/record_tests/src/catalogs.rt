@@ -3,12 +3,12 @@ ghost use Rattle.afl_base.specs.Files.{IsLive, bytes_at, file_at, used};
 ghost use Rattle.afl_base.specs.declared.kind.Kind.TheVariants.{Fixed};
 ghost use Rattle.catalog.specs.CatalogFile.{IsCatalogSize};
 
+use afl_base::{Failed, FileError, FileId, Files, IndexId, Kind, Name, RelationId};
+use afl_sim::PlainFiles;
 use catalog::{
     BadCatalog, IndexEntry, catalog_file, clear_relation, load, put_index, put_relation, room_for,
     rows_file,
 };
-use afl_base::{Failed, FileError, FileId, Files, IndexId, Kind, Name, RelationId};
-use afl_sim::PlainFiles;
 use db_model::{Attribute, Attributes, Domain, Ident, IndexKind, Schema};
 use std::test::Fail;
 

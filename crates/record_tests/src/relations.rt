@@ -2,11 +2,11 @@ ghost use Rattle.std.specs.Prelude.{◌≡◌, ◌+◌, ◌<◌, ◌≤◌, ℕ,
 ghost use Rattle.db_model.specs.Row.{AllSuit, row_length, suits};
 ghost use Rattle.tuple_file.specs.Tuples.{HoldsRows, slots};
 
-use tuple_file::Tuples;
 use afl_base::{FileError, FileId, Files, Kind, Name, SlotNo};
 use afl_sim::PlainFiles;
 use db_model::{Attribute, Attributes, Domain, Ident, Schema, Text, Tuple, Value};
 use std::test::Fail;
+use tuple_file::Tuples;
 
 // Prepares and appends a row.
 fn insert<V: Files>(tuples: &Tuples, files: &mut V, tuple: &Tuple) -> Result<(), FileError>
@@ -16,7 +16,8 @@ fn insert<V: Files>(tuples: &Tuples, files: &mut V, tuple: &Tuple) -> Result<(),
     requires suits { AllSuit tuples.now.schema.attributes tuple.now }
     ensures holds { OnOk result (HoldsRows (V.state files.new) tuples.now) }
     ensures idle { OnOk result ((V.state files.new).draft ≡ None) }
-    ensures slots { OnOk result (slots (V.state files.new).files tuples.now ≡ slots (V.state files.old).files tuples.now + 1) }
+    ensures slots { OnOk result (slots (V.state files.new).files tuples.now
+        ≡ slots (V.state files.old).files tuples.now + 1) }
 {
     files.prepare(tuples.file, 0, 128)?;
     tuples.append(files, tuple)?;
@@ -30,7 +31,8 @@ fn remove<V: Files>(tuples: &Tuples, files: &mut V, slot: SlotNo) -> Result<(), 
     requires slot { slot < slots (V.state files.old).files tuples.now }
     ensures holds { OnOk result (HoldsRows (V.state files.new) tuples.now) }
     ensures idle { OnOk result ((V.state files.new).draft ≡ None) }
-    ensures slots { OnOk result (slots (V.state files.new).files tuples.now ≡ slots (V.state files.old).files tuples.now) }
+    ensures slots { OnOk result (slots (V.state files.new).files tuples.now
+        ≡ slots (V.state files.old).files tuples.now) }
 {
     files.prepare(tuples.file, 1, 0)?;
     tuples.mark(files, slot)?;
@@ -41,7 +43,9 @@ fn remove<V: Files>(tuples: &Tuples, files: &mut V, slot: SlotNo) -> Result<(), 
 fn keys_and_texts(file: FileId) -> Option<Tuples>
     ensures file { IfSome result (λ tuples. tuples.file ≡ file) }
     ensures short { IfSome result (λ tuples. row_length tuples.schema.attributes ≡ 8) }
-    ensures suits { IfSome result (λ tuples. (k : ℤ) (t : List ℕ) → IsTrue (suits Domain.Long (Value.Number k)) → IsTrue (suits (Domain.Str 3) (Value.Text t)) → AllSuit tuples.schema.attributes (Value.Number k ∷ Value.Text t ∷ [])) }
+    ensures suits { IfSome result (λ tuples. (k : ℤ) (t : List ℕ) → IsTrue (suits Domain.Long (Value.Number k))
+        → IsTrue (suits (Domain.Str 3) (Value.Text t))
+        → AllSuit tuples.schema.attributes (Value.Number k ∷ Value.Text t ∷ [])) }
 {
     let mut attributes = Attributes::new();
     attributes.push(Attribute {

@@ -7,8 +7,6 @@ mod bytes;
 mod lines;
 mod refusal;
 mod rows;
-#[cfg(test)]
-mod tests;
 
 pub use bytes::write_all;
 pub use lines::{write_ok, write_rows};

@@ -5,7 +5,7 @@ use Rattle.std.proofs.lemmas.Grind.{flat_map-append}
 use Rattle.std.proofs.lemmas.List.{append-nil, drop-drop, drop-replicate, drop_at, get_or-append_right, length-append, take-replicate, take_at}
 use Rattle.afl_base.specs.Fields.{put_at}
 use Rattle.db_model.specs.declared.schemas.Attribute.{Attribute}
-use Rattle.db_model.specs.Padded.{padded}
+use Rattle.padded.specs.Padded.{padded}
 use Rattle.db_model.specs.Row.{AllRowsSuit, AllSuit, Row, fields_bytes, mark, row_bytes, row_length, rows_bytes}
 use Rattle.db_model.proofs.Rows.{length-row}
 

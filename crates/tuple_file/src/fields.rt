@@ -5,7 +5,7 @@
 ghost use Rattle.std.specs.Prelude.{◌≡◌, ◌+◌, ◌≤◌, ◌==◌, IsTrue, drop, length, replicate};
 ghost use Rattle.std.specs.List.{list_all};
 ghost use Rattle.afl_base.specs.Fields.{put_at};
-ghost use Rattle.db_model.specs.Padded.{padded};
+ghost use Rattle.padded.specs.Padded.{padded};
 ghost use Rattle.db_model.specs.Row.{field_bytes, field_of, suits, text_or_empty, time_or_least, up_to_zero, width};
 
 use afl_base::{get_i32, get_i64, get_u16, put_bytes, put_i32, put_i64, put_u16};

@@ -4,7 +4,7 @@ use Rattle.std.specs.Prelude.{slice_range}
 use Rattle.std.proofs.lemmas.List.{drop_at, length-append, take-append-drop, take-replicate, take_rest}
 use Rattle.afl_base.specs.Fields.{put_at}
 use Rattle.afl_base.specs.Files.{Drafts, State, draft_in}
-use Rattle.afl_base.specs.Names.{padded}
+use Rattle.padded.specs.Padded.{padded}
 use Rattle.afl_base.proofs.DraftLaws.{drafts_all, drafts_more, drafts_none}
 use Rattle.volume_tests.specs.Counts.{EndsWell}
 

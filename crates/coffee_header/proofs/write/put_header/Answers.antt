@@ -1,6 +1,6 @@
 use Rattle.std.proofs.Common.{◌≡◌, length, refl, ℕ, arith, ap, ◌∙◌, sym}
 use Rattle.std.proofs.lemmas.List.{length-take, length-drop, length-set}
-use Rattle.afl_base.specs.Names.{padded}
+use Rattle.padded.specs.Padded.{padded}
 use Rattle.afl_base.specs.Fields.{u16_bytes}
 use Rattle.coffee_header.specs.Headers.{header_bytes}
 use Rattle.coffee_header.proofs.Written.{whole_written}

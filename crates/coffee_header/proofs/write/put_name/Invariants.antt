@@ -1,5 +1,5 @@
 use Rattle.std.proofs.Common.{◌≡◌, ℕ, ◌<◌, length, get_or}
-use Rattle.afl_base.specs.Names.{padded}
+use Rattle.padded.specs.Padded.{padded}
 use Rattle.coffee_header.proofs.write.put_name.Given as goal
 
 abbrev pub invariant-loop-i : goal.invariant-loop-i

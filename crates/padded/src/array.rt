@@ -1,9 +1,5 @@
-//! Short byte strings in arrays of a fixed width, the rest of each array zero.
-
-#![tactic(auto)]
-
 ghost use Rattle.std.specs.Prelude.{◌≡◌, ◌≤◌, length};
-ghost use Rattle.db_model.specs.Padded.{padded};
+ghost use Rattle.padded.specs.Padded.{padded};
 
 /// `bytes`, at most `N`, followed by zeros up to the width `N`.
 pub fn padded_to<const N: usize>(bytes: &[u8]) -> [u8; N]

@@ -1,7 +1,7 @@
-use crate::{write_all, write_numbers, write_ok, write_refusal, write_row, write_rows};
 use afl_base::Failed;
 use afl_sim::MemSink;
 use db_model::{Pool, Refusal, Text, Tuple, Value};
+use reply_text::{write_all, write_numbers, write_ok, write_refusal, write_row, write_rows};
 use std::test::Fail;
 
 #[test]
