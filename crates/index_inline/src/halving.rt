@@ -52,8 +52,8 @@ fn comes_before<V: Files>(
     requires few { slot < 32768 }
     requires width { IsWidth column.now.width }
     requires field { HasField (V.state files.old) column.now slot }
-    ensures test { IsTrue (V.state files.old).tells → IfOk result (λ before.
-        before ≡ passes upper within.now (key_of (V.state files.old) column.now slot)) }
+    ensures test { IsTrue (V.state files.old).tells → IfOk result
+        (λ before. before ≡ passes upper within.now (key_of (V.state files.old) column.now slot)) }
     ensures same { OnOk result (V.state files.new ≡ V.state files.old) }
     ensures reads { V.reads files.new ≤ V.reads files.old + 6 }
     ensures reads_later { V.reads files.old ≤ V.reads files.new }

@@ -267,9 +267,9 @@ impl Candidates {
             → (keys : List ℤ) → HasPlace (V.state files.old) file key.now keys self.old → self.old.slots ≤ length keys
             → IfOk result (λ found. MatchOption found
             (V.reads files.new + walk_left (keys_beside key.now keys) self.new.place
-                ≤ V.reads files.old + walk_left (keys_beside key.now keys) self.old.place)
+            ≤ V.reads files.old + walk_left (keys_beside key.now keys) self.old.place)
             (λ _. V.reads files.new + walk_left (keys_beside key.now keys) self.new.place
-                ≤ V.reads files.old + walk_left (keys_beside key.now keys) self.old.place + 9)) }
+            ≤ V.reads files.old + walk_left (keys_beside key.now keys) self.old.place + 9)) }
         ensures reads_err { IsTrue (V.state files.old).tells
             → (keys : List ℤ) → HasPlace (V.state files.old) file key.now keys self.old
             → V.reads files.new ≤ V.reads files.old + walk_left (keys_beside key.now keys) self.old.place }
