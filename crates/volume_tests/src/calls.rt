@@ -7,7 +7,7 @@ ghost use Rattle.afl_base.specs.Files.{IsKind, IsLive, IsNamed, IsUnnamed, file_
 ghost use Rattle.afl_base.specs.Regions.{regions};
 ghost use Rattle.volume_tests.specs.Counts.{EndsWell, HasFiles, IsPrepared, Stays};
 
-use afl_base::{Failed, FileError, FileId, Files, Kind, Name};
+use afl_base::{Failed, FileError, FileId, Files, Kind, Name, regions};
 
 /// The number of live files.
 pub fn live_files<V: Files>(files: &V) -> u16
@@ -118,7 +118,8 @@ fn prepared<V: Files>(
     tail: &[u8],
 ) -> Result<Option<FileId>, FileError>
     requires { (V.state files.old).draft ≡ None }
-    ensures ready { IfOk result (λ place. IfSome place (λ id. IsPrepared (V.state files.new) id at bytes.now tail.now)) }
+    ensures ready { IfOk result (λ place.
+        IfSome place (λ id. IsPrepared (V.state files.new) id at bytes.now tail.now)) }
     ensures idle { UnlessFailed result ((V.state files.new).draft ≡ None) }
     ensures used { UnlessFailed result (used (V.state files.new).files ≡ used (V.state files.old).files) }
 {
@@ -139,7 +140,8 @@ fn overwrite<V: Files>(files: &mut V, id: FileId, at: u32, bytes: &[u8]) -> Resu
     requires records { regions at (length bytes.now) ≤ (file_at (V.state files.old).files id).records }
     requires last { EndsWell bytes.now }
     ensures stays { OnOk result (Stays (V.state files.old) (V.state files.new) id) }
-    ensures room { OnOk result ((file_at (V.state files.new).files id).room ≡ (file_at (V.state files.old).files id).room) }
+    ensures room { OnOk result ((file_at (V.state files.new).files id).room
+        ≡ (file_at (V.state files.old).files id).room) }
 {
     if bytes.is_empty() {
         return Ok(());
@@ -153,8 +155,10 @@ fn append<V: Files>(files: &mut V, id: FileId, tail: &[u8]) -> Result<(), Failed
     requires room { length tail.now ≤ (file_at (V.state files.old).files id).room }
     requires last { EndsWell tail.now }
     ensures stays { OnOk result (Stays (V.state files.old) (V.state files.new) id) }
-    ensures size { OnOk result (size_at (V.state files.new).files id ≡ size_at (V.state files.old).files id + length tail.now) }
-    ensures records { OnOk result ((file_at (V.state files.new).files id).records ≡ (file_at (V.state files.old).files id).records) }
+    ensures size { OnOk result (size_at (V.state files.new).files id
+        ≡ size_at (V.state files.old).files id + length tail.now) }
+    ensures records { OnOk result ((file_at (V.state files.new).files id).records
+        ≡ (file_at (V.state files.old).files id).records) }
 {
     if tail.is_empty() {
         return Ok(());
@@ -220,14 +224,17 @@ pub fn begin_draft<V: Files>(
 // Puts a draft of `bytes`, written in two parts, in the place of a file or beside all others.
 fn draft<V: Files>(files: &mut V, name: Name, bytes: &[u8], cut: usize) -> Result<(), FileError>
     requires idle { (V.state files.old).draft ≡ None }
-    requires kind { (k : ℕ) → IsNamed (V.state files.old).files k name → (file_at (V.state files.old).files k).kind ≡ Kind.Doubling }
+    requires kind { (k : ℕ) → IsNamed (V.state files.old).files k name
+        → (file_at (V.state files.old).files k).kind ≡ Kind.Doubling }
     requires place { IsUnnamed (V.state files.old).files name → used (V.state files.old).files < 32 }
     requires size { length bytes.now ≤ 4194304 }
     requires cut { cut ≤ length bytes.now }
     requires last { EndsWell bytes.now }
     ensures idle { UnlessFailed result ((V.state files.new).draft ≡ None) }
-    ensures replaced { OnOk result ((k : ℕ) → IsNamed (V.state files.old).files k name → used (V.state files.new).files ≡ used (V.state files.old).files) }
-    ensures added { OnOk result (IsUnnamed (V.state files.old).files name → used (V.state files.new).files ≡ used (V.state files.old).files + 1) }
+    ensures replaced { OnOk result ((k : ℕ) → IsNamed (V.state files.old).files k name
+        → used (V.state files.new).files ≡ used (V.state files.old).files) }
+    ensures added { OnOk result (IsUnnamed (V.state files.old).files name
+        → used (V.state files.new).files ≡ used (V.state files.old).files + 1) }
     ensures kept { OnSpace result (λ _. used (V.state files.new).files ≡ used (V.state files.old).files) }
 {
     files.draft(name, bytes.len() as u32)?;
@@ -333,18 +340,4 @@ fn ends_in_zero(bytes: &[u8]) -> bool
         return false;
     }
     bytes[bytes.len() - 1] == 0
-}
-
-// How many regions of 128 bytes the `len` bytes from `at` on touch.
-fn regions(at: u32, len: usize) -> u16
-    requires { len ≤ 3584 }
-    ensures regions { result ≡ regions at len }
-    ensures few { result ≤ 29 }
-{
-    if len == 0 {
-        return 0;
-    }
-    let first = at as usize / 128;
-    let past = (at as usize + len + 127) / 128;
-    (past - first) as u16
 }

@@ -4,6 +4,8 @@
 #[cfg(test)]
 mod calls;
 #[cfg(test)]
+mod catalog_tests;
+#[cfg(test)]
 mod fault_tests;
 #[cfg(test)]
 mod log_tests;
