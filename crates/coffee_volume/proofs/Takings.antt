@@ -17,10 +17,10 @@ use Rattle.coffee_merge.specs.Holding.{Begins, Holds, IsIn, Entries, TakesOnly, 
 use Rattle.coffee_merge.specs.Takes.{FreesNone, LooksIn, Takes}
 use Rattle.coffee_merge.proofs.Lowest.{takes_more}
 use Rattle.coffee_merge.proofs.Taken.{takes_then}
-use Rattle.coffee_volume.specs.Lowest.{PlacesDraft, PlacesFile, Provides, StepsTo, log_for}
+use Rattle.coffee_volume.specs.Lowest.{LooksFor, PlacesDraft, PlacesFile, Provides, StepsTo, Stops, log_for}
 use Rattle.coffee_volume.specs.Steps.{step_for}
 use Rattle.coffee_volume.specs.Taking.{IsFileOf, LiesIn, TakesForDraft, TakesForFile, TakesNone, TakesWithin}
-use Rattle.coffee_volume.specs.Volumes.{EntryTable, FromTo, IsEntry, files_seen, places, state_seen}
+use Rattle.coffee_volume.specs.Volumes.{AtEntry, EntryTable, FromTo, IsEntry, files_seen, places, state_seen}
 use Rattle.coffee_volume.specs.declared.entry.Entry.{Entry}
 use Rattle.coffee_volume.proofs.Changes.{MakesFile, held, made_sets}
 use Rattle.coffee_volume.proofs.Drafted.{first_some}
@@ -58,7 +58,7 @@ nothing_taken old new e takes = λ p free taken. free_not (is_free_at new p) (ta
 -- a file of the table takes pages
 pub file_taken : (old new : List ℕ) (table : Entries) (draft : Option FileAt) (i : ℕ) (e : FileAt) → Holds new table draft → IsIn table i e → TakesWithin e old new → TakesForFile e.name old new
 file_taken old new table draft i e h is takes = λ p free taken.
-    (e, record { name = refl; active = h.files i e is; logged = λ l log. h.logs i e l is log }, takes p free taken)
+    (e, record { name = refl; active = h.files i e is; logged = λ l log. h.logs i e l is log; stored = h.stored i e is }, takes p free taken)
 
 -- a draft does
 pub draft_taken : (old new : List ℕ) (table : Entries) (d : FileAt) → Holds new table (Some d) → TakesWithin d old new → TakesForDraft d.name old new
@@ -106,7 +106,7 @@ made_lowest tells failed old mid new table draft i name kind page pages f m firs
     let is : IsIn (set (places table) i (Some e)) i e = get_or-set_same (places table) i (Some e) None inside in
     record {
       file = e;
-      is = record { name = refl; active = sets.holds.files i e is; logged = λ l log. absurd (cc) };
+      is = record { name = refl; active = sets.holds.files i e is; logged = λ l log. absurd (cc); stored = sets.holds.stored i e is };
       many = refl;
       takes = takes_more old mid new page.0 pages None (first both.0 (places table) h)
           (λ p out apart. others both.0 p (λ same. out (omega (arith, same)) (omega (arith, same))))
@@ -204,12 +204,13 @@ pub record Turns (tells before between failed : Bool) (old mid new : List ℕ) (
   pub held : IsTrue tells → before ≡ false → Holds old (places table) draft
   pub first : Becomes (state_seen (tells && not before) old table draft) (state_seen (tells && not between) mid turned begun) i (size_at (files_seen (tells && not before) old table) i) (bytes_at (files_seen (tells && not before) old table) i)
   pub second : Becomes (state_seen (tells && not between) mid turned begun) (state_seen (tells && not failed) new now left) i (size_at (files_seen (tells && not between) mid turned) i) (bytes_at (files_seen (tells && not between) mid turned) i)
+  pub between_held : IsTrue tells → between ≡ false → Holds mid (places turned) begun
   pub told : IsTrue tells → failed ≡ false → Holds new (places now) left
   pub lowest : IsTrue (tells && not before) → FromTo table turned i (λ e. StepsTo (step_for e overwrites bytes) old mid e)
   pub then_lowest : IsTrue (tells && not between) → FromTo turned now i (λ e. StepsTo (log_for e overwrites bytes) mid new e)
 
 file_of_held : (image : List ℕ) (table : Entries) (draft : Option FileAt) (i : ℕ) (e : FileAt) (n : List ℕ) → Holds image table draft → IsIn table i e → e.name ≡ n → IsFileOf image n e
-file_of_held image table draft i e n h is name = record { name = name; active = h.files i e is; logged = λ l log. h.logs i e l is log }
+file_of_held image table draft i e n h is name = record { name = name; active = h.files i e is; logged = λ l log. h.logs i e l is log; stored = h.stored i e is }
 
 pub turns_lowest : (tells before between failed : Bool) (old mid new : List ℕ) (table turned now : EntryTable) (draft begun left : Option FileAt) (i overwrites bytes : ℕ) → Turns tells before between failed old mid new table turned now draft begun left i overwrites bytes
     → IsTrue (tells && not before) → Provides (file_at (files_seen (tells && not before) old table) i).name overwrites bytes old new
@@ -221,8 +222,10 @@ turns_lowest tells before between failed old mid new table turned now draft begu
     let d = entry_seen (tells && not failed) new now i b.live in
     let then : IsTrue (tells && not between) = a.tells ∙ told in
     let was = told_by tells before told in
+    let midst = told_by tells between then in
     let both = told_by tells failed (b.tells ∙ then) in
     let had : c.0.at.name ≡ (file_at (files_seen (tells && not before) old table) i).name = ap (λ (f : File). f.name) (sym (file_of (tells && not before) old table i c.0 c.1)) in
+    let named : e.0.at.name ≡ (file_at (files_seen (tells && not before) old table) i).name = ap (λ (f : File). f.name) (sym (file_of (tells && not between) mid turned i e.0 e.1)) ∙ a.name in
     let name : d.0.at.name ≡ (file_at (files_seen (tells && not before) old table) i).name = ap (λ (f : File). f.name) (sym (file_of (tells && not failed) new now i d.0 d.1)) ∙ b.name ∙ a.name in
     record {
       middle = mid;
@@ -231,9 +234,54 @@ turns_lowest tells before between failed old mid new table turned now draft begu
       to = d.0.at;
       was = file_of_held old (places table) draft i c.0.at _ (t.held was.0 was.1) (in_places table i c.0 c.1) had;
       first = t.lowest told c.0 e.0 c.1 e.1;
+      stands = file_of_held mid (places turned) begun i e.0.at _ (t.between_held midst.0 midst.1) (in_places turned i e.0 e.1) named;
       last = t.then_lowest then e.0 d.0 e.1 d.1;
       is = file_of_held new (places now) left i d.0.at _ (t.told both.0 both.1) (in_places now i d.0 d.1) name;
     }
+
+-- the first step could not be taken
+pub stops_first : (tells failed : Bool) (old new : List ℕ) (table : EntryTable) (draft : Option FileAt) (i overwrites bytes need : ℕ) → IsLive (files_seen (tells && not failed) old table) i → (IsTrue tells → failed ≡ false → Holds old (places table) draft)
+    → (IsTrue (tells && not failed) → AtEntry table i (λ e. LooksFor (step_for e overwrites bytes) e need old new))
+    → IsTrue (tells && not failed) → Stops (file_at (files_seen (tells && not failed) old table) i).name overwrites bytes need old new
+stops_first tells failed old new table draft i overwrites bytes need live says looks told =
+    let c = entry_seen (tells && not failed) old table i live in
+    let both = told_by tells failed told in
+    let had : c.0.at.name ≡ (file_at (files_seen (tells && not failed) old table) i).name = ap (λ (f : File). f.name) (sym (file_of (tells && not failed) old table i c.0 c.1)) in
+    inl (record {
+      from = c.0.at;
+      was = file_of_held old (places table) draft i c.0.at _ (says both.0 both.1) (in_places table i c.0 c.1) had;
+      looks = looks told c.0 c.1;
+    })
+
+-- what is known where the log could not be had
+pub record Halts (tells before between : Bool) (old mid new : List ℕ) (table turned : EntryTable) (draft begun : Option FileAt) (i overwrites bytes need : ℕ) : Type 0 where
+  pub live : IsLive (files_seen (tells && not before) old table) i
+  pub held : IsTrue tells → before ≡ false → Holds old (places table) draft
+  pub first : Becomes (state_seen (tells && not before) old table draft) (state_seen (tells && not between) mid turned begun) i (size_at (files_seen (tells && not before) old table) i) (bytes_at (files_seen (tells && not before) old table) i)
+  pub between_held : IsTrue tells → between ≡ false → Holds mid (places turned) begun
+  pub lowest : IsTrue (tells && not before) → FromTo table turned i (λ e. StepsTo (step_for e overwrites bytes) old mid e)
+  pub looks : IsTrue (tells && not between) → AtEntry turned i (λ e. LooksFor (log_for e overwrites bytes) e need mid new)
+
+pub stops_log : (tells before between : Bool) (old mid new : List ℕ) (table turned : EntryTable) (draft begun : Option FileAt) (i overwrites bytes need : ℕ) → Halts tells before between old mid new table turned draft begun i overwrites bytes need
+    → IsTrue (tells && not before) → Stops (file_at (files_seen (tells && not before) old table) i).name overwrites bytes need old new
+stops_log tells before between old mid new table turned draft begun i overwrites bytes need t told =
+    let a = t.first in
+    let c = entry_seen (tells && not before) old table i t.live in
+    let e = entry_seen (tells && not between) mid turned i a.live in
+    let then : IsTrue (tells && not between) = a.tells ∙ told in
+    let was = told_by tells before told in
+    let midst = told_by tells between then in
+    let had : c.0.at.name ≡ (file_at (files_seen (tells && not before) old table) i).name = ap (λ (f : File). f.name) (sym (file_of (tells && not before) old table i c.0 c.1)) in
+    let named : e.0.at.name ≡ (file_at (files_seen (tells && not before) old table) i).name = ap (λ (f : File). f.name) (sym (file_of (tells && not between) mid turned i e.0 e.1)) ∙ a.name in
+    inr (record {
+      middle = mid;
+      from = c.0.at;
+      between = e.0.at;
+      was = file_of_held old (places table) draft i c.0.at _ (t.held was.0 was.1) (in_places table i c.0 c.1) had;
+      first = t.lowest told c.0 e.0 c.1 e.1;
+      stands = file_of_held mid (places turned) begun i e.0.at _ (t.between_held midst.0 midst.1) (in_places turned i e.0 e.1) named;
+      looks = t.looks then e.0 e.1;
+    })
 
 -- the second step could not be taken
 pub same_more : (turned now : EntryTable) (i : ℕ) → now ≡ turned → (e d : Entry) → IsEntry turned i e → IsEntry now i d → (p : ℕ) → LiesIn e.at p → LiesIn d.at p

@@ -1,12 +1,12 @@
 -- Lowest: which pages a new file, a draft, and the extents and logs that `prepare` asks for lie in. They
 -- are always the lowest that were free in a row, of the flash as it was, or, where there were none, of
 -- the flash after a collection.
-use Rattle.std.specs.Prelude.{◌≡◌, ℕ, List, Option, Some, None, if◌then◌else◌}
+use Rattle.std.specs.Prelude.{◌≡◌, ◌⊎◌, ℕ, List, Option, Some, None, if◌then◌else◌}
 use Rattle.afl_base.specs.declared.ids.PageId.{PageId}
 use Rattle.coffee_layout.specs.declared.file.FileAt.{FileAt}
 use Rattle.coffee_merge.specs.Takes.{LooksIn, Takes}
 use Rattle.coffee_volume.specs.Rooms.{lacks_log, records_needed}
-use Rattle.coffee_volume.specs.Steps.{IsAfter, step_for}
+use Rattle.coffee_volume.specs.Steps.{IsAfter, need_of, step_for}
 use Rattle.coffee_volume.specs.Taking.{IsDraftOf, IsFileOf}
 use Rattle.coffee_volume.specs.declared.step.Step.{Step}
 use Rattle.coffee_volume.specs.declared.step.Step.TheVariants.{Grow, Merge, Log}
@@ -64,5 +64,32 @@ pub record Provides (given : List ℕ) (overwrites bytes : ℕ) (old new : List 
   pub to : FileAt
   pub was : IsFileOf old given from
   pub first : StepsTo (step_for from overwrites bytes) old middle from between
+  pub stands : IsFileOf middle given between
   pub last : StepsTo (log_for between overwrites bytes) middle new between to
   pub is : IsFileOf new given to
+
+-- the pages that a step with a file asks for were looked for; there is such a step
+abbrev pub LooksFor : Option Step → FileAt → (need : ℕ) (old new : List ℕ) → Type 0
+LooksFor None e need old new = ⊥
+LooksFor (Some step) e need old new = (need ≡ need_of step e) × LooksIn old new need
+
+-- the file of this name needs its first step, and the pages of that were looked for in the flash as it was
+pub record StopsAtFirst (given : List ℕ) (overwrites bytes need : ℕ) (old new : List ℕ) : Type 0 where
+  pub from : FileAt
+  pub was : IsFileOf old given from
+  pub looks : LooksFor (step_for from overwrites bytes) from need old new
+
+-- its first step, if it needs one, was taken, and the pages of the log that it needs were looked for in
+-- what that left
+pub record StopsAtLog (given : List ℕ) (overwrites bytes need : ℕ) (old new : List ℕ) : Type 0 where
+  pub middle : List ℕ
+  pub from : FileAt
+  pub between : FileAt
+  pub was : IsFileOf old given from
+  pub first : StepsTo (step_for from overwrites bytes) old middle from between
+  pub stands : IsFileOf middle given between
+  pub looks : LooksFor (log_for between overwrites bytes) between need middle new
+
+-- where `prepare` stops that finds no pages
+abbrev pub Stops : (given : List ℕ) (overwrites bytes need : ℕ) (old new : List ℕ) → Type 0
+Stops given overwrites bytes need old new = StopsAtFirst given overwrites bytes need old new ⊎ StopsAtLog given overwrites bytes need old new

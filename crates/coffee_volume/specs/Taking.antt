@@ -4,13 +4,15 @@ use Rattle.afl_base.specs.declared.ids.PageId.{PageId}
 use Rattle.coffee_layout.specs.Tiling.{units_of}
 use Rattle.coffee_layout.specs.declared.file.FileAt.{FileAt}
 use Rattle.coffee_merge.specs.Begun.{active_at}
-use Rattle.coffee_merge.specs.Holding.{draft_header, file_header, is_free_at, log_header}
+use Rattle.coffee_merge.specs.Holding.{IsStored, draft_header, file_header, is_free_at, log_header}
 
--- a file of this name is active in an image, and so is its log
+-- a file of this name is active in an image, and so is its log; it has just the bytes and the records in
+-- use that the image holds
 pub record IsFileOf (image given : List ℕ) (e : FileAt) : Type 0 where
   pub name : e.name ≡ given
   pub active : active_at (units_of image) e.page.0 ≡ Some (file_header e)
   pub logged : (l : PageId) → e.log ≡ Some l → active_at (units_of image) l.0 ≡ Some (log_header e.name)
+  pub stored : IsStored image e
 
 -- a file of this name is under construction
 pub record IsDraftOf (image given : List ℕ) (d : FileAt) : Type 0 where

@@ -16,7 +16,7 @@ impl<F: Flash> Files for Volume<F> {
     ghost use Rattle.afl_base.specs.Files.{Appends, Commits, Creates, Drafts, IsKind, IsLive, IsNamed, IsUnnamed, Keeps, KeepsBytes, Overwrites, Removes, WritesDraft, draft_in, file_at, first_pages, size_at, used};
     ghost use Rattle.afl_base.specs.Fit.{fit};
     ghost use Rattle.afl_base.specs.Regions.{regions};
-    ghost use Rattle.coffee_volume.specs.Lowest.{Looks, PlacesDraft, PlacesFile, Provides};
+    ghost use Rattle.coffee_volume.specs.Lowest.{Looks, PlacesDraft, PlacesFile, Provides, Stops};
     ghost use Rattle.coffee_volume.specs.Taking.{KeepsUnits, TakesForDraft, TakesForFile, TakesNone};
     ghost use Rattle.coffee_volume.specs.Volumes.{Asks, Lacks, WhereTold, state_seen};
 
@@ -157,6 +157,9 @@ impl<F: Flash> Files for Volume<F> {
         ensures lowest { OnOk result (
             WhereTold (⟦<Self as Files>⟧.state self.old) (⟦<Self as Files>⟧.state self.new)
             (Provides (file_at (⟦<Self as Files>⟧.state self.old).files id).name overwrites bytes)) }
+        ensures looked { OnSpace result (λ need.
+            WhereTold (⟦<Self as Files>⟧.state self.old) (⟦<Self as Files>⟧.state self.new)
+            (Stops (file_at (⟦<Self as Files>⟧.state self.old).files id).name overwrites bytes need)) }
         ensures still { ((n : ℕ) → ⟦<Self as Files>⟧.asks self.old id overwrites bytes n → ⊥)
             → (⟦<Self as Files>⟧.state self.new).store ≡ (⟦<Self as Files>⟧.state self.old).store }
         ensures unasked { ((n : ℕ) → ⟦<Self as Files>⟧.asks self.old id overwrites bytes n → ⊥)

@@ -2,7 +2,7 @@ ghost use Rattle.std.specs.Prelude.{◌≡◌, ℕ, ◌+◌, ◌*◌, ◌≤◌,
 ghost use Rattle.afl_base.specs.FileErrors.{HasFileCause, OnSpace, UnlessFailed};
 ghost use Rattle.afl_base.specs.Files.{IsLive, KeepsBytes, file_at, size_at};
 ghost use Rattle.afl_base.specs.Fit.{fit};
-ghost use Rattle.coffee_volume.specs.Lowest.{StepsTo, log_for};
+ghost use Rattle.coffee_volume.specs.Lowest.{LooksFor, StepsTo, log_for};
 ghost use Rattle.coffee_volume.specs.Rooms.{pages_asked};
 ghost use Rattle.coffee_volume.specs.Steps.{IsAfter, MayTake, need_of, step_for};
 ghost use Rattle.coffee_volume.specs.Taking.{LiesIn, TakesNone, TakesWithin};
@@ -50,6 +50,9 @@ impl<F: Flash> Volume<F> {
             WhereTold (⟦<Self as Files>⟧.state self.old) (⟦<Self as Files>⟧.state self.new)
             (λ old new. FromTo self.old.table self.new.table id
             (λ e. StepsTo (step_for e overwrites bytes) old new e))) }
+        ensures looked { OnSpace result (λ need.
+            WhereTold (⟦<Self as Files>⟧.state self.old) (⟦<Self as Files>⟧.state self.new)
+            (λ old new. AtEntry self.old.table id (λ e. LooksFor (step_for e overwrites bytes) e need old new))) }
         ensures untaken { OnSpace result (λ _.
             WhereTold (⟦<Self as Files>⟧.state self.old) (⟦<Self as Files>⟧.state self.new) TakesNone) }
         ensures lacks { OnSpace result (λ need. ⟦<Self as Files>⟧.lacks self.new need) }
@@ -95,6 +98,9 @@ impl<F: Flash> Volume<F> {
             WhereTold (⟦<Self as Files>⟧.state self.old) (⟦<Self as Files>⟧.state self.new)
             (λ old new. FromTo self.old.table self.new.table id
             (λ e. StepsTo (log_for e overwrites bytes) old new e))) }
+        ensures looked { OnSpace result (λ need.
+            WhereTold (⟦<Self as Files>⟧.state self.old) (⟦<Self as Files>⟧.state self.new)
+            (λ old new. AtEntry self.old.table id (λ e. LooksFor (log_for e overwrites bytes) e need old new))) }
         ensures untaken { OnSpace result (λ _.
             WhereTold (⟦<Self as Files>⟧.state self.old) (⟦<Self as Files>⟧.state self.new) TakesNone) }
         ensures lacks { OnSpace result (λ need. ⟦<Self as Files>⟧.lacks self.new need) }
@@ -125,6 +131,9 @@ impl<F: Flash> Volume<F> {
         ensures lowest { OnOk result (
             WhereTold (⟦<Self as Files>⟧.state self.old) (⟦<Self as Files>⟧.state self.new)
             (λ old new. FromTo self.old.table self.new.table id (StepsTo (Some step) old new))) }
+        ensures looked { OnSpace result (λ need.
+            WhereTold (⟦<Self as Files>⟧.state self.old) (⟦<Self as Files>⟧.state self.new)
+            (λ old new. AtEntry self.old.table id (λ e. LooksFor (Some step) e need old new))) }
         ensures untaken { OnSpace result (λ _.
             WhereTold (⟦<Self as Files>⟧.state self.old) (⟦<Self as Files>⟧.state self.new) TakesNone) }
         ensures lacks { OnSpace result (λ need. ⟦<Self as Files>⟧.lacks self.new need) }

@@ -5,7 +5,7 @@ ghost use Rattle.coffee_layout.specs.Marks.{IsCramped};
 ghost use Rattle.coffee_layout.specs.Tiling.{units_of};
 ghost use Rattle.coffee_layout.specs.Units.{pages_of};
 ghost use Rattle.coffee_merge.specs.Holding.{Moves, Stays, has_shape};
-ghost use Rattle.coffee_merge.specs.Takes.{Takes};
+ghost use Rattle.coffee_merge.specs.Takes.{LooksIn, Takes};
 ghost use Rattle.coffee_volume.specs.Lowest.{log_page, page_taken, pages_taken};
 ghost use Rattle.coffee_volume.specs.Rooms.{has_too_few, lacks_log, own_record, records_needed};
 ghost use Rattle.coffee_volume.specs.Steps.{IsAfter, MayTake, WhereHeld, WhereStands, need_of, step_for};
@@ -75,6 +75,8 @@ pub(crate) fn take_step<F: Flash>(
         (λ table. TakesNone (F.image flash.old) (F.image flash.new))) }
     ensures lowest { IsTrue F.tells → IfOk result (λ to. WhereStands (F.image flash.old) file.now
         (λ table i. Takes (F.image flash.old) (F.image flash.new) (page_taken step to) (pages_taken step to) (Some file.now))) }
+    ensures looked { IsTrue F.tells → OnSpace result (λ _. WhereHeld (F.image flash.old)
+        (λ table. LooksIn (F.image flash.old) (F.image flash.new) (need_of step file.now))) }
     ensures cramped { IsTrue F.tells → OnSpace result (λ need. WhereHeld (F.image flash.old)
         (λ table. IsCramped (units_of (F.image flash.new)) need)) }
     ensures need { OnSpace result (λ need. need ≡ need_of step file.now) }
@@ -106,6 +108,8 @@ fn log<F: Flash>(flash: &mut F, file: &FileAt) -> Result<FileAt, FileError>
         (λ table. TakesNone (F.image flash.old) (F.image flash.new))) }
     ensures lowest { IsTrue F.tells → IfOk result (λ to. WhereStands (F.image flash.old) file.now
         (λ table i. Takes (F.image flash.old) (F.image flash.new) (log_page to.log) 16 (Some file.now))) }
+    ensures looked { IsTrue F.tells → OnSpace result (λ _. WhereHeld (F.image flash.old)
+        (λ table. LooksIn (F.image flash.old) (F.image flash.new) 16)) }
     ensures cramped { IsTrue F.tells → OnSpace result (λ need. WhereHeld (F.image flash.old)
         (λ table. IsCramped (units_of (F.image flash.new)) need)) }
     ensures need { OnSpace result (λ need. need ≡ 16) }

@@ -1,12 +1,14 @@
-use Rattle.std.proofs.Common.{◌≡◌, ◌∙◌, ◌&&◌, not, ℕ, None, ap, subst, sym}
+use Rattle.std.proofs.Common.{◌≡◌, ◌∙◌, ◌&&◌, not, ℕ, None, IsTrue, ap, subst, sym}
 use Rattle.std.specs.Prelude.{Err}
 use Rattle.std.proofs.lemmas.Result.{err_from_is_err_and}
 use Rattle.coffee_volume.specs.Rooms.{pages_asked}
-use Rattle.coffee_volume.specs.Volumes.{EntryTable, IsEntry}
+use Rattle.coffee_volume.specs.Lowest.{LooksFor, log_for}
+use Rattle.coffee_volume.specs.Steps.{step_for}
+use Rattle.coffee_volume.specs.Volumes.{AtEntry, EntryTable, IsEntry}
 use Rattle.coffee_volume.proofs.Moved.{none_wanted}
 use Rattle.coffee_volume.proofs.Stepped.{asked_step}
-use Rattle.coffee_volume.proofs.Tables.{entry_seen}
-use Rattle.coffee_volume.proofs.Takings.{handed_on, nothing_taken, same_more, space_handed, steps_taken, turns_lowest}
+use Rattle.coffee_volume.proofs.Tables.{entry_seen, space_with}
+use Rattle.coffee_volume.proofs.Takings.{handed_on, nothing_taken, same_more, space_handed, steps_taken, stops_first, stops_log, turns_lowest}
 use Rattle.coffee_volume.proofs.files.VolumeFiles.prepare.Goals as goal
 
 pub returns-in_err-reshape-clause-still : goal.returns-in_err-reshape-clause-still
@@ -89,6 +91,7 @@ returns-clause-lowest g c =
       held = v.told;
       first = c.in_ok-reshape.ensures.contents;
       second = c.in_ok-provide_log.ensures.contents;
+      between_held = m.told;
       told = n.told;
       lowest = c.in_ok-reshape.ensures.lowest;
       then_lowest = c.in_ok-provide_log.ensures.lowest;
@@ -117,3 +120,40 @@ returns-in_err-provide_log-clause-unasked g c never =
     let said = err_from_is_err_and c.from_residual-in_err-provide_log.result c.from_residual-in_err-provide_log.ensures.1 in
     space_handed c.provide_log.result c.from_residual-in_err-provide_log.result c.in_err-provide_log.field-0.0 _ c.in_err-provide_log.was (said.1 ∙ ap (λ e. Err e) said.2)
     (c.provide_log.ensures.unasked had.0 still none)
+
+pub returns-in_err-reshape-clause-looked : goal.returns-in_err-reshape-clause-looked
+returns-in_err-reshape-clause-looked g c =
+    let v = c.args.self.now in
+    let w : ℕ = c.args.overwrites in
+    let b : ℕ = c.args.bytes in
+    let id : ℕ = c.args.id in
+    let old = g.F.Flash.image v.flash in
+    let new = g.F.Flash.image c.reshape.new.self.flash in
+    let said = err_from_is_err_and c.from_residual.result c.from_residual.ensures.1 in
+    space_handed c.reshape.result c.from_residual.result c.in_err-reshape.field-0.0 _ c.in_err-reshape.was (said.1 ∙ ap (λ e. Err e) said.2)
+    (space_with c.reshape.result (λ need. IsTrue (g.F.Flash.tells && not v.failed) → AtEntry v.table id (λ e. LooksFor (step_for e w b) e need old new)) (λ need. IsTrue (g.F.Flash.tells && not v.failed) → AtEntry v.table id (λ e. LooksFor (step_for e w b) e need old new)) _
+    (λ need looks _. stops_first g.F.Flash.tells v.failed old new v.table v.draft id w b need c.requires.live v.told looks)
+    c.reshape.ensures.looked c.reshape.ensures.looked)
+
+pub returns-in_err-provide_log-clause-looked : goal.returns-in_err-provide_log-clause-looked
+returns-in_err-provide_log-clause-looked g c =
+    let v = c.args.self.now in
+    let m = c.reshape.new.self in
+    let w : ℕ = c.args.overwrites in
+    let b : ℕ = c.args.bytes in
+    let id : ℕ = c.args.id in
+    let mid = g.F.Flash.image m.flash in
+    let new = g.F.Flash.image c.provide_log.new.self.flash in
+    let said = err_from_is_err_and c.from_residual-in_err-provide_log.result c.from_residual-in_err-provide_log.ensures.1 in
+    space_handed c.provide_log.result c.from_residual-in_err-provide_log.result c.in_err-provide_log.field-0.0 _ c.in_err-provide_log.was (said.1 ∙ ap (λ e. Err e) said.2)
+    (space_with c.provide_log.result (λ need. IsTrue (g.F.Flash.tells && not m.failed) → AtEntry m.table id (λ e. LooksFor (log_for e w b) e need mid new)) (λ need. IsTrue (g.F.Flash.tells && not m.failed) → AtEntry m.table id (λ e. LooksFor (log_for e w b) e need mid new)) _
+    (λ need looks _. stops_log g.F.Flash.tells v.failed m.failed (g.F.Flash.image v.flash) mid new v.table m.table v.draft m.draft id w b need
+    (record {
+      live = c.requires.live;
+      held = v.told;
+      first = c.in_ok-reshape.ensures.contents;
+      between_held = m.told;
+      lowest = c.in_ok-reshape.ensures.lowest;
+      looks = looks;
+    }))
+    c.provide_log.ensures.looked c.provide_log.ensures.looked)

@@ -1,9 +1,9 @@
-use Rattle.std.proofs.Common.{◌≡◌, ℕ, Option, Some, ap, sym, subst, ◌∙◌, arith}
+use Rattle.std.proofs.Common.{◌≡◌, ◌&&◌, not, ℕ, Option, Some, IsTrue, ap, sym, subst, ◌∙◌, arith}
 use Rattle.std.proofs.lemmas.Result.{on_ok_weaker}
 use Rattle.afl_base.specs.Files.{File}
-use Rattle.coffee_volume.specs.Lowest.{StepsTo}
+use Rattle.coffee_volume.specs.Lowest.{LooksFor, StepsTo}
 use Rattle.coffee_volume.specs.Steps.{MayTake, NeedsFew, need_of, step_for}
-use Rattle.coffee_volume.specs.Volumes.{Asks, EntryTable, IsEntry}
+use Rattle.coffee_volume.specs.Volumes.{Asks, AtEntry, EntryTable, IsEntry}
 use Rattle.coffee_volume.specs.declared.entry.Entry.{Entry}
 use Rattle.coffee_volume.specs.declared.step.Step.{Step}
 use Rattle.coffee_volume.proofs.Stepped.{step_asks, step_done, step_may, step_needs}
@@ -84,3 +84,17 @@ returns-in-Some-clause-lowest g c =
     let asks : step_for x.at c.args.overwrites c.args.bytes ≡ Some step = subst (λ (y : Entry). step_for y.at c.args.overwrites c.args.bytes ≡ Some step) one (sym c.step_for.ensures ∙ c.in-Some.is) in
     subst (λ (o : Option Step). StepsTo o (g.F.Flash.image v.flash) (g.F.Flash.image c.take.new.self.flash) x.at d.at) (sym asks) (lowest told x d was is))
     c.take.ensures.lowest
+
+pub returns-in-Some-clause-looked : goal.returns-in-Some-clause-looked
+returns-in-Some-clause-looked g c =
+    let v = c.args.self.now in
+    let e : Entry = c.entry-at.result in
+    let step : Step = c.in-Some.step in
+    let old = g.F.Flash.image v.flash in
+    let new = g.F.Flash.image c.take.new.self.flash in
+    space_with c.take.result (λ need. IsTrue (g.F.Flash.tells && not v.failed) → AtEntry v.table c.args.id (λ d. LooksFor (Some step) d need old new)) (λ need. IsTrue (g.F.Flash.tells && not v.failed) → AtEntry v.table c.args.id (λ d. LooksFor (Some step) d need old new)) _
+    (λ need looks _ told x was.
+    let one = one_entry v.table c.args.id e x c.entry-at.ensures.entry was in
+    let asks : step_for x.at c.args.overwrites c.args.bytes ≡ Some step = subst (λ (y : Entry). step_for y.at c.args.overwrites c.args.bytes ≡ Some step) one (sym c.step_for.ensures ∙ c.in-Some.is) in
+    subst (λ (o : Option Step). LooksFor o x.at need old new) (sym asks) (looks told x was))
+    c.take.ensures.looked c.take.ensures.looked

@@ -1,8 +1,10 @@
-use Rattle.std.proofs.Common.{◌≡◌, ◌<◌, ◌&&◌, not, ℕ, Some, length, subst, arith}
+use Rattle.std.proofs.Common.{◌≡◌, ◌<◌, ◌&&◌, not, ℕ, Some, length, subst, sym, arith}
 use Rattle.coffee_layout.specs.Files.{FitsIn}
 use Rattle.coffee_layout.specs.Units.{pages_of}
 use Rattle.coffee_layout.specs.declared.file.FileAt.{FileAt}
-use Rattle.coffee_volume.specs.Lowest.{StepsTo}
+use Rattle.coffee_merge.specs.Takes.{LooksIn}
+use Rattle.coffee_volume.specs.Lowest.{LooksFor, StepsTo}
+use Rattle.coffee_volume.specs.Steps.{need_of}
 use Rattle.coffee_volume.specs.Taking.{LiesIn}
 use Rattle.coffee_volume.specs.Volumes.{IsEntry, IsRegular, places, roomless}
 use Rattle.coffee_volume.specs.declared.entry.Entry.{Entry}
@@ -112,3 +114,19 @@ returns-in-Ok-clause-lowest g c = λ told x d was is.
       c.in-Ok.ensures.after,
       c.in-Ok.ensures.lowest both.0 (places v.table) id (holds_idle g.F.Flash.tells v.failed old v.table v.draft s c.requires.idle both.0 both.1) (in_places v.table id e c.entry-at.ensures.entry),
     ))
+
+pub returns-in-Err-Space-clause-looked : goal.returns-in-Err-Space-clause-looked
+returns-in-Err-Space-clause-looked g c =
+    let v = c.args.self.now in
+    let old = g.F.Flash.image v.flash in
+    let new = g.F.Flash.image c.take_step.new.flash in
+    let e : Entry = c.entry-at.result in
+    let s : Stands g.F.Flash.tells v.failed old v.table v.draft = record { count = v.count; big = v.big; regular = v.regular; pending = v.pending; space = v.space; told = v.told } in
+    let need : c.in-Err-Space.need ≡ need_of c.args.step e.at = rw c.in-Err-Space.field-0-is at c.in-Err-Space.ensures.need in
+    rw c.in-Err-Space.field-0-is
+    (λ told x is.
+    let both = told_by g.F.Flash.tells v.failed told in
+    let one : e ≡ x = one_entry v.table c.args.id e x c.entry-at.ensures.entry is in
+    let looked = rw c.in-Err-Space.field-0-is at (c.in-Err-Space.ensures.looked both.0) (places v.table) (holds_idle g.F.Flash.tells v.failed old v.table v.draft s c.requires.idle both.0 both.1) in
+    subst (λ (y : Entry). LooksFor (Some c.args.step) y.at c.in-Err-Space.need old new) one
+    (need, subst (λ (n : ℕ). LooksIn old new n) (sym need) looked))
