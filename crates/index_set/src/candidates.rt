@@ -197,6 +197,8 @@ impl Candidates {
         ensures forward { IfOk result (λ found. MatchOption found (self.new.from ≡ self.new.slots)
             (λ slot. (self.old.from ≤ slot) × (self.new.from ≡ slot + 1))) }
         ensures ended { IfOk result (λ found. found ≡ None → self.new.end ≡ self.new.slots) }
+        ensures over { IfOk result (λ found. found ≡ None
+            → (all : List Row) → ahead self.new all ≡ []) }
         ensures slots { self.new.slots ≡ self.old.slots }
         ensures search { self.new.search ≡ self.old.search }
         ensures order { self.old.from ≤ self.old.end → self.new.from ≤ self.new.end }
