@@ -16,9 +16,10 @@ use Rattle.index_set.specs.declared.info.IndexInfo.{IndexInfo}
 use Rattle.index_set.specs.declared.info.TableId.{TableId}
 use Rattle.index_set.specs.declared.info.TableId.TheVariants.{First, Second}
 use Rattle.index_set.specs.Complete.{AreComplete, AreHeld, IsComplete, IsHeld}
-use Rattle.index_set.specs.Inserts.{AreApart, AreRoomFor, HasKeyFor, HasRoom, HaveRoom, IsApart, IsElsewhere, IsNoTable, IsNoTree, IsRoomFor, KeepsTables, MayAllFollow, MayFollow, is_key}
+use Rattle.index_set.specs.Inserts.{AllKeepBuckets, AreApart, AreRoomFor, HasKeyFor, HasRoom, HaveRoom, IsApart, IsElsewhere, IsNoTable, IsNoTree, IsRoomFor, KeepsBuckets, KeepsTables, MayAllFollow, MayFollow, is_key}
 use Rattle.index_set.specs.Tables.{Tables, entries}
 use Rattle.index_set.proofs.Lists.{before_it, here_of, no_tree_more, room_moved, taken}
+use Rattle.index_tree.specs.Places.{KeepsNumbers}
 use Rattle.index_tree.specs.Trees.{IsTreeOf}
 
 -- ---- an index that stays while others change
@@ -83,6 +84,16 @@ module _ (a b : State) (s t : Tables) (stays : ℕ → Type 0) (f : Spares a b s
   room_for_on key room (Tree file) stay h = let P : List ℕ → Type 0 = λ bytes. (ks : List ℤ) → IsTreeOf bytes ks → room ≡ room_of bytes key in subst P (sym (bytes_stay file stay)) h
   room_for_on key room (InTable number) stay h = h
 
+  pub kept_to : (z : State) (access : Access) → Stays access → KeepsBuckets z a access → KeepsBuckets z b access
+  kept_to z Order stay h = h
+  kept_to z (Tree file) stay h = let P : List ℕ → Type 0 = λ bytes. KeepsNumbers (bytes_at z.files file) bytes in subst P (sym (bytes_stay file stay)) h
+  kept_to z (InTable number) stay h = h
+
+  pub kept_from : (z : State) (access : Access) → Stays access → KeepsBuckets b z access → KeepsBuckets a z access
+  kept_from z Order stay h = h
+  kept_from z (Tree file) stay h = let P : List ℕ → Type 0 = λ bytes. KeepsNumbers bytes (bytes_at z.files file) in subst P (bytes_stay file stay) h
+  kept_from z (InTable number) stay h = h
+
 -- the index at a place, while those before it are filled
 pub later_stays : (a b : State) (s t : Tables) (xs : List IndexInfo) (f : Spares a b (IsNoTree xs)) (access : Access)
     → ((number : TableId) → AllByRecursion (λ x. IsNoTable number x.access) xs → entries t number ≡ entries s number)
@@ -107,6 +118,10 @@ module _ (a b : State) (s t : Tables) (access : Access) (f : Spares a b (λ k. I
   complete_before rows [] away h = tt
   complete_before rows (x ∷ xs) away h =
       (complete_on a b s t (λ k. IsApart k access) f (keys x.attribute rows) x.access (earlier_stays a b s t access f x.access keeps away.0) h.0, complete_before rows xs away.1 h.1)
+
+  pub kept_before : (z : State) (xs : List IndexInfo) → AllByRecursion (λ x. IsElsewhere x.access access) xs → AllKeepBuckets z a xs → AllKeepBuckets z b xs
+  kept_before z [] away h = tt
+  kept_before z (x ∷ xs) away h = (kept_to a b s t (λ k. IsApart k access) f z x.access (earlier_stays a b s t access f x.access keeps away.0) h.0, kept_before z xs away.1 h.1)
 
 -- ---- lists
 
@@ -172,6 +187,15 @@ module _ (xs : List IndexInfo) (n : ℕ) (y : IndexInfo) (h : n < length xs) (e 
       let P : ℤ → Type 0 = λ k. IsComplete b t1 (InTable number) ks → IsRoomFor b k room (InTable number) → MayFollow ks k (InTable number) → IsComplete c t2 (InTable number) (ks ++ k ∷ []) in
       subst P (is has) put whole room_for may
 
+  kept_by : (access : Access) (value : Option Value) (key : ℤ) (ks : List ℤ) (room : Room) → HasKeyFor value access → (IsTrue (is_key value) → key ≡ key_of value)
+      → (IsComplete b t1 access ks → IsRoomFor b key room access → KeepsBuckets b c access)
+      → IsComplete b t1 access ks → IsRoomFor b (key_of value) room access → KeepsBuckets b c access
+  kept_by Order value key ks room has is put whole room_for = tt
+  kept_by (Tree file) value key ks room has is put whole room_for =
+      let P : ℤ → Type 0 = λ k. IsComplete b t1 (Tree file) ks → IsRoomFor b k room (Tree file) → KeepsBuckets b c (Tree file) in
+      subst P (is has) put whole room_for
+  kept_by (InTable number) value key ks room has is put whole room_for = tt
+
   module _ (g : Spares b c (λ k. IsApart k y.access)) (k2 : (number : TableId) → IsNoTable number y.access → entries t2 number ≡ entries t1 number) where
     pub spares_next : Spares a c (IsNoTree (take (n + 1) xs))
     spares_next = spares_then a b c (IsNoTree (take n xs)) (λ k. IsApart k y.access) (IsNoTree (take (n + 1) xs)) f g
@@ -207,6 +231,26 @@ module _ (xs : List IndexInfo) (n : ℕ) (y : IndexInfo) (h : n < length xs) (e 
         subst P (sym (taken xs n y h e))
         (all_more (λ info. IsComplete c t2 info.access (keys info.attribute (rows ++ row ∷ []))) (take n xs) y
         (complete_before b c t1 t2 y.access g k2 (rows ++ row ∷ []) (take n xs) (before_it xs n y h e apart) before) (subst C (sym same) new))
+
+    pub keeps_next : (rows : List Row) (tuple : List Value) (rooms : List Room) (room : Room) (slot : ℕ) (key : ℤ) → length rows ≡ slot → room ≡ get_or rooms n room → HasKeyFor (slice_get tuple y.attribute) y.access
+        → (IsTrue (is_key (slice_get tuple y.attribute)) → key ≡ key_of (slice_get tuple y.attribute))
+        → ((ks : List ℤ) → length ks ≡ slot → IsComplete b t1 y.access ks → IsRoomFor b key room y.access → KeepsBuckets b c y.access)
+        → AreComplete a t0 rows xs → AreRoomFor a tuple rooms xs → AllKeepBuckets a b (take n xs) → AllKeepBuckets a c (take (n + 1) xs)
+    keeps_next rows tuple rooms room slot key count room_is has read put all exact before =
+        let ks : List ℤ = keys y.attribute rows in
+        let E : IndexInfo → Type 0 = λ i. IsRoomFor a (key_of (slice_get tuple i.attribute)) room i.access in
+        let F : Room → Type 0 = λ r. IsRoomFor a (key_of (slice_get tuple (get_or xs n y).attribute)) r (get_or xs n y).access in
+        let whole = complete_on a b t0 t1 (IsNoTree (take n xs)) f ks y.access stays (here_of xs n y h e (λ info. IsComplete a t0 info.access (keys info.attribute rows)) all) in
+        let room_for = room_for_on a b t0 t1 (IsNoTree (take n xs)) f (key_of (slice_get tuple y.attribute)) room y.access stays (subst E (sym e) (subst F (sym room_is) (exact_here a tuple rooms xs n room y h exact))) in
+        let here = kept_from a b t0 t1 (IsNoTree (take n xs)) f c y.access stays (kept_by y.access (slice_get tuple y.attribute) key ks room has read (put ks (keys_count y.attribute rows ∙ count)) whole room_for) in
+        let P : List IndexInfo → Type 0 = λ ys. AllKeepBuckets a c ys in
+        subst P (sym (taken xs n y h e))
+        (all_more (λ info. KeepsBuckets a c info.access) (take n xs) y (kept_before b c t1 t2 y.access g k2 a (take n xs) (before_it xs n y h e apart) before) here)
+
+pub all_whole : {T : Type 0} (P : T → Type 0) (xs : List T) (n : ℕ) → length xs ≤ n → AllByRecursion P (take n xs) → AllByRecursion P xs
+all_whole P [] n h all = tt
+all_whole P (x ∷ xs) zero h all = absurd (omega (arith, h))
+all_whole P (x ∷ xs) (suc n) h all = (all.0, all_whole P xs n (omega (arith, h)) all.1)
 
 pub complete_all : (s : State) (t : Tables) (rows : List Row) (xs : List IndexInfo) (n : ℕ) → length xs ≤ n → AreComplete s t rows (take n xs) → AreComplete s t rows xs
 complete_all s t rows [] n h all = tt

@@ -22,9 +22,10 @@ use Rattle.index_set.specs.Walks.{Fits, LacksKey, HasIndex, HasPlace, IsMoved, I
 use Rattle.index_set.proofs.Seeks.{key_of_slot}
 use Rattle.index_set.proofs.Slots.{between_first, between_none}
 
-zero_or_some : (n : ℕ) → (n ≡ 0) ⊎ (0 < n)
-zero_or_some zero = inl refl
-zero_or_some (suc n) = inr (omega arith)
+over_or_some : (from slots : ℕ) → (slots ≤ from) ⊎ (from < slots)
+over_or_some from zero = inl (omega arith)
+over_or_some zero (suc slots) = inr (omega arith)
+over_or_some (suc from) (suc slots) = ⊎_elim (λ h. inl (omega (arith, h))) (λ h. inr (omega (arith, h))) (over_or_some from slots)
 
 length_keys : (attribute : ℕ) (rows : List Row) → length (keys attribute rows) ≡ length rows
 length_keys attribute [] = refl
@@ -112,14 +113,14 @@ moved_waits old new rows slot moved waits knows =
       knows = knows;
     }
 
-no_slots : (c : Candidates) (rows : List Row) → c.slots ≡ 0 → ahead c rows ≡ []
-no_slots c rows none = ahead_none c rows (λ i a b. absurd (omega (arith, none, b)))
+pub no_slots : (c : Candidates) (rows : List Row) → c.slots ≤ c.from → ahead c rows ≡ []
+no_slots c rows none = ahead_none c rows (λ i a b. absurd (omega (arith, none, a, b)))
 
 module _ (old new : Candidates) (state : State) (tables : Tables) (rows : List Row) (attribute file : ℕ) (key : ℤ) (is : old.search ≡ by.Tree attribute file key) (fits : Fits old state tables rows) where
   tests : (i : ℕ) → takes old.search (get_or rows i no_row) ≡ int_eq (key_in attribute (get_or rows i no_row)) key
   tests i = ap (λ (s : Search). takes s (get_or rows i no_row)) is
 
-  placed : 0 < old.slots → HasPlace state file key (keys attribute rows) old
+  placed : old.from < old.slots → HasPlace state file key (keys attribute rows) old
   placed some = let I : Search → Type 0 = λ s. HasIndex s old.place state tables rows old.from in subst I is (fits.index some)
 
   enough : old.slots ≤ length (keys attribute rows)
@@ -128,10 +129,11 @@ module _ (old new : Candidates) (state : State) (tables : Tables) (rows : List R
   tree_option : (r : Option ℕ) → (HasPlace state file key (keys attribute rows) old → old.slots ≤ length (keys attribute rows)
       → MatchOption r (LacksKey key (keys attribute rows) old.from old.slots) (λ slot. IsFirstOf key (keys attribute rows) old.from slot × HasPlace state file key (keys attribute rows) new))
       → IsMovedBy r old new → MatchOption r (ahead old rows ≡ []) (λ slot. (ahead old rows ≡ slot ∷ ahead new rows) × Fits new state tables rows)
-  tree_option None found moved = ⊎_elim (λ none. no_slots old rows none) (λ some. lacks_ahead old new rows attribute key tests (found (placed some) enough)) (zero_or_some old.slots)
+  tree_option None found moved = ⊎_elim (λ none. no_slots old rows none) (λ some. lacks_ahead old new rows attribute key tests (found (placed some) enough)) (over_or_some old.from old.slots)
   tree_option (Some slot) found moved =
+      let order = moved.4 in
       let below = moved.5 in
-      let h = found (placed (omega (arith, below))) enough in
+      let h = found (placed (omega (arith, order, below))) enough in
       let searched : new.search ≡ by.Tree attribute file key = moved.3 ∙ is in
       let N : Search → Type 0 = λ s. KnowsRows s rows new.from new.end new.slots in
       let I : Search → Type 0 = λ s. HasIndex s new.place state tables rows new.from in (
@@ -167,9 +169,6 @@ module _ (old new : Candidates) (state : State) (tables : Tables) (rows : List R
       let b = left new (moved.3 ∙ is) in
       omega (arith, a, b, n, h)
 
-  idle : old.slots ≡ 0 → old.slots ≤ old.from
-  idle none = omega (arith, none)
-
   pub tree_reads : (before after : ℕ) (r : Result (Option ℕ) Failed) → (old.slots ≤ old.from → after ≡ before) → (old.slots ≤ old.from → new ≡ old) → IfOk r (λ found. IsMovedBy found old new)
       → IfOk r (λ found. MatchOption found (ahead old rows ≡ []) (λ slot. (ahead old rows ≡ slot ∷ ahead new rows) × Fits new state tables rows))
       → (HasPlace state file key (keys attribute rows) old → old.slots ≤ length (keys attribute rows)
@@ -177,9 +176,9 @@ module _ (old new : Candidates) (state : State) (tables : Tables) (rows : List R
       → OnOk r (after + reads_ahead new rows ≤ before + reads_ahead old rows)
   tree_reads before after (Ok found) unread over moved next h =
       ⊎_elim
-      (λ none. let n = ap (λ (c : Candidates). reads_ahead c rows) (over (idle none)) in let m = unread (idle none) in omega (arith, n, m))
+      (λ none. let n = ap (λ (c : Candidates). reads_ahead c rows) (over none) in let m = unread none in omega (arith, n, m))
       (λ some. spent before after found moved next (h (placed some) enough))
-      (zero_or_some old.slots)
+      (over_or_some old.from old.slots)
   tree_reads before after (Err e) unread over moved next h = tt
 
 -- ---- by a table
@@ -188,7 +187,7 @@ module _ (old new : Candidates) (state : State) (tables : Tables) (rows : List R
   trials : (i : ℕ) → takes old.search (get_or rows i no_row) ≡ int_eq (key_in attribute (get_or rows i no_row)) key
   trials i = ap (λ (s : Search). takes s (get_or rows i no_row)) is
 
-  entered : 0 < old.slots → entries tables number ≡ keys attribute rows
+  entered : old.from < old.slots → entries tables number ≡ keys attribute rows
   entered some = let I : Search → Type 0 = λ s. HasIndex s old.place state tables rows old.from in subst I is (fits.index some)
 
   reached : entries tables number ≡ keys attribute rows → old.slots ≤ length (entries tables number)
@@ -199,10 +198,11 @@ module _ (old new : Candidates) (state : State) (tables : Tables) (rows : List R
   table_next None found moved =
       ⊎_elim (λ none. no_slots old rows none)
       (λ some. let e = entered some in let P : List ℤ → Type 0 = λ ks. LacksKey key ks old.from old.slots in lacks_ahead old new rows attribute key trials (subst P e (found (reached e))))
-      (zero_or_some old.slots)
+      (over_or_some old.from old.slots)
   table_next (Some slot) found moved =
+      let order = moved.4 in
       let below = moved.5 in
-      let e = entered (omega (arith, below)) in
+      let e = entered (omega (arith, order, below)) in
       let P : List ℤ → Type 0 = λ ks. IsFirstOf key ks old.from slot in
       let searched : new.search ≡ by.Table attribute number key = moved.3 ∙ is in
       let N : Search → Type 0 = λ s. KnowsRows s rows new.from new.end new.slots in

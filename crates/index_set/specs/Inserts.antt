@@ -15,6 +15,7 @@ use Rattle.index_set.specs.declared.info.TableId.TheVariants.{First, Second}
 use Rattle.index_maxheap.specs.declared.rooms.Room.{Room}
 use Rattle.index_maxheap.specs.Rooms.{HasRoomFor, room_of}
 use Rattle.index_set.specs.Tables.{Tables, entries}
+use Rattle.index_tree.specs.Places.{KeepsNumbers}
 use Rattle.index_tree.specs.Trees.{IsTreeOf}
 
 -- some index of the list has the property
@@ -92,6 +93,15 @@ MayFollow keys key (Table number) = ⊤
 
 abbrev pub MayAllFollow : List Row → List Value → List IndexInfo → Type 0
 MayAllFollow all tuple infos = AllByRecursion (λ info. MayFollow (keys info.attribute all) (tuple_key tuple info) info.access) infos
+
+-- each bucket of a tree has kept its number
+abbrev pub KeepsBuckets : State → State → Access → Type 0
+KeepsBuckets old new Order = ⊤
+KeepsBuckets old new (Tree file) = KeepsNumbers (bytes_at old.files file) (bytes_at new.files file)
+KeepsBuckets old new (Table number) = ⊤
+
+abbrev pub AllKeepBuckets : State → State → List IndexInfo → Type 0
+AllKeepBuckets old new infos = AllByRecursion (λ info. KeepsBuckets old new info.access) infos
 
 -- a table has room for the key of the next slot
 abbrev pub IsOpenFor : ℕ → Access → Type 0

@@ -67,10 +67,10 @@ HasIndex (by.Tree attribute file key) place state tables all from =
 HasIndex (by.Table attribute number key) place state tables all from = entries tables number ≡ keys attribute all
 HasIndex _ place state tables all from = ⊤
 
--- they stand where they should, over these rows
+-- they stand where they should, over these rows; behind their last slot no index is asked
 pub record Fits (c : Candidates) (state : State) (tables : Tables) (all : List Row) : Type 0 where
   pub waits : Waits c all
-  pub index : 0 < c.slots → HasIndex c.search c.place state tables all c.from
+  pub index : c.from < c.slots → HasIndex c.search c.place state tables all c.from
 
 -- the index knows the keys of these rows, and the buckets of a tree have kept their numbers, as after inserts
 abbrev pub HasGrown : Search → State → State → Tables → List Row → Type 0

@@ -177,8 +177,68 @@ impl Candidates {
         }
     }
 
-    /// The next slot, `None` exactly after the last.
+    /// The next slot, `None` exactly after the last. Then it stands behind all its slots, and answers
+    /// `None` from now on.
     pub fn next<V: Files>(
+        &mut self,
+        files: &mut V,
+        tables: &HashTables,
+    ) -> Result<Option<SlotNo>, Failed>
+        requires safe { 0 < self.old.slots → IsSafeBy self.old.search (V.state files.old) }
+        ensures next { let state = V.state files.old in IsTrue state.tells → IfOk result (λ found.
+            (all : List Row) → Fits self.old state tables.now all
+            → MatchOption found (ahead self.old all ≡ []) (λ slot.
+            ahead self.old all ≡ slot ∷ ahead self.new all)) }
+        ensures fits { let state = V.state files.old in IsTrue state.tells → OnOk result (
+            (all : List Row) → Fits self.old state tables.now all
+            → Fits self.new state tables.now all) }
+        ensures waits { OnOk result ((all : List Row) → Waits self.old all → Waits self.new all) }
+        ensures below { IfOk result (λ found. IfSome found (λ slot. slot < self.old.slots)) }
+        ensures forward { IfOk result (λ found. MatchOption found (self.new.from ≡ self.new.slots)
+            (λ slot. (self.old.from ≤ slot) × (self.new.from ≡ slot + 1))) }
+        ensures ended { IfOk result (λ found. found ≡ None → self.new.end ≡ self.new.slots) }
+        ensures over { IfOk result (λ found. found ≡ None
+            → (all : List Row) → ahead self.new all ≡ []) }
+        ensures slots { self.new.slots ≡ self.old.slots }
+        ensures search { self.new.search ≡ self.old.search }
+        ensures order { self.old.from ≤ self.old.end → self.new.from ≤ self.new.end }
+        ensures within { self.old.end ≤ self.old.slots → self.new.end ≤ self.new.slots }
+        ensures same { OnOk result (V.state files.new ≡ V.state files.old) }
+        ensures reads { let state = V.state files.old in IsTrue state.tells → OnOk result
+            ((all : List Row) → Fits self.old state tables.now all
+            → V.reads files.new + reads_ahead self.new all
+            ≤ V.reads files.old + reads_ahead self.old all) }
+        ensures reads_err { let state = V.state files.old in IsTrue state.tells → OnErr result
+            ((all : List Row) → Fits self.old state tables.now all
+            → V.reads files.new ≤ V.reads files.old + reads_ahead self.old all) }
+        ensures reads_later { V.reads files.old ≤ V.reads files.new }
+        ensures store { length (V.state files.new).store ≡ length (V.state files.old).store }
+        ensures cause { HasCause (V.faults files.old) (V.faults files.new) result }
+    {
+        match self.find(files, tables)? {
+            None => {
+                self.finish();
+                Ok(None)
+            }
+            Some(slot) => Ok(Some(slot)),
+        }
+    }
+
+    // Goes behind all its slots.
+    #[tactic(auto, using(crate::proofs::Ended::ahead_ended, crate::proofs::Ended::fits_ended, crate::proofs::Ended::reads_ended, crate::proofs::Ended::waits_ended))]
+    fn finish(&mut self)
+        ensures ended { self.new ≡ record self.old { from = self.old.slots; end = self.old.slots } }
+        ensures ahead { (all : List Row) → ahead self.new all ≡ [] }
+        ensures waits { (all : List Row) → Waits self.old all → Waits self.new all }
+        ensures fits { (state : State) (tables : Tables) (all : List Row) → Waits self.old all → Fits self.new state tables all }
+        ensures reads { (all : List Row) → reads_ahead self.new all ≤ reads_ahead self.old all }
+    {
+        self.from = self.slots;
+        self.end = self.slots;
+    }
+
+    // The next slot. Where there is none, it stands where it did.
+    fn find<V: Files>(
         &mut self,
         files: &mut V,
         tables: &HashTables,

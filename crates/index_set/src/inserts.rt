@@ -13,7 +13,7 @@ ghost use Rattle.db_model.specs.Step.{key_of};
 ghost use Rattle.index_maxheap.specs.Rooms.{HasRoomFor, room_of};
 ghost use Rattle.index_set.specs.declared.info.TableId.{TableId as AnyTable};
 ghost use Rattle.index_set.specs.Complete.{AreComplete, AreHeld, IsComplete, IsHeld};
-ghost use Rattle.index_set.specs.Inserts.{AreApart, AreOpenFor, AreRoomFor, AsksFor, HasRoom, HaveKeys, HaveRoom, IsApart, IsDoublingTree, IsNoTable, IsNoTree, IsOpenFor, IsRoomFor, KeepsTables, MayAllFollow, MayFollow, OneAsksFor, is_key};
+ghost use Rattle.index_set.specs.Inserts.{AllKeepBuckets, AreApart, AreOpenFor, AreRoomFor, AsksFor, HasRoom, HaveKeys, HaveRoom, IsApart, IsDoublingTree, IsNoTable, IsNoTree, IsOpenFor, IsRoomFor, KeepsBuckets, KeepsTables, MayAllFollow, MayFollow, OneAsksFor, is_key};
 ghost use Rattle.index_set.specs.Tables.{entries};
 ghost use Rattle.index_tree.specs.Trees.{IsTreeOf};
 
@@ -152,6 +152,10 @@ pub fn insert_all<V: Files>(
         → AreRoomFor state tuple.now rooms.now indexes.now
         → MayAllFollow all tuple.now indexes.now
         → AreComplete (V.state files.new) tables.new (all ++ row ∷ []) indexes.now) }
+    ensures keeps { let state = V.state files.old in IsTrue state.tells → OnOk result
+        ((all : List Row) → length all ≡ slot → AreComplete state tables.old all indexes.now
+        → AreRoomFor state tuple.now rooms.now indexes.now
+        → AllKeepBuckets state (V.state files.new) indexes.now) }
     ensures held { OnOk result (AreHeld (V.state files.new) tables.new (slot + 1) indexes.now) }
     ensures others { OnOk result
         (Spares (V.state files.old) (V.state files.new) (IsNoTree indexes.now)) }
@@ -187,6 +191,9 @@ fn insert_one<V: Files>(
         ((keys : List ℤ) → length keys ≡ slot → IsComplete state tables.old access keys
         → IsRoomFor state key.now room.now access → MayFollow keys key.now access
         → IsComplete (V.state files.new) tables.new access (keys ++ key.now ∷ [])) }
+    ensures keeps { let state = V.state files.old in IsTrue state.tells → OnOk result
+        ((keys : List ℤ) → length keys ≡ slot → IsComplete state tables.old access keys
+        → IsRoomFor state key.now room.now access → KeepsBuckets state (V.state files.new) access) }
     ensures held { OnOk result (IsHeld (V.state files.new) tables.new (slot + 1) access) }
     ensures others { OnOk result (Spares (V.state files.old) (V.state files.new) (λ id. IsApart id access)) }
     ensures tables { OnOk result ((number : AnyTable) → IsNoTable number access → entries tables.new number ≡ entries tables.old number) }

@@ -2,9 +2,9 @@ use Rattle.std.proofs.Common.{rules, arith, ◌≡◌, ◌∙◌, ◌<◌, ◌+�
 use Rattle.std.specs.Prelude.{FitsSigned, slice_get}
 use Rattle.std.specs.Int.{w32}
 use Rattle.std.proofs.lemmas.Int.{to_z-of_z}
-use Rattle.index_set.specs.Inserts.{HasKeyFor}
+use Rattle.index_set.specs.Inserts.{HasKeyFor, KeepsBuckets}
 use Rattle.index_set.proofs.Lists.{here_of}
-use Rattle.index_set.proofs.Inserted.{complete_all, complete_next, enough_rooms, held_next, ready_next, room_next, spares_next, tables_next}
+use Rattle.index_set.proofs.Inserted.{all_whole, complete_all, complete_next, enough_rooms, held_next, keeps_next, ready_next, room_next, spares_next, tables_next}
 use Rattle.index_set.proofs.inserts.insert_all.Goals as goal
 
 pub insert_one-requires-clause-held : goal.insert_one-requires-clause-held
@@ -62,6 +62,9 @@ loop-nth-preserved g c =
       complete = λ told rows row count is all exact may.
           complete_next xs n y below e c.requires.apart start before now t0 t1 t2 inv.spares inv.tables put.others put.tables rows row c.args.tuple.now c.args.rooms.now c.get-room.result.now c.args.slot c.key_in-key.result
           count is c.get-room.ensures has c.key_in-key.ensures (rw (to_z-of_z w32 _ fits) at (put.complete (inv.spares.tells ∙ told))) all exact may (inv.complete told rows row count is all exact may);
+      keeps = λ told rows count all exact.
+          keeps_next xs n y below e c.requires.apart start before now t0 t1 t2 inv.spares inv.tables put.others put.tables rows c.args.tuple.now c.args.rooms.now c.get-room.result.now c.args.slot c.key_in-key.result
+          count c.get-room.ensures has c.key_in-key.ensures (rw (to_z-of_z w32 _ fits) at (put.keeps (inv.spares.tells ∙ told))) all exact (inv.keeps told rows count all exact);
       store = search rules;
       faults = search rules;
       reads = search rules;
@@ -72,3 +75,11 @@ returns-clause-complete g c = λ told rows row count is all exact may.
     let over = c.loop-nth-test.false in
     let count_is = c.len-count.ensures.value in
     complete_all (g.V.Files.state c.loop-nth.files) c.loop-nth.tables (rows ++ row ∷ []) c.args.indexes.now c.loop-nth.nth (omega (arith, over, count_is)) (c.loop-nth.invariant.complete told rows row count is all exact may)
+
+pub returns-clause-keeps : goal.returns-clause-keeps
+returns-clause-keeps g c = λ told rows count all exact.
+    let over = c.loop-nth-test.false in
+    let count_is = c.len-count.ensures.value in
+    let start = g.V.Files.state c.args.files.now in
+    let now = g.V.Files.state c.loop-nth.files in
+    all_whole (λ info. KeepsBuckets start now info.access) c.args.indexes.now c.loop-nth.nth (omega (arith, over, count_is)) (c.loop-nth.invariant.keeps told rows count all exact)

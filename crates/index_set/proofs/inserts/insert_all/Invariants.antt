@@ -3,7 +3,7 @@ use Rattle.std.specs.Prelude.{IsTrue}
 use Rattle.db_model.specs.Row.{Row}
 use Rattle.afl_base.specs.Frames.{Spares}
 use Rattle.index_set.specs.Complete.{AreComplete, AreHeld}
-use Rattle.index_set.specs.Inserts.{AreRoomFor, IsNoTree, KeepsTables, MayAllFollow}
+use Rattle.index_set.specs.Inserts.{AllKeepBuckets, AreRoomFor, IsNoTree, KeepsTables, MayAllFollow}
 use Rattle.index_set.proofs.inserts.insert_all.Given as goal
 
 abbrev pub invariant-loop-nth : goal.invariant-loop-nth
@@ -18,6 +18,8 @@ invariant-loop-nth g l =
       complete : IsTrue start.tells → (rows : List Row) (row : Row) → length rows ≡ l.slot → row.tuple ≡ l.tuple
           → AreComplete start l.fn.tables rows l.indexes → AreRoomFor start l.tuple l.rooms l.indexes → MayAllFollow rows l.tuple l.indexes
           → AreComplete now l.tables (rows ++ row ∷ []) done;
+      keeps : IsTrue start.tells → (rows : List Row) → length rows ≡ l.slot → AreComplete start l.fn.tables rows l.indexes
+          → AreRoomFor start l.tuple l.rooms l.indexes → AllKeepBuckets start now done;
       store : length (g.V.Files.state l.files).store ≡ length (g.V.Files.state l.fn.files).store;
       faults : g.V.Files.faults l.fn.files ≤ g.V.Files.faults l.files;
       reads : g.V.Files.reads l.fn.files ≤ g.V.Files.reads l.files;

@@ -5,7 +5,7 @@ use Rattle.std.proofs.lemmas.Int.{to_z-of_z}
 use Rattle.index_set.specs.declared.candidates.Search.TheVariants as by
 use Rattle.index_set.specs.Walks.{Fits, ahead}
 use Rattle.index_set.proofs.Nexts.{ahead_of, all_ahead, all_fits, fits_of, nothing_ahead, order_known, order_next, reads_all, scan_known, table_next, tree_all, waits_all, waits_below, waits_by}
-use Rattle.index_set.proofs.candidates.Candidates.next.Goals as goal
+use Rattle.index_set.proofs.candidates.Candidates.find.Goals as goal
 
 pub returns-in-Nothing-clause-next : goal.returns-in-Nothing-clause-next
 returns-in-Nothing-clause-next g c = λ told rows fits. nothing_ahead c.args.self.now rows c.in-Nothing.is
