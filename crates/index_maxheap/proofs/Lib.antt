@@ -6,6 +6,7 @@ pub mod Verified
 pub mod Opening
 pub mod Slots
 pub mod Nodes
+pub mod Few
 pub mod Firsts
 pub mod Scans
 pub mod Onward

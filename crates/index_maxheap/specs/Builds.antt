@@ -16,6 +16,11 @@ IsBlank bytes ps = (key : ℤ) (hop : ℕ) → number_of bytes key hop ≢ 0 →
     → 6 * length (reach (goes key) hop ps) ≤ x → x < 192
     → get_or bytes (place_of (number_of bytes key hop) + x) 0 ≡ 0
 
+-- the loads, and the number of buckets, are those of the tree of so many keys
+abbrev pub AreLoads : List ℕ → (slots opened : ℕ) → Type 0
+AreLoads loads slots opened = (ps : List Pair) × (length ps ≡ slots) × Counts loads ps
+    × (opened ≡ buckets (keys_of ps))
+
 -- the place of the last bucket of each node that has one
 abbrev pub AreLast : List ℕ → List ℕ → List ℕ → Type 0
 AreLast loads places tree = (key : ℤ) (level : ℕ) → level ≤ 4

@@ -1,9 +1,9 @@
 -- Walks to the end of a path.
-use Rattle.std.specs.Prelude.{ℕ, ℤ, ⊤, ◌≡◌, ◌≢◌, ◌+◌, ◌*◌, ◌<◌, ◌≤◌, min, List, length}
+use Rattle.std.specs.Prelude.{ℕ, ℤ, ⊤, ◌≡◌, ◌≢◌, ◌+◌, ◌*◌, ◌-◌, ◌/◌, ◌<◌, ◌≤◌, min, List, length}
 use Rattle.afl_base.specs.Fields.{u16_at}
 use Rattle.index_tree.specs.Ends.{IsEnd, spot_of}
 use Rattle.index_tree.specs.Pairs.{Pair, goes, reach}
-use Rattle.index_tree.specs.TreeFile.{bucket_place, number_of, place_of}
+use Rattle.index_tree.specs.TreeFile.{bucket_place, next_at, number_of, place_of}
 use Rattle.index_maxheap.specs.declared.ends.Look.{Look}
 use Rattle.index_maxheap.specs.declared.ends.Look.TheVariants as look
 use Rattle.index_maxheap.specs.declared.rooms.End.{End}
@@ -12,14 +12,24 @@ use Rattle.index_maxheap.specs.declared.rooms.End.TheVariants as end
 -- what a look at the bucket of a number finds
 abbrev pub Looks : Look → ℕ → List Pair → Type 0
 Looks look.None number rest = number ≡ 0
-Looks (look.Room n pair) number rest = (number ≡ n) × (number ≢ 0) × (length rest ≡ pair)
-    × (pair < 32)
-Looks (look.Full n) number rest = (number ≡ n) × (number ≢ 0) × (32 ≤ length rest)
+Looks (look.Room pair) number rest = (number ≢ 0) × (length rest ≡ pair) × (pair < 32)
+Looks (look.Full next) number rest = (number ≢ 0) × (32 ≤ length rest)
 
-abbrev pub IsSafeLook : Look → ℕ → Type 0
-IsSafeLook look.None size = ⊤
-IsSafeLook (look.Room n pair) size = (n ≢ 0) × (pair < 32) × (bucket_place n ≤ size)
-IsSafeLook (look.Full n) size = (n ≢ 0) × (bucket_place n ≤ size)
+-- a full bucket tells the number of the next bucket of its chain
+abbrev pub LeadsOn : Look → List ℕ → ℕ → Type 0
+LeadsOn look.None bytes number = ⊤
+LeadsOn (look.Room pair) bytes number = ⊤
+LeadsOn (look.Full next) bytes number = next ≡ next_at bytes (place_of number)
+
+-- a bucket lies in a file of so many bytes
+abbrev pub IsSafeLook : Look → (number size : ℕ) → Type 0
+IsSafeLook look.None number size = ⊤
+IsSafeLook (look.Room pair) number size = (number ≢ 0) × (pair < 32) × (bucket_place number ≤ size)
+IsSafeLook (look.Full next) number size = (number ≢ 0) × (bucket_place number ≤ size)
+
+-- what a walk still reads from the bucket at a hop on, e keys having the same path
+abbrev pub reads_from : (e hop : ℕ) → ℕ
+reads_from e hop = 3 * (4 - min hop 4) + 9 * (6 + e / 32 - hop)
 
 -- a walk has come to the spot of the number of the bucket at a hop
 pub record Walks (bytes : List ℕ) (ps : List Pair) (key : ℤ) (hop at level : ℕ) : Type 0 where

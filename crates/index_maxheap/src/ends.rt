@@ -2,43 +2,48 @@
 
 #![tactic(auto)]
 
-ghost use Rattle.std.specs.Prelude.{◌≡◌, ◌≢◌, ◌+◌, ◌*◌, ◌-◌, ◌^◌, ◌<◌, ◌≤◌, ℕ, List, length, IsTrue, IfOk, OnOk};
+ghost use Rattle.std.specs.Prelude.{◌≡◌, ◌≢◌, ◌+◌, ◌*◌, ◌-◌, ◌^◌, ◌%◌, ◌<◌, ◌≤◌, ℕ, ℤ, List, None, length, min, IsTrue, IfOk, OnOk};
 ghost use Rattle.afl_base.specs.Causes.{HasCause};
 ghost use Rattle.afl_base.specs.Fields.{u16_at};
 ghost use Rattle.afl_base.specs.Files.{IsLive, bytes_at, size_at};
+ghost use Rattle.db_model.specs.Cost.{keys_beside};
 ghost use Rattle.index_tree.specs.Ends.{spot_behind};
 ghost use Rattle.index_tree.specs.Pairs.{Pair};
 ghost use Rattle.index_tree.specs.TreeFile.{IsBucket, IsTree, bucket_place};
+ghost use Rattle.index_tree.specs.Trees.{IsTreeOf};
 ghost use Rattle.index_maxheap.specs.Rooms.{IsWithin};
-ghost use Rattle.index_maxheap.specs.Walks.{Finds, IsSafeLook, Looks};
+ghost use Rattle.index_maxheap.specs.Searches.{walk_left};
+ghost use Rattle.index_maxheap.specs.Walks.{Finds, IsSafeLook, LeadsOn, Looks};
 
 use crate::path::node;
 use crate::rooms::End;
 use crate::tree::{filled, read_bucket, read_number};
-use afl_base::{Failed, FileId, Files};
+use afl_base::{Failed, FileId, Files, get_u16};
 
-/// What a look at the bucket of a number finds.
+/// What a look at the bucket of a number finds: no bucket, so many pairs, or 32 and the number in `next`.
 #[derive(Clone, Copy)]
 pub enum Look {
     None,
-    Room { number: u16, pair: u8 },
-    Full { number: u16 },
+    Room { pair: u8 },
+    Full { next: u16 },
 }
 
-// Looks at the bucket whose number stands at a place.
-fn look_at<V: Files>(files: &mut V, index: FileId, at: u32) -> Result<Look, Failed>
+// Looks at the bucket of a number.
+fn look_at<V: Files>(files: &mut V, index: FileId, number: u16) -> Result<Look, Failed>
     requires live { IsLive (V.state files.old).files index }
-    requires range { at + 2 ≤ size_at (V.state files.old).files index }
     ensures looks { IsTrue (V.state files.old).tells → (rest : List Pair)
-        → IsBucket (bytes_at (V.state files.old).files index) (u16_at (bytes_at (V.state files.old).files index) at) rest
-        → IfOk result (λ found. Looks found (u16_at (bytes_at (V.state files.old).files index) at) rest) }
-    ensures safe { IfOk result (λ found. IsSafeLook found (size_at (V.state files.old).files index)) }
+        → IsBucket (bytes_at (V.state files.old).files index) number rest
+        → IfOk result (λ found. Looks found number rest) }
+    ensures onward { IsTrue (V.state files.old).tells
+        → IfOk result (λ found. LeadsOn found (bytes_at (V.state files.old).files index) number) }
+    ensures safe { IfOk result (λ found. IsSafeLook found number (size_at (V.state files.old).files index)) }
     ensures same { OnOk result (V.state files.new ≡ V.state files.old) }
+    ensures none { number ≡ 0 → V.reads files.new ≤ V.reads files.old }
+    ensures reads { V.reads files.new ≤ V.reads files.old + 9 }
     ensures store { length (V.state files.new).store ≡ length (V.state files.old).store }
     ensures reads_later { V.reads files.old ≤ V.reads files.new }
     ensures cause { HasCause (V.faults files.old) (V.faults files.new) result }
 {
-    let number = read_number(files, index, at)?;
     if number == 0 {
         return Ok(Look::None);
     }
@@ -49,10 +54,10 @@ fn look_at<V: Files>(files: &mut V, index: FileId, at: u32) -> Result<Look, Fail
     read_bucket(files, index, number, &mut bytes)?;
     let pair = filled(&bytes);
     if pair < 32 {
-        Ok(Look::Room { number, pair })
-    } else {
-        Ok(Look::Full { number })
+        return Ok(Look::Room { pair });
     }
+    let next = get_u16(&bytes, 192);
+    Ok(Look::Full { next })
 }
 
 // Where the number of the bucket behind a full one stands.
@@ -61,6 +66,7 @@ fn spot_behind(key: &i32, level: u8, number: u16) -> u32
     requires some { number ≢ 0 }
     ensures spot { result ≡ spot_behind key.now level number }
     ensures low { result < 2 ^ 25 }
+    ensures even { level < 4 → result % 2 ≡ 0 }
     ensures safe { (size : ℕ) → 683 ≤ size → bucket_place number ≤ size → result + 3 ≤ size }
 {
     match level {
@@ -69,6 +75,34 @@ fn spot_behind(key: &i32, level: u8, number: u16) -> u32
         2 => 2 * u32::from(node(key, 3)),
         3 => 2 * u32::from(node(key, 4)),
         _ => 683 + 195 * (u32::from(number) - 1) + 192,
+    }
+}
+
+// The number at the place behind a full bucket: a node's is read, in a chain the bucket told it.
+fn number_behind<V: Files>(
+    files: &mut V,
+    index: FileId,
+    at: u32,
+    level: u8,
+    next: u16,
+) -> Result<u16, Failed>
+    requires live { IsLive (V.state files.old).files index }
+    requires range { at + 2 ≤ size_at (V.state files.old).files index }
+    requires level { level ≤ 4 }
+    requires even { level < 4 → at % 2 ≡ 0 }
+    ensures number { IsTrue (V.state files.old).tells
+        → (level ≡ 4 → next ≡ u16_at (bytes_at (V.state files.old).files index) at)
+        → IfOk result (λ n. n ≡ u16_at (bytes_at (V.state files.old).files index) at) }
+    ensures same { OnOk result (V.state files.new ≡ V.state files.old) }
+    ensures reads { V.reads files.new + 3 * level ≤ V.reads files.old + 3 * min (level + 1) 4 }
+    ensures store { length (V.state files.new).store ≡ length (V.state files.old).store }
+    ensures reads_later { V.reads files.old ≤ V.reads files.new }
+    ensures cause { HasCause (V.faults files.old) (V.faults files.new) result }
+{
+    if level < 4 {
+        read_number(files, index, at)
+    } else {
+        Ok(next)
     }
 }
 
@@ -91,22 +125,27 @@ pub fn find_end<V: Files>(files: &mut V, index: FileId, key: &i32) -> Result<End
         → IfOk result (λ end. Finds end (bytes_at (V.state files.old).files index) ps key.now) }
     ensures within { IfOk result (λ end. IsWithin end (size_at (V.state files.old).files index)) }
     ensures same { OnOk result (V.state files.new ≡ V.state files.old) }
+    ensures reads { IsTrue (V.state files.old).tells → (keys : List ℤ)
+        → IsTreeOf (bytes_at (V.state files.old).files index) keys
+        → V.reads files.new ≤ V.reads files.old + walk_left (keys_beside key.now keys) None }
     ensures store { length (V.state files.new).store ≡ length (V.state files.old).store }
     ensures reads_later { V.reads files.old ≤ V.reads files.new }
     ensures cause { HasCause (V.faults files.old) (V.faults files.new) result }
 {
     let mut at = 0;
     let mut level = 0u8;
+    let mut number = read_number(files, index, 0)?;
     for hops in 0..1026u16 {
-        match look_at(files, index, at)? {
+        match look_at(files, index, number)? {
             Look::None => return Ok(End::Bucket { at }),
-            Look::Room { number, pair } => {
+            Look::Room { pair } => {
                 return Ok(End::Pair {
                     at: pair_place(number, pair),
                 });
             }
-            Look::Full { number } => {
+            Look::Full { next } => {
                 at = spot_behind(key, level, number);
+                number = number_behind(files, index, at, level, next)?;
                 level = (level + 1).min(4);
             }
         }

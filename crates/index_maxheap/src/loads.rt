@@ -37,7 +37,7 @@ fn add(loads: &mut [u16; 341], key: &i32) -> u16
     if load % 32 == 0 { 1 } else { 0 }
 }
 
-/// How many buckets the tree of the first `slots` keys has.
+/// How many buckets the tree of the first `slots` keys has. No tree has more than 1,365.
 pub fn buckets_for<V: Files>(files: &mut V, column: KeyColumn, slots: u16) -> Result<u16, Failed>
     requires width { IsWidth column.width }
     requires narrow { column.width ≢ 8 }
@@ -45,6 +45,7 @@ pub fn buckets_for<V: Files>(files: &mut V, column: KeyColumn, slots: u16) -> Re
     requires fields { (slot : ℕ) → slot < slots → HasField (V.state files.old) column slot }
     ensures buckets { IsTrue (V.state files.old).tells
         → IfOk result (λ n. n ≡ buckets (first_keys (key_of (V.state files.old) column) slots)) }
+    ensures few { IfOk result (λ n. n ≤ 1365) }
     ensures same { OnOk result (V.state files.new ≡ V.state files.old) }
     ensures reads { V.reads files.new ≤ V.reads files.old + 6 * slots }
     ensures store { length (V.state files.new).store ≡ length (V.state files.old).store }

@@ -2,11 +2,13 @@
 
 #![tactic(auto)]
 
-ghost use Rattle.std.specs.Prelude.{◌≡◌, ◌<◌, ◌≤◌, List, ℤ, length, IsTrue, IfOk, OnOk};
+ghost use Rattle.std.specs.Prelude.{◌≡◌, ◌+◌, ◌<◌, ◌≤◌, List, ℤ, None, length, IsTrue, IfOk, OnOk};
 ghost use Rattle.afl_base.specs.Causes.{HasCause};
 ghost use Rattle.afl_base.specs.Files.{IsLive, bytes_at, size_at};
+ghost use Rattle.db_model.specs.Cost.{keys_beside};
 ghost use Rattle.index_tree.specs.Trees.{IsTreeOf};
 ghost use Rattle.index_maxheap.specs.Rooms.{IsRoomIn, room_for, room_of};
+ghost use Rattle.index_maxheap.specs.Searches.{walk_left};
 
 use crate::ends::find_end;
 use crate::rooms::{End, Room};
@@ -52,6 +54,9 @@ pub fn room<V: Files>(files: &mut V, index: FileId, key: &i32) -> Result<Room, F
         → size_at (V.state files.old).files index ≤ 268000) }
     ensures none { IfOk result (λ room. room.overwrites ≡ 0 → room.bytes ≡ 0) }
     ensures same { OnOk result (V.state files.new ≡ V.state files.old) }
+    ensures reads { IsTrue (V.state files.old).tells → (keys : List ℤ)
+        → IsTreeOf (bytes_at (V.state files.old).files index) keys
+        → V.reads files.new ≤ V.reads files.old + walk_left (keys_beside key.now keys) None }
     ensures store { length (V.state files.new).store ≡ length (V.state files.old).store }
     ensures reads_later { V.reads files.old ≤ V.reads files.new }
     ensures cause { HasCause (V.faults files.old) (V.faults files.new) result }

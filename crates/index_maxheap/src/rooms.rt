@@ -7,7 +7,7 @@ pub enum End {
     Pair { at: u32 },
     /// Into a new bucket at the end of the file, whose number goes to this place.
     Bucket { at: u32 },
-    /// The file is no tree, which can be only where bytes are not told.
+    /// The file is no tree by its size, or its bytes are not told.
     Nowhere,
 }
 

@@ -176,7 +176,9 @@ fn verify_slot<V: Files>(
     ensures goes { IsTrue (V.state files.old).tells → (f : ℕ → ℤ) → key.now ≡ f slot
         → AreHeads heads.now (bytes_at (V.state files.old).files index) →
         Verifies (bytes_at (V.state files.old).files index) loads.old places.old nexts.old fills.old (pairs_of f slot) →
-        IfOk result (λ opens. Goes opens (bytes_at (V.state files.old).files index) f slot (λ _. Verifies (bytes_at (V.state files.old).files index) loads.new places.new nexts.new fills.new (pairs_of f (slot + 1)))) }
+        IfOk result (λ opens. Goes opens (bytes_at (V.state files.old).files index) f slot
+        (λ _. Verifies (bytes_at (V.state files.old).files index) loads.new places.new nexts.new fills.new
+        (pairs_of f (slot + 1)))) }
     ensures light { IfOk result (λ opens. IfSome opens (λ n. (n ≤ 1)
         × ((i : ℕ) → get_or loads.new i 0 ≤ slot + 1))) }
     ensures inside { IfOk result (λ opens. (i : ℕ)
