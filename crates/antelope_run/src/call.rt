@@ -60,6 +60,7 @@ fn carry_out<F: Flash, S: Source, K: Sink>(
     ensures one_more { result.0 ≡ 8 → (text : List ℕ) → S.left script.old ≡ Some text
         → S.left script.new ≡ Some (drop 16777217 text) }
     ensures later { F.faults flash ≤ F.faults result.1 }
+    ensures keeps { K.keeps out.old out.new }
 {
     let mut log = Log::new(flash, used);
     match run(&mut log, script, out) {
@@ -131,6 +132,7 @@ pub fn top<F: Flash, S: Source, K: Sink>(
         → (Rose (F.faults flash) (F.faults result.1) → ⊥)
         → (Rose (K.faults out.old) (K.faults out.new) → ⊥) → (text : List ℕ)
         → S.left script.old ≡ Some text → length text ≤ 16777216 → (result.0 ≡ 0) ⊎ (result.0 ≡ 3) }
+    ensures keeps { K.keeps out.old out.new }
 {
     if form(words).is_none() {
         return (1, flash);

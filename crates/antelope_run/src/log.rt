@@ -73,6 +73,7 @@ impl<F: Flash> Log<F> {
         ensures used { self.new.used ≡ self.old.used }
         ensures causes { HasCauses (F.faults self.old.flash) (F.faults self.new.flash) (K.faults out.old) (K.faults out.new) result }
         ensures room { result ≢ Err Stop.Space }
+        ensures keeps { K.keeps out.old out.new }
     {
         for page in 0..self.used.div_ceil(RECORDS_A_PAGE) {
             match self.write_page(page, out) {
@@ -97,6 +98,7 @@ impl<F: Flash> Log<F> {
         ensures used { self.new.used ≡ self.old.used }
         ensures causes { HasCauses (F.faults self.old.flash) (F.faults self.new.flash) (K.faults out.old) (K.faults out.new) result }
         ensures room { result ≢ Err Stop.Space }
+        ensures keeps { K.keeps out.old out.new }
     {
         let mut bytes = [0u8; 256];
         let Ok(()) = self.flash.read(PageId(page as u16), 0, &mut bytes) else {

@@ -123,6 +123,7 @@ pub fn write_values<K: Sink>(out: &mut K, page: &[u8], count: usize) -> Result<(
     ensures all { OnOk result (K.held out.new
         ≡ append_known (K.held out.old) (flat_map value_line (values_in page.now count))) }
     ensures cause { HasCause (K.faults out.old) (K.faults out.new) result }
+    ensures keeps { K.keeps out.old out.new }
 {
     for k in 0..count {
         let value = LittleEndian::read_i32(&page[5 * k..]);

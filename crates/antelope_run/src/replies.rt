@@ -14,6 +14,7 @@ use reply_text::{write_all, write_refusal, write_row};
 pub fn write_space<K: Sink>(out: &mut K) -> Result<(), Failed>
     ensures all { OnOk result (K.held out.new ≡ append_known (K.held out.old) space_line) }
     ensures cause { HasCause (K.faults out.old) (K.faults out.new) result }
+    ensures keeps { K.keeps out.old out.new }
 {
     write_refusal(out, &Refusal::Space { need: 1 })?;
     Ok(())
@@ -24,6 +25,7 @@ pub fn write_space<K: Sink>(out: &mut K) -> Result<(), Failed>
 pub fn write_broken<K: Sink>(out: &mut K, page: u16) -> Result<(), Failed>
     ensures all { OnOk result (K.held out.new ≡ append_known (K.held out.old) (image_line page)) }
     ensures cause { HasCause (K.faults out.old) (K.faults out.new) result }
+    ensures keeps { K.keeps out.old out.new }
 {
     let mut line = Line::new();
     line.push(b"no image 1 ");
@@ -38,6 +40,7 @@ pub fn write_broken<K: Sink>(out: &mut K, page: u16) -> Result<(), Failed>
 pub fn write_value<K: Sink>(out: &mut K, value: &i32) -> Result<(), Failed>
     ensures all { OnOk result (K.held out.new ≡ append_known (K.held out.old) (value_line value.now)) }
     ensures cause { HasCause (K.faults out.old) (K.faults out.new) result }
+    ensures keeps { K.keeps out.old out.new }
 {
     let mut row = Tuple::new();
     row.push(Value::Number(i64::from(*value)));

@@ -33,6 +33,7 @@ pub fn answer<F: Flash, K: Sink>(
         (state (F.image log.new.flash) log.new.used (K.held out.new)) (statement.now ∷ []) }
     ensures causes { HasCauses
         (F.faults log.old.flash) (F.faults log.new.flash) (K.faults out.old) (K.faults out.new) result }
+    ensures keeps { K.keeps out.old out.new }
 {
     match statement {
         Statement::Insert(value) => insert(log, out, value),
@@ -54,6 +55,7 @@ fn insert<F: Flash, K: Sink>(log: &mut Log<F>, out: &mut K, value: &i32) -> Resu
         (state (F.image log.new.flash) log.new.used (K.held out.new)) (Statement.Insert value.now ∷ []) }
     ensures causes { HasCauses
         (F.faults log.old.flash) (F.faults log.new.flash) (K.faults out.old) (K.faults out.new) result }
+    ensures keeps { K.keeps out.old out.new }
 {
     let Ok(added) = log.insert(value) else {
         return Err(Stop::Flash);
@@ -93,6 +95,7 @@ fn feed_byte<F: Flash, K: Sink>(
         (done_in read piece.old.quoted p (byte ∷ [])) }
     ensures causes { HasCauses
         (F.faults log.old.flash) (F.faults log.new.flash) (K.faults out.old) (K.faults out.new) result }
+    ensures keeps { K.keeps out.old out.new }
 {
     if !piece.ends_at(byte) {
         piece.push(byte);
@@ -129,6 +132,7 @@ fn feed<F: Flash, K: Sink>(
         (done_in read piece.old.quoted p bytes.now) }
     ensures causes { HasCauses
         (F.faults log.old.flash) (F.faults log.new.flash) (K.faults out.old) (K.faults out.new) result }
+    ensures keeps { K.keeps out.old out.new }
 {
     for byte in bytes {
         match feed_byte(log, out, piece, *byte) {
@@ -152,6 +156,7 @@ fn close<F: Flash, K: Sink>(log: &mut Log<F>, out: &mut K, piece: &Piece) -> Res
         (state (F.image log.new.flash) log.new.used (K.held out.new)) (left_over read p) }
     ensures causes { HasCauses
         (F.faults log.old.flash) (F.faults log.new.flash) (K.faults out.old) (K.faults out.new) result }
+    ensures keeps { K.keeps out.old out.new }
 {
     match piece.unclosed() {
         None => Ok(()),
@@ -198,6 +203,7 @@ pub fn run<F: Flash, S: Source, K: Sink>(
     ensures flash { result ≡ Err Stop.Flash → Rose (F.faults log.old.flash) (F.faults log.new.flash) }
     ensures sink { result ≡ Err Stop.Sink → Rose (K.faults out.old) (K.faults out.new) }
     ensures flash_later { F.faults log.old.flash ≤ F.faults log.new.flash }
+    ensures keeps { K.keeps out.old out.new }
 {
     let mut piece = Piece::new();
     let mut buffer = [0u8; 4096];

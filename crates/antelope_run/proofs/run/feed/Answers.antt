@@ -28,5 +28,6 @@ loop-byte-preserved g c =
           ran_more read _ _ _ q p c.args.bytes.now l.byte-index within (l.invariant.ran told read reader p h)
           (rw (sym l.invariant.quoted) (c.in-Ok.ensures.ran told read reader (piece_behind q p (take l.byte-index c.args.bytes.now)) (l.invariant.piece p h)));
       flash_later = search rules;
+      keeps = g.met.K.Sink.kept_on c.args.out.now l.out c.feed_byte.new.out l.invariant.keeps c.in-Ok.ensures.keeps;
       sink_later = search rules;
     }

@@ -13,5 +13,6 @@ invariant-loop-byte g l = record {
   piece : (p : List ℕ) → Gathers p l.fn.piece.bytes.items l.fn.piece.long → Gathers (piece_behind l.fn.piece.quoted p (take l.byte-index l.bytes)) l.piece.bytes.items l.piece.long;
   ran : IsTrue g.F.Flash.tells → (read : List ℕ → Result Command Refusal) → IsReader read → (p : List ℕ) → Gathers p l.fn.piece.bytes.items l.fn.piece.long → Runs (state (g.F.Flash.image l.fn.log.flash) l.fn.log.used (g.K.Sink.held l.fn.out)) (state (g.F.Flash.image l.log.flash) l.log.used (g.K.Sink.held l.out)) (done_in read l.fn.piece.quoted p (take l.byte-index l.bytes));
   flash_later : g.F.Flash.faults l.fn.log.flash ≤ g.F.Flash.faults l.log.flash;
+  keeps : g.K.Sink.keeps l.fn.out l.out;
   sink_later : g.K.Sink.faults l.fn.out ≤ g.K.Sink.faults l.out;
 }

@@ -42,6 +42,7 @@ reads-preserved g c =
       ran = λ told read reader. runs_read read _ _ _ l.came (take c.in-Ok.n c.read_front.new.buffer) (l.ran told read reader) (rw (sym l.quoted) (c.in-Ok-feed.ensures.ran told read reader (piece_behind false [] l.came) l.piece));
       script_later = search rules;
       flash_later = search rules;
+      keeps = g.met.K.Sink.kept_on c.args.out.now c.reads.out c.feed.new.out l.keeps c.in-Ok-feed.ensures.keeps;
       sink_later = search rules;
     }
 

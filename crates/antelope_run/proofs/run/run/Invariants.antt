@@ -19,6 +19,7 @@ invariant-reads g l = record {
   ran : IsTrue g.F.Flash.tells → (read : List ℕ → Result Command Refusal) → IsReader read → Runs (state (g.F.Flash.image l.fn.log.flash) l.fn.log.used (g.K.Sink.held l.fn.out)) (state (g.F.Flash.image l.log.flash) l.log.used (g.K.Sink.held l.out)) (done_in read false [] came);
   script_later : g.S.Source.faults l.fn.script ≤ g.S.Source.faults l.script;
   flash_later : g.F.Flash.faults l.fn.log.flash ≤ g.F.Flash.faults l.log.flash;
+  keeps : g.K.Sink.keeps l.fn.out l.out;
   sink_later : g.K.Sink.faults l.fn.out ≤ g.K.Sink.faults l.out;
 }
 

@@ -13,5 +13,6 @@ loop-page-preserved g c =
           let here = subst (λ u. Stands (g.F.Flash.image c.loop-page.self.flash) u vs) (sym l.used) (subst (λ i. Stands i c.args.self.now.used vs) (sym l.image) s) in
           lines_page _ _ _ c.loop-page.page vs (l.held told vs s) (c.in-Ok.ensures.written told vs here);
       flash_later = search rules;
+      keeps = g.met.K.Sink.kept_on c.args.out.now c.loop-page.out c.write_page.new.out l.keeps c.in-Ok.ensures.keeps;
       sink_later = search rules;
     }
