@@ -35,7 +35,7 @@ returns-in_err-number-in-Full-clause-reads g c = λ told keys tree.
     let walks = inv.walks told (numbered 0 keys) tree in
     let near = walk_near bytes keys c.args.key.now c.loop-hops.hops c.loop-hops.at c.loop-hops.level c.loop-hops.number tree walks (inv.number told) safe.0 in
     let paid = behind_paid (g.V.Files.reads c.number_behind.new.files) (g.V.Files.reads c.look_at.new.files) (g.V.Files.reads c.loop-hops.files) (g.V.Files.reads c.args.files.now + walk_left e None) e c.loop-hops.hops c.loop-hops.level near walks.depth
-        c.in_ok-look_at.ensures.reads c.number_behind.ensures.reads (inv.left told keys tree) in
+    c.in_ok-look_at.ensures.reads c.number_behind.ensures.reads (inv.left told keys tree) in
     omega (arith, paid)
 
 pub loop-hops-preserved : goal.loop-hops-preserved
