@@ -1,5 +1,5 @@
 -- What `prepare` asks for is little where few bytes come.
-use Rattle.std.proofs.Common.{◌≡◌, ℕ, ◌+◌, ◌*◌, ◌<◌, ◌≤◌, Bool, List, length, true, false, max, nat_lt, Option, Some, None, IsTrue, if◌then◌else◌, refl, ap, sym, ◌∙◌, arith}
+use Rattle.std.proofs.Common.{◌≡◌, ℕ, ◌+◌, ◌*◌, ◌≤◌, Bool, List, length, true, false, max, nat_lt, Option, Some, None, IsTrue, if◌then◌else◌, refl, ap, sym, ◌∙◌, arith}
 use Rattle.std.specs.Prelude.{unwrap_or}
 use Rattle.std.proofs.Math.Nat.{le-max_left, le-max_right}
 use Rattle.afl_base.specs.Files.{File, IsLive, file_at, size_at}
