@@ -19,7 +19,7 @@ use Rattle.index_set.specs.Walks.{Fits, ahead, cost_ahead}
 use Rattle.tuple_file.specs.Tuples.{row, rows, slots}
 use Rattle.cursor.specs.declared.join.JoinCursor.{JoinCursor}
 use Rattle.cursor.specs.declared.partner.Partnered.{Partnered}
-use Rattle.cursor.specs.Pairs.{FitsPairs, MayReadPairs, at_next_left, behind_pair, belongs, inner_cost, join_cost_ahead, lefts_of, matching, pairs_left, right_cost, right_costs, rights_of}
+use Rattle.cursor.specs.Pairs.{FitsPairs, HasAnswered, MayReadPairs, at_next_left, behind_pair, belongs, inner_cost, join_cost_ahead, lefts_of, matching, pairs_left, right_cost, right_costs, rights_of}
 use Rattle.cursor.specs.Remaining.{passing, tuples_at}
 use Rattle.cursor.proofs.Lists.{at_front, live_at}
 use Rattle.cursor.proofs.Suited.{count_rows}
@@ -240,6 +240,14 @@ row_stands state c left live may inside is =
     let there : c.at < slots state.files c.left = omega (arith, inside, may.left_slots some) in
     stands_at c (rows state.files c.left) [] left live inside few (row_there c.left.schema.attributes (bytes_at state.files c.left.file) c.at there ∙ is)
 
+pub left_there : (state : State) (c : JoinCursor) (left : List Value) (live : Bool) → MayReadPairs state c → c.at < c.left_slots → row state.files c.left c.at ≡ record { tuple = left; live = live } → live ≡ true
+    → (found : Option Partnered) → IfSome found (λ _. get_or (rows state.files c.left) c.at no_row ≡ record { tuple = left; live = true })
+left_there state c left live may inside is alive None = tt
+left_there state c left live may inside is alive (Some p) =
+    let some : 0 < c.left_slots = omega (arith, inside) in
+    let there : c.at < slots state.files c.left = omega (arith, inside, may.left_slots some) in
+    row_there c.left.schema.attributes (bytes_at state.files c.left.file) c.at there ∙ is ∙ ap (λ (b : Bool). record { tuple = left; live = b }) alive
+
 pub no_right : (c : JoinCursor) (lefts rights : List Row) (t : List Value) → live_tuples (take 1 (drop c.at (lefts_of c lefts))) ≡ t ∷ [] → c.right_slots ≡ 0 → c.from ≤ c.right_slots → pairs_left c lefts rights ≡ pairs_left (at_next_left c) lefts rights
 no_right c lefts rights t live none order =
     let nothing : c.right_slots - c.from ≡ 0 = omega (arith, none) in
@@ -303,6 +311,17 @@ next_may state c m = record {
 }
 
 -- ---- a walk ends with a pair, with none, or by a fault
+
+pub has_answered : (state : State) (before now : JoinCursor) → now.left ≡ before.left → now.right ≡ before.right → (slot : ℕ) (inner : Candidates) (left right : List Value)
+    → get_or (rows state.files now.left) now.at no_row ≡ record { tuple = left; live = true } → get_or (rows state.files now.right) slot no_row ≡ record { tuple = right; live = true }
+    → HasAnswered (behind_pair now slot inner) (rows state.files before.left) (rows state.files before.right) left right
+has_answered state before now le re slot inner left right l r =
+    let back : slot + 1 - 1 ≡ slot = omega arith in
+    record {
+      left_row = subst (λ t. get_or (rows state.files t) now.at no_row ≡ record { tuple = left; live = true }) le l;
+      some = omega arith;
+      right_row = ap (λ (n : ℕ). get_or (rows state.files before.right) n no_row) back ∙ subst (λ t. get_or (rows state.files t) slot no_row ≡ record { tuple = right; live = true }) re r;
+    }
 
 module _ (state : State) (tables : Tables) (before now : JoinCursor) (reads r1 r2 : ℕ) (j : Joining state tables before now reads r1) (le : now.left ≡ before.left) (re : now.right ≡ before.right) where
   pub joining_fault : r2 ≤ r1 + join_cost_ahead now (rows state.files now.left) (rows state.files now.right) → r2 ≤ reads + join_cost_ahead before (rows state.files before.left) (rows state.files before.right)

@@ -1,5 +1,5 @@
 -- The pairs that a cursor of two relations has still to answer.
-use Rattle.std.specs.Prelude.{◌≡◌, ◌≤◌, ◌<◌, ⊤, ℕ, ◌+◌, ◌*◌, ◌-◌, Bool, List, [], ◌++◌, filter, length, take, drop, slice_get, ◌∷◌, Option, Some, None}
+use Rattle.std.specs.Prelude.{◌≡◌, ◌≤◌, ◌<◌, ⊤, ℕ, ◌+◌, ◌*◌, ◌-◌, Bool, true, List, [], ◌++◌, filter, get_or, length, take, drop, slice_get, ◌∷◌, Option, Some, None}
 use Rattle.std.specs.List.{range_with_len}
 use Rattle.afl_base.specs.Files.{State}
 use Rattle.db_model.specs.declared.values.Value.{Value}
@@ -8,7 +8,7 @@ use Rattle.db_model.specs.Cost.{chosen_cost, ranges_at, right_costs as costs_of_
 use Rattle.db_model.specs.Row.{Row}
 use Rattle.index_set.specs.declared.candidates.Candidates.{Candidates}
 use Rattle.index_set.specs.declared.info.IndexInfo.{IndexInfo}
-use Rattle.index_set.specs.Complete.{AreIndexesOf, AreReadable}
+use Rattle.index_set.specs.Complete.{AreIndexesOf, AreReadable, no_row}
 use Rattle.index_set.specs.Plans.{kinds}
 use Rattle.index_set.specs.Tables.{Tables}
 use Rattle.index_set.specs.Walks.{Fits, IsSafeBy, ahead, cost_ahead}
@@ -41,6 +41,12 @@ behind_pair c slot inner = record c { from = slot + 1; inner = Some inner }
 -- it stands at the next left row
 abbrev pub at_next_left : JoinCursor → JoinCursor
 at_next_left c = record c { at = c.at + 1; from = 0; inner = None }
+
+-- it has answered the pair of the left row at which it stands and of the right row before the one from which it goes on
+pub record HasAnswered (c : JoinCursor) (lefts rights : List Row) (left right : List Value) : Type 0 where
+  pub left_row : get_or lefts c.at no_row ≡ record { tuple = left; live = true }
+  pub some : 0 < c.from
+  pub right_row : get_or rights (c.from - 1) no_row ≡ record { tuple = right; live = true }
 
 -- ---- what holds also where files do not tell
 

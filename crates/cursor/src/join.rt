@@ -2,12 +2,12 @@
 
 #![tactic(auto)]
 
-ghost use Rattle.std.specs.Prelude.{None, ◌≡◌, ◌+◌, ◌*◌, ◌<◌, ◌≤◌, ◌∷◌, [], false, IfOk, IfSome, IsTrue, MatchBool, MatchOption, OnErr, OnOk, List, length};
+ghost use Rattle.std.specs.Prelude.{None, ◌≡◌, ◌+◌, ◌*◌, ◌<◌, ◌≤◌, ◌∷◌, [], false, true, IfOk, IfSome, IsTrue, MatchBool, MatchOption, OnErr, OnOk, List, get_or, length};
 ghost use Rattle.afl_base.specs.Causes.{HasCause};
 ghost use Rattle.db_model.specs.Row.{Row};
-ghost use Rattle.index_set.specs.Complete.{AreReadable};
+ghost use Rattle.index_set.specs.Complete.{AreReadable, no_row};
 ghost use Rattle.tuple_file.specs.Tuples.{HoldsRows, rows, slots};
-ghost use Rattle.cursor.specs.Pairs.{FitsPairs, MayReadPairs, at_next_left, behind_pair, join_cost_ahead, matching, pairs_left, right_costs};
+ghost use Rattle.cursor.specs.Pairs.{FitsPairs, HasAnswered, MayReadPairs, at_next_left, behind_pair, join_cost_ahead, matching, pairs_left, right_costs};
 
 use crate::partner::{Partner, Partnered, next_partner, value_at};
 use afl_base::{Failed, Files, SlotNo};
@@ -112,6 +112,13 @@ impl JoinCursor {
             FitsPairs (behind_pair self.now p.slot p.inner) (V.state files.old) tables.now)) }
         ensures may_read { IfOk result (λ found. IfSome found (λ p.
             MayReadPairs (V.state files.old) (behind_pair self.now p.slot p.inner))) }
+        ensures left_row { let state = V.state files.old in let lefts = rows state.files self.now.left in
+            IsTrue state.tells → IfOk result (λ found. IfSome found (λ _.
+            get_or lefts self.now.at no_row ≡ record { tuple = left.new; live = true })) }
+        ensures right_row { let state = V.state files.old in
+            let rights = rows state.files self.now.right in
+            IsTrue state.tells → IfOk result (λ found. IfSome found (λ p.
+            get_or rights p.slot no_row ≡ record { tuple = right.new; live = true })) }
         ensures below { IfOk result (λ found. IfSome found (λ p. p.slot < self.now.right_slots)) }
         ensures same { OnOk result (V.state files.new ≡ V.state files.old) }
         ensures store { length (V.state files.new).store ≡ length (V.state files.old).store }
@@ -157,7 +164,8 @@ impl JoinCursor {
         Ok(found)
     }
 
-    /// Puts the next pair into `left` and `right`, and answers false exactly where there is none.
+    /// Puts the next pair into `left` and `right`, and answers false exactly where there is none. Then
+    /// it stands behind all left slots, and answers false from now on.
     pub fn next<V: Files>(
         &mut self,
         files: &mut V,
@@ -182,6 +190,14 @@ impl JoinCursor {
         ensures may_read { OnOk result (MayReadPairs (V.state files.old) self.new) }
         ensures stands { OnOk result (self.new
             ≡ record self.old { at = self.new.at; from = self.new.from; inner = self.new.inner }) }
+        ensures pair { let state = V.state files.old in let lefts = rows state.files self.old.left in
+            let rights = rows state.files self.old.right in
+            IsTrue state.tells → IfOk result (λ found. IsTrue found
+            → HasAnswered self.new lefts rights left.new right.new) }
+        ensures here { IfOk result (λ found. MatchBool found
+            (self.new.at < self.new.left_slots) (self.new.left_slots ≤ self.new.at)) }
+        ensures at_end { IfOk result (λ found. found ≡ false → self.old.at ≤ self.old.left_slots
+            → self.new.at ≡ self.new.left_slots) }
         ensures later { OnOk result (self.old.at ≤ self.new.at) }
         ensures same { OnOk result (V.state files.new ≡ V.state files.old) }
         ensures store { length (V.state files.new).store ≡ length (V.state files.old).store }

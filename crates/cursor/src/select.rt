@@ -141,7 +141,8 @@ impl SelectCursor {
         self.candidates = candidates;
     }
 
-    /// Puts the next tuple into `into` and answers its slot, `None` exactly after the last.
+    /// Puts the next tuple into `into` and answers its slot, `None` exactly after the last. Then it
+    /// stands behind all its slots, and answers `None` from now on.
     pub fn next<V: Files>(
         &mut self,
         files: &mut V,
@@ -168,6 +169,14 @@ impl SelectCursor {
         ensures below { IfOk result (λ found. IfSome found (λ slot. slot < self.old.candidates.slots)) }
         ensures forward { IfOk result (λ found. IfSome found (λ _.
             self.old.candidates.from < self.new.candidates.from)) }
+        ensures fits { let state = V.state files.old in let all = rows state.files self.old.tuples in
+            IsTrue state.tells → OnOk result (Fits self.old.candidates state tables.now all
+            → Fits self.new.candidates state tables.now all) }
+        ensures behind { IfOk result (λ found. MatchOption found
+            (self.new.candidates.from ≡ self.new.candidates.slots)
+            (λ slot. (self.old.candidates.from ≤ slot) × (self.new.candidates.from ≡ slot + 1))) }
+        ensures at_end { IfOk result (λ found. found ≡ None
+            → self.new.candidates.end ≡ self.new.candidates.slots) }
         ensures tuples { self.new.tuples ≡ self.old.tuples }
         ensures code { self.new.code ≡ self.old.code }
         ensures slots { self.new.candidates.slots ≡ self.old.candidates.slots }

@@ -80,7 +80,13 @@ pub(crate) fn next_row<V: Files, T: Test>(
         AllSuit tuples.now.schema.attributes into.new)) }
     ensures waits { OnOk result ((all : List Row) → Waits candidates.old all → Waits candidates.new all) }
     ensures below { IfOk result (λ found. IfSome found (λ slot. slot < candidates.old.slots)) }
-    ensures behind { IfOk result (λ found. IfSome found (λ slot. candidates.new.from ≡ slot + 1)) }
+    ensures fits { let state = V.state files.old in let all = rows state.files tuples.now in
+        IsTrue state.tells → OnOk result (Fits candidates.old state tables.now all
+        → Fits candidates.new state tables.now all) }
+    ensures behind { IfOk result (λ found. MatchOption found (candidates.new.from ≡ candidates.new.slots)
+        (λ slot. candidates.new.from ≡ slot + 1)) }
+    ensures at_end { IfOk result (λ found. found ≡ None
+        → candidates.new.end ≡ candidates.new.slots) }
     ensures forward { IfOk result (λ found. IfSome found (λ slot. candidates.old.from ≤ slot)) }
     ensures slots { candidates.new.slots ≡ candidates.old.slots }
     ensures search { candidates.new.search ≡ candidates.old.search }

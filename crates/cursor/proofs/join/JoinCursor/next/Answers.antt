@@ -2,7 +2,7 @@ use Rattle.std.proofs.Common.{rules, ◌+◌, ◌≤◌, ◌∙◌, None, ap, ar
 use Rattle.tuple_file.specs.Tuples.{rows}
 use Rattle.cursor.specs.declared.join.JoinCursor.{JoinCursor}
 use Rattle.cursor.specs.Pairs.{FitsPairs, behind_pair, join_cost_ahead}
-use Rattle.cursor.proofs.Joins.{joining_cost, joining_fault, joining_more, joining_pair, next_may}
+use Rattle.cursor.proofs.Joins.{has_answered, joining_cost, joining_fault, joining_more, joining_pair, next_may}
 use Rattle.cursor.proofs.join.JoinCursor.next.Goals as goal
 
 pub returns-in_err-partnered-clause-reads_err : goal.returns-in_err-partnered-clause-reads_err
@@ -31,6 +31,18 @@ returns-in-Some-clause-next g c = λ told fits.
     (behind_pair now c.in-Some.partnered.slot c.in-Some.partnered.inner) (c.pair_at.new.left, c.pair_at.new.right)
     ((rw (inv.same, c.in-Some.is) at c.in_ok-partnered.ensures.next) told j.fits))
 
+pub returns-in-Some-clause-pair : goal.returns-in-Some-clause-pair
+returns-in-Some-clause-pair g c = λ told yes.
+    let state = g.V.Files.state c.args.files.now in
+    let before = c.args.self.now in
+    let now = c.lefts.self in
+    let inv = c.lefts.invariant in
+    rw c.number.ensures.value
+    (has_answered state before now (ap (λ (x : JoinCursor). x.left) inv.stands) (ap (λ (x : JoinCursor). x.right) inv.stands)
+    c.in-Some.partnered.slot c.in-Some.partnered.inner c.pair_at.new.left c.pair_at.new.right
+    ((rw (inv.same, c.in-Some.is) at c.in_ok-partnered.ensures.left_row) told)
+    ((rw (inv.same, c.in-Some.is) at c.in_ok-partnered.ensures.right_row) told))
+
 pub returns-in-Some-clause-reads : goal.returns-in-Some-clause-reads
 returns-in-Some-clause-reads g c = λ told fits.
     let state = g.V.Files.state c.args.files.now in
@@ -55,6 +67,7 @@ lefts-preserved g c =
       faults = omega (arith, inv.faults, c.in_ok-partnered.ensures.cause.later);
       stands = ap (λ (x : JoinCursor). record x { at = now.at + 1; from = 0; inner = None }) inv.stands;
       later = omega (arith, inv.later);
+      end = λ within. let here = c.lefts-test.true in let same = ap (λ (x : JoinCursor). x.left_slots) inv.stands in omega (arith, here, same);
       may_read = next_may state now inv.may_read;
       told = λ told fits.
           let j = inv.told told fits in

@@ -9,6 +9,7 @@ invariant-lefts g l = record {
   faults : g.V.Files.faults l.fn.files ≤ g.V.Files.faults l.files;
   stands : l.self ≡ record l.fn.self { at = l.self.at; from = l.self.from; inner = l.self.inner };
   later : l.fn.self.at ≤ l.self.at;
+  end : l.fn.self.at ≤ l.fn.self.left_slots → l.self.at ≤ l.fn.self.left_slots;
   may_read : MayReadPairs (g.V.Files.state l.fn.files) l.self;
   told : IsTrue (g.V.Files.state l.fn.files).tells → FitsPairs l.fn.self (g.V.Files.state l.fn.files) l.tables
       → Joining (g.V.Files.state l.fn.files) l.tables l.fn.self l.self (g.V.Files.reads l.fn.files) (g.V.Files.reads l.files);

@@ -1,7 +1,7 @@
 use Rattle.std.proofs.Common.{rules, ◌≡◌, ◌+◌, ◌<◌, ◌≤◌, ◌∷◌, [], ◌∙◌, Bool, true, false, cond, ℕ, length, ap, subst, arith, nat_lt}
 use Rattle.tuple_file.specs.Tuples.{row, rows}
 use Rattle.cursor.specs.Pairs.{FitsPairs, join_cost_ahead}
-use Rattle.cursor.proofs.Joins.{left_cost, no_live, no_right, partner_costs, partner_fault, partner_fits, partner_pairs, row_stands, slot_made}
+use Rattle.cursor.proofs.Joins.{left_cost, left_there, no_live, no_right, partner_costs, partner_fault, partner_fits, partner_pairs, row_stands, slot_made}
 use Rattle.cursor.proofs.Suited.{count_rows}
 use Rattle.cursor.proofs.join.JoinCursor.pair_at.Goals as goal
 
@@ -107,3 +107,13 @@ returns-clause-reads g c = λ told fits.
     (g.V.Files.reads c.args.files.now) (g.V.Files.reads c.row.new.files) (g.V.Files.reads c.next_partner.new.files) c.requires.here c.in_ok-row.ensures.reads
     (returns-clause-next g c told fits)
     ((rw (c.in_ok-row.ensures.same, c.value_at.ensures) at c.in_ok-found.ensures.reads) told (fits.indexes some) (fits.inner some))
+
+pub returns-clause-left_row : goal.returns-clause-left_row
+returns-clause-left_row g c = λ told.
+    let state = g.V.Files.state c.args.files.now in
+    let k = c.args.self.now in
+    let t = c.row.new.into in
+    let read : row state.files k.left k.at ≡ record { tuple = t; live = c.in_ok-row.field-0 } =
+    subst (λ (n : ℕ). row state.files k.left n ≡ record { tuple = t; live = c.in_ok-row.field-0 }) (slot_made k.at c.in-Some.slot (nat_lt k.at 32768) c.in-Some.ensures) (c.in_ok-row.ensures.row told) in
+    let alive : c.in_ok-row.field-0 ≡ true = search rules in
+    left_there state k t c.in_ok-row.field-0 c.requires.may_read c.requires.here read alive c.in_ok-found.found
