@@ -40,6 +40,6 @@ abbrev pub end_from : ℕ → List ℕ → ℤ → ℕ → ℕ
 end_from zero bytes key hop = hop
 end_from (suc turns) bytes key hop = if nat_lt (filled_of bytes (number_of bytes key hop)) 32 then hop else end_from turns bytes key (hop + 1)
 
--- the hop at which the path of a key ends: no path has more than 1,025 buckets
+-- the hop at which the path of a key ends: no path has more than 1,024 buckets, so two turns are spare
 unfoldable pub end_of : List ℕ → ℤ → ℕ
 end_of bytes key = end_from 1026 bytes key 0
