@@ -1,6 +1,5 @@
 -- What is counted is the buckets of some tree, also where no bytes are told.
 use Rattle.std.proofs.Common.{◌≡◌, ◌≤◌, ◌+◌, ℕ, ℤ, List, [], ◌∷◌, ◌++◌, length, replicate, refl, arith, ap, ◌∙◌, sym, length-append}
-use Rattle.db_model.specs.HashTree.{buckets}
 use Rattle.index_tree.specs.Loads.{Loads}
 use Rattle.index_tree.specs.Pairs.{Pair, keys_of}
 use Rattle.index_tree.proofs.Counted.{buckets_few, length-keys}

@@ -1,4 +1,4 @@
-use Rattle.std.proofs.Common.{rules, arith, sym, ◌∙◌, ◌+◌, ℕ, ℤ, List}
+use Rattle.std.proofs.Common.{rules, arith, sym, ◌∙◌, ◌+◌}
 use Rattle.std.specs.Prelude.{None}
 use Rattle.afl_base.specs.Files.{bytes_at}
 use Rattle.db_model.specs.Cost.{keys_beside}
