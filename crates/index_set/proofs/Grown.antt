@@ -1,5 +1,5 @@
 -- What candidates have ahead, where rows come behind the others.
-use Rattle.std.proofs.Common.{◌≡◌, ℕ, zero, suc, ◌+◌, ◌-◌, ◌<◌, ◌≤◌, Bool, true, false, cond, ℤ, List, [], ◌∷◌, ◌++◌, length, get_or, take, drop, filter, Option, refl, ap, sym, ◌∙◌, subst, arith}
+use Rattle.std.proofs.Common.{◌≡◌, ℕ, zero, suc, ◌+◌, ◌-◌, ◌<◌, ◌≤◌, Bool, true, false, cond, ℤ, List, [], ◌∷◌, ◌++◌, length, get_or, take, drop, filter, Option, inl, inr, refl, ap, sym, ◌∙◌, subst, arith}
 use Rattle.std.proofs.lemmas.List.{ext_get_or, get_or-take, length-take-le, take-append-drop}
 use Rattle.std.specs.List.{range_with_len}
 use Rattle.afl_base.specs.Files.{State, bytes_at}
@@ -12,9 +12,16 @@ use Rattle.index_maxheap.proofs.Good.{good_inserts}
 use Rattle.index_set.specs.declared.candidates.Candidates.{Candidates}
 use Rattle.index_set.specs.declared.candidates.Search.{Search}
 use Rattle.index_set.specs.declared.candidates.Search.TheVariants as by
-use Rattle.index_set.specs.Complete.{key_in, no_row}
-use Rattle.index_set.specs.Tables.{Tables}
-use Rattle.index_set.specs.Walks.{Fits, HasGrown, HasIndex, KnowsRows, RowsGrow, Waits, ahead, takes}
+use Rattle.index_set.specs.declared.info.Access.{Access}
+use Rattle.index_set.specs.declared.info.Access.TheVariants.{Tree, Table as InTable}
+use Rattle.index_set.specs.declared.info.IndexInfo.{IndexInfo}
+use Rattle.index_set.specs.declared.info.TableId.{TableId}
+use Rattle.index_set.specs.Complete.{AreComplete, IsComplete, key_in, no_row}
+use Rattle.index_set.specs.Inserts.{AllKeepBuckets, KeepsBuckets, SomeOf}
+use Rattle.index_set.specs.Tables.{Tables, entries}
+use Rattle.index_tree.specs.Places.{KeepsNumbers}
+use Rattle.index_tree.specs.Trees.{IsTreeOf}
+use Rattle.index_set.specs.Walks.{Fits, HasGrown, HasIndex, IsChosen, KnowsRows, RowsGrow, Waits, ahead, takes}
 
 step : (b c : Bool) → b ≡ c → (a : ℕ) (xs ys : List ℕ) → xs ≡ ys → cond b (a ∷ xs) xs ≡ cond c (a ∷ ys) ys
 step true true e a xs ys same = ap (λ (zs : List ℕ). a ∷ zs) same
@@ -87,3 +94,32 @@ fits_kept c before now tables tables_now old new grow grown fits = record {
   waits = waits_kept c old new grow fits.waits;
   index = λ some. index_kept c.search c.place before now tables tables_now old new c.from grow grown (fits.index some);
 }
+
+-- ---- the index of a search, in a list
+
+module _ (before now : State) (tables : Tables) (all : List Row) (attribute : ℕ) where
+  tree_grown : (file : ℕ) (infos : List IndexInfo) → SomeOf (λ info. (info.attribute ≡ attribute) × (info.access ≡ Tree file)) infos → AreComplete now tables all infos → AllKeepBuckets before now infos
+      → IsTreeOf (bytes_at now.files file) (keys attribute all) × KeepsNumbers (bytes_at before.files file) (bytes_at now.files file)
+  tree_grown file [] some whole kept = absurd some
+  tree_grown file (info ∷ infos) (inl here) whole kept =
+      let C : Access → Type 0 = λ access. IsComplete now tables access (keys info.attribute all) in
+      let K : Access → Type 0 = λ access. KeepsBuckets before now access in
+      let A : ℕ → Type 0 = λ place. IsTreeOf (bytes_at now.files file) (keys place all) in
+      (subst A here.0 (subst C here.1 whole.0), subst K here.1 kept.0)
+  tree_grown file (info ∷ infos) (inr rest) whole kept = tree_grown file infos rest whole.1 kept.1
+
+  table_grown : (number : TableId) (infos : List IndexInfo) → SomeOf (λ info. (info.attribute ≡ attribute) × (info.access ≡ InTable number)) infos → AreComplete now tables all infos
+      → entries tables number ≡ keys attribute all
+  table_grown number [] some whole = absurd some
+  table_grown number (info ∷ infos) (inl here) whole =
+      let C : Access → Type 0 = λ access. IsComplete now tables access (keys info.attribute all) in
+      let A : ℕ → Type 0 = λ place. entries tables number ≡ keys place all in
+      subst A here.0 (subst C here.1 whole.0)
+  table_grown number (info ∷ infos) (inr rest) whole = table_grown number infos rest whole.1
+
+pub grown_chosen : (s : Search) (infos : List IndexInfo) (before now : State) (tables : Tables) (all : List Row) → IsChosen s infos → AreComplete now tables all infos → AllKeepBuckets before now infos → HasGrown s before now tables all
+grown_chosen by.Nothing infos before now tables all chosen whole kept = tt
+grown_chosen by.Scan infos before now tables all chosen whole kept = tt
+grown_chosen (by.Order attribute range) infos before now tables all chosen whole kept = tt
+grown_chosen (by.Tree attribute file key) infos before now tables all chosen whole kept = tree_grown before now tables all attribute file infos chosen whole kept
+grown_chosen (by.Table attribute number key) infos before now tables all chosen whole kept = table_grown before now tables all attribute number infos chosen whole

@@ -1,6 +1,6 @@
 -- Indexes that are found complete one after the other.
-use Rattle.std.proofs.Common.{◌≡◌, ◌<◌, ◌≤◌, ◌+◌, ◌==◌, ℕ, ℤ, zero, suc, List, [], ◌∷◌, length, get_or, take, Bool, true, false, Some, refl, arith, ap, ◌∙◌, sym, subst}
-use Rattle.std.specs.Prelude.{Result, Ok, Err, IfOk, slice_get}
+use Rattle.std.proofs.Common.{◌≡◌, ◌<◌, ◌≤◌, ◌+◌, ◌==◌, ℕ, ℤ, zero, suc, List, [], ◌∷◌, ◌++◌, length, get_or, take, Bool, true, false, Some, refl, arith, ap, ◌∙◌, sym, subst}
+use Rattle.std.specs.Prelude.{Result, Ok, Err, IfOk, IsTrue, OnOk, slice_get}
 use Rattle.afl_base.specs.declared.failed.Failed.{Failed}
 use Rattle.std.specs.Bool.{Decides}
 use Rattle.std.specs.List.{AllByRecursion}
@@ -14,14 +14,14 @@ use Rattle.db_model.specs.Row.{Row}
 use Rattle.db_model.specs.Step.{keys}
 use Rattle.index_inline.specs.Keys.{keys_of}
 use Rattle.index_set.specs.declared.info.Access.{Access}
-use Rattle.index_set.specs.declared.info.Access.TheVariants.{Tree}
+use Rattle.index_set.specs.declared.info.Access.TheVariants.{Order, Tree, Table as InTable}
 use Rattle.index_set.specs.declared.info.IndexInfo.{IndexInfo}
 use Rattle.index_set.specs.declared.info.TableId.{TableId}
-use Rattle.index_set.specs.Complete.{AreComplete, HasKeys, HaveKeysOf, IsComplete, IsFirstIncomplete}
-use Rattle.index_set.specs.Inserts.{AreApart, IsApart, IsNoTable, KeepsTables}
+use Rattle.index_set.specs.Complete.{AreComplete, AreHeld, HasKeys, HaveKeysOf, IsComplete, IsFirstIncomplete, IsHeld, most_reads, most_reads_of_all}
+use Rattle.index_set.specs.Inserts.{AreApart, IsApart, IsDoublingTree, IsNoTable, KeepsTables}
 use Rattle.index_set.specs.Tables.{Tables, entries}
 use Rattle.index_set.proofs.Fronts.{keys_whole}
-use Rattle.index_set.proofs.Inserted.{all_less, all_more, complete_before}
+use Rattle.index_set.proofs.Inserted.{all_less, all_more, complete_before, held_before}
 use Rattle.index_set.proofs.Lists.{before_it, here_of, take_of, taken}
 use Rattle.index_tree.specs.Keys.{first_keys}
 use Rattle.index_tree.specs.Trees.{IsTreeOf}
@@ -58,6 +58,46 @@ tree_whole state tables y slots file (Ok m) is yes_tree no_tree =
     subst P (sym is) (decided m (IsTreeOf (bytes_at state.files file) (first_keys (key_of state y.column) slots)) yes_tree no_tree)
 tree_whole state tables y slots file (Err e) is yes_tree no_tree = tt
 
+-- ---- held, where a test finds it whole
+
+module _ (old new : State) (tables : Tables) (y : IndexInfo) (slots : ℕ) where
+  abbrev pub HeldIfWhole : Result Bool Failed → Type 0
+  HeldIfWhole r = IfOk r (λ whole. IsTrue whole → IsDoublingTree old y.access → IsHeld new tables slots y.access)
+
+  pub order_held : (r : Result Bool Failed) → y.access ≡ Order → HeldIfWhole r
+  order_held (Ok m) is = λ yes tree. let P : Access → Type 0 = λ a. IsHeld new tables slots a in subst P (sym is) tt
+  order_held (Err e) is = tt
+
+  pub tree_held : (file : ℕ) (r : Result Bool Failed) → y.access ≡ Tree file → OnOk r (new ≡ old) → HeldIfWhole r
+  tree_held file (Ok m) is same = λ yes tree.
+      let D : Access → Type 0 = λ a. IsDoublingTree old a in
+      let H : Access → Type 0 = λ a. IsHeld new tables slots a in
+      let S : State → Type 0 = λ s. IsHeld s tables slots (Tree file) in
+      subst H (sym is) (subst S (sym same) (subst D is tree))
+  tree_held file (Err e) is same = tt
+
+  pub filled_held : (number : TableId) (r : Result Bool Failed) → y.access ≡ InTable number → IfOk r (λ whole. IsTrue whole → length (entries tables number) ≡ slots) → HeldIfWhole r
+  filled_held number (Ok m) is size = λ yes tree. let H : Access → Type 0 = λ a. IsHeld new tables slots a in subst H (sym is) (size yes)
+  filled_held number (Err e) is size = tt
+
+pub no_size : (es : List ℤ) (len slots : ℕ) → len ≡ length es → IsTrue (len == slots) → length es ≡ slots
+no_size es len slots is same = sym is ∙ (Decides-eqb len slots).0 same
+
+-- ---- reads
+
+reads_joined : (slots : ℕ) (xs : List IndexInfo) (y : IndexInfo) → most_reads_of_all slots (xs ++ y ∷ []) ≡ most_reads_of_all slots xs + most_reads slots y.access
+reads_joined slots [] y = omega arith
+reads_joined slots (x ∷ xs) y = omega (arith, reads_joined slots xs y)
+
+pub reads_next : (slots : ℕ) (xs : List IndexInfo) (n : ℕ) (y : IndexInfo) → n < length xs → y ≡ get_or xs n y → most_reads_of_all slots (take (n + 1) xs) ≡ most_reads_of_all slots (take n xs) + most_reads slots y.access
+reads_next slots xs n y h e = ap (most_reads_of_all slots) (taken xs n y h e) ∙ reads_joined slots (take n xs) y
+
+pub reads_within : (slots : ℕ) (xs : List IndexInfo) (n : ℕ) → most_reads_of_all slots (take n xs) ≤ most_reads_of_all slots xs
+reads_within slots [] zero = omega arith
+reads_within slots [] (suc n) = omega arith
+reads_within slots (x ∷ xs) zero = omega arith
+reads_within slots (x ∷ xs) (suc n) = omega (arith, reads_within slots xs n)
+
 module _ (xs : List IndexInfo) (n : ℕ) (y : IndexInfo) (h : n < length xs) (e : y ≡ get_or xs n y) (t0 t1 t2 : Tables) (k1 : KeepsTables t0 t1 (take n xs)) (k2 : (number : TableId) → IsNoTable number y.access → entries t2 number ≡ entries t1 number) where
   pub keeps_all : KeepsTables t0 t2 xs
   keeps_all = λ number all. k2 number (here_of xs n y h e (λ x. IsNoTable number x.access) all) ∙ k1 number (take_of (λ x. IsNoTable number x.access) xs n all)
@@ -67,6 +107,12 @@ module _ (xs : List IndexInfo) (n : ℕ) (y : IndexInfo) (h : n < length xs) (e 
       let P : List IndexInfo → Type 0 = λ ys. AllByRecursion (λ x. IsNoTable number x.access) ys in
       let both = all_less (λ x. IsNoTable number x.access) (take n xs) y (subst P (taken xs n y h e) all) in
       k2 number both.1 ∙ k1 number both.0
+
+  pub held_more : AreApart xs → (state : State) (slots : ℕ) → AreHeld state t1 slots (take n xs) → IsHeld state t2 slots y.access → AreHeld state t2 slots (take (n + 1) xs)
+  held_more apart state slots before here =
+      let P : List IndexInfo → Type 0 = λ ys. AreHeld state t2 slots ys in
+      subst P (sym (taken xs n y h e)) (all_more (λ info. IsHeld state t2 slots info.access) (take n xs) y
+      (held_before state state t1 t2 y.access (spares_same state (λ k. IsApart k y.access)) k2 slots (take n xs) (before_it xs n y h e apart) before) here)
 
   module _ (apart : AreApart xs) (state : State) (all : List Row) (slots : ℕ) (count : length all ≡ slots) (columns : HaveKeysOf state all xs) (before : AreComplete state t1 all (take n xs)) where
     still : AreComplete state t2 all (take n xs)

@@ -1,5 +1,5 @@
 -- When an index is complete: it knows the keys of all slots of its relation, those of removed rows among them.
-use Rattle.std.specs.Prelude.{◌≡◌, ◌≢◌, ◌<◌, ⊤, ℕ, ℤ, List, [], false, length, get_or, None, Some, slice_get, take}
+use Rattle.std.specs.Prelude.{◌≡◌, ◌≢◌, ◌<◌, ◌+◌, ◌*◌, ⊤, ℕ, ℤ, List, [], ◌∷◌, false, length, get_or, None, Some, slice_get, take}
 use Rattle.std.specs.List.{AllByRecursion}
 use Rattle.afl_base.specs.declared.kind.Kind.TheVariants.{Doubling}
 use Rattle.afl_base.specs.Files.{State, IsLive, bytes_at, file_at}
@@ -81,6 +81,17 @@ AreComplete state tables all infos = AllByRecursion (λ info. IsComplete state t
 
 abbrev pub AreHeld : State → Tables → ℕ → List IndexInfo → Type 0
 AreHeld state tables slots infos = AllByRecursion (λ info. IsHeld state tables slots info.access) infos
+
+-- the most pages that a test of an index of so many slots reads
+abbrev pub most_reads : ℕ → Access → ℕ
+most_reads slots Order = 6 * slots
+most_reads slots (Tree file) = 15 * slots + 2048
+most_reads slots (Table number) = 6 * slots
+
+-- of each index of a list
+abbrev pub most_reads_of_all : ℕ → List IndexInfo → ℕ
+most_reads_of_all slots [] = 0
+most_reads_of_all slots (info ∷ infos) = most_reads slots info.access + most_reads_of_all slots infos
 
 -- the first index of a list that is not complete
 pub record IsFirstIncomplete (state : State) (tables : Tables) (all : List Row) (infos : List IndexInfo) (nth : ℕ) : Type 0 where

@@ -31,6 +31,9 @@ IsDoublingTree state Order = ⊤
 IsDoublingTree state (Tree file) = IsLive state.files file × ((file_at state.files file).kind ≡ Doubling)
 IsDoublingTree state (Table number) = ⊤
 
+abbrev pub AreDoublingTrees : State → List IndexInfo → Type 0
+AreDoublingTrees state infos = AllByRecursion (λ info. IsDoublingTree state info.access) infos
+
 -- a tree's file is not this one
 abbrev pub IsApart : ℕ → Access → Type 0
 IsApart id Order = ⊤

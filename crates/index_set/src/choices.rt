@@ -14,8 +14,8 @@ ghost use Rattle.db_model.specs.Row.{Row};
 ghost use Rattle.db_model.specs.Step.{first_fall};
 ghost use Rattle.index_inline.specs.Keys.{keys_of};
 ghost use Rattle.index_set.specs.declared.info.TableId.{TableId as AnyTable};
-ghost use Rattle.index_set.specs.Complete.{AreComplete, AreReadable, HaveKeysOf, IsComplete, IsFirstIncomplete, IsReadable};
-ghost use Rattle.index_set.specs.Inserts.{AreApart, IsNoTable, KeepsTables};
+ghost use Rattle.index_set.specs.Complete.{AreComplete, AreHeld, AreReadable, HaveKeysOf, IsComplete, IsFirstIncomplete, IsHeld, IsReadable, most_reads, most_reads_of_all};
+ghost use Rattle.index_set.specs.Inserts.{AreApart, AreDoublingTrees, IsDoublingTree, IsNoTable, KeepsTables};
 ghost use Rattle.index_set.specs.Tables.{entries};
 ghost use Rattle.index_set.specs.Plans.{IsBy, IsOf, by_kind, kind_of, kinds, plan_in};
 
@@ -208,7 +208,11 @@ pub fn verify_all<V: Files>(
         (all : List Row) → length all ≡ slots → HaveKeysOf state all indexes.now
         → MatchOption nth (AreComplete state tables.new all indexes.now) (λ n.
         IsFirstIncomplete state tables.new all indexes.now n)) }
+    ensures held { IfOk result (λ nth. nth ≡ None
+        → AreDoublingTrees (V.state files.old) indexes.now
+        → AreHeld (V.state files.new) tables.new slots indexes.now) }
     ensures tables { KeepsTables tables.old tables.new indexes.now }
+    ensures reads { V.reads files.new ≤ V.reads files.old + most_reads_of_all slots indexes.now }
     ensures same { OnOk result (V.state files.new ≡ V.state files.old) }
     ensures reads_later { V.reads files.old ≤ V.reads files.new }
     ensures store { length (V.state files.new).store ≡ length (V.state files.old).store }
@@ -236,7 +240,10 @@ fn is_complete<V: Files>(
     requires readable { IsReadable (V.state files.old) slots info.now }
     ensures complete { let state = V.state files.old in IsTrue state.tells → IfOk result (λ whole.
         Decides whole (IsComplete state tables.new info.now.access (keys_of state info.now.column slots))) }
+    ensures held { IfOk result (λ whole. IsTrue whole → IsDoublingTree (V.state files.old) info.now.access
+        → IsHeld (V.state files.new) tables.new slots info.now.access) }
     ensures tables { (number : AnyTable) → IsNoTable number info.now.access → entries tables.new number ≡ entries tables.old number }
+    ensures reads { V.reads files.new ≤ V.reads files.old + most_reads slots info.now.access }
     ensures same { OnOk result (V.state files.new ≡ V.state files.old) }
     ensures reads_later { V.reads files.old ≤ V.reads files.new }
     ensures store { length (V.state files.new).store ≡ length (V.state files.old).store }
@@ -257,6 +264,7 @@ fn is_ordered<V: Files>(files: &mut V, column: &KeyColumn, slots: u16) -> Result
     requires fields { (slot : ℕ) → slot < slots → HasField (V.state files.old) column.now slot }
     ensures ordered { let state = V.state files.old in IsTrue state.tells → IfOk result (λ whole.
         Decides whole (first_fall (keys_of state column.now slots) ≡ None)) }
+    ensures reads { V.reads files.new ≤ V.reads files.old + 6 * slots }
     ensures same { OnOk result (V.state files.new ≡ V.state files.old) }
     ensures reads_later { V.reads files.old ≤ V.reads files.new }
     ensures store { length (V.state files.new).store ≡ length (V.state files.old).store }
@@ -279,6 +287,8 @@ fn fill_whole<V: Files>(
     requires fields { (slot : ℕ) → slot < slots → HasField (V.state files.old) column.now slot }
     ensures whole { let state = V.state files.old in IsTrue state.tells → IfOk result (λ whole.
         Decides whole (entries tables.new table ≡ keys_of state column.now slots)) }
+    ensures size { IfOk result (λ whole. IsTrue whole → length (entries tables.new table) ≡ slots) }
+    ensures reads { V.reads files.new ≤ V.reads files.old + 6 * slots }
     ensures other { (other : AnyTable) → other ≢ table → entries tables.new other ≡ entries tables.old other }
     ensures same { OnOk result (V.state files.new ≡ V.state files.old) }
     ensures reads_later { V.reads files.old ≤ V.reads files.new }

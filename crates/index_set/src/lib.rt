@@ -12,5 +12,8 @@ pub use candidates::{Candidates, Search};
 pub use choices::{Plan, choose, verify_all};
 pub use info::{Access, IndexInfo, Indexes, Rooms, TableId};
 pub use inserts::{insert_all, prepare_all};
-pub use laws::{ahead_where_rows_come, fits_where_rows_are_inserted, waits_where_rows_come};
+pub use laws::{
+    ahead_where_rows_come, fits_where_rows_are_inserted, grown_where_all_are_complete,
+    waits_where_rows_come,
+};
 pub use tables::HashTables;

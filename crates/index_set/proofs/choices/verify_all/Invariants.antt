@@ -1,8 +1,8 @@
-use Rattle.std.proofs.Common.{◌≡◌, ◌≤◌, List, length, take}
+use Rattle.std.proofs.Common.{◌≡◌, ◌≤◌, ◌+◌, List, length, take}
 use Rattle.std.specs.Prelude.{IsTrue}
 use Rattle.db_model.specs.Row.{Row}
-use Rattle.index_set.specs.Complete.{AreComplete, HaveKeysOf}
-use Rattle.index_set.specs.Inserts.{KeepsTables}
+use Rattle.index_set.specs.Complete.{AreComplete, AreHeld, HaveKeysOf, most_reads_of_all}
+use Rattle.index_set.specs.Inserts.{AreDoublingTrees, KeepsTables}
 use Rattle.index_set.proofs.choices.verify_all.Given as goal
 
 abbrev pub invariant-loop-nth : goal.invariant-loop-nth
@@ -12,6 +12,8 @@ invariant-loop-nth g l =
       same : g.V.Files.state l.files ≡ start;
       tables : KeepsTables l.fn.tables l.tables (take l.nth l.indexes);
       complete : IsTrue start.tells → (all : List Row) → length all ≡ l.slots → HaveKeysOf start all l.indexes → AreComplete start l.tables all (take l.nth l.indexes);
+      held : AreDoublingTrees start l.indexes → AreHeld start l.tables l.slots (take l.nth l.indexes);
+      most : g.V.Files.reads l.files ≤ g.V.Files.reads l.fn.files + most_reads_of_all l.slots (take l.nth l.indexes);
       store : length (g.V.Files.state l.files).store ≡ length start.store;
       faults : g.V.Files.faults l.fn.files ≤ g.V.Files.faults l.files;
       reads : g.V.Files.reads l.fn.files ≤ g.V.Files.reads l.files;
