@@ -1,4 +1,4 @@
-//! Tests of hash trees over files in memory.
+//! Tests of hash trees over files in memory and over those of a flash.
 #![tactic(auto)]
 
 #[cfg(test)]
@@ -7,3 +7,5 @@ mod built;
 mod grown;
 #[cfg(test)]
 mod trees;
+#[cfg(test)]
+mod volumes;

@@ -1,4 +1,4 @@
-ghost use Rattle.std.specs.Prelude.{◌≡◌, ◌<◌, ◌≤◌, ◌*◌, IfOk, IfSome, OnOk, None};
+ghost use Rattle.std.specs.Prelude.{◌≡◌, ◌<◌, ◌≤◌, ◌*◌, IfOk, IfSome, OnOk, None, length};
 ghost use Rattle.afl_base.specs.Files.{IsLive, IsUnnamed, file_at, size_at, used};
 ghost use Rattle.afl_base.specs.declared.kind.Kind.TheVariants.{Doubling};
 
@@ -29,7 +29,7 @@ pub fn built_tree<V: Files>(
     slots: u16,
 ) -> Result<FileId, FileError>
     requires live { IsLive (V.state files.old).files rows }
-    requires slots { slots ≤ 1000 }
+    requires slots { slots ≤ 32768 }
     requires size { 3 * slots ≤ size_at (V.state files.old).files rows }
     requires idle { (V.state files.old).draft ≡ None }
     requires unnamed { IsUnnamed (V.state files.old).files name }
@@ -76,12 +76,12 @@ pub fn put_key<V: Files>(
 pub fn finds_all<V: Files>(
     files: &mut V,
     index: FileId,
-    keys: &[i32; 1600],
+    keys: &[i32],
     slots: u16,
     key: &i32,
 ) -> Result<bool, Failed>
     requires live { IsLive (V.state files.old).files index }
-    requires slots { slots ≤ 1600 }
+    requires slots { slots ≤ length keys.now }
     ensures same { OnOk result (V.state files.new ≡ V.state files.old) }
 {
     let mut place: Option<Place> = None;
