@@ -40,9 +40,6 @@ pub fn built_tree<V: Files>(
 {
     let keys = column(rows);
     let most = buckets_for(files, keys, slots)?;
-    if most > 1365 {
-        return Err(FileError::Failed);
-    }
     files.draft(name, 683 + 195 * u32::from(most))?;
     build(files, keys, slots, most)?;
     a_tree_ends_in_a_mark();
