@@ -1,3 +1,4 @@
+pub mod AskedLaws
 pub mod DraftLaws
 pub mod FieldLaws
 pub mod FileLaws

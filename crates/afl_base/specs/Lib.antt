@@ -1,3 +1,4 @@
+pub mod Asked
 pub mod Causes
 pub mod Fields
 pub mod FileErrors
@@ -6,6 +7,7 @@ pub mod Fit
 pub mod Frames
 pub mod Image
 pub mod KeyColumn
+pub mod Keys
 pub mod Names
 pub mod Places
 pub mod Regions

@@ -1,5 +1,5 @@
 ghost use Rattle.std.specs.Prelude.{◌≡◌, ◌≢◌, ℕ, ◌+◌, ◌*◌, ◌≤◌, ◌<◌, Bool, true, false, ℤ, List, length, take, IsTrue, OnOk, IfOk, IfSome, MatchOption, FitsSigned, nat_eq, Ok, Err};
-ghost use Rattle.std.specs.List.{list_all, flat_map};
+ghost use Rattle.std.specs.List.{flat_map};
 ghost use Rattle.std.specs.Int.{w32};
 ghost use Rattle.std.specs.Io.KnownBytes.{append_known};
 ghost use Rattle.afl_base.specs.Causes.{HasCause};
@@ -11,6 +11,7 @@ use crate::judged::Judged;
 use crate::replies::write_value;
 use afl_base::{Failed, Flash, PageId, Sink};
 use byteorder::{ByteOrder, LittleEndian};
+use padded::is_zeros;
 
 const PAGES_A_SECTOR: u16 = 16;
 
@@ -54,12 +55,6 @@ fn leading_records(page: &[u8]) -> usize
     51
 }
 
-fn are_zeros(bytes: &[u8]) -> bool
-    ensures { result ≡ list_all (λ b. nat_eq b 0) bytes.now }
-{
-    bytes.iter().all(|byte| *byte == 0)
-}
-
 // How many records of a page are in use. `None` comes where the page is no page of such records.
 fn count_records(page: &[u8]) -> Option<u32>
     requires { length page.now ≡ 256 }
@@ -67,7 +62,7 @@ fn count_records(page: &[u8]) -> Option<u32>
         → page.now ≢ raw_page vs) (λ n. IsPage page.now n) }
 {
     let used = leading_records(page);
-    if are_zeros(&page[5 * used..]) {
+    if is_zeros(&page[5 * used..]) {
         Some(used as u32)
     } else {
         None

@@ -7,7 +7,7 @@ ghost use Rattle.space_model.specs.Wants.{room_for};
 
 use crate::slots::{VERSION_MARK, first_catalog, index_slot, relation_slot, unused_slot};
 use crate::types::IndexEntry;
-use afl_base::{Failed, FileId, Files, IndexId, RelationId};
+use afl_base::{Failed, FileId, Files, IndexId, RelationId, regions};
 use db_model::Schema;
 
 /// What to prepare for a change of the `len` bytes from `at` on of a catalog of `size` bytes: how many
@@ -17,7 +17,7 @@ pub fn room_for(size: u32, at: u32, len: u32) -> (u16, u32)
     requires { at + len ≤ 1472 }
     ensures { result ≡ room_for size at len }
 {
-    let overwrites = len.min((at + len + 127) / 128 - at / 128) as u16;
+    let overwrites = regions(at, len as usize);
     match size {
         0 => (0, 1480),
         1472 => (overwrites, 8),

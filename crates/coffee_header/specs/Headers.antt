@@ -1,14 +1,11 @@
 -- Headers: the 32 bytes with which an extent begins.
 use Rattle.std.specs.Prelude.{◌≡◌, ◌<◌, ℕ, true, Bool, ◌&&◌, ◌||◌, ◌==◌, List, [], ◌∷◌, ◌++◌, take, drop, slice_index, Option, Some, None, if◌then◌else◌}
-use Rattle.std.specs.List.{list_all, prefix_len}
+use Rattle.std.specs.List.{prefix_len}
 use Rattle.afl_base.specs.Fields.{u16_at, u16_bytes}
 use Rattle.afl_base.specs.Names.{is_file_name, is_name_byte}
 use Rattle.padded.specs.Padded.{padded}
+use Rattle.padded.specs.Zeros.{is_zeros}
 use Rattle.coffee_header.specs.declared.header.Header.{Header}
-
--- all bytes are zero
-abbrev pub is_zeros : List ℕ → Bool
-is_zeros bytes = list_all (λ b. b == 0) bytes
 
 -- The flags are a sum of VALID 1, ALLOCATED 2, OBSOLETE 4, MODIFIED 8 and LOG 16: an extent under
 -- construction (2), an active file (3) and one with a log (11), an active log (19), and the same

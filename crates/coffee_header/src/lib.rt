@@ -8,5 +8,5 @@ mod write;
 
 pub use header::Header;
 pub use laws::header_both_ways;
-pub use read::{is_zeros, read_header};
+pub use read::read_header;
 pub use write::write_header;

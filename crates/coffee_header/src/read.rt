@@ -1,10 +1,12 @@
 ghost use Rattle.std.specs.Prelude.{◌≡◌, ◌≤◌, ◌==◌, length, if◌then◌else◌};
-ghost use Rattle.std.specs.List.{list_all, prefix_len};
+ghost use Rattle.std.specs.List.{prefix_len};
 ghost use Rattle.afl_base.specs.Names.{is_name_byte};
-ghost use Rattle.coffee_header.specs.Headers.{header_of, is_flags, is_kind, is_name_field, is_zeros, name_in};
+ghost use Rattle.coffee_header.specs.Headers.{header_of, is_flags, is_kind, is_name_field, name_in};
+ghost use Rattle.padded.specs.Zeros.{is_zeros};
 
 use crate::header::Header;
 use afl_base::{Name, get_u16};
+use padded::is_zeros;
 
 /// The header that these 32 bytes are, None exactly where they are none: the kind is no 0 or 1, the
 /// flags are none of 2, 3, 11, 19, 7, 15 and 23, or the bytes from 10 on are not a name and zeros.
@@ -51,13 +53,6 @@ fn name_len(field: &[u8]) -> usize
     ensures within { result ≤ length field.now }
 {
     field.iter().take_while(|b| 33 <= **b && **b <= 126).count()
-}
-
-/// Whether all bytes are zero.
-pub fn is_zeros(bytes: &[u8]) -> bool
-    ensures { result ≡ is_zeros bytes.now }
-{
-    bytes.iter().all(|b| *b == 0)
 }
 
 fn is_kind(kind: u8) -> bool

@@ -9,7 +9,7 @@ use Rattle.coffee_header.specs.declared.header.Header.{Header}
 use Rattle.coffee_layout.specs.FileBytes.{file_byte, file_bytes, last_in, extent_place, number_in, place_or, record_place, table_of, trimmed, used_in}
 use Rattle.coffee_layout.specs.Files.{Placed, bytes_of, entry_of, entry_with, kind_of, log_of, named_file, used_of}
 use Rattle.coffee_layout.specs.Tiling.{KeepRules, IsTiled, broken_at, broken_suffix, broken_unit}
-use Rattle.coffee_header.specs.Headers.{is_zeros}
+use Rattle.padded.specs.Zeros.{is_zeros}
 use Rattle.coffee_layout.specs.Units.{is_free, pages_of, size_of, total, unit_at, unit_of}
 use Rattle.coffee_layout.specs.declared.unit.Unit.{Unit}
 use Rattle.coffee_layout.proofs.Tests.{none_else}

@@ -2,7 +2,7 @@
 use Rattle.std.proofs.Common.{◌≡◌, ℕ, zero, suc, ◌+◌, ◌*◌, ◌≤◌, ◌<◌, ⊎_elim, Bool, false, ◌&&◌, ◌||◌, not, ◌==◌, nat_lt, List, [], ◌∷◌, length, Option, Some, None, if◌then◌else◌, refl, ap, sym, ◌∙◌, arith}
 use Rattle.std.proofs.lemmas.Bool.{cases_lt}
 use Rattle.afl_base.specs.Image.{page_bytes}
-use Rattle.coffee_header.specs.Headers.{is_zeros}
+use Rattle.padded.specs.Zeros.{is_zeros}
 use Rattle.coffee_layout.specs.Units.{is_free, pages_of, size_of, total, unit_at}
 use Rattle.coffee_layout.specs.Tiling.{KeepRules, IsTiled, broken_at, broken_unit, broken_suffix, broken_from, broken_tiling, units_from, units_of, at_page}
 use Rattle.coffee_layout.specs.declared.unit.Unit.{Unit}

@@ -3,7 +3,7 @@ use Rattle.std.proofs.Common.{◌≡◌, ℕ, ◌+◌, ◌-◌, ◌≤◌, true,
 use Rattle.std.proofs.lemmas.List.{drop-drop, drop_all, take_all}
 use Rattle.std.proofs.lemmas.List.Folds.{list_all-append}
 use Rattle.flash_range.proofs.Ranges.{take_add}
-use Rattle.coffee_header.specs.Headers.{is_zeros}
+use Rattle.padded.specs.Zeros.{is_zeros}
 
 -- a part is a front part and what follows it
 pub slice_split : (xs : List ℕ) (a b c : ℕ) → a ≤ b → b ≤ c → slice_range xs a c ≡ slice_range xs a b ++ slice_range xs b c

@@ -9,7 +9,7 @@ use Rattle.coffee_header.specs.declared.header.Header.{Header}
 use Rattle.coffee_layout.specs.FileBytes.{number_in, records, table_of, used_in}
 use Rattle.coffee_layout.specs.Files.{Placed, bytes_of, extents, files_in, is_file, is_log, logs_in}
 use Rattle.coffee_layout.specs.Tiling.{at_place, broken_tiling, nowhere, units_of}
-use Rattle.coffee_header.specs.Headers.{is_zeros}
+use Rattle.padded.specs.Zeros.{is_zeros}
 use Rattle.coffee_layout.specs.declared.unit.Unit.{Unit}
 use Rattle.coffee_layout.specs.declared.unit.BadImage.{BadImage}
 

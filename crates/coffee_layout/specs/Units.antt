@@ -2,7 +2,8 @@
 use Rattle.std.specs.Prelude.{ℕ, ◌/◌, ◌+◌, Bool, true, false, ◌||◌, ◌==◌, bit_and, List, [], ◌∷◌, length, take, slice_index, Option, Some, if◌then◌else◌}
 use Rattle.std.specs.Option.{option_map}
 use Rattle.afl_base.specs.Image.{page_bytes}
-use Rattle.coffee_header.specs.Headers.{header_of, is_zeros}
+use Rattle.coffee_header.specs.Headers.{header_of}
+use Rattle.padded.specs.Zeros.{is_zeros}
 use Rattle.coffee_layout.specs.declared.unit.Unit.{Unit}
 use Rattle.coffee_layout.specs.declared.unit.Unit.TheVariants.{Free, Isolated, Extent}
 

@@ -5,13 +5,13 @@ ghost use Rattle.afl_base.specs.Fields.{u16_at};
 ghost use Rattle.flash_range.specs.Range.{pages_touched};
 ghost use Rattle.coffee_layout.specs.FileBytes.{number_in, table_of, used_in};
 ghost use Rattle.coffee_layout.specs.Rules.{has_regions_inside, is_clear, is_front_filled, is_region_inside};
-ghost use Rattle.coffee_header.specs.Headers.{is_zeros};
+ghost use Rattle.padded.specs.Zeros.{is_zeros};
 ghost use Rattle.coffee_layout.specs.Walks.{fits_entry, is_its_log};
 
 use crate::file::FileAt;
 use afl_base::{Failed, Flash, PageId, get_u16};
-use coffee_header::is_zeros;
 use flash_range::read_range;
+use padded::is_zeros;
 
 // The bytes of a log's table: 30 numbers of two bytes.
 pub(crate) const TABLE: usize = 60;

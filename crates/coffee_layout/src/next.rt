@@ -1,12 +1,13 @@
 ghost use Rattle.std.specs.Prelude.{◌≡◌, ◌+◌, ◌*◌, ◌≤◌, ◌==◌, length, bit_and, IsTrue, IfOk};
 ghost use Rattle.std.specs.List.{list_all};
 ghost use Rattle.afl_base.specs.Causes.{HasCause};
-ghost use Rattle.coffee_header.specs.Headers.{is_zeros};
+ghost use Rattle.padded.specs.Zeros.{is_zeros};
 ghost use Rattle.coffee_layout.specs.Units.{unit_at, unit_of};
 
 use crate::unit::Unit;
 use afl_base::{Failed, Flash, PageId};
-use coffee_header::{is_zeros, read_header};
+use coffee_header::read_header;
+use padded::is_zeros;
 
 /// The unit that begins at `page`, None exactly where the page's first 32 bytes are no unit's. One
 /// read; the image stays.

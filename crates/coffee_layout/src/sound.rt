@@ -2,14 +2,14 @@ ghost use Rattle.std.specs.Prelude.{◌≡◌, ℕ, Bool, ◌+◌, ◌*◌, ◌�
 ghost use Rattle.afl_base.specs.Causes.{HasCause};
 ghost use Rattle.afl_base.specs.Image.{page_bytes};
 ghost use Rattle.coffee_layout.specs.Tiling.{broken_at, broken_suffix, broken_unit, nowhere};
-ghost use Rattle.coffee_header.specs.Headers.{is_zeros};
+ghost use Rattle.padded.specs.Zeros.{is_zeros};
 ghost use Rattle.coffee_layout.specs.Units.{is_free, unit_at};
 ghost use Rattle.coffee_layout.specs.Walks.{IsInside};
 
 use crate::next::next_unit;
 use crate::unit::Unit;
 use afl_base::{Failed, Flash, PageId};
-use coffee_header::is_zeros;
+use padded::is_zeros;
 
 /// The unit that begins at `page`, or the first of the rules 1 to 4 that is broken there: where
 /// `after_free` says that the unit before is a free page, and no extent may be under construction.

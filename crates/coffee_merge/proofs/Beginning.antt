@@ -7,7 +7,8 @@ use Rattle.afl_base.specs.Fields.{u16_bytes}
 use Rattle.afl_base.specs.Image.{or_at, page_bytes}
 use Rattle.afl_base.specs.Names.{is_file_name, is_name_byte}
 use Rattle.afl_base.proofs.Images.{byte_in_page, length_or_at, length_range, or_at_range, range_at}
-use Rattle.coffee_header.specs.Headers.{IsValid, header_bytes, is_zeros}
+use Rattle.coffee_header.specs.Headers.{IsValid, header_bytes}
+use Rattle.padded.specs.Zeros.{is_zeros}
 use Rattle.coffee_header.specs.declared.header.Header.{Header}
 use Rattle.coffee_header.proofs.HeaderLaws.{header_back}
 use Rattle.coffee_layout.specs.Marks.{IsLowestRun, free_pages}

@@ -5,7 +5,8 @@ use Rattle.std.proofs.lemmas.List.{length-take-le}
 use Rattle.std.proofs.lemmas.List.Folds.{list_all_at}
 use Rattle.afl_base.specs.Image.{or_at, or_front, page_bytes}
 use Rattle.afl_base.proofs.Images.{length_or_at, length_range, or_at_page}
-use Rattle.coffee_header.specs.Headers.{fields, header_of, is_flags, is_header, is_zeros}
+use Rattle.coffee_header.specs.Headers.{fields, header_of, is_flags, is_header}
+use Rattle.padded.specs.Zeros.{is_zeros}
 use Rattle.coffee_header.specs.declared.header.Header.{Header}
 use Rattle.coffee_header.proofs.HeaderLaws.{header_flags}
 use Rattle.coffee_layout.specs.Units.{unit_at, unit_of}

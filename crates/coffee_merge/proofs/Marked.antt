@@ -3,7 +3,8 @@ use Rattle.std.proofs.Common.{◌≡◌, ◌≢◌, ℕ, ◌+◌, ◌*◌, ◌/�
 use Rattle.std.proofs.lemmas.Bool.{cases_lt}
 use Rattle.afl_base.specs.Image.{page_bytes}
 use Rattle.afl_base.proofs.Images.{length_or_at, or_at_before, or_at_behind, or_at_other_page}
-use Rattle.coffee_header.specs.Headers.{is_flags, is_zeros}
+use Rattle.coffee_header.specs.Headers.{is_flags}
+use Rattle.padded.specs.Zeros.{is_zeros}
 use Rattle.coffee_header.specs.declared.header.Header.{Header}
 use Rattle.coffee_layout.specs.Tiling.{IsTiled, KeepRules, broken_suffix, broken_unit, units_of}
 use Rattle.coffee_layout.specs.Units.{pages_of, total, unit_at}

@@ -4,7 +4,8 @@ use Rattle.std.proofs.lemmas.List.{length-take-le}
 use Rattle.afl_base.specs.Fields.{put_at, u16_at, u16_bytes}
 use Rattle.afl_base.specs.Image.{or_at, or_front, page_bytes}
 use Rattle.afl_base.proofs.Images.{length_or_at, length_range, or_at_page, or_at_range}
-use Rattle.coffee_header.specs.Headers.{fields, header_of, is_flags, is_header, is_kind, is_name_field, is_zeros}
+use Rattle.coffee_header.specs.Headers.{fields, header_of, is_flags, is_header, is_kind, is_name_field}
+use Rattle.padded.specs.Zeros.{is_zeros}
 use Rattle.coffee_header.specs.declared.header.Header.{Header}
 use Rattle.coffee_layout.specs.Tiling.{IsTiled, KeepRules, broken_unit, units_of}
 use Rattle.coffee_layout.specs.Units.{pages_of, total, unit_at}

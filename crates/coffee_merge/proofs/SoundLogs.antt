@@ -8,7 +8,7 @@ use Rattle.std.proofs.lemmas.List.Sums.{prefix_len-le-length, prefix_len_is, pre
 use Rattle.afl_base.proofs.Images.{range_at}
 use Rattle.coffee_layout.specs.FileBytes.{number_in, records, table_of, used_in}
 use Rattle.coffee_layout.specs.Rules.{has_regions_inside, is_clear, is_front_filled, is_region_inside}
-use Rattle.coffee_header.specs.Headers.{is_zeros}
+use Rattle.padded.specs.Zeros.{is_zeros}
 use Rattle.coffee_layout.proofs.Tests.{both, eq_true, eq_false, false_eq, lt_true, true_eq, true_lt}
 use Rattle.coffee_log.specs.FileChanges.{BeginsBelow}
 use Rattle.coffee_log.specs.Logs.{IsLog}

@@ -10,7 +10,7 @@ use Rattle.coffee_layout.specs.FileBytes.{table_of, used_in}
 use Rattle.coffee_layout.specs.Files.{FitsIn, Placed, bytes_of, entry_of, extents, files_in, is_file, is_log, listed, log_of, logs_in, used_of}
 use Rattle.coffee_layout.specs.Rules.{broken_image, is_doubling, names_log}
 use Rattle.coffee_layout.specs.Tiling.{KeepRules, broken_suffix, broken_unit, nowhere, units_of}
-use Rattle.coffee_header.specs.Headers.{is_zeros}
+use Rattle.padded.specs.Zeros.{is_zeros}
 use Rattle.coffee_layout.specs.Units.{is_active_flags, pages_of}
 use Rattle.coffee_layout.specs.Walks.{has_few, is_its_log}
 use Rattle.coffee_layout.specs.declared.file.FileAt.{FileAt}

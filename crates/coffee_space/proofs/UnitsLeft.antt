@@ -8,7 +8,7 @@ use Rattle.std.proofs.lemmas.List.Folds.{list_all_at}
 use Rattle.afl_base.specs.Image.{or_at, page_bytes}
 use Rattle.afl_base.proofs.Images.{length_or_at, length_range, or_at_inside}
 use Rattle.coffee_layout.specs.Tiling.{IsTiled, KeepRules, broken_at, broken_suffix, broken_unit}
-use Rattle.coffee_header.specs.Headers.{is_zeros}
+use Rattle.padded.specs.Zeros.{is_zeros}
 use Rattle.coffee_layout.specs.Units.{is_free, pages_of, size_of, total, unit_at, unit_of}
 use Rattle.coffee_layout.specs.declared.unit.Unit.{Unit}
 use Rattle.coffee_layout.specs.declared.unit.Unit.TheVariants.{Free, Isolated, Extent}

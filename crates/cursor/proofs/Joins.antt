@@ -11,9 +11,8 @@ use Rattle.afl_base.specs.Files.{State, bytes_at}
 use Rattle.db_model.specs.declared.values.Value.{Value}
 use Rattle.db_model.specs.Answers.{live_tuples, same_value}
 use Rattle.db_model.specs.Cost.{sum}
-use Rattle.db_model.specs.Row.{Row}
+use Rattle.db_model.specs.Row.{Row, no_row}
 use Rattle.index_set.specs.declared.candidates.Candidates.{Candidates}
-use Rattle.index_set.specs.Complete.{no_row}
 use Rattle.index_set.specs.Tables.{Tables}
 use Rattle.index_set.specs.Walks.{Fits, ahead, cost_ahead}
 use Rattle.tuple_file.specs.Tuples.{row, rows, slots}

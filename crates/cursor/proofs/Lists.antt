@@ -3,8 +3,7 @@ use Rattle.std.proofs.Common.{◌≡◌, ℕ, zero, suc, ◌+◌, ◌≤◌, Boo
 use Rattle.std.specs.List.{range_with_len}
 use Rattle.db_model.specs.declared.values.Value.{Value}
 use Rattle.db_model.specs.Answers.{live_tuples}
-use Rattle.db_model.specs.Row.{Row}
-use Rattle.index_set.specs.Complete.{no_row}
+use Rattle.db_model.specs.Row.{Row, no_row}
 use Rattle.cursor.specs.Remaining.{is_live_and, passing, tuples_at}
 
 -- ---- one step of a filter

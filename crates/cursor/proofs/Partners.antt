@@ -19,7 +19,7 @@ use Rattle.db_model.specs.Answers.{same_value}
 use Rattle.db_model.specs.Cost.{begin_cost, bits, halvings, plan_cost, ranges_at}
 use Rattle.db_model.specs.Plan.{Plan, Nothing, Scan, ByOrder, ByTree, ByTable, Kinds, lies_in, range_at}
 use Rattle.db_model.specs.Ranges.{everything}
-use Rattle.db_model.specs.Row.{AllSuit, Row}
+use Rattle.db_model.specs.Row.{AllSuit, Row, no_row}
 use Rattle.db_model.specs.Step.{key_of}
 use Rattle.db_model.proofs.Rows.{both}
 use Rattle.index_set.specs.declared.candidates.Candidates.{Candidates}
@@ -27,7 +27,7 @@ use Rattle.index_set.specs.declared.candidates.Search.{Search}
 use Rattle.index_set.specs.declared.candidates.Search.TheVariants as by
 use Rattle.index_set.specs.declared.info.IndexInfo.{IndexInfo}
 use Rattle.index_maxheap.specs.declared.places.Place.{Place}
-use Rattle.index_set.specs.Complete.{key_in, no_row}
+use Rattle.index_set.specs.Complete.{key_in}
 use Rattle.index_set.specs.Plans.{is_passed, kinds, slots_passed}
 use Rattle.index_set.specs.Walks.{ahead, cost_ahead, reads_by, slots_in, takes}
 use Rattle.tuple_file.specs.declared.tuples.Tuples.{Tuples}

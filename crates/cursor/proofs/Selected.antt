@@ -15,11 +15,11 @@ use Rattle.db_model.specs.Cond.{Cond}
 use Rattle.db_model.specs.Item.{selects}
 use Rattle.db_model.specs.Plan.{lies_in, ranges_of}
 use Rattle.db_model.specs.Ranges.{range_of}
-use Rattle.db_model.specs.Row.{AllSuit, Row}
+use Rattle.db_model.specs.Row.{AllSuit, Row, no_row}
 use Rattle.db_model.specs.Step.{key_of}
 use Rattle.db_model.proofs.Rows.{both}
 use Rattle.index_set.specs.declared.info.IndexInfo.{IndexInfo}
-use Rattle.index_set.specs.Complete.{AreReadable, key_in, no_row}
+use Rattle.index_set.specs.Complete.{AreReadable, key_in}
 use Rattle.index_set.specs.Plans.{is_passed, kinds, slots_passed}
 use Rattle.lvm.specs.declared.instruction.Instruction.{Instruction}
 use Rattle.lvm.specs.Code.{IsCodeOf}

@@ -16,9 +16,8 @@ use Rattle.db_model.specs.declared.values.Value.{Value}
 use Rattle.db_model.specs.declared.values.Value.TheVariants.{Number, Text}
 use Rattle.db_model.specs.Names.{is_text, is_text_byte}
 use Rattle.db_model.specs.Ranges.{highest, lowest}
-use Rattle.db_model.specs.Row.{AllSuit, Row, field_bytes, field_of, fields_bytes, mark, row_at, row_bytes, row_length, row_of, rows_bytes, suits, text_or_empty, tuple_of, up_to_zero, width}
+use Rattle.db_model.specs.Row.{AllSuit, Row, field_bytes, field_of, fields_bytes, mark, no_row, row_at, row_bytes, row_length, row_of, rows_bytes, suits, text_or_empty, tuple_of, up_to_zero, width}
 use Rattle.db_model.proofs.Decoded.{tuple_suits}
-use Rattle.index_set.specs.Complete.{no_row}
 use Rattle.tuple_file.specs.declared.tuples.Tuples.{Tuples}
 use Rattle.tuple_file.specs.Column.{IsNumber, is_number}
 use Rattle.tuple_file.specs.Tuples.{HoldsRows, rows, slots}

@@ -6,8 +6,7 @@ use Rattle.std.proofs.lemmas.List.{ext_get_or, get_or-take, length-take-le}
 use Rattle.std.proofs.lemmas.List.Concat.{flat_map-cons}
 use Rattle.db_model.specs.declared.values.Value.{Value}
 use Rattle.db_model.specs.Answers.{live_tuples, same_value}
-use Rattle.db_model.specs.Row.{Row}
-use Rattle.index_set.specs.Complete.{no_row}
+use Rattle.db_model.specs.Row.{Row, no_row}
 use Rattle.index_set.specs.Walks.{RowsGrow, Waits, takes}
 use Rattle.index_set.proofs.Grown.{tests_same}
 use Rattle.cursor.specs.declared.join.JoinCursor.{JoinCursor}

@@ -4,9 +4,8 @@ use Rattle.std.proofs.lemmas.List.FromFn.{get_or-map-range_with_len}
 use Rattle.afl_base.specs.Files.{State}
 use Rattle.db_model.specs.declared.schemas.Attribute.{Attribute}
 use Rattle.db_model.specs.declared.values.Value.{Value}
-use Rattle.db_model.specs.Row.{Row, row_at, rows_of, slots_in}
+use Rattle.db_model.specs.Row.{Row, no_row, row_at, rows_of, slots_in}
 use Rattle.index_set.specs.declared.candidates.Candidates.{Candidates}
-use Rattle.index_set.specs.Complete.{no_row}
 use Rattle.index_set.specs.Tables.{Tables}
 use Rattle.index_set.specs.Walks.{Fits, ahead, cost_ahead, reads_ahead}
 use Rattle.cursor.specs.Remaining.{is_live_and, passing}

@@ -5,10 +5,10 @@ use Rattle.afl_base.specs.Files.{State}
 use Rattle.db_model.specs.declared.values.Value.{Value}
 use Rattle.db_model.specs.Answers.{live_tuples, pairs, same_value}
 use Rattle.db_model.specs.Cost.{chosen_cost, ranges_at, right_costs as costs_of_right}
-use Rattle.db_model.specs.Row.{Row}
+use Rattle.db_model.specs.Row.{Row, no_row}
 use Rattle.index_set.specs.declared.candidates.Candidates.{Candidates}
 use Rattle.index_set.specs.declared.info.IndexInfo.{IndexInfo}
-use Rattle.index_set.specs.Complete.{AreIndexesOf, AreReadable, no_row}
+use Rattle.index_set.specs.Complete.{AreIndexesOf, AreReadable}
 use Rattle.index_set.specs.Plans.{kinds}
 use Rattle.index_set.specs.Tables.{Tables}
 use Rattle.index_set.specs.Walks.{Fits, IsSafeBy, ahead, cost_ahead}

@@ -6,10 +6,9 @@ use Rattle.db_model.specs.declared.schemas.Attribute.{Attribute}
 use Rattle.db_model.specs.declared.values.Value.{Value}
 use Rattle.db_model.specs.Cond.{Cond}
 use Rattle.db_model.specs.Item.{selects}
-use Rattle.db_model.specs.Row.{Row}
+use Rattle.db_model.specs.Row.{Row, no_row}
 use Rattle.index_set.specs.declared.candidates.Candidates.{Candidates}
 use Rattle.index_set.specs.declared.info.IndexInfo.{IndexInfo}
-use Rattle.index_set.specs.Complete.{no_row}
 use Rattle.index_set.specs.Walks.{IsSafeBy, ahead}
 use Rattle.lvm.specs.declared.instruction.Instruction.{Instruction}
 use Rattle.lvm.specs.Evaluate.{evaluated, verdict}

@@ -4,8 +4,8 @@
 
 ghost use Rattle.std.specs.Prelude.{None, ◌≡◌, ◌+◌, ◌*◌, ◌<◌, ◌≤◌, ◌∷◌, [], false, true, IfOk, IfSome, IsTrue, MatchBool, MatchOption, OnErr, OnOk, List, get_or, length};
 ghost use Rattle.afl_base.specs.Causes.{HasCause};
-ghost use Rattle.db_model.specs.Row.{Row};
-ghost use Rattle.index_set.specs.Complete.{AreReadable, no_row};
+ghost use Rattle.db_model.specs.Row.{Row, no_row};
+ghost use Rattle.index_set.specs.Complete.{AreReadable};
 ghost use Rattle.tuple_file.specs.Tuples.{HoldsRows, rows, slots};
 ghost use Rattle.cursor.specs.Pairs.{FitsPairs, HasAnswered, MayReadPairs, at_next_left, behind_pair, join_cost_ahead, matching, pairs_left, right_costs};
 

@@ -4,8 +4,7 @@
 
 ghost use Rattle.std.specs.Prelude.{None, ◌≡◌, ◌+◌, ◌<◌, ◌≤◌, ◌∷◌, [], true, IfOk, IfSome, IsTrue, MatchOption, OnErr, OnOk, List, get_or, length};
 ghost use Rattle.afl_base.specs.Causes.{HasCause};
-ghost use Rattle.db_model.specs.Row.{AllSuit, Row};
-ghost use Rattle.index_set.specs.Complete.{no_row};
+ghost use Rattle.db_model.specs.Row.{AllSuit, Row, no_row};
 ghost use Rattle.index_set.specs.Walks.{Fits, Waits, ahead, cost_ahead};
 ghost use Rattle.tuple_file.specs.Tuples.{HoldsRows, row, rows, slots};
 ghost use Rattle.cursor.specs.Remaining.{MayRead, is_live_and, passing};

@@ -1,4 +1,4 @@
--- The hash tree of a list of keys: which pairs stand in which bucket, and how many buckets there are.
+-- The hash tree of a list of keys: which keys stand in which bucket, and how many buckets there are.
 use Rattle.std.specs.Prelude.{ℕ, ℤ, zero, suc, ◌+◌, ◌*◌, ◌/◌, ◌%◌, ◌==◌, Bool, List, [], ◌∷◌, length, drop, filter, bit_xor}
 use Rattle.std.specs.Int.{w32, cast_unsigned}
 
@@ -24,7 +24,7 @@ node key (suc level) = 4 * node key level + 1 + digit key level
 abbrev pub same_path : ℤ → ℤ → Bool
 same_path a b = node a 4 == node b 4
 
--- ---- pairs of a key and its slot, in slot order
+-- ---- keys in slot order
 
 -- a node's bucket holds the first 32 of what reaches it; the rest goes on to the child by its digit at this level
 abbrev pub onward : ℕ → ℕ → List ℤ → List ℤ

@@ -4,7 +4,7 @@ use Rattle.std.specs.Prelude.{◌&&◌, nat_le}
 use Rattle.std.specs.List.{filter}
 use Rattle.std.specs.Ordering.{int_eq}
 use Rattle.std.proofs.lemmas.Bool.Decides.{nat_tests}
-use Rattle.index_tree.specs.Keys.{HasNone, IsFirstOf, is_key_at}
+use Rattle.afl_base.specs.Keys.{HasNone, IsFirstOf, is_key_at}
 use Rattle.index_tree.specs.Pairs.{Pair, has_key}
 use Rattle.index_tree.specs.Places.{is_wanted}
 use Rattle.index_tree.specs.Trees.{numbered}

@@ -12,7 +12,7 @@ ghost use Rattle.index_tree.specs.Buckets.{IsFirstBucket, IsPairBytes};
 ghost use Rattle.index_maxheap.specs.Builds.{Builds, DraftsBucket, DraftsPair, HasZeros, IsSafeBuild, OnlyDraftChanges, with_pair};
 ghost use Rattle.index_tree.specs.Pairs.{Pair, keys_of, pairs_of};
 ghost use Rattle.index_tree.specs.Places.{Rises};
-ghost use Rattle.index_tree.specs.Keys.{first_keys};
+ghost use Rattle.afl_base.specs.Keys.{first_keys};
 ghost use Rattle.index_tree.specs.Trees.{IsTreeOf};
 ghost use Rattle.index_tree.specs.TreeFile.{bucket_place};
 

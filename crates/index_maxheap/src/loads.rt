@@ -7,7 +7,7 @@ ghost use Rattle.db_model.specs.HashTree.{buckets, node};
 ghost use Rattle.afl_base.specs.Causes.{HasCause};
 ghost use Rattle.afl_base.specs.KeyColumn.{HasField, IsWidth, key_of};
 ghost use Rattle.index_tree.specs.Loads.{Counts, IsLevel, Loads};
-ghost use Rattle.index_tree.specs.Keys.{first_keys};
+ghost use Rattle.afl_base.specs.Keys.{first_keys};
 
 use crate::path::node;
 use afl_base::{Failed, Files, KeyColumn, SlotNo};

@@ -7,7 +7,7 @@ ghost use Rattle.std.specs.Ordering.{int_eq};
 ghost use Rattle.afl_base.specs.Causes.{HasCause};
 ghost use Rattle.afl_base.specs.Files.{IsLive, bytes_at, size_at};
 ghost use Rattle.db_model.specs.Cost.{keys_beside};
-ghost use Rattle.index_tree.specs.Keys.{HasNone, IsFirstOf};
+ghost use Rattle.afl_base.specs.Keys.{HasNone, IsFirstOf};
 ghost use Rattle.index_tree.specs.Pairs.{Pair};
 ghost use Rattle.index_tree.specs.TreeFile.{Holds, bucket_place, key_at, number_of, slot_at};
 ghost use Rattle.index_tree.specs.Trees.{IsTreeOf};

@@ -9,7 +9,7 @@ ghost use Rattle.afl_base.specs.Fields.{i32_at, u16_at};
 ghost use Rattle.afl_base.specs.Files.{IsLive, bytes_at, size_at};
 ghost use Rattle.afl_base.specs.KeyColumn.{HasField, IsWidth, key_of};
 ghost use Rattle.index_tree.specs.Pairs.{Pair, pairs_of};
-ghost use Rattle.index_tree.specs.Keys.{first_keys};
+ghost use Rattle.afl_base.specs.Keys.{first_keys};
 ghost use Rattle.index_tree.specs.Trees.{IsTreeOf};
 ghost use Rattle.index_tree.specs.TreeFile.{bucket_place, key_at, slot_at};
 ghost use Rattle.index_maxheap.specs.Verify.{AreHeads, Goes, IsDone, Opens, Verifies};

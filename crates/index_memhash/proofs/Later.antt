@@ -4,7 +4,7 @@ use Rattle.std.proofs.Math.Logic.{⊎_elim}
 use Rattle.std.proofs.lemmas.Bool.{cases_lt}
 use Rattle.std.specs.Ordering.{int_eq}
 use Rattle.std.proofs.Math.ListN.{get_or-append}
-use Rattle.index_memhash.specs.Keys.{HasNone, IsFirstOf, is_key_at}
+use Rattle.afl_base.specs.Keys.{HasNone, IsFirstOf, is_key_at}
 
 same_at : (key : ℤ) (keys more : List ℤ) (i : ℕ) → i < length keys → is_key_at key (keys ++ more) i ≡ is_key_at key keys i
 same_at key keys more i h = ap (λ (k : ℤ). int_eq k key) (get_or-append keys more (pos 0) i h)

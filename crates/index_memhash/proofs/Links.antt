@@ -9,7 +9,7 @@ use Rattle.std.proofs.Math.ListN.{get_or-append}
 use Rattle.std.specs.Prelude.{◌&&◌, nat_le}
 use Rattle.std.specs.Ordering.{int_eq}
 use Rattle.index_memhash.specs.Chains.{IsChained, IsTable, chain_at, entry_from, first_from, hash}
-use Rattle.index_memhash.specs.Keys.{is_key_at, key_in}
+use Rattle.afl_base.specs.Keys.{is_key_at, key_in}
 
 pub hash_small : (key : ℤ) → hash key < 512
 unfolding hash

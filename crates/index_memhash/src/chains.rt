@@ -1,6 +1,6 @@
 ghost use Rattle.std.specs.Prelude.{◌≡◌, ◌+◌, ◌*◌, ◌-◌, ◌<◌, ◌≤◌, ◌≢◌, ℕ, MatchOption, get_or, take, length, true, false, nat_le, ◌&&◌};
 ghost use Rattle.index_memhash.specs.Chains.{IsChained, chain_at, hash};
-ghost use Rattle.index_memhash.specs.Keys.{HasNone, IsFirstOf, is_key_at, key_in};
+ghost use Rattle.afl_base.specs.Keys.{HasNone, IsFirstOf, is_key_at, key_in};
 
 use afl_base::SlotNo;
 

@@ -3,7 +3,7 @@
 #![tactic(auto)]
 
 ghost use Rattle.std.specs.Prelude.{ℤ, ℕ, ◌≡◌, ◌≤◌, ◌++◌, List, length};
-ghost use Rattle.index_memhash.specs.Keys.{HasNone, IsFirstOf};
+ghost use Rattle.afl_base.specs.Keys.{HasNone, IsFirstOf};
 
 /// A place stays good through later inserts: what it led to it leads to still, and where it led to
 /// nothing it leads to what was put in later.

@@ -1,5 +1,5 @@
 ghost use Rattle.std.specs.Prelude.{◌++◌, ◌∷◌, ◌≡◌, ◌+◌, ◌<◌, ◌≤◌, [], ℕ, MatchOption, length, nat_eq, ◌==◌};
-ghost use Rattle.index_memhash.specs.Keys.{HasNone, IsFirstOf};
+ghost use Rattle.afl_base.specs.Keys.{HasNone, IsFirstOf};
 
 use crate::chains::{END, chain_of, empty, find};
 use afl_base::SlotNo;

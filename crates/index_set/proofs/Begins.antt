@@ -12,7 +12,7 @@ use Rattle.db_model.specs.declared.schemas.Range.TheVariants.{Empty, Between}
 use Rattle.db_model.specs.Cost.{begin_cost, chosen_cost, keys_beside, keys_equal, keys_in, plan_cost}
 use Rattle.db_model.specs.Plan as model
 use Rattle.db_model.specs.Plan.{ByOrder, ByTable, ByTree, Nothing, Scan, lies_in, passes, place_at, plan, range_at}
-use Rattle.db_model.specs.Row.{Row}
+use Rattle.db_model.specs.Row.{Row, no_row}
 use Rattle.db_model.specs.Step.{first_fall, keys}
 use Rattle.index_inline.specs.Keys.{keys_of}
 use Rattle.index_inline.specs.Span.{IsSpan, is_above, is_below}
@@ -24,7 +24,7 @@ use Rattle.index_set.specs.declared.info.Access.{Access}
 use Rattle.index_set.specs.declared.info.Access.TheVariants.{Order, Tree, Table as InTable}
 use Rattle.index_set.specs.declared.info.IndexInfo.{IndexInfo}
 use Rattle.index_set.specs.declared.info.TableId.{TableId}
-use Rattle.index_set.specs.Complete.{AreIndexesOf, AreReadable, HasKeys, HasTree, IsComplete, IsIndexOf, IsReadable, key_in, no_row}
+use Rattle.index_set.specs.Complete.{AreIndexesOf, AreReadable, HasKeys, HasTree, IsComplete, IsIndexOf, IsReadable, key_in}
 use Rattle.index_set.specs.Plans.{kinds, slots_passed}
 use Rattle.index_set.specs.Tables.{Tables}
 use Rattle.index_set.specs.Walks.{Fits, IsChosen, KnowsRows, Waits, ahead, cost_ahead, reads_by, slots_in, takes}

@@ -5,11 +5,11 @@ use Rattle.std.proofs.lemmas.List.{ext_get_or, get_or-take, length-take-le, take
 use Rattle.std.proofs.lemmas.List.FromFn.{get_or-map-range_with_len, length-map-range_with_len}
 use Rattle.afl_base.specs.Files.{State}
 use Rattle.afl_base.specs.KeyColumn.{key_of}
-use Rattle.db_model.specs.Row.{Row}
+use Rattle.db_model.specs.Row.{Row, no_row}
 use Rattle.db_model.specs.Step.{first_fall, keys}
 use Rattle.index_inline.specs.Keys.{keys_of}
 use Rattle.index_set.specs.declared.info.IndexInfo.{IndexInfo}
-use Rattle.index_set.specs.Complete.{HasKeys, key_in, no_row}
+use Rattle.index_set.specs.Complete.{HasKeys, key_in}
 
 key_at_slot : (attribute : ℕ) (all : List Row) (slot : ℕ) → get_or (keys attribute all) slot (pos 0) ≡ key_in attribute (get_or all slot no_row)
 key_at_slot attribute [] slot = refl

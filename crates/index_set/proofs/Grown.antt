@@ -4,7 +4,7 @@ use Rattle.std.proofs.lemmas.List.{ext_get_or, get_or-take, length-take-le, take
 use Rattle.std.specs.List.{range_with_len}
 use Rattle.afl_base.specs.Files.{State, bytes_at}
 use Rattle.db_model.specs.Plan.{lies_in}
-use Rattle.db_model.specs.Row.{Row}
+use Rattle.db_model.specs.Row.{Row, no_row}
 use Rattle.db_model.specs.Step.{keys}
 use Rattle.index_maxheap.specs.declared.places.Place.{Place}
 use Rattle.index_maxheap.specs.Searches.{IsPlaceOf}
@@ -16,7 +16,7 @@ use Rattle.index_set.specs.declared.info.Access.{Access}
 use Rattle.index_set.specs.declared.info.Access.TheVariants.{Tree, Table as InTable}
 use Rattle.index_set.specs.declared.info.IndexInfo.{IndexInfo}
 use Rattle.index_set.specs.declared.info.TableId.{TableId}
-use Rattle.index_set.specs.Complete.{AreComplete, IsComplete, key_in, no_row}
+use Rattle.index_set.specs.Complete.{AreComplete, IsComplete, key_in}
 use Rattle.index_set.specs.Inserts.{AllKeepBuckets, KeepsBuckets, SomeOf}
 use Rattle.index_set.specs.Tables.{Tables, entries}
 use Rattle.index_tree.specs.Places.{KeepsNumbers}

@@ -7,17 +7,16 @@ use Rattle.afl_base.specs.declared.failed.Failed.{Failed}
 use Rattle.afl_base.specs.Files.{State}
 use Rattle.db_model.specs.declared.schemas.Range.{Range}
 use Rattle.db_model.specs.Cost.{keys_beside}
-use Rattle.db_model.specs.Row.{Row}
+use Rattle.db_model.specs.Row.{Row, no_row}
 use Rattle.db_model.specs.Step.{keys}
 use Rattle.index_set.specs.declared.candidates.Candidates.{Candidates}
 use Rattle.index_set.specs.declared.candidates.Search.{Search}
 use Rattle.index_set.specs.declared.candidates.Search.TheVariants as by
 use Rattle.index_set.specs.declared.info.TableId.{TableId}
-use Rattle.index_set.specs.Complete.{key_in, no_row}
+use Rattle.index_set.specs.Complete.{key_in}
 use Rattle.index_set.specs.Tables.{Tables, entries}
 use Rattle.index_maxheap.specs.Searches.{walk_left}
-use Rattle.index_tree.specs.Keys.{IsFirstOf}
-use Rattle.index_memhash.specs.Keys as table
+use Rattle.afl_base.specs.Keys.{IsFirstOf}
 use Rattle.index_set.specs.Walks.{Fits, LacksKey, HasIndex, HasPlace, IsMoved, IsMovedBy, KnowsRows, Waits, ahead, reads_ahead, reads_by, slots_in, takes}
 use Rattle.index_set.proofs.Seeks.{key_of_slot}
 use Rattle.index_set.proofs.Slots.{between_first, between_none}
@@ -306,7 +305,3 @@ order_known c attribute range is rows w =
 
 pub scan_known : (c : Candidates) → c.search ≡ by.Scan → (rows : List Row) → Waits c rows → (c.slots ≤ c.slots) × ((from : ℕ) → c.from ≤ from → KnowsRows c.search rows from c.slots c.slots)
 scan_known c is rows w = (omega arith, λ from h. subst (λ (s : Search). KnowsRows s rows from c.slots c.slots) (sym is) tt)
-
--- a first slot in the words of a table
-pub first_same : (key : ℤ) (keys : List ℤ) (from slot : ℕ) → table.IsFirstOf key keys from slot → IsFirstOf key keys from slot
-first_same key keys from slot f = record { order = f.order; within = f.within; here = f.here; before = f.before }

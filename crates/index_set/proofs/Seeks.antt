@@ -4,13 +4,13 @@ use Rattle.std.specs.Prelude.{min}
 use Rattle.std.specs.Ordering.{int_eq}
 use Rattle.db_model.specs.Cost.{keys_beside}
 use Rattle.db_model.specs.HashTree.{same_path}
-use Rattle.db_model.specs.Row.{Row}
+use Rattle.db_model.specs.Row.{Row, no_row}
 use Rattle.db_model.specs.Step.{keys}
-use Rattle.index_tree.specs.Keys.{is_key_at}
+use Rattle.afl_base.specs.Keys.{is_key_at}
 use Rattle.index_tree.specs.Trees.{IsTreeOf}
 use Rattle.index_tree.proofs.Numbered.{numbered_length}
 use Rattle.index_tree.proofs.Reach.{filter_shorter}
-use Rattle.index_set.specs.Complete.{key_in, no_row}
+use Rattle.index_set.specs.Complete.{key_in}
 use Rattle.index_maxheap.specs.Searches.{walk_left}
 
 -- a walk that is over reads nothing more

@@ -4,7 +4,7 @@ use Rattle.std.specs.List.{AllByRecursion}
 use Rattle.afl_base.specs.declared.kind.Kind.TheVariants.{Doubling}
 use Rattle.afl_base.specs.Files.{State, IsLive, bytes_at, file_at}
 use Rattle.afl_base.specs.KeyColumn.{HasField, IsWidth, key_of}
-use Rattle.db_model.specs.Row.{Row}
+use Rattle.db_model.specs.Row.{Row, no_row}
 use Rattle.db_model.specs.Step.{key_of as key_of_value, keys, first_fall}
 use Rattle.index_set.specs.declared.info.Access.{Access}
 use Rattle.index_set.specs.declared.info.Access.TheVariants.{Order, Tree, Table}
@@ -23,9 +23,6 @@ IsComplete state tables (Table number) keys = entries tables number ≡ keys
 -- the key of a row at an attribute's place
 abbrev pub key_in : ℕ → Row → ℤ
 key_in place row = key_of_value (slice_get row.tuple place)
-
-abbrev pub no_row : Row
-no_row = record { tuple = []; live = false }
 
 -- the column has the keys of these rows
 abbrev pub HasKeys : State → List Row → IndexInfo → Type 0

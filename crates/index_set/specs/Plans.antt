@@ -6,13 +6,13 @@ use Rattle.db_model.specs.declared.schemas.IndexKind.TheVariants.{Inline, MaxHea
 use Rattle.db_model.specs.declared.schemas.Range.{Range}
 use Rattle.db_model.specs.Plan.{Kinds, Nothing, Scan, ByOrder, ByTree, ByTable, by_order, by_table, by_tree, passes, plan}
 use Rattle.db_model.specs.Plan as model
-use Rattle.db_model.specs.Row.{Row}
+use Rattle.db_model.specs.Row.{Row, no_row}
 use Rattle.index_set.specs.declared.choices.Plan.{Plan}
 use Rattle.index_set.specs.declared.choices.Plan.TheVariants as chosen
 use Rattle.index_set.specs.declared.info.Access.{Access}
 use Rattle.index_set.specs.declared.info.Access.TheVariants.{Order, Tree, Table}
 use Rattle.index_set.specs.declared.info.IndexInfo.{IndexInfo}
-use Rattle.index_set.specs.Complete.{key_in, no_row}
+use Rattle.index_set.specs.Complete.{key_in}
 
 abbrev pub kind_of : Access → IndexKind
 kind_of Order = Inline

@@ -5,7 +5,7 @@ use Rattle.std.specs.Ordering.{int_eq}
 use Rattle.afl_base.specs.Files.{State, IsLive, bytes_at}
 use Rattle.db_model.specs.Cost.{keys_beside}
 use Rattle.db_model.specs.Plan.{lies_in}
-use Rattle.db_model.specs.Row.{Row}
+use Rattle.db_model.specs.Row.{Row, no_row}
 use Rattle.db_model.specs.Step.{keys}
 use Rattle.index_set.specs.declared.candidates.Candidates.{Candidates}
 use Rattle.index_set.specs.declared.candidates.Search.{Search}
@@ -13,11 +13,11 @@ use Rattle.index_set.specs.declared.candidates.Search.TheVariants as by
 use Rattle.index_set.specs.declared.info.Access.TheVariants.{Tree, Table}
 use Rattle.index_set.specs.declared.info.IndexInfo.{IndexInfo}
 use Rattle.index_maxheap.specs.declared.places.Place.{Place}
-use Rattle.index_set.specs.Complete.{key_in, no_row}
+use Rattle.index_set.specs.Complete.{key_in}
 use Rattle.index_set.specs.Inserts.{SomeOf}
 use Rattle.index_set.specs.Tables.{Tables, entries}
 use Rattle.index_maxheap.specs.Searches.{IsPlaceOf, walk_left}
-use Rattle.index_tree.specs.Keys.{is_key_at}
+use Rattle.afl_base.specs.Keys.{is_key_at}
 use Rattle.index_tree.specs.Places.{KeepsNumbers}
 use Rattle.index_tree.specs.Trees.{IsTreeOf}
 

@@ -12,7 +12,7 @@ ghost use Rattle.index_set.specs.Complete.{AreIndexesOf, AreReadable};
 ghost use Rattle.index_set.specs.Plans.{kinds, slots_passed};
 ghost use Rattle.index_set.specs.Tables.{Tables, entries};
 ghost use Rattle.index_maxheap.specs.Searches.{walk_left};
-ghost use Rattle.index_tree.specs.Keys.{IsFirstOf};
+ghost use Rattle.afl_base.specs.Keys.{IsFirstOf};
 ghost use Rattle.index_set.specs.Walks.{Fits, HasPlace, IsChosen, IsMoved, IsMovedBy, IsSafeBy, LacksKey, Waits, ahead, cost_ahead, reads_ahead, slots_in};
 
 use crate::choices::{Plan, choose, range_of};

@@ -4,6 +4,7 @@
 
 ghost use Rattle.std.specs.Prelude.{◌≡◌, ◌≢◌, ◌+◌, ◌<◌, ◌≤◌, ◌++◌, ◌∷◌, [], ℤ, pos, negsuc, List, None, IsTrue, OnOk, IfOk, length, slice_get};
 ghost use Rattle.afl_base.specs.declared.kind.Kind.TheVariants as Kind;
+ghost use Rattle.afl_base.specs.Asked.{asks_few};
 ghost use Rattle.afl_base.specs.Causes.{HasCause};
 ghost use Rattle.afl_base.specs.FileErrors.{HasFileCause, OnSpace, UnlessFailed};
 ghost use Rattle.afl_base.specs.Files.{IsLive, bytes_at, file_at};
@@ -41,7 +42,8 @@ pub fn prepare_all<V: Files>(
     ensures exact { IsTrue (V.state files.old).tells → IfOk result (λ rooms.
         AreRoomFor (V.state files.old) tuple.now rooms indexes.now) }
     ensures asked { IsTrue (V.state files.old).tells → OnSpace result (λ need.
-        OneAsksFor (V.asks files.new) (V.state files.new) tuple.now need indexes.now) }
+        OneAsksFor (asks_few (V.asks files.new) (V.state files.new).files) (V.state files.new) tuple.now need
+        indexes.now) }
     ensures lacks { OnSpace result (λ need. V.lacks files.new need) }
     ensures reads_later { V.reads files.old ≤ V.reads files.new }
     ensures store { length (V.state files.new).store ≡ length (V.state files.old).store }
@@ -91,7 +93,8 @@ fn prepare_one<V: Files>(files: &mut V, access: Access, key: &i32) -> Result<Roo
     ensures contents { UnlessFailed result (Prepares (V.state files.old) (V.state files.new) (λ id. IsApart id access)) }
     ensures room { IfOk result (λ room. HasRoom (V.state files.new) room access) }
     ensures exact { IsTrue (V.state files.old).tells → IfOk result (λ room. IsRoomFor (V.state files.old) key.now room access) }
-    ensures asked { IsTrue (V.state files.old).tells → OnSpace result (λ need. AsksFor (V.asks files.new) (V.state files.new) key.now need access) }
+    ensures asked { IsTrue (V.state files.old).tells → OnSpace result (λ need.
+        AsksFor (asks_few (V.asks files.new) (V.state files.new).files) (V.state files.new) key.now need access) }
     ensures lacks { OnSpace result (λ need. V.lacks files.new need) }
     ensures reads_later { V.reads files.old ≤ V.reads files.new }
     ensures store { length (V.state files.new).store ≡ length (V.state files.old).store }
@@ -105,7 +108,7 @@ fn prepare_one<V: Files>(files: &mut V, access: Access, key: &i32) -> Result<Roo
 }
 
 // Makes room in a tree for a key. Where the file is no tree, nothing is needed.
-#[tactic(auto, using(afl_base::proofs::FrameLaws::keeps_prepares, afl_base::proofs::FrameLaws::prepares_same, crate::proofs::Lists::room_made, crate::proofs::Lists::nothing_needed))]
+#[tactic(auto, using(afl_base::proofs::AskedLaws::asked_few, afl_base::proofs::FrameLaws::keeps_prepares, afl_base::proofs::FrameLaws::prepares_same, crate::proofs::Lists::room_made, crate::proofs::Lists::nothing_needed))]
 fn prepare_tree<V: Files>(files: &mut V, file: FileId, key: &i32) -> Result<Room, FileError>
     requires idle { (V.state files.old).draft ≡ None }
     requires live { IsLive (V.state files.old).files file }
@@ -116,7 +119,8 @@ fn prepare_tree<V: Files>(files: &mut V, file: FileId, key: &i32) -> Result<Room
         → (keys : List ℤ) → IsTreeOf bytes keys → IfOk result (λ room. room ≡ room_of bytes key.now) }
     ensures asked { let bytes = bytes_at (V.state files.old).files file in IsTrue (V.state files.old).tells
         → (keys : List ℤ) → IsTreeOf bytes keys → OnSpace result (λ need.
-        V.asks files.new file ((room_of bytes key.now).overwrites) ((room_of bytes key.now).bytes) need) }
+        asks_few (V.asks files.new) (V.state files.new).files file
+        ((room_of bytes key.now).overwrites) ((room_of bytes key.now).bytes) need) }
     ensures lacks { OnSpace result (λ need. V.lacks files.new need) }
     ensures reads_later { V.reads files.old ≤ V.reads files.new }
     ensures store { length (V.state files.new).store ≡ length (V.state files.old).store }

@@ -8,7 +8,7 @@ ghost use Rattle.afl_base.specs.Causes.{HasCause};
 ghost use Rattle.afl_base.specs.KeyColumn.{HasField, IsWidth, key_of};
 ghost use Rattle.index_set.specs.declared.info.TableId.{TableId as AnyTable};
 ghost use Rattle.index_set.specs.Tables.{entries};
-ghost use Rattle.index_tree.specs.Keys.{HasNone, IsFirstOf};
+ghost use Rattle.afl_base.specs.Keys.{HasNone, IsFirstOf};
 
 use crate::info::TableId;
 use afl_base::{Failed, Files, KeyColumn, SlotNo};
@@ -89,7 +89,6 @@ impl HashTables {
     }
 
     // The first slot of the key, from one on.
-    #[tactic(auto, using(crate::proofs::Nexts::first_same))]
     pub(crate) fn next(&self, table: TableId, key: &i32, from: u16) -> Option<SlotNo>
         ensures { MatchOption result (HasNone key.now (entries self.now table) from) (λ slot. IsFirstOf key.now (entries self.now table) from slot) }
     {

@@ -6,7 +6,7 @@ use Rattle.db_model.specs.HashTree.{buckets}
 use Rattle.index_tree.specs.Pairs.{keys_of, pair_of, pairs_of}
 use Rattle.index_tree.specs.Rules.{MeetsRules, bucket_count}
 use Rattle.index_tree.specs.TreeFile.{IsTree, bucket_place}
-use Rattle.index_tree.specs.Keys.{first_keys, key_in}
+use Rattle.afl_base.specs.Keys.{first_keys, key_in}
 use Rattle.index_tree.specs.Trees.{IsTreeOf}
 use Rattle.index_tree.proofs.Converse.{tree_rules}
 use Rattle.index_tree.proofs.Counted.{buckets_few}

@@ -1,7 +1,7 @@
 -- The pairs of a list of keys.
 use Rattle.std.proofs.Common.{◌≡◌, ◌<◌, ◌+◌, ℕ, ℤ, zero, suc, List, [], ◌∷◌, ◌++◌, length, map, refl, arith, ap, ◌∙◌, sym, subst}
 use Rattle.std.specs.List.{range_with_len}
-use Rattle.index_tree.specs.Keys.{first_keys, key_in}
+use Rattle.afl_base.specs.Keys.{first_keys, key_in}
 use Rattle.index_tree.specs.Pairs.{Pair, keys_of, pair_of, pairs_of}
 use Rattle.index_tree.specs.Places.{Above, Rises}
 use Rattle.index_tree.specs.Trees.{IsTreeOf, numbered}

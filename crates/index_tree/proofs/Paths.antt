@@ -6,7 +6,7 @@ use Rattle.std.specs.Ordering.{int_eq}
 use Rattle.std.proofs.lemmas.List.{append-nil, take-append-drop}
 use Rattle.std.proofs.lemmas.List.Elements.{filter-append}
 use Rattle.index_tree.specs.Ends.{filled_of}
-use Rattle.index_tree.specs.Keys.{is_key_at}
+use Rattle.afl_base.specs.Keys.{is_key_at}
 use Rattle.index_tree.specs.Pairs.{Pair, goes, has_key, no_pair, reach, slots_of}
 use Rattle.index_tree.specs.Trees.{IsTreeOf, numbered, pair_in, pairs_along, pairs_in}
 use Rattle.index_tree.specs.TreeFile.{IsBucket, IsTree, number_of, place_of, slot_at}

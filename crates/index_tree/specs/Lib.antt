@@ -1,5 +1,4 @@
 pub mod Pairs
-pub mod Keys
 pub mod TreeFile
 pub mod Trees
 pub mod Places

@@ -5,7 +5,7 @@
 ghost use Rattle.std.specs.Prelude.{◌≡◌, ◌≤◌, ◌-◌, ℕ, ℤ, List, filter, length, slice_index};
 ghost use Rattle.std.specs.List.{range_with_len};
 ghost use Rattle.db_model.specs.HashTree.{buckets};
-ghost use Rattle.index_tree.specs.Keys.{first_keys, is_key_at, key_in};
+ghost use Rattle.afl_base.specs.Keys.{first_keys, is_key_at, key_in};
 ghost use Rattle.index_tree.specs.Pairs.{has_key, slots_of};
 ghost use Rattle.index_tree.specs.Rules.{MeetsRules, bucket_count};
 ghost use Rattle.index_tree.specs.TreeFile.{bucket_place};

@@ -2,5 +2,7 @@
 #![tactic(auto)]
 
 mod array;
+mod zeros;
 
 pub use array::padded_to;
+pub use zeros::is_zeros;

@@ -3,13 +3,13 @@
 #![tactic(auto)]
 
 ghost use Rattle.std.specs.Prelude.{◌≡◌, ◌+◌, ◌≤◌, ◌==◌, IsTrue, drop, length, replicate};
-ghost use Rattle.std.specs.List.{list_all};
 ghost use Rattle.afl_base.specs.Fields.{put_at};
 ghost use Rattle.padded.specs.Padded.{padded};
 ghost use Rattle.db_model.specs.Row.{field_bytes, field_of, suits, text_or_empty, time_or_least, up_to_zero, width};
 
 use afl_base::{get_i32, get_i64, get_u16, put_bytes, put_i32, put_i64, put_u16};
 use db_model::{Domain, Text, Value, up_to_zero};
+use padded::is_zeros;
 
 // The field that `bytes` begin with, the least value of its domain where they are none.
 #[tactic(auto, unfolding(afl_base::specs::Fields::u16_at, afl_base::specs::Fields::i32_at, afl_base::specs::Fields::i64_at))]
@@ -41,19 +41,13 @@ fn text_or_empty(field: &[u8]) -> Text
     ensures { result ≡ text_or_empty field.now }
 {
     let front = up_to_zero(field);
-    if !are_zeros(&field[front.len()..]) {
+    if !is_zeros(&field[front.len()..]) {
         return Text::default();
     }
     match Text::new(front) {
         Some(text) => text,
         None => Text::default(),
     }
-}
-
-fn are_zeros(bytes: &[u8]) -> bool
-    ensures { result ≡ list_all (λ b. b == 0) bytes.now }
-{
-    bytes.iter().all(|byte| *byte == 0)
 }
 
 // Puts the field of the value into the bytes from `at` on. All other bytes stay.

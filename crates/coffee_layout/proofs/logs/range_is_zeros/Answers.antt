@@ -1,7 +1,7 @@
 use Rattle.std.proofs.Common.{◌≡◌, ◌+◌, ◌-◌, ◌%◌, slice_range, arith, rules, sym, ap, ◌∙◌, true, false}
 use Rattle.flash_range.specs.Range.{pages_touched}
 use Rattle.flash_range.proofs.Ranges.{touched_more}
-use Rattle.coffee_header.specs.Headers.{is_zeros}
+use Rattle.padded.specs.Zeros.{is_zeros}
 use Rattle.coffee_layout.proofs.Zeros.{zeros_more, zeros_stop}
 use Rattle.coffee_layout.proofs.logs.range_is_zeros.Goals as goal
 

@@ -1,5 +1,5 @@
 use Rattle.std.proofs.Common.{◌≡◌, ◌+◌, ◌-◌, ◌%◌, ◌≤◌, ◌<◌, min, max, length, slice_range, IsTrue}
-use Rattle.coffee_header.specs.Headers.{is_zeros}
+use Rattle.padded.specs.Zeros.{is_zeros}
 use Rattle.flash_range.specs.Range.{pages_touched}
 use Rattle.coffee_layout.proofs.logs.range_is_zeros.Given as goal
 

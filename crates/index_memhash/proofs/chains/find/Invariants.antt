@@ -1,6 +1,6 @@
 use Rattle.std.proofs.Common.{◌≡◌, ◌≤◌, ◌<◌, ◌-◌, ℕ, true, take}
 use Rattle.index_memhash.specs.Chains.{hash}
-use Rattle.index_memhash.specs.Keys.{is_key_at, key_in}
+use Rattle.afl_base.specs.Keys.{is_key_at, key_in}
 use Rattle.index_memhash.proofs.chains.find.Given as goal
 
 abbrev pub invariant-chain : goal.invariant-chain

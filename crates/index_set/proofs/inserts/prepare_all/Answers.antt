@@ -2,6 +2,7 @@ use Rattle.std.proofs.Common.{rules, ◌≡◌, ◌∙◌, ◌<◌, length, List
 use Rattle.std.specs.Prelude.{FitsSigned, slice_get}
 use Rattle.std.specs.Int.{w32}
 use Rattle.std.proofs.lemmas.Int.{to_z-of_z}
+use Rattle.afl_base.specs.Asked.{asks_few}
 use Rattle.db_model.specs.Step.{key_of}
 use Rattle.index_maxheap.specs.declared.rooms.Room.{Room}
 use Rattle.index_set.specs.Inserts.{AsksFor, HasKeyFor, SomeOf}
@@ -26,8 +27,8 @@ returns-in-Err-clause-asked g c = λ told.
     let e : y ≡ get_or xs n y = c.get-info.ensures in
     let fits : FitsSigned w32 c.key_in-key.result = search rules in
     let has = here_of xs n y below e (λ info. HasKeyFor (slice_get c.args.tuple.now info.attribute) info.access) c.requires.keys in
-    let asks = g.V.Files.asks c.prepare_one.new.files in
     let now = g.V.Files.state c.prepare_one.new.files in
+    let asks = asks_few (g.V.Files.asks c.prepare_one.new.files) now.files in
     on_space Room (List Room) c.in-Err.error (λ need. AsksFor asks now c.key_in-key.result need y.access) (λ need. SomeOf (λ info. AsksFor asks now (key_of (slice_get c.args.tuple.now info.attribute)) need info.access) xs)
     (λ need asked. some_of xs n y below e (λ info. AsksFor asks now (key_of (slice_get c.args.tuple.now info.attribute)) need info.access)
     (asks_key asks (slice_get c.args.tuple.now y.attribute) c.key_in-key.result now need y.access has c.key_in-key.ensures asked))

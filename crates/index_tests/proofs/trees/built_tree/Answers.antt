@@ -2,7 +2,7 @@ use Rattle.std.proofs.Common.{◌∙◌, ℕ, ap, sym}
 use Rattle.afl_base.specs.Files.{Table, bytes_at}
 use Rattle.afl_base.specs.KeyColumn.{key_place, number_at}
 use Rattle.db_model.specs.HashTree.{buckets}
-use Rattle.index_tree.specs.Keys.{first_keys}
+use Rattle.afl_base.specs.Keys.{first_keys}
 use Rattle.index_tests.proofs.trees.built_tree.Goals as goal
 
 pub build-requires-clause-count : goal.build-requires-clause-count
