@@ -3,6 +3,7 @@ pub mod Changes
 pub mod Choices
 pub mod Decoding
 pub mod Firsts
+pub mod Forming
 pub mod Loading
 pub mod Named
 pub mod Puts

@@ -1,4 +1,5 @@
 pub mod CatalogFile
 pub mod Catalogs
 pub mod Copies
+pub mod Formed
 pub mod Rules

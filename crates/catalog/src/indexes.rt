@@ -1,10 +1,11 @@
-ghost use Rattle.std.specs.Prelude.{◌≡◌, ◌<◌, ◌≤◌, ◌+◌, ◌*◌, Some, None, IfErr, IfNone, IfOk, IfSome, IsFalse, IsTrue, OnOk, get_or, length, option_map, slice_range};
+ghost use Rattle.std.specs.Prelude.{◌≡◌, ◌<◌, ◌≤◌, ◌+◌, ◌*◌, Some, None, IfErr, IfNone, IfOk, IfSome, IsFalse, IsTrue, OnOk, get_or, length, option_map, slice_range, true};
 ghost use Rattle.std.specs.List.{list_any, slice_get};
 ghost use Rattle.afl_base.specs.Causes.{HasCause};
 ghost use Rattle.afl_base.specs.Files.{IsLive, bytes_at};
 ghost use Rattle.db_model.specs.Catalog.{catalog_of, index_slot_of};
 ghost use Rattle.db_model.specs.Step.{allows};
 ghost use Rattle.catalog.specs.CatalogFile.{index_in, indexes_in};
+ghost use Rattle.catalog.specs.Formed.{AreBehind};
 ghost use Rattle.catalog.specs.Rules.{allows_at, breaks_index, first, how_many, is_behind, is_index_behind, is_same_place, is_table, is_third_table, sound_index, stands_on};
 
 use crate::decode::read_index;
@@ -25,6 +26,8 @@ pub fn load_indexes<V: Files>(
         ≡ (catalog_of (bytes_at (V.state files.old).files cat)).relations }
     ensures indexes { IsTrue (V.state files.old).tells → IfOk result
         (λ r. IfOk r (λ indexes. indexes_in indexes ≡ (catalog_of (bytes_at (V.state files.old).files cat)).indexes)) }
+    ensures eight { IfOk result (λ r. IfOk r (λ indexes. length indexes ≡ 8)) }
+    ensures behind { IfOk result (λ r. IfOk r (λ indexes. AreBehind relations.now (indexes_in indexes))) }
     ensures sound { IsTrue (V.state files.old).tells → IfOk result
         (λ r. OnOk r (first 8 (breaks_index (bytes_at (V.state files.old).files cat)) ≡ None)) }
     ensures broken { IsTrue (V.state files.old).tells → IfOk result
@@ -60,6 +63,8 @@ fn load_index<V: Files>(
         (λ r. option_map (option_map index_in) r ≡ sound_index
         (slice_range (bytes_at (V.state files.old).files cat) (1408 + 8 * slot) (1408 + 8 * slot + 8))
         relations.now (indexes_in before.now)) }
+    ensures behind { IfOk result (λ r. IfSome r (λ index.
+        is_behind relations.now (indexes_in before.now) (option_map index_in index) ≡ true)) }
     ensures same { OnOk result (V.state files.new ≡ V.state files.old) }
     ensures reads { V.reads files.new ≤ V.reads files.old + 3 }
     ensures store { length (V.state files.new).store ≡ length (V.state files.old).store }

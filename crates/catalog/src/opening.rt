@@ -1,10 +1,11 @@
-ghost use Rattle.std.specs.Prelude.{◌≡◌, ◌<◌, ◌≤◌, ◌+◌, None, Some, IfErr, IfOk, IfSome, IsTrue, OnOk, get_or, is_some, length};
+ghost use Rattle.std.specs.Prelude.{◌≡◌, ◌<◌, ◌≤◌, ◌+◌, None, Some, IfErr, IfOk, IfSome, IsTrue, OnOk, ◌⊎◌, get_or, is_some, length};
 ghost use Rattle.afl_base.specs.Causes.{HasCause};
-ghost use Rattle.afl_base.specs.Files.{IsLive, bytes_at};
+ghost use Rattle.afl_base.specs.Files.{IsLive, bytes_at, size_at};
 ghost use Rattle.db_model.specs.Catalog.{catalog_of};
 ghost use Rattle.catalog.specs.CatalogFile.{IsCatalogSize, indexes_in};
 ghost use Rattle.catalog.specs.Catalogs.{slots_of};
-ghost use Rattle.catalog.specs.Rules.{breaks_files, broken_catalog, catalog_bytes_in, catalog_in, first, first_broken, is_tree, version_in};
+ghost use Rattle.catalog.specs.Formed.{HasCatalogSize, IsFormed};
+ghost use Rattle.catalog.specs.Rules.{breaks_files, broken_catalog, catalog_bytes_in, catalog_in, first, first_broken, is_stranger, is_tree, version_in};
 
 use crate::indexes::load_indexes;
 use crate::names::{catalog_file, first_stranger, is_there, rows_file, tree_file};
@@ -16,7 +17,7 @@ use db_model::{IndexKind, Schema};
 
 /// Reads the catalog, and judges it and the names and kinds of all files. The inner `Err` comes exactly
 /// where one of the rules 14 to 18 is broken, and has the first with its place. The files stay. Over
-/// files that do not tell their bytes nothing is said of the answer.
+/// files that do not tell their bytes the answer is formed and fits the names, kinds and sizes of files.
 pub fn load<V: Files>(files: &mut V) -> Result<Result<Catalog, BadCatalog>, Failed>
     ensures catalog { IsTrue (V.state files.old).tells → IfOk result
         (λ r. IfOk r (λ catalog. slots_of catalog ≡ catalog_in (V.state files.old).files)) }
@@ -24,6 +25,11 @@ pub fn load<V: Files>(files: &mut V) -> Result<Result<Catalog, BadCatalog>, Fail
         (λ r. OnOk r (first_broken (V.state files.old).files ≡ None)) }
     ensures broken { IsTrue (V.state files.old).tells → IfOk result
         (λ r. IfErr r (λ bad. first_broken (V.state files.old).files ≡ Some (bad.rule, bad.place))) }
+    ensures formed { IfOk result (λ r. IfOk r (λ catalog. IsFormed catalog)) }
+    ensures size { IfOk result (λ r. OnOk r (HasCatalogSize (V.state files.old).files)) }
+    ensures known { IfOk result (λ r. OnOk r (first 32 (is_stranger (V.state files.old).files) ≡ None)) }
+    ensures matched { IfOk result (λ r. IfOk r (λ catalog. first 16
+        (breaks_files (V.state files.old).files catalog.relations (indexes_in catalog.indexes)) ≡ None)) }
     ensures same { OnOk result (V.state files.new ≡ V.state files.old) }
     ensures reads { V.reads files.new ≤ V.reads files.old + 99 }
     ensures store { length (V.state files.new).store ≡ length (V.state files.old).store }
@@ -51,6 +57,8 @@ fn read_catalog<V: Files>(files: &mut V) -> Result<Result<Catalog, BadCatalog>, 
         (λ r. OnOk r (broken_catalog (catalog_bytes_in (V.state files.old).files) ≡ None)) }
     ensures broken { IsTrue (V.state files.old).tells → IfOk result
         (λ r. IfErr r (λ bad. broken_catalog (catalog_bytes_in (V.state files.old).files) ≡ Some (bad.rule, bad.place))) }
+    ensures formed { IfOk result (λ r. IfOk r (λ catalog. IsFormed catalog)) }
+    ensures size { IfOk result (λ r. OnOk r (HasCatalogSize (V.state files.old).files)) }
     ensures same { OnOk result (V.state files.new ≡ V.state files.old) }
     ensures reads { V.reads files.new ≤ V.reads files.old + 99 }
     ensures store { length (V.state files.new).store ≡ length (V.state files.old).store }
@@ -70,6 +78,8 @@ fn read_file<V: Files>(files: &mut V, cat: FileId) -> Result<Result<Catalog, Bad
         (λ r. OnOk r (broken_catalog (bytes_at (V.state files.old).files cat) ≡ None)) }
     ensures broken { IsTrue (V.state files.old).tells → IfOk result
         (λ r. IfErr r (λ bad. broken_catalog (bytes_at (V.state files.old).files cat) ≡ Some (bad.rule, bad.place))) }
+    ensures formed { IfOk result (λ r. IfOk r (λ catalog. IsFormed catalog)) }
+    ensures size { IfOk result (λ r. OnOk r (IsCatalogSize (size_at (V.state files.old).files cat))) }
     ensures same { OnOk result (V.state files.new ≡ V.state files.old) }
     ensures reads { V.reads files.new ≤ V.reads files.old + 99 }
     ensures store { length (V.state files.new).store ≡ length (V.state files.old).store }
@@ -102,6 +112,7 @@ fn read_version<V: Files>(files: &mut V, cat: FileId) -> Result<Option<u8>, Fail
     requires { IsLive (V.state files.old).files cat }
     ensures version { IsTrue (V.state files.old).tells → IfOk result
         (λ version. version ≡ version_in (bytes_at (V.state files.old).files cat)) }
+    ensures number { IfOk result (λ version. IfSome version (λ n. (n ≡ 1) ⊎ (n ≡ 2))) }
     ensures size { IfOk result
         (λ version. IfSome version (λ _. IsCatalogSize (length (bytes_at (V.state files.old).files cat)))) }
     ensures same { OnOk result (V.state files.new ≡ V.state files.old) }

@@ -1,8 +1,9 @@
-ghost use Rattle.std.specs.Prelude.{◌≡◌, ◌<◌, ◌≤◌, ◌+◌, ◌*◌, Some, None, IfErr, IfOk, IsTrue, OnOk, length, slice_range};
+ghost use Rattle.std.specs.Prelude.{◌≡◌, ◌<◌, ◌≤◌, ◌+◌, ◌*◌, true, Some, None, IfErr, IfOk, IfSome, IsTrue, OnOk, length, slice_range};
 ghost use Rattle.std.specs.List.{list_any};
 ghost use Rattle.afl_base.specs.Causes.{HasCause};
 ghost use Rattle.afl_base.specs.Files.{IsLive, bytes_at};
 ghost use Rattle.db_model.specs.Catalog.{catalog_of, version_of};
+ghost use Rattle.catalog.specs.Formed.{AreSchemas, is_schema_slot};
 ghost use Rattle.catalog.specs.Rules.{breaks_relation, first, has_name, is_named_among, sound_relation};
 
 use crate::decode::read_relation;
@@ -20,6 +21,8 @@ pub fn load_relations<V: Files>(
     requires version { IsTrue (V.state files.old).tells → version ≡ version_of (bytes_at (V.state files.old).files cat) }
     ensures relations { IsTrue (V.state files.old).tells → IfOk result
         (λ r. IfOk r (λ relations. relations ≡ (catalog_of (bytes_at (V.state files.old).files cat)).relations)) }
+    ensures eight { IfOk result (λ r. IfOk r (λ relations. length relations ≡ 8)) }
+    ensures formed { IfOk result (λ r. IfOk r (λ relations. AreSchemas version relations)) }
     ensures sound { IsTrue (V.state files.old).tells → IfOk result
         (λ r. OnOk r (first 8 (breaks_relation (bytes_at (V.state files.old).files cat)) ≡ None)) }
     ensures broken { IsTrue (V.state files.old).tells → IfOk result
@@ -54,6 +57,7 @@ fn load_relation<V: Files>(
     ensures relation { IsTrue (V.state files.old).tells → IfOk result
         (λ r. r ≡ sound_relation version
         (slice_range (bytes_at (V.state files.old).files cat) (176 * slot) (176 * slot + 176)) before.now) }
+    ensures formed { IfOk result (λ r. IfSome r (λ relation. is_schema_slot version relation ≡ true)) }
     ensures same { OnOk result (V.state files.new ≡ V.state files.old) }
     ensures reads { V.reads files.new ≤ V.reads files.old + 9 }
     ensures store { length (V.state files.new).store ≡ length (V.state files.old).store }

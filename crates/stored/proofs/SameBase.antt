@@ -27,7 +27,7 @@ no_name : (files : Table) (name : List ℕ) (f : File) (id : ℕ) → AreDistinc
 no_name files name f id d there e = ap (λ n. file_named n files) (sym e) ∙ named_here files id f d there
 
 -- the file of a name, in both
-bytes_same : (old new : Table) (name : List ℕ) → AreDistinct old → AreDistinct new → HaveSameFiles old new → bytes_of (file_named name old) ≡ bytes_of (file_named name new)
+pub bytes_same : (old new : Table) (name : List ℕ) → AreDistinct old → AreDistinct new → HaveSameFiles old new → bytes_of (file_named name old) ≡ bytes_of (file_named name new)
 bytes_same old new name d k s = by_old (file_named name old) refl
   where
     by_new : (o : Option File) → file_named name new ≡ o → file_named name old ≡ None → [] ≡ bytes_of o
@@ -70,7 +70,7 @@ base_same old new d k s =
 
 -- ---- sound tables
 
-there_same : (old new : Table) (name : List ℕ) → AreDistinct old → AreDistinct new → HaveSameFiles old new → is_there name old ≡ is_there name new
+pub there_same : (old new : Table) (name : List ℕ) → AreDistinct old → AreDistinct new → HaveSameFiles old new → is_there name old ≡ is_there name new
 there_same old new name d k s = by_both (file_named name old) refl (file_named name new) refl
   where
     by_both : (o : Option File) → file_named name old ≡ o → (p : Option File) → file_named name new ≡ p → is_some o ≡ is_some p

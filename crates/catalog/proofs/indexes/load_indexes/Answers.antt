@@ -6,11 +6,12 @@ use Rattle.db_model.specs.Catalog.{index_at}
 use Rattle.catalog.specs.CatalogFile.{index_in}
 use Rattle.catalog.specs.Rules.{breaks_index}
 use Rattle.catalog.proofs.Firsts.{first_all, first_found, first_more, first_none}
+use Rattle.catalog.proofs.Forming.{behind_all, behind_more}
 use Rattle.catalog.proofs.Loading.{index_broken, index_found, seen_all, seen_more}
 use Rattle.catalog.proofs.indexes.load_indexes.Goals as goal
 
 pub loop-slot-init : goal.loop-slot-init
-loop-slot-init g c = record { same = refl; long = refl; read = λ told. refl; sound = λ told. first_none _; reads = omega arith; faults = omega arith }
+loop-slot-init g c = record { same = refl; long = refl; read = λ told. refl; sound = λ told. first_none _; behind = λ i. refl; reads = omega arith; faults = omega arith }
 
 pub returns-in-None-clause-broken : goal.returns-in-None-clause-broken
 returns-in-None-clause-broken g c = λ told.
@@ -29,6 +30,7 @@ loop-slot-preserved g c =
       long = length-set c.loop-slot.indexes c.loop-slot.slot c.in-Some.index ∙ c.loop-slot.invariant.long;
       read = λ told. seen_more (option_map index_in) (index_at bytes) c.loop-slot.indexes c.loop-slot.slot c.in-Some.index (omega (arith, c.loop-slot.invariant.long, c.loop-slot-test.true)) (c.loop-slot.invariant.read told) (found told).1;
       sound = λ told. first_more (breaks_index bytes) c.loop-slot.slot (c.loop-slot.invariant.sound told) (found told).0;
+      behind = behind_more c.args.relations.now c.loop-slot.indexes c.loop-slot.slot c.in-Some.index (omega (arith, c.loop-slot.invariant.long, c.loop-slot-test.true)) c.loop-slot.invariant.behind (rw c.in-Some.is at c.in_ok-index.ensures.behind);
       reads = search rules;
       faults = search rules;
     }
@@ -38,3 +40,6 @@ returns-clause-indexes g c = λ told. seen_all (option_map index_in) _ c.loop-sl
 
 pub returns-clause-sound : goal.returns-clause-sound
 returns-clause-sound g c = λ told. first_all (breaks_index (bytes_at (g.V.Files.state c.args.files.now).files c.args.cat)) c.loop-slot.slot 8 c.loop-slot-test.false c.loop-slot.auto.slot-end (c.loop-slot.invariant.sound told)
+
+pub returns-clause-behind : goal.returns-clause-behind
+returns-clause-behind g c = behind_all c.args.relations.now c.loop-slot.indexes c.loop-slot.slot (omega (arith, c.loop-slot.invariant.long, c.loop-slot-test.false)) c.loop-slot.invariant.behind

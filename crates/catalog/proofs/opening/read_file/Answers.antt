@@ -11,7 +11,7 @@ returns-in-None-clause-broken g c = λ told. breaks_15 _ (sym c.in-None.is ∙ c
 pub returns-then-size-eq0-clause-catalog : goal.returns-then-size-eq0-clause-catalog
 returns-then-size-eq0-clause-catalog g c = λ told.
     let size = rw c.in_ok-version.ensures.same at c.size.ensures in
-    c.empty.ensures ∙ ap catalog_of (nothing (bytes_at (g.V.Files.state c.args.files.now).files c.args.cat) (sym size ∙ c.if-size-eq0.true))
+    c.empty.ensures.slots ∙ ap catalog_of (nothing (bytes_at (g.V.Files.state c.args.files.now).files c.args.cat) (sym size ∙ c.if-size-eq0.true))
 
 pub returns-then-size-eq0-clause-sound : goal.returns-then-size-eq0-clause-sound
 returns-then-size-eq0-clause-sound g c = λ told.
@@ -64,3 +64,15 @@ returns-clause-sound g c = λ told.
     let relations = (rw (c.in_ok-version.ensures.same, c.in-Ok.is) at c.in_ok-relations.ensures.sound) told in
     let indexes = (rw (c.in_ok-relations.ensures.same, c.in_ok-version.ensures.same, c.in-Ok-2.is) at c.in_ok-indexes.ensures.sound) told in
     breaks_none bytes form.0 (λ e. c.if-size-eq0.false (size ∙ e)) relations indexes
+
+pub returns-clause-formed : goal.returns-clause-formed
+returns-clause-formed g c = record {
+  version = rw c.in-Some.is at c.in_ok-version.ensures.number;
+  eight_relations = rw c.in-Ok.is at c.in_ok-relations.ensures.eight;
+  eight_indexes = rw c.in-Ok-2.is at c.in_ok-indexes.ensures.eight;
+  schemas = rw c.in-Ok.is at c.in_ok-relations.ensures.formed;
+  indexes = rw c.in-Ok-2.is at c.in_ok-indexes.ensures.behind;
+}
+
+pub returns-clause-size : goal.returns-clause-size
+returns-clause-size g c = rw c.in-Some.is at c.in_ok-version.ensures.size

@@ -1,0 +1,10 @@
+use Rattle.std.proofs.Common.{◌≡◌, ◌≤◌, length, take}
+use Rattle.session_model.specs.View.{project}
+use Rattle.session_model.proofs.projecting.project.Given as goal
+
+abbrev pub invariant-loop-place : goal.invariant-loop-place
+invariant-loop-place l = record {
+  into : l.into ≡ project (take l.place-index l.place-items) l.tuple;
+  few : length l.place-items ≤ 8;
+  size : length l.into ≡ l.place-index;
+}

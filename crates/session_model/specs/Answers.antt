@@ -1,0 +1,22 @@
+-- What a command gives, by its answer.
+use Rattle.std.specs.Prelude.{◌≡◌, ⊤, ℕ, Result, Ok, Err, IsOk}
+use Rattle.db_model.specs.Database.{Database}
+use Rattle.db_model.specs.Step.{Reply, Fine, Removed}
+use Rattle.db_model.specs.declared.refusals.Refusal.{Refusal}
+use Rattle.session_model.specs.declared.answer.Answer.{Answer}
+use Rattle.session_model.specs.declared.answer.Answer.TheVariants as answer
+
+-- what was made of something, by the answer: what was to be made, or a refusal, or there was no space
+abbrev pub Changed : {X : Type 0} → Result (X × Reply) Refusal → X → X → Answer → Type 0
+Changed made old new answer.Fine = made ≡ Ok (new, Fine)
+Changed made old new (answer.Removed k) = made ≡ Ok (new, Removed k)
+Changed made old new (answer.Refused r) = (made ≡ Err r) × (new ≡ old)
+Changed made old new (answer.NoSpace need) = IsOk made × (new ≡ old)
+
+-- where there was no space
+abbrev pub OnNoSpace : {E : Type 0} → Result Answer E → (ℕ → Type 0) → Type 0
+OnNoSpace (Ok (answer.NoSpace need)) P = P need
+OnNoSpace (Ok answer.Fine) P = ⊤
+OnNoSpace (Ok (answer.Removed k)) P = ⊤
+OnNoSpace (Ok (answer.Refused r)) P = ⊤
+OnNoSpace (Err e) P = ⊤

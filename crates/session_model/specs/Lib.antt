@@ -1,0 +1,10 @@
+pub mod Aheads
+pub mod Answers
+pub mod Cells
+pub mod Frames
+pub mod Indexed
+pub mod Queries
+pub mod Running
+pub mod Steps
+pub mod View
+pub mod Wanted

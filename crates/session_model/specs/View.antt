@@ -1,0 +1,66 @@
+-- The database that files and what is held in memory stand for.
+use Rattle.std.specs.Prelude.{ℕ, pos, List, [], ◌∷◌, map, get_or, Option, unwrap_or, option_map}
+use Rattle.afl_base.specs.Files.{File, Table, no_file, place}
+use Rattle.db_model.specs.declared.schemas.Schema.{Schema}
+use Rattle.db_model.specs.declared.values.Value.{Value}
+use Rattle.db_model.specs.declared.values.Value.TheVariants.{Number}
+use Rattle.db_model.specs.Database.{Cursor, Database, Relation}
+use Rattle.db_model.specs.Row.{rows_of}
+use Rattle.cursor.specs.Pairs.{pairs_left}
+use Rattle.cursor.specs.Remaining.{remaining}
+use Rattle.tuple_file.specs.declared.tuples.Tuples.{Tuples}
+use Rattle.tuple_file.specs.Tuples.{rows}
+use Rattle.session_model.specs.declared.held.Held.{Held}
+use Rattle.session_model.specs.declared.held.Open.{Open}
+use Rattle.session_model.specs.declared.held.Open.TheVariants.{Select, Join}
+use Rattle.session_model.specs.declared.held.OpenJoin.{OpenJoin}
+use Rattle.session_model.specs.declared.held.OpenSelect.{OpenSelect}
+use Rattle.session_model.specs.declared.held.Side.{Side}
+use Rattle.session_model.specs.declared.held.Side.TheVariants.{Left, Right}
+use Rattle.session_model.specs.Indexed.{index_in}
+
+-- a relation with the rows of its file
+abbrev pub relation_at : Option File → Schema → Relation
+relation_at place schema = record { schema = schema; rows = rows_of schema.attributes (unwrap_or place no_file).bytes }
+
+abbrev pub relation_in : Table → Tuples → Relation
+relation_in files t = relation_at (place files t.file) t.schema
+
+-- ---- cursors
+
+abbrev pub value_at : List Value → ℕ → Value
+value_at tuple place = get_or tuple place (Number (pos 0))
+
+-- the values at some places of a tuple
+abbrev pub project : List ℕ → List Value → List Value
+project places tuple = map (value_at tuple) places
+
+abbrev pub value_in : List Value × List Value → Side → Value
+value_in pair (Left place) = value_at pair.0 place
+value_in pair (Right place) = value_at pair.1 place
+
+-- the values at some places of a pair of tuples
+abbrev pub project_pair : List Side → List Value × List Value → List Value
+project_pair places pair = map (value_in pair) places
+
+abbrev pub select_left : Table → OpenSelect → List (List Value)
+select_left files o = map (project o.places) (remaining o.cursor (rows files o.cursor.tuples))
+
+abbrev pub join_left : Table → OpenJoin → List (List Value)
+join_left files o = map (project_pair o.places) (pairs_left o.cursor (rows files o.cursor.left) (rows files o.cursor.right))
+
+-- the relations that a cursor reads, and the rows of its answer that are still to come
+abbrev pub cursor_in : Table → Open → Cursor
+cursor_in files (Select o) = record { reads = o.cursor.tuples.schema.name ∷ []; rows = select_left files o }
+cursor_in files (Join o) =
+    record { reads = o.cursor.left.schema.name ∷ o.cursor.right.schema.name ∷ []; rows = join_left files o }
+
+-- ---- all
+
+abbrev pub view : Table → Held → List (Option Open) → Database
+view files held opens = record {
+  version = held.version;
+  relations = map (option_map (relation_in files)) held.relations;
+  indexes = map (option_map index_in) held.indexes;
+  cursors = map (option_map (cursor_in files)) opens;
+}

@@ -1,0 +1,4 @@
+pub mod Aggregated
+pub mod Joined
+pub mod Places
+pub mod Planned

@@ -1,0 +1,9 @@
+//! A database in files is judged and opened.
+#![tactic(auto)]
+
+mod holding;
+mod indexes;
+mod rows;
+mod starting;
+
+pub use starting::{BrokenRule, open_database};

@@ -1,0 +1,94 @@
+//! The rules 14 to 20 of an image, over any files.
+
+#![tactic(auto)]
+
+ghost use Rattle.std.specs.Prelude.{◌≡◌, ◌+◌, ◌*◌, ◌≤◌, None, IfErr, IfNone, IfOk, IsTrue, MatchOption, OnOk, length, map, replicate};
+ghost use Rattle.std.specs.List.{range_with_len};
+ghost use Rattle.afl_base.specs.Causes.{HasCause};
+ghost use Rattle.db_model.specs.Cost.{sum};
+ghost use Rattle.db_model.specs.RunCost.{slots_opened};
+ghost use Rattle.session_model.specs.Running.{IsRunning};
+ghost use Rattle.session_model.specs.View.{view};
+ghost use Rattle.stored.specs.Base.{base_of};
+ghost use Rattle.stored.specs.Sound.{BreaksFirst, IsSoundTable};
+ghost use Rattle.session_start.specs.Found.{IsFound};
+ghost use Rattle.session_start.specs.Judged.{BreaksHeld, IsReadyAll, KeepsAll};
+ghost use Rattle.session_start.specs.Reads.{all_reads, all_slots};
+
+use crate::holding::hold;
+use crate::indexes::first_incomplete;
+use crate::rows::first_without_rows;
+use afl_base::{Failed, Files};
+use catalog::load;
+use index_set::HashTables;
+use session_model::Held;
+
+/// The first broken rule, 14 to 20, and its place: an id of a file, 0 for the catalog, a slot of a
+/// relation or an index, or 8 more than the slot of an index whose tree is missing or too many.
+#[derive(Clone, Copy, Debug, PartialEq, Eq)]
+pub struct BrokenRule {
+    pub rule: u8,
+    pub place: u16,
+}
+
+/// Judges the files, and answers what they hold, with the hash tables filled. The files stay.
+pub fn open_database<V: Files>(
+    files: &mut V,
+    tables: &mut HashTables,
+) -> Result<Result<Held, BrokenRule>, Failed>
+    requires idle { (V.state files.old).draft ≡ None }
+    ensures sound { IsTrue (V.state files.old).tells → IfOk result (λ r.
+        OnOk r (IsSoundTable (V.state files.old).files)) }
+    ensures base { let files_old = (V.state files.old).files in
+        IsTrue (V.state files.old).tells → IfOk result (λ r. IfOk r (λ held.
+        view files_old held (replicate 4 None) ≡ base_of files_old)) }
+    ensures running { IfOk result (λ r. IfOk r (λ held.
+        IsRunning (V.state files.old) tables.new held (replicate 4 None))) }
+    ensures bad { IsTrue (V.state files.old).tells → IfOk result (λ r. IfErr r (λ broken.
+        BreaksFirst (V.state files.old).files broken.rule broken.place)) }
+    ensures same { OnOk result (V.state files.new ≡ V.state files.old) }
+    ensures reads { let base = base_of (V.state files.old).files in
+        IsTrue (V.state files.old).tells → IfOk result (λ r. OnOk r (V.reads files.new ≤ V.reads files.old
+        + 1024 + 16384 + 16 * sum (map (slots_opened base) (range_with_len 0 8)))) }
+    ensures store { length (V.state files.new).store ≡ length (V.state files.old).store }
+    ensures cause { HasCause (V.faults files.old) (V.faults files.new) result }
+{
+    let catalog = match load(files)? {
+        Ok(catalog) => catalog,
+        Err(bad) => return Ok(Err(BrokenRule {
+            rule: bad.rule,
+            place: bad.place,
+        })),
+    };
+    let held = hold(files, &catalog);
+    match first_broken_rule(files, tables, &held)? {
+        Some(broken) => Ok(Err(broken)),
+        None => Ok(Ok(held)),
+    }
+}
+
+// The first broken rule of rows and indexes. The table of each index that has one is filled.
+fn first_broken_rule<V: Files>(
+    files: &mut V,
+    tables: &mut HashTables,
+    held: &Held,
+) -> Result<Option<BrokenRule>, Failed>
+    requires found { IsFound (V.state files.old) held.now }
+    ensures judged { let files_old = (V.state files.old).files in IsTrue (V.state files.old).tells
+        → IfOk result (λ r. MatchOption r (KeepsAll files_old held.now) (λ broken.
+        BreaksHeld files_old held.now broken.rule broken.place)) }
+    ensures ready { IfOk result (λ r. IfNone r (IsReadyAll (V.state files.old) tables.new held.now)) }
+    ensures reads { let files_old = (V.state files.old).files in V.reads files.new ≤ V.reads files.old
+        + 6 * all_slots files_old held.now.relations + all_reads files_old held.now.relations held.now.indexes }
+    ensures same { OnOk result (V.state files.new ≡ V.state files.old) }
+    ensures store { length (V.state files.new).store ≡ length (V.state files.old).store }
+    ensures cause { HasCause (V.faults files.old) (V.faults files.new) result }
+{
+    if let Some(place) = first_without_rows(files, held)? {
+        return Ok(Some(BrokenRule { rule: 19, place }));
+    }
+    if let Some(place) = first_incomplete(files, tables, held)? {
+        return Ok(Some(BrokenRule { rule: 20, place }));
+    }
+    Ok(None)
+}
