@@ -18,7 +18,7 @@ use Rattle.index_set.specs.Walks.{Fits, ahead, cost_ahead}
 use Rattle.tuple_file.specs.Tuples.{row, rows, slots}
 use Rattle.cursor.specs.declared.join.JoinCursor.{JoinCursor}
 use Rattle.cursor.specs.declared.partner.Partnered.{Partnered}
-use Rattle.cursor.specs.Pairs.{FitsPairs, HasAnswered, MayReadPairs, at_next_left, behind_pair, belongs, inner_cost, join_cost_ahead, lefts_of, matching, pairs_left, right_cost, right_costs, rights_of}
+use Rattle.cursor.specs.Pairs.{FitsPairs, HasAnswered, MayReadPairs, at_next_left, behind_pair, belongs, inner_cost, join_cost_ahead, join_cost_behind, lefts_of, matching, pairs_left, right_cost, right_costs, rights_of}
 use Rattle.cursor.specs.Remaining.{passing, tuples_at}
 use Rattle.cursor.proofs.Lists.{at_front, live_at}
 use Rattle.cursor.proofs.Suited.{count_rows}
@@ -168,7 +168,7 @@ module _ (c : JoinCursor) (lefts rights : List Row) where
         let long : length (pairs_left c lefts rights) ≡ length (pairs_left (behind_pair c slot inner) lefts rights) + 1 = ap length same ∙ omega arith in
         omega (arith, long, paid)
 
-    pub fault_cost : r1 ≤ r0 + 6 + inner_cost c.inner (right_costs c rights (take 1 (drop c.at (lefts_of c lefts)))) rights → r1 ≤ r0 + join_cost_ahead c lefts rights
+    pub fault_cost : r1 ≤ r0 + 6 + inner_cost c.inner (right_costs c rights (take 1 (drop c.at (lefts_of c lefts)))) rights → r1 + join_cost_behind c lefts rights ≤ r0 + join_cost_ahead c lefts rights
     fault_cost paid = omega (arith, paid)
 
 -- ---- walks over the left rows
@@ -276,7 +276,8 @@ module _ (c : JoinCursor) (lefts rights : List Row) (t : List Value) (live : liv
       ap (λ (n : ℕ). inner_cost c.inner n rights) (one_cost c lefts rights t live order few) in
       pair_cost c lefts rights r0 r1 inside (t, right) p.slot p.inner same (omega (arith, read, paid, e))
 
-  pub partner_fault : (r0 rr r1 : ℕ) → c.at < c.left_slots → rr ≤ r0 + 6 → r1 ≤ rr + inner_cost c.inner (right_cost c.right_indexes c.right_on (slice_get t c.left_on) rights) rights → r1 ≤ r0 + join_cost_ahead c lefts rights
+  pub partner_fault : (r0 rr r1 : ℕ) → c.at < c.left_slots → rr ≤ r0 + 6 → r1 ≤ rr + inner_cost c.inner (right_cost c.right_indexes c.right_on (slice_get t c.left_on) rights) rights
+      → r1 + join_cost_behind c lefts rights ≤ r0 + join_cost_ahead c lefts rights
   partner_fault r0 rr r1 inside read paid =
       let e : inner_cost c.inner (right_costs c rights (take 1 (drop c.at (lefts_of c lefts)))) rights ≡ inner_cost c.inner (right_cost c.right_indexes c.right_on (slice_get t c.left_on) rights) rights =
       ap (λ (n : ℕ). inner_cost c.inner n rights) (one_cost c lefts rights t live order few) in
@@ -323,11 +324,14 @@ has_answered state before now le re slot inner left right l r =
     }
 
 module _ (state : State) (tables : Tables) (before now : JoinCursor) (reads r1 r2 : ℕ) (j : Joining state tables before now reads r1) (le : now.left ≡ before.left) (re : now.right ≡ before.right) where
-  pub joining_fault : r2 ≤ r1 + join_cost_ahead now (rows state.files now.left) (rows state.files now.right) → r2 ≤ reads + join_cost_ahead before (rows state.files before.left) (rows state.files before.right)
+  pub joining_fault : r2 + join_cost_behind now (rows state.files now.left) (rows state.files now.right) ≤ r1 + join_cost_ahead now (rows state.files now.left) (rows state.files now.right)
+      → r2 + join_cost_behind now (rows state.files before.left) (rows state.files before.right) ≤ reads + join_cost_ahead before (rows state.files before.left) (rows state.files before.right)
   joining_fault paid =
       let same : join_cost_ahead now (rows state.files now.left) (rows state.files now.right) ≡ join_cost_ahead now (rows state.files before.left) (rows state.files before.right) =
       λ i. join_cost_ahead now (rows state.files (le i)) (rows state.files (re i)) in
-      omega (arith, j.few, same, paid)
+      let same_behind : join_cost_behind now (rows state.files now.left) (rows state.files now.right) ≡ join_cost_behind now (rows state.files before.left) (rows state.files before.right) =
+      λ i. join_cost_behind now (rows state.files (le i)) (rows state.files (re i)) in
+      omega (arith, j.few, same, same_behind, paid)
 
   pub joining_cost : (after : JoinCursor) → r2 + join_cost_ahead after (rows state.files now.left) (rows state.files now.right) ≤ r1 + join_cost_ahead now (rows state.files now.left) (rows state.files now.right)
       → r2 + join_cost_ahead after (rows state.files before.left) (rows state.files before.right) ≤ reads + join_cost_ahead before (rows state.files before.left) (rows state.files before.right)

@@ -118,3 +118,8 @@ join_cost_ahead c lefts rights =
     6 * (c.left_slots - c.at + length (pairs_left c lefts rights))
     + inner_cost c.inner (right_costs c rights (take 1 (drop c.at (lefts_of c lefts)))) rights
     + right_costs c rights (drop (c.at + 1) (lefts_of c lefts))
+
+-- the same where the left row at which it stands has been paid for, and all pairs are still to come
+abbrev pub join_cost_behind : JoinCursor → List Row → List Row → ℕ
+join_cost_behind c lefts rights =
+    6 * (c.left_slots - (c.at + 1) + length (pairs_left c lefts rights)) + right_costs c rights (drop (c.at + 1) (lefts_of c lefts))

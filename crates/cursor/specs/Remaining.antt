@@ -1,15 +1,16 @@
 -- The rows that a cursor of one relation has still to answer.
-use Rattle.std.specs.Prelude.{◌≤◌, ◌<◌, ℕ, Bool, ◌&&◌, List, [], filter, get_or, length, map, Option}
+use Rattle.std.specs.Prelude.{◌≤◌, ◌<◌, ℕ, ◌+◌, ◌*◌, Bool, ◌&&◌, List, [], filter, get_or, length, map, Option, slice_get}
 use Rattle.std.specs.List.{AllByRecursion, range_with_len}
 use Rattle.afl_base.specs.Files.{State}
 use Rattle.db_model.specs.declared.schemas.Attribute.{Attribute}
 use Rattle.db_model.specs.declared.values.Value.{Value}
 use Rattle.db_model.specs.Cond.{Cond}
+use Rattle.db_model.specs.Cost.{passed}
 use Rattle.db_model.specs.Item.{selects}
 use Rattle.db_model.specs.Row.{Row, no_row}
 use Rattle.index_set.specs.declared.candidates.Candidates.{Candidates}
 use Rattle.index_set.specs.declared.info.IndexInfo.{IndexInfo}
-use Rattle.index_set.specs.Walks.{IsSafeBy, ahead}
+use Rattle.index_set.specs.Walks.{IsSafeBy, ahead, reads_by}
 use Rattle.lvm.specs.declared.instruction.Instruction.{Instruction}
 use Rattle.lvm.specs.Evaluate.{evaluated, verdict}
 use Rattle.tuple_file.specs.declared.tuples.Tuples.{Tuples}
@@ -24,6 +25,14 @@ is_live_and test row = row.live && test row.tuple
 -- of some slots those whose rows are so
 abbrev pub passing : (List Value → Bool) → List Row → List ℕ → List ℕ
 passing test all slots = filter (λ slot. is_live_and test (get_or all slot no_row)) slots
+
+-- the slots that are passed until one of them is so, all where none is
+abbrev pub passed_until : (List Value → Bool) → List Row → List ℕ → List ℕ
+passed_until test all slots = passed (slice_get (passing test all slots) 0) slots
+
+-- what is read for so many of the slots ahead
+abbrev pub cost_of : Candidates → List Row → ℕ → ℕ
+cost_of c all k = 6 * k + reads_by c.search c.place all k
 
 abbrev pub tuples_at : List ℕ → List Row → List (List Value)
 tuples_at slots all = map (λ slot. (get_or all slot no_row).tuple) slots
@@ -41,6 +50,10 @@ slots_left c all = passing (passes c.code) all (ahead c.candidates all)
 -- and their tuples
 abbrev pub remaining : SelectCursor → List Row → List (List Value)
 remaining c all = tuples_at (slots_left c all) all
+
+-- what is read until the next is answered
+abbrev pub next_cost : SelectCursor → List Row → ℕ
+next_cost c all = cost_of c.candidates all (length (passed_until (passes c.code) all (ahead c.candidates all)))
 
 -- the slots of the live rows that a condition selects
 abbrev pub selected_slots : List Attribute → Option Cond → List Row → List ℕ

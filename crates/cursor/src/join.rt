@@ -7,7 +7,7 @@ ghost use Rattle.afl_base.specs.Causes.{HasCause};
 ghost use Rattle.db_model.specs.Row.{Row, no_row};
 ghost use Rattle.index_set.specs.Complete.{AreReadable};
 ghost use Rattle.tuple_file.specs.Tuples.{HoldsRows, rows, slots};
-ghost use Rattle.cursor.specs.Pairs.{FitsPairs, HasAnswered, MayReadPairs, at_next_left, behind_pair, join_cost_ahead, matching, pairs_left, right_costs};
+ghost use Rattle.cursor.specs.Pairs.{FitsPairs, HasAnswered, MayReadPairs, at_next_left, behind_pair, join_cost_ahead, join_cost_behind, matching, pairs_left, right_costs};
 
 use crate::partner::{Partner, Partnered, next_partner, value_at};
 use afl_base::{Failed, Files, SlotNo};
@@ -61,6 +61,8 @@ impl JoinCursor {
         ensures right_on { result.right_on ≡ right_on }
         ensures left_slots { result.left_slots ≡ slots (V.state files.now).files left }
         ensures right_slots { result.right_slots ≡ slots (V.state files.now).files right }
+        ensures at { result.at ≡ 0 }
+        ensures from { result.from ≡ 0 }
         ensures rests { result.inner ≡ None }
         ensures may_read { MayReadPairs (V.state files.now) result }
     {
@@ -134,7 +136,8 @@ impl JoinCursor {
         ensures reads_err { let state = V.state files.old in let lefts = rows state.files self.now.left in
             let rights = rows state.files self.now.right in
             IsTrue state.tells → OnErr result (FitsPairs self.now state tables.now
-            → V.reads files.new ≤ V.reads files.old + join_cost_ahead self.now lefts rights) }
+            → V.reads files.new + join_cost_behind self.now lefts rights
+            ≤ V.reads files.old + join_cost_ahead self.now lefts rights) }
     {
         let slot = match SlotNo::new(self.at) {
             Some(slot) => slot,
@@ -188,8 +191,8 @@ impl JoinCursor {
             FitsPairs self.old (V.state files.old) tables.now
             → FitsPairs self.new (V.state files.old) tables.now) }
         ensures may_read { OnOk result (MayReadPairs (V.state files.old) self.new) }
-        ensures stands { OnOk result (self.new
-            ≡ record self.old { at = self.new.at; from = self.new.from; inner = self.new.inner }) }
+        ensures stands { self.new
+            ≡ record self.old { at = self.new.at; from = self.new.from; inner = self.new.inner } }
         ensures pair { let state = V.state files.old in let lefts = rows state.files self.old.left in
             let rights = rows state.files self.old.right in
             IsTrue state.tells → IfOk result (λ found. IsTrue found
@@ -198,7 +201,12 @@ impl JoinCursor {
             (self.new.at < self.new.left_slots) (self.new.left_slots ≤ self.new.at)) }
         ensures at_end { IfOk result (λ found. found ≡ false → self.old.at ≤ self.old.left_slots
             → self.new.at ≡ self.new.left_slots) }
-        ensures later { OnOk result (self.old.at ≤ self.new.at) }
+        ensures later { self.old.at ≤ self.new.at }
+        ensures inside { OnErr result (self.new.at < self.new.left_slots) }
+        ensures unanswered { let state = V.state files.old in
+            let lefts = rows state.files self.old.left in let rights = rows state.files self.old.right in
+            IsTrue state.tells → OnErr result (FitsPairs self.old state tables.now
+            → pairs_left self.old lefts rights ≡ pairs_left self.new lefts rights) }
         ensures same { OnOk result (V.state files.new ≡ V.state files.old) }
         ensures store { length (V.state files.new).store ≡ length (V.state files.old).store }
         ensures cause { HasCause (V.faults files.old) (V.faults files.new) result }
@@ -211,6 +219,11 @@ impl JoinCursor {
             let lefts = rows state.files self.old.left in let rights = rows state.files self.old.right in
             IsTrue state.tells → OnErr result (FitsPairs self.old state tables.now
             → V.reads files.new ≤ V.reads files.old + join_cost_ahead self.old lefts rights) }
+        ensures reads_failed { let state = V.state files.old in
+            let lefts = rows state.files self.old.left in let rights = rows state.files self.old.right in
+            IsTrue state.tells → OnErr result (FitsPairs self.old state tables.now
+            → V.reads files.new + join_cost_behind self.new lefts rights
+            ≤ V.reads files.old + join_cost_ahead self.old lefts rights) }
     {
         'lefts: while self.at < self.left_slots {
             match self.pair_at(files, tables, left, right)? {

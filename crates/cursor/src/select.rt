@@ -5,17 +5,18 @@
 ghost use Rattle.std.specs.Prelude.{None, ◌≡◌, ◌+◌, ◌<◌, ◌≤◌, ◌∷◌, [], IfOk, IfSome, IsTrue, MatchOption, OnErr, OnOk, Option, List, length};
 ghost use Rattle.afl_base.specs.Causes.{HasCause};
 ghost use Rattle.db_model.specs.declared.schemas.Attribute.{Attribute};
+ghost use Rattle.db_model.specs.Ahead.{walk_of as walk_by};
 ghost use Rattle.db_model.specs.Answers.{selected};
 ghost use Rattle.db_model.specs.Cond.{Cond};
 ghost use Rattle.db_model.specs.Cost.{begin_cost, chosen_cost};
 ghost use Rattle.db_model.specs.Plan.{plan, ranges_of};
 ghost use Rattle.db_model.specs.Row.{AllSuit, Row};
 ghost use Rattle.index_set.specs.Complete.{AreIndexesOf, AreReadable};
-ghost use Rattle.index_set.specs.Plans.{kinds};
-ghost use Rattle.index_set.specs.Walks.{Fits, IsChosen, Waits, cost_ahead};
+ghost use Rattle.index_set.specs.Plans.{kinds, slots_passed};
+ghost use Rattle.index_set.specs.Walks.{Fits, IsChosen, Waits, ahead, cost_ahead, walk_of};
 ghost use Rattle.lvm.specs.Code.{IsCodeOf};
 ghost use Rattle.tuple_file.specs.Tuples.{HoldsRows, rows, slots};
-ghost use Rattle.cursor.specs.Remaining.{AreOnNumbers, MayRead, remaining, selected_slots, slots_left};
+ghost use Rattle.cursor.specs.Remaining.{AreOnNumbers, MayRead, next_cost, remaining, selected_slots, slots_left};
 
 use crate::walk::{Test, next_row};
 use afl_base::{Failed, Files, SlotNo};
@@ -83,6 +84,16 @@ impl SelectCursor {
             (condition : Option Cond) → IsCodeOf tuples.schema.attributes condition code
             → AreIndexesOf state tables.now all indexes.now
             → slots_left c all ≡ selected_slots tuples.schema.attributes condition all) }
+        ensures ahead { let state = V.state files.old in let all = rows state.files tuples in
+            let ranges = ranges_of tuples.schema.attributes in
+            IsTrue state.tells → IfOk result (λ c.
+            (condition : Option Cond) → IsCodeOf tuples.schema.attributes condition code
+            → AreIndexesOf state tables.now all indexes.now
+            → ahead c.candidates all ≡ slots_passed (kinds indexes.now) (ranges condition) (length all) all) }
+        ensures walk { let ranges = ranges_of tuples.schema.attributes in IfOk result (λ c.
+            (condition : Option Cond) → IsCodeOf tuples.schema.attributes condition code
+            → walk_of c.candidates.search
+            ≡ walk_by (kinds indexes.now) (plan (kinds indexes.now) (ranges condition))) }
         ensures fits { let state = V.state files.old in let all = rows state.files tuples in
             IsTrue state.tells → IfOk result (λ c.
             AreIndexesOf state tables.now all indexes.now → Fits c.candidates state tables.now all) }
@@ -197,6 +208,10 @@ impl SelectCursor {
             let all = rows state.files self.old.tuples in
             IsTrue state.tells → OnErr result (Fits self.old.candidates state tables.now all
             → V.reads files.new ≤ V.reads files.old + cost_ahead self.old.candidates all) }
+        ensures reads_failed { let state = V.state files.old in
+            let all = rows state.files self.old.tuples in
+            IsTrue state.tells → OnErr result (Fits self.old.candidates state tables.now all
+            → V.reads files.new ≤ V.reads files.old + next_cost self.old all) }
     {
         let mut candidates = self.candidates;
         let found = next_row(

@@ -7,7 +7,7 @@ ghost use Rattle.afl_base.specs.Causes.{HasCause};
 ghost use Rattle.db_model.specs.Row.{AllSuit, Row, no_row};
 ghost use Rattle.index_set.specs.Walks.{Fits, Waits, ahead, cost_ahead};
 ghost use Rattle.tuple_file.specs.Tuples.{HoldsRows, row, rows, slots};
-ghost use Rattle.cursor.specs.Remaining.{MayRead, is_live_and, passing};
+ghost use Rattle.cursor.specs.Remaining.{MayRead, cost_of, is_live_and, passed_until, passing};
 
 use afl_base::{Failed, Files, SlotNo};
 use db_model::Tuple;
@@ -102,6 +102,10 @@ pub(crate) fn next_row<V: Files, T: Test>(
     ensures reads_err { let state = V.state files.old in let all = rows state.files tuples.now in
         IsTrue state.tells → OnErr result (Fits candidates.old state tables.now all
         → V.reads files.new ≤ V.reads files.old + cost_ahead candidates.old all) }
+    ensures reads_failed { let state = V.state files.old in let all = rows state.files tuples.now in
+        let slots = passed_until (T.passes test.now) all (ahead candidates.old all) in
+        IsTrue state.tells → OnErr result (Fits candidates.old state tables.now all
+        → V.reads files.new ≤ V.reads files.old + cost_of candidates.old all (length slots)) }
 {
     'slots: loop {
         match candidates.next(files, tables)? {

@@ -1,5 +1,5 @@
 -- When an index is complete: it knows the keys of all slots of its relation, those of removed rows among them.
-use Rattle.std.specs.Prelude.{◌≡◌, ◌≢◌, ◌<◌, ◌+◌, ◌*◌, ⊤, ℕ, ℤ, List, [], ◌∷◌, false, length, get_or, None, Some, slice_get, take}
+use Rattle.std.specs.Prelude.{◌≡◌, ◌≢◌, ◌<◌, ◌+◌, ◌*◌, ⊤, ℕ, ℤ, List, [], ◌∷◌, length, get_or, None, Some, slice_get, take}
 use Rattle.std.specs.List.{AllByRecursion}
 use Rattle.afl_base.specs.declared.kind.Kind.TheVariants.{Doubling}
 use Rattle.afl_base.specs.Files.{State, IsLive, bytes_at, file_at}

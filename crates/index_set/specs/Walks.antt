@@ -90,6 +90,11 @@ IsChosen (by.Tree attribute file key) infos = SomeOf (λ info. (info.attribute �
 IsChosen (by.Table attribute number key) infos = SomeOf (λ info. (info.attribute ≡ attribute) × (info.access ≡ Table number)) infos
 IsChosen _ infos = ⊤
 
+-- the place and the key of a tree that is walked
+abbrev pub walk_of : Search → Option (ℕ × ℤ)
+walk_of (by.Tree attribute file key) = Some (attribute, key)
+walk_of _ = None
+
 -- ---- the pages that are read until no slot is left: a tree's walk along its path, and each pair's bucket again
 
 abbrev pub reads_by : Search → Option Place → List Row → ℕ → ℕ
@@ -98,6 +103,10 @@ reads_by _ place all k = 0
 
 abbrev pub reads_ahead : Candidates → List Row → ℕ
 reads_ahead c all = reads_by c.search c.place all (length (ahead c all))
+
+-- and those until one slot is found, or none
+abbrev pub reads_next : Candidates → List Row → ℕ
+reads_next c all = reads_by c.search c.place all 0
 
 -- with the row of each slot
 abbrev pub cost_ahead : Candidates → List Row → ℕ

@@ -5,6 +5,7 @@
 ghost use Rattle.std.specs.Prelude.{None, ℤ, ◌≡◌, ◌+◌, ◌<◌, ◌≤◌, ◌∷◌, [], List, IfOk, IfSome, IsTrue, OnOk, OnErr, MatchOption, length, max};
 ghost use Rattle.afl_base.specs.Causes.{HasCause};
 ghost use Rattle.afl_base.specs.Files.{IsLive, State};
+ghost use Rattle.db_model.specs.Ahead.{walk_of as walk_by};
 ghost use Rattle.db_model.specs.Cost.{begin_cost, chosen_cost, keys_beside};
 ghost use Rattle.db_model.specs.Plan.{plan};
 ghost use Rattle.db_model.specs.Row.{Row};
@@ -13,7 +14,7 @@ ghost use Rattle.index_set.specs.Plans.{kinds, slots_passed};
 ghost use Rattle.index_set.specs.Tables.{Tables, entries};
 ghost use Rattle.index_maxheap.specs.Searches.{walk_left};
 ghost use Rattle.afl_base.specs.Keys.{IsFirstOf};
-ghost use Rattle.index_set.specs.Walks.{Fits, HasPlace, IsChosen, IsMoved, IsMovedBy, IsSafeBy, LacksKey, Waits, ahead, cost_ahead, reads_ahead, slots_in};
+ghost use Rattle.index_set.specs.Walks.{Fits, HasPlace, IsChosen, IsMoved, IsMovedBy, IsSafeBy, LacksKey, Waits, ahead, cost_ahead, reads_ahead, reads_next, slots_in, walk_of};
 
 use crate::choices::{Plan, choose, range_of};
 use crate::info::{Indexes, TableId};
@@ -84,6 +85,8 @@ impl Candidates {
         ensures rests { IfOk result (λ c. c.place ≡ None) }
         ensures safe { IfOk result (λ c. IsSafeBy c.search (V.state files.old)) }
         ensures chosen { IfOk result (λ c. IsChosen c.search indexes.now) }
+        ensures walk { IfOk result (λ c. walk_of c.search
+            ≡ walk_by (kinds indexes.now) (plan (kinds indexes.now) ranges.now)) }
         ensures slots { IfOk result (λ c. c.slots ≡ slots) }
         ensures order { IfOk result (λ c. c.from ≤ c.end) }
         ensures within { IfOk result (λ c. c.end ≤ c.slots) }
@@ -210,7 +213,7 @@ impl Candidates {
             ≤ V.reads files.old + reads_ahead self.old all) }
         ensures reads_err { let state = V.state files.old in IsTrue state.tells → OnErr result
             ((all : List Row) → Fits self.old state tables.now all
-            → V.reads files.new ≤ V.reads files.old + reads_ahead self.old all) }
+            → V.reads files.new ≤ V.reads files.old + reads_next self.old all) }
         ensures reads_later { V.reads files.old ≤ V.reads files.new }
         ensures store { length (V.state files.new).store ≡ length (V.state files.old).store }
         ensures cause { HasCause (V.faults files.old) (V.faults files.new) result }
@@ -266,7 +269,7 @@ impl Candidates {
             ≤ V.reads files.old + reads_ahead self.old all) }
         ensures reads_err { let state = V.state files.old in IsTrue state.tells → OnErr result
             ((all : List Row) → Fits self.old state tables.now all
-            → V.reads files.new ≤ V.reads files.old + reads_ahead self.old all) }
+            → V.reads files.new ≤ V.reads files.old + reads_next self.old all) }
         ensures reads_later { V.reads files.old ≤ V.reads files.new }
         ensures store { length (V.state files.new).store ≡ length (V.state files.old).store }
         ensures cause { HasCause (V.faults files.old) (V.faults files.new) result }

@@ -1,9 +1,24 @@
 use Rattle.std.proofs.Common.{rules, ◌+◌, ◌≤◌, ◌∙◌, None, ap, arith}
 use Rattle.tuple_file.specs.Tuples.{rows}
 use Rattle.cursor.specs.declared.join.JoinCursor.{JoinCursor}
-use Rattle.cursor.specs.Pairs.{FitsPairs, behind_pair, join_cost_ahead}
+use Rattle.cursor.specs.Pairs.{FitsPairs, behind_pair, join_cost_ahead, join_cost_behind}
 use Rattle.cursor.proofs.Joins.{has_answered, joining_cost, joining_fault, joining_more, joining_pair, next_may}
 use Rattle.cursor.proofs.join.JoinCursor.next.Goals as goal
+
+pub returns-in_err-partnered-clause-reads_failed : goal.returns-in_err-partnered-clause-reads_failed
+returns-in_err-partnered-clause-reads_failed g c = λ told.
+    let state = g.V.Files.state c.args.files.now in
+    let tables = c.args.tables.now in
+    let before = c.args.self.now in
+    let now = c.lefts.self in
+    let inv = c.lefts.invariant in
+    let lefts = rows state.files before.left in
+    let rights = rows state.files before.right in
+    let most : FitsPairs before state tables → g.V.Files.reads c.pair_at.new.files + join_cost_behind now lefts rights ≤ g.V.Files.reads c.args.files.now + join_cost_ahead before lefts rights =
+    λ fits. let j = inv.told told fits in
+    joining_fault state tables before now (g.V.Files.reads c.args.files.now) (g.V.Files.reads c.lefts.files) (g.V.Files.reads c.pair_at.new.files) j
+    (ap (λ (x : JoinCursor). x.left) inv.stands) (ap (λ (x : JoinCursor). x.right) inv.stands) ((rw inv.same at c.in_err-partnered.ensures.reads_err) told j.fits) in
+    search (rules, most)
 
 pub returns-in_err-partnered-clause-reads_err : goal.returns-in_err-partnered-clause-reads_err
 returns-in_err-partnered-clause-reads_err g c = λ told.
@@ -12,10 +27,15 @@ returns-in_err-partnered-clause-reads_err g c = λ told.
     let before = c.args.self.now in
     let now = c.lefts.self in
     let inv = c.lefts.invariant in
-    let most : FitsPairs before state tables → g.V.Files.reads c.pair_at.new.files ≤ g.V.Files.reads c.args.files.now + join_cost_ahead before (rows state.files before.left) (rows state.files before.right) =
+    let lefts = rows state.files before.left in
+    let rights = rows state.files before.right in
+    let most : FitsPairs before state tables → g.V.Files.reads c.pair_at.new.files ≤ g.V.Files.reads c.args.files.now + join_cost_ahead before lefts rights =
     λ fits. let j = inv.told told fits in
-    joining_fault state tables before now (g.V.Files.reads c.args.files.now) (g.V.Files.reads c.lefts.files) (g.V.Files.reads c.pair_at.new.files) j
-    (ap (λ (x : JoinCursor). x.left) inv.stands) (ap (λ (x : JoinCursor). x.right) inv.stands) ((rw inv.same at c.in_err-partnered.ensures.reads_err) told j.fits) in
+    omega (
+      arith,
+      joining_fault state tables before now (g.V.Files.reads c.args.files.now) (g.V.Files.reads c.lefts.files) (g.V.Files.reads c.pair_at.new.files) j
+          (ap (λ (x : JoinCursor). x.left) inv.stands) (ap (λ (x : JoinCursor). x.right) inv.stands) ((rw inv.same at c.in_err-partnered.ensures.reads_err) told j.fits),
+    ) in
     search (rules, most)
 
 pub returns-in-Some-clause-next : goal.returns-in-Some-clause-next

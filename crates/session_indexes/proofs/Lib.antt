@@ -1,0 +1,10 @@
+pub mod Refused
+pub mod Readers
+pub mod Puts
+pub mod Keyed
+pub mod Planted
+pub mod Free
+pub mod Effects
+pub mod Tried
+pub mod Created
+pub mod Gone

@@ -1,0 +1,24 @@
+use Rattle.std.proofs.Common.{subst}
+use Rattle.index_set.specs.declared.info.Access.{Access}
+use Rattle.session_model.specs.Running.{HasFile}
+use Rattle.session_indexes.proofs.Gone.{taken_alone, taken_tree}
+use Rattle.session_indexes.proofs.removing.take_index.Goals as goal
+
+pub returns-in-Ok-remove-clause-taken : goal.returns-in-Ok-remove-clause-taken
+returns-in-Ok-remove-clause-taken g c =
+    let s0 = g.V.Files.state c.args.files.now in
+    let file = subst (λ (a : Access). HasFile s0.files c.args.slot a) c.in-Tree.is c.requires.file in
+    taken_tree s0 (g.V.Files.state c.clear_entry.new.files) c.args.cat c.args.slot c.requires.idle c.requires.catalog c.in-Ok.ensures.cleared
+    (g.V.Files.state c.remove.new.self) c.in-Tree.file file c.in-Ok-remove.ensures.removed
+
+pub returns-in-Order-clause-taken : goal.returns-in-Order-clause-taken
+returns-in-Order-clause-taken g c =
+    let s0 = g.V.Files.state c.args.files.now in
+    let none = subst (λ (a : Access). HasFile s0.files c.args.slot a) c.in-Order.is c.requires.file in
+    taken_alone s0 (g.V.Files.state c.clear_entry.new.files) c.args.cat c.args.slot c.requires.idle c.requires.catalog c.in-Ok.ensures.cleared none
+
+pub returns-in-Table-clause-taken : goal.returns-in-Table-clause-taken
+returns-in-Table-clause-taken g c =
+    let s0 = g.V.Files.state c.args.files.now in
+    let none = subst (λ (a : Access). HasFile s0.files c.args.slot a) c.in-Table.is c.requires.file in
+    taken_alone s0 (g.V.Files.state c.clear_entry.new.files) c.args.cat c.args.slot c.requires.idle c.requires.catalog c.in-Ok.ensures.cleared none

@@ -1,0 +1,4 @@
+pub mod Made
+pub mod Removed
+pub mod Sites
+pub mod Trees

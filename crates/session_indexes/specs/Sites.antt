@@ -1,0 +1,76 @@
+-- Where an index stands, or comes to stand.
+use Rattle.std.specs.Prelude.{◌≡◌, ◌<◌, ℕ, ◌+◌, is_some, Bool, true, false, not, ◌&&◌, ◌==◌, List, [], ◌∷◌, Option, Some, None, if◌then◌else◌}
+use Rattle.db_model.specs.declared.schemas.IndexKind.{IndexKind}
+use Rattle.db_model.specs.Database.{free_from, is_among}
+use Rattle.db_model.specs.Item.{place_of}
+use Rattle.index_set.specs.declared.info.Access.{Access}
+use Rattle.index_set.specs.declared.info.Access.TheVariants.{Table}
+use Rattle.index_set.specs.declared.info.TableId.{TableId}
+use Rattle.index_set.specs.declared.info.TableId.TheVariants.{First, Second}
+use Rattle.session_model.specs.declared.held.Held.{Held}
+use Rattle.session_model.specs.declared.held.Indexed.{Indexed}
+use Rattle.session_model.specs.declared.held.Open.{Open}
+use Rattle.session_model.specs.declared.held.Open.TheVariants.{Select, Join}
+use Rattle.session_model.specs.Indexed.{IsAllowedAt}
+use Rattle.tuple_file.specs.declared.tuples.Tuples.{Tuples}
+use Rattle.session_indexes.specs.declared.sites.Site.{Site}
+
+-- ---- indexes that are held
+
+-- whether an index is on the attribute at a place of the relation in a slot
+abbrev pub is_held_on : ℕ → ℕ → Option Indexed → Bool
+is_held_on relation attribute None = false
+is_held_on relation attribute (Some x) = x.relation == relation && x.attribute == attribute
+
+-- the slot of the index there, the list's first being slot n
+abbrev pub slot_from : ℕ → ℕ → ℕ → List (Option Indexed) → Option ℕ
+slot_from relation attribute n [] = None
+slot_from relation attribute n (x ∷ xs) = if is_held_on relation attribute x then Some n else slot_from relation attribute (n + 1) xs
+
+-- ---- hash tables
+
+abbrev pub is_table : TableId → Access → Bool
+is_table First (Table First) = true
+is_table Second (Table Second) = true
+is_table number _ = false
+
+abbrev pub is_in_table : TableId → Option Indexed → Bool
+is_in_table number None = false
+is_in_table number (Some x) = is_table number x.access
+
+-- whether an index has the table
+abbrev pub is_taken : TableId → List (Option Indexed) → Bool
+is_taken number [] = false
+is_taken number (x ∷ xs) = if is_in_table number x then true else is_taken number xs
+
+-- a table that no index has
+abbrev pub free_table : List (Option Indexed) → Option TableId
+free_table xs = if not (is_taken First xs) then Some First else if not (is_taken Second xs) then Some Second else None
+
+-- ---- cursors
+
+-- the relations that the query of an open cursor names
+abbrev pub names_in : Open → List (List ℕ)
+names_in (Select o) = o.cursor.tuples.schema.name ∷ []
+names_in (Join o) = o.cursor.left.schema.name ∷ o.cursor.right.schema.name ∷ []
+
+abbrev pub is_reader : List ℕ → Option Open → Bool
+is_reader name None = false
+is_reader name (Some o) = is_among name (names_in o)
+
+-- the number of the least open cursor whose query names the relation, the list's first being cursor n
+abbrev pub least_from : List ℕ → ℕ → List (Option Open) → Option ℕ
+least_from name n [] = None
+least_from name n (o ∷ os) = if is_reader name o then Some n else least_from name (n + 1) os
+
+-- ---- sites
+
+-- at a place of the relation, whose rows these are, stands an attribute of this name, which may have an index of a kind and has
+-- none; and the slot is the first that is unused
+pub record IsSite (held : Held) (attribute : List ℕ) (kind : IndexKind) (site : Site) (t : Tuples) : Type 0 where
+  pub place : place_of attribute t.schema.attributes ≡ Some site.attribute
+  pub below : site.attribute < 8
+  pub allowed : IsAllowedAt t.schema.attributes site.attribute kind
+  pub new : is_some (slot_from site.relation site.attribute 0 held.indexes) ≡ false
+  pub free : free_from 0 held.indexes ≡ Some site.slot
+  pub slot : site.slot < 8

@@ -1,0 +1,212 @@
+//! Indexes of each kind, made for all rows of a relation.
+
+#![tactic(auto)]
+
+ghost use Rattle.std.specs.Prelude.{◌≡◌, List, Option, IfOk, IsTrue, OnErr, OnOk, length};
+ghost use Rattle.afl_base.specs.Causes.{HasCause};
+ghost use Rattle.afl_base.specs.FileErrors.{HasFileCause, OnSpace, UnlessFailed};
+ghost use Rattle.afl_base.specs.Files.{KeepsBytes};
+ghost use Rattle.db_model.specs.Step.{first_fall, keys};
+ghost use Rattle.db_model.specs.declared.schemas.IndexKind.TheVariants.{Inline, MaxHeap, MemHash};
+ghost use Rattle.index_set.specs.Plans.{kind_of};
+ghost use Rattle.index_set.specs.Tables.{Tables as AnyTables};
+ghost use Rattle.session_model.specs.Indexed.{IsAllowedAt};
+ghost use Rattle.session_model.specs.declared.held.Indexed.{Indexed as AnyIndexed};
+ghost use Rattle.tuple_file.specs.Column.{IsNumber};
+ghost use Rattle.tuple_file.specs.Tuples.{HoldsRows, rows};
+ghost use Rattle.session_indexes.specs.Made.{AreElsewhere, AsksIndex, AsksSlot, IsMade, IsReadyFor};
+ghost use Rattle.session_indexes.specs.Made.{IsTried, IsUnrefused, KeepsTaken, keys_at};
+
+use crate::sites::Site;
+use crate::slots::put_entry;
+use crate::tables::{free_table, is_crowded};
+use crate::trees::add_tree;
+use afl_base::{Failed, FileError, FileId, Files};
+use db_model::{IndexKind, Pool, Refusal};
+use index_inline::ordered;
+use index_set::{Access, HashTables};
+use session_model::Indexed;
+use tuple_file::Tuples;
+
+// The key of an attribute before the first that falls.
+fn fall<V: Files>(files: &mut V, tuples: &Tuples, attribute: u8) -> Result<Option<i64>, Failed>
+    requires holds { HoldsRows (V.state files.old) tuples.now }
+    requires number { IsNumber tuples.now.schema.attributes attribute }
+    ensures fall { let old = V.state files.old in IsTrue old.tells → IfOk result (λ fall.
+        fall ≡ first_fall (keys attribute (rows old.files tuples.now))) }
+    ensures same { OnOk result (V.state files.new ≡ V.state files.old) }
+    ensures store { length (V.state files.new).store ≡ length (V.state files.old).store }
+    ensures cause { HasCause (V.faults files.old) (V.faults files.new) result }
+{
+    let column = tuples.column(attribute);
+    let slots = tuples.count(files);
+    let fall = ordered(files, &column, slots)?;
+    Ok(fall)
+}
+
+// An index over keys that do not fall.
+fn make_order<V: Files>(
+    files: &mut V,
+    cat: FileId,
+    tuples: &Tuples,
+    site: &Site,
+) -> Result<Result<Access, Refusal>, FileError>
+    requires ready { IsReadyFor (V.state files.old) cat tuples.now site.now }
+    requires allowed { IsAllowedAt tuples.now.schema.attributes site.now.attribute Inline }
+    ensures made { let old = V.state files.old in let new = V.state files.new in
+        IfOk result (λ r. IfOk r (λ access. (tables : AnyTables) (xs : List (Option AnyIndexed))
+        → IsMade old new tables tables xs cat tuples.now site.now access)) }
+    ensures kind { IfOk result (λ r. IfOk r (λ access. kind_of access ≡ Inline)) }
+    ensures tried { let old = V.state files.old in let ks = keys_at old tuples.now site.now in
+        IsTrue old.tells → IfOk result (λ r.
+        (xs : List (Option AnyIndexed)) → IsTried Inline xs ks r) }
+    ensures unrefused { let old = V.state files.old in let ks = keys_at old tuples.now site.now in
+        IsTrue old.tells → OnSpace result (λ need.
+        (xs : List (Option AnyIndexed)) → IsUnrefused Inline xs ks) }
+    ensures refused { IfOk result (λ r. OnErr r (V.state files.new ≡ V.state files.old)) }
+    ensures space { let old = V.state files.old in let new = V.state files.new in
+        OnSpace result (λ need. KeepsBytes old new cat) }
+    ensures asked { OnSpace result (λ need.
+        AsksSlot (V.asks files.new) (V.state files.new) cat site.now.slot need) }
+    ensures lacks { OnSpace result (λ need. V.lacks files.new need) }
+    ensures store { length (V.state files.new).store ≡ length (V.state files.old).store }
+    ensures cause { HasFileCause (V.faults files.old) (V.faults files.new) result }
+{
+    match fall(files, tuples, site.attribute) {
+        Ok(None) => {}
+        Ok(Some(last)) => return Ok(Err(Refusal::NotOrdered { last })),
+        Err(Failed) => return Err(FileError::Failed),
+    }
+    match put_entry(files, cat, site, IndexKind::Inline) {
+        Ok(()) => Ok(Ok(Access::Order)),
+        Err(FileError::Space { need }) => Err(FileError::Space { need }),
+        Err(FileError::Failed) => Err(FileError::Failed),
+    }
+}
+
+// An index with a hash tree of all keys.
+fn make_tree<V: Files>(
+    files: &mut V,
+    cat: FileId,
+    tuples: &Tuples,
+    site: &Site,
+) -> Result<Result<Access, Refusal>, FileError>
+    requires ready { IsReadyFor (V.state files.old) cat tuples.now site.now }
+    requires allowed { IsAllowedAt tuples.now.schema.attributes site.now.attribute MaxHeap }
+    ensures made { let old = V.state files.old in let new = V.state files.new in
+        IfOk result (λ r. IfOk r (λ access. (tables : AnyTables) (xs : List (Option AnyIndexed))
+        → IsMade old new tables tables xs cat tuples.now site.now access)) }
+    ensures kind { IfOk result (λ r. IfOk r (λ access. kind_of access ≡ MaxHeap)) }
+    ensures tried { let ks = keys_at (V.state files.old) tuples.now site.now in
+        IfOk result (λ r. (xs : List (Option AnyIndexed)) → IsTried MaxHeap xs ks r) }
+    ensures unrefused { let ks = keys_at (V.state files.old) tuples.now site.now in
+        OnSpace result (λ need. (xs : List (Option AnyIndexed)) → IsUnrefused MaxHeap xs ks) }
+    ensures refused { IfOk result (λ r. OnErr r (V.state files.new ≡ V.state files.old)) }
+    ensures space { let old = V.state files.old in let new = V.state files.new in
+        OnSpace result (λ need. KeepsBytes old new cat) }
+    ensures asked { let old = V.state files.old in let ks = keys_at old tuples.now site.now in
+        IsTrue old.tells → OnSpace result (λ need.
+        AsksIndex (V.asks files.new) (V.state files.new) cat site.now.slot MaxHeap ks need) }
+    ensures lacks { OnSpace result (λ need. V.lacks files.new need) }
+    ensures store { length (V.state files.new).store ≡ length (V.state files.old).store }
+    ensures cause { HasFileCause (V.faults files.old) (V.faults files.new) result }
+{
+    match add_tree(files, cat, tuples, site) {
+        Ok(file) => Ok(Ok(Access::Tree(file))),
+        Err(FileError::Space { need }) => Err(FileError::Space { need }),
+        Err(FileError::Failed) => Err(FileError::Failed),
+    }
+}
+
+// An index with a hash table of all keys. A table that no index has is filled first.
+fn make_table<V: Files>(
+    files: &mut V,
+    tables: &mut HashTables,
+    indexes: &[Option<Indexed>],
+    cat: FileId,
+    tuples: &Tuples,
+    site: &Site,
+) -> Result<Result<Access, Refusal>, FileError>
+    requires ready { IsReadyFor (V.state files.old) cat tuples.now site.now }
+    requires allowed { IsAllowedAt tuples.now.schema.attributes site.now.attribute MemHash }
+    requires apart { AreElsewhere indexes.now }
+    ensures made { let old = V.state files.old in let new = V.state files.new in
+        IfOk result (λ r. IfOk r (λ access.
+        IsMade old new tables.old tables.new indexes.now cat tuples.now site.now access)) }
+    ensures kind { IfOk result (λ r. IfOk r (λ access. kind_of access ≡ MemHash)) }
+    ensures tried { let ks = keys_at (V.state files.old) tuples.now site.now in
+        IfOk result (λ r. IsTried MemHash indexes.now ks r) }
+    ensures unrefused { let ks = keys_at (V.state files.old) tuples.now site.now in
+        OnSpace result (λ need. IsUnrefused MemHash indexes.now ks) }
+    ensures refused { IfOk result (λ r. OnErr r (V.state files.new ≡ V.state files.old)) }
+    ensures tables { UnlessFailed result (KeepsTaken tables.old tables.new indexes.now) }
+    ensures space { let old = V.state files.old in let new = V.state files.new in
+        OnSpace result (λ need. KeepsBytes old new cat) }
+    ensures asked { OnSpace result (λ need.
+        AsksSlot (V.asks files.new) (V.state files.new) cat site.now.slot need) }
+    ensures lacks { OnSpace result (λ need. V.lacks files.new need) }
+    ensures store { length (V.state files.new).store ≡ length (V.state files.old).store }
+    ensures cause { HasFileCause (V.faults files.old) (V.faults files.new) result }
+{
+    let Some(table) = free_table(indexes) else {
+        return Ok(Err(Refusal::Full {
+            pool: Pool::HashTables,
+            limit: 2,
+        }));
+    };
+    let slots = tuples.count(files);
+    if is_crowded(slots) {
+        return Ok(Err(Refusal::Full {
+            pool: Pool::HashEntries,
+            limit: 2048,
+        }));
+    }
+    let column = tuples.column(site.attribute);
+    let Ok(()) = tables.fill(files, table, &column, slots) else {
+        return Err(FileError::Failed);
+    };
+    match put_entry(files, cat, site, IndexKind::MemHash) {
+        Ok(()) => Ok(Ok(Access::Table(table))),
+        Err(FileError::Space { need }) => Err(FileError::Space { need }),
+        Err(FileError::Failed) => Err(FileError::Failed),
+    }
+}
+
+/// Makes an index of a kind for all rows of a relation, or answers what of its kind refuses it.
+pub fn make_index<V: Files>(
+    files: &mut V,
+    tables: &mut HashTables,
+    indexes: &[Option<Indexed>],
+    cat: FileId,
+    tuples: &Tuples,
+    site: &Site,
+    kind: IndexKind,
+) -> Result<Result<Access, Refusal>, FileError>
+    requires ready { IsReadyFor (V.state files.old) cat tuples.now site.now }
+    requires allowed { IsAllowedAt tuples.now.schema.attributes site.now.attribute kind }
+    requires apart { AreElsewhere indexes.now }
+    ensures made { let old = V.state files.old in let new = V.state files.new in
+        IfOk result (λ r. IfOk r (λ access.
+        IsMade old new tables.old tables.new indexes.now cat tuples.now site.now access)) }
+    ensures kind { IfOk result (λ r. IfOk r (λ access. kind_of access ≡ kind)) }
+    ensures tried { let old = V.state files.old in let ks = keys_at old tuples.now site.now in
+        IsTrue old.tells → IfOk result (λ r. IsTried kind indexes.now ks r) }
+    ensures unrefused { let old = V.state files.old in let ks = keys_at old tuples.now site.now in
+        IsTrue old.tells → OnSpace result (λ need. IsUnrefused kind indexes.now ks) }
+    ensures refused { IfOk result (λ r. OnErr r (V.state files.new ≡ V.state files.old)) }
+    ensures tables { UnlessFailed result (KeepsTaken tables.old tables.new indexes.now) }
+    ensures space { let old = V.state files.old in let new = V.state files.new in
+        OnSpace result (λ need. KeepsBytes old new cat) }
+    ensures asked { let old = V.state files.old in let ks = keys_at old tuples.now site.now in
+        IsTrue old.tells → OnSpace result (λ need.
+        AsksIndex (V.asks files.new) (V.state files.new) cat site.now.slot kind ks need) }
+    ensures lacks { OnSpace result (λ need. V.lacks files.new need) }
+    ensures store { length (V.state files.new).store ≡ length (V.state files.old).store }
+    ensures cause { HasFileCause (V.faults files.old) (V.faults files.new) result }
+{
+    match kind {
+        IndexKind::Inline => make_order(files, cat, tuples, site),
+        IndexKind::MaxHeap => make_tree(files, cat, tuples, site),
+        IndexKind::MemHash => make_table(files, tables, indexes, cat, tuples, site),
+    }
+}

@@ -1,0 +1,63 @@
+-- A relation that is found by its name.
+use Rattle.std.proofs.Common.{◌≡◌, ℕ, zero, suc, ◌+◌, ◌*◌, ◌<◌, Bool, true, false, cond, List, [], ◌∷◌, length, get_or, map, replicate, Option, Some, None, refl, ap, sym, ◌∙◌, subst, IsTrue}
+use Rattle.std.specs.Prelude.{IsSomeAnd, option_map}
+use Rattle.std.specs.Str.{bytes_eq}
+use Rattle.std.proofs.lemmas.Slice.Eq.{bytes_eq-Decides}
+use Rattle.afl_base.specs.Asked.{asks_few}
+use Rattle.afl_base.specs.Files.{State}
+use Rattle.db_model.specs.Catalog.{Catalog, catalog_of, empty_catalog}
+use Rattle.db_model.specs.Database.{Relation, relation_named}
+use Rattle.index_set.specs.Tables.{Tables}
+use Rattle.space_model.specs.FileNames.{asks_in, size_in}
+use Rattle.space_model.specs.Wants.{WantsRelationSlot}
+use Rattle.tuple_file.specs.declared.tuples.Tuples.{Tuples}
+use Rattle.session_model.specs.declared.held.Held.{Held}
+use Rattle.session_model.specs.declared.held.Open.{Open}
+use Rattle.session_model.specs.Cells.{cell_from}
+use Rattle.session_model.specs.Frames.{schema_in}
+use Rattle.session_model.specs.Running.{IsRunning, catalog_bytes}
+use Rattle.session_model.specs.View.{view}
+use Rattle.session_model.specs.Wanted.{room_in}
+use Rattle.session_model.proofs.Running.{slot_is, some_same}
+use Rattle.session_model.proofs.Wanted.{relation_seen, wants_catalog}
+use Rattle.session_relations.specs.Changes.{AsksSlot}
+
+-- the relation that is found has the name
+pub cell_named : (name : List ℕ) (n : ℕ) (slots : List (Option Tuples)) (k : ℕ) (t : Tuples) → cell_from name n slots ≡ Some (k, t) → t.schema.name ≡ name
+cell_named name n [] k t e = absurd (cc)
+cell_named name n (None ∷ slots) k t e = cell_named name (n + 1) slots k t e
+cell_named name n (Some s ∷ slots) k t e = choose (bytes_eq s.schema.name name) refl e (λ rest. cell_named name (n + 1) slots k t rest)
+  where
+    choose : (b : Bool) → bytes_eq s.schema.name name ≡ b → cond b (Some (n, s)) (cell_from name (n + 1) slots) ≡ Some (k, t)
+        → (cell_from name (n + 1) slots ≡ Some (k, t) → t.schema.name ≡ name) → t.schema.name ≡ name
+    choose true same found later = sym (ap (λ (p : ℕ × Tuples). p.1.schema.name) (some_same (n, s) (k, t) found)) ∙ (bytes_eq-Decides s.schema.name name).0 same
+    choose false other found later = later found
+
+-- no slot is used
+none_used : (name : List ℕ) (n m : ℕ) (slots : List (Option Tuples)) → map (option_map schema_in) slots ≡ replicate m None → cell_from name n slots ≡ None
+none_used name n m [] e = refl
+none_used name n zero (None ∷ slots) e = absurd (cc)
+none_used name n (suc m) (None ∷ slots) e = none_used name (n + 1) m slots (let same : map (option_map schema_in) slots ≡ replicate m None = cc in same)
+none_used name n zero (Some t ∷ slots) e = absurd (cc)
+none_used name n (suc m) (Some t ∷ slots) e = absurd (cc)
+
+-- a catalog that is told and absent has no relation
+pub without_catalog : (state : State) (tables : Tables) (held : Held) (opens : List (Option Open)) (name : List ℕ) → IsRunning state tables held opens → IsTrue state.tells → held.cat ≡ None
+    → cell_from name 0 held.relations ≡ None
+without_catalog state tables held opens name r told none =
+    let empty : catalog_of [] ≡ empty_catalog = refl in
+    let bytes : catalog_bytes state.files held.cat ≡ [] = ap (catalog_bytes state.files) none in
+    none_used name 0 8 held.relations (ap (λ (c : Catalog). c.relations) (sym (r.listed told) ∙ ap catalog_of bytes ∙ empty))
+
+-- what a change of its slot asks for
+pub wants_found : (state : State) (tables : Tables) (held : Held) (opens : List (Option Open)) (asks : ℕ → ℕ → ℕ → ℕ → Type 0) (name : List ℕ) (cat slot need : ℕ) (t : Tuples)
+    → IsRunning state tables held opens → held.cat ≡ Some cat → cell_from name 0 held.relations ≡ Some (slot, t) → AsksSlot asks state.files cat slot need
+    → IsSomeAnd (relation_named (view state.files held opens) name) (λ s. WantsRelationSlot (size_in state.files) (asks_in (asks_few asks state.files) state.files) (room_in state.files) s.0 need)
+wants_found state tables held opens asks name cat slot need t r has cell asked =
+    let few : ℕ → ℕ → ℕ → ℕ → Type 0 = asks_few asks state.files in
+    let P : Option (ℕ × Relation) → Type 0 = λ o. IsSomeAnd o (λ s. WantsRelationSlot (size_in state.files) (asks_in few state.files) (room_in state.files) s.0 need) in
+    subst P (sym (relation_seen state.files held opens name slot t cell)) (wants_catalog state tables held opens r few cat (176 * slot) 176 need has asked)
+
+-- what stands at an index is what stands in the slot
+pub slot_item : (slots : List (Option Tuples)) (n k : ℕ) (o : Option Tuples) (t : Tuples) → n ≡ k → k < length slots → o ≡ get_or slots n o → get_or slots n o ≡ Some t → get_or slots k None ≡ Some t
+slot_item slots n k o t same below item is = slot_is slots k o t below (item ∙ ap (λ (m : ℕ). get_or slots m o) same) (item ∙ is)

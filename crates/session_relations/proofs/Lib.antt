@@ -1,0 +1,12 @@
+pub mod Answered
+pub mod Causes
+pub mod Created
+pub mod Found
+pub mod Gone
+pub mod Grown
+pub mod LeastReader
+pub mod ReadBack
+pub mod Replaced
+pub mod Shown
+pub mod SlotChanges
+pub mod Slots

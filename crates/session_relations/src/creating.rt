@@ -1,0 +1,217 @@
+//! CREATE RELATION.
+
+#![tactic(auto)]
+
+ghost use Rattle.std.specs.Prelude.{◌≡◌, ◌<◌, ◌⊎◌, ℕ, List, Option, Err, IfErr, IfOk, IsTrue, None, Ok, OnOk, Some, length};
+ghost use Rattle.afl_base.specs.Causes.{HasCause};
+ghost use Rattle.afl_base.specs.declared.kind.Kind.TheVariants.{Doubling};
+ghost use Rattle.afl_base.specs.FileErrors.{HasFileCause, OnSpace, UnlessFailed};
+ghost use Rattle.afl_base.specs.Files.{IsUnnamed, Keeps, KeepsBytes, Table, new_file, place, used};
+ghost use Rattle.db_model.specs.declared.commands.Command.TheVariants as command;
+ghost use Rattle.db_model.specs.Database.{free_from, with_relation};
+ghost use Rattle.db_model.specs.Names.{is_name};
+ghost use Rattle.db_model.specs.Step as machine;
+ghost use Rattle.db_model.specs.Step.{Fine};
+ghost use Rattle.space_model.specs.FileNames.{rows_file};
+ghost use Rattle.session_model.specs.Aheads.{aheads_of};
+ghost use Rattle.session_model.specs.Answers.{OnNoSpace};
+ghost use Rattle.session_model.specs.declared.held.Open.{Open as AnyOpen};
+ghost use Rattle.session_model.specs.Running.{HasCatalog, IsRunning};
+ghost use Rattle.session_model.specs.Steps.{Answers};
+ghost use Rattle.session_model.specs.View.{view};
+ghost use Rattle.session_model.specs.Wanted.{WantsFew};
+ghost use Rattle.session_relations.specs.Changes.{AsksSlot, PutsSlot, Shows, bare_relation, bare_schema, changed_at};
+
+use crate::finding::{Place, free_slot};
+use afl_base::{Failed, FileError, FileId, Files, Kind, RelationId};
+use catalog::{catalog_file, put_relation, rows_file};
+use db_model::{Few, Ident, Pool, Refusal, Schema};
+use index_set::HashTables;
+use session_model::{Answer, Held, Open, find_relation, prepare_catalog};
+use tuple_file::Tuples;
+
+/// Makes an empty relation: the catalog where it is absent, room in it, the file of its rows, and then its slot.
+pub fn create_relation<V: Files>(
+    files: &mut V,
+    tables: &HashTables,
+    held: &mut Held,
+    opens: &[Option<Open>],
+    name: &Ident,
+) -> Result<Answer, Failed>
+    requires running { IsRunning (V.state files.old) tables.now held.old opens.now }
+    ensures done { let old = view (V.state files.old).files held.old opens.now in
+        let new = view (V.state files.new).files held.new opens.now in
+        IsTrue (V.state files.old).tells → IfOk result (λ answer.
+        Answers (command.CreateRelation name.now) old new answer) }
+    ensures running { OnOk result (IsRunning (V.state files.new) tables.now held.new opens.now) }
+    ensures aheads { IsTrue (V.state files.old).tells → OnOk result
+        (aheads_of (V.state files.new).files opens.now ≡ aheads_of (V.state files.old).files opens.now) }
+    ensures tells { OnOk result ((V.state files.new).tells ≡ (V.state files.old).tells) }
+    ensures wants { let new = view (V.state files.new).files held.new opens.now in
+        IsTrue (V.state files.old).tells → OnNoSpace result (λ need.
+        WantsFew (V.asks files.new) (V.state files.new).files new
+        (command.CreateRelation name.now) need) }
+    ensures lacks { OnNoSpace result (λ need. V.lacks files.new need) }
+    ensures store { length (V.state files.new).store ≡ length (V.state files.old).store }
+    ensures cause { HasCause (V.faults files.old) (V.faults files.new) result }
+{
+    let slot = match slot_for(held, name) {
+        Ok(slot) => slot,
+        Err(refusal) => return Ok(Answer::Refused(refusal)),
+    };
+    match add_relation(files, tables, held, opens, slot, name) {
+        Ok(()) => Ok(Answer::Fine),
+        Err(FileError::Space { need }) => Ok(Answer::NoSpace(need)),
+        Err(FileError::Failed) => Err(Failed),
+    }
+}
+
+// The slot for a new relation of that name, or why there is to be none.
+fn slot_for(held: &Held, name: &Ident) -> Result<RelationId, Refusal>
+    requires { length held.now.relations ≡ 8 }
+    ensures slot { IfOk result (λ slot. free_from 0 held.now.relations ≡ Some slot) }
+    ensures made { IfOk result (λ slot. (files : Table) (opens : List (Option AnyOpen))
+        → machine.create_relation (view files held.now opens) name.now
+        ≡ Ok (
+          with_relation (view files held.now opens) slot
+              (Some (bare_relation name.now)),
+          Fine,
+        )) }
+    ensures refused { IfErr result (λ refusal. (files : Table) (opens : List (Option AnyOpen))
+        → machine.create_relation (view files held.now opens) name.now ≡ Err refusal) }
+{
+    match find_relation(&held.relations, name) {
+        Some(_) => return Err(Refusal::Exists),
+        None => {}
+    }
+    match free_slot(&held.relations) {
+        Some(slot) => Ok(slot),
+        None => Err(Refusal::Full {
+            pool: Pool::Relations,
+            limit: 8,
+        }),
+    }
+}
+
+// Makes an empty relation in the lowest free slot.
+fn add_relation<V: Files>(
+    files: &mut V,
+    tables: &HashTables,
+    held: &mut Held,
+    opens: &[Option<Open>],
+    slot: RelationId,
+    name: &Ident,
+) -> Result<(), FileError>
+    requires running { IsRunning (V.state files.old) tables.now held.old opens.now }
+    requires slot { free_from 0 held.old.relations ≡ Some slot }
+    ensures made { let old = view (V.state files.old).files held.old opens.now in OnOk result
+        (Shows (V.state files.old) (V.state files.new) tables.now held.new opens.now
+        (changed_at old slot (Some (bare_relation name.now)))) }
+    ensures kept { OnSpace result (λ _.
+        Shows (V.state files.old) (V.state files.new) tables.now held.new opens.now
+        (view (V.state files.old).files held.old opens.now)) }
+    ensures wants { let new = view (V.state files.new).files held.new opens.now in
+        IsTrue (V.state files.old).tells → OnSpace result (λ need.
+        WantsFew (V.asks files.new) (V.state files.new).files new
+        (command.CreateRelation name.now) need) }
+    ensures lacks { OnSpace result (λ need. V.lacks files.new need) }
+    ensures store { length (V.state files.new).store ≡ length (V.state files.old).store }
+    ensures cause { HasFileCause (V.faults files.old) (V.faults files.new) result }
+{
+    let cat = match make_catalog(files, tables, held, opens) {
+        Ok(cat) => cat,
+        Err(FileError::Space { need }) => return Err(FileError::Space { need }),
+        Err(FileError::Failed) => return Err(FileError::Failed),
+    };
+    let schema = bare_schema(name);
+    match make_rows(files, &Place { cat, slot }, &schema) {
+        Ok(file) => {
+            held.relations[slot.number() as usize] = Some(Tuples { file, schema });
+            held.version = 2;
+            Ok(())
+        }
+        Err(FileError::Space { need }) => Err(FileError::Space { need }),
+        Err(FileError::Failed) => Err(FileError::Failed),
+    }
+}
+
+// The schema of a relation that has nothing but its name.
+fn bare_schema(name: &Ident) -> Schema
+    ensures schema { result ≡ bare_schema name.now }
+    ensures name { IsTrue (is_name name.now) }
+{
+    // its bytes are those of a NAME
+    let _bytes = name.bytes();
+    Schema {
+        name: *name,
+        attributes: Few::new(),
+    }
+}
+
+// The file of the catalog, which is made where it is absent.
+fn make_catalog<V: Files>(
+    files: &mut V,
+    tables: &HashTables,
+    held: &mut Held,
+    opens: &[Option<Open>],
+) -> Result<FileId, FileError>
+    requires running { IsRunning (V.state files.old) tables.now held.old opens.now }
+    ensures cat { IfOk result (λ cat. held.new ≡ record held.old { cat = Some cat }) }
+    ensures made { OnOk result
+        (Shows (V.state files.old) (V.state files.new) tables.now held.new opens.now
+        (view (V.state files.old).files held.old opens.now)) }
+    ensures kept { OnSpace result (λ _. Keeps (V.state files.old) (V.state files.new)
+        × (held.new ≡ held.old) × (held.old.cat ≡ None)) }
+    ensures need { OnSpace result (λ need. need ≡ 6) }
+    ensures lacks { OnSpace result (λ need. V.lacks files.new need) }
+    ensures store { length (V.state files.new).store ≡ length (V.state files.old).store }
+    ensures cause { HasFileCause (V.faults files.old) (V.faults files.new) result }
+{
+    match held.cat {
+        Some(cat) => Ok(cat),
+        None => match files.create(catalog_file(), Kind::Fixed(6)) {
+            Ok(cat) => {
+                held.cat = Some(cat);
+                Ok(cat)
+            }
+            Err(FileError::Space { need }) => Err(FileError::Space { need }),
+            Err(FileError::Failed) => Err(FileError::Failed),
+        },
+    }
+}
+
+// Makes the file of a new relation's rows, and puts the relation into its slot of the catalog.
+fn make_rows<V: Files>(files: &mut V, at: &Place, schema: &Schema) -> Result<FileId, FileError>
+    requires idle { (V.state files.old).draft ≡ None }
+    requires catalog { HasCatalog (V.state files.old).files (Some at.now.cat) }
+    requires unnamed { IsUnnamed (V.state files.old).files (rows_file at.now.slot) }
+    requires few { used (V.state files.old).files < 32 }
+    ensures put { OnOk result
+        (PutsSlot (V.state files.old) (V.state files.new) at.now.cat at.now.slot
+        (Some schema.now)) }
+    ensures file { IfOk result (λ file.
+        place (V.state files.new).files file ≡ Some (new_file (rows_file at.now.slot) Doubling)) }
+    ensures kept { OnSpace result (λ _.
+        KeepsBytes (V.state files.old) (V.state files.new) at.now.cat) }
+    ensures asked { OnSpace result (λ need.
+        AsksSlot (V.asks files.new) (V.state files.new).files at.now.cat at.now.slot need
+        ⊎ (need ≡ 16)) }
+    ensures lacks { OnSpace result (λ need. V.lacks files.new need) }
+    ensures store { length (V.state files.new).store ≡ length (V.state files.old).store }
+    ensures cause { HasFileCause (V.faults files.old) (V.faults files.new) result }
+{
+    match prepare_catalog(files, at.cat, 176 * u32::from(at.slot.number()), 176) {
+        Ok(()) => {}
+        Err(FileError::Space { need }) => return Err(FileError::Space { need }),
+        Err(FileError::Failed) => return Err(FileError::Failed),
+    }
+    let file = match files.create(rows_file(at.slot), Kind::Doubling) {
+        Ok(file) => file,
+        Err(FileError::Space { need }) => return Err(FileError::Space { need }),
+        Err(FileError::Failed) => return Err(FileError::Failed),
+    };
+    match put_relation(files, at.cat, at.slot, schema) {
+        Ok(()) => Ok(file),
+        Err(Failed) => Err(FileError::Failed),
+    }
+}

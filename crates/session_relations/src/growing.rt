@@ -1,0 +1,251 @@
+//! CREATE ATTRIBUTE.
+
+#![tactic(auto)]
+
+ghost use Rattle.std.specs.Prelude.{◌≡◌, ◌≤◌, ◌<◌, ℕ, List, Option, [], Err, IfErr, IfNone, IfOk, IfSome, IsSome, IsTrue, None, Ok, OnOk, Some, get_or, length};
+ghost use Rattle.afl_base.specs.Causes.{HasCause};
+ghost use Rattle.afl_base.specs.FileErrors.{HasFileCause, OnSpace};
+ghost use Rattle.afl_base.specs.Files.{KeepsBytes};
+ghost use Rattle.catalog.specs.CatalogFile.{PutsRelation};
+ghost use Rattle.db_model.specs.declared.commands.Command.TheVariants as command;
+ghost use Rattle.db_model.specs.Catalog.{IsDomain};
+ghost use Rattle.db_model.specs.Database.{Database};
+ghost use Rattle.db_model.specs.Item.{place_of};
+ghost use Rattle.db_model.specs.Row.{Row};
+ghost use Rattle.db_model.specs.Step.{Fine, add_attribute, domain_asked};
+ghost use Rattle.db_model.specs.Typing.{is_attribute};
+ghost use Rattle.session_model.specs.Aheads.{aheads_of};
+ghost use Rattle.session_model.specs.Answers.{OnNoSpace};
+ghost use Rattle.session_model.specs.Running.{HasCatalog, IsRunning};
+ghost use Rattle.session_model.specs.Steps.{Answers};
+ghost use Rattle.session_model.specs.View.{view};
+ghost use Rattle.session_model.specs.Wanted.{WantsFew};
+ghost use Rattle.session_relations.specs.Changes.{AsksSlot, Grows, IsLonger, Shows, changed_at};
+ghost use Rattle.tuple_file.specs.declared.tuples.Tuples.{Tuples as AnyTuples};
+ghost use Rattle.tuple_file.specs.Tuples.{HoldsRows, rows};
+
+use crate::finding::{Place, find_place};
+use afl_base::{Failed, FileError, Files};
+use catalog::put_relation;
+use db_model::{Attribute, Domain, DomainAsked, Ident, Pool, Refusal, Schema, row_length};
+use index_set::HashTables;
+use session_model::{Answer, Held, Open, prepare_catalog};
+use tuple_file::Tuples;
+
+/// Puts an attribute behind the others of a relation that has no slots.
+pub fn create_attribute<V: Files>(
+    files: &mut V,
+    tables: &HashTables,
+    held: &mut Held,
+    opens: &[Option<Open>],
+    name: &Ident,
+    domain: &DomainAsked,
+    relation: &Ident,
+) -> Result<Answer, Failed>
+    requires running { IsRunning (V.state files.old) tables.now held.old opens.now }
+    ensures done { let old = view (V.state files.old).files held.old opens.now in
+        let new = view (V.state files.new).files held.new opens.now in
+        IsTrue (V.state files.old).tells → IfOk result (λ answer.
+        Answers (command.CreateAttribute name.now domain.now relation.now) old new answer) }
+    ensures running { OnOk result (IsRunning (V.state files.new) tables.now held.new opens.now) }
+    ensures aheads { IsTrue (V.state files.old).tells → OnOk result
+        (aheads_of (V.state files.new).files opens.now ≡ aheads_of (V.state files.old).files opens.now) }
+    ensures tells { OnOk result ((V.state files.new).tells ≡ (V.state files.old).tells) }
+    ensures wants { let new = view (V.state files.new).files held.new opens.now in
+        IsTrue (V.state files.old).tells → OnNoSpace result (λ need.
+        WantsFew (V.asks files.new) (V.state files.new).files new
+        (command.CreateAttribute name.now domain.now relation.now) need) }
+    ensures lacks { OnNoSpace result (λ need. V.lacks files.new need) }
+    ensures store { length (V.state files.new).store ≡ length (V.state files.old).store }
+    ensures cause { HasCause (V.faults files.old) (V.faults files.new) result }
+{
+    let at = match find_place(held, relation) {
+        Some(at) => at,
+        None => return Ok(Answer::Refused(Refusal::NoRelation)),
+    };
+    let grown = match grown_at(files, held, &at, name, domain) {
+        Ok(grown) => grown,
+        Err(refusal) => return Ok(Answer::Refused(refusal)),
+    };
+    match grow_relation(files, tables, held, opens, &at, grown) {
+        Ok(()) => Ok(Answer::Fine),
+        Err(FileError::Space { need }) => Ok(Answer::NoSpace(need)),
+        Err(FileError::Failed) => Err(Failed),
+    }
+}
+
+// The relation in a slot with one attribute more, or why there is to be none.
+fn grown_at<V: Files>(
+    files: &V,
+    held: &Held,
+    at: &Place,
+    name: &Ident,
+    domain: &DomainAsked,
+) -> Result<Tuples, Refusal>
+    requires eight { length held.now.relations ≡ 8 }
+    requires there { IsSome (get_or held.now.relations at.now.slot None) }
+    requires holds { (t : AnyTuples) → get_or held.now.relations at.now.slot None ≡ Some t
+        → HoldsRows (V.state files.now) t }
+    ensures grows { IfOk result (λ grown.
+        Grows (V.state files.now).files held.now at.now.slot grown) }
+    ensures made { IfOk result (λ grown. (db : Database) (t : AnyTuples)
+        → get_or held.now.relations at.now.slot None ≡ Some t
+        → add_attribute name.now domain.now at.now.slot db
+        (record { schema = t.schema; rows = rows (V.state files.now).files t })
+        ≡ Ok (record { schema = grown.schema; rows = [] }, Fine)) }
+    ensures refused { IfErr result (λ refusal. (db : Database) (t : AnyTuples)
+        → get_or held.now.relations at.now.slot None ≡ Some t
+        → add_attribute name.now domain.now at.now.slot db
+        (record { schema = t.schema; rows = rows (V.state files.now).files t }) ≡ Err refusal) }
+{
+    match &held.relations[at.slot.number() as usize] {
+        Some(tuples) => match with_attribute(tuples, tuples.count(files), name, domain) {
+            Ok(grown) => Ok(grown),
+            Err(refusal) => Err(refusal),
+        },
+        None => Err(Refusal::NoRelation),
+    }
+}
+
+// A relation of so many slots with one attribute more, or why there is to be none.
+fn with_attribute(
+    tuples: &Tuples,
+    slots: u16,
+    name: &Ident,
+    domain: &DomainAsked,
+) -> Result<Tuples, Refusal>
+    ensures longer { IfOk result (λ grown. IsLonger tuples.now grown) }
+    ensures empty { OnOk result (slots ≡ 0) }
+    ensures made { IfOk result (λ grown. (slot : ℕ) (db : Database) (rows : List Row)
+        → length rows ≡ slots
+        → add_attribute name.now domain.now slot db
+        (record { schema = tuples.now.schema; rows = rows })
+        ≡ Ok (record { schema = grown.schema; rows = rows }, Fine)) }
+    ensures refused { IfErr result (λ refusal. (slot : ℕ) (db : Database) (rows : List Row)
+        → length rows ≡ slots
+        → add_attribute name.now domain.now slot db
+        (record { schema = tuples.now.schema; rows = rows }) ≡ Err refusal) }
+{
+    if is_attribute(tuples.schema.attributes.as_slice(), name) {
+        return Err(Refusal::Exists);
+    }
+    let Some(domain) = domain_asked(domain) else {
+        return Err(Refusal::Domain);
+    };
+    if slots > 0 {
+        return Err(Refusal::NotEmpty);
+    }
+    if tuples.schema.attributes.len() >= 8 {
+        return Err(Refusal::Full {
+            pool: Pool::Attributes,
+            limit: 8,
+        });
+    }
+    // its bytes are those of a NAME
+    let _bytes = name.bytes();
+    let mut grown = tuples.copy();
+    grown.schema.attributes.push(Attribute {
+        name: *name,
+        domain,
+    });
+    if row_length(&grown.schema.attributes) > 128 {
+        return Err(Refusal::Full {
+            pool: Pool::RowBytes,
+            limit: 128,
+        });
+    }
+    Ok(grown)
+}
+
+// Whether one of the attributes has the name.
+fn is_attribute(attributes: &[Attribute], name: &Ident) -> bool
+    ensures { result ≡ is_attribute attributes.now name.now }
+{
+    for attribute in attributes {
+        if attribute.name == *name {
+            return true;
+        }
+    }
+    false
+}
+
+// The domain that is asked for; a STRING has 1 to 32 bytes.
+fn domain_asked(asked: &DomainAsked) -> Option<Domain>
+    ensures domain { result ≡ domain_asked asked.now }
+    ensures good { IfSome result IsDomain }
+{
+    match asked {
+        DomainAsked::Int => Some(Domain::Int),
+        DomainAsked::Long => Some(Domain::Long),
+        DomainAsked::Time => Some(Domain::Time),
+        DomainAsked::Str(n) => {
+            if 1 <= *n && *n <= 32 {
+                Some(Domain::Str(*n as u8))
+            } else {
+                None
+            }
+        }
+    }
+}
+
+// Puts a relation with one attribute more into its slot.
+fn grow_relation<V: Files>(
+    files: &mut V,
+    tables: &HashTables,
+    held: &mut Held,
+    opens: &[Option<Open>],
+    at: &Place,
+    grown: Tuples,
+) -> Result<(), FileError>
+    requires running { IsRunning (V.state files.old) tables.now held.old opens.now }
+    requires cat { held.old.cat ≡ Some at.now.cat }
+    requires grows { Grows (V.state files.old).files held.old at.now.slot grown }
+    ensures made { let old = view (V.state files.old).files held.old opens.now in OnOk result
+        (Shows (V.state files.old) (V.state files.new) tables.now held.new opens.now
+        (changed_at old at.now.slot (Some (record { schema = grown.schema; rows = [] })))) }
+    ensures kept { OnSpace result (λ _.
+        Shows (V.state files.old) (V.state files.new) tables.now held.new opens.now
+        (view (V.state files.old).files held.old opens.now)) }
+    ensures held { OnSpace result (λ _. held.new ≡ held.old) }
+    ensures asked { OnSpace result (λ need.
+        AsksSlot (V.asks files.new) (V.state files.new).files at.now.cat at.now.slot need) }
+    ensures lacks { OnSpace result (λ need. V.lacks files.new need) }
+    ensures store { length (V.state files.new).store ≡ length (V.state files.old).store }
+    ensures cause { HasFileCause (V.faults files.old) (V.faults files.new) result }
+{
+    match put_slot(files, at, &grown.schema) {
+        Ok(()) => {
+            held.relations[at.slot.number() as usize] = Some(grown);
+            held.version = 2;
+            Ok(())
+        }
+        Err(FileError::Space { need }) => Err(FileError::Space { need }),
+        Err(FileError::Failed) => Err(FileError::Failed),
+    }
+}
+
+// Puts a schema into its slot of the catalog, where there is room for it.
+fn put_slot<V: Files>(files: &mut V, at: &Place, schema: &Schema) -> Result<(), FileError>
+    requires idle { (V.state files.old).draft ≡ None }
+    requires catalog { HasCatalog (V.state files.old).files (Some at.now.cat) }
+    ensures put { OnOk result
+        (PutsRelation (V.state files.old) (V.state files.new) at.now.cat at.now.slot
+        (Some schema.now)) }
+    ensures kept { OnSpace result (λ _.
+        KeepsBytes (V.state files.old) (V.state files.new) at.now.cat) }
+    ensures asked { OnSpace result (λ need.
+        AsksSlot (V.asks files.new) (V.state files.new).files at.now.cat at.now.slot need) }
+    ensures lacks { OnSpace result (λ need. V.lacks files.new need) }
+    ensures store { length (V.state files.new).store ≡ length (V.state files.old).store }
+    ensures cause { HasFileCause (V.faults files.old) (V.faults files.new) result }
+{
+    match prepare_catalog(files, at.cat, 176 * u32::from(at.slot.number()), 176) {
+        Ok(()) => {}
+        Err(FileError::Space { need }) => return Err(FileError::Space { need }),
+        Err(FileError::Failed) => return Err(FileError::Failed),
+    }
+    match put_relation(files, at.cat, at.slot, schema) {
+        Ok(()) => Ok(()),
+        Err(Failed) => Err(FileError::Failed),
+    }
+}

@@ -1,0 +1,13 @@
+pub mod Causes
+pub mod Changes
+pub mod Readers
+pub mod Rooms
+pub mod Suited
+pub mod Wants
+pub mod Packs
+pub mod Ordered
+pub mod Inserts
+pub mod Fronts
+pub mod Marked
+pub mod Removes
+pub mod Refusals

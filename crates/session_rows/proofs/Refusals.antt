@@ -1,0 +1,89 @@
+-- REMOVE FROM in a session, refusal by refusal.
+use Rattle.std.proofs.Common.{◌≡◌, ℕ, List, [], length, map, Option, Some, None, refl, ap, sym, ◌∙◌, Ok, Err}
+use Rattle.std.specs.Prelude.{Result}
+use Rattle.afl_base.specs.Files.{Table}
+use Rattle.db_model.specs.declared.refusals.Refusal.{Refusal}
+use Rattle.db_model.specs.declared.refusals.Refusal.TheVariants as no
+use Rattle.db_model.specs.declared.schemas.Attribute.{Attribute}
+use Rattle.db_model.specs.Answers.{selected}
+use Rattle.db_model.specs.Cond.{Cond}
+use Rattle.db_model.specs.Database.{Database, Relation, reader_of}
+use Rattle.db_model.specs.Refusing.{◌>>◌, refuse_found}
+use Rattle.db_model.specs.Row.{Row}
+use Rattle.db_model.specs.Step.{Reply, Removed, keys, remove_from, removed_row}
+use Rattle.db_model.proofs.SoundRows.{keys_removed}
+use Rattle.lvm.specs.Code.{first_refusal, ill_typed, missing_name, refusal}
+use Rattle.lvm.proofs.Counting.{ill_typed-behind, missing_name-behind}
+use Rattle.tuple_file.specs.declared.tuples.Tuples.{Tuples}
+use Rattle.tuple_file.specs.Tuples.{rows}
+use Rattle.session_model.specs.declared.answer.Answer.{Answer}
+use Rattle.session_model.specs.declared.answer.Answer.TheVariants as answer
+use Rattle.session_model.specs.declared.held.Held.{Held}
+use Rattle.session_model.specs.declared.held.Open.{Open}
+use Rattle.session_model.specs.Answers.{Changed}
+use Rattle.session_model.specs.View.{relation_in, view}
+use Rattle.session_rows.specs.Readers.{reader_among}
+use Rattle.session_rows.specs.Removals.{IsRemoval}
+use Rattle.session_rows.proofs.Readers.{reader_seen}
+
+-- ---- what the machine makes of it
+
+abbrev tried : {A : Type 0} → Option ℕ → Option ℕ → Result A Refusal → Result A Refusal
+tried missing ill rest = ◌>>◌ (refuse_found missing no.NoAttribute) (◌>>◌ (refuse_found ill no.IllTyped) rest)
+
+tried_some : {A : Type 0} (missing ill : Option ℕ) (rest : Result A Refusal) (r : Refusal) → first_refusal missing ill ≡ Some r → tried missing ill rest ≡ Err r
+tried_some (Some nth) ill rest r e = let same : no.NoAttribute nth ≡ r = cc in ap (λ (x : Refusal). Err x) same
+tried_some None (Some nth) rest r e = let same : no.IllTyped nth ≡ r = cc in ap (λ (x : Refusal). Err x) same
+tried_some None None rest r e = absurd (cc)
+
+tried_none : {A : Type 0} (missing ill : Option ℕ) (rest : Result A Refusal) → first_refusal missing ill ≡ None → tried missing ill rest ≡ rest
+tried_none (Some nth) ill rest e = absurd (cc)
+tried_none None (Some nth) rest e = absurd (cc)
+tried_none None None rest e = refl
+
+module _ (condition : Option Cond) (k : ℕ) (db : Database) (r : Relation) where
+  abbrev removed_all : Result (Relation × Reply) Refusal
+  removed_all = Ok (record { schema = r.schema; rows = map (removed_row r.schema.attributes condition) r.rows }, Removed (length (selected r.schema.attributes condition r.rows)))
+
+  abbrev in_turn : Result (Relation × Reply) Refusal
+  in_turn = ◌>>◌ (refuse_found (reader_of db r.schema.name) no.InUse) removed_all
+
+  by_turns : remove_from condition k db r ≡ tried (missing_name 0 r.schema.attributes condition) (ill_typed 0 r.schema.attributes condition) in_turn
+  by_turns = λ i. tried (missing_name-behind r.schema.attributes [] condition refl i) (ill_typed-behind r.schema.attributes [] condition refl i) in_turn
+
+  by_refusal : (n : Refusal) → refusal 0 r.schema.attributes condition ≡ Some n → remove_from condition k db r ≡ Err n
+  by_refusal n e = by_turns ∙ tried_some (missing_name 0 r.schema.attributes condition) (ill_typed 0 r.schema.attributes condition) in_turn n e
+
+  by_reader : (n : ℕ) → refusal 0 r.schema.attributes condition ≡ None → reader_of db r.schema.name ≡ Some n → remove_from condition k db r ≡ Err (no.InUse n)
+  by_reader n e reads = by_turns ∙ tried_none (missing_name 0 r.schema.attributes condition) (ill_typed 0 r.schema.attributes condition) in_turn e ∙ ap (λ (o : Option ℕ). ◌>>◌ (refuse_found o no.InUse) removed_all) reads
+
+  by_none : refusal 0 r.schema.attributes condition ≡ None → reader_of db r.schema.name ≡ None → remove_from condition k db r ≡ removed_all
+  by_none e reads = by_turns ∙ tried_none (missing_name 0 r.schema.attributes condition) (ill_typed 0 r.schema.attributes condition) in_turn e ∙ ap (λ (o : Option ℕ). ◌>>◌ (refuse_found o no.InUse) removed_all) reads
+
+-- ---- in a session
+
+module _ (condition : Option Cond) (files : Table) (held : Held) (opens : List (Option Open)) (k : ℕ) (t : Tuples) where
+  pub is_refused : (n : Refusal) → refusal 0 t.schema.attributes condition ≡ Some n → remove_from condition k (view files held opens) (relation_in files t) ≡ Err n
+  is_refused n e = by_refusal condition k (view files held opens) (relation_in files t) n e
+
+  pub is_read : (n : ℕ) → refusal 0 t.schema.attributes condition ≡ None → reader_among t.schema.name 1 opens ≡ Some n → remove_from condition k (view files held opens) (relation_in files t) ≡ Err (no.InUse n)
+  is_read n e reads = by_reader condition k (view files held opens) (relation_in files t) n e (reader_seen files t.schema.name 1 opens ∙ reads)
+
+  pub removal : (now : Table) (a : Answer) → refusal 0 t.schema.attributes condition ≡ None → reader_among t.schema.name 1 opens ≡ None → IsRemoval t.schema.attributes condition (rows files t) (rows now t) a
+      → Changed (remove_from condition k (view files held opens) (relation_in files t)) (relation_in files t) (relation_in now t) a
+  removal now answer.Fine e reads h = absurd h
+  removal now (answer.Refused n) e reads h = absurd h
+  removal now (answer.Removed n) e reads h =
+      by_none condition k (view files held opens) (relation_in files t) e (reader_seen files t.schema.name 1 opens ∙ reads)
+      ∙ (λ i. Ok (record { schema = t.schema; rows = sym h.0 i }, Removed (sym h.1 i)))
+  removal now (answer.NoSpace need) e reads h = (
+    rw (by_none condition k (view files held opens) (relation_in files t) e (reader_seen files t.schema.name 1 opens ∙ reads)) refl,
+    ap (λ (rs : List Row). record { schema = t.schema; rows = rs }) h,
+  )
+
+-- removed rows keep their keys
+pub removal_keys : (attributes : List Attribute) (condition : Option Cond) (old new : List Row) (a : Answer) → IsRemoval attributes condition old new a → (place : ℕ) → keys place new ≡ keys place old
+removal_keys attributes condition old new answer.Fine h place = absurd h
+removal_keys attributes condition old new (answer.Refused n) h place = absurd h
+removal_keys attributes condition old new (answer.Removed n) h place = ap (keys place) h.0 ∙ keys_removed attributes condition place old
+removal_keys attributes condition old new (answer.NoSpace need) h place = ap (keys place) h

@@ -1,0 +1,33 @@
+use Rattle.std.proofs.Common.{true, refl, sym, ◌∙◌}
+use Rattle.afl_base.proofs.FrameLaws.{becomes_spares}
+use Rattle.db_model.specs.Row.{Row}
+use Rattle.tuple_file.specs.Tuples.{rows}
+use Rattle.session_model.proofs.Frames.{bytes_spared, complete_added, complete_kept, count_rows}
+use Rattle.index_set.specs.declared.info.Access.TheVariants.{Tree}
+use Rattle.index_set.proofs.Lists.{rooms_stay}
+use Rattle.session_rows.proofs.Rooms.{elsewhere, exact_kept}
+use Rattle.session_rows.proofs.adding.write_row.Goals as goal
+
+pub insert_all-requires-clause-room : goal.insert_all-requires-clause-room
+insert_all-requires-clause-room g c =
+    let s0 = g.V.Files.state c.args.files.now in
+    let s1 = g.V.Files.state c.append.new.files in
+    let file = c.args.tuples.now.file in
+    rooms_stay s0 s1 (Tree file) c.args.rooms.now c.args.indexes.now (becomes_spares s0 s1 file _ _ c.requires.holds.file.live c.in_ok-append.ensures.appended) (elsewhere file c.args.indexes.now c.requires.away) c.requires.rooms
+
+pub returns-clause-complete : goal.returns-clause-complete
+returns-clause-complete g c = λ told complete exact follow.
+    let s0 = g.V.Files.state c.args.files.now in
+    let s1 = g.V.Files.state c.append.new.files in
+    let s2 = g.V.Files.state c.insert_all.new.files in
+    let t = c.args.tuples.now in
+    let all = rows s0.files t in
+    let row : Row = record { tuple = c.args.values.now; live = true } in
+    let spared = becomes_spares s0 s1 t.file _ _ c.requires.holds.file.live c.in_ok-append.ensures.appended in
+    let bytes = bytes_spared s0 s1 t.file spared in
+    let after = spared.tells ∙ told in
+    complete_added s0 s1 s2 c.args.tables.now c.insert_all.new.tables t c.args.indexes.now row c.requires.away c.in_ok-insert_all.ensures.others (c.in_ok-append.ensures.rows told)
+    (c.in_ok-insert_all.ensures.complete after all row (count_rows s0.files t ∙ sym c.requires.slot) refl
+    (complete_kept s0 s1 t.file bytes c.args.tables.now all c.args.indexes.now c.requires.away complete)
+    (exact_kept s0 s1 t.file bytes c.args.values.now c.args.rooms.now c.args.indexes.now c.requires.away exact)
+    follow)

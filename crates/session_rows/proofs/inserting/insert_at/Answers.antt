@@ -1,0 +1,90 @@
+use Rattle.std.proofs.Common.{◌≡◌, List, ap, map, refl, sym, subst, ◌∙◌}
+use Rattle.afl_base.specs.Asked.{asks_few}
+use Rattle.afl_base.specs.Frames.{Spares}
+use Rattle.index_set.specs.declared.info.IndexInfo.{IndexInfo}
+use Rattle.index_set.specs.Complete.{AreComplete, AreHeld}
+use Rattle.index_set.specs.Inserts.{AreApart, IsNoTree, KeepsTables}
+use Rattle.tuple_file.specs.Tuples.{rows, slots}
+use Rattle.session_model.specs.Frames.{StaysAt, WantsRow}
+use Rattle.session_model.specs.Indexed.{AreAllowed, index_of, infos_of}
+use Rattle.session_model.specs.View.{view}
+use Rattle.session_model.proofs.Readable.{are_numbers}
+use Rattle.session_model.proofs.Running.{RowsCome, are_allowed, are_apart, are_complete, are_held, away, indexes_seen, relation_there}
+use Rattle.session_rows.proofs.Changes.{goes_on}
+use Rattle.session_rows.proofs.Wants.{no_space}
+use Rattle.session_rows.proofs.inserting.insert_at.Goals as goal
+
+pub indexes_of-indexes-requires-clause-short : goal.indexes_of-indexes-requires-clause-short
+indexes_of-indexes-requires-clause-short g c =
+    (relation_there (g.V.Files.state c.args.files.now) c.args.tables.now c.args.held.now c.args.opens.now c.requires.running c.args.k c.args.tuples.now c.requires.there).holds.file.short
+
+pub indexes_of-indexes-requires-clause-numbers : goal.indexes_of-indexes-requires-clause-numbers
+indexes_of-indexes-requires-clause-numbers g c =
+    are_numbers (g.V.Files.state c.args.files.now) c.args.tables.now c.args.held.now c.args.opens.now c.requires.running c.args.k c.args.tuples.now c.requires.there
+
+pub insert_row-requires-clause-holds : goal.insert_row-requires-clause-holds
+insert_row-requires-clause-holds g c =
+    (relation_there (g.V.Files.state c.args.files.now) c.args.tables.now c.args.held.now c.args.opens.now c.requires.running c.args.k c.args.tuples.now c.requires.there).holds
+
+pub insert_row-requires-clause-few : goal.insert_row-requires-clause-few
+insert_row-requires-clause-few g c =
+    (relation_there (g.V.Files.state c.args.files.now) c.args.tables.now c.args.held.now c.args.opens.now c.requires.running c.args.k c.args.tuples.now c.requires.there).few
+
+pub insert_row-requires-clause-held : goal.insert_row-requires-clause-held
+insert_row-requires-clause-held g c =
+    let old = g.V.Files.state c.args.files.now in
+    subst (λ (l : List IndexInfo). AreHeld old c.args.tables.now (slots old.files c.args.tuples.now) l) (sym c.indexes_of-indexes.ensures)
+    (are_held old c.args.tables.now c.args.held.now c.args.opens.now c.requires.running c.args.k c.args.tuples.now c.requires.there)
+
+pub insert_row-requires-clause-allowed : goal.insert_row-requires-clause-allowed
+insert_row-requires-clause-allowed g c =
+    subst (λ (l : List IndexInfo). AreAllowed c.args.tuples.now.schema.attributes l) (sym c.indexes_of-indexes.ensures)
+    (are_allowed (g.V.Files.state c.args.files.now) c.args.tables.now c.args.held.now c.args.opens.now c.requires.running c.args.k c.args.tuples.now c.requires.there)
+
+pub insert_row-requires-clause-apart : goal.insert_row-requires-clause-apart
+insert_row-requires-clause-apart g c =
+    subst (λ (l : List IndexInfo). AreApart l) (sym c.indexes_of-indexes.ensures)
+    (are_apart (g.V.Files.state c.args.files.now) c.args.tables.now c.args.held.now c.args.opens.now c.requires.running c.args.k c.args.tuples.now)
+
+pub insert_row-requires-clause-away : goal.insert_row-requires-clause-away
+insert_row-requires-clause-away g c =
+    subst (λ (l : List IndexInfo). IsNoTree l c.args.tuples.now.file) (sym c.indexes_of-indexes.ensures)
+    (away (g.V.Files.state c.args.files.now) c.args.tables.now c.args.held.now c.args.opens.now c.requires.running c.args.k c.args.tuples.now c.requires.there)
+
+pub returns-clause-changed : goal.returns-clause-changed
+returns-clause-changed g c = λ told.
+    c.in_ok-answer.ensures.changed told c.args.k (view (g.V.Files.state c.args.files.now).files c.args.held.now c.args.opens.now) refl
+    (indexes_seen c.args.k c.args.tuples.now c.args.held.now.indexes ∙ ap (λ (l : List IndexInfo). map (index_of c.args.k) l) (sym c.indexes_of-indexes.ensures))
+
+pub returns-clause-goes_on : goal.returns-clause-goes_on
+returns-clause-goes_on g c =
+    let old = g.V.Files.state c.args.files.now in
+    let new = g.V.Files.state c.insert_row.new.files in
+    let before = c.args.tables.now in
+    let after = c.insert_row.new.tables in
+    let held = c.args.held.now in
+    let opens = c.args.opens.now in
+    let k = c.args.k in
+    let t = c.args.tuples.now in
+    let e : c.indexes_of-indexes.result ≡ infos_of k t held.indexes = c.indexes_of-indexes.ensures in
+    let h = c.in_ok-answer.ensures in
+    let u : RowsCome old new before after held opens k t = record {
+      there = c.requires.there;
+      spared = subst (λ (l : List IndexInfo). Spares old new (StaysAt t.file l)) e h.others;
+      tables = subst (λ (l : List IndexInfo). KeepsTables before after l) e h.tables;
+      holds = h.holds;
+      few = h.few;
+      grown = λ n o is reads. h.grown;
+      grow = λ told n o is reads. h.grow told;
+      filled = subst (λ (l : List IndexInfo). AreHeld new after (slots new.files t) l) e h.held;
+      complete = λ told. subst (λ (l : List IndexInfo). AreComplete new after (rows new.files t) l) e
+          (h.complete told (subst (λ (l : List IndexInfo). AreComplete old before (rows old.files t) l) (sym e) (are_complete old before held opens c.requires.running k t c.requires.there told)));
+    } in
+    goes_on old new before after held opens k t c.requires.running u
+
+pub returns-clause-wants : goal.returns-clause-wants
+returns-clause-wants g c = λ told.
+    let new = g.V.Files.state c.insert_row.new.files in
+    no_space c.in_ok-answer.answer _ _
+    (λ need h. subst (λ (l : List IndexInfo). WantsRow (asks_few (g.V.Files.asks c.insert_row.new.files) new.files) new c.args.tuples.now l c.args.values.now need) c.indexes_of-indexes.ensures h)
+    (c.in_ok-answer.ensures.wants told)

@@ -1,0 +1,45 @@
+use Rattle.std.proofs.Common.{◌≡◌, ◌≢◌, ◌+◌, ◌<◌, ℕ, List, drop, get_or, length, set, sym, ap, ◌∙◌, add-one, arith}
+use Rattle.afl_base.specs.Files.{bytes_at}
+use Rattle.afl_base.proofs.FrameLaws.{becomes_spares, spares_then}
+use Rattle.db_model.specs.Row.{Row, no_row}
+use Rattle.tuple_file.specs.Tuples.{row, rows, slots}
+use Rattle.cursor.proofs.Walking.{row_there}
+use Rattle.session_model.proofs.Running.{same_default}
+use Rattle.session_rows.specs.Marking.{dead, marked}
+use Rattle.session_rows.proofs.Marked.{marks_one}
+use Rattle.session_rows.proofs.marking.mark_rows.Goals as goal
+
+pub loop-slot-preserved : goal.loop-slot-preserved
+loop-slot-preserved g c =
+    let s0 = g.V.Files.state c.args.files.now in
+    let s1 = g.V.Files.state c.loop-slot.files in
+    let s2 = g.V.Files.state c.mark.new.files in
+    let t = c.args.tuples.now in
+    let items : List ℕ = c.as_slice-slot-items.result.now in
+    let i = c.loop-slot.slot-index in
+    let slot : ℕ = c.slot-item.result in
+    let inv = c.loop-slot.invariant in
+    let h = c.in_ok-mark.ensures in
+    let below : i < length items = c.loop-slot-test.true in
+    let R = rows s1.files t in
+    record {
+      holds = h.holds;
+      count = h.slots ∙ inv.count;
+      records = omega (arith, inv.records, h.records);
+      spared = spares_then s0 s1 s2 (λ k. k ≢ t.file) (λ k. k ≢ t.file) (λ k. k ≢ t.file) inv.spared (becomes_spares s1 s2 t.file _ _ inv.holds.file.live h.marked) (λ k r. (r, r));
+      told = λ told.
+          let before = inv.spared.tells ∙ told in
+          let same : items ≡ c.args.slots.now = c.as_slice-slot-items.ensures.items in
+          let here : slot ≡ get_or items i 0 = c.slot-item.is ∙ same_default items i _ 0 below in
+          let there : get_or items i 0 ≡ get_or c.args.slots.now i 0 = ap (λ (l : List ℕ). get_or l i 0) same in
+          let few : i < length c.args.slots.now = omega (arith, below, ap (λ (l : List ℕ). length l) same) in
+          let inside : slot < slots s1.files t = omega (arith, here, there, c.requires.below i few, inv.count) in
+          let is : row s1.files t slot ≡ get_or R slot no_row = sym (row_there t.schema.attributes (bytes_at s1.files t.file) slot inside) in
+          let next : List Row = set R slot (dead (get_or R slot no_row)) in
+          ap (λ (rs : List Row). marked (drop (i + 1) items) rs) (h.rows before ∙ ap (λ (z : Row). set R slot (dead z)) is)
+          ∙ ap (λ (n : ℕ). marked (drop n items) next) (add-one i)
+          ∙ sym (marks_one R items i slot below here)
+          ∙ inv.told told;
+      store = h.store ∙ inv.store;
+      later = omega (arith, inv.later, h.cause.later);
+    }

@@ -1,0 +1,91 @@
+use Rattle.std.proofs.Common.{◌≡◌, List, refl, sym, ◌∙◌}
+use Rattle.afl_base.specs.declared.kind.FileError.TheVariants.{Space, Failed as FileFailed}
+use Rattle.afl_base.proofs.FrameLaws.{becomes_spares}
+use Rattle.index_set.specs.declared.info.IndexInfo.{IndexInfo}
+use Rattle.session_model.specs.Frames.{StaysAt}
+use Rattle.session_model.specs.Indexed.{infos_of}
+use Rattle.session_model.proofs.Readable.{are_numbers}
+use Rattle.session_model.proofs.Running.{relation_there}
+use Rattle.session_model.specs.View.{relation_in}
+use Rattle.session_rows.proofs.Causes.{failed_cause}
+use Rattle.session_rows.proofs.Changes.{keeps_all, relation_same, rows_dropped, waits_on}
+use Rattle.session_rows.proofs.Packs.{is_indexed, is_packed, is_read, may_pack, no_infos, none_counted, some_counted, wants_packed}
+use Rattle.session_rows.proofs.packing.pack_at.Goals as goal
+
+pub returns-in-Some-clause-changed : goal.returns-in-Some-clause-changed
+returns-in-Some-clause-changed g c = λ told.
+    (is_read (g.V.Files.state c.args.files.now).files c.args.held.now c.args.opens.now c.args.k c.args.tuples.now c.in-Some.cursor (sym c.reader_of.ensures ∙ c.in-Some.is), refl)
+
+pub indexes_of-requires-clause-short : goal.indexes_of-requires-clause-short
+indexes_of-requires-clause-short g c =
+    (relation_there (g.V.Files.state c.args.files.now) c.args.tables.now c.args.held.now c.args.opens.now c.requires.running c.args.k c.args.tuples.now c.requires.there).holds.file.short
+
+pub indexes_of-requires-clause-numbers : goal.indexes_of-requires-clause-numbers
+indexes_of-requires-clause-numbers g c =
+    are_numbers (g.V.Files.state c.args.files.now) c.args.tables.now c.args.held.now c.args.opens.now c.requires.running c.args.k c.args.tuples.now c.requires.there
+
+pub returns-then-not-is_empty-clause-changed : goal.returns-then-not-is_empty-clause-changed
+returns-then-not-is_empty-clause-changed g c = λ told.
+    let infos : List IndexInfo = infos_of c.args.k c.args.tuples.now c.args.held.now.indexes in
+    let some = some_counted c.indexes_of.result infos c.is_empty.result c.indexes_of.ensures c.is_empty.ensures c.if-not-is_empty.true in
+    (is_indexed (g.V.Files.state c.args.files.now).files c.args.held.now c.args.opens.now c.args.k c.args.tuples.now (sym c.reader_of.ensures ∙ c.in_default.is) some, refl)
+
+pub pack-requires-clause-holds : goal.pack-requires-clause-holds
+pack-requires-clause-holds g c =
+    (relation_there (g.V.Files.state c.args.files.now) c.args.tables.now c.args.held.now c.args.opens.now c.requires.running c.args.k c.args.tuples.now c.requires.there).holds
+
+pub returns-in-Ok-clause-changed : goal.returns-in-Ok-clause-changed
+returns-in-Ok-clause-changed g c = λ told.
+    let infos : List IndexInfo = infos_of c.args.k c.args.tuples.now c.args.held.now.indexes in
+    let none = none_counted c.indexes_of.result infos c.is_empty.result c.indexes_of.ensures c.is_empty.ensures c.if-not-is_empty.false in
+    is_packed (g.V.Files.state c.args.files.now).files c.args.held.now c.args.opens.now c.args.k c.args.tuples.now (g.V.Files.state c.pack.new.files).files
+    (sym c.reader_of.ensures ∙ c.in_default.is) none (c.in-Ok.ensures.rows told)
+
+pub returns-in-Ok-clause-goes_on : goal.returns-in-Ok-clause-goes_on
+returns-in-Ok-clause-goes_on g c =
+    let old = g.V.Files.state c.args.files.now in
+    let new = g.V.Files.state c.pack.new.files in
+    let t = c.args.tuples.now in
+    let h = c.in-Ok.ensures in
+    let infos : List IndexInfo = infos_of c.args.k t c.args.held.now.indexes in
+    let none = none_counted c.indexes_of.result infos c.is_empty.result c.indexes_of.ensures c.is_empty.ensures c.if-not-is_empty.false in
+    let here = relation_there old c.args.tables.now c.args.held.now c.args.opens.now c.requires.running c.args.k t c.requires.there in
+    rows_dropped old new c.args.tables.now c.args.held.now c.args.opens.now c.args.k t c.requires.running c.requires.there
+    (becomes_spares old new t.file _ _ here.holds.file.live h.only) h.holds h.slots (sym c.reader_of.ensures ∙ c.in_default.is) (no_infos infos none)
+
+pub returns-in-Err-Space-clause-changed : goal.returns-in-Err-Space-clause-changed
+returns-in-Err-Space-clause-changed g c = λ told.
+    let old = g.V.Files.state c.args.files.now in
+    let new = g.V.Files.state c.pack.new.files in
+    let t = c.args.tuples.now in
+    let infos : List IndexInfo = infos_of c.args.k t c.args.held.now.indexes in
+    let none = none_counted c.indexes_of.result infos c.is_empty.result c.indexes_of.ensures c.is_empty.ensures c.if-not-is_empty.false in
+    let kept = keeps_all old new (StaysAt t.file infos) (rw c.in-Err-Space.field-0-is at c.in-Err-Space.ensures.kept) in (
+      may_pack old.files c.args.held.now c.args.opens.now c.args.k t (sym c.reader_of.ensures ∙ c.in_default.is) none,
+      relation_same old new c.args.tables.now c.args.held.now c.args.opens.now c.args.k t c.requires.running c.requires.there kept told,
+    )
+
+pub returns-in-Err-Space-clause-goes_on : goal.returns-in-Err-Space-clause-goes_on
+returns-in-Err-Space-clause-goes_on g c =
+    let old = g.V.Files.state c.args.files.now in
+    let new = g.V.Files.state c.pack.new.files in
+    let t = c.args.tuples.now in
+    let kept = keeps_all old new (StaysAt t.file (infos_of c.args.k t c.args.held.now.indexes)) (rw c.in-Err-Space.field-0-is at c.in-Err-Space.ensures.kept) in
+    waits_on old new c.args.tables.now c.args.held.now c.args.opens.now c.args.k t c.requires.running c.requires.there kept
+
+pub returns-in-Err-Space-clause-wants : goal.returns-in-Err-Space-clause-wants
+returns-in-Err-Space-clause-wants g c = λ told.
+    let old = g.V.Files.state c.args.files.now in
+    let new = g.V.Files.state c.pack.new.files in
+    let t = c.args.tuples.now in
+    let kept = keeps_all old new (StaysAt t.file (infos_of c.args.k t c.args.held.now.indexes)) (rw c.in-Err-Space.field-0-is at c.in-Err-Space.ensures.kept) in
+    wants_packed (relation_in old.files t) (relation_in new.files t) c.in-Err-Space.need
+    (relation_same old new c.args.tables.now c.args.held.now c.args.opens.now c.args.k t c.requires.running c.requires.there kept told)
+    (λ all. no_space (rw c.in-Err-Space.field-0-is at (c.in-Err-Space.ensures.never told all)))
+    ((rw c.in-Err-Space.field-0-is at c.in-Err-Space.ensures.need) told)
+  where
+    no_space : Space c.in-Err-Space.need ≡ FileFailed → ⊥
+    no_space e = cc
+
+pub returns-in-Err-Failed-clause-cause : goal.returns-in-Err-Failed-clause-cause
+returns-in-Err-Failed-clause-cause g c = failed_cause _ _ _ _ c.in-Err-Failed.field-0-is c.in-Err-Failed.ensures.cause

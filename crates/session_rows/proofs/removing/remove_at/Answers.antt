@@ -1,0 +1,85 @@
+use Rattle.std.proofs.Common.{◌∙◌, List, arith, refl, subst, sym}
+use Rattle.db_model.specs.Cond.{condition_of}
+use Rattle.index_set.specs.declared.info.IndexInfo.{IndexInfo}
+use Rattle.index_set.specs.Complete.{AreIndexesOf, AreReadable}
+use Rattle.tuple_file.specs.Tuples.{rows, slots}
+use Rattle.cursor.specs.Remaining.{AreOnNumbers}
+use Rattle.session_model.proofs.Readable.{are_indexes, are_numbers, are_on_numbers, are_readable}
+use Rattle.session_model.proofs.Running.{relation_there, rows_change}
+use Rattle.session_rows.proofs.Changes.{goes_on}
+use Rattle.session_rows.proofs.Readers.{reader_seen}
+use Rattle.session_rows.proofs.Refusals.{is_read, is_refused, removal, removal_keys}
+use Rattle.session_rows.proofs.Wants.{no_space}
+use Rattle.session_rows.proofs.removing.remove_at.Goals as goal
+
+pub returns-in-Err-clause-changed : goal.returns-in-Err-clause-changed
+returns-in-Err-clause-changed g c = λ told.
+    (is_refused (condition_of c.args.condition.now) (g.V.Files.state c.args.files.now).files c.args.held.now c.args.opens.now c.args.k c.args.tuples.now c.in-Err.refusal c.in-Err.ensures.refused, refl)
+
+pub returns-in-Some-clause-changed : goal.returns-in-Some-clause-changed
+returns-in-Some-clause-changed g c = λ told. (
+  is_read (condition_of c.args.condition.now) (g.V.Files.state c.args.files.now).files c.args.held.now c.args.opens.now c.args.k c.args.tuples.now c.in-Some.cursor c.in-Ok.ensures.accepted
+      (sym c.reader_of.ensures ∙ c.in-Some.is),
+  refl,
+)
+
+pub indexes_of-indexes-requires-clause-short : goal.indexes_of-indexes-requires-clause-short
+indexes_of-indexes-requires-clause-short g c =
+    (relation_there (g.V.Files.state c.args.files.now) c.args.tables.now c.args.held.now c.args.opens.now c.requires.running c.args.k c.args.tuples.now c.requires.there).holds.file.short
+
+pub indexes_of-indexes-requires-clause-numbers : goal.indexes_of-indexes-requires-clause-numbers
+indexes_of-indexes-requires-clause-numbers g c =
+    are_numbers (g.V.Files.state c.args.files.now) c.args.tables.now c.args.held.now c.args.opens.now c.requires.running c.args.k c.args.tuples.now c.requires.there
+
+pub remove_rows-requires-clause-holds : goal.remove_rows-requires-clause-holds
+remove_rows-requires-clause-holds g c =
+    (relation_there (g.V.Files.state c.args.files.now) c.args.tables.now c.args.held.now c.args.opens.now c.requires.running c.args.k c.args.tuples.now c.requires.there).holds
+
+pub remove_rows-requires-clause-numbers : goal.remove_rows-requires-clause-numbers
+remove_rows-requires-clause-numbers g c =
+    subst (λ (l : List IndexInfo). AreOnNumbers c.args.tuples.now.schema.attributes l) (sym c.indexes_of-indexes.ensures)
+    (are_on_numbers (g.V.Files.state c.args.files.now) c.args.tables.now c.args.held.now c.args.opens.now c.requires.running c.args.k c.args.tuples.now c.requires.there)
+
+pub remove_rows-requires-clause-readable : goal.remove_rows-requires-clause-readable
+remove_rows-requires-clause-readable g c =
+    let old = g.V.Files.state c.args.files.now in
+    let n = slots old.files c.args.tuples.now in
+    subst (λ (l : List IndexInfo). AreReadable old n l) (sym c.indexes_of-indexes.ensures)
+    (are_readable old c.args.tables.now c.args.held.now c.args.opens.now c.requires.running c.args.k c.args.tuples.now c.requires.there n (omega arith))
+
+pub returns-clause-changed : goal.returns-clause-changed
+returns-clause-changed g c = λ told.
+    let old = g.V.Files.state c.args.files.now in
+    let new = g.V.Files.state c.remove_rows.new.files in
+    let t = c.args.tuples.now in
+    let tree = condition_of c.args.condition.now in
+    let complete = subst (λ (l : List IndexInfo). AreIndexesOf old c.args.tables.now (rows old.files t) l) (sym c.indexes_of-indexes.ensures)
+    (are_indexes old c.args.tables.now c.args.held.now c.args.opens.now c.requires.running c.args.k t c.requires.there told) in
+    removal tree old.files c.args.held.now c.args.opens.now c.args.k t new.files c.in_ok-answer.answer c.in-Ok.ensures.accepted (sym c.reader_of.ensures ∙ c.in_default.is)
+    (c.in_ok-answer.ensures.removed told tree c.in-Ok.ensures.code complete)
+
+pub returns-clause-goes_on : goal.returns-clause-goes_on
+returns-clause-goes_on g c =
+    let old = g.V.Files.state c.args.files.now in
+    let new = g.V.Files.state c.remove_rows.new.files in
+    let tables = c.args.tables.now in
+    let held = c.args.held.now in
+    let opens = c.args.opens.now in
+    let t = c.args.tuples.now in
+    let tree = condition_of c.args.condition.now in
+    let h = c.in_ok-answer.ensures in
+    goes_on old new tables tables held opens c.args.k t c.requires.running
+    (rows_change old new tables held opens c.args.k t c.requires.running c.requires.there h.spared h.holds h.slots (reader_seen old.files t.schema.name 1 opens ∙ sym c.reader_of.ensures ∙ c.in_default.is)
+    (λ told place.
+    let complete = subst (λ (l : List IndexInfo). AreIndexesOf old tables (rows old.files t) l) (sym c.indexes_of-indexes.ensures)
+    (are_indexes old tables held opens c.requires.running c.args.k t c.requires.there told) in
+    removal_keys t.schema.attributes tree (rows old.files t) (rows new.files t) c.in_ok-answer.answer (h.removed told tree c.in-Ok.ensures.code complete) place))
+
+pub returns-clause-wants : goal.returns-clause-wants
+returns-clause-wants g c = λ told.
+    let old = g.V.Files.state c.args.files.now in
+    let t = c.args.tuples.now in
+    let tree = condition_of c.args.condition.now in
+    let complete = subst (λ (l : List IndexInfo). AreIndexesOf old c.args.tables.now (rows old.files t) l) (sym c.indexes_of-indexes.ensures)
+    (are_indexes old c.args.tables.now c.args.held.now c.args.opens.now c.requires.running c.args.k t c.requires.there told) in
+    no_space c.in_ok-answer.answer _ _ (λ need h. h tree c.in-Ok.ensures.code complete) (c.in_ok-answer.ensures.wants told)

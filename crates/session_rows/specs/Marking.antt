@@ -1,0 +1,26 @@
+-- Rows that are marked as removed one after the other, and the slots that are.
+use Rattle.std.specs.Prelude.{◌≡◌, ◌≤◌, ◌<◌, ℕ, false, List, [], ◌∷◌, drop, get_or, length, set, take}
+use Rattle.db_model.specs.Row.{Row, no_row}
+use Rattle.session_rows.specs.declared.selecting.Selected.{Selected}
+
+abbrev pub dead : Row → Row
+dead row = record row { live = false }
+
+abbrev pub marked : List ℕ → List Row → List Row
+marked [] rows = rows
+marked (slot ∷ slots) rows = marked slots (set rows slot (dead (get_or rows slot no_row)))
+
+-- each of them is less than a number
+abbrev pub AreBelow : ℕ → List ℕ → Type 0
+AreBelow n slots = (i : ℕ) → i < length slots → get_or slots i 0 < n
+
+-- so many slots were selected, and these are the first of them
+pub record IsSelected (s : Selected) (slots : List ℕ) : Type 0 where
+  pub count : s.count ≡ length slots
+  pub first : s.first ≡ take 29 slots
+
+-- of some slots those before the ones that are left
+pub record IsFront (s : Selected) (slots left : List ℕ) : Type 0 where
+  pub within : s.count ≤ length slots
+  pub first : s.first ≡ take 29 (take s.count slots)
+  pub behind : drop s.count slots ≡ left

@@ -1,0 +1,163 @@
+//! A row behind the others of a relation, and its keys in the indexes.
+
+#![tactic(auto)]
+
+ghost use Rattle.std.specs.Prelude.{◌≡◌, ◌≢◌, ◌+◌, ◌<◌, ◌≤◌, ◌++◌, ◌∷◌, [], None, IsTrue, IfOk, OnOk, length, true};
+ghost use Rattle.afl_base.specs.Asked.{asks_few};
+ghost use Rattle.afl_base.specs.Causes.{HasCause};
+ghost use Rattle.afl_base.specs.FileErrors.{HasFileCause, OnSpace, UnlessFailed};
+ghost use Rattle.afl_base.specs.Files.{file_at};
+ghost use Rattle.afl_base.specs.Frames.{Prepares, Spares};
+ghost use Rattle.db_model.specs.Row.{AllSuit, row_length};
+ghost use Rattle.index_set.specs.Complete.{AreComplete, AreHeld};
+ghost use Rattle.index_set.specs.Inserts.{AreApart, AreOpenFor, AreRoomFor, HaveKeys, HaveRoom, IsNoTree, KeepsTables, MayAllFollow};
+ghost use Rattle.tuple_file.specs.Tuples.{HoldsRows, rows, slots};
+ghost use Rattle.session_model.specs.Frames.{StaysAt, WantsRow};
+
+use afl_base::{Failed, FileError, Files, SlotNo};
+use db_model::{Tuple, row_length};
+use index_set::{HashTables, Indexes, Rooms, insert_all, prepare_all};
+use tuple_file::Tuples;
+
+/// Puts a row behind the others, and its keys into each index: room for all of it is made before
+/// any of it is written.
+pub(crate) fn add_row<V: Files>(
+    files: &mut V,
+    tables: &mut HashTables,
+    tuples: &Tuples,
+    indexes: &Indexes,
+    values: &Tuple,
+    slot: SlotNo,
+) -> Result<(), FileError>
+    requires idle { (V.state files.old).draft ≡ None }
+    requires holds { HoldsRows (V.state files.old) tuples.now }
+    requires slot { slot ≡ slots (V.state files.old).files tuples.now }
+    requires suits { AllSuit tuples.now.schema.attributes values.now }
+    requires held { AreHeld (V.state files.old) tables.old slot indexes.now }
+    requires apart { AreApart indexes.now }
+    requires away { IsNoTree indexes.now tuples.now.file }
+    requires keys { HaveKeys values.now indexes.now }
+    requires open { AreOpenFor slot indexes.now }
+    ensures rows { let all = rows (V.state files.old).files tuples.now in
+        IsTrue (V.state files.old).tells → OnOk result (rows (V.state files.new).files tuples.now
+        ≡ all ++ record { tuple = values.now; live = true } ∷ []) }
+    ensures slots { OnOk result (slots (V.state files.new).files tuples.now ≡ slot + 1) }
+    ensures holds { OnOk result (HoldsRows (V.state files.new) tuples.now) }
+    ensures complete { let all = rows (V.state files.old).files tuples.now in
+        let now = rows (V.state files.new).files tuples.now in
+        IsTrue (V.state files.old).tells → OnOk result
+        (AreComplete (V.state files.old) tables.old all indexes.now
+        → MayAllFollow all values.now indexes.now
+        → AreComplete (V.state files.new) tables.new now indexes.now) }
+    ensures held { OnOk result (AreHeld (V.state files.new) tables.new (slot + 1) indexes.now) }
+    ensures others { let stays = StaysAt tuples.now.file indexes.now in
+        OnOk result (Spares (V.state files.old) (V.state files.new) stays) }
+    ensures tables { OnOk result (KeepsTables tables.old tables.new indexes.now) }
+    ensures space { let stays = StaysAt tuples.now.file indexes.now in
+        OnSpace result (λ need. Prepares (V.state files.old) (V.state files.new) stays) }
+    ensures same_tables { OnSpace result (λ need. tables.new ≡ tables.old) }
+    ensures lacks { OnSpace result (λ need. V.lacks files.new need) }
+    ensures wants { let asks = asks_few (V.asks files.new) (V.state files.new).files in
+        IsTrue (V.state files.old).tells → OnSpace result (λ need.
+        WantsRow asks (V.state files.new) tuples.now indexes.now values.now need) }
+    ensures store { length (V.state files.new).store ≡ length (V.state files.old).store }
+    ensures cause { HasFileCause (V.faults files.old) (V.faults files.new) result }
+{
+    let rooms = match prepare_row(files, tables, tuples, indexes, values, slot) {
+        Ok(rooms) => rooms,
+        Err(FileError::Space { need }) => return Err(FileError::Space { need }),
+        Err(FileError::Failed) => return Err(FileError::Failed),
+    };
+    match write_row(files, tables, tuples, indexes, &rooms, values, slot) {
+        Ok(()) => Ok(()),
+        Err(Failed) => Err(FileError::Failed),
+    }
+}
+
+// Makes room for a row and for its keys. No contents change.
+fn prepare_row<V: Files>(
+    files: &mut V,
+    tables: &HashTables,
+    tuples: &Tuples,
+    indexes: &Indexes,
+    values: &Tuple,
+    slot: SlotNo,
+) -> Result<Rooms, FileError>
+    requires idle { (V.state files.old).draft ≡ None }
+    requires holds { HoldsRows (V.state files.old) tuples.now }
+    requires slot { slot ≡ slots (V.state files.old).files tuples.now }
+    requires held { AreHeld (V.state files.old) tables.now slot indexes.now }
+    requires apart { AreApart indexes.now }
+    requires away { IsNoTree indexes.now tuples.now.file }
+    requires keys { HaveKeys values.now indexes.now }
+    ensures contents { let stays = StaysAt tuples.now.file indexes.now in
+        UnlessFailed result (Prepares (V.state files.old) (V.state files.new) stays) }
+    ensures room { let file = file_at (V.state files.new).files tuples.now.file in
+        OnOk result (row_length tuples.now.schema.attributes ≤ file.room) }
+    ensures rooms { IfOk result (λ rooms. HaveRoom (V.state files.new) rooms indexes.now) }
+    ensures exact { IsTrue (V.state files.old).tells → IfOk result (λ rooms.
+        AreRoomFor (V.state files.new) values.now rooms indexes.now) }
+    ensures lacks { OnSpace result (λ need. V.lacks files.new need) }
+    ensures wants { let asks = asks_few (V.asks files.new) (V.state files.new).files in
+        IsTrue (V.state files.old).tells → OnSpace result (λ need.
+        WantsRow asks (V.state files.new) tuples.now indexes.now values.now need) }
+    ensures store { length (V.state files.new).store ≡ length (V.state files.old).store }
+    ensures cause { HasFileCause (V.faults files.old) (V.faults files.new) result }
+{
+    match files.prepare(tuples.file, 0, row_length(&tuples.schema.attributes) as u32) {
+        Ok(()) => {}
+        Err(FileError::Space { need }) => return Err(FileError::Space { need }),
+        Err(FileError::Failed) => return Err(FileError::Failed),
+    }
+    match prepare_all(files, tables, indexes, values, slot) {
+        Ok(rooms) => Ok(rooms),
+        Err(FileError::Space { need }) => Err(FileError::Space { need }),
+        Err(FileError::Failed) => Err(FileError::Failed),
+    }
+}
+
+// Writes a row and its keys, for which room was made.
+fn write_row<V: Files>(
+    files: &mut V,
+    tables: &mut HashTables,
+    tuples: &Tuples,
+    indexes: &Indexes,
+    rooms: &Rooms,
+    values: &Tuple,
+    slot: SlotNo,
+) -> Result<(), Failed>
+    requires idle { (V.state files.old).draft ≡ None }
+    requires holds { HoldsRows (V.state files.old) tuples.now }
+    requires slot { slot ≡ slots (V.state files.old).files tuples.now }
+    requires suits { AllSuit tuples.now.schema.attributes values.now }
+    requires held { AreHeld (V.state files.old) tables.old slot indexes.now }
+    requires apart { AreApart indexes.now }
+    requires away { IsNoTree indexes.now tuples.now.file }
+    requires keys { HaveKeys values.now indexes.now }
+    requires open { AreOpenFor slot indexes.now }
+    requires room { let file = file_at (V.state files.old).files tuples.now.file in
+        row_length tuples.now.schema.attributes ≤ file.room }
+    requires rooms { HaveRoom (V.state files.old) rooms.now indexes.now }
+    ensures rows { let all = rows (V.state files.old).files tuples.now in
+        IsTrue (V.state files.old).tells → OnOk result (rows (V.state files.new).files tuples.now
+        ≡ all ++ record { tuple = values.now; live = true } ∷ []) }
+    ensures slots { OnOk result (slots (V.state files.new).files tuples.now ≡ slot + 1) }
+    ensures holds { OnOk result (HoldsRows (V.state files.new) tuples.now) }
+    ensures complete { let all = rows (V.state files.old).files tuples.now in
+        let now = rows (V.state files.new).files tuples.now in
+        IsTrue (V.state files.old).tells → OnOk result
+        (AreComplete (V.state files.old) tables.old all indexes.now
+        → AreRoomFor (V.state files.old) values.now rooms.now indexes.now
+        → MayAllFollow all values.now indexes.now
+        → AreComplete (V.state files.new) tables.new now indexes.now) }
+    ensures held { OnOk result (AreHeld (V.state files.new) tables.new (slot + 1) indexes.now) }
+    ensures others { let stays = StaysAt tuples.now.file indexes.now in
+        OnOk result (Spares (V.state files.old) (V.state files.new) stays) }
+    ensures tables { OnOk result (KeepsTables tables.old tables.new indexes.now) }
+    ensures store { length (V.state files.new).store ≡ length (V.state files.old).store }
+    ensures cause { HasCause (V.faults files.old) (V.faults files.new) result }
+{
+    tuples.append(files, values)?;
+    insert_all(files, tables, indexes, rooms, values, slot)?;
+    Ok(())
+}

@@ -1,0 +1,174 @@
+//! Rows that are removed: one by one, or all of them in one draft.
+
+#![tactic(auto)]
+
+ghost use Rattle.std.specs.Prelude.{◌≡◌, ◌≢◌, ◌+◌, ◌<◌, ◌≤◌, [], ℕ, IsTrue, None, OnOk, Option, length, map};
+ghost use Rattle.afl_base.specs.Asked.{asks_few};
+ghost use Rattle.afl_base.specs.Causes.{HasCause};
+ghost use Rattle.afl_base.specs.FileErrors.{HasFileCause, OnSpace};
+ghost use Rattle.afl_base.specs.Files.{file_at, size_at};
+ghost use Rattle.afl_base.specs.Fit.{fit};
+ghost use Rattle.afl_base.specs.Frames.{Prepares, Spares};
+ghost use Rattle.db_model.specs.Cond.{Cond};
+ghost use Rattle.db_model.specs.Step.{removed_row};
+ghost use Rattle.lvm.specs.Code.{IsCodeOf};
+ghost use Rattle.lvm.specs.Evaluate.{evaluated, verdict};
+ghost use Rattle.tuple_file.specs.Tuples.{HoldsRows, rows, slots as slots_of};
+ghost use Rattle.cursor.specs.Remaining.{selected_slots};
+ghost use Rattle.session_rows.specs.Marking.{AreBelow, IsSelected, marked};
+ghost use Rattle.session_rows.specs.Wanted.{WantsRemoval};
+
+use crate::selecting::Selected;
+use afl_base::{Failed, FileError, Files, SlotNo};
+use db_model::{Few, Tuple};
+use lvm::Code;
+use tuple_file::Tuples;
+
+/// Removes the rows that were selected: up to 29 are marked one by one, and more are written anew in
+/// one draft.
+pub(crate) fn remove_selected<V: Files>(
+    files: &mut V,
+    tuples: &Tuples,
+    code: &Code,
+    selected: &Selected,
+) -> Result<(), FileError>
+    requires idle { (V.state files.old).draft ≡ None }
+    requires holds { HoldsRows (V.state files.old) tuples.now }
+    requires below { AreBelow (slots_of (V.state files.old).files tuples.now) selected.now.first }
+    ensures rows { let attributes = tuples.now.schema.attributes in
+        let all = rows (V.state files.old).files tuples.now in
+        IsTrue (V.state files.old).tells → OnOk result ((condition : Option Cond)
+        → IsCodeOf attributes condition code.now
+        → IsSelected selected.now (selected_slots attributes condition all)
+        → rows (V.state files.new).files tuples.now ≡ map (removed_row attributes condition) all) }
+    ensures holds { OnOk result (HoldsRows (V.state files.new) tuples.now) }
+    ensures slots { OnOk result (slots_of (V.state files.new).files tuples.now
+        ≡ slots_of (V.state files.old).files tuples.now) }
+    ensures spared { let file = tuples.now.file in
+        OnOk result (Spares (V.state files.old) (V.state files.new) (λ id. id ≢ file)) }
+    ensures space { OnSpace result (λ need.
+        Prepares (V.state files.old) (V.state files.new) (λ id. id ≢ tuples.now.file)) }
+    ensures wants { let asks = asks_few (V.asks files.new) (V.state files.new).files in
+        let size = size_at (V.state files.new).files tuples.now.file in
+        let records = length selected.now.first in
+        OnSpace result (λ need.
+        WantsRemoval asks tuples.now.file selected.now.count records size need) }
+    ensures lacks { OnSpace result (λ need. V.lacks files.new need) }
+    ensures store { length (V.state files.new).store ≡ length (V.state files.old).store }
+    ensures cause { HasFileCause (V.faults files.old) (V.faults files.new) result }
+{
+    if selected.count > 29 {
+        match rewrite_rows(files, tuples, code) {
+            Ok(()) => Ok(()),
+            Err(FileError::Space { need }) => Err(FileError::Space { need }),
+            Err(FileError::Failed) => Err(FileError::Failed),
+        }
+    } else {
+        match mark_slots(files, tuples, &selected.first) {
+            Ok(()) => Ok(()),
+            Err(FileError::Space { need }) => Err(FileError::Space { need }),
+            Err(FileError::Failed) => Err(FileError::Failed),
+        }
+    }
+}
+
+// Removes the rows in some slots, for each of which a record is prepared; for none nothing is.
+fn mark_slots<V: Files>(
+    files: &mut V,
+    tuples: &Tuples,
+    slots: &Few<SlotNo, 29>,
+) -> Result<(), FileError>
+    requires idle { (V.state files.old).draft ≡ None }
+    requires holds { HoldsRows (V.state files.old) tuples.now }
+    requires below { AreBelow (slots_of (V.state files.old).files tuples.now) slots.now }
+    ensures rows { let all = rows (V.state files.old).files tuples.now in
+        IsTrue (V.state files.old).tells → OnOk result
+        (rows (V.state files.new).files tuples.now ≡ marked slots.now all) }
+    ensures holds { OnOk result (HoldsRows (V.state files.new) tuples.now) }
+    ensures slots { OnOk result (slots_of (V.state files.new).files tuples.now
+        ≡ slots_of (V.state files.old).files tuples.now) }
+    ensures spared { let file = tuples.now.file in
+        OnOk result (Spares (V.state files.old) (V.state files.new) (λ id. id ≢ file)) }
+    ensures space { OnSpace result (λ need.
+        Prepares (V.state files.old) (V.state files.new) (λ id. id ≢ tuples.now.file)) }
+    ensures some { OnSpace result (λ need. 1 ≤ length slots.now) }
+    ensures asked { let asks = asks_few (V.asks files.new) (V.state files.new).files in
+        OnSpace result (λ need. asks tuples.now.file (length slots.now) 0 need) }
+    ensures lacks { OnSpace result (λ need. V.lacks files.new need) }
+    ensures store { length (V.state files.new).store ≡ length (V.state files.old).store }
+    ensures cause { HasFileCause (V.faults files.old) (V.faults files.new) result }
+{
+    if slots.is_empty() {
+        return Ok(());
+    }
+    match files.prepare(tuples.file, slots.len() as u16, 0) {
+        Ok(()) => {}
+        Err(FileError::Space { need }) => return Err(FileError::Space { need }),
+        Err(FileError::Failed) => return Err(FileError::Failed),
+    }
+    match mark_rows(files, tuples, slots) {
+        Ok(()) => Ok(()),
+        Err(Failed) => Err(FileError::Failed),
+    }
+}
+
+// Removes the rows in some slots, for which as many records were prepared.
+fn mark_rows<V: Files>(
+    files: &mut V,
+    tuples: &Tuples,
+    slots: &Few<SlotNo, 29>,
+) -> Result<(), Failed>
+    requires holds { HoldsRows (V.state files.old) tuples.now }
+    requires records { let file = file_at (V.state files.old).files tuples.now.file in
+        length slots.now ≤ file.records }
+    requires below { AreBelow (slots_of (V.state files.old).files tuples.now) slots.now }
+    ensures rows { let all = rows (V.state files.old).files tuples.now in
+        IsTrue (V.state files.old).tells → OnOk result
+        (rows (V.state files.new).files tuples.now ≡ marked slots.now all) }
+    ensures holds { OnOk result (HoldsRows (V.state files.new) tuples.now) }
+    ensures slots { OnOk result (slots_of (V.state files.new).files tuples.now
+        ≡ slots_of (V.state files.old).files tuples.now) }
+    ensures spared { let file = tuples.now.file in
+        OnOk result (Spares (V.state files.old) (V.state files.new) (λ id. id ≢ file)) }
+    ensures store { length (V.state files.new).store ≡ length (V.state files.old).store }
+    ensures cause { HasCause (V.faults files.old) (V.faults files.new) result }
+{
+    for slot in slots.as_slice() {
+        tuples.mark(files, *slot)?;
+    }
+    Ok(())
+}
+
+// Removes the rows that a condition selects, by one draft.
+fn rewrite_rows<V: Files>(files: &mut V, tuples: &Tuples, code: &Code) -> Result<(), FileError>
+    requires idle { (V.state files.old).draft ≡ None }
+    requires holds { HoldsRows (V.state files.old) tuples.now }
+    ensures rows { let attributes = tuples.now.schema.attributes in
+        let all = rows (V.state files.old).files tuples.now in
+        IsTrue (V.state files.old).tells → OnOk result ((condition : Option Cond)
+        → IsCodeOf attributes condition code.now
+        → rows (V.state files.new).files tuples.now ≡ map (removed_row attributes condition) all) }
+    ensures holds { OnOk result (HoldsRows (V.state files.new) tuples.now) }
+    ensures slots { OnOk result (slots_of (V.state files.new).files tuples.now
+        ≡ slots_of (V.state files.old).files tuples.now) }
+    ensures spared { let file = tuples.now.file in
+        OnOk result (Spares (V.state files.old) (V.state files.new) (λ id. id ≢ file)) }
+    ensures space { OnSpace result (λ need.
+        Prepares (V.state files.old) (V.state files.new) (λ id. id ≢ tuples.now.file)) }
+    ensures need { let size = size_at (V.state files.new).files tuples.now.file in
+        OnSpace result (λ need. need ≡ fit size) }
+    ensures lacks { OnSpace result (λ need. V.lacks files.new need) }
+    ensures store { length (V.state files.new).store ≡ length (V.state files.old).store }
+    ensures cause { HasFileCause (V.faults files.old) (V.faults files.new) result }
+{
+    match tuples.rewrite(
+        files,
+        |tuple: &Tuple|
+            ensures { result ≡ verdict (evaluated code.entry.now tuple.now []) }
+        { code.eval(tuple) },
+    ) {
+        Ok(()) => Ok(()),
+        Err(FileError::Space { need }) => Err(FileError::Space { need }),
+        Err(FileError::Failed) => Err(FileError::Failed),
+    }
+}

@@ -1,0 +1,74 @@
+//! The slots of the rows that a condition selects.
+
+#![tactic(auto)]
+
+ghost use Rattle.std.specs.Prelude.{◌≡◌, ◌+◌, ◌<◌, ◌≤◌, ◌∷◌, [], ℕ, List, IfOk, IsTrue, OnOk, length};
+ghost use Rattle.afl_base.specs.Causes.{HasCause};
+ghost use Rattle.index_set.specs.Walks.{Fits};
+ghost use Rattle.tuple_file.specs.Tuples.{rows};
+ghost use Rattle.cursor.specs.Remaining.{MayRead, slots_left};
+ghost use Rattle.session_rows.specs.Marking.{AreBelow, IsFront, IsSelected};
+
+use afl_base::{Failed, Files, SlotNo};
+use cursor::SelectCursor;
+use db_model::{Few, Tuple};
+use index_set::HashTables;
+
+/// How many slots are selected, and the first 29 of them.
+#[derive(Drop)]
+pub(crate) struct Selected {
+    pub count: u16,
+    pub first: Few<SlotNo, 29>,
+}
+
+impl Selected {
+    // One more slot is selected.
+    fn add(&mut self, slot: SlotNo)
+        requires few { self.old.count < 65535 }
+        ensures count { self.new.count ≡ self.old.count + 1 }
+        ensures front { (slots left : List ℕ) → IsFront self.old slots (slot ∷ left)
+            → IsFront self.new slots left }
+        ensures below { (n : ℕ) → AreBelow n self.old.first → slot < n → AreBelow n self.new.first }
+    {
+        self.count += 1;
+        if self.first.len() < 29 {
+            self.first.push(slot);
+        }
+    }
+}
+
+/// Goes over the rows that remain of a cursor, once.
+pub(crate) fn select_slots<V: Files>(
+    files: &mut V,
+    tables: &HashTables,
+    cursor: &mut SelectCursor,
+) -> Result<Selected, Failed>
+    requires may_read { MayRead (V.state files.old) cursor.old.tuples cursor.old.candidates }
+    requires order { cursor.old.candidates.from ≤ cursor.old.candidates.end }
+    requires within { cursor.old.candidates.end ≤ cursor.old.candidates.slots }
+    requires few { cursor.old.candidates.slots ≤ 32768 }
+    ensures selected { let state = V.state files.old in
+        let all = rows state.files cursor.old.tuples in
+        IsTrue state.tells → IfOk result (λ selected.
+        Fits cursor.old.candidates state tables.now all
+        → IsSelected selected (slots_left cursor.old all)) }
+    ensures below { IfOk result (λ selected. AreBelow cursor.old.candidates.slots selected.first) }
+    ensures code { OnOk result (cursor.new.code ≡ cursor.old.code) }
+    ensures same { OnOk result (V.state files.new ≡ V.state files.old) }
+    ensures store { length (V.state files.new).store ≡ length (V.state files.old).store }
+    ensures cause { HasCause (V.faults files.old) (V.faults files.new) result }
+{
+    let mut selected = Selected {
+        count: 0,
+        first: Few::new(),
+    };
+    let mut tuple = Tuple::new();
+    'slots: loop {
+        match cursor.next(files, tables, &mut tuple) {
+            Ok(Some(slot)) => selected.add(slot),
+            Ok(None) => break,
+            Err(Failed) => return Err(Failed),
+        }
+    }
+    Ok(selected)
+}
