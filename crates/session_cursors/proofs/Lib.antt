@@ -1,0 +1,13 @@
+pub mod Begun
+pub mod Closed
+pub mod JoinCounts
+pub mod JoinReads
+pub mod JoinSteps
+pub mod JoinTaken
+pub mod Opened
+pub mod Passed
+pub mod Places
+pub mod Queried
+pub mod SelectSteps
+pub mod Taken
+pub mod Texts

@@ -1,0 +1,7 @@
+pub mod Costs
+pub mod FoldSteps
+pub mod Lines
+pub mod Paired
+pub mod Passes
+pub mod Seen
+pub mod Suited

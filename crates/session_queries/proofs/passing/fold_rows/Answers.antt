@@ -1,0 +1,76 @@
+use Rattle.std.proofs.Common.{arith, List, ◌++◌, refl, sym, subst, ap, ◌∙◌, append-nil}
+use Rattle.db_model.specs.declared.values.Value.{Value}
+use Rattle.db_model.specs.Row.{AllSuit}
+use Rattle.tuple_file.specs.Tuples.{rows}
+use Rattle.tuple_file.specs.declared.tuples.Tuples.{Tuples}
+use Rattle.session_queries.specs.Folded.{AreFolding}
+use Rattle.session_queries.proofs.Passes.{fold_begins, fold_goes_on}
+use Rattle.session_queries.proofs.Suited.{all_suit}
+use Rattle.session_queries.proofs.passing.fold_rows.Goals as goal
+
+pub push_all-requires-clause-suits : goal.push_all-requires-clause-suits
+push_all-requires-clause-suits g c =
+    let inv = c.rows.invariant in
+    let suit = rw c.in-Ok-Some.field-0-is at c.in-Ok-Some.ensures.suits in
+    all_suit c.args.cursor.now.tuples.schema.attributes c.next.new.into c.args.items.now c.rows.tallies c.requires.suit
+    (subst (λ (t : Tuples). AllSuit t.schema.attributes c.next.new.into) inv.tuples suit) inv.aggs
+
+pub rows-preserved : goal.rows-preserved
+rows-preserved g c =
+    let inv = c.rows.invariant in
+    let h = c.in-Ok-Some.ensures in
+    let takes = c.push_all.ensures.takes in
+    let went = rw c.in-Ok-Some.field-0-is at h.forward in
+    record {
+      same = h.same ∙ inv.same;
+      store = h.store ∙ inv.store;
+      files_later = omega (arith, inv.files_later, h.cause.later);
+      tuples = h.tuples ∙ inv.tuples;
+      code = h.code ∙ inv.code;
+      order = h.order inv.order;
+      within = h.within inv.within;
+      slots = h.slots ∙ inv.slots;
+      may_read = rw inv.same at h.may_read;
+      many = c.push_all.ensures.many ∙ inv.many;
+      aggs = λ i inside. (takes i inside).agg ∙ inv.aggs i inside;
+      stand = λ passes stand i inside. (takes i inside).stands passes (inv.stand passes stand i inside);
+      pushed = λ i inside is_open. omega (arith, (takes i inside).pushed, inv.pushed i inside ((takes i inside).open_only is_open), went);
+      told = λ t f.
+          let s = inv.told t f in
+          fold_goes_on (g.V.Files.state c.args.files.now) c.args.tables.now (rows (g.V.Files.state c.args.files.now).files c.args.cursor.now.tuples) c.args.items.now c.args.cursor.now c.rows.cursor c.next.new.self c.args.tallies.now c.rows.tallies c.push_all.new.tallies c.next.new.into
+          (g.V.Files.reads c.args.files.now) (g.V.Files.reads c.rows.files) (g.V.Files.reads c.next.new.files) s
+          (rw c.in-Ok-Some.field-0-is at ((rw (inv.same, inv.tuples) at h.next) t s.fits))
+          ((rw (inv.same, inv.tuples) at h.fits) t s.fits) takes ((rw (inv.same, inv.tuples) at h.reads) t s.fits);
+    }
+
+pub returns-in-Ok-None-clause-folded : goal.returns-in-Ok-None-clause-folded
+returns-in-Ok-None-clause-folded g c = λ t f whole are.
+    let inv = c.rows.invariant in
+    let s = inv.told t f in
+    let none = rw c.in-Ok-None.field-0-is at ((rw (inv.same, inv.tuples) at c.in-Ok-None.ensures.next) t s.fits) in
+    let all = s.whole ∙ ap (λ (l : List (List Value)). s.done ++ l) none ∙ append-nil s.done in
+    subst (λ (l : List (List Value)). AreFolding c.args.items.now whole l c.rows.tallies) (sym all) (s.folded whole are)
+
+pub returns-in-Err-clause-reads : goal.returns-in-Err-clause-reads
+returns-in-Err-clause-reads g c = λ t f.
+    let inv = c.rows.invariant in
+    let s = inv.told t f in
+    omega (arith, s.few, (rw (inv.same, inv.tuples) at c.in-Err.ensures.reads_err) t s.fits)
+
+pub rows-init : goal.rows-init
+rows-init g c = record {
+  same = refl;
+  store = refl;
+  files_later = omega arith;
+  tuples = refl;
+  code = refl;
+  order = c.requires.order;
+  within = c.requires.within;
+  slots = refl;
+  may_read = c.requires.may_read;
+  many = refl;
+  aggs = c.requires.aggs;
+  stand = λ passes stand. stand;
+  pushed = λ i inside is_open. omega (arith, c.requires.fresh i inside is_open);
+  told = λ t f. fold_begins (g.V.Files.state c.args.files.now) c.args.tables.now (rows (g.V.Files.state c.args.files.now).files c.args.cursor.now.tuples) c.args.items.now c.args.cursor.now c.args.tallies.now (g.V.Files.reads c.args.files.now) f;
+}

@@ -1,0 +1,3 @@
+pub mod Finds
+pub mod Folded
+pub mod Replies

@@ -1,0 +1,94 @@
+//! The folds of a list of aggregates.
+
+#![tactic(auto)]
+
+ghost use Rattle.std.specs.Prelude.{◌≡◌, ◌<◌, ◌≤◌, ◌||◌, ℕ, List, [], false, length, IsTrue};
+ghost use Rattle.db_model.specs.declared.values.Value.{Value as AnyValue};
+ghost use Rattle.aggregate.specs.Limits.{Suits};
+ghost use Rattle.session_model.specs.View.{value_at};
+ghost use Rattle.session_plans.specs.Aggregates.{answers, medians};
+ghost use Rattle.session_queries.specs.Folded.{AreClosed, AreDone, AreFolded, Ends, HaveAggs, IsNew, Takes, item_at, tally_at};
+
+use crate::tally::{Tally, end_pass, new_tally, push};
+use db_model::{Agg, Few, Tuple, Value};
+
+/// A tally for each aggregate, before its first pass.
+pub fn new_tallies(items: &[(Agg, u8)]) -> [Tally; 8]
+    requires few { length items.now ≤ 8 }
+    ensures eight { length result ≡ 8 }
+    ensures fresh { (i : ℕ) → i < length items.now → IsNew (item_at items.now i).0 (tally_at result i) }
+{
+    let mut tallies = [new_tally(Agg::Count); 8];
+    for i in 0..items.len() {
+        tallies[i] = new_tally(items[i].0);
+    }
+    tallies
+}
+
+/// Shows each tally the value of its attribute in a tuple.
+pub fn push_all(items: &[(Agg, u8)], tuple: &Tuple, tallies: &mut [Tally])
+    requires many { length items.now ≤ length tallies.old }
+    requires suits { (i : ℕ) → i < length items.now
+        → Suits (tally_at tallies.old i).fold.agg (value_at tuple.now (item_at items.now i).1) }
+    requires few { (i : ℕ) → i < length items.now
+        → IsTrue (tally_at tallies.old i).is_open → (tally_at tallies.old i).fold.pushed < 32768 }
+    ensures many { length tallies.new ≡ length tallies.old }
+    ensures takes { (i : ℕ) → i < length items.now → Takes (value_at tuple.now (item_at items.now i).1)
+        (tally_at tallies.old i) (tally_at tallies.new i) }
+{
+    for i in 0..items.len() {
+        let old = tallies[i];
+        let tally = push(&old, &value_at(tuple, items[i].1));
+        tallies[i] = tally;
+    }
+}
+
+fn value_at(tuple: &Tuple, place: u8) -> Value
+    ensures { result ≡ value_at tuple.now place }
+{
+    match tuple.as_slice().get(place as usize) {
+        Some(value) => *value,
+        None => Value::Number(0),
+    }
+}
+
+/// Ends a pass of each tally, and answers whether one of them is still open.
+pub fn end_all(items: &[(Agg, u8)], tallies: &mut [Tally]) -> bool
+    requires many { length items.now ≤ length tallies.old }
+    ensures many { length tallies.new ≡ length tallies.old }
+    ensures ends { (i : ℕ) → i < length items.now → Ends (tally_at tallies.old i) (tally_at tallies.new i) }
+    ensures closed { result ≡ false → AreClosed items.now tallies.new }
+    ensures median { HaveAggs items.now tallies.old → IsTrue result → IsTrue (medians items.now) }
+{
+    let mut is_open = false;
+    for i in 0..items.len() {
+        let old = tallies[i];
+        let tally = end_pass(&old);
+        let more = tally.is_open;
+        tallies[i] = tally;
+        is_open = either(is_open, more);
+    }
+    is_open
+}
+
+fn either(a: bool, b: bool) -> bool
+    ensures { result ≡ (a || b) }
+{
+    a || b
+}
+
+/// What the aggregates come to, where none wants another pass.
+pub fn answers_of(items: &[(Agg, u8)], tallies: &[Tally]) -> Few<Option<i64>, 8>
+    requires few { length items.now ≤ 8 }
+    requires many { length items.now ≤ length tallies.now }
+    ensures told { (all : List (List AnyValue)) → HaveAggs items.now tallies.now
+        → AreFolded items.now all tallies.now → AreDone items.now tallies.now
+        → result ≡ answers items.now all }
+{
+    let mut answers = Few::new();
+    for i in 0..items.len() {
+        let tally = tallies[i];
+        answers.push(tally.fold.answer());
+    }
+    answers
+}

@@ -1,0 +1,248 @@
+//! JOIN: pairs are written as they are found.
+
+#![tactic(auto)]
+
+ghost use Rattle.std.specs.Prelude.{◌≡◌, ◌+◌, ◌*◌, ◌≤◌, List, Ok, Err, Option, IfErr, IfOk, IsTrue, OnErr, OnOk, length, map};
+ghost use Rattle.afl_base.specs.Files.{Table};
+ghost use Rattle.db_model.specs.declared.commands.Query.TheVariants as query;
+ghost use Rattle.db_model.specs.Cost.{query_cost, right_costs};
+ghost use Rattle.db_model.specs.Step.{Rows, answer_of};
+ghost use Rattle.cursor.specs.Pairs.{FitsPairs, MayReadPairs, join_cost_ahead, matching, pairs_left};
+ghost use Rattle.index_set.specs.Plans.{kinds};
+ghost use Rattle.tuple_file.specs.Tuples.{rows};
+ghost use Rattle.session_model.specs.declared.held.Open.{Open as AnyOpen};
+ghost use Rattle.session_model.specs.Steps.{HasStopCause, UnlessFlash};
+ghost use Rattle.session_model.specs.View.{project_pair, view};
+ghost use Rattle.session_queries.specs.Finds.{HasSlots, IsFound, IsReady};
+ghost use Rattle.session_queries.specs.Replies.{Replies, WroteNext, WroteRows, joined_left};
+
+use crate::finding::{Found, find};
+use afl_base::{Files, Sink};
+use cursor::JoinCursor;
+use db_model::{Few, Ident, Idents, Refusal, Tuple};
+use index_set::HashTables;
+use reply_text::{write_row, write_rows};
+use session_model::{Held, Outcome, Side, Stop, project_pair};
+use session_plans::{JoinPlan, plan_join};
+
+/// Two relations, and what a JOIN asks of them.
+#[derive(Drop)]
+pub struct Joining {
+    pub left: Found,
+    pub right: Found,
+    pub plan: JoinPlan,
+}
+
+/// The relations of a JOIN and what is asked of them, or how it is refused.
+pub fn plan_pairs(
+    held: &Held,
+    left: &Ident,
+    right: &Ident,
+    on: &Ident,
+    list: &Idents,
+) -> Result<Joining, Refusal>
+    requires slots { HasSlots held.now }
+    ensures left { IfOk result (λ j. IsFound held.now left.now j.left) }
+    ensures right { IfOk result (λ j. IsFound held.now right.now j.right) }
+    ensures rows { IfOk result (λ j. (files : Table) (opens : List (Option AnyOpen))
+        → answer_of (view files held.now opens) (query.Join left.now right.now on.now list.now)
+        ≡ Ok (map (project_pair j.plan.places) (matching j.plan.left_on j.plan.right_on
+        (rows files j.left.tuples) (rows files j.right.tuples)))) }
+    ensures cost { IfOk result (λ j. (files : Table) (opens : List (Option AnyOpen))
+        → let lefts = rows files j.left.tuples in let rights = rows files j.right.tuples in
+        query_cost (view files held.now opens) (query.Join left.now right.now on.now list.now)
+        ≡ 6 * (length lefts + length (matching j.plan.left_on j.plan.right_on lefts rights))
+        + right_costs (kinds j.right.indexes) (j.plan.left_on, j.plan.right_on) rights lefts) }
+    ensures refused { IfErr result (λ refusal. (files : Table) (opens : List (Option AnyOpen))
+        → answer_of (view files held.now opens) (query.Join left.now right.now on.now list.now)
+        ≡ Err refusal) }
+{
+    let left = match find(held, left) {
+        Some(left) => left,
+        None => return Err(Refusal::NoRelation),
+    };
+    let right = match find(held, right) {
+        Some(right) => right,
+        None => return Err(Refusal::NoRelation),
+    };
+    match plan_join(on, list, &left.tuples.schema, &right.tuples.schema) {
+        Ok(plan) => Ok(Joining { left, right, plan }),
+        Err(refusal) => Err(refusal),
+    }
+}
+
+/// Writes the pairs that a JOIN asks for, and their number.
+pub fn join<V: Files, K: Sink>(
+    files: &mut V,
+    tables: &HashTables,
+    joining: Joining,
+    out: &mut K,
+) -> Result<Outcome, Stop>
+    requires left { IsReady (V.state files.old) tables.now joining.left }
+    requires right { IsReady (V.state files.old) tables.now joining.right }
+    ensures replies { let state = V.state files.old in let plan = joining.plan in
+        let pairs = matching plan.left_on plan.right_on (rows state.files joining.left.tuples)
+        (rows state.files joining.right.tuples) in
+        IsTrue state.tells → Replies (Rows (map (project_pair plan.places) pairs)) result
+        (K.held out.old) (K.held out.new) }
+    ensures reads { let state = V.state files.old in let plan = joining.plan in
+        let lefts = rows state.files joining.left.tuples in
+        let rights = rows state.files joining.right.tuples in
+        IsTrue state.tells → V.reads files.new ≤ V.reads files.old
+        + (6 * (length lefts + length (matching plan.left_on plan.right_on lefts rights))
+        + right_costs (kinds joining.right.indexes) (plan.left_on, plan.right_on) rights lefts) }
+    ensures same { UnlessFlash result (V.state files.new ≡ V.state files.old) }
+    ensures keeps { K.keeps out.old out.new }
+    ensures faultless { OnOk result (K.faults out.new ≡ K.faults out.old) }
+    ensures store { length (V.state files.new).store ≡ length (V.state files.old).store }
+    ensures cause { HasStopCause (V.faults files.old) (V.faults files.new)
+        (K.faults out.old) (K.faults out.new) result }
+{
+    match join_all(files, tables, joining, out) {
+        Ok(count) => {
+            let count = u64::from(count);
+            match write_rows(out, count) {
+                Ok(()) => Ok(Outcome::Rows(count)),
+                Err(_) => Err(Stop::Sink),
+            }
+        }
+        Err(stop) => Err(stop),
+    }
+}
+
+// Writes the pairs that a JOIN asks for, and says how many there were.
+fn join_all<V: Files, K: Sink>(
+    files: &mut V,
+    tables: &HashTables,
+    joining: Joining,
+    out: &mut K,
+) -> Result<u32, Stop>
+    requires left { IsReady (V.state files.old) tables.now joining.left }
+    requires right { IsReady (V.state files.old) tables.now joining.right }
+    ensures wrote { let state = V.state files.old in let plan = joining.plan in
+        let pairs = matching plan.left_on plan.right_on (rows state.files joining.left.tuples)
+        (rows state.files joining.right.tuples) in
+        IsTrue state.tells → WroteRows result (map (project_pair plan.places) pairs)
+        (K.held out.old) (K.held out.new) }
+    ensures reads { let state = V.state files.old in let plan = joining.plan in
+        let lefts = rows state.files joining.left.tuples in
+        let rights = rows state.files joining.right.tuples in
+        IsTrue state.tells → V.reads files.new ≤ V.reads files.old
+        + (6 * (length lefts + length (matching plan.left_on plan.right_on lefts rights))
+        + right_costs (kinds joining.right.indexes) (plan.left_on, plan.right_on) rights lefts) }
+    ensures same { UnlessFlash result (V.state files.new ≡ V.state files.old) }
+    ensures keeps { K.keeps out.old out.new }
+    ensures faultless { OnOk result (K.faults out.new ≡ K.faults out.old) }
+    ensures store { length (V.state files.new).store ≡ length (V.state files.old).store }
+    ensures cause { HasStopCause (V.faults files.old) (V.faults files.new)
+        (K.faults out.old) (K.faults out.new) result }
+{
+    let Joining { left, right, plan } = joining;
+    let JoinPlan {
+        places,
+        left_on,
+        right_on,
+    } = plan;
+    let mut cursor = JoinCursor::begin(
+        files,
+        left.tuples,
+        right.tuples,
+        right.indexes,
+        left_on,
+        right_on,
+    );
+    join_rows(files, tables, &mut cursor, &places, out)
+}
+
+// Writes the pairs that a cursor has still to answer, and says how many there were. No more than
+// each left slot with each right slot are tried, whatever the files tell.
+fn join_rows<V: Files, K: Sink>(
+    files: &mut V,
+    tables: &HashTables,
+    cursor: &mut JoinCursor,
+    places: &Few<Side, 8>,
+    out: &mut K,
+) -> Result<u32, Stop>
+    requires may_read { MayReadPairs (V.state files.old) cursor.old }
+    ensures wrote { let state = V.state files.old in let lefts = rows state.files cursor.old.left in
+        let rights = rows state.files cursor.old.right in
+        IsTrue state.tells → FitsPairs cursor.old state tables.now
+        → length (pairs_left cursor.old lefts rights) ≤ cursor.old.left_slots * cursor.old.right_slots
+        → WroteRows result (joined_left places.now cursor.old lefts rights)
+        (K.held out.old) (K.held out.new) }
+    ensures reads { let state = V.state files.old in let lefts = rows state.files cursor.old.left in
+        let rights = rows state.files cursor.old.right in
+        IsTrue state.tells → FitsPairs cursor.old state tables.now
+        → V.reads files.new ≤ V.reads files.old + join_cost_ahead cursor.old lefts rights }
+    ensures same { UnlessFlash result (V.state files.new ≡ V.state files.old) }
+    ensures keeps { K.keeps out.old out.new }
+    ensures faultless { OnOk result (K.faults out.new ≡ K.faults out.old) }
+    ensures store { length (V.state files.new).store ≡ length (V.state files.old).store }
+    ensures cause { HasStopCause (V.faults files.old) (V.faults files.new)
+        (K.faults out.old) (K.faults out.new) result }
+{
+    let most = u32::from(cursor.left_slots) * u32::from(cursor.right_slots);
+    for count in 0..most {
+        match join_next(files, tables, cursor, places, out) {
+            Ok(found) => {
+                if !found {
+                    return Ok(count);
+                }
+            }
+            Err(stop) => return Err(stop),
+        }
+    }
+    Ok(most)
+}
+
+// Writes the next pair, and answers false exactly where there is none.
+fn join_next<V: Files, K: Sink>(
+    files: &mut V,
+    tables: &HashTables,
+    cursor: &mut JoinCursor,
+    places: &Few<Side, 8>,
+    out: &mut K,
+) -> Result<bool, Stop>
+    requires may_read { MayReadPairs (V.state files.old) cursor.old }
+    ensures wrote { let state = V.state files.old in let lefts = rows state.files cursor.old.left in
+        let rights = rows state.files cursor.old.right in
+        IsTrue state.tells → FitsPairs cursor.old state tables.now
+        → WroteNext result (joined_left places.now cursor.old lefts rights)
+        (joined_left places.now cursor.new lefts rights) (K.held out.old) (K.held out.new) }
+    ensures fits { IsTrue (V.state files.old).tells → OnOk result (
+        FitsPairs cursor.old (V.state files.old) tables.now
+        → FitsPairs cursor.new (V.state files.old) tables.now) }
+    ensures stands { OnOk result (cursor.new ≡ record cursor.old
+        { at = cursor.new.at; from = cursor.new.from; inner = cursor.new.inner }) }
+    ensures may_read { OnOk result (MayReadPairs (V.state files.old) cursor.new) }
+    ensures reads { let state = V.state files.old in let lefts = rows state.files cursor.old.left in
+        let rights = rows state.files cursor.old.right in
+        IsTrue state.tells → OnOk result (FitsPairs cursor.old state tables.now
+        → V.reads files.new + join_cost_ahead cursor.new lefts rights
+        ≤ V.reads files.old + join_cost_ahead cursor.old lefts rights) }
+    ensures reads_err { let state = V.state files.old in
+        let lefts = rows state.files cursor.old.left in
+        let rights = rows state.files cursor.old.right in
+        IsTrue state.tells → OnErr result (FitsPairs cursor.old state tables.now
+        → V.reads files.new ≤ V.reads files.old + join_cost_ahead cursor.old lefts rights) }
+    ensures same { UnlessFlash result (V.state files.new ≡ V.state files.old) }
+    ensures keeps { K.keeps out.old out.new }
+    ensures faultless { OnOk result (K.faults out.new ≡ K.faults out.old) }
+    ensures store { length (V.state files.new).store ≡ length (V.state files.old).store }
+    ensures cause { HasStopCause (V.faults files.old) (V.faults files.new)
+        (K.faults out.old) (K.faults out.new) result }
+{
+    let mut left = Tuple::new();
+    let mut right = Tuple::new();
+    match cursor.next(files, tables, &mut left, &mut right) {
+        Ok(true) => {}
+        Ok(false) => return Ok(false),
+        Err(_) => return Err(Stop::Flash),
+    }
+    let mut row = Tuple::new();
+    project_pair(places, &left, &right, &mut row);
+    match write_row(out, &row) {
+        Ok(()) => Ok(true),
+        Err(_) => Err(Stop::Sink),
+    }
+}

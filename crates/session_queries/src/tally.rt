@@ -1,0 +1,56 @@
+//! One aggregate's fold, and whether it wants another pass.
+
+#![tactic(auto)]
+
+ghost use Rattle.std.specs.Prelude.{◌<◌, IsTrue};
+ghost use Rattle.aggregate.specs.Limits.{Suits};
+ghost use Rattle.session_queries.specs.Folded.{Ends, IsNew, Takes};
+
+use aggregate::Fold;
+use db_model::{Agg, Value};
+
+/// A fold, which takes values as long as it is open.
+#[derive(Clone, Copy)]
+pub struct Tally {
+    pub fold: Fold,
+    pub is_open: bool,
+}
+
+/// A tally before its first pass.
+pub fn new_tally(agg: Agg) -> Tally
+    ensures { IsNew agg result }
+{
+    Tally {
+        fold: Fold::new(agg),
+        is_open: true,
+    }
+}
+
+/// Shows it a value, which it takes where it is open.
+pub fn push(tally: &Tally, value: &Value) -> Tally
+    requires suits { Suits tally.now.fold.agg value.now }
+    requires few { IsTrue tally.now.is_open → tally.now.fold.pushed < 32768 }
+    ensures { Takes value.now tally.now result }
+{
+    if !tally.is_open {
+        return *tally;
+    }
+    let mut fold = tally.fold;
+    fold.push(value);
+    Tally {
+        fold,
+        is_open: true,
+    }
+}
+
+/// Ends a pass, and closes it where it wants no other.
+pub fn end_pass(tally: &Tally) -> Tally
+    ensures { Ends tally.now result }
+{
+    if !tally.is_open {
+        return *tally;
+    }
+    let mut fold = tally.fold;
+    let is_open = fold.end_pass();
+    Tally { fold, is_open }
+}
