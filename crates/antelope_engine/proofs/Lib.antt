@@ -1,0 +1,10 @@
+pub mod Asked
+pub mod Carried
+pub mod Causes
+pub mod Moves
+pub mod ReadSlots
+pub mod Replies
+pub mod Sessions
+pub mod Slots
+pub mod Spaces
+pub mod Store

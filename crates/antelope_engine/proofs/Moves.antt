@@ -1,0 +1,32 @@
+-- What is ahead of the cursors stays, unless a command opens, fetches or closes one.
+use Rattle.std.proofs.Common.{◌≡◌, Bool, true, false, refl, if◌then◌else◌}
+use Rattle.db_model.specs.declared.commands.Command.{Command}
+use Rattle.db_model.specs.declared.commands.Command.TheVariants.{CreateRelation, CreateAttribute, CreateIndex, Insert, Ask, Aggregate, RemoveFrom, RemoveRelation, RemoveIndex, Pack, OpenCursor, FetchCursor, CloseCursor}
+use Rattle.db_model.specs.Ahead.{Aheads, aheads_after, is_refused}
+use Rattle.db_model.specs.Database.{Database}
+use Rattle.db_model.specs.Step.{Reads, step}
+
+either_way : {A : Type 0} (b : Bool) (x : A) → (if b then x else x) ≡ x
+either_way true x = refl
+either_way false x = refl
+
+pub stay : (db : Database) (aheads : Aheads) (c : Command) → (Reads c → ⊥) → aheads_after db aheads c ≡ aheads
+stay db aheads (CreateRelation name) h = either_way (is_refused ((step db (CreateRelation name)).1)) aheads
+stay db aheads (CreateAttribute name domain relation) h = either_way (is_refused ((step db (CreateAttribute name domain relation)).1)) aheads
+stay db aheads (CreateIndex relation attribute kind) h = either_way (is_refused ((step db (CreateIndex relation attribute kind)).1)) aheads
+stay db aheads (Insert values relation) h = either_way (is_refused ((step db (Insert values relation)).1)) aheads
+stay db aheads (RemoveFrom relation nodes) h = either_way (is_refused ((step db (RemoveFrom relation nodes)).1)) aheads
+stay db aheads (RemoveRelation relation) h = either_way (is_refused ((step db (RemoveRelation relation)).1)) aheads
+stay db aheads (RemoveIndex relation attribute) h = either_way (is_refused ((step db (RemoveIndex relation attribute)).1)) aheads
+stay db aheads (Pack relation) h = either_way (is_refused ((step db (Pack relation)).1)) aheads
+stay db aheads (Ask query) h = absurd (h tt)
+stay db aheads (Aggregate list relation nodes) h = absurd (h tt)
+stay db aheads (OpenCursor number query) h = absurd (h tt)
+stay db aheads (FetchCursor number) h = absurd (h tt)
+stay db aheads (CloseCursor number) h = absurd (h tt)
+
+pub stay_asked : (db : Database) (aheads : Aheads) (query : _) → aheads_after db aheads (Ask query) ≡ aheads
+stay_asked db aheads query = either_way (is_refused ((step db (Ask query)).1)) aheads
+
+pub stay_aggregated : (db : Database) (aheads : Aheads) (list : _) (relation : _) (nodes : _) → aheads_after db aheads (Aggregate list relation nodes) ≡ aheads
+stay_aggregated db aheads list relation nodes = either_way (is_refused ((step db (Aggregate list relation nodes)).1)) aheads

@@ -1,0 +1,5 @@
+pub mod Lists
+pub mod Reading
+pub mod Seen
+pub mod Started
+pub mod Writes

@@ -1,0 +1,32 @@
+-- What came of a start, and the files that are handed back.
+use Rattle.std.specs.Prelude.{⊤, ℕ, ◌≤◌, Result, Ok, Err, IfErr}
+use Rattle.afl_base.specs.Causes.{Rose}
+use Rattle.session_start.specs.declared.starting.BrokenRule.{BrokenRule}
+use Rattle.antelope_engine.specs.declared.start_error.StartError.{StartError}
+use Rattle.antelope_engine.specs.declared.start_error.StartError.TheVariants.{Bad, Failed}
+use Rattle.antelope_engine.specs.Seen.{Seen}
+
+-- the files, where no session was started
+abbrev pub files_of : {V : Type 0} → StartError V → V
+files_of (Bad broken files) = files
+files_of (Failed files) = files
+
+-- and wherever they are
+abbrev pub files_after : {V : Type 0} → Result (Seen V) (StartError V) → V
+files_after (Ok session) = session.files
+files_after (Err error) = files_of error
+
+-- P of the broken rule, where one is broken
+abbrev pub OnBad : {V : Type 0} → StartError V → (BrokenRule → Type 0) → Type 0
+OnBad (Bad broken files) P = P broken
+OnBad (Failed files) P = ⊤
+
+-- P, where the files could not be read
+abbrev pub OnFailed : {V : Type 0} → StartError V → Type 0 → Type 0
+OnFailed (Bad broken files) P = ⊤
+OnFailed (Failed files) P = P
+
+-- the count never falls, and the files could not be read only where it rose
+pub record HasStartCause {V : Type 0} (before now : ℕ) (result : Result (Seen V) (StartError V)) : Type 0 where
+  pub later : before ≤ now
+  pub failed : IfErr result (λ error. OnFailed error (Rose before now))

@@ -1,0 +1,200 @@
+//! A session.
+
+#![tactic(auto)]
+
+ghost use Rattle.std.specs.Prelude.{◌≡◌, ◌+◌, ◌*◌, ◌≤◌, None, true, false, IsTrue, IfErr, IfOk, IsErrOf, OnErr, OnOk, length, map};
+ghost use Rattle.std.specs.List.{range_with_len};
+ghost use Rattle.db_model.specs.Ahead.{aheads_after, cost_of, no_cursors};
+ghost use Rattle.db_model.specs.Cost.{sum};
+ghost use Rattle.db_model.specs.ReplyText.{text};
+ghost use Rattle.db_model.specs.RunCost.{slots_opened};
+ghost use Rattle.db_model.specs.Sound.{BringsNames};
+ghost use Rattle.db_model.specs.Step.{Reads, outcome, step};
+ghost use Rattle.reply_text.specs.WroteLess.{WroteLess};
+ghost use Rattle.session_model.specs.declared.step.Stop.TheVariants.{Flash, Sink as OfSink};
+ghost use Rattle.session_model.specs.Queries.{IsWellFormed};
+ghost use Rattle.session_model.specs.Steps.{Does, HasStopCause, WrotePart};
+ghost use Rattle.session_model.specs.Wanted.{WantsOver};
+ghost use Rattle.space_model.specs.Enough.{most};
+ghost use Rattle.stored.specs.Base.{base_of};
+ghost use Rattle.stored.specs.Sound.{BreaksFirst, IsSoundTable};
+ghost use Rattle.db_model.specs.Database.{bare};
+ghost use Rattle.antelope_engine.specs.Seen.{OnNoSpace, is_flash};
+ghost use Rattle.antelope_engine.specs.Started.{HasStartCause, OnBad, files_after, files_of};
+
+use crate::executing::carry_out;
+use crate::start_error::StartError;
+use afl_base::{Failed, Files, Sink};
+use db_model::Command;
+use index_set::HashTables;
+use session_model::{Held, Open, Step, Stop};
+use session_start::open_database;
+use std::marker::Model;
+
+/// A database in files, with at most four open cursors. Contracts see the files, the database, what
+/// its cursors have ahead, and whether it was stopped and whether its files failed.
+#[derive(Drop)]
+pub struct Session<V: Files> {
+    pub(crate) files: V,
+    pub(crate) tables: HashTables,
+    pub(crate) held: Held,
+    pub(crate) opens: [Option<Open>; 4],
+    pub(crate) stopped: bool,
+    pub(crate) lost: bool,
+}
+
+impl<V: Files> Model for Session<V> {
+    ghost use Rattle.antelope_engine.specs.Seen.{IsSession, Seen};
+    ghost use Rattle.session_model.specs.Aheads.{aheads_of};
+    ghost use Rattle.session_model.specs.View.{view as view_of};
+
+    ghost Value = { Seen V };
+
+    ghost view = { λ s. record {
+      files = s.files;
+      database = view_of (V.state s.files).files s.held s.opens;
+      aheads = aheads_of (V.state s.files).files s.opens;
+      stopped = s.stopped;
+      lost = s.lost;
+    } };
+
+    ghost invariant = { λ s. IsSession (V.state s.files) s.tables s.held s.opens s.stopped s.lost };
+}
+
+impl<V: Files> Session<V> {
+    /// Judges the files and opens the database that they hold, with no cursor open.
+    ///
+    /// # Errors
+    ///
+    /// `Bad` comes exactly where one of the rules 14 to 20 is broken, and names the first with its
+    /// place.
+    pub fn start(files: V) -> Result<Session<V>, StartError<V>>
+        requires idle { (V.state files).draft ≡ None }
+        ensures sound { IsTrue (V.state files).tells
+            → OnOk result (IsSoundTable (V.state files).files) }
+        ensures base { IsTrue (V.state files).tells → IfOk result (λ s.
+            s.database ≡ base_of (V.state files).files) }
+        ensures bad { IsTrue (V.state files).tells → IfErr result (λ e. OnBad e (λ broken.
+            BreaksFirst (V.state files).files broken.rule broken.place)) }
+        ensures same { IfOk result (λ s. V.state s.files ≡ V.state files) }
+        ensures returned { IfErr result (λ e. OnBad e (λ _.
+            V.state (files_of e) ≡ V.state files)) }
+        ensures running { IfOk result (λ s. (s.stopped ≡ false) × (s.lost ≡ false)) }
+        ensures aheads { IfOk result (λ s. s.aheads ≡ no_cursors) }
+        ensures reads { let base = base_of (V.state files).files in
+            IsTrue (V.state files).tells → IfOk result (λ s. V.reads s.files ≤ V.reads files
+            + 1024 + 16384 + 16 * sum (map (slots_opened base) (range_with_len 0 8))) }
+        ensures store { let after = V.state (files_after result) in
+            length after.store ≡ length (V.state files).store }
+        ensures cause { HasStartCause (V.faults files) (V.faults (files_after result)) result }
+    {
+        let mut files = files;
+        let mut tables = HashTables::new();
+        match open_database(&mut files, &mut tables) {
+            Ok(Ok(held)) => Ok(Session {
+                files,
+                tables,
+                held,
+                opens: [None, None, None, None],
+                stopped: false,
+                lost: false,
+            }),
+            Ok(Err(broken)) => Err(StartError::Bad { broken, files }),
+            Err(Failed) => Err(StartError::Failed { files }),
+        }
+    }
+
+    /// Carries out a command and writes its reply.
+    pub fn exec<K: Sink>(&mut self, command: &Command, out: &mut K) -> Result<Step, Stop>
+        requires running { self.old.stopped ≡ false }
+        requires command { IsWellFormed command.now }
+        ensures done { IsTrue (V.state self.old.files).tells → IfOk result (λ came.
+            Does (outcome self.old.database command.now) self.old.database self.new.database came
+            (K.held out.old) (K.held out.new)) }
+        ensures sink { IsTrue (V.state self.old.files).tells → IsErrOf result OfSink
+            → (self.new.database ≡ (step self.old.database command.now).0)
+            × WroteLess (K.held out.old) (K.held out.new)
+            (text (step self.old.database command.now).1) }
+        ensures flash { IsTrue (V.state self.old.files).tells → IsErrOf result Flash
+            → WrotePart (K.held out.old) (K.held out.new)
+            (text (step self.old.database command.now).1) }
+        ensures silent { OnNoSpace result (λ need. K.held out.new ≡ K.held out.old) }
+        ensures wants { IsTrue (V.state self.old.files).tells → OnNoSpace result (λ need.
+            WantsOver (V.asks self.new.files) (V.state self.new.files).files
+            self.old.database command.now need) }
+        ensures most { IsTrue (V.state self.old.files).tells → OnNoSpace result (λ need.
+            need ≤ most self.old.database command.now) }
+        ensures lacks { OnNoSpace result (λ need. V.lacks self.new.files need) }
+        ensures aheads { IsTrue (V.state self.old.files).tells → self.new.lost ≡ false
+            → self.new.aheads ≡ aheads_after self.old.database self.old.aheads command.now }
+        ensures tells { self.new.lost ≡ false
+            → (V.state self.new.files).tells ≡ (V.state self.old.files).tells }
+        ensures reads { IsTrue (V.state self.old.files).tells → Reads command.now
+            → V.reads self.new.files
+            ≤ V.reads self.old.files + cost_of self.old.database self.old.aheads command.now }
+        ensures running { OnOk result (self.new.stopped ≡ false) }
+        ensures stopped { OnErr result (self.new.stopped ≡ true) }
+        ensures lost { self.new.lost ≡ true → IsErrOf result Flash }
+        ensures keeps { K.keeps out.old out.new }
+        ensures faultless { OnOk result (K.faults out.new ≡ K.faults out.old) }
+        ensures store { let old = V.state self.old.files in
+            length (V.state self.new.files).store ≡ length old.store }
+        ensures cause { HasStopCause (V.faults self.old.files) (V.faults self.new.files)
+            (K.faults out.old) (K.faults out.new) result }
+    {
+        hold_names(command);
+        match carry_out(
+            &mut self.files,
+            &mut self.tables,
+            &mut self.held,
+            &mut self.opens[..],
+            command,
+            out,
+        ) {
+            Ok(step) => Ok(step),
+            Err(stop) => {
+                self.stopped = true;
+                self.lost = is_flash(&stop);
+                Err(stop)
+            }
+        }
+    }
+
+    /// Whether `exec` answered a stop, after which it may not be called.
+    pub fn is_stopped(&self) -> bool
+        ensures { result ≡ self.now.stopped }
+    {
+        self.stopped
+    }
+
+    /// Hands the files back. Wherever they did not fail, they are sound and stand for the database
+    /// without its cursors.
+    pub fn close(self) -> V
+        ensures files { result ≡ self.files }
+        ensures sound { IsTrue (V.state result).tells → self.lost ≡ false
+            → IsSoundTable (V.state result).files }
+        ensures base { IsTrue (V.state result).tells → self.lost ≡ false
+            → base_of (V.state result).files ≡ bare self.database }
+        ensures idle { self.lost ≡ false → (V.state result).draft ≡ None }
+    {
+        self.files
+    }
+}
+
+fn is_flash(stop: &Stop) -> bool
+    ensures { result ≡ is_flash stop.now }
+{
+    matches!(stop, Stop::Flash)
+}
+
+// The names that a command brings are NAMEs, as each `Ident` is.
+fn hold_names(command: &Command)
+    ensures { BringsNames command.now }
+{
+    match command {
+        Command::CreateRelation { name } | Command::CreateAttribute { name, .. } => {
+            let _name = name.bytes();
+        }
+        _ => {}
+    }
+}
