@@ -45,7 +45,7 @@ impl<V: Files> Runner<V> {
 }
 
 impl<V: Files> Taker for Runner<V> {
-    ghost use Rattle.answering.specs.Taken.{halted_before, halted_behind, taken_more, taken_none};
+    ghost use Rattle.answering.proofs.Taken.{halted_before, halted_behind, taken_more, taken_none};
     ghost use Rattle.answering.specs.Taking.{EndsInput, HaltsAtLast, HaltsInBytes, TakesBytes, running, saying};
     ghost use Rattle.run_model.specs.Scripts.{script_line};
     ghost use Rattle.script_run.specs.Input.{script_input};

@@ -5,7 +5,7 @@ use Rattle.db_model.specs.Script.{Bytes}
 use Rattle.intake.specs.declared.halt.Halt.{Halt}
 use Rattle.intake.specs.declared.halt.Halt.TheVariants.{Sink}
 use Rattle.reply_text.specs.WroteLess.{WroteLess}
-use Rattle.answering.proofs.Single.{refused_carried, refused_less}
+use Rattle.answering.proofs.Single.{refused_carried, refused_halts}
 use Rattle.answering.specs.Carried.{HaltsIn, LacksPages, standing_of}
 use Rattle.run_model.specs.Scripts.{script_talk}
 use Rattle.script_run.proofs.answering.carry_out.Goals as goal
@@ -41,4 +41,4 @@ returns-in-Err-refuse-clause-halts g c = λ told read reader.
     let less : WroteLess (g.K.Sink.held c.args.out.now) (g.K.Sink.held c.refuse.new.out) (refusal_text r) = search rules in
     let sink : c.in-Err-refuse.halt ≡ Sink = search rules in
     let R : Halt → Type 0 = λ halt. HaltsIn (script_talk read) (LacksPages g.V.Files.state g.V.Files.asks g.V.Files.lacks c.args.session.now) (Bytes bytes ∷ []) a b halt in
-    subst R (sym sink) (inl (refused_less (script_talk read) (Bytes bytes) a b refl r is refl less))
+    subst R (sym sink) (refused_halts (script_talk read) (Bytes bytes) a b refl r is refl (LacksPages g.V.Files.state g.V.Files.asks g.V.Files.lacks c.args.session.now) (omega arith) less)

@@ -11,7 +11,7 @@ use Rattle.space_model.specs.Enough.{most}
 use Rattle.std.specs.Prelude.{◌≤◌, ℕ, List, Option}
 use Rattle.intake.specs.declared.halt.Halt.TheVariants.{Sink}
 use Rattle.reply_text.specs.WroteLess.{WroteLess}
-use Rattle.answering.proofs.Single.{command_found, command_less, command_unsaid}
+use Rattle.answering.proofs.Single.{command_found, command_halts_less, command_unsaid}
 use Rattle.answering.specs.Carried.{HaltsIn, LacksPages, standing_of}
 use Rattle.script_run.proofs.answering.execute.Goals as goal
 
@@ -28,7 +28,7 @@ returns-in-Ok-clause-halts g c = λ told read bytes is.
     let P : Database → Type 0 = λ db. WantsOver (g.V.Files.asks s.files) (state s.files).files db c.args.command.now n in
     let Q : Database → Type 0 = λ db. n ≤ most db c.args.command.now in
     let back : c.args.session.now.database ≡ s.database = sym does.0 in
-    command_found (script_talk read) (Bytes bytes) a b (e.tells kept) c.args.command.now is (LacksPages state g.V.Files.asks g.V.Files.lacks s) n does.0 does.2
+    command_found (script_talk read) (Bytes bytes) a b (e.tells kept) c.args.command.now is (LacksPages state g.V.Files.asks g.V.Files.lacks s) (e.reads told) n does.0 does.2
     (record { wants = subst P back (rw c.in-Ok-NoSpace.field-0-is at (e.wants told)); few = subst Q back (rw c.in-Ok-NoSpace.field-0-is at (e.most told)); none = rw c.in-Ok-NoSpace.field-0-is at e.lacks })
     (c.in-Ok.ensures.written ∙ ap (λ (h : Option (List ℕ)). append_known h (refusal_text (no.Space n))) does.1)
 
@@ -49,8 +49,8 @@ returns-in-Err-clause-halts g c = λ told read bytes is.
     let less : WroteLess (g.K.Sink.held c.exec.new.out) (g.K.Sink.held c.refuse.new.out) (refusal_text (no.Space n)) = search rules in
     let sink : c.in-Err.halt ≡ Sink = search rules in
     subst R (sym sink)
-    (inr (command_unsaid (script_talk read) (Bytes bytes) a b (e.tells kept) c.args.command.now is (LacksPages state g.V.Files.asks g.V.Files.lacks s) n does.0 does.2
-    (record { wants = subst P back (rw c.in-Ok-NoSpace.field-0-is at (e.wants told)); few = subst Q back (rw c.in-Ok-NoSpace.field-0-is at (e.most told)); none = rw c.in-Ok-NoSpace.field-0-is at e.lacks }) (g.K.Sink.held c.exec.new.out) does.1 less))
+    (command_unsaid (script_talk read) (Bytes bytes) a b (e.tells kept) c.args.command.now is (LacksPages state g.V.Files.asks g.V.Files.lacks s) (e.reads told) n does.0 does.2
+    (record { wants = subst P back (rw c.in-Ok-NoSpace.field-0-is at (e.wants told)); few = subst Q back (rw c.in-Ok-NoSpace.field-0-is at (e.most told)); none = rw c.in-Ok-NoSpace.field-0-is at e.lacks }) (g.K.Sink.held c.exec.new.out) does.1 less)
 
 pub returns-in-Err-Sink-clause-halts : goal.returns-in-Err-Sink-clause-halts
 returns-in-Err-Sink-clause-halts g c = λ told read bytes is.
@@ -60,5 +60,5 @@ returns-in-Err-Sink-clause-halts g c = λ told read bytes is.
     let b = standing_of g.V.Files.state g.V.Files.reads s (g.K.Sink.held c.exec.new.out) in
     let kept : s.lost ≡ false = search rules in
     let less = e.sink told (search rules) in
-    inl (command_less (script_talk read) (Bytes bytes) a b (e.tells kept) c.args.command.now is less.1 less.0)
+    command_halts_less (script_talk read) (Bytes bytes) a b (e.tells kept) c.args.command.now is (LacksPages g.V.Files.state g.V.Files.asks g.V.Files.lacks s) (e.reads told) less.1 less.0
 

@@ -7,7 +7,7 @@ use Rattle.intake.specs.declared.halt.Halt.{Halt}
 use Rattle.intake.specs.declared.halt.Halt.TheVariants.{Sink}
 use Rattle.reply_text.specs.WroteLess.{WroteLess}
 use Rattle.script_run.proofs.Gathering.{said_long, said_some}
-use Rattle.answering.proofs.Single.{refused_carried, refused_less}
+use Rattle.answering.proofs.Single.{refused_carried, refused_halts}
 use Rattle.answering.specs.Carried.{Carried, HaltsIn, LacksPages, standing_of}
 use Rattle.script_run.specs.Gathers.{Gathers}
 use Rattle.run_model.specs.Scripts.{script_talk}
@@ -32,7 +32,7 @@ returns-in-Err-clause-halts g c = λ told read reader p gathers.
     let R : Halt → Type 0 = λ halt. HaltsIn (script_talk read) (LacksPages g.V.Files.state g.V.Files.asks g.V.Files.lacks c.args.session.now) (ended (past_white p)) a b halt in
     let P : List Entry → Type 0 = λ es. HaltsIn (script_talk read) (LacksPages g.V.Files.state g.V.Files.asks g.V.Files.lacks c.args.session.now) es a b Sink in
     subst R (sym sink) (subst P (sym (said_long p v.bytes.items (subst (λ (l : Bool). Gathers p v.bytes.items l) c.if-piece.true gathers)))
-    (inl (refused_less (script_talk read) Long a b refl no.Long refl refl less)))
+    (refused_halts (script_talk read) Long a b refl no.Long refl refl (LacksPages g.V.Files.state g.V.Files.asks g.V.Files.lacks c.args.session.now) (omega arith) less))
 
 pub returns-in-Ok-carry_out-clause-carried : goal.returns-in-Ok-carry_out-clause-carried
 returns-in-Ok-carry_out-clause-carried g c = λ told read reader p gathers.

@@ -7,7 +7,7 @@ use Rattle.intake.specs.declared.halt.Halt.{Halt}
 use Rattle.intake.specs.declared.halt.Halt.TheVariants.{Sink}
 use Rattle.reply_text.specs.WroteLess.{WroteLess}
 use Rattle.script_run.proofs.Gathering.{unclosed_some}
-use Rattle.answering.proofs.Single.{refused_carried, refused_less}
+use Rattle.answering.proofs.Single.{refused_carried, refused_halts}
 use Rattle.answering.specs.Carried.{Carried, HaltsIn, LacksPages, standing_of}
 use Rattle.run_model.specs.Scripts.{script_talk}
 use Rattle.script_run.proofs.running.answer_unended.Goals as goal
@@ -33,4 +33,4 @@ returns-in-Err-clause-halts g c = λ told read reader p gathers.
     let R : Halt → Type 0 = λ halt. HaltsIn (script_talk read) (LacksPages g.V.Files.state g.V.Files.asks g.V.Files.lacks c.args.session.now) (unended (past_white p)) a b halt in
     let P : List Entry → Type 0 = λ es. HaltsIn (script_talk read) (LacksPages g.V.Files.state g.V.Files.asks g.V.Files.lacks c.args.session.now) es a b Sink in
     subst R (sym sink) (subst P (sym (unclosed_some p v.bytes.items v.long gathers some))
-    (inl (refused_less (script_talk read) Unfinished a b refl no.Unfinished refl refl less)))
+    (refused_halts (script_talk read) Unfinished a b refl no.Unfinished refl refl (LacksPages g.V.Files.state g.V.Files.asks g.V.Files.lacks c.args.session.now) (omega arith) less))
