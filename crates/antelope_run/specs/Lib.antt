@@ -1,1 +1,3 @@
+pub mod HandedBack
+pub mod Statuses
 pub mod Words

@@ -1,0 +1,38 @@
+-- What a command wants and the most that is counted for it do not depend on cursors.
+use Rattle.std.proofs.Common.{◌≡◌, ℕ, ℤ, List, Option, refl}
+use Rattle.db_model.specs.declared.commands.Command.{Command}
+use Rattle.db_model.specs.declared.commands.Command.TheVariants.{CreateRelation, CreateAttribute, CreateIndex, Insert, Ask, Aggregate, RemoveFrom, RemoveRelation, RemoveIndex, Pack, OpenCursor, FetchCursor, CloseCursor}
+use Rattle.db_model.specs.Database.{Database, bare}
+use Rattle.space_model.specs.Enough.{most}
+use Rattle.space_model.specs.Wants.{Wants}
+
+module _ (size_of : List ℕ → Option ℕ) (asks : List ℕ → ℕ → ℕ → ℕ → Type 0) (room : ℕ → ℤ → ℕ × ℕ) (db : Database) (n : ℕ) where
+  pub wants_bare : (c : Command) → Wants size_of asks room db c n → Wants size_of asks room (bare db) c n
+  wants_bare (CreateRelation name) h = h
+  wants_bare (CreateAttribute name domain relation) h = h
+  wants_bare (CreateIndex relation attribute kind) h = h
+  wants_bare (Insert values relation) h = h
+  wants_bare (Ask query) h = h
+  wants_bare (Aggregate list relation nodes) h = h
+  wants_bare (RemoveFrom relation nodes) h = h
+  wants_bare (RemoveRelation relation) h = h
+  wants_bare (RemoveIndex relation attribute) h = h
+  wants_bare (Pack relation) h = h
+  wants_bare (OpenCursor number query) h = h
+  wants_bare (FetchCursor number) h = h
+  wants_bare (CloseCursor number) h = h
+
+pub most_bare : (db : Database) (c : Command) → most (bare db) c ≡ most db c
+most_bare db (CreateRelation name) = refl
+most_bare db (CreateAttribute name domain relation) = refl
+most_bare db (CreateIndex relation attribute kind) = refl
+most_bare db (Insert values relation) = refl
+most_bare db (Ask query) = refl
+most_bare db (Aggregate list relation nodes) = refl
+most_bare db (RemoveFrom relation nodes) = refl
+most_bare db (RemoveRelation relation) = refl
+most_bare db (RemoveIndex relation attribute) = refl
+most_bare db (Pack relation) = refl
+most_bare db (OpenCursor number query) = refl
+most_bare db (FetchCursor number) = refl
+most_bare db (CloseCursor number) = refl
