@@ -45,6 +45,7 @@ pub fn open<F: Flash>(flash: F) -> Result<Session<Volume<F>>, OpenError<F>>
     ensures cause { IfErr result (λ e. OnFailed e (Rose (F.faults flash) (F.faults (flash_of e)))) }
 {
     mounted_files_are_the_images();
+    flash.sectors();
     let volume = match Volume::mount(flash) {
         Ok(volume) => volume,
         Err(MountError::Bad { bad, flash }) => return Err(OpenError::Bad {
