@@ -13,7 +13,7 @@ use Rattle.intake.specs.declared.halt.Halt.TheVariants.{Sink}
 use Rattle.reply_text.specs.WroteLess.{WroteLess}
 use Rattle.answering.proofs.Single.{command_found, command_halts_less, command_unsaid}
 use Rattle.answering.specs.Carried.{HaltsIn, LacksPages, standing_of}
-use Rattle.script_run.proofs.answering.execute.Goals as goal
+use Rattle.script_run.proofs.entry.execute.Goals as goal
 
 pub returns-in-Ok-clause-halts : goal.returns-in-Ok-clause-halts
 returns-in-Ok-clause-halts g c = λ told read bytes is.

@@ -8,7 +8,7 @@ use Rattle.reply_text.specs.WroteLess.{WroteLess}
 use Rattle.answering.proofs.Single.{refused_carried, refused_halts}
 use Rattle.answering.specs.Carried.{HaltsIn, LacksPages, standing_of}
 use Rattle.run_model.specs.Scripts.{script_talk}
-use Rattle.script_run.proofs.answering.carry_out.Goals as goal
+use Rattle.script_run.proofs.entry.carry_out.Goals as goal
 
 pub returns-in-Ok-execute-clause-carried : goal.returns-in-Ok-execute-clause-carried
 returns-in-Ok-execute-clause-carried g c = λ told read reader.
