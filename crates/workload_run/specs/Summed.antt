@@ -43,8 +43,8 @@ module _ (Lacks : Command → ℕ → Type 0) where
     pub stops : StopsAt Lacks commands old new n
     pub held : WroteLess before now (summed_until old stops.front n)
 
-  -- why a run went no further
-  abbrev pub HaltsIn : List Command → Database → Database → Option (List ℕ) → Option (List ℕ) → Halt → Type 0
-  HaltsIn commands old new before now Space = FoundNone commands old new before now
-  HaltsIn commands old new before now Sink = LineUnsaid commands old new before now ⊎ SpaceUnsaid commands old new before now
-  HaltsIn commands old new before now Flash = now ≡ before
+  -- why no more of them was carried out
+  abbrev pub StopsBy : List Command → Database → Database → Option (List ℕ) → Option (List ℕ) → Halt → Type 0
+  StopsBy commands old new before now Space = FoundNone commands old new before now
+  StopsBy commands old new before now Sink = LineUnsaid commands old new before now ⊎ SpaceUnsaid commands old new before now
+  StopsBy commands old new before now Flash = now ≡ before

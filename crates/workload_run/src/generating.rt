@@ -6,7 +6,7 @@ ghost use Rattle.std.specs.Prelude.{◌≡◌, ◌≤◌, false, true, IfErr, Is
 ghost use Rattle.answering.specs.Carried.{HasHaltCause, LacksPages};
 ghost use Rattle.db_model.specs.Workload.{first_commands};
 ghost use Rattle.intake.specs.declared.halt.Halt.TheVariants as Halt;
-ghost use Rattle.workload_run.specs.Summed.{HaltsIn, SummedUp};
+ghost use Rattle.workload_run.specs.Summed.{StopsBy, SummedUp};
 
 use crate::counting::{Failure, carry_out};
 use crate::line::{write_no_space, write_tally};
@@ -35,7 +35,7 @@ pub fn generate<V: Files, K: Sink>(
         (SummedUp (first_commands seed count) session.old.database session.new.database
         (K.held out.old) (K.held out.new)) }
     ensures halts { IsTrue (V.state session.old.files).tells → IfErr result (λ halt.
-        HaltsIn (LacksPages V.state V.asks V.lacks session.new) (first_commands seed count)
+        StopsBy (LacksPages V.state V.asks V.lacks session.new) (first_commands seed count)
         session.old.database session.new.database (K.held out.old) (K.held out.new) halt) }
     ensures silent { IsErrOf result Halt.Flash → K.held out.new ≡ K.held out.old }
     ensures running { OnOk result (session.new.stopped ≡ false) }
