@@ -1,7 +1,3 @@
-pub mod Output
-pub mod Pieces
-pub mod Raw
-pub mod Runs
-pub mod Script
-pub mod Top
+pub mod HandedBack
+pub mod Statuses
 pub mod Words
