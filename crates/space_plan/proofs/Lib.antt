@@ -1,0 +1,7 @@
+pub mod Fitting
+pub mod Inserted
+pub mod Longer
+pub mod MoreBuckets
+pub mod PlannedSpace
+pub mod Scripts
+pub mod WorkedPlans
