@@ -1,5 +1,5 @@
 -- Larger files take no fewer pages and sectors.
-use Rattle.std.proofs.Common.{◌≡◌, ℕ, zero, suc, ◌+◌, ◌-◌, ◌*◌, ◌/◌, ◌≤◌, ◌<◌, ⊎_elim, List, [], ◌∷◌, ◌++◌, length, map, arith}
+use Rattle.std.proofs.Common.{◌≡◌, ℕ, zero, suc, ◌+◌, ◌-◌, ◌*◌, ◌/◌, ◌≤◌, ◌<◌, ⊎_elim, List, [], ◌∷◌, ◌++◌, length, map, min, refl, ap, arith}
 use Rattle.std.specs.Prelude.{⊤}
 use Rattle.std.proofs.Math.Nat.{mul-le-mul_left}
 use Rattle.std.proofs.lemmas.Bool.{cases_lt}
@@ -27,6 +27,44 @@ pages_rise (suc t) p a b h = ⊎_elim
 pub fit_rises : (a b : ℕ) → a ≤ b → fit a ≤ fit b
 unfolding fit
 fit_rises a b h = pages_rise 11 16 a b h
+
+-- ---- the largest extent
+
+-- so many pages, doubled so many times
+abbrev doubled : ℕ → ℕ → ℕ
+doubled zero p = p
+doubled (suc t) p = doubled t (2 * p)
+
+doubled_least : (t p : ℕ) → p ≤ doubled t p
+doubled_least zero p = omega arith
+doubled_least (suc t) p = let more = doubled_least t (2 * p) in omega (arith, more)
+
+pages_most : (t p s : ℕ) → first_fit t p s ≤ doubled t p
+pages_most zero p s = omega arith
+pages_most (suc t) p s = ⊎_elim
+    (λ (short : 256 * p < s + 32). rw (fit_more t p s short) (pages_most t (2 * p) s))
+    (λ (holds : s + 32 ≤ 256 * p). rw (fit_here (suc t) p s holds) (doubled_least (suc t) p))
+    (cases_lt (256 * p) (s + 32))
+
+pub fit_few : (s : ℕ) → fit s ≤ 32768
+unfolding fit
+fit_few s = pages_most 11 16 s
+
+largest_fit : fit 8388576 ≡ 32768
+unfolding fit
+largest_fit = refl
+
+-- a size beyond the largest extent fits it by the definition
+pub fit_capped : (s : ℕ) → fit (min s 8388576) ≡ fit s
+fit_capped s = ⊎_elim
+    (λ (below : s < 8388576). ap fit (omega (arith, below)))
+    (λ (beyond : 8388576 ≤ s).
+    let capped : min s 8388576 ≡ 8388576 = omega (arith, beyond) in
+    let least = fit_rises 8388576 s beyond in
+    let most = fit_few s in
+    let all = largest_fit in
+    rw capped (omega (arith, least, most, all)))
+    (cases_lt s 8388576)
 
 -- ---- sectors
 

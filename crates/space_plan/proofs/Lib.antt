@@ -1,5 +1,6 @@
 pub mod Fitting
 pub mod Inserted
+pub mod Lines
 pub mod Longer
 pub mod MoreBuckets
 pub mod PlannedSpace

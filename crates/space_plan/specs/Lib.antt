@@ -1,2 +1,3 @@
 pub mod Growth
+pub mod Lines
 pub mod Planned
