@@ -1,9 +1,9 @@
 -- Each key more takes at most one bucket more.
-use Rattle.std.proofs.Common.{◌≡◌, ℕ, ℤ, zero, suc, ◌+◌, ◌<◌, ◌≤◌, ⊎_elim, Bool, true, false, cond, ◌==◌, List, [], ◌∷◌, ◌++◌, length, drop, refl, ap, sym, ◌∙◌, arith, append_assoc}
+use Rattle.std.proofs.Common.{◌≡◌, ℕ, ℤ, zero, suc, ◌+◌, ◌<◌, ◌≤◌, ⊎_elim, Bool, true, false, cond, ◌==◌, List, [], ◌∷◌, ◌++◌, length, drop, ap, sym, ◌∙◌, arith, append_assoc}
 use Rattle.std.specs.Prelude.{filter}
 use Rattle.std.proofs.lemmas.Bool.{cases_lt}
 use Rattle.std.proofs.lemmas.Bool.Decides.{nat_tests}
-use Rattle.std.proofs.lemmas.List.{append-nil, drop-append-le, length-append}
+use Rattle.std.proofs.lemmas.List.{append-nil, drop-append-le, drop_all, length-append}
 use Rattle.std.proofs.lemmas.List.Elements.{filter-append}
 use Rattle.db_model.specs.HashTree.{digit, onward, buckets_at, buckets}
 
@@ -29,12 +29,6 @@ record OneMore (level d : ℕ) (keys : List ℤ) (key : ℤ) : Type 0 where
   comes : Bool
   same : onward level d (keys ++ key ∷ []) ≡ onward level d keys ++ cond comes (key ∷ []) []
   few : one comes ≤ one (digit key level == d)
-
-drop_all : (n : ℕ) (xs : List ℤ) → length xs ≤ n → drop n xs ≡ []
-drop_all zero [] h = refl
-drop_all zero (x ∷ xs) h = absurd (omega (arith, h))
-drop_all (suc n) [] h = refl
-drop_all (suc n) (x ∷ xs) h = drop_all n xs (omega (arith, h))
 
 one_more : (level d : ℕ) (keys : List ℤ) (key : ℤ) → OneMore level d keys key
 unfolding one

@@ -1,5 +1,5 @@
 -- Worked examples of planned sectors, computed over the definitions.
-use Rattle.std.proofs.Common.{◌≡◌, refl, ℕ, pos, List, [], ◌∷◌, ◌++◌, Option, Some, None, true, ◌%◌, ◌+◌}
+use Rattle.std.proofs.Common.{◌≡◌, refl, ℕ, pos, List, [], ◌∷◌, ◌++◌, Option, Some, None, true, ◌%◌, ◌+◌, ◌-◌}
 use Rattle.std.specs.Prelude.{codes, replicate, map}
 use Rattle.std.specs.List.{range_with_len}
 use Rattle.afl_base.specs.Fit.{fit}
@@ -60,21 +60,26 @@ pub more_keys_plan : planned one_key 1000 ≡ 518
 unfolding fit
 more_keys_plan = refl
 
--- ---- a year of samples, one a minute: seven to a row, with the minute of the first, and two months to a relation
+-- ---- a year of samples, one a minute: seven to a row, with the minute of the first, in so many relations
 
 abbrev reading : ℕ → Attribute
 reading n = record { name = 118 ∷ (49 + n) ∷ []; domain = Int }
 
-abbrev two_months : ℕ → Option Relation
-two_months n = Some (record {
+abbrev months : ℕ → Option Relation
+months n = Some (record {
   schema = record { name = 109 ∷ (49 + n) ∷ []; attributes = record { name = codes "minute"; domain = Long } ∷ map reading (range_with_len 0 7) };
   rows = [];
 })
 
-abbrev year : Database
-year = database (map two_months (range_with_len 0 6) ++ replicate 2 None) (replicate 8 None)
+abbrev year : ℕ → Database
+year relations = database (map months (range_with_len 0 relations) ++ replicate (8 - relations) None) (replicate 8 None)
 
--- 62 days are 89,280 minutes, and 12,755 rows
-pub year_plan : planned year 12755 ≡ 2696
+-- two months to a relation: 62 days are 89,280 minutes, and 12,755 rows
+pub year_plan : planned (year 6) 12755 ≡ 2696
 unfolding fit
 year_plan = refl
+
+-- four months to a relation: 123 days are 177,120 minutes, and 25,303 rows
+pub thirds_plan : planned (year 3) 25303 ≡ 3077
+unfolding fit
+thirds_plan = refl

@@ -4,6 +4,8 @@
 mod growth;
 pub mod laws;
 mod line;
+mod planning;
 mod sectors;
 
 pub use line::write_plan;
+pub use planning::planned;

@@ -58,5 +58,11 @@ pub fn write_plan<K: Sink>(out: &mut K, needed: u32, present: u16) -> Result<(),
     ensures faultless { OnOk result (K.faults out.new ≡ K.faults out.old) }
     ensures cause { HasCause (K.faults out.old) (K.faults out.new) result }
 {
-    write_counts(out, b"sectors needed ", needed, b" present ", u32::from(present))
+    write_counts(
+        out,
+        b"sectors needed ",
+        needed,
+        b" present ",
+        u32::from(present),
+    )
 }
