@@ -5,6 +5,5 @@ pub mod Longer
 pub mod MoreBuckets
 pub mod PlannedSpace
 pub mod Scripts
-pub mod Slots
 pub mod Trees
 pub mod WorkedPlans

@@ -5,6 +5,6 @@ use Rattle.space_plan.proofs.planning.push_rows.Given as goal
 
 abbrev pub invariant-loop-relation : goal.invariant-loop-relation
 invariant-loop-relation g l = record {
-  so_far : l.sizes ++ map (rows_planned l.rows) (used (drop l.relation l.session.database.relations)) ≡ map (rows_planned l.rows) (used l.session.database.relations);
+  sizes : l.sizes ++ map (rows_planned l.rows) (used (drop l.relation l.session.database.relations)) ≡ map (rows_planned l.rows) (used l.session.database.relations);
   few : length l.sizes ≤ l.relation;
 }
