@@ -24,16 +24,18 @@ pub fn sound_databases_have_few_rows()
 /// After commands that insert and read, and bring at most n rows to each relation, the sectors that are
 /// enough for one more INSERT are no more than were planned for n rows.
 pub fn planned_space_suffices()
-    ensures { (n : ℕ) (db : Database) (commands : List AnyCommand) (values : List Value) (name : List ℕ)
-        → HasFewRows db → KeepsToPlan n db commands
-        → enough (after_all db commands) (most (after_all db commands) (Insert values name)) ≤ planned db n }
+    ensures { (n : ℕ) (db : Database) (commands : List AnyCommand)
+        (values : List Value) (name : List ℕ) → HasFewRows db → KeepsToPlan n db commands
+        → let grown = after_all db commands in
+        enough grown (most grown (Insert values name)) ≤ planned db n }
 {}
 
 /// In a script whose commands insert and read, and bring at most n rows to each relation, each command
 /// asks for nothing, or a flash with the sectors that were planned for n rows has enough for it.
 pub fn planned_flash_has_enough()
-    ensures { (read : List ℕ → Result AnyCommand Refusal) (db : Database) (entries : List Entry) (n sectors : ℕ)
-        → IsSoundDatabase db → KeepsToPlan n db (commands_of read entries) → planned db n ≤ sectors
+    ensures { (read : List ℕ → Result AnyCommand Refusal) (db : Database) (entries : List Entry)
+        (n sectors : ℕ) → IsSoundDatabase db → KeepsToPlan n db (commands_of read entries)
+        → planned db n ≤ sectors
         → (front rest : List Entry) (bytes : List ℕ) (command : AnyCommand)
         → entries ≡ front ++ Bytes bytes ∷ rest → read bytes ≡ Ok command
         → (most (last read db front) command ≡ 0)

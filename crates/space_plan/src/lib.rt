@@ -2,10 +2,11 @@
 #![tactic(auto)]
 
 mod growth;
-pub mod laws;
+mod laws;
 mod line;
 mod planning;
 mod sectors;
 
+pub use laws::{planned_flash_has_enough, planned_space_suffices, sound_databases_have_few_rows};
 pub use line::write_plan;
 pub use planning::planned;

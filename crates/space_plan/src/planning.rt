@@ -95,7 +95,8 @@ fn push_trees<V: Files>(session: &Session<V>, rows: u16, sizes: &mut Few<u32, 16
 }
 
 /// The sectors of a flash that suffice for the session's database while commands only insert and read, and
-/// at most `rows` rows come to each relation.
+/// at most `rows` rows come to each relation. A removed row keeps its slot, and counts. Nothing is said of the
+/// number where the files do not tell their bytes.
 pub fn planned<V: Files>(session: &Session<V>, rows: u16) -> u32
     requires running { session.now.stopped ≡ false }
     ensures { IsTrue (V.state session.now.files).tells → IsSoundDatabase session.now.database

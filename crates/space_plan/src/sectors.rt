@@ -1,4 +1,5 @@
-//! The sectors that are enough beside files of given sizes.
+//! The sectors that are enough beside files of given sizes. At most 16 files, each with an extent of at most
+//! 32,768 pages, touch 65,552 sectors and leave 35 gaps of less than 4,096, so that no number here passes 2^18.
 
 #![tactic(auto)]
 
@@ -12,7 +13,7 @@ use afl_base::fit;
 // The bytes that the largest extent holds.
 const LARGEST: u32 = 8_388_576;
 
-// The pages of the extent of a file of so many bytes.
+// The pages of the extent of a file of so many bytes; a size beyond the largest extent counts as it.
 #[tactic(auto, using(crate::proofs::Fitting::fit_capped, crate::proofs::Fitting::fit_few))]
 fn pages(size: u32) -> u32
     ensures value { result ≡ fit size }
