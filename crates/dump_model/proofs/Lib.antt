@@ -1,0 +1,9 @@
+pub mod Cutting
+pub mod Facts
+pub mod Lexing
+pub mod Made
+pub mod MakingIndexes
+pub mod MakingRelations
+pub mod Slots
+pub mod Texts
+pub mod Worked

@@ -1,0 +1,22 @@
+//! The database as a script that makes it again.
+
+#![tactic(auto)]
+
+ghost use Rattle.std.specs.Prelude.{ℕ, List, Result};
+ghost use Rattle.db_model.specs.Database.{Database};
+ghost use Rattle.db_model.specs.Reading.{IsReader};
+ghost use Rattle.db_model.specs.Sound.{IsSoundDatabase};
+ghost use Rattle.db_model.specs.declared.commands.Command.{Command as AnyCommand};
+ghost use Rattle.db_model.specs.declared.refusals.Refusal.{Refusal as AnyRefusal};
+ghost use Rattle.dump_model.specs.Made.{MakesPacked};
+
+use aql_parse::readings_are_unique;
+
+/// The script of a sound database makes the packed one of the database of an erased flash: each of
+/// its commands has at most 512 bytes and is replied to by `ok`.
+pub fn scripts_make_their_database()
+    ensures { (read : List ℕ → Result AnyCommand AnyRefusal) → IsReader read
+        → (db : Database) → IsSoundDatabase db → MakesPacked read db }
+{
+    readings_are_unique();
+}
