@@ -6,7 +6,7 @@ use Rattle.session_model.specs.declared.step.Stop.{Stop}
 use Rattle.session_model.specs.declared.step.Stop.TheVariants.{Flash, Sink}
 use Rattle.session_model.specs.Steps.{WrotePart}
 
--- all of it, or less of it where the sink failed, or a part of it where the files did
+-- all of it; a proper prefix where the sink failed; a prefix where the files did
 abbrev pub Appends : Result ⊤ Stop → Option (List ℕ) → Option (List ℕ) → List ℕ → Type 0
 Appends (Ok done) old new all = new ≡ append_known old all
 Appends (Err Sink) old new all = WroteLess old new all

@@ -17,12 +17,12 @@ use antelope_engine::Session;
 // Appends the lines of all indexes, in slot order.
 pub fn write_indexes<V: Files, K: Sink>(session: &Session<V>, out: &mut K) -> Result<(), Failed>
     requires running { session.now.stopped ≡ false }
-    ensures written { IsSoundDatabase session.now.database → OnOk result
-        (K.held out.new ≡ append_known (K.held out.old) (flat_map (index_lines session.now.database.relations)
-        session.now.database.indexes)) }
-    ensures failed { IsSoundDatabase session.now.database → OnErr result
-        (WroteLess (K.held out.old) (K.held out.new) (flat_map (index_lines session.now.database.relations)
-        session.now.database.indexes)) }
+    ensures written { let db = session.now.database in IsSoundDatabase db
+        → OnOk result (K.held out.new ≡ append_known (K.held out.old)
+        (flat_map (index_lines db.relations) db.indexes)) }
+    ensures failed { let db = session.now.database in IsSoundDatabase db
+        → OnErr result (WroteLess (K.held out.old) (K.held out.new)
+        (flat_map (index_lines db.relations) db.indexes)) }
     ensures keeps { K.keeps out.old out.new }
     ensures faultless { OnOk result (K.faults out.new ≡ K.faults out.old) }
     ensures cause { HasCause (K.faults out.old) (K.faults out.new) result }
@@ -50,12 +50,12 @@ fn write_index<V: Files, K: Sink>(
     out: &mut K,
 ) -> Result<(), Failed>
     requires running { session.now.stopped ≡ false }
-    ensures written { IsSoundDatabase session.now.database → OnOk result
-        (K.held out.new ≡ append_known (K.held out.old) (index_lines session.now.database.relations
-        (index_at session.now.database id))) }
-    ensures failed { IsSoundDatabase session.now.database → OnErr result
-        (WroteLess (K.held out.old) (K.held out.new) (index_lines session.now.database.relations
-        (index_at session.now.database id))) }
+    ensures written { let db = session.now.database in IsSoundDatabase db
+        → OnOk result (K.held out.new ≡ append_known (K.held out.old)
+        (index_lines db.relations (index_at db id))) }
+    ensures failed { let db = session.now.database in IsSoundDatabase db
+        → OnErr result (WroteLess (K.held out.old) (K.held out.new)
+        (index_lines db.relations (index_at db id))) }
     ensures keeps { K.keeps out.old out.new }
     ensures faultless { OnOk result (K.faults out.new ≡ K.faults out.old) }
     ensures cause { HasCause (K.faults out.old) (K.faults out.new) result }

@@ -19,10 +19,10 @@ use reply_text::write_all;
 
 // Appends the line that creates a relation.
 pub fn write_relation_line<K: Sink>(out: &mut K, relation: &Ident) -> Result<(), Failed>
-    ensures written { OnOk result (K.held out.new
-        ≡ append_known (K.held out.old) (command_line (CreateRelation relation.now))) }
-    ensures failed { OnErr result
-        (WroteLess (K.held out.old) (K.held out.new) (command_line (CreateRelation relation.now))) }
+    ensures written { let line = command_line (CreateRelation relation.now) in
+        OnOk result (K.held out.new ≡ append_known (K.held out.old) line) }
+    ensures failed { let line = command_line (CreateRelation relation.now) in
+        OnErr result (WroteLess (K.held out.old) (K.held out.new) line) }
     ensures keeps { K.keeps out.old out.new }
     ensures faultless { OnOk result (K.faults out.new ≡ K.faults out.old) }
     ensures cause { HasCause (K.faults out.old) (K.faults out.new) result }
@@ -36,10 +36,10 @@ pub fn write_attribute_line<K: Sink>(
     relation: &Ident,
     attribute: &Attribute,
 ) -> Result<(), Failed>
-    ensures written { OnOk result (K.held out.new ≡ append_known (K.held out.old)
-        (command_line (attribute_command relation.now attribute.now))) }
-    ensures failed { OnErr result (WroteLess (K.held out.old) (K.held out.new)
-        (command_line (attribute_command relation.now attribute.now))) }
+    ensures written { let line = command_line (attribute_command relation.now attribute.now) in
+        OnOk result (K.held out.new ≡ append_known (K.held out.old) line) }
+    ensures failed { let line = command_line (attribute_command relation.now attribute.now) in
+        OnErr result (WroteLess (K.held out.old) (K.held out.new) line) }
     ensures keeps { K.keeps out.old out.new }
     ensures faultless { OnOk result (K.faults out.new ≡ K.faults out.old) }
     ensures cause { HasCause (K.faults out.old) (K.faults out.new) result }
@@ -74,10 +74,10 @@ fn write_domain<K: Sink>(out: &mut K, domain: &Domain) -> Result<(), Failed>
 
 // Appends the line that inserts a row.
 pub fn write_row_line<K: Sink>(out: &mut K, relation: &Ident, tuple: &Tuple) -> Result<(), Failed>
-    ensures written { OnOk result (K.held out.new ≡ append_known (K.held out.old)
-        (command_line (row_command relation.now tuple.now))) }
-    ensures failed { OnErr result (WroteLess (K.held out.old) (K.held out.new)
-        (command_line (row_command relation.now tuple.now))) }
+    ensures written { let line = command_line (row_command relation.now tuple.now) in
+        OnOk result (K.held out.new ≡ append_known (K.held out.old) line) }
+    ensures failed { let line = command_line (row_command relation.now tuple.now) in
+        OnErr result (WroteLess (K.held out.old) (K.held out.new) line) }
     ensures keeps { K.keeps out.old out.new }
     ensures faultless { OnOk result (K.faults out.new ≡ K.faults out.old) }
     ensures cause { HasCause (K.faults out.old) (K.faults out.new) result }
@@ -94,10 +94,10 @@ pub fn write_index_line<K: Sink>(
     attribute: &Ident,
     kind: &IndexKind,
 ) -> Result<(), Failed>
-    ensures written { OnOk result (K.held out.new ≡ append_known (K.held out.old)
-        (command_line (CreateIndex relation.now attribute.now kind.now))) }
-    ensures failed { OnErr result (WroteLess (K.held out.old) (K.held out.new)
-        (command_line (CreateIndex relation.now attribute.now kind.now))) }
+    ensures written { let line = command_line (CreateIndex relation.now attribute.now kind.now) in
+        OnOk result (K.held out.new ≡ append_known (K.held out.old) line) }
+    ensures failed { let line = command_line (CreateIndex relation.now attribute.now kind.now) in
+        OnErr result (WroteLess (K.held out.old) (K.held out.new) line) }
     ensures keeps { K.keeps out.old out.new }
     ensures faultless { OnOk result (K.faults out.new ≡ K.faults out.old) }
     ensures cause { HasCause (K.faults out.old) (K.faults out.new) result }

@@ -19,10 +19,10 @@ pub fn write_three<K: Sink>(
     second: &[u8],
     third: &[u8],
 ) -> Result<(), Failed>
-    ensures written { OnOk result
-        (K.held out.new ≡ append_known (K.held out.old) (first.now ++ second.now ++ third.now)) }
-    ensures failed { OnErr result
-        (WroteLess (K.held out.old) (K.held out.new) (first.now ++ second.now ++ third.now)) }
+    ensures written { let all = first.now ++ second.now ++ third.now in
+        OnOk result (K.held out.new ≡ append_known (K.held out.old) all) }
+    ensures failed { let all = first.now ++ second.now ++ third.now in
+        OnErr result (WroteLess (K.held out.old) (K.held out.new) all) }
     ensures keeps { K.keeps out.old out.new }
     ensures faultless { OnOk result (K.faults out.new ≡ K.faults out.old) }
     ensures cause { HasCause (K.faults out.old) (K.faults out.new) result }
@@ -53,10 +53,10 @@ pub fn write_number_between<K: Sink>(
     number: u64,
     third: &[u8],
 ) -> Result<(), Failed>
-    ensures written { OnOk result
-        (K.held out.new ≡ append_known (K.held out.old) (first.now ++ decimal number ++ third.now)) }
-    ensures failed { OnErr result
-        (WroteLess (K.held out.old) (K.held out.new) (first.now ++ decimal number ++ third.now)) }
+    ensures written { let all = first.now ++ decimal number ++ third.now in
+        OnOk result (K.held out.new ≡ append_known (K.held out.old) all) }
+    ensures failed { let all = first.now ++ decimal number ++ third.now in
+        OnErr result (WroteLess (K.held out.old) (K.held out.new) all) }
     ensures keeps { K.keeps out.old out.new }
     ensures faultless { OnOk result (K.faults out.new ≡ K.faults out.old) }
     ensures cause { HasCause (K.faults out.old) (K.faults out.new) result }

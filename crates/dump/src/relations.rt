@@ -21,13 +21,15 @@ use db_model::Schema;
 // Appends the lines of all relations, in slot order.
 pub fn write_relations<V: Files, K: Sink>(session: &mut Session<V>, out: &mut K) -> Result<(), Stop>
     requires running { session.old.stopped ≡ false }
-    ensures wrote { IsTrue (V.state session.old.files).tells → IsSoundDatabase session.old.database
+    ensures wrote { let db = session.old.database in
+        IsTrue (V.state session.old.files).tells → IsSoundDatabase db
         → Appends result (K.held out.old) (K.held out.new)
-        (flat_map relation_lines session.old.database.relations) }
+        (flat_map relation_lines db.relations) }
     ensures same { UnlessFlash result (IsAsBefore V.state session.old session.new) }
     ensures lost { IsErrOf result Flash
         → (session.new.stopped ≡ true) × (session.new.lost ≡ true) }
-    ensures reads { V.reads session.new.files ≤ V.reads session.old.files + 6 * slots_of_all session.old.database.relations }
+    ensures reads { let slots = slots_of_all session.old.database.relations in
+        V.reads session.new.files ≤ V.reads session.old.files + 6 * slots }
     ensures store { let old = V.state session.old.files in
         length (V.state session.new.files).store ≡ length old.store }
     ensures keeps { K.keeps out.old out.new }
@@ -61,13 +63,15 @@ fn write_relation<V: Files, K: Sink>(
     out: &mut K,
 ) -> Result<(), Stop>
     requires running { session.old.stopped ≡ false }
-    ensures wrote { IsTrue (V.state session.old.files).tells → IsSoundDatabase session.old.database
+    ensures wrote { let db = session.old.database in
+        IsTrue (V.state session.old.files).tells → IsSoundDatabase db
         → Appends result (K.held out.old) (K.held out.new)
-        (relation_lines (relation_at session.old.database id)) }
+        (relation_lines (relation_at db id)) }
     ensures same { UnlessFlash result (IsAsBefore V.state session.old session.new) }
     ensures lost { IsErrOf result Flash
         → (session.new.stopped ≡ true) × (session.new.lost ≡ true) }
-    ensures reads { V.reads session.new.files ≤ V.reads session.old.files + 6 * length (rows_in session.old.database id) }
+    ensures reads { let slots = length (rows_in session.old.database id) in
+        V.reads session.new.files ≤ V.reads session.old.files + 6 * slots }
     ensures store { let old = V.state session.old.files in
         length (V.state session.new.files).store ≡ length old.store }
     ensures keeps { K.keeps out.old out.new }
@@ -90,13 +94,15 @@ fn write_used<V: Files, K: Sink>(
 ) -> Result<(), Stop>
     requires running { session.old.stopped ≡ false }
     requires schema { schema_at session.old.database id ≡ Some schema.now }
-    ensures wrote { IsTrue (V.state session.old.files).tells → IsSoundDatabase session.old.database
+    ensures wrote { let db = session.old.database in
+        IsTrue (V.state session.old.files).tells → IsSoundDatabase db
         → Appends result (K.held out.old) (K.held out.new)
-        (relation_lines (relation_at session.old.database id)) }
+        (relation_lines (relation_at db id)) }
     ensures same { UnlessFlash result (IsAsBefore V.state session.old session.new) }
     ensures lost { IsErrOf result Flash
         → (session.new.stopped ≡ true) × (session.new.lost ≡ true) }
-    ensures reads { V.reads session.new.files ≤ V.reads session.old.files + 6 * length (rows_in session.old.database id) }
+    ensures reads { let slots = length (rows_in session.old.database id) in
+        V.reads session.new.files ≤ V.reads session.old.files + 6 * slots }
     ensures store { let old = V.state session.old.files in
         length (V.state session.new.files).store ≡ length old.store }
     ensures keeps { K.keeps out.old out.new }

@@ -26,13 +26,15 @@ pub fn write_rows<V: Files, K: Sink>(
 ) -> Result<(), Stop>
     requires running { session.old.stopped ≡ false }
     requires used { IsSome (relation_at session.old.database id) }
-    ensures wrote { IsTrue (V.state session.old.files).tells → IsSoundDatabase session.old.database
+    ensures wrote { let db = session.old.database in
+        IsTrue (V.state session.old.files).tells → IsSoundDatabase db
         → Appends result (K.held out.old) (K.held out.new)
-        (flat_map (row_lines relation.now) (rows_in session.old.database id)) }
+        (flat_map (row_lines relation.now) (rows_in db id)) }
     ensures same { UnlessFlash result (IsAsBefore V.state session.old session.new) }
     ensures lost { IsErrOf result Flash
         → (session.new.stopped ≡ true) × (session.new.lost ≡ true) }
-    ensures reads { V.reads session.new.files ≤ V.reads session.old.files + 6 * length (rows_in session.old.database id) }
+    ensures reads { let slots = length (rows_in session.old.database id) in
+        V.reads session.new.files ≤ V.reads session.old.files + 6 * slots }
     ensures store { let old = V.state session.old.files in
         length (V.state session.new.files).store ≡ length old.store }
     ensures keeps { K.keeps out.old out.new }
@@ -65,9 +67,10 @@ fn write_row<V: Files, K: Sink>(
 ) -> Result<(), Stop>
     requires running { session.old.stopped ≡ false }
     requires slot { slot < length (rows_in session.old.database id) }
-    ensures wrote { IsTrue (V.state session.old.files).tells → IsSoundDatabase session.old.database
+    ensures wrote { let db = session.old.database in
+        IsTrue (V.state session.old.files).tells → IsSoundDatabase db
         → Appends result (K.held out.old) (K.held out.new)
-        (row_lines relation.now (row_at session.old.database id slot)) }
+        (row_lines relation.now (row_at db id slot)) }
     ensures same { UnlessFlash result (IsAsBefore V.state session.old session.new) }
     ensures lost { IsErrOf result Flash
         → (session.new.stopped ≡ true) × (session.new.lost ≡ true) }

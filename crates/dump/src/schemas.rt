@@ -31,10 +31,10 @@ fn write_attributes<K: Sink>(
     relation: &Ident,
     attributes: &[Attribute],
 ) -> Result<(), Failed>
-    ensures written { OnOk result (K.held out.new
-        ≡ append_known (K.held out.old) (attribute_lines relation.now attributes.now)) }
-    ensures failed { OnErr result
-        (WroteLess (K.held out.old) (K.held out.new) (attribute_lines relation.now attributes.now)) }
+    ensures written { let all = attribute_lines relation.now attributes.now in
+        OnOk result (K.held out.new ≡ append_known (K.held out.old) all) }
+    ensures failed { let all = attribute_lines relation.now attributes.now in
+        OnErr result (WroteLess (K.held out.old) (K.held out.new) all) }
     ensures keeps { K.keeps out.old out.new }
     ensures faultless { OnOk result (K.faults out.new ≡ K.faults out.old) }
     ensures cause { HasCause (K.faults out.old) (K.faults out.new) result }

@@ -33,10 +33,10 @@ pub fn write_values<K: Sink>(out: &mut K, tuple: &Tuple) -> Result<(), Failed>
 
 // Appends the value at a place, with `, ` before it, unless it is the first.
 fn write_value<K: Sink>(out: &mut K, at: usize, value: &Value) -> Result<(), Failed>
-    ensures written { OnOk result
-        (K.held out.new ≡ append_known (K.held out.old) (comma_before at ++ value_text value.now)) }
-    ensures failed { OnErr result
-        (WroteLess (K.held out.old) (K.held out.new) (comma_before at ++ value_text value.now)) }
+    ensures written { let all = comma_before at ++ value_text value.now in
+        OnOk result (K.held out.new ≡ append_known (K.held out.old) all) }
+    ensures failed { let all = comma_before at ++ value_text value.now in
+        OnErr result (WroteLess (K.held out.old) (K.held out.new) all) }
     ensures keeps { K.keeps out.old out.new }
     ensures faultless { OnOk result (K.faults out.new ≡ K.faults out.old) }
     ensures cause { HasCause (K.faults out.old) (K.faults out.new) result }

@@ -26,13 +26,14 @@ use antelope_engine::{Session, Stop};
 /// it, and stops the session.
 pub fn write<V: Files, K: Sink>(session: &mut Session<V>, out: &mut K) -> Result<(), Stop>
     requires running { session.old.stopped ≡ false }
-    ensures wrote { IsTrue (V.state session.old.files).tells → IsSoundDatabase session.old.database
-        → Appends result (K.held out.old) (K.held out.new) (script session.old.database) }
+    ensures wrote { let db = session.old.database in
+        IsTrue (V.state session.old.files).tells → IsSoundDatabase db
+        → Appends result (K.held out.old) (K.held out.new) (script db) }
     ensures same { UnlessFlash result (IsAsBefore V.state session.old session.new) }
     ensures lost { IsErrOf result Flash
         → (session.new.stopped ≡ true) × (session.new.lost ≡ true) }
-    ensures reads { V.reads session.new.files
-        ≤ V.reads session.old.files + 6 * slots_of_all session.old.database.relations }
+    ensures reads { let slots = slots_of_all session.old.database.relations in
+        V.reads session.new.files ≤ V.reads session.old.files + 6 * slots }
     ensures store { let old = V.state session.old.files in
         length (V.state session.new.files).store ≡ length old.store }
     ensures keeps { K.keeps out.old out.new }

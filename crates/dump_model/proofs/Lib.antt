@@ -4,6 +4,7 @@ pub mod Lexing
 pub mod Made
 pub mod MakingIndexes
 pub mod MakingRelations
+pub mod PackedTwice
 pub mod Slots
 pub mod Texts
 pub mod Worked

@@ -23,7 +23,7 @@ use Rattle.db_model.specs.Script.{Entry, Bytes, after, carried_out, last, output
 use Rattle.db_model.specs.Sound.{IsSoundDatabase}
 use Rattle.db_model.specs.Spelling.{nodes_of}
 use Rattle.db_model.specs.Step.{Fine, outcome, replied}
-use Rattle.dump_model.specs.Made.{Makes, MakesPacked, replies_to}
+use Rattle.dump_model.specs.Made.{IsFine, Makes, MakesPacked, replies_to}
 use Rattle.dump_model.specs.Packed.{moved_index, packed, packed_relation}
 use Rattle.dump_model.specs.Script.{command_text, domain_named, relation_commands, attribute_command, index_command, row_command, name_at, script_commands}
 use Rattle.db_model.specs.Sound.{are_distinct}
@@ -155,7 +155,7 @@ printed_indexes : (slots : List (Option Relation)) (before rest : List Index) �
 printed_indexes slots before [] relations are = tt
 printed_indexes slots before (index ∷ rest) relations are = (printed_index slots before index relations are.0, printed_indexes slots (before ++ index ∷ []) rest relations are.1)
 
-printed : (db : Database) → DatabaseFacts db → AllByRecursion IsPrinted (script_commands db)
+pub printed : (db : Database) → DatabaseFacts db → AllByRecursion IsPrinted (script_commands db)
 printed db is =
     all-append IsPrinted (flat_map relation_commands (used db.relations)) (map (index_command db.relations) (used db.indexes))
     (printed_relations (used db.relations) is.relations)
@@ -182,7 +182,7 @@ module _ (once : (bytes : List ℕ) (a b : Result Command Refusal) → IsReading
 
   -- the texts of commands that make a database
   record Runs (db made : Database) (cs : List Command) : Type 0 where
-    replies : AllByRecursion (λ reply. reply ≡ Fine) (replies_to read db (map (λ c. Bytes (command_text c)) cs))
+    replies : AllByRecursion IsFine (replies_to read db (map (λ c. Bytes (command_text c)) cs))
     written : output read db (map (λ c. Bytes (command_text c)) cs) ≡ flat_map (λ _. ok_text) cs
     last : last read db (map (λ c. Bytes (command_text c)) cs) ≡ made
 
@@ -199,7 +199,7 @@ module _ (once : (bytes : List ℕ) (a b : Result Command Refusal) → IsReading
       let entries : List Entry = map (λ c. Bytes (command_text c)) cs in
       let now : (after read db (Bytes (command_text c))).0 ≡ next = ap (λ d. d.0) done in
       record {
-        replies = (ap (λ d. d.1) done, subst (λ d. AllByRecursion (λ reply. reply ≡ Fine) (replies_to read d entries)) (sym now) rest.replies);
+        replies = (ap (λ d. d.1) done, subst (λ d. AllByRecursion IsFine (replies_to read d entries)) (sym now) rest.replies);
         written =
             ap (λ reply. text reply ++ output read ((after read db (Bytes (command_text c))).0) entries) (ap (λ d. d.1) done)
             ∙ ap (λ d. text Fine ++ output read d entries) now
@@ -220,7 +220,7 @@ module _ (once : (bytes : List ℕ) (a b : Result Command Refusal) → IsReading
         whole = lines_whole (script_commands db) all;
         short = lines_short (script_commands db) all;
         makes = makes_packed db facts;
-        replies = subst (λ entries. AllByRecursion (λ reply. reply ≡ Fine) (replies_to read empty_database entries)) (sym cut) r.replies;
+        replies = subst (λ entries. AllByRecursion IsFine (replies_to read empty_database entries)) (sym cut) r.replies;
         output = ap (output read empty_database) cut ∙ r.written;
         made = ap (last read empty_database) cut ∙ r.last;
       }

@@ -13,11 +13,15 @@ use Rattle.dump_model.specs.Script.{command_text, script, script_commands}
 -- each command is replied to by `ok`, and they make the one database of the other
 abbrev pub Makes : Database → List Command → Database → Type 0
 Makes db [] made = db ≡ made
-Makes db (c ∷ commands) made = (next : Database) × (outcome db c ≡ Ok (next, Fine)) × Makes next commands made
+Makes db (c ∷ commands) made =
+    (next : Database) × (outcome db c ≡ Ok (next, Fine)) × Makes next commands made
 
 -- a text of at most 512 bytes
 abbrev pub IsShort : Command → Type 0
 IsShort command = length (command_text command) ≤ 512
+
+abbrev pub IsFine : Reply → Type 0
+IsFine reply = reply ≡ Fine
 
 -- `read` reads the bytes of a command (see `Reading` of db_model)
 module _ (read : List ℕ → Result Command Refusal) where
@@ -34,6 +38,6 @@ module _ (read : List ℕ → Result Command Refusal) where
     pub short : AllByRecursion IsShort (script_commands db)
     -- these make the packed database
     pub makes : Makes empty_database (script_commands db) (packed db)
-    pub replies : AllByRecursion (λ reply. reply ≡ Fine) (replies_to empty_database (commands (script db)))
+    pub replies : AllByRecursion IsFine (replies_to empty_database (commands (script db)))
     pub output : output read empty_database (commands (script db)) ≡ flat_map (λ _. ok_text) (script_commands db)
     pub made : last read empty_database (commands (script db)) ≡ packed db

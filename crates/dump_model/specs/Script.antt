@@ -35,7 +35,8 @@ row_command relation tuple = Insert tuple relation
 abbrev pub relation_commands : Relation → List Command
 relation_commands r =
     CreateRelation r.schema.name
-    ∷ (map (attribute_command r.schema.name) r.schema.attributes ++ map (row_command r.schema.name) (live_tuples r.rows))
+    ∷ (map (attribute_command r.schema.name) r.schema.attributes
+    ++ map (row_command r.schema.name) (live_tuples r.rows))
 
 -- the name of the attribute at a place
 abbrev pub name_at : List Attribute → ℕ → List ℕ
@@ -50,7 +51,8 @@ index_command relations index =
 
 -- all relations in slot order, then all indexes in slot order
 abbrev pub script_commands : Database → List Command
-script_commands db = flat_map relation_commands (used db.relations) ++ map (index_command db.relations) (used db.indexes)
+script_commands db =
+    flat_map relation_commands (used db.relations) ++ map (index_command db.relations) (used db.indexes)
 
 -- ---- their text
 
@@ -68,19 +70,22 @@ domain_text (asked.Str n) = codes "STRING(" ++ signed_decimal n ++ codes ")"
 abbrev pub values_text : List Value → List ℕ
 values_text [] = []
 values_text (v ∷ []) = value_text v
-values_text (v ∷ w ∷ values) = value_text v ++ 44 ∷ 32 ∷ values_text (w ∷ values)
+values_text (v ∷ w ∷ values) = value_text v ++ (codes ", " ++ values_text (w ∷ values))
 
 -- no other command is written
 abbrev pub command_text : Command → List ℕ
-command_text (CreateRelation relation) = spaced (codes "CREATE" ∷ codes "RELATION" ∷ relation ∷ [])
-command_text (CreateAttribute name domain relation) = spaced (codes "CREATE" ∷ codes "ATTRIBUTE" ∷ name ∷ codes "DOMAIN" ∷ domain_text domain ∷ codes "IN" ∷ relation ∷ [])
-command_text (CreateIndex relation attribute kind) = spaced (codes "CREATE" ∷ codes "INDEX" ∷ (relation ++ 46 ∷ attribute) ∷ codes "TYPE" ∷ keyword_text (kind_word kind) ∷ [])
-command_text (Insert values relation) = spaced (codes "INSERT" ∷ (40 ∷ values_text values ++ 41 ∷ []) ∷ codes "INTO" ∷ relation ∷ [])
+command_text (CreateRelation relation) = spaced (codes "CREATE RELATION" ∷ relation ∷ [])
+command_text (CreateAttribute name domain relation) =
+    spaced (codes "CREATE ATTRIBUTE" ∷ name ∷ codes "DOMAIN" ∷ domain_text domain ∷ codes "IN" ∷ relation ∷ [])
+command_text (CreateIndex relation attribute kind) =
+    spaced (codes "CREATE INDEX" ∷ (relation ++ (codes "." ++ attribute)) ∷ codes "TYPE" ∷ keyword_text (kind_word kind) ∷ [])
+command_text (Insert values relation) =
+    spaced (codes "INSERT" ∷ (codes "(" ++ values_text values ++ codes ")") ∷ codes "INTO" ∷ relation ∷ [])
 command_text _ = []
 
 -- a command, `;` and LF
 unfoldable pub command_line : Command → List ℕ
-command_line command = command_text command ++ 59 ∷ 10 ∷ []
+command_line command = command_text command ++ codes ";\n"
 
 abbrev pub script : Database → List ℕ
 script db = flat_map command_line (script_commands db)
