@@ -1,0 +1,4 @@
+pub mod Accepted
+pub mod Composed
+pub mod Single
+pub mod WellFormed
