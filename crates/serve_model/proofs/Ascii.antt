@@ -1,6 +1,6 @@
 -- Each byte of a reply is below 128, where its texts are texts.
-use Rattle.std.proofs.Common.{◌≡◌, refl, sym, ap, subst, ◌∙◌, ℕ, ◌+◌, ◌<◌, ◌≤◌, ◌/◌, ◌%◌, Bool, true, false, List, [], ◌∷◌, ◌++◌, length, map, flat_map, arith, cond, Option, Some, None, pos, negsuc, zero, suc}
-use Rattle.std.specs.Prelude.{ℤ, codes, decimal, IsTrue, nat_lt, nat_le, ◌&&◌, ◌==◌, ⊤, if◌then◌else◌, Result, Ok, Err}
+use Rattle.std.proofs.Common.{◌≡◌, refl, sym, ap, subst, ◌∙◌, ℕ, ◌+◌, ◌<◌, ◌/◌, ◌%◌, Bool, true, false, List, [], ◌∷◌, ◌++◌, length, map, flat_map, arith, cond, Option, Some, None, pos, negsuc, zero, suc}
+use Rattle.std.specs.Prelude.{ℤ, codes, decimal, IsTrue, nat_lt, nat_le, ◌&&◌, ◌==◌, if◌then◌else◌}
 use Rattle.std.specs.Fmt.{digits, digits_onto, digit_glyph, signed_decimal}
 use Rattle.std.specs.List.{list_all, join_with_byte, AllByRecursion}
 use Rattle.std.proofs.lemmas.Bool.Decides.{nat_tests}
@@ -12,8 +12,8 @@ use Rattle.db_model.specs.declared.refusals.Refusal.{Refusal}
 use Rattle.db_model.specs.declared.refusals.Refusal.TheVariants as no
 use Rattle.db_model.specs.declared.values.Value.{Value}
 use Rattle.db_model.specs.declared.values.Value.TheVariants as value
-use Rattle.db_model.specs.Names.{is_text, is_text_byte}
-use Rattle.db_model.specs.ReplyText.{line, value_text, row_text, number_text, numbers_text, count_text, ok_text, pool_text, reason_text, refusal_text, text, text_of}
+use Rattle.db_model.specs.Names.{is_text_byte}
+use Rattle.db_model.specs.ReplyText.{line, value_text, row_text, number_text, numbers_text, count_text, ok_text, pool_text, reason_text, refusal_text, text}
 use Rattle.db_model.specs.Step.{Reply, Fine, Rows, Numbers, Removed, Refused}
 use Rattle.serve_model.proofs.Textual.{AreTextual, IsTextual, IsTextualReply}
 

@@ -4,7 +4,8 @@ use Rattle.std.specs.Prelude.{◌==◌, nat_lt, if◌then◌else◌}
 use Rattle.std.specs.List.{slice_split, All}
 use Rattle.std.proofs.lemmas.List.Splits.{slice_split_none, slice_split_at, length-slice_split}
 use Rattle.std.proofs.lemmas.List.Elements.{All-append}
-use Rattle.serve_model.specs.Frames.{Frame, Unfinished, Broken, Long, Asked, decoded, ended_by, finished, frame_from, frame_of, frames, frames_in, is_client, is_end, part_behind, unended}
+use Rattle.run_model.specs.Line.{ComesInParts}
+use Rattle.serve_model.specs.Frames.{Frame, Unfinished, Broken, Long, Asked, decoded, ended_by, finished, frame_cut, frame_from, frame_line, frame_of, frames, frames_in, is_client, is_end, part_behind, unended}
 
 -- ---- parts of the line
 
@@ -85,3 +86,35 @@ frames_finished bytes =
     ∙ ap (λ fs. fs ++ finished (unended (part_behind [] bytes))) (finished_by [] bytes)
     ∙ ap (λ fs. ended_by [] bytes ++ fs) (finished_unended (part_behind [] bytes))
     ∙ append-nil (ended_by [] bytes)
+
+-- ---- bytes in parts
+
+begun_on : (part xs ys : List ℕ) → part_behind part (xs ++ ys) ≡ part_behind (part_behind part xs) ys
+begun_on part [] ys = refl
+begun_on part (x ∷ xs) ys = by_test (is_end x) (begun_on [] xs ys) (begun_on (part ++ x ∷ []) xs ys)
+  where
+    by_test : (t : Bool) → part_behind [] (xs ++ ys) ≡ part_behind (part_behind [] xs) ys → part_behind (part ++ x ∷ []) (xs ++ ys) ≡ part_behind (part_behind (part ++ x ∷ []) xs) ys
+        → cond t (part_behind [] (xs ++ ys)) (part_behind (part ++ x ∷ []) (xs ++ ys)) ≡ part_behind (cond t (part_behind [] xs) (part_behind (part ++ x ∷ []) xs)) ys
+    by_test true e f = e
+    by_test false e f = f
+
+ended_on : (part xs ys : List ℕ) → ended_by part (xs ++ ys) ≡ ended_by part xs ++ ended_by (part_behind part xs) ys
+ended_on part [] ys = refl
+ended_on part (x ∷ xs) ys =
+    by_test (is_end x)
+    (ap (λ fs. frame_of part ++ fs) (ended_on [] xs ys) ∙ sym (append_assoc (frame_of part) (ended_by [] xs) (ended_by (part_behind [] xs) ys)))
+    (ended_on (part ++ x ∷ []) xs ys)
+  where
+    here : List Frame
+    here = frame_of part ++ ended_by [] xs
+
+    more : List ℕ
+    more = part ++ x ∷ []
+
+    by_test : (t : Bool) → frame_of part ++ ended_by [] (xs ++ ys) ≡ here ++ ended_by (part_behind [] xs) ys → ended_by more (xs ++ ys) ≡ ended_by more xs ++ ended_by (part_behind more xs) ys
+        → cond t (frame_of part ++ ended_by [] (xs ++ ys)) (ended_by more (xs ++ ys)) ≡ cond t here (ended_by more xs) ++ ended_by (cond t (part_behind [] xs) (part_behind more xs)) ys
+    by_test true e f = e
+    by_test false e f = f
+
+pub frame_parts : ComesInParts frame_cut frame_line
+frame_parts = record { no_more = λ q. refl; none_ended = λ q. refl; begun_on = begun_on; ended_on = ended_on; all_is = frames_ended; whole_is = frames_finished }

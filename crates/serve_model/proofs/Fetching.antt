@@ -13,12 +13,12 @@ use Rattle.db_model.specs.declared.refusals.Refusal.TheVariants as no
 use Rattle.db_model.specs.declared.values.Value.{Value}
 use Rattle.db_model.specs.Database.{Database, Cursor, cursor_at, cursor_place, with_cursor}
 use Rattle.db_model.specs.Refusing.{◌>>=◌, ◌>>◌, found_or, refuse_if}
-use Rattle.db_model.specs.Script.{carried_out}
-use Rattle.db_model.specs.Step.{Reply, Fine, Rows, Spares, answer_of, open_cursor, relations_read, outcome, replied, step, fetch_cursor, open_cursor_of}
+use Rattle.db_model.specs.Step.{Reply, Fine, Rows, Spares, answer_of, relations_read, outcome, replied, step, open_cursor_of}
 use Rattle.db_model.proofs.Steps.{cursor_kept}
+use Rattle.run_model.specs.Talk.{answered}
 use Rattle.serve_model.specs.Fetching.{FetchesItsAnswer, Opens, asks, fetched, is_close, is_fetch, is_read, keeps_open}
 use Rattle.serve_model.specs.Frames.{Frame, Broken, Long, Asked, Unfinished}
-use Rattle.serve_model.specs.Served.{after, heard, numbered, own_cursor}
+use Rattle.serve_model.specs.Served.{after, numbered, own_cursor}
 
 -- ---- the places of cursors
 
@@ -129,15 +129,15 @@ module _ (read : List ℕ → Result Command Refusal) where
 
   -- a command that speaks of the sender's cursor
   kept_numbered : (place : ℕ) (cursor : Cursor) (db : Database) (sender : ℕ) (number : ℤ) (made : ℤ → Command) → (int_eq number (pos 1) ≡ true → Spares place (made (pos sender)))
-      → cursor_at db place ≡ Some cursor → cursor_at ((carried_out read db (numbered sender number made)).0) place ≡ Some cursor
+      → cursor_at db place ≡ Some cursor → cursor_at ((answered db (numbered sender number made)).0) place ≡ Some cursor
   kept_numbered place cursor db sender number made spares h = by_test (int_eq number (pos 1)) refl
     where
-      by_test : (t : Bool) → int_eq number (pos 1) ≡ t → cursor_at ((carried_out read db (cond t (Ok (made (pos sender))) (Err no.NoCursor))).0) place ≡ Some cursor
+      by_test : (t : Bool) → int_eq number (pos 1) ≡ t → cursor_at ((answered db (cond t (Ok (made (pos sender))) (Err no.NoCursor))).0) place ≡ Some cursor
       by_test true e = one_kept place cursor db (made (pos sender)) (spares e) h
       by_test false e = h
 
   kept_command : (client : ℕ) (cursor : Cursor) (db : Database) (sender : ℕ) (c : Command) → 1 ≤ client → (is_fetch c ≡ true → sender ≢ client) → (is_close c ≡ true → sender ≢ client)
-      → cursor_at db (client - 1) ≡ Some cursor → cursor_at ((carried_out read db (own_cursor sender c)).0) (client - 1) ≡ Some cursor
+      → cursor_at db (client - 1) ≡ Some cursor → cursor_at ((answered db (own_cursor sender c)).0) (client - 1) ≡ Some cursor
   kept_command client cursor db sender (command.OpenCursor number query) low no_fetch no_close h =
       kept_numbered (client - 1) cursor db sender number (λ n. command.OpenCursor n query) (λ e. tt) h
   kept_command client cursor db sender (command.FetchCursor number) low no_fetch no_close h =
@@ -158,7 +158,7 @@ module _ (read : List ℕ → Result Command Refusal) where
       not_own test c e f same = true_false (sym (ap (λ t. t && true) ((Decides-eqb sender client).1 same)) ∙ sym (ap (λ t. (sender == client) && t) f) ∙ e)
 
       by_reading : (r : Result Command Refusal) → (sender == client && is_read r is_fetch) ≡ false → (sender == client && is_read r is_close) ≡ false
-          → cursor_at ((carried_out read db (◌>>=◌ r (own_cursor sender))).0) (client - 1) ≡ Some cursor
+          → cursor_at ((answered db (◌>>=◌ r (own_cursor sender))).0) (client - 1) ≡ Some cursor
       by_reading (Err refusal) e f = h
       by_reading (Ok c) e f = kept_command client cursor db sender c low (not_own is_fetch c e) (not_own is_close c f) h
 
@@ -186,14 +186,14 @@ module _ (read : List ℕ → Result Command Refusal) where
       IsFetched : Database × Reply → Type 0
       IsFetched d = (d.1 ≡ Rows (take 1 cursor.rows)) × (cursor_at d.0 (client - 1) ≡ Some (record cursor { rows = drop 1 cursor.rows }))
 
-      by_command : (c : Command) → sender ≡ client → is_fetch c ≡ true → IsFetched (carried_out read db (own_cursor sender c))
+      by_command : (c : Command) → sender ≡ client → is_fetch c ≡ true → IsFetched (answered db (own_cursor sender c))
       by_command (command.FetchCursor number) same is =
           subst IsFetched
-          (sym (ap (λ t. carried_out read db (cond t (Ok (command.FetchCursor (pos sender))) (Err no.NoCursor))) is ∙ ap (λ n. step db (command.FetchCursor (pos n))) same))
+          (sym (ap (λ t. answered db (cond t (Ok (command.FetchCursor (pos sender))) (Err no.NoCursor))) is ∙ ap (λ n. step db (command.FetchCursor (pos n))) same))
           (fetched_own client cursor db low high h)
       by_command _ same is = absurd (true_false (sym is))
 
-      by_reading : (r : Result Command Refusal) → (sender == client && is_read r is_fetch) ≡ true → IsFetched (carried_out read db (◌>>=◌ r (own_cursor sender)))
+      by_reading : (r : Result Command Refusal) → (sender == client && is_read r is_fetch) ≡ true → IsFetched (answered db (◌>>=◌ r (own_cursor sender)))
       by_reading (Err refusal) e = absurd (true_false (sym (both (sender == client) false e).1))
       by_reading (Ok c) e = let b = both (sender == client) (is_fetch c) e in by_command c ((Decides-eqb sender client).0 b.0) b.1
 
@@ -220,7 +220,7 @@ module _ (read : List ℕ → Result Command Refusal) where
 
   pub fetches : (client : ℕ) (rows : List (List Value)) (db : Database) (frame : Frame) → length db.cursors ≡ 4 → Opens read client rows db frame → FetchesItsAnswer read client rows db frame
   fetches client rows db frame four o frames stays n within =
-      let is : after read db frame ≡ step db (command.OpenCursor (pos client) o.query) = ap (carried_out read db) o.asked in
+      let is : after read db frame ≡ step db (command.OpenCursor (pos client) o.query) = ap (answered db) o.asked in
       let s = opens client db o.query rows four (ap (λ d. d.1) (sym is) ∙ o.fine) o.answered in
       let cursor : Cursor = record { reads = relations_read o.query; rows = rows } in
       let stands : cursor_at ((after read db frame).0) (client - 1) ≡ Some cursor = ap (λ d. cursor_at d.0 (client - 1)) is ∙ s.2 in

@@ -1,16 +1,16 @@
 -- What is served, cut at each END.
-use Rattle.std.proofs.Common.{◌≡◌, refl, sym, ap, subst, ◌∙◌, ℕ, ◌≤◌, ◌<◌, Bool, true, false, List, [], ◌∷◌, ◌++◌, length, cond, Option, Some, None, append_assoc, arith}
-use Rattle.std.specs.Prelude.{Ok, Err, Result, IsTrue, ⊤, ◌&&◌, ◌==◌, nat_lt, nat_le, option_map, if◌then◌else◌}
+use Rattle.std.proofs.Common.{◌≡◌, refl, ap, ◌∙◌, ℕ, ◌≤◌, ◌<◌, Bool, true, false, List, [], ◌∷◌, ◌++◌, length, cond, Option, Some, None, append_assoc, arith}
+use Rattle.std.specs.Prelude.{Ok, Err, Result, ◌&&◌, ◌==◌, nat_lt, nat_le, option_map}
 use Rattle.std.specs.List.{AllByRecursion, onto_first, slice_split}
 use Rattle.std.proofs.lemmas.Bool.Decides.{nat_tests}
 use Rattle.db_model.specs.declared.commands.Command.{Command}
 use Rattle.db_model.specs.declared.refusals.Refusal.{Refusal}
 use Rattle.db_model.specs.Database.{Database, bare}
 use Rattle.db_model.specs.ReplyText.{text}
-use Rattle.db_model.specs.Script.{carried_out}
 use Rattle.db_model.specs.Sound.{IsSoundDatabase}
 use Rattle.db_model.specs.Step.{Reply, Refused}
-use Rattle.serve_model.specs.Frames.{Frame, Broken, Long, Asked, Unfinished, decoded, escaped, frame_from, frame_of, frames, frames_in, is_client, is_end, unended}
+use Rattle.run_model.specs.Talk.{answered}
+use Rattle.serve_model.specs.Frames.{Frame, Broken, Long, Asked, decoded, escaped, frame_from, frame_of, frames, frames_in, is_client, is_end}
 use Rattle.serve_model.specs.Served.{IsOfClient, after, client_of, framed, heard, parts, served}
 use Rattle.serve_model.proofs.Ascii.{AreAscii, are_ascii, ascii-cons, ascii_reply}
 use Rattle.serve_model.proofs.Textual.{IsTextualDatabase, IsTextualReply, StaysTextual, sound_textual, stays_textual}
@@ -72,7 +72,7 @@ module _ (read : List ℕ → Result Command Refusal) where
   frame_textual : (db : Database) (frame : Frame) → IsTextualDatabase db → StaysTextual (after read db frame)
   frame_textual db frame h = by_heard (heard read frame)
     where
-      by_heard : (r : Result Command Refusal) → StaysTextual (carried_out read db r)
+      by_heard : (r : Result Command Refusal) → StaysTextual (answered db r)
       by_heard (Ok c) = stays_textual db c h
       by_heard (Err refusal) = (h, tt)
 

@@ -1,5 +1,5 @@
 -- A database whose texts are texts stays one, and replies with texts.
-use Rattle.std.proofs.Common.{◌≡◌, refl, sym, ap, subst, ℕ, ◌-◌, Bool, true, false, List, [], ◌∷◌, ◌++◌, length, map, take, drop, get_or, filter, flat_map, cond, Option, Some, None, pos, zero, suc}
+use Rattle.std.proofs.Common.{◌≡◌, refl, sym, subst, ℕ, ◌-◌, Bool, true, false, List, [], ◌∷◌, ◌++◌, length, map, take, drop, filter, cond, Option, Some, None, pos, zero, suc}
 use Rattle.std.specs.Prelude.{ℤ, Ok, Err, Result, IsTrue, ⊤, ◌&&◌, not, is_some, slice_get, unwrap_or, option_and_then, nat_le}
 use Rattle.std.specs.Option.{option_or}
 use Rattle.std.specs.List.{AllByRecursion, list_any}
@@ -21,13 +21,13 @@ use Rattle.db_model.specs.declared.values.Value.{Value}
 use Rattle.db_model.specs.declared.values.Value.TheVariants as value
 use Rattle.db_model.specs.Answers.{live_tuples, selected, projected, projected_pair, select, pairs, join, same_value}
 use Rattle.db_model.specs.Cond.{Cond, condition_of}
-use Rattle.db_model.specs.Database.{Relation, Cursor, Database, bare, free_from, index_slot, indexes_of, is_hash_table, named, relation_from, relation_named, with_index, with_relation, with_cursor, cursor_at, cursor_place}
+use Rattle.db_model.specs.Database.{Relation, Cursor, Database, bare, free_from, indexes_of, is_hash_table, named, relation_from, relation_named, with_index, with_relation, with_cursor, cursor_at, cursor_place}
 use Rattle.db_model.specs.Item.{value_of, place_of, selects}
 use Rattle.db_model.specs.Names.{is_text}
 use Rattle.db_model.specs.Refusing.{◌>>=◌, ◌>>◌, refuse_if, refuse_found, found_or}
 use Rattle.db_model.specs.Row.{Row, AllRowsSuit, AllSuit, suits}
 use Rattle.db_model.specs.Sound.{IsSoundDatabase, StandsIn}
-use Rattle.db_model.specs.Step.{Reply, Fine, Numbers, Rows, Removed, Outcome, add_attribute, aggregate_of, answer_of, ask, asked_by, changed_by, close_cursor, create_index, create_relation, domain_asked, fallen, fetch_cursor, insert_into, join_of, joins, keys, missing_in_join, open_cursor, open_cursor_of, outcome, pack, refuse_indexed, refuse_kind, refuse_read, relations_read, remove_from, remove_index, remove_relation, removed_row, replied, select_from, slots_limit, step, unsuited, upgraded, with_attribute}
+use Rattle.db_model.specs.Step.{Reply, Fine, Numbers, Rows, Removed, Outcome, add_attribute, aggregate_of, answer_of, ask, asked_by, changed_by, close_cursor, create_index, create_relation, fallen, fetch_cursor, insert_into, join_of, joins, missing_in_join, open_cursor, open_cursor_of, outcome, pack, refuse_indexed, refuse_read, relations_read, remove_from, remove_index, remove_relation, removed_row, replied, select_from, slots_limit, step, unsuited, upgraded, with_attribute}
 use Rattle.db_model.specs.Typing.{domain_of, ill_typed, missing_name}
 use Rattle.db_model.proofs.SoundRows.{suited}
 use Rattle.db_model.proofs.Standing.{found_from, none_some, nothing_stands, some_same, stands_either}

@@ -2,6 +2,7 @@
 -- 219 220 stands for 192, and 219 221 for 219.
 use Rattle.std.specs.Prelude.{ℕ, Bool, ◌&&◌, ◌==◌, List, [], ◌∷◌, ◌++◌, length, nat_le, nat_lt, Option, Some, None, option_map, if◌then◌else◌}
 use Rattle.std.specs.List.{slice_split}
+use Rattle.run_model.specs.Line.{Cut, Line}
 
 -- what stands between two ENDs
 pub data Frame : Type 0 where
@@ -82,3 +83,12 @@ part_behind part (b ∷ bytes) = if is_end b then part_behind [] bytes else part
 abbrev pub ended_by : List ℕ → List ℕ → List Frame
 ended_by part [] = []
 ended_by part (b ∷ bytes) = if is_end b then frame_of part ++ ended_by [] bytes else ended_by (part ++ b ∷ []) bytes
+
+-- ---- a line of frames, whole and as its bytes come
+
+abbrev pub frame_line : Line Frame
+frame_line = record { all = frames; whole = λ bytes. finished (frames bytes) }
+
+-- the bytes of the part at hand
+abbrev pub frame_cut : Cut Frame (List ℕ)
+frame_cut = record { start = []; begun = part_behind; ended = ended_by; left = unended }

@@ -8,8 +8,8 @@ use Rattle.db_model.specs.declared.refusals.Refusal.TheVariants as no
 use Rattle.db_model.specs.Database.{Database}
 use Rattle.db_model.specs.Refusing.{◌>>=◌}
 use Rattle.db_model.specs.ReplyText.{text}
-use Rattle.db_model.specs.Script.{carried_out}
 use Rattle.db_model.specs.Step.{Reply}
+use Rattle.run_model.specs.Talk.{Talk, answered, last, output}
 use Rattle.serve_model.specs.Frames.{Frame, Broken, Long, Asked, Unfinished}
 
 -- ---- what is asked
@@ -48,19 +48,20 @@ module _ (read : List ℕ → Result Command Refusal) where
   heard (Asked client bytes) = ◌>>=◌ (read bytes) (own_cursor client)
   heard Unfinished = Err no.Unfinished
 
+  abbrev pub serve_talk : Talk Frame
+  serve_talk = record { heard = heard; sent = framed }
+
   -- the database after a frame, and the reply to it
   abbrev pub after : Database → Frame → Database × Reply
-  after db frame = carried_out read db (heard frame)
+  after db frame = answered db (heard frame)
 
   -- the reply frames, one after the other
   abbrev pub served : Database → List Frame → List ℕ
-  served db [] = []
-  served db (frame ∷ frames) = framed frame (text ((after db frame).1)) ++ served ((after db frame).0) frames
+  served db frames = output serve_talk db frames
 
   -- the database after all frames
   abbrev pub after_all : Database → List Frame → Database
-  after_all db [] = db
-  after_all db (frame ∷ frames) = after_all ((after db frame).0) frames
+  after_all db frames = last serve_talk db frames
 
   -- ---- what is served, cut at each END
 

@@ -11,8 +11,9 @@ ghost use Rattle.db_model.specs.Database.{Database, bare};
 ghost use Rattle.db_model.specs.ReplyText.{text};
 ghost use Rattle.db_model.specs.Sound.{IsSoundDatabase};
 ghost use Rattle.db_model.specs.Step.{Refused};
+ghost use Rattle.run_model.specs.Line.{ComesInParts};
 ghost use Rattle.serve_model.specs.Fetching.{FetchesItsAnswer, Opens};
-ghost use Rattle.serve_model.specs.Frames.{Frame, decoded, ended_by, finished, frames, is_end, part_behind, unended};
+ghost use Rattle.serve_model.specs.Frames.{Frame, decoded, ended_by, finished, frame_cut, frame_line, frames, is_end, part_behind, unended};
 ghost use Rattle.serve_model.specs.Served.{IsOfClient, client_of, framed, parts, served};
 
 /// The frames of some bytes are those that the bytes end one by one, and then one that is unfinished
@@ -21,6 +22,12 @@ ghost use Rattle.serve_model.specs.Served.{IsOfClient, client_of, framed, parts,
 pub fn frames_end_one_by_one()
     ensures all { (bytes : List ℕ) → frames bytes ≡ ended_by [] bytes ++ unended (part_behind [] bytes) }
     ensures finished { (bytes : List ℕ) → finished (frames bytes) ≡ ended_by [] bytes }
+{}
+
+/// The bytes of a line of frames may come in any parts.
+#[tactic(auto, using(crate::proofs::Ending::frame_parts))]
+pub fn frames_come_in_parts()
+    ensures { ComesInParts frame_cut frame_line }
 {}
 
 /// A client fetches the rows of its own answer in order, whatever stands between.
