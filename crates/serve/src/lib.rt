@@ -1,0 +1,10 @@
+//! Four clients on one line: their frames as the bytes come, and the sink that puts the client first.
+#![tactic(auto)]
+
+mod decoder;
+mod fed;
+mod framed;
+
+pub use decoder::Decoder;
+pub use fed::Fed;
+pub use framed::Framed;
