@@ -4,6 +4,8 @@
 mod decoder;
 mod fed;
 mod framed;
+mod hearing;
+mod replies;
 
 pub use decoder::Decoder;
 pub use fed::Fed;
