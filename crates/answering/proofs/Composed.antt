@@ -14,7 +14,7 @@ use Rattle.reply_text.specs.WroteLess.{WroteLess}
 use Rattle.run_model.specs.Talk.{OnlyReads, Talk, after, costs, last, last_aheads, output}
 use Rattle.run_model.proofs.Talks.{costs-append, last-append, last_aheads-append, output-append}
 use Rattle.session_model.specs.Steps.{WrotePart}
-use Rattle.answering.specs.Carried.{Carried, FoundNone, HaltsIn, SaidLess, SaidNone, Standing, Stopped, no_space}
+use Rattle.answering.specs.Carried.{Carried, FoundNone, HaltsIn, SaidLess, SaidNone, Standing, Stopped, StopsBy, no_space}
 
 -- ---- texts
 
@@ -50,6 +50,17 @@ module _ {E : Type 0} (talk : Talk E) where
     reads = λ all. omega arith;
   }
 
+  reads_then : (es fs : List E) (a b : Standing) → Carried talk es a b → (reads : ℕ)
+      → (AllByRecursion (OnlyReads talk) fs → reads ≤ b.reads + costs talk b.database b.aheads fs)
+      → AllByRecursion (OnlyReads talk) (es ++ fs) → reads ≤ a.reads + costs talk a.database a.aheads (es ++ fs)
+  reads_then es fs a b x reads y all =
+      let left = x.reads (all_front (OnlyReads talk) es fs all) in
+      let right = y (all_behind (OnlyReads talk) es fs all) in
+      let same : costs talk b.database b.aheads fs ≡ costs talk (last talk a.database es) (last_aheads talk a.database a.aheads es) fs =
+      ap (λ (db : Database). costs talk db b.aheads fs) x.database ∙ ap (λ (aheads : Aheads). costs talk (last talk a.database es) aheads fs) x.aheads in
+      let sum = costs-append talk a.database a.aheads es fs in
+      omega (arith, left, right, same, sum)
+
   pub carried_then : (es fs : List E) (a b c : Standing) → Carried talk es a b → Carried talk fs b c → Carried talk (es ++ fs) a c
   carried_then es fs a b c x y = record {
     tells = y.tells ∙ x.tells;
@@ -59,13 +70,7 @@ module _ {E : Type 0} (talk : Talk E) where
     aheads = y.aheads ∙ ap (λ (db : Database). last_aheads talk db b.aheads fs) x.database
         ∙ ap (λ (aheads : Aheads). last_aheads talk (last talk a.database es) aheads fs) x.aheads
         ∙ sym (last_aheads-append talk a.database a.aheads es fs);
-    reads = λ all.
-        let left = x.reads (all_front (OnlyReads talk) es fs all) in
-        let right = y.reads (all_behind (OnlyReads talk) es fs all) in
-        let same : costs talk b.database b.aheads fs ≡ costs talk (last talk a.database es) (last_aheads talk a.database a.aheads es) fs =
-        ap (λ (db : Database). costs talk db b.aheads fs) x.database ∙ ap (λ (aheads : Aheads). costs talk (last talk a.database es) aheads fs) x.aheads in
-        let sum = costs-append talk a.database a.aheads es fs in
-        omega (arith, left, right, same, sum);
+    reads = reads_then es fs a b x c.reads y.reads;
   }
 
   -- ---- further entries in front
@@ -98,16 +103,16 @@ module _ {E : Type 0} (talk : Talk E) where
       lacks = s.lacks;
     }
 
-    pub halts_later : (halt : Halt) → HaltsIn talk Lacks fs b c halt → HaltsIn talk Lacks (es ++ fs) a c halt
+    stops_later : (halt : Halt) → StopsBy talk Lacks fs b c halt → StopsBy talk Lacks (es ++ fs) a c halt
     unfolding stopped_behind
-    halts_later Space h = record {
+    stops_later Space h = record {
       stopped = stopped_behind h.stopped;
       held = known_more a.held (append_known b.held (output talk b.database h.stopped.front)) c.held (output talk a.database (es ++ h.stopped.front)) (no_space talk h.stopped.entry h.stopped.n)
           (output talk a.database (es ++ h.stopped.front) ++ no_space talk h.stopped.entry h.stopped.n)
           (output_behind h.stopped.front (append_known b.held (output talk b.database h.stopped.front)) refl)
           (h.held ∙ sym (known_twice b.held (output talk b.database h.stopped.front) (no_space talk h.stopped.entry h.stopped.n))) refl;
     }
-    halts_later Sink (inl h) = inl (record {
+    stops_later Sink (inl h) = inl (record {
       front = es ++ h.front;
       entry = h.entry;
       rest = h.rest;
@@ -119,19 +124,22 @@ module _ {E : Type 0} (talk : Talk E) where
       database = h.database ∙ last_behind (h.front ++ h.entry ∷ [])
           ∙ ap (last talk a.database) (sym (append_assoc es h.front (h.entry ∷ [])));
     })
-    halts_later Sink (inr h) = inr (record {
+    stops_later Sink (inr h) = inr (record {
       stopped = stopped_behind h.stopped;
       before = h.before;
       front_is = output_behind h.stopped.front h.before h.front_is;
       held = h.held;
     })
-    halts_later Flash h = record {
+    stops_later Flash h = record {
       written = output talk a.database es ++ h.written;
       left = h.left;
       whole = output-append talk a.database es fs ∙ ap (λ (db : Database). output talk a.database es ++ output talk db fs) (sym x.database)
           ∙ ap (λ (bytes : List ℕ). output talk a.database es ++ bytes) h.whole ∙ sym (append_assoc (output talk a.database es) h.written h.left);
       held = known_more a.held b.held c.held (output talk a.database es) h.written (output talk a.database es ++ h.written) x.held h.held refl;
     }
+
+    pub halts_later : (halt : Halt) → HaltsIn talk Lacks fs b c halt → HaltsIn talk Lacks (es ++ fs) a c halt
+    halts_later halt h = record { stops = stops_later halt h.stops; reads = reads_then es fs a b x c.reads h.reads }
 
   -- ---- further entries behind
 
@@ -154,10 +162,10 @@ module _ {E : Type 0} (talk : Talk E) where
       lacks = s.lacks;
     }
 
-    pub halts_sooner : (halt : Halt) → HaltsIn talk Lacks es a b halt → HaltsIn talk Lacks (es ++ fs) a b halt
+    stops_sooner : (halt : Halt) → StopsBy talk Lacks es a b halt → StopsBy talk Lacks (es ++ fs) a b halt
     unfolding stopped_before
-    halts_sooner Space h = record { stopped = stopped_before h.stopped; held = h.held }
-    halts_sooner Sink (inl h) = inl (record {
+    stops_sooner Space h = record { stopped = stopped_before h.stopped; held = h.held }
+    stops_sooner Sink (inl h) = inl (record {
       front = h.front;
       entry = h.entry;
       rest = h.rest ++ fs;
@@ -168,11 +176,20 @@ module _ {E : Type 0} (talk : Talk E) where
       held = h.held;
       database = h.database;
     })
-    halts_sooner Sink (inr h) = inr (record { stopped = stopped_before h.stopped; before = h.before; front_is = h.front_is; held = h.held })
-    halts_sooner Flash h = record {
+    stops_sooner Sink (inr h) = inr (record { stopped = stopped_before h.stopped; before = h.before; front_is = h.front_is; held = h.held })
+    stops_sooner Flash h = record {
       written = h.written;
       left = h.left ++ output talk (last talk a.database es) fs;
       whole = output-append talk a.database es fs ∙ ap (λ (bytes : List ℕ). bytes ++ output talk (last talk a.database es) fs) h.whole
           ∙ append_assoc h.written h.left (output talk (last talk a.database es) fs);
       held = h.held;
+    }
+
+    pub halts_sooner : (halt : Halt) → HaltsIn talk Lacks es a b halt → HaltsIn talk Lacks (es ++ fs) a b halt
+    halts_sooner halt h = record {
+      stops = stops_sooner halt h.stops;
+      reads = λ all.
+          let few = h.reads (all_front (OnlyReads talk) es fs all) in
+          let sum = costs-append talk a.database a.aheads es fs in
+          omega (arith, few, sum);
     }

@@ -78,11 +78,16 @@ module _ {E : Type 0} (talk : Talk E) where
     pub held : WroteLess before new.held (talk.sent entry (text ((after talk (last talk old.database front) entry).1)))
     pub database : new.database ≡ last talk old.database (front ++ entry ∷ [])
 
-  -- why a run went no further within these entries
-  abbrev pub HaltsIn : (Command → ℕ → Type 0) → List E → Standing → Standing → Halt → Type 0
-  HaltsIn Lacks entries old new Space = FoundNone Lacks entries old new
-  HaltsIn Lacks entries old new Sink = SaidLess entries old new ⊎ SaidNone Lacks entries old new
-  HaltsIn Lacks entries old new Flash = WrotePart old.held new.held (output talk old.database entries)
+  -- why no more of these entries was carried out
+  abbrev pub StopsBy : (Command → ℕ → Type 0) → List E → Standing → Standing → Halt → Type 0
+  StopsBy Lacks entries old new Space = FoundNone Lacks entries old new
+  StopsBy Lacks entries old new Sink = SaidLess entries old new ⊎ SaidNone Lacks entries old new
+  StopsBy Lacks entries old new Flash = WrotePart old.held new.held (output talk old.database entries)
+
+  -- it went no further within these entries
+  pub record HaltsIn (Lacks : Command → ℕ → Type 0) (entries : List E) (old new : Standing) (halt : Halt) : Type 0 where
+    pub stops : StopsBy Lacks entries old new halt
+    pub reads : AllByRecursion (OnlyReads talk) entries → new.reads ≤ old.reads + costs talk old.database old.aheads entries
 
 -- ---- a session and a sink
 

@@ -1,3 +1,3 @@
 pub mod Carried
-pub mod Taken
 pub mod Taking
+pub mod Went

@@ -1,7 +1,1 @@
-pub mod Cutting
-pub mod Judging
-pub mod Known
-pub mod Parts
-pub mod Pieces
-pub mod Raws
-pub mod Runs
+pub mod Numbers

@@ -143,11 +143,13 @@ module _ {E : Type 0} (line : Line E) (talk : Talk E) where
     pub one : length more ≡ 1
     pub carried : CarriedOut (machine_from talk (base old.image)) (line.whole bytes) old new
 
-  -- 3
+  -- 3: the next entry found no space
   pub record InputFoundNoSpace (old new : World) : Type 0 where
     pub bytes : List ℕ
+    pub entries : List E
     pub came : Came bytes old new
-    pub found : FoundNoSpace (machine_from talk (base old.image)) (line.whole bytes) old new
+    pub are : AreEntries bytes entries new
+    pub found : FoundNoSpace (machine_from talk (base old.image)) entries old new
 
   -- 4: a part of the replies was written
   pub record InputFaulted (old new : World) : Type 0 where

@@ -2,10 +2,11 @@
 
 #![tactic(auto)]
 
-ghost use Rattle.std.specs.Prelude.{◌≡◌, ℕ, None, IsTrue, length};
+ghost use Rattle.std.specs.Prelude.{◌≡◌, ◌≤◌, ℕ, None, IsTrue, length};
 ghost use Rattle.afl_base.specs.Files.{AreDistinct};
 ghost use Rattle.db_model.specs.declared.commands.Command.{Command};
 ghost use Rattle.session_model.specs.Wanted.{WantsOver};
+ghost use Rattle.space_model.specs.Enough.{most};
 ghost use Rattle.sound_image.specs.Images.{IsSound, base};
 ghost use Rattle.sound_image.specs.Lacking.{LacksFor};
 ghost use Rattle.stored.specs.Base.{base_of};
@@ -42,6 +43,7 @@ pub fn hand_back<F: Flash>(volume: Volume<F>) -> F
         IsTrue state.tells → state.draft ≡ None → IsSoundTable state.files
         → (command : Command) (n : ℕ)
         → WantsOver (⟦<Volume<F> as Files>⟧.asks volume) state.files (base_of state.files) command n
+        → n ≤ most (base_of state.files) command
         → ⟦<Volume<F> as Files>⟧.lacks volume n → LacksFor (F.image result) command n }
 {
     tell_places(&volume);
