@@ -1,6 +1,7 @@
 //! Four clients on one line: their frames as the bytes come, and the sink that puts the client first.
 #![tactic(auto)]
 
+mod asking;
 mod decoder;
 mod fed;
 mod framed;
