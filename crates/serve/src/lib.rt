@@ -8,6 +8,7 @@ mod framed;
 mod hearing;
 mod replies;
 
+pub use asking::answer;
 pub use decoder::Decoder;
 pub use fed::Fed;
 pub use framed::Framed;
