@@ -1,0 +1,14 @@
+//! Four clients on one line: their frames as the bytes come, and the sink that puts the client first.
+#![tactic(auto)]
+
+mod asking;
+mod decoder;
+mod fed;
+mod framed;
+mod hearing;
+mod replies;
+
+pub use asking::answer;
+pub use decoder::Decoder;
+pub use fed::Fed;
+pub use framed::Framed;
