@@ -5,7 +5,7 @@
 ghost use Rattle.std.specs.Prelude.{◌≡◌, ◌≤◌, IsTrue};
 ghost use Rattle.std.specs.Char.{is_ascii_digit};
 ghost use Rattle.std.specs.List.{list_all};
-ghost use Rattle.antelope_run.specs.Words.{at_most, form_of, generated_by, number_in, value_from};
+ghost use Rattle.antelope_run.specs.Words.{alone, at_most, form_of, generated_by, number_in, planned_by, value_from, with_one, with_two};
 
 use crate::words::Form;
 
@@ -14,12 +14,42 @@ pub fn form(words: &[String]) -> Option<Form>
     ensures { result ≡ form_of words.now }
 {
     match words {
-        [name, _, _] if name.as_bytes() == b"run".as_slice() => Some(Form::Run),
-        [name, _, seed, count] if name.as_bytes() == b"gen".as_slice() => {
-            generated(seed.as_bytes(), count.as_bytes())
-        }
+        [name, _] => alone(name.as_bytes()),
+        [name, _, word] => with_one(name.as_bytes(), word.as_bytes()),
+        [name, _, one, other] => with_two(name.as_bytes(), one.as_bytes(), other.as_bytes()),
         _ => None,
     }
+}
+
+fn alone(name: &[u8]) -> Option<Form>
+    ensures { result ≡ alone name.now }
+{
+    if name == b"dump".as_slice() { Some(Form::Dump) } else { None }
+}
+
+fn with_one(name: &[u8], word: &[u8]) -> Option<Form>
+    ensures { result ≡ with_one name.now word.now }
+{
+    if name == b"run".as_slice() {
+        return Some(Form::Run);
+    }
+    if name == b"serve".as_slice() {
+        return Some(Form::Serve);
+    }
+    if name == b"plan".as_slice() { planned(word) } else { None }
+}
+
+fn planned(rows: &[u8]) -> Option<Form>
+    ensures { result ≡ planned_by rows.now }
+{
+    let rows = number(rows, 5, 0, 32_767)?;
+    Some(Form::Plan { rows: rows as u16 })
+}
+
+fn with_two(name: &[u8], one: &[u8], other: &[u8]) -> Option<Form>
+    ensures { result ≡ with_two name.now one.now other.now }
+{
+    if name == b"gen".as_slice() { generated(one, other) } else { None }
 }
 
 fn generated(seed: &[u8], count: &[u8]) -> Option<Form>
