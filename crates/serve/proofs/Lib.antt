@@ -1,3 +1,5 @@
+pub mod Ending
+pub mod Halting
 pub mod Opening
 pub mod Replied
 pub mod Unsent

@@ -1,11 +1,10 @@
 -- What comes of one entry, by the command that it asks for or its refusal.
-use Rattle.std.proofs.Common.{◌≡◌, ℕ, ◌+◌, ◌≤◌, List, [], ◌∷◌, Option, ap, sym, subst, ◌∙◌, arith}
+use Rattle.std.proofs.Common.{◌≡◌, ℕ, ◌+◌, ◌≤◌, ap, sym, subst, ◌∙◌, arith}
 use Rattle.std.specs.Prelude.{IsOk, Ok, Err}
-use Rattle.answering.proofs.Single.{command_carried, refused_carried}
 use Rattle.answering.specs.Carried.{Standing}
 use Rattle.db_model.specs.declared.commands.Command.{Command}
 use Rattle.db_model.specs.declared.refusals.Refusal.{Refusal}
-use Rattle.db_model.specs.Ahead.{Aheads, aheads_after, cost_of}
+use Rattle.db_model.specs.Ahead.{cost_of}
 use Rattle.db_model.specs.Database.{Database}
 use Rattle.db_model.specs.ReplyText.{refusal_text, text}
 use Rattle.db_model.specs.Step.{Reads, Refused, Reply, outcome, step}
@@ -45,7 +44,6 @@ module _ {E : Type 0} (talk : Talk E) (entry : E) (a b : Standing) where
     says_part held = record { held = subst (WrotePart a.held b.held) sent_is held; reads = reads_few }
 
     pub finds_none : (Lacks : Command → ℕ → Type 0) (n : ℕ) → IsOk (outcome a.database c) → Lacks c n → b.tells ≡ a.tells → b.database ≡ a.database → b.held ≡ a.held → FindsNone talk entry Lacks n a b
-    unfolding reads_few
     finds_none Lacks n accepted lacks tells database held = record {
       command = c;
       asks = is;
@@ -54,7 +52,7 @@ module _ {E : Type 0} (talk : Talk E) (entry : E) (a b : Standing) where
       tells = tells;
       database = database;
       held = held;
-      reads = reads_few;
+      reads = reads;
     }
 
   -- ---- a refusal

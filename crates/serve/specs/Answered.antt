@@ -1,10 +1,11 @@
 -- What comes of an entry that a session is asked to answer.
-use Rattle.std.specs.Prelude.{◌≡◌, ◌≤◌, ℕ, ◌+◌, List, [], ◌∷◌, IsOk, Result, Ok, Err}
+use Rattle.std.specs.Prelude.{◌≡◌, ◌≤◌, ℕ, ◌+◌, [], ◌∷◌, IsOk, Result, Ok, Err}
 use Rattle.std.specs.List.{AllByRecursion}
 use Rattle.answering.specs.Carried.{Carried, Standing}
 use Rattle.db_model.specs.declared.commands.Command.{Command}
+use Rattle.db_model.specs.Ahead.{cost_of}
 use Rattle.db_model.specs.ReplyText.{text}
-use Rattle.db_model.specs.Step.{outcome}
+use Rattle.db_model.specs.Step.{Reads, outcome}
 use Rattle.reply_text.specs.WroteLess.{WroteLess}
 use Rattle.run_model.specs.Talk.{Asks, OnlyReads, Talk, after, costs}
 use Rattle.session_model.specs.declared.step.Step.{Step}
@@ -14,6 +15,7 @@ use Rattle.session_model.specs.declared.step.Stop.TheVariants.{Flash, Sink}
 use Rattle.session_model.specs.Steps.{WrotePart, outcome_of}
 
 module _ {E : Type 0} (talk : Talk E) (entry : E) where
+  -- where it only reads, it reads no more than is counted for it
   abbrev pub ReadsFew : Standing → Standing → Type 0
   ReadsFew old new = AllByRecursion (OnlyReads talk) (entry ∷ []) → new.reads ≤ old.reads + costs talk old.database old.aheads (entry ∷ [])
 
@@ -26,7 +28,7 @@ module _ {E : Type 0} (talk : Talk E) (entry : E) where
     pub tells : new.tells ≡ old.tells
     pub database : new.database ≡ old.database
     pub held : new.held ≡ old.held
-    pub reads : ReadsFew old new
+    pub reads : Reads command → new.reads ≤ old.reads + cost_of old.database old.aheads command
 
   -- it was carried out, and less than the reply was written
   pub record SaysLess (old new : Standing) : Type 0 where

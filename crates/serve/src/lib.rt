@@ -7,8 +7,10 @@ mod fed;
 mod framed;
 mod hearing;
 mod replies;
+mod serving;
 
 pub use asking::answer;
 pub use decoder::Decoder;
 pub use fed::Fed;
 pub use framed::Framed;
+pub use serving::Server;

@@ -1,16 +1,11 @@
-use Rattle.std.proofs.Common.{◌≡◌, false, ℕ, List, [], ◌∷◌, ◌++◌, Option, Some, ap, sym, subst, rules}
-use Rattle.std.specs.Prelude.{◌≤◌, ◌⊎◌}
-use Rattle.answering.specs.Carried.{LacksPages, standing_of}
-use Rattle.db_model.specs.Database.{Database}
+use Rattle.std.proofs.Common.{◌≡◌, false, ℕ, List, [], ◌∷◌, ◌++◌, Option, sym, subst, rules}
+use Rattle.answering.specs.Carried.{standing_of}
 use Rattle.db_model.specs.ReplyText.{text}
 use Rattle.db_model.specs.Step.{step}
 use Rattle.reply_text.specs.WroteLess.{WroteLess}
 use Rattle.session_model.specs.Steps.{WrotePart}
-use Rattle.session_model.specs.Wanted.{WantsOver}
-use Rattle.space_model.specs.Enough.{most}
-use Rattle.serve.specs.Front.{front_held, fronted}
-use Rattle.serve.proofs.Replied.{finds_none, says_less, says_part}
-use Rattle.serve.proofs.Unsent.{frame_less, frame_part, frame_unended, unsaid}
+use Rattle.serve.proofs.Replied.{says_less, says_part}
+use Rattle.serve.proofs.Unsent.{frame_less, frame_part, frame_unended}
 use Rattle.serve_model.specs.Frames.{Asked}
 use Rattle.serve_model.specs.Served.{serve_talk}
 use Rattle.serve.proofs.asking.reply.Goals as goal
