@@ -11,18 +11,18 @@ const ONE: &[u8] = b"CREATE RELATION n;CREATE ATTRIBUTE v DOMAIN INT IN n;";
 
 // Inserts the numbers from 0 to below an end, and answers how many were taken.
 fn insert_up_to<V: Files>(alloc: Global, session: &mut Session<V>, end: u16) -> Result<u16, Fail> {
-    let mut fine = 0;
+    let mut fine = 0u16;
     for number in 0..end {
         let text = with_number(b"INSERT (", number, b") INTO n;");
         if say(alloc, session, text.as_slice())?.as_slice() == b"ok\n".as_slice() {
-            fine += 1;
+            fine = fine.saturating_add(1);
         }
     }
     Ok(fine)
 }
 
-// A text with a number of five digits in it.
-fn with_number(front: &[u8], number: u16, behind: &[u8]) -> arrayvec::ArrayVec<u8, 64> {
+/// A text with a number of five digits in it.
+pub fn with_number(front: &[u8], number: u16, behind: &[u8]) -> arrayvec::ArrayVec<u8, 64> {
     let mut text = arrayvec::ArrayVec::new();
     for byte in front {
         push(&mut text, *byte);

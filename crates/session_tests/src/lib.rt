@@ -13,3 +13,5 @@ mod row_tests;
 mod told;
 #[cfg(test)]
 mod version_tests;
+#[cfg(test)]
+mod workload_tests;

@@ -170,6 +170,15 @@ fn the_ninth_of_each_pool_is_refused(rt: HostRuntime) -> Result<(), Fail> {
 }
 
 #[test]
+fn a_condition_has_at_most_32_nodes(rt: HostRuntime) -> Result<(), Fail> {
+    let text =
+        b"SELECT v FROM n WHERE NOT v = 1 OR v = 2 OR v = 3 OR v = 4 OR v = 5 OR v = 6 OR v = 7 OR v = 8;\
+        SELECT v FROM n WHERE NOT v = 1 OR NOT v = 2 OR v = 3 OR v = 4 OR v = 5 OR v = 6 OR v = 7 OR v = 8;";
+    assert!(rt; gives(rt.alloc(), ONE, text, b"rows 0\nno full nodes 32\n")?);
+    Ok(())
+}
+
+#[test]
 fn undefined_comparisons_are_false(rt: HostRuntime) -> Result<(), Fail> {
     let text =
         b"INSERT (0) INTO n;INSERT (2) INTO n;SELECT v FROM n WHERE 10 / v > 1;SELECT v FROM n WHERE NOT 10 / v > 1;";
