@@ -1,5 +1,5 @@
 -- The words that the program is called with.
-use Rattle.std.specs.Prelude.{ℕ, ◌+◌, ◌-◌, ◌*◌, Bool, ◌&&◌, List, [], ◌∷◌, length, nat_eq, nat_le, codes, Option, None, Some, option_map, option_and_then, if◌then◌else◌}
+use Rattle.std.specs.Prelude.{⊤, ◌≤◌, ℕ, ◌+◌, ◌-◌, ◌*◌, Bool, ◌&&◌, List, [], ◌∷◌, length, nat_eq, nat_le, codes, Option, None, Some, option_map, option_and_then, if◌then◌else◌}
 use Rattle.std.specs.Char.{is_ascii_digit}
 use Rattle.std.specs.Cmp.Lexicographic.{pointwise}
 use Rattle.std.specs.List.{list_all}
@@ -54,3 +54,8 @@ form_of (name ∷ image ∷ []) = alone (string_bytes name)
 form_of (name ∷ image ∷ word ∷ []) = with_one (string_bytes name) (string_bytes word)
 form_of (name ∷ image ∷ one ∷ other ∷ []) = with_two (string_bytes name) (string_bytes one) (string_bytes other)
 form_of _ = None
+
+-- the commands that are to be generated are at most 100,000
+abbrev pub HasFewCommands : Form → Type 0
+HasFewCommands (Gen seed count) = count ≤ 100000
+HasFewCommands _ = ⊤
