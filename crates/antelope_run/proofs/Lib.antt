@@ -1,3 +1,4 @@
 pub mod Bare
+pub mod Halts
 pub mod Numbers
 pub mod Opened
