@@ -2,11 +2,11 @@
 
 #![tactic(auto)]
 
-ghost use Rattle.std.specs.Prelude.{◌≡◌, ◌≢◌, ◌≤◌, false, true, ℕ, Err, IfErr, IsErrOf, IsTrue, OnErr, OnOk, length};
+ghost use Rattle.std.specs.Prelude.{◌≡◌, ◌≢◌, ◌≤◌, false, true, ℕ, Some, Err, IfErr, IsErrOf, IsTrue, OnErr, OnOk, length};
 ghost use Rattle.std.specs.Io.KnownBytes.{append_known};
 ghost use Rattle.afl_base.specs.Causes.{Rose};
 ghost use Rattle.answering.specs.Carried.{LacksPages, standing_of};
-ghost use Rattle.answering.specs.Went.{HasRunCause};
+ghost use Rattle.answering.specs.Went.{HasRunCause, Reaches};
 ghost use Rattle.db_model.specs.Sound.{IsSoundDatabase};
 ghost use Rattle.db_model.specs.Workload.{first_commands};
 ghost use Rattle.dump.specs.Unchanged.{IsAsBefore};
@@ -16,7 +16,8 @@ ghost use Rattle.intake.specs.declared.halt.Stop.TheVariants as Stop;
 ghost use Rattle.space_plan.specs.Lines.{plan_text};
 ghost use Rattle.space_plan.specs.Planned.{planned};
 ghost use Rattle.antelope_run.specs.declared.words.Form.TheVariants as Form;
-ghost use Rattle.antelope_run.specs.Does.{Does, Generates, OnlyTells, TellsOn, Writes, halted, stopped};
+ghost use Rattle.antelope_run.specs.Does.{CarriedReads, Does, Generates, OnlyTells, TellsOn, Writes, halted, stopped};
+ghost use Rattle.antelope_run.specs.Statuses.{TakesInput};
 ghost use Rattle.antelope_run.specs.Words.{HasFewCommands};
 
 use crate::words::Form;
@@ -42,8 +43,11 @@ pub fn carry_out<V: Files, S: Source, K: Sink>(
         → Does (standing_of V.state V.reads session (K.held out.old))
         (standing_of V.state V.reads result.1 (K.held out.new)) sectors (S.left input.old) (S.left input.new)
         (LacksPages V.state V.asks V.lacks result.1) form result.0 }
+    ensures reaches { TakesInput (Some form) → Reaches result.0 (S.left input.old) (S.left input.new) }
     ensures lost { session.lost ≡ false → result.1.lost ≡ true → result.0 ≡ Err (Stop.Halted Halt.Flash) }
     ensures store { length (V.state result.1.files).store ≡ length (V.state session.files).store }
+    ensures reads { IsTrue (V.state session.files).tells → CarriedReads form
+        (standing_of V.state V.reads session (K.held out.old)) (S.left input.old) (V.reads result.1.files) }
     ensures same { OnlyTells form → result.0 ≢ Err (Stop.Halted Halt.Flash)
         → (V.state result.1.files).store ≡ (V.state session.files).store }
     ensures unread { OnlyTells form → input.new ≡ input.old }
