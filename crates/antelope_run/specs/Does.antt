@@ -78,3 +78,10 @@ abbrev pub stopped : Result ⊤ AnyStop → Result ⊤ Stop
 stopped (Ok done) = Ok done
 stopped (Err stop.Sink) = Err (Halted Sink)
 stopped (Err stop.Flash) = Err (Halted Flash)
+
+-- no input failed or was too long
+abbrev pub OnlyHalts : Result ⊤ Stop → Type 0
+OnlyHalts (Ok done) = ⊤
+OnlyHalts (Err (Halted halt)) = ⊤
+OnlyHalts (Err Input) = ⊥
+OnlyHalts (Err Long) = ⊥

@@ -4,26 +4,24 @@
 
 ghost use Rattle.std.specs.Prelude.{◌≡◌, ◌≢◌, ◌≤◌, ◌-◌, ◌/◌, ◌⊎◌, ◌↔◌, false, ℕ, List, Result, Some, None, IsTrue, IfErr, OnErr, OnOk, length};
 ghost use Rattle.std.specs.Io.KnownBytes.{append_known, IsAtEnd};
-ghost use Rattle.afl_base.specs.Causes.{HasCause, Rose};
-ghost use Rattle.answering.specs.Went.{HasRunCause};
-ghost use Rattle.db_model.specs.Ahead.{no_cursors};
+ghost use Rattle.afl_base.specs.Causes.{Rose};
 ghost use Rattle.reply_text.specs.WroteLess.{WroteLess};
 ghost use Rattle.run_model.specs.Runs.{Refuses, TookLimit, image_line, world};
-ghost use Rattle.sound_image.specs.Images.{IsSound, base};
-ghost use Rattle.antelope_run.specs.Does.{OnlyTells};
-ghost use Rattle.antelope_run.specs.Left.{Leaves, status_of};
+ghost use Rattle.sound_image.specs.Images.{IsSound};
+ghost use Rattle.antelope_run.specs.Comes.{ComesTo, HasCause, OnOpened, OnUnopened, ReachesBy, status_by};
 ghost use Rattle.antelope_run.specs.Statuses.{Ends, FindsNoSpace, HasSpace, IsCutOff, IsFaulted, IsShort, IsStatus, IsTooLong, IsUnsaid, ReadsAtMost, TakesInput};
 ghost use Rattle.antelope_run.specs.Words.{HasFewCommands, form_of};
-ghost use Rattle.antelope_run.specs.declared.words.Form.TheVariants as AnyForm;
+ghost use Rattle.antelope_run.specs.declared.came.Came.TheVariants as AnyCame;
 
+use crate::came::Came;
 use crate::carrying::carry_out;
+use crate::image_line::write_image_line;
 use crate::opening::{OpenError, close, open};
 use crate::reading::form;
 use crate::words::Form;
-use afl_base::{Failed, Files, Flash, Sink, Source};
-use antelope_engine::Session;
-use coffee_volume::Volume;
+use afl_base::{Failed, Flash, Sink, Source};
 use intake::{Halt, Stop};
+use stored::sound_files_are_a_sound_database;
 
 /// Carries out what the words ask for, and answers the status that the program ends with, and the flash.
 ///
@@ -88,7 +86,72 @@ pub fn top<F: Flash, S: Source, K: Sink>(
     ensures keeps { K.keeps out.old out.new }
 {
     match form(words) {
-        Some(form) => run_form(form, script, out, flash),
+        Some(form) => {
+            let (came, flash) = run_form(form, script, out, flash);
+            (status(came), flash)
+        }
         None => (1, flash),
+    }
+}
+
+// The status that the program ends with.
+fn status(came: Came) -> u8
+    ensures { result ≡ status_by came }
+{
+    match came {
+        Came::Opened(Ok(())) => 0,
+        Came::Opened(Err(Stop::Input)) => 2,
+        Came::Opened(Err(Stop::Halted(Halt::Space))) => 3,
+        Came::Opened(Err(Stop::Halted(Halt::Flash))) | Came::Failed => 4,
+        Came::Opened(Err(Stop::Halted(Halt::Sink))) | Came::Unsaid => 5,
+        Came::Refused => 6,
+        Came::Opened(Err(Stop::Long)) => 8,
+    }
+}
+
+// Carries out what a form asks for.
+fn run_form<F: Flash, S: Source, K: Sink>(
+    form: Form,
+    input: &mut S,
+    out: &mut K,
+    flash: F,
+) -> (Came, F)
+    requires commands { HasFewCommands form }
+    ensures comes { IsTrue F.tells → ComesTo form
+        (world (F.image flash) (S.left input.old) (K.held out.old))
+        (world (F.image result.1) (S.left input.new) (K.held out.new)) result.0 }
+    ensures reaches { OnOpened result.0 (λ done. ReachesBy form done (S.left input.old) (S.left input.new)) }
+    ensures unread { OnUnopened result.0 (input.new ≡ input.old) }
+    ensures size { length (F.image result.1) ≡ length (F.image flash) }
+    ensures reads { IsTrue F.tells → IsSound (F.image flash) → ReadsAtMost (Some form)
+        (world (F.image flash) (S.left input.old) (K.held out.old)) (F.reads result.1 - F.reads flash) }
+    ensures keeps { K.keeps out.old out.new }
+    ensures cause { HasCause (S.faults input.old) (S.faults input.new) (F.faults flash) (F.faults result.1)
+        (K.faults out.old) (K.faults out.new) result.0 }
+{
+    sound_files_are_a_sound_database();
+    let sectors = flash.sectors();
+    match open(flash) {
+        Ok(session) => {
+            let (done, session) = carry_out(form, sectors, session, input, out);
+            (Came::Opened(done), close(session))
+        }
+        Err(OpenError::Bad { rule, place, flash }) => (refuse(out, rule, place), flash),
+        Err(OpenError::Failed { flash }) => (Came::Failed, flash),
+    }
+}
+
+// Writes the first broken rule of an image, and its place.
+fn refuse<K: Sink>(out: &mut K, rule: u8, place: u16) -> Came
+    ensures only { (result ≡ AnyCame.Refused) ⊎ (result ≡ AnyCame.Unsaid) }
+    ensures written { result ≡ AnyCame.Refused
+        → K.held out.new ≡ append_known (K.held out.old) (image_line rule place) }
+    ensures unsaid { result ≡ AnyCame.Unsaid → WroteLess (K.held out.old) (K.held out.new) (image_line rule place) }
+    ensures rose { result ≡ AnyCame.Unsaid → Rose (K.faults out.old) (K.faults out.new) }
+    ensures keeps { K.keeps out.old out.new }
+{
+    match write_image_line(out, rule, place) {
+        Ok(()) => Came::Refused,
+        Err(Failed) => Came::Unsaid,
     }
 }
