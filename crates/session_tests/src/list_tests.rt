@@ -2,6 +2,7 @@
 
 ghost use Rattle.std.specs.Prelude.{◌≡◌, None};
 
+use crate::filling::size_of;
 use crate::told::{mounted, read, say, say_often, started};
 use afl_base::{Files, Name};
 use afl_sim::{MemFlash, MemSink, PlainFiles};
@@ -50,6 +51,38 @@ fn packed_rows_take_no_more_bytes_than_they_need(rt: HostRuntime) -> Result<(), 
         INSERT (2) INTO n;REMOVE FROM n WHERE v = 1;PACK n;";
     let bytes = handed_back(rt.alloc(), PlainFiles::<4064>::new(), text, b"T0")?;
     assert_eq!(rt; bytes.as_slice(), b"\x00\x00\x01\x02\x00\x01".as_slice());
+    Ok(())
+}
+
+#[test]
+fn rows_that_were_removed_under_an_index_are_packed(rt: HostRuntime) -> Result<(), Fail> {
+    let text =
+        b"CREATE RELATION s;CREATE ATTRIBUTE k DOMAIN LONG IN s;CREATE ATTRIBUTE t DOMAIN STRING(3) IN s;\
+        CREATE INDEX s.k TYPE MAXHEAP;INSERT (1, 'a') INTO s;INSERT (2, 'b') INTO s;REMOVE FROM s WHERE k = 1;\
+        REMOVE INDEX s.k;PACK s;";
+    let bytes = handed_back(rt.alloc(), PlainFiles::<4064>::new(), text, b"T0")?;
+    assert_eq!(rt;
+        bytes.as_slice(),
+        b"\x02\x00\x00\x00b\x00\x00\x01".as_slice()
+    );
+    Ok(())
+}
+
+// The bytes of the hash tree of 256 equal keys.
+fn tree_size<V: Files + Drop>(alloc: Global, files: V) -> Result<u32, Fail>
+    requires { (V.state files).draft ≡ None }
+{
+    let mut session = started(files)?;
+    let text =
+        b"CREATE RELATION n;CREATE ATTRIBUTE v DOMAIN INT IN n;CREATE INDEX n.v TYPE MAXHEAP;";
+    say(alloc, &mut session, text)?;
+    say_often(&mut session, b"INSERT (7) INTO n", 256)?;
+    size_of(&session.close(), b"X0")
+}
+
+#[test]
+fn a_hash_tree_of_256_equal_keys_has_8_buckets(rt: HostRuntime) -> Result<(), Fail> {
+    assert_eq!(rt; tree_size(rt.alloc(), PlainFiles::<4064>::new())?, 2243);
     Ok(())
 }
 
