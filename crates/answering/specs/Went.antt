@@ -1,8 +1,10 @@
 -- How far a session went through an input.
 use Rattle.std.specs.Prelude.{◌≡◌, ◌⊎◌, ⊤, ℕ, ◌≤◌, List, ◌++◌, length, Option, Result, Ok, Err}
 use Rattle.std.specs.Io.KnownBytes.{prepend_known, IsAtEnd}
+use Rattle.afl_base.specs.Causes.{Rose}
 use Rattle.db_model.specs.declared.commands.Command.{Command}
 use Rattle.intake.specs.declared.halt.Halt.{Halt}
+use Rattle.intake.specs.declared.halt.Halt.TheVariants.{Flash, Sink}
 use Rattle.intake.specs.declared.halt.Stop.{Stop}
 use Rattle.intake.specs.declared.halt.Stop.TheVariants.{Input, Long, Halted}
 use Rattle.run_model.specs.Line.{Line}
@@ -48,3 +50,10 @@ module _ {E : Type 0} (line : Line E) (talk : Talk E) (old new : Standing) (left
   Went Lacks (Err Input) = TookSome
   Went Lacks (Err Long) = TookLimit
   Went Lacks (Err (Halted halt)) = WentNoFurther Lacks halt
+
+-- what failed has counted it, and the files' count does not fall
+pub record HasRunCause (inputs inputs_now files files_now replies replies_now : ℕ) (result : Result ⊤ Stop) : Type 0 where
+  pub files_later : files ≤ files_now
+  pub input : result ≡ Err Input → Rose inputs inputs_now
+  pub flash : result ≡ Err (Halted Flash) → Rose files files_now
+  pub sink : result ≡ Err (Halted Sink) → Rose replies replies_now

@@ -14,7 +14,7 @@ ghost use Rattle.run_model.specs.Scripts.{script_talk};
 ghost use Rattle.script_run.specs.Gathers.{Gathers};
 ghost use Rattle.script_run.specs.Input.{Keeps, script_input};
 
-use crate::answering::{carry_out, refuse};
+use crate::entry::{carry_out, refuse};
 use crate::piece::Piece;
 use afl_base::{Files, Sink};
 use antelope_engine::Session;

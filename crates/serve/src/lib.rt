@@ -8,9 +8,11 @@ mod framed;
 mod hearing;
 mod replies;
 mod serving;
+mod whole;
 
 pub use asking::answer;
 pub use decoder::Decoder;
 pub use fed::Fed;
 pub use framed::Framed;
 pub use serving::Server;
+pub use whole::serve_line;
