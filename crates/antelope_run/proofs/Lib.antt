@@ -1,3 +1,9 @@
 pub mod Bare
+pub mod Finished
+pub mod Fronts
+pub mod Halts
+pub mod Leaving
 pub mod Numbers
 pub mod Opened
+pub mod PagesRead
+pub mod Space
