@@ -20,9 +20,9 @@ returns-clause-went g c = λ told read reader.
     let new : Server g.row.V.Denot × Out = (c.take_through-taken.new.taker, out_of (g.K.Sink.held c.take_through-taken.new.out) (g.K.Sink.faults c.take_through-taken.new.out)) in
     let is = c.new-server.ensures.session in
     let Goal : Seen g.row.V.Denot → Type 0 = λ s. Went frame_line (serve_talk read) (standing_of g.V.Files.state g.V.Files.reads s (g.K.Sink.held c.args.out.now))
-        (standing_of g.V.Files.state g.V.Files.reads c.take_through-taken.new.taker.session (g.K.Sink.held c.take_through-taken.new.out))
-        (g.S.Source.left c.args.line.now) (g.S.Source.left c.take_through-taken.new.input)
-        (LacksPages g.V.Files.state g.V.Files.asks g.V.Files.lacks c.take_through-taken.new.taker.session) c.take_through-taken.result in
+    (standing_of g.V.Files.state g.V.Files.reads c.take_through-taken.new.taker.session (g.K.Sink.held c.take_through-taken.new.out))
+    (g.S.Source.left c.args.line.now) (g.S.Source.left c.take_through-taken.new.input)
+    (LacksPages g.V.Files.state g.V.Files.asks g.V.Files.lacks c.take_through-taken.new.taker.session) c.take_through-taken.result in
     subst Goal is
     (went frame_input files frame_line frame_parts seen old new (g.S.Source.left c.args.line.now) (g.S.Source.left c.take_through-taken.new.input)
     (ap (λ (s : Seen g.row.V.Denot). s.stopped) is ∙ c.requires.running) (rw is told) read reader c.new-server.ensures.gathers
