@@ -8,10 +8,12 @@ ghost use Rattle.aql_parse.specs.Built.{aggregate_of, attribute_of, command_of, 
 use crate::lists::{aggregates_in, names_in, relation_in, values_in};
 use crate::parts::{kind_at, name_at, number_at, token_name};
 use db_model::{Command, Condition, DomainAsked, Idents, Keyword, Query, Token};
+use std::mem;
 
-/// The command of its tokens and the nodes of its condition; None only where the tokens spell none.
-pub fn command_of(tokens: &[Token], nodes: Condition) -> Option<Command>
-    ensures { result ≡ command_of tokens.now nodes }
+/// The command of its tokens and the nodes of its condition, which are taken; None only where the
+/// tokens spell none.
+pub fn command_of(tokens: &[Token], nodes: &mut Condition) -> Option<Command>
+    ensures { result ≡ command_of tokens.now nodes.old }
 {
     match tokens {
         [Token::Word(Keyword::KCREATE), rest @ ..] => create_of(rest),
@@ -101,15 +103,15 @@ fn index_of(tokens: &[Token]) -> Option<Command>
     })
 }
 
-fn remove_of(tokens: &[Token], nodes: Condition) -> Option<Command>
-    ensures { result ≡ remove_of tokens.now nodes }
+fn remove_of(tokens: &[Token], nodes: &mut Condition) -> Option<Command>
+    ensures { result ≡ remove_of tokens.now nodes.old }
 {
     match tokens {
         [Token::Word(Keyword::KFROM), rest @ ..] => {
             let relation = name_at(rest, 0)?;
             Some(Command::RemoveFrom {
                 relation,
-                condition: nodes,
+                condition: mem::take(nodes),
             })
         }
         [Token::Word(Keyword::KRELATION), rest @ ..] => {
@@ -137,8 +139,8 @@ fn insert_of(tokens: &[Token]) -> Option<Command>
 }
 
 // Names or aggregates, behind SELECT.
-fn selection_of(tokens: &[Token], nodes: Condition) -> Option<Command>
-    ensures { result ≡ selection_of tokens.now nodes }
+fn selection_of(tokens: &[Token], nodes: &mut Condition) -> Option<Command>
+    ensures { result ≡ selection_of tokens.now nodes.old }
 {
     match tokens {
         [Token::Name(_), ..] => {
@@ -149,27 +151,27 @@ fn selection_of(tokens: &[Token], nodes: Condition) -> Option<Command>
     }
 }
 
-fn select_of(tokens: &[Token], nodes: Condition) -> Option<Query>
-    ensures { result ≡ select_of tokens.now nodes }
+fn select_of(tokens: &[Token], nodes: &mut Condition) -> Option<Query>
+    ensures { result ≡ select_of tokens.now nodes.old }
 {
     let relation = relation_in(tokens)?;
     let list = names_in(tokens)?;
     Some(Query::Select {
         list,
         relation,
-        condition: nodes,
+        condition: mem::take(nodes),
     })
 }
 
-fn aggregate_of(tokens: &[Token], nodes: Condition) -> Option<Command>
-    ensures { result ≡ aggregate_of tokens.now nodes }
+fn aggregate_of(tokens: &[Token], nodes: &mut Condition) -> Option<Command>
+    ensures { result ≡ aggregate_of tokens.now nodes.old }
 {
     let relation = relation_in(tokens)?;
     let list = aggregates_in(tokens)?;
     Some(Command::Aggregate {
         list,
         relation,
-        condition: nodes,
+        condition: mem::take(nodes),
     })
 }
 
@@ -198,8 +200,8 @@ fn projected(tokens: &[Token]) -> Option<Idents>
     names_in(&tokens[6..])
 }
 
-fn query_of(tokens: &[Token], nodes: Condition) -> Option<Query>
-    ensures { result ≡ query_of tokens.now nodes }
+fn query_of(tokens: &[Token], nodes: &mut Condition) -> Option<Query>
+    ensures { result ≡ query_of tokens.now nodes.old }
 {
     match tokens {
         [Token::Word(Keyword::KSELECT), rest @ ..] => select_of(rest, nodes),
@@ -209,8 +211,8 @@ fn query_of(tokens: &[Token], nodes: Condition) -> Option<Query>
 }
 
 // NUMBER query.
-fn open_of(tokens: &[Token], nodes: Condition) -> Option<Command>
-    ensures { result ≡ open_of tokens.now nodes }
+fn open_of(tokens: &[Token], nodes: &mut Condition) -> Option<Command>
+    ensures { result ≡ open_of tokens.now nodes.old }
 {
     match tokens {
         [Token::Number(number), rest @ ..] => {
