@@ -16,8 +16,9 @@ use crate::stack::Stack;
 use db_model::laws::conditions_are_read_back;
 use db_model::{Command, Few, Pool, Refusal};
 
-/// Reads commands, and keeps its lists from one command to the next: a command costs as much as it
-/// has bytes, and nothing for what the lists could hold. What was read before changes no answer.
+/// Reads commands one after the other. Its lists stay where they are, and are cleared of what an
+/// earlier command left in them, so that reading touches no more of them than a command fills. What
+/// was read before changes no answer.
 #[derive(Drop)]
 pub struct Parser {
     tokens: Tokens,
@@ -27,7 +28,9 @@ pub struct Parser {
 }
 
 impl Parser {
-    /// A parser that has read nothing yet.
+    /// A parser that has read nothing yet: 31 KB, so it is made once and lent from then on.
+    // Not inlined, since its caller would keep the parts of which it is made on its stack.
+    #[inline(never)]
     pub fn new() -> Parser {
         Parser {
             tokens: Few::new(),
@@ -46,12 +49,9 @@ impl Parser {
     {
         conditions_are_read_back();
         let whole = cut(bytes, &mut self.tokens, &mut self.ends);
-        match recognize(self.tokens.as_slice(), &mut self.stack, &mut self.nodes) {
-            Ok(()) => {}
-            Err(n) => {
-                let at = end_of(self.ends.as_slice(), n);
-                return Err(Refusal::Syntax { at });
-            }
+        if let Err(n) = recognize(self.tokens.as_slice(), &mut self.stack, &mut self.nodes) {
+            let at = end_of(self.ends.as_slice(), n);
+            return Err(Refusal::Syntax { at });
         }
         if !whole {
             let at = end_of(self.ends.as_slice(), self.tokens.len());
@@ -63,13 +63,10 @@ impl Parser {
                 limit: 32,
             });
         }
-        match command_of(self.tokens.as_slice(), &mut self.nodes.first) {
-            Some(read) => {
-                *command = read;
-                Ok(())
-            }
-            None => unreachable!(),
+        if !command_of(self.tokens.as_slice(), &mut self.nodes.first, command) {
+            unreachable!();
         }
+        Ok(())
     }
 }
 
@@ -85,10 +82,7 @@ pub fn parse(bytes: &[u8], command: &mut Command) -> Result<(), Refusal>
     ensures same { OnErr result (command.new ≡ command.old) }
 {
     let mut parser = Parser::new();
-    match parser.parse(bytes, command) {
-        Ok(()) => Ok(()),
-        Err(refusal) => Err(refusal),
-    }
+    parser.parse(bytes, command)
 }
 
 // Where the nth token ends, 0 for none.
