@@ -82,8 +82,8 @@ impl<V: Files> Session<V> {
         ensures running { IfOk result (λ s. (s.stopped ≡ false) × (s.lost ≡ false)) }
         ensures aheads { IfOk result (λ s. s.aheads ≡ no_cursors) }
         ensures reads { let base = base_of (V.state files).files in
-            IsTrue (V.state files).tells → IfOk result (λ s. V.reads s.files ≤ V.reads files
-            + 1024 + 16384 + 16 * sum (map (slots_opened base) (range_with_len 0 8))) }
+            IsTrue (V.state files).tells → V.reads (files_after result) ≤ V.reads files
+            + 1024 + 16384 + 16 * sum (map (slots_opened base) (range_with_len 0 8)) }
         ensures store { let after = V.state (files_after result) in
             length after.store ≡ length (V.state files).store }
         ensures cause { HasStartCause (V.faults files) (V.faults (files_after result)) result }

@@ -1,5 +1,5 @@
 -- What the tests of rows and indexes read, as the database says it.
-use Rattle.std.proofs.Common.{◌≡◌, ◌≢◌, ℕ, zero, suc, ◌+◌, ◌*◌, ◌<◌, ◌≤◌, Bool, true, false, cond, ◌==◌, List, [], ◌∷◌, filter, length, map, get_or, replicate, Option, Some, None, if◌then◌else◌, refl, ap, sym, ◌∙◌, arith}
+use Rattle.std.proofs.Common.{◌≡◌, ◌≢◌, ℕ, zero, suc, ◌+◌, ◌*◌, ◌<◌, ◌≤◌, Bool, true, false, cond, ◌==◌, List, [], ◌∷◌, filter, length, map, get_or, replicate, Option, Some, None, if◌then◌else◌, refl, ap, sym, ◌∙◌, subst, arith}
 use Rattle.std.specs.Prelude.{option_map}
 use Rattle.std.specs.List.{range_with_len}
 use Rattle.std.specs.Option.{option_map_or}
@@ -8,18 +8,22 @@ use Rattle.std.proofs.lemmas.Bool.{cases_eq, cases_lt}
 use Rattle.std.proofs.lemmas.Bool.Decides.{nat_tests}
 use Rattle.std.proofs.lemmas.List.{ext_get_or, get_or_past}
 use Rattle.std.proofs.lemmas.List.FromFn.{get_or-map-range_with_len, length-map-range_with_len}
-use Rattle.afl_base.specs.Files.{Table}
+use Rattle.afl_base.specs.Files.{State, Table}
+use Rattle.catalog.specs.Rules.{catalog_in}
 use Rattle.db_model.specs.Catalog.{Index}
 use Rattle.db_model.specs.Cost.{sum}
-use Rattle.db_model.specs.Database.{Relation, used}
+use Rattle.db_model.specs.Database.{Database, Relation, used}
 use Rattle.db_model.specs.RunCost.{slots_opened}
+use Rattle.stored.specs.Base.{base_of}
 use Rattle.tuple_file.specs.declared.tuples.Tuples.{Tuples}
 use Rattle.session_model.specs.declared.held.Held.{Held}
 use Rattle.session_model.specs.declared.held.Indexed.{Indexed}
 use Rattle.session_model.specs.Indexed.{index_in}
 use Rattle.session_model.specs.View.{relation_in, view}
 use Rattle.session_model.proofs.Frames.{count_rows}
+use Rattle.session_start.specs.Found.{IsFound, slots_held}
 use Rattle.session_start.specs.Reads.{all_reads, all_slots, index_reads, slots_in}
+use Rattle.session_start.proofs.Opened.{base_is}
 
 -- ---- sums over numbers
 
@@ -144,3 +148,13 @@ opening_reads files held eight eight_indexes =
   where
     final : (slots reads named each counted opened n : ℕ) → slots ≡ each → reads ≤ 15 * named + 2048 * n → each + named ≤ counted → opened ≡ counted → n ≡ 8 → 6 * slots + reads ≤ 16384 + 16 * opened
     final slots reads named each counted opened n a b c d e = omega (arith, a, b, c, d, e)
+
+-- the catalog is read, and then all rows and indexes, or some of them
+pub opened_within : (state : State) (held : Held) → IsFound state held → slots_held held ≡ catalog_in state.files → (before loaded now : ℕ) → loaded ≤ before + 99
+    → now ≤ loaded + 6 * all_slots state.files held.relations + all_reads state.files held.relations held.indexes
+    → now ≤ before + 1024 + 16384 + 16 * sum (map (slots_opened (base_of state.files)) (range_with_len 0 8))
+opened_within state held found same before loaded now catalog judged =
+    let most = opening_reads state.files held found.eight found.eight_indexes in
+    let sum_of = λ (db : Database). sum (map (slots_opened db) (range_with_len 0 8)) in
+    subst (λ (db : Database). now ≤ before + 1024 + 16384 + 16 * sum_of db) (sym (base_is state held found same))
+    (omega (arith, catalog, judged, most))

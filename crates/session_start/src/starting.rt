@@ -48,8 +48,8 @@ pub fn open_database<V: Files>(
         BreaksFirst (V.state files.old).files broken.rule broken.place)) }
     ensures same { OnOk result (V.state files.new ≡ V.state files.old) }
     ensures reads { let base = base_of (V.state files.old).files in
-        IsTrue (V.state files.old).tells → IfOk result (λ r. OnOk r (V.reads files.new ≤ V.reads files.old
-        + 1024 + 16384 + 16 * sum (map (slots_opened base) (range_with_len 0 8)))) }
+        IsTrue (V.state files.old).tells → V.reads files.new ≤ V.reads files.old
+        + 1024 + 16384 + 16 * sum (map (slots_opened base) (range_with_len 0 8)) }
     ensures store { length (V.state files.new).store ≡ length (V.state files.old).store }
     ensures cause { HasCause (V.faults files.old) (V.faults files.new) result }
 {

@@ -1,9 +1,5 @@
-use Rattle.std.proofs.Common.{arith, sym, ◌∙◌, ◌≤◌, ◌+◌, ◌*◌, map, subst}
-use Rattle.std.specs.List.{range_with_len}
-use Rattle.db_model.specs.Cost.{sum}
-use Rattle.db_model.specs.Database.{Database}
-use Rattle.db_model.specs.RunCost.{slots_opened}
-use Rattle.session_start.proofs.Costs.{opening_reads}
+use Rattle.std.proofs.Common.{sym, ◌∙◌}
+use Rattle.session_start.proofs.Costs.{opened_within}
 use Rattle.session_start.proofs.Opened.{base_is, breaks_of, running_of, sound_of}
 use Rattle.session_start.proofs.starting.open_database.Goals as goal
 
@@ -50,16 +46,32 @@ returns-in-None-clause-running g c =
     let ready = rw (same, c.in-None.is) at c.in_ok-broken.ensures.ready in
     running_of state held found c.first_broken_rule.new.tables c.requires.idle ready.0 ready.1 (λ told. c.hold-held.ensures.catalog ∙ catalog told) unbroken
 
+pub returns-in_err-broken-clause-reads : goal.returns-in_err-broken-clause-reads
+returns-in_err-broken-clause-reads g c = λ told.
+    let state = g.V.Files.state c.args.files.now in
+    let same = c.in_ok-catalog.ensures.same in
+    let found = rw same at c.hold-held.ensures.found in
+    let catalog = (rw c.in-Ok.is at c.in_ok-catalog.ensures.catalog) told in
+    let judged = rw same at c.first_broken_rule.ensures.reads in
+    opened_within state c.hold-held.result found (c.hold-held.ensures.catalog ∙ catalog) (g.V.Files.reads c.args.files.now) (g.V.Files.reads c.load.new.files)
+    (g.V.Files.reads c.first_broken_rule.new.files) c.load.ensures.reads judged
+
+pub returns-in-Some-clause-reads : goal.returns-in-Some-clause-reads
+returns-in-Some-clause-reads g c = λ told.
+    let state = g.V.Files.state c.args.files.now in
+    let same = c.in_ok-catalog.ensures.same in
+    let found = rw same at c.hold-held.ensures.found in
+    let catalog = (rw c.in-Ok.is at c.in_ok-catalog.ensures.catalog) told in
+    let judged = rw same at c.first_broken_rule.ensures.reads in
+    opened_within state c.hold-held.result found (c.hold-held.ensures.catalog ∙ catalog) (g.V.Files.reads c.args.files.now) (g.V.Files.reads c.load.new.files)
+    (g.V.Files.reads c.first_broken_rule.new.files) c.load.ensures.reads judged
+
 pub returns-in-None-clause-reads : goal.returns-in-None-clause-reads
 returns-in-None-clause-reads g c = λ told.
     let state = g.V.Files.state c.args.files.now in
     let same = c.in_ok-catalog.ensures.same in
-    let held = c.hold-held.result in
     let found = rw same at c.hold-held.ensures.found in
     let catalog = (rw c.in-Ok.is at c.in_ok-catalog.ensures.catalog) told in
-    let base = base_is state held found (c.hold-held.ensures.catalog ∙ catalog) in
-    let reads = rw same at c.first_broken_rule.ensures.reads in
-    let most = opening_reads state.files held found.eight found.eight_indexes in
-    let db_sum = λ (db : Database). sum (map (slots_opened db) (range_with_len 0 8)) in
-    subst (λ (db : Database). g.V.Files.reads c.first_broken_rule.new.files ≤ g.V.Files.reads c.args.files.now + 1024 + 16384 + 16 * db_sum db) (sym base)
-    (omega (arith, c.load.ensures.reads, reads, most))
+    let judged = rw same at c.first_broken_rule.ensures.reads in
+    opened_within state c.hold-held.result found (c.hold-held.ensures.catalog ∙ catalog) (g.V.Files.reads c.args.files.now) (g.V.Files.reads c.load.new.files)
+    (g.V.Files.reads c.first_broken_rule.new.files) c.load.ensures.reads judged

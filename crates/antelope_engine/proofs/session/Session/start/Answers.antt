@@ -22,8 +22,5 @@ returns-in-Ok-Ok-clause-sound g c = rw c.in-Ok-Ok.field-0-is at c.in-Ok-Ok.ensur
 pub returns-in-Ok-Ok-clause-base : goal.returns-in-Ok-Ok-clause-base
 returns-in-Ok-Ok-clause-base g c = rw c.in-Ok-Ok.ensures.same (rw c.in-Ok-Ok.field-0-is at c.in-Ok-Ok.ensures.base)
 
-pub returns-in-Ok-Ok-clause-reads : goal.returns-in-Ok-Ok-clause-reads
-returns-in-Ok-Ok-clause-reads g c = rw c.in-Ok-Ok.field-0-is at c.in-Ok-Ok.ensures.reads
-
 pub returns-in-Ok-Err-clause-bad : goal.returns-in-Ok-Err-clause-bad
 returns-in-Ok-Err-clause-bad g c = rw c.in-Ok-Err.field-0-is at c.in-Ok-Err.ensures.bad
