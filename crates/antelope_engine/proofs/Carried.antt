@@ -5,6 +5,7 @@ use Rattle.std.specs.Io.KnownBytes.{append_known}
 use Rattle.std.specs.List.{AllByRecursion}
 use Rattle.std.proofs.lemmas.List.{append_assoc, append-nil, take_more}
 use Rattle.afl_base.specs.Causes.{Rose}
+use Rattle.afl_base.specs.Files.{Table}
 use Rattle.db_model.specs.declared.commands.Command.{Command}
 use Rattle.db_model.specs.Ahead.{Aheads, aheads_after, cost_of}
 use Rattle.db_model.specs.Database.{Database}
@@ -67,13 +68,18 @@ pub next_taken : (xs : List Command) (i : ℕ) (c : Command) → i < length xs �
 next_taken xs i c below e = take_more xs i c below ∙ ap (λ (z : Command). take i xs ++ z ∷ []) (sym e)
 
 module _ {V : Type 0} (xs : List Command) (a b : Seen V) (h i : Option (List ℕ)) (so_far : CarriedOut xs a b h i) where
+  -- what the cursors have ahead behind the next command
+  pub aheads_more : (c : Command) (now : Aheads) → now ≡ aheads_after b.database b.aheads c → now ≡ aheads_after_all a.database a.aheads (xs ++ c ∷ [])
+  aheads_more c now moved =
+      moved ∙ ap (λ (db : Database). aheads_after db b.aheads c) so_far.database
+      ∙ ap (λ (all : Aheads). aheads_after (after_all a.database xs) all c) so_far.aheads
+      ∙ sym (aheads_append a.database a.aheads xs (c ∷ []))
+
   pub carried_more : (c : Command) (d : Seen V) (came : Outcome) (j : Option (List ℕ)) → Does (outcome b.database c) b.database d.database (Done came) i j
       → d.aheads ≡ aheads_after b.database b.aheads c → CarriedOut (xs ++ c ∷ []) a d h j
   carried_more c d came j does moved = record {
     database = does.0 ∙ ap (λ (db : Database). (step db c).0) so_far.database ∙ sym (after_append a.database xs (c ∷ []));
-    aheads = moved ∙ ap (λ (db : Database). aheads_after db b.aheads c) so_far.database
-        ∙ ap (λ (all : Aheads). aheads_after (after_all a.database xs) all c) so_far.aheads
-        ∙ sym (aheads_append a.database a.aheads xs (c ∷ []));
+    aheads = aheads_more c d.aheads moved;
     written =
         let last : texts (after_all a.database xs) (c ∷ []) ≡ text ((step b.database c).1) =
         append-nil (text ((step (after_all a.database xs) c).1)) ∙ ap (λ (db : Database). text ((step db c).1)) (sym so_far.database) in
@@ -97,11 +103,11 @@ module _ {V : Type 0} (xs : List Command) (a b : Seen V) (h i : Option (List ℕ
       adds_nothing n = omega arith
 
   -- what the next command came to, seen from the beginning
-  pub came_to : (halt : Halt) (c : Command) (new : Database) (j : Option (List ℕ)) → CameTo halt c b.database new i j
-      → CameTo halt c (after_all a.database xs) new (append_known h (texts a.database xs)) j
-  came_to halt c new j came =
-      subst (λ (db : Database). CameTo halt c db new (append_known h (texts a.database xs)) j) so_far.database
-      (subst (λ (k : Option (List ℕ)). CameTo halt c b.database new k j) so_far.written came)
+  pub came_to : (asks : ℕ → ℕ → ℕ → ℕ → Type 0) (files : Table) (halt : Halt) (c : Command) (new : Database) (j : Option (List ℕ)) → CameTo asks files halt c b.database new i j
+      → CameTo asks files halt c (after_all a.database xs) new (append_known h (texts a.database xs)) j
+  came_to asks files halt c new j came =
+      subst (λ (db : Database). CameTo asks files halt c db new (append_known h (texts a.database xs)) j) so_far.database
+      (subst (λ (k : Option (List ℕ)). CameTo asks files halt c b.database new k j) so_far.written came)
 
 -- what was read by the next command too is within what all may read
 pub costs_within : {V : Type 0} (front : List Command) (a b : Seen V) (h i : Option (List ℕ)) → CarriedOut front a b h i
@@ -148,9 +154,9 @@ cause_halted first files files_now replies replies_now done stop le h = record {
 }
 
 -- what a session that was stopped came to
-pub stopped_came : (stop : Stop) (c : Command) (old new : Database) (before now : Option (List ℕ))
+pub stopped_came : (asks : ℕ → ℕ → ℕ → ℕ → Type 0) (files : Table) (stop : Stop) (c : Command) (old new : Database) (before now : Option (List ℕ))
     → (IsErrOf {T = Step} (Err stop) Sink → (new ≡ (step old c).0) × WroteLess before now (text (step old c).1))
     → (IsErrOf {T = Step} (Err stop) Flash → WrotePart before now (text (step old c).1))
-    → CameTo (Stopped stop) c old new before now
-stopped_came Sink c old new before now sink flash = sink refl
-stopped_came Flash c old new before now sink flash = flash refl
+    → CameTo asks files (Stopped stop) c old new before now
+stopped_came asks files Sink c old new before now sink flash = sink refl
+stopped_came asks files Flash c old new before now sink flash = flash refl

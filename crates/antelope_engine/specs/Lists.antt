@@ -1,15 +1,17 @@
 -- What a list of commands comes to, carried out one after the other.
-use Rattle.std.specs.Prelude.{◌≡◌, ◌≤◌, ⊤, ℕ, ◌+◌, List, [], ◌∷◌, flat_map, take, Option, Some, Result, Ok, Err, IsErrAnd, slice_get}
+use Rattle.std.specs.Prelude.{◌≡◌, ◌≤◌, ⊤, ℕ, ◌+◌, false, List, [], ◌∷◌, flat_map, take, Option, Some, Result, Ok, Err, IsErrAnd, IsOk, slice_get}
 use Rattle.std.specs.Io.KnownBytes.{append_known}
 use Rattle.afl_base.specs.Causes.{Rose}
+use Rattle.afl_base.specs.Files.{Table}
 use Rattle.db_model.specs.declared.commands.Command.{Command}
 use Rattle.db_model.specs.Ahead.{Aheads, aheads_after, cost_of}
 use Rattle.db_model.specs.Database.{Database}
 use Rattle.db_model.specs.ReplyText.{text}
-use Rattle.db_model.specs.Step.{after_all, replies, step}
+use Rattle.db_model.specs.Step.{after_all, outcome, replies, step}
 use Rattle.reply_text.specs.WroteLess.{WroteLess}
 use Rattle.session_model.specs.declared.step.Stop.TheVariants.{Flash, Sink}
 use Rattle.session_model.specs.Steps.{WrotePart}
+use Rattle.session_model.specs.Wanted.{WantsOver}
 use Rattle.space_model.specs.Enough.{most}
 use Rattle.antelope_engine.specs.declared.list.Halt.{Halt}
 use Rattle.antelope_engine.specs.declared.list.Halt.TheVariants.{NoSpace, Stopped}
@@ -36,18 +38,28 @@ pub record CarriedOut {V : Type 0} (commands : List Command) (old new : Seen V) 
   pub aheads : new.aheads ≡ aheads_after_all old.database old.aheads commands
   pub written : now ≡ append_known before (texts old.database commands)
 
--- what the command came to at which the list came to a halt
-abbrev pub CameTo : Halt → Command → (old new : Database) → (before now : Option (List ℕ)) → Type 0
-CameTo (NoSpace need) c old new before now = (new ≡ old) × (now ≡ before) × (need ≤ most old c)
-CameTo (Stopped Sink) c old new before now = (new ≡ (step old c).0) × WroteLess before now (text (step old c).1)
-CameTo (Stopped Flash) c old new before now = WrotePart before now (text (step old c).1)
+-- nothing was done: the machine does not refuse the command, which asks for an extent of so many pages over the files
+pub record LacksSpace (asks : ℕ → ℕ → ℕ → ℕ → Type 0) (files : Table) (need : ℕ) (c : Command) (old new : Database) (before now : Option (List ℕ)) : Type 0 where
+  pub database : new ≡ old
+  pub silent : now ≡ before
+  pub allowed : IsOk (outcome old c)
+  pub wants : WantsOver asks files old c need
+  pub most : need ≤ most old c
 
--- the commands in front were carried out, and the next came to a halt
-pub record CameToHalt {V : Type 0} (halted : Halted) (commands : List Command) (old new : Seen V) (before now : Option (List ℕ)) : Type 0 where
+-- what the command came to at which the list came to a halt, over the files that it left
+abbrev pub CameTo : (ℕ → ℕ → ℕ → ℕ → Type 0) → Table → Halt → Command → (old new : Database) → (before now : Option (List ℕ)) → Type 0
+CameTo asks files (NoSpace need) c old new before now = LacksSpace asks files need c old new before now
+CameTo asks files (Stopped Sink) c old new before now = (new ≡ (step old c).0) × WroteLess before now (text (step old c).1)
+CameTo asks files (Stopped Flash) c old new before now = WrotePart before now (text (step old c).1)
+
+-- the commands in front were carried out, and the next came to a halt; unless files failed, the cursors stand behind it
+pub record CameToHalt {V : Type 0} (asks : ℕ → ℕ → ℕ → ℕ → Type 0) (files : Table) (halted : Halted) (commands : List Command) (old new : Seen V)
+    (before now : Option (List ℕ)) : Type 0 where
   pub command : Command
   pub there : slice_get commands halted.done ≡ Some command
-  pub came : CameTo halted.halt command (after_all old.database (take halted.done commands)) new.database
+  pub came : CameTo asks files halted.halt command (after_all old.database (take halted.done commands)) new.database
       (append_known before (texts old.database (take halted.done commands))) now
+  pub aheads : new.lost ≡ false → new.aheads ≡ aheads_after_all old.database old.aheads (take (halted.done + 1) commands)
 
 -- P of the pages, where there was no space
 abbrev pub OnNoSpace : Result ⊤ Halted → (ℕ → Type 0) → Type 0

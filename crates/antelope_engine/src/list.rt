@@ -38,7 +38,8 @@ pub struct Halted {
 /// # Errors
 ///
 /// The list comes to a halt at the first command for which there is no space, or at which the
-/// session is stopped.
+/// session is stopped. Where there is no space the machine does not refuse the command, nothing of
+/// it is done or written, and it asks for the extent over the files as they are then.
 pub fn exec_all<V: Files, K: Sink>(
     session: &mut Session<V>,
     commands: &[Command],
@@ -48,8 +49,10 @@ pub fn exec_all<V: Files, K: Sink>(
     requires commands { AllByRecursion IsWellFormed commands.now }
     ensures done { IsTrue (V.state session.old.files).tells → OnOk result
         (CarriedOut commands.now session.old session.new (K.held out.old) (K.held out.new)) }
-    ensures halted { IsTrue (V.state session.old.files).tells → IfErr result (λ halted.
-        CameToHalt halted commands.now session.old session.new (K.held out.old) (K.held out.new)) }
+    ensures halted { let after = session.new in let files = (V.state after.files).files in
+        IsTrue (V.state session.old.files).tells → IfErr result (λ halted.
+        CameToHalt (V.asks after.files) files halted commands.now session.old after
+        (K.held out.old) (K.held out.new)) }
     ensures lacks { OnNoSpace result (λ need. V.lacks session.new.files need) }
     ensures goes_on { OnNoSpace result (λ _. session.new.stopped ≡ false) }
     ensures running { OnOk result (session.new.stopped ≡ false) }

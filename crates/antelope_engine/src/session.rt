@@ -104,7 +104,14 @@ impl<V: Files> Session<V> {
         }
     }
 
-    /// Carries out a command and writes its reply.
+    /// Carries out a command and writes its reply. Where there is no space for it, which is no
+    /// error, nothing is changed or written.
+    ///
+    /// # Errors
+    ///
+    /// `Flash` comes only where a file failed: a part of the reply is written, and no more is said
+    /// of the files. `Sink` comes only where the reply could not be written to its end: the command
+    /// is carried out. After either the session is stopped.
     pub fn exec<K: Sink>(&mut self, command: &Command, out: &mut K) -> Result<Step, Stop>
         requires running { self.old.stopped ≡ false }
         requires command { IsWellFormed command.now }

@@ -1,7 +1,3 @@
-pub mod Cutting
-pub mod Judging
-pub mod Known
-pub mod Parts
-pub mod Pieces
-pub mod Raws
-pub mod Runs
+pub mod Bare
+pub mod Numbers
+pub mod Opened

@@ -1,7 +1,5 @@
-pub mod Output
-pub mod Pieces
-pub mod Raw
-pub mod Runs
-pub mod Script
-pub mod Top
+pub mod Does
+pub mod HandedBack
+pub mod Left
+pub mod Statuses
 pub mod Words

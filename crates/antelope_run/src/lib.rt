@@ -1,21 +1,10 @@
-//! Carries out a script over the relation `log` on a raw flash.
+//! A run of the program: what its words ask for, over an image of a flash.
 #![tactic(auto)]
 
-mod call;
-mod judged;
-mod line;
-mod log;
-mod piece;
-mod raw;
+mod opening;
 mod reading;
-mod replies;
-mod run;
-mod statement;
-mod stop;
 mod words;
 
-pub use call::{form, top};
+pub use opening::{OpenError, close, open};
+pub use reading::form;
 pub use words::Form;
-
-#[cfg(test)]
-mod tests;

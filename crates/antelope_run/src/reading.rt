@@ -1,87 +1,102 @@
-ghost use Rattle.std.specs.Prelude.{◌≡◌, ◌≤◌, ℕ, List, Result, length, codes, nat_eq};
-ghost use Rattle.std.specs.Cmp.Lexicographic.{pointwise};
-ghost use Rattle.db_model.specs.Reading.{IsReader};
-ghost use Rattle.db_model.specs.declared.commands.Command.{Command as AnyCommand};
-ghost use Rattle.db_model.specs.declared.refusals.Refusal.{Refusal as AnyRefusal};
-ghost use Rattle.antelope_run.specs.Script.{asked, asked_by, inserted, selected, is_value_alone};
+//! How the words that the program is called with are read.
 
-use crate::statement::Statement;
-use aql_parse::{parse, readings_are_unique};
-use db_model::{Command, Ident, Query, Refusal, Value};
+#![tactic(auto)]
 
-// What the bytes of a command ask for.
-pub fn read_statement(bytes: &[u8]) -> Statement
-    requires { length bytes.now ≤ 512 }
-    ensures { (read : List ℕ → Result AnyCommand AnyRefusal) → IsReader read
-        → result ≡ asked_by (read bytes.now) }
+ghost use Rattle.std.specs.Prelude.{◌≡◌, ◌≤◌, IfSome, IsTrue};
+ghost use Rattle.std.specs.Char.{is_ascii_digit};
+ghost use Rattle.std.specs.List.{list_all};
+ghost use Rattle.antelope_run.specs.Words.{HasFewCommands, alone, at_most, form_of, generated_by, number_in, planned_by, value_from, with_one, with_two};
+
+use crate::words::Form;
+
+/// What the words behind the program's name ask for. `None` comes exactly where they are none of the forms.
+pub fn form(words: &[String]) -> Option<Form>
+    ensures form { result ≡ form_of words.now }
+    ensures commands { IfSome result (λ form. HasFewCommands form) }
 {
-    readings_are_unique();
-    let mut command = Command::FetchCursor { number: 0 };
-    match parse(bytes, &mut command) {
-        Ok(()) => asked(&command),
-        Err(refusal) => Statement::Refused(refusal),
+    match words {
+        [name, _] => alone(name.as_bytes()),
+        [name, _, word] => with_one(name.as_bytes(), word.as_bytes()),
+        [name, _, one, other] => with_two(name.as_bytes(), one.as_bytes(), other.as_bytes()),
+        _ => None,
     }
 }
 
-// What a command asks for.
-fn asked(command: &Command) -> Statement
-    ensures { result ≡ asked command.now }
+fn alone(name: &[u8]) -> Option<Form>
+    ensures form { result ≡ alone name.now }
+    ensures commands { IfSome result (λ form. HasFewCommands form) }
 {
-    match command {
-        Command::Insert { values, relation } => inserted(values.as_slice(), relation),
-        Command::Ask(query) => selected(query),
-        _ => Statement::Refused(Refusal::Unbuilt),
-    }
+    if name == b"dump".as_slice() { Some(Form::Dump) } else { None }
 }
 
-// What an INSERT asks for.
-fn inserted(values: &[Value], relation: &Ident) -> Statement
-    ensures { result ≡ inserted values.now relation.now }
+fn with_one(name: &[u8], word: &[u8]) -> Option<Form>
+    ensures form { result ≡ with_one name.now word.now }
+    ensures commands { IfSome result (λ form. HasFewCommands form) }
 {
-    match values {
-        [Value::Number(value)] => {
-            if is_log(relation) && -2147483648 <= *value && *value <= 2147483647 {
-                Statement::Insert(*value as i32)
-            } else {
-                Statement::Refused(Refusal::Unbuilt)
-            }
+    if name == b"run".as_slice() {
+        return Some(Form::Run);
+    }
+    if name == b"serve".as_slice() {
+        return Some(Form::Serve);
+    }
+    if name == b"plan".as_slice() { planned(word) } else { None }
+}
+
+fn planned(rows: &[u8]) -> Option<Form>
+    ensures form { result ≡ planned_by rows.now }
+    ensures commands { IfSome result (λ form. HasFewCommands form) }
+{
+    let rows = number(rows, 5, 0, 32_767)?;
+    Some(Form::Plan { rows: rows as u16 })
+}
+
+fn with_two(name: &[u8], one: &[u8], other: &[u8]) -> Option<Form>
+    ensures form { result ≡ with_two name.now one.now other.now }
+    ensures commands { IfSome result (λ form. HasFewCommands form) }
+{
+    if name == b"gen".as_slice() { generated(one, other) } else { None }
+}
+
+fn generated(seed: &[u8], count: &[u8]) -> Option<Form>
+    ensures form { result ≡ generated_by seed.now count.now }
+    ensures commands { IfSome result (λ form. HasFewCommands form) }
+{
+    let seed = number(seed, 10, 0, u32::MAX)?;
+    let count = number(count, 6, 1, 100_000)?;
+    Some(Form::Gen { seed, count })
+}
+
+// A number of 1 to so many digits, in this range.
+fn number(word: &[u8], digits: usize, least: u32, most: u32) -> Option<u32>
+    ensures number { result ≡ number_in digits least most word.now }
+    ensures within { IfSome result (λ n. n ≤ most) }
+{
+    if word.is_empty() || word.len() > digits || !is_digits(word) {
+        return None;
+    }
+    let value = value_within(word, most)?;
+    if value < least { None } else { Some(value) }
+}
+
+fn is_digits(word: &[u8]) -> bool
+    ensures { result ≡ list_all is_ascii_digit word.now }
+{
+    word.iter().all(|byte| byte.is_ascii_digit())
+}
+
+// The number that digits write, where it is at most this one.
+fn value_within(word: &[u8], most: u32) -> Option<u32>
+    requires digits { IsTrue (list_all is_ascii_digit word.now) }
+    ensures number { result ≡ at_most most (value_from 0 word.now) }
+    ensures within { IfSome result (λ n. n ≤ most) }
+{
+    let mut value = 0u32;
+    for byte in word {
+        let next = 10 * u64::from(value) + u64::from(*byte - b'0');
+        if next > u64::from(most) {
+            return None;
         }
-        _ => Statement::Refused(Refusal::Unbuilt),
+        value = next as u32;
     }
-}
-
-// What a query asks for.
-fn selected(query: &Query) -> Statement
-    ensures { result ≡ selected query.now }
-{
-    match query {
-        Query::Select {
-            list,
-            relation,
-            condition,
-        } => {
-            if is_log(relation) && is_value_alone(list.as_slice()) && condition.is_empty() {
-                Statement::Select
-            } else {
-                Statement::Refused(Refusal::Unbuilt)
-            }
-        }
-        Query::Join { .. } => Statement::Refused(Refusal::Unbuilt),
-    }
-}
-
-fn is_log(relation: &Ident) -> bool
-    ensures { result ≡ pointwise nat_eq relation.now (codes "log") }
-{
-    relation.bytes() == b"log".as_slice()
-}
-
-// Whether a list has the name of the only attribute and no other.
-fn is_value_alone(list: &[Ident]) -> bool
-    ensures { result ≡ is_value_alone list.now }
-{
-    match list {
-        [name] => name.bytes() == b"v".as_slice(),
-        _ => false,
-    }
+    Some(value)
 }

@@ -1,6 +1,16 @@
-/// What the words of the program ask for.
+/// What the words of the program ask for. IMAGE, SCRIPT and INPUT are any words.
 #[derive(Clone, Copy, PartialEq, Eq, Debug)]
 pub enum Form {
     /// `run IMAGE SCRIPT`: to carry out a script on an image.
     Run,
+    /// `gen IMAGE SEED COUNT`: to carry out so many generated commands. SEED has 1 to 10 digits and a
+    /// value from 0 to 4,294,967,295, COUNT 1 to 6 digits and a value from 1 to 100,000.
+    Gen { seed: u32, count: u32 },
+    /// `plan IMAGE ROWS`: to tell how many sectors are enough for so many further rows in each relation.
+    /// ROWS has 1 to 5 digits and a value from 0 to 32,767.
+    Plan { rows: u16 },
+    /// `serve IMAGE INPUT`: to answer the frames of up to four clients on one line.
+    Serve,
+    /// `dump IMAGE`: to write the database as a script.
+    Dump,
 }

@@ -4,9 +4,9 @@ use Rattle.db_model.specs.declared.commands.Command.{Command}
 use Rattle.db_model.specs.Step.{Reads}
 use Rattle.antelope_engine.specs.declared.list.Halt.TheVariants.{NoSpace, Stopped}
 use Rattle.antelope_engine.specs.declared.list.Halted.{Halted}
-use Rattle.antelope_engine.specs.Lists.{CarriedOut, HasListCause, costs_of}
+use Rattle.antelope_engine.specs.Lists.{CarriedOut, HasListCause, aheads_after_all, costs_of}
 use Rattle.antelope_engine.specs.Seen.{Seen}
-use Rattle.antelope_engine.proofs.Carried.{all_at, carried_more, carried_none, came_to, cause_halted, cause_space, cost_more, costs_front, costs_within, next_taken, ok_stops, stopped_came, there_at}
+use Rattle.antelope_engine.proofs.Carried.{aheads_more, all_at, carried_more, carried_none, came_to, cause_halted, cause_space, cost_more, costs_front, costs_within, next_taken, ok_stops, stopped_came, there_at}
 use Rattle.antelope_engine.proofs.list.exec_all.Goals as goal
 
 pub loop-done-init : goal.loop-done-init
@@ -55,13 +55,19 @@ pub returns-in-Ok-NoSpace-clause-halted : goal.returns-in-Ok-NoSpace-clause-halt
 returns-in-Ok-NoSpace-clause-halted g c = λ told.
     let inv = c.loop-done.invariant in
     let now : IsTrue (g.V.Files.state c.loop-done.session.files).tells = subst (λ (b : Bool). IsTrue b) (sym inv.tells) told in
-    let done = rw c.in-Ok-NoSpace.field-0-is at c.in-Ok-NoSpace.ensures.done in
+    let does = (rw c.in-Ok-NoSpace.field-0-is at c.in-Ok-NoSpace.ensures.done) now in
+    let wants = rw c.in-Ok-NoSpace.field-0-is at c.in-Ok-NoSpace.ensures.wants in
     let most = rw c.in-Ok-NoSpace.field-0-is at c.in-Ok-NoSpace.ensures.most in
+    let command = c.index-commands-done.result in
+    let next = next_taken c.args.commands.now c.loop-done.done command c.loop-done-test.true c.index-commands-done.is in
     record {
-      command = c.index-commands-done.result;
-      there = there_at c.args.commands.now c.loop-done.done c.index-commands-done.result c.loop-done-test.true c.index-commands-done.is;
-      came = came_to _ c.args.session.now c.loop-done.session _ _ (inv.carried told) (NoSpace c.in-Ok-NoSpace.need) c.index-commands-done.result c.exec.new.self.database
-          (g.K.Sink.held c.exec.new.out) ((done now).0, (done now).1, most now);
+      command = command;
+      there = there_at c.args.commands.now c.loop-done.done command c.loop-done-test.true c.index-commands-done.is;
+      came = came_to _ c.args.session.now c.loop-done.session _ _ (inv.carried told) (g.V.Files.asks c.exec.new.self.files) (g.V.Files.state c.exec.new.self.files).files
+          (NoSpace c.in-Ok-NoSpace.need) command c.exec.new.self.database (g.K.Sink.held c.exec.new.out)
+          (record { database = does.0; silent = does.1; allowed = does.2; wants = wants now; most = most now });
+      aheads = λ kept. aheads_more _ c.args.session.now c.loop-done.session _ _ (inv.carried told) command c.exec.new.self.aheads (c.in-Ok-NoSpace.ensures.aheads now kept)
+          ∙ ap (λ (front : List Command). aheads_after_all c.args.session.now.database c.args.session.now.aheads front) (sym next);
     }
 
 pub returns-in-Ok-NoSpace-clause-tells : goal.returns-in-Ok-NoSpace-clause-tells
@@ -88,12 +94,18 @@ pub returns-in-Err-clause-halted : goal.returns-in-Err-clause-halted
 returns-in-Err-clause-halted g c = λ told.
     let inv = c.loop-done.invariant in
     let now : IsTrue (g.V.Files.state c.loop-done.session.files).tells = subst (λ (b : Bool). IsTrue b) (sym inv.tells) told in
+    let command = c.index-commands-done.result in
+    let next = next_taken c.args.commands.now c.loop-done.done command c.loop-done-test.true c.index-commands-done.is in
+    let asks = g.V.Files.asks c.exec.new.self.files in
+    let files = (g.V.Files.state c.exec.new.self.files).files in
     record {
-      command = c.index-commands-done.result;
-      there = there_at c.args.commands.now c.loop-done.done c.index-commands-done.result c.loop-done-test.true c.index-commands-done.is;
-      came = came_to _ c.args.session.now c.loop-done.session _ _ (inv.carried told) (Stopped c.in-Err.stop) c.index-commands-done.result c.exec.new.self.database
+      command = command;
+      there = there_at c.args.commands.now c.loop-done.done command c.loop-done-test.true c.index-commands-done.is;
+      came = came_to _ c.args.session.now c.loop-done.session _ _ (inv.carried told) asks files (Stopped c.in-Err.stop) command c.exec.new.self.database
           (g.K.Sink.held c.exec.new.out)
-          (stopped_came c.in-Err.stop c.index-commands-done.result c.loop-done.session.database c.exec.new.self.database _ _ (c.in-Err.ensures.sink now) (c.in-Err.ensures.flash now));
+          (stopped_came asks files c.in-Err.stop command c.loop-done.session.database c.exec.new.self.database _ _ (c.in-Err.ensures.sink now) (c.in-Err.ensures.flash now));
+      aheads = λ kept. aheads_more _ c.args.session.now c.loop-done.session _ _ (inv.carried told) command c.exec.new.self.aheads (c.in-Err.ensures.aheads now kept)
+          ∙ ap (λ (front : List Command). aheads_after_all c.args.session.now.database c.args.session.now.aheads front) (sym next);
     }
 
 pub returns-in-Err-clause-tells : goal.returns-in-Err-clause-tells

@@ -1,0 +1,195 @@
+-- Entries that are carried out one after the other.
+use Rattle.std.proofs.Common.{◌≡◌, ◌⊎◌, inl, inr, ℕ, ◌+◌, ◌≤◌, List, [], ◌∷◌, ◌++◌, Option, Some, None, refl, ap, sym, subst, ◌∙◌, arith, append_assoc}
+use Rattle.std.specs.Io.KnownBytes.{append_known}
+use Rattle.std.specs.List.{AllByRecursion}
+use Rattle.std.proofs.lemmas.List.{append-nil}
+use Rattle.db_model.specs.declared.commands.Command.{Command}
+use Rattle.db_model.specs.Ahead.{Aheads, is_refused}
+use Rattle.db_model.specs.Database.{Database}
+use Rattle.db_model.specs.ReplyText.{text}
+use Rattle.db_model.specs.Step.{step}
+use Rattle.intake.specs.declared.halt.Halt.{Halt}
+use Rattle.intake.specs.declared.halt.Halt.TheVariants.{Space, Flash, Sink}
+use Rattle.reply_text.specs.WroteLess.{WroteLess}
+use Rattle.run_model.specs.Talk.{OnlyReads, Talk, after, costs, last, last_aheads, output}
+use Rattle.run_model.proofs.Talks.{costs-append, last-append, last_aheads-append, output-append}
+use Rattle.session_model.specs.Steps.{WrotePart}
+use Rattle.answering.specs.Carried.{Carried, FoundNone, HaltsIn, SaidLess, SaidNone, Standing, Stopped, StopsBy, no_space}
+
+-- ---- texts
+
+pub known_twice : (held : Option (List ℕ)) (xs ys : List ℕ) → append_known (append_known held xs) ys ≡ append_known held (xs ++ ys)
+known_twice None xs ys = refl
+known_twice (Some bytes) xs ys = ap (λ t. Some t) (append_assoc bytes xs ys)
+
+pub known_none : (held : Option (List ℕ)) → held ≡ append_known held []
+known_none None = refl
+known_none (Some bytes) = ap (λ t. Some t) (sym (append-nil bytes))
+
+known_more : (a b c : Option (List ℕ)) (xs ys all : List ℕ) → b ≡ append_known a xs → c ≡ append_known b ys → all ≡ xs ++ ys → c ≡ append_known a all
+known_more a b c xs ys all e f g =
+    f ∙ ap (λ h. append_known h ys) e ∙ known_twice a xs ys ∙ ap (append_known a) (sym g)
+
+-- ---- entries that only read
+
+all_front : {X : Type 0} (P : X → Type 0) (xs ys : List X) → AllByRecursion P (xs ++ ys) → AllByRecursion P xs
+all_front P [] ys h = tt
+all_front P (x ∷ xs) ys h = (h.0, all_front P xs ys h.1)
+
+all_behind : {X : Type 0} (P : X → Type 0) (xs ys : List X) → AllByRecursion P (xs ++ ys) → AllByRecursion P ys
+all_behind P [] ys h = h
+all_behind P (x ∷ xs) ys h = all_behind P xs ys h.1
+
+module _ {E : Type 0} (talk : Talk E) where
+  pub carried_none : (s : Standing) → Carried talk [] s s
+  carried_none s = record {
+    tells = refl;
+    database = refl;
+    held = known_none s.held;
+    aheads = refl;
+    reads = λ all. omega arith;
+  }
+
+  reads_then : (es fs : List E) (a b : Standing) → Carried talk es a b → (reads : ℕ)
+      → (AllByRecursion (OnlyReads talk) fs → reads ≤ b.reads + costs talk b.database b.aheads fs)
+      → AllByRecursion (OnlyReads talk) (es ++ fs) → reads ≤ a.reads + costs talk a.database a.aheads (es ++ fs)
+  reads_then es fs a b x reads y all =
+      let left = x.reads (all_front (OnlyReads talk) es fs all) in
+      let right = y (all_behind (OnlyReads talk) es fs all) in
+      let same : costs talk b.database b.aheads fs ≡ costs talk (last talk a.database es) (last_aheads talk a.database a.aheads es) fs =
+      ap (λ (db : Database). costs talk db b.aheads fs) x.database ∙ ap (λ (aheads : Aheads). costs talk (last talk a.database es) aheads fs) x.aheads in
+      let sum = costs-append talk a.database a.aheads es fs in
+      omega (arith, left, right, same, sum)
+
+  pub carried_then : (es fs : List E) (a b c : Standing) → Carried talk es a b → Carried talk fs b c → Carried talk (es ++ fs) a c
+  carried_then es fs a b c x y = record {
+    tells = y.tells ∙ x.tells;
+    database = y.database ∙ ap (λ (db : Database). last talk db fs) x.database ∙ sym (last-append talk a.database es fs);
+    held = known_more a.held b.held c.held (output talk a.database es) (output talk (last talk a.database es) fs) (output talk a.database (es ++ fs)) x.held
+        (y.held ∙ ap (λ (db : Database). append_known b.held (output talk db fs)) x.database) (output-append talk a.database es fs);
+    aheads = y.aheads ∙ ap (λ (db : Database). last_aheads talk db b.aheads fs) x.database
+        ∙ ap (λ (aheads : Aheads). last_aheads talk (last talk a.database es) aheads fs) x.aheads
+        ∙ sym (last_aheads-append talk a.database a.aheads es fs);
+    reads = reads_then es fs a b x c.reads y.reads;
+  }
+
+  -- ---- further entries in front
+
+  module _ (Lacks : Command → ℕ → Type 0) (es fs : List E) (a b c : Standing) (x : Carried talk es a b) where
+    last_behind : (front : List E) → last talk b.database front ≡ last talk a.database (es ++ front)
+    last_behind front = ap (λ (db : Database). last talk db front) x.database ∙ sym (last-append talk a.database es front)
+
+    output_behind : (front : List E) (before : Option (List ℕ)) → before ≡ append_known b.held (output talk b.database front)
+        → before ≡ append_known a.held (output talk a.database (es ++ front))
+    output_behind front before e =
+        known_more a.held b.held before (output talk a.database es) (output talk b.database front) (output talk a.database (es ++ front)) x.held e
+        (output-append talk a.database es front ∙ ap (λ (db : Database). output talk a.database es ++ output talk db front) (sym x.database))
+
+    split_behind : (front rest : List E) (entry : E) → fs ≡ front ++ entry ∷ rest → es ++ fs ≡ (es ++ front) ++ entry ∷ rest
+    split_behind front rest entry e = ap (λ (gs : List E). es ++ gs) e ∙ sym (append_assoc es front (entry ∷ rest))
+
+    stopped_behind : Stopped talk Lacks fs b c → Stopped talk Lacks (es ++ fs) a c
+    stopped_behind s = record {
+      front = es ++ s.front;
+      entry = s.entry;
+      rest = s.rest;
+      split = split_behind s.front s.rest s.entry s.split;
+      command = s.command;
+      n = s.n;
+      asks = s.asks;
+      tells = s.tells ∙ x.tells;
+      database = s.database ∙ last_behind s.front;
+      accepted = ap (λ (db : Database). is_refused ((step db s.command).1)) (sym (last_behind s.front)) ∙ s.accepted;
+      lacks = s.lacks;
+    }
+
+    stops_later : (halt : Halt) → StopsBy talk Lacks fs b c halt → StopsBy talk Lacks (es ++ fs) a c halt
+    unfolding stopped_behind
+    stops_later Space h = record {
+      stopped = stopped_behind h.stopped;
+      held = known_more a.held (append_known b.held (output talk b.database h.stopped.front)) c.held (output talk a.database (es ++ h.stopped.front)) (no_space talk h.stopped.entry h.stopped.n)
+          (output talk a.database (es ++ h.stopped.front) ++ no_space talk h.stopped.entry h.stopped.n)
+          (output_behind h.stopped.front (append_known b.held (output talk b.database h.stopped.front)) refl)
+          (h.held ∙ sym (known_twice b.held (output talk b.database h.stopped.front) (no_space talk h.stopped.entry h.stopped.n))) refl;
+    }
+    stops_later Sink (inl h) = inl (record {
+      front = es ++ h.front;
+      entry = h.entry;
+      rest = h.rest;
+      split = split_behind h.front h.rest h.entry h.split;
+      tells = h.tells ∙ x.tells;
+      before = h.before;
+      front_is = output_behind h.front h.before h.front_is;
+      held = subst (λ (db : Database). WroteLess h.before c.held (talk.sent h.entry (text ((after talk db h.entry).1)))) (last_behind h.front) h.held;
+      database = h.database ∙ last_behind (h.front ++ h.entry ∷ [])
+          ∙ ap (last talk a.database) (sym (append_assoc es h.front (h.entry ∷ [])));
+    })
+    stops_later Sink (inr h) = inr (record {
+      stopped = stopped_behind h.stopped;
+      before = h.before;
+      front_is = output_behind h.stopped.front h.before h.front_is;
+      held = h.held;
+    })
+    stops_later Flash h = record {
+      written = output talk a.database es ++ h.written;
+      left = h.left;
+      whole = output-append talk a.database es fs ∙ ap (λ (db : Database). output talk a.database es ++ output talk db fs) (sym x.database)
+          ∙ ap (λ (bytes : List ℕ). output talk a.database es ++ bytes) h.whole ∙ sym (append_assoc (output talk a.database es) h.written h.left);
+      held = known_more a.held b.held c.held (output talk a.database es) h.written (output talk a.database es ++ h.written) x.held h.held refl;
+    }
+
+    pub halts_later : (halt : Halt) → HaltsIn talk Lacks fs b c halt → HaltsIn talk Lacks (es ++ fs) a c halt
+    halts_later halt h = record { stops = stops_later halt h.stops; reads = reads_then es fs a b x c.reads h.reads }
+
+  -- ---- further entries behind
+
+  module _ (Lacks : Command → ℕ → Type 0) (es fs : List E) (a b : Standing) where
+    split_before : (front rest : List E) (entry : E) → es ≡ front ++ entry ∷ rest → es ++ fs ≡ front ++ entry ∷ (rest ++ fs)
+    split_before front rest entry e = ap (λ (gs : List E). gs ++ fs) e ∙ append_assoc front (entry ∷ rest) fs
+
+    stopped_before : Stopped talk Lacks es a b → Stopped talk Lacks (es ++ fs) a b
+    stopped_before s = record {
+      front = s.front;
+      entry = s.entry;
+      rest = s.rest ++ fs;
+      split = split_before s.front s.rest s.entry s.split;
+      command = s.command;
+      n = s.n;
+      asks = s.asks;
+      tells = s.tells;
+      database = s.database;
+      accepted = s.accepted;
+      lacks = s.lacks;
+    }
+
+    stops_sooner : (halt : Halt) → StopsBy talk Lacks es a b halt → StopsBy talk Lacks (es ++ fs) a b halt
+    unfolding stopped_before
+    stops_sooner Space h = record { stopped = stopped_before h.stopped; held = h.held }
+    stops_sooner Sink (inl h) = inl (record {
+      front = h.front;
+      entry = h.entry;
+      rest = h.rest ++ fs;
+      split = split_before h.front h.rest h.entry h.split;
+      tells = h.tells;
+      before = h.before;
+      front_is = h.front_is;
+      held = h.held;
+      database = h.database;
+    })
+    stops_sooner Sink (inr h) = inr (record { stopped = stopped_before h.stopped; before = h.before; front_is = h.front_is; held = h.held })
+    stops_sooner Flash h = record {
+      written = h.written;
+      left = h.left ++ output talk (last talk a.database es) fs;
+      whole = output-append talk a.database es fs ∙ ap (λ (bytes : List ℕ). bytes ++ output talk (last talk a.database es) fs) h.whole
+          ∙ append_assoc h.written h.left (output talk (last talk a.database es) fs);
+      held = h.held;
+    }
+
+    pub halts_sooner : (halt : Halt) → HaltsIn talk Lacks es a b halt → HaltsIn talk Lacks (es ++ fs) a b halt
+    halts_sooner halt h = record {
+      stops = stops_sooner halt h.stops;
+      reads = λ all.
+          let few = h.reads (all_front (OnlyReads talk) es fs all) in
+          let sum = costs-append talk a.database a.aheads es fs in
+          omega (arith, few, sum);
+    }

@@ -1,0 +1,114 @@
+-- What a session makes of the entries of an input.
+use Rattle.std.specs.Prelude.{◌≡◌, ◌⊎◌, ⊤, ℕ, ◌+◌, ◌≤◌, Bool, false, List, [], ◌∷◌, ◌++◌, length, Option, IsErrOf, Result}
+use Rattle.std.specs.Io.KnownBytes.{append_known}
+use Rattle.std.specs.List.{AllByRecursion}
+use Rattle.afl_base.specs.Causes.{Rose}
+use Rattle.afl_base.specs.Files.{State}
+use Rattle.antelope_engine.specs.Seen.{Seen}
+use Rattle.db_model.specs.declared.commands.Command.{Command}
+use Rattle.db_model.specs.declared.refusals.Refusal.TheVariants as no
+use Rattle.db_model.specs.Ahead.{Aheads, is_refused}
+use Rattle.db_model.specs.Database.{Database}
+use Rattle.db_model.specs.ReplyText.{refusal_text, text}
+use Rattle.db_model.specs.Step.{step}
+use Rattle.intake.specs.declared.halt.Halt.{Halt}
+use Rattle.intake.specs.declared.halt.Halt.TheVariants.{Space, Flash, Sink}
+use Rattle.reply_text.specs.WroteLess.{WroteLess}
+use Rattle.run_model.specs.Talk.{Asks, OnlyReads, Talk, after, costs, last, last_aheads, output}
+use Rattle.session_model.specs.Steps.{WrotePart}
+use Rattle.session_model.specs.Wanted.{WantsOver}
+use Rattle.space_model.specs.Enough.{most}
+
+-- how a run stands: the database, what its cursors have ahead, what the sink holds, and the count of reads
+pub record Standing : Type 0 where
+  pub tells : Bool
+  pub database : Database
+  pub aheads : Aheads
+  pub held : Option (List ℕ)
+  pub reads : ℕ
+
+-- what is written where an entry finds no space
+abbrev pub no_space : {E : Type 0} → Talk E → E → ℕ → List ℕ
+no_space talk entry n = talk.sent entry (refusal_text (no.Space n))
+
+module _ {E : Type 0} (talk : Talk E) where
+  -- the entries were carried out, and their replies were written
+  pub record Carried (entries : List E) (old new : Standing) : Type 0 where
+    pub tells : new.tells ≡ old.tells
+    pub database : new.database ≡ last talk old.database entries
+    pub held : new.held ≡ append_known old.held (output talk old.database entries)
+    pub aheads : new.aheads ≡ last_aheads talk old.database old.aheads entries
+    pub reads : AllByRecursion (OnlyReads talk) entries → new.reads ≤ old.reads + costs talk old.database old.aheads entries
+
+  -- those in front were carried out, and the next is a command that is not refused and lacks n pages
+  pub record Stopped (Lacks : Command → ℕ → Type 0) (entries : List E) (old new : Standing) : Type 0 where
+    pub front : List E
+    pub entry : E
+    pub rest : List E
+    pub split : entries ≡ front ++ entry ∷ rest
+    pub command : Command
+    pub n : ℕ
+    pub asks : Asks talk entry command
+    pub tells : new.tells ≡ old.tells
+    pub database : new.database ≡ last talk old.database front
+    pub accepted : is_refused ((step (last talk old.database front) command).1) ≡ false
+    pub lacks : Lacks command n
+
+  -- and what was written is this
+  pub record FoundNone (Lacks : Command → ℕ → Type 0) (entries : List E) (old new : Standing) : Type 0 where
+    pub stopped : Stopped Lacks entries old new
+    pub held : new.held ≡ append_known old.held (output talk old.database stopped.front ++ no_space talk stopped.entry stopped.n)
+
+  -- or less than the last line of it
+  pub record SaidNone (Lacks : Command → ℕ → Type 0) (entries : List E) (old new : Standing) : Type 0 where
+    pub stopped : Stopped Lacks entries old new
+    pub before : Option (List ℕ)
+    pub front_is : before ≡ append_known old.held (output talk old.database stopped.front)
+    pub held : WroteLess before new.held (no_space talk stopped.entry stopped.n)
+
+  -- the entries up to one were carried out, and less than its reply was written
+  pub record SaidLess (entries : List E) (old new : Standing) : Type 0 where
+    pub front : List E
+    pub entry : E
+    pub rest : List E
+    pub split : entries ≡ front ++ entry ∷ rest
+    pub tells : new.tells ≡ old.tells
+    pub before : Option (List ℕ)
+    pub front_is : before ≡ append_known old.held (output talk old.database front)
+    pub held : WroteLess before new.held (talk.sent entry (text ((after talk (last talk old.database front) entry).1)))
+    pub database : new.database ≡ last talk old.database (front ++ entry ∷ [])
+
+  -- why no more of these entries was carried out
+  abbrev pub StopsBy : (Command → ℕ → Type 0) → List E → Standing → Standing → Halt → Type 0
+  StopsBy Lacks entries old new Space = FoundNone Lacks entries old new
+  StopsBy Lacks entries old new Sink = SaidLess entries old new ⊎ SaidNone Lacks entries old new
+  StopsBy Lacks entries old new Flash = WrotePart old.held new.held (output talk old.database entries)
+
+  -- it went no further within these entries
+  pub record HaltsIn (Lacks : Command → ℕ → Type 0) (entries : List E) (old new : Standing) (halt : Halt) : Type 0 where
+    pub stops : StopsBy Lacks entries old new halt
+    pub reads : AllByRecursion (OnlyReads talk) entries → new.reads ≤ old.reads + costs talk old.database old.aheads entries
+
+-- ---- a session and a sink
+
+abbrev pub standing_of : {V : Type 0} → (V → State) → (V → ℕ) → Seen V → Option (List ℕ) → Standing
+standing_of state reads session held = record {
+  tells = (state session.files).tells;
+  database = session.database;
+  aheads = session.aheads;
+  held = held;
+  reads = reads session.files;
+}
+
+-- a command wants n pages of the session's files, no more than are counted for it, and none can be had
+pub record LacksPages {V : Type 0} (state : V → State) (asks : V → ℕ → ℕ → ℕ → ℕ → Type 0) (lacks : V → ℕ → Type 0) (session : Seen V) (command : Command) (n : ℕ) : Type 0 where
+  pub wants : WantsOver (asks session.files) (state session.files).files session.database command n
+  pub few : n ≤ most session.database command
+  pub none : lacks session.files n
+
+-- what failed has counted it, and no count falls
+pub record HasHaltCause {T : Type 0} (files files_now replies replies_now : ℕ) (result : Result T Halt) : Type 0 where
+  pub files_later : files ≤ files_now
+  pub replies_later : replies ≤ replies_now
+  pub flash : IsErrOf result Flash → Rose files files_now
+  pub sink : IsErrOf result Sink → Rose replies replies_now

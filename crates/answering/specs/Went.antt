@@ -1,0 +1,59 @@
+-- How far a session went through an input.
+use Rattle.std.specs.Prelude.{◌≡◌, ◌⊎◌, ⊤, ℕ, ◌≤◌, List, ◌++◌, length, Option, Result, Ok, Err}
+use Rattle.std.specs.Io.KnownBytes.{prepend_known, IsAtEnd}
+use Rattle.afl_base.specs.Causes.{Rose}
+use Rattle.db_model.specs.declared.commands.Command.{Command}
+use Rattle.intake.specs.declared.halt.Halt.{Halt}
+use Rattle.intake.specs.declared.halt.Halt.TheVariants.{Flash, Sink}
+use Rattle.intake.specs.declared.halt.Stop.{Stop}
+use Rattle.intake.specs.declared.halt.Stop.TheVariants.{Input, Long, Halted}
+use Rattle.run_model.specs.Line.{Line}
+use Rattle.run_model.specs.Talk.{Talk}
+use Rattle.answering.specs.Carried.{Carried, HaltsIn, Standing}
+
+module _ {E : Type 0} (line : Line E) (talk : Talk E) (old new : Standing) (left left_now : Option (List ℕ)) where
+  -- all bytes came, and all their entries were carried out
+  pub record TookAll : Type 0 where
+    pub bytes : List ℕ
+    pub came : left ≡ prepend_known bytes left_now
+    pub few : length bytes ≤ 16777216
+    pub at_end : IsAtEnd left_now
+    pub carried : Carried talk (line.all bytes) old new
+
+  -- some bytes came, and their whole entries were carried out
+  pub record TookSome : Type 0 where
+    pub bytes : List ℕ
+    pub came : left ≡ prepend_known bytes left_now
+    pub few : length bytes ≤ 16777216
+    pub carried : Carried talk (line.whole bytes) old new
+
+  -- the same of 16,777,216 bytes, and one more came
+  pub record TookLimit : Type 0 where
+    pub bytes : List ℕ
+    pub more : List ℕ
+    pub came : left ≡ prepend_known (bytes ++ more) left_now
+    pub many : length bytes ≡ 16777216
+    pub one : length more ≡ 1
+    pub carried : Carried talk (line.whole bytes) old new
+
+  -- it went no further within the entries of the bytes that came
+  pub record WentNoFurther (Lacks : Command → ℕ → Type 0) (halt : Halt) : Type 0 where
+    pub bytes : List ℕ
+    pub entries : List E
+    pub came : left ≡ prepend_known bytes left_now
+    pub few : length bytes ≤ 16777216
+    pub are : (entries ≡ line.whole bytes) ⊎ ((entries ≡ line.all bytes) × IsAtEnd left_now)
+    pub halts : HaltsIn talk Lacks entries old new halt
+
+  abbrev pub Went : (Command → ℕ → Type 0) → Result ⊤ Stop → Type 0
+  Went Lacks (Ok done) = TookAll
+  Went Lacks (Err Input) = TookSome
+  Went Lacks (Err Long) = TookLimit
+  Went Lacks (Err (Halted halt)) = WentNoFurther Lacks halt
+
+-- what failed has counted it, and the files' count does not fall
+pub record HasRunCause (inputs inputs_now files files_now replies replies_now : ℕ) (result : Result ⊤ Stop) : Type 0 where
+  pub files_later : files ≤ files_now
+  pub input : result ≡ Err Input → Rose inputs inputs_now
+  pub flash : result ≡ Err (Halted Flash) → Rose files files_now
+  pub sink : result ≡ Err (Halted Sink) → Rose replies replies_now

@@ -1,0 +1,10 @@
+use Rattle.std.proofs.Common.{◌≡◌, List, ℕ, take}
+use Rattle.intake.specs.Through.{out_of}
+use Rattle.intake.proofs.through.take_all.Given as goal
+
+abbrev pub invariant-loop-byte : goal.invariant-loop-byte
+invariant-loop-byte g l = record {
+  takes : g.T.Taker.Takes (l.fn.taker, out_of (g.K.Sink.held l.fn.out) (g.K.Sink.faults l.fn.out)) (take l.byte-index l.bytes)
+      (l.taker, out_of (g.K.Sink.held l.out) (g.K.Sink.faults l.out));
+  keeps : g.K.Sink.keeps l.fn.out l.out;
+}

@@ -1,0 +1,21 @@
+/// Why what takes an input went no further.
+#[derive(Clone, Copy, Debug, PartialEq, Eq)]
+pub enum Halt {
+    /// No extent of the pages that are needed could be had.
+    Space,
+    /// The flash failed.
+    Flash,
+    /// The sink failed.
+    Sink,
+}
+
+/// Why an input was not taken to its end.
+#[derive(Clone, Copy, Debug, PartialEq, Eq)]
+pub enum Stop {
+    /// The input failed.
+    Input,
+    /// It has more than 16,777,216 bytes.
+    Long,
+    /// What takes it went no further.
+    Halted(Halt),
+}

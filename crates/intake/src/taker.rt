@@ -1,0 +1,50 @@
+//! What takes the bytes of an input.
+
+#![tactic(auto)]
+
+use crate::halt::Halt;
+use afl_base::Sink;
+
+/// What takes the bytes of an input one by one, carries out what they ask for, and writes the
+/// replies.
+pub trait Taker {
+    ghost use Rattle.std.specs.Prelude.{◌≡◌, ℕ, List, [], ◌∷◌, ◌++◌, OnOk, IfErr};
+    ghost use Rattle.intake.specs.declared.halt.Halt.{Halt};
+    ghost use Rattle.intake.specs.Through.{Out, out_of};
+
+    // These bytes were taken, and what they end was carried out.
+    ghost Takes: { Self × Out → List ℕ → Self × Out → Type 0 };
+    // The input ended, and what is left of it was carried out.
+    ghost Ends: { Self × Out → Self × Out → Type 0 };
+    // It went no further within what these bytes end.
+    ghost Halts: { Self × Out → List ℕ → Self × Out → Halt → Type 0 };
+    // It went no further in what was left at the end.
+    ghost HaltsAtEnd: { Self × Out → Self × Out → Halt → Type 0 };
+
+    /// Takes the next byte.
+    fn take<K: Sink>(&mut self, out: &mut K, byte: u8) -> Result<(), Halt>
+        ensures takes { OnOk result (Takes (self.old, out_of (K.held out.old) (K.faults out.old)) (byte ∷ [])
+            (self.new, out_of (K.held out.new) (K.faults out.new))) }
+        ensures halts { IfErr result (λ halt.
+            Halts (self.old, out_of (K.held out.old) (K.faults out.old)) (byte ∷ [])
+            (self.new, out_of (K.held out.new) (K.faults out.new)) halt) }
+        ensures keeps { K.keeps out.old out.new };
+
+    /// Takes the end of the input.
+    fn end<K: Sink>(&mut self, out: &mut K) -> Result<(), Halt>
+        ensures ends { OnOk result (Ends (self.old, out_of (K.held out.old) (K.faults out.old))
+            (self.new, out_of (K.held out.new) (K.faults out.new))) }
+        ensures halts { IfErr result (λ halt.
+            HaltsAtEnd (self.old, out_of (K.held out.old) (K.faults out.old))
+            (self.new, out_of (K.held out.new) (K.faults out.new)) halt) }
+        ensures keeps { K.keeps out.old out.new };
+
+    // Bytes are taken one after the other, and where it goes no further the bytes behind that play no part.
+    ghost none: { (a : Self × Out) → Takes a [] a };
+    ghost more: { (a b c : Self × Out) (xs ys : List ℕ)
+        → Takes a xs b → Takes b ys c → Takes a (xs ++ ys) c };
+    ghost halts_behind: { (a b c : Self × Out) (xs ys : List ℕ) (halt : Halt)
+        → Takes a xs b → Halts b ys c halt → Halts a (xs ++ ys) c halt };
+    ghost halts_before: { (a b : Self × Out) (xs ys : List ℕ) (halt : Halt)
+        → Halts a xs b halt → Halts a (xs ++ ys) b halt };
+}

@@ -1,0 +1,85 @@
+//! The loop over an input.
+
+#![tactic(auto)]
+
+ghost use Rattle.std.specs.Prelude.{◌≡◌, ℕ, ◌≤◌, List, [], length, take, IfOk, OnOk, IfErr, OnErr, Err};
+ghost use Rattle.std.specs.Io.KnownBytes.{prepend_known, IsAtEnd};
+ghost use Rattle.afl_base.specs.Causes.{HasCause, Rose};
+ghost use Rattle.intake.specs.Through.{Through, out_of};
+
+use crate::halt::{Halt, Stop};
+use crate::taker::Taker;
+use afl_base::{Failed, Sink, Source};
+
+// The most bytes that an input may have.
+const LIMIT: u32 = 16_777_216;
+
+// Takes some bytes.
+fn take_all<T: Taker, K: Sink>(taker: &mut T, out: &mut K, bytes: &[u8]) -> Result<(), Halt>
+    ensures takes { OnOk result (T.Takes (taker.old, out_of (K.held out.old) (K.faults out.old)) bytes.now
+        (taker.new, out_of (K.held out.new) (K.faults out.new))) }
+    ensures halts { IfErr result (λ halt.
+        T.Halts (taker.old, out_of (K.held out.old) (K.faults out.old)) bytes.now
+        (taker.new, out_of (K.held out.new) (K.faults out.new)) halt) }
+    ensures keeps { K.keeps out.old out.new }
+{
+    for byte in bytes {
+        match taker.take(out, *byte) {
+            Ok(()) => {}
+            Err(halt) => return Err(halt),
+        }
+    }
+    Ok(())
+}
+
+// Reads into the front of the buffer.
+fn read_front<S: Source>(input: &mut S, buffer: &mut [u8], want: usize) -> Result<usize, Failed>
+    requires some { 1 ≤ want }
+    requires room { want ≤ length buffer.old }
+    ensures within { IfOk result (λ n. n ≤ want) }
+    ensures bytes { IfOk result (λ n. S.left input.old ≡ prepend_known (take n buffer.new) (S.left input.new)) }
+    ensures end { IfOk result (λ n. n ≡ 0 → IsAtEnd (S.left input.new)) }
+    ensures failed { OnErr result (S.left input.new ≡ S.left input.old) }
+    ensures cause { HasCause (S.faults input.old) (S.faults input.new) result }
+{
+    let n = input.read(&mut buffer[..want])?;
+    Ok(n)
+}
+
+/// Takes an input through to its end, in parts of at most 4,096 bytes, however it is cut into reads: at most
+/// 16,777,216 bytes, and one more to see that it has more.
+pub fn take_through<S: Source, T: Taker, K: Sink>(
+    input: &mut S,
+    taker: &mut T,
+    out: &mut K,
+) -> Result<(), Stop>
+    ensures through { Through T.Takes T.Ends T.Halts T.HaltsAtEnd result
+        (taker.old, out_of (K.held out.old) (K.faults out.old))
+        (taker.new, out_of (K.held out.new) (K.faults out.new)) (S.left input.old) (S.left input.new) }
+    ensures input { result ≡ Err Stop.Input → Rose (S.faults input.old) (S.faults input.new) }
+    ensures later { S.faults input.old ≤ S.faults input.new }
+    ensures keeps { K.keeps out.old out.new }
+{
+    let mut buffer = [0u8; 4096];
+    let mut taken = 0;
+    'reads: loop {
+        let want = (LIMIT - taken).min(4096).max(1);
+        let Ok(n) = read_front(input, &mut buffer, want as usize) else {
+            return Err(Stop::Input);
+        };
+        if n == 0 {
+            return match taker.end(out) {
+                Ok(()) => Ok(()),
+                Err(halt) => Err(Stop::Halted(halt)),
+            };
+        }
+        if taken == LIMIT {
+            return Err(Stop::Long);
+        }
+        match take_all(taker, out, &buffer[..n]) {
+            Ok(()) => {}
+            Err(halt) => return Err(Stop::Halted(halt)),
+        }
+        taken += n as u32;
+    }
+}

@@ -1,0 +1,66 @@
+-- At which entry a run was stopped is told by what was written.
+use Rattle.std.proofs.Common.{◌≡◌, ℕ, zero, suc, ◌+◌, ◌-◌, ◌<◌, ◌≤◌, ◌⊎◌, inl, inr, List, [], ◌∷◌, ◌++◌, length, Option, Some, None, Result, refl, ap, sym, subst, ◌∙◌, arith}
+use Rattle.std.specs.Io.KnownBytes.{append_known}
+use Rattle.std.proofs.lemmas.Bool.{cases_lt}
+use Rattle.std.proofs.lemmas.List.{append_assoc, length-append}
+use Rattle.db_model.specs.Database.{Database}
+use Rattle.run_model.specs.Runs.{ReplyUnsaid, World, machine_from}
+use Rattle.run_model.specs.Talk.{Talk, last, output}
+use Rattle.run_model.proofs.Talks.{output-append}
+
+head_of : {X : Type 0} → X → List X → X
+head_of d [] = d
+head_of d (x ∷ xs) = x
+
+tail_of : {X : Type 0} → List X → List X
+tail_of [] = []
+tail_of (x ∷ xs) = xs
+
+-- of two fronts of a list the shorter one and the next item begin the longer one
+record Begins {X : Type 0} (xs ys : List X) (x : X) : Type 0 where
+  mid : List X
+  is : ys ≡ (xs ++ x ∷ []) ++ mid
+
+begins : {X : Type 0} (xs ys : List X) (x y : X) (us vs : List X) → xs ++ x ∷ us ≡ ys ++ y ∷ vs → length xs < length ys → Begins xs ys x
+unfolding head_of tail_of
+begins [] [] x y us vs same less = absurd (omega (arith, less))
+begins [] (b ∷ ys) x y us vs same less = record { mid = ys; is = ap (λ h. h ∷ ys) (sym (ap (head_of x) same)) }
+begins (a ∷ xs) [] x y us vs same less = absurd (omega (arith, less))
+begins (a ∷ xs) (b ∷ ys) x y us vs same less = more (begins xs ys x y us vs (ap tail_of same) (omega (arith, less)))
+  where
+    more : Begins xs ys x → Begins (a ∷ xs) (b ∷ ys) x
+    more r = record { mid = r.mid; is = ap (λ h. h ∷ ys) (sym (ap (head_of a) same)) ∙ ap (λ t. a ∷ t) r.is }
+
+length_in : Option (List ℕ) → ℕ
+length_in None = 0
+length_in (Some bytes) = length bytes
+
+no_less : {E : Type 0} (talk : Talk E) (db : Database) (entries : List E) (old new : World) (bytes : List ℕ)
+    → old.held ≡ Some bytes → (a b : ReplyUnsaid (machine_from talk db) entries old new) → length a.front < length b.front → ⊥
+unfolding length_in
+no_less talk db entries old new bytes told a b less =
+    let r = begins a.front b.front a.entry b.entry a.rest b.rest (sym a.split ∙ b.split) less in
+    let start : Option (List ℕ) → List ℕ → ℕ = λ o t. length_in (append_known o t) in
+    let here : length (bytes ++ (output talk db a.front ++ a.written.part)) ≡ length (bytes ++ (output talk db b.front ++ b.written.part)) =
+    sym (ap (λ o. length_in (append_known o (output talk db a.front ++ a.written.part))) told) ∙ sym (ap length_in a.written.held)
+    ∙ ap length_in b.written.held ∙ ap (λ o. length_in (append_known o (output talk db b.front ++ b.written.part))) told in
+    let la = length-append bytes (output talk db a.front ++ a.written.part) in
+    let lb = length-append bytes (output talk db b.front ++ b.written.part) in
+    let pa = length-append (output talk db a.front) a.written.part in
+    let pb = length-append (output talk db b.front) b.written.part in
+    let whole : length (output talk db (a.front ++ a.entry ∷ [])) ≡ length (output talk db a.front ++ a.written.part ++ a.written.rest) = ap length a.written.split in
+    let wa = length-append (output talk db a.front ++ a.written.part) a.written.rest in
+    let longer : length (output talk db b.front) ≡ length (output talk db (a.front ++ a.entry ∷ []) ++ output talk (last talk db (a.front ++ a.entry ∷ [])) r.mid) =
+    ap (λ es. length (output talk db es)) r.is ∙ ap length (output-append talk db (a.front ++ a.entry ∷ []) r.mid) in
+    let wl = length-append (output talk db (a.front ++ a.entry ∷ [])) (output talk (last talk db (a.front ++ a.entry ∷ [])) r.mid) in
+    let some = a.written.some in
+    omega (arith, here, la, lb, pa, pb, whole, wa, longer, wl, some)
+
+pub one_place : {E : Type 0} (talk : Talk E) (db : Database) (entries : List E) (old new : World) (bytes : List ℕ)
+    → old.held ≡ Some bytes → (a b : ReplyUnsaid (machine_from talk db) entries old new) → length a.front ≡ length b.front
+one_place talk db entries old new bytes told a b = by_left (cases_lt (length a.front) (length b.front)) (cases_lt (length b.front) (length a.front))
+  where
+    by_left : ((length a.front < length b.front) ⊎ (length b.front ≤ length a.front)) → ((length b.front < length a.front) ⊎ (length a.front ≤ length b.front)) → length a.front ≡ length b.front
+    by_left (inl h) other = absurd (no_less talk db entries old new bytes told a b h)
+    by_left (inr h) (inl k) = absurd (no_less talk db entries old new bytes told b a k)
+    by_left (inr h) (inr k) = omega (arith, h, k)

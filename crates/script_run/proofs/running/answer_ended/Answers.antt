@@ -1,0 +1,58 @@
+use Rattle.std.proofs.Common.{◌≡◌, ◌<◌, Bool, true, false, inl, ap, subst, sym, ◌∙◌, length, List, ℕ, [], ◌∷◌, refl, arith, rules}
+use Rattle.std.proofs.lemmas.Bool.Decides.{nat_tests}
+use Rattle.db_model.specs.declared.refusals.Refusal.TheVariants as no
+use Rattle.db_model.specs.ReplyText.{refusal_text}
+use Rattle.db_model.specs.Script.{Bytes, Entry, Long, ended, past_white}
+use Rattle.intake.specs.declared.halt.Halt.{Halt}
+use Rattle.intake.specs.declared.halt.Halt.TheVariants.{Sink}
+use Rattle.reply_text.specs.WroteLess.{WroteLess}
+use Rattle.script_run.proofs.Gathering.{said_long, said_some}
+use Rattle.answering.proofs.Single.{refused_carried, refused_halts}
+use Rattle.answering.specs.Carried.{Carried, HaltsIn, LacksPages, standing_of}
+use Rattle.script_run.specs.Gathers.{Gathers}
+use Rattle.run_model.specs.Scripts.{script_talk}
+use Rattle.script_run.proofs.running.answer_ended.Goals as goal
+
+pub returns-in-Ok-clause-carried : goal.returns-in-Ok-clause-carried
+returns-in-Ok-clause-carried g c = λ told read reader p gathers.
+    let v = c.args.piece.now in
+    let a = standing_of g.V.Files.state g.V.Files.reads c.args.session.now (g.K.Sink.held c.args.out.now) in
+    let b = standing_of g.V.Files.state g.V.Files.reads c.args.session.now (g.K.Sink.held c.refuse.new.out) in
+    let P : List Entry → Type 0 = λ es. Carried (script_talk read) es a b in
+    subst P (sym (said_long p v.bytes.items (subst (λ (l : Bool). Gathers p v.bytes.items l) c.if-piece.true gathers)))
+    (refused_carried (script_talk read) Long a b refl no.Long refl refl refl (omega arith) c.in-Ok.ensures.written)
+
+pub returns-in-Err-clause-halts : goal.returns-in-Err-clause-halts
+returns-in-Err-clause-halts g c = λ told read reader p gathers.
+    let v = c.args.piece.now in
+    let a = standing_of g.V.Files.state g.V.Files.reads c.args.session.now (g.K.Sink.held c.args.out.now) in
+    let b = standing_of g.V.Files.state g.V.Files.reads c.args.session.now (g.K.Sink.held c.refuse.new.out) in
+    let less : WroteLess (g.K.Sink.held c.args.out.now) (g.K.Sink.held c.refuse.new.out) (refusal_text no.Long) = search rules in
+    let sink : c.in-Err.halt ≡ Sink = search rules in
+    let R : Halt → Type 0 = λ halt. HaltsIn (script_talk read) (LacksPages g.V.Files.state g.V.Files.asks g.V.Files.lacks c.args.session.now) (ended (past_white p)) a b halt in
+    let P : List Entry → Type 0 = λ es. HaltsIn (script_talk read) (LacksPages g.V.Files.state g.V.Files.asks g.V.Files.lacks c.args.session.now) es a b Sink in
+    subst R (sym sink) (subst P (sym (said_long p v.bytes.items (subst (λ (l : Bool). Gathers p v.bytes.items l) c.if-piece.true gathers)))
+    (refused_halts (script_talk read) Long a b refl no.Long refl refl (LacksPages g.V.Files.state g.V.Files.asks g.V.Files.lacks c.args.session.now) (omega arith) less))
+
+pub returns-in-Ok-carry_out-clause-carried : goal.returns-in-Ok-carry_out-clause-carried
+returns-in-Ok-carry_out-clause-carried g c = λ told read reader p gathers.
+    let v = c.args.piece.now in
+    let some : 0 < length v.bytes.items = grind (arith, nat_tests, c.if-is_empty.ensures) in
+    let is : ended (past_white p) ≡ Bytes v.bytes.items ∷ [] = said_some p v.bytes.items (subst (λ (l : Bool). Gathers p v.bytes.items l) c.if-piece.false gathers) some in
+    let a = standing_of g.V.Files.state g.V.Files.reads c.args.session.now (g.K.Sink.held c.args.out.now) in
+    let b = standing_of g.V.Files.state g.V.Files.reads c.carry_out.new.session (g.K.Sink.held c.carry_out.new.out) in
+    let P : List Entry → Type 0 = λ es. Carried (script_talk read) es a b in
+    let Q : List ℕ → Type 0 = λ bytes. Carried (script_talk read) (Bytes bytes ∷ []) a b in
+    subst P (sym is) (subst Q c.as_slice.ensures.value (c.in-Ok-carry_out.ensures.carried told read reader))
+
+pub returns-in-Err-carry_out-clause-halts : goal.returns-in-Err-carry_out-clause-halts
+returns-in-Err-carry_out-clause-halts g c = λ told read reader p gathers.
+    let v = c.args.piece.now in
+    let some : 0 < length v.bytes.items = grind (arith, nat_tests, c.if-is_empty.ensures) in
+    let is : ended (past_white p) ≡ Bytes v.bytes.items ∷ [] = said_some p v.bytes.items (subst (λ (l : Bool). Gathers p v.bytes.items l) c.if-piece.false gathers) some in
+    let a = standing_of g.V.Files.state g.V.Files.reads c.args.session.now (g.K.Sink.held c.args.out.now) in
+    let b = standing_of g.V.Files.state g.V.Files.reads c.carry_out.new.session (g.K.Sink.held c.carry_out.new.out) in
+    let L = LacksPages g.V.Files.state g.V.Files.asks g.V.Files.lacks c.carry_out.new.session in
+    let P : List Entry → Type 0 = λ es. HaltsIn (script_talk read) L es a b c.in-Err-carry_out.halt in
+    let Q : List ℕ → Type 0 = λ bytes. HaltsIn (script_talk read) L (Bytes bytes ∷ []) a b c.in-Err-carry_out.halt in
+    subst P (sym is) (subst Q c.as_slice.ensures.value (c.in-Err-carry_out.ensures.halts told read reader))

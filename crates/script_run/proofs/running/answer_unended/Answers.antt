@@ -1,0 +1,36 @@
+use Rattle.std.proofs.Common.{◌≡◌, ◌<◌, inl, ap, subst, sym, ◌∙◌, length, List, ℕ, [], ◌∷◌, refl, arith, rules}
+use Rattle.std.proofs.lemmas.Bool.Decides.{nat_tests}
+use Rattle.db_model.specs.declared.refusals.Refusal.TheVariants as no
+use Rattle.db_model.specs.ReplyText.{refusal_text}
+use Rattle.db_model.specs.Script.{Entry, Unfinished, past_white, unended}
+use Rattle.intake.specs.declared.halt.Halt.{Halt}
+use Rattle.intake.specs.declared.halt.Halt.TheVariants.{Sink}
+use Rattle.reply_text.specs.WroteLess.{WroteLess}
+use Rattle.script_run.proofs.Gathering.{unclosed_some}
+use Rattle.answering.proofs.Single.{refused_carried, refused_halts}
+use Rattle.answering.specs.Carried.{Carried, HaltsIn, LacksPages, standing_of}
+use Rattle.run_model.specs.Scripts.{script_talk}
+use Rattle.script_run.proofs.running.answer_unended.Goals as goal
+
+pub returns-in-Ok-clause-carried : goal.returns-in-Ok-clause-carried
+returns-in-Ok-clause-carried g c = λ told read reader p gathers.
+    let v = c.args.piece.now in
+    let some : 0 < length v.bytes.items = grind (arith, nat_tests, c.if-is_empty.ensures) in
+    let a = standing_of g.V.Files.state g.V.Files.reads c.args.session.now (g.K.Sink.held c.args.out.now) in
+    let b = standing_of g.V.Files.state g.V.Files.reads c.args.session.now (g.K.Sink.held c.refuse.new.out) in
+    let P : List Entry → Type 0 = λ es. Carried (script_talk read) es a b in
+    subst P (sym (unclosed_some p v.bytes.items v.long gathers some))
+    (refused_carried (script_talk read) Unfinished a b refl no.Unfinished refl refl refl (omega arith) c.in-Ok.ensures.written)
+
+pub returns-in-Err-clause-halts : goal.returns-in-Err-clause-halts
+returns-in-Err-clause-halts g c = λ told read reader p gathers.
+    let v = c.args.piece.now in
+    let some : 0 < length v.bytes.items = grind (arith, nat_tests, c.if-is_empty.ensures) in
+    let a = standing_of g.V.Files.state g.V.Files.reads c.args.session.now (g.K.Sink.held c.args.out.now) in
+    let b = standing_of g.V.Files.state g.V.Files.reads c.args.session.now (g.K.Sink.held c.refuse.new.out) in
+    let less : WroteLess (g.K.Sink.held c.args.out.now) (g.K.Sink.held c.refuse.new.out) (refusal_text no.Unfinished) = search rules in
+    let sink : c.in-Err.halt ≡ Sink = search rules in
+    let R : Halt → Type 0 = λ halt. HaltsIn (script_talk read) (LacksPages g.V.Files.state g.V.Files.asks g.V.Files.lacks c.args.session.now) (unended (past_white p)) a b halt in
+    let P : List Entry → Type 0 = λ es. HaltsIn (script_talk read) (LacksPages g.V.Files.state g.V.Files.asks g.V.Files.lacks c.args.session.now) es a b Sink in
+    subst R (sym sink) (subst P (sym (unclosed_some p v.bytes.items v.long gathers some))
+    (refused_halts (script_talk read) Unfinished a b refl no.Unfinished refl refl (LacksPages g.V.Files.state g.V.Files.asks g.V.Files.lacks c.args.session.now) (omega arith) less))

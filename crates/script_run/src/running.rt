@@ -1,0 +1,213 @@
+//! A script that comes byte by byte.
+
+#![tactic(auto)]
+
+ghost use Rattle.std.specs.Prelude.{◌≡◌, ◌≤◌, ◌∷◌, [], false, true, ℕ, List, Result, IfErr, IsErrOf, IsTrue, OnOk, length};
+ghost use Rattle.db_model.specs.declared.commands.Command.{Command as AnyCommand};
+ghost use Rattle.db_model.specs.declared.refusals.Refusal.{Refusal as AnyRefusal};
+ghost use Rattle.db_model.specs.Reading.{IsReader};
+ghost use Rattle.db_model.specs.Script.{ended, past_white, unended};
+ghost use Rattle.intake.specs.declared.halt.Halt.TheVariants as Halt;
+ghost use Rattle.answering.specs.Carried.{Carried, HaltsIn, HasHaltCause, LacksPages, standing_of};
+ghost use Rattle.answering.specs.Taking.{EndsInput, HaltsAtLast, HaltsInBytes, TakesBytes, running, saying};
+ghost use Rattle.run_model.specs.Scripts.{script_talk};
+ghost use Rattle.script_run.specs.Gathers.{Gathers};
+ghost use Rattle.script_run.specs.Input.{Keeps, script_input};
+
+use crate::entry::{carry_out, refuse};
+use crate::piece::Piece;
+use afl_base::{Files, Sink};
+use antelope_engine::Session;
+use db_model::{Command, Refusal};
+use intake::{Halt, Taker};
+
+/// What takes the bytes of a script and carries out its commands.
+#[derive(Drop)]
+pub struct Runner<V: Files> {
+    pub session: Session<V>,
+    pub piece: Piece,
+    // The command at hand, kept in its place.
+    command: Command,
+}
+
+impl<V: Files> Runner<V> {
+    /// Before the first byte of a script.
+    pub fn new(session: Session<V>) -> Runner<V>
+        ensures session { result.session ≡ session }
+        ensures keeps { Keeps (false, []) result.piece }
+    {
+        Runner {
+            session,
+            piece: Piece::new(),
+            command: Command::FetchCursor { number: 0 },
+        }
+    }
+}
+
+impl<V: Files> Taker for Runner<V> {
+    ghost use Rattle.answering.proofs.Taken.{halted_before, halted_behind, taken_more, taken_none};
+    ghost use Rattle.answering.specs.Taking.{EndsInput, HaltsAtLast, HaltsInBytes, TakesBytes, running, saying};
+    ghost use Rattle.run_model.specs.Scripts.{script_line};
+    ghost use Rattle.script_run.specs.Input.{script_input};
+    ghost use Rattle.run_model.proofs.Parts.{script_parts};
+
+    ghost Takes = { λ a came b. TakesBytes script_input (saying V.state V.reads V.faults V.asks V.lacks)
+        (running a.0.session a.0.piece a.1.held a.1.faults) came (running b.0.session b.0.piece b.1.held b.1.faults) };
+    ghost Ends = { λ a b. EndsInput script_input (saying V.state V.reads V.faults V.asks V.lacks)
+        (running a.0.session a.0.piece a.1.held a.1.faults) (running b.0.session b.0.piece b.1.held b.1.faults) };
+    ghost Halts = { λ a came b halt. HaltsInBytes script_input (saying V.state V.reads V.faults V.asks V.lacks)
+        (running a.0.session a.0.piece a.1.held a.1.faults) came
+        (running b.0.session b.0.piece b.1.held b.1.faults) halt };
+    ghost HaltsAtEnd = { λ a b halt. HaltsAtLast script_input (saying V.state V.reads V.faults V.asks V.lacks)
+        (running a.0.session a.0.piece a.1.held a.1.faults) (running b.0.session b.0.piece b.1.held b.1.faults) halt };
+
+    fn take<K: Sink>(&mut self, out: &mut K, byte: u8) -> Result<(), Halt> {
+        take_byte(&mut self.session, &mut self.command, &mut self.piece, out, byte)
+    }
+
+    fn end<K: Sink>(&mut self, out: &mut K) -> Result<(), Halt> {
+        take_end(&mut self.session, &self.piece, out)
+    }
+
+    ghost none = { λ a. taken_none script_input (saying V.state V.reads V.faults V.asks V.lacks) script_line script_parts
+        (running a.0.session a.0.piece a.1.held a.1.faults) };
+    ghost more = { λ a b c xs ys e f.
+        taken_more script_input (saying V.state V.reads V.faults V.asks V.lacks) script_line script_parts
+        (running a.0.session a.0.piece a.1.held a.1.faults) (running b.0.session b.0.piece b.1.held b.1.faults)
+        (running c.0.session c.0.piece c.1.held c.1.faults) xs ys e f };
+    ghost halts_behind = { λ a b c xs ys halt e f.
+        halted_behind script_input (saying V.state V.reads V.faults V.asks V.lacks) script_line script_parts
+        (running a.0.session a.0.piece a.1.held a.1.faults) (running b.0.session b.0.piece b.1.held b.1.faults)
+        (running c.0.session c.0.piece c.1.held c.1.faults) xs ys halt e f };
+    ghost halts_before = { λ a b xs ys halt e.
+        halted_before script_input (saying V.state V.reads V.faults V.asks V.lacks) script_line script_parts
+        (running a.0.session a.0.piece a.1.held a.1.faults) (running b.0.session b.0.piece b.1.held b.1.faults)
+        xs ys halt e };
+}
+
+// Takes one byte of a script.
+fn take_byte<V: Files, K: Sink>(
+    session: &mut Session<V>,
+    command: &mut Command,
+    piece: &mut Piece,
+    out: &mut K,
+    byte: u8,
+) -> Result<(), Halt>
+    ensures takes { OnOk result (TakesBytes script_input (saying V.state V.reads V.faults V.asks V.lacks)
+        (running session.old piece.old (K.held out.old) (K.faults out.old)) (byte ∷ [])
+        (running session.new piece.new (K.held out.new) (K.faults out.new))) }
+    ensures halts { IfErr result (λ halt. HaltsInBytes script_input (saying V.state V.reads V.faults V.asks V.lacks)
+        (running session.old piece.old (K.held out.old) (K.faults out.old)) (byte ∷ [])
+        (running session.new piece.new (K.held out.new) (K.faults out.new)) halt) }
+    ensures keeps { K.keeps out.old out.new }
+{
+    if session.is_stopped() {
+        return Err(Halt::Flash);
+    }
+    if !piece.ends_at(byte) {
+        piece.push(byte);
+        return Ok(());
+    }
+    let answered = answer_ended(session, command, piece, out);
+    piece.clear();
+    match answered {
+        Ok(()) => Ok(()),
+        Err(halt) => Err(halt),
+    }
+}
+
+// Takes the end of a script.
+fn take_end<V: Files, K: Sink>(
+    session: &mut Session<V>,
+    piece: &Piece,
+    out: &mut K,
+) -> Result<(), Halt>
+    ensures ends { OnOk result (EndsInput script_input (saying V.state V.reads V.faults V.asks V.lacks)
+        (running session.old piece.now (K.held out.old) (K.faults out.old))
+        (running session.new piece.now (K.held out.new) (K.faults out.new))) }
+    ensures halts { IfErr result (λ halt. HaltsAtLast script_input (saying V.state V.reads V.faults V.asks V.lacks)
+        (running session.old piece.now (K.held out.old) (K.faults out.old))
+        (running session.new piece.now (K.held out.new) (K.faults out.new)) halt) }
+    ensures keeps { K.keeps out.old out.new }
+{
+    if session.is_stopped() {
+        return Err(Halt::Flash);
+    }
+    match answer_unended(session, piece, out) {
+        Ok(()) => Ok(()),
+        Err(halt) => Err(halt),
+    }
+}
+
+// Answers what a piece asks for that a `;` ends. White space alone asks for nothing.
+pub fn answer_ended<V: Files, K: Sink>(
+    session: &mut Session<V>,
+    command: &mut Command,
+    piece: &Piece,
+    out: &mut K,
+) -> Result<(), Halt>
+    requires running { session.old.stopped ≡ false }
+    ensures carried { IsTrue (V.state session.old.files).tells → OnOk result (
+        (read : List ℕ → Result AnyCommand AnyRefusal) → IsReader read
+        → (p : List ℕ) → Gathers p piece.now.bytes.items piece.now.long
+        → Carried (script_talk read) (ended (past_white p)) (standing_of V.state V.reads session.old (K.held out.old))
+        (standing_of V.state V.reads session.new (K.held out.new))) }
+    ensures halts { IsTrue (V.state session.old.files).tells → IfErr result (λ halt.
+        (read : List ℕ → Result AnyCommand AnyRefusal) → IsReader read
+        → (p : List ℕ) → Gathers p piece.now.bytes.items piece.now.long
+        → HaltsIn (script_talk read) (LacksPages V.state V.asks V.lacks session.new) (ended (past_white p))
+        (standing_of V.state V.reads session.old (K.held out.old))
+        (standing_of V.state V.reads session.new (K.held out.new)) halt) }
+    ensures running { OnOk result (session.new.stopped ≡ false) }
+    ensures lost { session.old.lost ≡ false → session.new.lost ≡ true → IsErrOf result Halt.Flash }
+    ensures store { length (V.state session.new.files).store ≡ length (V.state session.old.files).store }
+    ensures keeps { K.keeps out.old out.new }
+    ensures cause { HasHaltCause (V.faults session.old.files) (V.faults session.new.files)
+        (K.faults out.old) (K.faults out.new) result }
+{
+    if piece.long {
+        return match refuse(out, &Refusal::Long) {
+            Ok(()) => Ok(()),
+            Err(halt) => Err(halt),
+        };
+    }
+    if piece.bytes.is_empty() {
+        return Ok(());
+    }
+    match carry_out(session, command, piece.bytes.as_slice(), out) {
+        Ok(()) => Ok(()),
+        Err(halt) => Err(halt),
+    }
+}
+
+// Answers the last piece, which nothing ends.
+pub fn answer_unended<V: Files, K: Sink>(
+    session: &mut Session<V>,
+    piece: &Piece,
+    out: &mut K,
+) -> Result<(), Halt>
+    requires running { session.old.stopped ≡ false }
+    ensures carried { IsTrue (V.state session.old.files).tells → OnOk result (
+        (read : List ℕ → Result AnyCommand AnyRefusal) → IsReader read
+        → (p : List ℕ) → Gathers p piece.now.bytes.items piece.now.long
+        → Carried (script_talk read) (unended (past_white p)) (standing_of V.state V.reads session.old (K.held out.old))
+        (standing_of V.state V.reads session.new (K.held out.new))) }
+    ensures halts { IsTrue (V.state session.old.files).tells → IfErr result (λ halt.
+        (read : List ℕ → Result AnyCommand AnyRefusal) → IsReader read
+        → (p : List ℕ) → Gathers p piece.now.bytes.items piece.now.long
+        → HaltsIn (script_talk read) (LacksPages V.state V.asks V.lacks session.new) (unended (past_white p))
+        (standing_of V.state V.reads session.old (K.held out.old))
+        (standing_of V.state V.reads session.new (K.held out.new)) halt) }
+    ensures same { session.new ≡ session.old }
+    ensures keeps { K.keeps out.old out.new }
+    ensures cause { HasHaltCause (V.faults session.old.files) (V.faults session.new.files)
+        (K.faults out.old) (K.faults out.new) result }
+{
+    if piece.bytes.is_empty() {
+        return Ok(());
+    }
+    match refuse(out, &Refusal::Unfinished) {
+        Ok(()) => Ok(()),
+        Err(halt) => Err(halt),
+    }
+}

@@ -1,0 +1,23 @@
+-- What a command wants of an image, and lacks there.
+use Rattle.std.specs.Prelude.{◌<◌, ◌≤◌, ℕ, ◌/◌, List, length}
+use Rattle.coffee_layout.specs.Marks.{IsCramped}
+use Rattle.coffee_layout.specs.Tiling.{units_of}
+use Rattle.coffee_volume.specs.Asking.{AsksOf}
+use Rattle.db_model.specs.declared.commands.Command.{Command}
+use Rattle.session_model.specs.Wanted.{room_in}
+use Rattle.space_model.specs.Enough.{enough, most}
+use Rattle.space_model.specs.FileNames.{size_in}
+use Rattle.space_model.specs.Wants.{Wants}
+use Rattle.sound_image.specs.Images.{base, files_in}
+
+-- a command wants an extent of n pages, as the files of the image stand
+abbrev pub WantsOf : List ℕ → Command → ℕ → Type 0
+WantsOf image command n = Wants (size_in (files_in image)) (AsksOf image) (room_in (files_in image)) (base image) command n
+
+-- it wants them, no more than the most that are counted for it, and none can be had: the image is cramped for n pages, and so
+-- has fewer sectors than are enough for its database
+pub record LacksFor (image : List ℕ) (command : Command) (n : ℕ) : Type 0 where
+  pub wants : WantsOf image command n
+  pub few : n ≤ most (base image) command
+  pub cramped : IsCramped (units_of image) n
+  pub small : length image / 4096 < enough (base image) n

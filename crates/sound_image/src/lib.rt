@@ -1,0 +1,8 @@
+//! Which images of a flash are sound, and which database each stands for.
+#![tactic(auto)]
+
+mod laws;
+mod returned;
+
+pub use laws::{erased_image_is_sound, mounted_files_are_the_images, sound_image_breaks_no_rule};
+pub use returned::hand_back;

@@ -1,0 +1,9 @@
+pub mod Fitting
+pub mod Inserted
+pub mod Lines
+pub mod Longer
+pub mod MoreBuckets
+pub mod PlannedSpace
+pub mod Scripts
+pub mod Trees
+pub mod WorkedPlans

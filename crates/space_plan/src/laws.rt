@@ -1,0 +1,43 @@
+//! Laws on the sectors that are planned. Each function does nothing: its contract is the law.
+
+#![tactic(auto)]
+
+ghost use Rattle.std.specs.Prelude.{◌≡◌, ◌≤◌, ◌⊎◌, ℕ, List, ◌∷◌, ◌++◌, Result, Ok};
+ghost use Rattle.db_model.specs.declared.commands.Command.{Command as AnyCommand};
+ghost use Rattle.db_model.specs.declared.commands.Command.TheVariants.{Insert};
+ghost use Rattle.db_model.specs.declared.refusals.Refusal.{Refusal};
+ghost use Rattle.db_model.specs.declared.values.Value.{Value};
+ghost use Rattle.db_model.specs.Database.{Database};
+ghost use Rattle.db_model.specs.Script.{Bytes, Entry, last};
+ghost use Rattle.db_model.specs.Sound.{IsSoundDatabase};
+ghost use Rattle.db_model.specs.Step.{after_all};
+ghost use Rattle.space_model.specs.Enough.{enough, most};
+ghost use Rattle.space_plan.specs.Growth.{HasFewRows, KeepsToPlan, commands_of};
+ghost use Rattle.space_plan.specs.Planned.{planned};
+
+/// No relation of a sound database has more than 32,768 rows.
+#[tactic(auto, using(crate::proofs::Scripts::sound_few))]
+pub fn sound_databases_have_few_rows()
+    ensures { (db : Database) → IsSoundDatabase db → HasFewRows db }
+{}
+
+/// After commands that insert and read, and bring at most n rows to each relation, the sectors that are
+/// enough for one more INSERT are no more than were planned for n rows.
+pub fn planned_space_suffices()
+    ensures { (n : ℕ) (db : Database) (commands : List AnyCommand)
+        (values : List Value) (name : List ℕ) → HasFewRows db → KeepsToPlan n db commands
+        → let grown = after_all db commands in
+        enough grown (most grown (Insert values name)) ≤ planned db n }
+{}
+
+/// In a script whose commands insert and read, and bring at most n rows to each relation, each command
+/// asks for nothing, or a flash with the sectors that were planned for n rows has enough for it.
+pub fn planned_flash_has_enough()
+    ensures { (read : List ℕ → Result AnyCommand Refusal) (db : Database) (entries : List Entry)
+        (n sectors : ℕ) → IsSoundDatabase db → KeepsToPlan n db (commands_of read entries)
+        → planned db n ≤ sectors
+        → (front rest : List Entry) (bytes : List ℕ) (command : AnyCommand)
+        → entries ≡ front ++ Bytes bytes ∷ rest → read bytes ≡ Ok command
+        → (most (last read db front) command ≡ 0)
+        ⊎ (enough (last read db front) (most (last read db front) command) ≤ sectors) }
+{}

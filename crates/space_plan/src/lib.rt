@@ -1,0 +1,12 @@
+//! How large a flash suffices for a database that grows: the sectors that are planned, and laws on them.
+#![tactic(auto)]
+
+mod growth;
+mod laws;
+mod line;
+mod planning;
+mod sectors;
+
+pub use laws::{planned_flash_has_enough, planned_space_suffices, sound_databases_have_few_rows};
+pub use line::write_plan;
+pub use planning::planned;

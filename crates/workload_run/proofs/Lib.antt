@@ -1,0 +1,4 @@
+pub mod Counts
+pub mod FewRows
+pub mod Lines
+pub mod Summing

@@ -1,0 +1,50 @@
+use Rattle.std.proofs.Common.{◌≡◌, ◌≤◌, ◌<◌, Bool, IsTrue, arith, subst, sym, ◌∙◌}
+use Rattle.answering.specs.Carried.{LacksPages}
+use Rattle.antelope_engine.proofs.Carried.{ok_stops}
+use Rattle.db_model.specs.Database.{Database}
+use Rattle.session_model.specs.Wanted.{WantsOver}
+use Rattle.space_model.specs.Enough.{most}
+use Rattle.workload_run.proofs.Counts.{counted_next, rows_next, stops_here}
+use Rattle.workload_run.proofs.counting.carry_out.Goals as goal
+
+pub returns-in-Ok-NoSpace-clause-space : goal.returns-in-Ok-NoSpace-clause-space
+returns-in-Ok-NoSpace-clause-space g c = λ told.
+    let inv = c.loop-k.invariant in
+    let e = c.in-Ok-NoSpace.ensures in
+    let now : IsTrue (g.V.Files.state c.loop-k.session.files).tells = subst (λ (b : Bool). IsTrue b) (sym inv.tells) told in
+    let s = c.exec.new.self in
+    let command = c.nth_command.new.command in
+    let n = c.in-Ok-NoSpace.need in
+    let does = rw c.in-Ok-NoSpace.field-0-is at (e.done now) in
+    let P : Database → Type 0 = λ db. WantsOver (g.V.Files.asks s.files) (g.V.Files.state s.files).files db command n in
+    let Q : Database → Type 0 = λ db. n ≤ most db command in
+    let back : c.loop-k.session.database ≡ s.database = sym does.0 in
+    stops_here (LacksPages g.V.Files.state g.V.Files.asks g.V.Files.lacks s) c.args.seed c.loop-k.k c.args.count n command c.args.session.now.database c.loop-k.session.database s.database
+    c.loop-k.tally c.nth_command.ensures.command (inv.counted told) c.loop-k-test.true does.0 does.2
+    (record { wants = subst P back (rw c.in-Ok-NoSpace.field-0-is at (e.wants now)); few = subst Q back (rw c.in-Ok-NoSpace.field-0-is at (e.most now)); none = rw c.in-Ok-NoSpace.field-0-is at e.lacks })
+
+pub loop-k-preserved : goal.loop-k-preserved
+loop-k-preserved g c =
+    let inv = c.loop-k.invariant in
+    let e = c.in-Ok-Done.ensures in
+    let s = c.exec.new.self in
+    let kept = ok_stops c.in-Ok-Done.field-0 s.lost e.lost in
+    let below : c.loop-k.k < 100000 = omega (arith, c.loop-k-test.true, c.requires.few) in
+    record {
+      going = e.running;
+      kept = λ old. kept;
+      tells = e.tells kept ∙ inv.tells;
+      counted = λ told.
+          let now : IsTrue (g.V.Files.state c.loop-k.session.files).tells = subst (λ (b : Bool). IsTrue b) (sym inv.tells) told in
+          let does = rw c.in-Ok-Done.field-0-is at (e.done now) in
+          counted_next c.args.seed c.loop-k.k c.nth_command.new.command c.nth_command.ensures.command c.args.session.now.database c.loop-k.session.database s.database
+          c.loop-k.tally c.count.new.self (inv.rows told) below c.in-Ok-Done.outcome does.1.1 c.count.ensures.counted (inv.counted told) does.0;
+      rows = λ told.
+          let now : IsTrue (g.V.Files.state c.loop-k.session.files).tells = subst (λ (b : Bool). IsTrue b) (sym inv.tells) told in
+          let does = rw c.in-Ok-Done.field-0-is at (e.done now) in
+          rows_next c.args.seed c.loop-k.k c.nth_command.new.command c.nth_command.ensures.command c.args.session.now.database c.loop-k.session.database s.database
+          c.loop-k.tally c.count.new.self (inv.rows told) below c.in-Ok-Done.outcome does.1.1 c.count.ensures.counted;
+      commands = let more = c.count.ensures.commands in omega (arith, more, inv.commands);
+      store = e.store ∙ inv.store;
+      faults = let later = e.cause.files_later in omega (arith, later, inv.faults);
+    }

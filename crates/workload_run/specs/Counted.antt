@@ -1,0 +1,35 @@
+-- What given commands come to where their replies are only counted.
+use Rattle.std.specs.Prelude.{◌≡◌, ⊤, ℕ, false, List, ◌∷◌, ◌++◌, Result, Ok, Err}
+use Rattle.db_model.specs.declared.commands.Command.{Command}
+use Rattle.db_model.specs.Ahead.{is_refused}
+use Rattle.db_model.specs.Database.{Database}
+use Rattle.db_model.specs.Step.{after_all, replies, step}
+use Rattle.db_model.specs.Workload.{Tally, nothing, tally}
+use Rattle.workload_run.specs.declared.counting.Failure.{Failure}
+use Rattle.workload_run.specs.declared.counting.Failure.TheVariants.{NoSpace, Flash}
+
+-- they made one database of another, and their replies were counted
+pub record Counted (commands : List Command) (old new : Database) (t : Tally) : Type 0 where
+  pub database : new ≡ after_all old commands
+  pub tally_is : t ≡ tally nothing (replies old commands)
+
+-- those in front were carried out, and the next is not refused and lacks n pages
+pub record StopsAt (Lacks : Command → ℕ → Type 0) (commands : List Command) (old new : Database) (n : ℕ) : Type 0 where
+  pub front : List Command
+  pub command : Command
+  pub rest : List Command
+  pub split : commands ≡ front ++ command ∷ rest
+  pub database : new ≡ after_all old front
+  pub accepted : is_refused ((step (after_all old front) command).1) ≡ false
+  pub lacks : Lacks command n
+
+-- and the replies to those in front were counted
+pub record CountedUntil (Lacks : Command → ℕ → Type 0) (commands : List Command) (old new : Database) (t : Tally) (n : ℕ) : Type 0 where
+  pub stops : StopsAt Lacks commands old new n
+  pub tally_is : t ≡ tally nothing (replies old stops.front)
+
+-- P of the pages, where there was no space
+abbrev pub OnNoSpace : Result ⊤ Failure → (ℕ → Type 0) → Type 0
+OnNoSpace (Ok done) P = ⊤
+OnNoSpace (Err (NoSpace need)) P = P need
+OnNoSpace (Err Flash) P = ⊤

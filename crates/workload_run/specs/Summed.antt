@@ -1,0 +1,50 @@
+-- What a run makes of given commands, behind which it writes one line.
+use Rattle.std.specs.Prelude.{◌≡◌, ◌⊎◌, ℕ, List, ◌++◌, Option}
+use Rattle.std.specs.Io.KnownBytes.{append_known}
+use Rattle.db_model.specs.declared.commands.Command.{Command}
+use Rattle.db_model.specs.declared.refusals.Refusal.TheVariants as no
+use Rattle.db_model.specs.Database.{Database}
+use Rattle.db_model.specs.ReplyText.{refusal_text}
+use Rattle.db_model.specs.Step.{after_all, replies}
+use Rattle.db_model.specs.Workload.{nothing, tally, tally_text}
+use Rattle.intake.specs.declared.halt.Halt.{Halt}
+use Rattle.intake.specs.declared.halt.Halt.TheVariants.{Space, Flash, Sink}
+use Rattle.reply_text.specs.WroteLess.{WroteLess}
+use Rattle.workload_run.specs.Counted.{StopsAt}
+
+-- the line over commands
+abbrev pub summed : Database → List Command → List ℕ
+summed db commands = tally_text (tally nothing (replies db commands))
+
+-- what is written where commands stop: the line over those that were replied to, and that there is no space for the next
+abbrev pub summed_until : Database → List Command → ℕ → List ℕ
+summed_until db front n = summed db front ++ refusal_text (no.Space n)
+
+-- all were carried out, and the line over them was written
+pub record SummedUp (commands : List Command) (old new : Database) (before now : Option (List ℕ)) : Type 0 where
+  pub database : new ≡ after_all old commands
+  pub held : now ≡ append_known before (summed old commands)
+
+-- or less than the line
+pub record LineUnsaid (commands : List Command) (old new : Database) (before now : Option (List ℕ)) : Type 0 where
+  pub database : new ≡ after_all old commands
+  pub held : WroteLess before now (summed old commands)
+
+module _ (Lacks : Command → ℕ → Type 0) where
+  -- they stopped where there was no space, and that was written
+  pub record FoundNone (commands : List Command) (old new : Database) (before now : Option (List ℕ)) : Type 0 where
+    pub n : ℕ
+    pub stops : StopsAt Lacks commands old new n
+    pub held : now ≡ append_known before (summed_until old stops.front n)
+
+  -- or less than that
+  pub record SpaceUnsaid (commands : List Command) (old new : Database) (before now : Option (List ℕ)) : Type 0 where
+    pub n : ℕ
+    pub stops : StopsAt Lacks commands old new n
+    pub held : WroteLess before now (summed_until old stops.front n)
+
+  -- why no more of them was carried out
+  abbrev pub StopsBy : List Command → Database → Database → Option (List ℕ) → Option (List ℕ) → Halt → Type 0
+  StopsBy commands old new before now Space = FoundNone commands old new before now
+  StopsBy commands old new before now Sink = LineUnsaid commands old new before now ⊎ SpaceUnsaid commands old new before now
+  StopsBy commands old new before now Flash = now ≡ before

@@ -1,0 +1,65 @@
+//! Generated commands are carried out, and their replies counted.
+
+#![tactic(auto)]
+
+ghost use Rattle.std.specs.Prelude.{◌≡◌, ◌≤◌, false, true, IsErrOf, IsTrue, OnOk, length};
+ghost use Rattle.afl_base.specs.Causes.{Rose};
+ghost use Rattle.answering.specs.Carried.{LacksPages};
+ghost use Rattle.db_model.specs.Workload.{first_commands, nothing};
+ghost use Rattle.workload_run.specs.declared.counting.Failure.TheVariants.{Flash};
+ghost use Rattle.workload_run.specs.Counted.{Counted, CountedUntil, OnNoSpace};
+
+use crate::discard::Discard;
+use crate::tally::Tally;
+use afl_base::Files;
+use antelope_engine::{Session, Step, Stop};
+use db_model::Command;
+use workload::nth_command;
+
+/// Why no further command was carried out.
+#[derive(Clone, Copy, Debug, PartialEq, Eq)]
+pub enum Failure {
+    /// No extent of so many pages could be had.
+    NoSpace { need: u16 },
+    Flash,
+}
+
+/// Carries out the first `count` commands of a seed, and counts the replies.
+pub fn carry_out<V: Files>(
+    session: &mut Session<V>,
+    seed: u32,
+    count: u32,
+    tally: &mut Tally,
+) -> Result<(), Failure>
+    requires running { session.old.stopped ≡ false }
+    requires few { count ≤ 100000 }
+    requires none { tally.old ≡ nothing }
+    ensures done { IsTrue (V.state session.old.files).tells → OnOk result
+        (Counted (first_commands seed count) session.old.database session.new.database tally.new) }
+    ensures space { IsTrue (V.state session.old.files).tells → OnNoSpace result (λ need.
+        CountedUntil (LacksPages V.state V.asks V.lacks session.new) (first_commands seed count)
+        session.old.database session.new.database tally.new need) }
+    ensures running { OnOk result (session.new.stopped ≡ false) }
+    ensures lost { session.old.lost ≡ false → session.new.lost ≡ true → IsErrOf result Flash }
+    ensures tells { session.new.lost ≡ false
+        → (V.state session.new.files).tells ≡ (V.state session.old.files).tells }
+    ensures store { let old = V.state session.old.files in
+        length (V.state session.new.files).store ≡ length old.store }
+    ensures later { V.faults session.old.files ≤ V.faults session.new.files }
+    ensures flash { IsErrOf result Flash
+        → Rose (V.faults session.old.files) (V.faults session.new.files) }
+{
+    let mut command = Command::FetchCursor { number: 0 };
+    let mut replies = Discard {};
+    for k in 0..count {
+        nth_command(seed, k, &mut command);
+        match session.exec(&command, &mut replies) {
+            Ok(Step::Done(outcome)) => tally.count(&outcome),
+            Ok(Step::NoSpace { need }) => return Err(Failure::NoSpace { need }),
+            Err(Stop::Flash) => return Err(Failure::Flash),
+            // The sink never fails.
+            Err(Stop::Sink) => unreachable!(),
+        }
+    }
+    Ok(())
+}

@@ -1,0 +1,23 @@
+use afl_base::{Failed, Sink};
+
+/// A sink for replies that nobody reads: it takes every byte and keeps none.
+#[derive(Drop)]
+pub struct Discard {}
+
+impl Sink for Discard {
+    ghost use Rattle.std.specs.Prelude.{None, ⊤};
+
+    ghost held = { λ s. None };
+
+    ghost faults = { λ s. 0 };
+
+    ghost keeps = { λ a b. ⊤ };
+
+    ghost kept = { λ a. tt {0} };
+
+    ghost kept_on = { λ a b c first then. tt {0} };
+
+    fn write(&mut self, bytes: &[u8]) -> Result<usize, Failed> {
+        Ok(bytes.len())
+    }
+}

@@ -1,0 +1,64 @@
+//! A run of generated commands.
+
+#![tactic(auto)]
+
+ghost use Rattle.std.specs.Prelude.{◌≡◌, ◌≤◌, false, true, IfErr, IsErrOf, IsTrue, OnOk, length};
+ghost use Rattle.answering.specs.Carried.{HasHaltCause, LacksPages};
+ghost use Rattle.db_model.specs.Workload.{first_commands};
+ghost use Rattle.intake.specs.declared.halt.Halt.TheVariants as Halt;
+ghost use Rattle.workload_run.specs.Summed.{StopsBy, SummedUp};
+
+use crate::counting::{Failure, carry_out};
+use crate::line::{write_no_space, write_tally};
+use crate::tally::Tally;
+use afl_base::{Failed, Files, Sink};
+use antelope_engine::Session;
+use intake::Halt;
+
+/// Carries out the first `count` commands of a seed, 1 to 100,000. Their replies are counted and not
+/// written; behind all of them comes one line, `commands C ok A rows B refused D`.
+///
+/// # Errors
+///
+/// `Space` comes at the first command for which there is no space: the line over the commands that
+/// were replied to was written, and `no space N`. Nothing was written at `Flash`, and at `Sink` a
+/// proper prefix.
+pub fn generate<V: Files, K: Sink>(
+    session: &mut Session<V>,
+    seed: u32,
+    count: u32,
+    out: &mut K,
+) -> Result<(), Halt>
+    requires running { session.old.stopped ≡ false }
+    requires few { count ≤ 100000 }
+    ensures carried { IsTrue (V.state session.old.files).tells → OnOk result
+        (SummedUp (first_commands seed count) session.old.database session.new.database
+        (K.held out.old) (K.held out.new)) }
+    ensures halts { IsTrue (V.state session.old.files).tells → IfErr result (λ halt.
+        StopsBy (LacksPages V.state V.asks V.lacks session.new) (first_commands seed count)
+        session.old.database session.new.database (K.held out.old) (K.held out.new) halt) }
+    ensures silent { IsErrOf result Halt.Flash → K.held out.new ≡ K.held out.old }
+    ensures running { OnOk result (session.new.stopped ≡ false) }
+    ensures lost { session.old.lost ≡ false → session.new.lost ≡ true
+        → IsErrOf result Halt.Flash }
+    ensures tells { session.new.lost ≡ false
+        → (V.state session.new.files).tells ≡ (V.state session.old.files).tells }
+    ensures store { let old = V.state session.old.files in
+        length (V.state session.new.files).store ≡ length old.store }
+    ensures keeps { K.keeps out.old out.new }
+    ensures cause { HasHaltCause (V.faults session.old.files) (V.faults session.new.files)
+        (K.faults out.old) (K.faults out.new) result }
+{
+    let mut tally = Tally::new();
+    match carry_out(session, seed, count, &mut tally) {
+        Ok(()) => match write_tally(out, &tally) {
+            Ok(()) => Ok(()),
+            Err(Failed) => Err(Halt::Sink),
+        },
+        Err(Failure::NoSpace { need }) => match write_no_space(out, &tally, need) {
+            Ok(()) => Err(Halt::Space),
+            Err(Failed) => Err(Halt::Sink),
+        },
+        Err(Failure::Flash) => Err(Halt::Flash),
+    }
+}
