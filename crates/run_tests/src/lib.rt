@@ -1,0 +1,40 @@
+//! Tests of whole runs, each over an image in memory: what they write, what they leave, and how often
+//! they read.
+#![tactic(auto)]
+
+#[cfg(test)]
+mod cursor_tests;
+#[cfg(test)]
+mod file_tests;
+#[cfg(test)]
+mod generated_tests;
+#[cfg(test)]
+mod image;
+#[cfg(test)]
+mod index_tests;
+#[cfg(test)]
+mod limit_tests;
+#[cfg(test)]
+mod line_tests;
+#[cfg(test)]
+mod one_byte;
+#[cfg(test)]
+mod plan_tests;
+#[cfg(test)]
+mod query_tests;
+#[cfg(test)]
+mod read_tests;
+#[cfg(test)]
+mod row_tests;
+#[cfg(test)]
+mod running;
+#[cfg(test)]
+mod samples;
+#[cfg(test)]
+mod script_tests;
+#[cfg(test)]
+mod texts;
+#[cfg(test)]
+mod version_tests;
+#[cfg(test)]
+mod written_tests;

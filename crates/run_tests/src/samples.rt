@@ -1,0 +1,62 @@
+//! Databases that several tests begin with.
+
+use crate::running::{erased, run};
+use crate::texts::{ONE, TWO, joined, push_number, push_often};
+use std::alloc::{AllocError, Global};
+use std::test::Fail;
+
+const SAMPLES: &str = "CREATE RELATION samples; CREATE ATTRIBUTE minute DOMAIN LONG IN samples; \
+    CREATE ATTRIBUTE node DOMAIN INT IN samples; CREATE ATTRIBUTE value DOMAIN INT IN samples; ";
+
+/// The index by which a sensor's day is ordered.
+pub const BY_MINUTE: &str = "CREATE INDEX samples.minute TYPE INLINE; ";
+
+/// A question after ten minutes of a sensor's day, which lie together.
+pub const TEN_MINUTES: &str =
+    "SELECT minute, value FROM samples WHERE minute >= 600 AND minute < 610; ";
+
+/// The ten minutes.
+pub const THE_TEN: &str = "600,205\n601,206\n602,200\n603,201\n604,202\n605,203\n606,204\n607,205\n\
+    608,206\n609,200\nrows 10\n";
+
+/// A sensor's day, a row a minute: 1,444 commands, and one more where it has an index.
+pub fn day(alloc: Global, index: &str) -> Result<Vec<u8>, AllocError> {
+    let mut script = joined(alloc, &[SAMPLES, index])?;
+    for minute in 0..1_440u16 {
+        push_often(&mut script, "INSERT (", 1)?;
+        push_number(&mut script, minute)?;
+        push_often(&mut script, ", ", 1)?;
+        push_number(&mut script, minute % 4)?;
+        push_often(&mut script, ", ", 1)?;
+        push_number(&mut script, 200 + minute % 7)?;
+        push_often(&mut script, ") INTO samples; ", 1)?;
+    }
+    Ok(script)
+}
+
+/// 256 rows of the number 7 under a hash tree: 259 commands.
+pub fn sevens(alloc: Global) -> Result<Vec<u8>, AllocError> {
+    let mut script = joined(alloc, &[ONE, "CREATE INDEX n.v TYPE MAXHEAP;"])?;
+    push_often(&mut script, "INSERT (7) INTO n;", 256)?;
+    Ok(script)
+}
+
+/// A relation of a number and a text, and two rows: five commands.
+pub fn pair(alloc: Global) -> Result<Vec<u8>, AllocError> {
+    joined(
+        alloc,
+        &[TWO, "INSERT (5, 'abc') INTO s; INSERT (-1, '') INTO s;"],
+    )
+}
+
+/// What a script of so many commands leaves of an erased image, all of which reply `ok`.
+pub fn made_by(alloc: Global, script: &[u8], commands: u16) -> Result<Vec<u8>, Fail> {
+    let mut image = erased(alloc)?;
+    let mut replies = Vec::new(alloc);
+    push_often(&mut replies, "ok\n", commands)?;
+    if run(alloc, script, image.as_mut_slice())?.is(0, replies.as_slice()) {
+        Ok(image)
+    } else {
+        Err(Fail::new("not all commands were carried out"))
+    }
+}
