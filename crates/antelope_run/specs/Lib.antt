@@ -1,3 +1,5 @@
+pub mod Does
 pub mod HandedBack
+pub mod Left
 pub mod Statuses
 pub mod Words

@@ -1,29 +1,40 @@
 -- What a run leaves behind, by what its words ask for.
 use Rattle.std.specs.Prelude.{◌≡◌, ◌≢◌, ◌⊎◌, ⊤, ℕ, ◌/◌, ◌≤◌, List, [], length, Option, Some, None, Result}
+use Rattle.std.specs.Io.KnownBytes.{append_known}
 use Rattle.db_model.specs.declared.commands.Command.{Command}
 use Rattle.db_model.specs.declared.refusals.Refusal.{Refusal}
 use Rattle.db_model.specs.declared.refusals.Refusal.TheVariants as no
 use Rattle.db_model.specs.Database.{Database}
 use Rattle.db_model.specs.Reading.{IsReader}
 use Rattle.db_model.specs.ReplyText.{refusal_text}
-use Rattle.db_model.specs.Script.{commands}
-use Rattle.db_model.specs.Step.{after_all, replies}
-use Rattle.db_model.specs.Workload.{first_commands, nothing, tally, tally_text}
-use Rattle.run_model.specs.Runs.{CarriedOut, FoundNoSpace, HasEnough, InputCutOff, InputEnded, InputFaulted, InputFoundNoSpace, InputTooLong, InputUnsaid, Machine, ReadsWithin, RefusalUnsaid, SpaceUnsaid, StandsAfter, World, WroteWithin, machine_from}
+use Rattle.db_model.specs.Step.{after_all}
+use Rattle.db_model.specs.Workload.{first_commands}
+use Rattle.dump_model.specs.Script.{script}
+use Rattle.run_model.specs.Line.{Line}
+use Rattle.run_model.specs.Runs.{CarriedOut, FoundNoSpace, HasEnough, InputCutOff, InputEnded, InputFaulted, InputFoundNoSpace, InputTooLong, InputUnsaid, Machine, ReadsWithin, RefusalUnsaid, SpaceUnsaid, StandsAfter, World, WroteWithin, WrotePart, machine_from}
 use Rattle.run_model.specs.Scripts.{script_line, script_talk}
+use Rattle.run_model.specs.Talk.{Talk}
+use Rattle.serve_model.specs.Frames.{frame_line}
+use Rattle.serve_model.specs.Served.{serve_talk}
 use Rattle.sound_image.specs.Images.{IsSound, base}
+use Rattle.space_plan.specs.Lines.{plan_text}
+use Rattle.space_plan.specs.Planned.{planned}
+use Rattle.workload_run.specs.Summed.{summed}
 use Rattle.antelope_run.specs.declared.words.Form.{Form}
-use Rattle.antelope_run.specs.declared.words.Form.TheVariants.{Run, Gen}
+use Rattle.antelope_run.specs.declared.words.Form.TheVariants.{Run, Gen, Plan, Serve, Dump}
 
--- whatever reads the bytes of commands as they are to be read
+-- ---- inputs: P of how their bytes are cut into entries and how these are answered, whatever reads the bytes of commands as
+-- they are to be read
+
 abbrev pub OnReader : ((List ℕ → Result Command Refusal) → Type 0) → Type 0
 OnReader P = (read : List ℕ → Result Command Refusal) → IsReader read → P read
 
--- ---- generated commands
+abbrev pub OnInput : Form → ((E : Type 0) → Line E → Talk E → Type 0) → Type 0
+OnInput Run P = OnReader (λ read. P _ script_line (script_talk read))
+OnInput Serve P = OnReader (λ read. P _ frame_line (serve_talk read))
+OnInput _ P = ⊥
 
--- the line over commands
-abbrev pub summed : Database → List Command → List ℕ
-summed db commands = tally_text (tally nothing (replies db commands))
+-- ---- generated commands
 
 abbrev pub IsItself : Command → Command → Type 0
 IsItself entry command = entry ≡ command
@@ -45,52 +56,88 @@ pub record LineUnsaid (commands : List Command) (old new : World) : Type 0 where
   pub written : WroteWithin [] (summed (base old.image) commands) old.held new.held
   pub stands : StandsAfter (summed_from (base old.image)) commands new.image
 
--- ---- status by status
+-- ---- what is told of an image: the sectors that are planned for so many rows, and the script of its database
+
+abbrev pub planned_text : ℕ → List ℕ → List ℕ
+planned_text rows image = plan_text (planned (base image) rows) (length image / 4096)
+
+abbrev pub dumped_text : List ℕ → List ℕ
+dumped_text image = script (base image)
+
+-- the image stays, and no input is read
+pub record Leaves (old new : World) : Type 0 where
+  pub same : new.image ≡ old.image
+  pub unread : new.left ≡ old.left
+
+-- and this was written
+pub record Tells (text : List ℕ → List ℕ) (old new : World) : Type 0 where
+  pub leaves : Leaves old new
+  pub written : new.held ≡ append_known old.held (text old.image)
+
+-- or less than that
+pub record TellsLess (text : List ℕ → List ℕ) (old new : World) : Type 0 where
+  pub leaves : Leaves old new
+  pub written : WroteWithin [] (text old.image) old.held new.held
+
+-- ---- status by status, of a sound image
+
+-- 0
+abbrev pub Ended : Form → World → World → Type 0
+Ended (Gen seed count) old new = CarriedOut (summed_from (base old.image)) (first_commands seed count) old new
+Ended (Plan rows) old new = Tells (planned_text rows) old new
+Ended Dump old new = Tells dumped_text old new
+Ended form old new = OnInput form (λ E line talk. InputEnded line talk old new)
+
+-- 3
+abbrev pub Spaceless : Form → World → World → Type 0
+Spaceless (Gen seed count) old new = FoundNoSpace (summed_from (base old.image)) (first_commands seed count) old new
+Spaceless form old new = OnInput form (λ E line talk. InputFoundNoSpace line talk old new)
+
+-- 4: nothing is said of the image
+abbrev pub Faulted : Form → World → World → Type 0
+Faulted (Gen seed count) old new = new.held ≡ old.held
+Faulted (Plan rows) old new = ⊥
+Faulted Dump old new = WrotePart (dumped_text old.image) old.held new.held
+Faulted form old new = OnInput form (λ E line talk. InputFaulted line talk old new)
+
+-- 5
+abbrev pub Unsaid : Form → World → World → Type 0
+Unsaid (Gen seed count) old new =
+    LineUnsaid (first_commands seed count) old new
+    ⊎ SpaceUnsaid (summed_from (base old.image)) nothing_yet (first_commands seed count) old new
+Unsaid (Plan rows) old new = TellsLess (planned_text rows) old new
+Unsaid Dump old new = TellsLess dumped_text old new
+Unsaid form old new = OnInput form (λ E line talk. InputUnsaid line talk old new)
+
+-- ---- of words that may be none
+
+abbrev pub OnForm : Option Form → (Form → Type 0) → Type 0
+OnForm None P = ⊥
+OnForm (Some form) P = P form
 
 -- 0
 abbrev pub Ends : Option Form → World → World → Type 0
-Ends (Some Run) old new = IsSound old.image × OnReader (λ read. InputEnded script_line (script_talk read) old new)
-Ends (Some (Gen seed count)) old new = IsSound old.image × CarriedOut (summed_from (base old.image)) (first_commands seed count) old new
-Ends None old new = ⊥
+Ends words old new = IsSound old.image × OnForm words (λ form. Ended form old new)
 
 -- 2
 abbrev pub IsCutOff : Option Form → World → World → Type 0
-IsCutOff (Some Run) old new = IsSound old.image × OnReader (λ read. InputCutOff script_line (script_talk read) old new)
-IsCutOff _ old new = ⊥
+IsCutOff words old new = IsSound old.image × OnForm words (λ form. OnInput form (λ E line talk. InputCutOff line talk old new))
 
 -- 8
 abbrev pub IsTooLong : Option Form → World → World → Type 0
-IsTooLong (Some Run) old new = IsSound old.image × OnReader (λ read. InputTooLong script_line (script_talk read) old new)
-IsTooLong _ old new = ⊥
+IsTooLong words old new = IsSound old.image × OnForm words (λ form. OnInput form (λ E line talk. InputTooLong line talk old new))
 
 -- 3
 abbrev pub FindsNoSpace : Option Form → World → World → Type 0
-FindsNoSpace (Some Run) old new = IsSound old.image × OnReader (λ read. InputFoundNoSpace script_line (script_talk read) old new)
-FindsNoSpace (Some (Gen seed count)) old new =
-    IsSound old.image × FoundNoSpace (summed_from (base old.image)) (first_commands seed count) old new
-FindsNoSpace None old new = ⊥
+FindsNoSpace words old new = IsSound old.image × OnForm words (λ form. Spaceless form old new)
 
--- 5 of a sound image
-abbrev pub SaysLess : Option Form → World → World → Type 0
-SaysLess (Some Run) old new = OnReader (λ read. InputUnsaid script_line (script_talk read) old new)
-SaysLess (Some (Gen seed count)) old new =
-    LineUnsaid (first_commands seed count) old new
-    ⊎ SpaceUnsaid (summed_from (base old.image)) nothing_yet (first_commands seed count) old new
-SaysLess None old new = ⊥
-
--- 5
-abbrev pub IsUnsaid : Option Form → World → World → Type 0
-IsUnsaid form old new = RefusalUnsaid old new ⊎ (IsSound old.image × SaysLess form old new)
-
--- 4 of a sound image
-abbrev pub WritesPart : Option Form → World → World → Type 0
-WritesPart (Some Run) old new = OnReader (λ read. InputFaulted script_line (script_talk read) old new)
-WritesPart (Some (Gen seed count)) old new = new.held ≡ old.held
-WritesPart None old new = ⊥
-
--- 4: nothing is said of the image
+-- 4: nothing was written where no session was opened
 abbrev pub IsFaulted : Option Form → World → World → Type 0
-IsFaulted form old new = (new.held ≡ old.held) ⊎ (IsSound old.image × WritesPart form old new)
+IsFaulted words old new = (new.held ≡ old.held) ⊎ (IsSound old.image × OnForm words (λ form. Faulted form old new))
+
+-- 5: the line of an image that is not sound, or what is written of a sound one
+abbrev pub IsUnsaid : Option Form → World → World → Type 0
+IsUnsaid words old new = RefusalUnsaid old new ⊎ (IsSound old.image × OnForm words (λ form. Unsaid form old new))
 
 -- ---- completeness, and reads
 
@@ -98,20 +145,32 @@ IsFaulted form old new = (new.held ≡ old.held) ⊎ (IsSound old.image × Write
 abbrev pub IsStatus : ℕ → Type 0
 IsStatus s = (s ≡ 0) ⊎ (s ≡ 1) ⊎ (s ≡ 2) ⊎ (s ≡ 3) ⊎ (s ≡ 4) ⊎ (s ≡ 5) ⊎ (s ≡ 6) ⊎ (s ≡ 8)
 
+-- the words name an input
+abbrev pub TakesInput : Option Form → Type 0
+TakesInput (Some Run) = ⊤
+TakesInput (Some Serve) = ⊤
+TakesInput _ = ⊥
+
 -- the input, where the words name one, is told and within the limit
 abbrev pub IsShort : Option Form → Option (List ℕ) → Type 0
-IsShort (Some Run) left = (text : List ℕ) × (left ≡ Some text) × (length text ≤ 16777216)
-IsShort (Some (Gen seed count)) left = ⊤
-IsShort None left = ⊥
+IsShort words left = words ≢ None × (TakesInput words → (text : List ℕ) × (left ≡ Some text) × (length text ≤ 16777216))
 
--- the flash has enough sectors before each command
+-- before each command of an input the flash has enough sectors
+abbrev pub InputHasEnough : World → (E : Type 0) → Line E → Talk E → Type 0
+InputHasEnough old E line talk = (text : List ℕ) → old.left ≡ Some text
+    → HasEnough (machine_from talk (base old.image)) (length old.image / 4096) (line.all text)
+
+-- the flash has enough sectors before each command, where the input is told
 abbrev pub HasSpace : Option Form → World → Type 0
-HasSpace (Some Run) old = (read : List ℕ → Result Command Refusal) × (text : List ℕ) × IsReader read × (old.left ≡ Some text)
-    × HasEnough (machine_from (script_talk read) (base old.image)) (length old.image / 4096) (commands text)
-HasSpace (Some (Gen seed count)) old = HasEnough (summed_from (base old.image)) (length old.image / 4096) (first_commands seed count)
 HasSpace None old = ⊥
+HasSpace (Some (Gen seed count)) old = HasEnough (summed_from (base old.image)) (length old.image / 4096) (first_commands seed count)
+HasSpace (Some (Plan rows)) old = ⊤
+HasSpace (Some Dump) old = ⊤
+HasSpace (Some Run) old = (old.left ≢ None) × (read : List ℕ → Result Command Refusal) × IsReader read × InputHasEnough old _ script_line (script_talk read)
+HasSpace (Some Serve) old = (old.left ≢ None) × (read : List ℕ → Result Command Refusal) × IsReader read × InputHasEnough old _ frame_line (serve_talk read)
 
--- it reads so many pages at most, where the entries of its input only read
+-- so many pages are read at most, where the entries of the input only read
 abbrev pub ReadsAtMost : Option Form → World → ℕ → Type 0
-ReadsAtMost (Some Run) old n = OnReader (λ read. ReadsWithin script_line (script_talk read) old n)
+ReadsAtMost (Some Run) old n = OnInput Run (λ E line talk. ReadsWithin line talk old n)
+ReadsAtMost (Some Serve) old n = OnInput Serve (λ E line talk. ReadsWithin line talk old n)
 ReadsAtMost _ old n = ⊤

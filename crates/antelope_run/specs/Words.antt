@@ -1,12 +1,12 @@
 -- The words that the program is called with.
-use Rattle.std.specs.Prelude.{ℕ, ◌+◌, ◌-◌, ◌*◌, Bool, ◌&&◌, List, [], ◌∷◌, length, nat_eq, nat_le, codes, Option, None, Some, option_map, option_and_then, if◌then◌else◌}
+use Rattle.std.specs.Prelude.{⊤, ◌≤◌, ℕ, ◌+◌, ◌-◌, ◌*◌, Bool, ◌&&◌, List, [], ◌∷◌, length, nat_eq, nat_le, codes, Option, None, Some, option_map, option_and_then, if◌then◌else◌}
 use Rattle.std.specs.Char.{is_ascii_digit}
 use Rattle.std.specs.Cmp.Lexicographic.{pointwise}
 use Rattle.std.specs.List.{list_all}
 use Rattle.std.specs.String.{string_bytes}
 use Rattle.std.specs.declared.string.String.{String}
 use Rattle.antelope_run.specs.declared.words.Form.{Form}
-use Rattle.antelope_run.specs.declared.words.Form.TheVariants.{Run, Gen}
+use Rattle.antelope_run.specs.declared.words.Form.TheVariants.{Run, Gen, Plan, Serve, Dump}
 
 -- the number that digits behind a number make of it
 abbrev pub value_from : ℕ → List ℕ → ℕ
@@ -23,14 +23,39 @@ number_in digits least most word =
     if nat_le 1 (length word) && nat_le (length word) digits && list_all is_ascii_digit word
     then (if nat_le least (value_from 0 word) then at_most most (value_from 0 word) else None) else None
 
+-- so many rows
+abbrev pub planned_by : List ℕ → Option Form
+planned_by rows = option_map (λ n. Plan n) (number_in 5 0 32767 rows)
+
 -- a seed and a count
 abbrev pub generated_by : List ℕ → List ℕ → Option Form
 generated_by seed count =
     option_and_then (λ s. option_map (λ c. Gen s c) (number_in 6 1 100000 count)) (number_in 10 0 4294967295 seed)
 
--- `run` and two words, or `gen` and a word, a seed and a count
+abbrev pub is_word : List ℕ → List ℕ → Bool
+is_word name word = pointwise nat_eq name word
+
+-- ---- behind the name comes the image, and then none, one or two words
+
+abbrev pub alone : List ℕ → Option Form
+alone name = if is_word name (codes "dump") then Some Dump else None
+
+abbrev pub with_one : List ℕ → List ℕ → Option Form
+with_one name word =
+    if is_word name (codes "run") then Some Run else
+    (if is_word name (codes "serve") then Some Serve else
+    (if is_word name (codes "plan") then planned_by word else None))
+
+abbrev pub with_two : List ℕ → List ℕ → List ℕ → Option Form
+with_two name one other = if is_word name (codes "gen") then generated_by one other else None
+
 abbrev pub form_of : {A : Type 0} → List (String A) → Option Form
-form_of (name ∷ image ∷ script ∷ []) = if pointwise nat_eq (string_bytes name) (codes "run") then Some Run else None
-form_of (name ∷ image ∷ seed ∷ count ∷ []) =
-    if pointwise nat_eq (string_bytes name) (codes "gen") then generated_by (string_bytes seed) (string_bytes count) else None
+form_of (name ∷ image ∷ []) = alone (string_bytes name)
+form_of (name ∷ image ∷ word ∷ []) = with_one (string_bytes name) (string_bytes word)
+form_of (name ∷ image ∷ one ∷ other ∷ []) = with_two (string_bytes name) (string_bytes one) (string_bytes other)
 form_of _ = None
+
+-- the commands that are to be generated are at most 100,000
+abbrev pub HasFewCommands : Form → Type 0
+HasFewCommands (Gen seed count) = count ≤ 100000
+HasFewCommands _ = ⊤

@@ -6,4 +6,11 @@ pub enum Form {
     /// `gen IMAGE SEED COUNT`: to carry out so many generated commands. SEED has 1 to 10 digits and a
     /// value from 0 to 4,294,967,295, COUNT 1 to 6 digits and a value from 1 to 100,000.
     Gen { seed: u32, count: u32 },
+    /// `plan IMAGE ROWS`: to tell how many sectors are enough for so many further rows in each relation.
+    /// ROWS has 1 to 5 digits and a value from 0 to 32,767.
+    Plan { rows: u16 },
+    /// `serve IMAGE INPUT`: to answer the frames of up to four clients on one line.
+    Serve,
+    /// `dump IMAGE`: to write the database as a script.
+    Dump,
 }

@@ -5,8 +5,8 @@ use Rattle.antelope_run.specs.Words.{value_from}
 use Rattle.antelope_run.proofs.Numbers.{too_large}
 use Rattle.antelope_run.proofs.reading.value_within.Goals as goal
 
-pub returns-then-next-from : goal.returns-then-next-from
-returns-then-next-from c =
+pub returns-then-next-from-clause-number : goal.returns-then-next-from-clause-number
+returns-then-next-from-clause-number c =
     let word = c.args.word.now in
     let i = c.loop-byte.byte-index in
     let there : i < length word = search rules in

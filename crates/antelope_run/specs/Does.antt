@@ -1,0 +1,53 @@
+-- What a session does that the words ask for.
+use Rattle.std.specs.Prelude.{◌≡◌, ◌≢◌, ⊤, ℕ, List, Option, Result, Ok, Err}
+use Rattle.std.specs.Io.KnownBytes.{append_known}
+use Rattle.db_model.specs.declared.commands.Command.{Command}
+use Rattle.db_model.specs.Workload.{first_commands}
+use Rattle.dump_model.specs.Script.{script}
+use Rattle.intake.specs.declared.halt.Halt.TheVariants.{Space, Flash, Sink}
+use Rattle.intake.specs.declared.halt.Stop.{Stop}
+use Rattle.intake.specs.declared.halt.Stop.TheVariants.{Input, Long, Halted}
+use Rattle.reply_text.specs.WroteLess.{WroteLess}
+use Rattle.session_model.specs.Steps.{WrotePart}
+use Rattle.answering.specs.Carried.{Standing}
+use Rattle.answering.specs.Went.{Went}
+use Rattle.space_plan.specs.Lines.{plan_text}
+use Rattle.space_plan.specs.Planned.{planned}
+use Rattle.workload_run.specs.Summed.{StopsBy, SummedUp}
+use Rattle.antelope_run.specs.declared.words.Form.{Form}
+use Rattle.antelope_run.specs.declared.words.Form.TheVariants.{Run, Gen, Plan, Serve, Dump}
+use Rattle.antelope_run.specs.Statuses.{OnInput}
+
+module _ (old new : Standing) where
+  -- given commands were carried out, and one line was written
+  abbrev pub Generates : (Command → ℕ → Type 0) → List Command → Result ⊤ Stop → Type 0
+  Generates Lacks commands (Ok done) = SummedUp commands old.database new.database old.held new.held
+  Generates Lacks commands (Err (Halted halt)) = StopsBy Lacks commands old.database new.database old.held new.held halt
+  Generates Lacks commands (Err Input) = ⊥
+  Generates Lacks commands (Err Long) = ⊥
+
+  -- a text was written, and the database stays
+  abbrev pub Writes : List ℕ → Result ⊤ Stop → Type 0
+  Writes text (Ok done) = new.held ≡ append_known old.held text
+  Writes text (Err (Halted Sink)) = WroteLess old.held new.held text
+  Writes text (Err (Halted Flash)) = WrotePart old.held new.held text
+  Writes text (Err (Halted Space)) = ⊥
+  Writes text (Err Input) = ⊥
+  Writes text (Err Long) = ⊥
+
+  -- the files tell what they told, unless they failed
+  abbrev pub TellsOn : Result ⊤ Stop → Type 0
+  TellsOn result = result ≢ Err (Halted Flash) → new.tells ≡ old.tells
+
+  -- what was done of a form, on a flash of so many sectors
+  abbrev pub Does : (sectors : ℕ) → (left left_now : Option (List ℕ)) → (Command → ℕ → Type 0) → Form → Result ⊤ Stop → Type 0
+  Does sectors left left_now Lacks (Gen seed count) result = TellsOn result × Generates Lacks (first_commands seed count) result
+  Does sectors left left_now Lacks (Plan rows) result = TellsOn result × Writes (plan_text (planned old.database rows) sectors) result
+  Does sectors left left_now Lacks Dump result = TellsOn result × Writes (script old.database) result
+  Does sectors left left_now Lacks form result = OnInput form (λ E line talk. Went line talk old new left left_now Lacks result)
+
+-- the words ask for what neither changes files nor reads an input
+abbrev pub OnlyTells : Form → Type 0
+OnlyTells (Plan rows) = ⊤
+OnlyTells Dump = ⊤
+OnlyTells _ = ⊥

@@ -1,0 +1,133 @@
+//! What the words ask for, over a session.
+
+#![tactic(auto)]
+
+ghost use Rattle.std.specs.Prelude.{◌≡◌, ◌≢◌, ◌≤◌, false, true, ℕ, Err, IfErr, IsErrOf, IsTrue, OnErr, OnOk, length};
+ghost use Rattle.std.specs.Io.KnownBytes.{append_known};
+ghost use Rattle.afl_base.specs.Causes.{Rose};
+ghost use Rattle.answering.specs.Carried.{LacksPages, standing_of};
+ghost use Rattle.answering.specs.Went.{HasRunCause};
+ghost use Rattle.db_model.specs.Sound.{IsSoundDatabase};
+ghost use Rattle.db_model.specs.Workload.{first_commands};
+ghost use Rattle.dump.specs.Unchanged.{IsAsBefore};
+ghost use Rattle.dump_model.specs.Script.{script};
+ghost use Rattle.intake.specs.declared.halt.Halt.TheVariants as Halt;
+ghost use Rattle.intake.specs.declared.halt.Stop.TheVariants as Stop;
+ghost use Rattle.space_plan.specs.Lines.{plan_text};
+ghost use Rattle.space_plan.specs.Planned.{planned};
+ghost use Rattle.antelope_run.specs.declared.words.Form.TheVariants as Form;
+ghost use Rattle.antelope_run.specs.Does.{Does, Generates, OnlyTells, TellsOn, Writes};
+ghost use Rattle.antelope_run.specs.Words.{HasFewCommands};
+
+use crate::words::Form;
+use afl_base::{Failed, Files, Sink, Source};
+use antelope_engine::Session;
+use intake::{Halt, Stop};
+use script_run::run_script;
+use serve::serve_line;
+use space_plan::{planned, write_plan};
+use workload_run::generate;
+
+/// Carries out what a form asks for on a flash of so many sectors, and hands back the session.
+pub fn carry_out<V: Files, S: Source, K: Sink>(
+    form: Form,
+    sectors: u16,
+    session: Session<V>,
+    input: &mut S,
+    out: &mut K,
+) -> (Result<(), Stop>, Session<V>)
+    requires running { session.stopped ≡ false }
+    requires commands { HasFewCommands form }
+    ensures does { IsTrue (V.state session.files).tells → IsSoundDatabase session.database
+        → Does (standing_of V.state V.reads session (K.held out.old))
+        (standing_of V.state V.reads result.1 (K.held out.new)) sectors (S.left input.old) (S.left input.new)
+        (LacksPages V.state V.asks V.lacks result.1) form result.0 }
+    ensures lost { session.lost ≡ false → result.1.lost ≡ true → result.0 ≡ Err (Stop.Halted Halt.Flash) }
+    ensures store { length (V.state result.1.files).store ≡ length (V.state session.files).store }
+    ensures same { OnlyTells form → result.0 ≢ Err (Stop.Halted Halt.Flash)
+        → (V.state result.1.files).store ≡ (V.state session.files).store }
+    ensures unread { OnlyTells form → input.new ≡ input.old }
+    ensures keeps { K.keeps out.old out.new }
+    ensures cause { HasRunCause (S.faults input.old) (S.faults input.new)
+        (V.faults session.files) (V.faults result.1.files) (K.faults out.old) (K.faults out.new) result.0 }
+{
+    match form {
+        Form::Run => run_script(session, input, out),
+        Form::Serve => serve_line(session, input, out),
+        Form::Gen { seed, count } => generate_all(session, seed, count, out),
+        Form::Plan { rows } => plan(session, rows, sectors, out),
+        Form::Dump => dump_all(session, out),
+    }
+}
+
+// Carries out generated commands.
+fn generate_all<V: Files, K: Sink>(
+    session: Session<V>,
+    seed: u32,
+    count: u32,
+    out: &mut K,
+) -> (Result<(), Stop>, Session<V>)
+    requires running { session.stopped ≡ false }
+    requires few { count ≤ 100000 }
+    ensures does { let old = standing_of V.state V.reads session (K.held out.old) in
+        let new = standing_of V.state V.reads result.1 (K.held out.new) in
+        IsTrue (V.state session.files).tells → TellsOn old new result.0 × Generates old new
+        (LacksPages V.state V.asks V.lacks result.1) (first_commands seed count) result.0 }
+    ensures lost { session.lost ≡ false → result.1.lost ≡ true → result.0 ≡ Err (Stop.Halted Halt.Flash) }
+    ensures store { length (V.state result.1.files).store ≡ length (V.state session.files).store }
+    ensures keeps { K.keeps out.old out.new }
+    ensures cause { (inputs : ℕ) → HasRunCause inputs inputs (V.faults session.files)
+        (V.faults result.1.files) (K.faults out.old) (K.faults out.new) result.0 }
+{
+    let mut session = session;
+    match generate(&mut session, seed, count, out) {
+        Ok(()) => (Ok(()), session),
+        Err(halt) => (Err(Stop::Halted(halt)), session),
+    }
+}
+
+// Writes how many sectors are planned for so many rows more, and how many there are.
+fn plan<V: Files, K: Sink>(
+    session: Session<V>,
+    rows: u16,
+    sectors: u16,
+    out: &mut K,
+) -> (Result<(), Stop>, Session<V>)
+    requires running { session.stopped ≡ false }
+    ensures does { let old = standing_of V.state V.reads session (K.held out.old) in
+        let new = standing_of V.state V.reads result.1 (K.held out.new) in
+        IsTrue (V.state session.files).tells → IsSoundDatabase session.database
+        → TellsOn old new result.0 × Writes old new (plan_text (planned session.database rows) sectors) result.0 }
+    ensures same { result.1 ≡ session }
+    ensures keeps { K.keeps out.old out.new }
+    ensures cause { (inputs : ℕ) → HasRunCause inputs inputs (V.faults session.files)
+        (V.faults result.1.files) (K.faults out.old) (K.faults out.new) result.0 }
+{
+    let needed = planned(&session, rows);
+    match write_plan(out, needed, sectors) {
+        Ok(()) => (Ok(()), session),
+        Err(Failed) => (Err(Stop::Halted(Halt::Sink)), session),
+    }
+}
+
+// Writes the database as a script.
+fn dump_all<V: Files, K: Sink>(session: Session<V>, out: &mut K) -> (Result<(), Stop>, Session<V>)
+    requires running { session.stopped ≡ false }
+    ensures does { let old = standing_of V.state V.reads session (K.held out.old) in
+        let new = standing_of V.state V.reads result.1 (K.held out.new) in
+        IsTrue (V.state session.files).tells → IsSoundDatabase session.database
+        → TellsOn old new result.0 × Writes old new (script session.database) result.0 }
+    ensures same { result.0 ≢ Err (Stop.Halted Halt.Flash) → IsAsBefore V.state session result.1 }
+    ensures lost { session.lost ≡ false → result.1.lost ≡ true → result.0 ≡ Err (Stop.Halted Halt.Flash) }
+    ensures store { length (V.state result.1.files).store ≡ length (V.state session.files).store }
+    ensures keeps { K.keeps out.old out.new }
+    ensures cause { (inputs : ℕ) → HasRunCause inputs inputs (V.faults session.files)
+        (V.faults result.1.files) (K.faults out.old) (K.faults out.new) result.0 }
+{
+    let mut session = session;
+    match dump::write(&mut session, out) {
+        Ok(()) => (Ok(()), session),
+        Err(session_model::Stop::Sink) => (Err(Stop::Halted(Halt::Sink)), session),
+        Err(session_model::Stop::Flash) => (Err(Stop::Halted(Halt::Flash)), session),
+    }
+}

@@ -1,0 +1,6 @@
+pub mod IndexTexts
+pub mod Items
+pub mod LineTexts
+pub mod ScriptTexts
+pub mod Sessions
+pub mod ValueTexts

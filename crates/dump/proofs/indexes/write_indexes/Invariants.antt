@@ -1,0 +1,13 @@
+use Rattle.std.proofs.Common.{◌≡◌, flat_map, take}
+use Rattle.std.specs.Io.KnownBytes.{append_known}
+use Rattle.db_model.specs.Sound.{IsSoundDatabase}
+use Rattle.dump.specs.Parts.{index_lines}
+use Rattle.dump.proofs.indexes.write_indexes.Given as goal
+
+abbrev pub invariant-loop-slot : goal.invariant-loop-slot
+invariant-loop-slot g l = record {
+  wrote : IsSoundDatabase l.session.database
+      → g.K.Sink.held l.out ≡ append_known (g.K.Sink.held l.fn.out) (flat_map (index_lines l.session.database.relations) (take l.slot l.session.database.indexes));
+  keeps : g.K.Sink.keeps l.fn.out l.out;
+  faults : g.K.Sink.faults l.out ≡ g.K.Sink.faults l.fn.out;
+}

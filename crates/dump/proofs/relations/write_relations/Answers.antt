@@ -1,0 +1,71 @@
+use Rattle.std.proofs.Common.{◌≡◌, ◌+◌, ◌*◌, ◌<◌, ◌≤◌, Err, IsTrue, None, arith, length, rules, subst, sym}
+use Rattle.std.specs.Io.KnownBytes.{append_known}
+use Rattle.afl_base.specs.Files.{State}
+use Rattle.db_model.specs.Database.{Database}
+use Rattle.db_model.specs.Sound.{IsSoundDatabase}
+use Rattle.antelope_engine.specs.Reading.{relation_at}
+use Rattle.space_model.specs.Enough.{rows_in}
+use Rattle.dump.specs.Appends.{Appends}
+use Rattle.dump.specs.Parts.{relation_lines}
+use Rattle.dump.proofs.Items.{appends_item, held_item}
+use Rattle.dump.proofs.ScriptTexts.{slots_front, slots_more}
+use Rattle.dump.proofs.Sessions.{before_on}
+use Rattle.dump.proofs.relations.write_relations.Goals as goal
+
+pub loop-slot-preserved : goal.loop-slot-preserved
+loop-slot-preserved g c =
+    let inv = c.loop-slot.invariant in
+    let e = c.in-Ok.ensures in
+    let db = c.args.session.now.database in
+    let k = c.loop-slot.slot in
+    let now = g.K.Sink.held c.loop-slot.out in
+    let behind = g.K.Sink.held c.write_relation.new.out in
+    record {
+      wrote = λ told sound.
+          let below : k < length db.relations = omega (arith, sound.eight_relations, c.loop-slot-test.true) in
+          let wrote = e.wrote
+          (subst (λ (state : State). IsTrue state.tells) (sym inv.same.files) told)
+          (subst (λ (d : Database). IsSoundDatabase d) (sym inv.same.database) sound) in
+          held_item relation_lines db.relations k None below (g.K.Sink.held c.args.out.now) (inv.wrote told sound)
+          (subst (λ (d : Database). behind ≡ append_known now (relation_lines (relation_at d k))) inv.same.database
+          (rw c.relation_id.ensures at wrote));
+      same = before_on g.V.Files.state c.args.session.now c.loop-slot.session c.write_relation.new.session inv.same e.same;
+      reads =
+          let more = slots_more db k in
+          let read = subst (λ (d : Database). g.V.Files.reads c.write_relation.new.session.files ≤ g.V.Files.reads c.loop-slot.session.files + 6 * length (rows_in d k)) inv.same.database (rw c.relation_id.ensures at e.reads) in
+          omega (arith, more, read, inv.reads);
+      later = let later = e.cause.files_later in omega (arith, later, inv.later);
+      keeps = g.met.K.Sink.kept_on c.args.out.now c.loop-slot.out c.write_relation.new.out inv.keeps e.keeps;
+      faults = search rules;
+    }
+
+pub returns-in-Err-clause-wrote : goal.returns-in-Err-clause-wrote
+returns-in-Err-clause-wrote g c = λ told sound.
+    let inv = c.loop-slot.invariant in
+    let db = c.args.session.now.database in
+    let k = c.loop-slot.slot in
+    let stop = c.in-Err.stop in
+    let now = g.K.Sink.held c.loop-slot.out in
+    let behind = g.K.Sink.held c.write_relation.new.out in
+    let below : k < length db.relations = omega (arith, sound.eight_relations, c.loop-slot-test.true) in
+    let wrote = c.in-Err.ensures.wrote
+    (subst (λ (state : State). IsTrue state.tells) (sym inv.same.files) told)
+    (subst (λ (d : Database). IsSoundDatabase d) (sym inv.same.database) sound) in
+    appends_item relation_lines db.relations k None below stop (g.K.Sink.held c.args.out.now) now behind (inv.wrote told sound)
+    (subst (λ (d : Database). Appends (Err stop) now behind (relation_lines (relation_at d k))) inv.same.database
+    (rw c.relation_id.ensures at wrote))
+
+pub returns-in-Err-clause-reads : goal.returns-in-Err-clause-reads
+returns-in-Err-clause-reads g c =
+    let inv = c.loop-slot.invariant in
+    let db = c.args.session.now.database in
+    let k = c.loop-slot.slot in
+    let more = slots_more db k in
+    let front = slots_front db.relations (k + 1) in
+    let read = subst (λ (d : Database). g.V.Files.reads c.write_relation.new.session.files ≤ g.V.Files.reads c.loop-slot.session.files + 6 * length (rows_in d k)) inv.same.database (rw c.relation_id.ensures at c.in-Err.ensures.reads) in
+    omega (arith, more, front, read, inv.reads)
+
+pub returns-clause-reads : goal.returns-clause-reads
+returns-clause-reads g c =
+    let front = slots_front c.args.session.now.database.relations c.loop-slot.slot in
+    omega (arith, front, c.loop-slot.invariant.reads)

@@ -1,0 +1,17 @@
+use Rattle.std.proofs.Common.{◌≡◌, ◌+◌, ◌*◌, ◌≤◌, IsTrue, flat_map, take}
+use Rattle.std.specs.Io.KnownBytes.{append_known}
+use Rattle.db_model.specs.Sound.{IsSoundDatabase}
+use Rattle.dump.specs.Parts.{relation_lines, slots_of_all}
+use Rattle.dump.specs.Unchanged.{IsAsBefore}
+use Rattle.dump.proofs.relations.write_relations.Given as goal
+
+abbrev pub invariant-loop-slot : goal.invariant-loop-slot
+invariant-loop-slot g l = record {
+  wrote : IsTrue (g.V.Files.state l.fn.session.files).tells → IsSoundDatabase l.fn.session.database
+      → g.K.Sink.held l.out ≡ append_known (g.K.Sink.held l.fn.out) (flat_map relation_lines (take l.slot l.fn.session.database.relations));
+  same : IsAsBefore g.V.Files.state l.fn.session l.session;
+  reads : g.V.Files.reads l.session.files ≤ g.V.Files.reads l.fn.session.files + 6 * slots_of_all (take l.slot l.fn.session.database.relations);
+  later : g.V.Files.faults l.fn.session.files ≤ g.V.Files.faults l.session.files;
+  keeps : g.K.Sink.keeps l.fn.out l.out;
+  faults : g.K.Sink.faults l.out ≡ g.K.Sink.faults l.fn.out;
+}

@@ -1,0 +1,11 @@
+use Rattle.std.proofs.Common.{◌≡◌, take}
+use Rattle.std.specs.Io.KnownBytes.{append_known}
+use Rattle.dump.specs.Parts.{attribute_lines}
+use Rattle.dump.proofs.schemas.write_attributes.Given as goal
+
+abbrev pub invariant-loop-at : goal.invariant-loop-at
+invariant-loop-at g l = record {
+  held : g.K.Sink.held l.out ≡ append_known (g.K.Sink.held l.fn.out) (attribute_lines l.relation (take l.at l.attributes));
+  keeps : g.K.Sink.keeps l.fn.out l.out;
+  faults : g.K.Sink.faults l.out ≡ g.K.Sink.faults l.fn.out;
+}

@@ -1,0 +1,3 @@
+pub mod Appends
+pub mod Parts
+pub mod Unchanged

@@ -1,0 +1,93 @@
+//! The lines of rows.
+
+#![tactic(auto)]
+
+ghost use Rattle.std.specs.Prelude.{◌≡◌, ◌+◌, ◌*◌, ◌<◌, ◌≤◌, true, false, IsErrOf, IsSome, IsTrue, OnOk, flat_map, length};
+ghost use Rattle.db_model.specs.Sound.{IsSoundDatabase};
+ghost use Rattle.antelope_engine.specs.Reading.{relation_at, row_at};
+ghost use Rattle.session_model.specs.declared.step.Stop.TheVariants.{Flash};
+ghost use Rattle.session_model.specs.Steps.{HasStopCause, UnlessFlash};
+ghost use Rattle.space_model.specs.Enough.{rows_in};
+ghost use Rattle.dump.specs.Appends.{Appends};
+ghost use Rattle.dump.specs.Parts.{row_lines};
+ghost use Rattle.dump.specs.Unchanged.{IsAsBefore};
+
+use crate::lines::write_row_line;
+use afl_base::{Failed, Files, RelationId, Sink, SlotNo};
+use antelope_engine::{Session, Stop};
+use db_model::{Ident, Tuple};
+
+// Appends the lines that insert the live rows of the relation in a slot.
+pub fn write_rows<V: Files, K: Sink>(
+    session: &mut Session<V>,
+    id: RelationId,
+    relation: &Ident,
+    out: &mut K,
+) -> Result<(), Stop>
+    requires running { session.old.stopped ≡ false }
+    requires used { IsSome (relation_at session.old.database id) }
+    ensures wrote { let db = session.old.database in
+        IsTrue (V.state session.old.files).tells → IsSoundDatabase db
+        → Appends result (K.held out.old) (K.held out.new)
+        (flat_map (row_lines relation.now) (rows_in db id)) }
+    ensures same { UnlessFlash result (IsAsBefore V.state session.old session.new) }
+    ensures lost { IsErrOf result Flash
+        → (session.new.stopped ≡ true) × (session.new.lost ≡ true) }
+    ensures reads { let slots = length (rows_in session.old.database id) in
+        V.reads session.new.files ≤ V.reads session.old.files + 6 * slots }
+    ensures store { let old = V.state session.old.files in
+        length (V.state session.new.files).store ≡ length old.store }
+    ensures keeps { K.keeps out.old out.new }
+    ensures faultless { OnOk result (K.faults out.new ≡ K.faults out.old) }
+    ensures cause { HasStopCause (V.faults session.old.files) (V.faults session.new.files)
+        (K.faults out.old) (K.faults out.new) result }
+{
+    let mut tuple = Tuple::new();
+    for at in 0..session.slots(id) {
+        let slot = match SlotNo::new(at) {
+            Some(slot) => slot,
+            None => return Ok(()),
+        };
+        match write_row(session, id, slot, relation, &mut tuple, out) {
+            Ok(()) => {}
+            Err(stop) => return Err(stop),
+        }
+    }
+    Ok(())
+}
+
+// Reads a row into `tuple`, and appends its line where it is live.
+fn write_row<V: Files, K: Sink>(
+    session: &mut Session<V>,
+    id: RelationId,
+    slot: SlotNo,
+    relation: &Ident,
+    tuple: &mut Tuple,
+    out: &mut K,
+) -> Result<(), Stop>
+    requires running { session.old.stopped ≡ false }
+    requires slot { slot < length (rows_in session.old.database id) }
+    ensures wrote { let db = session.old.database in
+        IsTrue (V.state session.old.files).tells → IsSoundDatabase db
+        → Appends result (K.held out.old) (K.held out.new)
+        (row_lines relation.now (row_at db id slot)) }
+    ensures same { UnlessFlash result (IsAsBefore V.state session.old session.new) }
+    ensures lost { IsErrOf result Flash
+        → (session.new.stopped ≡ true) × (session.new.lost ≡ true) }
+    ensures reads { V.reads session.new.files ≤ V.reads session.old.files + 6 }
+    ensures store { let old = V.state session.old.files in
+        length (V.state session.new.files).store ≡ length old.store }
+    ensures keeps { K.keeps out.old out.new }
+    ensures faultless { OnOk result (K.faults out.new ≡ K.faults out.old) }
+    ensures cause { HasStopCause (V.faults session.old.files) (V.faults session.new.files)
+        (K.faults out.old) (K.faults out.new) result }
+{
+    match session.tuple(id, slot, tuple) {
+        Ok(true) => match write_row_line(out, relation, tuple) {
+            Ok(()) => Ok(()),
+            Err(Failed) => Err(Stop::Sink),
+        },
+        Ok(false) => Ok(()),
+        Err(Failed) => Err(Stop::Flash),
+    }
+}

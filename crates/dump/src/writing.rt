@@ -1,0 +1,52 @@
+//! The script of a session's database.
+
+#![tactic(auto)]
+
+ghost use Rattle.std.specs.Prelude.{◌≡◌, ◌+◌, ◌*◌, ◌≤◌, true, IsErrOf, IsTrue, OnOk, false, length};
+ghost use Rattle.db_model.specs.Sound.{IsSoundDatabase};
+ghost use Rattle.session_model.specs.declared.step.Stop.TheVariants.{Flash};
+ghost use Rattle.session_model.specs.Steps.{HasStopCause, UnlessFlash};
+ghost use Rattle.dump.specs.Appends.{Appends};
+ghost use Rattle.dump.specs.Parts.{slots_of_all};
+ghost use Rattle.dump.specs.Unchanged.{IsAsBefore};
+ghost use Rattle.dump_model.specs.Script.{script};
+
+use crate::indexes::write_indexes;
+use crate::relations::write_relations;
+use afl_base::{Failed, Files, Sink};
+use antelope_engine::{Session, Stop};
+
+/// Appends the script of a session's database: one command a line, the relations with their live
+/// rows and then the indexes, in slot order. Each row is read once, and held no longer than it is
+/// written. The session stays as it is.
+///
+/// # Errors
+///
+/// `Stop::Sink` leaves a proper prefix of the script in the sink. `Stop::Flash` leaves a prefix of
+/// it, and stops the session.
+pub fn write<V: Files, K: Sink>(session: &mut Session<V>, out: &mut K) -> Result<(), Stop>
+    requires running { session.old.stopped ≡ false }
+    ensures wrote { let db = session.old.database in
+        IsTrue (V.state session.old.files).tells → IsSoundDatabase db
+        → Appends result (K.held out.old) (K.held out.new) (script db) }
+    ensures same { UnlessFlash result (IsAsBefore V.state session.old session.new) }
+    ensures lost { IsErrOf result Flash
+        → (session.new.stopped ≡ true) × (session.new.lost ≡ true) }
+    ensures reads { let slots = slots_of_all session.old.database.relations in
+        V.reads session.new.files ≤ V.reads session.old.files + 6 * slots }
+    ensures store { let old = V.state session.old.files in
+        length (V.state session.new.files).store ≡ length old.store }
+    ensures keeps { K.keeps out.old out.new }
+    ensures faultless { OnOk result (K.faults out.new ≡ K.faults out.old) }
+    ensures cause { HasStopCause (V.faults session.old.files) (V.faults session.new.files)
+        (K.faults out.old) (K.faults out.new) result }
+{
+    match write_relations(session, out) {
+        Ok(()) => {}
+        Err(stop) => return Err(stop),
+    }
+    match write_indexes(session, out) {
+        Ok(()) => Ok(()),
+        Err(Failed) => Err(Stop::Sink),
+    }
+}

@@ -1,0 +1,10 @@
+pub mod Cutting
+pub mod Facts
+pub mod Lexing
+pub mod Made
+pub mod MakingIndexes
+pub mod MakingRelations
+pub mod PackedTwice
+pub mod Slots
+pub mod Texts
+pub mod Worked

@@ -1,0 +1,46 @@
+-- Where a run goes no further, by what comes of an entry.
+use Rattle.std.proofs.Common.{◌≡◌, inl, ℕ, List, [], ◌∷◌, Option, refl, ap, sym, subst, ◌∙◌}
+use Rattle.std.specs.Io.KnownBytes.{append_known}
+use Rattle.std.proofs.lemmas.List.{append-nil}
+use Rattle.answering.proofs.Composed.{known_none}
+use Rattle.answering.proofs.Single.{command_found, command_unsaid}
+use Rattle.answering.specs.Carried.{HaltsIn, Standing, no_space}
+use Rattle.db_model.specs.declared.commands.Command.{Command}
+use Rattle.db_model.specs.ReplyText.{text}
+use Rattle.intake.specs.declared.halt.Halt.TheVariants.{Space, Flash, Sink}
+use Rattle.reply_text.specs.WroteLess.{WroteLess}
+use Rattle.run_model.specs.Talk.{Talk, after}
+use Rattle.session_model.specs.Steps.{WrotePart}
+use Rattle.serve.specs.Answered.{FindsNone, SaysLess, SaysPart}
+
+module _ {E : Type 0} (talk : Talk E) (entry : E) (Lacks : Command → ℕ → Type 0) (a b : Standing) where
+  pub less_halts : SaysLess talk entry a b → HaltsIn talk Lacks (entry ∷ []) a b Sink
+  less_halts s = record {
+    stops = inl (record {
+      front = [];
+      entry = entry;
+      rest = [];
+      split = refl;
+      tells = s.tells;
+      before = a.held;
+      front_is = known_none a.held;
+      held = s.held;
+      database = s.database;
+    });
+    reads = s.reads;
+  }
+
+  pub part_halts : SaysPart talk entry a b → HaltsIn talk Lacks (entry ∷ []) a b Flash
+  part_halts s = record {
+    stops = subst (λ (t : List ℕ). WrotePart a.held b.held t) (sym (append-nil (talk.sent entry (text ((after talk a.database entry).1))))) s.held;
+    reads = s.reads;
+  }
+
+  pub none_halts : (n : ℕ) (held : Option (List ℕ)) → FindsNone talk entry Lacks n a b → held ≡ append_known b.held (no_space talk entry n) → HaltsIn talk Lacks (entry ∷ []) a (record b { held = held }) Space
+  none_halts n held f wrote =
+      command_found talk entry a (record b { held = held }) f.tells f.command f.asks Lacks f.reads n f.database f.accepted f.lacks
+      (wrote ∙ ap (λ (h : Option (List ℕ)). append_known h (no_space talk entry n)) f.held)
+
+  pub unsaid_halts : (n : ℕ) (held : Option (List ℕ)) → FindsNone talk entry Lacks n a b → WroteLess b.held held (no_space talk entry n) → HaltsIn talk Lacks (entry ∷ []) a (record b { held = held }) Sink
+  unsaid_halts n held f less =
+      command_unsaid talk entry a (record b { held = held }) f.tells f.command f.asks Lacks f.reads n f.database f.accepted f.lacks b.held f.held less

@@ -1,0 +1,39 @@
+use Rattle.std.proofs.Common.{List, refl, ap, sym, subst, arith}
+use Rattle.answering.proofs.Single.{refused_carried, refused_halts}
+use Rattle.answering.specs.Carried.{Carried, HaltsIn, LacksPages, standing_of}
+use Rattle.db_model.specs.declared.refusals.Refusal.TheVariants as no
+use Rattle.intake.specs.declared.halt.Halt.TheVariants.{Sink}
+use Rattle.serve.specs.Gathers.{told}
+use Rattle.serve_model.specs.Frames.{Frame, Broken, Long}
+use Rattle.serve_model.specs.Served.{serve_talk}
+use Rattle.serve.proofs.serving.answer_fed.Goals as goal
+
+pub returns-in-Ok-refuse-clause-carried : goal.returns-in-Ok-refuse-clause-carried
+returns-in-Ok-refuse-clause-carried g c = λ tells read reader.
+    let a = standing_of g.V.Files.state g.V.Files.reads c.args.session.now (g.K.Sink.held c.args.out.now) in
+    let b = standing_of g.V.Files.state g.V.Files.reads c.args.session.now (g.K.Sink.held c.refuse.new.out) in
+    subst (λ (fs : List Frame). Carried (serve_talk read) fs a b) (ap (λ fed. told fed c.args.decoder.now) (sym c.in-Bad.is))
+    (refused_carried (serve_talk read) Broken a b refl no.Frame refl refl refl (omega arith) c.in-Ok-refuse.ensures.written)
+
+pub returns-in-Err-refuse-clause-halts : goal.returns-in-Err-refuse-clause-halts
+returns-in-Err-refuse-clause-halts g c = λ tells read reader.
+    let a = standing_of g.V.Files.state g.V.Files.reads c.args.session.now (g.K.Sink.held c.args.out.now) in
+    let b = standing_of g.V.Files.state g.V.Files.reads c.args.session.now (g.K.Sink.held c.refuse.new.out) in
+    let Lacks = LacksPages g.V.Files.state g.V.Files.asks g.V.Files.lacks c.args.session.now in
+    subst (λ (fs : List Frame). HaltsIn (serve_talk read) Lacks fs a b Sink) (ap (λ fed. told fed c.args.decoder.now) (sym c.in-Bad.is))
+    (refused_halts (serve_talk read) Broken a b refl no.Frame refl refl Lacks (omega arith) c.in-Err-refuse.ensures.failed)
+
+pub returns-in-Ok-refuse-2-clause-carried : goal.returns-in-Ok-refuse-2-clause-carried
+returns-in-Ok-refuse-2-clause-carried g c = λ tells read reader.
+    let a = standing_of g.V.Files.state g.V.Files.reads c.args.session.now (g.K.Sink.held c.args.out.now) in
+    let b = standing_of g.V.Files.state g.V.Files.reads c.args.session.now (g.K.Sink.held c.refuse-in-Long.new.out) in
+    subst (λ (fs : List Frame). Carried (serve_talk read) fs a b) (ap (λ fed. told fed c.args.decoder.now) (sym c.in-Long.is))
+    (refused_carried (serve_talk read) (Long c.in-Long.client) a b refl no.Long refl refl refl (omega arith) c.in-Ok-refuse-2.ensures.written)
+
+pub returns-in-Err-refuse-2-clause-halts : goal.returns-in-Err-refuse-2-clause-halts
+returns-in-Err-refuse-2-clause-halts g c = λ tells read reader.
+    let a = standing_of g.V.Files.state g.V.Files.reads c.args.session.now (g.K.Sink.held c.args.out.now) in
+    let b = standing_of g.V.Files.state g.V.Files.reads c.args.session.now (g.K.Sink.held c.refuse-in-Long.new.out) in
+    let Lacks = LacksPages g.V.Files.state g.V.Files.asks g.V.Files.lacks c.args.session.now in
+    subst (λ (fs : List Frame). HaltsIn (serve_talk read) Lacks fs a b Sink) (ap (λ fed. told fed c.args.decoder.now) (sym c.in-Long.is))
+    (refused_halts (serve_talk read) (Long c.in-Long.client) a b refl no.Long refl refl Lacks (omega arith) c.in-Err-refuse-2.ensures.failed)

@@ -1,0 +1,35 @@
+use Rattle.std.proofs.Common.{List, refl, sym, subst, ◌∙◌, arith}
+use Rattle.answering.proofs.Single.{refused_carried, refused_halts}
+use Rattle.answering.specs.Carried.{Carried, HaltsIn, LacksPages, standing_of}
+use Rattle.db_model.specs.declared.refusals.Refusal.TheVariants as no
+use Rattle.intake.specs.declared.halt.Halt.TheVariants.{Sink}
+use Rattle.serve.proofs.Ending.{begun_unended, sink_flash, true_false}
+use Rattle.serve_model.specs.Frames.{Frame, Unfinished}
+use Rattle.serve_model.specs.Served.{serve_talk}
+use Rattle.serve.proofs.serving.take_end.Goals as goal
+
+pub returns-in-Ok-clause-ends : goal.returns-in-Ok-clause-ends
+returns-in-Ok-clause-ends g c = record {
+  going = λ e. e;
+  kept = λ e f. f;
+  carried = λ going tells read reader q k.
+      let a = standing_of g.V.Files.state g.V.Files.reads c.args.session.now (g.K.Sink.held c.args.out.now) in
+      let b = standing_of g.V.Files.state g.V.Files.reads c.args.session.now (g.K.Sink.held c.refuse.new.out) in
+      subst (λ (fs : List Frame). Carried (serve_talk read) fs a b) (sym (begun_unended q (sym c.if-not-is_begun.false ∙ c.is_begun.ensures q k)))
+      (refused_carried (serve_talk read) Unfinished a b refl no.Unfinished refl refl refl (omega arith) c.in-Ok.ensures.written);
+  on = record { faults = omega arith; replies = c.in-Ok.ensures.cause.later; store = refl };
+}
+
+pub returns-in-Err-clause-halts : goal.returns-in-Err-clause-halts
+returns-in-Err-clause-halts g c = record {
+  kept = λ e f lost. absurd (true_false (sym lost ∙ f));
+  flash = λ e is. absurd (sink_flash is);
+  sink = λ e is. c.in-Err.ensures.cause.failed;
+  halts = λ going tells read reader q k.
+      let a = standing_of g.V.Files.state g.V.Files.reads c.args.session.now (g.K.Sink.held c.args.out.now) in
+      let b = standing_of g.V.Files.state g.V.Files.reads c.args.session.now (g.K.Sink.held c.refuse.new.out) in
+      let Lacks = LacksPages g.V.Files.state g.V.Files.asks g.V.Files.lacks c.args.session.now in
+      subst (λ (fs : List Frame). HaltsIn (serve_talk read) Lacks fs a b Sink) (sym (begun_unended q (sym c.if-not-is_begun.false ∙ c.is_begun.ensures q k)))
+      (refused_halts (serve_talk read) Unfinished a b refl no.Unfinished refl refl Lacks (omega arith) c.in-Err.ensures.failed);
+  on = record { faults = omega arith; replies = c.in-Err.ensures.cause.later; store = refl };
+}

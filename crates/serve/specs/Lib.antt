@@ -1,0 +1,5 @@
+pub mod Answered
+pub mod Front
+pub mod Gathers
+pub mod Holding
+pub mod Input

@@ -1,0 +1,66 @@
+//! The command that a client asks for.
+
+#![tactic(auto)]
+
+ghost use Rattle.std.specs.Prelude.{◌≡◌, ◌≤◌, ℕ, ℤ, List, Result, IsTrue, OnOk, length};
+ghost use Rattle.aql_parse.specs.ReadAs.{read_as};
+ghost use Rattle.db_model.specs.declared.commands.Command.{Command as AnyCommand};
+ghost use Rattle.db_model.specs.declared.refusals.Refusal.{Refusal as AnyRefusal};
+ghost use Rattle.db_model.specs.Cond.{IsCondition};
+ghost use Rattle.db_model.specs.Reading.{IsReader};
+ghost use Rattle.db_model.specs.Spelling.{nodes_of};
+ghost use Rattle.serve_model.specs.Frames.{Asked};
+ghost use Rattle.serve_model.specs.Served.{heard, numbered, own_cursor};
+
+use aql_parse::{parse, readings_are_unique};
+use db_model::{Command, Refusal};
+
+/// Reads the bytes of a client's command into `command`, with the client's own cursor where it names one;
+/// or says why it is refused.
+pub fn hear(client: u8, bytes: &[u8], command: &mut Command) -> Result<(), Refusal>
+    requires short { length bytes.now ≤ 512 }
+    ensures heard { (read : List ℕ → Result AnyCommand AnyRefusal) → IsReader read
+        → heard read (Asked client bytes.now) ≡ read_as result command.new }
+    ensures condition { OnOk result (IsCondition (nodes_of command.new)) }
+{
+    readings_are_unique();
+    match parse(bytes, command) {
+        Ok(()) => match own_cursor(client, command) {
+            Ok(()) => Ok(()),
+            Err(refusal) => Err(refusal),
+        },
+        Err(refusal) => Err(refusal),
+    }
+}
+
+// A client's cursor 1 is the one of its number, and it has no other.
+fn own_cursor(client: u8, command: &mut Command) -> Result<(), Refusal>
+    ensures own { own_cursor client command.old ≡ read_as result command.new }
+    ensures condition { IsCondition (nodes_of command.old) → OnOk result (IsCondition (nodes_of command.new)) }
+{
+    match command {
+        Command::OpenCursor { number, .. } => match own(client, number) {
+            Ok(()) => Ok(()),
+            Err(refusal) => Err(refusal),
+        },
+        Command::FetchCursor { number } => match own(client, number) {
+            Ok(()) => Ok(()),
+            Err(refusal) => Err(refusal),
+        },
+        Command::CloseCursor { number } => match own(client, number) {
+            Ok(()) => Ok(()),
+            Err(refusal) => Err(refusal),
+        },
+        _ => Ok(()),
+    }
+}
+
+fn own(client: u8, number: &mut i64) -> Result<(), Refusal>
+    ensures { (made : ℤ → AnyCommand) → numbered client number.old made ≡ read_as result (made number.new) }
+{
+    if *number != 1 {
+        return Err(Refusal::NoCursor);
+    }
+    *number = i64::from(client);
+    Ok(())
+}

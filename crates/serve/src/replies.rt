@@ -1,0 +1,40 @@
+//! Reply frames.
+
+#![tactic(auto)]
+
+ghost use Rattle.std.specs.Prelude.{◌≡◌, ◌∷◌, ◌++◌, [], OnErr, OnOk};
+ghost use Rattle.std.specs.Io.KnownBytes.{append_known};
+ghost use Rattle.afl_base.specs.Causes.{HasCause};
+ghost use Rattle.db_model.specs.ReplyText.{refusal_text};
+ghost use Rattle.reply_text.specs.WroteLess.{WroteLess};
+
+use afl_base::{Failed, Sink};
+use db_model::Refusal;
+use reply_text::{write_all, write_refusal};
+
+/// The byte that ends a frame.
+pub const END: u8 = 0xC0;
+
+/// Writes the reply frame of a refusal. `Failed` leaves a proper prefix of it there.
+pub fn refuse<K: Sink>(out: &mut K, client: u8, refusal: &Refusal) -> Result<(), Failed>
+    ensures written { OnOk result (K.held out.new
+        ≡ append_known (K.held out.old) (client ∷ refusal_text refusal.now ++ 192 ∷ [])) }
+    ensures failed { OnErr result (WroteLess (K.held out.old) (K.held out.new)
+        (client ∷ refusal_text refusal.now ++ 192 ∷ [])) }
+    ensures keeps { K.keeps out.old out.new }
+    ensures faultless { OnOk result (K.faults out.new ≡ K.faults out.old) }
+    ensures cause { HasCause (K.faults out.old) (K.faults out.new) result }
+{
+    match write_all(out, &[client]) {
+        Ok(()) => {}
+        Err(failed) => return Err(failed),
+    }
+    match write_refusal(out, refusal) {
+        Ok(()) => {}
+        Err(failed) => return Err(failed),
+    }
+    match write_all(out, &[END]) {
+        Ok(()) => Ok(()),
+        Err(failed) => Err(failed),
+    }
+}

@@ -1,0 +1,224 @@
+//! A line of frames that comes byte by byte.
+
+#![tactic(auto)]
+
+ghost use Rattle.std.specs.Prelude.{◌≡◌, ◌≤◌, ◌∷◌, [], false, true, ℕ, List, Result, IfErr, IsErrOf, IsTrue, OnOk, length};
+ghost use Rattle.answering.specs.Carried.{Carried, HaltsIn, HasHaltCause, LacksPages, standing_of};
+ghost use Rattle.answering.specs.Taking.{EndsInput, HaltsAtLast, HaltsInBytes, TakesBytes, running, saying};
+ghost use Rattle.db_model.specs.declared.commands.Command.{Command as AnyCommand};
+ghost use Rattle.db_model.specs.declared.refusals.Refusal.{Refusal as AnyRefusal};
+ghost use Rattle.db_model.specs.Reading.{IsReader};
+ghost use Rattle.intake.specs.declared.halt.Halt.TheVariants as Halt;
+ghost use Rattle.serve.specs.Gathers.{Gathers, HasFrame, told};
+ghost use Rattle.serve.specs.Input.{frame_input};
+ghost use Rattle.serve_model.specs.Frames.{Asked, is_client};
+ghost use Rattle.serve_model.specs.Served.{serve_talk};
+
+use crate::asking::answer;
+use crate::decoder::Decoder;
+use crate::fed::Fed;
+use crate::replies::refuse;
+use afl_base::{Failed, Files, Sink};
+use antelope_engine::{Session, Step, Stop};
+use db_model::Refusal;
+use intake::{Halt, Taker};
+
+/// What takes the bytes of a line and answers its frames.
+#[derive(Drop)]
+pub struct Server<V: Files> {
+    pub session: Session<V>,
+    pub decoder: Decoder,
+}
+
+impl<V: Files> Server<V> {
+    /// Before the first byte of a line.
+    pub fn new(session: Session<V>) -> Server<V>
+        ensures session { result.session ≡ session }
+        ensures gathers { Gathers [] result.decoder }
+    {
+        Server {
+            session,
+            decoder: Decoder::new(),
+        }
+    }
+}
+
+impl<V: Files> Taker for Server<V> {
+    ghost use Rattle.answering.proofs.Taken.{halted_before, halted_behind, taken_more, taken_none};
+    ghost use Rattle.answering.specs.Taking.{EndsInput, HaltsAtLast, HaltsInBytes, TakesBytes, running, saying};
+    ghost use Rattle.serve.specs.Input.{frame_input};
+    ghost use Rattle.serve_model.proofs.Ending.{frame_parts};
+    ghost use Rattle.serve_model.specs.Frames.{frame_line};
+
+    ghost Takes = { λ a came b. TakesBytes frame_input (saying V.state V.reads V.faults V.asks V.lacks)
+        (running a.0.session a.0.decoder a.1.held a.1.faults) came
+        (running b.0.session b.0.decoder b.1.held b.1.faults) };
+
+    ghost Ends = { λ a b. EndsInput frame_input (saying V.state V.reads V.faults V.asks V.lacks)
+        (running a.0.session a.0.decoder a.1.held a.1.faults)
+        (running b.0.session b.0.decoder b.1.held b.1.faults) };
+
+    ghost Halts = { λ a came b halt. HaltsInBytes frame_input (saying V.state V.reads V.faults V.asks V.lacks)
+        (running a.0.session a.0.decoder a.1.held a.1.faults) came
+        (running b.0.session b.0.decoder b.1.held b.1.faults) halt };
+
+    ghost HaltsAtEnd = { λ a b halt. HaltsAtLast frame_input (saying V.state V.reads V.faults V.asks V.lacks)
+        (running a.0.session a.0.decoder a.1.held a.1.faults)
+        (running b.0.session b.0.decoder b.1.held b.1.faults) halt };
+
+    fn take<K: Sink>(&mut self, out: &mut K, byte: u8) -> Result<(), Halt> {
+        take_byte(&mut self.session, &mut self.decoder, out, byte)
+    }
+
+    fn end<K: Sink>(&mut self, out: &mut K) -> Result<(), Halt> {
+        take_end(&mut self.session, &self.decoder, out)
+    }
+
+    ghost none = { λ a. taken_none frame_input (saying V.state V.reads V.faults V.asks V.lacks) frame_line frame_parts
+        (running a.0.session a.0.decoder a.1.held a.1.faults) };
+
+    ghost more = { λ a b c xs ys e f.
+        taken_more frame_input (saying V.state V.reads V.faults V.asks V.lacks) frame_line frame_parts
+        (running a.0.session a.0.decoder a.1.held a.1.faults) (running b.0.session b.0.decoder b.1.held b.1.faults)
+        (running c.0.session c.0.decoder c.1.held c.1.faults) xs ys e f };
+
+    ghost halts_behind = { λ a b c xs ys halt e f.
+        halted_behind frame_input (saying V.state V.reads V.faults V.asks V.lacks) frame_line frame_parts
+        (running a.0.session a.0.decoder a.1.held a.1.faults) (running b.0.session b.0.decoder b.1.held b.1.faults)
+        (running c.0.session c.0.decoder c.1.held c.1.faults) xs ys halt e f };
+
+    ghost halts_before = { λ a b xs ys halt e.
+        halted_before frame_input (saying V.state V.reads V.faults V.asks V.lacks) frame_line frame_parts
+        (running a.0.session a.0.decoder a.1.held a.1.faults) (running b.0.session b.0.decoder b.1.held b.1.faults)
+        xs ys halt e };
+}
+
+// Takes one byte of a line.
+fn take_byte<V: Files, K: Sink>(
+    session: &mut Session<V>,
+    decoder: &mut Decoder,
+    out: &mut K,
+    byte: u8,
+) -> Result<(), Halt>
+    ensures takes { OnOk result (TakesBytes frame_input (saying V.state V.reads V.faults V.asks V.lacks)
+        (running session.old decoder.old (K.held out.old) (K.faults out.old)) (byte ∷ [])
+        (running session.new decoder.new (K.held out.new) (K.faults out.new))) }
+    ensures halts { IfErr result (λ halt. HaltsInBytes frame_input (saying V.state V.reads V.faults V.asks V.lacks)
+        (running session.old decoder.old (K.held out.old) (K.faults out.old)) (byte ∷ [])
+        (running session.new decoder.new (K.held out.new) (K.faults out.new)) halt) }
+    ensures keeps { K.keeps out.old out.new }
+{
+    if session.is_stopped() {
+        return Err(Halt::Flash);
+    }
+    let fed = decoder.feed(byte);
+    match answer_fed(session, decoder, fed, out) {
+        Ok(()) => Ok(()),
+        Err(halt) => Err(halt),
+    }
+}
+
+// Takes the end of a line: bytes behind the last END are no frame.
+fn take_end<V: Files, K: Sink>(
+    session: &mut Session<V>,
+    decoder: &Decoder,
+    out: &mut K,
+) -> Result<(), Halt>
+    ensures ends { OnOk result (EndsInput frame_input (saying V.state V.reads V.faults V.asks V.lacks)
+        (running session.old decoder.now (K.held out.old) (K.faults out.old))
+        (running session.new decoder.now (K.held out.new) (K.faults out.new))) }
+    ensures halts { IfErr result (λ halt. HaltsAtLast frame_input (saying V.state V.reads V.faults V.asks V.lacks)
+        (running session.old decoder.now (K.held out.old) (K.faults out.old))
+        (running session.new decoder.now (K.held out.new) (K.faults out.new)) halt) }
+    ensures keeps { K.keeps out.old out.new }
+{
+    if session.is_stopped() {
+        return Err(Halt::Flash);
+    }
+    if !decoder.is_begun() {
+        return Ok(());
+    }
+    match refuse(out, 0, &Refusal::Unfinished) {
+        Ok(()) => Ok(()),
+        Err(Failed) => Err(Halt::Sink),
+    }
+}
+
+// Answers the frame that the last byte ended, if it ended one.
+fn answer_fed<V: Files, K: Sink>(
+    session: &mut Session<V>,
+    decoder: &Decoder,
+    fed: Fed,
+    out: &mut K,
+) -> Result<(), Halt>
+    requires running { session.old.stopped ≡ false }
+    requires frame { fed ≡ Fed.Frame → HasFrame decoder.now }
+    ensures carried { IsTrue (V.state session.old.files).tells → OnOk result (
+        (read : List ℕ → Result AnyCommand AnyRefusal) → IsReader read
+        → Carried (serve_talk read) (told fed decoder.now) (standing_of V.state V.reads session.old (K.held out.old))
+        (standing_of V.state V.reads session.new (K.held out.new))) }
+    ensures halts { IsTrue (V.state session.old.files).tells → IfErr result (λ halt.
+        (read : List ℕ → Result AnyCommand AnyRefusal) → IsReader read
+        → HaltsIn (serve_talk read) (LacksPages V.state V.asks V.lacks session.new) (told fed decoder.now)
+        (standing_of V.state V.reads session.old (K.held out.old))
+        (standing_of V.state V.reads session.new (K.held out.new)) halt) }
+    ensures running { OnOk result (session.new.stopped ≡ false) }
+    ensures lost { session.old.lost ≡ false → session.new.lost ≡ true → IsErrOf result Halt.Flash }
+    ensures store { length (V.state session.new.files).store ≡ length (V.state session.old.files).store }
+    ensures keeps { K.keeps out.old out.new }
+    ensures cause { HasHaltCause (V.faults session.old.files) (V.faults session.new.files)
+        (K.faults out.old) (K.faults out.new) result }
+{
+    match fed {
+        Fed::More => Ok(()),
+        Fed::Frame => match carry_out(session, decoder.client(), decoder.command(), out) {
+            Ok(()) => Ok(()),
+            Err(halt) => Err(halt),
+        },
+        Fed::Bad => match refuse(out, 0, &Refusal::Frame) {
+            Ok(()) => Ok(()),
+            Err(Failed) => Err(Halt::Sink),
+        },
+        Fed::Long { client } => match refuse(out, client, &Refusal::Long) {
+            Ok(()) => Ok(()),
+            Err(Failed) => Err(Halt::Sink),
+        },
+    }
+}
+
+// Answers a client's command, or writes that there is no space for it.
+fn carry_out<V: Files, K: Sink>(
+    session: &mut Session<V>,
+    client: u8,
+    bytes: &[u8],
+    out: &mut K,
+) -> Result<(), Halt>
+    requires running { session.old.stopped ≡ false }
+    requires client { IsTrue (is_client client) }
+    requires short { length bytes.now ≤ 512 }
+    ensures carried { IsTrue (V.state session.old.files).tells → OnOk result (
+        (read : List ℕ → Result AnyCommand AnyRefusal) → IsReader read
+        → Carried (serve_talk read) (Asked client bytes.now ∷ []) (standing_of V.state V.reads session.old (K.held out.old))
+        (standing_of V.state V.reads session.new (K.held out.new))) }
+    ensures halts { IsTrue (V.state session.old.files).tells → IfErr result (λ halt.
+        (read : List ℕ → Result AnyCommand AnyRefusal) → IsReader read
+        → HaltsIn (serve_talk read) (LacksPages V.state V.asks V.lacks session.new) (Asked client bytes.now ∷ [])
+        (standing_of V.state V.reads session.old (K.held out.old))
+        (standing_of V.state V.reads session.new (K.held out.new)) halt) }
+    ensures running { OnOk result (session.new.stopped ≡ false) }
+    ensures lost { session.old.lost ≡ false → session.new.lost ≡ true → IsErrOf result Halt.Flash }
+    ensures store { length (V.state session.new.files).store ≡ length (V.state session.old.files).store }
+    ensures keeps { K.keeps out.old out.new }
+    ensures cause { HasHaltCause (V.faults session.old.files) (V.faults session.new.files)
+        (K.faults out.old) (K.faults out.new) result }
+{
+    match answer(session, client, bytes, out) {
+        Ok(Step::Done(_)) => Ok(()),
+        Ok(Step::NoSpace { need }) => match refuse(out, client, &Refusal::Space { need }) {
+            Ok(()) => Err(Halt::Space),
+            Err(Failed) => Err(Halt::Sink),
+        },
+        Err(Stop::Flash) => Err(Halt::Flash),
+        Err(Stop::Sink) => Err(Halt::Sink),
+    }
+}

@@ -1,0 +1,42 @@
+//! A whole line of frames.
+
+#![tactic(auto)]
+
+ghost use Rattle.std.specs.Prelude.{◌≡◌, false, true, ℕ, List, Result, Err, IsTrue, length};
+ghost use Rattle.answering.specs.Carried.{LacksPages, standing_of};
+ghost use Rattle.answering.specs.Went.{HasRunCause, Went};
+ghost use Rattle.db_model.specs.declared.commands.Command.{Command as AnyCommand};
+ghost use Rattle.db_model.specs.declared.refusals.Refusal.{Refusal as AnyRefusal};
+ghost use Rattle.db_model.specs.Reading.{IsReader};
+ghost use Rattle.intake.specs.declared.halt.Halt.TheVariants as Halt;
+ghost use Rattle.intake.specs.declared.halt.Stop.TheVariants as Stop;
+ghost use Rattle.serve_model.specs.Frames.{frame_line};
+ghost use Rattle.serve_model.specs.Served.{serve_talk};
+
+use crate::serving::Server;
+use afl_base::{Files, Sink, Source};
+use antelope_engine::Session;
+use intake::{Stop, take_through};
+
+/// Answers the frames of a line to its end, or as far as it goes, and hands back the session.
+pub fn serve_line<V: Files, S: Source, K: Sink>(
+    session: Session<V>,
+    line: &mut S,
+    out: &mut K,
+) -> (Result<(), Stop>, Session<V>)
+    requires running { session.stopped ≡ false }
+    ensures went { IsTrue (V.state session.files).tells
+        → (read : List ℕ → Result AnyCommand AnyRefusal) → IsReader read
+        → Went frame_line (serve_talk read) (standing_of V.state V.reads session (K.held out.old))
+        (standing_of V.state V.reads result.1 (K.held out.new)) (S.left line.old) (S.left line.new)
+        (LacksPages V.state V.asks V.lacks result.1) result.0 }
+    ensures lost { session.lost ≡ false → result.1.lost ≡ true → result.0 ≡ Err (Stop.Halted Halt.Flash) }
+    ensures store { length (V.state result.1.files).store ≡ length (V.state session.files).store }
+    ensures keeps { K.keeps out.old out.new }
+    ensures cause { HasRunCause (S.faults line.old) (S.faults line.new)
+        (V.faults session.files) (V.faults result.1.files) (K.faults out.old) (K.faults out.new) result.0 }
+{
+    let mut server = Server::new(session);
+    let taken = take_through(line, &mut server, out);
+    (taken, server.session)
+}

@@ -1,0 +1,72 @@
+//! Files that are made without a session.
+
+ghost use Rattle.std.specs.Prelude.{◌≡◌, ◌≢◌, ◌+◌, ◌-◌, ◌*◌, ◌<◌, ◌≤◌, ℕ, None, IsTrue, OnOk, length, slice_index};
+ghost use Rattle.afl_base.specs.Files.{IsKind, used};
+
+use afl_base::{FileId, Files, Kind, Name};
+use std::test::Fail;
+
+// Whether the last place for a file is free.
+fn has_place<V: Files>(files: &V) -> bool
+    ensures place { IsTrue result → used (V.state files.now).files < 32 }
+{
+    match FileId::new(31) {
+        Some(last) => !files.live(last),
+        None => false,
+    }
+}
+
+/// A new file.
+pub fn new_file<V: Files>(files: &mut V, name: &[u8], kind: Kind) -> Result<FileId, Fail>
+    requires idle { (V.state files.old).draft ≡ None }
+    requires kind { IsKind kind }
+    ensures idle { OnOk result ((V.state files.new).draft ≡ None) }
+{
+    let name = Name::new(name).ok_or("name")?;
+    if files.find(name).is_some() || !has_place(files) {
+        return Err(Fail::new("there is no place for a file"));
+    }
+    Ok(files.create(name, kind)?)
+}
+
+// Whether a file of the kind may have so many bytes.
+fn holds(kind: Kind, size: u32) -> bool
+    requires { size ≤ 4194304 }
+    ensures { IsTrue result → (n : ℕ) → kind ≡ Kind.Fixed n → size + 32 ≤ 256 * n }
+{
+    match kind {
+        Kind::Doubling => true,
+        Kind::Fixed(n) => size + 32 <= 256 * u32::from(n),
+    }
+}
+
+// Whether bytes may be put behind those of a file of so many.
+fn is_tail(kind: Kind, size: u32, tail: &[u8]) -> bool
+    ensures some { IsTrue result → 1 ≤ length tail.now }
+    ensures few { IsTrue result → length tail.now ≤ 4096 }
+    ensures most { IsTrue result → size + length tail.now ≤ 4194304 }
+    ensures fixed { IsTrue result → (n : ℕ) → kind ≡ Kind.Fixed n
+        → size + length tail.now + 32 ≤ 256 * n }
+    ensures last { IsTrue result → slice_index tail.now (length tail.now - 1) ≢ 0 }
+{
+    if tail.is_empty() || 4_096 < tail.len() || 4_194_304 < size {
+        return false;
+    }
+    if tail[tail.len() - 1] == 0 {
+        return false;
+    }
+    let total = size + tail.len() as u32;
+    total <= 4_194_304 && holds(kind, total)
+}
+
+/// Puts bytes behind those of a file.
+pub fn fill<V: Files>(files: &mut V, id: FileId, bytes: &[u8]) -> Result<(), Fail>
+    requires idle { (V.state files.old).draft ≡ None }
+    ensures idle { OnOk result ((V.state files.new).draft ≡ None) }
+{
+    if !files.live(id) || !is_tail(files.kind(id), files.size(id), bytes) {
+        return Err(Fail::new("the bytes do not fit"));
+    }
+    files.prepare(id, 0, bytes.len() as u32)?;
+    Ok(files.append(id, bytes)?)
+}

@@ -1,0 +1,123 @@
+//! A session that is told commands as text.
+
+ghost use Rattle.std.specs.Prelude.{◌≡◌, ◌≤◌, IfOk, None, OnOk, length};
+ghost use Rattle.session_model.specs.Queries.{IsWellFormed};
+
+use afl_base::{Failed, Files, Flash, Sink};
+use afl_sim::MemSink;
+use antelope_engine::{Outcome, Session, StartError, Step, Stop};
+use aql_parse::parse;
+use coffee_volume::{MountError, Volume};
+use db_model::{Command, Refusal};
+use reply_text::write_refusal;
+use std::alloc::Global;
+use std::test::Fail;
+
+/// A volume over a flash.
+pub fn mounted<F: Flash + Drop>(flash: F) -> Result<Volume<F>, Fail>
+    ensures idle { IfOk result (λ v. (⟦<Volume<F> as Files>⟧.state v).draft ≡ None) }
+{
+    match Volume::mount(flash) {
+        Ok(volume) => Ok(volume),
+        Err(MountError::Bad { bad, flash: _ }) => Err(Fail::from(bad)),
+        Err(MountError::Failed { flash: _ }) => Err(Fail::from(Failed)),
+    }
+}
+
+/// A session over files in which no draft is begun.
+pub fn started<V: Files + Drop>(files: V) -> Result<Session<V>, Fail>
+    requires { (V.state files).draft ≡ None }
+{
+    match Session::start(files) {
+        Ok(session) => Ok(session),
+        Err(StartError::Bad { broken, files: _ }) => Err(Fail::from(broken)),
+        Err(StartError::Failed { files: _ }) => Err(Fail::from(Failed)),
+    }
+}
+
+/// Carries out the commands of a text, each ended by `;`, and answers what was written.
+pub fn say<V: Files>(
+    alloc: Global,
+    session: &mut Session<V>,
+    text: &[u8],
+) -> Result<Vec<u8>, Fail> {
+    let mut room = vec![in alloc; 0u8; 4096]?;
+    let mut out = MemSink::new(room.as_mut_slice(), None);
+    let mut command = Command::FetchCursor { number: 0 };
+    let mut from = 0;
+    for at in 0..text.len() {
+        if text[at] == b';' {
+            let piece = text.get(from..at).ok_or("no piece")?;
+            say_one(session, &mut command, piece, &mut out)?;
+            from = at + 1;
+        }
+    }
+    Ok(Vec::from_slice(alloc, out.written())?)
+}
+
+/// Reads a command and carries it out, and answers what it came to.
+fn say_one<V: Files, K: Sink>(
+    session: &mut Session<V>,
+    command: &mut Command,
+    bytes: &[u8],
+    out: &mut K,
+) -> Result<Outcome, Fail> {
+    match read(bytes, command) {
+        Ok(()) => carry_out(session, command, out),
+        Err(refusal) => {
+            write_refusal(out, &refusal)?;
+            Ok(Outcome::Refused)
+        }
+    }
+}
+
+/// Reads a command.
+#[tactic(auto, using(crate::proofs::WellFormed::well_formed))]
+pub fn read(bytes: &[u8], command: &mut Command) -> Result<(), Refusal>
+    ensures { OnOk result (IsWellFormed command.new) }
+{
+    if bytes.len() > 512 {
+        return Err(Refusal::Long);
+    }
+    parse(bytes, command)
+}
+
+/// Carries out a command, and answers what it came to. One for which there is no space is refused.
+pub fn carry_out<V: Files, K: Sink>(
+    session: &mut Session<V>,
+    command: &Command,
+    out: &mut K,
+) -> Result<Outcome, Fail>
+    requires { IsWellFormed command.now }
+{
+    if session.is_stopped() {
+        return Err(Fail::from(Failed));
+    }
+    match session.exec(command, out) {
+        Ok(Step::Done(outcome)) => Ok(outcome),
+        Ok(Step::NoSpace { need }) => {
+            write_refusal(out, &Refusal::Space { need })?;
+            Ok(Outcome::Refused)
+        }
+        Err(Stop::Flash) => Err(Fail::from(Failed)),
+        Err(Stop::Sink) => Err(Fail::from(Failed)),
+    }
+}
+
+/// Carries out a command so many times, and answers how many of the replies were `ok`.
+pub fn say_often<V: Files>(session: &mut Session<V>, text: &[u8], times: u16) -> Result<u16, Fail> {
+    let mut command = Command::FetchCursor { number: 0 };
+    let mut fine = 0u16;
+    match read(text, &mut command) {
+        Ok(()) => {}
+        Err(_) => return Ok(fine),
+    }
+    for _ in 0..times {
+        let mut room = [0; 64];
+        let mut out = MemSink::new(&mut room[..], None);
+        if carry_out(session, &command, &mut out)? == Outcome::Fine {
+            fine = fine.saturating_add(1);
+        }
+    }
+    Ok(fine)
+}
