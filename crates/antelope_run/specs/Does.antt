@@ -4,10 +4,13 @@ use Rattle.std.specs.Io.KnownBytes.{append_known}
 use Rattle.db_model.specs.declared.commands.Command.{Command}
 use Rattle.db_model.specs.Workload.{first_commands}
 use Rattle.dump_model.specs.Script.{script}
+use Rattle.intake.specs.declared.halt.Halt.{Halt}
 use Rattle.intake.specs.declared.halt.Halt.TheVariants.{Space, Flash, Sink}
 use Rattle.intake.specs.declared.halt.Stop.{Stop}
 use Rattle.intake.specs.declared.halt.Stop.TheVariants.{Input, Long, Halted}
 use Rattle.reply_text.specs.WroteLess.{WroteLess}
+use Rattle.session_model.specs.declared.step.Stop.{Stop as AnyStop}
+use Rattle.session_model.specs.declared.step.Stop.TheVariants as stop
 use Rattle.session_model.specs.Steps.{WrotePart}
 use Rattle.answering.specs.Carried.{Standing}
 use Rattle.answering.specs.Went.{Went}
@@ -51,3 +54,14 @@ abbrev pub OnlyTells : Form → Type 0
 OnlyTells (Plan rows) = ⊤
 OnlyTells Dump = ⊤
 OnlyTells _ = ⊥
+
+-- ---- why a run went no further, of what halts and what stops
+
+abbrev pub halted : Result ⊤ Halt → Result ⊤ Stop
+halted (Ok done) = Ok done
+halted (Err halt) = Err (Halted halt)
+
+abbrev pub stopped : Result ⊤ AnyStop → Result ⊤ Stop
+stopped (Ok done) = Ok done
+stopped (Err stop.Sink) = Err (Halted Sink)
+stopped (Err stop.Flash) = Err (Halted Flash)

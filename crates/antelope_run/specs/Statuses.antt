@@ -96,7 +96,7 @@ Spaceless form old new = OnInput form (λ E line talk. InputFoundNoSpace line ta
 -- 4: nothing is said of the image
 abbrev pub Faulted : Form → World → World → Type 0
 Faulted (Gen seed count) old new = new.held ≡ old.held
-Faulted (Plan rows) old new = ⊥
+Faulted (Plan rows) old new = WrotePart (planned_text rows old.image) old.held new.held
 Faulted Dump old new = WrotePart (dumped_text old.image) old.held new.held
 Faulted form old new = OnInput form (λ E line talk. InputFaulted line talk old new)
 

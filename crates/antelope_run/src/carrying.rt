@@ -16,7 +16,7 @@ ghost use Rattle.intake.specs.declared.halt.Stop.TheVariants as Stop;
 ghost use Rattle.space_plan.specs.Lines.{plan_text};
 ghost use Rattle.space_plan.specs.Planned.{planned};
 ghost use Rattle.antelope_run.specs.declared.words.Form.TheVariants as Form;
-ghost use Rattle.antelope_run.specs.Does.{Does, Generates, OnlyTells, TellsOn, Writes};
+ghost use Rattle.antelope_run.specs.Does.{Does, Generates, OnlyTells, TellsOn, Writes, halted, stopped};
 ghost use Rattle.antelope_run.specs.Words.{HasFewCommands};
 
 use crate::words::Form;
@@ -38,7 +38,7 @@ pub fn carry_out<V: Files, S: Source, K: Sink>(
 ) -> (Result<(), Stop>, Session<V>)
     requires running { session.stopped ≡ false }
     requires commands { HasFewCommands form }
-    ensures does { IsTrue (V.state session.files).tells → IsSoundDatabase session.database
+    ensures does { IsTrue (V.state session.files).tells → session.lost ≡ false → IsSoundDatabase session.database
         → Does (standing_of V.state V.reads session (K.held out.old))
         (standing_of V.state V.reads result.1 (K.held out.new)) sectors (S.left input.old) (S.left input.new)
         (LacksPages V.state V.asks V.lacks result.1) form result.0 }
@@ -71,7 +71,7 @@ fn generate_all<V: Files, K: Sink>(
     requires few { count ≤ 100000 }
     ensures does { let old = standing_of V.state V.reads session (K.held out.old) in
         let new = standing_of V.state V.reads result.1 (K.held out.new) in
-        IsTrue (V.state session.files).tells → TellsOn old new result.0 × Generates old new
+        IsTrue (V.state session.files).tells → session.lost ≡ false → TellsOn old new result.0 × Generates old new
         (LacksPages V.state V.asks V.lacks result.1) (first_commands seed count) result.0 }
     ensures lost { session.lost ≡ false → result.1.lost ≡ true → result.0 ≡ Err (Stop.Halted Halt.Flash) }
     ensures store { length (V.state result.1.files).store ≡ length (V.state session.files).store }
@@ -80,9 +80,16 @@ fn generate_all<V: Files, K: Sink>(
         (V.faults result.1.files) (K.faults out.old) (K.faults out.new) result.0 }
 {
     let mut session = session;
-    match generate(&mut session, seed, count, out) {
-        Ok(()) => (Ok(()), session),
-        Err(halt) => (Err(Stop::Halted(halt)), session),
+    let done = generate(&mut session, seed, count, out);
+    (halted(done), session)
+}
+
+fn halted(done: Result<(), Halt>) -> Result<(), Stop>
+    ensures { result ≡ halted done }
+{
+    match done {
+        Ok(()) => Ok(()),
+        Err(halt) => Err(Stop::Halted(halt)),
     }
 }
 
@@ -125,9 +132,16 @@ fn dump_all<V: Files, K: Sink>(session: Session<V>, out: &mut K) -> (Result<(), 
         (V.faults result.1.files) (K.faults out.old) (K.faults out.new) result.0 }
 {
     let mut session = session;
-    match dump::write(&mut session, out) {
-        Ok(()) => (Ok(()), session),
-        Err(session_model::Stop::Sink) => (Err(Stop::Halted(Halt::Sink)), session),
-        Err(session_model::Stop::Flash) => (Err(Stop::Halted(Halt::Flash)), session),
+    let done = dump::write(&mut session, out);
+    (stopped(done), session)
+}
+
+fn stopped(done: Result<(), session_model::Stop>) -> Result<(), Stop>
+    ensures { result ≡ stopped done }
+{
+    match done {
+        Ok(()) => Ok(()),
+        Err(session_model::Stop::Sink) => Err(Stop::Halted(Halt::Sink)),
+        Err(session_model::Stop::Flash) => Err(Stop::Halted(Halt::Flash)),
     }
 }

@@ -1,0 +1,98 @@
+-- What generated commands and a dumped script come to, as a run.
+use Rattle.std.proofs.Common.{◌≡◌, ◌≢◌, ◌≤◌, ℕ, Bool, true, false, List, Option, refl, ap}
+use Rattle.std.specs.Prelude.{⊤, IfErr, IsErrOf, OnOk, Result, Ok, Err}
+use Rattle.db_model.specs.declared.commands.Command.{Command}
+use Rattle.dump.specs.Appends.{Appends}
+use Rattle.dump.specs.Unchanged.{IsAsBefore}
+use Rattle.intake.specs.declared.halt.Halt.{Halt}
+use Rattle.intake.specs.declared.halt.Halt.TheVariants as halt
+use Rattle.intake.specs.declared.halt.Stop.{Stop}
+use Rattle.intake.specs.declared.halt.Stop.TheVariants.{Halted}
+use Rattle.session_model.specs.declared.step.Stop.{Stop as AnyStop}
+use Rattle.session_model.specs.declared.step.Stop.TheVariants as stop
+use Rattle.session_model.specs.Steps.{HasStopCause, UnlessFlash}
+use Rattle.answering.specs.Carried.{HasHaltCause, Standing}
+use Rattle.answering.specs.Went.{HasRunCause}
+use Rattle.workload_run.specs.Summed.{StopsBy, SummedUp}
+use Rattle.antelope_run.specs.Does.{Generates, Writes, halted, stopped}
+
+clash : {Goal : Type 0} → false ≡ true → Goal
+clash e = absurd (let n : ⊥ = cc in n)
+
+-- ---- generated commands
+
+pub generated : (old new : Standing) (Lacks : Command → ℕ → Type 0) (commands : List Command) (done : Result ⊤ Halt)
+    → OnOk done (SummedUp commands old.database new.database old.held new.held)
+    → IfErr done (λ h. StopsBy Lacks commands old.database new.database old.held new.held h)
+    → Generates old new Lacks commands (halted done)
+generated old new Lacks commands (Ok x) ok err = ok
+generated old new Lacks commands (Err h) ok err = err
+
+is_halt : (done : Result ⊤ Halt) → IsErrOf done halt.Flash → halted done ≡ Err (Halted halt.Flash)
+is_halt done h = ap halted h
+
+pub generated_lost : (done : Result ⊤ Halt) (lost : Bool) → (lost ≡ true → IsErrOf done halt.Flash) → lost ≡ true → halted done ≡ Err (Halted halt.Flash)
+generated_lost done lost h is = is_halt done (h is)
+
+pub generated_tells : (done : Result ⊤ Halt) (lost : Bool) (T : Type 0) → (lost ≡ true → IsErrOf done halt.Flash) → (lost ≡ false → T)
+    → halted done ≢ Err (Halted halt.Flash) → T
+generated_tells done true T h keeps other = absurd (other (is_halt done (h refl)))
+generated_tells done false T h keeps other = keeps refl
+
+pub generated_cause : (done : Result ⊤ Halt) (inputs f g r s : ℕ) → HasHaltCause f g r s done → HasRunCause inputs inputs f g r s (halted done)
+generated_cause (Ok x) inputs f g r s c = record {
+  files_later = c.files_later;
+  input = λ e. absurd (let n : ⊥ = cc in n);
+  flash = λ e. absurd (let n : ⊥ = cc in n);
+  sink = λ e. absurd (let n : ⊥ = cc in n);
+}
+generated_cause (Err h) inputs f g r s c = record {
+  files_later = c.files_later;
+  input = λ e. absurd (let n : ⊥ = cc in n);
+  flash = λ e. let is : h ≡ halt.Flash = cc in c.flash (ap (λ k. Err k) is);
+  sink = λ e. let is : h ≡ halt.Sink = cc in c.sink (ap (λ k. Err k) is);
+}
+
+-- ---- a dumped script
+
+pub dumped : (old new : Standing) (text : List ℕ) (done : Result ⊤ AnyStop) → Appends done old.held new.held text → Writes old new text (stopped done)
+dumped old new text (Ok x) h = h
+dumped old new text (Err stop.Sink) h = h
+dumped old new text (Err stop.Flash) h = h
+
+pub dumped_same : (done : Result ⊤ AnyStop) (P : Type 0) → UnlessFlash done P → stopped done ≢ Err (Halted halt.Flash) → P
+dumped_same (Ok x) P h other = h
+dumped_same (Err stop.Sink) P h other = h
+dumped_same (Err stop.Flash) P h other = absurd (other refl)
+
+pub dumped_lost : (done : Result ⊤ AnyStop) (lost : Bool) → UnlessFlash done (lost ≡ false) → lost ≡ true → stopped done ≡ Err (Halted halt.Flash)
+dumped_lost (Ok x) true h is = clash (let e : true ≡ false = h in cc)
+dumped_lost (Ok x) false h is = clash is
+dumped_lost (Err stop.Sink) true h is = clash (let e : true ≡ false = h in cc)
+dumped_lost (Err stop.Sink) false h is = clash is
+dumped_lost (Err stop.Flash) lost h is = refl
+
+pub dumped_cause : (done : Result ⊤ AnyStop) (inputs f g r s : ℕ) → HasStopCause f g r s done → HasRunCause inputs inputs f g r s (stopped done)
+dumped_cause (Ok x) inputs f g r s c = record {
+  files_later = c.files_later;
+  input = λ e. absurd (let n : ⊥ = cc in n);
+  flash = λ e. absurd (let n : ⊥ = cc in n);
+  sink = λ e. absurd (let n : ⊥ = cc in n);
+}
+dumped_cause (Err stop.Sink) inputs f g r s c = record {
+  files_later = c.files_later;
+  input = λ e. absurd (let n : ⊥ = cc in n);
+  flash = λ e. absurd (let n : ⊥ = cc in n);
+  sink = λ e. c.sink refl;
+}
+dumped_cause (Err stop.Flash) inputs f g r s c = record {
+  files_later = c.files_later;
+  input = λ e. absurd (let n : ⊥ = cc in n);
+  flash = λ e. c.flash refl;
+  sink = λ e. absurd (let n : ⊥ = cc in n);
+}
+
+pub unless_flash : {P Q : Type 0} (done : Result ⊤ AnyStop) → (P → Q) → UnlessFlash done P → UnlessFlash done Q
+unless_flash (Ok x) f h = f h
+unless_flash (Err stop.Sink) f h = f h
+unless_flash (Err stop.Flash) f h = h

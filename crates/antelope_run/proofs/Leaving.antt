@@ -1,0 +1,194 @@
+-- From what a session did to what a run leaves behind, by the form of its words.
+use Rattle.std.proofs.Common.{◌≡◌, ◌≢◌, ◌⊎◌, inl, inr, ℕ, ◌/◌, List, [], ◌++◌, length, Option, refl, ap, sym, subst, ◌∙◌}
+use Rattle.std.specs.Prelude.{⊤, IsTrue, Result, Ok, Err}
+use Rattle.std.specs.Io.KnownBytes.{append_known}
+use Rattle.db_model.specs.declared.commands.Command.{Command}
+use Rattle.db_model.specs.declared.refusals.Refusal.{Refusal}
+use Rattle.db_model.specs.declared.refusals.Refusal.TheVariants as no
+use Rattle.db_model.specs.Database.{Database, bare}
+use Rattle.db_model.specs.ReplyText.{refusal_text}
+use Rattle.db_model.specs.Workload.{first_commands}
+use Rattle.dump_model.specs.Script.{script}
+use Rattle.intake.specs.declared.halt.Halt.{Halt}
+use Rattle.intake.specs.declared.halt.Halt.TheVariants.{Space, Flash, Sink}
+use Rattle.intake.specs.declared.halt.Stop.{Stop}
+use Rattle.intake.specs.declared.halt.Stop.TheVariants.{Input, Long, Halted}
+use Rattle.reply_text.specs.WroteLess.{WroteLess}
+use Rattle.sound_image.specs.Images.{IsSound, base}
+use Rattle.answering.specs.Carried.{Standing}
+use Rattle.answering.specs.Went.{Went}
+use Rattle.answering.proofs.Composed.{known_none}
+use Rattle.run_model.specs.Line.{Line}
+use Rattle.run_model.specs.Runs.{CarriedOut, FoundNoSpace, InputCutOff, InputEnded, InputFaulted, InputFoundNoSpace, InputTooLong, InputUnsaid, SpaceUnsaid, StandsAfter, StopsAt, World, WrotePart, WroteWithin, world}
+use Rattle.run_model.specs.Talk.{Talk}
+use Rattle.space_plan.specs.Lines.{plan_text}
+use Rattle.space_plan.specs.Planned.{planned}
+use Rattle.workload_run.specs.Counted as counted
+use Rattle.workload_run.specs.Summed.{StopsBy, summed}
+use Rattle.workload_run.specs.Summed as sums
+use Rattle.antelope_run.specs.declared.words.Form.{Form}
+use Rattle.antelope_run.specs.declared.words.Form.TheVariants.{Run, Gen, Plan, Serve, Dump}
+use Rattle.antelope_run.specs.Does.{Does, Generates, OnlyTells, TellsOn, Writes}
+use Rattle.antelope_run.specs.HandedBack.{HandsBack}
+use Rattle.antelope_run.specs.Left as left
+use Rattle.antelope_run.specs.Statuses.{Leaves, LineUnsaid, OnInput, Tells, TellsLess, Unsaid, dumped_text, nothing_yet, planned_text, summed_from}
+use Rattle.antelope_run.proofs.Finished.{cut_off, ended, faulted, found_no_space, told_on, too_long, unsaid, wrote_within}
+
+-- ---- an input
+
+abbrev pub LeavesInput : {E : Type 0} → Line E → Talk E → World → World → Result ⊤ Stop → Type 0
+LeavesInput line talk old new (Ok done) = InputEnded line talk old new
+LeavesInput line talk old new (Err Input) = InputCutOff line talk old new
+LeavesInput line talk old new (Err Long) = InputTooLong line talk old new
+LeavesInput line talk old new (Err (Halted Space)) = InputFoundNoSpace line talk old new
+LeavesInput line talk old new (Err (Halted Flash)) = InputFaulted line talk old new
+LeavesInput line talk old new (Err (Halted Sink)) = InputUnsaid line talk old new
+
+
+module _ (a b : Standing) (image image_now : List ℕ) (before now : Option (List ℕ)) (Lacks : Command → ℕ → Type 0) (start : a.database ≡ base image) (told : IsTrue a.tells) where
+  abbrev Old : World
+  Old = world image before a.held
+
+  abbrev New : World
+  New = world image_now now b.held
+
+  abbrev pub Back : Result ⊤ Stop → Type 0
+  Back result = IsTrue b.tells → result ≢ Err (Halted Flash) → HandsBack b.database Lacks image_now
+
+  leaves_input : {E : Type 0} (line : Line E) (talk : Talk E) (result : Result ⊤ Stop) → Back result → Went line talk a b before now Lacks result → LeavesInput line talk Old New result
+  leaves_input line talk (Ok done) back w =
+      let other : ◌≢◌ {A = Result ⊤ Stop} (Ok done) (Err (Halted Flash)) = λ e. (let n : ⊥ = cc in n) in
+      ended line talk a b image image_now before now start Lacks (back (w.carried.tells ∙ told) other) w
+  leaves_input line talk (Err Input) back w =
+      let other : ◌≢◌ {A = Result ⊤ Stop} (Err Input) (Err (Halted Flash)) = λ e. (let n : ⊥ = cc in n) in
+      cut_off line talk a b image image_now before now start Lacks (back (w.carried.tells ∙ told) other) w
+  leaves_input line talk (Err Long) back w =
+      let other : ◌≢◌ {A = Result ⊤ Stop} (Err Long) (Err (Halted Flash)) = λ e. (let n : ⊥ = cc in n) in
+      too_long line talk a b image image_now before now start Lacks (back (w.carried.tells ∙ told) other) w
+  leaves_input line talk (Err (Halted Space)) back w =
+      let other : ◌≢◌ {A = Result ⊤ Stop} (Err (Halted Space)) (Err (Halted Flash)) = λ e. (let n : ⊥ = cc in n) in
+      found_no_space line talk a b image image_now before now start Lacks (back (told_on line talk a b before now Lacks (Err (Halted Space)) w other ∙ told) other) w
+  leaves_input line talk (Err (Halted Flash)) back w = faulted line talk a b image image_now before now start Lacks w
+  leaves_input line talk (Err (Halted Sink)) back w =
+      let other : ◌≢◌ {A = Result ⊤ Stop} (Err (Halted Sink)) (Err (Halted Flash)) = λ e. (let n : ⊥ = cc in n) in
+      unsaid line talk a b image image_now before now start Lacks (back (told_on line talk a b before now Lacks (Err (Halted Sink)) w other ∙ told) other) w
+
+  by_run : (result : Result ⊤ Stop) → OnInput Run (λ E line talk. LeavesInput line talk Old New result) → left.Leaves Run Old New result
+  by_run (Ok done) h = h
+  by_run (Err Input) h = h
+  by_run (Err Long) h = h
+  by_run (Err (Halted Space)) h = h
+  by_run (Err (Halted Flash)) h = h
+  by_run (Err (Halted Sink)) h = h
+
+  by_serve : (result : Result ⊤ Stop) → OnInput Serve (λ E line talk. LeavesInput line talk Old New result) → left.Leaves Serve Old New result
+  by_serve (Ok done) h = h
+  by_serve (Err Input) h = h
+  by_serve (Err Long) h = h
+  by_serve (Err (Halted Space)) h = h
+  by_serve (Err (Halted Flash)) h = h
+  by_serve (Err (Halted Sink)) h = h
+
+  -- ---- generated commands
+
+  less_of : (all : List ℕ) → WroteLess a.held b.held all → WroteWithin [] all a.held b.held
+  less_of all w = wrote_within [] all all a.held a.held b.held (known_none a.held) w refl
+
+  module _ (commands : List Command) (back : HandsBack b.database Lacks image_now) where
+    all_made : sums.SummedUp commands a.database b.database a.held b.held → CarriedOut (summed_from a.database) commands Old New
+    all_made s = record { written = s.held; stands = record { sound = back.sound; base_is = back.base_is ∙ ap bare s.database } }
+
+    stops_at : (n : ℕ) (s : counted.StopsAt Lacks commands a.database b.database n) → StopsAt (summed_from a.database) commands s.front n image_now
+    stops_at n s = record {
+      entry = s.command;
+      rest = s.rest;
+      split = s.split;
+      command = s.command;
+      asks = refl;
+      accepted = s.accepted;
+      lacks = back.lacks s.command n s.lacks;
+      stands = record { sound = back.sound; base_is = back.base_is ∙ ap bare s.database };
+    }
+
+    found_at : sums.FoundNone Lacks commands a.database b.database a.held b.held → FoundNoSpace (summed_from a.database) commands Old New
+    unfolding stops_at
+    found_at f = record { front = f.stops.front; n = f.n; stops = stops_at f.n f.stops; written = f.held }
+
+    space_unsaid_at : sums.SpaceUnsaid Lacks commands a.database b.database a.held b.held → SpaceUnsaid (summed_from a.database) nothing_yet commands Old New
+    unfolding stops_at
+    space_unsaid_at f = record {
+      front = f.stops.front;
+      n = f.n;
+      stops = stops_at f.n f.stops;
+      written = less_of (summed a.database f.stops.front ++ refusal_text (no.Space f.n)) f.held;
+    }
+
+    line_unsaid : sums.LineUnsaid commands a.database b.database a.held b.held → LineUnsaid commands Old New
+    line_unsaid s = record {
+      written = less_of (summed (base image) commands) (subst (λ (db : Database). WroteLess a.held b.held (summed db commands)) start s.held);
+      stands = subst (λ (db : Database). StandsAfter (summed_from db) commands image_now) start
+          (record { sound = back.sound; base_is = back.base_is ∙ ap bare s.database });
+    }
+
+    unsaid_by : (sums.LineUnsaid commands a.database b.database a.held b.held ⊎ sums.SpaceUnsaid Lacks commands a.database b.database a.held b.held)
+        → (LineUnsaid commands Old New ⊎ SpaceUnsaid (summed_from (base image)) nothing_yet commands Old New)
+    unsaid_by (inl s) = inl (line_unsaid s)
+    unsaid_by (inr s) = inr (subst (λ (db : Database). SpaceUnsaid (summed_from db) nothing_yet commands Old New) start (space_unsaid_at s))
+
+  by_gen : (seed count : ℕ) (result : Result ⊤ Stop) → Back result → TellsOn a b result → Generates a b Lacks (first_commands seed count) result → left.Leaves (Gen seed count) Old New result
+  by_gen seed count (Ok done) back tells g =
+      let other : ◌≢◌ {A = Result ⊤ Stop} (Ok done) (Err (Halted Flash)) = λ e. (let n : ⊥ = cc in n) in
+      subst (λ (db : Database). CarriedOut (summed_from db) (first_commands seed count) Old New) start
+      (all_made (first_commands seed count) (back (tells other ∙ told) other) g)
+  by_gen seed count (Err Input) back tells g = absurd g
+  by_gen seed count (Err Long) back tells g = absurd g
+  by_gen seed count (Err (Halted Space)) back tells g =
+      let other : ◌≢◌ {A = Result ⊤ Stop} (Err (Halted Space)) (Err (Halted Flash)) = λ e. (let n : ⊥ = cc in n) in
+      subst (λ (db : Database). FoundNoSpace (summed_from db) (first_commands seed count) Old New) start
+      (found_at (first_commands seed count) (back (tells other ∙ told) other) g)
+  by_gen seed count (Err (Halted Flash)) back tells g = g
+  by_gen seed count (Err (Halted Sink)) back tells g =
+      let other : ◌≢◌ {A = Result ⊤ Stop} (Err (Halted Sink)) (Err (Halted Flash)) = λ e. (let n : ⊥ = cc in n) in
+      unsaid_by (first_commands seed count) (back (tells other ∙ told) other) g
+
+  -- ---- what is told of an image
+
+  abbrev pub Stays : Result ⊤ Stop → Type 0
+  Stays result = result ≢ Err (Halted Flash) → image_now ≡ image
+
+  module _ (text : List ℕ → List ℕ) (unread : now ≡ before) where
+    told_all : (image_now ≡ image) → b.held ≡ append_known a.held (text image) → Tells text Old New
+    told_all same held = record { leaves = record { same = same; unread = unread }; written = held }
+
+    told_less : (image_now ≡ image) → WroteLess a.held b.held (text image) → TellsLess text Old New
+    told_less same w = record { leaves = record { same = same; unread = unread }; written = less_of (text image) w }
+
+  by_plan : (rows : ℕ) → now ≡ before → (result : Result ⊤ Stop) → Stays result → Writes a b (planned_text rows image) result → left.Leaves (Plan rows) Old New result
+  by_plan rows unread (Ok done) stays w = told_all (planned_text rows) unread (stays (λ e. (let n : ⊥ = cc in n))) w
+  by_plan rows unread (Err Input) stays w = absurd w
+  by_plan rows unread (Err Long) stays w = absurd w
+  by_plan rows unread (Err (Halted Space)) stays w = absurd w
+  by_plan rows unread (Err (Halted Flash)) stays w = record { part = w.written; rest = w.left; split = w.whole; held = w.held }
+  by_plan rows unread (Err (Halted Sink)) stays w = told_less (planned_text rows) unread (stays (λ e. (let n : ⊥ = cc in n))) w
+
+  by_dump : now ≡ before → (result : Result ⊤ Stop) → Stays result → Writes a b (dumped_text image) result → left.Leaves Dump Old New result
+  by_dump unread (Ok done) stays w = told_all dumped_text unread (stays (λ e. (let n : ⊥ = cc in n))) w
+  by_dump unread (Err Input) stays w = absurd w
+  by_dump unread (Err Long) stays w = absurd w
+  by_dump unread (Err (Halted Space)) stays w = absurd w
+  by_dump unread (Err (Halted Flash)) stays w = record { part = w.written; rest = w.left; split = w.whole; held = w.held }
+  by_dump unread (Err (Halted Sink)) stays w = told_less dumped_text unread (stays (λ e. (let n : ⊥ = cc in n))) w
+
+  -- ---- each form
+
+  pub leaves : (sectors : ℕ) → sectors ≡ length image / 4096 → (form : Form) (result : Result ⊤ Stop) → Back result → (OnlyTells form → Stays result) → (OnlyTells form → now ≡ before)
+      → Does a b sectors before now Lacks form result → left.Leaves form Old New result
+  leaves sectors many Run result back stays unread d = by_run result (λ read reader. leaves_input _ _ result back (d read reader))
+  leaves sectors many Serve result back stays unread d = by_serve result (λ read reader. leaves_input _ _ result back (d read reader))
+  leaves sectors many (Gen seed count) result back stays unread d = by_gen seed count result back d.0 d.1
+  leaves sectors many (Plan rows) result back stays unread d =
+      by_plan rows (unread tt) result (stays tt)
+      (subst (λ (db : Database). Writes a b (plan_text (planned db rows) (length image / 4096)) result) start
+      (subst (λ (n : ℕ). Writes a b (plan_text (planned a.database rows) n) result) many d.1))
+  leaves sectors many Dump result back stays unread d =
+      by_dump (unread tt) result (stays tt) (subst (λ (db : Database). Writes a b (script db) result) start d.1)

@@ -1,0 +1,26 @@
+use Rattle.std.proofs.Common.{◌≡◌, ap}
+use Rattle.answering.specs.Carried.{standing_of}
+use Rattle.antelope_run.proofs.Halts.{dumped, dumped_cause, dumped_lost, dumped_same, unless_flash}
+use Rattle.antelope_run.proofs.carrying.dump_all.Goals as goal
+
+pub returns-clause-does : goal.returns-clause-does
+returns-clause-does g c =
+    let e = c.write-done.ensures in
+    let old = standing_of g.V.Files.state g.V.Files.reads c.args.session (g.K.Sink.held c.args.out.now) in
+    let new = standing_of g.V.Files.state g.V.Files.reads c.write-done.new.session (g.K.Sink.held c.write-done.new.out) in
+    λ told sound. rw c.stopped.ensures (
+      λ other. ap (λ s. s.tells) (dumped_same c.write-done.result _ e.same other).files,
+      dumped old new _ c.write-done.result (e.wrote told sound),
+    )
+
+pub returns-clause-same : goal.returns-clause-same
+returns-clause-same g c = λ other. dumped_same c.write-done.result _ c.write-done.ensures.same (rw c.stopped.ensures at other)
+
+pub returns-clause-lost : goal.returns-clause-lost
+returns-clause-lost g c = λ kept lost.
+    rw c.stopped.ensures (dumped_lost c.write-done.result c.write-done.new.session.lost
+    (unless_flash c.write-done.result (λ same. same.kept kept) c.write-done.ensures.same) lost)
+
+pub returns-clause-cause : goal.returns-clause-cause
+returns-clause-cause g c = λ inputs.
+    rw c.stopped.ensures (dumped_cause c.write-done.result inputs _ _ _ _ c.write-done.ensures.cause)

@@ -1,0 +1,22 @@
+use Rattle.std.proofs.Common.{◌≡◌}
+use Rattle.answering.specs.Carried.{standing_of}
+use Rattle.antelope_run.proofs.Halts.{generated, generated_cause, generated_lost, generated_tells}
+use Rattle.antelope_run.proofs.carrying.generate_all.Goals as goal
+
+pub returns-clause-does : goal.returns-clause-does
+returns-clause-does g c =
+    let e = c.generate-done.ensures in
+    let old = standing_of g.V.Files.state g.V.Files.reads c.args.session (g.K.Sink.held c.args.out.now) in
+    let new = standing_of g.V.Files.state g.V.Files.reads c.generate-done.new.session (g.K.Sink.held c.generate-done.new.out) in
+    λ told kept. rw c.halted.ensures (
+      generated_tells c.generate-done.result c.generate-done.new.session.lost _ (e.lost kept) e.tells,
+      generated old new _ _ c.generate-done.result (e.carried told) (e.halts told),
+    )
+
+pub returns-clause-lost : goal.returns-clause-lost
+returns-clause-lost g c = λ kept lost.
+    rw c.halted.ensures (generated_lost c.generate-done.result c.generate-done.new.session.lost (c.generate-done.ensures.lost kept) lost)
+
+pub returns-clause-cause : goal.returns-clause-cause
+returns-clause-cause g c = λ inputs.
+    rw c.halted.ensures (generated_cause c.generate-done.result inputs _ _ _ _ c.generate-done.ensures.cause)
