@@ -13,7 +13,7 @@ use Rattle.intake.specs.Through.{Through, Took, TookAll, TookLimit, WentNoFurthe
 use Rattle.run_model.specs.Line.{ComesInParts, Line}
 use Rattle.answering.specs.Carried.{Carried, HaltsIn, LacksPages, standing_of}
 use Rattle.answering.specs.Taking.{Carries, EndsInput, GoesOn, HaltsAtLast, HaltsInBytes, Input, Running, Saying, TakesBytes}
-use Rattle.answering.specs.Went.{Went}
+use Rattle.answering.specs.Went.{Reaches, Went}
 use Rattle.answering.proofs.Composed.{carried_then, halts_later}
 
 module _ {E Q P V T : Type 0} (input : Input E Q P) (files : Saying V) (line : Line E) (parts : ComesInParts input.cut line) (seen : T → Running V P) where
@@ -86,6 +86,12 @@ module _ {E Q P V T : Type 0} (input : Input E Q P) (files : Saying V) (line : L
           let before = t.takes.carries.on.replies in
           omega (arith, rose, before);
     }
+
+    pub reaches : (result : Result ⊤ Stop) → Through Takes Ends Halts HaltsAtEnd result a b left left_now → Reaches result left left_now
+    reaches (Ok done) t = t.at_end
+    reaches (Err BadInput) t = tt
+    reaches (Err Long) t = record { bytes = t.came; more = t.more; left = t.left; many = t.many; one = t.one }
+    reaches (Err (Halted h)) t = tt
 
     -- ---- what was carried out, where they tell
 

@@ -8,6 +8,7 @@ use Rattle.intake.specs.declared.halt.Halt.TheVariants.{Flash, Sink}
 use Rattle.intake.specs.declared.halt.Stop.{Stop}
 use Rattle.intake.specs.declared.halt.Stop.TheVariants.{Input, Long, Halted}
 use Rattle.run_model.specs.Line.{Line}
+use Rattle.run_model.specs.Runs.{TookLimit as PassesLimit}
 use Rattle.run_model.specs.Talk.{Talk}
 use Rattle.answering.specs.Carried.{Carried, HaltsIn, Standing}
 
@@ -50,6 +51,12 @@ module _ {E : Type 0} (line : Line E) (talk : Talk E) (old new : Standing) (left
   Went Lacks (Err Input) = TookSome
   Went Lacks (Err Long) = TookLimit
   Went Lacks (Err (Halted halt)) = WentNoFurther Lacks halt
+
+-- how far the bytes of the input came, whether the files tell or not: to their end, or one byte past the limit
+abbrev pub Reaches : Result ⊤ Stop → (left left_now : Option (List ℕ)) → Type 0
+Reaches (Ok done) left left_now = IsAtEnd left_now
+Reaches (Err Long) left left_now = PassesLimit left left_now
+Reaches _ left left_now = ⊤
 
 -- what failed has counted it, and the files' count does not fall
 pub record HasRunCause (inputs inputs_now files files_now replies replies_now : ℕ) (result : Result ⊤ Stop) : Type 0 where

@@ -1,5 +1,5 @@
 -- What generated commands and a dumped script come to, as a run.
-use Rattle.std.proofs.Common.{◌≡◌, ◌≢◌, ◌≤◌, ℕ, Bool, true, false, List, Option, refl, ap}
+use Rattle.std.proofs.Common.{◌≡◌, ◌≢◌, ◌≤◌, ℕ, Bool, true, false, List, Option, Some, refl, ap}
 use Rattle.std.specs.Prelude.{⊤, IfErr, IsErrOf, OnOk, Result, Ok, Err}
 use Rattle.db_model.specs.declared.commands.Command.{Command}
 use Rattle.dump.specs.Appends.{Appends}
@@ -7,14 +7,17 @@ use Rattle.dump.specs.Unchanged.{IsAsBefore}
 use Rattle.intake.specs.declared.halt.Halt.{Halt}
 use Rattle.intake.specs.declared.halt.Halt.TheVariants as halt
 use Rattle.intake.specs.declared.halt.Stop.{Stop}
-use Rattle.intake.specs.declared.halt.Stop.TheVariants.{Halted}
+use Rattle.intake.specs.declared.halt.Stop.TheVariants.{Input, Long, Halted}
 use Rattle.session_model.specs.declared.step.Stop.{Stop as AnyStop}
 use Rattle.session_model.specs.declared.step.Stop.TheVariants as stop
 use Rattle.session_model.specs.Steps.{HasStopCause, UnlessFlash}
 use Rattle.answering.specs.Carried.{HasHaltCause, Standing}
-use Rattle.answering.specs.Went.{HasRunCause}
+use Rattle.answering.specs.Went.{HasRunCause, Reaches}
 use Rattle.workload_run.specs.Summed.{StopsBy, SummedUp}
-use Rattle.antelope_run.specs.Does.{Generates, Writes, halted, stopped}
+use Rattle.antelope_run.specs.declared.words.Form.{Form}
+use Rattle.antelope_run.specs.Comes.{ReachesBy}
+use Rattle.antelope_run.specs.Does.{Generates, OnlyHalts, Writes, halted, stopped}
+use Rattle.antelope_run.specs.Statuses.{TakesInput}
 
 clash : {Goal : Type 0} → false ≡ true → Goal
 clash e = absurd (let n : ⊥ = cc in n)
@@ -96,3 +99,27 @@ pub unless_flash : {P Q : Type 0} (done : Result ⊤ AnyStop) → (P → Q) → 
 unless_flash (Ok x) f h = f h
 unless_flash (Err stop.Sink) f h = f h
 unless_flash (Err stop.Flash) f h = h
+
+-- ---- how far an input came
+
+pub halted_only : (done : Result ⊤ Halt) → OnlyHalts (halted done)
+halted_only (Ok x) = tt
+halted_only (Err h) = tt
+
+pub stopped_only : (done : Result ⊤ AnyStop) → OnlyHalts (stopped done)
+stopped_only (Ok x) = tt
+stopped_only (Err stop.Sink) = tt
+stopped_only (Err stop.Flash) = tt
+
+module _ (form : Form) (left left_now : Option (List ℕ)) where
+  pub reaches_by : (result : Result ⊤ Stop) → Reaches result left left_now → ReachesBy form result left left_now
+  reaches_by (Ok x) h = λ takes. h
+  reaches_by (Err Input) h = tt
+  reaches_by (Err Long) h = h
+  reaches_by (Err (Halted k)) h = tt
+
+  pub reaches_none : (TakesInput (Some form) → ⊥) → (result : Result ⊤ Stop) → OnlyHalts result → ReachesBy form result left left_now
+  reaches_none none (Ok x) h = λ takes. absurd (none takes)
+  reaches_none none (Err Input) h = absurd h
+  reaches_none none (Err Long) h = absurd h
+  reaches_none none (Err (Halted k)) h = tt

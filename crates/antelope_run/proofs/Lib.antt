@@ -1,6 +1,13 @@
 pub mod Bare
 pub mod Finished
+pub mod Fronts
 pub mod Halts
+pub mod ImageLines
 pub mod Leaving
 pub mod Numbers
 pub mod Opened
+pub mod Outcomes
+pub mod PagesRead
+pub mod ReadsLeft
+pub mod Refusals
+pub mod Space

@@ -1,5 +1,6 @@
 -- What a session does that the words ask for.
-use Rattle.std.specs.Prelude.{◌≡◌, ◌≢◌, ⊤, ℕ, List, Option, Result, Ok, Err}
+use Rattle.std.specs.Prelude.{◌≡◌, ◌≢◌, ◌≤◌, ◌+◌, ⊤, ℕ, List, Option, Some, Result, Ok, Err}
+use Rattle.std.specs.List.{AllByRecursion}
 use Rattle.std.specs.Io.KnownBytes.{append_known}
 use Rattle.db_model.specs.declared.commands.Command.{Command}
 use Rattle.db_model.specs.Workload.{first_commands}
@@ -14,6 +15,8 @@ use Rattle.session_model.specs.declared.step.Stop.TheVariants as stop
 use Rattle.session_model.specs.Steps.{WrotePart}
 use Rattle.answering.specs.Carried.{Standing}
 use Rattle.answering.specs.Went.{Went}
+use Rattle.run_model.specs.Line.{Line}
+use Rattle.run_model.specs.Talk.{OnlyReads, Talk, costs}
 use Rattle.space_plan.specs.Lines.{plan_text}
 use Rattle.space_plan.specs.Planned.{planned}
 use Rattle.workload_run.specs.Summed.{StopsBy, SummedUp}
@@ -49,6 +52,16 @@ module _ (old new : Standing) where
   Does sectors left left_now Lacks Dump result = TellsOn result × Writes (script old.database) result
   Does sectors left left_now Lacks form result = OnInput form (λ E line talk. Went line talk old new left left_now Lacks result)
 
+-- what an input whose entries only read makes a session read
+abbrev pub InputReads : Standing → Option (List ℕ) → ℕ → (E : Type 0) → Line E → Talk E → Type 0
+InputReads old left reads E line talk = (text : List ℕ) → left ≡ Some text → AllByRecursion (OnlyReads talk) (line.all text)
+    → reads ≤ old.reads + costs talk old.database old.aheads (line.all text)
+
+abbrev pub CarriedReads : Form → Standing → Option (List ℕ) → ℕ → Type 0
+CarriedReads Run old left reads = OnInput Run (InputReads old left reads)
+CarriedReads Serve old left reads = OnInput Serve (InputReads old left reads)
+CarriedReads _ old left reads = ⊤
+
 -- the words ask for what neither changes files nor reads an input
 abbrev pub OnlyTells : Form → Type 0
 OnlyTells (Plan rows) = ⊤
@@ -65,3 +78,10 @@ abbrev pub stopped : Result ⊤ AnyStop → Result ⊤ Stop
 stopped (Ok done) = Ok done
 stopped (Err stop.Sink) = Err (Halted Sink)
 stopped (Err stop.Flash) = Err (Halted Flash)
+
+-- no input failed or was too long
+abbrev pub OnlyHalts : Result ⊤ Stop → Type 0
+OnlyHalts (Ok done) = ⊤
+OnlyHalts (Err (Halted halt)) = ⊤
+OnlyHalts (Err Input) = ⊥
+OnlyHalts (Err Long) = ⊥

@@ -1,3 +1,4 @@
+pub mod Comes
 pub mod Does
 pub mod HandedBack
 pub mod Left

@@ -16,7 +16,8 @@ ghost use Rattle.intake.specs.declared.halt.Stop.TheVariants as Stop;
 ghost use Rattle.space_plan.specs.Lines.{plan_text};
 ghost use Rattle.space_plan.specs.Planned.{planned};
 ghost use Rattle.antelope_run.specs.declared.words.Form.TheVariants as Form;
-ghost use Rattle.antelope_run.specs.Does.{Does, Generates, OnlyTells, TellsOn, Writes, halted, stopped};
+ghost use Rattle.antelope_run.specs.Comes.{ReachesBy};
+ghost use Rattle.antelope_run.specs.Does.{CarriedReads, Does, Generates, OnlyHalts, OnlyTells, TellsOn, Writes, halted, stopped};
 ghost use Rattle.antelope_run.specs.Words.{HasFewCommands};
 
 use crate::words::Form;
@@ -42,8 +43,11 @@ pub fn carry_out<V: Files, S: Source, K: Sink>(
         → Does (standing_of V.state V.reads session (K.held out.old))
         (standing_of V.state V.reads result.1 (K.held out.new)) sectors (S.left input.old) (S.left input.new)
         (LacksPages V.state V.asks V.lacks result.1) form result.0 }
+    ensures reaches { ReachesBy form result.0 (S.left input.old) (S.left input.new) }
     ensures lost { session.lost ≡ false → result.1.lost ≡ true → result.0 ≡ Err (Stop.Halted Halt.Flash) }
     ensures store { length (V.state result.1.files).store ≡ length (V.state session.files).store }
+    ensures reads { IsTrue (V.state session.files).tells → CarriedReads form
+        (standing_of V.state V.reads session (K.held out.old)) (S.left input.old) (V.reads result.1.files) }
     ensures same { OnlyTells form → result.0 ≢ Err (Stop.Halted Halt.Flash)
         → (V.state result.1.files).store ≡ (V.state session.files).store }
     ensures unread { OnlyTells form → input.new ≡ input.old }
@@ -75,6 +79,7 @@ fn generate_all<V: Files, K: Sink>(
         (LacksPages V.state V.asks V.lacks result.1) (first_commands seed count) result.0 }
     ensures lost { session.lost ≡ false → result.1.lost ≡ true → result.0 ≡ Err (Stop.Halted Halt.Flash) }
     ensures store { length (V.state result.1.files).store ≡ length (V.state session.files).store }
+    ensures halts { OnlyHalts result.0 }
     ensures keeps { K.keeps out.old out.new }
     ensures cause { (inputs : ℕ) → HasRunCause inputs inputs (V.faults session.files)
         (V.faults result.1.files) (K.faults out.old) (K.faults out.new) result.0 }
@@ -106,6 +111,7 @@ fn plan<V: Files, K: Sink>(
         IsTrue (V.state session.files).tells → IsSoundDatabase session.database
         → TellsOn old new result.0 × Writes old new (plan_text (planned session.database rows) sectors) result.0 }
     ensures same { result.1 ≡ session }
+    ensures halts { OnlyHalts result.0 }
     ensures keeps { K.keeps out.old out.new }
     ensures cause { (inputs : ℕ) → HasRunCause inputs inputs (V.faults session.files)
         (V.faults result.1.files) (K.faults out.old) (K.faults out.new) result.0 }
@@ -127,6 +133,7 @@ fn dump_all<V: Files, K: Sink>(session: Session<V>, out: &mut K) -> (Result<(), 
     ensures same { result.0 ≢ Err (Stop.Halted Halt.Flash) → IsAsBefore V.state session result.1 }
     ensures lost { session.lost ≡ false → result.1.lost ≡ true → result.0 ≡ Err (Stop.Halted Halt.Flash) }
     ensures store { length (V.state result.1.files).store ≡ length (V.state session.files).store }
+    ensures halts { OnlyHalts result.0 }
     ensures keeps { K.keeps out.old out.new }
     ensures cause { (inputs : ℕ) → HasRunCause inputs inputs (V.faults session.files)
         (V.faults result.1.files) (K.faults out.old) (K.faults out.new) result.0 }

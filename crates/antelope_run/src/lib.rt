@@ -1,12 +1,14 @@
 //! A run of the program: what its words ask for, over an image of a flash.
 #![tactic(auto)]
 
+mod call;
+mod came;
 mod carrying;
+mod image_line;
 mod opening;
 mod reading;
 mod words;
 
-pub use carrying::carry_out;
-pub use opening::{OpenError, close, open};
+pub use call::top;
 pub use reading::form;
 pub use words::Form;

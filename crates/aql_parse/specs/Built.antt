@@ -20,6 +20,11 @@ use Rattle.db_model.specs.declared.tokens.Token.TheVariants.{Word, Name, Number,
 use Rattle.db_model.specs.declared.values.Value.{Value}
 use Rattle.db_model.specs.declared.values.Value.TheVariants as value
 
+-- what stands in a place where it was made, None where nothing was
+abbrev pub made : {A : Type 0} → Bool → A → Option A
+made true x = Some x
+made false x = None
+
 -- ---- what single tokens are
 
 abbrev pub token_name : Token → Option (List ℕ)
@@ -130,10 +135,14 @@ create_of (Word KATTRIBUTE ∷ ts) = attribute_of ts
 create_of (Word KINDEX ∷ ts) = index_of ts
 create_of _ = None
 
+-- NAME . NAME
+abbrev pub unindex_of : List Token → Option Command
+unindex_of ts = option_and_then (λ r. option_map (λ a. command.RemoveIndex r a) (name_at ts 2)) (name_at ts 0)
+
 abbrev pub remove_of : List Token → List Node → Option Command
 remove_of (Word KFROM ∷ ts) nodes = option_map (λ r. command.RemoveFrom r nodes) (name_at ts 0)
 remove_of (Word KRELATION ∷ ts) nodes = option_map (λ r. command.RemoveRelation r) (name_at ts 0)
-remove_of (Word KINDEX ∷ ts) nodes = option_and_then (λ r. option_map (λ a. command.RemoveIndex r a) (name_at ts 2)) (name_at ts 0)
+remove_of (Word KINDEX ∷ ts) nodes = unindex_of ts
 remove_of _ nodes = None
 
 abbrev pub insert_of : List Token → Option Command

@@ -1,75 +1,99 @@
 //! The command of tokens of which it is known that they spell one: each place tells its part.
+//!
+//! A command is put where an earlier one was; false comes only where the tokens spell none, and
+//! then nothing is said of what stands there.
 
 #![tactic(auto)]
 
 ghost use Rattle.std.specs.Prelude.{◌≡◌};
-ghost use Rattle.aql_parse.specs.Built.{aggregate_of, attribute_of, command_of, create_of, domain_of, index_of, insert_of, join_of, open_of, projected, query_of, remove_of, select_of, selection_of};
+ghost use Rattle.aql_parse.specs.Built.{aggregate_of, attribute_of, command_of, create_of, domain_of, index_of, insert_of, join_of, made, open_of, projected, query_of, remove_of, select_of, selection_of, unindex_of};
 
 use crate::lists::{aggregates_in, names_in, relation_in, values_in};
 use crate::parts::{kind_at, name_at, number_at, token_name};
-use db_model::{Command, Condition, DomainAsked, Idents, Keyword, Query, Token};
+use db_model::{Command, Condition, DomainAsked, Idents, Keyword, Query, Token, Tuple};
+use std::mem;
 
-/// The command of its tokens and the nodes of its condition; None only where the tokens spell none.
-pub fn command_of(tokens: &[Token], nodes: Condition) -> Option<Command>
-    ensures { result ≡ command_of tokens.now nodes }
+/// Puts the command of its tokens and the nodes of its condition, which are taken.
+pub fn command_of(tokens: &[Token], nodes: &mut Condition, command: &mut Command) -> bool
+    ensures { made result command.new ≡ command_of tokens.now nodes.old }
 {
     match tokens {
-        [Token::Word(Keyword::KCREATE), rest @ ..] => create_of(rest),
-        [Token::Word(Keyword::KINSERT), rest @ ..] => insert_of(rest),
-        [Token::Word(Keyword::KSELECT), rest @ ..] => selection_of(rest, nodes),
-        [Token::Word(Keyword::KJOIN), rest @ ..] => {
-            let query = join_of(rest)?;
-            Some(Command::Ask(query))
-        }
-        [Token::Word(Keyword::KREMOVE), rest @ ..] => remove_of(rest, nodes),
-        [Token::Word(Keyword::KPACK), rest @ ..] => {
-            let relation = name_at(rest, 0)?;
-            Some(Command::Pack { relation })
-        }
-        [Token::Word(Keyword::KOPEN), rest @ ..] => open_of(rest, nodes),
-        [Token::Word(Keyword::KFETCH), rest @ ..] => {
-            let number = number_at(rest, 0)?;
-            Some(Command::FetchCursor { number })
-        }
-        [Token::Word(Keyword::KCLOSE), rest @ ..] => {
-            let number = number_at(rest, 0)?;
-            Some(Command::CloseCursor { number })
-        }
-        _ => None,
+        [Token::Word(Keyword::KCREATE), rest @ ..] => create_of(rest, command),
+        [Token::Word(Keyword::KINSERT), rest @ ..] => insert_of(rest, command),
+        [Token::Word(Keyword::KSELECT), rest @ ..] => selection_of(rest, nodes, command),
+        [Token::Word(Keyword::KJOIN), rest @ ..] => match join_of(rest) {
+            Some(query) => {
+                *command = Command::Ask(query);
+                true
+            }
+            None => false,
+        },
+        [Token::Word(Keyword::KREMOVE), rest @ ..] => remove_of(rest, nodes, command),
+        [Token::Word(Keyword::KPACK), rest @ ..] => match name_at(rest, 0) {
+            Some(relation) => {
+                *command = Command::Pack { relation };
+                true
+            }
+            None => false,
+        },
+        [Token::Word(Keyword::KOPEN), rest @ ..] => open_of(rest, nodes, command),
+        [Token::Word(Keyword::KFETCH), rest @ ..] => match number_at(rest, 0) {
+            Some(number) => {
+                *command = Command::FetchCursor { number };
+                true
+            }
+            None => false,
+        },
+        [Token::Word(Keyword::KCLOSE), rest @ ..] => match number_at(rest, 0) {
+            Some(number) => {
+                *command = Command::CloseCursor { number };
+                true
+            }
+            None => false,
+        },
+        _ => false,
     }
 }
 
-fn create_of(tokens: &[Token]) -> Option<Command>
-    ensures { result ≡ create_of tokens.now }
+fn create_of(tokens: &[Token], command: &mut Command) -> bool
+    ensures { made result command.new ≡ create_of tokens.now }
 {
     match tokens {
-        [Token::Word(Keyword::KRELATION), rest @ ..] => {
-            let name = name_at(rest, 0)?;
-            Some(Command::CreateRelation { name })
-        }
-        [Token::Word(Keyword::KATTRIBUTE), rest @ ..] => attribute_of(rest),
-        [Token::Word(Keyword::KINDEX), rest @ ..] => index_of(rest),
-        _ => None,
+        [Token::Word(Keyword::KRELATION), rest @ ..] => match name_at(rest, 0) {
+            Some(name) => {
+                *command = Command::CreateRelation { name };
+                true
+            }
+            None => false,
+        },
+        [Token::Word(Keyword::KATTRIBUTE), rest @ ..] => attribute_of(rest, command),
+        [Token::Word(Keyword::KINDEX), rest @ ..] => index_of(rest, command),
+        _ => false,
     }
 }
 
 // NAME DOMAIN domain IN NAME.
-fn attribute_of(tokens: &[Token]) -> Option<Command>
-    ensures { result ≡ attribute_of tokens.now }
+fn attribute_of(tokens: &[Token], command: &mut Command) -> bool
+    ensures { made result command.new ≡ attribute_of tokens.now }
 {
-    match tokens {
-        [name, _, rest @ ..] => {
-            let name = token_name(name)?;
-            let domain = domain_of(rest)?;
-            let relation = relation_in(rest)?;
-            Some(Command::CreateAttribute {
-                name,
-                domain,
-                relation,
-            })
-        }
-        _ => None,
-    }
+    let [name, _, rest @ ..] = tokens else {
+        return false;
+    };
+    let Some(name) = token_name(name) else {
+        return false;
+    };
+    let Some(domain) = domain_of(rest) else {
+        return false;
+    };
+    let Some(relation) = relation_in(rest) else {
+        return false;
+    };
+    *command = Command::CreateAttribute {
+        name,
+        domain,
+        relation,
+    };
+    true
 }
 
 fn domain_of(tokens: &[Token]) -> Option<DomainAsked>
@@ -88,89 +112,136 @@ fn domain_of(tokens: &[Token]) -> Option<DomainAsked>
 }
 
 // NAME . NAME TYPE kind.
-fn index_of(tokens: &[Token]) -> Option<Command>
-    ensures { result ≡ index_of tokens.now }
+fn index_of(tokens: &[Token], command: &mut Command) -> bool
+    ensures { made result command.new ≡ index_of tokens.now }
 {
-    let relation = name_at(tokens, 0)?;
-    let attribute = name_at(tokens, 2)?;
-    let kind = kind_at(tokens, 4)?;
-    Some(Command::CreateIndex {
+    let Some(relation) = name_at(tokens, 0) else {
+        return false;
+    };
+    let Some(attribute) = name_at(tokens, 2) else {
+        return false;
+    };
+    let Some(kind) = kind_at(tokens, 4) else {
+        return false;
+    };
+    *command = Command::CreateIndex {
         relation,
         attribute,
         kind,
-    })
+    };
+    true
 }
 
-fn remove_of(tokens: &[Token], nodes: Condition) -> Option<Command>
-    ensures { result ≡ remove_of tokens.now nodes }
+fn remove_of(tokens: &[Token], nodes: &mut Condition, command: &mut Command) -> bool
+    ensures { made result command.new ≡ remove_of tokens.now nodes.old }
 {
     match tokens {
-        [Token::Word(Keyword::KFROM), rest @ ..] => {
-            let relation = name_at(rest, 0)?;
-            Some(Command::RemoveFrom {
-                relation,
-                condition: nodes,
-            })
-        }
-        [Token::Word(Keyword::KRELATION), rest @ ..] => {
-            let relation = name_at(rest, 0)?;
-            Some(Command::RemoveRelation { relation })
-        }
-        [Token::Word(Keyword::KINDEX), rest @ ..] => {
-            let relation = name_at(rest, 0)?;
-            let attribute = name_at(rest, 2)?;
-            Some(Command::RemoveIndex {
-                relation,
-                attribute,
-            })
-        }
-        _ => None,
+        [Token::Word(Keyword::KFROM), rest @ ..] => match name_at(rest, 0) {
+            Some(relation) => {
+                *command = Command::RemoveFrom {
+                    relation,
+                    condition: mem::take(nodes),
+                };
+                true
+            }
+            None => false,
+        },
+        [Token::Word(Keyword::KRELATION), rest @ ..] => match name_at(rest, 0) {
+            Some(relation) => {
+                *command = Command::RemoveRelation { relation };
+                true
+            }
+            None => false,
+        },
+        [Token::Word(Keyword::KINDEX), rest @ ..] => unindex_of(rest, command),
+        _ => false,
     }
 }
 
-fn insert_of(tokens: &[Token]) -> Option<Command>
-    ensures { result ≡ insert_of tokens.now }
+// NAME . NAME.
+fn unindex_of(tokens: &[Token], command: &mut Command) -> bool
+    ensures { made result command.new ≡ unindex_of tokens.now }
 {
-    let relation = relation_in(tokens)?;
-    let values = values_in(tokens)?;
-    Some(Command::Insert { values, relation })
+    let Some(relation) = name_at(tokens, 0) else {
+        return false;
+    };
+    let Some(attribute) = name_at(tokens, 2) else {
+        return false;
+    };
+    *command = Command::RemoveIndex {
+        relation,
+        attribute,
+    };
+    true
+}
+
+// The values go where those of an earlier INSERT were.
+fn insert_of(tokens: &[Token], command: &mut Command) -> bool
+    ensures { made result command.new ≡ insert_of tokens.now }
+{
+    let Some(relation) = relation_in(tokens) else {
+        return false;
+    };
+    match command {
+        Command::Insert {
+            values,
+            relation: into,
+        } => {
+            *into = relation;
+            values_in(tokens, values)
+        }
+        _ => {
+            let mut values = Tuple::new();
+            let fits = values_in(tokens, &mut values);
+            *command = Command::Insert { values, relation };
+            fits
+        }
+    }
 }
 
 // Names or aggregates, behind SELECT.
-fn selection_of(tokens: &[Token], nodes: Condition) -> Option<Command>
-    ensures { result ≡ selection_of tokens.now nodes }
+fn selection_of(tokens: &[Token], nodes: &mut Condition, command: &mut Command) -> bool
+    ensures { made result command.new ≡ selection_of tokens.now nodes.old }
 {
     match tokens {
-        [Token::Name(_), ..] => {
-            let query = select_of(tokens, nodes)?;
-            Some(Command::Ask(query))
-        }
-        _ => aggregate_of(tokens, nodes),
+        [Token::Name(_), ..] => match select_of(tokens, nodes) {
+            Some(query) => {
+                *command = Command::Ask(query);
+                true
+            }
+            None => false,
+        },
+        _ => aggregate_of(tokens, nodes, command),
     }
 }
 
-fn select_of(tokens: &[Token], nodes: Condition) -> Option<Query>
-    ensures { result ≡ select_of tokens.now nodes }
+fn select_of(tokens: &[Token], nodes: &mut Condition) -> Option<Query>
+    ensures { result ≡ select_of tokens.now nodes.old }
 {
     let relation = relation_in(tokens)?;
     let list = names_in(tokens)?;
     Some(Query::Select {
         list,
         relation,
-        condition: nodes,
+        condition: mem::take(nodes),
     })
 }
 
-fn aggregate_of(tokens: &[Token], nodes: Condition) -> Option<Command>
-    ensures { result ≡ aggregate_of tokens.now nodes }
+fn aggregate_of(tokens: &[Token], nodes: &mut Condition, command: &mut Command) -> bool
+    ensures { made result command.new ≡ aggregate_of tokens.now nodes.old }
 {
-    let relation = relation_in(tokens)?;
-    let list = aggregates_in(tokens)?;
-    Some(Command::Aggregate {
+    let Some(relation) = relation_in(tokens) else {
+        return false;
+    };
+    let Some(list) = aggregates_in(tokens) else {
+        return false;
+    };
+    *command = Command::Aggregate {
         list,
         relation,
-        condition: nodes,
-    })
+        condition: mem::take(nodes),
+    };
+    true
 }
 
 // NAME , NAME ON NAME PROJECT NAME {, NAME}.
@@ -198,8 +269,8 @@ fn projected(tokens: &[Token]) -> Option<Idents>
     names_in(&tokens[6..])
 }
 
-fn query_of(tokens: &[Token], nodes: Condition) -> Option<Query>
-    ensures { result ≡ query_of tokens.now nodes }
+fn query_of(tokens: &[Token], nodes: &mut Condition) -> Option<Query>
+    ensures { result ≡ query_of tokens.now nodes.old }
 {
     match tokens {
         [Token::Word(Keyword::KSELECT), rest @ ..] => select_of(rest, nodes),
@@ -209,17 +280,20 @@ fn query_of(tokens: &[Token], nodes: Condition) -> Option<Query>
 }
 
 // NUMBER query.
-fn open_of(tokens: &[Token], nodes: Condition) -> Option<Command>
-    ensures { result ≡ open_of tokens.now nodes }
+fn open_of(tokens: &[Token], nodes: &mut Condition, command: &mut Command) -> bool
+    ensures { made result command.new ≡ open_of tokens.now nodes.old }
 {
     match tokens {
-        [Token::Number(number), rest @ ..] => {
-            let query = query_of(rest, nodes)?;
-            Some(Command::OpenCursor {
-                number: *number,
-                query,
-            })
-        }
-        _ => None,
+        [Token::Number(number), rest @ ..] => match query_of(rest, nodes) {
+            Some(query) => {
+                *command = Command::OpenCursor {
+                    number: *number,
+                    query,
+                };
+                true
+            }
+            None => false,
+        },
+        _ => false,
     }
 }

@@ -8,25 +8,24 @@ ghost use Rattle.db_model.specs.Tokens.{tokens_of};
 use aql_lex::{Lexed, next_token};
 use db_model::{Few, Token};
 
-/// The tokens of a command up to the first place where none begins, the place behind each of
-/// them, and whether only white space is left behind the last.
-#[derive(Drop)]
-pub struct Lexemes {
-    pub tokens: Few<Token, 512>,
-    pub ends: Few<u16, 512>,
-    pub whole: bool,
-}
+/// The tokens of a command of at most 512 bytes.
+pub type Tokens = Few<Token, 512>;
 
-/// Cuts the bytes of a command into tokens.
-pub fn cut(bytes: &[u8]) -> Lexemes
+/// The place behind each of them.
+pub type Ends = Few<u16, 512>;
+
+/// Cuts the bytes of a command into tokens up to the first place where none begins, and puts these
+/// and the places behind them where those of an earlier command were. Whether only white space is
+/// left behind the last.
+pub fn cut(bytes: &[u8], tokens: &mut Tokens, ends: &mut Ends) -> bool
     requires { length bytes.now ≤ 512 }
-    ensures tokens { result.tokens ≡ (tokens_of bytes.now).items }
-    ensures ends { result.ends ≡ (tokens_of bytes.now).ends }
-    ensures same { length result.ends ≡ length result.tokens }
-    ensures whole { result.whole ≡ (tokens_of bytes.now).whole }
+    ensures tokens { tokens.new ≡ (tokens_of bytes.now).items }
+    ensures ends { ends.new ≡ (tokens_of bytes.now).ends }
+    ensures same { length ends.new ≡ length tokens.new }
+    ensures whole { result ≡ (tokens_of bytes.now).whole }
 {
-    let mut tokens = Few::new();
-    let mut ends = Few::new();
+    tokens.clear();
+    ends.clear();
     let mut at = 0;
     'tokens: loop {
         match next_token(bytes, at) {
@@ -35,20 +34,8 @@ pub fn cut(bytes: &[u8]) -> Lexemes
                 ends.push(to);
                 at = to;
             }
-            Lexed::End => {
-                return Lexemes {
-                    tokens,
-                    ends,
-                    whole: true,
-                };
-            }
-            Lexed::Bad => {
-                return Lexemes {
-                    tokens,
-                    ends,
-                    whole: false,
-                };
-            }
+            Lexed::End => return true,
+            Lexed::Bad => return false,
         }
     }
 }

@@ -17,7 +17,7 @@ mod stack;
 mod symbols;
 
 pub use laws::{each_command_is_read, readings_are_unique};
-pub use reading::parse;
+pub use reading::{Parser, parse};
 
 #[cfg(test)]
 mod tests;

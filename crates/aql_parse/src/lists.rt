@@ -3,7 +3,7 @@
 #![tactic(auto)]
 
 ghost use Rattle.std.specs.Prelude.{◌≡◌, false};
-ghost use Rattle.aql_parse.specs.Built.{aggregates_in, at_most_8, names_in, relation_in, values_in};
+ghost use Rattle.aql_parse.specs.Built.{aggregates_in, at_most_8, made, names_in, relation_in, values_in};
 
 use crate::parts::{introduces, is_from, is_minus, name_at, token_agg, token_name, token_value};
 use db_model::{AggList, Ident, Idents, Token, Tuple};
@@ -27,22 +27,22 @@ pub fn names_in(tokens: &[Token]) -> Option<Idents>
     Some(list)
 }
 
-/// The values to the end; None where there are more than 8.
-pub fn values_in(tokens: &[Token]) -> Option<Tuple>
-    ensures { result ≡ at_most_8 (values_in false tokens.now) }
+/// Puts the values to the end in place of those that were there; false where there are more than 8.
+pub fn values_in(tokens: &[Token], list: &mut Tuple) -> bool
+    ensures { made result list.new ≡ at_most_8 (values_in false tokens.now) }
 {
-    let mut list = Tuple::new();
+    list.clear();
     let mut negative = false;
     for token in tokens {
         if let Some(value) = token_value(negative, token) {
             if list.len() == 8 {
-                return None;
+                return false;
             }
             list.push(value);
         }
         negative = is_minus(token);
     }
-    Some(list)
+    true
 }
 
 /// The aggregates up to FROM, each with its name; None where there are more than 8.

@@ -2,7 +2,7 @@
 
 #![tactic(auto)]
 
-ghost use Rattle.std.specs.Prelude.{◌≡◌, ◌≤◌, IfErr, IfOk, None, Some, length};
+ghost use Rattle.std.specs.Prelude.{◌≡◌, ◌≤◌, IfErr, OnOk, None, Some, length};
 ghost use Rattle.aql_parse.specs.Kept.{AreKept};
 ghost use Rattle.aql_parse.specs.Machine.{finish, joint_node, reach, read, run, skip, start};
 ghost use Rattle.aql_parse.specs.Moves.{HasEnded, HasRead, Skipped, bulk_all};
@@ -13,26 +13,26 @@ use crate::stack::Stack;
 use crate::symbols::{Joint, Symbol};
 use db_model::{Node, Token};
 
-/// The nodes of the condition where the tokens spell a command; else how many of them, at most,
-/// begin one.
-pub fn recognize(tokens: &[Token]) -> Result<Nodes, usize>
+/// Puts the nodes of the condition where those of an earlier one were, if the tokens spell a
+/// command; else tells how many of them, at most, begin one. The stack serves for the work.
+pub fn recognize(tokens: &[Token], stack: &mut Stack, nodes: &mut Nodes) -> Result<(), usize>
     requires { length tokens.now ≤ 512 }
-    ensures nodes { IfOk result (AreKept (run start tokens.now)) }
+    ensures nodes { OnOk result (AreKept (run start tokens.now) nodes.new) }
     ensures front { IfErr result (λ n. n ≡ reach start tokens.now) }
     ensures none { IfErr result (λ _. run start tokens.now ≡ None) }
 {
-    let mut nodes = Nodes::new();
-    let mut stack = Stack::new();
+    stack.clear();
+    nodes.clear();
     stack.push(Symbol::Command);
     for (n, token) in tokens.iter().enumerate() {
-        if !read(&mut stack, token, &mut nodes) {
+        if !read(stack, token, nodes) {
             return Err(n);
         }
     }
-    if !finish(&mut stack, &mut nodes) {
+    if !finish(stack, nodes) {
         return Err(tokens.len());
     }
-    Ok(nodes)
+    Ok(())
 }
 
 // Reads one token; false where it cannot come.

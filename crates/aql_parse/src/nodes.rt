@@ -25,6 +25,15 @@ impl Nodes {
         }
     }
 
+    /// Takes all nodes out.
+    pub fn clear(&mut self)
+        ensures first { self.new.first ≡ [] }
+        ensures over { self.new.over ≡ false }
+    {
+        self.first.clear();
+        self.over = false;
+    }
+
     /// Puts a node behind the others.
     pub fn put(&mut self, node: Node)
         ensures { self.new ≡ kept_one self.old node }

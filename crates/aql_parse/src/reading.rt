@@ -9,10 +9,66 @@ ghost use Rattle.db_model.specs.Reading.{IsReading};
 ghost use Rattle.db_model.specs.Spelling.{end_of, nodes_of};
 
 use crate::built::command_of;
-use crate::cut::cut;
+use crate::cut::{Ends, Tokens, cut};
 use crate::machine::recognize;
+use crate::nodes::Nodes;
+use crate::stack::Stack;
 use db_model::laws::conditions_are_read_back;
-use db_model::{Command, Pool, Refusal};
+use db_model::{Command, Few, Pool, Refusal};
+
+/// Reads commands one after the other. Its lists stay where they are, and are cleared of what an
+/// earlier command left in them, so that reading touches no more of them than a command fills. What
+/// was read before changes no answer.
+#[derive(Drop)]
+pub struct Parser {
+    tokens: Tokens,
+    ends: Ends,
+    stack: Stack,
+    nodes: Nodes,
+}
+
+impl Parser {
+    /// A parser that has read nothing yet: 31 KB, so it is made once and lent from then on.
+    // Not inlined, since its caller would keep the parts of which it is made on its stack.
+    #[inline(never)]
+    pub fn new() -> Parser {
+        Parser {
+            tokens: Few::new(),
+            ends: Few::new(),
+            stack: Stack::new(),
+            nodes: Nodes::new(),
+        }
+    }
+
+    /// Reads a command as `parse` does.
+    pub fn parse(&mut self, bytes: &[u8], command: &mut Command) -> Result<(), Refusal>
+        requires { length bytes.now ≤ 512 }
+        ensures reading { IsReading bytes.now (read_as result command.new) }
+        ensures condition { OnOk result (IsCondition (nodes_of command.new)) }
+        ensures same { OnErr result (command.new ≡ command.old) }
+    {
+        conditions_are_read_back();
+        let whole = cut(bytes, &mut self.tokens, &mut self.ends);
+        if let Err(n) = recognize(self.tokens.as_slice(), &mut self.stack, &mut self.nodes) {
+            let at = end_of(self.ends.as_slice(), n);
+            return Err(Refusal::Syntax { at });
+        }
+        if !whole {
+            let at = end_of(self.ends.as_slice(), self.tokens.len());
+            return Err(Refusal::Syntax { at });
+        }
+        if self.nodes.over {
+            return Err(Refusal::Full {
+                pool: Pool::Nodes,
+                limit: 32,
+            });
+        }
+        if !command_of(self.tokens.as_slice(), &mut self.nodes.first, command) {
+            unreachable!();
+        }
+        Ok(())
+    }
+}
 
 /// Reads a command of at most 512 bytes. Ok comes exactly where the bytes spell a command of at
 /// most 32 condition nodes, and `command` is then it. `Syntax` comes exactly where they spell
@@ -25,32 +81,8 @@ pub fn parse(bytes: &[u8], command: &mut Command) -> Result<(), Refusal>
     ensures condition { OnOk result (IsCondition (nodes_of command.new)) }
     ensures same { OnErr result (command.new ≡ command.old) }
 {
-    conditions_are_read_back();
-    let lexemes = cut(bytes);
-    let nodes = match recognize(lexemes.tokens.as_slice()) {
-        Ok(nodes) => nodes,
-        Err(n) => {
-            let at = end_of(lexemes.ends.as_slice(), n);
-            return Err(Refusal::Syntax { at });
-        }
-    };
-    if !lexemes.whole {
-        let at = end_of(lexemes.ends.as_slice(), lexemes.tokens.len());
-        return Err(Refusal::Syntax { at });
-    }
-    if nodes.over {
-        return Err(Refusal::Full {
-            pool: Pool::Nodes,
-            limit: 32,
-        });
-    }
-    match command_of(lexemes.tokens.as_slice(), nodes.first) {
-        Some(read) => {
-            *command = read;
-            Ok(())
-        }
-        None => unreachable!(),
-    }
+    let mut parser = Parser::new();
+    parser.parse(bytes, command)
 }
 
 // Where the nth token ends, 0 for none.

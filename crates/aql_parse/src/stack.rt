@@ -34,6 +34,13 @@ impl Stack {
         }
     }
 
+    /// Takes all symbols off.
+    pub fn clear(&mut self)
+        ensures { self.new ≡ [] }
+    {
+        self.symbols.clear();
+    }
+
     /// Puts a symbol on top.
     pub fn push(&mut self, symbol: Symbol)
         requires { length self.old < 2064 }

@@ -1,6 +1,6 @@
 // Commands of worked examples; the places of refusals are counted by hand.
 
-use crate::parse;
+use crate::{Parser, parse};
 use db_model::{Command, Pool, Query, Refusal};
 
 const LONG: &[u8; 58] = b"SELECT k FROM s WHERE k = 1 AND NOT ( t < 'a' ) OR k <> -2";
@@ -136,4 +136,34 @@ fn commands_are_read_with_their_parts(rt: HostRuntime) {
     assert!(rt; opens_a_join(b"open 2 join a, b on k project x, k"));
     assert!(rt; read(b"CREATE ATTRIBUTE t DOMAIN tImE IN log").1.is_ok());
     assert!(rt; refused_at(b"CREATE ATTRIBUTE t DOMAIN TIMES IN log") == Some(25));
+}
+
+#[test]
+fn a_parser_reads_each_command_as_its_first(rt: HostRuntime) {
+    let mut parser = Parser::new();
+    let mut command = Command::FetchCursor { number: 0 };
+    assert!(rt; parser.parse(LONG, &mut command).is_ok());
+    let refused = parser.parse(b"INSERT (1, 2, 3 INTO s", &mut command);
+    assert!(rt; refused == Err(Refusal::Syntax { at: 15 }));
+    match &command {
+        Command::Ask(Query::Select { condition, .. }) => assert!(rt; condition.len() == 12),
+        _ => assert!(rt; false),
+    }
+    assert!(rt;
+        parser
+            .parse(b"INSERT (1, 2, 3) INTO s", &mut command)
+            .is_ok()
+    );
+    assert!(rt; parser.parse(b"INSERT (4) INTO log", &mut command).is_ok());
+    match &command {
+        Command::Insert { values, relation } => {
+            assert!(rt; values.len() == 1 && relation.bytes() == &b"log"[..]);
+        }
+        _ => assert!(rt; false),
+    }
+    assert!(rt; parser.parse(b"SELECT k FROM s", &mut command).is_ok());
+    match &command {
+        Command::Ask(Query::Select { condition, .. }) => assert!(rt; condition.is_empty()),
+        _ => assert!(rt; false),
+    }
 }

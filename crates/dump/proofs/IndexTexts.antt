@@ -11,16 +11,12 @@ use Rattle.db_model.specs.Database.{Database}
 use Rattle.db_model.specs.Sound.{IsSoundDatabase, IsSoundIndex}
 use Rattle.antelope_engine.specs.Reading.{index_at, schema_at}
 use Rattle.dump.specs.Parts.{index_lines}
+use Rattle.dump_model.proofs.Lexing.{false_true}
+use Rattle.dump_model.proofs.Slots.{some_same}
 use Rattle.dump_model.specs.Script.{command_line, index_command, name_at}
-
-same_some : {A : Type 0} {x y : A} → Some x ≡ Some y → x ≡ y
-same_some h = cc
 
 none_some : {A : Type 0} {x : A} → None ≡ Some x → ⊥
 none_some h = cc
-
-false_true : false ≡ true → ⊥
-false_true h = cc
 
 there : (xs : List Attribute) (p : ℕ) (a : Attribute) → nat_lt p (length xs) ≡ true → a ≡ slice_index_or xs p a → slice_get xs p ≡ Some a
 there [] p a below e = absurd (false_true (none_below p below))
@@ -48,7 +44,7 @@ module _ (db : Database) (sound : IsSoundDatabase db) (k : ℕ) {index : Index} 
 
   module _ {schema : Schema} (found : Some schema ≡ schema_at db index.relation) where
     same_schema : schema ≡ index_is.relation.schema
-    same_schema = same_some (found ∙ schema_is)
+    same_schema = some_same (found ∙ schema_is)
 
     -- its attribute is there
     pub attribute_there : false ≡ nat_lt index.attribute (length schema.attributes) → ⊥

@@ -4,3 +4,4 @@ pub mod LineTexts
 pub mod ScriptTexts
 pub mod Sessions
 pub mod ValueTexts
+pub mod WholeScript

@@ -1,5 +1,5 @@
 -- What holds of the database of a session.
-use Rattle.std.proofs.Common.{◌≡◌, refl, sym, ap, subst, ◌∙◌, ℕ, ◌<◌, ◌≤◌, ◌⊎◌, inl, inr, true, [], length, get_or, arith, cond, Option, Some, None}
+use Rattle.std.proofs.Common.{◌≡◌, refl, sym, ap, ◌∙◌, ℕ, ◌<◌, ◌≤◌, true, [], length, get_or, arith, cond, Option, Some, None}
 use Rattle.std.specs.Prelude.{nat_lt}
 use Rattle.std.specs.Option.{option_map_or}
 use Rattle.std.proofs.lemmas.Bool.Decides.{nat_tests}
@@ -7,13 +7,10 @@ use Rattle.afl_base.specs.Files.{State}
 use Rattle.antelope_engine.specs.Seen.{Seen}
 use Rattle.db_model.specs.Database.{Database, Relation}
 use Rattle.db_model.specs.Sound.{IsSoundDatabase}
-use Rattle.db_model.specs.Step.{slots_limit}
 use Rattle.space_model.specs.Enough.{rows_in}
 use Rattle.dump.specs.Unchanged.{IsAsBefore}
-
-most_slots : (version : ℕ) → (version ≡ 1) ⊎ (version ≡ 2) → slots_limit version ≤ 32768
-most_slots version (inl one) = let e : slots_limit 1 ≤ 32768 = omega arith in subst (λ v. slots_limit v ≤ 32768) (sym one) e
-most_slots version (inr two) = let e : slots_limit 2 ≤ 32768 = omega arith in subst (λ v. slots_limit v ≤ 32768) (sym two) e
+use Rattle.dump_model.proofs.Facts.{most_slots}
+use Rattle.dump_model.proofs.Slots.{some_same}
 
 pub few_rows : (db : Database) (k : ℕ) → IsSoundDatabase db → length (rows_in db k) ≤ 32768
 few_rows db k is = by_slot (get_or db.relations k None) refl
@@ -31,10 +28,7 @@ pub is_slot : (at : ℕ) (slot : Option ℕ) → at < 32768 → slot ≡ cond (n
 is_slot at slot h e = e ∙ ap (λ t. cond t (Some at) None) (by_bound at h)
 
 pub some_slot : (at : ℕ) {s : ℕ} (slot : Option ℕ) → at < 32768 → slot ≡ cond (nat_lt at 32768) (Some at) None → slot ≡ Some s → s ≡ at
-some_slot at slot h e i = same (sym i ∙ is_slot at slot h e)
-  where
-    same : {m n : ℕ} → Some m ≡ Some n → m ≡ n
-    same k = cc
+some_slot at slot h e i = some_same (sym i ∙ is_slot at slot h e)
 
 pub no_slot : (at : ℕ) (slot : Option ℕ) → at < 32768 → slot ≡ cond (nat_lt at 32768) (Some at) None → slot ≡ None → ⊥
 no_slot at slot h e i = none (sym i ∙ is_slot at slot h e)

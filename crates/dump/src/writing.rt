@@ -24,6 +24,7 @@ use antelope_engine::{Session, Stop};
 ///
 /// `Stop::Sink` leaves a proper prefix of the script in the sink. `Stop::Flash` leaves a prefix of
 /// it, and stops the session.
+#[tactic(auto, using(crate::proofs::WholeScript::relations_cut))]
 pub fn write<V: Files, K: Sink>(session: &mut Session<V>, out: &mut K) -> Result<(), Stop>
     requires running { session.old.stopped ≡ false }
     ensures wrote { let db = session.old.database in

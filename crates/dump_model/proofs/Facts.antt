@@ -68,7 +68,7 @@ listed_attributes : (version : ℕ) (attributes : List Attribute) → AllByRecur
 listed_attributes version [] h = tt
 listed_attributes version (a ∷ attributes) h = ((h.0.name, h.0.domain), listed_attributes version attributes h.1)
 
-most_slots : (version : ℕ) → (version ≡ 1) ⊎ (version ≡ 2) → slots_limit version ≤ 32768
+pub most_slots : (version : ℕ) → (version ≡ 1) ⊎ (version ≡ 2) → slots_limit version ≤ 32768
 most_slots version (inl one) = let e : slots_limit 1 ≤ 32768 = omega arith in subst (λ v. slots_limit v ≤ 32768) (sym one) e
 most_slots version (inr two) = let e : slots_limit 2 ≤ 32768 = omega arith in subst (λ v. slots_limit v ≤ 32768) (sym two) e
 

@@ -7,10 +7,9 @@ ghost use Rattle.serve_model.specs.Frames.{Frame, decoded, ended_by, frame_from,
 ghost use Rattle.serve.specs.Gathers.{Decoding, Gathers, HasFrame, Keeps, KeepsPart, Opened, client_in, command_in, one_more, opened, told};
 
 use crate::fed::Fed;
+use crate::replies::END;
 use arrayvec::ArrayVec;
 use std::marker::Model;
-
-const END: u8 = 0xC0;
 
 const ESC: u8 = 0xDB;
 

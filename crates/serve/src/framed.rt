@@ -2,10 +2,12 @@
 
 #![tactic(auto)]
 
-ghost use Rattle.std.specs.Prelude.{◌≡◌, true, None, OnErr, OnOk};
+ghost use Rattle.std.specs.Prelude.{◌≡◌, ◌⊎◌, ◌∷◌, [], true, None, OnErr, OnOk};
+ghost use Rattle.std.specs.Io.KnownBytes.{append_known};
 ghost use Rattle.afl_base.specs.Causes.{HasCause};
 ghost use Rattle.serve.specs.Front.{front_held};
 
+use crate::replies::END;
 use afl_base::{Failed, Sink};
 
 /// Stands before a sink: a byte goes out with the first byte of what is written. As a sink it holds that
@@ -21,6 +23,27 @@ pub struct Framed<'a, K: Sink> {
 }
 
 impl<'a, K: Sink> Framed<'a, K> {
+    /// The byte goes out, where it has not yet, and then END.
+    pub fn finish(&mut self) -> Result<(), Failed>
+        ensures written { OnOk result (K.held self.new.out.now
+            ≡ append_known (front_held (K.held self.old.out.now) self.old.front) (192 ∷ [])) }
+        ensures failed { OnErr result ((K.held self.new.out.now ≡ K.held self.old.out.now)
+            ⊎ (K.held self.new.out.now ≡ front_held (K.held self.old.out.now) self.old.front)) }
+        ensures faultless { OnOk result (K.faults self.new.out.now ≡ K.faults self.old.out.now) }
+        ensures out { self.new.out.ghost_name ≡ self.old.out.ghost_name }
+        ensures keeps { K.keeps self.old.out.now self.new.out.now }
+        ensures cause { HasCause (K.faults self.old.out.now) (K.faults self.new.out.now) result }
+    {
+        match self.send_front() {
+            Ok(()) => {}
+            Err(Failed) => return Err(Failed),
+        }
+        match self.out.write(&[END]) {
+            Ok(_) => Ok(()),
+            Err(Failed) => Err(Failed),
+        }
+    }
+
     // The byte goes out, where it has not yet.
     fn send_front(&mut self) -> Result<(), Failed>
         ensures sent { OnOk result

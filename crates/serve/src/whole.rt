@@ -4,7 +4,7 @@
 
 ghost use Rattle.std.specs.Prelude.{◌≡◌, false, true, ℕ, List, Result, Err, IsTrue, length};
 ghost use Rattle.answering.specs.Carried.{LacksPages, standing_of};
-ghost use Rattle.answering.specs.Went.{HasRunCause, Went};
+ghost use Rattle.answering.specs.Went.{HasRunCause, Reaches, Went};
 ghost use Rattle.db_model.specs.declared.commands.Command.{Command as AnyCommand};
 ghost use Rattle.db_model.specs.declared.refusals.Refusal.{Refusal as AnyRefusal};
 ghost use Rattle.db_model.specs.Reading.{IsReader};
@@ -30,6 +30,7 @@ pub fn serve_line<V: Files, S: Source, K: Sink>(
         → Went frame_line (serve_talk read) (standing_of V.state V.reads session (K.held out.old))
         (standing_of V.state V.reads result.1 (K.held out.new)) (S.left line.old) (S.left line.new)
         (LacksPages V.state V.asks V.lacks result.1) result.0 }
+    ensures reaches { Reaches result.0 (S.left line.old) (S.left line.new) }
     ensures lost { session.lost ≡ false → result.1.lost ≡ true → result.0 ≡ Err (Stop.Halted Halt.Flash) }
     ensures store { length (V.state result.1.files).store ≡ length (V.state session.files).store }
     ensures keeps { K.keeps out.old out.new }

@@ -1,4 +1,4 @@
-//! Files that are made without a session.
+//! Files that are made without a session, and what stands in them.
 
 ghost use Rattle.std.specs.Prelude.{◌≡◌, ◌≢◌, ◌+◌, ◌-◌, ◌*◌, ◌<◌, ◌≤◌, ℕ, None, IsTrue, OnOk, length, slice_index};
 ghost use Rattle.afl_base.specs.Files.{IsKind, used};
@@ -69,4 +69,13 @@ pub fn fill<V: Files>(files: &mut V, id: FileId, bytes: &[u8]) -> Result<(), Fai
     }
     files.prepare(id, 0, bytes.len() as u32)?;
     Ok(files.append(id, bytes)?)
+}
+
+/// The number of bytes of the file of a name.
+pub fn size_of<V: Files>(files: &V, name: &[u8]) -> Result<u32, Fail> {
+    let name = Name::new(name).ok_or("name")?;
+    match files.find(name) {
+        Some(id) if files.live(id) => Ok(files.size(id)),
+        _ => Err(Fail::new("no file")),
+    }
 }

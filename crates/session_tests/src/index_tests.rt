@@ -22,7 +22,7 @@ const RELATIONS: [&[u8]; 6] = [
 ];
 
 // What every list has; each # is a digit, and each @ the number of a cursor.
-const COMMANDS: [&[u8]; 24] = [
+const COMMANDS: [&[u8]; 25] = [
     b"INSERT (#, #) INTO s",
     b"INSERT (#, #) INTO s",
     b"INSERT (1#, #) INTO s",
@@ -38,6 +38,7 @@ const COMMANDS: [&[u8]; 24] = [
     b"SELECT k, v FROM s WHERE k = #",
     b"SELECT v FROM s WHERE v = # AND k >= #",
     b"SELECT k FROM s WHERE k > # AND k <= 1#",
+    b"SELECT k FROM s WHERE # < k AND 1# >= k",
     b"SELECT k, v FROM s WHERE k = # OR v = #",
     b"SELECT COUNT(v), SUM(v), MIN(v), MAX(k), MEAN(v), MEDIAN(k) FROM s WHERE v <> #",
     b"JOIN s, r ON k PROJECT k, v, w",
@@ -63,7 +64,7 @@ fn chosen<'a>(common: &[&'a [u8]], more: &[&'a [u8]], seed: &mut u32) -> Option<
     let (from, number) = if drawn(seed, 3) == 0 {
         (more, drawn(seed, 4))
     } else {
-        (common, drawn(seed, 24))
+        (common, drawn(seed, 25))
     };
     from.get(number as usize).copied()
 }

@@ -8,6 +8,8 @@ mod flash_tests;
 #[cfg(test)]
 mod index_tests;
 #[cfg(test)]
+mod list_tests;
+#[cfg(test)]
 mod row_tests;
 #[cfg(test)]
 mod told;

@@ -1,7 +1,10 @@
-//! Commands and their replies, over files in memory.
+//! Commands and their replies, over files in memory and over a flash.
 
-use crate::told::{say, say_often, started};
-use afl_sim::PlainFiles;
+ghost use Rattle.std.specs.Prelude.{◌≡◌, None};
+
+use crate::told::{mounted, say, say_often, started};
+use afl_base::Files;
+use afl_sim::{MemFlash, PlainFiles};
 use std::alloc::Global;
 use std::test::Fail;
 
@@ -12,11 +15,30 @@ const TWO: &[u8] =
 // A relation of one number.
 const ONE: &[u8] = b"CREATE RELATION n;CREATE ATTRIBUTE v DOMAIN INT IN n;";
 
-// Whether a text gives these replies, behind another whose replies are not looked at.
-fn gives(alloc: Global, before: &[u8], text: &[u8], replies: &[u8]) -> Result<bool, Fail> {
-    let mut session = started(PlainFiles::<4064>::new())?;
+// Whether a text gives these replies over files, behind another whose replies are not looked at.
+fn gives_over<V: Files + Drop>(
+    alloc: Global,
+    files: V,
+    before: &[u8],
+    text: &[u8],
+    replies: &[u8],
+) -> Result<bool, Fail>
+    requires { (V.state files).draft ≡ None }
+{
+    let mut session = started(files)?;
     say(alloc, &mut session, before)?;
     Ok(say(alloc, &mut session, text)?.as_slice() == replies)
+}
+
+// Whether it does over files in memory and over a flash.
+fn gives(alloc: Global, before: &[u8], text: &[u8], replies: &[u8]) -> Result<bool, Fail> {
+    let mut image = vec![in alloc; 0u8; 262_144]?;
+    let volume = mounted(MemFlash::new(&mut image).ok_or("no flash")?)?;
+    let plain = PlainFiles::<4064>::new();
+    Ok(
+        gives_over(alloc, plain, before, text, replies)?
+            && gives_over(alloc, volume, before, text, replies)?,
+    )
 }
 
 #[test]

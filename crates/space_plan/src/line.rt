@@ -27,8 +27,8 @@ fn write_count<K: Sink>(out: &mut K, words: &[u8], count: u32) -> Result<(), Fai
     write_all(out, Buffer::new().format(count).as_bytes())
 }
 
-// Two of them in a line.
-fn write_counts<K: Sink>(
+/// Appends a line of words and a number, and others behind. `Failed` leaves a proper prefix of it there.
+pub fn write_counts<K: Sink>(
     out: &mut K,
     words: &[u8],
     count: u32,

@@ -1,6 +1,6 @@
 use Rattle.std.proofs.Common.{◌≡◌, ap}
 use Rattle.answering.specs.Carried.{standing_of}
-use Rattle.antelope_run.proofs.Halts.{dumped, dumped_cause, dumped_lost, dumped_same, unless_flash}
+use Rattle.antelope_run.proofs.Halts.{dumped, dumped_cause, dumped_lost, dumped_same, stopped_only, unless_flash}
 use Rattle.antelope_run.proofs.carrying.dump_all.Goals as goal
 
 pub returns-clause-does : goal.returns-clause-does
@@ -24,3 +24,6 @@ returns-clause-lost g c = λ kept lost.
 pub returns-clause-cause : goal.returns-clause-cause
 returns-clause-cause g c = λ inputs.
     rw c.stopped.ensures (dumped_cause c.write-done.result inputs _ _ _ _ c.write-done.ensures.cause)
+
+pub returns-clause-halts : goal.returns-clause-halts
+returns-clause-halts g c = rw c.stopped.ensures (stopped_only c.write-done.result)

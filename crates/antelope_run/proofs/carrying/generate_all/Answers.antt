@@ -1,6 +1,6 @@
 use Rattle.std.proofs.Common.{◌≡◌}
 use Rattle.answering.specs.Carried.{standing_of}
-use Rattle.antelope_run.proofs.Halts.{generated, generated_cause, generated_lost, generated_tells}
+use Rattle.antelope_run.proofs.Halts.{generated, generated_cause, generated_lost, generated_tells, halted_only}
 use Rattle.antelope_run.proofs.carrying.generate_all.Goals as goal
 
 pub returns-clause-does : goal.returns-clause-does
@@ -20,3 +20,6 @@ returns-clause-lost g c = λ kept lost.
 pub returns-clause-cause : goal.returns-clause-cause
 returns-clause-cause g c = λ inputs.
     rw c.halted.ensures (generated_cause c.generate-done.result inputs _ _ _ _ c.generate-done.ensures.cause)
+
+pub returns-clause-halts : goal.returns-clause-halts
+returns-clause-halts g c = rw c.halted.ensures (halted_only c.generate-done.result)

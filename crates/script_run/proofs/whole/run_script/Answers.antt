@@ -4,7 +4,7 @@ use Rattle.intake.specs.Through.{Out, out_of}
 use Rattle.answering.specs.Carried.{LacksPages, standing_of}
 use Rattle.answering.specs.Taking.{saying}
 use Rattle.answering.specs.Went.{Went}
-use Rattle.answering.proofs.Through.{sum, went}
+use Rattle.answering.proofs.Through.{reaches, sum, went}
 use Rattle.run_model.specs.Scripts.{script_line, script_talk}
 use Rattle.run_model.proofs.Parts.{script_parts}
 use Rattle.script_run.specs.declared.running.Runner.{Runner}
@@ -26,6 +26,15 @@ returns-clause-went g c = λ told read reader.
     (went script_input files script_line script_parts seen old new (g.S.Source.left c.args.script.now) (g.S.Source.left c.take_through-taken.new.input)
     (ap (λ (s : Seen g.row.V.Denot). s.stopped) is ∙ c.requires.running) (rw is told) read reader c.new-runner.ensures.keeps
     c.take_through-taken.result c.take_through-taken.ensures.through)
+
+pub returns-clause-reaches : goal.returns-clause-reaches
+returns-clause-reaches g c =
+    let files = saying g.V.Files.state g.V.Files.reads g.V.Files.faults g.V.Files.asks g.V.Files.lacks in
+    let old : Runner g.row.V.Denot × Out = (c.new-runner.result, out_of (g.K.Sink.held c.args.out.now) (g.K.Sink.faults c.args.out.now)) in
+    let new : Runner g.row.V.Denot × Out = (c.take_through-taken.new.taker, out_of (g.K.Sink.held c.take_through-taken.new.out) (g.K.Sink.faults c.take_through-taken.new.out)) in
+    let is = c.new-runner.ensures.session in
+    reaches script_input files script_line script_parts seen old new (g.S.Source.left c.args.script.now) (g.S.Source.left c.take_through-taken.new.input)
+    (ap (λ (s : Seen g.row.V.Denot). s.stopped) is ∙ c.requires.running) c.take_through-taken.result c.take_through-taken.ensures.through
 
 pub returns-clause-lost : goal.returns-clause-lost
 returns-clause-lost g c = λ kept lost.

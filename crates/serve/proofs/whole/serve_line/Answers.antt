@@ -4,7 +4,7 @@ use Rattle.intake.specs.Through.{Out, out_of}
 use Rattle.answering.specs.Carried.{LacksPages, standing_of}
 use Rattle.answering.specs.Taking.{saying}
 use Rattle.answering.specs.Went.{Went}
-use Rattle.answering.proofs.Through.{sum, went}
+use Rattle.answering.proofs.Through.{reaches, sum, went}
 use Rattle.serve_model.specs.Frames.{frame_line}
 use Rattle.serve_model.specs.Served.{serve_talk}
 use Rattle.serve_model.proofs.Ending.{frame_parts}
@@ -20,13 +20,22 @@ returns-clause-went g c = λ told read reader.
     let new : Server g.row.V.Denot × Out = (c.take_through-taken.new.taker, out_of (g.K.Sink.held c.take_through-taken.new.out) (g.K.Sink.faults c.take_through-taken.new.out)) in
     let is = c.new-server.ensures.session in
     let Goal : Seen g.row.V.Denot → Type 0 = λ s. Went frame_line (serve_talk read) (standing_of g.V.Files.state g.V.Files.reads s (g.K.Sink.held c.args.out.now))
-        (standing_of g.V.Files.state g.V.Files.reads c.take_through-taken.new.taker.session (g.K.Sink.held c.take_through-taken.new.out))
-        (g.S.Source.left c.args.line.now) (g.S.Source.left c.take_through-taken.new.input)
-        (LacksPages g.V.Files.state g.V.Files.asks g.V.Files.lacks c.take_through-taken.new.taker.session) c.take_through-taken.result in
+    (standing_of g.V.Files.state g.V.Files.reads c.take_through-taken.new.taker.session (g.K.Sink.held c.take_through-taken.new.out))
+    (g.S.Source.left c.args.line.now) (g.S.Source.left c.take_through-taken.new.input)
+    (LacksPages g.V.Files.state g.V.Files.asks g.V.Files.lacks c.take_through-taken.new.taker.session) c.take_through-taken.result in
     subst Goal is
     (went frame_input files frame_line frame_parts seen old new (g.S.Source.left c.args.line.now) (g.S.Source.left c.take_through-taken.new.input)
     (ap (λ (s : Seen g.row.V.Denot). s.stopped) is ∙ c.requires.running) (rw is told) read reader c.new-server.ensures.gathers
     c.take_through-taken.result c.take_through-taken.ensures.through)
+
+pub returns-clause-reaches : goal.returns-clause-reaches
+returns-clause-reaches g c =
+    let files = saying g.V.Files.state g.V.Files.reads g.V.Files.faults g.V.Files.asks g.V.Files.lacks in
+    let old : Server g.row.V.Denot × Out = (c.new-server.result, out_of (g.K.Sink.held c.args.out.now) (g.K.Sink.faults c.args.out.now)) in
+    let new : Server g.row.V.Denot × Out = (c.take_through-taken.new.taker, out_of (g.K.Sink.held c.take_through-taken.new.out) (g.K.Sink.faults c.take_through-taken.new.out)) in
+    let is = c.new-server.ensures.session in
+    reaches frame_input files frame_line frame_parts seen old new (g.S.Source.left c.args.line.now) (g.S.Source.left c.take_through-taken.new.input)
+    (ap (λ (s : Seen g.row.V.Denot). s.stopped) is ∙ c.requires.running) c.take_through-taken.result c.take_through-taken.ensures.through
 
 pub returns-clause-lost : goal.returns-clause-lost
 returns-clause-lost g c = λ kept lost.

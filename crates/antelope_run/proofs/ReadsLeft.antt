@@ -1,0 +1,46 @@
+-- What a run reads, its opening included.
+use Rattle.std.proofs.Common.{◌≡◌, ◌≢◌, ℕ, ◌+◌, ◌-◌, ◌/◌, ◌≤◌, Bool, true, false, List, length, Option, Some, ap, refl, subst, sym, arith}
+use Rattle.db_model.specs.Ahead.{Aheads, no_cursors}
+use Rattle.db_model.specs.Database.{Database}
+use Rattle.db_model.specs.RunCost.{opening_cost}
+use Rattle.answering.specs.Carried.{Standing}
+use Rattle.run_model.specs.Line.{Line}
+use Rattle.run_model.specs.Runs.{ReadsWithin, world}
+use Rattle.run_model.specs.Talk.{Talk, costs}
+use Rattle.run_model.specs.Scripts.{script_line, script_talk}
+use Rattle.serve_model.specs.Frames.{frame_line}
+use Rattle.serve_model.specs.Served.{serve_talk}
+use Rattle.sound_image.specs.Images.{base}
+use Rattle.antelope_run.specs.declared.words.Form.{Form}
+use Rattle.antelope_run.specs.declared.words.Form.TheVariants.{Run, Gen, Plan, Serve, Dump}
+use Rattle.antelope_run.specs.Does.{CarriedReads, InputReads}
+use Rattle.antelope_run.specs.Statuses.{ReadsAtMost}
+
+-- what is not true is false
+pub not_true : (X : Type 0) (b : Bool) → (b ≡ true → X) → (X → ⊥) → b ≡ false
+not_true X true f other = absurd (other (f refl))
+not_true X false f other = refl
+
+module _ (image : List ℕ) (left held : Option (List ℕ)) (before : ℕ) where
+  module _ (a : Standing) (now : ℕ) (start : a.database ≡ base image) (rest : a.aheads ≡ no_cursors)
+      (opened : a.reads ≤ before + opening_cost (base image) (length image / 256)) where
+    input_reads : {E : Type 0} (line : Line E) (talk : Talk E) → InputReads a left now E line talk → ReadsWithin line talk (world image left held) (now - before)
+    input_reads line talk h = λ text told all.
+        let few = h text told all in
+        let same = ap (λ (db : Database). costs talk db a.aheads (line.all text)) start in
+        let same_aheads = ap (λ (aheads : Aheads). costs talk (base image) aheads (line.all text)) rest in
+        omega (arith, few, same, same_aheads, opened)
+
+    pub reads_by : (form : Form) → CarriedReads form a left now → ReadsAtMost (Some form) (world image left held) (now - before)
+    reads_by Run h = λ read reader. input_reads script_line (script_talk read) (h read reader)
+    reads_by Serve h = λ read reader. input_reads frame_line (serve_talk read) (h read reader)
+    reads_by (Gen seed count) h = tt
+    reads_by (Plan rows) h = tt
+    reads_by Dump h = tt
+
+  pub unopened_reads : (form : Form) (now : ℕ) → now ≤ before + opening_cost (base image) (length image / 256) → ReadsAtMost (Some form) (world image left held) (now - before)
+  unopened_reads Run now h = λ read reader text told all. omega (arith, h)
+  unopened_reads Serve now h = λ read reader text told all. omega (arith, h)
+  unopened_reads (Gen seed count) now h = tt
+  unopened_reads (Plan rows) now h = tt
+  unopened_reads Dump now h = tt

@@ -1,0 +1,157 @@
+//! A whole run of the program.
+
+#![tactic(auto)]
+
+ghost use Rattle.std.specs.Prelude.{◌≡◌, ◌≢◌, ◌≤◌, ◌-◌, ◌/◌, ◌⊎◌, ◌↔◌, false, ℕ, List, Result, Some, None, IsTrue, IfErr, OnErr, OnOk, length};
+ghost use Rattle.std.specs.Io.KnownBytes.{append_known, IsAtEnd};
+ghost use Rattle.afl_base.specs.Causes.{Rose};
+ghost use Rattle.reply_text.specs.WroteLess.{WroteLess};
+ghost use Rattle.run_model.specs.Runs.{Refuses, TookLimit, image_line, world};
+ghost use Rattle.sound_image.specs.Images.{IsSound};
+ghost use Rattle.antelope_run.specs.Comes.{ComesTo, HasCause, OnOpened, OnUnopened, ReachesBy, status_by};
+ghost use Rattle.antelope_run.specs.Statuses.{Ends, FindsNoSpace, HasSpace, IsCutOff, IsFaulted, IsShort, IsStatus, IsTooLong, IsUnsaid, ReadsAtMost, TakesInput};
+ghost use Rattle.antelope_run.specs.Words.{HasFewCommands, form_of};
+ghost use Rattle.antelope_run.specs.declared.came.Came.TheVariants as AnyCame;
+
+use crate::came::Came;
+use crate::carrying::carry_out;
+use crate::image_line::write_image_line;
+use crate::opening::{OpenError, close, open};
+use crate::reading::form;
+use crate::words::Form;
+use afl_base::{Failed, Flash, Sink, Source};
+use intake::{Halt, Stop};
+use stored::sound_files_are_a_sound_database;
+
+/// Carries out what the words ask for, and answers the status that the program ends with, and the flash.
+///
+/// The image is judged first. Then an input is read to its end, and each command is read and carried out as
+/// soon as it has come, so the input is never held in memory.
+///
+/// | status | comes |
+/// |---|---|
+/// | 0 | all was carried out, and all was written |
+/// | 1 | exactly where `form` answers `None`; nothing was read or written |
+/// | 2, 4, 5 | only where the input, the flash, the sink counted a fault |
+/// | 3 | a command found no space, and `no space N` was written |
+/// | 6 | only where the image is not sound, and always there but for faults; `no image RULE PLACE` was written |
+/// | 8 | the input is longer than 16,777,216 bytes |
+pub fn top<F: Flash, S: Source, K: Sink>(
+    words: &[String],
+    script: &mut S,
+    out: &mut K,
+    flash: F,
+) -> (u8, F)
+    ensures only { IsStatus result.0 }
+    ensures size { length (F.image result.1) ≡ length (F.image flash) }
+    ensures words { (result.0 ≡ 1) ↔ (form_of words.now ≡ None) }
+    ensures words_leave { result.0 ≡ 1 → (script.new ≡ script.old) × (out.new ≡ out.old) × (result.1 ≡ flash) }
+    ensures script { result.0 ≡ 2 → Rose (S.faults script.old) (S.faults script.new) }
+    ensures flash { result.0 ≡ 4 → Rose (F.faults flash) (F.faults result.1) }
+    ensures sink { result.0 ≡ 5 → Rose (K.faults out.old) (K.faults out.new) }
+    ensures unread { result.0 ≡ 6 → script.new ≡ script.old }
+    ensures at_end { result.0 ≡ 0 → TakesInput (form_of words.now) → IsAtEnd (S.left script.new) }
+    ensures one_more { result.0 ≡ 8 → TookLimit (S.left script.old) (S.left script.new) }
+    ensures ends { IsTrue F.tells → result.0 ≡ 0 → Ends (form_of words.now)
+        (world (F.image flash) (S.left script.old) (K.held out.old))
+        (world (F.image result.1) (S.left script.new) (K.held out.new)) }
+    ensures cut_off { IsTrue F.tells → result.0 ≡ 2 → IsCutOff (form_of words.now)
+        (world (F.image flash) (S.left script.old) (K.held out.old))
+        (world (F.image result.1) (S.left script.new) (K.held out.new)) }
+    ensures no_space { IsTrue F.tells → result.0 ≡ 3 → FindsNoSpace (form_of words.now)
+        (world (F.image flash) (S.left script.old) (K.held out.old))
+        (world (F.image result.1) (S.left script.new) (K.held out.new)) }
+    ensures faulted { IsTrue F.tells → result.0 ≡ 4 → IsFaulted (form_of words.now)
+        (world (F.image flash) (S.left script.old) (K.held out.old))
+        (world (F.image result.1) (S.left script.new) (K.held out.new)) }
+    ensures unsaid { IsTrue F.tells → result.0 ≡ 5 → IsUnsaid (form_of words.now)
+        (world (F.image flash) (S.left script.old) (K.held out.old))
+        (world (F.image result.1) (S.left script.new) (K.held out.new)) }
+    ensures refused { IsTrue F.tells → result.0 ≡ 6 → Refuses
+        (world (F.image flash) (S.left script.old) (K.held out.old))
+        (world (F.image result.1) (S.left script.new) (K.held out.new)) }
+    ensures long { IsTrue F.tells → result.0 ≡ 8 → IsTooLong (form_of words.now)
+        (world (F.image flash) (S.left script.old) (K.held out.old))
+        (world (F.image result.1) (S.left script.new) (K.held out.new)) }
+    ensures unsound { IsTrue F.tells → form_of words.now ≢ None → (IsSound (F.image flash) → ⊥)
+        → (result.0 ≡ 4) ⊎ (result.0 ≡ 5) ⊎ (result.0 ≡ 6) }
+    ensures no_fault { IsTrue F.tells → IsSound (F.image flash) → IsShort (form_of words.now) (S.left script.old)
+        → (Rose (S.faults script.old) (S.faults script.new) → ⊥) → (Rose (F.faults flash) (F.faults result.1) → ⊥)
+        → (Rose (K.faults out.old) (K.faults out.new) → ⊥) → (result.0 ≡ 0) ⊎ (result.0 ≡ 3) }
+    ensures suffices { IsTrue F.tells → IsSound (F.image flash)
+        → HasSpace (form_of words.now) (world (F.image flash) (S.left script.old) (K.held out.old)) → result.0 ≢ 3 }
+    ensures reads { IsTrue F.tells → IsSound (F.image flash)
+        → ReadsAtMost (form_of words.now) (world (F.image flash) (S.left script.old) (K.held out.old))
+        (F.reads result.1 - F.reads flash) }
+    ensures keeps { K.keeps out.old out.new }
+{
+    match form(words) {
+        Some(form) => {
+            let (came, flash) = run_form(form, script, out, flash);
+            (status(came), flash)
+        }
+        None => (1, flash),
+    }
+}
+
+// The status that the program ends with.
+fn status(came: Came) -> u8
+    ensures { result ≡ status_by came }
+{
+    match came {
+        Came::Opened(Ok(())) => 0,
+        Came::Opened(Err(Stop::Input)) => 2,
+        Came::Opened(Err(Stop::Halted(Halt::Space))) => 3,
+        Came::Opened(Err(Stop::Halted(Halt::Flash))) | Came::Failed => 4,
+        Came::Opened(Err(Stop::Halted(Halt::Sink))) | Came::Unsaid => 5,
+        Came::Refused => 6,
+        Came::Opened(Err(Stop::Long)) => 8,
+    }
+}
+
+// Carries out what a form asks for.
+fn run_form<F: Flash, S: Source, K: Sink>(
+    form: Form,
+    input: &mut S,
+    out: &mut K,
+    flash: F,
+) -> (Came, F)
+    requires commands { HasFewCommands form }
+    ensures comes { IsTrue F.tells → ComesTo form
+        (world (F.image flash) (S.left input.old) (K.held out.old))
+        (world (F.image result.1) (S.left input.new) (K.held out.new)) result.0 }
+    ensures reaches { OnOpened result.0 (λ done. ReachesBy form done (S.left input.old) (S.left input.new)) }
+    ensures unread { OnUnopened result.0 (input.new ≡ input.old) }
+    ensures size { length (F.image result.1) ≡ length (F.image flash) }
+    ensures reads { IsTrue F.tells → IsSound (F.image flash) → ReadsAtMost (Some form)
+        (world (F.image flash) (S.left input.old) (K.held out.old)) (F.reads result.1 - F.reads flash) }
+    ensures keeps { K.keeps out.old out.new }
+    ensures cause { HasCause (S.faults input.old) (S.faults input.new) (F.faults flash) (F.faults result.1)
+        (K.faults out.old) (K.faults out.new) result.0 }
+{
+    sound_files_are_a_sound_database();
+    let sectors = flash.sectors();
+    match open(flash) {
+        Ok(session) => {
+            let (done, session) = carry_out(form, sectors, session, input, out);
+            (Came::Opened(done), close(session))
+        }
+        Err(OpenError::Bad { rule, place, flash }) => (refuse(out, rule, place), flash),
+        Err(OpenError::Failed { flash }) => (Came::Failed, flash),
+    }
+}
+
+// Writes the first broken rule of an image, and its place.
+fn refuse<K: Sink>(out: &mut K, rule: u8, place: u16) -> Came
+    ensures only { (result ≡ AnyCame.Refused) ⊎ (result ≡ AnyCame.Unsaid) }
+    ensures written { result ≡ AnyCame.Refused
+        → K.held out.new ≡ append_known (K.held out.old) (image_line rule place) }
+    ensures unsaid { result ≡ AnyCame.Unsaid → WroteLess (K.held out.old) (K.held out.new) (image_line rule place) }
+    ensures rose { result ≡ AnyCame.Unsaid → Rose (K.faults out.old) (K.faults out.new) }
+    ensures keeps { K.keeps out.old out.new }
+{
+    match write_image_line(out, rule, place) {
+        Ok(()) => Came::Refused,
+        Err(Failed) => Came::Unsaid,
+    }
+}

@@ -1,0 +1,14 @@
+use intake::Stop;
+
+/// What a run came to whose words are those of a form.
+#[derive(Clone, Copy, PartialEq, Eq, Debug)]
+pub enum Came {
+    /// A session was opened, and went so far.
+    Opened(Result<(), Stop>),
+    /// The image is not sound, and that was written.
+    Refused,
+    /// The image is not sound, and that was not wholly written.
+    Unsaid,
+    /// The flash failed before a session was opened.
+    Failed,
+}
