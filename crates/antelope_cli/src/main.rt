@@ -1,17 +1,29 @@
-//! `antelope run IMAGE SCRIPT`: a database of sensor values on an image of a flash.
+//! `antelope`: a relational database on an image of a flash.
 //!
-//! The program prints nothing but the replies, and nothing on standard error; README.md lists the
-//! statuses that it ends with.
+//! The program writes nothing but what `antelope_run::top` writes, and nothing on standard error;
+//! README.md lists the statuses that it ends with. What is on the disk then:
+//!
+//! - 0, 3: the image as the run left it.
+//! - 2, 5, 8: the image after the commands that were carried out. At 5 that is also the one whose
+//!   reply could not be written whole.
+//! - 4: an image of which nothing is known.
+//! - 6, 10: the image as it was found.
+//! - 7: the image as it was found; where there was none, there is none.
+//! - 1, 9: what was there; no file was opened.
+//!
+//! At 0 to 5, and at 8, an image that was not there was made.
 #![tactic(auto)]
 
 mod failure;
 mod files;
+mod image;
 
 use crate::failure::Failure;
-use crate::files::{open_image, open_script};
+use crate::files::open_script;
+use crate::image::{open_image, remove_new};
 use afl_base::{Flash, Sink, Source};
 use afl_sim::{MemFlash, MemSource, StdSink, StdSource};
-use antelope_run::{form, top};
+use antelope_run::{Form, form, top};
 use std::env::Env;
 use std::fs::{File, Files};
 use std::io::{ErrorKind, Read, Write};
@@ -25,7 +37,7 @@ fn main(rt: HostRuntime) -> ExitCode {
     })
 }
 
-// Opens what the words name and carries out the script.
+// Opens what the words name, and does what they ask for.
 fn start<R, I, O>(rt: &R, stdin: I, stdout: O) -> Result<u8, Failure>
 where
     R: Env + Files<File = File> + AllocGlobal,
@@ -33,20 +45,45 @@ where
     O: Write + Drop,
 {
     let words = words(rt)?;
+    let words = words.as_slice();
     let mut out = StdSink::new(stdout);
-    if form(words.as_slice()).is_none() {
-        return refuse(words.as_slice(), &mut out);
+    match (form(words), words) {
+        (Some(Form::Run | Form::Serve), [_, image, input]) if input.as_str() == "-" => {
+            let image = open_image(rt, image.as_str())?;
+            let mut source = StdSource::new(stdin);
+            Ok(status(words, &mut source, &mut out, image.flash))
+        }
+        (Some(Form::Run | Form::Serve), [_, image, input]) => {
+            with_script(rt, words, image.as_str(), input.as_str(), &mut out)
+        }
+        (Some(_), [_, image, ..]) => {
+            let image = open_image(rt, image.as_str())?;
+            Ok(status(words, &mut nothing(), &mut out, image.flash))
+        }
+        _ => refuse(words, &mut out),
     }
-    let [_, image, script] = words.as_slice() else {
-        return refuse(words.as_slice(), &mut out);
-    };
-    let flash = open_image(rt, image.as_str())?;
-    if script.as_str() == "-" {
-        let mut source = StdSource::new(stdin);
-        return Ok(status(words.as_slice(), &mut source, &mut out, flash));
+}
+
+// The status of words that name a file as their input.
+fn with_script<R, K>(
+    rt: &R,
+    words: &[String],
+    path: &str,
+    input: &str,
+    out: &mut K,
+) -> Result<u8, Failure>
+where
+    R: Files<File = File>,
+    K: Sink,
+{
+    let image = open_image(rt, path)?;
+    match open_script(rt, input) {
+        Ok(script) => Ok(status(words, &mut StdSource::new(script), out, image.flash)),
+        Err(failure) => {
+            remove_new(rt, path, image);
+            Err(failure)
+        }
     }
-    let mut source = StdSource::new(open_script(rt, script.as_str())?);
-    Ok(status(words.as_slice(), &mut source, &mut out, flash))
 }
 
 // The words behind the program's name. Where one of them is no text, there are none, so that they
@@ -70,8 +107,12 @@ fn refuse<K: Sink>(words: &[String], out: &mut K) -> Result<u8, Failure> {
     let Some(flash) = MemFlash::new(&mut erased) else {
         return Err(Failure::Length);
     };
-    let mut nothing = MemSource::new(b"", None);
-    Ok(status(words, &mut nothing, out, flash))
+    Ok(status(words, &mut nothing(), out, flash))
+}
+
+// The input of words that name none.
+fn nothing() -> MemSource<'static> {
+    MemSource::new(b"", None)
 }
 
 fn status<F, S, K>(words: &[String], script: &mut S, out: &mut K, flash: F) -> u8

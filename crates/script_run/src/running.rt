@@ -56,11 +56,14 @@ impl<V: Files> Taker for Runner<V> {
 
     ghost Takes = { λ a came b. TakesBytes script_input (saying V.state V.reads V.faults V.asks V.lacks)
         (running a.0.session a.0.piece a.1.held a.1.faults) came (running b.0.session b.0.piece b.1.held b.1.faults) };
+
     ghost Ends = { λ a b. EndsInput script_input (saying V.state V.reads V.faults V.asks V.lacks)
         (running a.0.session a.0.piece a.1.held a.1.faults) (running b.0.session b.0.piece b.1.held b.1.faults) };
+
     ghost Halts = { λ a came b halt. HaltsInBytes script_input (saying V.state V.reads V.faults V.asks V.lacks)
         (running a.0.session a.0.piece a.1.held a.1.faults) came
         (running b.0.session b.0.piece b.1.held b.1.faults) halt };
+
     ghost HaltsAtEnd = { λ a b halt. HaltsAtLast script_input (saying V.state V.reads V.faults V.asks V.lacks)
         (running a.0.session a.0.piece a.1.held a.1.faults) (running b.0.session b.0.piece b.1.held b.1.faults) halt };
 
@@ -81,14 +84,17 @@ impl<V: Files> Taker for Runner<V> {
 
     ghost none = { λ a. taken_none script_input (saying V.state V.reads V.faults V.asks V.lacks) script_line script_parts
         (running a.0.session a.0.piece a.1.held a.1.faults) };
+
     ghost more = { λ a b c xs ys e f.
         taken_more script_input (saying V.state V.reads V.faults V.asks V.lacks) script_line script_parts
         (running a.0.session a.0.piece a.1.held a.1.faults) (running b.0.session b.0.piece b.1.held b.1.faults)
         (running c.0.session c.0.piece c.1.held c.1.faults) xs ys e f };
+
     ghost halts_behind = { λ a b c xs ys halt e f.
         halted_behind script_input (saying V.state V.reads V.faults V.asks V.lacks) script_line script_parts
         (running a.0.session a.0.piece a.1.held a.1.faults) (running b.0.session b.0.piece b.1.held b.1.faults)
         (running c.0.session c.0.piece c.1.held c.1.faults) xs ys halt e f };
+
     ghost halts_before = { λ a b xs ys halt e.
         halted_before script_input (saying V.state V.reads V.faults V.asks V.lacks) script_line script_parts
         (running a.0.session a.0.piece a.1.held a.1.faults) (running b.0.session b.0.piece b.1.held b.1.faults)
