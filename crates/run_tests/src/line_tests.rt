@@ -2,7 +2,7 @@
 
 use crate::one_byte::OneByte;
 use crate::running::{Ended, call, erased};
-use crate::samples::{made_by, pair};
+use crate::samples::{made_by, two_rows};
 use afl_sim::MemSource;
 use std::alloc::{AllocError, Global};
 use std::test::Fail;
@@ -65,10 +65,10 @@ fn served_slowly(alloc: Global, line: &[u8], image: &mut [u8]) -> Result<Ended, 
 fn clients_fetch_their_own_rows(rt: HostRuntime) -> Result<(), Fail> {
     let line = frames(rt.alloc(), SENT)?;
     let replies = frames(rt.alloc(), REPLIES)?;
-    let mut image = made_by(rt.alloc(), pair(rt.alloc())?.as_slice(), 5)?;
+    let mut image = made_by(rt.alloc(), two_rows(rt.alloc())?.as_slice(), 5)?;
     let ended = served(rt.alloc(), line.as_slice(), image.as_mut_slice())?;
     assert!(rt; ended.is(0, replies.as_slice()));
-    let mut again = made_by(rt.alloc(), pair(rt.alloc())?.as_slice(), 5)?;
+    let mut again = made_by(rt.alloc(), two_rows(rt.alloc())?.as_slice(), 5)?;
     let ended = served_slowly(rt.alloc(), line.as_slice(), again.as_mut_slice())?;
     assert!(rt; ended.is(0, replies.as_slice()));
     assert!(rt; image.as_slice() == again.as_slice());

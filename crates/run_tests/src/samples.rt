@@ -42,7 +42,7 @@ pub fn sevens(alloc: Global) -> Result<Vec<u8>, AllocError> {
 }
 
 /// A relation of a number and a text, and two rows: five commands.
-pub fn pair(alloc: Global) -> Result<Vec<u8>, AllocError> {
+pub fn two_rows(alloc: Global) -> Result<Vec<u8>, AllocError> {
     joined(
         alloc,
         &[TWO, "INSERT (5, 'abc') INTO s; INSERT (-1, '') INTO s;"],

@@ -1,7 +1,7 @@
 //! A database that is written as a script.
 
 use crate::running::{ask, erased};
-use crate::samples::{made_by, pair, sevens};
+use crate::samples::{made_by, sevens, two_rows};
 use crate::texts::push_often;
 use std::alloc::Global;
 use std::test::Fail;
@@ -15,7 +15,7 @@ fn dumps(alloc: Global, image: &mut [u8], script: &[u8]) -> Result<bool, Fail> {
 
 #[test]
 fn two_rows_are_written_as_five_commands(rt: HostRuntime) -> Result<(), Fail> {
-    let mut image = made_by(rt.alloc(), pair(rt.alloc())?.as_slice(), 5)?;
+    let mut image = made_by(rt.alloc(), two_rows(rt.alloc())?.as_slice(), 5)?;
     let script =
         b"CREATE RELATION s;\nCREATE ATTRIBUTE k DOMAIN LONG IN s;\nCREATE ATTRIBUTE t DOMAIN STRING(3) IN s;\n\
         INSERT (5, 'abc') INTO s;\nINSERT (-1, '') INTO s;\n";
