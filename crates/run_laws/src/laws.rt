@@ -12,7 +12,7 @@ ghost use Rattle.db_model.specs.Reading.{IsReader};
 ghost use Rattle.db_model.specs.Script.{commands};
 ghost use Rattle.db_model.specs.Sound.{IsSoundDatabase};
 ghost use Rattle.dump_model.specs.Script.{script};
-ghost use Rattle.run_laws.specs.Remaking.{Remakes};
+ghost use Rattle.run_laws.specs.Remaking.{Dumps, Remakes, RunsDump};
 ghost use Rattle.run_model.specs.Runs.{InputFoundNoSpace, World};
 ghost use Rattle.run_model.specs.Scripts.{script_line, script_talk};
 ghost use Rattle.serve_model.specs.Frames.{frame_line};
@@ -21,9 +21,10 @@ ghost use Rattle.sound_image.specs.Images.{IsSound, base};
 ghost use Rattle.space_plan.specs.Growth.{KeepsToPlan, commands_of};
 ghost use Rattle.space_plan.specs.Planned.{planned};
 
-use dump_model::scripts_make_their_database;
+use dump_model::{packed_databases_have_the_same_script, scripts_make_their_database};
 use run_model::{scripts_are_answered_in_order, scripts_come_in_parts};
 use serve_model::frames_come_in_parts;
+use sound_image::erased_image_is_sound;
 use space_plan::planned_flash_has_enough;
 use stored::sound_files_are_a_sound_database;
 
@@ -36,6 +37,22 @@ pub fn dumped_scripts_make_their_image()
 {
     scripts_make_their_database();
     scripts_are_answered_in_order();
+}
+
+/// What a dump wrote, run over an erased flash up to status 0, makes the packed database of the dumped one, and a
+/// dump of the image that it leaves writes the same again.
+pub fn dumps_are_made_again()
+    ensures packed { (read : List ℕ → Result Command Refusal) → IsReader read
+        → (sectors : ℕ) (dumped told old new : World) → RunsDump sectors dumped told old new
+        → Remakes (base dumped.image) old new }
+    ensures same { (read : List ℕ → Result Command Refusal) → IsReader read
+        → (sectors : ℕ) (dumped told old new next again : World) → RunsDump sectors dumped told old new
+        → next.image ≡ new.image → Dumps next again → again.held ≡ told.held }
+{
+    dumped_scripts_make_their_image();
+    erased_image_is_sound();
+    packed_databases_have_the_same_script();
+    sound_files_are_a_sound_database();
 }
 
 /// A script whose commands insert and read, and bring at most n rows to each relation, finds enough space
