@@ -39,8 +39,8 @@ pub fn dumped_scripts_make_their_image()
     scripts_are_answered_in_order();
 }
 
-/// What a dump wrote, run over an erased flash up to status 0, makes the packed database of the dumped one, and a
-/// dump of the image that it leaves writes the same again.
+/// What a dump wrote, run over an erased flash up to status 0, makes the packed database of the dumped
+/// one, and a dump of the image that it leaves writes the same again.
 pub fn dumps_are_made_again()
     ensures packed { (read : List ℕ → Result Command Refusal) → IsReader read
         → (sectors : ℕ) (dumped told old new : World) → RunsDump sectors dumped told old new
@@ -56,7 +56,8 @@ pub fn dumps_are_made_again()
 }
 
 /// A script whose commands insert and read, and bring at most n rows to each relation, finds enough space
-/// on a sound image with the sectors that were planned for n rows: its run never ends with status 3.
+/// on a sound image with the sectors that were planned for n rows. So by the contract of `top` its run does
+/// not end with status 3.
 pub fn planned_runs_find_space()
     ensures { (read : List ℕ → Result Command Refusal) → IsReader read
         → (n : ℕ) (old : World) (text : List ℕ) → IsSound old.image → old.left ≡ Some text
@@ -68,8 +69,8 @@ pub fn planned_runs_find_space()
     sound_files_are_a_sound_database();
 }
 
-/// Where the bytes of the sink are known, what was written tells at which entry a run found no space: which
-/// entries were carried out.
+/// Where the bytes of the input and of the sink are known, what was written tells at which entry a run found
+/// no space: which entries were carried out.
 pub fn one_place_finds_no_space()
     ensures scripts { (read : List ℕ → Result Command Refusal) (old new : World) (text held : List ℕ)
         → old.left ≡ Some text → old.held ≡ Some held
