@@ -1,5 +1,5 @@
 -- The reply to a command that is carried out is no refusal.
-use Rattle.std.proofs.Common.{◌≡◌, refl, ℕ, ℤ, Bool, false, List, Option, Some}
+use Rattle.std.proofs.Common.{◌≡◌, refl, ℕ, ℤ, false, List, Option, Some}
 use Rattle.std.specs.Prelude.{IsOk, Ok, Err, Result}
 use Rattle.db_model.specs.declared.commands.Agg.{Agg}
 use Rattle.db_model.specs.declared.commands.Command.{Command}
@@ -12,7 +12,7 @@ use Rattle.db_model.specs.declared.values.Value.{Value}
 use Rattle.db_model.specs.Ahead.{is_refused}
 use Rattle.db_model.specs.Cond.{Cond, condition_of}
 use Rattle.db_model.specs.Database.{Database, Relation, named, with_relation}
-use Rattle.db_model.specs.Refusing.{◌>>=◌, ◌>>◌}
+use Rattle.db_model.specs.Refusing.{◌>>=◌}
 use Rattle.db_model.specs.Step.{Outcome, Reply, add_attribute, aggregate_of, ask, asked_by, changed_by, close_cursor, create_index, create_relation, fetch_cursor, insert_into, open_cursor, outcome, pack, remove_from, remove_index, remove_relation, replied, step, upgraded}
 use Rattle.db_model.proofs.Yielding.{Yields, yields_behind, yields_by, yields_ok}
 

@@ -1,5 +1,5 @@
 -- Entries that are carried out one after the other.
-use Rattle.std.proofs.Common.{◌≡◌, ◌⊎◌, inl, inr, ℕ, ◌+◌, ◌≤◌, List, [], ◌∷◌, ◌++◌, Option, Some, None, refl, ap, sym, subst, ◌∙◌, arith, append_assoc}
+use Rattle.std.proofs.Common.{◌≡◌, inl, inr, ℕ, ◌+◌, ◌≤◌, List, [], ◌∷◌, ◌++◌, Option, Some, None, refl, ap, sym, subst, ◌∙◌, arith, append_assoc}
 use Rattle.std.specs.Io.KnownBytes.{append_known}
 use Rattle.std.specs.List.{AllByRecursion}
 use Rattle.std.proofs.lemmas.List.{append-nil}
@@ -13,8 +13,7 @@ use Rattle.intake.specs.declared.halt.Halt.TheVariants.{Space, Flash, Sink}
 use Rattle.reply_text.specs.WroteLess.{WroteLess}
 use Rattle.run_model.specs.Talk.{OnlyReads, Talk, after, costs, last, last_aheads, output}
 use Rattle.run_model.proofs.Talks.{costs-append, last-append, last_aheads-append, output-append}
-use Rattle.session_model.specs.Steps.{WrotePart}
-use Rattle.answering.specs.Carried.{Carried, FoundNone, HaltsIn, SaidLess, SaidNone, Standing, Stopped, StopsBy, no_space}
+use Rattle.answering.specs.Carried.{Carried, HaltsIn, Standing, Stopped, StopsBy, no_space}
 
 -- ---- texts
 

@@ -1,5 +1,5 @@
 -- One entry that is carried out or refused.
-use Rattle.std.proofs.Common.{◌≡◌, inl, inr, ℕ, ◌+◌, ◌≤◌, List, [], ◌∷◌, ◌++◌, Option, refl, ap, sym, subst, ◌∙◌, arith}
+use Rattle.std.proofs.Common.{◌≡◌, inl, inr, ℕ, ◌+◌, ◌≤◌, List, [], ◌∷◌, Option, refl, ap, sym, subst, ◌∙◌, arith}
 use Rattle.std.specs.Prelude.{IsOk, Ok, Err}
 use Rattle.std.specs.Io.KnownBytes.{append_known}
 use Rattle.std.specs.List.{AllByRecursion}
@@ -8,14 +8,14 @@ use Rattle.db_model.specs.declared.commands.Command.{Command}
 use Rattle.intake.specs.declared.halt.Halt.TheVariants.{Space, Flash, Sink}
 use Rattle.session_model.specs.Steps.{WrotePart}
 use Rattle.db_model.specs.declared.refusals.Refusal.{Refusal}
-use Rattle.db_model.specs.Ahead.{Aheads, aheads_after, cost_of}
+use Rattle.db_model.specs.Ahead.{aheads_after, cost_of}
 use Rattle.db_model.specs.Database.{Database}
 use Rattle.db_model.specs.ReplyText.{refusal_text, text}
 use Rattle.db_model.specs.Step.{Reads, Refused, Reply, outcome, step}
 use Rattle.db_model.proofs.ReplyTexts.{text_refused}
 use Rattle.reply_text.specs.WroteLess.{WroteLess}
 use Rattle.run_model.specs.Talk.{OnlyReads, Talk, after, aheads_answered, answered, cost_answered, costs}
-use Rattle.answering.specs.Carried.{Carried, FoundNone, HaltsIn, SaidLess, SaidNone, Standing, Stopped, no_space}
+use Rattle.answering.specs.Carried.{Carried, HaltsIn, SaidLess, Standing, Stopped, no_space}
 use Rattle.answering.proofs.Accepted.{accepted}
 use Rattle.answering.proofs.Composed.{known_none}
 

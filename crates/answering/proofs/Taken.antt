@@ -1,15 +1,14 @@
 -- Laws of an input: its bytes are taken one after the other.
-use Rattle.std.specs.Prelude.{◌≡◌, ℕ, ◌≤◌, false, List, [], ◌++◌, length, IsTrue, Result}
-use Rattle.std.proofs.Common.{refl, ap, sym, subst, ◌∙◌, arith}
+use Rattle.std.specs.Prelude.{◌≡◌, ℕ, ◌≤◌, false, List, [], ◌++◌, IsTrue, Result}
+use Rattle.std.proofs.Common.{refl, sym, subst, ◌∙◌, arith}
 use Rattle.afl_base.specs.Causes.{Rose}
 use Rattle.db_model.specs.declared.commands.Command.{Command}
 use Rattle.db_model.specs.declared.refusals.Refusal.{Refusal}
 use Rattle.db_model.specs.Reading.{IsReader}
 use Rattle.intake.specs.declared.halt.Halt.{Halt}
-use Rattle.intake.specs.declared.halt.Halt.TheVariants.{Flash, Sink}
 use Rattle.run_model.specs.Line.{ComesInParts, Line}
 use Rattle.answering.specs.Carried.{Carried, HaltsIn, LacksPages, standing_of}
-use Rattle.answering.specs.Taking.{Carries, GoesOn, HaltsInBytes, HaltsWithin, Input, Running, Saying, TakesBytes}
+use Rattle.answering.specs.Taking.{Carries, GoesOn, HaltsInBytes, Input, Running, Saying, TakesBytes}
 use Rattle.answering.proofs.Composed.{carried_none, carried_then, halts_later, halts_sooner}
 
 rose_later : (a b c : ℕ) → a ≤ b → Rose b c → Rose a c

@@ -1,6 +1,6 @@
 -- From the bytes that a session took to the entries that it carried out.
-use Rattle.std.proofs.Common.{◌≡◌, ◌≤◌, inl, inr, ℕ, false, true, List, ◌++◌, length, refl, ap, sym, subst, ◌∙◌, arith}
-use Rattle.std.specs.Prelude.{◌⊎◌, ⊤, IsTrue, Option, Result, Ok, Err}
+use Rattle.std.proofs.Common.{◌≡◌, inl, inr, ℕ, false, true, List, refl, ap, sym, subst, ◌∙◌, arith}
+use Rattle.std.specs.Prelude.{⊤, IsTrue, Option, Result, Ok, Err}
 use Rattle.afl_base.specs.Causes.{Rose}
 use Rattle.db_model.specs.declared.commands.Command.{Command}
 use Rattle.db_model.specs.declared.refusals.Refusal.{Refusal}
@@ -9,10 +9,10 @@ use Rattle.intake.specs.declared.halt.Halt.{Halt}
 use Rattle.intake.specs.declared.halt.Halt.TheVariants as halt
 use Rattle.intake.specs.declared.halt.Stop.{Stop}
 use Rattle.intake.specs.declared.halt.Stop.TheVariants.{Input as BadInput, Long, Halted}
-use Rattle.intake.specs.Through.{Through, Took, TookAll, TookLimit, WentNoFurther, WentNoFurtherAtEnd}
+use Rattle.intake.specs.Through.{Through}
 use Rattle.run_model.specs.Line.{ComesInParts, Line}
 use Rattle.answering.specs.Carried.{Carried, HaltsIn, LacksPages, standing_of}
-use Rattle.answering.specs.Taking.{Carries, EndsInput, GoesOn, HaltsAtLast, HaltsInBytes, Input, Running, Saying, TakesBytes}
+use Rattle.answering.specs.Taking.{EndsInput, GoesOn, HaltsAtLast, HaltsInBytes, Input, Running, Saying, TakesBytes}
 use Rattle.answering.specs.Went.{Reaches, Went}
 use Rattle.answering.proofs.Composed.{carried_then, halts_later}
 

@@ -1,5 +1,4 @@
 -- A command whose nodes are a condition's is well formed.
-use Rattle.std.proofs.Common.{List}
 use Rattle.db_model.specs.declared.commands.Command.{Command}
 use Rattle.db_model.specs.declared.commands.Command.TheVariants as command
 use Rattle.db_model.specs.declared.commands.Query.TheVariants.{Select, Join}

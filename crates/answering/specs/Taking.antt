@@ -1,5 +1,5 @@
 -- What a session makes of the bytes of an input as they come.
-use Rattle.std.specs.Prelude.{◌≡◌, ℕ, ◌≤◌, Bool, true, false, List, length, Option, IsTrue, Result}
+use Rattle.std.specs.Prelude.{◌≡◌, ℕ, ◌≤◌, true, false, List, length, Option, IsTrue, Result}
 use Rattle.afl_base.specs.Causes.{Rose}
 use Rattle.afl_base.specs.Files.{State}
 use Rattle.antelope_engine.specs.Seen.{Seen}

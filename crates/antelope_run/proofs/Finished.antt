@@ -1,7 +1,7 @@
 -- From what a session did with an input to what the image and the sink hold then.
-use Rattle.std.proofs.Common.{◌≡◌, ◌≢◌, ◌≤◌, ◌⊎◌, inl, inr, ℕ, List, [], ◌∷◌, ◌++◌, Option, refl, ap, sym, subst, ◌∙◌, append_assoc}
-use Rattle.std.specs.Prelude.{⊤, IsTrue, Result, Ok, Err}
-use Rattle.std.specs.Io.KnownBytes.{append_known, IsAtEnd}
+use Rattle.std.proofs.Common.{◌≡◌, ◌≢◌, ◌⊎◌, inl, inr, ℕ, List, [], ◌∷◌, ◌++◌, Option, refl, ap, sym, subst, ◌∙◌, append_assoc}
+use Rattle.std.specs.Prelude.{⊤, Result, Ok, Err}
+use Rattle.std.specs.Io.KnownBytes.{append_known}
 use Rattle.std.proofs.lemmas.List.{append-nil}
 use Rattle.db_model.specs.declared.commands.Command.{Command}
 use Rattle.db_model.specs.Database.{Database, bare}
@@ -10,8 +10,7 @@ use Rattle.intake.specs.declared.halt.Halt.TheVariants.{Space, Flash, Sink}
 use Rattle.intake.specs.declared.halt.Stop.{Stop}
 use Rattle.intake.specs.declared.halt.Stop.TheVariants.{Input, Long, Halted}
 use Rattle.reply_text.specs.WroteLess.{WroteLess}
-use Rattle.session_model.specs.Steps as steps
-use Rattle.sound_image.specs.Images.{IsSound, base}
+use Rattle.sound_image.specs.Images.{base}
 use Rattle.answering.specs.Carried.{Carried, FoundNone, SaidLess, SaidNone, Standing, Stopped, no_space}
 use Rattle.answering.specs.Went.{TookAll, TookLimit, TookSome, Went, WentNoFurther}
 use Rattle.answering.proofs.Composed.{known_twice}

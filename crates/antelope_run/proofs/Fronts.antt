@@ -1,5 +1,5 @@
 -- The whole entries of the first bytes of an input are the first of its entries.
-use Rattle.std.proofs.Common.{◌≡◌, ◌⊎◌, inl, inr, ℕ, List, [], ◌∷◌, ◌++◌, Option, Some, None, refl, ap, sym, ◌∙◌, append_assoc}
+use Rattle.std.proofs.Common.{◌≡◌, ◌⊎◌, inl, inr, ℕ, List, [], ◌++◌, Option, Some, None, refl, ap, sym, ◌∙◌, append_assoc}
 use Rattle.std.specs.Io.KnownBytes.{prepend_known, IsAtEnd}
 use Rattle.std.proofs.lemmas.List.{append-nil}
 use Rattle.run_model.specs.Line.{ComesInParts, Cut, Line}
@@ -14,12 +14,13 @@ has_fronts cut line parts = record {
       let q = cut.begun cut.start came in
       let ended = cut.ended cut.start came in
       let behind = cut.ended q more in
-      let last = cut.left (cut.begun q more) in
-      (behind ++ last,
-      parts.all_is (came ++ more) ∙ ap (λ es. es ++ cut.left (cut.begun cut.start (came ++ more))) (parts.ended_on cut.start came more)
-      ∙ ap (λ p. (ended ++ behind) ++ cut.left p) (parts.begun_on cut.start came more)
-      ∙ append_assoc ended behind last
-      ∙ ap (λ es. es ++ (behind ++ last)) (sym (parts.whole_is came)));
+      let last = cut.left (cut.begun q more) in (
+        behind ++ last,
+        parts.all_is (came ++ more) ∙ ap (λ es. es ++ cut.left (cut.begun cut.start (came ++ more))) (parts.ended_on cut.start came more)
+            ∙ ap (λ p. (ended ++ behind) ++ cut.left p) (parts.begun_on cut.start came more)
+            ∙ append_assoc ended behind last
+            ∙ ap (λ es. es ++ (behind ++ last)) (sym (parts.whole_is came)),
+      );
 }
 
 -- what came, and what is left, are the text

@@ -1,9 +1,8 @@
 -- What generated commands and a dumped script come to, as a run.
-use Rattle.std.proofs.Common.{◌≡◌, ◌≢◌, ◌≤◌, ℕ, Bool, true, false, List, Option, Some, refl, ap}
+use Rattle.std.proofs.Common.{◌≡◌, ◌≢◌, ℕ, Bool, true, false, List, Option, Some, refl, ap}
 use Rattle.std.specs.Prelude.{⊤, IfErr, IsErrOf, OnOk, Result, Ok, Err}
 use Rattle.db_model.specs.declared.commands.Command.{Command}
 use Rattle.dump.specs.Appends.{Appends}
-use Rattle.dump.specs.Unchanged.{IsAsBefore}
 use Rattle.intake.specs.declared.halt.Halt.{Halt}
 use Rattle.intake.specs.declared.halt.Halt.TheVariants as halt
 use Rattle.intake.specs.declared.halt.Stop.{Stop}

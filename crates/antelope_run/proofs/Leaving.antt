@@ -1,25 +1,23 @@
 -- From what a session did to what a run leaves behind, by the form of its words.
-use Rattle.std.proofs.Common.{◌≡◌, ◌≢◌, ◌⊎◌, inl, inr, ℕ, ◌/◌, List, [], ◌++◌, length, Option, refl, ap, sym, subst, ◌∙◌}
+use Rattle.std.proofs.Common.{◌≡◌, ◌≢◌, ◌⊎◌, inl, inr, ℕ, ◌/◌, List, [], ◌++◌, length, Option, refl, ap, subst, ◌∙◌}
 use Rattle.std.specs.Prelude.{⊤, IsTrue, Result, Ok, Err}
 use Rattle.std.specs.Io.KnownBytes.{append_known}
 use Rattle.db_model.specs.declared.commands.Command.{Command}
-use Rattle.db_model.specs.declared.refusals.Refusal.{Refusal}
 use Rattle.db_model.specs.declared.refusals.Refusal.TheVariants as no
 use Rattle.db_model.specs.Database.{Database, bare}
 use Rattle.db_model.specs.ReplyText.{refusal_text}
 use Rattle.db_model.specs.Workload.{first_commands}
 use Rattle.dump_model.specs.Script.{script}
-use Rattle.intake.specs.declared.halt.Halt.{Halt}
 use Rattle.intake.specs.declared.halt.Halt.TheVariants.{Space, Flash, Sink}
 use Rattle.intake.specs.declared.halt.Stop.{Stop}
 use Rattle.intake.specs.declared.halt.Stop.TheVariants.{Input, Long, Halted}
 use Rattle.reply_text.specs.WroteLess.{WroteLess}
-use Rattle.sound_image.specs.Images.{IsSound, base}
+use Rattle.sound_image.specs.Images.{base}
 use Rattle.answering.specs.Carried.{Standing}
 use Rattle.answering.specs.Went.{Went}
 use Rattle.answering.proofs.Composed.{known_none}
 use Rattle.run_model.specs.Line.{Line}
-use Rattle.run_model.specs.Runs.{CarriedOut, FoundNoSpace, InputCutOff, InputEnded, InputFaulted, InputFoundNoSpace, InputTooLong, InputUnsaid, SpaceUnsaid, StandsAfter, StopsAt, World, WrotePart, WroteWithin, world}
+use Rattle.run_model.specs.Runs.{CarriedOut, FoundNoSpace, InputCutOff, InputEnded, InputFaulted, InputFoundNoSpace, InputTooLong, InputUnsaid, SpaceUnsaid, StandsAfter, StopsAt, World, WroteWithin, world}
 use Rattle.run_model.specs.Talk.{Talk}
 use Rattle.space_plan.specs.Lines.{plan_text}
 use Rattle.space_plan.specs.Planned.{planned}
@@ -31,7 +29,7 @@ use Rattle.antelope_run.specs.declared.words.Form.TheVariants.{Run, Gen, Plan, S
 use Rattle.antelope_run.specs.Does.{Does, Generates, OnlyTells, TellsOn, Writes}
 use Rattle.antelope_run.specs.HandedBack.{HandsBack}
 use Rattle.antelope_run.specs.Left as left
-use Rattle.antelope_run.specs.Statuses.{Leaves, LineUnsaid, OnInput, Tells, TellsLess, Unsaid, dumped_text, nothing_yet, planned_text, summed_from}
+use Rattle.antelope_run.specs.Statuses.{LineUnsaid, OnInput, Tells, TellsLess, dumped_text, nothing_yet, planned_text, summed_from}
 use Rattle.antelope_run.proofs.Finished.{cut_off, ended, faulted, found_no_space, told_on, too_long, unsaid, wrote_within}
 
 -- ---- an input
@@ -43,7 +41,6 @@ LeavesInput line talk old new (Err Long) = InputTooLong line talk old new
 LeavesInput line talk old new (Err (Halted Space)) = InputFoundNoSpace line talk old new
 LeavesInput line talk old new (Err (Halted Flash)) = InputFaulted line talk old new
 LeavesInput line talk old new (Err (Halted Sink)) = InputUnsaid line talk old new
-
 
 module _ (a b : Standing) (image image_now : List ℕ) (before now : Option (List ℕ)) (Lacks : Command → ℕ → Type 0) (start : a.database ≡ base image) (told : IsTrue a.tells) where
   abbrev Old : World

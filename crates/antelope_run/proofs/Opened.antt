@@ -1,5 +1,5 @@
 -- What opening a session on an image reads.
-use Rattle.std.proofs.Common.{◌≡◌, ℕ, ◌+◌, ◌*◌, ◌/◌, ◌≤◌, List, length, map, ap, subst, sym, arith}
+use Rattle.std.proofs.Common.{◌≡◌, ℕ, ◌+◌, ◌*◌, ◌/◌, ◌≤◌, List, length, map, ap, arith}
 use Rattle.std.specs.List.{range_with_len}
 use Rattle.afl_base.specs.Files.{Table}
 use Rattle.coffee_layout.specs.Units.{pages_of}

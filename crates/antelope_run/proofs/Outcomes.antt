@@ -1,13 +1,10 @@
 -- What a run came to, status by status.
-use Rattle.std.proofs.Common.{◌≡◌, ◌≢◌, ◌≤◌, ◌-◌, ◌/◌, ◌⊎◌, inl, inr, ℕ, List, ◌++◌, length, Option, Some, None, refl, ap, sym, subst, ◌∙◌, arith}
-use Rattle.std.specs.Prelude.{⊤, Result, Ok, Err}
+use Rattle.std.proofs.Common.{◌≡◌, ◌≢◌, ◌≤◌, ◌/◌, ◌⊎◌, inl, inr, ℕ, List, ◌++◌, length, Option, Some, None, refl, ap, sym, subst, ◌∙◌, arith}
+use Rattle.std.specs.Prelude.{Ok, Err}
 use Rattle.std.proofs.lemmas.List.{length-append}
-use Rattle.std.specs.Io.KnownBytes.{IsAtEnd, prepend_known}
+use Rattle.std.specs.Io.KnownBytes.{IsAtEnd}
 use Rattle.afl_base.specs.Causes.{Rose}
-use Rattle.db_model.specs.declared.commands.Command.{Command}
-use Rattle.db_model.specs.declared.refusals.Refusal.{Refusal}
 use Rattle.intake.specs.declared.halt.Halt.TheVariants.{Space, Flash, Sink}
-use Rattle.intake.specs.declared.halt.Stop.{Stop}
 use Rattle.intake.specs.declared.halt.Stop.TheVariants.{Input, Long, Halted}
 use Rattle.run_model.specs.Runs.{Refuses, TookLimit, World}
 use Rattle.run_model.specs.Scripts.{script_cut, script_line, script_talk}
@@ -15,7 +12,7 @@ use Rattle.run_model.proofs.Parts.{script_parts}
 use Rattle.serve_model.specs.Frames.{frame_cut, frame_line}
 use Rattle.serve_model.specs.Served.{serve_talk}
 use Rattle.serve_model.proofs.Ending.{frame_parts}
-use Rattle.sound_image.specs.Images.{IsFirstBroken, IsSound, base}
+use Rattle.sound_image.specs.Images.{IsSound, base}
 use Rattle.sound_image.proofs.Judged.{sound_unbroken}
 use Rattle.antelope_run.specs.declared.came.Came.{Came}
 use Rattle.antelope_run.specs.declared.came.Came.TheVariants.{Opened, Refused, Unsaid, Failed}

@@ -3,14 +3,12 @@ use Rattle.std.proofs.Common.{◌≡◌, ℕ, ◌+◌, ◌≤◌, List, [], ◌�
 use Rattle.std.specs.Prelude.{⊤, Result, Ok, Err}
 use Rattle.std.specs.List.{AllByRecursion}
 use Rattle.db_model.specs.declared.commands.Command.{Command}
-use Rattle.db_model.specs.Ahead.{Aheads}
-use Rattle.db_model.specs.Database.{Database}
 use Rattle.intake.specs.declared.halt.Stop.{Stop}
 use Rattle.intake.specs.declared.halt.Stop.TheVariants.{Input, Long, Halted}
 use Rattle.answering.specs.Carried.{Standing}
 use Rattle.answering.specs.Went.{Went}
 use Rattle.run_model.specs.Line.{Line}
-use Rattle.run_model.specs.Talk.{OnlyReads, Talk, costs, last, last_aheads}
+use Rattle.run_model.specs.Talk.{OnlyReads, Talk, costs}
 use Rattle.run_model.proofs.Talks.{costs-append}
 use Rattle.antelope_run.proofs.Fronts.{HasFronts, all_front, entries_front, longer_front, whole_front}
 

@@ -1,6 +1,5 @@
 -- A flash with enough sectors lacks nothing.
-use Rattle.std.proofs.Common.{◌≡◌, ◌≢◌, ◌<◌, ◌≤◌, ◌/◌, ◌⊎◌, ℕ, List, [], ◌∷◌, ◌++◌, length, Option, Some, refl, ap, sym, subst, ◌∙◌, arith, ⊎_elim, append_assoc}
-use Rattle.std.specs.Io.KnownBytes.{prepend_known}
+use Rattle.std.proofs.Common.{◌≡◌, ◌<◌, ◌≤◌, ◌/◌, ◌⊎◌, ℕ, List, ◌∷◌, ◌++◌, length, Some, ap, subst, ◌∙◌, arith, ⊎_elim, append_assoc}
 use Rattle.coffee_layout.specs.Marks.{IsCramped}
 use Rattle.coffee_layout.specs.Tiling.{units_of}
 use Rattle.db_model.specs.declared.commands.Command.{Command}
@@ -9,7 +8,7 @@ use Rattle.space_model.specs.Enough.{enough, file_sizes, most}
 use Rattle.space_model.proofs.More.{more_pages}
 use Rattle.sound_image.specs.Images.{base}
 use Rattle.sound_image.specs.Lacking.{LacksFor}
-use Rattle.run_model.specs.Runs.{FoundNoSpace, HasEnough, InputFoundNoSpace, Machine, StopsAt, World, machine_from}
+use Rattle.run_model.specs.Runs.{HasEnough, InputFoundNoSpace, Machine, StopsAt, World, machine_from}
 use Rattle.run_model.specs.Line.{Line}
 use Rattle.run_model.specs.Talk.{Talk}
 use Rattle.antelope_run.proofs.Bare.{most_bare}
@@ -28,8 +27,8 @@ lacks_none image db c n sectors l is many enough_here =
     ⊎_elim
     (λ (none : most db c ≡ 0). let zero_pages : n ≡ 0 = omega (arith, none, few) in not_cramped image (subst (λ (m : ℕ). IsCramped (units_of image) m) zero_pages l.cramped))
     (λ (some : enough db (most db c) ≤ sectors).
-        let more = more_pages (file_sizes db) n (most db c) few in
-        absurd (omega (arith, some, more, small, many)))
+    let more = more_pages (file_sizes db) n (most db c) few in
+    absurd (omega (arith, some, more, small, many)))
     enough_here
 
 module _ {E : Type 0} (m : Machine E) (sectors : ℕ) where

@@ -1,6 +1,5 @@
 -- What an image is that a session's files are handed back on, and why a session could not be opened.
-use Rattle.std.specs.Prelude.{◌≡◌, ⊤, ℕ, ◌≤◌, List, Result, Ok, Err, IfErr}
-use Rattle.afl_base.specs.Causes.{Rose}
+use Rattle.std.specs.Prelude.{◌≡◌, ⊤, ℕ, List}
 use Rattle.db_model.specs.declared.commands.Command.{Command}
 use Rattle.db_model.specs.Database.{Database, bare}
 use Rattle.sound_image.specs.Images.{IsSound, base}

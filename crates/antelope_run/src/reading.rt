@@ -26,7 +26,11 @@ fn alone(name: &[u8]) -> Option<Form>
     ensures form { result ≡ alone name.now }
     ensures commands { IfSome result (λ form. HasFewCommands form) }
 {
-    if name == b"dump".as_slice() { Some(Form::Dump) } else { None }
+    if name == b"dump".as_slice() {
+        Some(Form::Dump)
+    } else {
+        None
+    }
 }
 
 fn with_one(name: &[u8], word: &[u8]) -> Option<Form>
@@ -39,7 +43,11 @@ fn with_one(name: &[u8], word: &[u8]) -> Option<Form>
     if name == b"serve".as_slice() {
         return Some(Form::Serve);
     }
-    if name == b"plan".as_slice() { planned(word) } else { None }
+    if name == b"plan".as_slice() {
+        planned(word)
+    } else {
+        None
+    }
 }
 
 fn planned(rows: &[u8]) -> Option<Form>
@@ -54,7 +62,11 @@ fn with_two(name: &[u8], one: &[u8], other: &[u8]) -> Option<Form>
     ensures form { result ≡ with_two name.now one.now other.now }
     ensures commands { IfSome result (λ form. HasFewCommands form) }
 {
-    if name == b"gen".as_slice() { generated(one, other) } else { None }
+    if name == b"gen".as_slice() {
+        generated(one, other)
+    } else {
+        None
+    }
 }
 
 fn generated(seed: &[u8], count: &[u8]) -> Option<Form>

@@ -41,10 +41,13 @@ pub trait Taker {
 
     // Bytes are taken one after the other, and where it goes no further the bytes behind that play no part.
     ghost none: { (a : Self × Out) → Takes a [] a };
+
     ghost more: { (a b c : Self × Out) (xs ys : List ℕ)
         → Takes a xs b → Takes b ys c → Takes a (xs ++ ys) c };
+
     ghost halts_behind: { (a b c : Self × Out) (xs ys : List ℕ) (halt : Halt)
         → Takes a xs b → Halts b ys c halt → Halts a (xs ++ ys) c halt };
+
     ghost halts_before: { (a b : Self × Out) (xs ys : List ℕ) (halt : Halt)
         → Halts a xs b halt → Halts a (xs ++ ys) b halt };
 }

@@ -1,5 +1,4 @@
 -- A runner and its sink as what takes an input.
-use Rattle.std.proofs.Common.{ℕ}
 use Rattle.intake.specs.Through.{Out}
 use Rattle.answering.specs.Taking.{Running, running}
 use Rattle.script_run.specs.declared.piece.Piece.{Piece}

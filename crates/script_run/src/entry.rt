@@ -19,7 +19,7 @@ ghost use Rattle.run_model.specs.Scripts.{script_talk};
 
 use afl_base::{Failed, Files, Sink};
 use antelope_engine::{Session, Step, Stop};
-use aql_parse::{parse, readings_are_unique};
+use aql_parse::{Parser, readings_are_unique};
 use db_model::{Command, Refusal};
 use intake::Halt;
 use reply_text::write_refusal;
@@ -43,6 +43,7 @@ pub fn refuse<K: Sink>(out: &mut K, refusal: &Refusal) -> Result<(), Halt>
 /// Carries out the bytes of a command, which are read into `command`, and writes the reply.
 pub fn carry_out<V: Files, K: Sink>(
     session: &mut Session<V>,
+    parser: &mut Parser,
     command: &mut Command,
     bytes: &[u8],
     out: &mut K,
@@ -66,7 +67,7 @@ pub fn carry_out<V: Files, K: Sink>(
         (K.faults out.old) (K.faults out.new) result }
 {
     readings_are_unique();
-    match parse(bytes, command) {
+    match parser.parse(bytes, command) {
         Ok(()) => match execute(session, command, out) {
             Ok(()) => Ok(()),
             Err(halt) => Err(halt),

@@ -18,6 +18,7 @@ use crate::entry::{carry_out, refuse};
 use crate::piece::Piece;
 use afl_base::{Files, Sink};
 use antelope_engine::Session;
+use aql_parse::Parser;
 use db_model::{Command, Refusal};
 use intake::{Halt, Taker};
 
@@ -26,7 +27,8 @@ use intake::{Halt, Taker};
 pub struct Runner<V: Files> {
     pub session: Session<V>,
     pub piece: Piece,
-    // The command at hand, kept in its place.
+    // What reads commands, and the command at hand: kept in their places.
+    parser: Parser,
     command: Command,
 }
 
@@ -39,6 +41,7 @@ impl<V: Files> Runner<V> {
         Runner {
             session,
             piece: Piece::new(),
+            parser: Parser::new(),
             command: Command::FetchCursor { number: 0 },
         }
     }
@@ -53,16 +56,26 @@ impl<V: Files> Taker for Runner<V> {
 
     ghost Takes = { λ a came b. TakesBytes script_input (saying V.state V.reads V.faults V.asks V.lacks)
         (running a.0.session a.0.piece a.1.held a.1.faults) came (running b.0.session b.0.piece b.1.held b.1.faults) };
+
     ghost Ends = { λ a b. EndsInput script_input (saying V.state V.reads V.faults V.asks V.lacks)
         (running a.0.session a.0.piece a.1.held a.1.faults) (running b.0.session b.0.piece b.1.held b.1.faults) };
+
     ghost Halts = { λ a came b halt. HaltsInBytes script_input (saying V.state V.reads V.faults V.asks V.lacks)
         (running a.0.session a.0.piece a.1.held a.1.faults) came
         (running b.0.session b.0.piece b.1.held b.1.faults) halt };
+
     ghost HaltsAtEnd = { λ a b halt. HaltsAtLast script_input (saying V.state V.reads V.faults V.asks V.lacks)
         (running a.0.session a.0.piece a.1.held a.1.faults) (running b.0.session b.0.piece b.1.held b.1.faults) halt };
 
     fn take<K: Sink>(&mut self, out: &mut K, byte: u8) -> Result<(), Halt> {
-        take_byte(&mut self.session, &mut self.command, &mut self.piece, out, byte)
+        take_byte(
+            &mut self.session,
+            &mut self.parser,
+            &mut self.command,
+            &mut self.piece,
+            out,
+            byte,
+        )
     }
 
     fn end<K: Sink>(&mut self, out: &mut K) -> Result<(), Halt> {
@@ -71,14 +84,17 @@ impl<V: Files> Taker for Runner<V> {
 
     ghost none = { λ a. taken_none script_input (saying V.state V.reads V.faults V.asks V.lacks) script_line script_parts
         (running a.0.session a.0.piece a.1.held a.1.faults) };
+
     ghost more = { λ a b c xs ys e f.
         taken_more script_input (saying V.state V.reads V.faults V.asks V.lacks) script_line script_parts
         (running a.0.session a.0.piece a.1.held a.1.faults) (running b.0.session b.0.piece b.1.held b.1.faults)
         (running c.0.session c.0.piece c.1.held c.1.faults) xs ys e f };
+
     ghost halts_behind = { λ a b c xs ys halt e f.
         halted_behind script_input (saying V.state V.reads V.faults V.asks V.lacks) script_line script_parts
         (running a.0.session a.0.piece a.1.held a.1.faults) (running b.0.session b.0.piece b.1.held b.1.faults)
         (running c.0.session c.0.piece c.1.held c.1.faults) xs ys halt e f };
+
     ghost halts_before = { λ a b xs ys halt e.
         halted_before script_input (saying V.state V.reads V.faults V.asks V.lacks) script_line script_parts
         (running a.0.session a.0.piece a.1.held a.1.faults) (running b.0.session b.0.piece b.1.held b.1.faults)
@@ -88,6 +104,7 @@ impl<V: Files> Taker for Runner<V> {
 // Takes one byte of a script.
 fn take_byte<V: Files, K: Sink>(
     session: &mut Session<V>,
+    parser: &mut Parser,
     command: &mut Command,
     piece: &mut Piece,
     out: &mut K,
@@ -108,7 +125,7 @@ fn take_byte<V: Files, K: Sink>(
         piece.push(byte);
         return Ok(());
     }
-    let answered = answer_ended(session, command, piece, out);
+    let answered = answer_ended(session, parser, command, piece, out);
     piece.clear();
     match answered {
         Ok(()) => Ok(()),
@@ -140,8 +157,9 @@ fn take_end<V: Files, K: Sink>(
 }
 
 // Answers what a piece asks for that a `;` ends. White space alone asks for nothing.
-pub fn answer_ended<V: Files, K: Sink>(
+fn answer_ended<V: Files, K: Sink>(
     session: &mut Session<V>,
+    parser: &mut Parser,
     command: &mut Command,
     piece: &Piece,
     out: &mut K,
@@ -174,14 +192,14 @@ pub fn answer_ended<V: Files, K: Sink>(
     if piece.bytes.is_empty() {
         return Ok(());
     }
-    match carry_out(session, command, piece.bytes.as_slice(), out) {
+    match carry_out(session, parser, command, piece.bytes.as_slice(), out) {
         Ok(()) => Ok(()),
         Err(halt) => Err(halt),
     }
 }
 
 // Answers the last piece, which nothing ends.
-pub fn answer_unended<V: Files, K: Sink>(
+fn answer_unended<V: Files, K: Sink>(
     session: &mut Session<V>,
     piece: &Piece,
     out: &mut K,

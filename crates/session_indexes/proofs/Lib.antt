@@ -1,5 +1,4 @@
 pub mod Refused
-pub mod Readers
 pub mod Puts
 pub mod Keyed
 pub mod Planted

@@ -1,7 +1,7 @@
 -- Where an index stands, or comes to stand.
 use Rattle.std.specs.Prelude.{◌≡◌, ◌<◌, ℕ, ◌+◌, is_some, Bool, true, false, not, ◌&&◌, ◌==◌, List, [], ◌∷◌, Option, Some, None, if◌then◌else◌}
 use Rattle.db_model.specs.declared.schemas.IndexKind.{IndexKind}
-use Rattle.db_model.specs.Database.{free_from, is_among}
+use Rattle.db_model.specs.Database.{free_from}
 use Rattle.db_model.specs.Item.{place_of}
 use Rattle.index_set.specs.declared.info.Access.{Access}
 use Rattle.index_set.specs.declared.info.Access.TheVariants.{Table}
@@ -9,8 +9,6 @@ use Rattle.index_set.specs.declared.info.TableId.{TableId}
 use Rattle.index_set.specs.declared.info.TableId.TheVariants.{First, Second}
 use Rattle.session_model.specs.declared.held.Held.{Held}
 use Rattle.session_model.specs.declared.held.Indexed.{Indexed}
-use Rattle.session_model.specs.declared.held.Open.{Open}
-use Rattle.session_model.specs.declared.held.Open.TheVariants.{Select, Join}
 use Rattle.session_model.specs.Indexed.{IsAllowedAt}
 use Rattle.tuple_file.specs.declared.tuples.Tuples.{Tuples}
 use Rattle.session_indexes.specs.declared.sites.Site.{Site}
@@ -46,22 +44,6 @@ is_taken number (x ∷ xs) = if is_in_table number x then true else is_taken num
 -- a table that no index has
 abbrev pub free_table : List (Option Indexed) → Option TableId
 free_table xs = if not (is_taken First xs) then Some First else if not (is_taken Second xs) then Some Second else None
-
--- ---- cursors
-
--- the relations that the query of an open cursor names
-abbrev pub names_in : Open → List (List ℕ)
-names_in (Select o) = o.cursor.tuples.schema.name ∷ []
-names_in (Join o) = o.cursor.left.schema.name ∷ o.cursor.right.schema.name ∷ []
-
-abbrev pub is_reader : List ℕ → Option Open → Bool
-is_reader name None = false
-is_reader name (Some o) = is_among name (names_in o)
-
--- the number of the least open cursor whose query names the relation, the list's first being cursor n
-abbrev pub least_from : List ℕ → ℕ → List (Option Open) → Option ℕ
-least_from name n [] = None
-least_from name n (o ∷ os) = if is_reader name o then Some n else least_from name (n + 1) os
 
 -- ---- sites
 

@@ -3,7 +3,6 @@
 
 mod creating;
 mod making;
-mod reading;
 mod relations;
 mod removing;
 mod sites;

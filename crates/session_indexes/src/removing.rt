@@ -18,14 +18,13 @@ ghost use Rattle.session_model.specs.Wanted.{WantsFew};
 ghost use Rattle.session_indexes.specs.Made.{AsksSlot};
 ghost use Rattle.session_indexes.specs.Removed.{IsRemovable, IsTaken};
 
-use crate::reading::least_reader;
 use crate::relations::relation_named;
 use crate::sites::{place_of, slot_of};
 use crate::slots::{clear_entry, hold};
 use afl_base::{Failed, FileError, FileId, Files, IndexId, RelationId};
 use db_model::{Ident, Refusal};
 use index_set::{Access, HashTables};
-use session_model::{Answer, Held, Open};
+use session_model::{Answer, Held, Open, least_reader};
 use tuple_file::Tuples;
 
 /// An index in its slot, and by what it finds the slots of a key.

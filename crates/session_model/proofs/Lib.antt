@@ -8,6 +8,7 @@ pub mod Grown
 pub mod Inserted
 pub mod Joins
 pub mod Kept
+pub mod LeastReader
 pub mod Leaves
 pub mod Opens
 pub mod Readable

@@ -4,6 +4,7 @@ pub mod Cells
 pub mod Frames
 pub mod Indexed
 pub mod Queries
+pub mod Readers
 pub mod Running
 pub mod Steps
 pub mod View

@@ -6,6 +6,7 @@ mod finding;
 mod held;
 mod preparing;
 mod projecting;
+mod readers;
 mod replies;
 mod step;
 
@@ -14,5 +15,6 @@ pub use finding::{find_relation, indexes_of};
 pub use held::{Held, Indexed, Open, OpenJoin, OpenSelect, Side};
 pub use preparing::prepare_catalog;
 pub use projecting::{project, project_pair};
+pub use readers::least_reader;
 pub use replies::reply;
 pub use step::{Outcome, Step, Stop};

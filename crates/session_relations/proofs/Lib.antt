@@ -4,7 +4,6 @@ pub mod Created
 pub mod Found
 pub mod Gone
 pub mod Grown
-pub mod LeastReader
 pub mod ReadBack
 pub mod Replaced
 pub mod Shown

@@ -6,7 +6,7 @@ use Rattle.db_model.specs.declared.refusals.Refusal.{Refusal}
 use Rattle.db_model.specs.declared.schemas.Attribute.{Attribute}
 use Rattle.db_model.specs.declared.schemas.Schema.{Schema}
 use Rattle.db_model.specs.Catalog.{Index, IsAttribute, with_relation_slot}
-use Rattle.db_model.specs.Database.{Cursor, Database, Relation, is_among, used, with_relation}
+use Rattle.db_model.specs.Database.{Database, Relation, used, with_relation}
 use Rattle.db_model.specs.Refusing.{◌>>◌}
 use Rattle.db_model.specs.Row.{row_length}
 use Rattle.db_model.specs.Step.{refuse_indexed, refuse_read}
@@ -57,12 +57,7 @@ abbrev pub AsksSlot : (ℕ → ℕ → ℕ → ℕ → Type 0) → Table → ℕ
 AsksSlot asks files cat slot need =
     asks_few asks files cat ((room_for (size_at files cat) (176 * slot) 176).0) ((room_for (size_at files cat) (176 * slot) 176).1) need
 
--- ---- cursors and indexes
-
--- an open cursor whose query names the relation
-abbrev pub is_reader : List ℕ → Option Cursor → Bool
-is_reader name None = false
-is_reader name (Some cursor) = is_among name cursor.reads
+-- ---- indexes
 
 -- an index of the relation in a slot stands here
 abbrev pub is_on : ℕ → Option Indexed → Bool

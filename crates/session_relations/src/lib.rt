@@ -4,7 +4,6 @@
 mod creating;
 mod finding;
 mod growing;
-mod readers;
 mod removing;
 
 pub use creating::create_relation;

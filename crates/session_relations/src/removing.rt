@@ -19,12 +19,11 @@ ghost use Rattle.space_model.specs.FileNames.{rows_file};
 ghost use Rattle.tuple_file.specs.declared.tuples.Tuples.{Tuples as AnyTuples};
 
 use crate::finding::{Place, find_place, has_index};
-use crate::readers::least_reader;
 use afl_base::{Failed, FileError, FileId, Files};
 use catalog::clear_relation;
 use db_model::{Ident, Refusal};
 use index_set::HashTables;
-use session_model::{Answer, Held, Open, prepare_catalog};
+use session_model::{Answer, Held, Open, least_reader, prepare_catalog};
 
 /// Takes a relation away: its slot first, and then the file of its rows.
 pub fn remove_relation<V: Files>(

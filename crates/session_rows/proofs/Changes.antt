@@ -1,8 +1,9 @@
 -- Changes of the rows of one relation, for the session that they are made in.
-use Rattle.std.proofs.Common.{◌≡◌, ◌≢◌, ℕ, ◌≤◌, List, [], length, get_or, Option, Some, None, refl, ap, sym, ◌∙◌, subst, arith, IsTrue}
+use Rattle.std.proofs.Common.{◌≡◌, ◌≢◌, ℕ, ◌≤◌, List, [], length, get_or, Option, Some, None, refl, ap, sym, subst, arith, IsTrue}
 use Rattle.afl_base.specs.Files.{Keeps, State, Table, bytes_at, file_at, name_at, size_at, used}
 use Rattle.afl_base.specs.Frames.{Prepares, Spares}
 use Rattle.afl_base.proofs.FrameLaws.{spares_fewer}
+use Rattle.db_model.specs.Database.{reader_of}
 use Rattle.db_model.specs.Row.{Row, no_row}
 use Rattle.index_set.specs.declared.info.IndexInfo.{IndexInfo}
 use Rattle.index_set.specs.Complete.{AreComplete, AreHeld}
@@ -15,14 +16,12 @@ use Rattle.session_model.specs.declared.held.Open.{Open}
 use Rattle.session_model.specs.Frames.{StaysAt}
 use Rattle.session_model.specs.Indexed.{infos_of}
 use Rattle.session_model.specs.Running.{IsRunning}
-use Rattle.session_model.specs.View.{relation_in}
+use Rattle.session_model.specs.View.{relation_in, view}
 use Rattle.session_model.proofs.Aheads.{rows_aheads}
 use Rattle.session_model.proofs.Frames.{complete_kept, held_spared, holds_prepared, rows_prepared, slots_prepared}
 use Rattle.session_model.proofs.Running.{RowsCome, are_complete, are_held, away, one_changes, reads_other, relation_there, rows_come}
 use Rattle.session_model.proofs.Views.{OneChanges}
 use Rattle.session_rows.specs.Changes.{GoesOn}
-use Rattle.session_rows.specs.Readers.{reader_among}
-use Rattle.session_rows.proofs.Readers.{reader_seen}
 
 -- ---- the session goes on where rows come
 
@@ -102,18 +101,17 @@ module _ (old new : State) (tables : Tables) (held : Held) (opens : List (Option
 -- ---- rows are dropped from a relation without indexes
 
 pub rows_dropped : (old new : State) (tables : Tables) (held : Held) (opens : List (Option Open)) (k : ℕ) (t : Tuples) → IsRunning old tables held opens → get_or held.relations k None ≡ Some t
-    → Spares old new (λ j. j ≢ t.file) → HoldsRows new t → slots new.files t ≤ slots old.files t → reader_among t.schema.name 1 opens ≡ None → infos_of k t held.indexes ≡ []
+    → Spares old new (λ j. j ≢ t.file) → HoldsRows new t → slots new.files t ≤ slots old.files t → reader_of (view old.files held opens) t.schema.name ≡ None → infos_of k t held.indexes ≡ []
     → GoesOn old new tables held opens k
 rows_dropped old new tables held opens k t r there f holds fewer unread none =
-    let unseen = reader_seen old.files t.schema.name 1 opens ∙ unread in
     goes_on old new tables tables held opens k t r (record {
       there = there;
       spared = spares_fewer old new (λ j. j ≢ t.file) (StaysAt t.file (infos_of k t held.indexes)) f (λ j stays. stays.0);
       tables = λ number no. refl;
       holds = holds;
       few = omega (arith, fewer, (relation_there old tables held opens r k t there).few);
-      grown = λ n o e reads. absurd (reads_other old.files t 1 opens unseen n o e reads);
-      grow = λ told n o e reads. absurd (reads_other old.files t 1 opens unseen n o e reads);
+      grown = λ n o e reads. absurd (reads_other old.files t 1 opens unread n o e reads);
+      grow = λ told n o e reads. absurd (reads_other old.files t 1 opens unread n o e reads);
       filled = subst (λ (infos : List IndexInfo). AreHeld new tables (slots new.files t) infos) (sym none) tt;
       complete = λ told. subst (λ (infos : List IndexInfo). AreComplete new tables (rows new.files t) infos) (sym none) tt;
     })

@@ -1,6 +1,5 @@
 pub mod Causes
 pub mod Changes
-pub mod Readers
 pub mod Rooms
 pub mod Suited
 pub mod Wants

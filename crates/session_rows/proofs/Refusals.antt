@@ -22,9 +22,7 @@ use Rattle.session_model.specs.declared.held.Held.{Held}
 use Rattle.session_model.specs.declared.held.Open.{Open}
 use Rattle.session_model.specs.Answers.{Changed}
 use Rattle.session_model.specs.View.{relation_in, view}
-use Rattle.session_rows.specs.Readers.{reader_among}
 use Rattle.session_rows.specs.Removals.{IsRemoval}
-use Rattle.session_rows.proofs.Readers.{reader_seen}
 
 -- ---- what the machine makes of it
 
@@ -66,18 +64,18 @@ module _ (condition : Option Cond) (files : Table) (held : Held) (opens : List (
   pub is_refused : (n : Refusal) → refusal 0 t.schema.attributes condition ≡ Some n → remove_from condition k (view files held opens) (relation_in files t) ≡ Err n
   is_refused n e = by_refusal condition k (view files held opens) (relation_in files t) n e
 
-  pub is_read : (n : ℕ) → refusal 0 t.schema.attributes condition ≡ None → reader_among t.schema.name 1 opens ≡ Some n → remove_from condition k (view files held opens) (relation_in files t) ≡ Err (no.InUse n)
-  is_read n e reads = by_reader condition k (view files held opens) (relation_in files t) n e (reader_seen files t.schema.name 1 opens ∙ reads)
+  pub is_read : (n : ℕ) → refusal 0 t.schema.attributes condition ≡ None → reader_of (view files held opens) t.schema.name ≡ Some n → remove_from condition k (view files held opens) (relation_in files t) ≡ Err (no.InUse n)
+  is_read n e reads = by_reader condition k (view files held opens) (relation_in files t) n e reads
 
-  pub removal : (now : Table) (a : Answer) → refusal 0 t.schema.attributes condition ≡ None → reader_among t.schema.name 1 opens ≡ None → IsRemoval t.schema.attributes condition (rows files t) (rows now t) a
+  pub removal : (now : Table) (a : Answer) → refusal 0 t.schema.attributes condition ≡ None → reader_of (view files held opens) t.schema.name ≡ None → IsRemoval t.schema.attributes condition (rows files t) (rows now t) a
       → Changed (remove_from condition k (view files held opens) (relation_in files t)) (relation_in files t) (relation_in now t) a
   removal now answer.Fine e reads h = absurd h
   removal now (answer.Refused n) e reads h = absurd h
   removal now (answer.Removed n) e reads h =
-      by_none condition k (view files held opens) (relation_in files t) e (reader_seen files t.schema.name 1 opens ∙ reads)
+      by_none condition k (view files held opens) (relation_in files t) e reads
       ∙ (λ i. Ok (record { schema = t.schema; rows = sym h.0 i }, Removed (sym h.1 i)))
   removal now (answer.NoSpace need) e reads h = (
-    rw (by_none condition k (view files held opens) (relation_in files t) e (reader_seen files t.schema.name 1 opens ∙ reads)) refl,
+    rw (by_none condition k (view files held opens) (relation_in files t) e reads) refl,
     ap (λ (rs : List Row). record { schema = t.schema; rows = rs }) h,
   )
 

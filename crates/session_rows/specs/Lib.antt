@@ -1,5 +1,4 @@
 pub mod Changes
-pub mod Readers
 pub mod Wanted
 pub mod Refused
 pub mod Marking

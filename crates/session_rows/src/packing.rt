@@ -15,11 +15,11 @@ ghost use Rattle.session_model.specs.Wanted.{WantsFew};
 ghost use Rattle.session_rows.specs.Changes.{GoesOn};
 ghost use Rattle.session_rows.specs.Wanted.{WantsPackedRows};
 
-use crate::finding::{reader_of, relation_at};
+use crate::finding::relation_at;
 use afl_base::{Failed, FileError, Files};
 use db_model::{Ident, Refusal};
 use index_set::HashTables;
-use session_model::{Answer, Held, Open, find_relation, indexes_of};
+use session_model::{Answer, Held, Open, find_relation, indexes_of, least_reader};
 use tuple_file::Tuples;
 
 /// Drops the removed rows of a relation.
@@ -78,7 +78,7 @@ fn pack_at<V: Files>(
     ensures store { length (V.state files.new).store ≡ length (V.state files.old).store }
     ensures cause { HasCause (V.faults files.old) (V.faults files.new) result }
 {
-    if let Some(cursor) = reader_of(opens, &tuples.schema.name) {
+    if let Some(cursor) = least_reader(opens, &tuples.schema.name) {
         return Ok(Answer::Refused(Refusal::InUse { cursor }));
     }
     if !indexes_of(&held.indexes, k, tuples).is_empty() {

@@ -25,7 +25,7 @@ ghost use Rattle.session_rows.specs.Changes.{GoesOn};
 ghost use Rattle.session_rows.specs.Removals.{IsRemoval};
 ghost use Rattle.session_rows.specs.Wanted.{WantsRemoval};
 
-use crate::finding::{reader_of, relation_at};
+use crate::finding::relation_at;
 use crate::marking::remove_selected;
 use crate::selecting::select_slots;
 use afl_base::{Failed, FileError, Files};
@@ -33,7 +33,7 @@ use cursor::SelectCursor;
 use db_model::{Condition, Ident, Refusal};
 use index_set::{HashTables, Indexes};
 use lvm::Code;
-use session_model::{Answer, Held, Open, find_relation, indexes_of};
+use session_model::{Answer, Held, Open, find_relation, indexes_of, least_reader};
 use tuple_file::Tuples;
 
 /// Removes the live rows that satisfy a condition: up to 29 are marked one by one, and more are
@@ -107,7 +107,7 @@ fn remove_at<V: Files>(
         Ok(code) => code,
         Err(refusal) => return Ok(Answer::Refused(refusal)),
     };
-    if let Some(cursor) = reader_of(opens, &tuples.schema.name) {
+    if let Some(cursor) = least_reader(opens, &tuples.schema.name) {
         return Ok(Answer::Refused(Refusal::InUse { cursor }));
     }
     let indexes = indexes_of(&held.indexes, k, tuples);

@@ -1,12 +1,11 @@
 -- The erased image is sound, and its database is empty.
-use Rattle.std.proofs.Common.{◌≡◌, ℕ, zero, suc, ◌+◌, ◌-◌, ◌*◌, ◌/◌, ◌<◌, ◌≤◌, ◌⊎◌, inl, inr, Bool, true, false, List, [], ◌∷◌, ◌++◌, length, map, replicate, get_or, Option, Some, None, if◌then◌else◌, refl, ap, sym, subst, ◌∙◌, arith}
-use Rattle.std.specs.Prelude.{nat_lt, take, drop}
-use Rattle.std.specs.Option.{option_or}
+use Rattle.std.proofs.Common.{◌≡◌, ℕ, zero, suc, ◌+◌, ◌-◌, ◌*◌, ◌<◌, ◌≤◌, ◌⊎◌, inl, inr, Bool, true, false, List, [], ◌∷◌, length, replicate, get_or, Option, Some, None, if◌then◌else◌, refl, ap, sym, subst, ◌∙◌, arith}
+use Rattle.std.specs.Prelude.{nat_lt, take}
 use Rattle.std.proofs.lemmas.Bool.{cases_lt}
 use Rattle.std.proofs.lemmas.Bool.Decides.{nat_tests}
 use Rattle.std.proofs.lemmas.List.{take-replicate, drop-replicate, length-replicate}
 use Rattle.afl_base.specs.Image.{page_bytes}
-use Rattle.coffee_layout.specs.Files.{Placed, extents, files_in as placed_files, files_of}
+use Rattle.coffee_layout.specs.Files.{extents, files_in as placed_files}
 use Rattle.coffee_layout.specs.Rules.{broken_files, broken_image}
 use Rattle.coffee_layout.specs.Tiling.{broken_at, broken_from, broken_tiling, broken_unit, nowhere, units_from, units_of}
 use Rattle.coffee_layout.specs.Units.{pages_of, unit_at, unit_of}
@@ -17,8 +16,6 @@ use Rattle.sound_image.specs.Images.{IsSound, base, files_in}
 use Rattle.catalog.specs.Rules.{breaks_files, breaks_index, breaks_relation, broken_catalog, first, first_broken}
 use Rattle.stored.specs.Base.{base_of}
 use Rattle.stored.specs.Sound.{IsSoundTable}
-use Rattle.coffee_layout.specs.declared.unit.BadImage.{BadImage}
-use Rattle.coffee_layout.specs.declared.unit.Unit.{Unit}
 use Rattle.coffee_layout.specs.declared.unit.Unit.TheVariants.{Free, Isolated, Extent}
 
 abbrev erased : ℕ → List ℕ

@@ -2,7 +2,6 @@
 use Rattle.std.proofs.Common.{◌≡◌, ℕ, ◌*◌, ◌/◌, ◌<◌, true, List, length, Option, Some, None, refl, ap, sym, subst, ◌∙◌, arith}
 use Rattle.std.specs.Prelude.{IsTrue, is_some, option_map, unwrap_or}
 use Rattle.afl_base.specs.Files.{AreDistinct, File, IsLive, IsNamed, Table, file_at, no_file, place}
-use Rattle.afl_base.specs.Shares.{gap_for, shares}
 use Rattle.coffee_layout.specs.Marks.{IsCramped}
 use Rattle.coffee_layout.specs.Rules.{broken_image}
 use Rattle.coffee_layout.specs.Tiling.{units_of}
@@ -29,7 +28,7 @@ use Rattle.session_model.specs.Wanted.{WantsOver, room_in}
 use Rattle.space_model.specs.FileNames.{asks_in, size_in}
 use Rattle.space_model.specs.Wants.{Wants}
 use Rattle.sound_image.proofs.WantedThere.{room_stays, size_stays, wanted_still}
-use Rattle.sound_image.specs.Images.{IsSound, base, files_in}
+use Rattle.sound_image.specs.Images.{IsSound, base}
 use Rattle.sound_image.specs.Lacking.{WantsOf}
 
 -- a file of a name is live, and has it
@@ -79,7 +78,7 @@ module _ (files : Table) (image : List ℕ) (sectors : ℕ) (size : length image
       (wanted_still (size_in files) (size_in (mounted_state image).files) (asks_in asks files) (AsksOf image) (room_in files) (room_in (mounted_state image).files)
       (size_stays files (mounted_state image).files d image_distinct same) (room_stays files (mounted_state image).files d image_distinct same)
       (λ name w b need a.
-          let there : (id : ℕ) × IsNamed files id name × asks id w b need = a in
-          let named = named_there (place files there.0) name there.1 in
-          subst (λ (x : List ℕ). AsksOf image x w b need) named.1 (asked there.0 w b need named.0 there.2))
+      let there : (id : ℕ) × IsNamed files id name × asks id w b need = a in
+      let named = named_there (place files there.0) name there.1 in
+      subst (λ (x : List ℕ). AsksOf image x w b need) named.1 (asked there.0 w b need named.0 there.2))
       (base_of files) c n w))

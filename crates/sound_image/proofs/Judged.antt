@@ -1,5 +1,5 @@
 -- A sound image has no first broken rule.
-use Rattle.std.proofs.Common.{◌≡◌, ℕ, ◌⊎◌, inl, inr, List, Option, Some, None, sym, ◌∙◌}
+use Rattle.std.proofs.Common.{◌≡◌, ℕ, inl, inr, List, Option, Some, None, sym, ◌∙◌}
 use Rattle.stored.proofs.Crowded.{unbroken_table}
 use Rattle.sound_image.specs.Images.{IsFirstBroken, IsSound, files_in}
 

@@ -1,13 +1,11 @@
 -- The files of an image are those that a volume shows once it is mounted.
-use Rattle.std.proofs.Common.{◌≡◌, ℕ, zero, suc, ◌-◌, true, List, [], ◌∷◌, ◌++◌, length, map, replicate, Option, Some, None, refl, ap, sym, ◌∙◌}
-use Rattle.std.specs.Prelude.{option_map}
+use Rattle.std.proofs.Common.{◌≡◌, ℕ, zero, suc, ◌-◌, true, List, [], ◌∷◌, ◌++◌, length, map, replicate, Some, None, refl, ap, sym, ◌∙◌}
 use Rattle.std.proofs.lemmas.List.{length-map}
-use Rattle.afl_base.specs.Files.{File, Table}
 use Rattle.coffee_layout.specs.Files.{NamedFile, Placed, entry_of, files_in as placed_in, named_file}
 use Rattle.coffee_layout.specs.Tiling.{units_of}
 use Rattle.coffee_layout.specs.declared.file.FileAt.{FileAt}
 use Rattle.coffee_volume.specs.Mounting.{mounted_state}
-use Rattle.coffee_volume.specs.Volumes.{file_seen, files_seen, roomless}
+use Rattle.coffee_volume.specs.Volumes.{files_seen, roomless}
 use Rattle.sound_image.specs.Images.{file_from, files_in}
 
 none_seen : (image : List ℕ) (n : ℕ) → files_seen true image (replicate n None) ≡ replicate n None
@@ -27,4 +25,3 @@ mounted_files image =
     let same : length (map (entry_of image) fs) ≡ length (map (named_file image) fs) = length-map fs (entry_of image) ∙ sym (length-map fs (named_file image)) in
     seen image fs (32 - length (map (entry_of image) fs))
     ∙ ap (λ n. map (λ (f : NamedFile). Some (file_from f)) (map (named_file image) fs) ++ replicate (32 - n) None) same
-

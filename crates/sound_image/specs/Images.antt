@@ -3,7 +3,6 @@ use Rattle.std.specs.Prelude.{◌≡◌, ◌⊎◌, ℕ, ◌-◌, List, ◌++◌
 use Rattle.afl_base.specs.Files.{File, Table}
 use Rattle.coffee_layout.specs.Files.{NamedFile, files_of}
 use Rattle.coffee_layout.specs.Rules.{broken_image}
-use Rattle.coffee_layout.specs.declared.unit.BadImage.{BadImage}
 use Rattle.db_model.specs.Database.{Database}
 use Rattle.stored.specs.Base.{base_of}
 use Rattle.stored.specs.Sound.{BreaksFirst, IsSoundTable}

@@ -1,12 +1,9 @@
-use Rattle.std.proofs.Common.{◌≡◌, refl, rules, ◌/◌, ap, sym, subst, ◌∙◌, Err, arith, length, ℕ}
-use Rattle.afl_base.specs.Causes.{Rose}
-use Rattle.db_model.specs.Database.{Database}
+use Rattle.std.proofs.Common.{◌≡◌, refl, rules, ◌/◌, ap, sym, subst, ◌∙◌, Err, arith, length}
 use Rattle.db_model.specs.Sound.{IsSoundDatabase}
 use Rattle.intake.specs.declared.halt.Halt.TheVariants.{Flash, Sink}
 use Rattle.intake.specs.declared.halt.Stop.TheVariants.{Input, Halted}
 use Rattle.sound_image.specs.Images.{base, files_in}
 use Rattle.sound_image.proofs.Judged.{sound_unbroken}
-use Rattle.answering.specs.Carried.{LacksPages, standing_of}
 use Rattle.antelope_run.proofs.Leaving.{leaves}
 use Rattle.run_model.specs.Runs.{world}
 use Rattle.antelope_run.proofs.ReadsLeft.{not_true, reads_by, unopened_reads}
@@ -23,15 +20,16 @@ returns-in-Ok-clause-comes g c = λ told.
     let kept = opened.running.1 in
     let tells = opened.tells ∙ told in
     let database : IsSoundDatabase c.in-Ok.session.database =
-        subst IsSoundDatabase (sym start) (c.sound_files_are_a_sound_database.ensures (files_in image) sound.database) in
-    let many : c.sectors-sectors.result ≡ length image / 4096 = (let size = c.sectors-sectors.ensures.size in omega (arith, size)) in
-    (sound,
-    leaves _ _ image (g.F.Flash.image c.close.result) (g.S.Source.left c.args.input.now) (g.S.Source.left c.carry_out-done.new.input) _ start tells
-    c.sectors-sectors.result many c.args.form c.carry_out-done.result.0
-    (λ tells_now other. c.close.ensures.back tells_now (not_true _ c.carry_out-done.result.1.lost (c.carry_out-done.ensures.lost kept) other))
-    (λ only other. c.close.ensures.image ∙ c.carry_out-done.ensures.same only other ∙ opened.same)
-    (λ only. ap g.S.Source.left (c.carry_out-done.ensures.unread only))
-    (c.carry_out-done.ensures.does tells kept database))
+    subst IsSoundDatabase (sym start) (c.sound_files_are_a_sound_database.ensures (files_in image) sound.database) in
+    let many : c.sectors-sectors.result ≡ length image / 4096 = (let size = c.sectors-sectors.ensures.size in omega (arith, size)) in (
+      sound,
+      leaves _ _ image (g.F.Flash.image c.close.result) (g.S.Source.left c.args.input.now) (g.S.Source.left c.carry_out-done.new.input) _ start tells
+          c.sectors-sectors.result many c.args.form c.carry_out-done.result.0
+          (λ tells_now other. c.close.ensures.back tells_now (not_true _ c.carry_out-done.result.1.lost (c.carry_out-done.ensures.lost kept) other))
+          (λ only other. c.close.ensures.image ∙ c.carry_out-done.ensures.same only other ∙ opened.same)
+          (λ only. ap g.S.Source.left (c.carry_out-done.ensures.unread only))
+          (c.carry_out-done.ensures.does tells kept database),
+    )
 
 pub returns-in-Ok-clause-reads : goal.returns-in-Ok-clause-reads
 returns-in-Ok-clause-reads g c = λ told sound.

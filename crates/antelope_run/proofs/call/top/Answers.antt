@@ -1,4 +1,4 @@
-use Rattle.std.proofs.Common.{◌≡◌, ◌∙◌, sym}
+use Rattle.std.proofs.Common.{◌∙◌, sym}
 use Rattle.run_model.specs.Runs.{world}
 use Rattle.antelope_run.proofs.Outcomes.{cut_cause, flash_cause, no_fault_by, sink_cause, spaceless_at, suffices_by}
 use Rattle.antelope_run.proofs.call.top.Goals as goal

@@ -1,4 +1,4 @@
-use Rattle.std.proofs.Common.{◌≡◌, ap}
+use Rattle.std.proofs.Common.{ap}
 use Rattle.answering.specs.Carried.{LacksPages, standing_of}
 use Rattle.run_model.proofs.Parts.{script_parts}
 use Rattle.run_model.specs.Scripts.{script_cut, script_line, script_talk}

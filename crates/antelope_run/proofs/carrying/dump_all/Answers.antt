@@ -1,4 +1,4 @@
-use Rattle.std.proofs.Common.{◌≡◌, ap}
+use Rattle.std.proofs.Common.{ap}
 use Rattle.answering.specs.Carried.{standing_of}
 use Rattle.antelope_run.proofs.Halts.{dumped, dumped_cause, dumped_lost, dumped_same, stopped_only, unless_flash}
 use Rattle.antelope_run.proofs.carrying.dump_all.Goals as goal

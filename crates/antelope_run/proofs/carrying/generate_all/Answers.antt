@@ -1,4 +1,3 @@
-use Rattle.std.proofs.Common.{◌≡◌}
 use Rattle.answering.specs.Carried.{standing_of}
 use Rattle.antelope_run.proofs.Halts.{generated, generated_cause, generated_lost, generated_tells, halted_only}
 use Rattle.antelope_run.proofs.carrying.generate_all.Goals as goal

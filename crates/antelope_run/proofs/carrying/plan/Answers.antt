@@ -1,4 +1,4 @@
-use Rattle.std.proofs.Common.{◌≡◌, ℕ, List, ap, refl, subst, rules, arith}
+use Rattle.std.proofs.Common.{◌≡◌, refl, subst, rules, arith}
 use Rattle.std.specs.Io.KnownBytes.{append_known}
 use Rattle.reply_text.specs.WroteLess.{WroteLess}
 use Rattle.space_plan.specs.Lines.{plan_text}

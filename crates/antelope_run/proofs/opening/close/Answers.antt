@@ -1,4 +1,4 @@
-use Rattle.std.proofs.Common.{◌≡◌, ◌&&◌, not, ◌∙◌}
+use Rattle.std.proofs.Common.{◌&&◌, not, ◌∙◌}
 use Rattle.std.specs.Prelude.{IsTrue}
 use Rattle.antelope_run.proofs.Bare.{lacked}
 use Rattle.antelope_run.proofs.opening.close.Goals as goal

@@ -1,7 +1,7 @@
-use Rattle.std.proofs.Common.{◌≡◌, inr, ◌≤◌, ◌+◌, ◌*◌, ◌/◌, ap, subst, sym, ◌∙◌, true, arith}
+use Rattle.std.proofs.Common.{inr, ap, subst, ◌∙◌}
 use Rattle.stored.specs.Base.{base_of}
 use Rattle.stored.specs.Sound.{BreaksFirst, IsSoundTable}
-use Rattle.sound_image.specs.Images.{base, files_in}
+use Rattle.sound_image.specs.Images.{base}
 use Rattle.antelope_run.proofs.Opened.{opened_within}
 use Rattle.antelope_run.proofs.opening.open.Goals as goal
 

@@ -1,4 +1,4 @@
-use Rattle.std.proofs.Common.{◌≡◌, ◌<◌, ◌+◌, ◌-◌, ◌*◌, ◌∙◌, suc, ap, sym, drop, get_or, length, rules, arith}
+use Rattle.std.proofs.Common.{◌<◌, ◌∙◌, suc, ap, sym, drop, get_or, length, rules, arith}
 use Rattle.std.proofs.Math.Seq.{drop-cons}
 use Rattle.std.proofs.lemmas.Bool.Decides.{nat_tests}
 use Rattle.antelope_run.specs.Words.{value_from}

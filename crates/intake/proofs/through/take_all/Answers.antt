@@ -1,5 +1,5 @@
-use Rattle.std.proofs.Common.{◌≡◌, ◌<◌, ◌+◌, [], ◌∷◌, ◌++◌, length, take, drop, get_or, sym, ap, subst, ◌∙◌, arith, rules, ℕ, List}
-use Rattle.std.proofs.lemmas.List.{take_more, take-append-drop, append_assoc}
+use Rattle.std.proofs.Common.{◌<◌, ◌+◌, [], ◌∷◌, ◌++◌, length, take, drop, get_or, sym, ap, subst, ◌∙◌, arith, rules}
+use Rattle.std.proofs.lemmas.List.{take_more, take-append-drop}
 use Rattle.intake.specs.Through.{out_of}
 use Rattle.intake.proofs.through.take_all.Goals as goal
 
@@ -10,7 +10,7 @@ loop-byte-preserved g c =
     let within : l.byte-index < length c.args.bytes.now = omega arith in
     record {
       takes = subst (λ xs. g.T.Taker.Takes (c.args.taker.now, out_of (g.K.Sink.held c.args.out.now) (g.K.Sink.faults c.args.out.now)) xs (c.take.new.self, out_of (g.K.Sink.held c.take.new.out) (g.K.Sink.faults c.take.new.out))) (sym (take_more bytes l.byte-index 0 within))
-    (g.met.T.Taker.more (c.args.taker.now, out_of (g.K.Sink.held c.args.out.now) (g.K.Sink.faults c.args.out.now)) (l.taker, out_of (g.K.Sink.held l.out) (g.K.Sink.faults l.out)) (c.take.new.self, out_of (g.K.Sink.held c.take.new.out) (g.K.Sink.faults c.take.new.out)) (take l.byte-index bytes) (get_or bytes l.byte-index 0 ∷ []) l.invariant.takes c.in-Ok.ensures.takes);
+          (g.met.T.Taker.more (c.args.taker.now, out_of (g.K.Sink.held c.args.out.now) (g.K.Sink.faults c.args.out.now)) (l.taker, out_of (g.K.Sink.held l.out) (g.K.Sink.faults l.out)) (c.take.new.self, out_of (g.K.Sink.held c.take.new.out) (g.K.Sink.faults c.take.new.out)) (take l.byte-index bytes) (get_or bytes l.byte-index 0 ∷ []) l.invariant.takes c.in-Ok.ensures.takes);
       keeps = search rules;
     }
 
@@ -23,4 +23,4 @@ returns-in-Err-clause-halts g c =
     subst (λ xs. g.T.Taker.Halts (c.args.taker.now, out_of (g.K.Sink.held c.args.out.now) (g.K.Sink.faults c.args.out.now)) xs (c.take.new.self, out_of (g.K.Sink.held c.take.new.out) (g.K.Sink.faults c.take.new.out)) c.in-Err.halt)
     (ap (λ xs. xs ++ drop (l.byte-index + 1) bytes) (sym (take_more bytes l.byte-index 0 within)) ∙ take-append-drop (l.byte-index + 1) bytes)
     (g.met.T.Taker.halts_before (c.args.taker.now, out_of (g.K.Sink.held c.args.out.now) (g.K.Sink.faults c.args.out.now)) (c.take.new.self, out_of (g.K.Sink.held c.take.new.out) (g.K.Sink.faults c.take.new.out)) front (drop (l.byte-index + 1) bytes) c.in-Err.halt
-        (g.met.T.Taker.halts_behind (c.args.taker.now, out_of (g.K.Sink.held c.args.out.now) (g.K.Sink.faults c.args.out.now)) (l.taker, out_of (g.K.Sink.held l.out) (g.K.Sink.faults l.out)) (c.take.new.self, out_of (g.K.Sink.held c.take.new.out) (g.K.Sink.faults c.take.new.out)) (take l.byte-index bytes) (get_or bytes l.byte-index 0 ∷ []) c.in-Err.halt l.invariant.takes c.in-Err.ensures.halts))
+    (g.met.T.Taker.halts_behind (c.args.taker.now, out_of (g.K.Sink.held c.args.out.now) (g.K.Sink.faults c.args.out.now)) (l.taker, out_of (g.K.Sink.held l.out) (g.K.Sink.faults l.out)) (c.take.new.self, out_of (g.K.Sink.held c.take.new.out) (g.K.Sink.faults c.take.new.out)) (take l.byte-index bytes) (get_or bytes l.byte-index 0 ∷ []) c.in-Err.halt l.invariant.takes c.in-Err.ensures.halts))

@@ -1,4 +1,4 @@
-use Rattle.std.proofs.Common.{◌≡◌, List, ℕ, take}
+use Rattle.std.proofs.Common.{take}
 use Rattle.intake.specs.Through.{out_of}
 use Rattle.intake.proofs.through.take_all.Given as goal
 

@@ -1,4 +1,4 @@
-use Rattle.std.proofs.Common.{◌≡◌, ◌≤◌, ◌-◌, List, ℕ, [], length}
+use Rattle.std.proofs.Common.{◌≡◌, ◌≤◌, ◌-◌, List, ℕ, length}
 use Rattle.std.specs.Io.KnownBytes.{prepend_known}
 use Rattle.intake.specs.Through.{out_of}
 use Rattle.intake.proofs.through.take_through.Given as goal

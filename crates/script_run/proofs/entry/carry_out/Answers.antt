@@ -1,5 +1,4 @@
-use Rattle.std.proofs.Common.{◌≡◌, Ok, Err, inl, ap, subst, sym, ◌∙◌, [], ◌∷◌, refl, arith, rules}
-use Rattle.std.specs.Io.KnownBytes.{append_known}
+use Rattle.std.proofs.Common.{◌≡◌, Ok, Err, subst, sym, [], ◌∷◌, refl, arith, rules}
 use Rattle.db_model.specs.ReplyText.{refusal_text}
 use Rattle.db_model.specs.Script.{Bytes}
 use Rattle.intake.specs.declared.halt.Halt.{Halt}

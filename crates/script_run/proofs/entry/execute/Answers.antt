@@ -1,4 +1,4 @@
-use Rattle.std.proofs.Common.{◌≡◌, false, inl, inr, ap, subst, sym, ◌∙◌, [], ◌∷◌, rules}
+use Rattle.std.proofs.Common.{◌≡◌, false, ap, subst, sym, ◌∙◌, [], ◌∷◌, rules}
 use Rattle.std.specs.Io.KnownBytes.{append_known}
 use Rattle.db_model.specs.Database.{Database}
 use Rattle.db_model.specs.Script.{Bytes}
@@ -61,4 +61,3 @@ returns-in-Err-Sink-clause-halts g c = λ told read bytes is.
     let kept : s.lost ≡ false = search rules in
     let less = e.sink told (search rules) in
     command_halts_less (script_talk read) (Bytes bytes) a b (e.tells kept) c.args.command.now is (LacksPages g.V.Files.state g.V.Files.asks g.V.Files.lacks s) (e.reads told) less.1 less.0
-

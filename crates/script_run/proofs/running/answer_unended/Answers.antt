@@ -1,4 +1,4 @@
-use Rattle.std.proofs.Common.{◌≡◌, ◌<◌, inl, ap, subst, sym, ◌∙◌, length, List, ℕ, [], ◌∷◌, refl, arith, rules}
+use Rattle.std.proofs.Common.{◌≡◌, ◌<◌, subst, sym, length, List, refl, arith, rules}
 use Rattle.std.proofs.lemmas.Bool.Decides.{nat_tests}
 use Rattle.db_model.specs.declared.refusals.Refusal.TheVariants as no
 use Rattle.db_model.specs.ReplyText.{refusal_text}

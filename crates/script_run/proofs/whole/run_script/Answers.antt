@@ -1,4 +1,4 @@
-use Rattle.std.proofs.Common.{◌≡◌, ℕ, false, ap, subst, sym, ◌∙◌}
+use Rattle.std.proofs.Common.{ap, subst, ◌∙◌}
 use Rattle.antelope_engine.specs.Seen.{Seen}
 use Rattle.intake.specs.Through.{Out, out_of}
 use Rattle.answering.specs.Carried.{LacksPages, standing_of}
@@ -19,9 +19,9 @@ returns-clause-went g c = λ told read reader.
     let new : Runner g.row.V.Denot × Out = (c.take_through-taken.new.taker, out_of (g.K.Sink.held c.take_through-taken.new.out) (g.K.Sink.faults c.take_through-taken.new.out)) in
     let is = c.new-runner.ensures.session in
     let Goal : Seen g.row.V.Denot → Type 0 = λ s. Went script_line (script_talk read) (standing_of g.V.Files.state g.V.Files.reads s (g.K.Sink.held c.args.out.now))
-        (standing_of g.V.Files.state g.V.Files.reads c.take_through-taken.new.taker.session (g.K.Sink.held c.take_through-taken.new.out))
-        (g.S.Source.left c.args.script.now) (g.S.Source.left c.take_through-taken.new.input)
-        (LacksPages g.V.Files.state g.V.Files.asks g.V.Files.lacks c.take_through-taken.new.taker.session) c.take_through-taken.result in
+    (standing_of g.V.Files.state g.V.Files.reads c.take_through-taken.new.taker.session (g.K.Sink.held c.take_through-taken.new.out))
+    (g.S.Source.left c.args.script.now) (g.S.Source.left c.take_through-taken.new.input)
+    (LacksPages g.V.Files.state g.V.Files.asks g.V.Files.lacks c.take_through-taken.new.taker.session) c.take_through-taken.result in
     subst Goal is
     (went script_input files script_line script_parts seen old new (g.S.Source.left c.args.script.now) (g.S.Source.left c.take_through-taken.new.input)
     (ap (λ (s : Seen g.row.V.Denot). s.stopped) is ∙ c.requires.running) (rw is told) read reader c.new-runner.ensures.keeps

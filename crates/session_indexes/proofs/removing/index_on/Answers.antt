@@ -17,7 +17,7 @@ pub returns-in-Some-least_reader-clause-refused : goal.returns-in-Some-least_rea
 returns-in-Some-least_reader-clause-refused c = λ files cell.
     in_use files c.args.held.now c.args.opens.now c.args.relation.now c.args.attribute.now c.args.id c.args.tuples.now cell c.in-Some.place
     (sym c.place_of.ensures.place ∙ c.in-Some.is) c.in-Some-slot_of.slot (sym c.slot_of.ensures ∙ c.in-Some-slot_of.is) c.in-Some-least_reader.cursor
-    (c.least_reader.ensures files c.args.held.now ∙ c.in-Some-least_reader.is)
+    (sym (c.least_reader.ensures files) ∙ c.in-Some-least_reader.is)
 
 pub returns-in-Some-indexes-clause-stands : goal.returns-in-Some-indexes-clause-stands
 returns-in-Some-indexes-clause-stands c =
@@ -38,7 +38,7 @@ returns-in-Some-indexes-clause-stands c =
       there = there;
       relation_is = ap (λ (x : Indexed). x.relation) (some_same c.in-Some-indexes.index found.index (sym there ∙ found.there)) ∙ found.on;
       access_is = refl;
-      unread = λ files. c.least_reader.ensures files c.args.held.now ∙ c.in_default-least_reader.is;
+      unread = λ files. sym (c.least_reader.ensures files) ∙ c.in_default-least_reader.is;
     }
 
 pub returns-in-None-clause-refused : goal.returns-in-None-clause-refused

@@ -14,7 +14,7 @@ use Rattle.session_rows.proofs.packing.pack_at.Goals as goal
 
 pub returns-in-Some-clause-changed : goal.returns-in-Some-clause-changed
 returns-in-Some-clause-changed g c = λ told.
-    (is_read (g.V.Files.state c.args.files.now).files c.args.held.now c.args.opens.now c.args.k c.args.tuples.now c.in-Some.cursor (sym c.reader_of.ensures ∙ c.in-Some.is), refl)
+    (is_read (g.V.Files.state c.args.files.now).files c.args.held.now c.args.opens.now c.args.k c.args.tuples.now c.in-Some.cursor (sym (c.least_reader.ensures (g.V.Files.state c.args.files.now).files) ∙ c.in-Some.is), refl)
 
 pub indexes_of-requires-clause-short : goal.indexes_of-requires-clause-short
 indexes_of-requires-clause-short g c =
@@ -28,7 +28,7 @@ pub returns-then-not-is_empty-clause-changed : goal.returns-then-not-is_empty-cl
 returns-then-not-is_empty-clause-changed g c = λ told.
     let infos : List IndexInfo = infos_of c.args.k c.args.tuples.now c.args.held.now.indexes in
     let some = some_counted c.indexes_of.result infos c.is_empty.result c.indexes_of.ensures c.is_empty.ensures c.if-not-is_empty.true in
-    (is_indexed (g.V.Files.state c.args.files.now).files c.args.held.now c.args.opens.now c.args.k c.args.tuples.now (sym c.reader_of.ensures ∙ c.in_default.is) some, refl)
+    (is_indexed (g.V.Files.state c.args.files.now).files c.args.held.now c.args.opens.now c.args.k c.args.tuples.now (sym (c.least_reader.ensures (g.V.Files.state c.args.files.now).files) ∙ c.in_default.is) some, refl)
 
 pub pack-requires-clause-holds : goal.pack-requires-clause-holds
 pack-requires-clause-holds g c =
@@ -39,7 +39,7 @@ returns-in-Ok-clause-changed g c = λ told.
     let infos : List IndexInfo = infos_of c.args.k c.args.tuples.now c.args.held.now.indexes in
     let none = none_counted c.indexes_of.result infos c.is_empty.result c.indexes_of.ensures c.is_empty.ensures c.if-not-is_empty.false in
     is_packed (g.V.Files.state c.args.files.now).files c.args.held.now c.args.opens.now c.args.k c.args.tuples.now (g.V.Files.state c.pack.new.files).files
-    (sym c.reader_of.ensures ∙ c.in_default.is) none (c.in-Ok.ensures.rows told)
+    (sym (c.least_reader.ensures (g.V.Files.state c.args.files.now).files) ∙ c.in_default.is) none (c.in-Ok.ensures.rows told)
 
 pub returns-in-Ok-clause-goes_on : goal.returns-in-Ok-clause-goes_on
 returns-in-Ok-clause-goes_on g c =
@@ -51,7 +51,7 @@ returns-in-Ok-clause-goes_on g c =
     let none = none_counted c.indexes_of.result infos c.is_empty.result c.indexes_of.ensures c.is_empty.ensures c.if-not-is_empty.false in
     let here = relation_there old c.args.tables.now c.args.held.now c.args.opens.now c.requires.running c.args.k t c.requires.there in
     rows_dropped old new c.args.tables.now c.args.held.now c.args.opens.now c.args.k t c.requires.running c.requires.there
-    (becomes_spares old new t.file _ _ here.holds.file.live h.only) h.holds h.slots (sym c.reader_of.ensures ∙ c.in_default.is) (no_infos infos none)
+    (becomes_spares old new t.file _ _ here.holds.file.live h.only) h.holds h.slots (sym (c.least_reader.ensures (g.V.Files.state c.args.files.now).files) ∙ c.in_default.is) (no_infos infos none)
 
 pub returns-in-Err-Space-clause-changed : goal.returns-in-Err-Space-clause-changed
 returns-in-Err-Space-clause-changed g c = λ told.
@@ -61,7 +61,7 @@ returns-in-Err-Space-clause-changed g c = λ told.
     let infos : List IndexInfo = infos_of c.args.k t c.args.held.now.indexes in
     let none = none_counted c.indexes_of.result infos c.is_empty.result c.indexes_of.ensures c.is_empty.ensures c.if-not-is_empty.false in
     let kept = keeps_all old new (StaysAt t.file infos) (rw c.in-Err-Space.field-0-is at c.in-Err-Space.ensures.kept) in (
-      may_pack old.files c.args.held.now c.args.opens.now c.args.k t (sym c.reader_of.ensures ∙ c.in_default.is) none,
+      may_pack old.files c.args.held.now c.args.opens.now c.args.k t (sym (c.least_reader.ensures (g.V.Files.state c.args.files.now).files) ∙ c.in_default.is) none,
       relation_same old new c.args.tables.now c.args.held.now c.args.opens.now c.args.k t c.requires.running c.requires.there kept told,
     )
 

@@ -7,7 +7,6 @@ use Rattle.cursor.specs.Remaining.{AreOnNumbers}
 use Rattle.session_model.proofs.Readable.{are_indexes, are_numbers, are_on_numbers, are_readable}
 use Rattle.session_model.proofs.Running.{relation_there, rows_change}
 use Rattle.session_rows.proofs.Changes.{goes_on}
-use Rattle.session_rows.proofs.Readers.{reader_seen}
 use Rattle.session_rows.proofs.Refusals.{is_read, is_refused, removal, removal_keys}
 use Rattle.session_rows.proofs.Wants.{no_space}
 use Rattle.session_rows.proofs.removing.remove_at.Goals as goal
@@ -19,7 +18,7 @@ returns-in-Err-clause-changed g c = λ told.
 pub returns-in-Some-clause-changed : goal.returns-in-Some-clause-changed
 returns-in-Some-clause-changed g c = λ told. (
   is_read (condition_of c.args.condition.now) (g.V.Files.state c.args.files.now).files c.args.held.now c.args.opens.now c.args.k c.args.tuples.now c.in-Some.cursor c.in-Ok.ensures.accepted
-      (sym c.reader_of.ensures ∙ c.in-Some.is),
+      (sym (c.least_reader.ensures (g.V.Files.state c.args.files.now).files) ∙ c.in-Some.is),
   refl,
 )
 
@@ -55,7 +54,7 @@ returns-clause-changed g c = λ told.
     let tree = condition_of c.args.condition.now in
     let complete = subst (λ (l : List IndexInfo). AreIndexesOf old c.args.tables.now (rows old.files t) l) (sym c.indexes_of-indexes.ensures)
     (are_indexes old c.args.tables.now c.args.held.now c.args.opens.now c.requires.running c.args.k t c.requires.there told) in
-    removal tree old.files c.args.held.now c.args.opens.now c.args.k t new.files c.in_ok-answer.answer c.in-Ok.ensures.accepted (sym c.reader_of.ensures ∙ c.in_default.is)
+    removal tree old.files c.args.held.now c.args.opens.now c.args.k t new.files c.in_ok-answer.answer c.in-Ok.ensures.accepted (sym (c.least_reader.ensures (g.V.Files.state c.args.files.now).files) ∙ c.in_default.is)
     (c.in_ok-answer.ensures.removed told tree c.in-Ok.ensures.code complete)
 
 pub returns-clause-goes_on : goal.returns-clause-goes_on
@@ -69,7 +68,7 @@ returns-clause-goes_on g c =
     let tree = condition_of c.args.condition.now in
     let h = c.in_ok-answer.ensures in
     goes_on old new tables tables held opens c.args.k t c.requires.running
-    (rows_change old new tables held opens c.args.k t c.requires.running c.requires.there h.spared h.holds h.slots (reader_seen old.files t.schema.name 1 opens ∙ sym c.reader_of.ensures ∙ c.in_default.is)
+    (rows_change old new tables held opens c.args.k t c.requires.running c.requires.there h.spared h.holds h.slots (sym (c.least_reader.ensures old.files) ∙ c.in_default.is)
     (λ told place.
     let complete = subst (λ (l : List IndexInfo). AreIndexesOf old tables (rows old.files t) l) (sym c.indexes_of-indexes.ensures)
     (are_indexes old tables held opens c.requires.running c.args.k t c.requires.there told) in

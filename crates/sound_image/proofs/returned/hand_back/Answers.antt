@@ -1,4 +1,4 @@
-use Rattle.std.proofs.Common.{◌≡◌, ◌≤◌, ℕ, ◌*◌, List, length, None, ap, subst, sym, ◌∙◌}
+use Rattle.std.proofs.Common.{◌≤◌, subst, sym}
 use Rattle.db_model.specs.Database.{Database}
 use Rattle.space_model.specs.Enough.{most}
 use Rattle.sound_image.proofs.HandedBack.{base_back, lacks_back, small_back, sound_back}

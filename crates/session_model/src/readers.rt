@@ -5,11 +5,11 @@
 ghost use Rattle.std.specs.Prelude.{◌≡◌, ◌≤◌, List, Option, map, length, option_map};
 ghost use Rattle.afl_base.specs.Files.{Table};
 ghost use Rattle.db_model.specs.Database.{reader_from};
+ghost use Rattle.session_model.specs.Readers.{is_reader};
 ghost use Rattle.session_model.specs.View.{cursor_in};
-ghost use Rattle.session_relations.specs.Changes.{is_reader};
 
+use crate::held::Open;
 use db_model::Ident;
-use session_model::Open;
 
 /// The number of the least open cursor whose query names the relation.
 pub fn least_reader(opens: &[Option<Open>], name: &Ident) -> Option<u8>

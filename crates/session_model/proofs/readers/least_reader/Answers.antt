@@ -1,6 +1,6 @@
 use Rattle.std.proofs.Common.{sym, ◌∙◌}
-use Rattle.session_relations.proofs.LeastReader.{reader_found, reader_later, reader_none}
-use Rattle.session_relations.proofs.readers.least_reader.Goals as goal
+use Rattle.session_model.proofs.LeastReader.{reader_found, reader_later, reader_none}
+use Rattle.session_model.proofs.readers.least_reader.Goals as goal
 
 pub returns-then-is_reader : goal.returns-then-is_reader
 returns-then-is_reader c = λ files. sym (c.loop-i.invariant files
