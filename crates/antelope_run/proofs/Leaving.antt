@@ -29,7 +29,7 @@ use Rattle.antelope_run.specs.declared.words.Form.TheVariants.{Run, Gen, Plan, S
 use Rattle.antelope_run.specs.Does.{Does, Generates, OnlyTells, TellsOn, Writes}
 use Rattle.antelope_run.specs.HandedBack.{HandsBack}
 use Rattle.antelope_run.specs.Left as left
-use Rattle.antelope_run.specs.Statuses.{LineUnsaid, OnInput, Tells, TellsLess, dumped_text, nothing_yet, planned_text, summed_from}
+use Rattle.antelope_run.specs.Statuses.{LineUnsaid, OnInput, Tells, TellsLess, dumped_text, nothing_yet, planned_text, summed_from, TakesInput}
 use Rattle.antelope_run.proofs.Finished.{cut_off, ended, faulted, found_no_space, told_on, too_long, unsaid, wrote_within}
 
 -- ---- an input
@@ -189,3 +189,11 @@ module _ (a b : Standing) (image image_now : List ℕ) (before now : Option (Lis
       (subst (λ (n : ℕ). Writes a b (plan_text (planned a.database rows) n) result) many d.1))
   leaves sectors many Dump result back stays unread d =
       by_dump (unread tt) result (stays tt) (subst (λ (db : Database). Writes a b (script db) result) start d.1)
+
+-- what only tells of an image takes no input
+pub tells_alone : (form : Form) → OnlyTells form → TakesInput (Some form) → ⊥
+tells_alone Run h takes = h
+tells_alone Serve h takes = h
+tells_alone (Gen seed count) h takes = h
+tells_alone (Plan rows) h takes = takes
+tells_alone Dump h takes = takes

@@ -50,6 +50,7 @@ pub fn top<F: Flash, S: Source, K: Sink>(
     ensures flash { result.0 ≡ 4 → Rose (F.faults flash) (F.faults result.1) }
     ensures sink { result.0 ≡ 5 → Rose (K.faults out.old) (K.faults out.new) }
     ensures unread { result.0 ≡ 6 → script.new ≡ script.old }
+    ensures untouched { (TakesInput (form_of words.now) → ⊥) → script.new ≡ script.old }
     ensures at_end { result.0 ≡ 0 → TakesInput (form_of words.now) → IsAtEnd (S.left script.new) }
     ensures one_more { result.0 ≡ 8 → TookLimit (S.left script.old) (S.left script.new) }
     ensures ends { IsTrue F.tells → result.0 ≡ 0 → Ends (form_of words.now)
@@ -122,6 +123,7 @@ fn run_form<F: Flash, S: Source, K: Sink>(
         (world (F.image result.1) (S.left input.new) (K.held out.new)) result.0 }
     ensures reaches { OnOpened result.0 (λ done. ReachesBy form done (S.left input.old) (S.left input.new)) }
     ensures unread { OnUnopened result.0 (input.new ≡ input.old) }
+    ensures untouched { (TakesInput (Some form) → ⊥) → input.new ≡ input.old }
     ensures size { length (F.image result.1) ≡ length (F.image flash) }
     ensures reads { IsTrue F.tells → IsSound (F.image flash) → ReadsAtMost (Some form)
         (world (F.image flash) (S.left input.old) (K.held out.old)) (F.reads result.1 - F.reads flash) }

@@ -2,9 +2,7 @@
 
 #![tactic(auto)]
 
-ghost use Rattle.std.specs.Prelude.{◌≡◌, ◌≢◌, ◌≤◌, false, true, ℕ, Err, IfErr, IsErrOf, IsTrue, OnErr, OnOk, length};
-ghost use Rattle.std.specs.Io.KnownBytes.{append_known};
-ghost use Rattle.afl_base.specs.Causes.{Rose};
+ghost use Rattle.std.specs.Prelude.{◌≡◌, ◌≢◌, ◌≤◌, false, true, ℕ, Err, IsTrue, Some, length};
 ghost use Rattle.answering.specs.Carried.{LacksPages, standing_of};
 ghost use Rattle.answering.specs.Went.{HasRunCause};
 ghost use Rattle.db_model.specs.Sound.{IsSoundDatabase};
@@ -18,6 +16,7 @@ ghost use Rattle.space_plan.specs.Planned.{planned};
 ghost use Rattle.antelope_run.specs.declared.words.Form.TheVariants as Form;
 ghost use Rattle.antelope_run.specs.Comes.{ReachesBy};
 ghost use Rattle.antelope_run.specs.Does.{CarriedReads, Does, Generates, OnlyHalts, OnlyTells, TellsOn, Writes, halted, stopped};
+ghost use Rattle.antelope_run.specs.Statuses.{TakesInput};
 ghost use Rattle.antelope_run.specs.Words.{HasFewCommands};
 
 use crate::words::Form;
@@ -50,7 +49,7 @@ pub fn carry_out<V: Files, S: Source, K: Sink>(
         (standing_of V.state V.reads session (K.held out.old)) (S.left input.old) (V.reads result.1.files) }
     ensures same { OnlyTells form → result.0 ≢ Err (Stop.Halted Halt.Flash)
         → (V.state result.1.files).store ≡ (V.state session.files).store }
-    ensures unread { OnlyTells form → input.new ≡ input.old }
+    ensures unread { (TakesInput (Some form) → ⊥) → input.new ≡ input.old }
     ensures keeps { K.keeps out.old out.new }
     ensures cause { HasRunCause (S.faults input.old) (S.faults input.new)
         (V.faults session.files) (V.faults result.1.files) (K.faults out.old) (K.faults out.new) result.0 }

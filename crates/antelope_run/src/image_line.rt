@@ -19,5 +19,5 @@ pub fn write_image_line<K: Sink>(out: &mut K, rule: u8, place: u16) -> Result<()
     ensures keeps { K.keeps out.old out.new }
     ensures cause { HasCause (K.faults out.old) (K.faults out.new) result }
 {
-    write_counts(out, b"no image ", u32::from(rule), b" ", u32::from(place))
+    write_counts(out, b"no image ", u64::from(rule), b" ", u64::from(place))
 }

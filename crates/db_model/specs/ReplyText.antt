@@ -69,7 +69,6 @@ reason_text no.NoIndex = codes "index"
 reason_text no.NoCursor = codes "cursor"
 reason_text no.CursorOpen = codes "open"
 reason_text (no.Space need) = codes "space " ++ decimal need
-reason_text no.Unbuilt = codes "unbuilt"
 reason_text no.Frame = codes "frame"
 
 unfoldable pub refusal_text : Refusal → List ℕ
@@ -95,7 +94,6 @@ refusal_number no.NoIndex = 15
 refusal_number no.NoCursor = 16
 refusal_number no.CursorOpen = 17
 refusal_number (no.Space need) = 18
-refusal_number no.Unbuilt = 19
 refusal_number no.Frame = 20
 
 -- ---- replies

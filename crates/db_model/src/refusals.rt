@@ -62,8 +62,6 @@ pub enum Refusal {
     CursorOpen,
     /// The flash is cramped for an extent of `need` pages.
     Space { need: u16 },
-    /// The command is not built yet.
-    Unbuilt,
     /// The bytes between two ends are no frame.
     Frame,
 }

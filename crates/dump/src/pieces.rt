@@ -3,7 +3,6 @@
 #![tactic(auto, using(reply_text::proofs::Pieces::less_front, reply_text::proofs::Pieces::less_behind, reply_text::proofs::Pieces::less_third))]
 
 ghost use Rattle.std.specs.Prelude.{◌≡◌, ◌++◌, decimal, OnErr, OnOk};
-ghost use Rattle.std.specs.Fmt.{signed_decimal};
 ghost use Rattle.std.specs.Io.KnownBytes.{append_known};
 ghost use Rattle.afl_base.specs.Causes.{HasCause};
 ghost use Rattle.reply_text.specs.WroteLess.{WroteLess};
@@ -30,20 +29,6 @@ pub fn write_three<K: Sink>(
     write_all(out, first)?;
     write_all(out, second)?;
     write_all(out, third)
-}
-
-// Appends a number in decimal, with `-` before it where it is negative.
-pub fn write_signed<K: Sink>(out: &mut K, number: &i64) -> Result<(), Failed>
-    ensures written { OnOk result
-        (K.held out.new ≡ append_known (K.held out.old) (signed_decimal number.now)) }
-    ensures failed { OnErr result
-        (WroteLess (K.held out.old) (K.held out.new) (signed_decimal number.now)) }
-    ensures keeps { K.keeps out.old out.new }
-    ensures faultless { OnOk result (K.faults out.new ≡ K.faults out.old) }
-    ensures cause { HasCause (K.faults out.old) (K.faults out.new) result }
-{
-    let mut buffer = Buffer::new();
-    write_all(out, buffer.format(*number).as_bytes())
 }
 
 // Appends a number in decimal between two pieces.

@@ -10,10 +10,10 @@ ghost use Rattle.dump.specs.Parts.{comma_before};
 ghost use Rattle.dump_model.specs.Script.{values_text};
 ghost use Rattle.reply_text.specs.WroteLess.{WroteLess};
 
-use crate::pieces::{write_signed, write_three};
+use crate::pieces::write_three;
 use afl_base::{Failed, Sink};
 use db_model::{Tuple, Value};
-use reply_text::write_all;
+use reply_text::{write_all, write_signed};
 
 // Appends the values of a row with `, ` between them.
 pub fn write_values<K: Sink>(out: &mut K, tuple: &Tuple) -> Result<(), Failed>

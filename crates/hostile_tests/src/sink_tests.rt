@@ -1,7 +1,7 @@
 //! Runs in which one call of the sink fails, or its room ends.
 
 use crate::images::set;
-use crate::running::{Ended, LARGE, RUN, SMALL, call, run, status};
+use crate::running::{Ended, RUN, SMALL, call, run, status};
 use crate::scripts::{count, lines, replies, rows_after, script};
 use afl_sim::{MemFlash, MemSink, MemSource};
 use std::alloc::Global;

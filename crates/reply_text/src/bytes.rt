@@ -25,8 +25,8 @@ pub fn write_all<K: Sink>(out: &mut K, bytes: &[u8]) -> Result<(), Failed>
     Ok(())
 }
 
-// A number in decimal.
-fn write_number<K: Sink>(out: &mut K, number: u64) -> Result<(), Failed>
+/// Appends a number in decimal. `Failed` leaves a proper prefix of it there.
+pub fn write_number<K: Sink>(out: &mut K, number: u64) -> Result<(), Failed>
     ensures written { OnOk result
         (K.held out.new ≡ append_known (K.held out.old) (decimal number)) }
     ensures failed { OnErr result (WroteLess (K.held out.old) (K.held out.new) (decimal number)) }
@@ -38,7 +38,8 @@ fn write_number<K: Sink>(out: &mut K, number: u64) -> Result<(), Failed>
     write_all(out, buffer.format(number).as_bytes())
 }
 
-// A number in decimal, with `-` before it where it is negative.
+/// Appends a number in decimal, with `-` before it where it is negative. `Failed` leaves a proper prefix of
+/// it there.
 pub fn write_signed<K: Sink>(out: &mut K, number: &i64) -> Result<(), Failed>
     ensures written { OnOk result
         (K.held out.new ≡ append_known (K.held out.old) (signed_decimal number.now)) }
@@ -50,6 +51,20 @@ pub fn write_signed<K: Sink>(out: &mut K, number: &i64) -> Result<(), Failed>
 {
     let mut buffer = Buffer::new();
     write_all(out, buffer.format(*number).as_bytes())
+}
+
+/// Appends words and a number in decimal. `Failed` leaves a proper prefix of both there.
+pub fn write_count<K: Sink>(out: &mut K, words: &[u8], count: u64) -> Result<(), Failed>
+    ensures written { OnOk result
+        (K.held out.new ≡ append_known (K.held out.old) (words.now ++ decimal count)) }
+    ensures failed { OnErr result
+        (WroteLess (K.held out.old) (K.held out.new) (words.now ++ decimal count)) }
+    ensures keeps { K.keeps out.old out.new }
+    ensures faultless { OnOk result (K.faults out.new ≡ K.faults out.old) }
+    ensures cause { HasCause (K.faults out.old) (K.faults out.new) result }
+{
+    write_all(out, words)?;
+    write_number(out, count)
 }
 
 // A line of these words.

@@ -38,7 +38,6 @@ pub fn write_refusal<K: Sink>(out: &mut K, refusal: &Refusal) -> Result<(), Fail
         Refusal::NoCursor => write_line(out, b"no cursor"),
         Refusal::CursorOpen => write_line(out, b"no open"),
         Refusal::Space { need } => write_line_with(out, b"no space ", u64::from(*need)),
-        Refusal::Unbuilt => write_line(out, b"no unbuilt"),
         Refusal::Frame => write_line(out, b"no frame"),
     }
 }

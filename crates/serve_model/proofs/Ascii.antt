@@ -142,7 +142,6 @@ ascii_reason no.NoIndex = refl
 ascii_reason no.NoCursor = refl
 ascii_reason no.CursorOpen = refl
 ascii_reason (no.Space need) = ascii_decimal need
-ascii_reason no.Unbuilt = refl
 ascii_reason no.Frame = refl
 
 ascii_refusal : (r : Refusal) → AreAscii (refusal_text r)

@@ -44,7 +44,7 @@ first_fit_rises (suc t) p a b h = by_tests (nat_le (a + 32) (256 * p)) (nat_le (
     by_tests false true e h k = let no : false ≡ true = e refl in cc
     by_tests false false e h k = k
 
-fit_rises : (a b : ℕ) → a ≤ b → fit a ≤ fit b
+pub fit_rises : (a b : ℕ) → a ≤ b → fit a ≤ fit b
 unfolding fit
 fit_rises a b h = first_fit_rises 11 16 a b h
 

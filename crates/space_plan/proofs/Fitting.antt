@@ -6,27 +6,8 @@ use Rattle.std.proofs.lemmas.Bool.{cases_lt}
 use Rattle.afl_base.specs.Fit.{fit, first_fit}
 use Rattle.afl_base.proofs.FitLaws.{fit_here, fit_more}
 use Rattle.db_model.specs.Cost.{sum}
+use Rattle.space_model.proofs.WantsMost.{fit_rises}
 use Rattle.space_model.specs.Enough.{enough_for, largest, touched}
-
--- ---- pages
-
-pages_least : (t p s : ℕ) → p ≤ first_fit t p s
-pages_least zero p s = omega arith
-pages_least (suc t) p s = ⊎_elim
-    (λ (short : 256 * p < s + 32). let more = pages_least t (2 * p) s in rw (fit_more t p s short) (omega (arith, more)))
-    (λ (holds : s + 32 ≤ 256 * p). rw (fit_here (suc t) p s holds) (omega arith))
-    (cases_lt (256 * p) (s + 32))
-
-pages_rise : (t p a b : ℕ) → a ≤ b → first_fit t p a ≤ first_fit t p b
-pages_rise zero p a b h = omega arith
-pages_rise (suc t) p a b h = ⊎_elim
-    (λ (short : 256 * p < a + 32). rw (fit_more t p a short, fit_more t p b (omega (arith, short, h))) (pages_rise t (2 * p) a b h))
-    (λ (holds : a + 32 ≤ 256 * p). rw (fit_here (suc t) p a holds) (pages_least (suc t) p b))
-    (cases_lt (256 * p) (a + 32))
-
-pub fit_rises : (a b : ℕ) → a ≤ b → fit a ≤ fit b
-unfolding fit
-fit_rises a b h = pages_rise 11 16 a b h
 
 -- ---- the largest extent
 

@@ -10,30 +10,15 @@ ghost use Rattle.reply_text.specs.WroteLess.{WroteLess};
 ghost use Rattle.space_plan.specs.Lines.{plan_text};
 
 use afl_base::{Failed, Sink};
-use itoa::Buffer;
-use reply_text::write_all;
-
-// Words, and a number in decimal.
-fn write_count<K: Sink>(out: &mut K, words: &[u8], count: u32) -> Result<(), Failed>
-    ensures written { OnOk result
-        (K.held out.new ≡ append_known (K.held out.old) (words.now ++ decimal count)) }
-    ensures failed { OnErr result
-        (WroteLess (K.held out.old) (K.held out.new) (words.now ++ decimal count)) }
-    ensures keeps { K.keeps out.old out.new }
-    ensures faultless { OnOk result (K.faults out.new ≡ K.faults out.old) }
-    ensures cause { HasCause (K.faults out.old) (K.faults out.new) result }
-{
-    write_all(out, words)?;
-    write_all(out, Buffer::new().format(count).as_bytes())
-}
+use reply_text::{write_all, write_count};
 
 /// Appends a line of words and a number, and others behind. `Failed` leaves a proper prefix of it there.
 pub fn write_counts<K: Sink>(
     out: &mut K,
     words: &[u8],
-    count: u32,
+    count: u64,
     next_words: &[u8],
-    next_count: u32,
+    next_count: u64,
 ) -> Result<(), Failed>
     ensures written { OnOk result (K.held out.new ≡ append_known (K.held out.old)
         (line (words.now ++ decimal count ++ (next_words.now ++ decimal next_count)))) }
@@ -61,8 +46,8 @@ pub fn write_plan<K: Sink>(out: &mut K, needed: u32, present: u16) -> Result<(),
     write_counts(
         out,
         b"sectors needed ",
-        needed,
+        u64::from(needed),
         b" present ",
-        u32::from(present),
+        u64::from(present),
     )
 }

@@ -13,8 +13,7 @@ ghost use Rattle.reply_text.specs.WroteLess.{WroteLess};
 use crate::tally::Tally;
 use afl_base::{Failed, Sink};
 use db_model::Refusal;
-use itoa::Buffer;
-use reply_text::{write_all, write_refusal};
+use reply_text::{write_all, write_count, write_refusal};
 
 /// Appends the line `commands C ok A rows B refused D`. `Failed` leaves a proper prefix of it there.
 #[tactic(auto, using(crate::proofs::Lines::first_less, crate::proofs::Lines::second_less, crate::proofs::Lines::end_less))]
@@ -78,19 +77,4 @@ fn write_counts<K: Sink>(
 {
     write_count(out, words, count)?;
     write_count(out, more_words, more_count)
-}
-
-// A number in decimal behind its words.
-fn write_count<K: Sink>(out: &mut K, words: &[u8], count: u64) -> Result<(), Failed>
-    ensures written { OnOk result
-        (K.held out.new ≡ append_known (K.held out.old) (words.now ++ decimal count)) }
-    ensures failed { OnErr result
-        (WroteLess (K.held out.old) (K.held out.new) (words.now ++ decimal count)) }
-    ensures keeps { K.keeps out.old out.new }
-    ensures faultless { OnOk result (K.faults out.new ≡ K.faults out.old) }
-    ensures cause { HasCause (K.faults out.old) (K.faults out.new) result }
-{
-    write_all(out, words)?;
-    let mut buffer = Buffer::new();
-    write_all(out, buffer.format(count).as_bytes())
 }

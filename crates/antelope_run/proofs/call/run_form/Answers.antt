@@ -4,7 +4,7 @@ use Rattle.intake.specs.declared.halt.Halt.TheVariants.{Flash, Sink}
 use Rattle.intake.specs.declared.halt.Stop.TheVariants.{Input, Halted}
 use Rattle.sound_image.specs.Images.{base, files_in}
 use Rattle.sound_image.proofs.Judged.{sound_unbroken}
-use Rattle.antelope_run.proofs.Leaving.{leaves}
+use Rattle.antelope_run.proofs.Leaving.{leaves, tells_alone}
 use Rattle.run_model.specs.Runs.{world}
 use Rattle.antelope_run.proofs.ReadsLeft.{not_true, reads_by, unopened_reads}
 use Rattle.antelope_run.proofs.Refusals.{none_opened, on_unopened, refused_cause, refused_comes}
@@ -27,7 +27,7 @@ returns-in-Ok-clause-comes g c = λ told.
           c.sectors-sectors.result many c.args.form c.carry_out-done.result.0
           (λ tells_now other. c.close.ensures.back tells_now (not_true _ c.carry_out-done.result.1.lost (c.carry_out-done.ensures.lost kept) other))
           (λ only other. c.close.ensures.image ∙ c.carry_out-done.ensures.same only other ∙ opened.same)
-          (λ only. ap g.S.Source.left (c.carry_out-done.ensures.unread only))
+          (λ only. ap g.S.Source.left (c.carry_out-done.ensures.unread (tells_alone c.args.form only)))
           (c.carry_out-done.ensures.does tells kept database),
     )
 

@@ -72,3 +72,9 @@ returns-in-Plan-clause-reaches g c =
 pub returns-in-Dump-clause-reaches : goal.returns-in-Dump-clause-reaches
 returns-in-Dump-clause-reaches g c =
     reaches_none c.args.form (g.S.Source.left c.args.input.now) (g.S.Source.left c.args.input.now) (λ takes. (rw c.in-Dump.is at takes)) c.dump_all.result.0 c.dump_all.ensures.halts
+
+pub returns-in-Run-clause-unread : goal.returns-in-Run-clause-unread
+returns-in-Run-clause-unread g c = λ none. absurd ((rw c.in-Run.is at none) tt)
+
+pub returns-in-Serve-clause-unread : goal.returns-in-Serve-clause-unread
+returns-in-Serve-clause-unread g c = λ none. absurd ((rw c.in-Serve.is at none) tt)

@@ -1,0 +1,68 @@
+//! Laws on runs. Each function does nothing: its contract is the law.
+
+#![tactic(auto)]
+
+ghost use Rattle.std.specs.Prelude.{◌≡◌, ◌≤◌, ◌/◌, ℕ, List, length, Some, Result};
+ghost use Rattle.antelope_run.specs.declared.words.Form.TheVariants.{Run};
+ghost use Rattle.antelope_run.specs.Statuses.{Ends, HasSpace};
+ghost use Rattle.db_model.specs.declared.commands.Command.{Command};
+ghost use Rattle.db_model.specs.declared.refusals.Refusal.{Refusal};
+ghost use Rattle.db_model.specs.Database.{Database, empty_database};
+ghost use Rattle.db_model.specs.Reading.{IsReader};
+ghost use Rattle.db_model.specs.Script.{commands};
+ghost use Rattle.db_model.specs.Sound.{IsSoundDatabase};
+ghost use Rattle.dump_model.specs.Script.{script};
+ghost use Rattle.run_laws.specs.Remaking.{Remakes};
+ghost use Rattle.run_model.specs.Runs.{InputFoundNoSpace, World};
+ghost use Rattle.run_model.specs.Scripts.{script_line, script_talk};
+ghost use Rattle.serve_model.specs.Frames.{frame_line};
+ghost use Rattle.serve_model.specs.Served.{serve_talk};
+ghost use Rattle.sound_image.specs.Images.{IsSound, base};
+ghost use Rattle.space_plan.specs.Growth.{KeepsToPlan, commands_of};
+ghost use Rattle.space_plan.specs.Planned.{planned};
+
+use dump_model::scripts_make_their_database;
+use run_model::{scripts_are_answered_in_order, scripts_come_in_parts};
+use serve_model::frames_come_in_parts;
+use space_plan::planned_flash_has_enough;
+use stored::sound_files_are_a_sound_database;
+
+/// A run of the script of a sound database over an image without relations, as an erased flash has, which
+/// ends with status 0, leaves an image that stands for the packed database.
+pub fn dumped_scripts_make_their_image()
+    ensures { (read : List ℕ → Result Command Refusal) → IsReader read
+        → (db : Database) (old new : World) → IsSoundDatabase db → old.left ≡ Some (script db)
+        → base old.image ≡ empty_database → Ends (Some Run) old new → Remakes db old new }
+{
+    scripts_make_their_database();
+    scripts_are_answered_in_order();
+}
+
+/// A script whose commands insert and read, and bring at most n rows to each relation, finds enough space
+/// on a sound image with the sectors that were planned for n rows: its run never ends with status 3.
+pub fn planned_runs_find_space()
+    ensures { (read : List ℕ → Result Command Refusal) → IsReader read
+        → (n : ℕ) (old : World) (text : List ℕ) → IsSound old.image → old.left ≡ Some text
+        → KeepsToPlan n (base old.image) (commands_of read (commands text))
+        → planned (base old.image) n ≤ length old.image / 4096 → HasSpace (Some Run) old }
+{
+    planned_flash_has_enough();
+    scripts_are_answered_in_order();
+    sound_files_are_a_sound_database();
+}
+
+/// Where the bytes of the sink are known, what was written tells at which entry a run found no space: which
+/// entries were carried out.
+pub fn one_place_finds_no_space()
+    ensures scripts { (read : List ℕ → Result Command Refusal) (old new : World) (text held : List ℕ)
+        → old.left ≡ Some text → old.held ≡ Some held
+        → (a b : InputFoundNoSpace script_line (script_talk read) old new)
+        → a.found.front ≡ b.found.front }
+    ensures served { (read : List ℕ → Result Command Refusal) (old new : World) (text held : List ℕ)
+        → old.left ≡ Some text → old.held ≡ Some held
+        → (a b : InputFoundNoSpace frame_line (serve_talk read) old new)
+        → a.found.front ≡ b.found.front }
+{
+    scripts_come_in_parts();
+    frames_come_in_parts();
+}

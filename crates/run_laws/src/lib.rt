@@ -1,0 +1,8 @@
+//! Laws on what a run leaves behind: what the statuses of `top` of `antelope_run` come to.
+#![tactic(auto)]
+
+mod laws;
+
+pub use laws::{
+    dumped_scripts_make_their_image, one_place_finds_no_space, planned_runs_find_space,
+};
