@@ -16,34 +16,10 @@ use Rattle.run_model.specs.Line.{ComesInParts, Cut, Line}
 use Rattle.run_model.specs.Runs.{AreEntries, FoundNoSpace, InputFoundNoSpace, World, machine_from}
 use Rattle.run_model.specs.Scripts.{script_talk}
 use Rattle.run_model.specs.Talk.{Talk, answered, last, output}
+use Rattle.run_model.proofs.Beginnings.{begins, head_of, tail_of}
 use Rattle.run_model.proofs.Talks.{output-append}
 use Rattle.serve_model.specs.Served.{serve_talk}
 use Rattle.sound_image.specs.Images.{base}
-
-head_of : {X : Type 0} → X → List X → X
-head_of d [] = d
-head_of d (x ∷ xs) = x
-
-tail_of : {X : Type 0} → List X → List X
-tail_of [] = []
-tail_of (x ∷ xs) = xs
-
--- ---- two fronts of one list
-
--- the shorter one and the next item begin the longer one
-record Begins {X : Type 0} (xs ys : List X) (x : X) : Type 0 where
-  mid : List X
-  is : ys ≡ (xs ++ x ∷ []) ++ mid
-
-begins : {X : Type 0} (xs ys : List X) (x y : X) (us vs : List X) → xs ++ x ∷ us ≡ ys ++ y ∷ vs → length xs < length ys → Begins xs ys x
-unfolding head_of tail_of
-begins [] [] x y us vs same less = absurd (omega (arith, less))
-begins [] (b ∷ ys) x y us vs same less = record { mid = ys; is = ap (λ h. h ∷ ys) (sym (ap (head_of x) same)) }
-begins (a ∷ xs) [] x y us vs same less = absurd (omega (arith, less))
-begins (a ∷ xs) (b ∷ ys) x y us vs same less = more (begins xs ys x y us vs (ap tail_of same) (omega (arith, less)))
-  where
-    more : Begins xs ys x → Begins (a ∷ xs) (b ∷ ys) x
-    more r = record { mid = r.mid; is = ap (λ h. h ∷ ys) (sym (ap (head_of a) same)) ∙ ap (λ t. a ∷ t) r.is }
 
 -- those of one length are the same
 same_fronts : {X : Type 0} (xs ys us vs : List X) → xs ++ us ≡ ys ++ vs → length xs ≡ length ys → xs ≡ ys
