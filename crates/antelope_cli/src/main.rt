@@ -101,7 +101,8 @@ fn words<R: Env + AllocGlobal>(rt: &R) -> Result<Vec<String>, Failure> {
     Ok(words)
 }
 
-// The status of words of no form, which name no image.
+// The status of words of no form, which name no image. What it keeps on the stack is of no other run.
+#[inline(never)]
 fn refuse<K: Sink>(words: &[String], out: &mut K) -> Result<u8, Failure> {
     let mut erased = [0u8; 16384];
     let Some(flash) = MemFlash::new(&mut erased) else {
@@ -115,6 +116,7 @@ fn nothing() -> MemSource<'static> {
     MemSource::new(b"", None)
 }
 
+#[inline(never)]
 fn status<F, S, K>(words: &[String], script: &mut S, out: &mut K, flash: F) -> u8
 where
     F: Flash + Drop,

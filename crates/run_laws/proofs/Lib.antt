@@ -1,3 +1,4 @@
 pub mod Opening
 pub mod Planned
+pub mod Remade
 pub mod Spaceless

@@ -15,34 +15,11 @@ use Rattle.run_laws.proofs.Opening.{apart}
 use Rattle.run_model.specs.Line.{ComesInParts, Cut, Line}
 use Rattle.run_model.specs.Runs.{AreEntries, FoundNoSpace, InputFoundNoSpace, World, machine_from}
 use Rattle.run_model.specs.Scripts.{script_talk}
-use Rattle.run_model.specs.Talk.{Talk, after, answered, last, output}
+use Rattle.run_model.specs.Talk.{Talk, answered, last, output}
+use Rattle.run_model.proofs.Beginnings.{begins, head_of, tail_of}
+use Rattle.run_model.proofs.Talks.{output-append}
 use Rattle.serve_model.specs.Served.{serve_talk}
 use Rattle.sound_image.specs.Images.{base}
-
-head_of : {X : Type 0} → X → List X → X
-head_of d [] = d
-head_of d (x ∷ xs) = x
-
-tail_of : {X : Type 0} → List X → List X
-tail_of [] = []
-tail_of (x ∷ xs) = xs
-
--- ---- two fronts of one list
-
--- the shorter one and the next item begin the longer one
-record Begins {X : Type 0} (xs ys : List X) (x : X) : Type 0 where
-  mid : List X
-  is : ys ≡ (xs ++ x ∷ []) ++ mid
-
-begins : {X : Type 0} (xs ys : List X) (x y : X) (us vs : List X) → xs ++ x ∷ us ≡ ys ++ y ∷ vs → length xs < length ys → Begins xs ys x
-unfolding head_of tail_of
-begins [] [] x y us vs same less = absurd (omega (arith, less))
-begins [] (b ∷ ys) x y us vs same less = record { mid = ys; is = ap (λ h. h ∷ ys) (sym (ap (head_of x) same)) }
-begins (a ∷ xs) [] x y us vs same less = absurd (omega (arith, less))
-begins (a ∷ xs) (b ∷ ys) x y us vs same less = more (begins xs ys x y us vs (ap tail_of same) (omega (arith, less)))
-  where
-    more : Begins xs ys x → Begins (a ∷ xs) (b ∷ ys) x
-    more r = record { mid = r.mid; is = ap (λ h. h ∷ ys) (sym (ap (head_of a) same)) ∙ ap (λ t. a ∷ t) r.is }
 
 -- those of one length are the same
 same_fronts : {X : Type 0} (xs ys us vs : List X) → xs ++ us ≡ ys ++ vs → length xs ≡ length ys → xs ≡ ys
@@ -64,13 +41,6 @@ TellsApart {E = E} talk = (entry : E) (reply : Reply) (n : ℕ) (us : List ℕ) 
     → talk.sent entry (text reply) ++ us ≡ talk.sent entry (refusal_text (no.Space n)) → ⊥
 
 module _ {E : Type 0} (talk : Talk E) where
-  output-append : (db : Database) (xs ys : List E) → output talk db (xs ++ ys) ≡ output talk db xs ++ output talk (last talk db xs) ys
-  output-append db [] ys = refl
-  output-append db (x ∷ xs) ys =
-      let now : List ℕ = talk.sent x (text ((after talk db x).1)) in
-      ap (λ rest. now ++ rest) (output-append ((after talk db x).0) xs ys)
-      ∙ sym (append_assoc now (output talk ((after talk db x).0) xs) (output talk (last talk ((after talk db x).0) xs) ys))
-
   -- what is written for more entries than a front and the next, a command
   longer : (db : Database) (front mid : List E) (entry : E) (command : Command) (tail : List ℕ) → talk.heard entry ≡ Ok command
       → (rest : List ℕ) × (output talk db ((front ++ entry ∷ []) ++ mid) ++ tail ≡ output talk db front ++ (talk.sent entry (text ((step (last talk db front) command).1)) ++ rest))
@@ -80,8 +50,8 @@ module _ {E : Type 0} (talk : Talk E) where
       let one : output talk (last talk db front) (entry ∷ []) ≡ sent =
       ap (λ heard. talk.sent entry (text ((answered (last talk db front) heard).1)) ++ []) asks ∙ append-nil sent in
       let split : output talk db ((front ++ entry ∷ []) ++ mid) ≡ (output talk db front ++ sent) ++ more =
-      output-append db (front ++ entry ∷ []) mid
-      ∙ ap (λ bytes. bytes ++ more) (output-append db front (entry ∷ []) ∙ ap (λ bytes. output talk db front ++ bytes) one) in (
+      output-append talk db (front ++ entry ∷ []) mid
+      ∙ ap (λ bytes. bytes ++ more) (output-append talk db front (entry ∷ []) ∙ ap (λ bytes. output talk db front ++ bytes) one) in (
         more ++ tail,
         ap (λ bytes. bytes ++ tail) split
             ∙ append_assoc (output talk db front ++ sent) more tail

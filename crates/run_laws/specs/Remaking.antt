@@ -1,6 +1,8 @@
 -- What the script of a database leaves behind, on an image without relations.
-use Rattle.std.specs.Prelude.{◌≡◌, flat_map}
+use Rattle.std.specs.Prelude.{◌≡◌, ℕ, ◌*◌, [], flat_map, replicate, Some}
 use Rattle.std.specs.Io.KnownBytes.{append_known}
+use Rattle.antelope_run.specs.declared.words.Form.TheVariants.{Dump, Run}
+use Rattle.antelope_run.specs.Statuses.{Ends}
 use Rattle.db_model.specs.Database.{Database}
 use Rattle.db_model.specs.ReplyText.{ok_text}
 use Rattle.dump_model.specs.Packed.{packed}
@@ -13,3 +15,15 @@ pub record Remakes (db : Database) (old new : World) : Type 0 where
   pub sound : IsSound new.image
   pub base_is : base new.image ≡ packed db
   pub written : new.held ≡ append_known old.held (flat_map (λ _. ok_text) (script_commands db))
+
+-- a dump into an empty sink ended with status 0
+pub record Dumps (old new : World) : Type 0 where
+  pub empty : old.held ≡ Some []
+  pub ends : Ends (Some Dump) old new
+
+-- and so did a run of what it wrote, over an erased flash
+pub record RunsDump (sectors : ℕ) (dumped told old new : World) : Type 0 where
+  pub dumps : Dumps dumped told
+  pub input : old.left ≡ told.held
+  pub erased : old.image ≡ replicate (4096 * sectors) 0
+  pub ends : Ends (Some Run) old new

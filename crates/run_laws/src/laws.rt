@@ -12,7 +12,7 @@ ghost use Rattle.db_model.specs.Reading.{IsReader};
 ghost use Rattle.db_model.specs.Script.{commands};
 ghost use Rattle.db_model.specs.Sound.{IsSoundDatabase};
 ghost use Rattle.dump_model.specs.Script.{script};
-ghost use Rattle.run_laws.specs.Remaking.{Remakes};
+ghost use Rattle.run_laws.specs.Remaking.{Dumps, Remakes, RunsDump};
 ghost use Rattle.run_model.specs.Runs.{InputFoundNoSpace, World};
 ghost use Rattle.run_model.specs.Scripts.{script_line, script_talk};
 ghost use Rattle.serve_model.specs.Frames.{frame_line};
@@ -21,9 +21,10 @@ ghost use Rattle.sound_image.specs.Images.{IsSound, base};
 ghost use Rattle.space_plan.specs.Growth.{KeepsToPlan, commands_of};
 ghost use Rattle.space_plan.specs.Planned.{planned};
 
-use dump_model::scripts_make_their_database;
+use dump_model::{packed_databases_have_the_same_script, scripts_make_their_database};
 use run_model::{scripts_are_answered_in_order, scripts_come_in_parts};
 use serve_model::frames_come_in_parts;
+use sound_image::erased_image_is_sound;
 use space_plan::planned_flash_has_enough;
 use stored::sound_files_are_a_sound_database;
 
@@ -38,8 +39,25 @@ pub fn dumped_scripts_make_their_image()
     scripts_are_answered_in_order();
 }
 
+/// What a dump wrote, run over an erased flash up to status 0, makes the packed database of the dumped
+/// one, and a dump of the image that it leaves writes the same again.
+pub fn dumps_are_made_again()
+    ensures packed { (read : List ℕ → Result Command Refusal) → IsReader read
+        → (sectors : ℕ) (dumped told old new : World) → RunsDump sectors dumped told old new
+        → Remakes (base dumped.image) old new }
+    ensures same { (read : List ℕ → Result Command Refusal) → IsReader read
+        → (sectors : ℕ) (dumped told old new next again : World) → RunsDump sectors dumped told old new
+        → next.image ≡ new.image → Dumps next again → again.held ≡ told.held }
+{
+    dumped_scripts_make_their_image();
+    erased_image_is_sound();
+    packed_databases_have_the_same_script();
+    sound_files_are_a_sound_database();
+}
+
 /// A script whose commands insert and read, and bring at most n rows to each relation, finds enough space
-/// on a sound image with the sectors that were planned for n rows: its run never ends with status 3.
+/// on a sound image with the sectors that were planned for n rows. So by the contract of `top` its run does
+/// not end with status 3.
 pub fn planned_runs_find_space()
     ensures { (read : List ℕ → Result Command Refusal) → IsReader read
         → (n : ℕ) (old : World) (text : List ℕ) → IsSound old.image → old.left ≡ Some text
@@ -51,8 +69,8 @@ pub fn planned_runs_find_space()
     sound_files_are_a_sound_database();
 }
 
-/// Where the bytes of the sink are known, what was written tells at which entry a run found no space: which
-/// entries were carried out.
+/// Where the bytes of the input and of the sink are known, what was written tells at which entry a run found
+/// no space: which entries were carried out.
 pub fn one_place_finds_no_space()
     ensures scripts { (read : List ℕ → Result Command Refusal) (old new : World) (text held : List ℕ)
         → old.left ≡ Some text → old.held ≡ Some held

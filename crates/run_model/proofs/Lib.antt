@@ -1,3 +1,4 @@
+pub mod Beginnings
 pub mod Cutting
 pub mod Fronts
 pub mod Parts

@@ -4,32 +4,10 @@ use Rattle.std.specs.Io.KnownBytes.{append_known}
 use Rattle.std.proofs.lemmas.Bool.{cases_lt}
 use Rattle.std.proofs.lemmas.List.{length-append}
 use Rattle.db_model.specs.Database.{Database}
+use Rattle.run_model.proofs.Beginnings.{Begins, begins}
 use Rattle.run_model.specs.Runs.{ReplyUnsaid, World, machine_from}
 use Rattle.run_model.specs.Talk.{Talk, last, output}
 use Rattle.run_model.proofs.Talks.{output-append}
-
-head_of : {X : Type 0} → X → List X → X
-head_of d [] = d
-head_of d (x ∷ xs) = x
-
-tail_of : {X : Type 0} → List X → List X
-tail_of [] = []
-tail_of (x ∷ xs) = xs
-
--- of two fronts of a list the shorter one and the next item begin the longer one
-record Begins {X : Type 0} (xs ys : List X) (x : X) : Type 0 where
-  mid : List X
-  is : ys ≡ (xs ++ x ∷ []) ++ mid
-
-begins : {X : Type 0} (xs ys : List X) (x y : X) (us vs : List X) → xs ++ x ∷ us ≡ ys ++ y ∷ vs → length xs < length ys → Begins xs ys x
-unfolding head_of tail_of
-begins [] [] x y us vs same less = absurd (omega (arith, less))
-begins [] (b ∷ ys) x y us vs same less = record { mid = ys; is = ap (λ h. h ∷ ys) (sym (ap (head_of x) same)) }
-begins (a ∷ xs) [] x y us vs same less = absurd (omega (arith, less))
-begins (a ∷ xs) (b ∷ ys) x y us vs same less = more (begins xs ys x y us vs (ap tail_of same) (omega (arith, less)))
-  where
-    more : Begins xs ys x → Begins (a ∷ xs) (b ∷ ys) x
-    more r = record { mid = r.mid; is = ap (λ h. h ∷ ys) (sym (ap (head_of a) same)) ∙ ap (λ t. a ∷ t) r.is }
 
 length_in : Option (List ℕ) → ℕ
 length_in None = 0
