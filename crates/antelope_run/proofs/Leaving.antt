@@ -1,5 +1,5 @@
 -- From what a session did to what a run leaves behind, by the form of its words.
-use Rattle.std.proofs.Common.{◌≡◌, ◌≢◌, ◌⊎◌, inl, inr, ℕ, ◌/◌, List, [], ◌++◌, length, Option, refl, ap, subst, ◌∙◌}
+use Rattle.std.proofs.Common.{◌≡◌, ◌≢◌, ◌⊎◌, inl, inr, ℕ, ◌/◌, List, [], ◌++◌, length, Option, Some, refl, ap, subst, ◌∙◌}
 use Rattle.std.specs.Prelude.{⊤, IsTrue, Result, Ok, Err}
 use Rattle.std.specs.Io.KnownBytes.{append_known}
 use Rattle.db_model.specs.declared.commands.Command.{Command}
