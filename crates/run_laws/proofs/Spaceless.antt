@@ -16,12 +16,20 @@ use Rattle.run_model.specs.Line.{ComesInParts, Cut, Line}
 use Rattle.run_model.specs.Runs.{AreEntries, FoundNoSpace, InputFoundNoSpace, World, machine_from}
 use Rattle.run_model.specs.Scripts.{script_talk}
 use Rattle.run_model.specs.Talk.{Talk, answered, last, output}
-use Rattle.run_model.proofs.Beginnings.{begins, head_of, tail_of}
+use Rattle.run_model.proofs.Beginnings.{begins}
 use Rattle.run_model.proofs.Talks.{output-append}
 use Rattle.serve_model.specs.Served.{serve_talk}
 use Rattle.sound_image.specs.Images.{base}
 
--- those of one length are the same
+head_of : {X : Type 0} → X → List X → X
+head_of d [] = d
+head_of d (x ∷ xs) = x
+
+tail_of : {X : Type 0} → List X → List X
+tail_of [] = []
+tail_of (x ∷ xs) = xs
+
+-- two fronts of one list that have one length are the same
 same_fronts : {X : Type 0} (xs ys us vs : List X) → xs ++ us ≡ ys ++ vs → length xs ≡ length ys → xs ≡ ys
 unfolding head_of tail_of
 same_fronts [] [] us vs same long = refl
