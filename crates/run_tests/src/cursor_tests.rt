@@ -65,3 +65,15 @@ fn a_cursor_goes_on_while_its_tree_grows(rt: HostRuntime) -> Result<(), Fail> {
     assert!(rt; ended.is(0, replies.as_slice()));
     Ok(())
 }
+
+#[test]
+fn a_cursor_ends_with_its_run(rt: HostRuntime) -> Result<(), Fail> {
+    let mut image = erased(rt.alloc())?;
+    let opening = joined(rt.alloc(), &[TWO, "OPEN 1 SELECT k FROM s;"])?;
+    let opened = run(rt.alloc(), opening.as_slice(), image.as_mut_slice())?;
+    assert!(rt; opened.is(0, joined(rt.alloc(), &[TWO_MADE, "ok\n"])?.as_slice()));
+    let fetching = joined(rt.alloc(), &["FETCH 1; CLOSE 1; PACK s;"])?;
+    let fetched = run(rt.alloc(), fetching.as_slice(), image.as_mut_slice())?;
+    assert!(rt; fetched.is(0, b"no cursor\nno cursor\nok\n"));
+    Ok(())
+}
