@@ -11,7 +11,7 @@
 //! - 7: the image as it was found; where there was none, there is none.
 //! - 1, 9: what was there; no file was opened.
 //!
-//! At 0 to 5, and at 8, an image that was not there was made.
+//! At 0, 2 to 5 and 8 an image that was not there was made.
 #![tactic(auto)]
 
 mod failure;
