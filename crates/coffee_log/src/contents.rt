@@ -1,4 +1,4 @@
-ghost use Rattle.std.specs.Prelude.{◌≡◌, ℕ, ◌+◌, ◌-◌, ◌*◌, ◌/◌, ◌%◌, ◌≤◌, ◌<◌, min, true, false, length, slice_index, Option, None, Some, IsTrue, IfOk, OnOk};
+ghost use Rattle.std.specs.Prelude.{◌≡◌, ◌≢◌, ℕ, ◌+◌, ◌-◌, ◌*◌, ◌/◌, ◌%◌, ◌≤◌, ◌<◌, min, true, false, length, slice_index, Option, None, Some, IsTrue, IfOk, OnOk};
 ghost use Rattle.afl_base.specs.Causes.{HasCause};
 ghost use Rattle.afl_base.specs.Image.{page_bytes};
 ghost use Rattle.afl_base.specs.Regions.{regions};
@@ -10,7 +10,7 @@ ghost use Rattle.coffee_log.specs.FileChanges.{FileBecomes, IsFile, IsPlain, one
 ghost use Rattle.coffee_log.specs.Logs.{AddsRecords, IsLog};
 
 use crate::records::log_put;
-use afl_base::{Failed, Flash, PageId, put_bytes};
+use afl_base::{Failed, Flash, PageId, get_u16, put_bytes};
 use coffee_layout::{last_record, read_table, region_place};
 use flash_range::{program_range, read_range};
 
@@ -162,14 +162,34 @@ fn plain_length(table: &[u8; 60], at: u32, rest: usize) -> usize
     ensures whole { result < rest → (at + result) % 128 ≡ 0 }
     ensures plain { (p : ℕ) → at ≤ p → p < at + result → last_in table.now (p / 128) 30 ≡ None }
 {
-    let mut n = rest.min((128 - at % 128) as usize);
-    while n < rest {
-        if last_record(table, (at + n as u32) / 128).is_some() {
-            return n;
-        }
-        n += (rest - n).min(128);
+    let mut end = at + rest as u32;
+    if end <= at - at % 128 + 128 {
+        return rest;
     }
-    n
+    for i in 0..30 {
+        end = end_before(get_u16(table, 2 * i), at, end);
+    }
+    (end - at) as usize
+}
+
+// Where the region that a record's number names begins, if that is between two places, else the second
+// one.
+fn end_before(number: u16, at: u32, end: u32) -> u32
+    requires order { at < end }
+    ensures some { at < result }
+    ensures within { result ≤ end }
+    ensures whole { result < end → result % 128 ≡ 0 }
+    ensures plain { (p : ℕ) → at / 128 < p / 128 → p < result → number ≢ p / 128 + 1 }
+{
+    if number == 0 {
+        return end;
+    }
+    let front = 128 * (u32::from(number) - 1);
+    if at < front && front < end {
+        front
+    } else {
+        end
+    }
 }
 
 // The same of a part of one region.

@@ -1,14 +1,11 @@
-use Rattle.std.proofs.Common.{◌≡◌, ℕ, None, ◌+◌, ◌-◌, ◌/◌, ◌%◌, ◌≤◌, ◌<◌}
-use Rattle.coffee_layout.specs.FileBytes.{last_in}
+use Rattle.std.proofs.Common.{◌≢◌, ◌≡◌, ℕ, ◌+◌, ◌/◌, ◌%◌, ◌≤◌, ◌<◌}
+use Rattle.coffee_layout.specs.FileBytes.{number_in}
 use Rattle.coffee_log.proofs.contents.plain_length.Given as goal
 
-abbrev pub invariant-loop-n : goal.invariant-loop-n
-invariant-loop-n l = record {
-  some : 1 ≤ l.n;
-  within : l.n ≤ l.rest;
-  turn : l.n < l.rest → (l.at + l.n) % 128 ≡ 0;
-  plain : (p : ℕ) → l.at ≤ p → p < l.at + l.n → last_in l.table (p / 128) 30 ≡ None;
+abbrev pub invariant-loop-i : goal.invariant-loop-i
+invariant-loop-i l = record {
+  some : l.at < l.end;
+  within : l.end ≤ l.at + l.rest;
+  turn : l.end < l.at + l.rest → l.end % 128 ≡ 0;
+  plain : (j p : ℕ) → j < l.i → l.at / 128 < p / 128 → p < l.end → number_in l.table j ≢ p / 128 + 1;
 }
-
-abbrev pub decreases-loop-n : goal.decreases-loop-n
-decreases-loop-n l = l.rest - l.n
