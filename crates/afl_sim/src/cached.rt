@@ -71,7 +71,7 @@ impl<'a, F: Backing + Drop> CachedFlash<'a, F> {
     }
 }
 
-ghost use Rattle.std.specs.Prelude.{◌≡◌, ◌≢◌, ℕ, ◌+◌, ◌*◌, ◌/◌, ◌<◌, ◌≤◌, false, length, slice_range, set, true, IsTrue, OnErr, OnOk};
+ghost use Rattle.std.specs.Prelude.{◌≡◌, ◌≢◌, ℕ, ◌+◌, ◌*◌, ◌/◌, ◌<◌, ◌≤◌, false, length, slice_range, set, true, IsOk, IsTrue, OnErr, OnOk};
 ghost use Rattle.afl_base.specs.Causes.{HasCause};
 ghost use Rattle.afl_base.specs.Image.{or_at, zeros_at, page_bytes, sector_bytes};
 ghost use Rattle.afl_sim.specs.Caches.{IsCache, IsKnown};
@@ -88,7 +88,7 @@ fn load<F: Backing>(
     ensures cache { IsCache F.tells (F.image inner.new) memory.new known.new }
     ensures same { F.image inner.new ≡ F.image inner.old }
     ensures known { OnOk result (IsKnown known.new sector) }
-    ensures once { IsKnown known.old sector → (inner.new ≡ inner.old) × (known.new ≡ known.old) }
+    ensures once { IsKnown known.old sector → IsOk result × (inner.new ≡ inner.old) }
     ensures others { (s : ℕ) → IsKnown known.old s → IsKnown known.new s }
     ensures faultless { OnOk result (F.faults inner.new ≡ F.faults inner.old) }
     ensures cause { HasCause (F.faults inner.old) (F.faults inner.new) result }
@@ -185,7 +185,7 @@ fn clear<F: Backing>(
 }
 
 impl<F: Backing + Drop> Flash for CachedFlash<'_, F> {
-    ghost use Rattle.std.specs.Prelude.{◌≡◌, ◌≢◌, ℕ, ◌+◌, ◌*◌, ◌/◌, ◌<◌, ◌≤◌, length, slice_range, IsTrue, OnOk};
+    ghost use Rattle.std.specs.Prelude.{◌≡◌, ◌≢◌, ℕ, ◌+◌, ◌*◌, ◌/◌, ◌<◌, ◌≤◌, length, slice_range, IsOk, IsTrue, OnOk};
     ghost use Rattle.afl_base.specs.Causes.{HasCause, CountsOne};
     ghost use Rattle.afl_base.specs.Image.{or_at, zeros_at, page_bytes, sector_bytes};
     ghost use Rattle.afl_sim.specs.Caches.{IsKnown};
@@ -214,7 +214,7 @@ impl<F: Backing + Drop> Flash for CachedFlash<'_, F> {
         ensures reads_later { self.old.reads ≤ self.new.reads }
         ensures faultless { OnOk result (F.faults self.new.inner ≡ F.faults self.old.inner) }
         ensures cause { HasCause (F.faults self.old.inner) (F.faults self.new.inner) result }
-        ensures once { IsKnown self.old.known (page.0 / 16) → (self.new.inner ≡ self.old.inner) × (self.new.known ≡ self.old.known) }
+        ensures once { IsKnown self.old.known (page.0 / 16) → IsOk result × (self.new.inner ≡ self.old.inner) }
         ensures known { page.0 / 16 < length self.old.known → OnOk result (IsKnown self.new.known (page.0 / 16)) }
         ensures kept { (s : ℕ) → IsKnown self.old.known s → IsKnown self.new.known s }
     {

@@ -20,6 +20,8 @@ pub use real::{FileFlash, StdSink, StdSource};
 pub use streams::{MemSink, MemSource};
 
 #[cfg(test)]
+mod cached_tests;
+#[cfg(test)]
 mod plain_tests;
 #[cfg(test)]
 mod rows;
