@@ -25,7 +25,7 @@ where
     S: Source,
     K: Sink,
 {
-    let mut memory = memory(rt, flash.sectors());
+    let mut memory = memory_for(rt, flash.sectors());
     let flash = CachedFlash::new(
         flash,
         memory.bytes.as_mut_slice(),
@@ -35,7 +35,7 @@ where
 }
 
 // Memory for so many sectors, or for none where it is wanting.
-fn memory<R: AllocGlobal>(rt: &R, sectors: u16) -> Memory {
+fn memory_for<R: AllocGlobal>(rt: &R, sectors: u16) -> Memory {
     let sectors = usize::from(sectors);
     match (
         vec![in rt.alloc(); 0; SECTOR * sectors],
