@@ -1,6 +1,6 @@
 -- What reading, programming and erasing leave of a cache.
-use Rattle.std.proofs.Common.{◌≡◌, ◌≢◌, ℕ, ◌+◌, ◌-◌, ◌*◌, ◌/◌, ◌%◌, ◌<◌, ◌≤◌, ◌⊎◌, Bool, true, false, List, ◌++◌, length, take, drop, replicate, get_or, set, slice_range, bit_or, refl, sym, ap, ◌∙◌, arith, ⊎_elim, inl, inr, IsTrue}
-use Rattle.std.proofs.lemmas.List.{ext_get_or, length-set, length-append, length-take, length-drop, length-replicate, get_or-take, get_or-drop, get_or_append_left, get_or-append_right, get_or-replicate, get_or-set_same, get_or-set_other, get_or_past}
+use Rattle.std.proofs.Common.{◌≡◌, ◌≢◌, ℕ, ◌+◌, ◌-◌, ◌*◌, ◌/◌, ◌%◌, ◌<◌, ◌≤◌, ◌⊎◌, Bool, true, false, List, ◌++◌, length, take, drop, get_or, set, slice_range, bit_or, refl, sym, ap, ◌∙◌, arith, ⊎_elim, inl, inr, IsTrue}
+use Rattle.std.proofs.lemmas.List.{ext_get_or, length-set, length-append, length-take, get_or-take, get_or-drop, get_or_append_left, get_or-append_right, get_or-set_same, get_or-set_other, get_or_past}
 use Rattle.std.proofs.lemmas.Bool.{cases_lt, cases_eq}
 use Rattle.std.proofs.lemmas.Nat.Bits.{bit_at_or, same_from_bits}
 use borrow.Rule.Slice.PartMut.{put_mid}

@@ -12,7 +12,8 @@ pub trait Backing: Flash {
     fn read_sector(&mut self, sector: SectorId, into: &mut [u8]) -> Result<(), Failed>
         requires sector { 4096 * sector.0 + 4096 ≤ length (Self.image self.old) }
         requires whole { length into.old ≡ 4096 }
-        ensures bytes { IsTrue Self.tells → OnOk result (into.new ≡ sector_bytes (Self.image self.old) sector.0) }
+        ensures bytes { IsTrue Self.tells → OnOk result
+            (into.new ≡ sector_bytes (Self.image self.old) sector.0) }
         ensures same { Self.image self.new ≡ Self.image self.old }
         ensures counted { CountsOne (Self.reads self.old) (Self.reads self.new) }
         ensures faultless { OnOk result (Self.faults self.new ≡ Self.faults self.old) }

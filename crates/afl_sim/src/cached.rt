@@ -105,7 +105,8 @@ fn load<F: Backing>(
 fn read_into<F: Backing>(inner: &mut F, memory: &mut [u8], sector: u16) -> Result<(), Failed>
     requires sector { 4096 * sector + 4096 ≤ length (F.image inner.old) }
     requires room { 4096 * sector + 4096 ≤ length memory.old }
-    ensures bytes { IsTrue F.tells → OnOk result (sector_bytes memory.new sector ≡ sector_bytes (F.image inner.old) sector) }
+    ensures bytes { IsTrue F.tells → OnOk result
+        (sector_bytes memory.new sector ≡ sector_bytes (F.image inner.old) sector) }
     ensures others { (s : ℕ) → s ≢ sector → sector_bytes memory.new s ≡ sector_bytes memory.old s }
     ensures size { length memory.new ≡ length memory.old }
     ensures same { F.image inner.new ≡ F.image inner.old }

@@ -179,7 +179,8 @@ impl<F: Backing + Drop> Backing for FaultFlash<F> {
     fn read_sector(&mut self, sector: SectorId, into: &mut [u8]) -> Result<(), Failed>
         requires sector { 4096 * sector.0 + 4096 ≤ length (F.image self.old.inner) }
         requires whole { length into.old ≡ 4096 }
-        ensures bytes { IsTrue F.tells → OnOk result (into.new ≡ sector_bytes (F.image self.old.inner) sector.0) }
+        ensures bytes { IsTrue F.tells → OnOk result
+            (into.new ≡ sector_bytes (F.image self.old.inner) sector.0) }
         ensures same { F.image self.new.inner ≡ F.image self.old.inner }
         ensures counted { CountsOne self.old.reads self.new.reads }
         ensures faultless { OnOk result (all_faults F.faults self.new ≡ all_faults F.faults self.old) }

@@ -175,7 +175,8 @@ impl Backing for FileFlash {
     fn read_sector(&mut self, sector: SectorId, into: &mut [u8]) -> Result<(), Failed>
         requires sector { 4096 * sector.0 + 4096 ≤ length (untold self.old) }
         requires whole { length into.old ≡ 4096 }
-        ensures bytes { IsTrue false → OnOk result (into.new ≡ sector_bytes (untold self.old) sector.0) }
+        ensures bytes { IsTrue false → OnOk result
+            (into.new ≡ sector_bytes (untold self.old) sector.0) }
         ensures same { untold self.new ≡ untold self.old }
         ensures counted { CountsOne self.old.reads self.new.reads }
         ensures faultless { OnOk result (self.new.faults ≡ self.old.faults) }
@@ -183,9 +184,7 @@ impl Backing for FileFlash {
         ensures counts { self.new.faults ≡ counted (is_err result) self.old.faults }
     {
         self.reads = self.reads.saturating_add(1);
-        let outcome = self
-            .file
-            .read_exact_at(into, SECTOR * u64::from(sector.0));
+        let outcome = self.file.read_exact_at(into, SECTOR * u64::from(sector.0));
         self.judge(outcome)?;
         Ok(())
     }

@@ -1,31 +1,19 @@
+use crate::status;
 use afl_base::{Flash, Sink, Source};
 use afl_sim::{CachedFlash, FileFlash};
-use crate::status;
 
 const SECTOR: usize = 4096;
 
-/// Memory for a whole image, or none where it is not to be had.
+// What a flash needs to keep a whole image in memory.
 #[derive(Drop)]
 struct Memory {
     bytes: Vec<u8>,
     known: Vec<bool>,
 }
 
-fn memory<R: AllocGlobal>(rt: &R, sectors: usize) -> Memory {
-    if let (Ok(bytes), Ok(known)) = (
-        vec![in rt.alloc(); 0u8; SECTOR * sectors],
-        vec![in rt.alloc(); false; sectors],
-    ) {
-        return Memory { bytes, known };
-    }
-    Memory {
-        bytes: Vec::new(rt.alloc()),
-        known: Vec::new(rt.alloc()),
-    }
-}
-
-/// The status of a run on the flash of a file, of which nothing is read twice.
-pub fn cached_status<R, S, K>(
+/// The status of a run on an image in a file, of which no page is read from the file twice. Where
+/// memory as long as the image is not to be had, the run does without it, and ends with the same.
+pub fn status_in_memory<R, S, K>(
     rt: &R,
     words: &[String],
     script: &mut S,
@@ -37,11 +25,26 @@ where
     S: Source,
     K: Sink,
 {
-    let mut memory = memory(rt, usize::from(flash.sectors()));
+    let mut memory = memory_for(rt, flash.sectors());
     let flash = CachedFlash::new(
         flash,
         memory.bytes.as_mut_slice(),
         memory.known.as_mut_slice(),
     );
     status(words, script, out, flash)
+}
+
+// Memory for so many sectors, or for none where it is wanting.
+fn memory_for<R: AllocGlobal>(rt: &R, sectors: u16) -> Memory {
+    let sectors = usize::from(sectors);
+    match (
+        vec![in rt.alloc(); 0; SECTOR * sectors],
+        vec![in rt.alloc(); false; sectors],
+    ) {
+        (Ok(bytes), Ok(known)) => Memory { bytes, known },
+        _ => Memory {
+            bytes: Vec::new(rt.alloc()),
+            known: Vec::new(rt.alloc()),
+        },
+    }
 }

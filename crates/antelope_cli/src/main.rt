@@ -12,6 +12,10 @@
 //! - 1, 9: what was there; no file was opened.
 //!
 //! At 0, 2 to 5 and 8 an image that was not there was made.
+//!
+//! A page of the image that was read once is not read from the file again: the run keeps it in memory,
+//! as much as the image is long. What it changes goes into the file at once. Where that memory is not
+//! to be had, the run reads from the file each time, and ends with no other status.
 #![tactic(auto)]
 
 mod cache;
@@ -19,7 +23,7 @@ mod failure;
 mod files;
 mod image;
 
-use crate::cache::cached_status;
+use crate::cache::status_in_memory;
 use crate::failure::Failure;
 use crate::files::open_script;
 use crate::image::{open_image, remove_new};
@@ -53,14 +57,14 @@ where
         (Some(Form::Run | Form::Serve), [_, image, input]) if input.as_str() == "-" => {
             let image = open_image(rt, image.as_str())?;
             let mut source = StdSource::new(stdin);
-            Ok(cached_status(rt, words, &mut source, &mut out, image.flash))
+            Ok(status_in_memory(rt, words, &mut source, &mut out, image.flash))
         }
         (Some(Form::Run | Form::Serve), [_, image, input]) => {
             with_script(rt, words, image.as_str(), input.as_str(), &mut out)
         }
         (Some(_), [_, image, ..]) => {
             let image = open_image(rt, image.as_str())?;
-            Ok(cached_status(rt, words, &mut nothing(), &mut out, image.flash))
+            Ok(status_in_memory(rt, words, &mut nothing(), &mut out, image.flash))
         }
         _ => refuse(words, &mut out),
     }
@@ -80,7 +84,10 @@ where
 {
     let image = open_image(rt, path)?;
     match open_script(rt, input) {
-        Ok(script) => Ok(cached_status(rt, words, &mut StdSource::new(script), out, image.flash)),
+        Ok(script) => {
+            let mut source = StdSource::new(script);
+            Ok(status_in_memory(rt, words, &mut source, out, image.flash))
+        }
         Err(failure) => {
             remove_new(rt, path, image);
             Err(failure)

@@ -1,4 +1,4 @@
-use Rattle.std.proofs.Common.{◌≡◌, ◌*◌, false, true, ap, ◌∙◌, set, refl, arith}
+use Rattle.std.proofs.Common.{◌≡◌, ◌*◌, false, true, ap, ◌∙◌, set, refl}
 use Rattle.afl_sim.proofs.Caches.{set_twice, cache_erased}
 use Rattle.afl_sim.proofs.cached.clear.Goals as goal
 

@@ -1,5 +1,4 @@
-use Rattle.std.proofs.Common.{◌≡◌, ◌+◌, ◌*◌, length, refl, sym, ap, ◌∙◌, arith, rules}
-use Rattle.afl_base.specs.Image.{or_at}
+use Rattle.std.proofs.Common.{◌≡◌, ◌+◌, ◌*◌, length, ◌∙◌, arith}
 use Rattle.afl_sim.proofs.Caches.{store_covers, store_programmed, cache_stored, cache_failed}
 use Rattle.afl_sim.proofs.cached.store.Goals as goal
 
@@ -21,7 +20,7 @@ returns-in-Ok-clause-cache g c =
     c.requires.cache c.requires.known c.requires.page c.requires.range c.in-Ok.ensures.size (returns-in-Ok-clause-programmed g c))
 
 pub returns-in-Err-clause-cache : goal.returns-in-Err-clause-cache
-returns-in-Err-clause-cache g c = 
+returns-in-Err-clause-cache g c =
     let place : 256 * c.from.result + c.from-2.result ≡ 256 * c.args.page.0 + c.args.at = omega (arith, c.from.ensures, c.from-2.ensures) in
     rw (c.program_bytes.ensures, place, c.from-in-Err.ensures)
     (cache_failed g.F.Flash.tells (g.F.Flash.image c.args.inner.now) (g.F.Flash.image c.overwrite.new.self) c.args.memory.now c.args.known.now c.args.page.0 c.args.at c.args.bytes.now
