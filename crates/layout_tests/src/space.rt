@@ -90,8 +90,8 @@ fn a_reservation_collects_where_nothing_is_free(rt: HostRuntime) -> Result<(), F
 #[test]
 fn a_fault_ends_a_collection(rt: HostRuntime) -> Result<(), Fail> {
     let a = Name::new(b"A").ok_or("name")?;
-    // 48 reads mark the sectors; the third call after them is the first that programs, and the last erases.
-    for (at, again) in [(1, true), (30, true), (50, true), (55, false), (107, false)] {
+    // 5 reads mark the sectors; the third call after them is the first that programs, and the last erases.
+    for (at, again) in [(1, true), (4, true), (7, true), (12, false), (21, false)] {
         let mut image = [0; SIZE];
         a_file_and_a_removed_one(&mut image)?;
         let all = &mut image[..];

@@ -156,7 +156,7 @@ fn a_range_crosses_pages(rt: HostRuntime) -> Result<(), Fail> {
 fn a_read_that_fails_ends_the_judgement(rt: HostRuntime) -> Result<(), Fail> {
     let cat = Name::new(b"CAT").ok_or("name")?;
     let t0 = Name::new(b"T0").ok_or("name")?;
-    for at in [1, 7, 40, 100, 200] {
+    for at in [1, 7, 40, 90, 128] {
         let mut image = [0; SIZE];
         two_files(&mut image, cat, t0);
         let all = &mut image[..];
