@@ -1,5 +1,4 @@
 -- A server and its sink as what takes an input.
-use Rattle.std.proofs.Common.{ℕ}
 use Rattle.intake.specs.Through.{Out}
 use Rattle.answering.specs.Taking.{Running, running}
 use Rattle.serve.specs.Gathers.{Decoding}

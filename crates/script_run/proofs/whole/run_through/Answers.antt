@@ -1,11 +1,7 @@
-use Rattle.std.proofs.Common.{ap, subst, ◌∙◌}
-use Rattle.antelope_engine.specs.Seen.{Seen}
 use Rattle.intake.specs.Through.{Out, out_of}
-use Rattle.answering.specs.Carried.{LacksPages, standing_of}
 use Rattle.answering.specs.Taking.{saying}
-use Rattle.answering.specs.Went.{Went}
 use Rattle.answering.proofs.Through.{reaches, sum, went}
-use Rattle.run_model.specs.Scripts.{script_line, script_talk}
+use Rattle.run_model.specs.Scripts.{script_line}
 use Rattle.run_model.proofs.Parts.{script_parts}
 use Rattle.script_run.specs.declared.running.Runner.{Runner}
 use Rattle.script_run.specs.Input.{script_input}

@@ -1,12 +1,7 @@
-use Rattle.std.proofs.Common.{◌≡◌, ℕ, false, ap, subst, sym, ◌∙◌}
-use Rattle.antelope_engine.specs.Seen.{Seen}
 use Rattle.intake.specs.Through.{Out, out_of}
-use Rattle.answering.specs.Carried.{LacksPages, standing_of}
 use Rattle.answering.specs.Taking.{saying}
-use Rattle.answering.specs.Went.{Went}
 use Rattle.answering.proofs.Through.{reaches, sum, went}
 use Rattle.serve_model.specs.Frames.{frame_line}
-use Rattle.serve_model.specs.Served.{serve_talk}
 use Rattle.serve_model.proofs.Ending.{frame_parts}
 use Rattle.serve.specs.declared.serving.Server.{Server}
 use Rattle.serve.specs.Input.{frame_input}
