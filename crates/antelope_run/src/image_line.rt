@@ -9,7 +9,7 @@ ghost use Rattle.reply_text.specs.WroteLess.{WroteLess};
 ghost use Rattle.run_model.specs.Runs.{image_line};
 
 use afl_base::{Failed, Sink};
-use space_plan::write_counts;
+use reply_text::write_line_of_counts;
 
 /// Appends the line `no image RULE PLACE`. `Failed` leaves a proper prefix of it there.
 pub fn write_image_line<K: Sink>(out: &mut K, rule: u8, place: u16) -> Result<(), Failed>
@@ -19,5 +19,5 @@ pub fn write_image_line<K: Sink>(out: &mut K, rule: u8, place: u16) -> Result<()
     ensures keeps { K.keeps out.old out.new }
     ensures cause { HasCause (K.faults out.old) (K.faults out.new) result }
 {
-    write_counts(out, b"no image ", u64::from(rule), b" ", u64::from(place))
+    write_line_of_counts(out, b"no image ", u64::from(rule), b" ", u64::from(place))
 }

@@ -6,5 +6,6 @@ pub mod Firsts
 pub mod Forming
 pub mod Loading
 pub mod Named
+pub mod PutRanges
 pub mod Puts
 pub mod Replaced

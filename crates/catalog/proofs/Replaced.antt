@@ -15,31 +15,7 @@ use Rattle.db_model.proofs.Catalogs.{catalog_back, index_slot_back, length-index
 use Rattle.catalog.specs.CatalogFile.{IsCatalogSize}
 use Rattle.catalog.specs.Catalogs.{index_replaced, relation_replaced}
 use Rattle.catalog.proofs.Changes.{long_empty, slot_put}
-
--- ---- ranges of bytes in which a part is written
-
-range_front : (xs : List ℕ) (a b : ℕ) → a ≤ b → slice_range xs a b ≡ drop a (take b xs)
-range_front xs a b h = let e : a + (b - a) ≡ b = omega (arith, h) in sym (drop-take a (b - a) xs) ∙ ap (λ (n : ℕ). drop a (take n xs)) e
-
-before_put : (old part : List ℕ) (at a b : ℕ) → a ≤ b → b ≤ at → at ≤ length old → slice_range (put_at old at part) a b ≡ slice_range old a b
-before_put old part at a b h before room = range_front (put_at old at part) a b h ∙ ap (drop a) (take-put_at old part at b before room) ∙ sym (range_front old a b h)
-
-behind_put : (old part : List ℕ) (at a b : ℕ) → at + length part ≤ a → at ≤ length old → slice_range (put_at old at part) a b ≡ slice_range old a b
-unfolding put_at
-behind_put old part at a b behind room =
-    let end : ℕ = at + length part in
-    let more : ℕ = a - end in
-    let front : List ℕ = take at old ++ part in
-    let rest : List ℕ = drop end old in
-    let long : length front ≡ end = length-append (take at old) part ∙ omega (arith, length-take-le at old room) in
-    let same : end + more ≡ a = omega (arith, behind) in
-    ap (take (b - a)) (subst (λ (n : ℕ). drop n (front ++ rest) ≡ drop n old) same
-    (sym (drop-drop more end (front ++ rest)) ∙ ap (drop more) (drop_at front rest end long) ∙ drop-drop more end old))
-
-here_put : (old part : List ℕ) (at n : ℕ) → length part ≡ n → at ≤ length old → slice_range (put_at old at part) at (at + n) ≡ part
-here_put old part at n long room =
-    let m : length part ≡ (at + n) - at = omega (arith, long) in
-    ap (take ((at + n) - at)) (drop-put_at old part at room) ∙ take_at part (drop (at + length part) old) ((at + n) - at) m
+use Rattle.catalog.proofs.PutRanges.{before_put, behind_put, here_put, range_of_front}
 
 -- ---- lists of slots
 
@@ -75,9 +51,6 @@ record Stands (bytes version_2 : List ℕ) : Type 0 where
   long : length version_2 ≡ 1480
   relations : (j : ℕ) → j < 8 → relation_at version_2 j ≡ relation_at bytes j
   indexes : (j : ℕ) → j < 8 → index_at version_2 j ≡ index_at bytes j
-
-range_of_front : (xs ys : List ℕ) (a b : ℕ) → a ≤ b → b ≤ length xs → slice_range (xs ++ ys) a b ≡ slice_range xs a b
-range_of_front xs ys a b h inside = range_front (xs ++ ys) a b h ∙ ap (drop a) (take-append-le b xs ys inside) ∙ sym (range_front xs a b h)
 
 stands_2 : (bytes : List ℕ) → length bytes ≡ 1480 → Stands bytes bytes
 stands_2 bytes size = record { is = rw size refl; long = size; relations = λ j h. refl; indexes = λ j h. refl }

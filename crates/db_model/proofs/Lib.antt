@@ -1,6 +1,7 @@
 pub mod Buckets
 pub mod Catalogs
 pub mod Conditions
+pub mod Cutting
 pub mod Decoded
 pub mod Moves
 pub mod ReplyTexts

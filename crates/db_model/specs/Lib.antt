@@ -9,6 +9,7 @@ pub mod HashTree
 pub mod Item
 pub mod Keywords
 pub mod Names
+pub mod Pieces
 pub mod Plan
 pub mod Ranges
 pub mod Reading

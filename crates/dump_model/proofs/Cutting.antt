@@ -18,55 +18,13 @@ use Rattle.db_model.specs.Grammar.{kind_word}
 use Rattle.db_model.specs.Keywords.{keyword_text, keyword_of}
 use Rattle.db_model.specs.Names.{is_name, is_word, is_word_byte, is_text, is_text_byte}
 use Rattle.db_model.specs.ReplyText.{value_text}
-use Rattle.db_model.specs.Script.{Entry, Long, Bytes, ended, unended, past_white, ends_piece, quoted_after, onto, pieces, entries_of, commands, finished, whole}
+use Rattle.db_model.specs.Pieces.{entries_after}
+use Rattle.db_model.specs.Script.{Entry, Long, Bytes, ended, unended, past_white, ends_piece, quoted_after, commands, finished, whole}
+use Rattle.db_model.proofs.Cutting.{commands_after}
 use Rattle.dump_model.specs.Made.{IsShort}
 use Rattle.dump_model.specs.Script.{command_line, command_text, domain_text, values_text}
 use Rattle.dump_model.proofs.Lexing.{false_true, and_left, and_right, IsPrintedValue, digits}
 use Rattle.dump_model.proofs.Texts.{IsPrinted, IsPrintedDomain, ArePrintedValues}
-
--- ---- byte by byte
-
--- the entries of bytes, behind a piece so far
-abbrev entries_after : Bool → List ℕ → List ℕ → List Entry
-entries_after quoted piece [] = unended (past_white piece)
-entries_after quoted piece (b ∷ bs) =
-    if ends_piece quoted b then ended (past_white piece) ++ entries_after false [] bs else entries_after (quoted_after quoted b) (piece ++ b ∷ []) bs
-
--- bytes before the first of some pieces
-abbrev front : List ℕ → List (List ℕ) → List (List ℕ)
-front piece [] = piece ∷ []
-front piece (p ∷ ps) = (piece ++ p) ∷ ps
-
-after_cut : (piece : List ℕ) (ps : List (List ℕ)) (rest : List Entry) → rest ≡ entries_of (front [] ps) → ended (past_white piece) ++ rest ≡ entries_of (front piece ([] ∷ front [] ps))
-after_cut piece [] rest e = ap (λ r. ended (past_white piece) ++ r) e ∙ ap (λ p. ended (past_white p) ++ entries_of (front [] [])) (sym (append-nil piece))
-after_cut piece (q ∷ qs) rest e = ap (λ r. ended (past_white piece) ++ r) e ∙ ap (λ p. ended (past_white p) ++ entries_of (front [] (q ∷ qs))) (sym (append-nil piece))
-
-behind_byte : (piece : List ℕ) (b : ℕ) (ps : List (List ℕ)) → front (piece ++ b ∷ []) ps ≡ front piece (onto b ps)
-behind_byte piece b [] = refl
-behind_byte piece b (p ∷ ps) = ap (λ x. x ∷ ps) (append_assoc piece (b ∷ []) p)
-
-some : (quoted : Bool) (bs : List ℕ) → front [] (pieces quoted bs) ≡ pieces quoted bs
-some quoted [] = refl
-some quoted (b ∷ bs) = by_test (ends_piece quoted b) (pieces false bs) (pieces (quoted_after quoted b) bs)
-  where
-    by_test : (t : Bool) (ps qs : List (List ℕ)) → front [] (cond t ([] ∷ ps) (onto b qs)) ≡ cond t ([] ∷ ps) (onto b qs)
-    by_test true ps qs = refl
-    by_test false ps [] = refl
-    by_test false ps (q ∷ qs) = refl
-
-same : (quoted : Bool) (piece bs : List ℕ) → entries_after quoted piece bs ≡ entries_of (front piece (pieces quoted bs))
-same quoted piece [] = ap (λ p. unended (past_white p)) (sym (append-nil piece))
-same quoted piece (b ∷ bs) = by_test (ends_piece quoted b) (same false [] bs) (same (quoted_after quoted b) (piece ++ b ∷ []) bs)
-  where
-    by_test : (t : Bool) → entries_after false [] bs ≡ entries_of (front [] (pieces false bs))
-        → entries_after (quoted_after quoted b) (piece ++ b ∷ []) bs ≡ entries_of (front (piece ++ b ∷ []) (pieces (quoted_after quoted b) bs))
-        → cond t (ended (past_white piece) ++ entries_after false [] bs) (entries_after (quoted_after quoted b) (piece ++ b ∷ []) bs)
-        ≡ entries_of (front piece (cond t ([] ∷ pieces false bs) (onto b (pieces (quoted_after quoted b) bs))))
-    by_test true cut on = after_cut piece (pieces false bs) (entries_after false [] bs) cut ∙ ap (λ ps. entries_of (front piece ([] ∷ ps))) (some false bs)
-    by_test false cut on = on ∙ ap entries_of (behind_byte piece b (pieces (quoted_after quoted b) bs))
-
-commands_after : (bytes : List ℕ) → commands bytes ≡ entries_after false [] bytes
-commands_after bytes = sym (same false [] bytes ∙ ap entries_of (some false bytes))
 
 -- ---- texts that no `;` ends
 

@@ -67,6 +67,27 @@ pub fn write_count<K: Sink>(out: &mut K, words: &[u8], count: u64) -> Result<(),
     write_number(out, count)
 }
 
+/// Appends a line of words and a number, and others behind. `Failed` leaves a proper prefix of it there.
+pub fn write_line_of_counts<K: Sink>(
+    out: &mut K,
+    words: &[u8],
+    count: u64,
+    next_words: &[u8],
+    next_count: u64,
+) -> Result<(), Failed>
+    ensures written { OnOk result (K.held out.new ≡ append_known (K.held out.old)
+        (line (words.now ++ decimal count ++ (next_words.now ++ decimal next_count)))) }
+    ensures failed { OnErr result (WroteLess (K.held out.old) (K.held out.new)
+        (line (words.now ++ decimal count ++ (next_words.now ++ decimal next_count)))) }
+    ensures keeps { K.keeps out.old out.new }
+    ensures faultless { OnOk result (K.faults out.new ≡ K.faults out.old) }
+    ensures cause { HasCause (K.faults out.old) (K.faults out.new) result }
+{
+    write_count(out, words, count)?;
+    write_count(out, next_words, next_count)?;
+    write_all(out, b"\n")
+}
+
 // A line of these words.
 pub fn write_line<K: Sink>(out: &mut K, words: &[u8]) -> Result<(), Failed>
     ensures written { OnOk result

@@ -1,8 +1,8 @@
 -- The whole commands of the first bytes of a script are the first of its commands.
 use Rattle.std.proofs.Common.{◌≡◌, ℕ, false, List, [], ◌++◌, ap, sym, ◌∙◌}
 use Rattle.db_model.specs.Script.{Entry, commands, whole}
-use Rattle.run_model.specs.Pieces.{entries_after, piece_behind, quoted_behind}
-use Rattle.run_model.proofs.Cutting.{commands_after, entries_behind, whole_ended}
+use Rattle.db_model.specs.Pieces.{entries_after, piece_behind, quoted_behind}
+use Rattle.db_model.proofs.Cutting.{commands_after, entries_behind, whole_ended}
 
 pub whole_is_front : (came left : List ℕ) → (rest : List Entry) × (commands (came ++ left) ≡ whole came ++ rest)
 whole_is_front came left =

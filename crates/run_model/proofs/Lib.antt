@@ -1,5 +1,4 @@
 pub mod Beginnings
-pub mod Cutting
 pub mod Fronts
 pub mod Parts
 pub mod Places

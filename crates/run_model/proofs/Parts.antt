@@ -3,9 +3,9 @@ use Rattle.std.proofs.Common.{◌≡◌, ℕ, Bool, true, false, List, [], ◌�
 use Rattle.std.proofs.lemmas.List.{append_assoc}
 use Rattle.db_model.specs.Script.{ended, ends_piece, past_white, quoted_after}
 use Rattle.run_model.specs.Line.{ComesInParts}
-use Rattle.run_model.specs.Pieces.{ended_by, piece_behind, quoted_behind}
+use Rattle.db_model.specs.Pieces.{ended_by, piece_behind, quoted_behind}
 use Rattle.run_model.specs.Scripts.{script_cut, script_line}
-use Rattle.run_model.proofs.Cutting.{commands_ended, whole_ended}
+use Rattle.db_model.proofs.Cutting.{commands_ended, whole_ended}
 
 choose : {P : Type 0} (b : Bool) → (b ≡ true → P) → (b ≡ false → P) → P
 choose true f g = f refl

@@ -1,5 +1,4 @@
 pub mod Line
-pub mod Pieces
 pub mod Runs
 pub mod Scripts
 pub mod Talk

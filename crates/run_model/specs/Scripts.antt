@@ -5,7 +5,7 @@ use Rattle.db_model.specs.declared.refusals.Refusal.{Refusal}
 use Rattle.db_model.specs.declared.refusals.Refusal.TheVariants as no
 use Rattle.db_model.specs.Script.{Entry, Long, Unfinished, Bytes, commands, past_white, unended, whole}
 use Rattle.run_model.specs.Line.{Cut, Line}
-use Rattle.run_model.specs.Pieces.{ended_by, piece_behind, quoted_behind}
+use Rattle.db_model.specs.Pieces.{ended_by, piece_behind, quoted_behind}
 use Rattle.run_model.specs.Talk.{Talk}
 
 -- `read` reads the bytes of a command, or says why they are none (see `Reading` of db_model)

@@ -27,7 +27,7 @@ use Rattle.tuple_file.specs.Tuples.{HoldsRows}
 use Rattle.session_model.specs.Frames.{Leaves}
 use Rattle.session_model.specs.Indexed.{IsAllowedAt}
 use Rattle.session_model.specs.Running.{HasCatalog}
-use Rattle.session_model.proofs.Few.{few_files}
+use Rattle.stored.proofs.FewFiles.{few_files}
 use Rattle.session_model.proofs.Leaves.{leaves_becomes, leaves_commits, leaves_same, leaves_then}
 use Rattle.session_model.proofs.Running.{bytes_by, catalog_no_rows, differ, holds_by}
 use Rattle.session_indexes.specs.declared.sites.Site.{Site}

@@ -2,7 +2,6 @@ pub mod Aheads
 pub mod Answered
 pub mod Catalogs
 pub mod Cursors
-pub mod Few
 pub mod Frames
 pub mod Grown
 pub mod Inserted

@@ -8,5 +8,5 @@ mod planning;
 mod sectors;
 
 pub use laws::{planned_flash_has_enough, planned_space_suffices, sound_databases_have_few_rows};
-pub use line::{write_counts, write_plan};
+pub use line::write_plan;
 pub use planning::planned;

@@ -13,8 +13,8 @@ use Rattle.space_model.specs.FileNames.{bytes_of, catalog_file, file_named, is_t
 use Rattle.space_model.specs.Wants.{IsGrowing, IsOfSixPages}
 use Rattle.space_model.proofs.NamedFiles.{named_found, named_place}
 use Rattle.stored.specs.Files.{HasCatalog, HasItsFiles, IsMatched}
+use Rattle.stored.proofs.FewFiles.{few_files}
 use Rattle.stored.proofs.FilesOf.{AreInTable, IsNumbered, Unbroken, by_kind, earliest_none, first_false, in_table, nothing_broken, rows_wanted, tree_wanted, unbroken}
-use Rattle.stored.proofs.TableSums.{named_part, over, over_le, over_one, over_sum, over_zero, part_here}
 
 -- ---- by name
 
@@ -103,59 +103,6 @@ form_size bytes e = by_tests (length bytes == 0) (length bytes == 1472) (length 
     by_tests false false true d e f g h = inr (inr (true_eq (length bytes) 1480 g))
     by_tests false false false d e f g h = cc
 
--- ---- how many files there are
-
-used_over : (files : Table) → used files ≡ over (λ f. 1) files
-used_over [] = refl
-used_over (None ∷ files) = used_over files
-used_over (Some f ∷ files) = let e = used_over files in omega (arith, e)
-
--- one for a file with one of the first so many names
-abbrev numbered_part : (ℕ → List ℕ) → ℕ → File → ℕ
-numbered_part name zero f = 0
-numbered_part name (suc n) f = named_part (name n) 1 f + numbered_part name n f
-
-over_numbered : (name : ℕ → List ℕ) (n : ℕ) (files : Table) → AreDistinct files → over (numbered_part name n) files ≤ n
-over_numbered name zero files d = let e = over_zero files in omega (arith, e)
-over_numbered name (suc n) files d =
-    let sum = over_sum (named_part (name n) 1) (numbered_part name n) files in
-    let here = over_one (name n) 1 files d in
-    let rest = over_numbered name n files d in
-    omega (arith, sum, here, rest)
-
-has_part : (name : ℕ → List ℕ) (n slot : ℕ) (f : File) → slot < n → f.name ≡ name slot → 1 ≤ numbered_part name n f
-has_part name zero slot f below e = absurd (omega (arith, below))
-has_part name (suc n) slot f below e = ⊎_elim
-    (λ (before : slot < n). let rest = has_part name n slot f before e in omega (arith, rest))
-    (λ (last : n ≤ slot).
-    let same : slot ≡ n = omega (arith, below, last) in
-    let here = part_here (name n) 1 f (e ∙ ap name same) in
-    omega (arith, here))
-    (cases_lt slot n)
-
-abbrev all_parts : File → ℕ
-all_parts f = named_part catalog_file 1 f + (numbered_part rows_file 8 f + numbered_part tree_file 8 f)
-
-one_part : (f : File) → is_of_database f.name f.kind ≡ true → 1 ≤ all_parts f
-one_part f e = ⊎_elim
-    (λ (c : (f.name ≡ catalog_file) × (f.kind ≡ Fixed 6)). let here = part_here catalog_file 1 f c.0 in omega (arith, here))
-    (λ (n : (IsNumbered 84 f.name ⊎ IsNumbered 88 f.name) × (f.kind ≡ Doubling)). ⊎_elim
-    (λ (t : IsNumbered 84 f.name). let here = has_part rows_file 8 t.slot f t.below t.is in omega (arith, here))
-    (λ (x : IsNumbered 88 f.name). let here = has_part tree_file 8 x.slot f x.below x.is in omega (arith, here))
-    n.0)
-    (by_kind f.name f.kind e)
-
-few_used : (files : Table) → AreDistinct files → AreInTable files → Unbroken files → used files ≤ 17
-few_used files d few u =
-    let all = used_over files in
-    let each = over_le (λ f. 1) all_parts files (λ id f e. one_part f (of_database files id f few u e)) in
-    let two = over_sum (named_part catalog_file 1) (λ f. numbered_part rows_file 8 f + numbered_part tree_file 8 f) files in
-    let three = over_sum (numbered_part rows_file 8) (numbered_part tree_file 8) files in
-    let catalog = over_one catalog_file 1 files d in
-    let rows = over_numbered rows_file 8 files d in
-    let trees = over_numbered tree_file 8 files d in
-    omega (arith, all, each, two, three, catalog, rows, trees)
-
 -- ---- all of it
 
 catalog_there : (files : Table) → AreDistinct files → AreInTable files → Unbroken files → HasCatalog files ⊎ IsUnnamed files catalog_file
@@ -202,5 +149,5 @@ its_files files size d e =
           (tree_wanted files (catalog_in files).relations (catalog_in files).indexes slot
           (first_false (breaks_files files (catalog_in files).relations (catalog_in files).indexes) 16 (8 + slot) (omega (arith, below)) u.files_there));
       kinds = kinds_of files few u;
-      few = few_used files d few u;
+      few = few_files files d (λ id f e. of_database files id f few u e);
     }

@@ -1,6 +1,7 @@
 pub mod Crowded
 pub mod Empty
 pub mod DatabaseShares
+pub mod FewFiles
 pub mod FilesOf
 pub mod HasFiles
 pub mod SameBase

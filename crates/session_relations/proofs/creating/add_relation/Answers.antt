@@ -10,7 +10,7 @@ use Rattle.session_model.specs.Running.{IsRelationSlot, IsRunning}
 use Rattle.session_model.specs.View.{view}
 use Rattle.session_model.specs.Wanted.{WantsFew}
 use Rattle.session_model.proofs.Catalogs.{catalog_there}
-use Rattle.session_model.proofs.Few.{few_files}
+use Rattle.stored.proofs.FewFiles.{few_files}
 use Rattle.session_relations.specs.Changes.{AsksSlot, PutsSlot, Shows, bare_relation, bare_schema, changed_at}
 use Rattle.session_relations.proofs.Causes.{cause_done, cause_failed, cause_space}
 use Rattle.session_relations.proofs.Created.{free_slot_none, new_tuples, shows_created, wants_first, wants_slot}

@@ -1,7 +1,7 @@
 use Rattle.std.proofs.Common.{arith, ℕ, List, subst}
 use Rattle.afl_base.specs.declared.kind.Kind.TheVariants.{Fixed}
 use Rattle.afl_base.specs.Files.{Creates}
-use Rattle.session_model.proofs.Few.{few_files}
+use Rattle.stored.proofs.FewFiles.{few_files}
 use Rattle.session_relations.proofs.Shown.{shows_made}
 use Rattle.session_relations.proofs.creating.make_catalog.Goals as goal
 

@@ -1,4 +1,4 @@
--- The files of a session are few, so that another one may be made.
+-- The files of a database are few.
 use Rattle.std.proofs.Common.{◌≡◌, ℕ, zero, suc, ◌+◌, ◌<◌, ◌≤◌, ⊎_elim, ◌⊎◌, true, List, [], ◌∷◌, Option, Some, None, refl, ap, ◌∙◌, arith}
 use Rattle.std.proofs.lemmas.Bool.{cases_lt}
 use Rattle.afl_base.specs.Files.{AreDistinct, File, Table, place, used}
@@ -7,7 +7,6 @@ use Rattle.catalog.specs.Rules.{is_of_database}
 use Rattle.space_model.specs.FileNames.{catalog_file, rows_file, tree_file}
 use Rattle.stored.proofs.FilesOf.{IsNumbered, by_kind}
 use Rattle.stored.proofs.TableSums.{named_part, over, over_le, over_one, over_sum, over_zero, part_here}
-use Rattle.session_model.specs.Running.{AreOfDatabase}
 
 used_over : (files : Table) → used files ≡ over (λ f. 1) files
 used_over [] = refl
@@ -50,7 +49,7 @@ one_part f e = ⊎_elim
     (by_kind f.name f.kind e)
 
 -- a catalog, and eight files of rows and eight trees at most
-pub few_files : (files : Table) → AreDistinct files → AreOfDatabase files → used files ≤ 17
+pub few_files : (files : Table) → AreDistinct files → ((id : ℕ) (f : File) → place files id ≡ Some f → is_of_database f.name f.kind ≡ true) → used files ≤ 17
 few_files files d known =
     let all = used_over files in
     let each = over_le (λ f. 1) all_parts files (λ id f e. one_part f (known id f e)) in

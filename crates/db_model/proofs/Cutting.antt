@@ -2,7 +2,7 @@
 use Rattle.std.proofs.Common.{◌≡◌, refl, sym, ap, ◌∙◌, ℕ, Bool, true, false, List, [], ◌∷◌, ◌++◌, length, append_assoc, append-nil}
 use Rattle.std.specs.Prelude.{cond, nat_lt}
 use Rattle.db_model.specs.Script.{Entry, Long, Unfinished, Bytes, ends_piece, quoted_after, ended, unended, past_white, onto, pieces, entries_of, commands, finished, whole}
-use Rattle.run_model.specs.Pieces.{entries_after, quoted_behind, piece_behind, ended_by}
+use Rattle.db_model.specs.Pieces.{entries_after, quoted_behind, piece_behind, ended_by}
 
 -- ---- byte by byte
 

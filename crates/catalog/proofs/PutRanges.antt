@@ -1,0 +1,33 @@
+-- Ranges of bytes in which a part is written.
+use Rattle.std.proofs.Common.{◌≡◌, ℕ, ◌+◌, ◌-◌, ◌≤◌, List, ◌++◌, length, take, drop, sym, ap, subst, ◌∙◌, arith, length-append}
+use Rattle.std.specs.Prelude.{slice_range}
+use Rattle.std.proofs.lemmas.List.{drop-drop, drop-take, drop_at, length-take-le, take-append-le, take_at}
+use Rattle.afl_base.specs.Fields.{put_at}
+use Rattle.afl_base.proofs.FieldLaws.{drop-put_at, length-put_at}
+use Rattle.afl_base.proofs.PutLaws.{take-put_at}
+
+range_front : (xs : List ℕ) (a b : ℕ) → a ≤ b → slice_range xs a b ≡ drop a (take b xs)
+range_front xs a b h = let e : a + (b - a) ≡ b = omega (arith, h) in sym (drop-take a (b - a) xs) ∙ ap (λ (n : ℕ). drop a (take n xs)) e
+
+pub before_put : (old part : List ℕ) (at a b : ℕ) → a ≤ b → b ≤ at → at ≤ length old → slice_range (put_at old at part) a b ≡ slice_range old a b
+before_put old part at a b h before room = range_front (put_at old at part) a b h ∙ ap (drop a) (take-put_at old part at b before room) ∙ sym (range_front old a b h)
+
+pub behind_put : (old part : List ℕ) (at a b : ℕ) → at + length part ≤ a → at ≤ length old → slice_range (put_at old at part) a b ≡ slice_range old a b
+unfolding put_at
+behind_put old part at a b behind room =
+    let end : ℕ = at + length part in
+    let more : ℕ = a - end in
+    let front : List ℕ = take at old ++ part in
+    let rest : List ℕ = drop end old in
+    let long : length front ≡ end = length-append (take at old) part ∙ omega (arith, length-take-le at old room) in
+    let same : end + more ≡ a = omega (arith, behind) in
+    ap (take (b - a)) (subst (λ (n : ℕ). drop n (front ++ rest) ≡ drop n old) same
+    (sym (drop-drop more end (front ++ rest)) ∙ ap (drop more) (drop_at front rest end long) ∙ drop-drop more end old))
+
+pub here_put : (old part : List ℕ) (at n : ℕ) → length part ≡ n → at ≤ length old → slice_range (put_at old at part) at (at + n) ≡ part
+here_put old part at n long room =
+    let m : length part ≡ (at + n) - at = omega (arith, long) in
+    ap (take ((at + n) - at)) (drop-put_at old part at room) ∙ take_at part (drop (at + length part) old) ((at + n) - at) m
+
+pub range_of_front : (xs ys : List ℕ) (a b : ℕ) → a ≤ b → b ≤ length xs → slice_range (xs ++ ys) a b ≡ slice_range xs a b
+range_of_front xs ys a b h inside = range_front (xs ++ ys) a b h ∙ ap (drop a) (take-append-le b xs ys inside) ∙ sym (range_front xs a b h)
