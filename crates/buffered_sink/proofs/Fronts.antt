@@ -1,5 +1,5 @@
 -- Laws of texts of which a part went through a sink that gathers.
-use Rattle.std.proofs.Common.{◌≡◌, ℕ, ◌<◌, List, [], ◌∷◌, ◌++◌, length, Option, Some, None, refl, ap, sym, ◌∙◌, append_assoc, arith, length-append}
+use Rattle.std.proofs.Common.{◌≡◌, ℕ, ◌<◌, List, [], ◌∷◌, ◌++◌, length, Option, Some, None, refl, ap, subst, sym, ◌∙◌, append_assoc, arith, length-append}
 use Rattle.std.proofs.lemmas.List.{append-nil, append_cancel_left}
 use Rattle.std.specs.Io.KnownBytes.{append_known}
 use Rattle.buffered_sink.specs.Growing.{append_none, append_twice}
@@ -7,11 +7,11 @@ use Rattle.buffered_sink.specs.Handing.{Grew, Hands, WroteFront}
 use Rattle.reply_text.specs.WroteLess.{WroteLess}
 
 -- nothing more was handed on
-pub front_unsent : (h0 h1 : Option (List ℕ)) (waits : List ℕ) → Grew h0 h1 → WroteFront h0 h1 (append_known h1 waits)
+abbrev pub front_unsent : (h0 h1 : Option (List ℕ)) (waits : List ℕ) → Grew h0 h1 → WroteFront h0 h1 (append_known h1 waits)
 front_unsent h0 h1 waits g = record { written = g.more; left = waits; held = g.held; whole = refl }
 
 -- what waited was handed on as far as the sink took it
-pub front_sent : (h0 h1 h2 : Option (List ℕ)) (waited waits : List ℕ) → Grew h0 h1 → Hands h1 h2 waited waits → WroteFront h0 h2 (append_known h1 waited)
+abbrev pub front_sent : (h0 h1 h2 : Option (List ℕ)) (waited waits : List ℕ) → Grew h0 h1 → Hands h1 h2 waited waits → WroteFront h0 h2 (append_known h1 waited)
 front_sent h0 h1 h2 waited waits g h = record {
   written = g.more ++ h.went;
   left = waits;
@@ -75,3 +75,16 @@ less_of_less h0 h2 wanted all w l =
       whole = l.whole ∙ ap (λ xs. xs ++ l.left) p.whole ∙ append_assoc p.written p.left l.left;
       held = p.held;
     }
+
+-- ---- a text that is written to a sink which gathers, and in which nothing waited
+
+-- it was not gathered whole
+pub less_unsent : (h0 h1 : Option (List ℕ)) (none waits all : List ℕ) → none ≡ [] → Grew h0 h1 → WroteLess (append_known h0 none) (append_known h1 waits) all → WroteLess h0 h1 all
+less_unsent h0 h1 none waits all e g l =
+    less_of_less h0 h1 (append_known h1 waits) all (front_unsent h0 h1 waits g) (subst (λ h. WroteLess h (append_known h1 waits) all) (ap (append_known h0) e ∙ append_none h0) l)
+
+-- it was gathered whole, and not handed on whole
+pub less_sent : (h0 h1 h2 : Option (List ℕ)) (none waited waits all : List ℕ) → none ≡ [] → Grew h0 h1 → Hands h1 h2 waited waits → 0 < length waits
+    → append_known h1 waited ≡ append_known (append_known h0 none) all → 0 < length all → WroteLess h0 h2 all
+less_sent h0 h1 h2 none waited waits all e g h left is some =
+    less_of_all h0 h2 (append_known h1 waited) all (front_sent h0 h1 h2 waited waits g h) (is ∙ ap (λ k. append_known k all) (ap (append_known h0) e ∙ append_none h0)) left some
