@@ -4,6 +4,7 @@
 
 ghost use Rattle.std.specs.Prelude.{◌≡◌, ◌+◌, ◌*◌, ◌≤◌, None, true, false, IsTrue, IfErr, IfOk, IsErrOf, OnErr, OnOk, length, map};
 ghost use Rattle.std.specs.List.{range_with_len};
+ghost use Rattle.afl_base.specs.Causes.{HasCause};
 ghost use Rattle.db_model.specs.Ahead.{aheads_after, cost_of, no_cursors};
 ghost use Rattle.db_model.specs.Cost.{sum};
 ghost use Rattle.db_model.specs.ReplyText.{text};
@@ -28,7 +29,7 @@ use afl_base::{Failed, Files, Sink};
 use db_model::Command;
 use index_set::HashTables;
 use session_model::{Held, Open, Step, Stop};
-use session_start::open_database;
+use session_start::{BrokenRule, open_database};
 use std::marker::Model;
 
 /// A database in files, with at most four open cursors. Contracts see the files, the database, what
@@ -88,19 +89,74 @@ impl<V: Files> Session<V> {
             length after.store ≡ length (V.state files).store }
         ensures cause { HasStartCause (V.faults files) (V.faults (files_after result)) result }
     {
-        let mut files = files;
-        let mut tables = HashTables::new();
-        match open_database(&mut files, &mut tables) {
-            Ok(Ok(held)) => Ok(Session {
-                files,
-                tables,
-                held,
-                opens: [None, None, None, None],
-                stopped: false,
-                lost: false,
-            }),
-            Ok(Err(broken)) => Err(StartError::Bad { broken, files }),
-            Err(Failed) => Err(StartError::Failed { files }),
+        let mut session = Session::new(files);
+        match session.begin() {
+            Ok(Ok(())) => Ok(session),
+            Ok(Err(broken)) => {
+                let files = session.files;
+                Err(StartError::Bad { broken, files })
+            }
+            Err(Failed) => {
+                let files = session.files;
+                Err(StartError::Failed { files })
+            }
+        }
+    }
+
+    /// A session over files that nobody has judged yet: it is stopped until it is begun.
+    // Not inlined, since its caller would keep the parts of which it is made on its stack.
+    #[inline(never)]
+    pub fn new(files: V) -> Session<V>
+        ensures files { result.files ≡ files }
+        ensures stopped { (result.stopped ≡ true) × (result.lost ≡ true) }
+    {
+        Session {
+            files,
+            tables: HashTables::new(),
+            held: nothing_held(),
+            opens: [None, None, None, None],
+            stopped: true,
+            lost: true,
+        }
+    }
+
+    /// Judges the files and opens the database that they hold in the place of what was opened, with no cursor
+    /// open. Where a rule is broken or a file failed the session is stopped.
+    ///
+    /// # Errors
+    ///
+    /// The inner error comes exactly where one of the rules 14 to 20 is broken, and names the first with its
+    /// place.
+    #[inline(never)]
+    pub fn begin(&mut self) -> Result<Result<(), BrokenRule>, Failed>
+        requires idle { (V.state self.old.files).draft ≡ None }
+        ensures sound { IsTrue (V.state self.old.files).tells → IfOk result (λ r.
+            OnOk r (IsSoundTable (V.state self.old.files).files)) }
+        ensures base { IsTrue (V.state self.old.files).tells → IfOk result (λ r.
+            OnOk r (self.new.database ≡ base_of (V.state self.old.files).files)) }
+        ensures bad { IsTrue (V.state self.old.files).tells → IfOk result (λ r. IfErr r (λ broken.
+            BreaksFirst (V.state self.old.files).files broken.rule broken.place)) }
+        ensures same { OnOk result (V.state self.new.files ≡ V.state self.old.files) }
+        ensures running { IfOk result (λ r. OnOk r ((self.new.stopped ≡ false) × (self.new.lost ≡ false))) }
+        ensures aheads { IfOk result (λ r. OnOk r (self.new.aheads ≡ no_cursors)) }
+        ensures reads { let base = base_of (V.state self.old.files).files in
+            IsTrue (V.state self.old.files).tells → V.reads self.new.files ≤ V.reads self.old.files
+            + 1024 + 16384 + 16 * sum (map (slots_opened base) (range_with_len 0 8)) }
+        ensures store { length (V.state self.new.files).store ≡ length (V.state self.old.files).store }
+        ensures cause { HasCause (V.faults self.old.files) (V.faults self.new.files) result }
+    {
+        self.lost = true;
+        self.stopped = self.lost;
+        match open_database(&mut self.files, &mut self.tables) {
+            Ok(Ok(held)) => {
+                self.held = held;
+                self.opens = [None, None, None, None];
+                self.stopped = false;
+                self.lost = false;
+                Ok(Ok(()))
+            }
+            Ok(Err(broken)) => Ok(Err(broken)),
+            Err(Failed) => Err(Failed),
         }
     }
 
@@ -185,6 +241,16 @@ impl<V: Files> Session<V> {
         ensures idle { self.lost ≡ false → (V.state result).draft ≡ None }
     {
         self.files
+    }
+}
+
+// Of no file.
+fn nothing_held() -> Held {
+    Held {
+        version: 0,
+        cat: None,
+        relations: [None, None, None, None, None, None, None, None],
+        indexes: [None; 8],
     }
 }
 

@@ -16,7 +16,8 @@ ghost use Rattle.antelope_run.specs.declared.came.Came.TheVariants as AnyCame;
 use crate::came::Came;
 use crate::carrying::carry_out;
 use crate::image_line::write_image_line;
-use crate::opening::{OpenError, close, open};
+use antelope_engine::Session;
+use coffee_volume::{MountError, Volume};
 use crate::reading::form;
 use crate::words::Form;
 use afl_base::{Failed, Flash, Sink, Source};
@@ -133,14 +134,28 @@ fn run_form<F: Flash, S: Source, K: Sink>(
 {
     sound_files_are_a_sound_database();
     let sectors = flash.sectors();
-    match open(flash) {
-        Ok(session) => {
-            let (done, session) = carry_out(form, sectors, session, input, out);
-            (Came::Opened(done), close(session))
-        }
-        Err(OpenError::Bad { rule, place, flash }) => (refuse(out, rule, place), flash),
-        Err(OpenError::Failed { flash }) => (Came::Failed, flash),
+    match Volume::mount(flash) {
+        Ok(volume) => run_over(form, sectors, volume, input, out),
+        Err(MountError::Bad { bad, flash }) => (refuse(out, bad.rule, bad.place), flash),
+        Err(MountError::Failed { flash }) => (Came::Failed, flash),
     }
+}
+
+fn run_over<F: Flash, S: Source, K: Sink>(
+    form: Form,
+    sectors: u16,
+    volume: Volume<F>,
+    input: &mut S,
+    out: &mut K,
+) -> (Came, F)
+{
+    let mut session = Session::new(volume);
+    let came = match session.begin() {
+        Ok(Ok(())) => Came::Opened(carry_out(form, sectors, &mut session, input, out)),
+        Ok(Err(broken)) => refuse(out, broken.rule, broken.place),
+        Err(Failed) => Came::Failed,
+    };
+    (came, session.close().unmount())
 }
 
 // Writes the first broken rule of an image, and its place.

@@ -28,31 +28,31 @@ use serve::serve_line;
 use space_plan::{planned, write_plan};
 use workload_run::generate;
 
-/// Carries out what a form asks for on a flash of so many sectors, and hands back the session.
+/// Carries out what a form asks for on a flash of so many sectors.
 pub fn carry_out<V: Files, S: Source, K: Sink>(
     form: Form,
     sectors: u16,
-    session: Session<V>,
+    session: &mut Session<V>,
     input: &mut S,
     out: &mut K,
-) -> (Result<(), Stop>, Session<V>)
-    requires running { session.stopped ≡ false }
+) -> Result<(), Stop>
+    requires running { session.old.stopped ≡ false }
     requires commands { HasFewCommands form }
-    ensures does { IsTrue (V.state session.files).tells → session.lost ≡ false → IsSoundDatabase session.database
-        → Does (standing_of V.state V.reads session (K.held out.old))
-        (standing_of V.state V.reads result.1 (K.held out.new)) sectors (S.left input.old) (S.left input.new)
-        (LacksPages V.state V.asks V.lacks result.1) form result.0 }
-    ensures reaches { ReachesBy form result.0 (S.left input.old) (S.left input.new) }
-    ensures lost { session.lost ≡ false → result.1.lost ≡ true → result.0 ≡ Err (Stop.Halted Halt.Flash) }
-    ensures store { length (V.state result.1.files).store ≡ length (V.state session.files).store }
-    ensures reads { IsTrue (V.state session.files).tells → CarriedReads form
-        (standing_of V.state V.reads session (K.held out.old)) (S.left input.old) (V.reads result.1.files) }
-    ensures same { OnlyTells form → result.0 ≢ Err (Stop.Halted Halt.Flash)
-        → (V.state result.1.files).store ≡ (V.state session.files).store }
+    ensures does { IsTrue (V.state session.old.files).tells → session.old.lost ≡ false → IsSoundDatabase session.old.database
+        → Does (standing_of V.state V.reads session.old (K.held out.old))
+        (standing_of V.state V.reads session.new (K.held out.new)) sectors (S.left input.old) (S.left input.new)
+        (LacksPages V.state V.asks V.lacks session.new) form result }
+    ensures reaches { ReachesBy form result (S.left input.old) (S.left input.new) }
+    ensures lost { session.old.lost ≡ false → session.new.lost ≡ true → result ≡ Err (Stop.Halted Halt.Flash) }
+    ensures store { length (V.state session.new.files).store ≡ length (V.state session.old.files).store }
+    ensures reads { IsTrue (V.state session.old.files).tells → CarriedReads form
+        (standing_of V.state V.reads session.old (K.held out.old)) (S.left input.old) (V.reads session.new.files) }
+    ensures same { OnlyTells form → result ≢ Err (Stop.Halted Halt.Flash)
+        → (V.state session.new.files).store ≡ (V.state session.old.files).store }
     ensures unread { (TakesInput (Some form) → ⊥) → input.new ≡ input.old }
     ensures keeps { K.keeps out.old out.new }
     ensures cause { HasRunCause (S.faults input.old) (S.faults input.new)
-        (V.faults session.files) (V.faults result.1.files) (K.faults out.old) (K.faults out.new) result.0 }
+        (V.faults session.old.files) (V.faults session.new.files) (K.faults out.old) (K.faults out.new) result }
 {
     match form {
         Form::Run => run_script(session, input, out),
@@ -65,27 +65,25 @@ pub fn carry_out<V: Files, S: Source, K: Sink>(
 
 // Carries out generated commands.
 fn generate_all<V: Files, K: Sink>(
-    session: Session<V>,
+    session: &mut Session<V>,
     seed: u32,
     count: u32,
     out: &mut K,
-) -> (Result<(), Stop>, Session<V>)
-    requires running { session.stopped ≡ false }
+) -> Result<(), Stop>
+    requires running { session.old.stopped ≡ false }
     requires few { count ≤ 100000 }
-    ensures does { let old = standing_of V.state V.reads session (K.held out.old) in
-        let new = standing_of V.state V.reads result.1 (K.held out.new) in
-        IsTrue (V.state session.files).tells → session.lost ≡ false → TellsOn old new result.0 × Generates old new
-        (LacksPages V.state V.asks V.lacks result.1) (first_commands seed count) result.0 }
-    ensures lost { session.lost ≡ false → result.1.lost ≡ true → result.0 ≡ Err (Stop.Halted Halt.Flash) }
-    ensures store { length (V.state result.1.files).store ≡ length (V.state session.files).store }
-    ensures halts { OnlyHalts result.0 }
+    ensures does { let old = standing_of V.state V.reads session.old (K.held out.old) in
+        let new = standing_of V.state V.reads session.new (K.held out.new) in
+        IsTrue (V.state session.old.files).tells → session.old.lost ≡ false → TellsOn old new result × Generates old new
+        (LacksPages V.state V.asks V.lacks session.new) (first_commands seed count) result }
+    ensures lost { session.old.lost ≡ false → session.new.lost ≡ true → result ≡ Err (Stop.Halted Halt.Flash) }
+    ensures store { length (V.state session.new.files).store ≡ length (V.state session.old.files).store }
+    ensures halts { OnlyHalts result }
     ensures keeps { K.keeps out.old out.new }
-    ensures cause { (inputs : ℕ) → HasRunCause inputs inputs (V.faults session.files)
-        (V.faults result.1.files) (K.faults out.old) (K.faults out.new) result.0 }
+    ensures cause { (inputs : ℕ) → HasRunCause inputs inputs (V.faults session.old.files)
+        (V.faults session.new.files) (K.faults out.old) (K.faults out.new) result }
 {
-    let mut session = session;
-    let done = generate(&mut session, seed, count, out);
-    (halted(done), session)
+    halted(generate(session, seed, count, out))
 }
 
 fn halted(done: Result<(), Halt>) -> Result<(), Stop>
@@ -99,47 +97,45 @@ fn halted(done: Result<(), Halt>) -> Result<(), Stop>
 
 // Writes how many sectors are planned for so many rows more, and how many there are.
 fn plan<V: Files, K: Sink>(
-    session: Session<V>,
+    session: &mut Session<V>,
     rows: u16,
     sectors: u16,
     out: &mut K,
-) -> (Result<(), Stop>, Session<V>)
-    requires running { session.stopped ≡ false }
-    ensures does { let old = standing_of V.state V.reads session (K.held out.old) in
-        let new = standing_of V.state V.reads result.1 (K.held out.new) in
-        IsTrue (V.state session.files).tells → IsSoundDatabase session.database
-        → TellsOn old new result.0 × Writes old new (plan_text (planned session.database rows) sectors) result.0 }
-    ensures same { result.1 ≡ session }
-    ensures halts { OnlyHalts result.0 }
+) -> Result<(), Stop>
+    requires running { session.old.stopped ≡ false }
+    ensures does { let old = standing_of V.state V.reads session.old (K.held out.old) in
+        let new = standing_of V.state V.reads session.new (K.held out.new) in
+        IsTrue (V.state session.old.files).tells → IsSoundDatabase session.old.database
+        → TellsOn old new result × Writes old new (plan_text (planned session.old.database rows) sectors) result }
+    ensures same { session.new ≡ session.old }
+    ensures halts { OnlyHalts result }
     ensures keeps { K.keeps out.old out.new }
-    ensures cause { (inputs : ℕ) → HasRunCause inputs inputs (V.faults session.files)
-        (V.faults result.1.files) (K.faults out.old) (K.faults out.new) result.0 }
+    ensures cause { (inputs : ℕ) → HasRunCause inputs inputs (V.faults session.old.files)
+        (V.faults session.new.files) (K.faults out.old) (K.faults out.new) result }
 {
-    let needed = planned(&session, rows);
+    let needed = planned(session, rows);
     match write_plan(out, needed, sectors) {
-        Ok(()) => (Ok(()), session),
-        Err(Failed) => (Err(Stop::Halted(Halt::Sink)), session),
+        Ok(()) => Ok(()),
+        Err(Failed) => Err(Stop::Halted(Halt::Sink)),
     }
 }
 
 // Writes the database as a script.
-fn dump_all<V: Files, K: Sink>(session: Session<V>, out: &mut K) -> (Result<(), Stop>, Session<V>)
-    requires running { session.stopped ≡ false }
-    ensures does { let old = standing_of V.state V.reads session (K.held out.old) in
-        let new = standing_of V.state V.reads result.1 (K.held out.new) in
-        IsTrue (V.state session.files).tells → IsSoundDatabase session.database
-        → TellsOn old new result.0 × Writes old new (script session.database) result.0 }
-    ensures same { result.0 ≢ Err (Stop.Halted Halt.Flash) → IsAsBefore V.state session result.1 }
-    ensures lost { session.lost ≡ false → result.1.lost ≡ true → result.0 ≡ Err (Stop.Halted Halt.Flash) }
-    ensures store { length (V.state result.1.files).store ≡ length (V.state session.files).store }
-    ensures halts { OnlyHalts result.0 }
+fn dump_all<V: Files, K: Sink>(session: &mut Session<V>, out: &mut K) -> Result<(), Stop>
+    requires running { session.old.stopped ≡ false }
+    ensures does { let old = standing_of V.state V.reads session.old (K.held out.old) in
+        let new = standing_of V.state V.reads session.new (K.held out.new) in
+        IsTrue (V.state session.old.files).tells → IsSoundDatabase session.old.database
+        → TellsOn old new result × Writes old new (script session.old.database) result }
+    ensures same { result ≢ Err (Stop.Halted Halt.Flash) → IsAsBefore V.state session.old session.new }
+    ensures lost { session.old.lost ≡ false → session.new.lost ≡ true → result ≡ Err (Stop.Halted Halt.Flash) }
+    ensures store { length (V.state session.new.files).store ≡ length (V.state session.old.files).store }
+    ensures halts { OnlyHalts result }
     ensures keeps { K.keeps out.old out.new }
-    ensures cause { (inputs : ℕ) → HasRunCause inputs inputs (V.faults session.files)
-        (V.faults result.1.files) (K.faults out.old) (K.faults out.new) result.0 }
+    ensures cause { (inputs : ℕ) → HasRunCause inputs inputs (V.faults session.old.files)
+        (V.faults session.new.files) (K.faults out.old) (K.faults out.new) result }
 {
-    let mut session = session;
-    let done = dump::write(&mut session, out);
-    (stopped(done), session)
+    stopped(dump::write(session, out))
 }
 
 fn stopped(done: Result<(), session_model::Stop>) -> Result<(), Stop>

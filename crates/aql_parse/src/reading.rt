@@ -29,8 +29,8 @@ pub struct Parser {
 
 impl Parser {
     /// A parser that has read nothing yet: 31 KB, so it is made once and lent from then on.
-    // Not inlined, since its caller would keep the parts of which it is made on its stack.
-    #[inline(never)]
+    // Inlined, so that its parts are made in their places: on the stack each would stand twice else.
+    #[inline(always)]
     pub fn new() -> Parser {
         Parser {
             tokens: Few::new(),

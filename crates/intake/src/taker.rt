@@ -20,6 +20,8 @@ pub trait Taker {
     ghost Halts: { Self × Out → List ℕ → Self × Out → Halt → Type 0 };
     // It went no further in what was left at the end.
     ghost HaltsAtEnd: { Self × Out → Self × Out → Halt → Type 0 };
+    // What no call changes.
+    ghost stays: { Self → Self → Type 0 };
 
     /// Takes the next byte.
     fn take<K: Sink>(&mut self, out: &mut K, byte: u8) -> Result<(), Halt>
@@ -28,6 +30,7 @@ pub trait Taker {
         ensures halts { IfErr result (λ halt.
             Halts (self.old, out_of (K.held out.old) (K.faults out.old)) (byte ∷ [])
             (self.new, out_of (K.held out.new) (K.faults out.new)) halt) }
+        ensures stays { stays self.old self.new }
         ensures keeps { K.keeps out.old out.new };
 
     /// Takes the end of the input.
@@ -37,7 +40,12 @@ pub trait Taker {
         ensures halts { IfErr result (λ halt.
             HaltsAtEnd (self.old, out_of (K.held out.old) (K.faults out.old))
             (self.new, out_of (K.held out.new) (K.faults out.new)) halt) }
+        ensures stays { stays self.old self.new }
         ensures keeps { K.keeps out.old out.new };
+
+    ghost stayed: { (a : Self) → stays a a };
+
+    ghost stayed_on: { (a b c : Self) → stays a b → stays b c → stays a c };
 
     // Bytes are taken one after the other, and where it goes no further the bytes behind that play no part.
     ghost none: { (a : Self × Out) → Takes a [] a };

@@ -21,6 +21,7 @@ fn take_all<T: Taker, K: Sink>(taker: &mut T, out: &mut K, bytes: &[u8]) -> Resu
     ensures halts { IfErr result (λ halt.
         T.Halts (taker.old, out_of (K.held out.old) (K.faults out.old)) bytes.now
         (taker.new, out_of (K.held out.new) (K.faults out.new)) halt) }
+    ensures stays { T.stays taker.old taker.new }
     ensures keeps { K.keeps out.old out.new }
 {
     for byte in bytes {
@@ -58,6 +59,7 @@ pub fn take_through<S: Source, T: Taker, K: Sink>(
         (taker.new, out_of (K.held out.new) (K.faults out.new)) (S.left input.old) (S.left input.new) }
     ensures input { result ≡ Err Stop.Input → Rose (S.faults input.old) (S.faults input.new) }
     ensures later { S.faults input.old ≤ S.faults input.new }
+    ensures stays { T.stays taker.old taker.new }
     ensures keeps { K.keeps out.old out.new }
 {
     let mut buffer = [0u8; 4096];

@@ -22,20 +22,23 @@ use aql_parse::Parser;
 use db_model::{Command, Refusal};
 use intake::{Halt, Taker};
 
-/// What takes the bytes of a script and carries out its commands.
+/// What takes the bytes of a script and carries out its commands over a session that is lent to it.
 #[derive(Drop)]
-pub struct Runner<V: Files> {
-    pub session: Session<V>,
+pub struct Runner<'a, V: Files> {
+    pub session: &'a mut Session<V>,
     pub piece: Piece,
     // What reads commands, and the command at hand: kept in their places.
     parser: Parser,
     command: Command,
 }
 
-impl<V: Files> Runner<V> {
+impl<'a, V: Files> Runner<'a, V> {
     /// Before the first byte of a script.
-    pub fn new(session: Session<V>) -> Runner<V>
-        ensures session { result.session ≡ session }
+    // Inlined, so that its parts are made in their places.
+    #[inline(always)]
+    pub fn new(session: &'a mut Session<V>) -> Runner<'a, V>
+        ensures lent { result.session.ghost_name ≡ session.entry.ghost_name }
+        ensures session { result.session.now ≡ session.old }
         ensures keeps { Keeps (false, []) result.piece }
     {
         Runner {
@@ -47,7 +50,9 @@ impl<V: Files> Runner<V> {
     }
 }
 
-impl<V: Files> Taker for Runner<V> {
+impl<'a, V: Files> Taker for Runner<'a, V> {
+    ghost use Rattle.std.specs.Prelude.{◌≡◌};
+    ghost use Rattle.std.proofs.Common.{refl, ◌∙◌};
     ghost use Rattle.answering.proofs.Taken.{halted_before, halted_behind, taken_more, taken_none};
     ghost use Rattle.answering.specs.Taking.{EndsInput, HaltsAtLast, HaltsInBytes, TakesBytes, running, saying};
     ghost use Rattle.run_model.specs.Scripts.{script_line};
@@ -55,21 +60,21 @@ impl<V: Files> Taker for Runner<V> {
     ghost use Rattle.run_model.proofs.Parts.{script_parts};
 
     ghost Takes = { λ a came b. TakesBytes script_input (saying V.state V.reads V.faults V.asks V.lacks)
-        (running a.0.session a.0.piece a.1.held a.1.faults) came (running b.0.session b.0.piece b.1.held b.1.faults) };
+        (running a.0.session.now a.0.piece a.1.held a.1.faults) came (running b.0.session.now b.0.piece b.1.held b.1.faults) };
 
     ghost Ends = { λ a b. EndsInput script_input (saying V.state V.reads V.faults V.asks V.lacks)
-        (running a.0.session a.0.piece a.1.held a.1.faults) (running b.0.session b.0.piece b.1.held b.1.faults) };
+        (running a.0.session.now a.0.piece a.1.held a.1.faults) (running b.0.session.now b.0.piece b.1.held b.1.faults) };
 
     ghost Halts = { λ a came b halt. HaltsInBytes script_input (saying V.state V.reads V.faults V.asks V.lacks)
-        (running a.0.session a.0.piece a.1.held a.1.faults) came
-        (running b.0.session b.0.piece b.1.held b.1.faults) halt };
+        (running a.0.session.now a.0.piece a.1.held a.1.faults) came
+        (running b.0.session.now b.0.piece b.1.held b.1.faults) halt };
 
     ghost HaltsAtEnd = { λ a b halt. HaltsAtLast script_input (saying V.state V.reads V.faults V.asks V.lacks)
-        (running a.0.session a.0.piece a.1.held a.1.faults) (running b.0.session b.0.piece b.1.held b.1.faults) halt };
+        (running a.0.session.now a.0.piece a.1.held a.1.faults) (running b.0.session.now b.0.piece b.1.held b.1.faults) halt };
 
     fn take<K: Sink>(&mut self, out: &mut K, byte: u8) -> Result<(), Halt> {
         take_byte(
-            &mut self.session,
+            self.session,
             &mut self.parser,
             &mut self.command,
             &mut self.piece,
@@ -79,25 +84,31 @@ impl<V: Files> Taker for Runner<V> {
     }
 
     fn end<K: Sink>(&mut self, out: &mut K) -> Result<(), Halt> {
-        take_end(&mut self.session, &self.piece, out)
+        take_end(self.session, &self.piece, out)
     }
 
+    ghost stays = { λ a b. b.session.ghost_name ≡ a.session.ghost_name };
+
+    ghost stayed = { λ a. refl };
+
+    ghost stayed_on = { λ a b c e f. f ∙ e };
+
     ghost none = { λ a. taken_none script_input (saying V.state V.reads V.faults V.asks V.lacks) script_line script_parts
-        (running a.0.session a.0.piece a.1.held a.1.faults) };
+        (running a.0.session.now a.0.piece a.1.held a.1.faults) };
 
     ghost more = { λ a b c xs ys e f.
         taken_more script_input (saying V.state V.reads V.faults V.asks V.lacks) script_line script_parts
-        (running a.0.session a.0.piece a.1.held a.1.faults) (running b.0.session b.0.piece b.1.held b.1.faults)
-        (running c.0.session c.0.piece c.1.held c.1.faults) xs ys e f };
+        (running a.0.session.now a.0.piece a.1.held a.1.faults) (running b.0.session.now b.0.piece b.1.held b.1.faults)
+        (running c.0.session.now c.0.piece c.1.held c.1.faults) xs ys e f };
 
     ghost halts_behind = { λ a b c xs ys halt e f.
         halted_behind script_input (saying V.state V.reads V.faults V.asks V.lacks) script_line script_parts
-        (running a.0.session a.0.piece a.1.held a.1.faults) (running b.0.session b.0.piece b.1.held b.1.faults)
-        (running c.0.session c.0.piece c.1.held c.1.faults) xs ys halt e f };
+        (running a.0.session.now a.0.piece a.1.held a.1.faults) (running b.0.session.now b.0.piece b.1.held b.1.faults)
+        (running c.0.session.now c.0.piece c.1.held c.1.faults) xs ys halt e f };
 
     ghost halts_before = { λ a b xs ys halt e.
         halted_before script_input (saying V.state V.reads V.faults V.asks V.lacks) script_line script_parts
-        (running a.0.session a.0.piece a.1.held a.1.faults) (running b.0.session b.0.piece b.1.held b.1.faults)
+        (running a.0.session.now a.0.piece a.1.held a.1.faults) (running b.0.session.now b.0.piece b.1.held b.1.faults)
         xs ys halt e };
 }
 

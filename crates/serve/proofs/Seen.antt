@@ -6,4 +6,4 @@ use Rattle.serve.specs.Gathers.{Decoding}
 use Rattle.serve.specs.declared.serving.Server.{Server}
 
 abbrev pub seen : {V : Type 0} → Server V × Out → Running V Decoding
-seen a = running a.0.session a.0.decoder a.1.held a.1.faults
+seen a = running a.0.session.now a.0.decoder a.1.held a.1.faults

@@ -21,10 +21,11 @@ use crate::hearing::hear;
 use crate::replies::refuse;
 use afl_base::{Failed, Files, Sink};
 use antelope_engine::{Outcome, Session, Step, Stop};
+use aql_parse::Parser;
 use db_model::Command;
 
-/// Carries out what a client asks for in these bytes, and writes the reply frame; where there is no space,
-/// nothing is written and nothing is changed.
+/// Carries out what a client asks for in these bytes, which are read into `command`, and writes the reply
+/// frame; where there is no space, nothing is written and nothing is changed.
 ///
 /// # Errors
 ///
@@ -32,6 +33,8 @@ use db_model::Command;
 /// where that object counted a fault.
 pub fn answer<V: Files, K: Sink>(
     session: &mut Session<V>,
+    parser: &mut Parser,
+    command: &mut Command,
     client: u8,
     bytes: &[u8],
     out: &mut K,
@@ -55,9 +58,8 @@ pub fn answer<V: Files, K: Sink>(
     ensures cause { HasStopCause (V.faults session.old.files) (V.faults session.new.files)
         (K.faults out.old) (K.faults out.new) result }
 {
-    let mut command = Command::FetchCursor { number: 1 };
-    match hear(client, bytes, &mut command) {
-        Ok(()) => match reply(session, client, &command, out) {
+    match hear(parser, client, bytes, command) {
+        Ok(()) => match reply(session, client, command, out) {
             Ok(step) => Ok(step),
             Err(stop) => Err(stop),
         },

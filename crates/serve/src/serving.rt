@@ -20,30 +20,41 @@ use crate::fed::Fed;
 use crate::replies::refuse;
 use afl_base::{Failed, Files, Sink};
 use antelope_engine::{Session, Step, Stop};
-use db_model::Refusal;
+use aql_parse::Parser;
+use db_model::{Command, Refusal};
 use intake::{Halt, Taker};
 
-/// What takes the bytes of a line and answers its frames.
+/// What takes the bytes of a line and answers its frames over a session that is lent to it.
 #[derive(Drop)]
-pub struct Server<V: Files> {
-    pub session: Session<V>,
+pub struct Server<'a, V: Files> {
+    pub session: &'a mut Session<V>,
     pub decoder: Decoder,
+    // What reads commands, and the command at hand: kept in their places.
+    parser: Parser,
+    command: Command,
 }
 
-impl<V: Files> Server<V> {
+impl<'a, V: Files> Server<'a, V> {
     /// Before the first byte of a line.
-    pub fn new(session: Session<V>) -> Server<V>
-        ensures session { result.session ≡ session }
+    // Inlined, so that its parts are made in their places.
+    #[inline(always)]
+    pub fn new(session: &'a mut Session<V>) -> Server<'a, V>
+        ensures lent { result.session.ghost_name ≡ session.entry.ghost_name }
+        ensures session { result.session.now ≡ session.old }
         ensures gathers { Gathers [] result.decoder }
     {
         Server {
             session,
             decoder: Decoder::new(),
+            parser: Parser::new(),
+            command: Command::FetchCursor { number: 1 },
         }
     }
 }
 
-impl<V: Files> Taker for Server<V> {
+impl<'a, V: Files> Taker for Server<'a, V> {
+    ghost use Rattle.std.specs.Prelude.{◌≡◌};
+    ghost use Rattle.std.proofs.Common.{refl, ◌∙◌};
     ghost use Rattle.answering.proofs.Taken.{halted_before, halted_behind, taken_more, taken_none};
     ghost use Rattle.answering.specs.Taking.{EndsInput, HaltsAtLast, HaltsInBytes, TakesBytes, running, saying};
     ghost use Rattle.serve.specs.Input.{frame_input};
@@ -51,51 +62,66 @@ impl<V: Files> Taker for Server<V> {
     ghost use Rattle.serve_model.specs.Frames.{frame_line};
 
     ghost Takes = { λ a came b. TakesBytes frame_input (saying V.state V.reads V.faults V.asks V.lacks)
-        (running a.0.session a.0.decoder a.1.held a.1.faults) came
-        (running b.0.session b.0.decoder b.1.held b.1.faults) };
+        (running a.0.session.now a.0.decoder a.1.held a.1.faults) came
+        (running b.0.session.now b.0.decoder b.1.held b.1.faults) };
 
     ghost Ends = { λ a b. EndsInput frame_input (saying V.state V.reads V.faults V.asks V.lacks)
-        (running a.0.session a.0.decoder a.1.held a.1.faults)
-        (running b.0.session b.0.decoder b.1.held b.1.faults) };
+        (running a.0.session.now a.0.decoder a.1.held a.1.faults)
+        (running b.0.session.now b.0.decoder b.1.held b.1.faults) };
 
     ghost Halts = { λ a came b halt. HaltsInBytes frame_input (saying V.state V.reads V.faults V.asks V.lacks)
-        (running a.0.session a.0.decoder a.1.held a.1.faults) came
-        (running b.0.session b.0.decoder b.1.held b.1.faults) halt };
+        (running a.0.session.now a.0.decoder a.1.held a.1.faults) came
+        (running b.0.session.now b.0.decoder b.1.held b.1.faults) halt };
 
     ghost HaltsAtEnd = { λ a b halt. HaltsAtLast frame_input (saying V.state V.reads V.faults V.asks V.lacks)
-        (running a.0.session a.0.decoder a.1.held a.1.faults)
-        (running b.0.session b.0.decoder b.1.held b.1.faults) halt };
+        (running a.0.session.now a.0.decoder a.1.held a.1.faults)
+        (running b.0.session.now b.0.decoder b.1.held b.1.faults) halt };
 
     fn take<K: Sink>(&mut self, out: &mut K, byte: u8) -> Result<(), Halt> {
-        take_byte(&mut self.session, &mut self.decoder, out, byte)
+        take_byte(
+            self.session,
+            &mut self.parser,
+            &mut self.command,
+            &mut self.decoder,
+            out,
+            byte,
+        )
     }
 
     fn end<K: Sink>(&mut self, out: &mut K) -> Result<(), Halt> {
-        take_end(&mut self.session, &self.decoder, out)
+        take_end(self.session, &self.decoder, out)
     }
 
+    ghost stays = { λ a b. b.session.ghost_name ≡ a.session.ghost_name };
+
+    ghost stayed = { λ a. refl };
+
+    ghost stayed_on = { λ a b c e f. f ∙ e };
+
     ghost none = { λ a. taken_none frame_input (saying V.state V.reads V.faults V.asks V.lacks) frame_line frame_parts
-        (running a.0.session a.0.decoder a.1.held a.1.faults) };
+        (running a.0.session.now a.0.decoder a.1.held a.1.faults) };
 
     ghost more = { λ a b c xs ys e f.
         taken_more frame_input (saying V.state V.reads V.faults V.asks V.lacks) frame_line frame_parts
-        (running a.0.session a.0.decoder a.1.held a.1.faults) (running b.0.session b.0.decoder b.1.held b.1.faults)
-        (running c.0.session c.0.decoder c.1.held c.1.faults) xs ys e f };
+        (running a.0.session.now a.0.decoder a.1.held a.1.faults) (running b.0.session.now b.0.decoder b.1.held b.1.faults)
+        (running c.0.session.now c.0.decoder c.1.held c.1.faults) xs ys e f };
 
     ghost halts_behind = { λ a b c xs ys halt e f.
         halted_behind frame_input (saying V.state V.reads V.faults V.asks V.lacks) frame_line frame_parts
-        (running a.0.session a.0.decoder a.1.held a.1.faults) (running b.0.session b.0.decoder b.1.held b.1.faults)
-        (running c.0.session c.0.decoder c.1.held c.1.faults) xs ys halt e f };
+        (running a.0.session.now a.0.decoder a.1.held a.1.faults) (running b.0.session.now b.0.decoder b.1.held b.1.faults)
+        (running c.0.session.now c.0.decoder c.1.held c.1.faults) xs ys halt e f };
 
     ghost halts_before = { λ a b xs ys halt e.
         halted_before frame_input (saying V.state V.reads V.faults V.asks V.lacks) frame_line frame_parts
-        (running a.0.session a.0.decoder a.1.held a.1.faults) (running b.0.session b.0.decoder b.1.held b.1.faults)
+        (running a.0.session.now a.0.decoder a.1.held a.1.faults) (running b.0.session.now b.0.decoder b.1.held b.1.faults)
         xs ys halt e };
 }
 
 // Takes one byte of a line.
 fn take_byte<V: Files, K: Sink>(
     session: &mut Session<V>,
+    parser: &mut Parser,
+    command: &mut Command,
     decoder: &mut Decoder,
     out: &mut K,
     byte: u8,
@@ -112,7 +138,7 @@ fn take_byte<V: Files, K: Sink>(
         return Err(Halt::Flash);
     }
     let fed = decoder.feed(byte);
-    match answer_fed(session, decoder, fed, out) {
+    match answer_fed(session, parser, command, decoder, fed, out) {
         Ok(()) => Ok(()),
         Err(halt) => Err(halt),
     }
@@ -147,6 +173,8 @@ fn take_end<V: Files, K: Sink>(
 // Answers the frame that the last byte ended, if it ended one.
 fn answer_fed<V: Files, K: Sink>(
     session: &mut Session<V>,
+    parser: &mut Parser,
+    command: &mut Command,
     decoder: &Decoder,
     fed: Fed,
     out: &mut K,
@@ -171,10 +199,13 @@ fn answer_fed<V: Files, K: Sink>(
 {
     match fed {
         Fed::More => Ok(()),
-        Fed::Frame => match carry_out(session, decoder.client(), decoder.command(), out) {
-            Ok(()) => Ok(()),
-            Err(halt) => Err(halt),
-        },
+        Fed::Frame => {
+            let client = decoder.client();
+            match carry_out(session, parser, command, client, decoder.command(), out) {
+                Ok(()) => Ok(()),
+                Err(halt) => Err(halt),
+            }
+        }
         Fed::Bad => match refuse(out, 0, &Refusal::Frame) {
             Ok(()) => Ok(()),
             Err(Failed) => Err(Halt::Sink),
@@ -189,6 +220,8 @@ fn answer_fed<V: Files, K: Sink>(
 // Answers a client's command, or writes that there is no space for it.
 fn carry_out<V: Files, K: Sink>(
     session: &mut Session<V>,
+    parser: &mut Parser,
+    command: &mut Command,
     client: u8,
     bytes: &[u8],
     out: &mut K,
@@ -212,7 +245,7 @@ fn carry_out<V: Files, K: Sink>(
     ensures cause { HasHaltCause (V.faults session.old.files) (V.faults session.new.files)
         (K.faults out.old) (K.faults out.new) result }
 {
-    match answer(session, client, bytes, out) {
+    match answer(session, parser, command, client, bytes, out) {
         Ok(Step::Done(_)) => Ok(()),
         Ok(Step::NoSpace { need }) => match refuse(out, client, &Refusal::Space { need }) {
             Ok(()) => Err(Halt::Space),

@@ -18,26 +18,26 @@ use afl_base::{Files, Sink, Source};
 use antelope_engine::Session;
 use intake::{Stop, take_through};
 
-/// Answers the frames of a line to its end, or as far as it goes, and hands back the session.
+/// Answers the frames of a line to its end, or as far as it goes.
+#[inline(never)]
 pub fn serve_line<V: Files, S: Source, K: Sink>(
-    session: Session<V>,
+    session: &mut Session<V>,
     line: &mut S,
     out: &mut K,
-) -> (Result<(), Stop>, Session<V>)
-    requires running { session.stopped ≡ false }
-    ensures went { IsTrue (V.state session.files).tells
+) -> Result<(), Stop>
+    requires running { session.old.stopped ≡ false }
+    ensures went { IsTrue (V.state session.old.files).tells
         → (read : List ℕ → Result AnyCommand AnyRefusal) → IsReader read
-        → Went frame_line (serve_talk read) (standing_of V.state V.reads session (K.held out.old))
-        (standing_of V.state V.reads result.1 (K.held out.new)) (S.left line.old) (S.left line.new)
-        (LacksPages V.state V.asks V.lacks result.1) result.0 }
-    ensures reaches { Reaches result.0 (S.left line.old) (S.left line.new) }
-    ensures lost { session.lost ≡ false → result.1.lost ≡ true → result.0 ≡ Err (Stop.Halted Halt.Flash) }
-    ensures store { length (V.state result.1.files).store ≡ length (V.state session.files).store }
+        → Went frame_line (serve_talk read) (standing_of V.state V.reads session.old (K.held out.old))
+        (standing_of V.state V.reads session.new (K.held out.new)) (S.left line.old) (S.left line.new)
+        (LacksPages V.state V.asks V.lacks session.new) result }
+    ensures reaches { Reaches result (S.left line.old) (S.left line.new) }
+    ensures lost { session.old.lost ≡ false → session.new.lost ≡ true → result ≡ Err (Stop.Halted Halt.Flash) }
+    ensures store { length (V.state session.new.files).store ≡ length (V.state session.old.files).store }
     ensures keeps { K.keeps out.old out.new }
     ensures cause { HasRunCause (S.faults line.old) (S.faults line.new)
-        (V.faults session.files) (V.faults result.1.files) (K.faults out.old) (K.faults out.new) result.0 }
+        (V.faults session.old.files) (V.faults session.new.files) (K.faults out.old) (K.faults out.new) result }
 {
     let mut server = Server::new(session);
-    let taken = take_through(line, &mut server, out);
-    (taken, server.session)
+    take_through(line, &mut server, out)
 }

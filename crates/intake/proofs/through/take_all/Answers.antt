@@ -11,7 +11,8 @@ loop-byte-preserved g c =
     record {
       takes = subst (λ xs. g.T.Taker.Takes (c.args.taker.now, out_of (g.K.Sink.held c.args.out.now) (g.K.Sink.faults c.args.out.now)) xs (c.take.new.self, out_of (g.K.Sink.held c.take.new.out) (g.K.Sink.faults c.take.new.out))) (sym (take_more bytes l.byte-index 0 within))
           (g.met.T.Taker.more (c.args.taker.now, out_of (g.K.Sink.held c.args.out.now) (g.K.Sink.faults c.args.out.now)) (l.taker, out_of (g.K.Sink.held l.out) (g.K.Sink.faults l.out)) (c.take.new.self, out_of (g.K.Sink.held c.take.new.out) (g.K.Sink.faults c.take.new.out)) (take l.byte-index bytes) (get_or bytes l.byte-index 0 ∷ []) l.invariant.takes c.in-Ok.ensures.takes);
-      keeps = search rules;
+      stays = g.met.T.Taker.stayed_on c.args.taker.now l.taker c.take.new.self l.invariant.stays c.in-Ok.ensures.stays;
+      keeps = g.met.K.Sink.kept_on c.args.out.now l.out c.take.new.out l.invariant.keeps c.in-Ok.ensures.keeps;
     }
 
 pub returns-in-Err-clause-halts : goal.returns-in-Err-clause-halts

@@ -6,5 +6,6 @@ abbrev pub invariant-loop-byte : goal.invariant-loop-byte
 invariant-loop-byte g l = record {
   takes : g.T.Taker.Takes (l.fn.taker, out_of (g.K.Sink.held l.fn.out) (g.K.Sink.faults l.fn.out)) (take l.byte-index l.bytes)
       (l.taker, out_of (g.K.Sink.held l.out) (g.K.Sink.faults l.out));
+  stays : g.T.Taker.stays l.fn.taker l.taker;
   keeps : g.K.Sink.keeps l.fn.out l.out;
 }

@@ -42,7 +42,8 @@ reads-preserved g c =
       limit = omega (arith, c.in-Ok.ensures.within);
       takes = g.met.T.Taker.more (c.args.taker.now, out_of (g.K.Sink.held c.args.out.now) (g.K.Sink.faults c.args.out.now)) (c.reads.taker, out_of (g.K.Sink.held c.reads.out) (g.K.Sink.faults c.reads.out)) (c.take_all.new.taker, out_of (g.K.Sink.held c.take_all.new.out) (g.K.Sink.faults c.take_all.new.out)) l.came chunk l.takes c.in-Ok-take_all.ensures.takes;
       later = search rules;
-      keeps = search rules;
+      stays = g.met.T.Taker.stayed_on c.args.taker.now c.reads.taker c.take_all.new.taker l.stays c.in-Ok-take_all.ensures.stays;
+      keeps = g.met.K.Sink.kept_on c.args.out.now c.reads.out c.take_all.new.out l.keeps c.in-Ok-take_all.ensures.keeps;
     }
 
 pub returns-in-Ok-end-clause-through : goal.returns-in-Ok-end-clause-through

@@ -11,6 +11,7 @@ invariant-reads g l = record {
   limit : l.taken ≤ 16777216;
   takes : g.T.Taker.Takes (l.fn.taker, out_of (g.K.Sink.held l.fn.out) (g.K.Sink.faults l.fn.out)) came (l.taker, out_of (g.K.Sink.held l.out) (g.K.Sink.faults l.out));
   later : g.S.Source.faults l.fn.input ≤ g.S.Source.faults l.input;
+  stays : g.T.Taker.stays l.fn.taker l.taker;
   keeps : g.K.Sink.keeps l.fn.out l.out;
 }
 
