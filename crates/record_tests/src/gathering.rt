@@ -69,7 +69,8 @@ fn a_sink_may_take_a_part_of_a_buffer(rt: HostRuntime) {
     let mut room = [0u8; 700];
     let mut sink = MemSink::new(&mut room, None);
     assert_eq!(rt; write_text(&mut sink, &text), Err(Failed));
-    assert_eq!(rt; sink.written(), &text[..700]);
+    assert_eq!(rt; sink.written().len(), 700);
+    assert!(rt; text.starts_with(sink.written()));
 }
 
 #[test]
