@@ -15,13 +15,15 @@ ghost use Rattle.antelope_run.specs.declared.came.Came.TheVariants as AnyCame;
 
 use crate::came::Came;
 use crate::carrying::carry_out;
+use crate::closing::close;
 use crate::image_line::write_image_line;
-use antelope_engine::Session;
-use coffee_volume::{MountError, Volume};
 use crate::reading::form;
 use crate::words::Form;
 use afl_base::{Failed, Flash, Sink, Source};
+use antelope_engine::Session;
+use coffee_volume::{MountError, Volume};
 use intake::{Halt, Stop};
+use sound_image::mounted_files_are_the_images;
 use stored::sound_files_are_a_sound_database;
 
 /// Carries out what the words ask for, and answers the status that the program ends with, and the flash.
@@ -133,29 +135,23 @@ fn run_form<F: Flash, S: Source, K: Sink>(
         (K.faults out.old) (K.faults out.new) result.0 }
 {
     sound_files_are_a_sound_database();
+    mounted_files_are_the_images();
     let sectors = flash.sectors();
-    match Volume::mount(flash) {
-        Ok(volume) => run_over(form, sectors, volume, input, out),
-        Err(MountError::Bad { bad, flash }) => (refuse(out, bad.rule, bad.place), flash),
-        Err(MountError::Failed { flash }) => (Came::Failed, flash),
-    }
-}
-
-fn run_over<F: Flash, S: Source, K: Sink>(
-    form: Form,
-    sectors: u16,
-    volume: Volume<F>,
-    input: &mut S,
-    out: &mut K,
-) -> (Came, F)
-{
-    let mut session = Session::new(volume);
-    let came = match session.begin() {
-        Ok(Ok(())) => Came::Opened(carry_out(form, sectors, &mut session, input, out)),
-        Ok(Err(broken)) => refuse(out, broken.rule, broken.place),
-        Err(Failed) => Came::Failed,
+    let volume = match Volume::mount(flash) {
+        Ok(volume) => volume,
+        Err(MountError::Bad { bad, flash }) => return (refuse(out, bad.rule, bad.place), flash),
+        Err(MountError::Failed { flash }) => return (Came::Failed, flash),
     };
-    (came, session.close().unmount())
+    // The session stays in its place until it is closed.
+    let mut session = Session::new(volume);
+    match session.begin() {
+        Ok(Ok(())) => {
+            let done = carry_out(form, sectors, &mut session, input, out);
+            (Came::Opened(done), close(session))
+        }
+        Ok(Err(broken)) => (refuse(out, broken.rule, broken.place), close(session)),
+        Err(Failed) => (Came::Failed, close(session)),
+    }
 }
 
 // Writes the first broken rule of an image, and its place.

@@ -4,8 +4,8 @@
 mod call;
 mod came;
 mod carrying;
+mod closing;
 mod image_line;
-mod opening;
 mod reading;
 mod words;
 

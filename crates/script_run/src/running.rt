@@ -28,26 +28,8 @@ pub struct Runner<'a, V: Files> {
     pub session: &'a mut Session<V>,
     pub piece: Piece,
     // What reads commands, and the command at hand: kept in their places.
-    parser: Parser,
-    command: Command,
-}
-
-impl<'a, V: Files> Runner<'a, V> {
-    /// Before the first byte of a script.
-    // Inlined, so that its parts are made in their places.
-    #[inline(always)]
-    pub fn new(session: &'a mut Session<V>) -> Runner<'a, V>
-        ensures lent { result.session.ghost_name ≡ session.entry.ghost_name }
-        ensures session { result.session.now ≡ session.old }
-        ensures keeps { Keeps (false, []) result.piece }
-    {
-        Runner {
-            session,
-            piece: Piece::new(),
-            parser: Parser::new(),
-            command: Command::FetchCursor { number: 0 },
-        }
-    }
+    pub(crate) parser: Parser,
+    pub(crate) command: Command,
 }
 
 impl<'a, V: Files> Taker for Runner<'a, V> {

@@ -2,7 +2,7 @@
 
 #![tactic(auto)]
 
-ghost use Rattle.std.specs.Prelude.{◌≡◌, false, true, ℕ, List, Result, Err, IsTrue, length};
+ghost use Rattle.std.specs.Prelude.{◌≡◌, [], false, true, ℕ, List, Result, Err, IsTrue, length};
 ghost use Rattle.answering.specs.Carried.{LacksPages, standing_of};
 ghost use Rattle.answering.specs.Went.{HasRunCause, Reaches, Went};
 ghost use Rattle.db_model.specs.declared.commands.Command.{Command as AnyCommand};
@@ -11,13 +11,18 @@ ghost use Rattle.db_model.specs.Reading.{IsReader};
 ghost use Rattle.intake.specs.declared.halt.Halt.TheVariants as Halt;
 ghost use Rattle.intake.specs.declared.halt.Stop.TheVariants as Stop;
 ghost use Rattle.run_model.specs.Scripts.{script_line, script_talk};
+ghost use Rattle.script_run.specs.Input.{Keeps};
 
+use crate::piece::Piece;
 use crate::running::Runner;
 use afl_base::{Files, Sink, Source};
 use antelope_engine::Session;
+use aql_parse::Parser;
+use db_model::Command;
 use intake::{Stop, take_through};
 
 /// Carries out a script to its end, or as far as it goes.
+// Not inlined, so that what keeps the script's commands is on the stack of no other run.
 #[inline(never)]
 pub fn run_script<V: Files, S: Source, K: Sink>(
     session: &mut Session<V>,
@@ -37,6 +42,39 @@ pub fn run_script<V: Files, S: Source, K: Sink>(
     ensures cause { HasRunCause (S.faults script.old) (S.faults script.new)
         (V.faults session.old.files) (V.faults session.new.files) (K.faults out.old) (K.faults out.new) result }
 {
-    let mut runner = Runner::new(session);
-    take_through(script, &mut runner, out)
+    let mut runner = Runner {
+        session,
+        piece: Piece::new(),
+        parser: Parser::new(),
+        command: Command::FetchCursor { number: 0 },
+    };
+    run_through(&mut runner, script, out)
+}
+
+// The same by what takes a script, to which the session is lent.
+fn run_through<'a, V: Files, S: Source, K: Sink>(
+    runner: &mut Runner<'a, V>,
+    script: &mut S,
+    out: &mut K,
+) -> Result<(), Stop>
+    requires running { runner.old.session.now.stopped ≡ false }
+    requires none { Keeps (false, []) runner.old.piece }
+    ensures went { IsTrue (V.state runner.old.session.now.files).tells
+        → (read : List ℕ → Result AnyCommand AnyRefusal) → IsReader read
+        → Went script_line (script_talk read)
+        (standing_of V.state V.reads runner.old.session.now (K.held out.old))
+        (standing_of V.state V.reads runner.new.session.now (K.held out.new))
+        (S.left script.old) (S.left script.new) (LacksPages V.state V.asks V.lacks runner.new.session.now) result }
+    ensures reaches { Reaches result (S.left script.old) (S.left script.new) }
+    ensures lost { runner.old.session.now.lost ≡ false → runner.new.session.now.lost ≡ true
+        → result ≡ Err (Stop.Halted Halt.Flash) }
+    ensures store { let new = V.state runner.new.session.now.files in
+        length new.store ≡ length (V.state runner.old.session.now.files).store }
+    ensures lent { runner.new.session.ghost_name ≡ runner.old.session.ghost_name }
+    ensures keeps { K.keeps out.old out.new }
+    ensures cause { HasRunCause (S.faults script.old) (S.faults script.new)
+        (V.faults runner.old.session.now.files) (V.faults runner.new.session.now.files)
+        (K.faults out.old) (K.faults out.new) result }
+{
+    take_through(script, runner, out)
 }

@@ -28,26 +28,8 @@ pub struct Server<'a, V: Files> {
     pub session: &'a mut Session<V>,
     pub decoder: Decoder,
     // What reads commands, and the command at hand: kept in their places.
-    parser: Parser,
-    command: Command,
-}
-
-impl<'a, V: Files> Server<'a, V> {
-    /// Before the first byte of a line.
-    // Inlined, so that its parts are made in their places.
-    #[inline(always)]
-    pub fn new(session: &'a mut Session<V>) -> Server<'a, V>
-        ensures lent { result.session.ghost_name ≡ session.entry.ghost_name }
-        ensures session { result.session.now ≡ session.old }
-        ensures gathers { Gathers [] result.decoder }
-    {
-        Server {
-            session,
-            decoder: Decoder::new(),
-            parser: Parser::new(),
-            command: Command::FetchCursor { number: 1 },
-        }
-    }
+    pub(crate) parser: Parser,
+    pub(crate) command: Command,
 }
 
 impl<'a, V: Files> Taker for Server<'a, V> {

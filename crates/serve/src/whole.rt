@@ -2,7 +2,7 @@
 
 #![tactic(auto)]
 
-ghost use Rattle.std.specs.Prelude.{◌≡◌, false, true, ℕ, List, Result, Err, IsTrue, length};
+ghost use Rattle.std.specs.Prelude.{◌≡◌, [], false, true, ℕ, List, Result, Err, IsTrue, length};
 ghost use Rattle.answering.specs.Carried.{LacksPages, standing_of};
 ghost use Rattle.answering.specs.Went.{HasRunCause, Reaches, Went};
 ghost use Rattle.db_model.specs.declared.commands.Command.{Command as AnyCommand};
@@ -10,15 +10,20 @@ ghost use Rattle.db_model.specs.declared.refusals.Refusal.{Refusal as AnyRefusal
 ghost use Rattle.db_model.specs.Reading.{IsReader};
 ghost use Rattle.intake.specs.declared.halt.Halt.TheVariants as Halt;
 ghost use Rattle.intake.specs.declared.halt.Stop.TheVariants as Stop;
+ghost use Rattle.serve.specs.Gathers.{Gathers};
 ghost use Rattle.serve_model.specs.Frames.{frame_line};
 ghost use Rattle.serve_model.specs.Served.{serve_talk};
 
+use crate::decoder::Decoder;
 use crate::serving::Server;
 use afl_base::{Files, Sink, Source};
 use antelope_engine::Session;
+use aql_parse::Parser;
+use db_model::Command;
 use intake::{Stop, take_through};
 
 /// Answers the frames of a line to its end, or as far as it goes.
+// Not inlined, so that what keeps the line's commands is on the stack of no other run.
 #[inline(never)]
 pub fn serve_line<V: Files, S: Source, K: Sink>(
     session: &mut Session<V>,
@@ -38,6 +43,39 @@ pub fn serve_line<V: Files, S: Source, K: Sink>(
     ensures cause { HasRunCause (S.faults line.old) (S.faults line.new)
         (V.faults session.old.files) (V.faults session.new.files) (K.faults out.old) (K.faults out.new) result }
 {
-    let mut server = Server::new(session);
-    take_through(line, &mut server, out)
+    let mut server = Server {
+        session,
+        decoder: Decoder::new(),
+        parser: Parser::new(),
+        command: Command::FetchCursor { number: 1 },
+    };
+    serve_through(&mut server, line, out)
+}
+
+// The same by what takes a line, to which the session is lent.
+fn serve_through<'a, V: Files, S: Source, K: Sink>(
+    server: &mut Server<'a, V>,
+    line: &mut S,
+    out: &mut K,
+) -> Result<(), Stop>
+    requires running { server.old.session.now.stopped ≡ false }
+    requires none { Gathers [] server.old.decoder }
+    ensures went { IsTrue (V.state server.old.session.now.files).tells
+        → (read : List ℕ → Result AnyCommand AnyRefusal) → IsReader read
+        → Went frame_line (serve_talk read)
+        (standing_of V.state V.reads server.old.session.now (K.held out.old))
+        (standing_of V.state V.reads server.new.session.now (K.held out.new))
+        (S.left line.old) (S.left line.new) (LacksPages V.state V.asks V.lacks server.new.session.now) result }
+    ensures reaches { Reaches result (S.left line.old) (S.left line.new) }
+    ensures lost { server.old.session.now.lost ≡ false → server.new.session.now.lost ≡ true
+        → result ≡ Err (Stop.Halted Halt.Flash) }
+    ensures store { let new = V.state server.new.session.now.files in
+        length new.store ≡ length (V.state server.old.session.now.files).store }
+    ensures lent { server.new.session.ghost_name ≡ server.old.session.ghost_name }
+    ensures keeps { K.keeps out.old out.new }
+    ensures cause { HasRunCause (S.faults line.old) (S.faults line.new)
+        (V.faults server.old.session.now.files) (V.faults server.new.session.now.files)
+        (K.faults out.old) (K.faults out.new) result }
+{
+    take_through(line, server, out)
 }

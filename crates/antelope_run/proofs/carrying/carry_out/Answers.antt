@@ -40,38 +40,38 @@ returns-in-Dump-clause-cause g c = c.dump_all.ensures.cause (g.S.Source.faults c
 pub returns-in-Run-clause-reads : goal.returns-in-Run-clause-reads
 returns-in-Run-clause-reads g c = λ told. rw c.in-Run.is (λ read reader.
     reads_few script_line (has_fronts script_cut script_line script_parts) (script_talk read)
-    (standing_of g.V.Files.state g.V.Files.reads c.args.session (g.K.Sink.held c.args.out.now))
-    (standing_of g.V.Files.state g.V.Files.reads c.run_script.result.1 (g.K.Sink.held c.run_script.new.out))
+    (standing_of g.V.Files.state g.V.Files.reads c.args.session.now (g.K.Sink.held c.args.out.now))
+    (standing_of g.V.Files.state g.V.Files.reads c.run_script.new.session (g.K.Sink.held c.run_script.new.out))
     (g.S.Source.left c.args.input.now) (g.S.Source.left c.run_script.new.script)
-    (LacksPages g.V.Files.state g.V.Files.asks g.V.Files.lacks c.run_script.result.1) c.run_script.result.0 (c.run_script.ensures.went told read reader))
+    (LacksPages g.V.Files.state g.V.Files.asks g.V.Files.lacks c.run_script.new.session) c.run_script.result (c.run_script.ensures.went told read reader))
 
 pub returns-in-Serve-clause-reads : goal.returns-in-Serve-clause-reads
 returns-in-Serve-clause-reads g c = λ told. rw c.in-Serve.is (λ read reader.
     reads_few frame_line (has_fronts frame_cut frame_line frame_parts) (serve_talk read)
-    (standing_of g.V.Files.state g.V.Files.reads c.args.session (g.K.Sink.held c.args.out.now))
-    (standing_of g.V.Files.state g.V.Files.reads c.serve_line.result.1 (g.K.Sink.held c.serve_line.new.out))
+    (standing_of g.V.Files.state g.V.Files.reads c.args.session.now (g.K.Sink.held c.args.out.now))
+    (standing_of g.V.Files.state g.V.Files.reads c.serve_line.new.session (g.K.Sink.held c.serve_line.new.out))
     (g.S.Source.left c.args.input.now) (g.S.Source.left c.serve_line.new.line)
-    (LacksPages g.V.Files.state g.V.Files.asks g.V.Files.lacks c.serve_line.result.1) c.serve_line.result.0 (c.serve_line.ensures.went told read reader))
+    (LacksPages g.V.Files.state g.V.Files.asks g.V.Files.lacks c.serve_line.new.session) c.serve_line.result (c.serve_line.ensures.went told read reader))
 
 pub returns-in-Run-clause-reaches : goal.returns-in-Run-clause-reaches
 returns-in-Run-clause-reaches g c =
-    reaches_by c.args.form (g.S.Source.left c.args.input.now) (g.S.Source.left c.run_script.new.script) c.run_script.result.0 c.run_script.ensures.reaches
+    reaches_by c.args.form (g.S.Source.left c.args.input.now) (g.S.Source.left c.run_script.new.script) c.run_script.result c.run_script.ensures.reaches
 
 pub returns-in-Serve-clause-reaches : goal.returns-in-Serve-clause-reaches
 returns-in-Serve-clause-reaches g c =
-    reaches_by c.args.form (g.S.Source.left c.args.input.now) (g.S.Source.left c.serve_line.new.line) c.serve_line.result.0 c.serve_line.ensures.reaches
+    reaches_by c.args.form (g.S.Source.left c.args.input.now) (g.S.Source.left c.serve_line.new.line) c.serve_line.result c.serve_line.ensures.reaches
 
 pub returns-in-Gen-clause-reaches : goal.returns-in-Gen-clause-reaches
 returns-in-Gen-clause-reaches g c =
-    reaches_none c.args.form (g.S.Source.left c.args.input.now) (g.S.Source.left c.args.input.now) (λ takes. (rw c.in-Gen.is at takes)) c.generate_all.result.0 c.generate_all.ensures.halts
+    reaches_none c.args.form (g.S.Source.left c.args.input.now) (g.S.Source.left c.args.input.now) (λ takes. (rw c.in-Gen.is at takes)) c.generate_all.result c.generate_all.ensures.halts
 
 pub returns-in-Plan-clause-reaches : goal.returns-in-Plan-clause-reaches
 returns-in-Plan-clause-reaches g c =
-    reaches_none c.args.form (g.S.Source.left c.args.input.now) (g.S.Source.left c.args.input.now) (λ takes. (rw c.in-Plan.is at takes)) c.plan.result.0 c.plan.ensures.halts
+    reaches_none c.args.form (g.S.Source.left c.args.input.now) (g.S.Source.left c.args.input.now) (λ takes. (rw c.in-Plan.is at takes)) c.plan.result c.plan.ensures.halts
 
 pub returns-in-Dump-clause-reaches : goal.returns-in-Dump-clause-reaches
 returns-in-Dump-clause-reaches g c =
-    reaches_none c.args.form (g.S.Source.left c.args.input.now) (g.S.Source.left c.args.input.now) (λ takes. (rw c.in-Dump.is at takes)) c.dump_all.result.0 c.dump_all.ensures.halts
+    reaches_none c.args.form (g.S.Source.left c.args.input.now) (g.S.Source.left c.args.input.now) (λ takes. (rw c.in-Dump.is at takes)) c.dump_all.result c.dump_all.ensures.halts
 
 pub returns-in-Run-clause-unread : goal.returns-in-Run-clause-unread
 returns-in-Run-clause-unread g c = λ none. absurd ((rw c.in-Run.is at none) tt)

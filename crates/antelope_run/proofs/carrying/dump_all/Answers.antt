@@ -5,25 +5,25 @@ use Rattle.antelope_run.proofs.carrying.dump_all.Goals as goal
 
 pub returns-clause-does : goal.returns-clause-does
 returns-clause-does g c =
-    let e = c.write-done.ensures in
-    let old = standing_of g.V.Files.state g.V.Files.reads c.args.session (g.K.Sink.held c.args.out.now) in
-    let new = standing_of g.V.Files.state g.V.Files.reads c.write-done.new.session (g.K.Sink.held c.write-done.new.out) in
+    let e = c.write.ensures in
+    let old = standing_of g.V.Files.state g.V.Files.reads c.args.session.now (g.K.Sink.held c.args.out.now) in
+    let new = standing_of g.V.Files.state g.V.Files.reads c.write.new.session (g.K.Sink.held c.write.new.out) in
     λ told sound. rw c.stopped.ensures (
-      λ other. ap (λ s. s.tells) (dumped_same c.write-done.result _ e.same other).files,
-      dumped old new _ c.write-done.result (e.wrote told sound),
+      λ other. ap (λ s. s.tells) (dumped_same c.write.result _ e.same other).files,
+      dumped old new _ c.write.result (e.wrote told sound),
     )
 
 pub returns-clause-same : goal.returns-clause-same
-returns-clause-same g c = λ other. dumped_same c.write-done.result _ c.write-done.ensures.same (rw c.stopped.ensures at other)
+returns-clause-same g c = λ other. dumped_same c.write.result _ c.write.ensures.same (rw c.stopped.ensures at other)
 
 pub returns-clause-lost : goal.returns-clause-lost
 returns-clause-lost g c = λ kept lost.
-    rw c.stopped.ensures (dumped_lost c.write-done.result c.write-done.new.session.lost
-    (unless_flash c.write-done.result (λ same. same.kept kept) c.write-done.ensures.same) lost)
+    rw c.stopped.ensures (dumped_lost c.write.result c.write.new.session.lost
+    (unless_flash c.write.result (λ same. same.kept kept) c.write.ensures.same) lost)
 
 pub returns-clause-cause : goal.returns-clause-cause
 returns-clause-cause g c = λ inputs.
-    rw c.stopped.ensures (dumped_cause c.write-done.result inputs _ _ _ _ c.write-done.ensures.cause)
+    rw c.stopped.ensures (dumped_cause c.write.result inputs _ _ _ _ c.write.ensures.cause)
 
 pub returns-clause-halts : goal.returns-clause-halts
-returns-clause-halts g c = rw c.stopped.ensures (stopped_only c.write-done.result)
+returns-clause-halts g c = rw c.stopped.ensures (stopped_only c.write.result)

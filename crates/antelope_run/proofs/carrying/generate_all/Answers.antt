@@ -4,21 +4,21 @@ use Rattle.antelope_run.proofs.carrying.generate_all.Goals as goal
 
 pub returns-clause-does : goal.returns-clause-does
 returns-clause-does g c =
-    let e = c.generate-done.ensures in
-    let old = standing_of g.V.Files.state g.V.Files.reads c.args.session (g.K.Sink.held c.args.out.now) in
-    let new = standing_of g.V.Files.state g.V.Files.reads c.generate-done.new.session (g.K.Sink.held c.generate-done.new.out) in
+    let e = c.generate.ensures in
+    let old = standing_of g.V.Files.state g.V.Files.reads c.args.session.now (g.K.Sink.held c.args.out.now) in
+    let new = standing_of g.V.Files.state g.V.Files.reads c.generate.new.session (g.K.Sink.held c.generate.new.out) in
     λ told kept. rw c.halted.ensures (
-      generated_tells c.generate-done.result c.generate-done.new.session.lost _ (e.lost kept) e.tells,
-      generated old new _ _ c.generate-done.result (e.carried told) (e.halts told),
+      generated_tells c.generate.result c.generate.new.session.lost _ (e.lost kept) e.tells,
+      generated old new _ _ c.generate.result (e.carried told) (e.halts told),
     )
 
 pub returns-clause-lost : goal.returns-clause-lost
 returns-clause-lost g c = λ kept lost.
-    rw c.halted.ensures (generated_lost c.generate-done.result c.generate-done.new.session.lost (c.generate-done.ensures.lost kept) lost)
+    rw c.halted.ensures (generated_lost c.generate.result c.generate.new.session.lost (c.generate.ensures.lost kept) lost)
 
 pub returns-clause-cause : goal.returns-clause-cause
 returns-clause-cause g c = λ inputs.
-    rw c.halted.ensures (generated_cause c.generate-done.result inputs _ _ _ _ c.generate-done.ensures.cause)
+    rw c.halted.ensures (generated_cause c.generate.result inputs _ _ _ _ c.generate.ensures.cause)
 
 pub returns-clause-halts : goal.returns-clause-halts
-returns-clause-halts g c = rw c.halted.ensures (halted_only c.generate-done.result)
+returns-clause-halts g c = rw c.halted.ensures (halted_only c.generate.result)

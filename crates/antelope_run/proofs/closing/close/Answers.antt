@@ -1,7 +1,7 @@
 use Rattle.std.proofs.Common.{◌&&◌, not, ◌∙◌}
 use Rattle.std.specs.Prelude.{IsTrue}
 use Rattle.antelope_run.proofs.Bare.{lacked}
-use Rattle.antelope_run.proofs.opening.close.Goals as goal
+use Rattle.antelope_run.proofs.closing.close.Goals as goal
 
 pub returns-clause-back : goal.returns-clause-back
 returns-clause-back g c = λ told kept.

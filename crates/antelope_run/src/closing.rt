@@ -1,0 +1,24 @@
+//! From a session over an image of a flash back to the flash.
+
+#![tactic(auto)]
+
+ghost use Rattle.std.specs.Prelude.{◌≡◌, false, IsTrue};
+ghost use Rattle.answering.specs.Carried.{LacksPages};
+ghost use Rattle.antelope_run.specs.HandedBack.{HandsBack};
+
+use afl_base::{Files, Flash};
+use antelope_engine::Session;
+use coffee_volume::Volume;
+use sound_image::hand_back;
+
+/// Closes a session and hands back its flash.
+pub fn close<F: Flash>(session: Session<Volume<F>>) -> F
+    ensures image { F.image result ≡ (⟦<Volume<F> as Files>⟧.state session.files).store }
+    ensures back { let files = ⟦<Volume<F> as Files>⟧ in
+        IsTrue (files.state session.files).tells → session.lost ≡ false → HandsBack session.database
+        (LacksPages files.state files.asks files.lacks session) (F.image result) }
+    ensures reads { F.reads result ≡ ⟦<Volume<F> as Files>⟧.reads session.files }
+    ensures faults { F.faults result ≡ ⟦<Volume<F> as Files>⟧.faults session.files }
+{
+    hand_back(session.close())
+}
