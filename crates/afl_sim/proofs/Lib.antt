@@ -1,3 +1,4 @@
+pub mod Caches
 pub mod Writes
 pub mod PlainLemmas
 pub mod PlainStates

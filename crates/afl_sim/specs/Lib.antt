@@ -1,3 +1,4 @@
+pub mod Caches
 pub mod Devices
 pub mod Lengths
 pub mod PlainFiles

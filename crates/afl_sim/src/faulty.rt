@@ -1,11 +1,11 @@
+use crate::backing::Backing;
 use afl_base::{Failed, Flash, PageId, SectorId};
 use arrayvec::ArrayVec;
 use std::marker::Model;
 
 /// A flash around another one that fails on demand.
 ///
-/// Its calls of `read`, `program` and `erase` are numbered together, from 1 up to the last number of
-/// a u64. At the numbers that it was given it answers `Failed`, and does not call the flash inside.
+/// Its calls but `sectors` are numbered together, from 1 up to the last number of a u64. At the numbers that it was given it answers `Failed`, and does not call the flash inside.
 #[derive(Drop)]
 pub struct FaultFlash<F: Flash + Drop> {
     inner: F,
@@ -165,6 +165,61 @@ impl<F: Flash + Drop> Flash for FaultFlash<F> {
     {
         self.count_call()?;
         self.inner.erase(sector)?;
+        Ok(())
+    }
+}
+
+impl<F: Backing + Drop> Backing for FaultFlash<F> {
+    ghost use Rattle.std.specs.Prelude.{◌≡◌, ◌≢◌, ℕ, ◌+◌, ◌*◌, ◌≤◌, true, false, length, IsTrue, IsErr, OnOk, OnErr};
+    ghost use Rattle.afl_base.specs.Causes.{HasCause, CountsOne, Rose};
+    ghost use Rattle.afl_base.specs.Image.{or_at, page_bytes, sector_bytes};
+    ghost use Rattle.afl_sim.specs.Caches.{Covers};
+    ghost use Rattle.afl_sim.specs.Devices.{all_faults, counted, fails_now, number_of_call};
+
+    fn read_sector(&mut self, sector: SectorId, into: &mut [u8]) -> Result<(), Failed>
+        requires sector { 4096 * sector.0 + 4096 ≤ length (F.image self.old.inner) }
+        requires whole { length into.old ≡ 4096 }
+        ensures bytes { IsTrue F.tells → OnOk result (into.new ≡ sector_bytes (F.image self.old.inner) sector.0) }
+        ensures same { F.image self.new.inner ≡ F.image self.old.inner }
+        ensures counted { CountsOne self.old.reads self.new.reads }
+        ensures faultless { OnOk result (all_faults F.faults self.new ≡ all_faults F.faults self.old) }
+        ensures cause { HasCause (all_faults F.faults self.old) (all_faults F.faults self.new) result }
+        ensures counts { self.new.faults ≡ counted (fails_now self.old.fails self.old.calls) self.old.faults }
+        ensures numbered { self.new.calls ≡ number_of_call self.old.calls }
+        ensures list { self.new.fails ≡ self.old.fails }
+        ensures fails { fails_now self.old.fails self.old.calls ≡ true
+            → IsErr result × (self.new.inner ≡ self.old.inner) }
+        ensures passes { fails_now self.old.fails self.old.calls ≡ false
+            → OnErr result (Rose (F.faults self.old.inner) (F.faults self.new.inner)) }
+    {
+        self.reads = self.reads.saturating_add(1);
+        self.count_call()?;
+        self.inner.read_sector(sector, into)?;
+        Ok(())
+    }
+
+    fn overwrite(&mut self, page: PageId, at: u16, bytes: &[u8]) -> Result<(), Failed>
+        requires page { 256 * page.0 + 256 ≤ length (F.image self.old.inner) }
+        requires range { at + length bytes.now ≤ 256 }
+        requires covers { IsTrue F.tells → Covers (F.image self.old.inner) (256 * page.0 + at) bytes.now }
+        ensures programmed { IsTrue F.tells → OnOk result
+            (F.image self.new.inner ≡ or_at (F.image self.old.inner) (256 * page.0 + at) bytes.now) }
+        ensures other_pages { IsTrue F.tells → (p : ℕ) → p ≢ page.0
+            → page_bytes (F.image self.new.inner) p ≡ page_bytes (F.image self.old.inner) p }
+        ensures size { length (F.image self.new.inner) ≡ length (F.image self.old.inner) }
+        ensures reads { self.new.reads ≡ self.old.reads }
+        ensures faultless { OnOk result (all_faults F.faults self.new ≡ all_faults F.faults self.old) }
+        ensures cause { HasCause (all_faults F.faults self.old) (all_faults F.faults self.new) result }
+        ensures counts { self.new.faults ≡ counted (fails_now self.old.fails self.old.calls) self.old.faults }
+        ensures numbered { self.new.calls ≡ number_of_call self.old.calls }
+        ensures list { self.new.fails ≡ self.old.fails }
+        ensures fails { fails_now self.old.fails self.old.calls ≡ true
+            → IsErr result × (self.new.inner ≡ self.old.inner) }
+        ensures passes { fails_now self.old.fails self.old.calls ≡ false
+            → OnErr result (Rose (F.faults self.old.inner) (F.faults self.new.inner)) }
+    {
+        self.count_call()?;
+        self.inner.overwrite(page, at, bytes)?;
         Ok(())
     }
 }

@@ -1,3 +1,4 @@
+use crate::backing::Backing;
 use crate::bytes::{erase_bytes, program_bytes, read_bytes};
 use afl_base::{Failed, Flash, PageId, SectorId};
 use std::marker::Model;
@@ -92,6 +93,19 @@ impl Flash for MemFlash<'_> {
     #[tactic(auto, using(afl_base::proofs::Images::erased_other_sector))]
     fn erase(&mut self, sector: SectorId) -> Result<(), Failed> {
         erase_bytes(self.bytes, SECTOR * sector.0 as usize, SECTOR);
+        Ok(())
+    }
+}
+
+impl Backing for MemFlash<'_> {
+    fn read_sector(&mut self, sector: SectorId, into: &mut [u8]) -> Result<(), Failed> {
+        self.reads = self.reads.saturating_add(1);
+        self.copy_out(SECTOR * sector.0 as usize, into);
+        Ok(())
+    }
+
+    fn overwrite(&mut self, page: PageId, at: u16, bytes: &[u8]) -> Result<(), Failed> {
+        self.program(page, at, bytes)?;
         Ok(())
     }
 }

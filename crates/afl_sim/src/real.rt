@@ -1,5 +1,6 @@
 ghost use Rattle.std.specs.Prelude.{◌≤◌, IfSome, length};
 
+use crate::backing::Backing;
 use crate::bytes::program_bytes;
 use afl_base::{Failed, Flash, PageId, SectorId, Sink, Source};
 use std::fs::File;
@@ -159,6 +160,53 @@ impl Flash for FileFlash {
         let outcome = self
             .file
             .write_all_at(&ERASED, SECTOR * u64::from(sector.0));
+        self.judge(outcome)?;
+        Ok(())
+    }
+}
+
+impl Backing for FileFlash {
+    ghost use Rattle.std.specs.Prelude.{◌≡◌, ◌≢◌, ℕ, ◌+◌, ◌*◌, ◌≤◌, false, is_err, length, IsTrue, OnOk};
+    ghost use Rattle.afl_base.specs.Causes.{HasCause, CountsOne};
+    ghost use Rattle.afl_base.specs.Image.{or_at, page_bytes, sector_bytes};
+    ghost use Rattle.afl_sim.specs.Caches.{Covers};
+    ghost use Rattle.afl_sim.specs.Devices.{counted, untold};
+
+    fn read_sector(&mut self, sector: SectorId, into: &mut [u8]) -> Result<(), Failed>
+        requires sector { 4096 * sector.0 + 4096 ≤ length (untold self.old) }
+        requires whole { length into.old ≡ 4096 }
+        ensures bytes { IsTrue false → OnOk result (into.new ≡ sector_bytes (untold self.old) sector.0) }
+        ensures same { untold self.new ≡ untold self.old }
+        ensures counted { CountsOne self.old.reads self.new.reads }
+        ensures faultless { OnOk result (self.new.faults ≡ self.old.faults) }
+        ensures cause { HasCause self.old.faults self.new.faults result }
+        ensures counts { self.new.faults ≡ counted (is_err result) self.old.faults }
+    {
+        self.reads = self.reads.saturating_add(1);
+        let outcome = self
+            .file
+            .read_exact_at(into, SECTOR * u64::from(sector.0));
+        self.judge(outcome)?;
+        Ok(())
+    }
+
+    fn overwrite(&mut self, page: PageId, at: u16, bytes: &[u8]) -> Result<(), Failed>
+        requires page { 256 * page.0 + 256 ≤ length (untold self.old) }
+        requires range { at + length bytes.now ≤ 256 }
+        requires covers { IsTrue false → Covers (untold self.old) (256 * page.0 + at) bytes.now }
+        ensures programmed { IsTrue false → OnOk result
+            (untold self.new ≡ or_at (untold self.old) (256 * page.0 + at) bytes.now) }
+        ensures other_pages { IsTrue false → (p : ℕ) → p ≢ page.0
+            → page_bytes (untold self.new) p ≡ page_bytes (untold self.old) p }
+        ensures size { length (untold self.new) ≡ length (untold self.old) }
+        ensures reads { self.new.reads ≡ self.old.reads }
+        ensures faultless { OnOk result (self.new.faults ≡ self.old.faults) }
+        ensures cause { HasCause self.old.faults self.new.faults result }
+        ensures counts { self.new.faults ≡ counted (is_err result) self.old.faults }
+    {
+        let outcome = self
+            .file
+            .write_all_at(bytes, PAGE * u64::from(page.0) + u64::from(at));
         self.judge(outcome)?;
         Ok(())
     }

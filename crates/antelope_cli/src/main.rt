@@ -14,10 +14,12 @@
 //! At 0, 2 to 5 and 8 an image that was not there was made.
 #![tactic(auto)]
 
+mod cache;
 mod failure;
 mod files;
 mod image;
 
+use crate::cache::cached_status;
 use crate::failure::Failure;
 use crate::files::open_script;
 use crate::image::{open_image, remove_new};
@@ -51,14 +53,14 @@ where
         (Some(Form::Run | Form::Serve), [_, image, input]) if input.as_str() == "-" => {
             let image = open_image(rt, image.as_str())?;
             let mut source = StdSource::new(stdin);
-            Ok(status(words, &mut source, &mut out, image.flash))
+            Ok(cached_status(rt, words, &mut source, &mut out, image.flash))
         }
         (Some(Form::Run | Form::Serve), [_, image, input]) => {
             with_script(rt, words, image.as_str(), input.as_str(), &mut out)
         }
         (Some(_), [_, image, ..]) => {
             let image = open_image(rt, image.as_str())?;
-            Ok(status(words, &mut nothing(), &mut out, image.flash))
+            Ok(cached_status(rt, words, &mut nothing(), &mut out, image.flash))
         }
         _ => refuse(words, &mut out),
     }
@@ -73,12 +75,12 @@ fn with_script<R, K>(
     out: &mut K,
 ) -> Result<u8, Failure>
 where
-    R: Files<File = File>,
+    R: Files<File = File> + AllocGlobal,
     K: Sink,
 {
     let image = open_image(rt, path)?;
     match open_script(rt, input) {
-        Ok(script) => Ok(status(words, &mut StdSource::new(script), out, image.flash)),
+        Ok(script) => Ok(cached_status(rt, words, &mut StdSource::new(script), out, image.flash)),
         Err(failure) => {
             remove_new(rt, path, image);
             Err(failure)

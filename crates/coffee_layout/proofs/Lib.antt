@@ -2,9 +2,11 @@ pub mod Entries
 pub mod Failings
 pub mod Frames
 pub mod FreeBlocks
+pub mod FreeSectors
 pub mod Fronts
 pub mod Judging
 pub mod KeptFiles
+pub mod Leaps
 pub mod Listing
 pub mod MarkLaws
 pub mod Measures

@@ -1,5 +1,5 @@
 -- Units: what begins at a page of the flash, by the page's first 32 bytes.
-use Rattle.std.specs.Prelude.{ℕ, ◌/◌, ◌+◌, Bool, true, false, ◌||◌, ◌==◌, bit_and, List, [], ◌∷◌, length, take, slice_index, Option, Some, if◌then◌else◌}
+use Rattle.std.specs.Prelude.{ℕ, ◌/◌, ◌+◌, ◌-◌, ◌%◌, Bool, true, false, ◌||◌, ◌==◌, bit_and, List, [], ◌∷◌, length, take, slice_index, Option, Some, if◌then◌else◌}
 use Rattle.std.specs.Option.{option_map}
 use Rattle.afl_base.specs.Image.{page_bytes}
 use Rattle.coffee_header.specs.Headers.{header_of}
@@ -44,3 +44,10 @@ abbrev pub is_active : Unit → Bool
 is_active Free = false
 is_active Isolated = false
 is_active (Extent h) = is_active_flags h.flags
+
+-- the page at which a walk goes on behind the unit at a page: behind a free page that is the next
+-- sector, since in a tiled image all pages up to there are free
+abbrev pub behind : ℕ → Unit → ℕ
+behind page Free = page + (16 - page % 16)
+behind page Isolated = page + 1
+behind page (Extent h) = page + h.max_pages

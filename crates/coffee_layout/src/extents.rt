@@ -53,7 +53,7 @@ pub(crate) fn first_failing<F: Flash>(
         if !unit_keeps(flash, table, rule, page, &unit)? {
             return Ok(Some(PageId(page)));
         }
-        page += unit.pages();
+        page = unit.behind(page);
     }
     Ok(None)
 }

@@ -100,7 +100,7 @@ fn is_active_log<F: Flash>(flash: &mut F, log: u16, name: &Name) -> Result<bool,
         if is_unit_log_at(page, &unit, log, name) {
             return Ok(true);
         }
-        page += unit.pages();
+        page = unit.behind(page);
     }
     Ok(false)
 }

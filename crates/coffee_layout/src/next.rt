@@ -24,8 +24,9 @@ pub fn next_unit<F: Flash>(flash: &mut F, page: PageId) -> Result<Option<Unit>, 
     Ok(unit_of(&bytes))
 }
 
+/// The unit that these 32 bytes begin, None where they begin none.
 #[tactic(auto, unfolding(crate::specs::Units::unit_of))]
-fn unit_of(bytes: &[u8; 32]) -> Option<Unit>
+pub(crate) fn unit_of(bytes: &[u8; 32]) -> Option<Unit>
     ensures { result ≡ unit_of bytes.now }
 {
     if is_zeros(bytes) {

@@ -1,4 +1,4 @@
-ghost use Rattle.std.specs.Prelude.{◌≡◌, ℕ, Bool, ◌+◌, ◌*◌, ◌≤◌, ◌<◌, false, true, length, Some, IsTrue, IfOk, IfSome, MatchResult, None};
+ghost use Rattle.std.specs.Prelude.{◌≡◌, ℕ, Bool, ◌+◌, ◌*◌, ◌≤◌, ◌<◌, false, true, length, take, Some, IsTrue, IfOk, OnOk, IfSome, MatchResult, None};
 ghost use Rattle.afl_base.specs.Causes.{HasCause};
 ghost use Rattle.afl_base.specs.Image.{page_bytes};
 ghost use Rattle.coffee_layout.specs.Tiling.{broken_at, broken_suffix, broken_unit, nowhere};
@@ -6,14 +6,14 @@ ghost use Rattle.padded.specs.Zeros.{is_zeros};
 ghost use Rattle.coffee_layout.specs.Units.{is_free, unit_at};
 ghost use Rattle.coffee_layout.specs.Walks.{IsInside};
 
-use crate::next::next_unit;
+use crate::next::{next_unit, unit_of};
 use crate::unit::Unit;
 use afl_base::{Failed, Flash, PageId};
 use padded::is_zeros;
 
 /// The unit that begins at `page`, or the first of the rules 1 to 4 that is broken there: where
 /// `after_free` says that the unit before is a free page, and no extent may be under construction.
-/// At most two reads.
+/// One read, of the whole page.
 pub(crate) fn sound_unit<F: Flash>(
     flash: &mut F,
     page: u16,
@@ -28,15 +28,17 @@ pub(crate) fn sound_unit<F: Flash>(
         (λ rule. broken_at nowhere (F.image flash.old) page after_free ≡ Some rule)) }
     ensures inside { IfOk result (λ r. IfOk r (λ u. IsInside pages page u)) }
     ensures same { F.image flash.new ≡ F.image flash.old }
-    ensures reads { F.reads flash.new ≤ F.reads flash.old + 2 }
+    ensures reads { F.reads flash.new ≤ F.reads flash.old + 1 }
     ensures reads_later { F.reads flash.old ≤ F.reads flash.new }
     ensures cause { HasCause (F.faults flash.old) (F.faults flash.new) result }
 {
-    let unit = match next_unit(flash, PageId(page))? {
+    let mut bytes = [0; 256];
+    read_page(flash, page, &mut bytes)?;
+    let unit = match unit_of(&head_of(&bytes)) {
         Some(unit) => unit,
         None => return Ok(Err(1)),
     };
-    let zeros = page_is_zeros(flash, PageId(page), &unit)?;
+    let zeros = is_clear(&bytes, &unit);
     match broken_unit(zeros, pages, page, after_free, &unit) {
         Some(rule) => Ok(Err(rule)),
         None => Ok(Ok(unit)),
@@ -67,22 +69,31 @@ pub fn unit_in<F: Flash>(flash: &mut F, page: u16, pages: u16) -> Result<Option<
     Ok(Some(unit))
 }
 
-// Whether all bytes of a page that is read as free are zero. Of other pages nothing is said.
-fn page_is_zeros<F: Flash>(flash: &mut F, page: PageId, unit: &Unit) -> Result<bool, Failed>
-    requires page { 256 * page.0 + 256 ≤ length (F.image flash.old) }
-    ensures zeros { IsTrue F.tells → is_free unit.now ≡ true → IfOk result
-        (λ z. z ≡ is_zeros (page_bytes (F.image flash.old) page.0)) }
+fn read_page<F: Flash>(flash: &mut F, page: u16, bytes: &mut [u8; 256]) -> Result<(), Failed>
+    requires page { 256 * page + 256 ≤ length (F.image flash.old) }
+    ensures bytes { IsTrue F.tells → OnOk result (bytes.new ≡ page_bytes (F.image flash.old) page) }
     ensures same { F.image flash.new ≡ F.image flash.old }
     ensures reads { F.reads flash.new ≤ F.reads flash.old + 1 }
     ensures reads_later { F.reads flash.old ≤ F.reads flash.new }
     ensures cause { HasCause (F.faults flash.old) (F.faults flash.new) result }
 {
-    if !unit.is_free() {
-        return Ok(false);
-    }
-    let mut bytes = [0; 256];
-    flash.read(page, 0, &mut bytes)?;
-    Ok(is_zeros(&bytes))
+    flash.read(PageId(page), 0, bytes)
+}
+
+// The first 32 bytes of a page.
+fn head_of(page: &[u8; 256]) -> [u8; 32]
+    ensures { result ≡ take 32 page.now }
+{
+    let mut head = [0; 32];
+    head.copy_from_slice(&page[..32]);
+    head
+}
+
+// Whether all bytes of a page that is read as free are zero. Of other pages nothing is said.
+fn is_clear(page: &[u8; 256], unit: &Unit) -> bool
+    ensures { is_free unit.now ≡ true → result ≡ is_zeros page.now }
+{
+    unit.is_free() && is_zeros(page)
 }
 
 // The first of the rules 1 to 4 that a unit breaks.

@@ -1,5 +1,5 @@
-ghost use Rattle.std.specs.Prelude.{◌≡◌};
-ghost use Rattle.coffee_layout.specs.Units.{is_active, is_free, size_of};
+ghost use Rattle.std.specs.Prelude.{◌≡◌, ℕ, ◌+◌, ◌*◌, ◌≤◌, ◌<◌};
+ghost use Rattle.coffee_layout.specs.Units.{behind, is_active, is_free, size_of};
 
 use coffee_header::Header;
 
@@ -23,6 +23,22 @@ impl Unit {
             Unit::Free => 1,
             Unit::Isolated => 1,
             Unit::Extent(header) => header.max_pages,
+        }
+    }
+
+    /// The page at which a walk over a tiled image goes on behind the unit at `page`: behind a free
+    /// page that is the next sector, since all pages up to there are free.
+    pub fn behind(&self, page: u16) -> u16
+        requires some { 1 ≤ size_of self.now }
+        requires inside { page + size_of self.now ≤ 65520 }
+        ensures value { result ≡ behind page self.now }
+        ensures onward { page < result }
+        ensures within { (sectors : ℕ) → page + size_of self.now ≤ 16 * sectors → result ≤ 16 * sectors }
+    {
+        match self {
+            Unit::Free => page + (16 - page % 16),
+            Unit::Isolated => page + 1,
+            Unit::Extent(header) => page + header.max_pages,
         }
     }
 

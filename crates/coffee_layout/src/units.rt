@@ -26,7 +26,7 @@ pub(crate) fn judge_units<F: Flash>(
         (λ bad. broken_tiling nowhere (F.image flash.old) ≡ Some bad)) }
     ensures placed { All (λ e. IsPlaced (pages_of (F.image flash.old)) e) table.new.items }
     ensures same { F.image flash.new ≡ F.image flash.old }
-    ensures reads { F.reads flash.new ≤ F.reads flash.old + 2 * pages_of (F.image flash.old) }
+    ensures reads { F.reads flash.new ≤ F.reads flash.old + pages_of (F.image flash.old) }
     ensures reads_later { F.reads flash.old ≤ F.reads flash.new }
     ensures cause { HasCause (F.faults flash.old) (F.faults flash.new) result }
 {

@@ -1,4 +1,4 @@
-ghost use Rattle.std.specs.Prelude.{◌≡◌, ℕ, ◌+◌, ◌-◌, ◌*◌, ◌/◌, ◌%◌, ◌≤◌, ◌<◌, min, true, false, length, slice_index, Option, None, Some, IsTrue, IfOk, OnOk};
+ghost use Rattle.std.specs.Prelude.{◌≡◌, ◌≢◌, ℕ, ◌+◌, ◌-◌, ◌*◌, ◌/◌, ◌%◌, ◌≤◌, ◌<◌, min, true, false, length, slice_index, Option, None, Some, IsTrue, IfOk, OnOk};
 ghost use Rattle.afl_base.specs.Causes.{HasCause};
 ghost use Rattle.afl_base.specs.Image.{page_bytes};
 ghost use Rattle.afl_base.specs.Regions.{regions};
@@ -10,7 +10,7 @@ ghost use Rattle.coffee_log.specs.FileChanges.{FileBecomes, IsFile, IsPlain, one
 ghost use Rattle.coffee_log.specs.Logs.{AddsRecords, IsLog};
 
 use crate::records::log_put;
-use afl_base::{Failed, Flash, PageId, put_bytes};
+use afl_base::{Failed, Flash, PageId, get_u16, put_bytes};
 use coffee_layout::{last_record, read_table, region_place};
 use flash_range::{program_range, read_range};
 
@@ -34,14 +34,162 @@ pub fn read_file<F: Flash>(
     ensures cause { HasCause (F.faults flash.old) (F.faults flash.new) result }
 {
     flash.sectors();
+    match log {
+        None => read_plain(flash, page, at, into),
+        Some(log) => read_logged(flash, page, log, at, into),
+    }
+}
+
+// The same of a file that has no log: its content stands in one piece.
+fn read_plain<F: Flash>(flash: &mut F, page: PageId, at: u32, into: &mut [u8]) -> Result<(), Failed>
+    requires placed { 256 * page.0 + 32 + at + length into.old ≤ length (F.image flash.old) }
+    ensures bytes { IsTrue F.tells → OnOk result
+        ((k : ℕ)
+        → k < length into.old → slice_index into.new k ≡ file_byte (F.image flash.old) page.0 None (at + k)) }
+    ensures same { F.image flash.new ≡ F.image flash.old }
+    ensures reads { F.reads flash.new ≤ F.reads flash.old + 2 * regions at (length into.old) }
+    ensures reads_later { F.reads flash.old ≤ F.reads flash.new }
+    ensures cause { HasCause (F.faults flash.old) (F.faults flash.new) result }
+{
+    flash.sectors();
+    read_range(flash, 256 * u32::from(page.0) + 32 + at, into)?;
+    Ok(())
+}
+
+// The same of a file that has a log, whose table is read once.
+fn read_logged<F: Flash>(
+    flash: &mut F,
+    page: PageId,
+    log: PageId,
+    at: u32,
+    into: &mut [u8],
+) -> Result<(), Failed>
+    requires placed { 256 * page.0 + 32 + at + length into.old ≤ length (F.image flash.old) }
+    requires log { log.0 + 16 ≤ pages_of (F.image flash.old) }
+    ensures bytes { IsTrue F.tells → OnOk result
+        ((k : ℕ) → k < length into.old
+        → slice_index into.new k ≡ file_byte (F.image flash.old) page.0 (Some log) (at + k)) }
+    ensures same { F.image flash.new ≡ F.image flash.old }
+    ensures reads { F.reads flash.new ≤ F.reads flash.old + 3 * regions at (length into.old) }
+    ensures reads_later { F.reads flash.old ≤ F.reads flash.new }
+    ensures cause { HasCause (F.faults flash.old) (F.faults flash.new) result }
+{
+    if into.is_empty() {
+        return Ok(());
+    }
+    let mut table = [0; 60];
+    read_table(flash, log.0, &mut table)?;
+    read_by_table(flash, page, log, &table, at, into)?;
+    Ok(())
+}
+
+// The same by the table of the log.
+fn read_by_table<F: Flash>(
+    flash: &mut F,
+    page: PageId,
+    log: PageId,
+    table: &[u8; 60],
+    at: u32,
+    into: &mut [u8],
+) -> Result<(), Failed>
+    requires placed { 256 * page.0 + 32 + at + length into.old ≤ length (F.image flash.old) }
+    requires log { log.0 + 16 ≤ pages_of (F.image flash.old) }
+    ensures bytes { IsTrue F.tells → table.now ≡ table_of (F.image flash.old) log.0 → OnOk result
+        ((k : ℕ) → k < length into.old
+        → slice_index into.new k ≡ file_byte (F.image flash.old) page.0 (Some log) (at + k)) }
+    ensures same { F.image flash.new ≡ F.image flash.old }
+    ensures reads { F.reads flash.new ≤ F.reads flash.old + 2 * regions at (length into.old) }
+    ensures reads_later { F.reads flash.old ≤ F.reads flash.new }
+    ensures cause { HasCause (F.faults flash.old) (F.faults flash.new) result }
+{
+    flash.sectors();
     let mut done = 0;
     while done < into.len() {
         let from = at + done as u32;
-        let n = (into.len() - done).min((128 - from % 128) as usize);
-        read_part(flash, page, log, from, &mut into[done..done + n])?;
-        done += n;
+        done += read_piece(flash, page, log, table, from, &mut into[done..])?;
     }
     Ok(())
+}
+
+// Fills a front part of `into`, which stands in one piece, and answers its length.
+fn read_piece<F: Flash>(
+    flash: &mut F,
+    page: PageId,
+    log: PageId,
+    table: &[u8; 60],
+    at: u32,
+    into: &mut [u8],
+) -> Result<usize, Failed>
+    requires some { 1 ≤ length into.old }
+    requires placed { 256 * page.0 + 32 + at + length into.old ≤ length (F.image flash.old) }
+    requires log { log.0 + 16 ≤ pages_of (F.image flash.old) }
+    ensures some { IfOk result (λ n. 1 ≤ n) }
+    ensures within { IfOk result (λ n. n ≤ length into.old) }
+    ensures whole { IfOk result (λ n. n < length into.old → (at + n) % 128 ≡ 0) }
+    ensures bytes { IsTrue F.tells → table.now ≡ table_of (F.image flash.old) log.0 → IfOk result
+        (λ n. (k : ℕ) → k < n
+        → slice_index into.new k ≡ file_byte (F.image flash.old) page.0 (Some log) (at + k)) }
+    ensures same { F.image flash.new ≡ F.image flash.old }
+    ensures reads { F.reads flash.new ≤ F.reads flash.old + 2 * regions at (length into.old) }
+    ensures read { IfOk result (λ n. F.reads flash.new ≤ F.reads flash.old + 2 * regions at n) }
+    ensures reads_later { F.reads flash.old ≤ F.reads flash.new }
+    ensures cause { HasCause (F.faults flash.old) (F.faults flash.new) result }
+{
+    flash.sectors();
+    match last_record(table, at / 128) {
+        None => {
+            let n = plain_length(table, at, into.len());
+            read_range(flash, 256 * u32::from(page.0) + 32 + at, &mut into[..n])?;
+            Ok(n)
+        }
+        Some(i) => {
+            let n = into.len().min((128 - at % 128) as usize);
+            let record = 256 * u32::from(log.0) + 96 + 128 * i;
+            read_range(flash, record + at % 128, &mut into[..n])?;
+            Ok(n)
+        }
+    }
+}
+
+// How many of the `rest` bytes from byte `at` on, whose region has no record, come before the next
+// region that has one.
+fn plain_length(table: &[u8; 60], at: u32, rest: usize) -> usize
+    requires plain { last_in table.now (at / 128) 30 ≡ None }
+    requires some { 1 ≤ rest }
+    requires range { at + rest ≤ 16773120 }
+    ensures some { 1 ≤ result }
+    ensures within { result ≤ rest }
+    ensures whole { result < rest → (at + result) % 128 ≡ 0 }
+    ensures plain { (p : ℕ) → at ≤ p → p < at + result → last_in table.now (p / 128) 30 ≡ None }
+{
+    let mut end = at + rest as u32;
+    if end <= at - at % 128 + 128 {
+        return rest;
+    }
+    for i in 0..30 {
+        end = end_before(get_u16(table, 2 * i), at, end);
+    }
+    (end - at) as usize
+}
+
+// Where the region that a record's number names begins, if that is between two places, else the second
+// one.
+fn end_before(number: u16, at: u32, end: u32) -> u32
+    requires order { at < end }
+    ensures some { at < result }
+    ensures within { result ≤ end }
+    ensures whole { result < end → result % 128 ≡ 0 }
+    ensures plain { (p : ℕ) → at / 128 < p / 128 → p < result → number ≢ p / 128 + 1 }
+{
+    if number == 0 {
+        return end;
+    }
+    let front = 128 * (u32::from(number) - 1);
+    if at < front && front < end {
+        front
+    } else {
+        end
+    }
 }
 
 // The same of a part of one region.

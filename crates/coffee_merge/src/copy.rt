@@ -79,14 +79,15 @@ pub fn copy_file<F: Flash>(
 {
     let mut done = 0;
     while done < from.size {
-        let n = (from.size - done).min(128);
+        // Content begins at byte 32 of the first page, so that each page is programmed once.
+        let n = (from.size - done).min(1024 - (done + 32) % 1024);
         copy_part(flash, from, page, pages, done, n)?;
         done += n;
     }
     Ok(())
 }
 
-// The same of at most 128 bytes, from byte `at` on.
+// The same of at most 1,024 bytes, from byte `at` on.
 fn copy_part<F: Flash>(
     flash: &mut F,
     from: &FileAt,
@@ -95,7 +96,7 @@ fn copy_part<F: Flash>(
     at: u32,
     n: u32,
 ) -> Result<(), Failed>
-    requires few { n ≤ 128 }
+    requires few { n ≤ 1024 }
     requires range { at + n ≤ from.now.size }
     requires from { FitsIn (pages_of (F.image flash.old)) from.now }
     requires placed { page.0 + pages ≤ pages_of (F.image flash.old) }
@@ -118,7 +119,7 @@ fn copy_part<F: Flash>(
     ensures reads_later { F.reads flash.old ≤ F.reads flash.new }
     ensures cause { HasCause (F.faults flash.old) (F.faults flash.new) result }
 {
-    let mut buffer = [0; 128];
+    let mut buffer = [0; 1024];
     let part = &mut buffer[..n as usize];
     read_file(flash, from.page, from.log, at, part)?;
     write_extent(flash, page, pages, at, part)

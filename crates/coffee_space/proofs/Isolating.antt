@@ -26,7 +26,7 @@ isolating_reads taken building old new us page u long before i is = stands build
 pub isolating_none : (taken building : ℕ → Bool) (old new : List ℕ) (us : List Unit) (page : ℕ) → length new ≡ length old → page < pages_of old → Isolating taken building old new us page → IsRead new page None → ⊥
 isolating_none taken building old new us page long before i is = ahead_none building old us page before i.ahead (read_same old new page None long (i.same page (omega arith)) is)
 
-page_on : (wanted : Bool) (old now new : List ℕ) (q : ℕ) → page_bytes new q ≡ page_bytes now q → IsolatesPage wanted old now q → IsolatesPage wanted old new q
+pub page_on : (wanted : Bool) (old now new : List ℕ) (q : ℕ) → page_bytes new q ≡ page_bytes now q → IsolatesPage wanted old now q → IsolatesPage wanted old new q
 page_on wanted old now new q same i = record { isolated = λ w. same ∙ i.isolated w; kept = λ w. same ∙ i.kept w }
 
 page_from : (wanted : Bool) (old now new : List ℕ) (q : ℕ) → page_bytes now q ≡ page_bytes old q → IsolatesPage wanted now new q → IsolatesPage wanted old new q

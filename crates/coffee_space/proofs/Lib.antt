@@ -7,5 +7,7 @@ pub mod Isolating
 pub mod MarksLeft
 pub mod Obtaining
 pub mod SectorMarks
+pub mod Spans
 pub mod UnitsLeft
+pub mod Untaken
 pub mod Walks

@@ -56,7 +56,7 @@ fn isolate<F: Flash>(flash: &mut F, sectors: &Sectors) -> Result<(), Failed>
             None => return Ok(()),
         };
         isolate_unit(flash, sectors, page, unit.pages())?;
-        page += unit.pages();
+        page = unit.behind(page);
     }
     Ok(())
 }

@@ -12,8 +12,9 @@ use crate::runs::find_run;
 use afl_base::{FileError, Flash, PageId};
 
 /// The lowest page that begins `pages` free pages one behind the other. Where there are none, it
-/// collects once and looks again. `Space` comes exactly where the image is then cramped: no such run
-/// is free, and a further collection would take no sector. Nothing is written into the run.
+/// collects once, and looks again where that took a sector. `Space` comes exactly where the image is
+/// then cramped: no such run is free, and a further collection would take no sector. Nothing is written
+/// into the run.
 pub fn obtain<F: Flash>(flash: &mut F, pages: u16) -> Result<PageId, FileError>
     requires some { 1 ≤ pages }
     ensures run { IsTrue F.tells → IfOk result
@@ -51,7 +52,7 @@ pub fn obtain<F: Flash>(flash: &mut F, pages: u16) -> Result<PageId, FileError>
     }
 }
 
-// The same after a collection.
+// The same after a collection, where no such run is free.
 fn obtain_collected<F: Flash>(flash: &mut F, pages: u16) -> Result<PageId, FileError>
     requires some { 1 ≤ pages }
     ensures run { IsTrue F.tells → IfOk result
@@ -60,7 +61,7 @@ fn obtain_collected<F: Flash>(flash: &mut F, pages: u16) -> Result<PageId, FileE
     ensures inside { IfOk result (λ page. 256 * (page.0 + pages) ≤ length (F.image flash.new)) }
     ensures cramped { IsTrue F.tells → OnSpace result
         (λ need. (building : ℕ → Bool) (us : List Unit) → IsTiled building (F.image flash.old) us
-        → IsCramped (units_of (F.image flash.new)) need) }
+        → NoRun (free_pages us) pages → IsCramped (units_of (F.image flash.new)) need) }
     ensures need { OnSpace result (λ need. need ≡ pages) }
     ensures collected { IsTrue F.tells → UnlessFailed result
         ((building : ℕ → Bool) (us : List Unit) → IsTiled building (F.image flash.old) us
@@ -76,7 +77,10 @@ fn obtain_collected<F: Flash>(flash: &mut F, pages: u16) -> Result<PageId, FileE
     ensures reads_later { F.reads flash.old ≤ F.reads flash.new }
     ensures cause { HasFileCause (F.faults flash.old) (F.faults flash.new) result }
 {
-    collect(flash)?;
+    flash.sectors();
+    if collect(flash)? == 0 {
+        return Err(FileError::Space { need: pages });
+    }
     match find_run(flash, pages)? {
         Some(page) => Ok(page),
         None => Err(FileError::Space { need: pages }),

@@ -1,7 +1,8 @@
 use Rattle.std.proofs.Common.{◌*◌, ◌&&◌, not, None, Some, arith, rules, sym, ap}
 use Rattle.coffee_layout.specs.Files.{is_log}
 use Rattle.coffee_layout.specs.Walks.{IsInside, is_log_at}
-use Rattle.coffee_layout.proofs.Searches.{IsRead, searched_none, searched_found, searched_next, searched_end}
+use Rattle.coffee_layout.proofs.Leaps.{searched_behind}
+use Rattle.coffee_layout.proofs.Searches.{IsRead, searched_none, searched_found, searched_end}
 use Rattle.coffee_layout.proofs.Namings.{any_found, any_none}
 use Rattle.coffee_layout.proofs.naming.is_active_log.Goals as goal
 
@@ -22,16 +23,16 @@ pub loop-page-preserved : goal.loop-page-preserved
 loop-page-preserved g c =
     let inside : IsInside (16 * c.sectors-pages.result) c.loop-page.page c.in-Some.unit = (rw c.in-Some.is at c.in_ok-unit.ensures.inside) in
     record {
-      within = omega arith;
+      within = c.behind-page.ensures.within c.sectors-pages.result inside.1;
       size = c.loop-page.invariant.size;
       same = search rules;
-      reads = omega arith;
+      reads = omega (arith, c.behind-page.ensures.onward);
       later = search rules;
       faults = search rules;
       searched = λ t us tiled.
           let image = g.F.Flash.image c.args.flash.now in
           let is : IsRead image c.loop-page.page (Some c.in-Some.unit) = (rw (c.loop-page.invariant.same, c.in-Some.is) at (c.in_ok-unit.ensures.unit t)) in
-          rw c.pages-page.ensures (searched_next (λ e. not (is_log e && is_log_at c.args.log c.args.name.now e)) image us c.loop-page.page c.in-Some.unit (not c.is_unit_log_at.result) (omega arith) (c.loop-page.invariant.searched t us tiled) is c.is_unit_log_at.ensures (ap not c.if-is_unit_log_at.false));
+          rw c.behind-page.ensures.value (searched_behind (λ e. not (is_log e && is_log_at c.args.log c.args.name.now e)) image us c.sectors-pages.result c.loop-page.page c.in-Some.unit (not c.is_unit_log_at.result) (omega arith) (omega arith) (c.loop-page.invariant.searched t us tiled) is c.is_unit_log_at.ensures (ap not c.if-is_unit_log_at.false));
     }
 
 pub returns-clause-active : goal.returns-clause-active

@@ -10,7 +10,7 @@ invariant-loop-page g l = record {
   within : l.page ≤ l.pages;
   size : 256 * l.pages ≡ length (g.F.Flash.image l.fn.flash);
   same : g.F.Flash.image l.flash ≡ g.F.Flash.image l.fn.flash;
-  reads : g.F.Flash.reads l.flash ≤ g.F.Flash.reads l.fn.flash + 2 * l.page;
+  reads : g.F.Flash.reads l.flash ≤ g.F.Flash.reads l.fn.flash + l.page;
   later : g.F.Flash.reads l.fn.flash ≤ g.F.Flash.reads l.flash;
   faults : g.F.Flash.faults l.fn.flash ≤ g.F.Flash.faults l.flash;
   placed : All (λ e. IsPlaced (pages_of (g.F.Flash.image l.fn.flash)) e) l.table.items;

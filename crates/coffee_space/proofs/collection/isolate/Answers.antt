@@ -2,7 +2,8 @@ use Rattle.std.proofs.Common.{rules, ◌*◌, None, Some, arith}
 use Rattle.coffee_layout.specs.Walks.{IsInside}
 use Rattle.coffee_layout.proofs.Searches.{IsRead}
 use Rattle.coffee_space.specs.Sectors.{taken_in}
-use Rattle.coffee_space.proofs.Isolating.{isolating_end, isolating_next, isolating_none, isolating_reads}
+use Rattle.coffee_space.proofs.Isolating.{isolating_end, isolating_none}
+use Rattle.coffee_space.proofs.Spans.{isolating_behind}
 use Rattle.coffee_space.proofs.collection.isolate.Goals as goal
 
 pub returns-in-None-clause-isolated : goal.returns-in-None-clause-isolated
@@ -15,10 +16,10 @@ pub loop-page-preserved : goal.loop-page-preserved
 loop-page-preserved g c =
     let inside : IsInside (16 * c.sectors-all.result) c.loop-page.page c.in-Some.unit = (rw c.in-Some.is at c.in_ok-unit.ensures.inside) in
     record {
-      within = omega arith;
+      within = c.behind-page.ensures.within c.sectors-all.result inside.1;
       total = c.loop-page.invariant.total;
       size = search rules;
-      reads = omega arith;
+      reads = omega (arith, c.behind-page.ensures.onward);
       later = search rules;
       faults = search rules;
       isolating = λ t building us tiled.
@@ -27,8 +28,7 @@ loop-page-preserved g c =
           let new = g.F.Flash.image c.isolate_unit.new.flash in
           let is : IsRead (g.F.Flash.image c.loop-page.flash) c.loop-page.page (Some c.in-Some.unit) = (rw c.in-Some.is at (c.in_ok-unit.ensures.unit t)) in
           let before = c.loop-page.invariant.isolating t building us tiled in
-          let stands = isolating_reads (taken_in c.args.sectors.now.used.bits c.args.sectors.now.active.bits) building old now us c.loop-page.page c.in-Some.unit c.loop-page.invariant.size (omega arith) before is in
-          rw c.pages-page.ensures (isolating_next (taken_in c.args.sectors.now.used.bits c.args.sectors.now.active.bits) building old now new us c.loop-page.page c.in-Some.unit stands before
+          rw c.behind-page.ensures.value (isolating_behind (taken_in c.args.sectors.now.used.bits c.args.sectors.now.active.bits) building old now new us c.sectors-all.result c.loop-page.page c.in-Some.unit (omega arith) c.loop-page.invariant.size (omega arith) is before
           (rw (c.unit_in.ensures.same, c.pages.ensures) at (c.in_ok-isolate_unit.ensures.isolated t)));
     }
 

@@ -1,7 +1,7 @@
-use Rattle.std.proofs.Common.{◌≡◌, ℕ, ◌+◌, ◌-◌, ◌*◌, ◌%◌, ◌≤◌, ◌<◌, length, get_or, IsTrue}
+use Rattle.std.proofs.Common.{◌≡◌, ℕ, Some, ◌+◌, ◌-◌, ◌*◌, ◌%◌, ◌≤◌, ◌<◌, length, get_or, IsTrue}
 use Rattle.afl_base.specs.Regions.{regions}
-use Rattle.coffee_layout.specs.FileBytes.{file_byte}
-use Rattle.coffee_log.proofs.contents.read_file.Given as goal
+use Rattle.coffee_layout.specs.FileBytes.{file_byte, table_of}
+use Rattle.coffee_log.proofs.contents.read_by_table.Given as goal
 
 abbrev pub invariant-loop-done : goal.invariant-loop-done
 invariant-loop-done g l = record {
@@ -9,8 +9,8 @@ invariant-loop-done g l = record {
   size : length (g.F.Flash.image l.fn.flash) ≤ 16773120;
   turn : 0 < l.done → l.done < length l.fn.into → (l.at + l.done) % 128 ≡ 0;
   same : g.F.Flash.image l.flash ≡ g.F.Flash.image l.fn.flash;
-  bytes : IsTrue g.F.Flash.tells → (k : ℕ) → k < l.done → get_or l.into k 0 ≡ file_byte (g.F.Flash.image l.fn.flash) l.page.0 l.log (l.at + k);
-  reads : g.F.Flash.reads l.flash ≤ g.F.Flash.reads l.fn.flash + 3 * regions l.at l.done;
+  bytes : IsTrue g.F.Flash.tells → l.table ≡ table_of (g.F.Flash.image l.fn.flash) l.log.0 → (k : ℕ) → k < l.done → get_or l.into k 0 ≡ file_byte (g.F.Flash.image l.fn.flash) l.page.0 (Some l.log) (l.at + k);
+  reads : g.F.Flash.reads l.flash ≤ g.F.Flash.reads l.fn.flash + 2 * regions l.at l.done;
   later : g.F.Flash.reads l.fn.flash ≤ g.F.Flash.reads l.flash;
   faults : g.F.Flash.faults l.fn.flash ≤ g.F.Flash.faults l.flash;
 }
