@@ -2,7 +2,7 @@
 
 #![tactic(auto)]
 
-ghost use Rattle.std.specs.Prelude.{◌≡◌, ◌+◌, ◌*◌, ◌≤◌, None, true, false, IsTrue, IfErr, IfOk, IsErrOf, OnErr, OnOk, length, map};
+ghost use Rattle.std.specs.Prelude.{◌≡◌, ◌+◌, ◌*◌, ◌≤◌, None, true, false, IsTrue, IfErr, IfOk, IsErrOf, OnErr, OnOk, length, map, replicate};
 ghost use Rattle.std.specs.List.{range_with_len};
 ghost use Rattle.afl_base.specs.Causes.{HasCause};
 ghost use Rattle.db_model.specs.Ahead.{aheads_after, cost_of, no_cursors};
@@ -114,7 +114,7 @@ impl<V: Files> Session<V> {
             files,
             tables: HashTables::new(),
             held: nothing_held(),
-            opens: [None, None, None, None],
+            opens: none_open(),
             stopped: true,
             lost: true,
         }
@@ -150,7 +150,7 @@ impl<V: Files> Session<V> {
         match open_database(&mut self.files, &mut self.tables) {
             Ok(Ok(held)) => {
                 self.held = held;
-                self.opens = [None, None, None, None];
+                self.opens = none_open();
                 self.stopped = false;
                 self.lost = false;
                 Ok(Ok(()))
@@ -242,6 +242,13 @@ impl<V: Files> Session<V> {
     {
         self.files
     }
+}
+
+// No cursor is open.
+fn none_open() -> [Option<Open>; 4]
+    ensures { result ≡ replicate 4 None }
+{
+    [None, None, None, None]
 }
 
 // Of no file.
