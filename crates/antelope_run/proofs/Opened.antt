@@ -21,3 +21,8 @@ unfolding base
 opened_within image files same before mounted now sectors size four first second =
     let total = sums (base_of files) (base_of (files_in image)) (ap base_of same) in
     omega (arith, total, size, four, first, second)
+
+-- and that of judging the volume alone
+pub mounted_within : (image : List ℕ) (before now sectors : ℕ) → length image ≡ 4096 * sectors → now ≤ before + 448 * pages_of image
+    → now ≤ before + opening_cost (base image) (length image / 256)
+mounted_within image before now sectors size first = omega (arith, size, first)

@@ -1,61 +1,78 @@
-use Rattle.std.proofs.Common.{◌≡◌, refl, rules, ◌/◌, ap, sym, subst, ◌∙◌, Err, arith, length}
+use Rattle.std.proofs.Common.{◌≡◌, refl, rules, ◌/◌, ap, sym, subst, ◌∙◌, inl, inr, Err, arith, length}
 use Rattle.db_model.specs.Sound.{IsSoundDatabase}
 use Rattle.intake.specs.declared.halt.Halt.TheVariants.{Flash, Sink}
 use Rattle.intake.specs.declared.halt.Stop.TheVariants.{Input, Halted}
-use Rattle.sound_image.specs.Images.{base, files_in}
+use Rattle.stored.specs.Base.{base_of}
+use Rattle.stored.specs.Sound.{BreaksFirst, IsSoundTable}
+use Rattle.sound_image.specs.Images.{base, files_in, IsSound, IsFirstBroken}
 use Rattle.sound_image.proofs.Judged.{sound_unbroken}
 use Rattle.antelope_run.proofs.Leaving.{leaves, tells_alone}
 use Rattle.run_model.specs.Runs.{world}
+use Rattle.antelope_run.proofs.Opened.{mounted_within, opened_within}
 use Rattle.antelope_run.proofs.ReadsLeft.{not_true, reads_by, unopened_reads}
 use Rattle.antelope_run.proofs.Refusals.{none_opened, on_unopened, refused_cause, refused_comes}
 use Rattle.antelope_run.proofs.call.run_form.Goals as goal
 
-pub returns-in-Ok-clause-comes : goal.returns-in-Ok-clause-comes
+pub returns-in-Ok-Ok-clause-comes : goal.returns-in-Ok-Ok-clause-comes
 unfolding base
-returns-in-Ok-clause-comes g c = λ told.
+returns-in-Ok-Ok-clause-comes g c = λ told.
     let image = g.F.Flash.image c.args.flash in
-    let opened = c.in-Ok.ensures in
-    let sound = opened.sound told in
-    let start = opened.base told in
-    let kept = opened.running.1 in
-    let tells = opened.tells ∙ told in
-    let database : IsSoundDatabase c.in-Ok.session.database =
+    let at = c.new-session.ensures.files in
+    let began = c.in-Ok-Ok.ensures in
+    let tells = (rw at c.in-Ok.ensures.tells) ∙ told in
+    let files = rw at (ap (λ s. s.files) (c.in-Ok.ensures.files told) ∙ c.mounted_files_are_the_images.ensures image) in
+    let store = rw at c.in-Ok.ensures.same in
+    let sound : IsSound image = record { volume = c.in-Ok.ensures.sound told; database = subst IsSoundTable files (rw c.in-Ok-Ok.field-0-is at (began.sound tells)) } in
+    let start : c.begin.new.self.database ≡ base image = (rw c.in-Ok-Ok.field-0-is at (began.base tells)) ∙ ap base_of files in
+    let kept = (rw c.in-Ok-Ok.field-0-is at began.running).1 in
+    let told_now = ap (λ s. s.tells) began.same ∙ tells in
+    let database : IsSoundDatabase c.begin.new.self.database =
     subst IsSoundDatabase (sym start) (c.sound_files_are_a_sound_database.ensures (files_in image) sound.database) in
     let many : c.sectors-sectors.result ≡ length image / 4096 = (let size = c.sectors-sectors.ensures.size in omega (arith, size)) in (
       sound,
-      leaves _ _ image (g.F.Flash.image c.close.result) (g.S.Source.left c.args.input.now) (g.S.Source.left c.carry_out-done.new.input) _ start tells
-          c.sectors-sectors.result many c.args.form c.carry_out-done.result.0
-          (λ tells_now other. c.close.ensures.back tells_now (not_true _ c.carry_out-done.result.1.lost (c.carry_out-done.ensures.lost kept) other))
-          (λ only other. c.close.ensures.image ∙ c.carry_out-done.ensures.same only other ∙ opened.same)
+      leaves _ _ image (g.F.Flash.image c.close.result) (g.S.Source.left c.args.input.now) (g.S.Source.left c.carry_out-done.new.input) _ start told_now
+          c.sectors-sectors.result many c.args.form c.carry_out-done.result
+          (λ tells_now other. c.close.ensures.back tells_now (not_true _ c.carry_out-done.new.session.lost (c.carry_out-done.ensures.lost kept) other))
+          (λ only other. c.close.ensures.image ∙ c.carry_out-done.ensures.same only other ∙ ap (λ s. s.store) began.same ∙ store)
           (λ only. ap g.S.Source.left (c.carry_out-done.ensures.unread (tells_alone c.args.form only)))
-          (c.carry_out-done.ensures.does tells kept database),
+          (c.carry_out-done.ensures.does told_now kept database),
     )
 
-pub returns-in-Ok-clause-reads : goal.returns-in-Ok-clause-reads
-returns-in-Ok-clause-reads g c = λ told sound.
+pub returns-in-Ok-Ok-clause-reads : goal.returns-in-Ok-Ok-clause-reads
+unfolding base
+returns-in-Ok-Ok-clause-reads g c = λ told sound.
     let image = g.F.Flash.image c.args.flash in
-    let opened = c.in-Ok.ensures in
+    let at = c.new-session.ensures.files in
+    let began = c.in-Ok-Ok.ensures in
+    let tells = (rw at c.in-Ok.ensures.tells) ∙ told in
+    let files = rw at (ap (λ s. s.files) (c.in-Ok.ensures.files told) ∙ c.mounted_files_are_the_images.ensures image) in
+    let start : c.begin.new.self.database ≡ base image = (rw c.in-Ok-Ok.field-0-is at (began.base tells)) ∙ ap base_of files in
+    let opened = opened_within image _ files _ _ _ c.sectors-sectors.result c.sectors-sectors.ensures.size c.sectors-sectors.ensures.least (rw at c.in-Ok.ensures.reads) (began.reads tells) in
     rw c.close.ensures.reads (reads_by image (g.S.Source.left c.args.input.now) (g.K.Sink.held c.args.out.now) (g.F.Flash.reads c.args.flash)
-    _ _ (opened.base told) opened.aheads (opened.reads told sound) c.args.form (c.carry_out-done.ensures.reads (opened.tells ∙ told)))
+    _ _ start (rw c.in-Ok-Ok.field-0-is at began.aheads) opened c.args.form (c.carry_out-done.ensures.reads (ap (λ s. s.tells) began.same ∙ tells)))
 
-pub returns-in-Ok-clause-cause : goal.returns-in-Ok-clause-cause
-returns-in-Ok-clause-cause g c =
+pub returns-in-Ok-Ok-clause-cause : goal.returns-in-Ok-Ok-clause-cause
+returns-in-Ok-Ok-clause-cause g c =
     let cause = c.carry_out-done.ensures.cause in
-    let later = c.in-Ok.ensures.later in
+    let mounted = rw c.new-session.ensures.files c.in-Ok.ensures.cause in
+    let later = c.in-Ok-Ok.ensures.cause.later in
     record {
-      input = λ e. let is : c.carry_out-done.result.0 ≡ Err Input = cc in cause.input is;
+      input = λ e. let is : c.carry_out-done.result ≡ Err Input = cc in cause.input is;
       flash_failed = λ e.
-          let is : c.carry_out-done.result.0 ≡ Err (Halted Flash) = cc in
+          let is : c.carry_out-done.result ≡ Err (Halted Flash) = cc in
           let rose = cause.flash is in
-          rw c.close.ensures.faults (omega (arith, rose, later));
-      sink_failed = λ e. let is : c.carry_out-done.result.0 ≡ Err (Halted Sink) = cc in cause.sink is;
+          rw c.close.ensures.faults (omega (arith, rose, later, mounted));
+      sink_failed = λ e. let is : c.carry_out-done.result ≡ Err (Halted Sink) = cc in cause.sink is;
       unsaid = λ e. absurd (let n : ⊥ = cc in n);
       unopened = λ e. absurd (let n : ⊥ = cc in n);
     }
 
+
+-- the volume is not sound
+
 pub returns-in-Err-Bad-clause-reads : goal.returns-in-Err-Bad-clause-reads
 returns-in-Err-Bad-clause-reads g c = λ told sound.
-    absurd (sound_unbroken (g.F.Flash.image c.args.flash) c.in-Err-Bad.rule c.in-Err-Bad.place sound (rw c.in-Err-Bad.field-0-is at (c.in-Err-Bad.ensures.bad told)))
+    absurd (sound_unbroken (g.F.Flash.image c.args.flash) c.in-Err-Bad.bad.rule c.in-Err-Bad.bad.place sound (inl (rw c.in-Err-Bad.field-0-is at (c.in-Err-Bad.ensures.bad told))))
 
 pub returns-in-Err-Bad-clause-comes : goal.returns-in-Err-Bad-clause-comes
 returns-in-Err-Bad-clause-comes g c = λ told.
@@ -63,7 +80,7 @@ returns-in-Err-Bad-clause-comes g c = λ told.
     refused_comes c.refuse.result c.args.form
     (world (g.F.Flash.image c.args.flash) (g.S.Source.left c.args.input.now) (g.K.Sink.held c.args.out.now))
     (world _ (g.S.Source.left c.args.input.now) (g.K.Sink.held c.refuse.new.out))
-    c.in-Err-Bad.rule c.in-Err-Bad.place e.only (rw c.in-Err-Bad.field-0-is at (c.in-Err-Bad.ensures.bad told)) (search rules) (rw c.in-Err-Bad.field-0-is at e.written) (rw c.in-Err-Bad.field-0-is at e.unsaid)
+    c.in-Err-Bad.bad.rule c.in-Err-Bad.bad.place e.only (inl (rw c.in-Err-Bad.field-0-is at (c.in-Err-Bad.ensures.bad told))) (search rules) (rw c.in-Err-Bad.field-0-is at e.written) (rw c.in-Err-Bad.field-0-is at e.unsaid)
 
 pub returns-in-Err-Bad-clause-reaches : goal.returns-in-Err-Bad-clause-reaches
 returns-in-Err-Bad-clause-reaches g c = none_opened c.refuse.result _ c.refuse.ensures.only
@@ -76,5 +93,56 @@ returns-in-Err-Bad-clause-cause g c = refused_cause c.refuse.result _ _ _ _ _ _ 
 
 pub returns-in-Err-Failed-clause-reads : goal.returns-in-Err-Failed-clause-reads
 returns-in-Err-Failed-clause-reads g c = λ told sound.
-    unopened_reads (g.F.Flash.image c.args.flash) (g.S.Source.left c.args.input.now) (g.K.Sink.held c.args.out.now) (g.F.Flash.reads c.args.flash)
-    c.args.form _ (rw c.in-Err-Failed.flash-is (rw c.in-Err-Failed.field-0-is at (c.in-Err-Failed.ensures.reads told sound)))
+    let image = g.F.Flash.image c.args.flash in
+    unopened_reads image (g.S.Source.left c.args.input.now) (g.K.Sink.held c.args.out.now) (g.F.Flash.reads c.args.flash)
+    c.args.form _ (mounted_within image _ _ c.sectors-sectors.result c.sectors-sectors.ensures.size (rw c.in-Err-Failed.field-0-is at c.in-Err-Failed.ensures.reads))
+
+-- the database is not sound
+
+pub returns-in-Ok-Err-clause-reads : goal.returns-in-Ok-Err-clause-reads
+returns-in-Ok-Err-clause-reads g c = λ told sound.
+    let image = g.F.Flash.image c.args.flash in
+    let at = c.new-session.ensures.files in
+    let began = c.in-Ok-Err.ensures in
+    let tells = (rw at c.in-Ok.ensures.tells) ∙ told in
+    let files = rw at (ap (λ s. s.files) (c.in-Ok.ensures.files told) ∙ c.mounted_files_are_the_images.ensures image) in
+    let opened = opened_within image _ files _ _ _ c.sectors-sectors.result c.sectors-sectors.ensures.size c.sectors-sectors.ensures.least (rw at c.in-Ok.ensures.reads) (began.reads tells) in
+    rw c.close-in-Ok-Err.ensures.reads (unopened_reads image (g.S.Source.left c.args.input.now) (g.K.Sink.held c.args.out.now) (g.F.Flash.reads c.args.flash) c.args.form _ opened)
+
+pub returns-in-Ok-Err-clause-comes : goal.returns-in-Ok-Err-clause-comes
+returns-in-Ok-Err-clause-comes g c = λ told.
+    let image = g.F.Flash.image c.args.flash in
+    let at = c.new-session.ensures.files in
+    let began = c.in-Ok-Err.ensures in
+    let tells = (rw at c.in-Ok.ensures.tells) ∙ told in
+    let files = rw at (ap (λ s. s.files) (c.in-Ok.ensures.files told) ∙ c.mounted_files_are_the_images.ensures image) in
+    let store = rw at c.in-Ok.ensures.same in
+    let rule = c.in-Ok-Err.broken.rule in
+    let place = c.in-Ok-Err.broken.place in
+    let bad = subst (λ files. BreaksFirst files rule place) files (rw c.in-Ok-Err.field-0-is at (began.bad tells)) in
+    let e = c.refuse-in-Ok-Err.ensures in
+    refused_comes c.refuse-in-Ok-Err.result c.args.form
+    (world image (g.S.Source.left c.args.input.now) (g.K.Sink.held c.args.out.now))
+    (world (g.F.Flash.image c.close-in-Ok-Err.result) (g.S.Source.left c.args.input.now) (g.K.Sink.held c.refuse-in-Ok-Err.new.out))
+    rule place e.only (inr (c.in-Ok.ensures.sound told, bad)) (c.close-in-Ok-Err.ensures.image ∙ ap (λ s. s.store) began.same ∙ store) e.written e.unsaid
+
+pub returns-in-Ok-Err-clause-reaches : goal.returns-in-Ok-Err-clause-reaches
+returns-in-Ok-Err-clause-reaches g c = none_opened c.refuse-in-Ok-Err.result _ c.refuse-in-Ok-Err.ensures.only
+
+pub returns-in-Ok-Err-clause-unread : goal.returns-in-Ok-Err-clause-unread
+returns-in-Ok-Err-clause-unread g c = on_unopened c.refuse-in-Ok-Err.result _ refl c.refuse-in-Ok-Err.ensures.only
+
+pub returns-in-Ok-Err-clause-cause : goal.returns-in-Ok-Err-clause-cause
+returns-in-Ok-Err-clause-cause g c = refused_cause c.refuse-in-Ok-Err.result _ _ _ _ _ _ c.refuse-in-Ok-Err.ensures.only c.refuse-in-Ok-Err.ensures.rose
+
+-- the flash failed
+
+pub returns-in-Err-clause-reads : goal.returns-in-Err-clause-reads
+returns-in-Err-clause-reads g c = λ told sound.
+    let image = g.F.Flash.image c.args.flash in
+    let at = c.new-session.ensures.files in
+    let began = c.in-Err.ensures in
+    let tells = (rw at c.in-Ok.ensures.tells) ∙ told in
+    let files = rw at (ap (λ s. s.files) (c.in-Ok.ensures.files told) ∙ c.mounted_files_are_the_images.ensures image) in
+    let opened = opened_within image _ files _ _ _ c.sectors-sectors.result c.sectors-sectors.ensures.size c.sectors-sectors.ensures.least (rw at c.in-Ok.ensures.reads) (began.reads tells) in
+    rw c.close-in-Err.ensures.reads (unopened_reads image (g.S.Source.left c.args.input.now) (g.K.Sink.held c.args.out.now) (g.F.Flash.reads c.args.flash) c.args.form _ opened)
