@@ -177,7 +177,6 @@ at_err Good Says (Ok done) says read good = tt
 at_err Good Says (Err halt) says read good = says read good
 
 module _ {E : Type 0} (talk : (List ℕ → Result Command Refusal) → Talk E) (some : (read : List ℕ → Result Command Refusal) (entry : E) (reply : Reply) → 0 < length ((talk read).sent entry (text reply))) (entry : E) (old new : Standing) (h0 h1 : Option (List ℕ)) (is_old : h0 ≡ old.held) (answered : Result ⊤ Halt) where
-
   pub sent_carried : OnOk answered ((read : List ℕ → Result Command Refusal) → IsReader read → Carried (talk read) (entry ∷ []) (held_by old h0) (held_by new h1))
       → (done : ⊤) → answered ≡ Ok done → h1 ≡ new.held
       → (read : List ℕ → Result Command Refusal) → IsReader read → Carried (talk read) (entry ∷ []) old new

@@ -14,7 +14,7 @@ append_none None = refl
 append_none (Some bytes) = ap (λ t. Some t) (append-nil bytes)
 
 pub grew_none : (h : Option (List ℕ)) → Grew h h
-grew_none h = record { more = []; held = sym (append_none h); }
+grew_none h = record { more = []; held = sym (append_none h) }
 
 pub grew_on : (h0 h1 h2 : Option (List ℕ)) → Grew h0 h1 → Grew h1 h2 → Grew h0 h2
 grew_on h0 h1 h2 a b = record {

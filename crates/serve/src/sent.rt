@@ -15,8 +15,7 @@ ghost use Rattle.reply_text.specs.WroteLess.{WroteLess};
 ghost use Rattle.serve_model.specs.Frames.{Asked, is_client};
 ghost use Rattle.serve_model.specs.Served.{serve_talk};
 
-use crate::carrying;
-use crate::replies;
+use crate::{carrying, replies};
 use afl_base::{Failed, Files, Sink};
 use answering::send;
 use antelope_engine::Session;
@@ -46,7 +45,11 @@ pub fn refuse<K: Sink>(out: &mut K, client: u8, refusal: &Refusal) -> Result<(),
 }
 
 // The same through a sink that gathers.
-fn refuse_through<'a, K: Sink>(gathered: &mut Buffered<'a, K>, client: u8, refusal: &Refusal) -> Result<(), Failed>
+fn refuse_through<'a, K: Sink>(
+    gathered: &mut Buffered<'a, K>,
+    client: u8,
+    refusal: &Refusal,
+) -> Result<(), Failed>
     requires none { gathered.old.waiting.bytes ≡ [] }
     ensures written { OnOk result (K.held gathered.new.out.now
         ≡ append_known (K.held gathered.old.out.now) (client ∷ refusal_text refusal.now ++ 192 ∷ [])) }
