@@ -1,5 +1,5 @@
 -- Laws of the bytes between two places of an array.
-use Rattle.std.proofs.Common.{◌≡◌, ℕ, ◌+◌, ◌-◌, ◌≤◌, List, ◌++◌, length, take, drop, refl, ap, sym, ◌∙◌, append_assoc, arith, length-take-le, Option}
+use Rattle.std.proofs.Common.{◌≡◌, ℕ, ◌+◌, ◌≤◌, List, ◌++◌, length, take, drop, ap, sym, ◌∙◌, append_assoc, arith, length-take-le, Option}
 use Rattle.std.proofs.lemmas.List.{drop-append-le, drop-drop, take-append-drop}
 use Rattle.std.proofs.lemmas.Slice.{between_is, take-put_mid}
 use Rattle.std.specs.Io.KnownBytes.{append_known}

@@ -1,4 +1,4 @@
-use Rattle.std.proofs.Common.{◌++◌, ◌∙◌, ap, arith, length, length-take-le, sym, take}
+use Rattle.std.proofs.Common.{◌++◌, ◌∙◌, ap, arith, length, length-take-le}
 use Rattle.buffered_sink.proofs.Cells.{range_more}
 use Rattle.buffered_sink.proofs.waiting.Waiting.take_in.Goals as goal
 
