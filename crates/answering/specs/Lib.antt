@@ -1,3 +1,4 @@
 pub mod Carried
+pub mod Sent
 pub mod Taking
 pub mod Went

@@ -2,5 +2,7 @@
 #![tactic(auto)]
 
 mod laws;
+mod sending;
 
 pub use laws::accepted_commands_are_answered;
+pub use sending::send;

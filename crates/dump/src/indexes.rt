@@ -10,7 +10,7 @@ ghost use Rattle.antelope_engine.specs.Reading.{index_at};
 ghost use Rattle.dump.specs.Parts.{index_lines};
 ghost use Rattle.reply_text.specs.WroteLess.{WroteLess};
 
-use crate::lines::write_index_line;
+use crate::sent::write_index_line;
 use afl_base::{Failed, Files, IndexId, Sink};
 use antelope_engine::Session;
 

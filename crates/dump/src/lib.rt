@@ -8,6 +8,7 @@ mod pieces;
 mod relations;
 mod rows;
 mod schemas;
+mod sent;
 mod values;
 mod writing;
 

@@ -14,6 +14,7 @@ ghost use Rattle.dump.specs.Unchanged.{IsAsBefore};
 
 use crate::rows::write_rows;
 use crate::schemas::write_schema;
+use crate::sent::write_used;
 use afl_base::{Failed, Files, RelationId, Sink};
 use antelope_engine::{Session, Stop};
 use db_model::Schema;
@@ -86,7 +87,7 @@ fn write_relation<V: Files, K: Sink>(
 }
 
 // Appends the lines of a relation of this schema, in a slot.
-fn write_used<V: Files, K: Sink>(
+pub fn write_lines<V: Files, K: Sink>(
     session: &mut Session<V>,
     id: RelationId,
     schema: &Schema,

@@ -4,6 +4,8 @@
 
 #[cfg(test)]
 mod catalogs;
+#[cfg(test)]
+mod gathering;
 mod plain;
 #[cfg(test)]
 mod relations;

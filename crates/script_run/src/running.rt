@@ -14,8 +14,8 @@ ghost use Rattle.run_model.specs.Scripts.{script_talk};
 ghost use Rattle.script_run.specs.Gathers.{Gathers};
 ghost use Rattle.script_run.specs.Input.{Keeps, script_input};
 
-use crate::entry::{carry_out, refuse};
 use crate::piece::Piece;
+use crate::sent::{carry_out, refuse};
 use afl_base::{Files, Sink};
 use antelope_engine::Session;
 use aql_parse::Parser;

@@ -2,11 +2,13 @@
 #![tactic(auto)]
 
 mod asking;
+mod carrying;
 mod decoder;
 mod fed;
 mod framed;
 mod hearing;
 mod replies;
+mod sent;
 mod serving;
 mod whole;
 

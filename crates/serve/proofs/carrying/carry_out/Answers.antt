@@ -2,7 +2,7 @@ use Rattle.answering.specs.Carried.{LacksPages, standing_of}
 use Rattle.serve.proofs.Halting.{less_halts, none_halts, part_halts, unsaid_halts}
 use Rattle.serve_model.specs.Frames.{Asked}
 use Rattle.serve_model.specs.Served.{serve_talk}
-use Rattle.serve.proofs.serving.carry_out.Goals as goal
+use Rattle.serve.proofs.carrying.carry_out.Goals as goal
 
 pub returns-in-Ok-clause-halts : goal.returns-in-Ok-clause-halts
 returns-in-Ok-clause-halts g c = λ told read reader.

@@ -4,7 +4,7 @@ use Rattle.dump.specs.Appends.{Appends}
 use Rattle.dump.specs.Parts.{row_lines, schema_lines}
 use Rattle.dump.proofs.Items.{appends_behind}
 use Rattle.dump.proofs.ScriptTexts.{lines_of}
-use Rattle.dump.proofs.relations.write_used.Goals as goal
+use Rattle.dump.proofs.relations.write_lines.Goals as goal
 
 pub returns-in-Err-write_rows-clause-wrote : goal.returns-in-Err-write_rows-clause-wrote
 returns-in-Err-write_rows-clause-wrote g c = λ told sound.

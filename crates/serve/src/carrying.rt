@@ -1,0 +1,59 @@
+//! A client's command is carried out.
+
+#![tactic(auto)]
+
+ghost use Rattle.std.specs.Prelude.{◌≡◌, ◌≤◌, ◌∷◌, [], false, true, ℕ, List, Result, IfErr, IsErrOf, IsTrue, OnOk, length};
+ghost use Rattle.answering.specs.Carried.{Carried, HaltsIn, HasHaltCause, LacksPages, standing_of};
+ghost use Rattle.db_model.specs.declared.commands.Command.{Command as AnyCommand};
+ghost use Rattle.db_model.specs.declared.refusals.Refusal.{Refusal as AnyRefusal};
+ghost use Rattle.db_model.specs.Reading.{IsReader};
+ghost use Rattle.intake.specs.declared.halt.Halt.TheVariants as Halt;
+ghost use Rattle.serve_model.specs.Frames.{Asked, is_client};
+ghost use Rattle.serve_model.specs.Served.{serve_talk};
+
+use crate::asking::answer;
+use crate::replies::refuse;
+use afl_base::{Failed, Files, Sink};
+use antelope_engine::{Session, Step, Stop};
+use aql_parse::Parser;
+use db_model::{Command, Refusal};
+use intake::Halt;
+
+/// Answers a client's command, or writes that there is no space for it.
+pub fn carry_out<V: Files, K: Sink>(
+    session: &mut Session<V>,
+    parser: &mut Parser,
+    command: &mut Command,
+    client: u8,
+    bytes: &[u8],
+    out: &mut K,
+) -> Result<(), Halt>
+    requires running { session.old.stopped ≡ false }
+    requires client { IsTrue (is_client client) }
+    requires short { length bytes.now ≤ 512 }
+    ensures carried { IsTrue (V.state session.old.files).tells → OnOk result (
+        (read : List ℕ → Result AnyCommand AnyRefusal) → IsReader read
+        → Carried (serve_talk read) (Asked client bytes.now ∷ []) (standing_of V.state V.reads session.old (K.held out.old))
+        (standing_of V.state V.reads session.new (K.held out.new))) }
+    ensures halts { IsTrue (V.state session.old.files).tells → IfErr result (λ halt.
+        (read : List ℕ → Result AnyCommand AnyRefusal) → IsReader read
+        → HaltsIn (serve_talk read) (LacksPages V.state V.asks V.lacks session.new) (Asked client bytes.now ∷ [])
+        (standing_of V.state V.reads session.old (K.held out.old))
+        (standing_of V.state V.reads session.new (K.held out.new)) halt) }
+    ensures running { OnOk result (session.new.stopped ≡ false) }
+    ensures lost { session.old.lost ≡ false → session.new.lost ≡ true → IsErrOf result Halt.Flash }
+    ensures store { length (V.state session.new.files).store ≡ length (V.state session.old.files).store }
+    ensures keeps { K.keeps out.old out.new }
+    ensures cause { HasHaltCause (V.faults session.old.files) (V.faults session.new.files)
+        (K.faults out.old) (K.faults out.new) result }
+{
+    match answer(session, parser, command, client, bytes, out) {
+        Ok(Step::Done(_)) => Ok(()),
+        Ok(Step::NoSpace { need }) => match refuse(out, client, &Refusal::Space { need }) {
+            Ok(()) => Err(Halt::Space),
+            Err(Failed) => Err(Halt::Sink),
+        },
+        Err(Stop::Flash) => Err(Halt::Flash),
+        Err(Stop::Sink) => Err(Halt::Sink),
+    }
+}
