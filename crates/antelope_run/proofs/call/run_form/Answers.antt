@@ -19,9 +19,9 @@ returns-in-Ok-Ok-clause-comes g c = λ told.
     let image = g.F.Flash.image c.args.flash in
     let at = c.new-session.ensures.files in
     let began = c.in-Ok-Ok.ensures in
-    let tells = (rw at c.in-Ok.ensures.tells) ∙ told in
-    let files = rw at (ap (λ s. s.files) (c.in-Ok.ensures.files told) ∙ c.mounted_files_are_the_images.ensures image) in
-    let store = rw at c.in-Ok.ensures.same in
+    let tells = (rw (← at) at c.in-Ok.ensures.tells) ∙ told in
+    let files = rw (← at) at (ap (λ s. s.files) (c.in-Ok.ensures.files told) ∙ c.mounted_files_are_the_images.ensures image) in
+    let store = rw (← at) at c.in-Ok.ensures.same in
     let sound : IsSound image = record { volume = c.in-Ok.ensures.sound told; database = subst IsSoundTable files (rw c.in-Ok-Ok.field-0-is at (began.sound tells)) } in
     let start : c.begin.new.self.database ≡ base image = (rw c.in-Ok-Ok.field-0-is at (began.base tells)) ∙ ap base_of files in
     let kept = (rw c.in-Ok-Ok.field-0-is at began.running).1 in
@@ -44,17 +44,17 @@ returns-in-Ok-Ok-clause-reads g c = λ told sound.
     let image = g.F.Flash.image c.args.flash in
     let at = c.new-session.ensures.files in
     let began = c.in-Ok-Ok.ensures in
-    let tells = (rw at c.in-Ok.ensures.tells) ∙ told in
-    let files = rw at (ap (λ s. s.files) (c.in-Ok.ensures.files told) ∙ c.mounted_files_are_the_images.ensures image) in
+    let tells = (rw (← at) at c.in-Ok.ensures.tells) ∙ told in
+    let files = rw (← at) at (ap (λ s. s.files) (c.in-Ok.ensures.files told) ∙ c.mounted_files_are_the_images.ensures image) in
     let start : c.begin.new.self.database ≡ base image = (rw c.in-Ok-Ok.field-0-is at (began.base tells)) ∙ ap base_of files in
-    let opened = opened_within image _ files _ _ _ c.sectors-sectors.result c.sectors-sectors.ensures.size c.sectors-sectors.ensures.least (rw at c.in-Ok.ensures.reads) (began.reads tells) in
+    let opened = opened_within image _ files _ _ _ c.sectors-sectors.result c.sectors-sectors.ensures.size c.sectors-sectors.ensures.least (rw (← at) at c.in-Ok.ensures.reads) (began.reads tells) in
     rw c.close.ensures.reads (reads_by image (g.S.Source.left c.args.input.now) (g.K.Sink.held c.args.out.now) (g.F.Flash.reads c.args.flash)
     _ _ start (rw c.in-Ok-Ok.field-0-is at began.aheads) opened c.args.form (c.carry_out-done.ensures.reads (ap (λ s. s.tells) began.same ∙ tells)))
 
 pub returns-in-Ok-Ok-clause-cause : goal.returns-in-Ok-Ok-clause-cause
 returns-in-Ok-Ok-clause-cause g c =
     let cause = c.carry_out-done.ensures.cause in
-    let mounted = rw c.new-session.ensures.files c.in-Ok.ensures.cause in
+    let mounted = rw (← c.new-session.ensures.files) at c.in-Ok.ensures.cause in
     let later = c.in-Ok-Ok.ensures.cause.later in
     record {
       input = λ e. let is : c.carry_out-done.result ≡ Err Input = cc in cause.input is;
@@ -95,7 +95,7 @@ pub returns-in-Err-Failed-clause-reads : goal.returns-in-Err-Failed-clause-reads
 returns-in-Err-Failed-clause-reads g c = λ told sound.
     let image = g.F.Flash.image c.args.flash in
     unopened_reads image (g.S.Source.left c.args.input.now) (g.K.Sink.held c.args.out.now) (g.F.Flash.reads c.args.flash)
-    c.args.form _ (mounted_within image _ _ c.sectors-sectors.result c.sectors-sectors.ensures.size (rw c.in-Err-Failed.field-0-is at c.in-Err-Failed.ensures.reads))
+    c.args.form _ (mounted_within image _ _ c.sectors-sectors.result c.sectors-sectors.ensures.size (rw c.in-Err-Failed.flash-is (rw c.in-Err-Failed.field-0-is at c.in-Err-Failed.ensures.reads)))
 
 -- the database is not sound
 
@@ -104,9 +104,9 @@ returns-in-Ok-Err-clause-reads g c = λ told sound.
     let image = g.F.Flash.image c.args.flash in
     let at = c.new-session.ensures.files in
     let began = c.in-Ok-Err.ensures in
-    let tells = (rw at c.in-Ok.ensures.tells) ∙ told in
-    let files = rw at (ap (λ s. s.files) (c.in-Ok.ensures.files told) ∙ c.mounted_files_are_the_images.ensures image) in
-    let opened = opened_within image _ files _ _ _ c.sectors-sectors.result c.sectors-sectors.ensures.size c.sectors-sectors.ensures.least (rw at c.in-Ok.ensures.reads) (began.reads tells) in
+    let tells = (rw (← at) at c.in-Ok.ensures.tells) ∙ told in
+    let files = rw (← at) at (ap (λ s. s.files) (c.in-Ok.ensures.files told) ∙ c.mounted_files_are_the_images.ensures image) in
+    let opened = opened_within image _ files _ _ _ c.sectors-sectors.result c.sectors-sectors.ensures.size c.sectors-sectors.ensures.least (rw (← at) at c.in-Ok.ensures.reads) (began.reads tells) in
     rw c.close-in-Ok-Err.ensures.reads (unopened_reads image (g.S.Source.left c.args.input.now) (g.K.Sink.held c.args.out.now) (g.F.Flash.reads c.args.flash) c.args.form _ opened)
 
 pub returns-in-Ok-Err-clause-comes : goal.returns-in-Ok-Err-clause-comes
@@ -114,9 +114,9 @@ returns-in-Ok-Err-clause-comes g c = λ told.
     let image = g.F.Flash.image c.args.flash in
     let at = c.new-session.ensures.files in
     let began = c.in-Ok-Err.ensures in
-    let tells = (rw at c.in-Ok.ensures.tells) ∙ told in
-    let files = rw at (ap (λ s. s.files) (c.in-Ok.ensures.files told) ∙ c.mounted_files_are_the_images.ensures image) in
-    let store = rw at c.in-Ok.ensures.same in
+    let tells = (rw (← at) at c.in-Ok.ensures.tells) ∙ told in
+    let files = rw (← at) at (ap (λ s. s.files) (c.in-Ok.ensures.files told) ∙ c.mounted_files_are_the_images.ensures image) in
+    let store = rw (← at) at c.in-Ok.ensures.same in
     let rule = c.in-Ok-Err.broken.rule in
     let place = c.in-Ok-Err.broken.place in
     let bad = subst (λ files. BreaksFirst files rule place) files (rw c.in-Ok-Err.field-0-is at (began.bad tells)) in
@@ -142,7 +142,7 @@ returns-in-Err-clause-reads g c = λ told sound.
     let image = g.F.Flash.image c.args.flash in
     let at = c.new-session.ensures.files in
     let began = c.in-Err.ensures in
-    let tells = (rw at c.in-Ok.ensures.tells) ∙ told in
-    let files = rw at (ap (λ s. s.files) (c.in-Ok.ensures.files told) ∙ c.mounted_files_are_the_images.ensures image) in
-    let opened = opened_within image _ files _ _ _ c.sectors-sectors.result c.sectors-sectors.ensures.size c.sectors-sectors.ensures.least (rw at c.in-Ok.ensures.reads) (began.reads tells) in
+    let tells = (rw (← at) at c.in-Ok.ensures.tells) ∙ told in
+    let files = rw (← at) at (ap (λ s. s.files) (c.in-Ok.ensures.files told) ∙ c.mounted_files_are_the_images.ensures image) in
+    let opened = opened_within image _ files _ _ _ c.sectors-sectors.result c.sectors-sectors.ensures.size c.sectors-sectors.ensures.least (rw (← at) at c.in-Ok.ensures.reads) (began.reads tells) in
     rw c.close-in-Err.ensures.reads (unopened_reads image (g.S.Source.left c.args.input.now) (g.K.Sink.held c.args.out.now) (g.F.Flash.reads c.args.flash) c.args.form _ opened)
