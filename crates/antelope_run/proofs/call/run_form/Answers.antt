@@ -146,3 +146,18 @@ returns-in-Err-clause-reads g c = λ told sound.
     let files = rw (← at) at (ap (λ s. s.files) (c.in-Ok.ensures.files told) ∙ c.mounted_files_are_the_images.ensures image) in
     let opened = opened_within image _ files _ _ _ c.sectors-sectors.result c.sectors-sectors.ensures.size c.sectors-sectors.ensures.least (rw (← at) at c.in-Ok.ensures.reads) (began.reads tells) in
     rw c.close-in-Err.ensures.reads (unopened_reads image (g.S.Source.left c.args.input.now) (g.K.Sink.held c.args.out.now) (g.F.Flash.reads c.args.flash) c.args.form _ opened)
+
+pub returns-in-Err-clause-cause : goal.returns-in-Err-clause-cause
+returns-in-Err-clause-cause g c =
+    let mounted = rw (← c.new-session.ensures.files) at c.in-Ok.ensures.cause in
+    let rose = c.in-Err.ensures.cause.failed in
+    record {
+      input = λ e. absurd (let n : ⊥ = cc in n);
+      flash_failed = λ e. absurd (let n : ⊥ = cc in n);
+      sink_failed = λ e. absurd (let n : ⊥ = cc in n);
+      unsaid = λ e. absurd (let n : ⊥ = cc in n);
+      unopened = λ e. rw c.close-in-Err.ensures.faults (omega (arith, rose, mounted));
+    }
+
+pub returns-in-Err-clause-keeps : goal.returns-in-Err-clause-keeps
+returns-in-Err-clause-keeps g c = g.met.K.Sink.kept c.args.out.now
