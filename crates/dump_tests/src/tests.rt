@@ -54,12 +54,14 @@ fn what_is_removed_is_left_out_and_the_script_makes_itself(rt: HostRuntime) -> R
 
 #[test]
 fn a_sink_that_fails_holds_a_proper_prefix(rt: HostRuntime) -> Result<(), Fail> {
-    let mut session = told(rt.alloc(), TWO_ROWS)?;
-    let (text, ended) = script(rt.alloc(), &mut session, Some(5))?;
+    let mut session = told(rt.alloc(), GAPS)?;
+    // the text of each relation goes out in a call, and so does that of each index
+    let (text, ended) = script(rt.alloc(), &mut session, Some(3))?;
     assert!(rt; ended == Err(Stop::Sink));
-    assert!(rt; text.len() < TWO_ROWS.len() && TWO_ROWS.starts_with(text.as_slice()));
+    assert!(rt; text.len() < CLOSED_UP.len() && CLOSED_UP.starts_with(text.as_slice()));
+    assert!(rt; text.as_slice().ends_with(b"CREATE ATTRIBUTE w DOMAIN LONG IN c;\n"));
     let (whole, ended) = script(rt.alloc(), &mut session, None)?;
     assert!(rt; ended == Ok(()));
-    assert!(rt; whole.as_slice() == TWO_ROWS);
+    assert!(rt; whole.as_slice() == CLOSED_UP);
     Ok(())
 }
