@@ -59,7 +59,10 @@ fn a_sink_that_fails_holds_a_proper_prefix(rt: HostRuntime) -> Result<(), Fail> 
     let (text, ended) = script(rt.alloc(), &mut session, Some(3))?;
     assert!(rt; ended == Err(Stop::Sink));
     assert!(rt; text.len() < CLOSED_UP.len() && CLOSED_UP.starts_with(text.as_slice()));
-    assert!(rt; text.as_slice().ends_with(b"CREATE ATTRIBUTE w DOMAIN LONG IN c;\n"));
+    assert!(rt;
+        text.as_slice()
+            .ends_with(b"CREATE ATTRIBUTE w DOMAIN LONG IN c;\n")
+    );
     let (whole, ended) = script(rt.alloc(), &mut session, None)?;
     assert!(rt; ended == Ok(()));
     assert!(rt; whole.as_slice() == CLOSED_UP);

@@ -67,7 +67,6 @@ returns-in-Ok-Ok-clause-cause g c =
       unopened = λ e. absurd (let n : ⊥ = cc in n);
     }
 
-
 -- the volume is not sound
 
 pub returns-in-Err-Bad-clause-reads : goal.returns-in-Err-Bad-clause-reads
