@@ -2,10 +2,10 @@
 
 #![tactic(auto)]
 
-ghost use Rattle.std.specs.Prelude.{◌≡◌, ◌==◌, ◌-◌, ◌+◌, ◌*◌, ◌≤◌, ◌↔◌, IsTrue, length, slice_index};
+ghost use Rattle.std.specs.Prelude.{◌≡◌, ◌==◌, ◌-◌, ◌+◌, ◌*◌, ◌≤◌, ◌↔◌, ◌||◌, IsTrue, length, slice_index};
 ghost use Rattle.db_model.specs.Row.{AllSuit, fields_length, mark, row_bytes, row_length, row_of, tuple_of};
 
-use crate::fields::{get_field, put_field};
+use crate::fields::{get_field, is_field, put_field};
 use db_model::{Attributes, Tuple, width};
 
 // Whether a row is live.
@@ -53,14 +53,22 @@ fn mark(live: bool) -> u8
 
 // Whether the bytes are those of the row that they are read as.
 pub fn is_row(attributes: &Attributes, row: &[u8]) -> bool
-    requires size { length row.now ≡ row_length attributes.now }
-    requires short { row_length attributes.now ≤ 128 }
+    requires { length row.now ≡ row_length attributes.now }
     ensures { IsTrue result ↔ (row_bytes attributes.now (row_of attributes.now row.now) ≡ row.now) }
 {
-    let mut tuple = Tuple::new();
-    get_tuple(attributes, row, &mut tuple);
-    let mut bytes = [0; 128];
-    let again = &mut bytes[..row.len()];
-    put_row(attributes, &tuple, is_live(row), again);
-    *again == *row
+    let mut rest = row;
+    for attribute in attributes.as_slice() {
+        if !is_field(attribute.domain, rest) {
+            return false;
+        }
+        rest = &rest[width(attribute.domain)..];
+    }
+    is_mark(rest[0])
+}
+
+// Whether a row may end with this byte.
+fn is_mark(byte: u8) -> bool
+    ensures { result ≡ ((byte == 1) || (byte == 3)) }
+{
+    byte == 1 || byte == 3
 }
