@@ -1,9 +1,9 @@
 -- The keys of a column are the numbers of its attribute.
-use Rattle.std.proofs.Common.{◌≡◌, refl, sym, ap, subst, ◌∙◌, IsTrue, inl, inr, ℕ, zero, suc, get_or, ◌+◌, ◌-◌, ◌*◌, ◌<◌, ◌≤◌, true, false, List, [], ◌∷◌, length, take, drop, Some, None, arith, w16, w32, w64}
+use Rattle.std.proofs.Common.{◌≡◌, refl, sym, ap, subst, ◌∙◌, IsTrue, inl, inr, ℕ, zero, suc, get_or, ◌+◌, ◌*◌, ◌<◌, true, false, List, [], ◌∷◌, length, take, drop, Some, None, arith, w16, w32, w64}
 use Rattle.std.specs.Prelude.{Option, slice_get, slice_range}
 use Rattle.std.specs.Option.{option_map_or}
 use Rattle.std.specs.Int.{cast_signed}
-use Rattle.std.proofs.lemmas.List.{drop-append-le, drop-drop, drop-take, length-append, length-drop, take-append-le, take-take}
+use Rattle.std.proofs.lemmas.List.{drop-append-le, length-append, length-drop, take-append-le}
 use Rattle.afl_base.specs.Fields.{i32_at, i64_at}
 use Rattle.afl_base.specs.Files.{State, Table, bytes_at}
 use Rattle.afl_base.specs.KeyColumn.{HasField, IsWidth, key_of as key_of_column, number_at}
@@ -16,7 +16,7 @@ use Rattle.db_model.proofs.Decoded.{field_inside, field_written, length-row_read
 use Rattle.tuple_file.specs.Column.{IsNumber, column_of, is_number}
 use Rattle.tuple_file.specs.Tuples.{HoldsRows, row, rows, slots}
 use Rattle.tuple_file.specs.declared.tuples.Tuples.{Tuples}
-use Rattle.tuple_file.proofs.Slots.{length-rows, slot_inside}
+use Rattle.tuple_file.proofs.Slots.{length-rows, slot_field, slot_inside}
 use Rattle.tuple_file.proofs.Written.{written_each, written_first}
 
 -- the attribute at the place
@@ -32,16 +32,6 @@ is_width Int e = inl refl
 is_width Long e = inr (inl refl)
 is_width Time e = inr (inr refl)
 is_width (Str n) e = absurd (cc)
-
--- the bytes of a field, in its slot and in all bytes
-slot_field : (bytes : List ℕ) (from size at w : ℕ) → at + w ≤ size → take w (drop at (slice_range bytes from (from + size))) ≡ take w (drop (from + at) bytes)
-slot_field bytes from size at w inside =
-    let more : ℕ = size - at in
-    let all : from + size - from ≡ at + more = omega (arith, inside) in
-    ap (λ (n : ℕ). take w (drop at (take n (drop from bytes)))) all
-    ∙ ap (take w) (drop-take at more (drop from bytes))
-    ∙ take-take w more (drop at (drop from bytes)) (omega (arith, inside))
-    ∙ ap (take w) (drop-drop at from bytes)
 
 -- the number of a field that is written as it was read
 number_of : (d : Domain) (bytes xs : List ℕ) (place : ℕ) → is_number d ≡ true → take (width d) xs ≡ take (width d) (drop place bytes) → take (width d) xs ≡ field_bytes d (field_of d xs)

@@ -1,6 +1,7 @@
 -- The slots of a relation's bytes, before and after a change.
-use Rattle.std.proofs.Common.{◌≡◌, sym, ap, subst, ◌∙◌, ℕ, suc, ◌+◌, ◌*◌, ◌<◌, ◌≤◌, List, length, arith, mul-suc, mul-le-mul_left}
-use Rattle.std.specs.Prelude.{IsTrue}
+use Rattle.std.proofs.Common.{◌≡◌, sym, ap, subst, ◌∙◌, ℕ, suc, ◌+◌, ◌*◌, ◌<◌, ◌≤◌, List, length, take, drop, ◌-◌, arith, mul-add, mul-suc, mul-le-mul_left}
+use Rattle.std.specs.Prelude.{IsTrue, slice_range}
+use Rattle.std.proofs.lemmas.List.{drop-drop, drop-take, take-take}
 use Rattle.std.proofs.Math.Nat.{mul-div_cancel_left}
 use Rattle.std.proofs.lemmas.List.FromFn.{length-map-range_with_len}
 use Rattle.afl_base.specs.Files.{Becomes, State, Table, bytes_at, size_at}
@@ -19,6 +20,29 @@ slots_of_whole attributes bytes n long = let some : 0 < row_length attributes = 
 -- a slot ends inside the bytes
 pub slot_inside : (size k n : ℕ) → k < n → size * k + size ≤ size * n
 slot_inside size k n below = let e : size * suc k ≤ size * n = mul-le-mul_left size below in rw (← mul-suc size k) e
+
+-- the bytes of a field, in its slot and in all bytes
+pub slot_field : (bytes : List ℕ) (from size at w : ℕ) → at + w ≤ size → take w (drop at (slice_range bytes from (from + size))) ≡ take w (drop (from + at) bytes)
+slot_field bytes from size at w inside =
+    let more : ℕ = size - at in
+    let all : from + size - from ≡ at + more = omega (arith, inside) in
+    ap (λ (n : ℕ). take w (drop at (take n (drop from bytes)))) all
+    ∙ ap (take w) (drop-take at more (drop from bytes))
+    ∙ take-take w more (drop at (drop from bytes)) (omega (arith, inside))
+    ∙ ap (take w) (drop-drop at from bytes)
+
+-- the bytes of a slot, in those of so many slots and in all bytes
+pub piece_slot : (bytes : List ℕ) (size slot count k : ℕ) → k < count → slice_range (slice_range bytes (size * slot) (size * slot + size * count)) (size * k) (size * k + size) ≡ slice_range bytes (size * (slot + k)) (size * (slot + k) + size)
+piece_slot bytes size slot count k below =
+    let from : ℕ = size * slot in
+    let at : ℕ = size * k in
+    let place : from + at ≡ size * (slot + k) = sym (mul-add size slot k) in
+    let one : at + size - at ≡ size = omega arith in
+    let same : size ≡ size * (slot + k) + size - size * (slot + k) = omega arith in
+    ap (λ (n : ℕ). take n (drop at (slice_range bytes from (from + size * count)))) one
+    ∙ slot_field bytes from (size * count) at size (slot_inside size k count below)
+    ∙ ap (λ (n : ℕ). take size (drop n bytes)) place
+    ∙ ap (λ (n : ℕ). take n (drop (size * (slot + k)) bytes)) same
 
 -- a change that leaves whole rows, at most one a slot
 pub holds_after : (old new : State) (tuples : Tuples) (total : ℕ) (told : List ℕ) (n : ℕ) → HoldsRows old tuples → Becomes old new tuples.file total told

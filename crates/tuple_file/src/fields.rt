@@ -2,10 +2,12 @@
 
 #![tactic(auto)]
 
-ghost use Rattle.std.specs.Prelude.{◌≡◌, ◌+◌, ◌≤◌, ◌==◌, IsTrue, drop, length, replicate};
+ghost use Rattle.std.specs.Prelude.{◌≡◌, ◌+◌, ◌≤◌, ◌==◌, ◌↔◌, IsTrue, drop, length, replicate, take};
 ghost use Rattle.afl_base.specs.Fields.{put_at};
 ghost use Rattle.padded.specs.Padded.{padded};
-ghost use Rattle.db_model.specs.Row.{field_bytes, field_of, suits, text_or_empty, time_or_least, up_to_zero, width};
+ghost use Rattle.db_model.specs.declared.schemas.Domain.TheVariants.{Time};
+ghost use Rattle.db_model.specs.declared.values.Value.TheVariants.{Number};
+ghost use Rattle.db_model.specs.Row.{field_bytes, field_of, is_text_field, suits, text_or_empty, time_or_least, up_to_zero, width};
 
 use afl_base::{get_i32, get_i64, get_u16, put_bytes, put_i32, put_i64, put_u16};
 use db_model::{Domain, Text, Value, up_to_zero};
@@ -29,11 +31,13 @@ pub fn get_field(domain: Domain, bytes: &[u8]) -> Value
 fn time_or_least(number: i64) -> i64
     ensures { result ≡ time_or_least number }
 {
-    if (0..=140_737_488_355_327).contains(&number) {
-        number
-    } else {
-        0
-    }
+    if is_time(number) { number } else { 0 }
+}
+
+fn is_time(number: i64) -> bool
+    ensures { result ≡ suits Time (Number number) }
+{
+    (0..=140_737_488_355_327).contains(&number)
 }
 
 // The text of a field, the empty text where it has none.
@@ -48,6 +52,29 @@ fn text_or_empty(field: &[u8]) -> Text
         Some(text) => text,
         None => Text::default(),
     }
+}
+
+// Whether the field that `bytes` begin with has the bytes of the value that it is read as. Numbers have
+// these in any case.
+#[tactic(auto, unfolding(afl_base::specs::Fields::i64_at))]
+pub fn is_field(domain: Domain, bytes: &[u8]) -> bool
+    requires { width domain ≤ length bytes.now }
+    ensures { IsTrue result ↔ (field_bytes domain (field_of domain bytes.now) ≡ take (width domain) bytes.now) }
+{
+    match domain {
+        Domain::Int => true,
+        Domain::Long => true,
+        Domain::Time => is_time(get_i64(bytes, 0)),
+        Domain::Str(n) => is_text_field(&bytes[..n as usize]),
+    }
+}
+
+// Whether a field is a text with zeros behind it.
+fn is_text_field(field: &[u8]) -> bool
+    ensures { result ≡ is_text_field field.now }
+{
+    let front = up_to_zero(field);
+    is_zeros(&field[front.len()..]) && Text::new(front).is_some()
 }
 
 // Puts the field of the value into the bytes from `at` on. All other bytes stay.

@@ -2,11 +2,11 @@
 
 #![tactic(auto)]
 
-ghost use Rattle.std.specs.Prelude.{◌≡◌, ◌==◌, ◌-◌, ◌+◌, ◌*◌, ◌≤◌, ◌↔◌, IsTrue, length, slice_index};
-ghost use Rattle.db_model.specs.Row.{AllSuit, fields_length, mark, row_bytes, row_length, row_of, tuple_of};
+ghost use Rattle.std.specs.Prelude.{◌≡◌, ◌==◌, ◌-◌, ◌+◌, ◌*◌, ◌<◌, ◌≤◌, ◌↔◌, ◌||◌, ℕ, IsTrue, length, slice_index, slice_range};
+ghost use Rattle.db_model.specs.Row.{AllSuit, fields_length, mark, row_at, row_bytes, row_length, row_of, tuple_of};
 
-use crate::fields::{get_field, put_field};
-use db_model::{Attributes, Tuple, width};
+use crate::fields::{get_field, is_field, put_field};
+use db_model::{Attributes, Tuple, row_length, width};
 
 // Whether a row is live.
 pub fn is_live(row: &[u8]) -> bool
@@ -53,14 +53,40 @@ fn mark(live: bool) -> u8
 
 // Whether the bytes are those of the row that they are read as.
 pub fn is_row(attributes: &Attributes, row: &[u8]) -> bool
-    requires size { length row.now ≡ row_length attributes.now }
-    requires short { row_length attributes.now ≤ 128 }
+    requires { length row.now ≡ row_length attributes.now }
     ensures { IsTrue result ↔ (row_bytes attributes.now (row_of attributes.now row.now) ≡ row.now) }
 {
-    let mut tuple = Tuple::new();
-    get_tuple(attributes, row, &mut tuple);
-    let mut bytes = [0; 128];
-    let again = &mut bytes[..row.len()];
-    put_row(attributes, &tuple, is_live(row), again);
-    *again == *row
+    let mut rest = row;
+    for attribute in attributes.as_slice() {
+        if !is_field(attribute.domain, rest) {
+            return false;
+        }
+        rest = &rest[width(attribute.domain)..];
+    }
+    is_mark(rest[0])
+}
+
+// Whether the bytes are so many rows, one behind another.
+pub fn are_rows(attributes: &Attributes, count: u16, bytes: &[u8]) -> bool
+    requires { length bytes.now ≡ row_length attributes.now * count }
+    ensures { IsTrue result ↔ ((slot : ℕ) → slot < count
+        → row_bytes attributes.now (row_at attributes.now bytes.now slot)
+        ≡ slice_range bytes.now (row_length attributes.now * slot)
+        (row_length attributes.now * slot + row_length attributes.now)) }
+{
+    let length = row_length(attributes);
+    for slot in 0..count {
+        let at = length * slot as usize;
+        if !is_row(attributes, &bytes[at..at + length]) {
+            return false;
+        }
+    }
+    true
+}
+
+// Whether a row may end with this byte.
+fn is_mark(byte: u8) -> bool
+    ensures { result ≡ ((byte == 1) || (byte == 3)) }
+{
+    byte == 1 || byte == 3
 }

@@ -12,7 +12,7 @@ ghost use Rattle.db_model.specs.Step.{key_of as key_of_value, slots_limit};
 ghost use Rattle.tuple_file.specs.Column.{IsNumber, column_of};
 ghost use Rattle.tuple_file.specs.Tuples.{AppendsRow, AreRows, HoldsRows, IsInFile, IsRowFile, MarksRow, row, rows, slot_bytes, slots};
 
-use crate::rows::{get_tuple, is_live, is_row, put_row};
+use crate::rows::{are_rows, get_tuple, is_live, put_row};
 use afl_base::{Failed, FileId, Files, KeyColumn, SlotNo};
 use db_model::{Attributes, Schema, Tuple, fields_length, row_length, width};
 
@@ -240,16 +240,55 @@ impl Tuples {
         ensures store { length (V.state files.new).store ≡ length (V.state files.old).store }
         ensures cause { HasCause (V.faults files.old) (V.faults files.new) result }
     {
-        let mut bytes = [0; 128];
-        let row = &mut bytes[..row_length(&self.schema.attributes)];
-        for slot in 0..count {
-            self.read(files, slot, row)?;
-            if !is_row(&self.schema.attributes, row) {
+        let length = row_length(&self.schema.attributes);
+        let mut slot = 0;
+        while slot < count {
+            let few = rows_at_once(length, count - slot);
+            if !self.are_rows_from(files, slot, few)? {
                 return Ok(false);
             }
+            slot += few;
         }
         Ok(true)
     }
+
+    // Whether so many slots from this one on hold rows, which are read at once.
+    fn are_rows_from<V: Files>(&self, files: &mut V, slot: u16, count: u16) -> Result<bool, Failed>
+        requires live { IsLive (V.state files.old).files self.now.file }
+        requires short { row_length self.now.schema.attributes ≤ 128 }
+        requires range { row_length self.now.schema.attributes * slot
+            + row_length self.now.schema.attributes * count ≤ size_at (V.state files.old).files self.now.file }
+        requires slot { slot < 32768 }
+        requires some { 1 ≤ count }
+        requires few { row_length self.now.schema.attributes * count ≤ 1024 }
+        ensures valid { IsTrue (V.state files.old).tells
+            → IfOk result (λ valid. IsTrue valid ↔ ((k : ℕ) → k < count
+            → row_bytes self.now.schema.attributes (row (V.state files.old).files self.now (slot + k))
+            ≡ slot_bytes (V.state files.old).files self.now (slot + k))) }
+        ensures same { OnOk result (V.state files.new ≡ V.state files.old) }
+        ensures reads { V.reads files.new ≤ V.reads files.old + 6 * count }
+        ensures store { length (V.state files.new).store ≡ length (V.state files.old).store }
+        ensures cause { HasCause (V.faults files.old) (V.faults files.new) result }
+    {
+        let length = row_length(&self.schema.attributes);
+        let mut bytes = [0; 1024];
+        let piece = &mut bytes[..length * count as usize];
+        files.read(self.file, length as u32 * u32::from(slot), piece)?;
+        Ok(are_rows(&self.schema.attributes, count, piece))
+    }
+}
+
+// How many of the rows that are left are read at once, into 1,024 bytes.
+fn rows_at_once(length: usize, left: u16) -> u16
+    requires length { 1 ≤ length }
+    requires short { length ≤ 128 }
+    requires left { 1 ≤ left }
+    ensures some { 1 ≤ result }
+    ensures within { result ≤ left }
+    ensures few { length * result ≤ 1024 }
+{
+    let most = (1024 / length) as u16;
+    if most < left { most } else { left }
 }
 
 // How many rows a relation may have.
