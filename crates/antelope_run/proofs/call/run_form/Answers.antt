@@ -4,7 +4,7 @@ use Rattle.intake.specs.declared.halt.Halt.TheVariants.{Flash, Sink}
 use Rattle.intake.specs.declared.halt.Stop.TheVariants.{Input, Halted}
 use Rattle.stored.specs.Base.{base_of}
 use Rattle.stored.specs.Sound.{BreaksFirst, IsSoundTable}
-use Rattle.sound_image.specs.Images.{base, files_in, IsSound, IsFirstBroken}
+use Rattle.sound_image.specs.Images.{base, files_in, IsSound}
 use Rattle.sound_image.proofs.Judged.{sound_unbroken}
 use Rattle.antelope_run.proofs.Leaving.{leaves, tells_alone}
 use Rattle.run_model.specs.Runs.{world}
