@@ -5,7 +5,8 @@ use std::marker::Model;
 
 /// A flash around another one that fails on demand.
 ///
-/// Its calls but `sectors` are numbered together, from 1 up to the last number of a u64. At the numbers that it was given it answers `Failed`, and does not call the flash inside.
+/// Its calls but `sectors` are numbered together, from 1 up to the last number of a u64. At the numbers
+/// that it was given it answers `Failed`, and does not call the flash inside.
 #[derive(Drop)]
 pub struct FaultFlash<F: Flash + Drop> {
     inner: F,

@@ -145,8 +145,8 @@ impl<V: Files> Session<V> {
         ensures store { length (V.state self.new.files).store ≡ length (V.state self.old.files).store }
         ensures cause { HasCause (V.faults self.old.files) (V.faults self.new.files) result }
     {
+        self.stopped = true;
         self.lost = true;
-        self.stopped = self.lost;
         match open_database(&mut self.files, &mut self.tables) {
             Ok(Ok(held)) => {
                 self.held = held;
