@@ -133,8 +133,10 @@ fn select_rows<V: Files, K: Sink>(
         (K.faults out.old) (K.faults out.new) result }
 {
     let mut count = 0;
+    let mut tuple = Tuple::new();
+    let mut row = Tuple::new();
     'rows: loop {
-        match select_next(files, tables, cursor, places, out) {
+        match select_next(files, tables, cursor, places, &mut tuple, &mut row, out) {
             Ok(found) => {
                 if !found {
                     break;
@@ -150,12 +152,15 @@ fn select_rows<V: Files, K: Sink>(
     }
 }
 
-// Writes the next row, and answers false exactly where there is none.
+// Writes the next row, and answers false exactly where there is none. Its tuple and its values stand in
+// `tuple` and `row`, which are kept from row to row.
 fn select_next<V: Files, K: Sink>(
     files: &mut V,
     tables: &HashTables,
     cursor: &mut SelectCursor,
     places: &Few<u8, 8>,
+    tuple: &mut Tuple,
+    row: &mut Tuple,
     out: &mut K,
 ) -> Result<bool, Stop>
     requires may_read { MayRead (V.state files.old) cursor.old.tuples cursor.old.candidates }
@@ -190,15 +195,13 @@ fn select_next<V: Files, K: Sink>(
     ensures cause { HasStopCause (V.faults files.old) (V.faults files.new)
         (K.faults out.old) (K.faults out.new) result }
 {
-    let mut tuple = Tuple::new();
-    match cursor.next(files, tables, &mut tuple) {
+    match cursor.next(files, tables, tuple) {
         Ok(Some(_)) => {}
         Ok(None) => return Ok(false),
         Err(_) => return Err(Stop::Flash),
     }
-    let mut row = Tuple::new();
-    project(places, &tuple, &mut row);
-    match write_row(out, &row) {
+    project(places, tuple, row);
+    match write_row(out, row) {
         Ok(()) => Ok(true),
         Err(_) => Err(Stop::Sink),
     }
