@@ -7,6 +7,3 @@ mod stage;
 mod summary;
 
 pub use fold::Fold;
-
-#[cfg(test)]
-mod tests;

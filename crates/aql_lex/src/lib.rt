@@ -6,6 +6,3 @@ mod scan;
 
 pub use lexed::Lexed;
 pub use scan::next_token;
-
-#[cfg(test)]
-mod tests;

@@ -18,6 +18,3 @@ mod symbols;
 
 pub use laws::{each_command_is_read, readings_are_unique};
 pub use reading::{Parser, parse};
-
-#[cfg(test)]
-mod tests;

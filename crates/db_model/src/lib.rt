@@ -21,6 +21,3 @@ pub use texts::Text;
 pub use tokens::{Keyword, Sign, Token};
 pub use values::{Tuple, Value};
 pub use widths::{fields_length, row_length, up_to_zero, width};
-
-#[cfg(test)]
-mod tests;

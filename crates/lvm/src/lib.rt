@@ -11,6 +11,3 @@ mod side;
 mod stack;
 
 pub use code::Code;
-
-#[cfg(test)]
-mod tests;

@@ -1,13 +1,24 @@
-// Tokens of worked examples, whose expected values are counted by hand.
+//! Tokens of worked examples, whose expected values are counted by hand.
 
-use crate::{Lexed, next_token};
+ghost use Rattle.std.specs.Prelude.{◌≤◌, length};
+
+use aql_lex::{Lexed, next_token};
 use db_model::{Keyword, Sign, Token};
 
+// What stands at a place.
+fn lexed(bytes: &[u8], at: u16) -> Lexed
+    requires within { at ≤ length bytes.now }
+    requires few { length bytes.now ≤ 512 }
+{
+    next_token(bytes, at)
+}
+
+// The first token, and where it ends.
 fn token(bytes: &[u8]) -> Option<(Token, u16)> {
     if bytes.len() > 512 {
         return None;
     }
-    match next_token(bytes, 0) {
+    match lexed(bytes, 0) {
         Lexed::Token { token, to, .. } => Some((token, to)),
         _ => None,
     }
@@ -58,12 +69,20 @@ fn keywords_are_read_in_any_letter_case(rt: HostRuntime) {
 
 #[test]
 fn the_longest_token_is_taken(rt: HostRuntime) {
-    assert!(rt; token(b"<=") == Some((Token::Sign(Sign::LessEqual), 2)));
-    assert!(rt; token(b"<>") == Some((Token::Sign(Sign::Unequal), 2)));
-    assert!(rt; token(b"< =") == Some((Token::Sign(Sign::Less), 1)));
-    assert!(rt; token(b" \t\r\n>=1") == Some((Token::Sign(Sign::GreaterEqual), 6)));
-    assert!(rt; token(b"1a") == Some((Token::Number(1), 1)));
-    assert!(rt; token(b"123456789012345678") == Some((Token::Number(123_456_789_012_345_678), 18)));
+    for (bytes, wanted, len) in [
+        (&b"<="[..], Token::Sign(Sign::LessEqual), 2),
+        (&b"<>"[..], Token::Sign(Sign::Unequal), 2),
+        (&b"< ="[..], Token::Sign(Sign::Less), 1),
+        (&b" \t\r\n>=1"[..], Token::Sign(Sign::GreaterEqual), 6),
+        (&b"1a"[..], Token::Number(1), 1),
+        (
+            &b"123456789012345678"[..],
+            Token::Number(123_456_789_012_345_678),
+            18,
+        ),
+    ] {
+        assert!(rt; token(bytes) == Some((wanted, len)));
+    }
 }
 
 #[test]
@@ -78,6 +97,6 @@ fn what_is_too_long_or_open_is_no_token(rt: HostRuntime) {
     ] {
         assert!(rt; token(bytes).is_none());
     }
-    assert!(rt; next_token(b"PACK  ", 4) == Lexed::End);
-    assert!(rt; next_token(b"PACK ?", 4) == Lexed::Bad);
+    assert!(rt; lexed(b"PACK  ", 4) == Lexed::End);
+    assert!(rt; lexed(b"PACK ?", 4) == Lexed::Bad);
 }
