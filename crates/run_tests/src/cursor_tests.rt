@@ -1,79 +1,92 @@
 //! Cursors, and the commands that stand between their fetches.
 
-use crate::running::{erased, run};
-use crate::texts::{ONE, TWO, gives, joined, push_often};
+use crate::cases::{Case, expect_each, expect_in_turn};
+use crate::running::erased;
+use crate::texts::{ONE, Part, TWO};
 use std::test::Fail;
-
-const TWO_MADE: &str = "ok\nok\nok\n";
 
 const FETCHES: &str =
     "INSERT (1, 'a') INTO s; OPEN 1 SELECT k FROM s; INSERT (2, 'b') INTO s; FETCH 1; FETCH 1; \
     SELECT COUNT(k) FROM s; ";
 
-const FETCHED: &str = "ok\nok\nok\n1\nrows 1\nrows 0\n2\nrows 1\n";
+const FETCHED: &str = "ok\nok\nok\nok\nok\nok\n1\nrows 1\nrows 0\n2\nrows 1\n";
+
+const BETWEEN_FETCHES: &[Case] = &[
+    Case {
+        shows: "rows that came after OPEN are not fetched",
+        script: &[Part::Once(TWO), Part::Once(FETCHES)],
+        replies: &[Part::Once(FETCHED)],
+    },
+    Case {
+        shows: "an open cursor keeps its rows from being removed",
+        script: &[
+            Part::Once(TWO),
+            Part::Once(FETCHES),
+            Part::Once(
+                "OPEN 1 SELECT k FROM s; REMOVE FROM s; CLOSE 1; REMOVE FROM s; FETCH 1; FETCH 5;",
+            ),
+        ],
+        replies: &[
+            Part::Once(FETCHED),
+            Part::Once("no open\nno inuse 1\nok\nrows 2\nno cursor\nno cursor\n"),
+        ],
+    },
+    Case {
+        shows: "cursors go on by themselves",
+        script: &[
+            Part::Once(TWO),
+            Part::Once(
+                "INSERT (1, 'a') INTO s; OPEN 1 SELECT k FROM s; OPEN 4 SELECT t FROM s; \
+                INSERT (2, 'b') INTO s; FETCH 4; FETCH 1; FETCH 1; OPEN 2 SELECT k FROM s; FETCH 2; \
+                FETCH 2; REMOVE RELATION s; CLOSE 1; PACK s; FETCH 5; OPEN 2 SELECT k FROM s; CLOSE 3;",
+            ),
+        ],
+        replies: &[
+            Part::Once(
+                "ok\nok\nok\nok\nok\nok\nok\n'a'\nrows 1\n1\nrows 1\nrows 0\nok\n1\nrows 1\n2\nrows 1\n",
+            ),
+            Part::Once("no inuse 1\nok\nno inuse 2\nno cursor\nno open\nno cursor\n"),
+        ],
+    },
+    Case {
+        shows: "a cursor goes on while its tree grows",
+        script: &[
+            Part::Once(ONE),
+            Part::Once("CREATE INDEX n.v TYPE MAXHEAP;"),
+            Part::Often("INSERT (7) INTO n;", 40),
+            Part::Once("OPEN 1 SELECT v FROM n WHERE v = 7;"),
+            Part::Often("INSERT (7) INTO n;", 600),
+            Part::Often("FETCH 1;", 41),
+        ],
+        // The first are those of the relation, of the index, of OPEN, and of 640 inserts.
+        replies: &[
+            Part::Often("ok\n", 644),
+            Part::Often("7\nrows 1\n", 40),
+            Part::Once("rows 0\n"),
+        ],
+    },
+];
 
 #[test]
-fn rows_that_came_after_open_are_not_fetched(rt: HostRuntime) -> Result<(), Fail> {
-    assert!(rt; gives(rt.alloc(), &[TWO, FETCHES], &[TWO_MADE, FETCHED])?);
-    Ok(())
+fn a_cursor_fetches_the_rows_of_its_open(rt: HostRuntime) -> Result<(), Fail> {
+    expect_each(rt.alloc(), BETWEEN_FETCHES)
 }
 
-#[test]
-fn an_open_cursor_keeps_its_rows_from_being_removed(rt: HostRuntime) -> Result<(), Fail> {
-    let script = "OPEN 1 SELECT k FROM s; REMOVE FROM s; CLOSE 1; REMOVE FROM s; FETCH 1; FETCH 5;";
-    let replies = "no open\nno inuse 1\nok\nrows 2\nno cursor\nno cursor\n";
-    assert!(rt;
-        gives(
-            rt.alloc(),
-            &[TWO, FETCHES, script],
-            &[TWO_MADE, FETCHED, replies]
-        )?
-    );
-    Ok(())
-}
-
-#[test]
-fn cursors_go_on_by_themselves(rt: HostRuntime) -> Result<(), Fail> {
-    let script =
-        "INSERT (1, 'a') INTO s; OPEN 1 SELECT k FROM s; OPEN 4 SELECT t FROM s; INSERT (2, 'b') INTO s; \
-        FETCH 4; FETCH 1; FETCH 1; OPEN 2 SELECT k FROM s; FETCH 2; FETCH 2; REMOVE RELATION s; CLOSE 1; \
-        PACK s; FETCH 5; OPEN 2 SELECT k FROM s; CLOSE 3;";
-    let replies =
-        "ok\nok\nok\nok\n'a'\nrows 1\n1\nrows 1\nrows 0\nok\n1\nrows 1\n2\nrows 1\nno inuse 1\nok\n\
-        no inuse 2\nno cursor\nno open\nno cursor\n";
-    assert!(rt; gives(rt.alloc(), &[TWO, script], &[TWO_MADE, replies])?);
-    Ok(())
-}
-
-#[test]
-fn a_cursor_goes_on_while_its_tree_grows(rt: HostRuntime) -> Result<(), Fail> {
-    let mut script = joined(rt.alloc(), &[ONE, "CREATE INDEX n.v TYPE MAXHEAP;"])?;
-    push_often(&mut script, "INSERT (7) INTO n;", 40)?;
-    push_often(&mut script, "OPEN 1 SELECT v FROM n WHERE v = 7;", 1)?;
-    push_often(&mut script, "INSERT (7) INTO n;", 600)?;
-    push_often(&mut script, "FETCH 1;", 41)?;
-    let mut replies = Vec::new(rt.alloc());
-    // Those of the relation, of the index, of OPEN, and of 640 inserts.
-    push_often(&mut replies, "ok\n", 644)?;
-    push_often(&mut replies, "7\nrows 1\n", 40)?;
-    push_often(&mut replies, "rows 0\n", 1)?;
-    let ended = run(
-        rt.alloc(),
-        script.as_slice(),
-        erased(rt.alloc())?.as_mut_slice(),
-    )?;
-    assert!(rt; ended.is(0, replies.as_slice()));
-    Ok(())
-}
+const TWO_RUNS: &[Case] = &[
+    Case {
+        shows: "a cursor is opened in one run",
+        script: &[Part::Once(TWO), Part::Once("OPEN 1 SELECT k FROM s;")],
+        replies: &[Part::Often("ok\n", 4)],
+    },
+    Case {
+        shows: "the cursor is gone in the next run",
+        script: &[Part::Once("FETCH 1; CLOSE 1; PACK s;")],
+        replies: &[Part::Once("no cursor\nno cursor\nok\n")],
+    },
+];
 
 #[test]
 fn a_cursor_ends_with_its_run(rt: HostRuntime) -> Result<(), Fail> {
     let mut image = erased(rt.alloc())?;
-    let opening = joined(rt.alloc(), &[TWO, "OPEN 1 SELECT k FROM s;"])?;
-    let opened = run(rt.alloc(), opening.as_slice(), image.as_mut_slice())?;
-    assert!(rt; opened.is(0, joined(rt.alloc(), &[TWO_MADE, "ok\n"])?.as_slice()));
-    let fetching = joined(rt.alloc(), &["FETCH 1; CLOSE 1; PACK s;"])?;
-    let fetched = run(rt.alloc(), fetching.as_slice(), image.as_mut_slice())?;
-    assert!(rt; fetched.is(0, b"no cursor\nno cursor\nok\n"));
-    Ok(())
+    expect_in_turn(rt.alloc(), TWO_RUNS, image.as_mut_slice())
 }

@@ -1,67 +1,77 @@
 //! Logs, drafts, and the space of a flash.
 
-use crate::image::{begins, contents, is_unlogged, logged, records};
+use crate::cases::{Case, expect, expect_on};
+use crate::image::{begins, expect_size, is_erased_from, is_unlogged, page_with_log};
 use crate::running::{SECTOR, erased, run};
-use crate::texts::{ONE, gives_on, joined, push_numbered, push_often, run_all};
+use crate::texts::{ONE, Part, joined};
+use std::alloc::Global;
 use std::test::Fail;
+
+const MARKED: Case = Case {
+    shows: "thirty of forty rows are marked",
+    script: &[
+        Part::Once(ONE),
+        Part::Numbered("INSERT (", 40, ") INTO n;"),
+        Part::Numbered("REMOVE FROM n WHERE v = ", 30, ";"),
+    ],
+    replies: &[Part::Often("ok\n", 42), Part::Often("rows 1\n", 30)],
+};
+
+const MARKED_LAST: Case = Case {
+    shows: "the 31st row is marked",
+    script: &[Part::Once("REMOVE FROM n WHERE v = 30; SELECT COUNT(v), MIN(v) FROM n;")],
+    replies: &[Part::Once("rows 1\n9,31\nrows 1\n")],
+};
 
 #[test]
 fn the_31st_mark_merges_the_log_of_the_rows(rt: HostRuntime) -> Result<(), Fail> {
     let mut image = erased(rt.alloc())?;
-    let mut script = joined(rt.alloc(), &[ONE])?;
-    push_numbered(&mut script, "INSERT (", 40, ") INTO n;")?;
-    push_numbered(&mut script, "REMOVE FROM n WHERE v = ", 30, ";")?;
-    let mut replies = Vec::new(rt.alloc());
-    push_often(&mut replies, "ok\n", 42)?;
-    push_often(&mut replies, "rows 1\n", 30)?;
-    let ended = run(rt.alloc(), script.as_slice(), image.as_mut_slice())?;
-    assert!(rt; ended.is(0, replies.as_slice()));
-    let (full, log) = logged(image.as_slice(), "T0").ok_or("no log")?;
-    assert_eq!(rt; records(image.as_slice(), log), 30);
-    let last = ["REMOVE FROM n WHERE v = 30; SELECT COUNT(v), MIN(v) FROM n;"];
-    assert!(rt;
-        gives_on(
-            rt.alloc(),
-            &last,
-            &["rows 1\n9,31\nrows 1\n"],
-            image.as_mut_slice()
-        )?
-    );
-    let (merged, log) = logged(image.as_slice(), "T0").ok_or("no log")?;
+    expect_on(rt.alloc(), &MARKED, image.as_mut_slice())?;
+    let full = page_with_log(image.as_slice(), "T0", 30)?;
+    expect_on(rt.alloc(), &MARKED_LAST, image.as_mut_slice())?;
+    let merged = page_with_log(image.as_slice(), "T0", 1)?;
     assert!(rt; merged != full);
-    assert_eq!(rt; records(image.as_slice(), log), 1);
     Ok(())
 }
+
+const REMOVED: Case = Case {
+    shows: "two hundred rows are removed at once",
+    script: &[
+        Part::Once(ONE),
+        Part::Numbered("INSERT (", 300, ") INTO n;"),
+        Part::Once("REMOVE FROM n WHERE v < 200; SELECT COUNT(v) FROM n;"),
+    ],
+    replies: &[
+        Part::Often("ok\n", 302),
+        Part::Once("rows 200\n100\nrows 1\n"),
+    ],
+};
 
 #[test]
 fn many_rows_are_removed_without_a_log(rt: HostRuntime) -> Result<(), Fail> {
     let mut image = erased(rt.alloc())?;
-    let mut script = joined(rt.alloc(), &[ONE])?;
-    push_numbered(&mut script, "INSERT (", 300, ") INTO n;")?;
-    push_often(
-        &mut script,
-        "REMOVE FROM n WHERE v < 200; SELECT COUNT(v) FROM n;",
-        1,
-    )?;
-    let mut replies = Vec::new(rt.alloc());
-    push_often(&mut replies, "ok\n", 302)?;
-    push_often(&mut replies, "rows 200\n100\nrows 1\n", 1)?;
-    let ended = run(rt.alloc(), script.as_slice(), image.as_mut_slice())?;
-    assert!(rt; ended.is(0, replies.as_slice()));
+    expect_on(rt.alloc(), &REMOVED, image.as_mut_slice())?;
     assert!(rt; is_unlogged(image.as_slice(), "T0"));
     Ok(())
 }
 
+const PACKED: Case = Case {
+    shows: "removed rows are dropped by PACK",
+    script: &[
+        Part::Once(ONE),
+        Part::Once(
+            "INSERT (0) INTO n; INSERT (1) INTO n; INSERT (2) INTO n; REMOVE FROM n WHERE v = 1; \
+            SELECT v FROM n; REMOVE FROM n WHERE v = 1; PACK n; SELECT v FROM n;",
+        ),
+    ],
+    replies: &[Part::Once("ok\nok\nok\nok\nok\nrows 1\n0\n2\nrows 2\nrows 0\nok\n0\n2\nrows 2\n")],
+};
+
 #[test]
 fn removed_rows_are_dropped_by_pack(rt: HostRuntime) -> Result<(), Fail> {
     let mut image = erased(rt.alloc())?;
-    let script =
-        "INSERT (0) INTO n; INSERT (1) INTO n; INSERT (2) INTO n; REMOVE FROM n WHERE v = 1; \
-        SELECT v FROM n; REMOVE FROM n WHERE v = 1; PACK n; SELECT v FROM n;";
-    let replies = "ok\nok\nok\nok\nok\nrows 1\n0\n2\nrows 2\nrows 0\nok\n0\n2\nrows 2\n";
-    assert!(rt; gives_on(rt.alloc(), &[ONE, script], &[replies], image.as_mut_slice())?);
-    assert_eq!(rt; contents(rt.alloc(), image.as_mut_slice(), "T0")?.len(), 6);
-    Ok(())
+    expect_on(rt.alloc(), &PACKED, image.as_mut_slice())?;
+    expect_size(rt.alloc(), image.as_mut_slice(), "T0", 6)
 }
 
 // Whether a page of an image begins an active extent.
@@ -72,50 +82,57 @@ fn begins_at(image: &[u8], page: usize, flags: u8, name: &str) -> bool {
     }
 }
 
+// What 900 inserts of a LONG leave of four sectors, which have no space for the 813th.
+fn filled(alloc: Global) -> Result<Vec<u8>, Fail> {
+    let mut image = vec![in alloc; 0u8; 4 * SECTOR]?;
+    let script = joined(
+        alloc,
+        &[
+            Part::Once("CREATE RELATION n; CREATE ATTRIBUTE v DOMAIN LONG IN n;"),
+            Part::Often("INSERT (1) INTO n;", 900),
+        ],
+    )?;
+    let replies = joined(
+        alloc,
+        &[Part::Often("ok\n", 814), Part::Once("no space 32\n")],
+    )?;
+    let ended = run(alloc, script.as_slice(), image.as_mut_slice())?;
+    expect(&ended, 3, replies.as_slice(), "the 813th row has no space")?;
+    Ok(image)
+}
+
+// Whether there are the catalog, its rows and its log, of 6, 16 and 16 pages, and 26 free pages.
+fn lies_together(image: &[u8]) -> bool {
+    begins_at(image, 0, 11, "CAT")
+        && begins_at(image, 6, 3, "T0")
+        && begins_at(image, 22, 19, "CAT")
+        && is_erased_from(image, 38 * 256)
+}
+
+const COUNTED: Case = Case {
+    shows: "812 rows are counted",
+    script: &[Part::Once("SELECT COUNT(v) FROM n;")],
+    replies: &[Part::Once("812\nrows 1\n")],
+};
+
 #[test]
 fn four_sectors_hold_812_rows(rt: HostRuntime) -> Result<(), Fail> {
-    let mut image = vec![in rt.alloc(); 0u8; 4 * SECTOR]?;
-    let mut script = joined(
-        rt.alloc(),
-        &["CREATE RELATION n; CREATE ATTRIBUTE v DOMAIN LONG IN n;"],
-    )?;
-    push_often(&mut script, "INSERT (1) INTO n;", 900)?;
-    let mut replies = Vec::new(rt.alloc());
-    push_often(&mut replies, "ok\n", 814)?;
-    push_often(&mut replies, "no space 32\n", 1)?;
-    let ended = run(rt.alloc(), script.as_slice(), image.as_mut_slice())?;
-    assert!(rt; ended.is(3, replies.as_slice()));
-    // The catalog, its rows and its log, of 6, 16 and 16 pages, and 26 free pages.
-    assert!(rt; begins_at(image.as_slice(), 0, 11, "CAT"));
-    assert!(rt; begins_at(image.as_slice(), 6, 3, "T0"));
-    assert!(rt; begins_at(image.as_slice(), 22, 19, "CAT"));
-    assert!(rt;
-        image
-            .as_slice()
-            .iter()
-            .skip(38 * 256)
-            .all(|byte| *byte == 0)
-    );
-    let count = run_all(
-        rt.alloc(),
-        &["SELECT COUNT(v) FROM n;"],
-        image.as_mut_slice(),
-    )?;
-    assert!(rt; count.is(0, b"812\nrows 1\n"));
-    Ok(())
+    let mut image = filled(rt.alloc())?;
+    assert!(rt; lies_together(image.as_slice()));
+    expect_on(rt.alloc(), &COUNTED, image.as_mut_slice())
 }
+
+const ONE_BY_ONE: Case = Case {
+    shows: "forty relations come and go",
+    script: &[Part::Often(
+        "CREATE RELATION n;CREATE ATTRIBUTE v DOMAIN INT IN n;REMOVE RELATION n;",
+        40,
+    )],
+    replies: &[Part::Often("ok\n", 120)],
+};
 
 #[test]
 fn eight_sectors_hold_one_relation_after_the_other(rt: HostRuntime) -> Result<(), Fail> {
     let mut image = vec![in rt.alloc(); 0u8; 8 * SECTOR]?;
-    let mut script = Vec::new(rt.alloc());
-    let mut replies = Vec::new(rt.alloc());
-    for _ in 0..40u8 {
-        push_often(&mut script, ONE, 1)?;
-        push_often(&mut script, "REMOVE RELATION n;", 1)?;
-    }
-    push_often(&mut replies, "ok\n", 120)?;
-    let ended = run(rt.alloc(), script.as_slice(), image.as_mut_slice())?;
-    assert!(rt; ended.is(0, replies.as_slice()));
-    Ok(())
+    expect_on(rt.alloc(), &ONE_BY_ONE, image.as_mut_slice())
 }

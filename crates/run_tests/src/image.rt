@@ -38,6 +38,29 @@ pub fn contents(alloc: Global, image: &mut [u8], name: &str) -> Result<Vec<u8>, 
     contents_on(alloc, MemFlash::new(image).ok_or("no flash")?, name)
 }
 
+/// The file of a name has just these bytes on an image.
+pub fn expect_contents(
+    alloc: Global,
+    image: &mut [u8],
+    name: &str,
+    bytes: &[u8],
+) -> Result<(), Fail> {
+    if contents(alloc, image, name)?.as_slice() == bytes {
+        Ok(())
+    } else {
+        Err(Fail::new("the file has other bytes"))
+    }
+}
+
+/// The file of a name has so many bytes on an image.
+pub fn expect_size(alloc: Global, image: &mut [u8], name: &str, size: usize) -> Result<(), Fail> {
+    if contents(alloc, image, name)?.len() == size {
+        Ok(())
+    } else {
+        Err(Fail::new("the file has another size"))
+    }
+}
+
 /// The number of two bytes at a place, 0 behind the end.
 pub fn number_at(bytes: &[u8], at: usize) -> u16 {
     let Some(low) = bytes.get(at) else {
@@ -58,8 +81,8 @@ pub fn begins(page: &[u8], flags: u8, name: &str) -> bool {
     page.get(9).copied() == Some(flags) && named.starts_with(name.as_bytes()) && behind == Some(0)
 }
 
-/// The page of the active file of a name that has a log, and the page of that log.
-pub fn logged(image: &[u8], name: &str) -> Option<(usize, usize)> {
+// The page of the active file of a name that has a log, and the page of that log.
+fn logged(image: &[u8], name: &str) -> Option<(usize, usize)> {
     for (at, page) in image.chunks(256).enumerate() {
         if begins(page, 11, name) {
             return Some((at, usize::from(number_at(page, 0).saturating_sub(1))));
@@ -68,15 +91,38 @@ pub fn logged(image: &[u8], name: &str) -> Option<(usize, usize)> {
     None
 }
 
-/// Whether the active file of a name has no log.
-pub fn is_unlogged(image: &[u8], name: &str) -> bool {
-    image
-        .chunks(256)
-        .any(|page| begins(page, 3, name) && number_at(page, 0) == 0)
+/// The page of the active file of a name, which has a log of which so many records are in use.
+pub fn page_with_log(image: &[u8], name: &str, used: usize) -> Result<usize, Fail> {
+    let (page, log) = logged(image, name).ok_or("no log")?;
+    if records(image, log) == used {
+        Ok(page)
+    } else {
+        Err(Fail::new("another number of records is in use"))
+    }
 }
 
-/// How many records of the log at a page are in use.
-pub fn records(image: &[u8], log: usize) -> usize {
+/// Whether the active file of a name has no log.
+pub fn is_unlogged(image: &[u8], name: &str) -> bool {
+    for page in image.chunks(256) {
+        if begins(page, 3, name) && number_at(page, 0) == 0 {
+            return true;
+        }
+    }
+    false
+}
+
+/// Whether all bytes from a place on are 0.
+pub fn is_erased_from(image: &[u8], place: usize) -> bool {
+    for byte in image.iter().skip(place) {
+        if *byte != 0 {
+            return false;
+        }
+    }
+    true
+}
+
+// How many records of the log at a page are in use.
+fn records(image: &[u8], log: usize) -> usize {
     let mut used = 0usize;
     for record in 0..30usize {
         if number_at(

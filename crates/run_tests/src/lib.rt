@@ -3,6 +3,8 @@
 #![tactic(auto)]
 
 #[cfg(test)]
+mod cases;
+#[cfg(test)]
 mod cursor_tests;
 #[cfg(test)]
 mod file_tests;

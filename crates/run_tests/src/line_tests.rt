@@ -1,8 +1,9 @@
 //! Four clients on one line.
 
+use crate::cases::expect;
 use crate::one_byte::OneByte;
 use crate::running::{Ended, call, erased};
-use crate::samples::{made_by, two_rows};
+use crate::samples::{TWO_ROWS, made_of};
 use afl_sim::MemSource;
 use std::alloc::{AllocError, Global};
 use std::test::Fail;
@@ -61,18 +62,31 @@ fn served_slowly(alloc: Global, line: &[u8], image: &mut [u8]) -> Result<Ended, 
     call(alloc, &["serve", "image", "line"], &mut input, image)
 }
 
+// A line over an image gives just these replies, in large reads and byte by byte, and leaves the same.
+fn expect_served(alloc: Global, line: &[u8], replies: &[u8], image: &mut [u8]) -> Result<(), Fail> {
+    let mut again = Vec::from_slice(alloc, image)?;
+    let ended = served(alloc, line, image)?;
+    expect(&ended, 0, replies, "the replies to large reads")?;
+    let ended = served_slowly(alloc, line, again.as_mut_slice())?;
+    expect(&ended, 0, replies, "the replies byte by byte")?;
+    if &*image == again.as_slice() {
+        Ok(())
+    } else {
+        Err(Fail::new("the images differ"))
+    }
+}
+
 #[test]
 fn clients_fetch_their_own_rows(rt: HostRuntime) -> Result<(), Fail> {
     let line = frames(rt.alloc(), SENT)?;
     let replies = frames(rt.alloc(), REPLIES)?;
-    let mut image = made_by(rt.alloc(), two_rows(rt.alloc())?.as_slice(), 5)?;
-    let ended = served(rt.alloc(), line.as_slice(), image.as_mut_slice())?;
-    assert!(rt; ended.is(0, replies.as_slice()));
-    let mut again = made_by(rt.alloc(), two_rows(rt.alloc())?.as_slice(), 5)?;
-    let ended = served_slowly(rt.alloc(), line.as_slice(), again.as_mut_slice())?;
-    assert!(rt; ended.is(0, replies.as_slice()));
-    assert!(rt; image.as_slice() == again.as_slice());
-    Ok(())
+    let mut image = made_of(rt.alloc(), TWO_ROWS, 5)?;
+    expect_served(
+        rt.alloc(),
+        line.as_slice(),
+        replies.as_slice(),
+        image.as_mut_slice(),
+    )
 }
 
 // Two empty frames, a client 5, a broken escape, a command of no bytes, and a rest.
@@ -89,9 +103,5 @@ const TOLD: &[Part] = &[
 fn each_frame_that_is_not_empty_has_one_reply(rt: HostRuntime) -> Result<(), Fail> {
     let replies = frames(rt.alloc(), TOLD)?;
     let mut image = erased(rt.alloc())?;
-    let ended = served(rt.alloc(), BROKEN, image.as_mut_slice())?;
-    assert!(rt; ended.is(0, replies.as_slice()));
-    let ended = served_slowly(rt.alloc(), BROKEN, image.as_mut_slice())?;
-    assert!(rt; ended.is(0, replies.as_slice()));
-    Ok(())
+    expect_served(rt.alloc(), BROKEN, replies.as_slice(), image.as_mut_slice())
 }

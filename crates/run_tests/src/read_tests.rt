@@ -47,20 +47,23 @@ fn reads(alloc: Global, index: &str, times: u16) -> Result<u64, Fail> {
     reads_on(alloc, script.as_slice(), replies.as_slice(), flash)
 }
 
+// How many reads four questions more make.
+fn reads_more(alloc: Global, index: &str) -> Result<u64, Fail> {
+    let once = reads(alloc, index, 1)?;
+    let often = reads(alloc, index, 5)?;
+    Ok(often.checked_sub(once).ok_or("fewer reads")?)
+}
+
 #[test]
 fn a_query_that_is_repeated_reads_its_rows_anew(rt: HostRuntime) -> Result<(), Fail> {
-    let once = reads(rt.alloc(), BY_MINUTE, 1)?;
-    let often = reads(rt.alloc(), BY_MINUTE, 5)?;
-    let more = often.checked_sub(once).ok_or("fewer reads")?;
+    let more = reads_more(rt.alloc(), BY_MINUTE)?;
     assert!(rt; 4 <= more && more <= 792, "{more} reads more");
     Ok(())
 }
 
 #[test]
 fn a_scan_that_is_repeated_reads_all_pages_anew(rt: HostRuntime) -> Result<(), Fail> {
-    let once = reads(rt.alloc(), "", 1)?;
-    let often = reads(rt.alloc(), "", 5)?;
-    let more = often.checked_sub(once).ok_or("fewer reads")?;
+    let more = reads_more(rt.alloc(), "")?;
     // The rows lie in 51 pages, and a read is of one page.
     assert!(rt; 200 <= more, "{more} reads more");
     Ok(())

@@ -1,7 +1,8 @@
 //! Databases that several tests begin with.
 
+use crate::cases::expect;
 use crate::running::{erased, run};
-use crate::texts::{ONE, TWO, joined, push_number, push_often};
+use crate::texts::{ONE, Part, TWO, joined, push_number, push_often};
 use std::alloc::{AllocError, Global};
 use std::test::Fail;
 
@@ -21,7 +22,8 @@ pub const THE_TEN: &str = "600,205\n601,206\n602,200\n603,201\n604,202\n605,203\
 
 /// A sensor's day, a row a minute: 1,444 commands, and one more where it has an index.
 pub fn day(alloc: Global, index: &str) -> Result<Vec<u8>, AllocError> {
-    let mut script = joined(alloc, &[SAMPLES, index])?;
+    let mut script = Vec::from_slice(alloc, SAMPLES.as_bytes())?;
+    push_often(&mut script, index, 1)?;
     for minute in 0..1_440u16 {
         push_often(&mut script, "INSERT (", 1)?;
         push_number(&mut script, minute)?;
@@ -35,28 +37,33 @@ pub fn day(alloc: Global, index: &str) -> Result<Vec<u8>, AllocError> {
 }
 
 /// 256 rows of the number 7 under a hash tree: 259 commands.
-pub fn sevens(alloc: Global) -> Result<Vec<u8>, AllocError> {
-    let mut script = joined(alloc, &[ONE, "CREATE INDEX n.v TYPE MAXHEAP;"])?;
-    push_often(&mut script, "INSERT (7) INTO n;", 256)?;
-    Ok(script)
-}
+pub const SEVENS: &[Part] = &[
+    Part::Once(ONE),
+    Part::Once("CREATE INDEX n.v TYPE MAXHEAP;"),
+    Part::Often("INSERT (7) INTO n;", 256),
+];
 
 /// A relation of a number and a text, and two rows: five commands.
-pub fn two_rows(alloc: Global) -> Result<Vec<u8>, AllocError> {
-    joined(
-        alloc,
-        &[TWO, "INSERT (5, 'abc') INTO s; INSERT (-1, '') INTO s;"],
-    )
-}
+pub const TWO_ROWS: &[Part] = &[
+    Part::Once(TWO),
+    Part::Once("INSERT (5, 'abc') INTO s; INSERT (-1, '') INTO s;"),
+];
 
 /// What a script of so many commands leaves of an erased image, all of which reply `ok`.
 pub fn made_by(alloc: Global, script: &[u8], commands: u16) -> Result<Vec<u8>, Fail> {
     let mut image = erased(alloc)?;
-    let mut replies = Vec::new(alloc);
-    push_often(&mut replies, "ok\n", commands)?;
-    if run(alloc, script, image.as_mut_slice())?.is(0, replies.as_slice()) {
-        Ok(image)
-    } else {
-        Err(Fail::new("not all commands were carried out"))
-    }
+    let replies = joined(alloc, &[Part::Often("ok\n", commands)])?;
+    let ended = run(alloc, script, image.as_mut_slice())?;
+    expect(
+        &ended,
+        0,
+        replies.as_slice(),
+        "all commands are carried out",
+    )?;
+    Ok(image)
+}
+
+/// What a script of some parts leaves, which has so many commands.
+pub fn made_of(alloc: Global, script: &[Part], commands: u16) -> Result<Vec<u8>, Fail> {
+    made_by(alloc, joined(alloc, script)?.as_slice(), commands)
 }

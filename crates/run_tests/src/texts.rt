@@ -1,8 +1,6 @@
 //! Scripts and replies, put together of pieces.
 
-use crate::running::{Ended, erased, run};
 use std::alloc::{AllocError, Global};
-use std::test::Fail;
 
 /// A relation of a number and a text, which takes three commands.
 pub const TWO: &str =
@@ -11,13 +9,30 @@ pub const TWO: &str =
 /// A relation of one number, which takes two commands.
 pub const ONE: &str = "CREATE RELATION n;CREATE ATTRIBUTE v DOMAIN INT IN n;";
 
-/// Some pieces, one behind the other.
-pub fn joined(alloc: Global, pieces: &[&str]) -> Result<Vec<u8>, AllocError> {
+/// A part of a text.
+#[derive(Drop)]
+pub enum Part {
+    Once(&'static str),
+    Often(&'static str, u16),
+    /// Two pieces with a number between them, for each number below an end.
+    Numbered(&'static str, u16, &'static str),
+}
+
+/// The text of some parts, one behind the other.
+pub fn joined(alloc: Global, parts: &[Part]) -> Result<Vec<u8>, AllocError> {
     let mut text = Vec::new(alloc);
-    for piece in pieces {
-        text.extend_from_slice(piece.as_bytes())?;
+    for part in parts {
+        push_part(&mut text, part)?;
     }
     Ok(text)
+}
+
+fn push_part(text: &mut Vec<u8>, part: &Part) -> Result<(), AllocError> {
+    match part {
+        Part::Once(piece) => push_often(text, piece, 1),
+        Part::Often(piece, times) => push_often(text, piece, *times),
+        Part::Numbered(front, end, behind) => push_numbered(text, front, *end, behind),
+    }
 }
 
 /// Puts a piece behind a text so many times.
@@ -43,8 +58,8 @@ pub fn push_number(text: &mut Vec<u8>, number: u16) -> Result<(), AllocError> {
     Ok(())
 }
 
-/// Puts two pieces with a number between them behind a text, for each number below an end.
-pub fn push_numbered(
+// Puts two pieces with a number between them behind a text, for each number below an end.
+fn push_numbered(
     text: &mut Vec<u8>,
     front: &str,
     end: u16,
@@ -56,25 +71,4 @@ pub fn push_numbered(
         text.extend_from_slice(behind.as_bytes())?;
     }
     Ok(())
-}
-
-/// Carries out some pieces of a script on an image.
-pub fn run_all(alloc: Global, pieces: &[&str], image: &mut [u8]) -> Result<Ended, Fail> {
-    run(alloc, joined(alloc, pieces)?.as_slice(), image)
-}
-
-/// Whether a script gives just these replies over an image, and status 0.
-pub fn gives_on(
-    alloc: Global,
-    script: &[&str],
-    replies: &[&str],
-    image: &mut [u8],
-) -> Result<bool, Fail> {
-    let replies = joined(alloc, replies)?;
-    Ok(run_all(alloc, script, image)?.is(0, replies.as_slice()))
-}
-
-/// Whether a script gives just these replies over an erased image of 256 sectors, and status 0.
-pub fn gives(alloc: Global, script: &[&str], replies: &[&str]) -> Result<bool, Fail> {
-    gives_on(alloc, script, replies, erased(alloc)?.as_mut_slice())
 }

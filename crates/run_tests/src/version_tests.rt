@@ -1,8 +1,9 @@
 //! Images of version 1, which become those of version 2 with the next change of the catalog.
 
-use crate::image::contents;
-use crate::running::{erased, run};
-use crate::texts::{gives_on, run_all};
+use crate::cases::{Case, expect_on};
+use crate::image::expect_size;
+use crate::running::erased;
+use crate::texts::Part;
 use std::alloc::Global;
 use std::test::Fail;
 
@@ -54,43 +55,52 @@ fn version_1(alloc: Global, rows: u16, pages: u16) -> Result<Vec<u8>, Fail> {
     Ok(image)
 }
 
+const READ: Case = Case {
+    shows: "a row of version 1 is read",
+    script: &[Part::Once("SELECT v FROM n;")],
+    replies: &[Part::Once("5\nrows 1\n")],
+};
+
 #[test]
 fn a_catalog_of_version_1_stays_where_it_is_only_read(rt: HostRuntime) -> Result<(), Fail> {
     let mut image = version_1(rt.alloc(), 1, 16)?;
-    assert_eq!(rt;
-        contents(rt.alloc(), image.as_mut_slice(), "CAT")?.len(),
-        1_472
-    );
+    expect_size(rt.alloc(), image.as_mut_slice(), "CAT", 1_472)?;
     let before = Vec::from_slice(rt.alloc(), image.as_slice())?;
-    let read = ["SELECT v FROM n;"];
-    assert!(rt; gives_on(rt.alloc(), &read, &["5\nrows 1\n"], image.as_mut_slice())?);
+    expect_on(rt.alloc(), &READ, image.as_mut_slice())?;
     assert!(rt; image.as_slice() == before.as_slice());
     Ok(())
 }
 
+const CHANGED: Case = Case {
+    shows: "an attribute of the domain TIME is made",
+    script: &[Part::Once(
+        "INSERT (6) INTO n; CREATE ATTRIBUTE t DOMAIN TIME IN n; CREATE RELATION m; \
+        CREATE ATTRIBUTE t DOMAIN time IN m; INSERT (140737488355327) INTO m; \
+        INSERT (140737488355328) INTO m; INSERT (-1) INTO m; CREATE INDEX m.t TYPE MAXHEAP; \
+        CREATE INDEX m.t TYPE INLINE; INSERT (5) INTO m; SELECT t FROM m WHERE t > 5;",
+    )],
+    replies: &[Part::Once(
+        "ok\nno empty\nok\nok\nok\nno value 1\nno value 1\nno domain\nok\n\
+        no ordered 140737488355327\n140737488355327\nrows 1\n",
+    )],
+};
+
 #[test]
 fn a_catalog_of_version_1_changes_with_its_first_slot(rt: HostRuntime) -> Result<(), Fail> {
     let mut image = version_1(rt.alloc(), 1, 16)?;
-    let script = "INSERT (6) INTO n; CREATE ATTRIBUTE t DOMAIN TIME IN n; CREATE RELATION m; \
-        CREATE ATTRIBUTE t DOMAIN time IN m; INSERT (140737488355327) INTO m; \
-        INSERT (140737488355328) INTO m; INSERT (-1) INTO m; CREATE INDEX m.t TYPE MAXHEAP; \
-        CREATE INDEX m.t TYPE INLINE; INSERT (5) INTO m; SELECT t FROM m WHERE t > 5;";
-    let replies = "ok\nno empty\nok\nok\nok\nno value 1\nno value 1\nno domain\nok\n\
-        no ordered 140737488355327\n140737488355327\nrows 1\n";
-    assert!(rt; gives_on(rt.alloc(), &[script], &[replies], image.as_mut_slice())?);
-    assert_eq!(rt;
-        contents(rt.alloc(), image.as_mut_slice(), "CAT")?.len(),
-        1_480
-    );
-    Ok(())
+    expect_on(rt.alloc(), &CHANGED, image.as_mut_slice())?;
+    expect_size(rt.alloc(), image.as_mut_slice(), "CAT", 1_480)
 }
+
+const FULL: Case = Case {
+    shows: "16,384 slots are all of version 1",
+    script: &[Part::Once("INSERT (1) INTO n; CREATE RELATION m; INSERT (1) INTO n;")],
+    replies: &[Part::Once("no full slots 16384\nok\nok\n")],
+};
 
 #[test]
 fn version_1_has_16384_slots_and_version_2_has_more(rt: HostRuntime) -> Result<(), Fail> {
     // 256 pages hold the 49,152 bytes of the rows.
     let mut image = version_1(rt.alloc(), 16_384, 256)?;
-    let script = ["INSERT (1) INTO n; CREATE RELATION m; INSERT (1) INTO n;"];
-    let replies = ["no full slots 16384\nok\nok\n"];
-    assert!(rt; gives_on(rt.alloc(), &script, &replies, image.as_mut_slice())?);
-    Ok(())
+    expect_on(rt.alloc(), &FULL, image.as_mut_slice())
 }
