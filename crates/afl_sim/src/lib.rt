@@ -18,12 +18,3 @@ pub use memory::MemFlash;
 pub use plain_files::PlainFiles;
 pub use real::{FileFlash, StdSink, StdSource};
 pub use streams::{MemSink, MemSource};
-
-#[cfg(test)]
-mod cached_tests;
-#[cfg(test)]
-mod plain_tests;
-#[cfg(test)]
-mod rows;
-#[cfg(test)]
-mod tests;

@@ -2,10 +2,18 @@ ghost use Rattle.std.specs.Prelude.{◌≡◌, ◌<◌, ◌≤◌, true};
 ghost use Rattle.coffee_header.specs.Headers.{is_flags, is_kind};
 
 use afl_base::Name;
+use afl_sim::{FaultFlash, MemFlash};
+use arrayvec::ArrayVec;
 use coffee_header::{Header, write_header};
+use std::test::Fail;
 
 /// The bytes of four sectors.
 pub const SIZE: usize = 16384;
+
+/// The bytes of an erased flash.
+pub fn erased() -> [u8; SIZE] {
+    [0; SIZE]
+}
 
 /// Sets one byte of an image, where it has that byte.
 pub fn set(image: &mut [u8; SIZE], at: usize, byte: u8) {
@@ -62,18 +70,35 @@ pub fn log(name: Name) -> Header
 /// `CAT` in pages 0 to 5, `T0` in pages 6 to 21, and the log of `CAT` in pages 22 to 37 with four
 /// records in use, of the regions 0, 0, 11 and 11. `CAT` has 1,472 bytes, the last of which stands in
 /// its last record; `T0` has 10.
-pub fn two_files(image: &mut [u8; SIZE], cat: Name, t0: Name) {
-    put(image, 0, &file(23, 6, true, cat));
-    put(image, 6, &file(0, 16, false, t0));
-    put(image, 22, &log(cat));
+pub fn two_files() -> Result<[u8; SIZE], Fail> {
+    let cat = Name::new(b"CAT").ok_or("name")?;
+    let t0 = Name::new(b"T0").ok_or("name")?;
+    let mut image = erased();
+    put(&mut image, 0, &file(23, 6, true, cat));
+    put(&mut image, 6, &file(0, 16, false, t0));
+    put(&mut image, 22, &log(cat));
     let table = 256 * 22 + 32;
-    set(image, table, 1);
-    set(image, table + 2, 1);
-    set(image, table + 4, 12);
-    set(image, table + 6, 12);
+    set(&mut image, table, 1);
+    set(&mut image, table + 2, 1);
+    set(&mut image, table + 4, 12);
+    set(&mut image, table + 6, 12);
     let records = 256 * 22 + 96;
-    set(image, records, 65);
-    set(image, records + 128 * 2 + 100, 1);
-    set(image, records + 128 * 3 + 63, 1);
-    set(image, 256 * 6 + 32 + 9, 1);
+    set(&mut image, records, 65);
+    set(&mut image, records + 128 * 2 + 100, 1);
+    set(&mut image, records + 128 * 3 + 63, 1);
+    set(&mut image, 256 * 6 + 32 + 9, 1);
+    Ok(image)
+}
+
+/// A flash in memory.
+pub fn memory<'a>(image: &'a mut [u8; SIZE]) -> Result<MemFlash<'a>, Fail> {
+    let all = &mut image[..];
+    Ok(MemFlash::new(all).ok_or("no flash")?)
+}
+
+/// A flash in memory whose call of this number fails.
+pub fn failing<'a>(image: &'a mut [u8; SIZE], call: u64) -> Result<FaultFlash<MemFlash<'a>>, Fail> {
+    let mut fails = ArrayVec::new();
+    fails.push(call);
+    Ok(FaultFlash::new(memory(image)?, fails))
 }

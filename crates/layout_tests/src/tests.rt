@@ -1,10 +1,10 @@
-use crate::image::{SIZE, file, put, set, two_files};
+use crate::calls::{program, read};
+use crate::image::{SIZE, erased, failing, file, memory, put, set, two_files};
 use afl_base::{Failed, Flash, Kind, Name, PageId};
-use afl_sim::{FaultFlash, MemFlash};
-use arrayvec::ArrayVec;
-use coffee_header::{read_header, write_header};
-use coffee_layout::{BadImage, Table, Unit, check, file_size, next_unit, region_place, unit_in};
-use flash_range::{program_range, read_range};
+use coffee_header::{Header, read_header, write_header};
+use coffee_layout::{
+    BadImage, FileAt, Table, Unit, check, file_size, next_unit, region_place, unit_in,
+};
 use std::test::Fail;
 
 // The bytes of the header of a new `CAT`, from the description of the formats.
@@ -13,26 +13,41 @@ const NEW_CAT: [u8; 32] = [
     0, 0,
 ];
 
+// The first broken rule of an image.
 fn judge(image: &mut [u8; SIZE]) -> Result<Option<BadImage>, Fail> {
-    let all = &mut image[..];
-    let mut flash = MemFlash::new(all).ok_or("no flash")?;
     let mut table = Table::new();
-    match check(&mut flash, &mut table) {
-        Ok(Ok(())) => Ok(None),
-        Ok(Err(bad)) => Ok(Some(bad)),
+    match judge_flash(&mut memory(image)?, &mut table) {
+        Ok(bad) => Ok(bad),
         Err(failed) => Err(Fail::from(failed)),
     }
+}
+
+// The first broken rule of a flash.
+fn judge_flash<F: Flash>(flash: &mut F, table: &mut Table) -> Result<Option<BadImage>, Failed> {
+    match check(flash, table)? {
+        Ok(()) => Ok(None),
+        Err(bad) => Ok(Some(bad)),
+    }
+}
+
+// The header of a new file of six pages as bytes, and what is read from them before and after the
+// byte of its flags is another.
+fn written_and_read(name: Name, flags: u8) -> ([u8; 32], Option<Header>, Option<Header>) {
+    let mut bytes = [255; 32];
+    write_header(&file(0, 6, true, name), &mut bytes);
+    let written = bytes;
+    let before = read_header(&bytes);
+    bytes[9] = flags;
+    (written, before, read_header(&bytes))
 }
 
 #[test]
 fn a_header_is_the_bytes_of_the_formats(rt: HostRuntime) -> Result<(), Fail> {
     let cat = Name::new(b"CAT").ok_or("name")?;
-    let mut bytes = [255; 32];
-    write_header(&file(0, 6, true, cat), &mut bytes);
-    assert_eq!(rt; bytes, NEW_CAT);
-    assert_eq!(rt; read_header(&bytes), Some(file(0, 6, true, cat)));
-    bytes[9] = 1;
-    assert_eq!(rt; read_header(&bytes), None);
+    assert_eq!(rt;
+        written_and_read(cat, 1),
+        (NEW_CAT, Some(file(0, 6, true, cat)), None)
+    );
     Ok(())
 }
 
@@ -40,45 +55,71 @@ fn a_header_is_the_bytes_of_the_formats(rt: HostRuntime) -> Result<(), Fail> {
 fn the_files_of_a_sound_image_are_listed_with_their_logs(rt: HostRuntime) -> Result<(), Fail> {
     let cat = Name::new(b"CAT").ok_or("name")?;
     let t0 = Name::new(b"T0").ok_or("name")?;
-    let mut image = [0; SIZE];
-    two_files(&mut image, cat, t0);
-    let all = &mut image[..];
-    let mut flash = MemFlash::new(all).ok_or("no flash")?;
+    let mut image = two_files()?;
     let mut table = Table::new();
-    assert_eq!(rt; check(&mut flash, &mut table), Ok(Ok(())));
-    assert_eq!(rt; table.len(), 2);
-    let first = table[0];
+    assert_eq!(rt; judge_flash(&mut memory(&mut image)?, &mut table), Ok(None));
+    let wanted = [
+        FileAt {
+            name: cat,
+            kind: Kind::Fixed(6),
+            page: PageId(0),
+            pages: 6,
+            size: 1472,
+            log: Some(PageId(22)),
+            used: 4,
+        },
+        FileAt {
+            name: t0,
+            kind: Kind::Doubling,
+            page: PageId(6),
+            pages: 16,
+            size: 10,
+            log: None,
+            used: 0,
+        },
+    ];
+    assert_eq!(rt; table.as_slice(), wanted.as_slice());
+    Ok(())
+}
+
+// The unit at page 38, the one at page 6, the size of `CAT` without its log, and the place of its
+// region 11.
+fn parts<F: Flash>(flash: &mut F) -> Result<(Option<Unit>, Option<Unit>, u32, u32), Failed> {
+    if flash.sectors() != 4 {
+        return Err(Failed);
+    }
+    let log = Some(PageId(22));
+    Ok((
+        next_unit(flash, PageId(38))?,
+        unit_in(flash, 6, 64)?,
+        file_size(flash, PageId(0), 6, None)?,
+        region_place(flash, PageId(0), log, 11, 128)?,
+    ))
+}
+
+#[test]
+fn the_parts_of_a_sound_image_are_found(rt: HostRuntime) -> Result<(), Fail> {
+    let t0 = Name::new(b"T0").ok_or("name")?;
+    let mut image = two_files()?;
+    let second = Unit::Extent(file(0, 16, false, t0));
     assert_eq!(rt;
-        (first.name, first.kind, first.page, first.pages),
-        (cat, Kind::Fixed(6), PageId(0), 6)
-    );
-    assert_eq!(rt;
-        (first.size, first.log, first.used),
-        (1472, Some(PageId(22)), 4)
-    );
-    let second = table[1];
-    assert_eq!(rt;
-        (second.name, second.kind, second.page, second.pages),
-        (t0, Kind::Doubling, PageId(6), 16)
-    );
-    assert_eq!(rt; (second.size, second.log, second.used), (10, None, 0));
-    assert_eq!(rt; next_unit(&mut flash, PageId(38)), Ok(Some(Unit::Free)));
-    assert_eq!(rt;
-        unit_in(&mut flash, 6, 64),
-        Ok(Some(Unit::Extent(file(0, 16, false, t0))))
-    );
-    assert_eq!(rt; file_size(&mut flash, PageId(0), 6, None), Ok(0));
-    assert_eq!(rt;
-        region_place(&mut flash, PageId(0), Some(PageId(22)), 11, 128),
-        Ok(256 * 22 + 96 + 3 * 128)
+        parts(&mut memory(&mut image)?),
+        Ok((Some(Unit::Free), Some(second), 0, 256 * 22 + 96 + 3 * 128))
     );
     Ok(())
 }
 
+// The first broken rule where three bytes of the image of two files are others.
+fn judge_edited(edits: [(usize, u8); 3]) -> Result<Option<BadImage>, Fail> {
+    let mut image = two_files()?;
+    for (at, byte) in edits {
+        set(&mut image, at, byte);
+    }
+    judge(&mut image)
+}
+
 #[test]
 fn each_rule_is_the_first_that_is_broken(rt: HostRuntime) -> Result<(), Fail> {
-    let cat = Name::new(b"CAT").ok_or("name")?;
-    let t0 = Name::new(b"T0").ok_or("name")?;
     let log = 256 * 22;
     let edits: [(u8, u16, [(usize, u8); 3]); 11] = [
         (1, 0, [(9, 1), (9, 1), (9, 1)]),
@@ -110,26 +151,27 @@ fn each_rule_is_the_first_that_is_broken(rt: HostRuntime) -> Result<(), Fail> {
         (12, 22, [(log + 92, 1), (log + 92, 1), (log + 92, 1)]),
     ];
     for (rule, place, bytes) in edits {
-        let mut image = [0; SIZE];
-        two_files(&mut image, cat, t0);
-        for (at, byte) in bytes {
-            set(&mut image, at, byte);
-        }
-        assert_eq!(rt; judge(&mut image)?, Some(BadImage { rule, place }));
+        assert_eq!(rt; judge_edited(bytes)?, Some(BadImage { rule, place }));
     }
     Ok(())
 }
 
-#[test]
-fn the_33rd_file_and_a_large_empty_file_break_their_rules(rt: HostRuntime) -> Result<(), Fail> {
-    let mut image = [0; SIZE];
-    assert_eq!(rt; judge(&mut image)?, None);
-    for i in 0..33u8 {
+// An image of so many files of one page.
+fn files_of_a_page(files: u8) -> Result<[u8; SIZE], Fail> {
+    let mut image = erased();
+    for i in 0..files.min(64) {
         let name = Name::new(&[70, 48 + i / 10, 48 + i % 10]).ok_or("name")?;
         put(&mut image, usize::from(i), &file(0, 1, true, name));
     }
-    assert_eq!(rt; judge(&mut image)?, Some(BadImage { rule: 5, place: 32 }));
-    let mut large = [0; SIZE];
+    Ok(image)
+}
+
+#[test]
+fn the_33rd_file_and_a_large_empty_file_break_their_rules(rt: HostRuntime) -> Result<(), Fail> {
+    assert_eq!(rt; judge(&mut erased())?, None);
+    let bad = BadImage { rule: 5, place: 32 };
+    assert_eq!(rt; judge(&mut files_of_a_page(33)?)?, Some(bad));
+    let mut large = erased();
     let t0 = Name::new(b"T0").ok_or("name")?;
     put(&mut large, 0, &file(0, 64, false, t0));
     assert_eq!(rt; judge(&mut large)?, Some(BadImage { rule: 13, place: 0 }));
@@ -138,15 +180,14 @@ fn the_33rd_file_and_a_large_empty_file_break_their_rules(rt: HostRuntime) -> Re
 
 #[test]
 fn a_range_crosses_pages(rt: HostRuntime) -> Result<(), Fail> {
-    let mut image = [0; SIZE];
-    let all = &mut image[..];
-    let mut flash = MemFlash::new(all).ok_or("no flash")?;
+    let mut image = erased();
+    let mut flash = memory(&mut image)?;
     let mut bytes = [0; 300];
     bytes[0] = 5;
     bytes[299] = 6;
-    assert_eq!(rt; program_range(&mut flash, 200, &bytes), Ok(()));
+    assert_eq!(rt; program(&mut flash, 200, &bytes), Ok(()));
     let mut back = [0; 302];
-    assert_eq!(rt; read_range(&mut flash, 199, &mut back), Ok(()));
+    assert_eq!(rt; read(&mut flash, 199, &mut back), Ok(()));
     assert_eq!(rt; (back[0], back[1], back[300], back[301]), (0, 5, 6, 0));
     assert_eq!(rt; flash.reads(), 2);
     Ok(())
@@ -154,18 +195,12 @@ fn a_range_crosses_pages(rt: HostRuntime) -> Result<(), Fail> {
 
 #[test]
 fn a_read_that_fails_ends_the_judgement(rt: HostRuntime) -> Result<(), Fail> {
-    let cat = Name::new(b"CAT").ok_or("name")?;
-    let t0 = Name::new(b"T0").ok_or("name")?;
-    for at in [1, 7, 40, 90, 128] {
-        let mut image = [0; SIZE];
-        two_files(&mut image, cat, t0);
-        let all = &mut image[..];
-        let mut fails = ArrayVec::new();
-        fails.push(at);
-        let mut flash = FaultFlash::new(MemFlash::new(all).ok_or("no flash")?, fails);
+    for call in [1, 7, 40, 90, 128] {
+        let mut image = two_files()?;
+        let mut flash = failing(&mut image, call)?;
         let mut table = Table::new();
-        assert_eq!(rt; check(&mut flash, &mut table), Err(Failed));
-        assert_eq!(rt; check(&mut flash, &mut table), Ok(Ok(())));
+        assert_eq!(rt; judge_flash(&mut flash, &mut table), Err(Failed));
+        assert_eq!(rt; judge_flash(&mut flash, &mut table), Ok(None));
     }
     Ok(())
 }

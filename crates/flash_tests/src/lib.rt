@@ -1,0 +1,9 @@
+//! Tests of the devices: what the contracts do not say, in memory and on real files.
+#![tactic(auto)]
+
+#[cfg(test)]
+mod cached_tests;
+#[cfg(test)]
+mod calls;
+#[cfg(test)]
+mod tests;
