@@ -1,28 +1,52 @@
 //! Written scripts.
 
+ghost use Rattle.std.specs.Prelude.{◌≡◌, None};
+
 use crate::told::{script, told};
-use antelope_engine::Stop;
+use afl_base::Files;
+use afl_sim::PlainFiles;
+use antelope_engine::{Session, Stop};
+use std::alloc::Global;
 use std::test::Fail;
+
+// A session is written as just this script.
+fn expect_script<V: Files>(
+    alloc: Global,
+    session: &mut Session<V>,
+    wanted: &[u8],
+) -> Result<(), Fail> {
+    let (text, ended) = script(alloc, session, None)?;
+    if ended == Ok(()) && text.as_slice() == wanted {
+        Ok(())
+    } else {
+        Err(Fail::new("another script is written"))
+    }
+}
+
+// What a text makes of new files is written as just this script.
+fn is_written_as<V: Files + Drop>(
+    alloc: Global,
+    files: V,
+    text: &[u8],
+    wanted: &[u8],
+) -> Result<(), Fail>
+    requires { (V.state files).draft ≡ None }
+{
+    let mut session = told(alloc, files, text)?;
+    expect_script(alloc, &mut session, wanted)
+}
 
 const TWO_ROWS: &[u8] = b"CREATE RELATION s;\nCREATE ATTRIBUTE k DOMAIN LONG IN s;\n\
     CREATE ATTRIBUTE t DOMAIN STRING(3) IN s;\nINSERT (5, 'abc') INTO s;\nINSERT (-1, '') INTO s;\n";
 
 #[test]
 fn a_relation_is_written_as_commands_one_a_line(rt: HostRuntime) -> Result<(), Fail> {
-    let mut session = told(rt.alloc(), TWO_ROWS)?;
-    let (text, ended) = script(rt.alloc(), &mut session, None)?;
-    assert!(rt; ended == Ok(()));
-    assert!(rt; text.as_slice() == TWO_ROWS);
-    Ok(())
+    is_written_as(rt.alloc(), PlainFiles::<4064>::new(), TWO_ROWS, TWO_ROWS)
 }
 
 #[test]
 fn no_relation_gives_no_command(rt: HostRuntime) -> Result<(), Fail> {
-    let mut session = told(rt.alloc(), b"")?;
-    let (text, ended) = script(rt.alloc(), &mut session, None)?;
-    assert!(rt; ended == Ok(()));
-    assert!(rt; text.is_empty());
-    Ok(())
+    is_written_as(rt.alloc(), PlainFiles::<4064>::new(), b"", b"")
 }
 
 // Unused slots, removed rows and an index between others.
@@ -41,30 +65,39 @@ const CLOSED_UP: &[u8] = b"CREATE RELATION b;\nCREATE ATTRIBUTE at DOMAIN TIME I
 
 #[test]
 fn what_is_removed_is_left_out_and_the_script_makes_itself(rt: HostRuntime) -> Result<(), Fail> {
-    let mut session = told(rt.alloc(), GAPS)?;
-    let (text, ended) = script(rt.alloc(), &mut session, None)?;
-    assert!(rt; ended == Ok(()));
-    assert!(rt; text.as_slice() == CLOSED_UP);
-    let mut again = told(rt.alloc(), text.as_slice())?;
-    let (same, ended) = script(rt.alloc(), &mut again, None)?;
-    assert!(rt; ended == Ok(()));
-    assert!(rt; same.as_slice() == CLOSED_UP);
-    Ok(())
+    is_written_as(rt.alloc(), PlainFiles::<4064>::new(), GAPS, CLOSED_UP)?;
+    is_written_as(rt.alloc(), PlainFiles::<4064>::new(), CLOSED_UP, CLOSED_UP)
+}
+
+// A sink that fails at its third call holds a proper prefix that ends with this line, and a second script
+// is whole.
+fn is_cut_off<V: Files + Drop>(
+    alloc: Global,
+    files: V,
+    text: &[u8],
+    whole: &[u8],
+    last: &[u8],
+) -> Result<(), Fail>
+    requires { (V.state files).draft ≡ None }
+{
+    let mut session = told(alloc, files, text)?;
+    let (front, ended) = script(alloc, &mut session, Some(3))?;
+    if ended != Err(Stop::Sink) {
+        return Err(Fail::new("the script did not end with the sink"));
+    }
+    if front.len() >= whole.len() || !whole.starts_with(front.as_slice()) {
+        return Err(Fail::new("the sink holds no proper prefix"));
+    }
+    if !front.as_slice().ends_with(last) {
+        return Err(Fail::new("the sink holds another part"));
+    }
+    expect_script(alloc, &mut session, whole)
 }
 
 #[test]
 fn a_sink_that_fails_holds_a_proper_prefix(rt: HostRuntime) -> Result<(), Fail> {
-    let mut session = told(rt.alloc(), GAPS)?;
+    let files = PlainFiles::<4064>::new();
     // the text of each relation goes out in a call, and so does that of each index
-    let (text, ended) = script(rt.alloc(), &mut session, Some(3))?;
-    assert!(rt; ended == Err(Stop::Sink));
-    assert!(rt; text.len() < CLOSED_UP.len() && CLOSED_UP.starts_with(text.as_slice()));
-    assert!(rt;
-        text.as_slice()
-            .ends_with(b"CREATE ATTRIBUTE w DOMAIN LONG IN c;\n")
-    );
-    let (whole, ended) = script(rt.alloc(), &mut session, None)?;
-    assert!(rt; ended == Ok(()));
-    assert!(rt; whole.as_slice() == CLOSED_UP);
-    Ok(())
+    let last = b"CREATE ATTRIBUTE w DOMAIN LONG IN c;\n";
+    is_cut_off(rt.alloc(), files, GAPS, CLOSED_UP, last)
 }

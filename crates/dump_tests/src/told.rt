@@ -1,43 +1,62 @@
 //! A session that is told commands as text, and the script that it is written as.
 
-ghost use Rattle.std.specs.Prelude.{OnOk};
+ghost use Rattle.std.specs.Prelude.{◌≡◌, None, OnOk};
 ghost use Rattle.session_model.specs.Queries.{IsWellFormed};
 
-use afl_base::Failed;
-use afl_sim::{MemSink, PlainFiles};
+use afl_base::{Failed, Files};
+use afl_sim::MemSink;
 use antelope_engine::{Session, StartError, Step, Stop};
 use aql_parse::parse;
 use db_model::{Command, Refusal};
 use std::alloc::Global;
 use std::test::Fail;
 
-/// A session over no files, which was told the commands of a text, each ended by `;`.
-pub fn told(alloc: Global, text: &[u8]) -> Result<Session<PlainFiles<4064>>, Fail> {
-    let mut session = match Session::start(PlainFiles::<4064>::new()) {
-        Ok(session) => session,
-        Err(StartError::Bad { broken, files: _ }) => return Err(Fail::from(broken)),
-        Err(StartError::Failed { files: _ }) => return Err(Fail::from(Failed)),
-    };
+fn started<V: Files + Drop>(files: V) -> Result<Session<V>, Fail>
+    requires { (V.state files).draft ≡ None }
+{
+    match Session::start(files) {
+        Ok(session) => Ok(session),
+        Err(StartError::Bad { broken, files: _ }) => Err(Fail::from(broken)),
+        Err(StartError::Failed { files: _ }) => Err(Fail::from(Failed)),
+    }
+}
+
+/// A session over new files, which was told the commands of a text, each ended by `;`.
+pub fn told<V: Files + Drop>(alloc: Global, files: V, text: &[u8]) -> Result<Session<V>, Fail>
+    requires { (V.state files).draft ≡ None }
+{
+    let mut session = started(files)?;
     let mut room = vec![in alloc; 0u8; 4096]?;
     let mut out = MemSink::new(room.as_mut_slice(), None);
-    let mut command = Command::FetchCursor { number: 0 };
     let mut from = 0;
     for at in 0..text.len() {
         if text[at] == b';' {
-            read(text.get(from..at).ok_or("no piece")?, &mut command)?;
-            if session.is_stopped() {
-                return Err(Fail::from(Failed));
-            }
-            match session.exec(&command, &mut out) {
-                Ok(Step::Done(_)) => {}
-                Ok(Step::NoSpace { .. }) | Err(Stop::Flash | Stop::Sink) => {
-                    return Err(Fail::from(Failed));
-                }
-            }
+            carry_out(
+                &mut session,
+                text.get(from..at).ok_or("no piece")?,
+                &mut out,
+            )?;
             from = at + 1;
         }
     }
     Ok(session)
+}
+
+// Reads a command and carries it out.
+fn carry_out<V: Files>(
+    session: &mut Session<V>,
+    bytes: &[u8],
+    out: &mut MemSink<'_>,
+) -> Result<(), Fail> {
+    let mut command = Command::FetchCursor { number: 0 };
+    read(bytes, &mut command)?;
+    if session.is_stopped() {
+        return Err(Fail::from(Failed));
+    }
+    match session.exec(&command, out) {
+        Ok(Step::Done(_)) => Ok(()),
+        Ok(Step::NoSpace { .. }) | Err(Stop::Flash | Stop::Sink) => Err(Fail::from(Failed)),
+    }
 }
 
 #[tactic(auto, using(crate::proofs::WellFormed::well_formed))]
@@ -51,9 +70,9 @@ fn read(bytes: &[u8], command: &mut Command) -> Result<(), Refusal>
 }
 
 /// The script of a session's database, into a sink that fails at a call of a number.
-pub fn script(
+pub fn script<V: Files>(
     alloc: Global,
-    session: &mut Session<PlainFiles<4064>>,
+    session: &mut Session<V>,
     fail_at: Option<u64>,
 ) -> Result<(Vec<u8>, Result<(), Stop>), Fail> {
     let mut room = vec![in alloc; 0u8; 4096]?;

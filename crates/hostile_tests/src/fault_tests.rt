@@ -1,7 +1,7 @@
 //! The first fault of the words, the script, the flash or the sink decides how a run ends.
 
 use crate::flash_tests::with_fault;
-use crate::running::{Ended, RUN, SMALL, call, run};
+use crate::running::{Ended, RUN, SMALL, call, expect, expect_erased, expect_run, run};
 use afl_sim::{MemFlash, MemSource};
 use std::alloc::Global;
 use std::test::Fail;
@@ -27,48 +27,55 @@ fn words_of_no_form_leave_all(rt: HostRuntime) -> Result<(), Fail> {
     let mut image = vec![in rt.alloc(); 0u8; SMALL]?;
     let words = &["run", "a"];
     let ended = called(rt.alloc(), words, MAKES, image.as_mut_slice(), None, None)?;
-    assert!(rt; ended.is(1, b""));
-    assert!(rt; image.as_slice().iter().all(|byte| *byte == 0));
-    Ok(())
+    expect(&ended, 1, "")?;
+    expect_erased(image.as_slice())
+}
+
+// A run is cut off by its script or by its sink, and has no reply.
+fn is_cut_off(
+    alloc: Global,
+    image: &mut [u8],
+    script_fails_at: Option<u64>,
+    sink_fails_at: Option<u64>,
+    status: u8,
+) -> Result<(), Fail> {
+    let ended = called(alloc, RUN, MAKES, image, script_fails_at, sink_fails_at)?;
+    expect(&ended, status, "")
 }
 
 #[test]
 fn the_first_call_of_each_may_fail(rt: HostRuntime) -> Result<(), Fail> {
     let mut image = vec![in rt.alloc(); 0u8; SMALL]?;
     let of_flash = with_fault(rt.alloc(), MAKES, image.as_mut_slice(), 1)?;
-    assert!(rt; of_flash.is(4, b""));
-    let of_script = called(rt.alloc(), RUN, MAKES, image.as_mut_slice(), Some(1), None)?;
-    assert!(rt; of_script.is(2, b""));
-    assert!(rt; image.as_slice().iter().all(|byte| *byte == 0));
-    let of_sink = called(rt.alloc(), RUN, MAKES, image.as_mut_slice(), None, Some(1))?;
-    assert!(rt; of_sink.is(5, b""));
+    expect(&of_flash, 4, "")?;
+    is_cut_off(rt.alloc(), image.as_mut_slice(), Some(1), None, 2)?;
+    expect_erased(image.as_slice())?;
+    is_cut_off(rt.alloc(), image.as_mut_slice(), None, Some(1), 5)?;
     // The relation is there, and has no attribute.
-    let after = run(
+    let asks = b"SELECT v FROM n;INSERT (1) INTO n;";
+    expect_run(
         rt.alloc(),
-        b"SELECT v FROM n;INSERT (1) INTO n;",
+        asks,
         image.as_mut_slice(),
-    )?;
-    assert!(rt; after.is(0, b"no attribute 1\nno value 1\n"));
-    Ok(())
+        "no attribute 1\nno value 1\n",
+    )
+}
+
+const ONE_ROW_AND_A_HALF: &[u8] = b"CREATE RELATION n;CREATE ATTRIBUTE v DOMAIN INT IN n;\
+    INSERT (1) INTO n; SEL";
+
+// The relation n has one row.
+fn has_one_row(alloc: Global, image: &mut [u8]) -> Result<(), Fail> {
+    expect_run(alloc, b"SELECT COUNT(v) FROM n;", image, "1\nrows 1\n")
 }
 
 #[test]
 fn a_script_that_fails_leaves_what_came_whole(rt: HostRuntime) -> Result<(), Fail> {
     let mut image = vec![in rt.alloc(); 0u8; SMALL]?;
-    let mut script = Vec::from_slice(rt.alloc(), MAKES)?;
-    script.extend_from_slice(b"INSERT (1) INTO n; SEL")?;
-    let ended = called(
-        rt.alloc(),
-        RUN,
-        script.as_slice(),
-        image.as_mut_slice(),
-        Some(2),
-        None,
-    )?;
-    assert!(rt; ended.is(2, b"ok\nok\nok\n"));
-    let after = run(rt.alloc(), b"SELECT COUNT(v) FROM n;", image.as_mut_slice())?;
-    assert!(rt; after.is(0, b"1\nrows 1\n"));
-    Ok(())
+    let script = ONE_ROW_AND_A_HALF;
+    let ended = called(rt.alloc(), RUN, script, image.as_mut_slice(), Some(2), None)?;
+    expect(&ended, 2, "ok\nok\nok\n")?;
+    has_one_row(rt.alloc(), image.as_mut_slice())
 }
 
 // A script that is filled up to so many bytes.
@@ -83,26 +90,27 @@ fn filled(alloc: Global, front: &[u8], byte: u8, bytes: usize) -> Result<Vec<u8>
     Ok(script)
 }
 
+// A script of so many spaces ends with this status, and has no reply.
+fn spaces_end_with(alloc: Global, bytes: usize, image: &mut [u8], status: u8) -> Result<(), Fail> {
+    let script = filled(alloc, b"", b' ', bytes)?;
+    expect(&run(alloc, script.as_slice(), image)?, status, "")
+}
+
 #[test]
 fn a_script_has_at_most_16777216_bytes(rt: HostRuntime) -> Result<(), Fail> {
     let mut image = vec![in rt.alloc(); 0u8; SMALL]?;
-    let most = filled(rt.alloc(), b"", b' ', 16_777_216)?;
-    assert!(rt; run(rt.alloc(), most.as_slice(), image.as_mut_slice())?.is(0, b""));
-    let more = filled(rt.alloc(), b"", b' ', 16_777_217)?;
-    assert!(rt; run(rt.alloc(), more.as_slice(), image.as_mut_slice())?.is(8, b""));
-    assert!(rt; image.as_slice().iter().all(|byte| *byte == 0));
-    Ok(())
+    spaces_end_with(rt.alloc(), 16_777_216, image.as_mut_slice(), 0)?;
+    spaces_end_with(rt.alloc(), 16_777_217, image.as_mut_slice(), 8)?;
+    expect_erased(image.as_slice())
 }
+
+const ONE_ROW: &[u8] = b"CREATE RELATION n;CREATE ATTRIBUTE v DOMAIN INT IN n;INSERT (1) INTO n;";
 
 #[test]
 fn a_long_script_leaves_what_came_whole(rt: HostRuntime) -> Result<(), Fail> {
     let mut image = vec![in rt.alloc(); 0u8; SMALL]?;
-    let mut front = Vec::from_slice(rt.alloc(), MAKES)?;
-    front.extend_from_slice(b"INSERT (1) INTO n;")?;
-    let script = filled(rt.alloc(), front.as_slice(), b'x', 16_777_217)?;
+    let script = filled(rt.alloc(), ONE_ROW, b'x', 16_777_217)?;
     let ended = run(rt.alloc(), script.as_slice(), image.as_mut_slice())?;
-    assert!(rt; ended.is(8, b"ok\nok\nok\n"));
-    let after = run(rt.alloc(), b"SELECT COUNT(v) FROM n;", image.as_mut_slice())?;
-    assert!(rt; after.is(0, b"1\nrows 1\n"));
-    Ok(())
+    expect(&ended, 8, "ok\nok\nok\n")?;
+    has_one_row(rt.alloc(), image.as_mut_slice())
 }

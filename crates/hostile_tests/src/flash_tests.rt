@@ -36,17 +36,23 @@ fn passes_flash(alloc: Global, script: &[u8], replies: &[u8], at: u64) -> Result
     }
 }
 
-#[test]
-fn a_call_of_the_flash_that_fails_ends_the_run(rt: HostRuntime) -> Result<(), Fail> {
-    let script = script(rt.alloc())?;
-    let replies = replies(rt.alloc())?;
+// How many calls fail before the first whose failure ends nothing.
+fn calls_that_fail(alloc: Global) -> Result<u64, Fail> {
+    let script = script(alloc)?;
+    let replies = replies(alloc)?;
     let mut calls = 0u64;
     for at in 1..100_000u64 {
-        if passes_flash(rt.alloc(), script.as_slice(), replies.as_slice(), at)? {
+        if passes_flash(alloc, script.as_slice(), replies.as_slice(), at)? {
             break;
         }
         calls = at;
     }
+    Ok(calls)
+}
+
+#[test]
+fn a_call_of_the_flash_that_fails_ends_the_run(rt: HostRuntime) -> Result<(), Fail> {
+    let calls = calls_that_fail(rt.alloc())?;
     // The run ends, and not at its first calls.
     assert!(rt; 99 < calls && calls < 99_999);
     Ok(())

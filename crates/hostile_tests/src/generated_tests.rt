@@ -1,6 +1,6 @@
 //! Runs of generated commands in which one call fails.
 
-use crate::running::{Ended, SMALL, call, run};
+use crate::running::{Ended, SMALL, call, expect, run};
 use afl_base::Flash;
 use afl_sim::{FaultFlash, MemFlash, MemSource};
 use arrayvec::ArrayVec;
@@ -21,18 +21,19 @@ fn generated<F: Flash + Drop>(
     call(alloc, WORDS, &mut source, sink_fails_at, flash)
 }
 
-#[test]
-fn generated_commands_are_counted(rt: HostRuntime) -> Result<(), Fail> {
-    let mut image = vec![in rt.alloc(); 0u8; SMALL]?;
-    let flash = MemFlash::new(image.as_mut_slice()).ok_or("no flash")?;
-    assert!(rt; generated(rt.alloc(), None, flash)?.is(0, LINE));
-    let mut image = vec![in rt.alloc(); 0u8; SMALL]?;
+// So many generated commands over an erased image are counted by just this line.
+fn counts(alloc: Global, commands: &str, line: &'static str) -> Result<(), Fail> {
+    let mut image = vec![in alloc; 0u8; SMALL]?;
     let flash = MemFlash::new(image.as_mut_slice()).ok_or("no flash")?;
     let mut source = MemSource::new(b"", None);
-    let words = &["gen", "image", "1", "4"];
-    let ended = call(rt.alloc(), words, &mut source, None, flash)?;
-    assert!(rt; ended.is(0, b"commands 4 ok 4 rows 0 refused 0\n"));
-    Ok(())
+    let words = &["gen", "image", "1", commands];
+    expect(&call(alloc, words, &mut source, None, flash)?, 0, line)
+}
+
+#[test]
+fn generated_commands_are_counted(rt: HostRuntime) -> Result<(), Fail> {
+    counts(rt.alloc(), "64", "commands 64 ok 63 rows 1 refused 0\n")?;
+    counts(rt.alloc(), "4", "commands 4 ok 4 rows 0 refused 0\n")
 }
 
 // Whether the commands end as if the sink did not fail at this call. Else a part of the line was written,
@@ -59,15 +60,12 @@ fn passes_sink(alloc: Global, at: u64) -> Result<bool, Fail> {
 
 #[test]
 fn a_call_of_the_sink_that_fails_ends_the_line(rt: HostRuntime) -> Result<(), Fail> {
-    let mut ends = false;
     for at in 1..1_000u64 {
         if passes_sink(rt.alloc(), at)? {
-            ends = true;
-            break;
+            return Ok(());
         }
     }
-    assert!(rt; ends);
-    Ok(())
+    Err(Fail::new("the run does not end"))
 }
 
 // Whether the commands end as if the flash did not fail at this call. Else nothing was written, and the
@@ -93,15 +91,21 @@ fn passes_flash(alloc: Global, at: u64) -> Result<bool, Fail> {
     }
 }
 
-#[test]
-fn a_call_of_the_flash_that_fails_ends_the_commands(rt: HostRuntime) -> Result<(), Fail> {
+// How many calls fail before the first whose failure ends nothing.
+fn calls_that_fail(alloc: Global) -> Result<u64, Fail> {
     let mut calls = 0u64;
     for at in 1..100_000u64 {
-        if passes_flash(rt.alloc(), at)? {
+        if passes_flash(alloc, at)? {
             break;
         }
         calls = at;
     }
+    Ok(calls)
+}
+
+#[test]
+fn a_call_of_the_flash_that_fails_ends_the_commands(rt: HostRuntime) -> Result<(), Fail> {
+    let calls = calls_that_fail(rt.alloc())?;
     // The run ends, and not at its first calls.
     assert!(rt; 64 < calls && calls < 99_999);
     Ok(())

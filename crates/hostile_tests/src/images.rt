@@ -74,23 +74,30 @@ pub fn put_file(image: &mut [u8], page: u16, pages: u16, kind: u8, name: &[u8]) 
     put(image, at + 10, name);
 }
 
-/// Whether a run over a sound image, of which some bytes are changed, is refused by just this line, and
-/// leaves the image.
-pub fn is_refused(alloc: Global, sound: &[u8], bytes: &[Byte], line: &[u8]) -> Result<bool, Fail> {
+/// A run over a sound image, of which some bytes are changed, is refused by just this line, and leaves the
+/// image.
+pub fn expect_refused(
+    alloc: Global,
+    sound: &[u8],
+    bytes: &[Byte],
+    line: &'static str,
+) -> Result<(), Fail> {
     let mut image = Vec::from_slice(alloc, sound)?;
     set_all(image.as_mut_slice(), bytes);
     let before = Vec::from_slice(alloc, image.as_slice())?;
     let run = run(alloc, b"CREATE RELATION q;", image.as_mut_slice())?;
-    Ok(run.is(6, line) && image.as_slice() == before.as_slice())
+    if run.is(6, line.as_bytes()) && image.as_slice() == before.as_slice() {
+        Ok(())
+    } else {
+        Err(Fail::new(line))
+    }
 }
 
 /// Each image of a table is refused by its line.
 pub fn all_are_refused(alloc: Global, cases: &[Case]) -> Result<(), Fail> {
     let sound = two_rows(alloc)?;
     for (line, bytes) in cases {
-        if !is_refused(alloc, sound.as_slice(), *bytes, line.as_bytes())? {
-            return Err(Fail::new(*line));
-        }
+        expect_refused(alloc, sound.as_slice(), *bytes, *line)?;
     }
     Ok(())
 }

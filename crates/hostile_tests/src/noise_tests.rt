@@ -49,12 +49,12 @@ fn status_over(alloc: Global, script: &[u8], noise: Noise) -> Result<u8, Fail> {
     }
 }
 
-#[test]
-fn a_script_over_noise_ends_without_a_fault(rt: HostRuntime) -> Result<(), Fail> {
-    let script = whole_script(rt.alloc())?;
+// What so many seeds come to.
+fn counted(alloc: Global, seeds: u32) -> Result<Counts, Fail> {
+    let script = whole_script(alloc)?;
     let mut counts = Counts::default();
-    for seed in 0..1_000u32 {
-        let status = status_over(rt.alloc(), script.as_slice(), noise_of(seed))?;
+    for seed in 0..seeds {
+        let status = status_over(alloc, script.as_slice(), noise_of(seed))?;
         match status {
             0 => counts.carried_out = counts.carried_out.saturating_add(1),
             3 => counts.halted = counts.halted.saturating_add(1),
@@ -62,7 +62,13 @@ fn a_script_over_noise_ends_without_a_fault(rt: HostRuntime) -> Result<(), Fail>
             _ => return Err(Fail::new(status)),
         }
     }
+    Ok(counts)
+}
+
+#[test]
+fn a_script_over_noise_ends_without_a_fault(rt: HostRuntime) -> Result<(), Fail> {
+    let counts = counted(rt.alloc(), 1_000)?;
     // Noise comes early enough to be refused, and late enough to be met by commands.
-    assert!(rt; counts.carried_out > 0 && counts.refused > 0, "{counts:?}");
+    assert!(rt; counts.carried_out > 0 && counts.refused > 0);
     Ok(())
 }

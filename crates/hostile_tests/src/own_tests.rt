@@ -1,9 +1,9 @@
 //! More images that break a rule of the database first.
 
 use crate::images::{
-    Case, all_are_refused, erased, is_refused, made_by, put_file, set, two_rows, version_1,
+    Case, all_are_refused, erased, expect_refused, made_by, put_file, set, two_rows, version_1,
 };
-use crate::running::run;
+use crate::running::expect_run;
 use std::alloc::Global;
 use std::test::Fail;
 
@@ -43,53 +43,42 @@ fn broken_rules_are_told_with_their_places(rt: HostRuntime) -> Result<(), Fail> 
     all_are_refused(rt.alloc(), CASES)
 }
 
-// Whether an image is refused by this line that has one more file, behind the two rows.
-fn one_file_more(alloc: Global, name: &[u8], line: &[u8]) -> Result<bool, Fail> {
+// An image is refused by this line that has one more file, behind the two rows.
+fn one_file_more(alloc: Global, name: &[u8], line: &'static str) -> Result<(), Fail> {
     let mut image = two_rows(alloc)?;
     put_file(image.as_mut_slice(), 38, 16, 0, name);
-    is_refused(alloc, image.as_slice(), &[], line)
+    expect_refused(alloc, image.as_slice(), &[], line)
 }
 
 #[test]
 fn a_file_of_no_relation_and_no_tree_is_told(rt: HostRuntime) -> Result<(), Fail> {
-    assert!(rt; one_file_more(rt.alloc(), b"T1", b"no image 18 1\n")?);
-    assert!(rt; one_file_more(rt.alloc(), b"X3", b"no image 18 11\n")?);
-    Ok(())
+    one_file_more(rt.alloc(), b"T1", "no image 18 1\n")?;
+    one_file_more(rt.alloc(), b"X3", "no image 18 11\n")
 }
 
-// Whether an image is refused by this line that has one file alone.
-fn one_file_alone(
-    alloc: Global,
-    pages: u16,
-    kind: u8,
-    name: &[u8],
-    line: &[u8],
-) -> Result<bool, Fail> {
+// An image is refused that has one file alone.
+fn one_file_alone(alloc: Global, pages: u16, kind: u8, name: &[u8]) -> Result<(), Fail> {
     let mut image = erased(alloc)?;
     put_file(image.as_mut_slice(), 0, pages, kind, name);
-    is_refused(alloc, image.as_slice(), &[], line)
+    expect_refused(alloc, image.as_slice(), &[], "no image 14 0\n")
 }
 
 #[test]
 fn a_file_of_another_kind_is_told(rt: HostRuntime) -> Result<(), Fail> {
-    assert!(rt; one_file_alone(rt.alloc(), 16, 0, b"CAT", b"no image 14 0\n")?);
-    assert!(rt; one_file_alone(rt.alloc(), 5, 1, b"CAT", b"no image 14 0\n")?);
-    assert!(rt; one_file_alone(rt.alloc(), 3, 1, b"T0", b"no image 14 0\n")?);
-    Ok(())
+    one_file_alone(rt.alloc(), 16, 0, b"CAT")?;
+    one_file_alone(rt.alloc(), 5, 1, b"CAT")?;
+    one_file_alone(rt.alloc(), 3, 1, b"T0")
 }
 
 #[test]
 fn rows_of_a_relation_without_attributes_are_told(rt: HostRuntime) -> Result<(), Fail> {
     let image = made_by(rt.alloc(), b"CREATE RELATION s;")?;
-    assert!(rt;
-        is_refused(
-            rt.alloc(),
-            image.as_slice(),
-            &[(6, 32, 1)],
-            b"no image 19 0\n"
-        )?
-    );
-    Ok(())
+    expect_refused(
+        rt.alloc(),
+        image.as_slice(),
+        &[(6, 32, 1)],
+        "no image 19 0\n",
+    )
 }
 
 // An image of version 1 with so many rows of the number 0.
@@ -108,13 +97,12 @@ fn zeros(alloc: Global, rows: u16) -> Result<Vec<u8>, Fail> {
 #[test]
 fn version_1_has_at_most_16384_slots_and_no_time(rt: HostRuntime) -> Result<(), Fail> {
     let mut full = zeros(rt.alloc(), 16_384)?;
-    let count = run(rt.alloc(), b"SELECT COUNT(v) FROM n;", full.as_mut_slice())?;
-    assert!(rt; count.is(0, b"16384\nrows 1\n"));
+    let count = b"SELECT COUNT(v) FROM n;";
+    expect_run(rt.alloc(), count, full.as_mut_slice(), "16384\nrows 1\n")?;
     let more = zeros(rt.alloc(), 16_385)?;
-    assert!(rt; is_refused(rt.alloc(), more.as_slice(), &[], b"no image 19 0\n")?);
+    expect_refused(rt.alloc(), more.as_slice(), &[], "no image 19 0\n")?;
     let time = version_1(rt.alloc(), 4, 16)?;
-    assert!(rt; is_refused(rt.alloc(), time.as_slice(), &[], b"no image 16 0\n")?);
-    Ok(())
+    expect_refused(rt.alloc(), time.as_slice(), &[], "no image 16 0\n")
 }
 
 // The relation n with so many rows of the number 1.
@@ -129,26 +117,23 @@ fn ones(alloc: Global, rows: u16) -> Result<Vec<u8>, Fail> {
     made_by(alloc, script.as_slice())
 }
 
-// Whether an index of this kind on v is complete, when a byte of the catalog says that there is one.
-fn is_complete(alloc: Global, image: &[u8], kind: u8) -> Result<bool, Fail> {
+// An index of this kind on v is complete, when a byte of the catalog says that there is one.
+fn expect_complete(alloc: Global, image: &[u8], kind: u8) -> Result<(), Fail> {
     let mut image = Vec::from_slice(alloc, image)?;
     set(image.as_mut_slice(), 256 * 5 + 160, kind);
-    Ok(run(alloc, b"", image.as_mut_slice())?.is(0, b""))
+    expect_run(alloc, b"", image.as_mut_slice(), "")
 }
 
 #[test]
 fn a_table_of_2049_rows_is_told(rt: HostRuntime) -> Result<(), Fail> {
     let few = ones(rt.alloc(), 2_048)?;
-    assert!(rt; is_complete(rt.alloc(), few.as_slice(), 3)?);
+    expect_complete(rt.alloc(), few.as_slice(), 3)?;
     let many = ones(rt.alloc(), 2_049)?;
-    assert!(rt; is_complete(rt.alloc(), many.as_slice(), 1)?);
-    assert!(rt;
-        is_refused(
-            rt.alloc(),
-            many.as_slice(),
-            &[(5, 160, 3)],
-            b"no image 20 0\n"
-        )?
-    );
-    Ok(())
+    expect_complete(rt.alloc(), many.as_slice(), 1)?;
+    expect_refused(
+        rt.alloc(),
+        many.as_slice(),
+        &[(5, 160, 3)],
+        "no image 20 0\n",
+    )
 }

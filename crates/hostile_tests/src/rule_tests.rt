@@ -1,6 +1,7 @@
 //! Each rule of an image is the first that is broken.
 
-use crate::images::{Case, all_are_refused, erased, is_refused, put_file};
+use crate::images::{Byte, Case, all_are_refused, erased, expect_refused, put_file};
+use std::alloc::Global;
 use std::test::Fail;
 
 const OF_FLASH: &[Case] = &[
@@ -47,11 +48,11 @@ fn rules_of_the_database_are_told_with_their_places(rt: HostRuntime) -> Result<(
     all_are_refused(rt.alloc(), OF_DATABASE)
 }
 
-#[test]
-fn the_33rd_file_is_told(rt: HostRuntime) -> Result<(), Fail> {
-    let mut image = erased(rt.alloc())?;
-    for page in 0..33u16 {
-        let tens = (page / 10) as u8;
+// An image of so many files, each of one page.
+fn many_files(alloc: Global, files: u16) -> Result<Vec<u8>, Fail> {
+    let mut image = erased(alloc)?;
+    for page in 0..files {
+        let tens = (page / 10 % 10) as u8;
         let ones = (page % 10) as u8;
         let mut name = [b'F', b'0' + ones, 0];
         if tens > 0 {
@@ -59,29 +60,35 @@ fn the_33rd_file_is_told(rt: HostRuntime) -> Result<(), Fail> {
         }
         put_file(image.as_mut_slice(), page, 1, 1, &name);
     }
-    assert!(rt; is_refused(rt.alloc(), image.as_slice(), &[], b"no image 5 32\n")?);
-    Ok(())
+    Ok(image)
+}
+
+#[test]
+fn the_33rd_file_is_told(rt: HostRuntime) -> Result<(), Fail> {
+    let image = many_files(rt.alloc(), 33)?;
+    expect_refused(rt.alloc(), image.as_slice(), &[], "no image 5 32\n")
+}
+
+// An image is refused that has one file alone, of which some bytes are set.
+fn one_file_alone(
+    alloc: Global,
+    pages: u16,
+    kind: u8,
+    name: &[u8],
+    bytes: &[Byte],
+    line: &'static str,
+) -> Result<(), Fail> {
+    let mut image = erased(alloc)?;
+    put_file(image.as_mut_slice(), 0, pages, kind, name);
+    expect_refused(alloc, image.as_slice(), bytes, line)
 }
 
 #[test]
 fn an_empty_file_of_64_pages_is_told(rt: HostRuntime) -> Result<(), Fail> {
-    let mut image = erased(rt.alloc())?;
-    put_file(image.as_mut_slice(), 0, 64, 0, b"T0");
-    assert!(rt; is_refused(rt.alloc(), image.as_slice(), &[], b"no image 13 0\n")?);
-    Ok(())
+    one_file_alone(rt.alloc(), 64, 0, b"T0", &[], "no image 13 0\n")
 }
 
 #[test]
 fn a_catalog_of_one_byte_is_told(rt: HostRuntime) -> Result<(), Fail> {
-    let mut image = erased(rt.alloc())?;
-    put_file(image.as_mut_slice(), 0, 6, 1, b"CAT");
-    assert!(rt;
-        is_refused(
-            rt.alloc(),
-            image.as_slice(),
-            &[(0, 32, 1)],
-            b"no image 15 0\n"
-        )?
-    );
-    Ok(())
+    one_file_alone(rt.alloc(), 6, 1, b"CAT", &[(0, 32, 1)], "no image 15 0\n")
 }

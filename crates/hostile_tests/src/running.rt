@@ -29,6 +29,35 @@ impl Ended {
     }
 }
 
+/// A run ended with just this status and this text.
+pub fn expect(ended: &Ended, status: u8, text: &'static str) -> Result<(), Fail> {
+    if ended.is(status, text.as_bytes()) {
+        Ok(())
+    } else {
+        Err(Fail::new(text))
+    }
+}
+
+/// A script over an image is carried out with just these replies.
+pub fn expect_run(
+    alloc: Global,
+    script: &[u8],
+    image: &mut [u8],
+    replies: &'static str,
+) -> Result<(), Fail> {
+    expect(&run(alloc, script, image)?, 0, replies)
+}
+
+/// All bytes of an image are 0.
+pub fn expect_erased(image: &[u8]) -> Result<(), Fail> {
+    for byte in image {
+        if *byte != 0 {
+            return Err(Fail::new("the image is changed"));
+        }
+    }
+    Ok(())
+}
+
 /// The status of the program that is called with some words.
 pub fn status<F: Flash + Drop, S: Source, K: Sink>(
     alloc: Global,

@@ -45,23 +45,42 @@ fn is_cut_off(
     Ok(after.is(0, count(alloc, rows_after(commands))?.as_slice()))
 }
 
+// Whether a run ends as if its sink did not fail at this call. Else it is cut off there.
+fn passes_sink(alloc: Global, script: &[u8], replies: &[u8], at: u64) -> Result<bool, Fail> {
+    let mut image = vec![in alloc; 0u8; SMALL]?;
+    let ended = with_fault(alloc, script, image.as_mut_slice(), at)?;
+    if ended.is(0, replies) {
+        return Ok(true);
+    }
+    if is_cut_off(alloc, &ended, replies, image.as_mut_slice())? {
+        Ok(false)
+    } else {
+        Err(Fail::new(at))
+    }
+}
+
 #[test]
 fn a_call_of_the_sink_that_fails_ends_the_run(rt: HostRuntime) -> Result<(), Fail> {
     let script = script(rt.alloc())?;
     let replies = replies(rt.alloc())?;
-    let mut ends = false;
     for at in 1..10_000u64 {
-        let mut image = vec![in rt.alloc(); 0u8; SMALL]?;
-        let ended = with_fault(rt.alloc(), script.as_slice(), image.as_mut_slice(), at)?;
-        if ended.is(0, replies.as_slice()) {
-            ends = true;
-            break;
+        if passes_sink(rt.alloc(), script.as_slice(), replies.as_slice(), at)? {
+            return Ok(());
         }
-        let fits = is_cut_off(rt.alloc(), &ended, replies.as_slice(), image.as_mut_slice())?;
-        assert!(rt; fits, "call {at}");
     }
-    assert!(rt; ends);
-    Ok(())
+    Err(Fail::new("the run does not end"))
+}
+
+// A run whose replies have so many bytes of room writes these, and is cut off.
+fn expect_full(alloc: Global, script: &[u8], replies: &[u8], bytes: usize) -> Result<(), Fail> {
+    let mut image = vec![in alloc; 0u8; SMALL]?;
+    let ended = with_room(alloc, script, image.as_mut_slice(), bytes)?;
+    let fits = is_cut_off(alloc, &ended, replies, image.as_mut_slice())?;
+    if fits && ended.written.len() == bytes {
+        Ok(())
+    } else {
+        Err(Fail::new(bytes))
+    }
 }
 
 #[test]
@@ -69,10 +88,7 @@ fn a_sink_whose_room_ends_has_all_that_fits(rt: HostRuntime) -> Result<(), Fail>
     let script = script(rt.alloc())?;
     let replies = replies(rt.alloc())?;
     for bytes in 0..replies.len() {
-        let mut image = vec![in rt.alloc(); 0u8; SMALL]?;
-        let ended = with_room(rt.alloc(), script.as_slice(), image.as_mut_slice(), bytes)?;
-        let fits = is_cut_off(rt.alloc(), &ended, replies.as_slice(), image.as_mut_slice())?;
-        assert!(rt; fits && ended.written.len() == bytes, "room {bytes}");
+        expect_full(rt.alloc(), script.as_slice(), replies.as_slice(), bytes)?;
     }
     Ok(())
 }
@@ -96,7 +112,9 @@ fn refuses_into(alloc: Global, bytes: usize) -> Result<bool, Fail> {
 #[test]
 fn a_broken_rule_is_written_as_far_as_there_is_room(rt: HostRuntime) -> Result<(), Fail> {
     for bytes in 0..13usize {
-        assert!(rt; refuses_into(rt.alloc(), bytes)?, "room {bytes}");
+        if !refuses_into(rt.alloc(), bytes)? {
+            return Err(Fail::new(bytes));
+        }
     }
     Ok(())
 }
@@ -113,20 +131,33 @@ fn full(alloc: Global) -> Result<Vec<u8>, Fail> {
     Ok(script)
 }
 
-// Whether the run of a script that finds no space writes what fits into the room, and leaves the rows
-// before.
+// Its replies.
+fn full_replies(alloc: Global) -> Result<Vec<u8>, Fail> {
+    let mut replies = Vec::new(alloc);
+    for row in 0..814u16 {
+        replies.extend_from_slice(b"ok\n")?;
+    }
+    replies.extend_from_slice(b"no space 32\n")?;
+    Ok(replies)
+}
+
+// The run of a script that finds no space writes what fits into the room, and leaves the rows before.
 fn halts_into(
     alloc: Global,
     script: &[u8],
     replies: &[u8],
     bytes: usize,
     status: u8,
-) -> Result<bool, Fail> {
+) -> Result<(), Fail> {
     let mut image = vec![in alloc; 0u8; 16_384]?;
     let ended = with_room(alloc, script, image.as_mut_slice(), bytes)?;
     let fits = ended.written.len() == bytes && replies.starts_with(ended.written.as_slice());
     let after = run(alloc, b"SELECT COUNT(v) FROM n;", image.as_mut_slice())?;
-    Ok(fits && ended.status == status && after.is(0, b"812\nrows 1\n"))
+    if fits && ended.status == status && after.is(0, b"812\nrows 1\n") {
+        Ok(())
+    } else {
+        Err(Fail::new(bytes))
+    }
 }
 
 #[test]
@@ -134,17 +165,10 @@ fn the_refusal_for_want_of_space_is_written_as_far_as_there_is_room(
     rt: HostRuntime,
 ) -> Result<(), Fail> {
     let script = full(rt.alloc())?;
-    let mut replies = Vec::new(rt.alloc());
-    for row in 0..814u16 {
-        replies.extend_from_slice(b"ok\n")?;
-    }
-    replies.extend_from_slice(b"no space 32\n")?;
-    let whole = replies.len();
-    assert_eq!(rt; whole, 2_454);
+    let replies = full_replies(rt.alloc())?;
+    assert!(rt; replies.len() == 2_454);
     for bytes in 2_442..2_454usize {
-        let cut_off = halts_into(rt.alloc(), script.as_slice(), replies.as_slice(), bytes, 5)?;
-        assert!(rt; cut_off, "room {bytes}");
+        halts_into(rt.alloc(), script.as_slice(), replies.as_slice(), bytes, 5)?;
     }
-    assert!(rt; halts_into(rt.alloc(), script.as_slice(), replies.as_slice(), whole, 3)?);
-    Ok(())
+    halts_into(rt.alloc(), script.as_slice(), replies.as_slice(), 2_454, 3)
 }

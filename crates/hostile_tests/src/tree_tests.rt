@@ -2,7 +2,7 @@
 
 ghost use Rattle.std.specs.Prelude.{◌≡◌, None, IfOk};
 
-use crate::images::{is_refused, made_by};
+use crate::images::{expect_refused, made_by};
 use afl_base::{Failed, FileError, Files, Flash, Kind, Name};
 use afl_sim::MemFlash;
 use coffee_volume::{MountError, Volume};
@@ -51,8 +51,8 @@ fn put_on<F: Flash + Drop>(flash: F, at: u32, byte: u8) -> Result<(), Fail> {
     }
 }
 
-// Whether an image is refused because of its tree, of which some bytes are changed.
-fn breaks(alloc: Global, sound: &[u8], bytes: &[(u32, u8)]) -> Result<bool, Fail> {
+// An image is refused because of its tree, of which some bytes are changed.
+fn breaks(alloc: Global, sound: &[u8], bytes: &[(u32, u8)]) -> Result<(), Fail> {
     let mut image = Vec::from_slice(alloc, sound)?;
     for (at, byte) in bytes {
         put_on(
@@ -61,7 +61,7 @@ fn breaks(alloc: Global, sound: &[u8], bytes: &[(u32, u8)]) -> Result<bool, Fail
             *byte,
         )?;
     }
-    is_refused(alloc, image.as_slice(), &[], b"no image 20 0\n")
+    expect_refused(alloc, image.as_slice(), &[], "no image 20 0\n")
 }
 
 // The relation n with so many rows of the number 7 under a MAXHEAP.
@@ -80,20 +80,18 @@ fn sevens(alloc: Global, rows: u16) -> Result<Vec<u8>, Fail> {
 fn another_key_in_a_tree_is_told(rt: HostRuntime) -> Result<(), Fail> {
     let image = sevens(rt.alloc(), 256)?;
     // Eight buckets of 195 bytes behind 683 bytes; a pair is its key and its slot + 1.
-    assert!(rt; breaks(rt.alloc(), image.as_slice(), &[(683, 6)])?);
+    breaks(rt.alloc(), image.as_slice(), &[(683, 6)])?;
     // Slot 0 has two pairs, and slot 1 has none.
-    assert!(rt; breaks(rt.alloc(), image.as_slice(), &[(683 + 10, 1)])?);
+    breaks(rt.alloc(), image.as_slice(), &[(683 + 10, 1)])?;
     // Node 1 has the bucket of the root, too.
-    assert!(rt; breaks(rt.alloc(), image.as_slice(), &[(2, 1)])?);
+    breaks(rt.alloc(), image.as_slice(), &[(2, 1)])?;
     // The chain of node 293 ends before its last bucket.
-    assert!(rt; breaks(rt.alloc(), image.as_slice(), &[(683 + 195 * 6 + 192, 0)])?);
-    Ok(())
+    breaks(rt.alloc(), image.as_slice(), &[(683 + 195 * 6 + 192, 0)])
 }
 
 #[test]
 fn a_bucket_off_the_path_of_its_key_is_told(rt: HostRuntime) -> Result<(), Fail> {
     let image = sevens(rt.alloc(), 33)?;
     // The second bucket of key 7 is that of node 4, which is here made that of node 1.
-    assert!(rt; breaks(rt.alloc(), image.as_slice(), &[(8, 0), (2, 2)])?);
-    Ok(())
+    breaks(rt.alloc(), image.as_slice(), &[(8, 0), (2, 2)])
 }

@@ -12,7 +12,7 @@ use db_model::Command;
 use std::test::Fail;
 
 // Two relations with an attribute of one name.
-const RELATIONS: [&[u8]; 6] = [
+const RELATIONS: &[&[u8]] = &[
     b"CREATE RELATION s",
     b"CREATE ATTRIBUTE k DOMAIN INT IN s",
     b"CREATE ATTRIBUTE v DOMAIN LONG IN s",
@@ -22,7 +22,7 @@ const RELATIONS: [&[u8]; 6] = [
 ];
 
 // What every list has; each # is a digit, and each @ the number of a cursor.
-const COMMANDS: [&[u8]; 25] = [
+const COMMANDS: &[&[u8]] = &[
     b"INSERT (#, #) INTO s",
     b"INSERT (#, #) INTO s",
     b"INSERT (1#, #) INTO s",
@@ -150,7 +150,7 @@ fn are_alike<V: Files>(
         let text = match RELATIONS.get(number) {
             Some(text) => filled(text, &mut seed),
             None => filled(
-                chosen(&COMMANDS, more, &mut seed).ok_or("no command")?,
+                chosen(COMMANDS, more, &mut seed).ok_or("no command")?,
                 &mut seed,
             ),
         };
@@ -163,112 +163,110 @@ fn are_alike<V: Files>(
     Ok(true)
 }
 
-// Whether 250 lists are answered alike.
-fn lists_are_alike(first: u32, more: &[&[u8]]) -> Result<bool, Fail> {
+// 250 lists are answered alike.
+fn lists_are_alike(first: u32, more: &[&[u8]]) -> Result<(), Fail> {
     for list in 0..250u32 {
         let mut indexed = started(PlainFiles::<4064>::new())?;
         let mut plain = started(PlainFiles::<4064>::new())?;
         if !are_alike(&mut indexed, &mut plain, first.wrapping_add(list), more)? {
-            return Ok(false);
+            return Err(Fail::new(list));
         }
     }
-    Ok(true)
-}
-
-#[test]
-fn rows_between_bounds_are_the_same_by_the_order_of_their_keys(
-    rt: HostRuntime,
-) -> Result<(), Fail> {
-    let more: [&[u8]; 4] = [
-        b"CREATE INDEX s.k TYPE INLINE",
-        b"INSERT (2#, #) INTO s",
-        b"INSERT (3#, #) INTO s",
-        b"SELECT k, v FROM s WHERE k >= # AND k < 3#",
-    ];
-    assert!(rt; lists_are_alike(0, &more)?);
     Ok(())
 }
 
-#[test]
-fn rows_of_a_key_are_the_same_by_hash_trees(rt: HostRuntime) -> Result<(), Fail> {
-    let more: [&[u8]; 4] = [
-        b"CREATE INDEX s.k TYPE MAXHEAP",
-        b"CREATE INDEX s.v TYPE MAXHEAP",
-        b"SELECT k FROM s WHERE v = #",
-        b"SELECT v FROM s WHERE k = # AND v > #",
-    ];
-    assert!(rt; lists_are_alike(250, &more)?);
-    Ok(())
-}
+const BETWEEN_BOUNDS: &[&[u8]] = &[
+    b"CREATE INDEX s.k TYPE INLINE",
+    b"INSERT (2#, #) INTO s",
+    b"INSERT (3#, #) INTO s",
+    b"SELECT k, v FROM s WHERE k >= # AND k < 3#",
+];
 
 #[test]
-fn rows_of_a_key_are_the_same_by_hash_tables(rt: HostRuntime) -> Result<(), Fail> {
-    let more: [&[u8]; 4] = [
-        b"CREATE INDEX s.v TYPE MEMHASH",
-        b"CREATE INDEX r.k TYPE MEMHASH",
-        b"SELECT k FROM s WHERE v = #",
-        b"SELECT w FROM r WHERE k = #",
-    ];
-    assert!(rt; lists_are_alike(500, &more)?);
-    Ok(())
+fn rows_between_bounds_are_the_same_by_the_order_of_their_keys() -> Result<(), Fail> {
+    lists_are_alike(0, BETWEEN_BOUNDS)
 }
 
-#[test]
-fn aggregates_are_the_same_by_indexes(rt: HostRuntime) -> Result<(), Fail> {
-    let more: [&[u8]; 4] = [
-        b"CREATE INDEX s.v TYPE MAXHEAP",
-        b"SELECT COUNT(k), SUM(k), MEAN(v) FROM s WHERE k = #",
-        b"SELECT MEDIAN(v), MIN(k), MAX(v) FROM s WHERE k > #",
-        b"SELECT MEDIAN(k) FROM s WHERE v = #",
-    ];
-    assert!(rt; lists_are_alike(750, &more)?);
-    Ok(())
-}
+const BY_TREES: &[&[u8]] = &[
+    b"CREATE INDEX s.k TYPE MAXHEAP",
+    b"CREATE INDEX s.v TYPE MAXHEAP",
+    b"SELECT k FROM s WHERE v = #",
+    b"SELECT v FROM s WHERE k = # AND v > #",
+];
 
 #[test]
-fn joins_are_the_same_by_indexes(rt: HostRuntime) -> Result<(), Fail> {
-    let more: [&[u8]; 4] = [
-        b"INSERT (#, #) INTO r",
-        b"CREATE INDEX s.k TYPE MAXHEAP",
-        b"JOIN r, s ON k PROJECT w, v",
-        b"JOIN s, r ON k PROJECT v, w, k",
-    ];
-    assert!(rt; lists_are_alike(1000, &more)?);
-    Ok(())
+fn rows_of_a_key_are_the_same_by_hash_trees() -> Result<(), Fail> {
+    lists_are_alike(250, BY_TREES)
 }
 
-#[test]
-fn cursors_of_one_relation_are_the_same_by_indexes(rt: HostRuntime) -> Result<(), Fail> {
-    let more: [&[u8]; 4] = [
-        b"OPEN @ SELECT k FROM s WHERE k = #",
-        b"OPEN @ SELECT v FROM s WHERE k > #",
-        b"FETCH @",
-        b"FETCH @",
-    ];
-    assert!(rt; lists_are_alike(1250, &more)?);
-    Ok(())
-}
+const BY_TABLES: &[&[u8]] = &[
+    b"CREATE INDEX s.v TYPE MEMHASH",
+    b"CREATE INDEX r.k TYPE MEMHASH",
+    b"SELECT k FROM s WHERE v = #",
+    b"SELECT w FROM r WHERE k = #",
+];
 
 #[test]
-fn cursors_of_joins_are_the_same_by_indexes(rt: HostRuntime) -> Result<(), Fail> {
-    let more: [&[u8]; 4] = [
-        b"INSERT (#, #) INTO r",
-        b"OPEN @ JOIN s, r ON k PROJECT k, v, w",
-        b"FETCH @",
-        b"FETCH @",
-    ];
-    assert!(rt; lists_are_alike(1500, &more)?);
-    Ok(())
+fn rows_of_a_key_are_the_same_by_hash_tables() -> Result<(), Fail> {
+    lists_are_alike(500, BY_TABLES)
 }
 
+const AGGREGATES: &[&[u8]] = &[
+    b"CREATE INDEX s.v TYPE MAXHEAP",
+    b"SELECT COUNT(k), SUM(k), MEAN(v) FROM s WHERE k = #",
+    b"SELECT MEDIAN(v), MIN(k), MAX(v) FROM s WHERE k > #",
+    b"SELECT MEDIAN(k) FROM s WHERE v = #",
+];
+
 #[test]
-fn rows_that_are_left_are_the_same_by_indexes(rt: HostRuntime) -> Result<(), Fail> {
-    let more: [&[u8]; 4] = [
-        b"REMOVE FROM s WHERE v = #",
-        b"REMOVE FROM r WHERE k < #",
-        b"REMOVE INDEX s.k",
-        b"CLOSE @",
-    ];
-    assert!(rt; lists_are_alike(1750, &more)?);
-    Ok(())
+fn aggregates_are_the_same_by_indexes() -> Result<(), Fail> {
+    lists_are_alike(750, AGGREGATES)
+}
+
+const JOINS: &[&[u8]] = &[
+    b"INSERT (#, #) INTO r",
+    b"CREATE INDEX s.k TYPE MAXHEAP",
+    b"JOIN r, s ON k PROJECT w, v",
+    b"JOIN s, r ON k PROJECT v, w, k",
+];
+
+#[test]
+fn joins_are_the_same_by_indexes() -> Result<(), Fail> {
+    lists_are_alike(1000, JOINS)
+}
+
+const OPEN_SELECTS: &[&[u8]] = &[
+    b"OPEN @ SELECT k FROM s WHERE k = #",
+    b"OPEN @ SELECT v FROM s WHERE k > #",
+    b"FETCH @",
+    b"FETCH @",
+];
+
+#[test]
+fn cursors_of_one_relation_are_the_same_by_indexes() -> Result<(), Fail> {
+    lists_are_alike(1250, OPEN_SELECTS)
+}
+
+const OPEN_JOINS: &[&[u8]] = &[
+    b"INSERT (#, #) INTO r",
+    b"OPEN @ JOIN s, r ON k PROJECT k, v, w",
+    b"FETCH @",
+    b"FETCH @",
+];
+
+#[test]
+fn cursors_of_joins_are_the_same_by_indexes() -> Result<(), Fail> {
+    lists_are_alike(1500, OPEN_JOINS)
+}
+
+const REMOVALS: &[&[u8]] = &[
+    b"REMOVE FROM s WHERE v = #",
+    b"REMOVE FROM r WHERE k < #",
+    b"REMOVE INDEX s.k",
+    b"CLOSE @",
+];
+
+#[test]
+fn rows_that_are_left_are_the_same_by_indexes() -> Result<(), Fail> {
+    lists_are_alike(1750, REMOVALS)
 }

@@ -2,6 +2,8 @@
 #![tactic(auto)]
 
 #[cfg(test)]
+mod cases;
+#[cfg(test)]
 mod filling;
 #[cfg(test)]
 mod flash_tests;
@@ -11,6 +13,8 @@ mod index_tests;
 mod list_tests;
 #[cfg(test)]
 mod row_tests;
+#[cfg(test)]
+mod texts;
 #[cfg(test)]
 mod told;
 #[cfg(test)]

@@ -2,8 +2,10 @@
 
 ghost use Rattle.std.specs.Prelude.{◌≡◌, None};
 
+use crate::cases::expect;
 use crate::filling::size_of;
-use crate::told::{mounted, read, say, say_often, started};
+use crate::texts::{ONE, Part, joined};
+use crate::told::{mounted, read, say, started};
 use afl_base::{Files, Name};
 use afl_sim::{MemFlash, MemSink, PlainFiles};
 use antelope_engine::{Halt, Halted, Session, exec_all};
@@ -33,56 +35,70 @@ fn handed_back<V: Files + Drop>(
     Ok(bytes)
 }
 
+// A script, and the bytes of the rows that it leaves.
+struct Stored {
+    shows: &'static str,
+    script: &'static [u8],
+    rows: &'static [u8],
+}
+
+const STORED: &[Stored] = &[
+    Stored {
+        shows: "rows stand in the file of their relation",
+        script: b"CREATE RELATION s;CREATE ATTRIBUTE k DOMAIN LONG IN s;\
+            CREATE ATTRIBUTE t DOMAIN STRING(3) IN s;\
+            INSERT (5, 'abc') INTO s;INSERT (-1, '') INTO s;",
+        rows: b"\x05\x00\x00\x00abc\x01\xff\xff\xff\xff\x00\x00\x00\x01",
+    },
+    Stored {
+        shows: "packed rows take no more bytes than they need",
+        script: b"CREATE RELATION n;CREATE ATTRIBUTE v DOMAIN INT IN n;INSERT (0) INTO n;\
+            INSERT (1) INTO n;INSERT (2) INTO n;REMOVE FROM n WHERE v = 1;PACK n;",
+        rows: b"\x00\x00\x01\x02\x00\x01",
+    },
+    Stored {
+        shows: "rows that were removed under an index are packed",
+        script: b"CREATE RELATION s;CREATE ATTRIBUTE k DOMAIN LONG IN s;\
+            CREATE ATTRIBUTE t DOMAIN STRING(3) IN s;CREATE INDEX s.k TYPE MAXHEAP;\
+            INSERT (1, 'a') INTO s;INSERT (2, 'b') INTO s;REMOVE FROM s WHERE k = 1;\
+            REMOVE INDEX s.k;PACK s;",
+        rows: b"\x02\x00\x00\x00b\x00\x00\x01",
+    },
+];
+
+// The file of the rows that a script leaves has just these bytes.
+fn all_are_stored(alloc: Global, cases: &[Stored]) -> Result<(), Fail> {
+    for case in cases {
+        let bytes = handed_back(alloc, PlainFiles::<4064>::new(), case.script, b"T0")?;
+        expect(bytes.as_slice(), case.rows, case.shows)?;
+    }
+    Ok(())
+}
+
 #[test]
 fn rows_stand_in_the_file_of_their_relation(rt: HostRuntime) -> Result<(), Fail> {
-    let text =
-        b"CREATE RELATION s;CREATE ATTRIBUTE k DOMAIN LONG IN s;CREATE ATTRIBUTE t DOMAIN STRING(3) IN s;\
-        INSERT (5, 'abc') INTO s;INSERT (-1, '') INTO s;";
-    let bytes = handed_back(rt.alloc(), PlainFiles::<4064>::new(), text, b"T0")?;
-    let rows = b"\x05\x00\x00\x00abc\x01\xff\xff\xff\xff\x00\x00\x00\x01";
-    assert_eq!(rt; bytes.as_slice(), rows.as_slice());
-    Ok(())
+    all_are_stored(rt.alloc(), STORED)
 }
 
-#[test]
-fn packed_rows_take_no_more_bytes_than_they_need(rt: HostRuntime) -> Result<(), Fail> {
-    let text =
-        b"CREATE RELATION n;CREATE ATTRIBUTE v DOMAIN INT IN n;INSERT (0) INTO n;INSERT (1) INTO n;\
-        INSERT (2) INTO n;REMOVE FROM n WHERE v = 1;PACK n;";
-    let bytes = handed_back(rt.alloc(), PlainFiles::<4064>::new(), text, b"T0")?;
-    assert_eq!(rt; bytes.as_slice(), b"\x00\x00\x01\x02\x00\x01".as_slice());
-    Ok(())
-}
-
-#[test]
-fn rows_that_were_removed_under_an_index_are_packed(rt: HostRuntime) -> Result<(), Fail> {
-    let text =
-        b"CREATE RELATION s;CREATE ATTRIBUTE k DOMAIN LONG IN s;CREATE ATTRIBUTE t DOMAIN STRING(3) IN s;\
-        CREATE INDEX s.k TYPE MAXHEAP;INSERT (1, 'a') INTO s;INSERT (2, 'b') INTO s;REMOVE FROM s WHERE k = 1;\
-        REMOVE INDEX s.k;PACK s;";
-    let bytes = handed_back(rt.alloc(), PlainFiles::<4064>::new(), text, b"T0")?;
-    assert_eq!(rt;
-        bytes.as_slice(),
-        b"\x02\x00\x00\x00b\x00\x00\x01".as_slice()
-    );
-    Ok(())
-}
+const EQUAL_KEYS: &[Part] = &[
+    Part::Once(ONE),
+    Part::Once("CREATE INDEX n.v TYPE MAXHEAP;"),
+    Part::Often("INSERT (7) INTO n;", 256),
+];
 
 // The bytes of the hash tree of 256 equal keys.
 fn tree_size<V: Files + Drop>(alloc: Global, files: V) -> Result<u32, Fail>
     requires { (V.state files).draft ≡ None }
 {
     let mut session = started(files)?;
-    let text =
-        b"CREATE RELATION n;CREATE ATTRIBUTE v DOMAIN INT IN n;CREATE INDEX n.v TYPE MAXHEAP;";
-    say(alloc, &mut session, text)?;
-    say_often(&mut session, b"INSERT (7) INTO n", 256)?;
+    say(alloc, &mut session, joined(alloc, EQUAL_KEYS)?.as_slice())?;
     size_of(&session.close(), b"X0")
 }
 
 #[test]
 fn a_hash_tree_of_256_equal_keys_has_8_buckets(rt: HostRuntime) -> Result<(), Fail> {
-    assert_eq!(rt; tree_size(rt.alloc(), PlainFiles::<4064>::new())?, 2243);
+    let size = tree_size(rt.alloc(), PlainFiles::<4064>::new())?;
+    assert!(rt; size == 2_243);
     Ok(())
 }
 
@@ -108,18 +124,30 @@ fn stops_at_the_second<V: Files>(session: &mut Session<V>) -> Result<bool, Fail>
     Ok(done == Err(halted) && out.written() == b"812\nrows 1\n".as_slice())
 }
 
+const FULL: &[Part] = &[
+    Part::Once("CREATE RELATION n;CREATE ATTRIBUTE v DOMAIN LONG IN n;"),
+    Part::Often("INSERT (1) INTO n;", 812),
+];
+
 // 812 rows of four bytes fill a flash of four sectors.
 fn is_filled<V: Files>(alloc: Global, session: &mut Session<V>) -> Result<bool, Fail> {
-    let text = b"CREATE RELATION n;CREATE ATTRIBUTE v DOMAIN LONG IN n;";
-    say(alloc, session, text)?;
-    Ok(say_often(session, b"INSERT (1) INTO n", 812)? == 812)
+    let written = say(alloc, session, joined(alloc, FULL)?.as_slice())?;
+    let replies = joined(alloc, &[Part::Often("ok\n", 814)])?;
+    Ok(written.as_slice() == replies.as_slice())
+}
+
+// A list stops on a flash that is filled.
+fn stops_on<V: Files + Drop>(alloc: Global, files: V) -> Result<bool, Fail>
+    requires { (V.state files).draft ≡ None }
+{
+    let mut session = started(files)?;
+    Ok(is_filled(alloc, &mut session)? && stops_at_the_second(&mut session)?)
 }
 
 #[test]
 fn a_list_stops_at_the_command_that_has_no_space(rt: HostRuntime) -> Result<(), Fail> {
     let mut image = vec![in rt.alloc(); 0u8; 16_384]?;
-    let mut session = started(mounted(MemFlash::new(&mut image).ok_or("no flash")?)?)?;
-    assert!(rt; is_filled(rt.alloc(), &mut session)?);
-    assert!(rt; stops_at_the_second(&mut session)?);
+    let volume = mounted(MemFlash::new(image.as_mut_slice()).ok_or("no flash")?)?;
+    assert!(rt; stops_on(rt.alloc(), volume)?);
     Ok(())
 }

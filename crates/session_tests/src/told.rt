@@ -41,21 +41,31 @@ pub fn say<V: Files>(
     session: &mut Session<V>,
     text: &[u8],
 ) -> Result<Vec<u8>, Fail> {
-    let mut room = vec![in alloc; 0u8; 4096]?;
+    let mut room = vec![in alloc; 0u8; 131_072]?;
     let mut out = MemSink::new(room.as_mut_slice(), None);
+    say_all(session, text, &mut out)?;
+    Ok(Vec::from_slice(alloc, out.written())?)
+}
+
+// Carries out the commands of a text into a sink.
+fn say_all<V: Files, K: Sink>(
+    session: &mut Session<V>,
+    text: &[u8],
+    out: &mut K,
+) -> Result<(), Fail> {
     let mut command = Command::FetchCursor { number: 0 };
     let mut from = 0;
     for at in 0..text.len() {
         if text[at] == b';' {
             let piece = text.get(from..at).ok_or("no piece")?;
-            say_one(session, &mut command, piece, &mut out)?;
+            say_one(session, &mut command, piece, out)?;
             from = at + 1;
         }
     }
-    Ok(Vec::from_slice(alloc, out.written())?)
+    Ok(())
 }
 
-/// Reads a command and carries it out, and answers what it came to.
+// Reads a command and carries it out, and answers what it came to.
 fn say_one<V: Files, K: Sink>(
     session: &mut Session<V>,
     command: &mut Command,
@@ -102,22 +112,4 @@ pub fn carry_out<V: Files, K: Sink>(
         Err(Stop::Flash) => Err(Fail::from(Failed)),
         Err(Stop::Sink) => Err(Fail::from(Failed)),
     }
-}
-
-/// Carries out a command so many times, and answers how many of the replies were `ok`.
-pub fn say_often<V: Files>(session: &mut Session<V>, text: &[u8], times: u16) -> Result<u16, Fail> {
-    let mut command = Command::FetchCursor { number: 0 };
-    let mut fine = 0u16;
-    match read(text, &mut command) {
-        Ok(()) => {}
-        Err(_) => return Ok(fine),
-    }
-    for _ in 0..times {
-        let mut room = [0; 64];
-        let mut out = MemSink::new(&mut room[..], None);
-        if carry_out(session, &command, &mut out)? == Outcome::Fine {
-            fine = fine.saturating_add(1);
-        }
-    }
-    Ok(fine)
 }

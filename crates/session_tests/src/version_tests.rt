@@ -2,6 +2,7 @@
 
 ghost use Rattle.std.specs.Prelude.{◌≡◌, None, OnOk};
 
+use crate::cases::{LARGE, expect};
 use crate::filling::{fill, new_file, size_of};
 use crate::told::{mounted, say, started};
 use afl_base::{Files, Kind};
@@ -53,42 +54,67 @@ fn told_to<V: Files + Drop>(
     Ok((written, size_of(&session.close(), b"CAT")?))
 }
 
+// A script over so many rows of version 1, its replies, and the bytes of the catalog behind it, where they
+// are looked at.
+#[derive(Drop)]
+struct Case {
+    rows: u16,
+    script: &'static [u8],
+    replies: &'static [u8],
+    catalog: Option<u32>,
+}
+
+fn expect_told(alloc: Global, case: &Case, shows: &'static str) -> Result<(), Fail> {
+    let mut image = vec![in alloc; 0u8; LARGE]?;
+    let volume = mounted(MemFlash::new(image.as_mut_slice()).ok_or("no flash")?)?;
+    let (written, size) = told_to(alloc, volume, case.rows, case.script)?;
+    expect(written.as_slice(), case.replies, shows)?;
+    match case.catalog {
+        Some(wanted) if wanted != size => Err(Fail::new("the catalog has another size")),
+        _ => Ok(()),
+    }
+}
+
+const READ: Case = Case {
+    rows: 1,
+    script: b"SELECT v FROM n;INSERT (6) INTO n;",
+    replies: b"5\nrows 1\nok\n",
+    catalog: Some(1_472),
+};
+
 #[test]
 fn an_old_catalog_stays_as_it_is_where_it_is_read(rt: HostRuntime) -> Result<(), Fail> {
-    let mut image = vec![in rt.alloc(); 0u8; 1_048_576]?;
-    let volume = mounted(MemFlash::new(&mut image).ok_or("no flash")?)?;
-    let (written, size) = told_to(rt.alloc(), volume, 1, b"SELECT v FROM n;INSERT (6) INTO n;")?;
-    assert_eq!(rt; written.as_slice(), b"5\nrows 1\nok\n".as_slice());
-    assert_eq!(rt; size, 1472);
-    Ok(())
+    expect_told(rt.alloc(), &READ, "a row of version 1 is read")
 }
+
+const CHANGED: Case = Case {
+    rows: 1,
+    script: b"SELECT v FROM n;INSERT (6) INTO n;CREATE ATTRIBUTE t DOMAIN TIME IN n;CREATE RELATION m;\
+        CREATE ATTRIBUTE t DOMAIN time IN m;INSERT (140737488355327) INTO m;\
+        INSERT (140737488355328) INTO m;INSERT (-1) INTO m;CREATE INDEX m.t TYPE MAXHEAP;\
+        CREATE INDEX m.t TYPE INLINE;INSERT (5) INTO m;SELECT t FROM m WHERE t > 5;",
+    replies: b"5\nrows 1\nok\nno empty\nok\nok\nok\nno value 1\nno value 1\nno domain\nok\n\
+        no ordered 140737488355327\n140737488355327\nrows 1\n",
+    catalog: Some(1_480),
+};
 
 #[test]
 fn an_old_catalog_becomes_new_with_the_next_change(rt: HostRuntime) -> Result<(), Fail> {
-    let mut image = vec![in rt.alloc(); 0u8; 1_048_576]?;
-    let volume = mounted(MemFlash::new(&mut image).ok_or("no flash")?)?;
-    let text =
-        b"SELECT v FROM n;INSERT (6) INTO n;CREATE ATTRIBUTE t DOMAIN TIME IN n;CREATE RELATION m;\
-        CREATE ATTRIBUTE t DOMAIN time IN m;INSERT (140737488355327) INTO m;INSERT (140737488355328) INTO m;\
-        INSERT (-1) INTO m;CREATE INDEX m.t TYPE MAXHEAP;CREATE INDEX m.t TYPE INLINE;INSERT (5) INTO m;\
-        SELECT t FROM m WHERE t > 5;";
-    let (written, size) = told_to(rt.alloc(), volume, 1, text)?;
-    let replies = b"5\nrows 1\nok\nno empty\nok\nok\nok\nno value 1\nno value 1\nno domain\nok\n\
-        no ordered 140737488355327\n140737488355327\nrows 1\n";
-    assert_eq!(rt; written.as_slice(), replies.as_slice());
-    assert_eq!(rt; size, 1480);
-    Ok(())
+    expect_told(
+        rt.alloc(),
+        &CHANGED,
+        "an attribute of the domain TIME is made",
+    )
 }
+
+const FULL: Case = Case {
+    rows: 16_384,
+    script: b"INSERT (1) INTO n;CREATE RELATION m;INSERT (1) INTO n;",
+    replies: b"no full slots 16384\nok\nok\n",
+    catalog: None,
+};
 
 #[test]
 fn a_relation_of_version_1_has_16_384_slots(rt: HostRuntime) -> Result<(), Fail> {
-    let mut image = vec![in rt.alloc(); 0u8; 1_048_576]?;
-    let volume = mounted(MemFlash::new(&mut image).ok_or("no flash")?)?;
-    let text = b"INSERT (1) INTO n;CREATE RELATION m;INSERT (1) INTO n;";
-    let (written, _) = told_to(rt.alloc(), volume, 16_384, text)?;
-    assert_eq!(rt;
-        written.as_slice(),
-        b"no full slots 16384\nok\nok\n".as_slice()
-    );
-    Ok(())
+    expect_told(rt.alloc(), &FULL, "16,384 slots are all of version 1")
 }

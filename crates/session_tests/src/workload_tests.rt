@@ -1,5 +1,8 @@
 //! The generated workload, command by command.
 
+ghost use Rattle.std.specs.Prelude.{◌≡◌, None};
+
+use crate::cases::expect;
 use crate::flash_tests::with_number;
 use crate::told::{carry_out, mounted, read, say, started};
 use afl_base::Files;
@@ -60,26 +63,33 @@ fn tallied<V: Files>(session: &mut Session<V>, seed: u32) -> Result<Tally, Fail>
     Ok(tally)
 }
 
-fn workload_is_done<V: Files>(alloc: Global, session: &mut Session<V>) -> Result<bool, Fail> {
-    let first = say(alloc, session, FIRST)?;
-    let tally = tallied(session, 7)?;
-    let last = say(alloc, session, b"SELECT COUNT(v) FROM w;")?;
-    let whole = Tally {
-        fine: 19_684,
-        rows: 312,
-        refused: 0,
-    };
-    Ok(
-        first.as_slice() == b"ok\nok\nok\nok\n".as_slice()
-            && tally == whole
-            && last.as_slice() == b"19684\nrows 1\n".as_slice(),
+const WHOLE: Tally = Tally {
+    fine: 19_684,
+    rows: 312,
+    refused: 0,
+};
+
+// The workload over new files is carried out.
+fn expect_done<V: Files + Drop>(alloc: Global, files: V) -> Result<(), Fail>
+    requires { (V.state files).draft ≡ None }
+{
+    let mut session = started(files)?;
+    let first = say(alloc, &mut session, FIRST)?;
+    expect(first.as_slice(), b"ok\nok\nok\nok\n", "the first commands")?;
+    if tallied(&mut session, 7)? != WHOLE {
+        return Err(Fail::new("the commands come to something else"));
+    }
+    let last = say(alloc, &mut session, b"SELECT COUNT(v) FROM w;")?;
+    expect(
+        last.as_slice(),
+        b"19684\nrows 1\n",
+        "the rows that are left",
     )
 }
 
 #[test]
 fn twenty_thousand_generated_commands_are_done(rt: HostRuntime) -> Result<(), Fail> {
     let mut image = vec![in rt.alloc(); 0u8; 4_194_304]?;
-    let mut session = started(mounted(MemFlash::new(&mut image).ok_or("no flash")?)?)?;
-    assert!(rt; workload_is_done(rt.alloc(), &mut session)?);
-    Ok(())
+    let volume = mounted(MemFlash::new(image.as_mut_slice()).ok_or("no flash")?)?;
+    expect_done(rt.alloc(), volume)
 }
