@@ -1,12 +1,11 @@
 //! The order in which a catalog of version 1 is changed, seen over a flash that fails in its midst.
 
 ghost use Rattle.std.specs.Prelude.{◌≡◌, None};
-ghost use Rattle.volume_tests.specs.Counts.{HasFiles};
 
-use crate::calls::{change, fetch, live_files, look, make};
-use crate::mounted::{SIZE, mounted};
+use crate::calls::{fetch, look};
+use crate::mounted::{SIZE, calls_of_mount, erased, failing, memory, mounted};
+use crate::steps::{Step, after};
 use afl_base::{FileError, Files, Flash, Kind, RelationId};
-use afl_sim::{FaultFlash, MemFlash};
 use arrayvec::ArrayVec;
 use catalog::{catalog_file, put_relation, room_for};
 use coffee_volume::{MountError, Volume};
@@ -31,8 +30,7 @@ enum Stage {
 fn a_slot_is_replaced_before_the_mark_of_version_2_is_appended(
     rt: HostRuntime,
 ) -> Result<(), Fail> {
-    let mut before = [0; SIZE];
-    begin(&mut before)?;
+    let before = begin()?;
     let mounting = calls_of_mount(&before)?;
     let mut seen: ArrayVec<Stage, 4> = ArrayVec::new();
     for call in 1..1_000u64 {
@@ -56,24 +54,17 @@ fn a_slot_is_replaced_before_the_mark_of_version_2_is_appended(
     Ok(())
 }
 
-// Makes a catalog of version 1 that has a log.
-fn begin(image: &mut [u8; SIZE]) -> Result<(), Fail> {
-    let all = &mut image[..];
-    let mut volume = mounted(MemFlash::new(all).ok_or("no flash")?)?;
-    let mut used = live_files(&volume);
-    if !keep_version_1(&mut volume, &mut used)? {
-        return Err(Fail::new("the catalog was not made"));
-    }
-    Ok(())
-}
-
-fn keep_version_1<V: Files>(files: &mut V, used: &mut u16) -> Result<bool, FileError>
-    requires { HasFiles (V.state files.old) used.old }
-{
-    let made = make(files, used, catalog_file(), Kind::Fixed(6))?;
-    let kept = change(files, catalog_file(), 0, &[], &version_1())?;
-    let logged = change(files, catalog_file(), 0, b"n", &[])?;
-    Ok(made && kept && logged)
+// A catalog of version 1 that has a log.
+fn begin() -> Result<[u8; SIZE], Fail> {
+    let catalog = version_1();
+    let steps = [
+        Step::Make(catalog_file(), Kind::Fixed(6)),
+        Step::Append(catalog_file(), &catalog, 1),
+        Step::Overwrite(catalog_file(), 0, b"n"),
+    ];
+    let mut image = erased();
+    after(memory(&mut image)?, &steps)?;
+    Ok(image)
 }
 
 // A catalog of version 1 with the relation n in its first slot.
@@ -100,41 +91,31 @@ fn slot_of(name: u8) -> [u8; 176] {
     bytes
 }
 
-// How often mounting calls the flash.
-fn calls_of_mount(before: &[u8; SIZE]) -> Result<u64, Fail> {
-    let mut image = *before;
-    let all = &mut image[..];
-    let flash = mounted(MemFlash::new(all).ok_or("no flash")?)?.unmount();
-    Ok(flash.reads())
-}
-
 // What is found once the call of this number has failed, where the image still keeps its rules, and
 // whether there was such a call.
 fn stage_after(before: &[u8; SIZE], call: u64) -> Result<(Option<Stage>, bool), Fail> {
     let mut image = *before;
-    let failed = fails(&mut image, call)?;
-    let all = &mut image[..];
-    match Volume::mount(MemFlash::new(all).ok_or("no flash")?) {
-        Ok(volume) => Ok((
-            Some(stage_on(volume)?.ok_or("neither old nor new bytes")?),
-            failed,
-        )),
-        Err(MountError::Bad { bad: _, flash: _ }) => Ok((None, failed)),
-        Err(MountError::Failed { flash: _ }) => Err(Fail::new("memory failed")),
-    }
+    let failed = fails_over(failing(&mut image, call)?)?;
+    Ok((stage_over(memory(&mut image)?)?, failed))
 }
 
-// Whether the change of an image fails where the call of this number does.
-fn fails(image: &mut [u8; SIZE], call: u64) -> Result<bool, Fail> {
-    let all = &mut image[..];
-    let mut fails = ArrayVec::new();
-    fails.push(call);
-    let mut volume = mounted(FaultFlash::new(MemFlash::new(all).ok_or("no flash")?, fails))?;
+// Whether the change of a flash fails.
+fn fails_over<F: Flash + Drop>(flash: F) -> Result<bool, Fail> {
+    let mut volume = mounted(flash)?;
     match put_second(&mut volume)? {
         Ok(true) => Ok(false),
         Ok(false) => Err(Fail::new("a condition is not met")),
         Err(FileError::Space { need }) => Err(Fail::new(need)),
         Err(FileError::Failed) => Ok(true),
+    }
+}
+
+// What a flash has in the second slot, where it keeps its rules.
+fn stage_over<F: Flash + Drop>(flash: F) -> Result<Option<Stage>, Fail> {
+    match Volume::mount(flash) {
+        Ok(volume) => Ok(Some(stage_on(volume)?.ok_or("neither old nor new bytes")?)),
+        Err(MountError::Bad { bad: _, flash: _ }) => Ok(None),
+        Err(MountError::Failed { flash: _ }) => Err(Fail::new("memory failed")),
     }
 }
 

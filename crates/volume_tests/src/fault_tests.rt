@@ -2,11 +2,9 @@ ghost use Rattle.std.specs.Prelude.{◌≡◌};
 ghost use Rattle.volume_tests.specs.Counts.{HasFiles};
 
 use crate::calls::{change, erase, fetch, live_files, look, make, replace};
-use crate::mounted::{SIZE, mounted};
-use crate::runs::mark_rows;
+use crate::mounted::{SIZE, calls_of_mount, erased, failing, memory, mounted};
+use crate::steps::{Step, after};
 use afl_base::{FileError, Files, Flash, Kind, Name};
-use afl_sim::{FaultFlash, MemFlash};
-use arrayvec::ArrayVec;
 use coffee_volume::{MountError, Volume};
 use std::test::Fail;
 
@@ -23,8 +21,7 @@ enum Act {
 
 #[test]
 fn a_fault_at_any_call_of_the_flash_is_told(rt: HostRuntime) -> Result<(), Fail> {
-    let mut before = [0; SIZE];
-    begin(&mut before)?;
+    let before = begin()?;
     let mounting = calls_of_mount(&before)?;
     let acts = [
         Act::Create,
@@ -48,46 +45,30 @@ fn a_fault_at_any_call_of_the_flash_is_told(rt: HostRuntime) -> Result<(), Fail>
     Ok(())
 }
 
-// Makes the files that the acts find.
-fn begin(image: &mut [u8; SIZE]) -> Result<(), Fail> {
-    let all = &mut image[..];
-    let mut volume = mounted(MemFlash::new(all).ok_or("no flash")?)?;
-    let mut used = live_files(&volume);
-    if !make_two(&mut volume, &mut used)? {
-        return Err(Fail::new("the files were not made"));
-    }
-    Ok(())
-}
-
-// `T0` gets 200 bytes and a full log, and `A` 40 bytes and no log.
-fn make_two<V: Files>(files: &mut V, used: &mut u16) -> Result<bool, Fail>
-    requires { HasFiles (V.state files.old) used.old }
-{
+// The files that the acts find: `T0` has 200 bytes and a full log, and `A` 40 bytes and no log.
+fn begin() -> Result<[u8; SIZE], Fail> {
     let t0 = Name::new(b"T0").ok_or("name")?;
     let a = Name::new(b"A").ok_or("name")?;
-    let first = make(files, used, t0, Kind::Doubling)?;
-    let bytes = change(files, t0, 0, &[], &[1; 200])?;
-    let marks = mark_rows(files, t0, 30)?;
-    let second = make(files, used, a, Kind::Fixed(2))?;
-    let more = change(files, a, 0, &[], &[2; 40])?;
-    Ok(first && bytes && marks && second && more)
-}
-
-// How often mounting calls the flash.
-fn calls_of_mount(before: &[u8; SIZE]) -> Result<u64, Fail> {
-    let mut image = *before;
-    let all = &mut image[..];
-    let flash = mounted(MemFlash::new(all).ok_or("no flash")?)?.unmount();
-    Ok(flash.reads())
+    let steps = [
+        Step::Make(t0, Kind::Doubling),
+        Step::Append(t0, &[1; 200], 1),
+        Step::Mark(t0, 30),
+        Step::Make(a, Kind::Fixed(2)),
+        Step::Append(a, &[2; 40], 1),
+    ];
+    let mut image = erased();
+    after(memory(&mut image)?, &steps)?;
+    Ok(image)
 }
 
 // Whether an act answers `Failed` where the call of this number fails.
 fn fails(before: &[u8; SIZE], act: Act, call: u64) -> Result<bool, Fail> {
     let mut image = *before;
-    let all = &mut image[..];
-    let mut fails = ArrayVec::new();
-    fails.push(call);
-    let mut volume = mounted(FaultFlash::new(MemFlash::new(all).ok_or("no flash")?, fails))?;
+    fails_over(failing(&mut image, call)?, act)
+}
+
+fn fails_over<F: Flash + Drop>(flash: F, act: Act) -> Result<bool, Fail> {
+    let mut volume = mounted(flash)?;
     let mut used = live_files(&volume);
     match take(&mut volume, &mut used, act)? {
         Ok(true) => Ok(false),

@@ -1,4 +1,4 @@
-//! Tests of the files of a flash: whole runs of `Volume` over flashes in memory.
+//! Tests of files: whole runs of `Volume` over flashes in memory, and of `PlainFiles`.
 #![tactic(auto)]
 
 #[cfg(test)]
@@ -12,6 +12,8 @@ mod log_tests;
 #[cfg(test)]
 mod mounted;
 #[cfg(test)]
+mod plain_tests;
+#[cfg(test)]
 mod random;
 #[cfg(test)]
 mod row_tests;
@@ -21,6 +23,8 @@ mod rows;
 mod runs;
 #[cfg(test)]
 mod space_tests;
+#[cfg(test)]
+mod steps;
 #[cfg(test)]
 mod walk;
 #[cfg(test)]

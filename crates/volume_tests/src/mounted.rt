@@ -1,12 +1,38 @@
 ghost use Rattle.std.specs.Prelude.{◌≡◌, None, IfOk, length};
 
 use afl_base::{Failed, Files, Flash, PageId};
-use coffee_layout::{BadImage, Table, Unit, check, next_unit};
+use afl_sim::{FaultFlash, MemFlash};
+use arrayvec::ArrayVec;
+use coffee_layout::{BadImage, FileAt, Table, Unit, check, next_unit};
 use coffee_volume::{MountError, Volume};
 use std::test::Fail;
 
 /// The bytes of four sectors.
 pub const SIZE: usize = 16384;
+
+/// The bytes of an erased flash.
+pub fn erased() -> [u8; SIZE] {
+    [0; SIZE]
+}
+
+/// A flash in memory.
+pub fn memory<'a>(image: &'a mut [u8; SIZE]) -> Result<MemFlash<'a>, Fail> {
+    let all = &mut image[..];
+    Ok(MemFlash::new(all).ok_or("no flash")?)
+}
+
+/// A flash in memory whose call of this number fails.
+pub fn failing<'a>(image: &'a mut [u8; SIZE], call: u64) -> Result<FaultFlash<MemFlash<'a>>, Fail> {
+    let mut fails = ArrayVec::new();
+    fails.push(call);
+    Ok(FaultFlash::new(memory(image)?, fails))
+}
+
+/// How often mounting calls the flash of an image.
+pub fn calls_of_mount(image: &[u8; SIZE]) -> Result<u64, Fail> {
+    let mut image = *image;
+    Ok(mounted(memory(&mut image)?)?.unmount().reads())
+}
 
 /// The files of a flash whose image keeps its rules.
 pub fn mounted<F: Flash + Drop>(flash: F) -> Result<Volume<F>, Fail>
@@ -39,14 +65,33 @@ pub fn listed<F: Flash>(flash: &mut F) -> Result<Table, Fail> {
     }
 }
 
-/// Whether a page is free.
-pub fn is_free<F: Flash>(flash: &mut F, page: u16) -> bool {
-    unit_at(flash, page) == Some(Unit::Free)
+/// The only file of an image that keeps its rules.
+pub fn only_file<F: Flash>(flash: &mut F) -> Result<FileAt, Fail> {
+    let table = listed(flash)?;
+    if table.len() != 1 {
+        return Err(Fail::new("not one file"));
+    }
+    Ok(table[0])
 }
 
-/// Whether a page is isolated.
-pub fn is_isolated<F: Flash>(flash: &mut F, page: u16) -> bool {
-    unit_at(flash, page) == Some(Unit::Isolated)
+/// The first of some pages that is not free.
+pub fn first_not_free<F: Flash>(flash: &mut F, from: u16, to: u16) -> Option<u16> {
+    for page in from..to {
+        if unit_at(flash, page) != Some(Unit::Free) {
+            return Some(page);
+        }
+    }
+    None
+}
+
+/// The first of some pages that is not isolated.
+pub fn first_not_isolated<F: Flash>(flash: &mut F, from: u16, to: u16) -> Option<u16> {
+    for page in from..to {
+        if unit_at(flash, page) != Some(Unit::Isolated) {
+            return Some(page);
+        }
+    }
+    None
 }
 
 /// Whether an obsolete file without a log begins at a page.

@@ -3,33 +3,47 @@ ghost use Rattle.std.specs.Prelude.{◌≡◌, None};
 use crate::calls::{doubling_file, live_files, make};
 use crate::mounted::mounted;
 use crate::rows::{append_short_rows, are_long_rows, insert_long_rows, long_rows, short_rows};
-use afl_base::{Files, Kind, Name, SlotNo};
+use afl_base::{Files, Flash, Kind, Name, SlotNo};
 use afl_sim::MemFlash;
 use db_model::{Tuple, Value};
 use std::test::Fail;
 
 #[test]
 fn rows_of_128_bytes_are_read_back(rt: HostRuntime) -> Result<(), Fail> {
-    let t0 = Name::new(b"T0").ok_or("name")?;
     let mut image = vec![in rt.alloc(); 0u8; 262_144]?;
-    let mut volume = mounted(MemFlash::new(&mut image).ok_or("no flash")?)?;
-    let mut used = live_files(&volume);
-    assert!(rt; make(&mut volume, &mut used, t0, Kind::Doubling)?);
-    write_long_rows(&mut volume, t0)
+    keep_long_rows(MemFlash::new(&mut image).ok_or("no flash")?)
 }
 
 #[test]
 fn rows_are_counted_up_to_32768(rt: HostRuntime) -> Result<(), Fail> {
-    let t0 = Name::new(b"T0").ok_or("name")?;
     let mut image = vec![in rt.alloc(); 0u8; 1_048_576]?;
-    let mut volume = mounted(MemFlash::new(&mut image).ok_or("no flash")?)?;
-    let mut used = live_files(&volume);
-    assert!(rt; make(&mut volume, &mut used, t0, Kind::Doubling)?);
-    assert!(rt; append_short_rows(&mut volume, t0)?);
-    let (count, last) = count_short_rows(&mut volume, t0)?;
+    let (count, last) = count_after_all(MemFlash::new(&mut image).ok_or("no flash")?)?;
     assert_eq!(rt; count, 32_768);
     assert!(rt; last.as_slice() == [Value::Number(32_767)].as_slice());
     Ok(())
+}
+
+// Writes long rows into a new file of a flash, and reads them back.
+fn keep_long_rows<F: Flash + Drop>(flash: F) -> Result<(), Fail> {
+    let t0 = Name::new(b"T0").ok_or("name")?;
+    let mut volume = mounted(flash)?;
+    let mut used = live_files(&volume);
+    if !make(&mut volume, &mut used, t0, Kind::Doubling)? {
+        return Err(Fail::new("no file was made"));
+    }
+    write_long_rows(&mut volume, t0)
+}
+
+// Writes all short rows into a new file of a flash, and counts them.
+fn count_after_all<F: Flash + Drop>(flash: F) -> Result<(u16, Tuple), Fail> {
+    let t0 = Name::new(b"T0").ok_or("name")?;
+    let mut volume = mounted(flash)?;
+    let mut used = live_files(&volume);
+    let made = make(&mut volume, &mut used, t0, Kind::Doubling)?;
+    if !made || !append_short_rows(&mut volume, t0)? {
+        return Err(Fail::new("the rows were not appended"));
+    }
+    count_short_rows(&mut volume, t0)
 }
 
 // Writes 200 rows of 128 bytes into an empty file, and reads them back.
