@@ -1,0 +1,10 @@
+use Rattle.std.proofs.Common.{rules, ◌<◌}
+use Rattle.file_steps.proofs.Used.{used_below_32}
+use Rattle.file_steps.proofs.places.has_place.Goals as goal
+
+pub returns-in-Some : goal.returns-in-Some
+returns-in-Some g c = record {
+  place = λ free.
+      let inside : c.in-Some.last < 32 = search rules in
+      used_below_32 (g.V.Files.state c.args.files.now).files c.in-Some.last c.live.ensures.places inside (rw (← c.live.ensures.live) free);
+}
