@@ -9,7 +9,6 @@ use Rattle.db_model.specs.Reading.{IsReader}
 use Rattle.db_model.specs.ReplyText.{text}
 use Rattle.db_model.specs.Step.{Refused, Reply}
 use Rattle.buffered_sink.proofs.Fronts.{front_part, less_of_all, less_of_less, none_left}
-use Rattle.buffered_sink.specs.Growing.{append_none}
 use Rattle.buffered_sink.specs.Handing.{WroteFront}
 use Rattle.intake.specs.declared.halt.Halt.{Halt}
 use Rattle.intake.specs.declared.halt.Halt.TheVariants.{Space, Flash, Sink}
@@ -18,6 +17,7 @@ use Rattle.run_model.specs.Talk.{Talk, after, last, output}
 use Rattle.answering.specs.Carried.{Carried, FoundNone, HaltsIn, SaidLess, SaidNone, Standing, Stopped, no_space}
 use Rattle.db_model.specs.declared.refusals.Refusal.TheVariants as no
 use Rattle.db_model.proofs.ReplyTexts.{text_refused}
+use Rattle.reply_text.proofs.Pieces.{append_known-nil}
 use Rattle.reply_text.specs.WroteLess.{WroteLess}
 use Rattle.answering.specs.Sent.{FailsNow, Sent}
 
@@ -54,11 +54,11 @@ module _ {E : Type 0} (talk : Talk E) (some : (entry : E) (reply : Reply) → 0 
   -- nothing was written for the entries before the one that was not carried out
   none_before : (front rest : List E) (e : E) (before : Option (List ℕ)) → entry ∷ [] ≡ front ++ e ∷ rest → before ≡ append_known h0 (output talk old.database front) → before ≡ old.held
   none_before front rest e before split is =
-      is ∙ ap (λ es. append_known h0 (output talk old.database es)) (one_front entry e front rest split) ∙ append_none h0 ∙ is_old
+      is ∙ ap (λ es. append_known h0 (output talk old.database es)) (one_front entry e front rest split) ∙ append_known-nil h0 ∙ is_old
 
   said_before : (front rest : List E) (e : E) → entry ∷ [] ≡ front ++ e ∷ rest → old.held ≡ append_known old.held (output talk old.database front)
   said_before front rest e split =
-      sym (ap (λ es. append_known old.held (output talk old.database es)) (one_front entry e front rest split) ∙ append_none old.held)
+      sym (ap (λ es. append_known old.held (output talk old.database es)) (one_front entry e front rest split) ∙ append_known-nil old.held)
 
   module _ (w : WroteFront old.held new.held h1) where
     -- less of the reply was gathered
