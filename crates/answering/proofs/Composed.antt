@@ -1,8 +1,7 @@
 -- Entries that are carried out one after the other.
-use Rattle.std.proofs.Common.{◌≡◌, inl, inr, ℕ, ◌+◌, ◌≤◌, List, [], ◌∷◌, ◌++◌, Option, Some, None, refl, ap, sym, subst, ◌∙◌, arith, append_assoc}
+use Rattle.std.proofs.Common.{◌≡◌, inl, inr, ℕ, ◌+◌, ◌≤◌, List, [], ◌∷◌, ◌++◌, Option, refl, ap, sym, subst, ◌∙◌, arith, append_assoc}
 use Rattle.std.specs.Io.KnownBytes.{append_known}
 use Rattle.std.specs.List.{AllByRecursion}
-use Rattle.std.proofs.lemmas.List.{append-nil}
 use Rattle.db_model.specs.declared.commands.Command.{Command}
 use Rattle.db_model.specs.Ahead.{Aheads, is_refused}
 use Rattle.db_model.specs.Database.{Database}
@@ -10,24 +9,11 @@ use Rattle.db_model.specs.ReplyText.{text}
 use Rattle.db_model.specs.Step.{step}
 use Rattle.intake.specs.declared.halt.Halt.{Halt}
 use Rattle.intake.specs.declared.halt.Halt.TheVariants.{Space, Flash, Sink}
+use Rattle.reply_text.proofs.Pieces.{append_known-nil, append_known-twice, held_more}
 use Rattle.reply_text.specs.WroteLess.{WroteLess}
 use Rattle.run_model.specs.Talk.{OnlyReads, Talk, after, costs, last, last_aheads, output}
 use Rattle.run_model.proofs.Talks.{costs-append, last-append, last_aheads-append, output-append}
 use Rattle.answering.specs.Carried.{Carried, HaltsIn, Standing, Stopped, StopsBy, no_space}
-
--- ---- texts
-
-pub known_twice : (held : Option (List ℕ)) (xs ys : List ℕ) → append_known (append_known held xs) ys ≡ append_known held (xs ++ ys)
-known_twice None xs ys = refl
-known_twice (Some bytes) xs ys = ap (λ t. Some t) (append_assoc bytes xs ys)
-
-pub known_none : (held : Option (List ℕ)) → held ≡ append_known held []
-known_none None = refl
-known_none (Some bytes) = ap (λ t. Some t) (sym (append-nil bytes))
-
-known_more : (a b c : Option (List ℕ)) (xs ys all : List ℕ) → b ≡ append_known a xs → c ≡ append_known b ys → all ≡ xs ++ ys → c ≡ append_known a all
-known_more a b c xs ys all e f g =
-    f ∙ ap (λ h. append_known h ys) e ∙ known_twice a xs ys ∙ ap (append_known a) (sym g)
 
 -- ---- entries that only read
 
@@ -44,7 +30,7 @@ module _ {E : Type 0} (talk : Talk E) where
   carried_none s = record {
     tells = refl;
     database = refl;
-    held = known_none s.held;
+    held = sym (append_known-nil s.held);
     aheads = refl;
     reads = λ all. omega arith;
   }
@@ -64,7 +50,7 @@ module _ {E : Type 0} (talk : Talk E) where
   carried_then es fs a b c x y = record {
     tells = y.tells ∙ x.tells;
     database = y.database ∙ ap (λ (db : Database). last talk db fs) x.database ∙ sym (last-append talk a.database es fs);
-    held = known_more a.held b.held c.held (output talk a.database es) (output talk (last talk a.database es) fs) (output talk a.database (es ++ fs)) x.held
+    held = held_more a.held b.held c.held (output talk a.database es) (output talk (last talk a.database es) fs) (output talk a.database (es ++ fs)) x.held
         (y.held ∙ ap (λ (db : Database). append_known b.held (output talk db fs)) x.database) (output-append talk a.database es fs);
     aheads = y.aheads ∙ ap (λ (db : Database). last_aheads talk db b.aheads fs) x.database
         ∙ ap (λ (aheads : Aheads). last_aheads talk (last talk a.database es) aheads fs) x.aheads
@@ -81,7 +67,7 @@ module _ {E : Type 0} (talk : Talk E) where
     output_behind : (front : List E) (before : Option (List ℕ)) → before ≡ append_known b.held (output talk b.database front)
         → before ≡ append_known a.held (output talk a.database (es ++ front))
     output_behind front before e =
-        known_more a.held b.held before (output talk a.database es) (output talk b.database front) (output talk a.database (es ++ front)) x.held e
+        held_more a.held b.held before (output talk a.database es) (output talk b.database front) (output talk a.database (es ++ front)) x.held e
         (output-append talk a.database es front ∙ ap (λ (db : Database). output talk a.database es ++ output talk db front) (sym x.database))
 
     split_behind : (front rest : List E) (entry : E) → fs ≡ front ++ entry ∷ rest → es ++ fs ≡ (es ++ front) ++ entry ∷ rest
@@ -106,10 +92,10 @@ module _ {E : Type 0} (talk : Talk E) where
     unfolding stopped_behind
     stops_later Space h = record {
       stopped = stopped_behind h.stopped;
-      held = known_more a.held (append_known b.held (output talk b.database h.stopped.front)) c.held (output talk a.database (es ++ h.stopped.front)) (no_space talk h.stopped.entry h.stopped.n)
+      held = held_more a.held (append_known b.held (output talk b.database h.stopped.front)) c.held (output talk a.database (es ++ h.stopped.front)) (no_space talk h.stopped.entry h.stopped.n)
           (output talk a.database (es ++ h.stopped.front) ++ no_space talk h.stopped.entry h.stopped.n)
           (output_behind h.stopped.front (append_known b.held (output talk b.database h.stopped.front)) refl)
-          (h.held ∙ sym (known_twice b.held (output talk b.database h.stopped.front) (no_space talk h.stopped.entry h.stopped.n))) refl;
+          (h.held ∙ sym (append_known-twice b.held (output talk b.database h.stopped.front) (no_space talk h.stopped.entry h.stopped.n))) refl;
     }
     stops_later Sink (inl h) = inl (record {
       front = es ++ h.front;
@@ -134,7 +120,7 @@ module _ {E : Type 0} (talk : Talk E) where
       left = h.left;
       whole = output-append talk a.database es fs ∙ ap (λ (db : Database). output talk a.database es ++ output talk db fs) (sym x.database)
           ∙ ap (λ (bytes : List ℕ). output talk a.database es ++ bytes) h.whole ∙ sym (append_assoc (output talk a.database es) h.written h.left);
-      held = known_more a.held b.held c.held (output talk a.database es) h.written (output talk a.database es ++ h.written) x.held h.held refl;
+      held = held_more a.held b.held c.held (output talk a.database es) h.written (output talk a.database es ++ h.written) x.held h.held refl;
     }
 
     pub halts_later : (halt : Halt) → HaltsIn talk Lacks fs b c halt → HaltsIn talk Lacks (es ++ fs) a c halt

@@ -1,25 +1,26 @@
--- Entries whose replies go through a sink that gathers.
-use Rattle.std.proofs.Common.{◌≡◌, ◌≢◌, ◌⊎◌, inl, inr, ℕ, ◌<◌, ◌≤◌, List, [], ◌∷◌, ◌++◌, length, Option, refl, ap, sym, subst, ◌∙◌, arith, append_assoc, length-append, ⊎_elim}
+-- A reply that goes through a sink that gathers, and not all of it further on.
+use Rattle.std.proofs.Common.{◌≡◌, inl, inr, ℕ, ◌<◌, ◌≤◌, Bool, true, false, List, [], ◌∷◌, ◌++◌, length, Option, refl, ap, sym, subst, ◌∙◌, arith, append_assoc, length-append, ⊎_elim}
 use Rattle.std.specs.Prelude.{⊤, IfErr, OnOk, Ok, Err, Result}
 use Rattle.std.specs.Io.KnownBytes.{append_known}
 use Rattle.std.proofs.lemmas.List.{append-nil}
+use Rattle.afl_base.specs.Causes.{Rose}
 use Rattle.db_model.specs.declared.commands.Command.{Command}
 use Rattle.db_model.specs.declared.refusals.Refusal.{Refusal}
-use Rattle.db_model.specs.Reading.{IsReader}
 use Rattle.db_model.specs.ReplyText.{text}
 use Rattle.db_model.specs.Step.{Refused, Reply}
 use Rattle.buffered_sink.proofs.Fronts.{front_part, less_of_all, less_of_less, none_left}
-use Rattle.buffered_sink.specs.Growing.{append_none}
 use Rattle.buffered_sink.specs.Handing.{WroteFront}
 use Rattle.intake.specs.declared.halt.Halt.{Halt}
 use Rattle.intake.specs.declared.halt.Halt.TheVariants.{Space, Flash, Sink}
+use Rattle.intake.specs.Sent.{FailsNow, Sent}
 use Rattle.session_model.specs.Steps.{WrotePart}
 use Rattle.run_model.specs.Talk.{Talk, after, last, output}
-use Rattle.answering.specs.Carried.{Carried, FoundNone, HaltsIn, SaidLess, SaidNone, Standing, Stopped, no_space}
+use Rattle.answering.specs.Carried.{Carried, FoundNone, HaltsIn, LacksPages, SaidLess, SaidNone, Standing, Stopped, no_space, standing_of}
 use Rattle.db_model.specs.declared.refusals.Refusal.TheVariants as no
 use Rattle.db_model.proofs.ReplyTexts.{text_refused}
+use Rattle.reply_text.proofs.Pieces.{append_known-nil}
 use Rattle.reply_text.specs.WroteLess.{WroteLess}
-use Rattle.answering.specs.Sent.{FailsNow, Sent}
+use Rattle.answering.specs.Taking.{Carries, GoesOn, HaltsInBytes, HaltsWithin, HasOne, Input, Running, Saying, TakesBytes, Told, running}
 
 -- the same, where the sink holds this
 abbrev pub held_by : Standing → Option (List ℕ) → Standing
@@ -40,29 +41,19 @@ one_front : {E : Type 0} (x y : E) (xs zs : List E) → x ∷ [] ≡ xs ++ y ∷
 one_front x y [] zs e = refl
 one_front x y (a ∷ more) zs e = let long = ap length e in let sum = length-append more (y ∷ zs) in absurd (omega (arith, long, sum))
 
-module _ {E : Type 0} (talk : Talk E) (some : (entry : E) (reply : Reply) → 0 < length (talk.sent entry (text reply))) (entry : E) (old new : Standing) (h0 h1 : Option (List ℕ)) (is_old : h0 ≡ old.held) where
-  -- all of the reply went out
-  all_carried : h1 ≡ new.held → Carried talk (entry ∷ []) (held_by old h0) (held_by new h1) → Carried talk (entry ∷ []) old new
-  all_carried is_new c = record {
-    tells = c.tells;
-    database = c.database;
-    held = sym is_new ∙ c.held ∙ ap (λ h. append_known h (output talk old.database (entry ∷ []))) is_old;
-    aheads = c.aheads;
-    reads = c.reads;
-  }
-
+module _ {E : Type 0} (talk : Talk E) (some : (entry : E) (reply : Reply) → 0 < length (talk.sent entry (text reply))) (entry : E) (old new : Standing) (h1 : Option (List ℕ)) where
   -- nothing was written for the entries before the one that was not carried out
-  none_before : (front rest : List E) (e : E) (before : Option (List ℕ)) → entry ∷ [] ≡ front ++ e ∷ rest → before ≡ append_known h0 (output talk old.database front) → before ≡ old.held
-  none_before front rest e before split is =
-      is ∙ ap (λ es. append_known h0 (output talk old.database es)) (one_front entry e front rest split) ∙ append_none h0 ∙ is_old
-
   said_before : (front rest : List E) (e : E) → entry ∷ [] ≡ front ++ e ∷ rest → old.held ≡ append_known old.held (output talk old.database front)
   said_before front rest e split =
-      sym (ap (λ es. append_known old.held (output talk old.database es)) (one_front entry e front rest split) ∙ append_none old.held)
+      sym (ap (λ es. append_known old.held (output talk old.database es)) (one_front entry e front rest split) ∙ append_known-nil old.held)
+
+  none_before : (front rest : List E) (e : E) (before : Option (List ℕ)) → entry ∷ [] ≡ front ++ e ∷ rest → before ≡ append_known old.held (output talk old.database front) → before ≡ old.held
+  none_before front rest e before split is =
+      is ∙ sym (said_before front rest e split)
 
   module _ (w : WroteFront old.held new.held h1) where
     -- less of the reply was gathered
-    less_still : SaidLess talk (entry ∷ []) (held_by old h0) (held_by new h1) → SaidLess talk (entry ∷ []) old new
+    less_still : SaidLess talk (entry ∷ []) old (held_by new h1) → SaidLess talk (entry ∷ []) old new
     less_still s =
         let reply = talk.sent s.entry (text ((after talk (last talk old.database s.front) s.entry).1)) in
         record {
@@ -78,7 +69,7 @@ module _ {E : Type 0} (talk : Talk E) (some : (entry : E) (reply : Reply) → 0 
         }
 
     -- all of it was gathered, and less went out
-    less_went : 0 < length w.left → Carried talk (entry ∷ []) (held_by old h0) (held_by new h1) → SaidLess talk (entry ∷ []) old new
+    less_went : 0 < length w.left → Carried talk (entry ∷ []) old (held_by new h1) → SaidLess talk (entry ∷ []) old new
     less_went left c =
         let reply = (after talk old.database entry).1 in
         record {
@@ -89,12 +80,12 @@ module _ {E : Type 0} (talk : Talk E) (some : (entry : E) (reply : Reply) → 0 
           tells = c.tells;
           before = old.held;
           front_is = said_before [] [] entry refl;
-          held = less_of_all old.held new.held h1 (talk.sent entry (text reply)) w (c.held ∙ ap (λ h. append_known h (output talk old.database (entry ∷ []))) is_old ∙ ap (append_known old.held) (append-nil (talk.sent entry (text reply)))) left (some entry reply);
+          held = less_of_all old.held new.held h1 (talk.sent entry (text reply)) w (c.held ∙ ap (append_known old.held) (append-nil (talk.sent entry (text reply)))) left (some entry reply);
           database = c.database;
         }
 
     module _ (Lacks : Command → ℕ → Type 0) where
-      still_stopped : Stopped talk Lacks (entry ∷ []) (held_by old h0) (held_by new h1) → Stopped talk Lacks (entry ∷ []) old new
+      still_stopped : Stopped talk Lacks (entry ∷ []) old (held_by new h1) → Stopped talk Lacks (entry ∷ []) old new
       still_stopped s = record {
         front = s.front;
         entry = s.entry;
@@ -110,14 +101,14 @@ module _ {E : Type 0} (talk : Talk E) (some : (entry : E) (reply : Reply) → 0 
       }
 
       -- the line that there is no space went out, or less of it
-      found_still : w.left ≡ [] → FoundNone talk Lacks (entry ∷ []) (held_by old h0) (held_by new h1) → FoundNone talk Lacks (entry ∷ []) old new
+      found_still : w.left ≡ [] → FoundNone talk Lacks (entry ∷ []) old (held_by new h1) → FoundNone talk Lacks (entry ∷ []) old new
       unfolding still_stopped
       found_still none f = record {
         stopped = still_stopped f.stopped;
-        held = sym (none_left old.held new.held h1 w none) ∙ f.held ∙ ap (λ h. append_known h (output talk old.database f.stopped.front ++ no_space talk f.stopped.entry f.stopped.n)) is_old;
+        held = sym (none_left old.held new.held h1 w none) ∙ f.held;
       }
 
-      unsaid_still : SaidNone talk Lacks (entry ∷ []) (held_by old h0) (held_by new h1) → SaidNone talk Lacks (entry ∷ []) old new
+      unsaid_still : SaidNone talk Lacks (entry ∷ []) old (held_by new h1) → SaidNone talk Lacks (entry ∷ []) old new
       unfolding still_stopped
       unsaid_still s =
           let t = s.stopped in
@@ -129,7 +120,7 @@ module _ {E : Type 0} (talk : Talk E) (some : (entry : E) (reply : Reply) → 0 
             held = less_of_less old.held new.held h1 line w (subst (λ h. WroteLess h h1 line) (none_before t.front t.rest t.entry s.before t.split s.front_is) s.held);
           }
 
-      unsaid_now : 0 < length w.left → FoundNone talk Lacks (entry ∷ []) (held_by old h0) (held_by new h1) → SaidNone talk Lacks (entry ∷ []) old new
+      unsaid_now : 0 < length w.left → FoundNone talk Lacks (entry ∷ []) old (held_by new h1) → SaidNone talk Lacks (entry ∷ []) old new
       unfolding still_stopped
       unsaid_now left f =
           let t = f.stopped in
@@ -140,61 +131,132 @@ module _ {E : Type 0} (talk : Talk E) (some : (entry : E) (reply : Reply) → 0 
             stopped = still_stopped t;
             before = old.held;
             front_is = said_before t.front t.rest t.entry t.split;
-            held = less_of_all old.held new.held h1 line w (f.held ∙ ap (λ h. append_known h (output talk old.database t.front ++ line)) is_old ∙ ap (λ es. append_known old.held (output talk old.database es ++ line)) none) left long;
+            held = less_of_all old.held new.held h1 line w (f.held ∙ ap (λ es. append_known old.held (output talk old.database es ++ line)) none) left long;
           }
 
       -- why it went no further, before the reply was handed on and behind
       abbrev Halts : Halt → Type 0
-      Halts halt = HaltsIn talk Lacks (entry ∷ []) (held_by old h0) (held_by new h1) halt
+      Halts halt = HaltsIn talk Lacks (entry ∷ []) old (held_by new h1) halt
 
       space_still : w.left ≡ [] → Halts Space → HaltsIn talk Lacks (entry ∷ []) old new Space
       space_still none h = record { stops = found_still none h.stops; reads = h.reads }
 
       flash_still : Halts Flash → HaltsIn talk Lacks (entry ∷ []) old new Flash
       flash_still h = record {
-        stops = part_of_part old.held new.held h1 (output talk old.database (entry ∷ [])) w (subst (λ k. WrotePart k h1 (output talk old.database (entry ∷ []))) is_old h.stops);
+        stops = part_of_part old.held new.held h1 (output talk old.database (entry ∷ [])) w h.stops;
         reads = h.reads;
       }
 
       sink_still : Halts Sink → HaltsIn talk Lacks (entry ∷ []) old new Sink
       sink_still h = record { stops = ⊎_elim (λ s. inl (less_still s)) (λ s. inr (unsaid_still s)) h.stops; reads = h.reads }
 
-      fails_now : (answered : Result ⊤ Halt) → answered ≢ Err Flash → 0 < length w.left
-          → OnOk answered (Carried talk (entry ∷ []) (held_by old h0) (held_by new h1)) → IfErr answered Halts → HaltsIn talk Lacks (entry ∷ []) old new Sink
-      fails_now (Ok done) fine left c h = record { stops = inl (less_went left c); reads = c.reads }
-      fails_now (Err Space) fine left c h = record { stops = inr (unsaid_now left h.stops); reads = h.reads }
-      fails_now (Err Flash) fine left c h = absurd (fine refl)
-      fails_now (Err Sink) fine left c h = sink_still h
+      sink_now : 0 < length w.left → Carried talk (entry ∷ []) old (held_by new h1) → HaltsIn talk Lacks (entry ∷ []) old new Sink
+      sink_now left c = record { stops = inl (less_went left c); reads = c.reads }
 
--- ---- where commands are read in some way
+      space_now : 0 < length w.left → Halts Space → HaltsIn talk Lacks (entry ∷ []) old new Sink
+      space_now left h = record { stops = inr (unsaid_now left h.stops); reads = h.reads }
 
-at_ok : {R : Type 0} (Good Says : R → Type 0) (answered : Result ⊤ Halt) → OnOk answered ((read : R) → Good read → Says read) → (read : R) → Good read → OnOk answered (Says read)
-at_ok Good Says (Ok done) says read good = says read good
-at_ok Good Says (Err halt) says read good = tt
+-- ---- a session that takes an input
 
-at_err : {R : Type 0} (Good : R → Type 0) (Says : R → Halt → Type 0) (answered : Result ⊤ Halt) → IfErr answered (λ halt. (read : R) → Good read → Says read halt) → (read : R) → Good read → IfErr answered (Says read)
-at_err Good Says (Ok done) says read good = tt
-at_err Good Says (Err halt) says read good = says read good
+rose_on : (a b c : ℕ) → Rose a b → b ≤ c → Rose a c
+rose_on a b c rose low = omega (arith, low, rose)
 
-module _ {E : Type 0} (talk : (List ℕ → Result Command Refusal) → Talk E) (some : (read : List ℕ → Result Command Refusal) (entry : E) (reply : Reply) → 0 < length ((talk read).sent entry (text reply))) (entry : E) (old new : Standing) (h0 h1 : Option (List ℕ)) (is_old : h0 ≡ old.held) (answered : Result ⊤ Halt) where
-  pub sent_carried : OnOk answered ((read : List ℕ → Result Command Refusal) → IsReader read → Carried (talk read) (entry ∷ []) (held_by old h0) (held_by new h1))
-      → (done : ⊤) → answered ≡ Ok done → h1 ≡ new.held
-      → (read : List ℕ → Result Command Refusal) → IsReader read → Carried (talk read) (entry ∷ []) old new
-  sent_carried carried done e is_new read reader =
-      all_carried (talk read) (some read) entry old new h0 h1 is_old is_new ((rw e at carried) read reader)
+rose_later : (a b c : ℕ) → a ≤ b → Rose b c → Rose a c
+rose_later a b c low rose = omega (arith, low, rose)
 
-  module _ (Lacks : Command → ℕ → Type 0) (w : WroteFront old.held new.held h1) (faults faults_now : ℕ) where
-    pub sent_halts : OnOk answered ((read : List ℕ → Result Command Refusal) → IsReader read → Carried (talk read) (entry ∷ []) (held_by old h0) (held_by new h1))
-        → IfErr answered (λ halt. (read : List ℕ → Result Command Refusal) → IsReader read → HaltsIn (talk read) Lacks (entry ∷ []) (held_by old h0) (held_by new h1) halt)
-        → (halt : Halt) → Sent answered faults faults_now w.left (Err halt)
-        → (read : List ℕ → Result Command Refusal) → IsReader read → HaltsIn (talk read) Lacks (entry ∷ []) old new halt
-    sent_halts carried halts Space sent read reader =
-        space_still (talk read) (some read) entry old new h0 h1 is_old w Lacks sent.1 ((rw sent.0 at halts) read reader)
-    sent_halts carried halts Flash sent read reader =
-        flash_still (talk read) (some read) entry old new h0 h1 is_old w Lacks ((rw sent at halts) read reader)
-    sent_halts carried halts Sink sent read reader = ⊎_elim
-        (λ e. sink_still (talk read) (some read) entry old new h0 h1 is_old w Lacks ((rw e at halts) read reader))
-        (λ f. fails_now (talk read) (some read) entry old new h0 h1 is_old w Lacks answered f.fine f.some
-        (at_ok IsReader (λ r. Carried (talk r) (entry ∷ []) (held_by old h0) (held_by new h1)) answered carried read reader)
-        (at_err IsReader (λ r halt. HaltsIn (talk r) Lacks (entry ∷ []) (held_by old h0) (held_by new h1) halt) answered halts read reader))
-        sent
+true_false : (t : Bool) → t ≡ false → t ≡ true → ⊥
+true_false t e f = let n : false ≡ true = sym e ∙ f in cc
+
+sink_flash : Sink ≡ Flash → ⊥
+sink_flash e = cc
+
+space_flash : Space ≡ Flash → ⊥
+space_flash e = cc
+
+ok_err : (done : ⊤) (halt : Halt) → Ok done ≡ Err halt → ⊥
+ok_err done halt e = cc
+
+on_ok : {A B : Type 0} (answered : Result ⊤ Halt) → (A → B) → OnOk answered A → OnOk answered B
+on_ok (Ok done) f says = f says
+on_ok (Err halt) f says = tt
+
+module _ {E Q P V : Type 0} (input : Input E Q P) (files : Saying V)
+    (some : (read : List ℕ → Result Command Refusal) (entry : E) (reply : Reply) → 0 < length ((input.talk read).sent entry (text reply)))
+    (a b : Running V P) (held : Option (List ℕ)) (replies : ℕ) where
+  -- the session, and what the sink behind has of the reply
+  abbrev now : Running V P
+  now = running b.session b.part held replies
+
+  abbrev old : Standing
+  old = standing_of files.state files.reads a.session a.held
+
+  abbrev new : Standing
+  new = standing_of files.state files.reads b.session held
+
+  abbrev Lacks : Command → ℕ → Type 0
+  Lacks = LacksPages files.state files.asks files.lacks b.session
+
+  module _ (entries : Q → List E) (one : HasOne input a.part entries) (w : WroteFront a.held held b.held) (later : b.replies ≤ replies) where
+    on_now : GoesOn input files a b → GoesOn input files a now
+    on_now on = record { faults = on.faults; replies = omega (arith, on.replies, later); store = on.store }
+
+    told_now : (halt halt_now : Halt)
+        → ((read : List ℕ → Result Command Refusal) (entry : E) → HaltsIn (input.talk read) Lacks (entry ∷ []) old (held_by new b.held) halt → HaltsIn (input.talk read) Lacks (entry ∷ []) old new halt_now)
+        → HaltsWithin input files a b entries halt → a.session.stopped ≡ false → Told input files a (λ talk q. HaltsIn talk Lacks (entries q) old new halt_now)
+    told_now halt halt_now f h = λ going told read reader q k.
+        let entry = (one q k).0 in
+        let is : entries q ≡ entry ∷ [] = (one q k).1 in
+        subst (λ (es : List E). HaltsIn (input.talk read) Lacks es old new halt_now) (sym is)
+        (f read entry (subst (λ (es : List E). HaltsIn (input.talk read) Lacks es old (held_by new b.held) halt) is (h.halts going told read reader q k)))
+
+    still : (halt : Halt)
+        → ((read : List ℕ → Result Command Refusal) (entry : E) → HaltsIn (input.talk read) Lacks (entry ∷ []) old (held_by new b.held) halt → HaltsIn (input.talk read) Lacks (entry ∷ []) old new halt)
+        → HaltsWithin input files a b entries halt → HaltsWithin input files a now entries halt
+    still halt f h = record {
+      kept = h.kept;
+      flash = h.flash;
+      sink = λ going is. rose_on a.replies b.replies replies (h.sink going is) later;
+      halts = told_now halt halt f h;
+      on = on_now h.on;
+    }
+
+    still_sink : HaltsWithin input files a b entries Sink → HaltsWithin input files a now entries Sink
+    still_sink h = still Sink (λ read entry. sink_still (input.talk read) (some read) entry old new b.held w Lacks) h
+
+    fails_now : (answered : Result ⊤ Halt) → FailsNow answered b.replies replies w.left → OnOk answered (Carries input files a b entries)
+        → IfErr answered (λ halt. HaltsWithin input files a b entries halt) → HaltsWithin input files a now entries Sink
+    fails_now (Ok done) fails c h = record {
+      kept = λ going kept lost. absurd (true_false b.session.lost (c.kept going kept) lost);
+      flash = λ going is. absurd (sink_flash is);
+      sink = λ going is. rose_later a.replies b.replies replies c.on.replies fails.rose;
+      halts = λ going told read reader q k.
+          let entry = (one q k).0 in
+          let is : entries q ≡ entry ∷ [] = (one q k).1 in
+          subst (λ (es : List E). HaltsIn (input.talk read) Lacks es old new Sink) (sym is)
+          (sink_now (input.talk read) (some read) entry old new b.held w Lacks fails.some
+          (subst (λ (es : List E). Carried (input.talk read) es old (held_by new b.held)) is (c.carried going told read reader q k)));
+      on = on_now c.on;
+    }
+    fails_now (Err Space) fails c h = record {
+      kept = λ going kept lost. absurd (space_flash (h.kept going kept lost));
+      flash = λ going is. absurd (sink_flash is);
+      sink = λ going is. rose_later a.replies b.replies replies h.on.replies fails.rose;
+      halts = told_now Space Sink (λ read entry. space_now (input.talk read) (some read) entry old new b.held w Lacks fails.some) h;
+      on = on_now h.on;
+    }
+    fails_now (Err Flash) fails c h = absurd (fails.fine refl)
+    fails_now (Err Sink) fails c h = still_sink h
+
+    pub sent_reply : (answered : Result ⊤ Halt) (halt : Halt) → OnOk answered (Carries input files a b entries)
+        → IfErr answered (λ h. HaltsWithin input files a b entries h) → Sent answered b.replies replies w.left (Err halt) → HaltsWithin input files a now entries halt
+    sent_reply answered Space c h sent = still Space (λ read entry. space_still (input.talk read) (some read) entry old new b.held w Lacks sent.1) (rw sent.0 at h)
+    sent_reply answered Flash c h sent = still Flash (λ read entry. flash_still (input.talk read) (some read) entry old new b.held w Lacks) (rw sent at h)
+    sent_reply answered Sink c h (inl same) = still_sink (rw same at h)
+    sent_reply answered Sink c h (inr fails) = fails_now answered fails c h
+
+  -- the reply to what a byte ends
+  pub sent_behind : (came : List ℕ) (answered : Result ⊤ Halt) (halt : Halt) → HasOne input a.part (λ q. input.cut.ended q came)
+      → OnOk answered (TakesBytes input files a came b) → IfErr answered (λ h. HaltsInBytes input files a came b h)
+      → (w : WroteFront a.held held b.held) → b.replies ≤ replies → Sent answered b.replies replies w.left (Err halt) → HaltsInBytes input files a came now halt
+  sent_behind came answered halt one takes h w later sent =
+      sent_reply (λ q. input.cut.ended q came) one w later answered halt (on_ok answered (λ t. t.carries) takes) h sent

@@ -13,11 +13,11 @@ use Rattle.db_model.specs.Database.{Database}
 use Rattle.db_model.specs.ReplyText.{refusal_text, text}
 use Rattle.db_model.specs.Step.{Reads, Refused, Reply, outcome, step}
 use Rattle.db_model.proofs.ReplyTexts.{text_refused}
+use Rattle.reply_text.proofs.Pieces.{append_known-nil}
 use Rattle.reply_text.specs.WroteLess.{WroteLess}
 use Rattle.run_model.specs.Talk.{OnlyReads, Talk, after, aheads_answered, answered, cost_answered, costs}
 use Rattle.answering.specs.Carried.{Carried, HaltsIn, SaidLess, Standing, Stopped, no_space}
 use Rattle.answering.proofs.Accepted.{accepted}
-use Rattle.answering.proofs.Composed.{known_none}
 
 -- ---- an entry that asks for a command: its reply and its cost
 
@@ -71,7 +71,7 @@ module _ {E : Type 0} (talk : Talk E) (entry : E) (a b : Standing) (tells : b.te
       split = refl;
       tells = tells;
       before = a.held;
-      front_is = known_none a.held;
+      front_is = sym (append_known-nil a.held);
       held = subst (λ (bytes : List ℕ). WroteLess a.held b.held bytes) (sym refused_sent) less;
       database = database ∙ sym (ap (λ (d : Database × Reply). d.0) refused_is);
     }
@@ -101,7 +101,7 @@ module _ {E : Type 0} (talk : Talk E) (entry : E) (a b : Standing) (tells : b.te
       split = refl;
       tells = tells;
       before = a.held;
-      front_is = known_none a.held;
+      front_is = sym (append_known-nil a.held);
       held = subst (λ (t : List ℕ). WroteLess a.held b.held t) (sym (sent_is talk entry a b c is)) less;
       database = database ∙ sym (ap (λ (d : Database × Reply). d.0) (steps talk entry a b c is));
     }
@@ -137,7 +137,7 @@ module _ {E : Type 0} (talk : Talk E) (entry : E) (a b : Standing) (tells : b.te
           stops = inr (record {
             stopped = command_stopped;
             before = before;
-            front_is = same ∙ known_none a.held;
+            front_is = same ∙ sym (append_known-nil a.held);
             held = held;
           });
           reads = command_reads talk entry a b c is reads;

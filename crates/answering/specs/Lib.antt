@@ -1,4 +1,3 @@
 pub mod Carried
-pub mod Sent
 pub mod Taking
 pub mod Went

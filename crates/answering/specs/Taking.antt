@@ -1,5 +1,5 @@
 -- What a session makes of the bytes of an input as they come.
-use Rattle.std.specs.Prelude.{◌≡◌, ℕ, ◌≤◌, true, false, List, length, Option, IsTrue, Result}
+use Rattle.std.specs.Prelude.{◌≡◌, ℕ, ◌≤◌, true, false, List, [], ◌∷◌, length, Option, IsTrue, Result}
 use Rattle.afl_base.specs.Causes.{Rose}
 use Rattle.afl_base.specs.Files.{State}
 use Rattle.antelope_engine.specs.Seen.{Seen}
@@ -28,6 +28,10 @@ pub record Input (E Q P : Type 0) : Type 1 where
   pub talk : (List ℕ → Result Command Refusal) → Talk E
   pub cut : Cut E Q
   pub Keeps : Q → P → Type 0
+
+-- whatever is begun, one entry comes
+abbrev pub HasOne : {E Q P : Type 0} → Input E Q P → P → (Q → List E) → Type 0
+HasOne {E = E} {Q = Q} input part entries = (q : Q) → input.Keeps q part → (entry : E) × (entries q ≡ entry ∷ [])
 
 -- what is said of files
 pub record Saying (V : Type 0) : Type 1 where

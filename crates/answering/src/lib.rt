@@ -2,7 +2,5 @@
 #![tactic(auto)]
 
 mod laws;
-mod sending;
 
 pub use laws::accepted_commands_are_answered;
-pub use sending::send;

@@ -12,7 +12,7 @@ use Rattle.db_model.specs.Database.{Database}
 use Rattle.db_model.specs.ReplyText.{text}
 use Rattle.db_model.specs.Step.{Reply, after_all, outcome, replies, step}
 use Rattle.reply_text.specs.WroteLess.{WroteLess}
-use Rattle.reply_text.proofs.Pieces.{append_known-twice}
+use Rattle.reply_text.proofs.Pieces.{append_known-nil, append_known-twice}
 use Rattle.session_model.specs.declared.step.Outcome.{Outcome}
 use Rattle.session_model.specs.declared.step.Step.{Step}
 use Rattle.session_model.specs.declared.step.Step.TheVariants.{Done}
@@ -23,7 +23,6 @@ use Rattle.antelope_engine.specs.declared.list.Halt.{Halt}
 use Rattle.antelope_engine.specs.declared.list.Halt.TheVariants.{NoSpace, Stopped}
 use Rattle.antelope_engine.specs.Lists.{CameTo, CarriedOut, HasListCause, aheads_after_all, costs_of, texts}
 use Rattle.antelope_engine.specs.Seen.{Seen}
-use Rattle.antelope_engine.proofs.Replies.{append_none}
 
 -- ---- one list behind another
 
@@ -121,7 +120,7 @@ costs_within front a b h i so_far xs n c below is same before now later bound mo
     omega (arith, next, sum, all)
 
 pub carried_none : {V : Type 0} (a : Seen V) (h : Option (List ℕ)) → CarriedOut [] a a h h
-carried_none a h = record { database = refl; aheads = refl; written = append_none h }
+carried_none a h = record { database = refl; aheads = refl; written = sym (append_known-nil h) }
 
 -- ---- causes
 

@@ -1,23 +1,19 @@
 -- Replies: none of an answer that is not NoSpace says that there was no space.
 use Rattle.std.proofs.Common.{◌≡◌, ◌≢◌, ℕ, List, [], Option, Some, None, Ok, Err, refl, ap, sym, ◌∙◌, arith, rules}
 use Rattle.std.specs.Io.KnownBytes.{append_known}
-use Rattle.std.proofs.lemmas.List.{append-nil}
 use Rattle.afl_base.specs.declared.failed.Failed.{Failed}
 use Rattle.db_model.specs.declared.refusals.Refusal.{Refusal}
 use Rattle.db_model.specs.Database.{Database, empty_database}
 use Rattle.db_model.specs.Step.{Fine, Removed}
+use Rattle.reply_text.proofs.Pieces.{append_known-nil}
 use Rattle.session_model.specs.declared.answer.Answer.{Answer}
 use Rattle.session_model.specs.declared.answer.Answer.TheVariants as answer
 use Rattle.session_model.specs.declared.step.Step.TheVariants.{NoSpace}
 use Rattle.session_model.specs.Answers.{Changed, OnNoSpace}
 use Rattle.session_model.specs.Steps.{Does, Made, WrotePart, answer_of}
 
-pub append_none : (k : Option (List ℕ)) → k ≡ append_known k []
-append_none None = refl
-append_none (Some bs) = ap (λ t. Some t) (sym (append-nil bs))
-
 pub part_same : (before now : Option (List ℕ)) (all : List ℕ) → now ≡ before → WrotePart before now all
-part_same before now all e = record { written = []; left = all; whole = refl; held = e ∙ append_none before }
+part_same before now all e = record { written = []; left = all; whole = refl; held = e ∙ sym (append_known-nil before) }
 
 -- a refusal, or none, is no answer of space
 pub refused_fits : (refused : Option Refusal) (P : ℕ → Type 0) → OnNoSpace {E = Failed} (Ok (answer_of refused)) P

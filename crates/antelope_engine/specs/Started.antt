@@ -26,6 +26,12 @@ abbrev pub OnFailed : {V : Type 0} → StartError V → Type 0 → Type 0
 OnFailed (Bad broken files) P = ⊤
 OnFailed (Failed files) P = P
 
+-- P, where no database was opened
+abbrev pub UnlessBegun : {T E F : Type 0} → Result (Result T E) F → Type 0 → Type 0
+UnlessBegun (Ok (Ok done)) P = ⊤
+UnlessBegun (Ok (Err broken)) P = P
+UnlessBegun (Err failed) P = P
+
 -- the count never falls, and the files could not be read only where it rose
 pub record HasStartCause {V : Type 0} (before now : ℕ) (result : Result (Seen V) (StartError V)) : Type 0 where
   pub later : before ≤ now

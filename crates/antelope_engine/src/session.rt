@@ -21,7 +21,7 @@ ghost use Rattle.stored.specs.Base.{base_of};
 ghost use Rattle.stored.specs.Sound.{BreaksFirst, IsSoundTable};
 ghost use Rattle.db_model.specs.Database.{bare};
 ghost use Rattle.antelope_engine.specs.Seen.{OnNoSpace, is_flash};
-ghost use Rattle.antelope_engine.specs.Started.{HasStartCause, OnBad, files_after, files_of};
+ghost use Rattle.antelope_engine.specs.Started.{HasStartCause, OnBad, UnlessBegun, files_after, files_of};
 
 use crate::executing::carry_out;
 use crate::start_error::StartError;
@@ -138,6 +138,7 @@ impl<V: Files> Session<V> {
             BreaksFirst (V.state self.old.files).files broken.rule broken.place)) }
         ensures same { OnOk result (V.state self.new.files ≡ V.state self.old.files) }
         ensures running { IfOk result (λ r. OnOk r ((self.new.stopped ≡ false) × (self.new.lost ≡ false))) }
+        ensures stopped { UnlessBegun result (self.new.stopped ≡ true) }
         ensures aheads { IfOk result (λ r. OnOk r (self.new.aheads ≡ no_cursors)) }
         ensures reads { let base = base_of (V.state self.old.files).files in
             IsTrue (V.state self.old.files).tells → V.reads self.new.files ≤ V.reads self.old.files

@@ -9,11 +9,11 @@ use Rattle.db_model.specs.ReplyText.{text}
 use Rattle.intake.specs.declared.halt.Halt.TheVariants.{Space, Flash, Sink}
 use Rattle.intake.specs.declared.halt.Stop.{Stop}
 use Rattle.intake.specs.declared.halt.Stop.TheVariants.{Input, Long, Halted}
+use Rattle.reply_text.proofs.Pieces.{append_known-twice}
 use Rattle.reply_text.specs.WroteLess.{WroteLess}
 use Rattle.sound_image.specs.Images.{base}
 use Rattle.answering.specs.Carried.{Carried, FoundNone, SaidLess, SaidNone, Standing, Stopped, no_space}
 use Rattle.answering.specs.Went.{TookAll, TookLimit, TookSome, Went, WentNoFurther}
-use Rattle.answering.proofs.Composed.{known_twice}
 use Rattle.run_model.specs.Line.{Line}
 use Rattle.run_model.specs.Runs.{CarriedOut, FoundNoSpace, InputCutOff, InputEnded, InputFaulted, InputFoundNoSpace, InputTooLong, InputUnsaid, ReplyUnsaid, SpaceUnsaid, StopsAt, World, WrotePart, WroteWithin, machine_from, world}
 use Rattle.run_model.specs.Talk.{Talk, after, last, output}
@@ -28,7 +28,7 @@ wrote_within least all whole old before now is w split = record {
   rest = w.left;
   some = w.some;
   split = split ∙ ap (λ t. least ++ t) w.whole ∙ sym (append_assoc least w.written w.left);
-  held = w.held ∙ ap (λ h. append_known h w.written) is ∙ known_twice old least w.written;
+  held = w.held ∙ ap (λ h. append_known h w.written) is ∙ append_known-twice old least w.written;
 }
 
 module _ {E : Type 0} (talk : Talk E) (a b : Standing) (image image_now : List ℕ) (left left_now : Option (List ℕ)) where

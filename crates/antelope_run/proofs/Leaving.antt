@@ -1,5 +1,5 @@
 -- From what a session did to what a run leaves behind, by the form of its words.
-use Rattle.std.proofs.Common.{◌≡◌, ◌≢◌, ◌⊎◌, inl, inr, ℕ, ◌/◌, List, [], ◌++◌, length, Option, Some, refl, ap, subst, ◌∙◌}
+use Rattle.std.proofs.Common.{◌≡◌, ◌≢◌, ◌⊎◌, inl, inr, ℕ, ◌/◌, List, [], ◌++◌, length, Option, Some, refl, ap, subst, sym, ◌∙◌}
 use Rattle.std.specs.Prelude.{⊤, IsTrue, Result, Ok, Err}
 use Rattle.std.specs.Io.KnownBytes.{append_known}
 use Rattle.db_model.specs.declared.commands.Command.{Command}
@@ -11,11 +11,11 @@ use Rattle.dump_model.specs.Script.{script}
 use Rattle.intake.specs.declared.halt.Halt.TheVariants.{Space, Flash, Sink}
 use Rattle.intake.specs.declared.halt.Stop.{Stop}
 use Rattle.intake.specs.declared.halt.Stop.TheVariants.{Input, Long, Halted}
+use Rattle.reply_text.proofs.Pieces.{append_known-nil}
 use Rattle.reply_text.specs.WroteLess.{WroteLess}
 use Rattle.sound_image.specs.Images.{base}
 use Rattle.answering.specs.Carried.{Standing}
 use Rattle.answering.specs.Went.{Went}
-use Rattle.answering.proofs.Composed.{known_none}
 use Rattle.run_model.specs.Line.{Line}
 use Rattle.run_model.specs.Runs.{CarriedOut, FoundNoSpace, InputCutOff, InputEnded, InputFaulted, InputFoundNoSpace, InputTooLong, InputUnsaid, SpaceUnsaid, StandsAfter, StopsAt, World, WroteWithin, world}
 use Rattle.run_model.specs.Talk.{Talk}
@@ -89,7 +89,7 @@ module _ (a b : Standing) (image image_now : List ℕ) (before now : Option (Lis
   -- ---- generated commands
 
   less_of : (all : List ℕ) → WroteLess a.held b.held all → WroteWithin [] all a.held b.held
-  less_of all w = wrote_within [] all all a.held a.held b.held (known_none a.held) w refl
+  less_of all w = wrote_within [] all all a.held a.held b.held (sym (append_known-nil a.held)) w refl
 
   module _ (commands : List Command) (back : HandsBack b.database Lacks image_now) where
     all_made : sums.SummedUp commands a.database b.database a.held b.held → CarriedOut (summed_from a.database) commands Old New

@@ -3,8 +3,8 @@ use Rattle.std.proofs.Common.{◌≡◌, ◌⊎◌, inl, inr, ℕ, [], refl, sub
 use Rattle.std.specs.Prelude.{⊤, Result}
 use Rattle.std.specs.Io.KnownBytes.{append_known}
 use Rattle.afl_base.specs.Causes.{Rose}
-use Rattle.answering.proofs.Composed.{known_none}
 use Rattle.intake.specs.declared.halt.Stop.{Stop}
+use Rattle.reply_text.proofs.Pieces.{append_known-nil}
 use Rattle.reply_text.specs.WroteLess.{WroteLess}
 use Rattle.run_model.specs.Runs.{World, image_line}
 use Rattle.sound_image.specs.Images.{IsFirstBroken}
@@ -29,7 +29,7 @@ module _ (came : Came) where
         place = place;
         first = first;
         same = same;
-        written = wrote_within [] (image_line rule place) (image_line rule place) old.held old.held new.held (known_none old.held) (less e) refl;
+        written = wrote_within [] (image_line rule place) (image_line rule place) old.held old.held new.held (sym (append_known-nil old.held)) (less e) refl;
       })
 
   pub none_opened : (P : Result ⊤ Stop → Type 0) → IsUnopened → OnOpened came P

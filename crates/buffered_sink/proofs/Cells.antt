@@ -4,8 +4,8 @@ use Rattle.std.proofs.lemmas.List.{drop-append-le, drop-drop, take-append-drop}
 use Rattle.std.proofs.lemmas.Slice.{between_is, take-put_mid}
 use Rattle.std.specs.Io.KnownBytes.{append_known}
 use Rattle.std.specs.List.{slice_range}
-use Rattle.buffered_sink.specs.Growing.{append_twice}
 use Rattle.buffered_sink.specs.Handing.{Hands}
+use Rattle.reply_text.proofs.Pieces.{append_known-twice}
 use borrow.Rule.Slice.PartMut.{put_mid}
 
 -- more were put behind them
@@ -23,5 +23,5 @@ pub hands_more : (h0 h1 h2 : Option (List ℕ)) (waited waits rest : List ℕ) (
 hands_more h0 h1 h2 waited waits rest n h e r = record {
   went = h.went ++ take n waits;
   split = h.split ∙ ap (λ ws. h.went ++ ws) (sym (take-append-drop n waits)) ∙ sym (append_assoc h.went (take n waits) (drop n waits)) ∙ ap (λ zs. (h.went ++ take n waits) ++ zs) (sym r);
-  held = e ∙ ap (λ g. append_known g (take n waits)) h.held ∙ append_twice h0 h.went (take n waits);
+  held = e ∙ ap (λ g. append_known g (take n waits)) h.held ∙ append_known-twice h0 h.went (take n waits);
 }

@@ -2,8 +2,8 @@
 use Rattle.std.proofs.Common.{◌≡◌, ℕ, ◌<◌, List, [], ◌++◌, length, Option, Some, None, refl, ap, subst, sym, ◌∙◌, append_assoc, arith, length-append}
 use Rattle.std.proofs.lemmas.List.{append-nil, append_cancel_left}
 use Rattle.std.specs.Io.KnownBytes.{append_known}
-use Rattle.buffered_sink.specs.Growing.{append_none, append_twice}
 use Rattle.buffered_sink.specs.Handing.{Grew, Hands, WroteFront}
+use Rattle.reply_text.proofs.Pieces.{append_known-nil, append_known-twice}
 use Rattle.reply_text.specs.WroteLess.{WroteLess}
 
 -- nothing more was handed on
@@ -15,8 +15,8 @@ abbrev pub front_sent : (h0 h1 h2 : Option (List ℕ)) (waited waits : List ℕ)
 front_sent h0 h1 h2 waited waits g h = record {
   written = g.more ++ h.went;
   left = waits;
-  held = h.held ∙ ap (λ k. append_known k h.went) g.held ∙ append_twice h0 g.more h.went;
-  whole = ap (append_known h1) h.split ∙ sym (append_twice h1 h.went waits) ∙ ap (λ k. append_known k waits) (sym h.held);
+  held = h.held ∙ ap (λ k. append_known k h.went) g.held ∙ append_known-twice h0 g.more h.went;
+  whole = ap (append_known h1) h.split ∙ sym (append_known-twice h1 h.went waits) ∙ ap (λ k. append_known k waits) (sym h.held);
 }
 
 -- and it took all
@@ -25,7 +25,7 @@ all_sent h1 h2 waited waits e h =
     h.held ∙ ap (append_known h1) (sym (h.split ∙ ap (λ ws. h.went ++ ws) e ∙ append-nil h.went))
 
 pub none_left : (h0 h2 wanted : Option (List ℕ)) → (w : WroteFront h0 h2 wanted) → w.left ≡ [] → wanted ≡ h2
-none_left h0 h2 wanted w e = w.whole ∙ ap (append_known h2) e ∙ append_none h2
+none_left h0 h2 wanted w e = w.whole ∙ ap (append_known h2) e ∙ append_known-nil h2
 
 some_same : (xs ys : List ℕ) → Some xs ≡ Some ys → xs ≡ ys
 some_same xs ys e = cc
@@ -81,10 +81,10 @@ less_of_less h0 h2 wanted all w l =
 -- it was not gathered whole
 pub less_unsent : (h0 h1 : Option (List ℕ)) (none waits all : List ℕ) → none ≡ [] → Grew h0 h1 → WroteLess (append_known h0 none) (append_known h1 waits) all → WroteLess h0 h1 all
 less_unsent h0 h1 none waits all e g l =
-    less_of_less h0 h1 (append_known h1 waits) all (front_unsent h0 h1 waits g) (subst (λ h. WroteLess h (append_known h1 waits) all) (ap (append_known h0) e ∙ append_none h0) l)
+    less_of_less h0 h1 (append_known h1 waits) all (front_unsent h0 h1 waits g) (subst (λ h. WroteLess h (append_known h1 waits) all) (ap (append_known h0) e ∙ append_known-nil h0) l)
 
 -- it was gathered whole, and not handed on whole
 pub less_sent : (h0 h1 h2 : Option (List ℕ)) (none waited waits all : List ℕ) → none ≡ [] → Grew h0 h1 → Hands h1 h2 waited waits → 0 < length waits
     → append_known h1 waited ≡ append_known (append_known h0 none) all → 0 < length all → WroteLess h0 h2 all
 less_sent h0 h1 h2 none waited waits all e g h left is some =
-    less_of_all h0 h2 (append_known h1 waited) all (front_sent h0 h1 h2 waited waits g h) (is ∙ ap (λ k. append_known k all) (ap (append_known h0) e ∙ append_none h0)) left some
+    less_of_all h0 h2 (append_known h1 waited) all (front_sent h0 h1 h2 waited waits g h) (is ∙ ap (λ k. append_known k all) (ap (append_known h0) e ∙ append_known-nil h0)) left some

@@ -3,8 +3,8 @@ use Rattle.std.proofs.Common.{◌≡◌, ℕ, ◌<◌, List, [], ◌∷◌, ◌+
 use Rattle.std.specs.Prelude.{flat_map}
 use Rattle.std.specs.Io.KnownBytes.{append_known}
 use Rattle.buffered_sink.proofs.Fronts.{front_part}
-use Rattle.buffered_sink.specs.Growing.{append_none}
 use Rattle.buffered_sink.specs.Handing.{WroteFront}
+use Rattle.reply_text.proofs.Pieces.{append_known-nil}
 use Rattle.session_model.specs.Steps.{WrotePart}
 use Rattle.antelope_engine.specs.Reading.{relation_at, schema_at}
 use Rattle.db_model.specs.declared.commands.Command.{Command}
@@ -19,7 +19,7 @@ use Rattle.space_model.specs.Enough.{rows_in}
 -- a part of a part
 pub part_of_part : (h0 h2 wanted : Option (List ℕ)) (none all : List ℕ) → none ≡ [] → WroteFront h0 h2 wanted → WrotePart (append_known h0 none) wanted all → WrotePart h0 h2 all
 part_of_part h0 h2 wanted none all e w l =
-    let p = front_part h0 h2 wanted l.written w (l.held ∙ ap (λ k. append_known k l.written) (ap (append_known h0) e ∙ append_none h0)) in
+    let p = front_part h0 h2 wanted l.written w (l.held ∙ ap (λ k. append_known k l.written) (ap (append_known h0) e ∙ append_known-nil h0)) in
     record {
       written = p.written;
       left = p.left ++ l.left;

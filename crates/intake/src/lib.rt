@@ -2,6 +2,7 @@
 #![tactic(auto)]
 
 mod halt;
+mod sending;
 mod taker;
 mod through;
 

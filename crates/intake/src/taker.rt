@@ -8,8 +8,10 @@ use afl_base::Sink;
 /// What takes the bytes of an input one by one, carries out what they ask for, and writes the
 /// replies.
 pub trait Taker {
-    ghost use Rattle.std.specs.Prelude.{◌≡◌, ℕ, List, [], ◌∷◌, ◌++◌, OnOk, IfErr};
+    ghost use Rattle.std.specs.Prelude.{◌≡◌, ◌⊎◌, ⊤, ℕ, ◌≤◌, List, [], ◌∷◌, ◌++◌, Result, Err, OnOk, IfErr};
+    ghost use Rattle.buffered_sink.specs.Handing.{WroteFront};
     ghost use Rattle.intake.specs.declared.halt.Halt.{Halt};
+    ghost use Rattle.intake.specs.Sent.{Sent};
     ghost use Rattle.intake.specs.Through.{Out, out_of};
 
     // These bytes were taken, and what they end was carried out.
@@ -20,6 +22,10 @@ pub trait Taker {
     ghost Halts: { Self × Out → List ℕ → Self × Out → Halt → Type 0 };
     // It went no further in what was left at the end.
     ghost HaltsAtEnd: { Self × Out → Self × Out → Halt → Type 0 };
+    // This byte ends one entry, and so has a reply.
+    ghost HasReply: { Self → ℕ → Type 0 };
+    // What is left at the end is one entry.
+    ghost HasReplyAtEnd: { Self → Type 0 };
     // What no call changes.
     ghost stays: { Self → Self → Type 0 };
 
@@ -30,6 +36,7 @@ pub trait Taker {
         ensures halts { IfErr result (λ halt.
             Halts (self.old, out_of (K.held out.old) (K.faults out.old)) (byte ∷ [])
             (self.new, out_of (K.held out.new) (K.faults out.new)) halt) }
+        ensures silent { (out.new ≡ out.old) ⊎ HasReply self.old byte }
         ensures stays { stays self.old self.new }
         ensures keeps { K.keeps out.old out.new };
 
@@ -40,6 +47,7 @@ pub trait Taker {
         ensures halts { IfErr result (λ halt.
             HaltsAtEnd (self.old, out_of (K.held out.old) (K.faults out.old))
             (self.new, out_of (K.held out.new) (K.faults out.new)) halt) }
+        ensures silent { (out.new ≡ out.old) ⊎ HasReplyAtEnd self.old }
         ensures stays { stays self.old self.new }
         ensures keeps { K.keeps out.old out.new };
 
@@ -58,4 +66,16 @@ pub trait Taker {
 
     ghost halts_before: { (a b : Self × Out) (xs ys : List ℕ) (halt : Halt)
         → Halts a xs b halt → Halts a (xs ++ ys) b halt };
+
+    // Where the sink took a front part of a reply, it went no further than this reply.
+    ghost sent: { (a b : Self × Out) (now : Out) (byte : ℕ) (answered : Result ⊤ Halt) (halt : Halt)
+        → HasReply a.0 byte → OnOk answered (Takes a (byte ∷ []) b)
+        → IfErr answered (λ halt. Halts a (byte ∷ []) b halt)
+        → (went : WroteFront a.1.held now.held b.1.held) → b.1.faults ≤ now.faults
+        → Sent answered b.1.faults now.faults went.left (Err halt) → Halts a (byte ∷ []) (b.0, now) halt };
+
+    ghost sent_at_end: { (a b : Self × Out) (now : Out) (answered : Result ⊤ Halt) (halt : Halt)
+        → HasReplyAtEnd a.0 → OnOk answered (Ends a b) → IfErr answered (λ halt. HaltsAtEnd a b halt)
+        → (went : WroteFront a.1.held now.held b.1.held) → b.1.faults ≤ now.faults
+        → Sent answered b.1.faults now.faults went.left (Err halt) → HaltsAtEnd a (b.0, now) halt };
 }

@@ -2,30 +2,88 @@
 
 #![tactic(auto)]
 
-ghost use Rattle.std.specs.Prelude.{◌≡◌, ℕ, ◌≤◌, List, [], length, take, IfOk, OnOk, IfErr, OnErr, Err};
+ghost use Rattle.std.specs.Prelude.{◌≡◌, ℕ, ◌≤◌, List, [], ◌∷◌, length, take, IfOk, OnOk, IfErr, OnErr, Err};
 ghost use Rattle.std.specs.Io.KnownBytes.{prepend_known, IsAtEnd};
 ghost use Rattle.afl_base.specs.Causes.{HasCause, Rose};
 ghost use Rattle.intake.specs.Through.{Through, out_of};
 
 use crate::halt::{Halt, Stop};
+use crate::sending::send;
 use crate::taker::Taker;
 use afl_base::{Failed, Sink, Source};
+use buffered_sink::{Buffered, Waiting};
 
 // The most bytes that an input may have.
 const LIMIT: u32 = 16_777_216;
 
-// Takes some bytes.
-fn take_all<T: Taker, K: Sink>(taker: &mut T, out: &mut K, bytes: &[u8]) -> Result<(), Halt>
-    ensures takes { OnOk result (T.Takes (taker.old, out_of (K.held out.old) (K.faults out.old)) bytes.now
-        (taker.new, out_of (K.held out.new) (K.faults out.new))) }
-    ensures halts { IfErr result (λ halt.
-        T.Halts (taker.old, out_of (K.held out.old) (K.faults out.old)) bytes.now
-        (taker.new, out_of (K.held out.new) (K.faults out.new)) halt) }
+// Takes a byte, and what waits of a reply goes out.
+fn take_byte<'a, T: Taker, K: Sink>(
+    taker: &mut T,
+    gathered: &mut Buffered<'a, K>,
+    byte: u8,
+) -> Result<(), Halt>
+    requires none { gathered.old.waiting.bytes ≡ [] }
+    ensures takes { OnOk result (T.Takes
+        (taker.old, out_of (K.held gathered.old.out.now) (K.faults gathered.old.out.now)) (byte ∷ [])
+        (taker.new, out_of (K.held gathered.new.out.now) (K.faults gathered.new.out.now))) }
+    ensures halts { IfErr result (λ halt. T.Halts
+        (taker.old, out_of (K.held gathered.old.out.now) (K.faults gathered.old.out.now)) (byte ∷ [])
+        (taker.new, out_of (K.held gathered.new.out.now) (K.faults gathered.new.out.now)) halt) }
+    ensures none { OnOk result (gathered.new.waiting.bytes ≡ []) }
     ensures stays { T.stays taker.old taker.new }
-    ensures keeps { K.keeps out.old out.new }
+    ensures out { gathered.new.out.ghost_name ≡ gathered.old.out.ghost_name }
+    ensures keeps { K.keeps gathered.old.out.now gathered.new.out.now }
+{
+    let answered = taker.take(gathered, byte);
+    match send(gathered, answered) {
+        Ok(()) => Ok(()),
+        Err(halt) => Err(halt),
+    }
+}
+
+// Takes the end, and what waits of a reply goes out.
+fn take_end<'a, T: Taker, K: Sink>(
+    taker: &mut T,
+    gathered: &mut Buffered<'a, K>,
+) -> Result<(), Halt>
+    requires none { gathered.old.waiting.bytes ≡ [] }
+    ensures ends { OnOk result (T.Ends
+        (taker.old, out_of (K.held gathered.old.out.now) (K.faults gathered.old.out.now))
+        (taker.new, out_of (K.held gathered.new.out.now) (K.faults gathered.new.out.now))) }
+    ensures halts { IfErr result (λ halt. T.HaltsAtEnd
+        (taker.old, out_of (K.held gathered.old.out.now) (K.faults gathered.old.out.now))
+        (taker.new, out_of (K.held gathered.new.out.now) (K.faults gathered.new.out.now)) halt) }
+    ensures stays { T.stays taker.old taker.new }
+    ensures out { gathered.new.out.ghost_name ≡ gathered.old.out.ghost_name }
+    ensures keeps { K.keeps gathered.old.out.now gathered.new.out.now }
+{
+    let answered = taker.end(gathered);
+    match send(gathered, answered) {
+        Ok(()) => Ok(()),
+        Err(halt) => Err(halt),
+    }
+}
+
+// Takes some bytes.
+fn take_all<'a, T: Taker, K: Sink>(
+    taker: &mut T,
+    gathered: &mut Buffered<'a, K>,
+    bytes: &[u8],
+) -> Result<(), Halt>
+    requires none { gathered.old.waiting.bytes ≡ [] }
+    ensures takes { OnOk result (T.Takes
+        (taker.old, out_of (K.held gathered.old.out.now) (K.faults gathered.old.out.now)) bytes.now
+        (taker.new, out_of (K.held gathered.new.out.now) (K.faults gathered.new.out.now))) }
+    ensures halts { IfErr result (λ halt. T.Halts
+        (taker.old, out_of (K.held gathered.old.out.now) (K.faults gathered.old.out.now)) bytes.now
+        (taker.new, out_of (K.held gathered.new.out.now) (K.faults gathered.new.out.now)) halt) }
+    ensures none { OnOk result (gathered.new.waiting.bytes ≡ []) }
+    ensures stays { T.stays taker.old taker.new }
+    ensures out { gathered.new.out.ghost_name ≡ gathered.old.out.ghost_name }
+    ensures keeps { K.keeps gathered.old.out.now gathered.new.out.now }
 {
     for byte in bytes {
-        match taker.take(out, *byte) {
+        match take_byte(taker, gathered, *byte) {
             Ok(()) => {}
             Err(halt) => return Err(halt),
         }
@@ -62,6 +120,33 @@ pub fn take_through<S: Source, T: Taker, K: Sink>(
     ensures stays { T.stays taker.old taker.new }
     ensures keeps { K.keeps out.old out.new }
 {
+    let mut gathered = Buffered {
+        out,
+        waiting: Waiting::new(),
+    };
+    match take_gathered(input, taker, &mut gathered) {
+        Ok(()) => Ok(()),
+        Err(stop) => Err(stop),
+    }
+}
+
+// The same through a sink that gathers what is written for each byte.
+fn take_gathered<'a, S: Source, T: Taker, K: Sink>(
+    input: &mut S,
+    taker: &mut T,
+    gathered: &mut Buffered<'a, K>,
+) -> Result<(), Stop>
+    requires none { gathered.old.waiting.bytes ≡ [] }
+    ensures through { Through T.Takes T.Ends T.Halts T.HaltsAtEnd result
+        (taker.old, out_of (K.held gathered.old.out.now) (K.faults gathered.old.out.now))
+        (taker.new, out_of (K.held gathered.new.out.now) (K.faults gathered.new.out.now))
+        (S.left input.old) (S.left input.new) }
+    ensures input { result ≡ Err Stop.Input → Rose (S.faults input.old) (S.faults input.new) }
+    ensures later { S.faults input.old ≤ S.faults input.new }
+    ensures stays { T.stays taker.old taker.new }
+    ensures out { gathered.new.out.ghost_name ≡ gathered.old.out.ghost_name }
+    ensures keeps { K.keeps gathered.old.out.now gathered.new.out.now }
+{
     let mut buffer = [0u8; 4096];
     let mut taken = 0;
     'reads: loop {
@@ -70,7 +155,7 @@ pub fn take_through<S: Source, T: Taker, K: Sink>(
             return Err(Stop::Input);
         };
         if n == 0 {
-            return match taker.end(out) {
+            return match take_end(taker, gathered) {
                 Ok(()) => Ok(()),
                 Err(halt) => Err(Stop::Halted(halt)),
             };
@@ -78,7 +163,7 @@ pub fn take_through<S: Source, T: Taker, K: Sink>(
         if taken == LIMIT {
             return Err(Stop::Long);
         }
-        match take_all(taker, out, &buffer[..n]) {
+        match take_all(taker, gathered, &buffer[..n]) {
             Ok(()) => {}
             Err(halt) => return Err(Stop::Halted(halt)),
         }

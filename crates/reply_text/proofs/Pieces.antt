@@ -15,6 +15,11 @@ pub append_known-twice : (held : Option (List ℕ)) (xs ys : List ℕ) → appen
 append_known-twice None xs ys = refl
 append_known-twice (Some bytes) xs ys = ap (λ t. Some t) (append_assoc bytes xs ys)
 
+-- no bytes more
+pub append_known-nil : (held : Option (List ℕ)) → append_known held [] ≡ held
+append_known-nil None = refl
+append_known-nil (Some bytes) = ap (λ t. Some t) (append-nil bytes)
+
 -- one piece more was written
 pub held_more : (h0 h1 h2 : Option (List ℕ)) (front piece all : List ℕ) → h1 ≡ append_known h0 front → h2 ≡ append_known h1 piece → all ≡ front ++ piece → h2 ≡ append_known h0 all
 held_more h0 h1 h2 front piece all e f g =

@@ -3,7 +3,8 @@ use Rattle.std.proofs.Common.{◌≡◌, ℕ, ◌<◌, ◌≤◌, ◌⊎◌, inl
 use Rattle.std.specs.Prelude.{nat_lt, if◌then◌else◌}
 use Rattle.std.proofs.lemmas.List.{take_all, take-append-le, length-append, length-take}
 use Rattle.std.proofs.lemmas.Bool.Decides.{nat_tests}
-use Rattle.db_model.specs.Script.{Long, Unfinished, Bytes, ended, unended, past_white}
+use Rattle.db_model.specs.Pieces.{ended_by}
+use Rattle.db_model.specs.Script.{Entry, Long, Unfinished, Bytes, ended, ends_piece, unended, past_white}
 use Rattle.db_model.specs.Tokens.{is_white}
 use Rattle.script_run.specs.Gathers.{Gathers}
 
@@ -88,3 +89,7 @@ said_some p bytes g some =
 
 pub unclosed_some : (p bytes : List ℕ) (long : Bool) → Gathers p bytes long → 0 < length bytes → unended (past_white p) ≡ Unfinished ∷ []
 unclosed_some p bytes long g some = unended_some (past_white p) (omega (arith, ap length g.bytes_are, length-take 512 (past_white p)))
+
+-- what a `;` ends
+pub one_ended : (quoted : Bool) (p : List ℕ) (b : ℕ) (entry : Entry) → ends_piece quoted b ≡ true → ended (past_white p) ≡ entry ∷ [] → ended_by quoted p (b ∷ []) ≡ entry ∷ []
+one_ended quoted p b entry ends is = rw ends (ap (λ (es : List Entry). es ++ []) is)

@@ -4,10 +4,9 @@
 mod entry;
 mod piece;
 mod running;
-mod sent;
 mod whole;
 
+pub use entry::{carry_out, refuse};
 pub use piece::Piece;
 pub use running::Runner;
-pub use sent::{carry_out, refuse};
 pub use whole::run_script;

@@ -2,20 +2,20 @@
 
 #![tactic(auto)]
 
-ghost use Rattle.std.specs.Prelude.{◌≡◌, ◌≤◌, ◌∷◌, [], false, true, ℕ, List, Result, IfErr, IsErrOf, IsTrue, OnOk, length};
+ghost use Rattle.std.specs.Prelude.{◌≡◌, ◌⊎◌, ◌≤◌, ◌∷◌, [], false, true, ℕ, List, Result, IfErr, IsErrOf, IsTrue, OnOk, length};
 ghost use Rattle.db_model.specs.declared.commands.Command.{Command as AnyCommand};
 ghost use Rattle.db_model.specs.declared.refusals.Refusal.{Refusal as AnyRefusal};
 ghost use Rattle.db_model.specs.Reading.{IsReader};
 ghost use Rattle.db_model.specs.Script.{ended, past_white, unended};
 ghost use Rattle.intake.specs.declared.halt.Halt.TheVariants as Halt;
 ghost use Rattle.answering.specs.Carried.{Carried, HaltsIn, HasHaltCause, LacksPages, standing_of};
-ghost use Rattle.answering.specs.Taking.{EndsInput, HaltsAtLast, HaltsInBytes, TakesBytes, running, saying};
-ghost use Rattle.run_model.specs.Scripts.{script_talk};
-ghost use Rattle.script_run.specs.Gathers.{Gathers};
+ghost use Rattle.answering.specs.Taking.{EndsInput, HaltsAtLast, HaltsInBytes, HasOne, TakesBytes, running, saying};
+ghost use Rattle.run_model.specs.Scripts.{script_cut, script_talk};
+ghost use Rattle.script_run.specs.Gathers.{AsksOne, Gathers};
 ghost use Rattle.script_run.specs.Input.{Keeps, script_input};
 
+use crate::entry::{carry_out, refuse};
 use crate::piece::Piece;
-use crate::sent::{carry_out, refuse};
 use afl_base::{Files, Sink};
 use antelope_engine::Session;
 use aql_parse::Parser;
@@ -33,11 +33,13 @@ pub struct Runner<'a, V: Files> {
 }
 
 impl<'a, V: Files> Taker for Runner<'a, V> {
-    ghost use Rattle.std.specs.Prelude.{◌≡◌};
+    ghost use Rattle.std.specs.Prelude.{◌≡◌, ◌∷◌, []};
     ghost use Rattle.std.proofs.Common.{refl, ◌∙◌};
+    ghost use Rattle.answering.proofs.SentReplies.{sent_behind, sent_reply};
     ghost use Rattle.answering.proofs.Taken.{halted_before, halted_behind, taken_more, taken_none};
-    ghost use Rattle.answering.specs.Taking.{EndsInput, HaltsAtLast, HaltsInBytes, TakesBytes, running, saying};
-    ghost use Rattle.run_model.specs.Scripts.{script_line};
+    ghost use Rattle.answering.specs.Taking.{EndsInput, HaltsAtLast, HaltsInBytes, HasOne, TakesBytes, running, saying};
+    ghost use Rattle.db_model.proofs.ReplyTexts.{text_some};
+    ghost use Rattle.run_model.specs.Scripts.{script_cut, script_line};
     ghost use Rattle.script_run.specs.Input.{script_input};
     ghost use Rattle.run_model.proofs.Parts.{script_parts};
 
@@ -53,6 +55,10 @@ impl<'a, V: Files> Taker for Runner<'a, V> {
 
     ghost HaltsAtEnd = { λ a b halt. HaltsAtLast script_input (saying V.state V.reads V.faults V.asks V.lacks)
         (running a.0.session.now a.0.piece a.1.held a.1.faults) (running b.0.session.now b.0.piece b.1.held b.1.faults) halt };
+
+    ghost HasReply = { λ a byte. HasOne script_input a.piece (λ q. script_cut.ended q (byte ∷ [])) };
+
+    ghost HasReplyAtEnd = { λ a. HasOne script_input a.piece (λ q. script_cut.left q) };
 
     fn take<K: Sink>(&mut self, out: &mut K, byte: u8) -> Result<(), Halt> {
         take_byte(
@@ -92,6 +98,16 @@ impl<'a, V: Files> Taker for Runner<'a, V> {
         halted_before script_input (saying V.state V.reads V.faults V.asks V.lacks) script_line script_parts
         (running a.0.session.now a.0.piece a.1.held a.1.faults) (running b.0.session.now b.0.piece b.1.held b.1.faults)
         xs ys halt e };
+
+    ghost sent = { λ a b now byte answered halt one takes halts went later sent.
+        sent_behind script_input (saying V.state V.reads V.faults V.asks V.lacks) (λ read entry reply. text_some reply)
+        (running a.0.session.now a.0.piece a.1.held a.1.faults) (running b.0.session.now b.0.piece b.1.held b.1.faults)
+        now.held now.faults (byte ∷ []) answered halt one takes halts went later sent };
+
+    ghost sent_at_end = { λ a b now answered halt one ends halts went later sent.
+        sent_reply script_input (saying V.state V.reads V.faults V.asks V.lacks) (λ read entry reply. text_some reply)
+        (running a.0.session.now a.0.piece a.1.held a.1.faults) (running b.0.session.now b.0.piece b.1.held b.1.faults)
+        now.held now.faults script_cut.left one went later answered halt ends halts sent };
 }
 
 // Takes one byte of a script.
@@ -109,6 +125,7 @@ fn take_byte<V: Files, K: Sink>(
     ensures halts { IfErr result (λ halt. HaltsInBytes script_input (saying V.state V.reads V.faults V.asks V.lacks)
         (running session.old piece.old (K.held out.old) (K.faults out.old)) (byte ∷ [])
         (running session.new piece.new (K.held out.new) (K.faults out.new)) halt) }
+    ensures silent { (out.new ≡ out.old) ⊎ HasOne script_input piece.old (λ q. script_cut.ended q (byte ∷ [])) }
     ensures keeps { K.keeps out.old out.new }
 {
     if session.is_stopped() {
@@ -138,6 +155,7 @@ fn take_end<V: Files, K: Sink>(
     ensures halts { IfErr result (λ halt. HaltsAtLast script_input (saying V.state V.reads V.faults V.asks V.lacks)
         (running session.old piece.now (K.held out.old) (K.faults out.old))
         (running session.new piece.now (K.held out.new) (K.faults out.new)) halt) }
+    ensures silent { (out.new ≡ out.old) ⊎ HasOne script_input piece.now (λ q. script_cut.left q) }
     ensures keeps { K.keeps out.old out.new }
 {
     if session.is_stopped() {
@@ -172,6 +190,8 @@ fn answer_ended<V: Files, K: Sink>(
     ensures running { OnOk result (session.new.stopped ≡ false) }
     ensures lost { session.old.lost ≡ false → session.new.lost ≡ true → IsErrOf result Halt.Flash }
     ensures store { length (V.state session.new.files).store ≡ length (V.state session.old.files).store }
+    ensures silent { (out.new ≡ out.old)
+        ⊎ AsksOne piece.now.bytes.items piece.now.long (λ p. ended (past_white p)) }
     ensures keeps { K.keeps out.old out.new }
     ensures cause { HasHaltCause (V.faults session.old.files) (V.faults session.new.files)
         (K.faults out.old) (K.faults out.new) result }
@@ -210,6 +230,8 @@ fn answer_unended<V: Files, K: Sink>(
         (standing_of V.state V.reads session.old (K.held out.old))
         (standing_of V.state V.reads session.new (K.held out.new)) halt) }
     ensures same { session.new ≡ session.old }
+    ensures silent { (out.new ≡ out.old)
+        ⊎ AsksOne piece.now.bytes.items piece.now.long (λ p. unended (past_white p)) }
     ensures keeps { K.keeps out.old out.new }
     ensures cause { HasHaltCause (V.faults session.old.files) (V.faults session.new.files)
         (K.faults out.old) (K.faults out.new) result }

@@ -2,12 +2,12 @@
 use Rattle.std.proofs.Common.{◌≡◌, inl, ℕ, List, [], ◌∷◌, Option, refl, ap, sym, subst, ◌∙◌}
 use Rattle.std.specs.Io.KnownBytes.{append_known}
 use Rattle.std.proofs.lemmas.List.{append-nil}
-use Rattle.answering.proofs.Composed.{known_none}
 use Rattle.answering.proofs.Single.{command_found, command_unsaid}
 use Rattle.answering.specs.Carried.{HaltsIn, Standing, no_space}
 use Rattle.db_model.specs.declared.commands.Command.{Command}
 use Rattle.db_model.specs.ReplyText.{text}
 use Rattle.intake.specs.declared.halt.Halt.TheVariants.{Space, Flash, Sink}
+use Rattle.reply_text.proofs.Pieces.{append_known-nil}
 use Rattle.reply_text.specs.WroteLess.{WroteLess}
 use Rattle.run_model.specs.Talk.{Talk, after}
 use Rattle.session_model.specs.Steps.{WrotePart}
@@ -23,7 +23,7 @@ module _ {E : Type 0} (talk : Talk E) (entry : E) (Lacks : Command → ℕ → T
       split = refl;
       tells = s.tells;
       before = a.held;
-      front_is = known_none a.held;
+      front_is = sym (append_known-nil a.held);
       held = s.held;
       database = s.database;
     });

@@ -3,11 +3,10 @@ use Rattle.std.proofs.Common.{◌≡◌, ℕ, ◌+◌, ◌<◌, ◌⊎◌, inl, 
 use Rattle.std.proofs.Math.Seq.{take-append_seam, take-append-add}
 use Rattle.std.proofs.lemmas.List.{take-append-drop}
 use Rattle.std.specs.Io.KnownBytes.{append_known}
-use Rattle.reply_text.proofs.Pieces.{append_known-twice}
+use Rattle.reply_text.proofs.Pieces.{append_known-nil, append_known-twice}
 use Rattle.reply_text.specs.WroteLess.{WroteLess}
 use Rattle.session_model.specs.Steps.{WrotePart}
 use Rattle.serve.specs.Front.{Fronted, HoldsOn, front_bytes, front_held}
-use Rattle.serve.specs.Holding.{append_none}
 
 some_same : {x y : List ℕ} → Some x ≡ Some y → x ≡ y
 some_same h = cc
@@ -28,7 +27,7 @@ unsent_part h k None c all w = record {
   written = c ∷ w.written;
   left = w.left;
   whole = ap (λ bs. c ∷ bs) w.whole;
-  held = sym (append_none k) ∙ w.held ∙ append_known-twice h (c ∷ []) w.written;
+  held = sym (append_known-nil k) ∙ w.held ∙ append_known-twice h (c ∷ []) w.written;
 }
 unsent_part None None (Some b) c all w = record { written = []; left = c ∷ all; whole = refl; held = refl }
 unsent_part None (Some ks) (Some b) c all w = let e = w.held in cc

@@ -1,13 +1,9 @@
 -- Laws of a sink that stands before another: it holds on to what it stands before.
-use Rattle.std.proofs.Common.{◌≡◌, ℕ, ◌≤◌, Bool, true, false, List, [], ◌∷◌, ◌++◌, length, Option, Some, None, refl, ap, sym, ◌∙◌, append-nil, arith}
+use Rattle.std.proofs.Common.{◌≡◌, ℕ, ◌≤◌, Bool, true, false, List, [], ◌∷◌, ◌++◌, length, Option, refl, ap, sym, ◌∙◌, arith}
 use Rattle.std.specs.Io.KnownBytes.{append_known}
 use Rattle.afl_base.specs.Causes.{Rose}
-use Rattle.reply_text.proofs.Pieces.{append_known-twice}
+use Rattle.reply_text.proofs.Pieces.{append_known-nil, append_known-twice}
 use Rattle.serve.specs.Front.{Fronted, HoldsOn, front_held}
-
-pub append_none : (h : Option (List ℕ)) → append_known h [] ≡ h
-append_none None = refl
-append_none (Some bytes) = ap (λ t. Some t) (append-nil bytes)
 
 both_empty : (xs ys : List ℕ) → xs ++ ys ≡ [] → (xs ≡ []) × (ys ≡ [])
 both_empty [] ys e = (refl, e)
@@ -25,7 +21,7 @@ true_false e = cc
 pub held_on : (a : Fronted) → HoldsOn a a
 held_on a = record {
   more = [];
-  held = sym (append_none (front_held a.held a.front));
+  held = sym (append_known-nil (front_held a.held a.front));
   silent = λ e f. (refl, refl);
   faultless = λ e. (e, refl);
   fault = λ e f. absurd (true_false (sym f ∙ e));
@@ -54,7 +50,7 @@ held_on_on a b c x y = record {
 pub fails_on : (a b : Fronted) → front_held b.held b.front ≡ front_held a.held a.front → b.failed ≡ true → Rose a.faults b.faults → a.faults ≤ b.faults → HoldsOn a b
 fails_on a b held failed rose later = record {
   more = [];
-  held = held ∙ sym (append_none (front_held a.held a.front));
+  held = held ∙ sym (append_known-nil (front_held a.held a.front));
   silent = λ e f. absurd (true_false (sym failed ∙ e));
   faultless = λ e. absurd (true_false (sym failed ∙ e));
   fault = λ e f. rose;

@@ -8,7 +8,6 @@ mod fed;
 mod framed;
 mod hearing;
 mod replies;
-mod sent;
 mod serving;
 mod whole;
 

@@ -2,20 +2,22 @@
 
 #![tactic(auto)]
 
-ghost use Rattle.std.specs.Prelude.{◌≡◌, ◌≤◌, ◌∷◌, [], false, true, ℕ, List, Result, IfErr, IsErrOf, IsTrue, OnOk, length};
+ghost use Rattle.std.specs.Prelude.{◌≡◌, ◌⊎◌, ◌≤◌, ◌∷◌, [], false, true, ℕ, List, Result, IfErr, IsErrOf, IsTrue, OnOk, length};
 ghost use Rattle.answering.specs.Carried.{Carried, HaltsIn, HasHaltCause, LacksPages, standing_of};
-ghost use Rattle.answering.specs.Taking.{EndsInput, HaltsAtLast, HaltsInBytes, TakesBytes, running, saying};
+ghost use Rattle.answering.specs.Taking.{EndsInput, HaltsAtLast, HaltsInBytes, HasOne, TakesBytes, running, saying};
 ghost use Rattle.db_model.specs.declared.commands.Command.{Command as AnyCommand};
 ghost use Rattle.db_model.specs.declared.refusals.Refusal.{Refusal as AnyRefusal};
 ghost use Rattle.db_model.specs.Reading.{IsReader};
 ghost use Rattle.intake.specs.declared.halt.Halt.TheVariants as Halt;
 ghost use Rattle.serve.specs.Gathers.{Gathers, HasFrame, told};
 ghost use Rattle.serve.specs.Input.{frame_input};
+ghost use Rattle.serve_model.specs.Frames.{Frame, frame_cut};
 ghost use Rattle.serve_model.specs.Served.{serve_talk};
 
+use crate::carrying::carry_out;
 use crate::decoder::Decoder;
 use crate::fed::Fed;
-use crate::sent::{carry_out, refuse};
+use crate::replies::refuse;
 use afl_base::{Failed, Files, Sink};
 use antelope_engine::Session;
 use aql_parse::Parser;
@@ -33,13 +35,14 @@ pub struct Server<'a, V: Files> {
 }
 
 impl<'a, V: Files> Taker for Server<'a, V> {
-    ghost use Rattle.std.specs.Prelude.{◌≡◌};
+    ghost use Rattle.std.specs.Prelude.{◌≡◌, ◌∷◌, []};
     ghost use Rattle.std.proofs.Common.{refl, ◌∙◌};
+    ghost use Rattle.answering.proofs.SentReplies.{sent_behind, sent_reply};
     ghost use Rattle.answering.proofs.Taken.{halted_before, halted_behind, taken_more, taken_none};
-    ghost use Rattle.answering.specs.Taking.{EndsInput, HaltsAtLast, HaltsInBytes, TakesBytes, running, saying};
-    ghost use Rattle.serve.specs.Input.{frame_input};
+    ghost use Rattle.answering.specs.Taking.{EndsInput, HaltsAtLast, HaltsInBytes, HasOne, TakesBytes, running, saying};
+    ghost use Rattle.serve.specs.Input.{frame_input, frame_some};
     ghost use Rattle.serve_model.proofs.Ending.{frame_parts};
-    ghost use Rattle.serve_model.specs.Frames.{frame_line};
+    ghost use Rattle.serve_model.specs.Frames.{frame_cut, frame_line};
 
     ghost Takes = { λ a came b. TakesBytes frame_input (saying V.state V.reads V.faults V.asks V.lacks)
         (running a.0.session.now a.0.decoder a.1.held a.1.faults) came
@@ -56,6 +59,10 @@ impl<'a, V: Files> Taker for Server<'a, V> {
     ghost HaltsAtEnd = { λ a b halt. HaltsAtLast frame_input (saying V.state V.reads V.faults V.asks V.lacks)
         (running a.0.session.now a.0.decoder a.1.held a.1.faults)
         (running b.0.session.now b.0.decoder b.1.held b.1.faults) halt };
+
+    ghost HasReply = { λ a byte. HasOne frame_input a.decoder (λ q. frame_cut.ended q (byte ∷ [])) };
+
+    ghost HasReplyAtEnd = { λ a. HasOne frame_input a.decoder (λ q. frame_cut.left q) };
 
     fn take<K: Sink>(&mut self, out: &mut K, byte: u8) -> Result<(), Halt> {
         take_byte(
@@ -95,6 +102,16 @@ impl<'a, V: Files> Taker for Server<'a, V> {
         halted_before frame_input (saying V.state V.reads V.faults V.asks V.lacks) frame_line frame_parts
         (running a.0.session.now a.0.decoder a.1.held a.1.faults) (running b.0.session.now b.0.decoder b.1.held b.1.faults)
         xs ys halt e };
+
+    ghost sent = { λ a b now byte answered halt one takes halts went later sent.
+        sent_behind frame_input (saying V.state V.reads V.faults V.asks V.lacks) frame_some
+        (running a.0.session.now a.0.decoder a.1.held a.1.faults) (running b.0.session.now b.0.decoder b.1.held b.1.faults)
+        now.held now.faults (byte ∷ []) answered halt one takes halts went later sent };
+
+    ghost sent_at_end = { λ a b now answered halt one ends halts went later sent.
+        sent_reply frame_input (saying V.state V.reads V.faults V.asks V.lacks) frame_some
+        (running a.0.session.now a.0.decoder a.1.held a.1.faults) (running b.0.session.now b.0.decoder b.1.held b.1.faults)
+        now.held now.faults frame_cut.left one went later answered halt ends halts sent };
 }
 
 // Takes one byte of a line.
@@ -112,6 +129,7 @@ fn take_byte<V: Files, K: Sink>(
     ensures halts { IfErr result (λ halt. HaltsInBytes frame_input (saying V.state V.reads V.faults V.asks V.lacks)
         (running session.old decoder.old (K.held out.old) (K.faults out.old)) (byte ∷ [])
         (running session.new decoder.new (K.held out.new) (K.faults out.new)) halt) }
+    ensures silent { (out.new ≡ out.old) ⊎ HasOne frame_input decoder.old (λ q. frame_cut.ended q (byte ∷ [])) }
     ensures keeps { K.keeps out.old out.new }
 {
     if session.is_stopped() {
@@ -136,6 +154,7 @@ fn take_end<V: Files, K: Sink>(
     ensures halts { IfErr result (λ halt. HaltsAtLast frame_input (saying V.state V.reads V.faults V.asks V.lacks)
         (running session.old decoder.now (K.held out.old) (K.faults out.old))
         (running session.new decoder.now (K.held out.new) (K.faults out.new)) halt) }
+    ensures silent { (out.new ≡ out.old) ⊎ HasOne frame_input decoder.now (λ q. frame_cut.left q) }
     ensures keeps { K.keeps out.old out.new }
 {
     if session.is_stopped() {
@@ -173,6 +192,7 @@ fn answer_fed<V: Files, K: Sink>(
     ensures running { OnOk result (session.new.stopped ≡ false) }
     ensures lost { session.old.lost ≡ false → session.new.lost ≡ true → IsErrOf result Halt.Flash }
     ensures store { length (V.state session.new.files).store ≡ length (V.state session.old.files).store }
+    ensures silent { (out.new ≡ out.old) ⊎ ((frame : Frame) × (told fed decoder.now ≡ frame ∷ [])) }
     ensures keeps { K.keeps out.old out.new }
     ensures cause { HasHaltCause (V.faults session.old.files) (V.faults session.new.files)
         (K.faults out.old) (K.faults out.new) result }

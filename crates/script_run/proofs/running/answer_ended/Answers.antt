@@ -1,4 +1,4 @@
-use Rattle.std.proofs.Common.{◌≡◌, ◌<◌, Bool, subst, sym, length, List, ℕ, [], ◌∷◌, refl, arith, rules}
+use Rattle.std.proofs.Common.{◌≡◌, ◌<◌, inl, inr, Bool, subst, sym, length, List, ℕ, [], ◌∷◌, refl, arith, rules}
 use Rattle.std.proofs.lemmas.Bool.Decides.{nat_tests}
 use Rattle.db_model.specs.declared.refusals.Refusal.TheVariants as no
 use Rattle.db_model.specs.ReplyText.{refusal_text}
@@ -56,3 +56,24 @@ returns-in-Err-carry_out-clause-halts g c = λ told read reader p gathers.
     let P : List Entry → Type 0 = λ es. HaltsIn (script_talk read) L es a b c.in-Err-carry_out.halt in
     let Q : List ℕ → Type 0 = λ bytes. HaltsIn (script_talk read) L (Bytes bytes ∷ []) a b c.in-Err-carry_out.halt in
     subst P (sym is) (subst Q c.as_slice.ensures.value (c.in-Err-carry_out.ensures.halts told read reader))
+
+pub returns-in-Ok-clause-silent : goal.returns-in-Ok-clause-silent
+returns-in-Ok-clause-silent g c = inr (λ p gathers. (Long, said_long p c.args.piece.now.bytes.items (subst (λ (l : Bool). Gathers p c.args.piece.now.bytes.items l) c.if-piece.true gathers)))
+
+pub returns-in-Err-clause-silent : goal.returns-in-Err-clause-silent
+returns-in-Err-clause-silent g c = inr (λ p gathers. (Long, said_long p c.args.piece.now.bytes.items (subst (λ (l : Bool). Gathers p c.args.piece.now.bytes.items l) c.if-piece.true gathers)))
+
+pub returns-then-is_empty-clause-silent : goal.returns-then-is_empty-clause-silent
+returns-then-is_empty-clause-silent g c = inl refl
+
+pub returns-in-Ok-carry_out-clause-silent : goal.returns-in-Ok-carry_out-clause-silent
+returns-in-Ok-carry_out-clause-silent g c =
+    let v = c.args.piece.now in
+    let some : 0 < length v.bytes.items = grind (arith, nat_tests, c.if-is_empty.ensures) in
+    inr (λ p gathers. (Bytes v.bytes.items, said_some p v.bytes.items (subst (λ (l : Bool). Gathers p v.bytes.items l) c.if-piece.false gathers) some))
+
+pub returns-in-Err-carry_out-clause-silent : goal.returns-in-Err-carry_out-clause-silent
+returns-in-Err-carry_out-clause-silent g c =
+    let v = c.args.piece.now in
+    let some : 0 < length v.bytes.items = grind (arith, nat_tests, c.if-is_empty.ensures) in
+    inr (λ p gathers. (Bytes v.bytes.items, said_some p v.bytes.items (subst (λ (l : Bool). Gathers p v.bytes.items l) c.if-piece.false gathers) some))

@@ -1,4 +1,4 @@
-use Rattle.std.proofs.Common.{◌≡◌, ◌<◌, subst, sym, length, List, refl, arith, rules}
+use Rattle.std.proofs.Common.{◌≡◌, ◌<◌, inl, inr, subst, sym, length, List, refl, arith, rules}
 use Rattle.std.proofs.lemmas.Bool.Decides.{nat_tests}
 use Rattle.db_model.specs.declared.refusals.Refusal.TheVariants as no
 use Rattle.db_model.specs.ReplyText.{refusal_text}
@@ -34,3 +34,18 @@ returns-in-Err-clause-halts g c = λ told read reader p gathers.
     let P : List Entry → Type 0 = λ es. HaltsIn (script_talk read) (LacksPages g.V.Files.state g.V.Files.asks g.V.Files.lacks c.args.session.now) es a b Sink in
     subst R (sym sink) (subst P (sym (unclosed_some p v.bytes.items v.long gathers some))
     (refused_halts (script_talk read) Unfinished a b refl no.Unfinished refl refl (LacksPages g.V.Files.state g.V.Files.asks g.V.Files.lacks c.args.session.now) (omega arith) less))
+
+pub returns-then-is_empty-clause-silent : goal.returns-then-is_empty-clause-silent
+returns-then-is_empty-clause-silent g c = inl refl
+
+pub returns-in-Ok-clause-silent : goal.returns-in-Ok-clause-silent
+returns-in-Ok-clause-silent g c =
+    let v = c.args.piece.now in
+    let some : 0 < length v.bytes.items = grind (arith, nat_tests, c.if-is_empty.ensures) in
+    inr (λ p gathers. (Unfinished, unclosed_some p v.bytes.items v.long gathers some))
+
+pub returns-in-Err-clause-silent : goal.returns-in-Err-clause-silent
+returns-in-Err-clause-silent g c =
+    let v = c.args.piece.now in
+    let some : 0 < length v.bytes.items = grind (arith, nat_tests, c.if-is_empty.ensures) in
+    inr (λ p gathers. (Unfinished, unclosed_some p v.bytes.items v.long gathers some))

@@ -1,10 +1,10 @@
-use Rattle.std.proofs.Common.{List, refl, ap, sym, subst, arith}
+use Rattle.std.proofs.Common.{List, inl, inr, refl, ap, sym, subst, arith}
 use Rattle.answering.proofs.Single.{refused_carried, refused_halts}
 use Rattle.answering.specs.Carried.{Carried, HaltsIn, LacksPages, standing_of}
 use Rattle.db_model.specs.declared.refusals.Refusal.TheVariants as no
 use Rattle.intake.specs.declared.halt.Halt.TheVariants.{Sink}
-use Rattle.serve.specs.Gathers.{told}
-use Rattle.serve_model.specs.Frames.{Frame, Broken, Long}
+use Rattle.serve.specs.Gathers.{client_in, command_in, told}
+use Rattle.serve_model.specs.Frames.{Asked, Frame, Broken, Long}
 use Rattle.serve_model.specs.Served.{serve_talk}
 use Rattle.serve.proofs.serving.answer_fed.Goals as goal
 
@@ -37,3 +37,25 @@ returns-in-Err-refuse-2-clause-halts g c = λ tells read reader.
     let Lacks = LacksPages g.V.Files.state g.V.Files.asks g.V.Files.lacks c.args.session.now in
     subst (λ (fs : List Frame). HaltsIn (serve_talk read) Lacks fs a b Sink) (ap (λ fed. told fed c.args.decoder.now) (sym c.in-Long.is))
     (refused_halts (serve_talk read) (Long c.in-Long.client) a b refl no.Long refl refl Lacks (omega arith) c.in-Err-refuse-2.ensures.failed)
+
+-- a frame has one reply
+pub returns-in-More-clause-silent : goal.returns-in-More-clause-silent
+returns-in-More-clause-silent g c = inl refl
+
+pub returns-in-Ok-clause-silent : goal.returns-in-Ok-clause-silent
+returns-in-Ok-clause-silent g c = inr (Asked (client_in c.args.decoder.now) (command_in c.args.decoder.now), ap (λ fed. told fed c.args.decoder.now) c.in-Frame.is)
+
+pub returns-in-Err-clause-silent : goal.returns-in-Err-clause-silent
+returns-in-Err-clause-silent g c = inr (Asked (client_in c.args.decoder.now) (command_in c.args.decoder.now), ap (λ fed. told fed c.args.decoder.now) c.in-Frame.is)
+
+pub returns-in-Ok-refuse-clause-silent : goal.returns-in-Ok-refuse-clause-silent
+returns-in-Ok-refuse-clause-silent g c = inr (Broken, ap (λ fed. told fed c.args.decoder.now) c.in-Bad.is)
+
+pub returns-in-Err-refuse-clause-silent : goal.returns-in-Err-refuse-clause-silent
+returns-in-Err-refuse-clause-silent g c = inr (Broken, ap (λ fed. told fed c.args.decoder.now) c.in-Bad.is)
+
+pub returns-in-Ok-refuse-2-clause-silent : goal.returns-in-Ok-refuse-2-clause-silent
+returns-in-Ok-refuse-2-clause-silent g c = inr (Long c.in-Long.client, ap (λ fed. told fed c.args.decoder.now) c.in-Long.is)
+
+pub returns-in-Err-refuse-2-clause-silent : goal.returns-in-Err-refuse-2-clause-silent
+returns-in-Err-refuse-2-clause-silent g c = inr (Long c.in-Long.client, ap (λ fed. told fed c.args.decoder.now) c.in-Long.is)

@@ -1,4 +1,4 @@
-use Rattle.std.proofs.Common.{List, refl, sym, subst, ◌∙◌, arith}
+use Rattle.std.proofs.Common.{List, inl, inr, refl, sym, subst, ◌∙◌, arith}
 use Rattle.answering.proofs.Single.{refused_carried, refused_halts}
 use Rattle.answering.specs.Carried.{Carried, HaltsIn, LacksPages, standing_of}
 use Rattle.db_model.specs.declared.refusals.Refusal.TheVariants as no
@@ -33,3 +33,15 @@ returns-in-Err-clause-halts g c = record {
       (refused_halts (serve_talk read) Unfinished a b refl no.Unfinished refl refl Lacks (omega arith) c.in-Err.ensures.failed);
   on = record { faults = omega arith; replies = c.in-Err.ensures.cause.later; store = refl };
 }
+
+pub returns-then-is_stopped-clause-silent : goal.returns-then-is_stopped-clause-silent
+returns-then-is_stopped-clause-silent g c = inl refl
+
+pub returns-then-not-is_begun-clause-silent : goal.returns-then-not-is_begun-clause-silent
+returns-then-not-is_begun-clause-silent g c = inl refl
+
+pub returns-in-Ok-clause-silent : goal.returns-in-Ok-clause-silent
+returns-in-Ok-clause-silent g c = inr (λ q k. (Unfinished, begun_unended q (sym c.if-not-is_begun.false ∙ c.is_begun.ensures q k)))
+
+pub returns-in-Err-clause-silent : goal.returns-in-Err-clause-silent
+returns-in-Err-clause-silent g c = inr (λ q k. (Unfinished, begun_unended q (sym c.if-not-is_begun.false ∙ c.is_begun.ensures q k)))

@@ -1,6 +1,7 @@
 use Rattle.std.proofs.Common.{true, refl, ap, ◌∙◌, arith}
 use Rattle.serve.specs.Front.{front_held, fronted}
-use Rattle.serve.specs.Holding.{append_none, fails_on, rose_sooner}
+use Rattle.reply_text.proofs.Pieces.{append_known-nil}
+use Rattle.serve.specs.Holding.{fails_on, rose_sooner}
 use Rattle.serve.proofs.framed.FramedSink.write.Goals as goal
 
 -- the byte did not go out
@@ -26,7 +27,7 @@ returns-in-Err-write-clause-keeps g c =
       c.send_front.ensures.out,
       g.met.K.Sink.kept_on old.out.now sent.out.now new c.send_front.ensures.keeps w.keeps,
       fails_on (fronted (g.K.Sink.held old.out.now) (g.K.Sink.faults old.out.now) old.front old.failed) (fronted (g.K.Sink.held new) (g.K.Sink.faults new) sent.front true)
-          (ap (λ f. front_held (g.K.Sink.held new) f) e.gone ∙ append_none (g.K.Sink.held new) ∙ w.failed ∙ e.sent) refl
+          (ap (λ f. front_held (g.K.Sink.held new) f) e.gone ∙ append_known-nil (g.K.Sink.held new) ∙ w.failed ∙ e.sent) refl
           (rose_sooner (g.K.Sink.faults old.out.now) (g.K.Sink.faults sent.out.now) (g.K.Sink.faults new) e.cause.later w.cause.failed)
           (omega (arith, e.cause.later, w.cause.later)),
     )

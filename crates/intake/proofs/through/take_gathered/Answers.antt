@@ -3,7 +3,7 @@ use Rattle.std.proofs.lemmas.List.{length-append, length-take}
 use Rattle.std.specs.Io.KnownBytes.{prepend_known}
 use Rattle.intake.specs.Through.{out_of}
 use Rattle.intake.proofs.Known.{prepend_twice, prepend_nothing}
-use Rattle.intake.proofs.through.take_through.Goals as goal
+use Rattle.intake.proofs.through.take_gathered.Goals as goal
 
 pub returns-then-taken-eq-LIMIT-clause-through : goal.returns-then-taken-eq-LIMIT-clause-through
 returns-then-taken-eq-LIMIT-clause-through g c =
@@ -27,7 +27,7 @@ returns-in-Err-take_all-clause-through g c =
       came = l.came ++ chunk;
       left = l.left ∙ ap (λ k. prepend_known l.came k) c.in-Ok.ensures.bytes ∙ prepend_twice (g.S.Source.left c.read_front.new.input) l.came chunk;
       few = omega (arith, length-append l.came chunk, length-take c.in-Ok.n c.read_front.new.buffer, l.many, l.limit, c.in-Ok.ensures.within);
-      halts = g.met.T.Taker.halts_behind (c.args.taker.now, out_of (g.K.Sink.held c.args.out.now) (g.K.Sink.faults c.args.out.now)) (c.reads.taker, out_of (g.K.Sink.held c.reads.out) (g.K.Sink.faults c.reads.out)) (c.take_all.new.taker, out_of (g.K.Sink.held c.take_all.new.out) (g.K.Sink.faults c.take_all.new.out)) l.came chunk c.in-Err-take_all.halt l.takes c.in-Err-take_all.ensures.halts;
+      halts = g.met.T.Taker.halts_behind (c.args.taker.now, out_of (g.K.Sink.held c.args.gathered.now.out.now) (g.K.Sink.faults c.args.gathered.now.out.now)) (c.reads.taker, out_of (g.K.Sink.held c.reads.gathered.out.now) (g.K.Sink.faults c.reads.gathered.out.now)) (c.take_all.new.taker, out_of (g.K.Sink.held c.take_all.new.gathered.out.now) (g.K.Sink.faults c.take_all.new.gathered.out.now)) l.came chunk c.in-Err-take_all.halt l.takes c.in-Err-take_all.ensures.halts;
     })
 
 pub reads-preserved : goal.reads-preserved
@@ -40,23 +40,25 @@ reads-preserved g c =
       left = l.left ∙ ap (λ k. prepend_known l.came k) c.in-Ok.ensures.bytes ∙ prepend_twice (g.S.Source.left c.read_front.new.input) l.came chunk;
       many = omega (arith, length-append l.came chunk, length-take c.in-Ok.n c.read_front.new.buffer, l.many);
       limit = omega (arith, c.in-Ok.ensures.within);
-      takes = g.met.T.Taker.more (c.args.taker.now, out_of (g.K.Sink.held c.args.out.now) (g.K.Sink.faults c.args.out.now)) (c.reads.taker, out_of (g.K.Sink.held c.reads.out) (g.K.Sink.faults c.reads.out)) (c.take_all.new.taker, out_of (g.K.Sink.held c.take_all.new.out) (g.K.Sink.faults c.take_all.new.out)) l.came chunk l.takes c.in-Ok-take_all.ensures.takes;
+      takes = g.met.T.Taker.more (c.args.taker.now, out_of (g.K.Sink.held c.args.gathered.now.out.now) (g.K.Sink.faults c.args.gathered.now.out.now)) (c.reads.taker, out_of (g.K.Sink.held c.reads.gathered.out.now) (g.K.Sink.faults c.reads.gathered.out.now)) (c.take_all.new.taker, out_of (g.K.Sink.held c.take_all.new.gathered.out.now) (g.K.Sink.faults c.take_all.new.gathered.out.now)) l.came chunk l.takes c.in-Ok-take_all.ensures.takes;
       later = search rules;
       stays = g.met.T.Taker.stayed_on c.args.taker.now c.reads.taker c.take_all.new.taker l.stays c.in-Ok-take_all.ensures.stays;
-      keeps = g.met.K.Sink.kept_on c.args.out.now c.reads.out c.take_all.new.out l.keeps c.in-Ok-take_all.ensures.keeps;
+      none = c.in-Ok-take_all.ensures.none;
+      out = c.in-Ok-take_all.ensures.out ∙ l.out;
+      keeps = g.met.K.Sink.kept_on c.args.gathered.now.out.now c.reads.gathered.out.now c.take_all.new.gathered.out.now l.keeps c.in-Ok-take_all.ensures.keeps;
     }
 
-pub returns-in-Ok-end-clause-through : goal.returns-in-Ok-end-clause-through
-returns-in-Ok-end-clause-through g c =
+pub returns-in-Ok-take_end-clause-through : goal.returns-in-Ok-take_end-clause-through
+returns-in-Ok-take_end-clause-through g c =
     let l = c.reads.invariant in
     record {
       came = l.came;
       left = l.left ∙ ap (λ k. prepend_known l.came k) (c.in-Ok.ensures.bytes ∙ prepend_nothing (g.S.Source.left c.read_front.new.input) c.read_front.new.buffer c.in-Ok.n c.if-n-eq0.true);
       at_end = c.in-Ok.ensures.end c.if-n-eq0.true;
       few = omega (arith, l.many, l.limit);
-      last = (c.reads.taker, out_of (g.K.Sink.held c.reads.out) (g.K.Sink.faults c.reads.out));
+      last = (c.reads.taker, out_of (g.K.Sink.held c.reads.gathered.out.now) (g.K.Sink.faults c.reads.gathered.out.now));
       takes = l.takes;
-      ends = c.in-Ok-end.ensures.ends;
+      ends = c.in-Ok-take_end.ensures.ends;
     }
 
 pub returns-in-Err-clause-through : goal.returns-in-Err-clause-through
@@ -67,7 +69,7 @@ returns-in-Err-clause-through g c =
       left = l.left ∙ ap (λ k. prepend_known l.came k) (c.in-Ok.ensures.bytes ∙ prepend_nothing (g.S.Source.left c.read_front.new.input) c.read_front.new.buffer c.in-Ok.n c.if-n-eq0.true);
       at_end = c.in-Ok.ensures.end c.if-n-eq0.true;
       few = omega (arith, l.many, l.limit);
-      last = (c.reads.taker, out_of (g.K.Sink.held c.reads.out) (g.K.Sink.faults c.reads.out));
+      last = (c.reads.taker, out_of (g.K.Sink.held c.reads.gathered.out.now) (g.K.Sink.faults c.reads.gathered.out.now));
       takes = l.takes;
       halts = c.in-Err.ensures.halts;
     })

@@ -2,13 +2,13 @@
 
 #![tactic(auto)]
 
-ghost use Rattle.std.specs.Prelude.{◌≡◌, ◌≤◌};
+ghost use Rattle.std.specs.Prelude.{◌≡◌, ◌≤◌, []};
 ghost use Rattle.buffered_sink.specs.Handing.{Hands};
-ghost use Rattle.answering.specs.Sent.{Sent};
+ghost use Rattle.intake.specs.Sent.{Sent};
 
+use crate::halt::Halt;
 use afl_base::{Failed, Sink};
 use buffered_sink::Buffered;
-use intake::Halt;
 
 /// Hands on what waits of a reply, unless the sink has failed before. What waits behind a fault of the
 /// flash goes out as far as the sink takes it.
@@ -22,6 +22,8 @@ pub fn send<'a, K: Sink>(
         gathered.new.waiting.bytes result }
     ensures out { gathered.new.out.ghost_name ≡ gathered.old.out.ghost_name }
     ensures keeps { K.keeps gathered.old.out.now gathered.new.out.now }
+    ensures faultless { gathered.new.waiting.bytes ≡ []
+        → K.faults gathered.new.out.now ≡ K.faults gathered.old.out.now }
     ensures later { K.faults gathered.old.out.now ≤ K.faults gathered.new.out.now }
 {
     match answered {

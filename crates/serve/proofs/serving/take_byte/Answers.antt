@@ -1,0 +1,11 @@
+use Rattle.std.proofs.Common.{inl, inr, refl, ◌∙◌, ⊎_elim}
+use Rattle.serve.proofs.serving.take_byte.Goals as goal
+
+pub returns-then-is_stopped-clause-silent : goal.returns-then-is_stopped-clause-silent
+returns-then-is_stopped-clause-silent g c = inl refl
+
+pub returns-in-Ok-clause-silent : goal.returns-in-Ok-clause-silent
+returns-in-Ok-clause-silent g c = ⊎_elim inl (λ one. inr (λ part gathers. (one.0, c.feed-fed.ensures.frames part gathers ∙ one.1))) c.answer_fed.ensures.silent
+
+pub returns-in-Err-clause-silent : goal.returns-in-Err-clause-silent
+returns-in-Err-clause-silent g c = ⊎_elim inl (λ one. inr (λ part gathers. (one.0, c.feed-fed.ensures.frames part gathers ∙ one.1))) c.answer_fed.ensures.silent
