@@ -1,24 +1,37 @@
-ghost use Rattle.std.specs.Prelude.{◌≡◌, ◌+◌, ◌<◌, ◌≤◌, ℕ, ℤ, List, [], ◌∷◌, IfSome, IsTrue, OnOk, length, None};
-ghost use Rattle.db_model.specs.Row.{AllSuit, row_length, suits};
-ghost use Rattle.tuple_file.specs.Tuples.{HoldsRows, slots};
+ghost use Rattle.std.specs.Prelude.{◌≡◌, ℕ, ℤ, List, [], ◌∷◌, IfOk, IfSome, IsTrue, OnOk, None};
+ghost use Rattle.db_model.specs.Row.{AllSuit, suits};
+ghost use Rattle.tuple_file.specs.Tuples.{HoldsRows};
 
-use afl_base::{FileError, FileId, Files, Kind, Name, SlotNo};
+use afl_base::{FileError, FileId, Files, Kind, SlotNo};
 use afl_sim::PlainFiles;
-use db_model::{Attribute, Attributes, Domain, Ident, Schema, Text, Tuple, Value};
-use std::test::Fail;
+use db_model::{Attribute, Attributes, Domain, Ident, Schema, Text, Tuple, Value, row_length};
+use file_steps::{appended, new_file, read_from, size_of};
 use tuple_file::Tuples;
+
+// Whether the file has rows of the relation, each as it may be.
+fn holds<V: Files>(tuples: &Tuples, files: &mut V) -> Result<bool, FileError>
+    requires idle { (V.state files.old).draft ≡ None }
+    ensures holds { IfOk result (λ valid. IsTrue valid → HoldsRows (V.state files.new) tuples.now) }
+    ensures idle { OnOk result ((V.state files.new).draft ≡ None) }
+{
+    if !files.live(tuples.file) || files.kind(tuples.file) != Kind::Doubling {
+        return Ok(false);
+    }
+    if row_length(&tuples.schema.attributes) > 128 {
+        return Ok(false);
+    }
+    Ok(tuples.valid(files, 2)?)
+}
 
 // Prepares and appends a row.
 fn insert<V: Files>(tuples: &Tuples, files: &mut V, tuple: &Tuple) -> Result<(), FileError>
-    requires holds { HoldsRows (V.state files.old) tuples.now }
     requires idle { (V.state files.old).draft ≡ None }
-    requires free { slots (V.state files.old).files tuples.now < 32768 }
     requires suits { AllSuit tuples.now.schema.attributes tuple.now }
-    ensures holds { OnOk result (HoldsRows (V.state files.new) tuples.now) }
     ensures idle { OnOk result ((V.state files.new).draft ≡ None) }
-    ensures slots { OnOk result (slots (V.state files.new).files tuples.now
-        ≡ slots (V.state files.old).files tuples.now + 1) }
 {
+    if !holds(tuples, files)? || tuples.count(files) >= 32_768 {
+        return Err(FileError::Failed);
+    }
     files.prepare(tuples.file, 0, 128)?;
     tuples.append(files, tuple)?;
     Ok(())
@@ -26,23 +39,77 @@ fn insert<V: Files>(tuples: &Tuples, files: &mut V, tuple: &Tuple) -> Result<(),
 
 // Prepares a record and removes a row.
 fn remove<V: Files>(tuples: &Tuples, files: &mut V, slot: SlotNo) -> Result<(), FileError>
-    requires holds { HoldsRows (V.state files.old) tuples.now }
     requires idle { (V.state files.old).draft ≡ None }
-    requires slot { slot < slots (V.state files.old).files tuples.now }
-    ensures holds { OnOk result (HoldsRows (V.state files.new) tuples.now) }
     ensures idle { OnOk result ((V.state files.new).draft ≡ None) }
-    ensures slots { OnOk result (slots (V.state files.new).files tuples.now
-        ≡ slots (V.state files.old).files tuples.now) }
 {
+    if !holds(tuples, files)? || slot.number() >= tuples.count(files) {
+        return Err(FileError::Failed);
+    }
     files.prepare(tuples.file, 1, 0)?;
     tuples.mark(files, slot)?;
     Ok(())
 }
 
+// The number of rows, 0 where the file has other bytes.
+fn count<V: Files>(tuples: &Tuples, files: &mut V) -> Result<u16, FileError>
+    requires idle { (V.state files.old).draft ≡ None }
+    ensures idle { OnOk result ((V.state files.new).draft ≡ None) }
+{
+    if !holds(tuples, files)? {
+        return Ok(0);
+    }
+    Ok(tuples.count(files))
+}
+
+// Whether a slot has a live row that begins with this number.
+fn has_key<V: Files>(
+    tuples: &Tuples,
+    files: &mut V,
+    number: u16,
+    key: i64,
+) -> Result<bool, FileError>
+    requires idle { (V.state files.old).draft ≡ None }
+    ensures idle { OnOk result ((V.state files.new).draft ≡ None) }
+{
+    let Some(slot) = SlotNo::new(number) else {
+        return Ok(false);
+    };
+    if !holds(tuples, files)? || number >= tuples.count(files) {
+        return Ok(false);
+    }
+    let mut tuple = Tuple::new();
+    let live = tuples.row(files, slot, &mut tuple)?;
+    Ok(live && !tuple.is_empty() && *tuple.get(0) == Value::Number(key))
+}
+
+// Takes all rows that have this number away.
+fn rewrite<V: Files>(tuples: &Tuples, files: &mut V, key: i64) -> Result<(), FileError>
+    requires idle { (V.state files.old).draft ≡ None }
+    ensures idle { OnOk result ((V.state files.new).draft ≡ None) }
+{
+    if !holds(tuples, files)? {
+        return Err(FileError::Failed);
+    }
+    tuples.rewrite(files, |tuple| {
+        tuple
+            .as_slice()
+            .iter()
+            .any(|value| *value == Value::Number(key))
+    })
+}
+
+fn pack<V: Files>(tuples: &Tuples, files: &mut V) -> Result<(), FileError>
+    requires idle { (V.state files.old).draft ≡ None }
+    ensures idle { OnOk result ((V.state files.new).draft ≡ None) }
+{
+    if !holds(tuples, files)? {
+        return Err(FileError::Failed);
+    }
+    tuples.pack(files)
+}
+
 // The rows of a relation with the attributes k LONG and t STRING(3).
 fn keys_and_texts(file: FileId) -> Option<Tuples>
-    ensures file { IfSome result (λ tuples. tuples.file ≡ file) }
-    ensures short { IfSome result (λ tuples. row_length tuples.schema.attributes ≡ 8) }
     ensures suits { IfSome result (λ tuples. (k : ℤ) (t : List ℕ) → IsTrue (suits Domain.Long (Value.Number k))
         → IsTrue (suits (Domain.Str 3) (Value.Text t))
         → AllSuit tuples.schema.attributes (Value.Number k ∷ Value.Text t ∷ [])) }
@@ -73,80 +140,118 @@ fn key_and_text(k: i64, t: Text) -> Tuple
     tuple
 }
 
-#[test]
-fn two_rows_have_their_sixteen_bytes(rt: HostRuntime) -> Result<(), Fail> {
-    let mut files: PlainFiles<4064> = PlainFiles::new();
-    let name = Name::new(b"T0").ok_or("no name")?;
-    assert_eq!(rt; files.find(name), None);
-    let file = files.create(name, Kind::Doubling)?;
-    let tuples = keys_and_texts(file).ok_or("no name")?;
-    assert!(rt; tuples.valid(&mut files, 2)?);
-    let text = Text::new(b"abc").ok_or("no text")?;
-    insert(&tuples, &mut files, &key_and_text(5, text))?;
-    insert(&tuples, &mut files, &key_and_text(-1, Text::default()))?;
-    assert_eq!(rt; tuples.count(&files), 2);
+// Rows of a new file.
+fn new_tuples<V: Files>(files: &mut V) -> Result<Tuples, FileError>
+    requires idle { (V.state files.old).draft ≡ None }
+    ensures suits { IfOk result (λ tuples. (k : ℤ) (t : List ℕ) → IsTrue (suits Domain.Long (Value.Number k))
+        → IsTrue (suits (Domain.Str 3) (Value.Text t))
+        → AllSuit tuples.schema.attributes (Value.Number k ∷ Value.Text t ∷ [])) }
+    ensures idle { OnOk result ((V.state files.new).draft ≡ None) }
+{
+    let file = new_file(files, b"T0", Kind::Doubling)?;
+    match keys_and_texts(file) {
+        Some(tuples) => Ok(tuples),
+        None => Err(FileError::Failed),
+    }
+}
+
+// Whether two rows are counted, have their bytes and are read back.
+fn writes_two<V: Files>(files: &mut V) -> Result<bool, FileError>
+    requires idle { (V.state files.old).draft ≡ None }
+{
+    let tuples = new_tuples(files)?;
+    let Some(text) = Text::new(b"abc") else {
+        return Ok(false);
+    };
+    insert(&tuples, files, &key_and_text(5, text))?;
+    insert(&tuples, files, &key_and_text(-1, Text::default()))?;
+    if count(&tuples, files)? != 2 || !has_key(&tuples, files, 1, -1)? {
+        return Ok(false);
+    }
     let mut bytes = [0; 16];
-    files.read(file, 0, &mut bytes)?;
-    assert_eq!(rt;
-        bytes,
-        [5, 0, 0, 0, 97, 98, 99, 1, 255, 255, 255, 255, 0, 0, 0, 1]
-    );
-    let mut tuple = Tuple::new();
-    let slot = SlotNo::new(1).ok_or("no slot")?;
-    assert!(rt; tuples.row(&mut files, slot, &mut tuple)?);
-    assert!(rt; *tuple.get(0) == Value::Number(-1));
-    Ok(())
+    read_from(files, tuples.file, 0, &mut bytes)?;
+    Ok(bytes == [5, 0, 0, 0, 97, 98, 99, 1, 255, 255, 255, 255, 0, 0, 0, 1])
 }
 
 #[test]
-fn removed_rows_keep_their_slots_until_pack(rt: HostRuntime) -> Result<(), Fail> {
+fn two_rows_have_their_sixteen_bytes(rt: HostRuntime) {
     let mut files: PlainFiles<4064> = PlainFiles::new();
-    let name = Name::new(b"T0").ok_or("no name")?;
-    assert_eq!(rt; files.find(name), None);
-    let file = files.create(name, Kind::Doubling)?;
-    let tuples = keys_and_texts(file).ok_or("no name")?;
-    assert!(rt; tuples.valid(&mut files, 2)?);
-    insert(&tuples, &mut files, &key_and_text(5, Text::default()))?;
-    insert(&tuples, &mut files, &key_and_text(6, Text::default()))?;
-    insert(&tuples, &mut files, &key_and_text(7, Text::default()))?;
-    remove(&tuples, &mut files, SlotNo::default())?;
-    tuples.rewrite(&mut files, |tuple| {
-        tuple
-            .as_slice()
-            .iter()
-            .any(|value| *value == Value::Number(7))
-    })?;
+    assert!(rt; writes_two(&mut files) == Ok(true));
+}
+
+// Rows of the keys 5, 6 and 7.
+fn three_rows<V: Files>(files: &mut V) -> Result<Tuples, FileError>
+    requires idle { (V.state files.old).draft ≡ None }
+    ensures idle { OnOk result ((V.state files.new).draft ≡ None) }
+{
+    let tuples = new_tuples(files)?;
+    insert(&tuples, files, &key_and_text(5, Text::default()))?;
+    insert(&tuples, files, &key_and_text(6, Text::default()))?;
+    insert(&tuples, files, &key_and_text(7, Text::default()))?;
+    Ok(tuples)
+}
+
+// Whether three rows keep their slots when the first and the last are removed, and the second alone
+// is left behind `pack`.
+fn removes_two<V: Files>(files: &mut V) -> Result<bool, FileError>
+    requires idle { (V.state files.old).draft ≡ None }
+{
+    let tuples = three_rows(files)?;
+    remove(&tuples, files, SlotNo::default())?;
+    rewrite(&tuples, files, 7)?;
+    if count(&tuples, files)? != 3 || size_of(files, tuples.file) != 24 {
+        return Ok(false);
+    }
     let mut bytes = [0; 24];
-    assert_eq!(rt; tuples.count(&files), 3);
-    assert_eq!(rt; files.size(file), 24);
-    files.read(file, 0, &mut bytes)?;
+    read_from(files, tuples.file, 0, &mut bytes)?;
     let rows = [
         5, 0, 0, 0, 0, 0, 0, 3, 6, 0, 0, 0, 0, 0, 0, 1, 7, 0, 0, 0, 0, 0, 0, 3,
     ];
-    assert_eq!(rt; bytes, rows);
-    tuples.pack(&mut files)?;
-    assert_eq!(rt; tuples.count(&files), 1);
-    let mut tuple = Tuple::new();
-    assert!(rt; tuples.row(&mut files, SlotNo::default(), &mut tuple)?);
-    assert!(rt; *tuple.get(0) == Value::Number(6));
-    Ok(())
+    if bytes != rows {
+        return Ok(false);
+    }
+    pack(&tuples, files)?;
+    Ok(count(&tuples, files)? == 1 && has_key(&tuples, files, 0, 6)?)
 }
 
 #[test]
-fn bytes_of_no_row_are_not_valid(rt: HostRuntime) -> Result<(), Fail> {
+fn removed_rows_keep_their_slots_until_pack(rt: HostRuntime) {
     let mut files: PlainFiles<4064> = PlainFiles::new();
-    let name = Name::new(b"T0").ok_or("no name")?;
-    assert_eq!(rt; files.find(name), None);
-    let file = files.create(name, Kind::Doubling)?;
-    let tuples = keys_and_texts(file).ok_or("no name")?;
-    files.prepare(file, 0, 8)?;
-    files.append(file, &[5, 0, 0, 0, 97, 0, 98, 1])?;
-    assert!(rt; !tuples.valid(&mut files, 2)?);
-    files.prepare(file, 1, 0)?;
-    files.overwrite(file, 6, &[0, 3])?;
-    assert!(rt; tuples.valid(&mut files, 2)?);
-    files.prepare(file, 1, 0)?;
-    files.overwrite(file, 7, &[2])?;
-    assert!(rt; !tuples.valid(&mut files, 2)?);
+    assert!(rt; removes_two(&mut files) == Ok(true));
+}
+
+// Puts two bytes of a file in the place of those at 6, and prepares for it.
+fn overwrite_end<V: Files>(files: &mut V, id: FileId, end: [u8; 2]) -> Result<(), FileError>
+    requires idle { (V.state files.old).draft ≡ None }
+    ensures idle { OnOk result ((V.state files.new).draft ≡ None) }
+{
+    if !files.live(id) || files.kind(id) != Kind::Doubling || files.size(id) != 8 || end[1] == 0 {
+        return Err(FileError::Failed);
+    }
+    files.prepare(id, 1, 0)?;
+    files.overwrite(id, 6, &end)?;
     Ok(())
+}
+
+// Whether bytes behind a text's end, and a mark of no kind, are refused.
+fn refuses_no_rows<V: Files>(files: &mut V) -> Result<bool, FileError>
+    requires idle { (V.state files.old).draft ≡ None }
+{
+    let tuples = new_tuples(files)?;
+    appended(files, tuples.file, &[5, 0, 0, 0, 97, 0, 98, 1])?;
+    if holds(&tuples, files)? {
+        return Ok(false);
+    }
+    overwrite_end(files, tuples.file, [0, 3])?;
+    if !holds(&tuples, files)? {
+        return Ok(false);
+    }
+    overwrite_end(files, tuples.file, [0, 2])?;
+    Ok(!holds(&tuples, files)?)
+}
+
+#[test]
+fn bytes_of_no_row_are_not_valid(rt: HostRuntime) {
+    let mut files: PlainFiles<4064> = PlainFiles::new();
+    assert!(rt; refuses_no_rows(&mut files) == Ok(true));
 }
