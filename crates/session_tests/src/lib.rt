@@ -21,3 +21,5 @@ mod told;
 mod version_tests;
 #[cfg(test)]
 mod workload_tests;
+#[cfg(test)]
+mod written_tests;

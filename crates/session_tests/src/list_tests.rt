@@ -1,12 +1,14 @@
 //! Lists of commands, and the files that a session hands back.
 
 ghost use Rattle.std.specs.Prelude.{◌≡◌, None};
+ghost use Rattle.std.specs.List.{AllByRecursion};
+ghost use Rattle.session_model.specs.Queries.{IsWellFormed};
 
 use crate::cases::expect;
 use crate::filling::size_of;
 use crate::texts::{ONE, Part, joined};
 use crate::told::{mounted, read, say, started};
-use afl_base::{Files, Name};
+use afl_base::{Failed, Files, Name, Sink};
 use afl_sim::{MemFlash, MemSink, PlainFiles};
 use antelope_engine::{Halt, Halted, Session, exec_all};
 use db_model::Command;
@@ -102,26 +104,37 @@ fn a_hash_tree_of_256_equal_keys_has_8_buckets(rt: HostRuntime) -> Result<(), Fa
     Ok(())
 }
 
+// How a list ends.
+fn told_all<V: Files, K: Sink>(
+    session: &mut Session<V>,
+    commands: &[Command],
+    out: &mut K,
+) -> Result<Result<(), Halted>, Fail>
+    requires { AllByRecursion IsWellFormed commands.now }
+{
+    if session.is_stopped() {
+        return Err(Fail::from(Failed));
+    }
+    Ok(exec_all(session, commands, out))
+}
+
+const HALTED: Halted = Halted {
+    done: 1,
+    halt: Halt::NoSpace { need: 32 },
+};
+
 // Whether a list stops at its second command, for which there is no space, and goes on no further.
 fn stops_at_the_second<V: Files>(session: &mut Session<V>) -> Result<bool, Fail> {
     let mut count = Command::FetchCursor { number: 0 };
     let mut insert = Command::FetchCursor { number: 0 };
     let mut last = Command::FetchCursor { number: 0 };
-    if read(b"SELECT COUNT(v) FROM n", &mut count).is_err()
-        || read(b"INSERT (1) INTO n", &mut insert).is_err()
-        || read(b"SELECT v FROM n", &mut last).is_err()
-        || session.is_stopped()
-    {
-        return Ok(false);
-    }
+    read(b"SELECT COUNT(v) FROM n", &mut count)?;
+    read(b"INSERT (1) INTO n", &mut insert)?;
+    read(b"SELECT v FROM n", &mut last)?;
     let mut room = [0; 64];
     let mut out = MemSink::new(&mut room[..], None);
-    let done = exec_all(session, &[count, insert, last], &mut out);
-    let halted = Halted {
-        done: 1,
-        halt: Halt::NoSpace { need: 32 },
-    };
-    Ok(done == Err(halted) && out.written() == b"812\nrows 1\n".as_slice())
+    let done = told_all(session, &[count, insert, last], &mut out)?;
+    Ok(done == Err(HALTED) && out.written() == b"812\nrows 1\n".as_slice())
 }
 
 const FULL: &[Part] = &[

@@ -5,7 +5,7 @@ ghost use Rattle.session_model.specs.Queries.{IsWellFormed};
 
 use afl_base::{Failed, Files, Flash, Sink};
 use afl_sim::MemSink;
-use antelope_engine::{Outcome, Session, StartError, Step, Stop};
+use antelope_engine::{Outcome, Session, StartError, Step};
 use aql_parse::parse;
 use coffee_volume::{MountError, Volume};
 use db_model::{Command, Refusal};
@@ -100,16 +100,25 @@ pub fn carry_out<V: Files, K: Sink>(
 ) -> Result<Outcome, Fail>
     requires { IsWellFormed command.now }
 {
-    if session.is_stopped() {
-        return Err(Fail::from(Failed));
-    }
-    match session.exec(command, out) {
-        Ok(Step::Done(outcome)) => Ok(outcome),
-        Ok(Step::NoSpace { need }) => {
+    match step(session, command, out)? {
+        Step::Done(outcome) => Ok(outcome),
+        Step::NoSpace { need } => {
             write_refusal(out, &Refusal::Space { need })?;
             Ok(Outcome::Refused)
         }
-        Err(Stop::Flash) => Err(Fail::from(Failed)),
-        Err(Stop::Sink) => Err(Fail::from(Failed)),
     }
+}
+
+// What a session that was not stopped does at a command.
+fn step<V: Files, K: Sink>(
+    session: &mut Session<V>,
+    command: &Command,
+    out: &mut K,
+) -> Result<Step, Fail>
+    requires { IsWellFormed command.now }
+{
+    if session.is_stopped() {
+        return Err(Fail::from(Failed));
+    }
+    Ok(session.exec(command, out)?)
 }

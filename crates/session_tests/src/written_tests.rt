@@ -1,13 +1,45 @@
-//! Written scripts.
+//! Scripts that sessions are written as.
 
 ghost use Rattle.std.specs.Prelude.{◌≡◌, None};
 
-use crate::told::{script, told};
-use afl_base::Files;
-use afl_sim::PlainFiles;
+use crate::told::{say, started};
+use afl_base::{Failed, Files, Sink};
+use afl_sim::{MemSink, PlainFiles};
 use antelope_engine::{Session, Stop};
 use std::alloc::Global;
 use std::test::Fail;
+
+// How the writing of a session's database ends.
+fn write<V: Files, K: Sink>(
+    session: &mut Session<V>,
+    out: &mut K,
+) -> Result<Result<(), Stop>, Fail> {
+    if session.is_stopped() {
+        return Err(Fail::from(Failed));
+    }
+    Ok(dump::write(session, out))
+}
+
+// The script of a session's database, into a sink that fails at a call of a number.
+fn script<V: Files>(
+    alloc: Global,
+    session: &mut Session<V>,
+    fail_at: Option<u64>,
+) -> Result<(Vec<u8>, Result<(), Stop>), Fail> {
+    let mut room = vec![in alloc; 0u8; 4096]?;
+    let mut out = MemSink::new(room.as_mut_slice(), fail_at);
+    let ended = write(session, &mut out)?;
+    Ok((Vec::from_slice(alloc, out.written())?, ended))
+}
+
+// A session over new files, which was told a text.
+fn told<V: Files + Drop>(alloc: Global, files: V, text: &[u8]) -> Result<Session<V>, Fail>
+    requires { (V.state files).draft ≡ None }
+{
+    let mut session = started(files)?;
+    say(alloc, &mut session, text)?;
+    Ok(session)
+}
 
 // A session is written as just this script.
 fn expect_script<V: Files>(
