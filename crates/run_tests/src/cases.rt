@@ -1,9 +1,9 @@
 //! Scripts with their replies, a row each, and what is told where a run gives others.
 
 use crate::running::{Ended, erased, run};
-use crate::texts::{Part, joined};
 use std::alloc::Global;
 use std::test::Fail;
+use test_texts::{Part, joined};
 
 /// A script, its replies, and what they show.
 #[derive(Drop)]

@@ -3,9 +3,9 @@
 use crate::cases::{Case, expect, expect_on};
 use crate::image::{begins, expect_size, is_erased_from, is_unlogged, page_with_log};
 use crate::running::{SECTOR, erased, run};
-use crate::texts::{ONE, Part, joined};
 use std::alloc::Global;
 use std::test::Fail;
+use test_texts::{ONE, Part, joined};
 
 const MARKED: Case = Case {
     shows: "thirty of forty rows are marked",

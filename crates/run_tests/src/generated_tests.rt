@@ -2,9 +2,9 @@
 
 use crate::cases::{Case, expect, expect_on};
 use crate::running::{SECTOR, ask, erased};
-use crate::texts::Part;
 use std::alloc::Global;
 use std::test::Fail;
+use test_texts::Part;
 
 // So many generated commands over an erased image are counted by just this line.
 fn counts(alloc: Global, commands: &'static str, line: &[u8]) -> Result<(), Fail> {

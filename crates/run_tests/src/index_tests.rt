@@ -4,9 +4,9 @@ use crate::cases::{Case, expect, expect_each, expect_on};
 use crate::image::{contents, expect_size, number_at};
 use crate::running::{erased, run};
 use crate::samples::{BY_MINUTE, SEVENS, TEN_MINUTES, THE_TEN, day, made_of};
-use crate::texts::{ONE, Part, TWO, joined, push_often};
 use std::alloc::Global;
 use std::test::Fail;
+use test_texts::{ONE, Part, TWO, joined, push_often};
 
 fn day_is_asked(alloc: Global) -> Result<(), Fail> {
     let mut script = day(alloc, BY_MINUTE)?;

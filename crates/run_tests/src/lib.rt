@@ -35,8 +35,6 @@ mod samples;
 #[cfg(test)]
 mod script_tests;
 #[cfg(test)]
-mod texts;
-#[cfg(test)]
 mod version_tests;
 #[cfg(test)]
 mod written_tests;

@@ -1,8 +1,8 @@
 //! One more than there may be.
 
 use crate::cases::{Case, expect_each};
-use crate::texts::{ONE, Part};
 use std::test::Fail;
+use test_texts::{ONE, Part};
 
 const EIGHT: &str =
     "CREATE RELATION s; CREATE ATTRIBUTE a DOMAIN INT IN s; CREATE ATTRIBUTE b DOMAIN INT IN s; \

@@ -1,8 +1,8 @@
 //! Conditions, aggregates and joins.
 
 use crate::cases::{Case, expect_each};
-use crate::texts::{ONE, Part};
 use std::test::Fail;
+use test_texts::{ONE, Part};
 
 // Two relations with an attribute of one name, and three rows each. Twelve commands.
 const PAIR: &str =

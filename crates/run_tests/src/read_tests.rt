@@ -2,11 +2,11 @@
 
 use crate::running::{call_on, erased};
 use crate::samples::{BY_MINUTE, TEN_MINUTES, THE_TEN, day};
-use crate::texts::push_often;
 use afl_base::Flash;
 use afl_sim::{MemFlash, MemSource};
 use std::alloc::Global;
 use std::test::Fail;
+use test_texts::push_often;
 
 // A flash that answers how often it was read.
 trait Counting {

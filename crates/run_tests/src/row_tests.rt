@@ -3,8 +3,8 @@
 use crate::cases::{Case, expect_each, expect_in_turn, expect_on};
 use crate::image::{expect_contents, is_erased_from};
 use crate::running::erased;
-use crate::texts::{ONE, Part, TWO};
 use std::test::Fail;
+use test_texts::{ONE, Part, TWO};
 
 const NOTHING: Case = Case {
     shows: "an empty script has no reply",

@@ -2,9 +2,9 @@
 
 use crate::cases::expect;
 use crate::running::{erased, run};
-use crate::texts::{ONE, Part, TWO, joined, push_number, push_often};
 use std::alloc::{AllocError, Global};
 use std::test::Fail;
+use test_texts::{ONE, Part, TWO, joined, push_number, push_often};
 
 const SAMPLES: &str = "CREATE RELATION samples; CREATE ATTRIBUTE minute DOMAIN LONG IN samples; \
     CREATE ATTRIBUTE node DOMAIN INT IN samples; CREATE ATTRIBUTE value DOMAIN INT IN samples; ";

@@ -1,8 +1,8 @@
 //! How a script is cut and read.
 
 use crate::cases::{Case, expect_each};
-use crate::texts::{ONE, Part, TWO};
 use std::test::Fail;
+use test_texts::{ONE, Part, TWO};
 
 const CUT: &[Case] = &[
     Case {

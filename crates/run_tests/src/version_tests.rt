@@ -3,9 +3,9 @@
 use crate::cases::{Case, expect_on};
 use crate::image::expect_size;
 use crate::running::erased;
-use crate::texts::Part;
 use std::alloc::Global;
 use std::test::Fail;
+use test_texts::Part;
 
 // Sets a byte of an image, where it has that byte.
 fn set(image: &mut [u8], at: usize, byte: u8) {

@@ -3,9 +3,9 @@
 use crate::cases::expect;
 use crate::running::{ask, erased};
 use crate::samples::{SEVENS, TWO_ROWS, made_by, made_of};
-use crate::texts::{Part, joined};
 use std::alloc::Global;
 use std::test::Fail;
+use test_texts::{Part, joined};
 
 // An image is written as just this script, and stays as it is.
 fn dumps(alloc: Global, image: &mut [u8], script: &[u8]) -> Result<(), Fail> {

@@ -2,12 +2,12 @@
 
 ghost use Rattle.std.specs.Prelude.{◌≡◌, None};
 
-use crate::texts::{Part, joined};
 use crate::told::{mounted, say, started};
 use afl_base::Files;
 use afl_sim::{MemFlash, PlainFiles};
 use std::alloc::Global;
 use std::test::Fail;
+use test_texts::{Part, joined};
 
 /// The bytes of 256 sectors.
 pub const LARGE: usize = 1_048_576;

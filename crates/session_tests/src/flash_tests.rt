@@ -1,12 +1,12 @@
 //! Sessions over a flash in memory: merging, drafts, growth, and full pools.
 
 use crate::cases::{Case, LARGE, expect, expect_each_on_flash};
-use crate::texts::{ONE, Part, joined};
 use crate::told::{mounted, say, started};
 use afl_sim::MemFlash;
 use arrayvec::ArrayVec;
 use std::alloc::{AllocError, Global};
 use std::test::Fail;
+use test_texts::{ONE, Part, joined};
 
 /// A text with a number of five digits in it.
 pub fn with_number(front: &[u8], number: u16, behind: &[u8]) -> ArrayVec<u8, 64> {

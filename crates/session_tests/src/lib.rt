@@ -14,8 +14,6 @@ mod list_tests;
 #[cfg(test)]
 mod row_tests;
 #[cfg(test)]
-mod texts;
-#[cfg(test)]
 mod told;
 #[cfg(test)]
 mod version_tests;

@@ -6,7 +6,6 @@ ghost use Rattle.session_model.specs.Queries.{IsWellFormed};
 
 use crate::cases::expect;
 use crate::filling::size_of;
-use crate::texts::{ONE, Part, joined};
 use crate::told::{mounted, read, say, started};
 use afl_base::{Failed, Files, Name, Sink};
 use afl_sim::{MemFlash, MemSink, PlainFiles};
@@ -14,6 +13,7 @@ use antelope_engine::{Halt, Halted, Session, exec_all};
 use db_model::Command;
 use std::alloc::Global;
 use std::test::Fail;
+use test_texts::{ONE, Part, joined};
 
 // The bytes of a file that a session hands back behind a text.
 fn handed_back<V: Files + Drop>(

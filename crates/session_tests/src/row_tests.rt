@@ -1,8 +1,8 @@
 //! Commands and their replies, over files in memory and over a flash.
 
 use crate::cases::{Case, expect_each};
-use crate::texts::{ONE, Part, TWO};
 use std::test::Fail;
+use test_texts::{ONE, Part, TWO};
 
 const ROWS: &[Case] = &[
     Case {
