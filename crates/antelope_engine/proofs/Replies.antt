@@ -1,6 +1,5 @@
 -- Replies: none of an answer that is not NoSpace says that there was no space.
 use Rattle.std.proofs.Common.{◌≡◌, ◌≢◌, ℕ, List, [], Option, Some, None, Ok, Err, refl, ap, sym, ◌∙◌, arith, rules}
-use Rattle.std.specs.Io.KnownBytes.{append_known}
 use Rattle.afl_base.specs.declared.failed.Failed.{Failed}
 use Rattle.db_model.specs.declared.refusals.Refusal.{Refusal}
 use Rattle.db_model.specs.Database.{Database, empty_database}

@@ -22,7 +22,7 @@ use Rattle.run_model.specs.Talk.{Talk}
 use Rattle.space_plan.specs.Lines.{plan_text}
 use Rattle.space_plan.specs.Planned.{planned}
 use Rattle.workload_run.specs.Counted as counted
-use Rattle.workload_run.specs.Summed.{StopsBy, summed}
+use Rattle.workload_run.specs.Summed.{summed}
 use Rattle.workload_run.specs.Summed as sums
 use Rattle.antelope_run.specs.declared.words.Form.{Form}
 use Rattle.antelope_run.specs.declared.words.Form.TheVariants.{Run, Gen, Plan, Serve, Dump}
