@@ -6,6 +6,3 @@ pub mod laws;
 mod table;
 
 pub use table::{HashPlace, HashTable};
-
-#[cfg(test)]
-mod tests;

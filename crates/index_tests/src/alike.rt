@@ -1,10 +1,9 @@
-ghost use Rattle.std.specs.Prelude.{◌≡◌, OnOk};
-ghost use Rattle.afl_base.specs.Files.{IsLive};
+ghost use Rattle.std.specs.Prelude.{◌≡◌, OnOk, None};
 
 use crate::trees::{built_tree, put_key};
-use afl_base::{Failed, FileId, Files, Kind, Name, SlotNo};
+use afl_base::{FileError, FileId, Files, Kind};
 use afl_sim::PlainFiles;
-use std::test::Fail;
+use file_steps::{appended, new_file, read_from, size_of};
 
 // The two bytes of one of six keys; the first four share three digits of four.
 fn key_for(seed: u32) -> (u8, u8) {
@@ -31,25 +30,54 @@ fn mixed_rows() -> [u8; 1800] {
     rows
 }
 
+// The tree that is built over the rows.
+fn built<V: Files>(files: &mut V, bytes: &[u8; 1800]) -> Result<FileId, FileError>
+    requires idle { (V.state files.old).draft ≡ None }
+    ensures idle { OnOk result ((V.state files.new).draft ≡ None) }
+{
+    let rows = new_file(files, b"T0", Kind::Doubling)?;
+    appended(files, rows, bytes)?;
+    built_tree(files, b"X0", rows, 600)
+}
+
+// The tree that the keys of the rows make when they are inserted one by one.
+fn grown<V: Files>(files: &mut V, bytes: &[u8; 1800]) -> Result<FileId, FileError>
+    requires idle { (V.state files.old).draft ≡ None }
+    ensures idle { OnOk result ((V.state files.new).draft ≡ None) }
+{
+    let empty = new_file(files, b"T0", Kind::Doubling)?;
+    let index = built_tree(files, b"X0", empty, 0)?;
+    for slot in 0..600u16 {
+        let row = 3 * usize::from(slot);
+        let key = if bytes[row + 1] == 255 {
+            -1
+        } else {
+            i32::from(bytes[row])
+        };
+        put_key(files, index, &key, slot)?;
+    }
+    Ok(index)
+}
+
 // Whether two files have the same bytes.
 fn are_alike<V: Files>(
     files: &mut V,
     id: FileId,
     others: &mut V,
     other: FileId,
-) -> Result<bool, Failed>
-    requires live { IsLive (V.state files.old).files id }
-    requires other { IsLive (V.state others.old).files other }
+) -> Result<bool, FileError>
+    requires idle { (V.state files.old).draft ≡ None }
+    requires others { (V.state others.old).draft ≡ None }
 {
-    let size = files.size(id);
-    if others.size(other) != size {
+    let size = size_of(files, id);
+    if size_of(others, other) != size {
         return Ok(false);
     }
     for at in 0..size {
         let mut one = [0; 1];
         let mut two = [1; 1];
-        files.read(id, at, &mut one)?;
-        others.read(other, at, &mut two)?;
+        read_from(files, id, at, &mut one)?;
+        read_from(others, other, at, &mut two)?;
         if one[0] != two[0] {
             return Ok(false);
         }
@@ -57,36 +85,23 @@ fn are_alike<V: Files>(
     Ok(true)
 }
 
+// Whether the built tree and the grown one are alike, and of more than 20 buckets.
+fn builds_what_grows<V: Files>(files: &mut V, others: &mut V) -> Result<bool, FileError>
+    requires idle { (V.state files.old).draft ≡ None }
+    requires others { (V.state others.old).draft ≡ None }
+{
+    let bytes = mixed_rows();
+    let built = built(files, &bytes)?;
+    let grown = grown(others, &bytes)?;
+    if size_of(others, grown) <= 683 + 20 * 195 {
+        return Ok(false);
+    }
+    are_alike(files, built, others, grown)
+}
+
 #[test]
-fn a_built_tree_is_the_one_that_inserts_make(rt: HostRuntime) -> Result<(), Fail> {
+fn a_built_tree_is_the_one_that_inserts_make(rt: HostRuntime) {
     let mut files: PlainFiles<16352> = PlainFiles::new();
     let mut others: PlainFiles<16352> = PlainFiles::new();
-    let t = Name::new(b"T0").ok_or("no name")?;
-    let x = Name::new(b"X0").ok_or("no name")?;
-    let bytes = mixed_rows();
-    assert_eq!(rt; bytes[1799], 1);
-    assert_eq!(rt; files.find(t), None);
-    let rows = files.create(t, Kind::Doubling)?;
-    files.prepare(rows, 0, 1800)?;
-    files.append(rows, &bytes)?;
-    assert_eq!(rt; files.size(rows), 1800);
-    assert_eq!(rt; files.find(x), None);
-    let built = built_tree(&mut files, x, rows, 600)?;
-    assert_eq!(rt; others.find(t), None);
-    let empty = others.create(t, Kind::Doubling)?;
-    assert_eq!(rt; others.find(x), None);
-    let grown = built_tree(&mut others, x, empty, 0)?;
-    'inserts: for slot in 0..600u16 {
-        let row = 3 * usize::from(slot);
-        let key = if bytes[row + 1] == 255 {
-            -1
-        } else {
-            i32::from(bytes[row])
-        };
-        let number = SlotNo::new(slot).ok_or("no slot")?;
-        put_key(&mut others, grown, &key, number)?;
-    }
-    assert!(rt; 683 + 20 * 195 < others.size(grown));
-    assert!(rt; are_alike(&mut files, built, &mut others, grown)?);
-    Ok(())
+    assert!(rt; builds_what_grows(&mut files, &mut others) == Ok(true));
 }

@@ -1,12 +1,10 @@
-ghost use Rattle.std.specs.Prelude.{◌≡◌, OnOk, None, length};
-ghost use Rattle.afl_base.specs.Files.{IsLive, file_at, size_at};
-ghost use Rattle.afl_base.specs.declared.kind.Kind.TheVariants.{Doubling};
+ghost use Rattle.std.specs.Prelude.{◌≡◌, OnOk, None};
 
-use crate::trees::{built_tree, column, finds_all};
-use crate::volumes::{empty_rows, is_free, mounted};
-use afl_base::{Failed, FileError, FileId, Files, Kind, Name, get_u16};
+use crate::trees::{buckets, built_tree, finds_all, is_tree};
+use crate::volumes::mounted;
+use afl_base::{FileError, FileId, Files, Kind, get_u16};
 use afl_sim::{MemFlash, PlainFiles};
-use index_maxheap::{buckets_for, verify};
+use file_steps::{appended, new_file, read_from, size_of};
 use std::test::Fail;
 
 // 256 rows of one key.
@@ -19,122 +17,113 @@ fn rows_of(low: u8, high: u8) -> [u8; 768] {
     rows
 }
 
-// Appends 32,768 rows of the key 7 to an empty file, some at a time.
-fn append_equal_rows<V: Files>(files: &mut V, rows: FileId) -> Result<(), FileError>
-    requires live { IsLive (V.state files.old).files rows }
-    requires kind { (file_at (V.state files.old).files rows).kind ≡ Doubling }
-    requires empty { size_at (V.state files.old).files rows ≡ 0 }
+// A new file of rows, 256 at a time so many times.
+fn rows_in<V: Files>(files: &mut V, bytes: &[u8; 768], times: u16) -> Result<FileId, FileError>
     requires idle { (V.state files.old).draft ≡ None }
-    ensures live { OnOk result (IsLive (V.state files.new).files rows) }
-    ensures size { OnOk result (size_at (V.state files.new).files rows ≡ 98304) }
     ensures idle { OnOk result ((V.state files.new).draft ≡ None) }
 {
-    let bytes = rows_of(7, 0);
-    if bytes[767] != 1 {
-        return Err(FileError::Failed);
+    let rows = new_file(files, b"T0", Kind::Doubling)?;
+    for turn in 0..times {
+        appended(files, rows, bytes)?;
     }
-    for turn in 0..128u16 {
-        files.prepare(rows, 0, 768)?;
-        files.append(rows, &bytes)?;
-    }
-    Ok(())
+    Ok(rows)
 }
 
-// The numbers that stand at five places.
-fn numbers_at<V: Files>(files: &mut V, index: FileId, places: [u32; 5]) -> Result<[u16; 5], Failed>
-    requires live { IsLive (V.state files.old).files index }
-    ensures same { OnOk result (V.state files.new ≡ V.state files.old) }
+// Whether these numbers stand at their places.
+fn has_numbers<V: Files>(
+    files: &mut V,
+    index: FileId,
+    numbers: &[(u32, u16)],
+) -> Result<bool, FileError>
+    requires idle { (V.state files.old).draft ≡ None }
+    ensures idle { OnOk result ((V.state files.new).draft ≡ None) }
 {
-    let mut numbers = [9; 5];
-    for i in 0..5usize {
+    for (place, number) in numbers.iter() {
         let mut two = [0; 2];
-        if places[i] < 16_000 && places[i] + 2 <= files.size(index) {
-            files.read(index, places[i], &mut two)?;
-            numbers[i] = get_u16(&two, 0);
+        read_from(files, index, *place, &mut two)?;
+        if get_u16(&two, 0) != *number {
+            return Ok(false);
         }
     }
-    Ok(numbers)
+    Ok(true)
+}
+
+// The heads on the path of the key 7, and the chain behind its lowest node.
+const PATH_OF_7: [(u32, u16); 10] = [
+    (0, 1),
+    (2 * 4, 2),
+    (2 * 18, 3),
+    (2 * 73, 4),
+    (2 * 293, 5),
+    (2 * 5, 0),
+    (1655, 6),
+    (1850, 7),
+    (2045, 8),
+    (2240, 0),
+];
+
+// Whether 256 rows of the key 7 make a tree of one path and its chain, and 255 of them another.
+fn fills_a_path<V: Files>(files: &mut V) -> Result<bool, FileError>
+    requires idle { (V.state files.old).draft ≡ None }
+{
+    let rows = rows_in(files, &rows_of(7, 0), 1)?;
+    let index = built_tree(files, b"X0", rows, 256)?;
+    if size_of(files, index) != 2243 || size_of(files, rows) != 768 {
+        return Ok(false);
+    }
+    if !has_numbers(files, index, &PATH_OF_7)? || !is_tree(files, index, rows, 256)? {
+        return Ok(false);
+    }
+    Ok(!is_tree(files, index, rows, 255)?)
 }
 
 #[test]
-fn equal_keys_fill_a_path_and_its_chain(rt: HostRuntime) -> Result<(), Fail> {
+fn equal_keys_fill_a_path_and_its_chain(rt: HostRuntime) {
     let mut files: PlainFiles<4064> = PlainFiles::new();
-    let t = Name::new(b"T0").ok_or("no name")?;
-    let x = Name::new(b"X0").ok_or("no name")?;
-    assert_eq!(rt; files.find(t), None);
-    let rows = files.create(t, Kind::Doubling)?;
-    let bytes = rows_of(7, 0);
-    assert_eq!(rt; bytes[767], 1);
-    files.prepare(rows, 0, 768)?;
-    files.append(rows, &bytes)?;
-    assert_eq!(rt; files.size(rows), 768);
-    assert_eq!(rt; files.find(x), None);
-    let index = built_tree(&mut files, x, rows, 256)?;
-    assert_eq!(rt; files.size(index), 2243);
-    let nodes = numbers_at(&mut files, index, [0, 2 * 4, 2 * 18, 2 * 73, 2 * 293])?;
-    assert_eq!(rt; nodes, [1, 2, 3, 4, 5]);
-    let chain = numbers_at(&mut files, index, [2 * 5, 1655, 1850, 2045, 2240])?;
-    assert_eq!(rt; chain, [0, 6, 7, 8, 0]);
-    assert!(rt; files.live(rows));
-    assert_eq!(rt; files.size(rows), 768);
-    assert!(rt; verify(&mut files, index, column(rows), 256)?);
-    assert!(rt; !verify(&mut files, index, column(rows), 255)?);
-    Ok(())
+    assert!(rt; fills_a_path(&mut files) == Ok(true));
+}
+
+// The heads on the path of the key -1.
+const PATH_BELOW_ZERO: [(u32, u16); 5] = [(0, 1), (2, 2), (2 * 5, 3), (2 * 21, 4), (2 * 85, 5)];
+
+fn has_a_path_below_zero<V: Files>(files: &mut V) -> Result<bool, FileError>
+    requires idle { (V.state files.old).draft ≡ None }
+{
+    let rows = rows_in(files, &rows_of(255, 255), 1)?;
+    let index = built_tree(files, b"X0", rows, 256)?;
+    Ok(size_of(files, rows) == 768 && has_numbers(files, index, &PATH_BELOW_ZERO)?)
 }
 
 #[test]
-fn a_key_below_zero_has_its_path(rt: HostRuntime) -> Result<(), Fail> {
+fn a_key_below_zero_has_its_path(rt: HostRuntime) {
     let mut files: PlainFiles<4064> = PlainFiles::new();
-    let t = Name::new(b"T0").ok_or("no name")?;
-    let x = Name::new(b"X0").ok_or("no name")?;
-    assert_eq!(rt; files.find(t), None);
-    let rows = files.create(t, Kind::Doubling)?;
-    let bytes = rows_of(255, 255);
-    assert_eq!(rt; bytes[767], 1);
-    files.prepare(rows, 0, 768)?;
-    files.append(rows, &bytes)?;
-    assert_eq!(rt; files.size(rows), 768);
-    assert_eq!(rt; files.find(x), None);
-    let index = built_tree(&mut files, x, rows, 256)?;
-    let nodes = numbers_at(&mut files, index, [0, 2, 2 * 5, 2 * 21, 2 * 85])?;
-    assert_eq!(rt; nodes, [1, 2, 3, 4, 5]);
-    Ok(())
+    assert!(rt; has_a_path_below_zero(&mut files) == Ok(true));
 }
 
 // Whether a tree of 32,768 equal keys has the right size, keeps its rules for so many slots and no
 // fewer, and is searched through in order.
-fn chains_equal_keys<V: Files>(files: &mut V, t: Name, x: Name, keys: &[i32]) -> Result<bool, Fail>
+fn chains_equal_keys<V: Files>(files: &mut V, keys: &[i32]) -> Result<bool, FileError>
     requires idle { (V.state files.old).draft ≡ None }
-    requires keys { length keys.now ≡ 32768 }
 {
-    let rows = empty_rows(files, t)?;
-    append_equal_rows(files, rows)?;
-    if buckets_for(files, column(rows), 32_768)? != 1_024 {
+    let rows = rows_in(files, &rows_of(7, 0), 128)?;
+    if size_of(files, rows) != 98_304 || buckets(files, rows, 32_768)? != 1_024 {
         return Ok(false);
     }
-    if !is_free(files, x) {
+    let index = built_tree(files, b"X0", rows, 32_768)?;
+    if size_of(files, index) != 200_363 || size_of(files, rows) != 98_304 {
         return Ok(false);
     }
-    let index = built_tree(files, x, rows, 32_768)?;
-    if files.size(index) != 200_363 || !files.live(rows) || files.size(rows) != 98_304 {
+    if !is_tree(files, index, rows, 32_768)? || is_tree(files, index, rows, 32_767)? {
         return Ok(false);
     }
-    if !verify(files, index, column(rows), 32_768)? {
-        return Ok(false);
-    }
-    if verify(files, index, column(rows), 32_767)? {
-        return Ok(false);
-    }
-    Ok(finds_all(files, index, keys, 32_768, &7)?)
+    finds_all(files, index, keys, 32_768, &7)
 }
 
 #[test]
 fn a_chain_holds_32768_equal_keys(rt: HostRuntime) -> Result<(), Fail> {
-    let t = Name::new(b"T0").ok_or("no name")?;
-    let x = Name::new(b"X0").ok_or("no name")?;
     let mut image = vec![in rt.alloc(); 0u8; 1_048_576]?;
     let keys = vec![in rt.alloc(); 7i32; 32_768]?;
     let mut volume = mounted(MemFlash::new(&mut image).ok_or("no flash")?)?;
-    assert!(rt; chains_equal_keys(&mut volume, t, x, &keys)?);
+    assert!(rt; chains_equal_keys(&mut volume, &keys) == Ok(true));
     Ok(())
 }

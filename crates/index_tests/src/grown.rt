@@ -1,11 +1,10 @@
-ghost use Rattle.std.specs.Prelude.{◌≡◌, ◌≤◌, None, OnOk, length};
-ghost use Rattle.afl_base.specs.Files.{IsLive, file_at};
-ghost use Rattle.afl_base.specs.declared.kind.Kind.TheVariants.{Doubling};
+ghost use Rattle.std.specs.Prelude.{◌≡◌, None, OnOk};
 
 use crate::trees::{built_tree, finds_all, put_key};
-use crate::volumes::{empty_rows, is_free, mounted};
-use afl_base::{Failed, FileId, Files, Kind, Name, SlotNo};
+use crate::volumes::mounted;
+use afl_base::{FileError, FileId, Files, Kind};
 use afl_sim::{MemFlash, PlainFiles};
+use file_steps::{new_file, size_of};
 use std::test::Fail;
 
 // One of six keys; the first four share three digits of four.
@@ -20,91 +19,101 @@ fn key_for(seed: u32) -> i32 {
     }
 }
 
-// Inserts as many keys as the list has places, and writes them there. It answers whether the searches
-// between, for the last key and another after each so many inserts, agree with the list.
-fn grows<V: Files>(files: &mut V, index: FileId, keys: &mut [i32], every: u16) -> Result<bool, Fail>
-    requires live { IsLive (V.state files.old).files index }
-    requires kind { (file_at (V.state files.old).files index).kind ≡ Doubling }
-    requires idle { (V.state files.old).draft ≡ None }
-    requires few { length keys.old ≤ 32768 }
-    requires every { 1 ≤ every }
-    ensures live { OnOk result (IsLive (V.state files.new).files index) }
-    ensures long { OnOk result (length keys.new ≡ length keys.old) }
-{
-    let mut seed = 1u32;
-    let slots = keys.len() as u16;
-    for slot in 0..slots {
-        seed = seed.wrapping_mul(1664525).wrapping_add(1013904223);
-        let key = key_for(seed);
-        keys[usize::from(slot)] = key;
-        let number = SlotNo::new(slot).ok_or("no slot")?;
-        put_key(files, index, &key, number)?;
-        if slot % every == every - 1 {
-            if !finds_all(files, index, keys, slot + 1, &key)? {
-                return Ok(false);
-            }
-            if !finds_all(files, index, keys, slot + 1, &key_for(seed / 8))? {
-                return Ok(false);
-            }
-        }
-    }
-    Ok(true)
+fn next_seed(seed: u32) -> u32 {
+    seed.wrapping_mul(1664525).wrapping_add(1013904223)
 }
 
-// Whether searches for the six keys and one that is absent agree with the list.
-fn agrees<V: Files>(files: &mut V, index: FileId, keys: &[i32], slots: u16) -> Result<bool, Failed>
-    requires live { IsLive (V.state files.old).files index }
-    requires slots { slots ≤ length keys.now }
+// Writes a list of seeded keys.
+fn fill(keys: &mut [i32]) {
+    let mut seed = 1u32;
+    for key in keys.iter_mut() {
+        seed = next_seed(seed);
+        *key = key_for(seed);
+    }
+}
+
+// Whether searches for some keys agree with the first of a list.
+fn agrees<V: Files>(
+    files: &mut V,
+    index: FileId,
+    keys: &[i32],
+    slots: u16,
+    sought: &[i32],
+) -> Result<bool, FileError>
+    requires idle { (V.state files.old).draft ≡ None }
+    ensures idle { OnOk result ((V.state files.new).draft ≡ None) }
 {
-    let sought = [7, 71, 135, 199, -1, 65543, 8];
-    for i in 0..7usize {
-        let key = sought[i];
-        if !finds_all(files, index, keys, slots, &key)? {
+    for key in sought.iter() {
+        if !finds_all(files, index, keys, slots, key)? {
             return Ok(false);
         }
     }
     Ok(true)
 }
 
-#[test]
-fn inserts_and_queries_agree_with_a_list(rt: HostRuntime) -> Result<(), Fail> {
-    let mut files: PlainFiles<16352> = PlainFiles::new();
-    let t = Name::new(b"T0").ok_or("no name")?;
-    let x = Name::new(b"X0").ok_or("no name")?;
-    assert_eq!(rt; files.find(t), None);
-    let rows = files.create(t, Kind::Doubling)?;
-    assert_eq!(rt; files.find(x), None);
-    let index = built_tree(&mut files, x, rows, 0)?;
-    assert_eq!(rt; files.size(index), 683);
-    let mut keys = [0i32; 1600];
-    assert!(rt; grows(&mut files, index, &mut keys, 50)?);
-    assert!(rt; agrees(&mut files, index, &keys, 1600)?);
-    Ok(())
+// Inserts the seeded keys of a list. It answers whether the searches between, for the last key and
+// another after each so many inserts, agree with the list.
+fn grows<V: Files>(
+    files: &mut V,
+    index: FileId,
+    keys: &[i32],
+    every: u16,
+) -> Result<bool, FileError>
+    requires idle { (V.state files.old).draft ≡ None }
+    ensures idle { OnOk result ((V.state files.new).draft ≡ None) }
+{
+    if every == 0 || keys.len() > 32_768 {
+        return Err(FileError::Failed);
+    }
+    let mut seed = 1u32;
+    for slot in 0..keys.len() as u16 {
+        seed = next_seed(seed);
+        let key = key_for(seed);
+        put_key(files, index, &key, slot)?;
+        if slot % every == every - 1 {
+            let sought = [key, key_for(seed / 8)];
+            if !agrees(files, index, keys, slot + 1, &sought)? {
+                return Ok(false);
+            }
+        }
+    }
+    Ok(true)
 }
 
-// Whether a tree that 10,000 inserts grew agrees with a list of their keys.
-fn grows_to_10000<V: Files>(files: &mut V, t: Name, x: Name, keys: &mut [i32]) -> Result<bool, Fail>
+// Whether a tree that so many inserts grew agrees with a list of their keys, in searches between and,
+// at the end, for the six keys and one that is absent.
+fn grows_to<V: Files>(
+    files: &mut V,
+    keys: &mut [i32],
+    slots: u16,
+    every: u16,
+) -> Result<bool, FileError>
     requires idle { (V.state files.old).draft ≡ None }
-    requires keys { length keys.old ≡ 10000 }
 {
-    let rows = empty_rows(files, t)?;
-    if !is_free(files, x) {
+    fill(keys);
+    let rows = new_file(files, b"T0", Kind::Doubling)?;
+    let index = built_tree(files, b"X0", rows, 0)?;
+    if size_of(files, index) != 683 || keys.len() != usize::from(slots) {
         return Ok(false);
     }
-    let index = built_tree(files, x, rows, 0)?;
-    if !grows(files, index, keys, 500)? {
+    if !grows(files, index, keys, every)? {
         return Ok(false);
     }
-    Ok(agrees(files, index, keys, 10_000)?)
+    agrees(files, index, keys, slots, &[7, 71, 135, 199, -1, 65543, 8])
+}
+
+#[test]
+fn inserts_and_queries_agree_with_a_list(rt: HostRuntime) {
+    let mut files: PlainFiles<16352> = PlainFiles::new();
+    let mut keys = [0i32; 1600];
+    assert!(rt; grows_to(&mut files, &mut keys, 1600, 50) == Ok(true));
 }
 
 #[test]
 fn ten_thousand_inserts_agree_with_a_list(rt: HostRuntime) -> Result<(), Fail> {
-    let t = Name::new(b"T0").ok_or("no name")?;
-    let x = Name::new(b"X0").ok_or("no name")?;
     let mut image = vec![in rt.alloc(); 0u8; 1_048_576]?;
     let mut keys = vec![in rt.alloc(); 0i32; 10_000]?;
     let mut volume = mounted(MemFlash::new(&mut image).ok_or("no flash")?)?;
-    assert!(rt; grows_to_10000(&mut volume, t, x, &mut keys)?);
+    assert!(rt; grows_to(&mut volume, &mut keys, 10_000, 500) == Ok(true));
     Ok(())
 }

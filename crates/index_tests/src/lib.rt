@@ -1,4 +1,4 @@
-//! Tests of hash trees over files in memory and over those of a flash.
+//! Tests of hash tables, and of hash trees over files in memory and over those of a flash.
 #![tactic(auto)]
 
 #[cfg(test)]
@@ -7,6 +7,8 @@ mod alike;
 mod built;
 #[cfg(test)]
 mod grown;
+#[cfg(test)]
+mod tables;
 #[cfg(test)]
 mod trees;
 #[cfg(test)]

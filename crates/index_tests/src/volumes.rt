@@ -1,8 +1,6 @@
-ghost use Rattle.std.specs.Prelude.{◌≡◌, ◌<◌, None, IfOk, IsTrue, OnOk};
-ghost use Rattle.afl_base.specs.Files.{IsLive, IsUnnamed, file_at, size_at, used};
-ghost use Rattle.afl_base.specs.declared.kind.Kind.TheVariants.{Doubling};
+ghost use Rattle.std.specs.Prelude.{◌≡◌, None, IfOk};
 
-use afl_base::{Failed, FileId, Files, Flash, Kind, Name};
+use afl_base::{Failed, Files, Flash};
 use coffee_volume::{MountError, Volume};
 use std::test::Fail;
 
@@ -15,39 +13,4 @@ pub fn mounted<F: Flash + Drop>(flash: F) -> Result<Volume<F>, Fail>
         Err(MountError::Bad { bad, flash: _ }) => Err(Fail::from(bad)),
         Err(MountError::Failed { flash: _ }) => Err(Fail::from(Failed)),
     }
-}
-
-// Whether the last place for a file is free.
-fn has_place<V: Files>(files: &V) -> bool
-    ensures place { IsTrue result → used (V.state files.now).files < 32 }
-{
-    match FileId::new(31) {
-        Some(last) => !files.live(last),
-        None => false,
-    }
-}
-
-/// Whether there is no file of this name, and a place for one.
-pub fn is_free<V: Files>(files: &V, name: Name) -> bool
-    ensures unnamed { IsTrue result → IsUnnamed (V.state files.now).files name }
-    ensures place { IsTrue result → used (V.state files.now).files < 32 }
-{
-    if files.find(name).is_some() {
-        return false;
-    }
-    has_place(files)
-}
-
-/// A new file of this name, without rows.
-pub fn empty_rows<V: Files>(files: &mut V, name: Name) -> Result<FileId, Fail>
-    requires idle { (V.state files.old).draft ≡ None }
-    ensures live { IfOk result (λ id. IsLive (V.state files.new).files id) }
-    ensures kind { IfOk result (λ id. (file_at (V.state files.new).files id).kind ≡ Doubling) }
-    ensures empty { IfOk result (λ id. size_at (V.state files.new).files id ≡ 0) }
-    ensures idle { OnOk result ((V.state files.new).draft ≡ None) }
-{
-    if !is_free(files, name) {
-        return Err(Fail::new("there is no place for a file"));
-    }
-    Ok(files.create(name, Kind::Doubling)?)
 }

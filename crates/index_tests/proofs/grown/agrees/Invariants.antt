@@ -1,5 +1,5 @@
-use Rattle.std.proofs.Common.{◌≡◌}
+use Rattle.std.proofs.Common.{◌≡◌, None}
 use Rattle.index_tests.proofs.grown.agrees.Given as goal
 
-abbrev pub invariant-loop-i : goal.invariant-loop-i
-invariant-loop-i g l = g.V.Files.state l.files ≡ g.V.Files.state l.fn.files
+abbrev pub invariant-loop-key : goal.invariant-loop-key
+invariant-loop-key g l = record { idle : (g.V.Files.state l.files).draft ≡ None }

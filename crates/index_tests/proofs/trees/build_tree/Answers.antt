@@ -3,7 +3,7 @@ use Rattle.afl_base.specs.Files.{Table, bytes_at}
 use Rattle.afl_base.specs.KeyColumn.{key_place, number_at}
 use Rattle.db_model.specs.HashTree.{buckets}
 use Rattle.afl_base.specs.Keys.{first_keys}
-use Rattle.index_tests.proofs.trees.built_tree.Goals as goal
+use Rattle.index_tests.proofs.trees.build_tree.Goals as goal
 
 pub build-requires-clause-count : goal.build-requires-clause-count
 build-requires-clause-count g c = λ told.

@@ -2,7 +2,7 @@
 
 #![tactic(auto)]
 
-use crate::{HashPlace, HashTable};
+use index_memhash::{HashPlace, HashTable};
 
 // Whether the slots of a key are answered one after the other as a plain list has them.
 fn has_slots(table: &HashTable, keys: &[i32; 2048], key: i32) -> bool {
@@ -34,9 +34,8 @@ fn put(table: &mut HashTable, key: i32) {
     }
 }
 
-#[test]
-fn seeded_keys_are_answered_as_a_plain_list_has_them(rt: HostRuntime) {
-    let mut keys = [0; 2048];
+// A table of seeded keys, which are written to a plain list too.
+fn seeded(keys: &mut [i32; 2048]) -> HashTable {
     let mut table = HashTable::new();
     let mut seed: u32 = 14;
     for at in 0..2048usize {
@@ -45,39 +44,52 @@ fn seeded_keys_are_answered_as_a_plain_list_has_them(rt: HostRuntime) {
         keys[at] = key;
         put(&mut table, key);
     }
+    table
+}
+
+#[test]
+fn seeded_keys_are_answered_as_a_plain_list_has_them(rt: HostRuntime) {
+    let mut keys = [0; 2048];
+    let table = seeded(&mut keys);
     assert!(rt; table.is_full());
     for key in -129..129 {
         assert!(rt; has_slots(&table, &keys, key));
     }
 }
 
+// Whether a table grows entry by entry, and is full at 2,048 and not before.
+fn fills(table: &mut HashTable) -> bool {
+    for at in 0..2048u16 {
+        if table.len() != at || table.is_full() {
+            return false;
+        }
+        put(table, 7);
+    }
+    table.is_full()
+}
+
 #[test]
 fn a_table_of_one_key_is_full_at_2048_and_empty_when_cleared(rt: HostRuntime) {
     let mut table = HashTable::new();
-    for at in 0..2048u16 {
-        assert_eq!(rt; table.len(), at);
-        assert!(rt; !table.is_full());
-        put(&mut table, 7);
-    }
-    assert!(rt; table.is_full());
-    assert_eq!(rt; slot_from(&table, 2047, 7), Some(2047));
-    assert_eq!(rt; slot_from(&table, 2048, 7), None);
-    assert_eq!(rt; slot_from(&table, 0, -7), None);
+    assert!(rt; fills(&mut table));
+    assert!(rt; slot_from(&table, 2047, 7) == Some(2047));
+    assert!(rt; slot_from(&table, 2048, 7).is_none());
+    assert!(rt; slot_from(&table, 0, -7).is_none());
     table.clear();
-    assert_eq!(rt; table.len(), 0);
-    assert_eq!(rt; slot_from(&table, 0, 7), None);
+    assert!(rt; table.len() == 0);
+    assert!(rt; slot_from(&table, 0, 7).is_none());
 }
 
 #[test]
 fn places_stay_good_when_keys_come_behind(rt: HostRuntime) {
     let mut table = HashTable::new();
     put(&mut table, -1);
-    assert_eq!(rt; slot_from(&table, 0, -1), Some(0));
-    assert_eq!(rt; slot_from(&table, 1, -1), None);
+    assert!(rt; slot_from(&table, 0, -1) == Some(0));
+    assert!(rt; slot_from(&table, 1, -1).is_none());
     put(&mut table, i32::MIN);
     put(&mut table, -1);
     put(&mut table, i32::MAX);
-    assert_eq!(rt; slot_from(&table, 1, -1), Some(2));
-    assert_eq!(rt; slot_from(&table, 0, i32::MIN), Some(1));
-    assert_eq!(rt; slot_from(&table, 0, i32::MAX), Some(3));
+    assert!(rt; slot_from(&table, 1, -1) == Some(2));
+    assert!(rt; slot_from(&table, 0, i32::MIN) == Some(1));
+    assert!(rt; slot_from(&table, 0, i32::MAX) == Some(3));
 }
