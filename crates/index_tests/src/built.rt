@@ -29,6 +29,16 @@ fn rows_in<V: Files>(files: &mut V, bytes: &[u8; 768], times: u16) -> Result<Fil
     Ok(rows)
 }
 
+// The number that stands at a place.
+fn number_at<V: Files>(files: &mut V, index: FileId, place: u32) -> Result<u16, FileError>
+    requires idle { (V.state files.old).draft ≡ None }
+    ensures idle { OnOk result ((V.state files.new).draft ≡ None) }
+{
+    let mut two = [0; 2];
+    read_from(files, index, place, &mut two)?;
+    Ok(get_u16(&two, 0))
+}
+
 // Whether these numbers stand at their places.
 fn has_numbers<V: Files>(
     files: &mut V,
@@ -39,9 +49,7 @@ fn has_numbers<V: Files>(
     ensures idle { OnOk result ((V.state files.new).draft ≡ None) }
 {
     for (place, number) in numbers.iter() {
-        let mut two = [0; 2];
-        read_from(files, index, *place, &mut two)?;
-        if get_u16(&two, 0) != *number {
+        if number_at(files, index, *place)? != *number {
             return Ok(false);
         }
     }

@@ -4,27 +4,33 @@
 
 use index_memhash::{HashPlace, HashTable};
 
+// The first slot of a key at or behind a place, and the place behind it.
+fn found(table: &HashTable, place: HashPlace, key: i32) -> Option<(u16, HashPlace)> {
+    let (slot, behind) = table.next(place, &key)?;
+    Some((slot.number(), behind))
+}
+
 // Whether the slots of a key are answered one after the other as a plain list has them.
 fn has_slots(table: &HashTable, keys: &[i32; 2048], key: i32) -> bool {
     let mut place = HashTable::first();
     for slot in 0..2048u16 {
         if keys[usize::from(slot)] == key {
-            let Some((found, behind)) = table.next(place, &key) else {
+            let Some((number, behind)) = found(table, place, key) else {
                 return false;
             };
-            if found.number() != slot {
+            if number != slot {
                 return false;
             }
             place = behind;
         }
     }
-    table.next(place, &key).is_none()
+    found(table, place, key).is_none()
 }
 
 // The first slot of a key at or behind an entry.
 fn slot_from(table: &HashTable, entry: u16, key: i32) -> Option<u16> {
-    let (slot, _) = table.next(HashPlace { entry }, &key)?;
-    Some(slot.number())
+    let (slot, _) = found(table, HashPlace { entry }, key)?;
+    Some(slot)
 }
 
 // Puts the key of the next slot in, where there is room.
@@ -47,14 +53,22 @@ fn seeded(keys: &mut [i32; 2048]) -> HashTable {
     table
 }
 
+// Whether a table has all keys of a byte and two beside them as a plain list has them.
+fn agrees(table: &HashTable, keys: &[i32; 2048]) -> bool {
+    for key in -129..129 {
+        if !has_slots(table, keys, key) {
+            return false;
+        }
+    }
+    true
+}
+
 #[test]
 fn seeded_keys_are_answered_as_a_plain_list_has_them(rt: HostRuntime) {
     let mut keys = [0; 2048];
     let table = seeded(&mut keys);
     assert!(rt; table.is_full());
-    for key in -129..129 {
-        assert!(rt; has_slots(&table, &keys, key));
-    }
+    assert!(rt; agrees(&table, &keys));
 }
 
 // Whether a table grows entry by entry, and is full at 2,048 and not before.
