@@ -8,9 +8,10 @@ ghost use Rattle.index_set.specs.declared.info.TableId.TheVariants.{First};
 ghost use Rattle.index_set.specs.Tables.{entries};
 ghost use Rattle.candidate_tests.specs.Standing.{AreOurs, GoesOn, IsOurs, IsStanding, KeepsAll, indexes_of};
 
-use crate::volumes::{empty_file, is_free};
+use crate::volumes::empty_file;
 use afl_base::{FileId, Files, Name, SlotNo};
 use db_model::{Attribute, Attributes, Domain, Ident, Schema, Tuple};
+use file_steps::is_free;
 use index_set::{Access, HashTables, IndexInfo, Indexes, TableId, insert_all, prepare_all};
 use std::test::Fail;
 use tuple_file::Tuples;

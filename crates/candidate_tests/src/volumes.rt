@@ -1,12 +1,13 @@
 //! The files of a flash, and new ones.
 
-ghost use Rattle.std.specs.Prelude.{◌≡◌, ◌<◌, IfOk, IsTrue, None, OnOk};
-ghost use Rattle.afl_base.specs.Files.{IsLive, IsUnnamed, file_at, place, size_at, used};
+ghost use Rattle.std.specs.Prelude.{◌≡◌, IfOk, None, OnOk};
+ghost use Rattle.afl_base.specs.Files.{IsLive, file_at, place, size_at};
 ghost use Rattle.afl_base.specs.declared.kind.Kind.TheVariants.{Doubling};
 ghost use Rattle.candidate_tests.specs.Standing.{KeepsAll};
 
 use afl_base::{Failed, FileId, Files, Flash, Kind, Name};
 use coffee_volume::{MountError, Volume};
+use file_steps::is_free;
 use std::test::Fail;
 
 /// The files of a flash whose image keeps its rules.
@@ -18,27 +19,6 @@ pub fn mounted<F: Flash + Drop>(flash: F) -> Result<Volume<F>, Fail>
         Err(MountError::Bad { bad, flash: _ }) => Err(Fail::from(bad)),
         Err(MountError::Failed { flash: _ }) => Err(Fail::from(Failed)),
     }
-}
-
-// Whether the last place for a file is free.
-fn has_place<V: Files>(files: &V) -> bool
-    ensures place { IsTrue result → used (V.state files.now).files < 32 }
-{
-    match FileId::new(31) {
-        Some(last) => !files.live(last),
-        None => false,
-    }
-}
-
-/// Whether there is no file of this name, and a place for one.
-pub fn is_free<V: Files>(files: &V, name: Name) -> bool
-    ensures unnamed { IsTrue result → IsUnnamed (V.state files.now).files name }
-    ensures place { IsTrue result → used (V.state files.now).files < 32 }
-{
-    if files.find(name).is_some() {
-        return false;
-    }
-    has_place(files)
 }
 
 /// A new file of this name.
