@@ -1,11 +1,13 @@
 pub mod Asked
 pub mod Causes
+pub mod Cuts
 pub mod Fields
 pub mod FileErrors
 pub mod Files
 pub mod Fit
 pub mod Frames
 pub mod Image
+pub mod Keeping
 pub mod KeyColumn
 pub mod Keys
 pub mod Names

@@ -10,14 +10,15 @@ use crate::name::Name;
 /// file has none. No call may make a file's last byte zero.
 ///
 /// An object may tell the bytes of its files, as memory does, or not. What is said of bytes holds
-/// where they are told; names, kinds, sizes and rooms are always known. A call that answers `Failed`
-/// leaves nothing known but the counts, and the length of what all is kept in.
+/// where they are told; names, kinds, sizes and rooms are always known. `read` leaves all as it was,
+/// on `Failed` too. Another call that answers `Failed` leaves nothing known but the counts, the length
+/// of what all is kept in, and what that borrows.
 pub trait Files {
     ghost use Rattle.std.specs.Prelude.{◌≡◌, ◌≢◌, ℕ, ◌+◌, ◌*◌, ◌-◌, ◌<◌, ◌≤◌, List, length, max, replicate, slice_index, slice_range, IsTrue, IsSome, IfSome, IfNone, IfOk, OnOk};
-    ghost use Rattle.afl_base.specs.Causes.{HasCause};
-    ghost use Rattle.afl_base.specs.FileErrors.{HasFileCause, OnSpace, UnlessFailed};
+    ghost use Rattle.afl_base.specs.FileErrors.{OnSpace, UnlessFailed};
     ghost use Rattle.afl_base.specs.Files.{State, AreDistinct, Appends, Commits, Creates, Drafts, IsKind, IsLive, IsNamed, IsUnnamed, Keeps, KeepsBytes, Overwrites, Removes, WritesDraft, bytes_at, draft_in, file_at, first_pages, is_live, size_at, used};
     ghost use Rattle.afl_base.specs.Fit.{fit};
+    ghost use Rattle.afl_base.specs.Keeping.{Changes, ChangesOrLacks, OnlyReads};
     ghost use Rattle.afl_base.specs.Regions.{regions};
 
     // All files, the draft, whether bytes are told, and the bytes that all is kept in.
@@ -26,6 +27,8 @@ pub trait Files {
     ghost faults: { Self → ℕ };
     // How much was read of what lies below.
     ghost reads: { Self → ℕ };
+    // What it borrows, it holds on to.
+    ghost lent: { Self → List ℕ };
     // No extent of so many pages can be had.
     ghost lacks: { Self → ℕ → Type 0 };
     // `prepare` of this file for so many overwrites and bytes needs an extent of so many pages.
@@ -65,11 +68,8 @@ pub trait Files {
         requires range { at + length into.old ≤ size_at (state self.old).files id }
         ensures bytes { IsTrue (state self.old).tells → OnOk result
             (into.new ≡ slice_range (bytes_at (state self.old).files id) at (at + length into.old)) }
-        ensures same { OnOk result (state self.new ≡ state self.old) }
         ensures reads { reads self.new ≤ reads self.old + 3 * regions at (length into.old) }
-        ensures store { length (state self.new).store ≡ length (state self.old).store }
-        ensures reads_later { reads self.old ≤ reads self.new }
-        ensures cause { HasCause (faults self.old) (faults self.new) result };
+        ensures frame { OnlyReads state lent reads faults self.old self.new result };
 
     /// Adds an empty file, in the lowest free place. `Space` has `need` 16 for a doubling file, and its
     /// number of pages for a fixed one.
@@ -80,20 +80,15 @@ pub trait Files {
         requires idle { (state self.old).draft ≡ None }
         ensures created { IfOk result (λ id. Creates (state self.old) (state self.new) id name kind) }
         ensures need { OnSpace result (λ need. need ≡ first_pages kind) }
-        ensures lacks { OnSpace result (λ need. lacks self.new need) }
         ensures kept { OnSpace result (λ _. Keeps (state self.old) (state self.new)) }
-        ensures store { length (state self.new).store ≡ length (state self.old).store }
-        ensures reads_later { reads self.old ≤ reads self.new }
-        ensures cause { HasFileCause (faults self.old) (faults self.new) result };
+        ensures frame { ChangesOrLacks state lent reads faults lacks self.old self.new result };
 
     /// Takes the file away. All others stay.
     fn remove(&mut self, id: FileId) -> Result<(), Failed>
         requires live { IsLive (state self.old).files id }
         requires idle { (state self.old).draft ≡ None }
         ensures removed { OnOk result (Removes (state self.old) (state self.new) id) }
-        ensures store { length (state self.new).store ≡ length (state self.old).store }
-        ensures reads_later { reads self.old ≤ reads self.new }
-        ensures cause { HasCause (faults self.old) (faults self.new) result };
+        ensures frame { Changes state lent reads faults self.old self.new result };
 
     /// Makes room in the file for at most 29 overwrites of one region each and for `bytes` more bytes,
     /// at most 4,096, with which it has at most 4,194,304 and, of kind `Fixed(n)`, at most
@@ -118,10 +113,7 @@ pub trait Files {
             → need ≤ 16) }
         ensures asked { OnSpace result (λ need. asks self.new id overwrites bytes need) }
         ensures unasked { ((n : ℕ) → asks self.old id overwrites bytes n → ⊥) → OnSpace result (λ need. ⊥) }
-        ensures lacks { OnSpace result (λ need. lacks self.new need) }
-        ensures store { length (state self.new).store ≡ length (state self.old).store }
-        ensures reads_later { reads self.old ≤ reads self.new }
-        ensures cause { HasFileCause (faults self.old) (faults self.new) result };
+        ensures frame { ChangesOrLacks state lent reads faults lacks self.old self.new result };
 
     /// Puts `bytes` in the place of those from byte `at` on. It takes one record of the room for each
     /// region that is touched. The file's last byte may not become zero.
@@ -138,9 +130,7 @@ pub trait Files {
             ≡ (file_at (state self.old).files id).records) }
         ensures room { OnOk result
             ((file_at (state self.new).files id).room ≡ (file_at (state self.old).files id).room) }
-        ensures store { length (state self.new).store ≡ length (state self.old).store }
-        ensures reads_later { reads self.old ≤ reads self.new }
-        ensures cause { HasCause (faults self.old) (faults self.new) result };
+        ensures frame { Changes state lent reads faults self.old self.new result };
 
     /// Adds `bytes`, whose last is not zero, to the end of the file. All room for bytes is used up by
     /// this, and the records stay.
@@ -153,9 +143,7 @@ pub trait Files {
         ensures records { OnOk result
             ((file_at (state self.new).files id).records ≡ (file_at (state self.old).files id).records) }
         ensures room { OnOk result ((file_at (state self.new).files id).room ≡ 0) }
-        ensures store { length (state self.new).store ≡ length (state self.old).store }
-        ensures reads_later { reads self.old ≤ reads self.new }
-        ensures cause { HasCause (faults self.old) (faults self.new) result };
+        ensures frame { Changes state lent reads faults self.old self.new result };
 
     /// Begins a draft of `size` zero bytes, at most 4,194,304, for a doubling file of this name, new or
     /// not. `Space` has `need` `fit(size)`.
@@ -167,11 +155,8 @@ pub trait Files {
         requires place { IsUnnamed (state self.old).files name → used (state self.old).files < 32 }
         ensures begun { OnOk result (Drafts (state self.old) (state self.new) name size (replicate size 0)) }
         ensures need { OnSpace result (λ need. need ≡ fit size) }
-        ensures lacks { OnSpace result (λ need. lacks self.new need) }
         ensures kept { OnSpace result (λ _. Keeps (state self.old) (state self.new)) }
-        ensures store { length (state self.new).store ≡ length (state self.old).store }
-        ensures reads_later { reads self.old ≤ reads self.new }
-        ensures cause { HasFileCause (faults self.old) (faults self.new) result };
+        ensures frame { ChangesOrLacks state lent reads faults lacks self.old self.new result };
 
     /// Puts `bytes` into the draft from byte `at` on, where it has zeros.
     fn draft_write(&mut self, at: u32, bytes: &[u8]) -> Result<(), Failed>
@@ -180,9 +165,7 @@ pub trait Files {
         requires zeros { IsTrue (state self.old).tells
             → slice_range (draft_in (state self.old)).bytes at (at + length bytes.now) ≡ replicate (length bytes.now) 0 }
         ensures written { OnOk result (WritesDraft (state self.old) (state self.new) at bytes.now) }
-        ensures store { length (state self.new).store ≡ length (state self.old).store }
-        ensures reads_later { reads self.old ≤ reads self.new }
-        ensures cause { HasCause (faults self.old) (faults self.new) result };
+        ensures frame { Changes state lent reads faults self.old self.new result };
 
     /// Makes the draft, empty or with a last byte that is not zero, the file of its name. A file that
     /// had the name keeps its place in the table. All other files stay.
@@ -191,7 +174,5 @@ pub trait Files {
         requires last { IsTrue (state self.old).tells → 1 ≤ length (draft_in (state self.old)).bytes
             → slice_index (draft_in (state self.old)).bytes (length (draft_in (state self.old)).bytes - 1) ≢ 0 }
         ensures committed { IfOk result (λ id. Commits (state self.old) (state self.new) id) }
-        ensures store { length (state self.new).store ≡ length (state self.old).store }
-        ensures reads_later { reads self.old ≤ reads self.new }
-        ensures cause { HasCause (faults self.old) (faults self.new) result };
+        ensures frame { Changes state lent reads faults self.old self.new result };
 }

@@ -1,6 +1,6 @@
-ghost use Rattle.std.specs.Prelude.{◌≡◌, ◌≢◌, ◌+◌, ◌*◌, ◌≤◌, IfOk, IsTrue, OnOk, length};
-ghost use Rattle.afl_base.specs.Causes.{HasCause};
+ghost use Rattle.std.specs.Prelude.{◌≡◌, ◌≢◌, ◌+◌, ◌*◌, ◌≤◌, IfOk, IsTrue};
 ghost use Rattle.afl_base.specs.Files.{IsLive, bytes_at, size_at};
+ghost use Rattle.afl_base.specs.Keeping.{OnlyReads};
 ghost use Rattle.afl_base.specs.KeyColumn.{HasField, IsWidth, key_of, number_at};
 
 use crate::failed::Failed;
@@ -18,11 +18,8 @@ impl KeyColumn {
         requires field { HasField (V.state files.old) self.now slot }
         ensures key { IsTrue (V.state files.old).tells
             → IfOk result (λ key. key ≡ key_of (V.state files.old) self.now slot) }
-        ensures same { OnOk result (V.state files.new ≡ V.state files.old) }
-        ensures store { length (V.state files.new).store ≡ length (V.state files.old).store }
         ensures reads { V.reads files.new ≤ V.reads files.old + 6 }
-        ensures reads_later { V.reads files.old ≤ V.reads files.new }
-        ensures cause { HasCause (V.faults files.old) (V.faults files.new) result }
+        ensures frame { OnlyReads V.state V.lent V.reads V.faults files.old files.new result }
     {
         let at = field_place(self.row, slot, self.at);
         if self.width == 2 {
@@ -37,11 +34,8 @@ impl KeyColumn {
         requires field { HasField (V.state files.old) self.now slot }
         ensures key { IsTrue (V.state files.old).tells
             → IfOk result (λ key. key ≡ key_of (V.state files.old) self.now slot) }
-        ensures same { OnOk result (V.state files.new ≡ V.state files.old) }
-        ensures store { length (V.state files.new).store ≡ length (V.state files.old).store }
         ensures reads { V.reads files.new ≤ V.reads files.old + 6 }
-        ensures reads_later { V.reads files.old ≤ V.reads files.new }
-        ensures cause { HasCause (V.faults files.old) (V.faults files.new) result }
+        ensures frame { OnlyReads V.state V.lent V.reads V.faults files.old files.new result }
     {
         if self.width != 8 {
             return Ok(i64::from(self.key(files, slot)?));
@@ -62,11 +56,8 @@ fn read_i16<V: Files>(files: &mut V, file: FileId, at: u32) -> Result<i16, Faile
     requires range { at + 2 ≤ size_at (V.state files.old).files file }
     ensures number { IsTrue (V.state files.old).tells
         → IfOk result (λ n. n ≡ number_at (bytes_at (V.state files.old).files file) at 2) }
-    ensures same { OnOk result (V.state files.new ≡ V.state files.old) }
-    ensures store { length (V.state files.new).store ≡ length (V.state files.old).store }
     ensures reads { V.reads files.new ≤ V.reads files.old + 6 }
-    ensures reads_later { V.reads files.old ≤ V.reads files.new }
-    ensures cause { HasCause (V.faults files.old) (V.faults files.new) result }
+    ensures frame { OnlyReads V.state V.lent V.reads V.faults files.old files.new result }
 {
     let mut field = [0; 2];
     files.read(file, at, &mut field)?;
@@ -78,11 +69,8 @@ fn read_i32<V: Files>(files: &mut V, file: FileId, at: u32) -> Result<i32, Faile
     requires range { at + 4 ≤ size_at (V.state files.old).files file }
     ensures number { IsTrue (V.state files.old).tells
         → IfOk result (λ n. n ≡ number_at (bytes_at (V.state files.old).files file) at 4) }
-    ensures same { OnOk result (V.state files.new ≡ V.state files.old) }
-    ensures store { length (V.state files.new).store ≡ length (V.state files.old).store }
     ensures reads { V.reads files.new ≤ V.reads files.old + 6 }
-    ensures reads_later { V.reads files.old ≤ V.reads files.new }
-    ensures cause { HasCause (V.faults files.old) (V.faults files.new) result }
+    ensures frame { OnlyReads V.state V.lent V.reads V.faults files.old files.new result }
 {
     let mut field = [0; 4];
     files.read(file, at, &mut field)?;
@@ -94,11 +82,8 @@ fn read_i64<V: Files>(files: &mut V, file: FileId, at: u32) -> Result<i64, Faile
     requires range { at + 8 ≤ size_at (V.state files.old).files file }
     ensures number { IsTrue (V.state files.old).tells
         → IfOk result (λ n. n ≡ number_at (bytes_at (V.state files.old).files file) at 8) }
-    ensures same { OnOk result (V.state files.new ≡ V.state files.old) }
-    ensures store { length (V.state files.new).store ≡ length (V.state files.old).store }
     ensures reads { V.reads files.new ≤ V.reads files.old + 6 }
-    ensures reads_later { V.reads files.old ≤ V.reads files.new }
-    ensures cause { HasCause (V.faults files.old) (V.faults files.new) result }
+    ensures frame { OnlyReads V.state V.lent V.reads V.faults files.old files.new result }
 {
     let mut field = [0; 8];
     files.read(file, at, &mut field)?;

@@ -3,10 +3,12 @@ use Rattle.std.specs.Prelude.{◌≡◌, ℕ, ◌*◌, ◌/◌, ◌≤◌, Bool,
 use Rattle.afl_base.specs.Fields.{put_at}
 use Rattle.afl_base.specs.Image.{or_at, sector_bytes}
 
--- the flash inside, the memory, which sectors stand in it as they stand inside, and how often it was read
+-- the flash inside, the memory and its name, which sectors stand in it as they stand inside, and how
+-- often it was read
 pub record FlashInCache (F : Type 0) : Type 0 where
   pub inner : F
   pub memory : List ℕ
+  pub lent : ℕ
   pub known : List Bool
   pub reads : ℕ
 

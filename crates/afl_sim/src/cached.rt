@@ -1,11 +1,7 @@
 use crate::backing::Backing;
 use crate::bytes::{erase_bytes, program_bytes, read_bytes};
-use afl_base::{Failed, Flash, PageId, SectorId};
+use afl_base::{Failed, Flash, PAGE_SIZE, PageId, SECTOR_SIZE, SectorId};
 use std::marker::Model;
-
-const PAGE: usize = 256;
-
-const SECTOR: usize = 4096;
 
 /// A flash that keeps each sector that it read of the flash inside, in memory that the caller lends.
 ///
@@ -25,7 +21,7 @@ impl<'a, F: Backing + Drop> Model for CachedFlash<'a, F> {
 
     ghost Value = { FlashInCache F };
 
-    ghost view = { λ f. record { inner = f.inner; memory = f.memory.now; known = f.known.now; reads = f.reads } };
+    ghost view = { λ f. record { inner = f.inner; memory = f.memory.now; lent = f.memory.ghost_name; known = f.known.now; reads = f.reads } };
 
     ghost invariant = { λ f. IsCache F.tells (F.image f.inner) f.memory.now f.known.now };
 }
@@ -38,11 +34,12 @@ impl<'a, F: Backing + Drop> CachedFlash<'a, F> {
     /// each entry of `known`. What stands in both is of no account.
     pub fn new(inner: F, memory: &'a mut [u8], known: &'a mut [bool]) -> CachedFlash<'a, F>
         ensures inner { result.inner ≡ inner }
+        ensures lent { result.lent ≡ memory.entry.ghost_name }
         ensures known { result.known ≡ replicate (kept_sectors (F.image inner)
             (length memory.entry.now) (length known.entry.now)) false }
         ensures reads { result.reads ≡ 0 }
     {
-        let kept = known.len().min(memory.len() / SECTOR);
+        let kept = known.len().min(memory.len() / SECTOR_SIZE);
         let kept = kept.min(usize::from(inner.sectors()));
         let known = &mut known[..kept];
         known.fill(false);
@@ -71,9 +68,11 @@ impl<'a, F: Backing + Drop> CachedFlash<'a, F> {
     }
 }
 
-ghost use Rattle.std.specs.Prelude.{◌≡◌, ◌≢◌, ℕ, ◌+◌, ◌*◌, ◌/◌, ◌<◌, ◌≤◌, false, length, slice_range, set, true, IsOk, IsTrue, OnErr, OnOk};
-ghost use Rattle.afl_base.specs.Causes.{HasCause};
+ghost use Rattle.std.specs.Prelude.{◌≡◌, ◌≢◌, ℕ, ◌+◌, ◌*◌, ◌/◌, ◌<◌, ◌≤◌, false, get_or, length, slice_range, set, true, IsOk, IsTrue, OnErr, OnOk};
+ghost use Rattle.afl_base.specs.Causes.{CountsOne};
+ghost use Rattle.afl_base.specs.Cuts.{IsCutErase, IsCutProgram};
 ghost use Rattle.afl_base.specs.Image.{or_at, zeros_at, page_bytes, sector_bytes};
+ghost use Rattle.afl_base.specs.Keeping.{OnlyReads, Programs};
 ghost use Rattle.afl_sim.specs.Caches.{IsCache, IsKnown};
 
 // Sees to it that a sector is known: one that is not is read into memory.
@@ -86,12 +85,12 @@ fn load<F: Backing>(
     requires cache { IsCache F.tells (F.image inner.old) memory.old known.old }
     requires kept { sector < length known.old }
     ensures cache { IsCache F.tells (F.image inner.new) memory.new known.new }
-    ensures same { F.image inner.new ≡ F.image inner.old }
     ensures known { OnOk result (IsKnown known.new sector) }
     ensures once { IsKnown known.old sector → IsOk result × (inner.new ≡ inner.old) }
+    ensures unknown { get_or known.old sector false ≡ false → CountsOne (F.reads inner.old) (F.reads inner.new) }
     ensures others { (s : ℕ) → IsKnown known.old s → IsKnown known.new s }
     ensures faultless { OnOk result (F.faults inner.new ≡ F.faults inner.old) }
-    ensures cause { HasCause (F.faults inner.old) (F.faults inner.new) result }
+    ensures frame { OnlyReads F.image F.lent F.reads F.faults inner.old inner.new result }
 {
     let place = usize::from(sector);
     if !known[place] {
@@ -109,12 +108,12 @@ fn read_into<F: Backing>(inner: &mut F, memory: &mut [u8], sector: u16) -> Resul
         (sector_bytes memory.new sector ≡ sector_bytes (F.image inner.old) sector) }
     ensures others { (s : ℕ) → s ≢ sector → sector_bytes memory.new s ≡ sector_bytes memory.old s }
     ensures size { length memory.new ≡ length memory.old }
-    ensures same { F.image inner.new ≡ F.image inner.old }
+    ensures counted { CountsOne (F.reads inner.old) (F.reads inner.new) }
     ensures faultless { OnOk result (F.faults inner.new ≡ F.faults inner.old) }
-    ensures cause { HasCause (F.faults inner.old) (F.faults inner.new) result }
+    ensures frame { OnlyReads F.image F.lent F.reads F.faults inner.old inner.new result }
 {
-    let start = SECTOR * usize::from(sector);
-    inner.read_sector(SectorId(sector), &mut memory[start..start + SECTOR])?;
+    let start = SECTOR_SIZE * usize::from(sector);
+    inner.read_sector(SectorId(sector), &mut memory[start..start + SECTOR_SIZE])?;
     Ok(())
 }
 
@@ -139,12 +138,12 @@ fn store<F: Backing>(
         (F.image inner.new ≡ or_at (F.image inner.old) (256 * page.0 + at) bytes.now) }
     ensures other_pages { IsTrue F.tells → (p : ℕ) → p ≢ page.0
         → page_bytes (F.image inner.new) p ≡ page_bytes (F.image inner.old) p }
-    ensures size { length (F.image inner.new) ≡ length (F.image inner.old) }
-    ensures reads { F.reads inner.new ≡ F.reads inner.old }
+    ensures cut { IsTrue F.tells → IsTrue F.cuts → OnErr result
+        (IsCutProgram (F.image inner.old) (F.image inner.new) (256 * page.0 + at) bytes.now) }
     ensures faultless { OnOk result (F.faults inner.new ≡ F.faults inner.old) }
-    ensures cause { HasCause (F.faults inner.old) (F.faults inner.new) result }
+    ensures frame { Programs F.image F.lent F.reads F.faults inner.old inner.new result }
 {
-    let place = PAGE * usize::from(page.0) + usize::from(at);
+    let place = PAGE_SIZE * usize::from(page.0) + usize::from(at);
     program_bytes(memory, place, bytes);
     match inner.overwrite(page, at, &memory[place..place + bytes.len()]) {
         Ok(()) => Ok(()),
@@ -172,32 +171,38 @@ fn clear<F: Backing>(
         (F.image inner.new ≡ zeros_at (F.image inner.old) (4096 * sector.0) 4096) }
     ensures other_sectors { IsTrue F.tells → (s : ℕ) → s ≢ sector.0
         → sector_bytes (F.image inner.new) s ≡ sector_bytes (F.image inner.old) s }
-    ensures size { length (F.image inner.new) ≡ length (F.image inner.old) }
-    ensures reads { F.reads inner.new ≡ F.reads inner.old }
+    ensures cut { IsTrue F.tells → IsTrue F.cuts → OnErr result
+        (IsCutErase (F.image inner.old) (F.image inner.new) sector.0) }
     ensures faultless { OnOk result (F.faults inner.new ≡ F.faults inner.old) }
-    ensures cause { HasCause (F.faults inner.old) (F.faults inner.new) result }
+    ensures frame { Programs F.image F.lent F.reads F.faults inner.old inner.new result }
 {
     let place = usize::from(sector.0);
     known[place] = false;
     inner.erase(sector)?;
-    erase_bytes(memory, SECTOR * place, SECTOR);
+    erase_bytes(memory, SECTOR_SIZE * place, SECTOR_SIZE);
     known[place] = true;
     Ok(())
 }
 
 impl<F: Backing + Drop> Flash for CachedFlash<'_, F> {
-    ghost use Rattle.std.specs.Prelude.{◌≡◌, ◌≢◌, ℕ, ◌+◌, ◌*◌, ◌/◌, ◌<◌, ◌≤◌, length, slice_range, IsOk, IsTrue, OnOk};
-    ghost use Rattle.afl_base.specs.Causes.{HasCause, CountsOne};
+    ghost use Rattle.std.specs.Prelude.{◌≡◌, ◌≢◌, ℕ, ◌+◌, ◌*◌, ◌/◌, ◌<◌, ◌≤◌, length, slice_range, IsOk, IsTrue, OnErr, OnOk, ◌∷◌, false, get_or};
+    ghost use Rattle.afl_base.specs.Causes.{CountsOne};
+    ghost use Rattle.afl_base.specs.Cuts.{IsCutErase, IsCutProgram};
     ghost use Rattle.afl_base.specs.Image.{or_at, zeros_at, page_bytes, sector_bytes};
     ghost use Rattle.afl_sim.specs.Caches.{IsKnown};
+    ghost use Rattle.afl_base.specs.Keeping.{OnlyReads, Programs};
 
     ghost tells = { F.tells };
+
+    ghost cuts = { F.cuts };
 
     ghost image = { λ f. F.image f.inner };
 
     ghost faults = { λ f. F.faults f.inner };
 
     ghost reads = { λ f. f.reads };
+
+    ghost lent = { λ f. f.lent ∷ F.lent f.inner };
 
     fn sectors(&self) -> u16 {
         self.inner.sectors()
@@ -209,13 +214,14 @@ impl<F: Backing + Drop> Flash for CachedFlash<'_, F> {
         requires range { at + length into.old ≤ 256 }
         ensures bytes { IsTrue F.tells → OnOk result (into.new
             ≡ slice_range (F.image self.old.inner) (256 * page.0 + at) (256 * page.0 + at + length into.old)) }
-        ensures same { F.image self.new.inner ≡ F.image self.old.inner }
         ensures counted { CountsOne self.old.reads self.new.reads }
         ensures reads { self.new.reads ≤ self.old.reads + 1 }
-        ensures reads_later { self.old.reads ≤ self.new.reads }
         ensures faultless { OnOk result (F.faults self.new.inner ≡ F.faults self.old.inner) }
-        ensures cause { HasCause (F.faults self.old.inner) (F.faults self.new.inner) result }
+        ensures frame { let flash = ⟦<Self as Flash>⟧ in
+            OnlyReads flash.image flash.lent flash.reads flash.faults self.old self.new result }
         ensures once { IsKnown self.old.known (page.0 / 16) → IsOk result × (self.new.inner ≡ self.old.inner) }
+        ensures unknown { get_or self.old.known (page.0 / 16) false ≡ false
+            → CountsOne (F.reads self.old.inner) (F.reads self.new.inner) }
         ensures known { page.0 / 16 < length self.old.known → OnOk result (IsKnown self.new.known (page.0 / 16)) }
         ensures kept { (s : ℕ) → IsKnown self.old.known s → IsKnown self.new.known s }
     {
@@ -226,7 +232,7 @@ impl<F: Backing + Drop> Flash for CachedFlash<'_, F> {
             return Ok(());
         }
         load(&mut self.inner, self.memory, self.known, sector)?;
-        self.copy_out(PAGE * usize::from(page.0) + usize::from(at), into);
+        self.copy_out(PAGE_SIZE * usize::from(page.0) + usize::from(at), into);
         Ok(())
     }
 
@@ -240,10 +246,11 @@ impl<F: Backing + Drop> Flash for CachedFlash<'_, F> {
             (page_bytes (F.image self.new.inner) page.0 ≡ or_at (page_bytes (F.image self.old.inner) page.0) at bytes.now) }
         ensures other_pages { IsTrue F.tells → (p : ℕ) → p ≢ page.0
             → page_bytes (F.image self.new.inner) p ≡ page_bytes (F.image self.old.inner) p }
-        ensures size { length (F.image self.new.inner) ≡ length (F.image self.old.inner) }
-        ensures reads { self.new.reads ≡ self.old.reads }
+        ensures cut { IsTrue F.tells → IsTrue F.cuts → OnErr result
+            (IsCutProgram (F.image self.old.inner) (F.image self.new.inner) (256 * page.0 + at) bytes.now) }
         ensures faultless { OnOk result (F.faults self.new.inner ≡ F.faults self.old.inner) }
-        ensures cause { HasCause (F.faults self.old.inner) (F.faults self.new.inner) result }
+        ensures frame { let flash = ⟦<Self as Flash>⟧ in
+            Programs flash.image flash.lent flash.reads flash.faults self.old self.new result }
         ensures unread { F.reads self.new.inner ≡ F.reads self.old.inner }
         ensures kept { OnOk result (self.new.known ≡ self.old.known) }
     {
@@ -261,10 +268,11 @@ impl<F: Backing + Drop> Flash for CachedFlash<'_, F> {
             (F.image self.new.inner ≡ zeros_at (F.image self.old.inner) (4096 * sector.0) 4096) }
         ensures other_sectors { IsTrue F.tells → (s : ℕ) → s ≢ sector.0
             → sector_bytes (F.image self.new.inner) s ≡ sector_bytes (F.image self.old.inner) s }
-        ensures size { length (F.image self.new.inner) ≡ length (F.image self.old.inner) }
-        ensures reads { self.new.reads ≡ self.old.reads }
+        ensures cut { IsTrue F.tells → IsTrue F.cuts → OnErr result
+            (IsCutErase (F.image self.old.inner) (F.image self.new.inner) sector.0) }
         ensures faultless { OnOk result (F.faults self.new.inner ≡ F.faults self.old.inner) }
-        ensures cause { HasCause (F.faults self.old.inner) (F.faults self.new.inner) result }
+        ensures frame { let flash = ⟦<Self as Flash>⟧ in
+            Programs flash.image flash.lent flash.reads flash.faults self.old self.new result }
         ensures unread { F.reads self.new.inner ≡ F.reads self.old.inner }
         ensures kept { OnOk result ((s : ℕ) → IsKnown self.old.known s → IsKnown self.new.known s) }
     {

@@ -62,11 +62,10 @@ impl<F: Flash + Drop> FaultFlash<F> {
     // Counts the call to come, and answers `Failed` where it is one of those that fail.
     fn count_call(&mut self) -> Result<(), Failed>
         ensures fails { is_err result ≡ fails_now self.old.fails self.old.calls }
-        ensures calls { self.new.calls ≡ number_of_call self.old.calls }
-        ensures inner { self.new.inner ≡ self.old.inner }
-        ensures list { self.new.fails ≡ self.old.fails }
-        ensures reads { self.new.reads ≡ self.old.reads }
-        ensures faults { self.new.faults ≡ counted (is_err result) self.old.faults }
+        ensures counts { self.new ≡ record self.old {
+          calls = number_of_call self.old.calls;
+          faults = counted (is_err result) self.old.faults;
+        } }
     {
         self.calls = self.calls.saturating_add(1);
         if self.fails.as_slice().contains(&self.calls) {
@@ -78,18 +77,24 @@ impl<F: Flash + Drop> FaultFlash<F> {
 }
 
 impl<F: Flash + Drop> Flash for FaultFlash<F> {
-    ghost use Rattle.std.specs.Prelude.{◌≡◌, ◌≢◌, ℕ, ◌+◌, ◌*◌, ◌-◌, ◌^◌, ◌≤◌, min, true, false, length, slice_range, IsTrue, IsErr, OnOk, OnErr};
-    ghost use Rattle.afl_base.specs.Causes.{HasCause, CountsOne, Rose};
+    ghost use Rattle.std.specs.Prelude.{◌≡◌, ◌≢◌, ℕ, ◌+◌, ◌*◌, ◌-◌, ◌≤◌, length, slice_range, IsTrue, OnOk, OnErr};
+    ghost use Rattle.afl_base.specs.Causes.{CountsOne};
+    ghost use Rattle.afl_base.specs.Cuts.{IsCutErase, IsCutProgram};
     ghost use Rattle.afl_base.specs.Image.{or_at, zeros_at, page_bytes, sector_bytes};
-    ghost use Rattle.afl_sim.specs.Devices.{all_faults, counted, fails_now, number_of_call};
+    ghost use Rattle.afl_sim.specs.Devices.{all_faults, FailsOnDemand};
+    ghost use Rattle.afl_base.specs.Keeping.{OnlyReads, Programs};
 
     ghost tells = { F.tells };
+
+    ghost cuts = { F.cuts };
 
     ghost image = { λ f. F.image f.inner };
 
     ghost faults = { λ f. all_faults F.faults f };
 
     ghost reads = { λ f. f.reads };
+
+    ghost lent = { λ f. F.lent f.inner };
 
     fn sectors(&self) -> u16 {
         self.inner.sectors()
@@ -100,19 +105,12 @@ impl<F: Flash + Drop> Flash for FaultFlash<F> {
         requires range { at + length into.old ≤ 256 }
         ensures bytes { IsTrue F.tells → OnOk result (into.new
             ≡ slice_range (F.image self.old.inner) (256 * page.0 + at) (256 * page.0 + at + length into.old)) }
-        ensures same { F.image self.new.inner ≡ F.image self.old.inner }
         ensures counted { CountsOne self.old.reads self.new.reads }
         ensures reads { self.new.reads ≤ self.old.reads + 1 }
-        ensures reads_later { self.old.reads ≤ self.new.reads }
         ensures faultless { OnOk result (all_faults F.faults self.new ≡ all_faults F.faults self.old) }
-        ensures cause { HasCause (all_faults F.faults self.old) (all_faults F.faults self.new) result }
-        ensures counts { self.new.faults ≡ counted (fails_now self.old.fails self.old.calls) self.old.faults }
-        ensures numbered { self.new.calls ≡ number_of_call self.old.calls }
-        ensures list { self.new.fails ≡ self.old.fails }
-        ensures fails { fails_now self.old.fails self.old.calls ≡ true
-            → IsErr result × (self.new.inner ≡ self.old.inner) }
-        ensures passes { fails_now self.old.fails self.old.calls ≡ false
-            → OnErr result (Rose (F.faults self.old.inner) (F.faults self.new.inner)) }
+        ensures frame { let flash = ⟦<Self as Flash>⟧ in
+            OnlyReads flash.image flash.lent flash.reads flash.faults self.old self.new result }
+        ensures demand { FailsOnDemand F.faults self.old self.new result }
     {
         self.reads = self.reads.saturating_add(1);
         self.count_call()?;
@@ -120,6 +118,7 @@ impl<F: Flash + Drop> Flash for FaultFlash<F> {
         Ok(())
     }
 
+    #[tactic(auto, using(crate::proofs::Cuts::cut_before_program))]
     fn program(&mut self, page: PageId, at: u16, bytes: &[u8]) -> Result<(), Failed>
         requires page { 256 * page.0 + 256 ≤ length (F.image self.old.inner) }
         requires range { at + length bytes.now ≤ 256 }
@@ -129,40 +128,31 @@ impl<F: Flash + Drop> Flash for FaultFlash<F> {
             (page_bytes (F.image self.new.inner) page.0 ≡ or_at (page_bytes (F.image self.old.inner) page.0) at bytes.now) }
         ensures other_pages { IsTrue F.tells → (p : ℕ) → p ≢ page.0
             → page_bytes (F.image self.new.inner) p ≡ page_bytes (F.image self.old.inner) p }
-        ensures size { length (F.image self.new.inner) ≡ length (F.image self.old.inner) }
-        ensures reads { self.new.reads ≡ self.old.reads }
+        ensures cut { IsTrue F.tells → IsTrue F.cuts → OnErr result
+            (IsCutProgram (F.image self.old.inner) (F.image self.new.inner) (256 * page.0 + at) bytes.now) }
         ensures faultless { OnOk result (all_faults F.faults self.new ≡ all_faults F.faults self.old) }
-        ensures cause { HasCause (all_faults F.faults self.old) (all_faults F.faults self.new) result }
-        ensures counts { self.new.faults ≡ counted (fails_now self.old.fails self.old.calls) self.old.faults }
-        ensures numbered { self.new.calls ≡ number_of_call self.old.calls }
-        ensures list { self.new.fails ≡ self.old.fails }
-        ensures fails { fails_now self.old.fails self.old.calls ≡ true
-            → IsErr result × (self.new.inner ≡ self.old.inner) }
-        ensures passes { fails_now self.old.fails self.old.calls ≡ false
-            → OnErr result (Rose (F.faults self.old.inner) (F.faults self.new.inner)) }
+        ensures frame { let flash = ⟦<Self as Flash>⟧ in
+            Programs flash.image flash.lent flash.reads flash.faults self.old self.new result }
+        ensures demand { FailsOnDemand F.faults self.old self.new result }
     {
         self.count_call()?;
         self.inner.program(page, at, bytes)?;
         Ok(())
     }
 
+    #[tactic(auto, using(crate::proofs::Cuts::cut_before_erase))]
     fn erase(&mut self, sector: SectorId) -> Result<(), Failed>
         requires sector { 4096 * sector.0 + 4096 ≤ length (F.image self.old.inner) }
         ensures erased { IsTrue F.tells → OnOk result
             (F.image self.new.inner ≡ zeros_at (F.image self.old.inner) (4096 * sector.0) 4096) }
         ensures other_sectors { IsTrue F.tells → (s : ℕ) → s ≢ sector.0
             → sector_bytes (F.image self.new.inner) s ≡ sector_bytes (F.image self.old.inner) s }
-        ensures size { length (F.image self.new.inner) ≡ length (F.image self.old.inner) }
-        ensures reads { self.new.reads ≡ self.old.reads }
+        ensures cut { IsTrue F.tells → IsTrue F.cuts → OnErr result
+            (IsCutErase (F.image self.old.inner) (F.image self.new.inner) sector.0) }
         ensures faultless { OnOk result (all_faults F.faults self.new ≡ all_faults F.faults self.old) }
-        ensures cause { HasCause (all_faults F.faults self.old) (all_faults F.faults self.new) result }
-        ensures counts { self.new.faults ≡ counted (fails_now self.old.fails self.old.calls) self.old.faults }
-        ensures numbered { self.new.calls ≡ number_of_call self.old.calls }
-        ensures list { self.new.fails ≡ self.old.fails }
-        ensures fails { fails_now self.old.fails self.old.calls ≡ true
-            → IsErr result × (self.new.inner ≡ self.old.inner) }
-        ensures passes { fails_now self.old.fails self.old.calls ≡ false
-            → OnErr result (Rose (F.faults self.old.inner) (F.faults self.new.inner)) }
+        ensures frame { let flash = ⟦<Self as Flash>⟧ in
+            Programs flash.image flash.lent flash.reads flash.faults self.old self.new result }
+        ensures demand { FailsOnDemand F.faults self.old self.new result }
     {
         self.count_call()?;
         self.inner.erase(sector)?;
@@ -171,28 +161,24 @@ impl<F: Flash + Drop> Flash for FaultFlash<F> {
 }
 
 impl<F: Backing + Drop> Backing for FaultFlash<F> {
-    ghost use Rattle.std.specs.Prelude.{◌≡◌, ◌≢◌, ℕ, ◌+◌, ◌*◌, ◌≤◌, true, false, length, IsTrue, IsErr, OnOk, OnErr};
-    ghost use Rattle.afl_base.specs.Causes.{HasCause, CountsOne, Rose};
+    ghost use Rattle.std.specs.Prelude.{◌≡◌, ◌≢◌, ℕ, ◌+◌, ◌*◌, ◌≤◌, length, IsTrue, OnOk, OnErr};
+    ghost use Rattle.afl_base.specs.Causes.{CountsOne};
+    ghost use Rattle.afl_base.specs.Cuts.{IsCutProgram};
     ghost use Rattle.afl_base.specs.Image.{or_at, page_bytes, sector_bytes};
     ghost use Rattle.afl_sim.specs.Caches.{Covers};
-    ghost use Rattle.afl_sim.specs.Devices.{all_faults, counted, fails_now, number_of_call};
+    ghost use Rattle.afl_sim.specs.Devices.{all_faults, FailsOnDemand};
+    ghost use Rattle.afl_base.specs.Keeping.{OnlyReads, Programs};
 
     fn read_sector(&mut self, sector: SectorId, into: &mut [u8]) -> Result<(), Failed>
         requires sector { 4096 * sector.0 + 4096 ≤ length (F.image self.old.inner) }
         requires whole { length into.old ≡ 4096 }
         ensures bytes { IsTrue F.tells → OnOk result
             (into.new ≡ sector_bytes (F.image self.old.inner) sector.0) }
-        ensures same { F.image self.new.inner ≡ F.image self.old.inner }
         ensures counted { CountsOne self.old.reads self.new.reads }
         ensures faultless { OnOk result (all_faults F.faults self.new ≡ all_faults F.faults self.old) }
-        ensures cause { HasCause (all_faults F.faults self.old) (all_faults F.faults self.new) result }
-        ensures counts { self.new.faults ≡ counted (fails_now self.old.fails self.old.calls) self.old.faults }
-        ensures numbered { self.new.calls ≡ number_of_call self.old.calls }
-        ensures list { self.new.fails ≡ self.old.fails }
-        ensures fails { fails_now self.old.fails self.old.calls ≡ true
-            → IsErr result × (self.new.inner ≡ self.old.inner) }
-        ensures passes { fails_now self.old.fails self.old.calls ≡ false
-            → OnErr result (Rose (F.faults self.old.inner) (F.faults self.new.inner)) }
+        ensures frame { let flash = ⟦<Self as Flash>⟧ in
+            OnlyReads flash.image flash.lent flash.reads flash.faults self.old self.new result }
+        ensures demand { FailsOnDemand F.faults self.old self.new result }
     {
         self.reads = self.reads.saturating_add(1);
         self.count_call()?;
@@ -200,6 +186,7 @@ impl<F: Backing + Drop> Backing for FaultFlash<F> {
         Ok(())
     }
 
+    #[tactic(auto, using(crate::proofs::Cuts::cut_before_program))]
     fn overwrite(&mut self, page: PageId, at: u16, bytes: &[u8]) -> Result<(), Failed>
         requires page { 256 * page.0 + 256 ≤ length (F.image self.old.inner) }
         requires range { at + length bytes.now ≤ 256 }
@@ -208,17 +195,12 @@ impl<F: Backing + Drop> Backing for FaultFlash<F> {
             (F.image self.new.inner ≡ or_at (F.image self.old.inner) (256 * page.0 + at) bytes.now) }
         ensures other_pages { IsTrue F.tells → (p : ℕ) → p ≢ page.0
             → page_bytes (F.image self.new.inner) p ≡ page_bytes (F.image self.old.inner) p }
-        ensures size { length (F.image self.new.inner) ≡ length (F.image self.old.inner) }
-        ensures reads { self.new.reads ≡ self.old.reads }
+        ensures cut { IsTrue F.tells → IsTrue F.cuts → OnErr result
+            (IsCutProgram (F.image self.old.inner) (F.image self.new.inner) (256 * page.0 + at) bytes.now) }
         ensures faultless { OnOk result (all_faults F.faults self.new ≡ all_faults F.faults self.old) }
-        ensures cause { HasCause (all_faults F.faults self.old) (all_faults F.faults self.new) result }
-        ensures counts { self.new.faults ≡ counted (fails_now self.old.fails self.old.calls) self.old.faults }
-        ensures numbered { self.new.calls ≡ number_of_call self.old.calls }
-        ensures list { self.new.fails ≡ self.old.fails }
-        ensures fails { fails_now self.old.fails self.old.calls ≡ true
-            → IsErr result × (self.new.inner ≡ self.old.inner) }
-        ensures passes { fails_now self.old.fails self.old.calls ≡ false
-            → OnErr result (Rose (F.faults self.old.inner) (F.faults self.new.inner)) }
+        ensures frame { let flash = ⟦<Self as Flash>⟧ in
+            Programs flash.image flash.lent flash.reads flash.faults self.old self.new result }
+        ensures demand { FailsOnDemand F.faults self.old self.new result }
     {
         self.count_call()?;
         self.inner.overwrite(page, at, bytes)?;

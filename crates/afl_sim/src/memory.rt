@@ -1,11 +1,7 @@
 use crate::backing::Backing;
 use crate::bytes::{erase_bytes, program_bytes, read_bytes};
-use afl_base::{Failed, Flash, PageId, SectorId};
+use afl_base::{Failed, Flash, PAGE_SIZE, PageId, SECTOR_SIZE, SectorId};
 use std::marker::Model;
-
-const PAGE: usize = 256;
-
-const SECTOR: usize = 4096;
 
 /// A flash in memory. It tells its image and never fails.
 #[derive(Drop)]
@@ -21,7 +17,7 @@ impl<'a> Model for MemFlash<'a> {
 
     ghost Value = { FlashInMemory };
 
-    ghost view = { λ f. record { image = f.bytes.now; reads = f.reads } };
+    ghost view = { λ f. record { image = f.bytes.now; lent = f.bytes.ghost_name; reads = f.reads } };
 
     ghost invariant = { λ f. (4 ≤ f.sectors) × (f.sectors ≤ 4095) × (length f.bytes.now ≡ 4096 * f.sectors) };
 }
@@ -35,10 +31,11 @@ impl<'a> MemFlash<'a> {
     pub fn new(image: &'a mut [u8]) -> Option<MemFlash<'a>>
         ensures variant { IsSome result ↔ IsImageLength (length image.entry.now) }
         ensures image { IfSome result (λ flash. flash.image ≡ image.entry.now) }
+        ensures lent { IfSome result (λ flash. flash.lent ≡ image.entry.ghost_name) }
         ensures reads { IfSome result (λ flash. flash.reads ≡ 0) }
     {
-        let sectors = image.len() / SECTOR;
-        if image.len() % SECTOR != 0 || sectors < 4 || sectors > 4095 {
+        let sectors = image.len() / SECTOR_SIZE;
+        if image.len() % SECTOR_SIZE != 0 || sectors < 4 || sectors > 4095 {
             return None;
         }
         Some(MemFlash {
@@ -64,9 +61,11 @@ impl<'a> MemFlash<'a> {
 }
 
 impl Flash for MemFlash<'_> {
-    ghost use Rattle.std.specs.Prelude.{true};
+    ghost use Rattle.std.specs.Prelude.{◌∷◌, [], true};
 
     ghost tells = { true };
+
+    ghost cuts = { true };
 
     ghost image = { λ f. f.image };
 
@@ -74,25 +73,27 @@ impl Flash for MemFlash<'_> {
 
     ghost reads = { λ f. f.reads };
 
+    ghost lent = { λ f. f.lent ∷ [] };
+
     fn sectors(&self) -> u16 {
         self.sectors
     }
 
     fn read(&mut self, page: PageId, at: u16, into: &mut [u8]) -> Result<(), Failed> {
         self.reads = self.reads.saturating_add(1);
-        self.copy_out(PAGE * page.0 as usize + at as usize, into);
+        self.copy_out(PAGE_SIZE * page.0 as usize + at as usize, into);
         Ok(())
     }
 
     #[tactic(auto, using(afl_base::proofs::Images::or_at_page, afl_base::proofs::Images::or_at_other_page))]
     fn program(&mut self, page: PageId, at: u16, bytes: &[u8]) -> Result<(), Failed> {
-        program_bytes(self.bytes, PAGE * page.0 as usize + at as usize, bytes);
+        program_bytes(self.bytes, PAGE_SIZE * page.0 as usize + at as usize, bytes);
         Ok(())
     }
 
     #[tactic(auto, using(afl_base::proofs::Images::erased_other_sector))]
     fn erase(&mut self, sector: SectorId) -> Result<(), Failed> {
-        erase_bytes(self.bytes, SECTOR * sector.0 as usize, SECTOR);
+        erase_bytes(self.bytes, SECTOR_SIZE * sector.0 as usize, SECTOR_SIZE);
         Ok(())
     }
 }
@@ -100,7 +101,7 @@ impl Flash for MemFlash<'_> {
 impl Backing for MemFlash<'_> {
     fn read_sector(&mut self, sector: SectorId, into: &mut [u8]) -> Result<(), Failed> {
         self.reads = self.reads.saturating_add(1);
-        self.copy_out(SECTOR * sector.0 as usize, into);
+        self.copy_out(SECTOR_SIZE * sector.0 as usize, into);
         Ok(())
     }
 

@@ -18,7 +18,7 @@ pub struct PlainFile<const CAP: usize> {
 }
 
 impl<const CAP: usize> Model for PlainFile<CAP> {
-    ghost use Rattle.std.specs.Prelude.{◌≡◌, length, take};
+    ghost use Rattle.std.specs.Prelude.{length, take};
     ghost use Rattle.afl_base.specs.Files.{File};
     ghost use Rattle.padded.specs.Padded.{length-front, padded};
     ghost use Rattle.afl_sim.specs.PlainFiles.{IsPlain};

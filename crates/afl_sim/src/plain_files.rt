@@ -4,7 +4,7 @@ ghost use Rattle.afl_sim.specs.PlainFiles.{IsPlaceFor, plain_pages};
 
 use crate::plain_file::PlainFile;
 use afl_base::{
-    Failed, FileError, FileId, Files, Kind, Name, Named, find_in, fit, free_in, regions,
+    Failed, FileError, FileId, Files, Kind, Name, Named, PAGE_SIZE, find_in, fit, free_in, regions,
 };
 use std::marker::Model;
 
@@ -99,21 +99,24 @@ fn pages(kind: Kind, size: u32) -> u16
 fn is_lacking(cap: usize, pages: u16) -> bool
     ensures { MatchBool result (cap + 32 < 256 * pages) (256 * pages ≤ cap + 32) }
 {
-    cap < (256 * pages as usize).saturating_sub(32)
+    cap < (PAGE_SIZE * pages as usize).saturating_sub(32)
 }
 
 impl<const CAP: usize> Files for PlainFiles<CAP> {
-    ghost use Rattle.std.specs.Prelude.{◌≡◌, ◌+◌, ◌*◌, ◌<◌, ◌≤◌, ℕ, None, OnOk, length, max, replicate};
-    ghost use Rattle.afl_base.specs.FileErrors.{HasFileCause, OnSpace, UnlessFailed};
+    ghost use Rattle.std.specs.Prelude.{◌≡◌, ◌+◌, ◌*◌, ◌<◌, ◌≤◌, ℕ, None, OnOk, max, replicate, []};
+    ghost use Rattle.afl_base.specs.FileErrors.{OnSpace, UnlessFailed};
     ghost use Rattle.afl_base.specs.Files.{Drafts, IsLive, IsNamed, IsUnnamed, Keeps, KeepsBytes, file_at, size_at, used};
     ghost use Rattle.afl_base.specs.Fit.{fit};
     ghost use Rattle.afl_sim.specs.PlainFiles.{PlainLacks, asked_pages};
+    ghost use Rattle.afl_base.specs.Keeping.{ChangesOrLacks};
 
     ghost state = { λ f. f };
 
     ghost faults = { λ f. 0 };
 
     ghost reads = { λ f. 0 };
+
+    ghost lent = { λ f. [] };
 
     ghost lacks = { λ f n. PlainLacks CAP n };
 
@@ -176,11 +179,9 @@ impl<const CAP: usize> Files for PlainFiles<CAP> {
             → need ≤ 16) }
         ensures asked { OnSpace result (λ need. need ≡ asked_pages self.new.files id bytes) }
         ensures unasked { ((n : ℕ) → n ≡ asked_pages self.old.files id bytes → ⊥) → OnSpace result (λ need. ⊥) }
-        ensures lacks { OnSpace result (λ need. PlainLacks CAP need) }
         ensures kept { OnSpace result (λ need. self.new ≡ self.old) }
-        ensures store { length self.new.store ≡ length self.old.store }
-        ensures reads_later { 0 ≤ 0 }
-        ensures cause { HasFileCause 0 0 result }
+        ensures frame { let files = ⟦<Self as Files>⟧ in
+            ChangesOrLacks files.state files.lent files.reads files.faults files.lacks self.old self.new result }
     {
         let mut file = self.file(id);
         let need = pages(file.kind(), file.size() as u32 + bytes);
@@ -216,11 +217,9 @@ impl<const CAP: usize> Files for PlainFiles<CAP> {
         ensures granted { OnOk result (256 * fit size ≤ CAP + 32) }
         ensures begun { OnOk result (Drafts self.old self.new name size (replicate size 0)) }
         ensures need { OnSpace result (λ need. need ≡ fit size) }
-        ensures lacks { OnSpace result (λ need. PlainLacks CAP need) }
         ensures kept { OnSpace result (λ _. Keeps self.old self.new) }
-        ensures store { length self.new.store ≡ length self.old.store }
-        ensures reads_later { 0 ≤ 0 }
-        ensures cause { HasFileCause 0 0 result }
+        ensures frame { let files = ⟦<Self as Files>⟧ in
+            ChangesOrLacks files.state files.lent files.reads files.faults files.lacks self.old self.new result }
     {
         let need = fit(size);
         if is_lacking(CAP, need) {

@@ -81,18 +81,24 @@ impl FileFlash {
 }
 
 impl Flash for FileFlash {
-    ghost use Rattle.std.specs.Prelude.{◌≡◌, ◌≢◌, ℕ, ◌+◌, ◌*◌, ◌≤◌, false, is_err, length, replicate, slice_range, IsTrue, OnOk};
-    ghost use Rattle.afl_base.specs.Causes.{HasCause, CountsOne};
+    ghost use Rattle.std.specs.Prelude.{◌≡◌, ◌≢◌, ℕ, ◌+◌, ◌*◌, ◌≤◌, false, is_err, length, slice_range, IsTrue, OnErr, OnOk, []};
+    ghost use Rattle.afl_base.specs.Causes.{CountsOne};
+    ghost use Rattle.afl_base.specs.Cuts.{IsCutErase, IsCutProgram};
     ghost use Rattle.afl_base.specs.Image.{or_at, zeros_at, page_bytes, sector_bytes};
     ghost use Rattle.afl_sim.specs.Devices.{counted, untold};
+    ghost use Rattle.afl_base.specs.Keeping.{OnlyReads, Programs};
 
     ghost tells = { false };
+
+    ghost cuts = { false };
 
     ghost image = { λ f. untold f };
 
     ghost faults = { λ f. f.faults };
 
     ghost reads = { λ f. f.reads };
+
+    ghost lent = { λ f. [] };
 
     fn sectors(&self) -> u16 {
         self.sectors
@@ -103,12 +109,11 @@ impl Flash for FileFlash {
         requires range { at + length into.old ≤ 256 }
         ensures bytes { IsTrue false → OnOk result
             (into.new ≡ slice_range (untold self.old) (256 * page.0 + at) (256 * page.0 + at + length into.old)) }
-        ensures same { untold self.new ≡ untold self.old }
         ensures counted { CountsOne self.old.reads self.new.reads }
         ensures reads { self.new.reads ≤ self.old.reads + 1 }
-        ensures reads_later { self.old.reads ≤ self.new.reads }
         ensures faultless { OnOk result (self.new.faults ≡ self.old.faults) }
-        ensures cause { HasCause self.old.faults self.new.faults result }
+        ensures frame { let flash = ⟦<Self as Flash>⟧ in
+            OnlyReads flash.image flash.lent flash.reads flash.faults self.old self.new result }
         ensures counts { self.new.faults ≡ counted (is_err result) self.old.faults }
     {
         self.reads = self.reads.saturating_add(1);
@@ -128,10 +133,11 @@ impl Flash for FileFlash {
             (page_bytes (untold self.new) page.0 ≡ or_at (page_bytes (untold self.old) page.0) at bytes.now) }
         ensures other_pages { IsTrue false → (p : ℕ) → p ≢ page.0
             → page_bytes (untold self.new) p ≡ page_bytes (untold self.old) p }
-        ensures size { length (untold self.new) ≡ length (untold self.old) }
-        ensures reads { self.new.reads ≡ self.old.reads }
+        ensures cut { IsTrue false → IsTrue false → OnErr result
+            (IsCutProgram (untold self.old) (untold self.new) (256 * page.0 + at) bytes.now) }
         ensures faultless { OnOk result (self.new.faults ≡ self.old.faults) }
-        ensures cause { HasCause self.old.faults self.new.faults result }
+        ensures frame { let flash = ⟦<Self as Flash>⟧ in
+            Programs flash.image flash.lent flash.reads flash.faults self.old self.new result }
         ensures counts { self.new.faults ≡ counted (is_err result) self.old.faults }
     {
         let place = PAGE * u64::from(page.0) + u64::from(at);
@@ -151,10 +157,11 @@ impl Flash for FileFlash {
             (untold self.new ≡ zeros_at (untold self.old) (4096 * sector.0) 4096) }
         ensures other_sectors { IsTrue false → (s : ℕ) → s ≢ sector.0
             → sector_bytes (untold self.new) s ≡ sector_bytes (untold self.old) s }
-        ensures size { length (untold self.new) ≡ length (untold self.old) }
-        ensures reads { self.new.reads ≡ self.old.reads }
+        ensures cut { IsTrue false → IsTrue false → OnErr result
+            (IsCutErase (untold self.old) (untold self.new) sector.0) }
         ensures faultless { OnOk result (self.new.faults ≡ self.old.faults) }
-        ensures cause { HasCause self.old.faults self.new.faults result }
+        ensures frame { let flash = ⟦<Self as Flash>⟧ in
+            Programs flash.image flash.lent flash.reads flash.faults self.old self.new result }
         ensures counts { self.new.faults ≡ counted (is_err result) self.old.faults }
     {
         let outcome = self
@@ -166,21 +173,23 @@ impl Flash for FileFlash {
 }
 
 impl Backing for FileFlash {
-    ghost use Rattle.std.specs.Prelude.{◌≡◌, ◌≢◌, ℕ, ◌+◌, ◌*◌, ◌≤◌, false, is_err, length, IsTrue, OnOk};
-    ghost use Rattle.afl_base.specs.Causes.{HasCause, CountsOne};
+    ghost use Rattle.std.specs.Prelude.{◌≡◌, ◌≢◌, ℕ, ◌+◌, ◌*◌, ◌≤◌, false, is_err, length, IsTrue, OnErr, OnOk};
+    ghost use Rattle.afl_base.specs.Causes.{CountsOne};
+    ghost use Rattle.afl_base.specs.Cuts.{IsCutProgram};
     ghost use Rattle.afl_base.specs.Image.{or_at, page_bytes, sector_bytes};
     ghost use Rattle.afl_sim.specs.Caches.{Covers};
     ghost use Rattle.afl_sim.specs.Devices.{counted, untold};
+    ghost use Rattle.afl_base.specs.Keeping.{OnlyReads, Programs};
 
     fn read_sector(&mut self, sector: SectorId, into: &mut [u8]) -> Result<(), Failed>
         requires sector { 4096 * sector.0 + 4096 ≤ length (untold self.old) }
         requires whole { length into.old ≡ 4096 }
         ensures bytes { IsTrue false → OnOk result
             (into.new ≡ sector_bytes (untold self.old) sector.0) }
-        ensures same { untold self.new ≡ untold self.old }
         ensures counted { CountsOne self.old.reads self.new.reads }
         ensures faultless { OnOk result (self.new.faults ≡ self.old.faults) }
-        ensures cause { HasCause self.old.faults self.new.faults result }
+        ensures frame { let flash = ⟦<Self as Flash>⟧ in
+            OnlyReads flash.image flash.lent flash.reads flash.faults self.old self.new result }
         ensures counts { self.new.faults ≡ counted (is_err result) self.old.faults }
     {
         self.reads = self.reads.saturating_add(1);
@@ -197,10 +206,11 @@ impl Backing for FileFlash {
             (untold self.new ≡ or_at (untold self.old) (256 * page.0 + at) bytes.now) }
         ensures other_pages { IsTrue false → (p : ℕ) → p ≢ page.0
             → page_bytes (untold self.new) p ≡ page_bytes (untold self.old) p }
-        ensures size { length (untold self.new) ≡ length (untold self.old) }
-        ensures reads { self.new.reads ≡ self.old.reads }
+        ensures cut { IsTrue false → IsTrue false → OnErr result
+            (IsCutProgram (untold self.old) (untold self.new) (256 * page.0 + at) bytes.now) }
         ensures faultless { OnOk result (self.new.faults ≡ self.old.faults) }
-        ensures cause { HasCause self.old.faults self.new.faults result }
+        ensures frame { let flash = ⟦<Self as Flash>⟧ in
+            Programs flash.image flash.lent flash.reads flash.faults self.old self.new result }
         ensures counts { self.new.faults ≡ counted (is_err result) self.old.faults }
     {
         let outcome = self
@@ -242,20 +252,21 @@ fn write_once<W: Write>(writer: &mut W, bytes: &[u8]) -> Option<usize>
     None
 }
 
-/// A source over a reader of the system: an open file or standard input. It tells no contents, and
-/// contracts see it as its count of faults.
+/// A source over a reader of the system: an open file or standard input. It tells no contents,
+/// and contracts see it as its counts of reads and of faults.
 #[derive(Drop)]
 pub struct StdSource<R: Read + Drop> {
     reader: R,
+    reads: u64,
     faults: u64,
 }
 
 impl<R: Read + Drop> Model for StdSource<R> {
-    ghost use Rattle.std.specs.Prelude.{ℕ};
+    ghost use Rattle.afl_sim.specs.Devices.{SourceOverReader};
 
-    ghost Value = { ℕ };
+    ghost Value = { SourceOverReader };
 
-    ghost view = { λ s. s.faults };
+    ghost view = { λ s. record { reads = s.reads; faults = s.faults } };
 }
 
 impl<R: Read + Drop> StdSource<R> {
@@ -263,21 +274,28 @@ impl<R: Read + Drop> StdSource<R> {
 
     /// A source of what `reader` gives.
     pub fn new(reader: R) -> StdSource<R>
-        ensures { result ≡ 0 }
+        ensures reads { result.reads ≡ 0 }
+        ensures faults { result.faults ≡ 0 }
     {
-        StdSource { reader, faults: 0 }
+        StdSource {
+            reader,
+            reads: 0,
+            faults: 0,
+        }
     }
 }
 
 impl<R: Read + Drop> Source for StdSource<R> {
     ghost use Rattle.std.specs.Prelude.{◌≡◌, ◌≤◌, ℕ, List, Option, None, IfOk, OnErr, OnOk, is_err, length, take};
     ghost use Rattle.std.specs.Io.KnownBytes.{prepend_known, IsAtEnd};
-    ghost use Rattle.afl_base.specs.Causes.{HasCause};
+    ghost use Rattle.afl_base.specs.Causes.{CountsOne, HasCause};
     ghost use Rattle.afl_sim.specs.Devices.{counted};
 
     ghost left = { λ s. None };
 
-    ghost faults = { λ s. s };
+    ghost faults = { λ s. s.faults };
+
+    ghost reads = { λ s. s.reads };
 
     fn read(&mut self, into: &mut [u8]) -> Result<usize, Failed>
         requires room { 1 ≤ length into.old }
@@ -285,10 +303,12 @@ impl<R: Read + Drop> Source for StdSource<R> {
         ensures bytes { IfOk result (λ n. None ≡ prepend_known (take n into.new) None) }
         ensures end { IfOk result (λ n. n ≡ 0 → IsAtEnd None) }
         ensures failed { OnErr result (◌≡◌ {A = Option (List ℕ)} None None) }
-        ensures faultless { OnOk result (self.new ≡ self.old) }
-        ensures cause { HasCause self.old self.new result }
-        ensures counts { self.new ≡ counted (is_err result) self.old }
+        ensures counted { CountsOne self.old.reads self.new.reads }
+        ensures faultless { OnOk result (self.new.faults ≡ self.old.faults) }
+        ensures cause { HasCause self.old.faults self.new.faults result }
+        ensures counts { self.new.faults ≡ counted (is_err result) self.old.faults }
     {
+        self.reads = self.reads.saturating_add(1);
         let Some(n) = read_once(&mut self.reader, into) else {
             self.faults = self.faults.saturating_add(1);
             return Err(Failed);
@@ -325,20 +345,16 @@ impl<W: Write + Drop> StdSink<W> {
 }
 
 impl<W: Write + Drop> Sink for StdSink<W> {
-    ghost use Rattle.std.specs.Prelude.{◌≡◌, ◌≤◌, ℕ, List, Option, None, IfOk, OnErr, OnOk, is_err, length, take, ⊤};
+    ghost use Rattle.std.specs.Prelude.{◌≡◌, ◌≤◌, ℕ, List, Option, None, IfOk, OnErr, is_err, length, take, []};
     ghost use Rattle.std.specs.Io.KnownBytes.{append_known};
-    ghost use Rattle.afl_base.specs.Causes.{HasCause};
     ghost use Rattle.afl_sim.specs.Devices.{counted};
+    ghost use Rattle.afl_base.specs.Keeping.{Sends};
 
     ghost held = { λ s. None };
 
     ghost faults = { λ s. s };
 
-    ghost keeps = { λ a b. ⊤ };
-
-    ghost kept = { λ a. tt {0} };
-
-    ghost kept_on = { λ a b c first then. tt {0} };
+    ghost lent = { λ s. [] };
 
     fn write(&mut self, bytes: &[u8]) -> Result<usize, Failed>
         requires some { 1 ≤ length bytes.now }
@@ -346,9 +362,7 @@ impl<W: Write + Drop> Sink for StdSink<W> {
         ensures most { IfOk result (λ n. n ≤ length bytes.now) }
         ensures bytes { IfOk result (λ n. None ≡ append_known None (take n bytes.now)) }
         ensures failed { OnErr result (◌≡◌ {A = Option (List ℕ)} None None) }
-        ensures keeps { ⊤ }
-        ensures faultless { OnOk result (self.new ≡ self.old) }
-        ensures cause { HasCause self.old self.new result }
+        ensures frame { let sink = ⟦<Self as Sink>⟧ in Sends sink.lent sink.faults self.old self.new result }
         ensures counts { self.new ≡ counted (is_err result) self.old }
     {
         let Some(n) = write_once(&mut self.writer, bytes) else {

@@ -6,6 +6,7 @@ use std::marker::Model;
 pub struct MemSource<'a> {
     left: &'a [u8],
     fails_in: Option<u64>,
+    reads: u64,
     faults: u64,
 }
 
@@ -14,7 +15,7 @@ impl<'a> Model for MemSource<'a> {
 
     ghost Value = { SourceInMemory };
 
-    ghost view = { λ s. record { left = s.left.now; fails_in = s.fails_in; faults = s.faults } };
+    ghost view = { λ s. record { left = s.left.now; fails_in = s.fails_in; reads = s.reads; faults = s.faults } };
 }
 
 impl<'a> MemSource<'a> {
@@ -25,25 +26,29 @@ impl<'a> MemSource<'a> {
     pub fn new(bytes: &'a [u8], fail_at: Option<u64>) -> MemSource<'a>
         ensures left { result.left ≡ bytes.now }
         ensures fails { result.fails_in ≡ fail_at }
+        ensures reads { result.reads ≡ 0 }
         ensures faults { result.faults ≡ 0 }
     {
         MemSource {
             left: bytes,
             fails_in: fail_at,
+            reads: 0,
             faults: 0,
         }
     }
 }
 
 impl Source for MemSource<'_> {
-    ghost use Rattle.std.specs.Prelude.{◌≡◌, ℕ, ◌≤◌, List, Option, Some, is_err, length, take, IfOk, OnErr, OnOk, min};
+    ghost use Rattle.std.specs.Prelude.{◌≡◌, ◌≤◌, Some, is_err, length, take, IfOk, OnErr, OnOk, min};
     ghost use Rattle.std.specs.Io.KnownBytes.{prepend_known, IsAtEnd};
-    ghost use Rattle.afl_base.specs.Causes.{HasCause};
+    ghost use Rattle.afl_base.specs.Causes.{CountsOne, HasCause};
     ghost use Rattle.afl_sim.specs.Devices.{counted, nearer, is_first};
 
     ghost left = { λ s. Some s.left };
 
     ghost faults = { λ s. s.faults };
+
+    ghost reads = { λ s. s.reads };
 
     fn read(&mut self, into: &mut [u8]) -> Result<usize, Failed>
         requires room { 1 ≤ length into.old }
@@ -52,6 +57,7 @@ impl Source for MemSource<'_> {
             Some self.old.left ≡ prepend_known (take n into.new) (Some self.new.left)) }
         ensures end { IfOk result (λ n. n ≡ 0 → IsAtEnd (Some self.new.left)) }
         ensures failed { OnErr result (Some self.new.left ≡ Some self.old.left) }
+        ensures counted { CountsOne self.old.reads self.new.reads }
         ensures faultless { OnOk result (self.new.faults ≡ self.old.faults) }
         ensures cause { HasCause self.old.faults self.new.faults result }
         ensures counts { self.new.faults ≡ counted (is_err result) self.old.faults }
@@ -59,6 +65,7 @@ impl Source for MemSource<'_> {
         ensures fails { is_err result ≡ is_first self.old.fails_in }
         ensures nearer { self.new.fails_in ≡ nearer self.old.fails_in }
     {
+        self.reads = self.reads.saturating_add(1);
         let fails = self.fails_in == Some(1);
         self.fails_in = self.fails_in.map(|calls| calls.saturating_sub(1));
         if fails {
@@ -88,7 +95,7 @@ impl<'a> Model for MemSink<'a> {
 
     ghost Value = { SinkInMemory };
 
-    ghost view = { λ s. record { held = take s.held s.bytes.now; room = length s.bytes.now - s.held; fails_in = s.fails_in; faults = s.faults } };
+    ghost view = { λ s. record { held = take s.held s.bytes.now; room = length s.bytes.now - s.held; lent = s.bytes.ghost_name; fails_in = s.fails_in; faults = s.faults } };
 
     ghost invariant = { λ s. s.held ≤ length s.bytes.now };
 }
@@ -101,6 +108,7 @@ impl<'a> MemSink<'a> {
     pub fn new(room: &'a mut [u8], fail_at: Option<u64>) -> MemSink<'a>
         ensures held { result.held ≡ [] }
         ensures room { result.room ≡ length room.entry.now }
+        ensures lent { result.lent ≡ room.entry.ghost_name }
         ensures fails { result.fails_in ≡ fail_at }
         ensures faults { result.faults ≡ 0 }
     {
@@ -124,6 +132,7 @@ impl<'a> MemSink<'a> {
         requires { length given.now ≤ self.old.room }
         ensures held { self.new.held ≡ self.old.held ++ given.now }
         ensures room { self.new.room + length given.now ≡ self.old.room }
+        ensures lent { self.new.lent ≡ self.old.lent }
         ensures fails { self.new.fails_in ≡ self.old.fails_in }
         ensures faults { self.new.faults ≡ self.old.faults }
     {
@@ -134,20 +143,16 @@ impl<'a> MemSink<'a> {
 }
 
 impl Sink for MemSink<'_> {
-    ghost use Rattle.std.specs.Prelude.{◌≡◌, ℕ, ◌≤◌, ◌||◌, List, Option, Some, is_err, length, take, IfOk, OnErr, OnOk, nat_eq, min, ⊤};
+    ghost use Rattle.std.specs.Prelude.{◌≡◌, ◌≤◌, ◌||◌, Some, is_err, length, take, IfOk, OnErr, nat_eq, min, ◌∷◌, []};
     ghost use Rattle.std.specs.Io.KnownBytes.{append_known};
-    ghost use Rattle.afl_base.specs.Causes.{HasCause};
     ghost use Rattle.afl_sim.specs.Devices.{counted, nearer, is_first};
+    ghost use Rattle.afl_base.specs.Keeping.{Sends};
 
     ghost held = { λ s. Some s.held };
 
     ghost faults = { λ s. s.faults };
 
-    ghost keeps = { λ a b. ⊤ };
-
-    ghost kept = { λ a. tt {0} };
-
-    ghost kept_on = { λ a b c first then. tt {0} };
+    ghost lent = { λ s. s.lent ∷ [] };
 
     fn write(&mut self, bytes: &[u8]) -> Result<usize, Failed>
         requires some { 1 ≤ length bytes.now }
@@ -156,9 +161,7 @@ impl Sink for MemSink<'_> {
         ensures bytes { IfOk result (λ n.
             Some self.new.held ≡ append_known (Some self.old.held) (take n bytes.now)) }
         ensures failed { OnErr result (Some self.new.held ≡ Some self.old.held) }
-        ensures keeps { ⊤ }
-        ensures faultless { OnOk result (self.new.faults ≡ self.old.faults) }
-        ensures cause { HasCause self.old.faults self.new.faults result }
+        ensures frame { let sink = ⟦<Self as Sink>⟧ in Sends sink.lent sink.faults self.old self.new result }
         ensures counts { self.new.faults ≡ counted (is_err result) self.old.faults }
         ensures taken { IfOk result (λ n. n ≡ min (length bytes.now) self.old.room) }
         ensures fails { is_err result ≡ (is_first self.old.fails_in || nat_eq self.old.room 0) }

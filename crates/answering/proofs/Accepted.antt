@@ -30,13 +30,13 @@ module _ (db : Database) where
   said_grown name wanted slot r = search (yields_behind, yields_by, yields_ok) depth 20
 
   said_inserted : (values : List Value) (slot : ℕ) (r : Relation) → Yields IsSaid (insert_into values slot db r)
-  said_inserted values slot r = search (yields_behind, yields_by, yields_ok) depth 20
+  said_inserted values slot r = search (yields_behind, yields_ok) depth 20
 
   said_removed : (condition : Option Cond) (slot : ℕ) (r : Relation) → Yields IsSaid (remove_from condition slot db r)
-  said_removed condition slot r = search (yields_behind, yields_by, yields_ok) depth 20
+  said_removed condition slot r = search (yields_behind, yields_ok) depth 20
 
   said_packed : (slot : ℕ) (r : Relation) → Yields IsSaid (pack slot db r)
-  said_packed slot r = search (yields_behind, yields_by, yields_ok) depth 20
+  said_packed slot r = search (yields_behind, yields_ok) depth 20
 
   said_changed : (change : ℕ → Database → Relation → Result (Relation × Reply) Refusal) (name : List ℕ)
       → ((slot : ℕ) (r : Relation) → Yields IsSaid (change slot db r)) → Yields IsSaid (changed_by change db name)
@@ -46,7 +46,7 @@ module _ (db : Database) where
       (λ r f. yields_ok IsSaid (with_relation db s.0 (Some r.0), r.1) ((h s.0 s.1).yields r f)))
 
   said_totalled : (list : List (Agg × List ℕ)) (condition : Option Cond) (r : Relation) → Yields IsReply (aggregate_of list condition r)
-  said_totalled list condition r = search (yields_behind, yields_by, yields_ok) depth 20
+  said_totalled list condition r = search (yields_behind, yields_ok) depth 20
 
   said_asked : (answer : Relation → Result Reply Refusal) (name : List ℕ) → ((r : Relation) → Yields IsReply (answer r)) → Yields IsSaid (asked_by answer db name)
   said_asked answer name h =

@@ -11,9 +11,9 @@ use Rattle.intake.specs.declared.halt.Halt.{Halt}
 use Rattle.intake.specs.declared.halt.Halt.TheVariants.{Space, Flash, Sink}
 use Rattle.reply_text.proofs.Pieces.{append_known-nil, append_known-twice, held_more}
 use Rattle.reply_text.specs.WroteLess.{WroteLess}
-use Rattle.run_model.specs.Talk.{OnlyReads, Talk, after, costs, last, last_aheads, output}
+use Rattle.run_model.specs.Talk.{AsksToRead, Talk, after_entry, talk_costs, last_database, talk_aheads, talk_output}
 use Rattle.run_model.proofs.Talks.{costs-append, last-append, last_aheads-append, output-append}
-use Rattle.answering.specs.Carried.{Carried, HaltsIn, Standing, Stopped, StopsBy, no_space}
+use Rattle.answering.specs.Carried.{Carried, HaltsIn, Standing, Stopped, StopsEntries, no_space}
 
 -- ---- entries that only read
 
@@ -36,24 +36,24 @@ module _ {E : Type 0} (talk : Talk E) where
   }
 
   reads_then : (es fs : List E) (a b : Standing) → Carried talk es a b → (reads : ℕ)
-      → (AllByRecursion (OnlyReads talk) fs → reads ≤ b.reads + costs talk b.database b.aheads fs)
-      → AllByRecursion (OnlyReads talk) (es ++ fs) → reads ≤ a.reads + costs talk a.database a.aheads (es ++ fs)
+      → (AllByRecursion (AsksToRead talk) fs → reads ≤ b.reads + talk_costs talk b.database b.aheads fs)
+      → AllByRecursion (AsksToRead talk) (es ++ fs) → reads ≤ a.reads + talk_costs talk a.database a.aheads (es ++ fs)
   reads_then es fs a b x reads y all =
-      let left = x.reads (all_front (OnlyReads talk) es fs all) in
-      let right = y (all_behind (OnlyReads talk) es fs all) in
-      let same : costs talk b.database b.aheads fs ≡ costs talk (last talk a.database es) (last_aheads talk a.database a.aheads es) fs =
-      ap (λ (db : Database). costs talk db b.aheads fs) x.database ∙ ap (λ (aheads : Aheads). costs talk (last talk a.database es) aheads fs) x.aheads in
+      let left = x.reads (all_front (AsksToRead talk) es fs all) in
+      let right = y (all_behind (AsksToRead talk) es fs all) in
+      let same : talk_costs talk b.database b.aheads fs ≡ talk_costs talk (last_database talk a.database es) (talk_aheads talk a.database a.aheads es) fs =
+      ap (λ (db : Database). talk_costs talk db b.aheads fs) x.database ∙ ap (λ (aheads : Aheads). talk_costs talk (last_database talk a.database es) aheads fs) x.aheads in
       let sum = costs-append talk a.database a.aheads es fs in
       omega (arith, left, right, same, sum)
 
   pub carried_then : (es fs : List E) (a b c : Standing) → Carried talk es a b → Carried talk fs b c → Carried talk (es ++ fs) a c
   carried_then es fs a b c x y = record {
     tells = y.tells ∙ x.tells;
-    database = y.database ∙ ap (λ (db : Database). last talk db fs) x.database ∙ sym (last-append talk a.database es fs);
-    held = held_more a.held b.held c.held (output talk a.database es) (output talk (last talk a.database es) fs) (output talk a.database (es ++ fs)) x.held
-        (y.held ∙ ap (λ (db : Database). append_known b.held (output talk db fs)) x.database) (output-append talk a.database es fs);
-    aheads = y.aheads ∙ ap (λ (db : Database). last_aheads talk db b.aheads fs) x.database
-        ∙ ap (λ (aheads : Aheads). last_aheads talk (last talk a.database es) aheads fs) x.aheads
+    database = y.database ∙ ap (λ (db : Database). last_database talk db fs) x.database ∙ sym (last-append talk a.database es fs);
+    held = held_more a.held b.held c.held (talk_output talk a.database es) (talk_output talk (last_database talk a.database es) fs) (talk_output talk a.database (es ++ fs)) x.held
+        (y.held ∙ ap (λ (db : Database). append_known b.held (talk_output talk db fs)) x.database) (output-append talk a.database es fs);
+    aheads = y.aheads ∙ ap (λ (db : Database). talk_aheads talk db b.aheads fs) x.database
+        ∙ ap (λ (aheads : Aheads). talk_aheads talk (last_database talk a.database es) aheads fs) x.aheads
         ∙ sym (last_aheads-append talk a.database a.aheads es fs);
     reads = reads_then es fs a b x c.reads y.reads;
   }
@@ -61,14 +61,14 @@ module _ {E : Type 0} (talk : Talk E) where
   -- ---- further entries in front
 
   module _ (Lacks : Command → ℕ → Type 0) (es fs : List E) (a b c : Standing) (x : Carried talk es a b) where
-    last_behind : (front : List E) → last talk b.database front ≡ last talk a.database (es ++ front)
-    last_behind front = ap (λ (db : Database). last talk db front) x.database ∙ sym (last-append talk a.database es front)
+    last_behind : (front : List E) → last_database talk b.database front ≡ last_database talk a.database (es ++ front)
+    last_behind front = ap (λ (db : Database). last_database talk db front) x.database ∙ sym (last-append talk a.database es front)
 
-    output_behind : (front : List E) (before : Option (List ℕ)) → before ≡ append_known b.held (output talk b.database front)
-        → before ≡ append_known a.held (output talk a.database (es ++ front))
+    output_behind : (front : List E) (before : Option (List ℕ)) → before ≡ append_known b.held (talk_output talk b.database front)
+        → before ≡ append_known a.held (talk_output talk a.database (es ++ front))
     output_behind front before e =
-        held_more a.held b.held before (output talk a.database es) (output talk b.database front) (output talk a.database (es ++ front)) x.held e
-        (output-append talk a.database es front ∙ ap (λ (db : Database). output talk a.database es ++ output talk db front) (sym x.database))
+        held_more a.held b.held before (talk_output talk a.database es) (talk_output talk b.database front) (talk_output talk a.database (es ++ front)) x.held e
+        (output-append talk a.database es front ∙ ap (λ (db : Database). talk_output talk a.database es ++ talk_output talk db front) (sym x.database))
 
     split_behind : (front rest : List E) (entry : E) → fs ≡ front ++ entry ∷ rest → es ++ fs ≡ (es ++ front) ++ entry ∷ rest
     split_behind front rest entry e = ap (λ (gs : List E). es ++ gs) e ∙ sym (append_assoc es front (entry ∷ rest))
@@ -88,14 +88,14 @@ module _ {E : Type 0} (talk : Talk E) where
       lacks = s.lacks;
     }
 
-    stops_later : (halt : Halt) → StopsBy talk Lacks fs b c halt → StopsBy talk Lacks (es ++ fs) a c halt
+    stops_later : (halt : Halt) → StopsEntries talk Lacks fs b c halt → StopsEntries talk Lacks (es ++ fs) a c halt
     unfolding stopped_behind
     stops_later Space h = record {
       stopped = stopped_behind h.stopped;
-      held = held_more a.held (append_known b.held (output talk b.database h.stopped.front)) c.held (output talk a.database (es ++ h.stopped.front)) (no_space talk h.stopped.entry h.stopped.n)
-          (output talk a.database (es ++ h.stopped.front) ++ no_space talk h.stopped.entry h.stopped.n)
-          (output_behind h.stopped.front (append_known b.held (output talk b.database h.stopped.front)) refl)
-          (h.held ∙ sym (append_known-twice b.held (output talk b.database h.stopped.front) (no_space talk h.stopped.entry h.stopped.n))) refl;
+      held = held_more a.held (append_known b.held (talk_output talk b.database h.stopped.front)) c.held (talk_output talk a.database (es ++ h.stopped.front)) (no_space talk h.stopped.entry h.stopped.n)
+          (talk_output talk a.database (es ++ h.stopped.front) ++ no_space talk h.stopped.entry h.stopped.n)
+          (output_behind h.stopped.front (append_known b.held (talk_output talk b.database h.stopped.front)) refl)
+          (h.held ∙ sym (append_known-twice b.held (talk_output talk b.database h.stopped.front) (no_space talk h.stopped.entry h.stopped.n))) refl;
     }
     stops_later Sink (inl h) = inl (record {
       front = es ++ h.front;
@@ -105,9 +105,9 @@ module _ {E : Type 0} (talk : Talk E) where
       tells = h.tells ∙ x.tells;
       before = h.before;
       front_is = output_behind h.front h.before h.front_is;
-      held = subst (λ (db : Database). WroteLess h.before c.held (talk.sent h.entry (text ((after talk db h.entry).1)))) (last_behind h.front) h.held;
+      held = subst (λ (db : Database). WroteLess h.before c.held (talk.sent h.entry (text ((after_entry talk db h.entry).1)))) (last_behind h.front) h.held;
       database = h.database ∙ last_behind (h.front ++ h.entry ∷ [])
-          ∙ ap (last talk a.database) (sym (append_assoc es h.front (h.entry ∷ [])));
+          ∙ ap (last_database talk a.database) (sym (append_assoc es h.front (h.entry ∷ [])));
     })
     stops_later Sink (inr h) = inr (record {
       stopped = stopped_behind h.stopped;
@@ -116,11 +116,11 @@ module _ {E : Type 0} (talk : Talk E) where
       held = h.held;
     })
     stops_later Flash h = record {
-      written = output talk a.database es ++ h.written;
+      written = talk_output talk a.database es ++ h.written;
       left = h.left;
-      whole = output-append talk a.database es fs ∙ ap (λ (db : Database). output talk a.database es ++ output talk db fs) (sym x.database)
-          ∙ ap (λ (bytes : List ℕ). output talk a.database es ++ bytes) h.whole ∙ sym (append_assoc (output talk a.database es) h.written h.left);
-      held = held_more a.held b.held c.held (output talk a.database es) h.written (output talk a.database es ++ h.written) x.held h.held refl;
+      whole = output-append talk a.database es fs ∙ ap (λ (db : Database). talk_output talk a.database es ++ talk_output talk db fs) (sym x.database)
+          ∙ ap (λ (bytes : List ℕ). talk_output talk a.database es ++ bytes) h.whole ∙ sym (append_assoc (talk_output talk a.database es) h.written h.left);
+      held = held_more a.held b.held c.held (talk_output talk a.database es) h.written (talk_output talk a.database es ++ h.written) x.held h.held refl;
     }
 
     pub halts_later : (halt : Halt) → HaltsIn talk Lacks fs b c halt → HaltsIn talk Lacks (es ++ fs) a c halt
@@ -147,7 +147,7 @@ module _ {E : Type 0} (talk : Talk E) where
       lacks = s.lacks;
     }
 
-    stops_sooner : (halt : Halt) → StopsBy talk Lacks es a b halt → StopsBy talk Lacks (es ++ fs) a b halt
+    stops_sooner : (halt : Halt) → StopsEntries talk Lacks es a b halt → StopsEntries talk Lacks (es ++ fs) a b halt
     unfolding stopped_before
     stops_sooner Space h = record { stopped = stopped_before h.stopped; held = h.held }
     stops_sooner Sink (inl h) = inl (record {
@@ -164,9 +164,9 @@ module _ {E : Type 0} (talk : Talk E) where
     stops_sooner Sink (inr h) = inr (record { stopped = stopped_before h.stopped; before = h.before; front_is = h.front_is; held = h.held })
     stops_sooner Flash h = record {
       written = h.written;
-      left = h.left ++ output talk (last talk a.database es) fs;
-      whole = output-append talk a.database es fs ∙ ap (λ (bytes : List ℕ). bytes ++ output talk (last talk a.database es) fs) h.whole
-          ∙ append_assoc h.written h.left (output talk (last talk a.database es) fs);
+      left = h.left ++ talk_output talk (last_database talk a.database es) fs;
+      whole = output-append talk a.database es fs ∙ ap (λ (bytes : List ℕ). bytes ++ talk_output talk (last_database talk a.database es) fs) h.whole
+          ∙ append_assoc h.written h.left (talk_output talk (last_database talk a.database es) fs);
       held = h.held;
     }
 
@@ -174,7 +174,7 @@ module _ {E : Type 0} (talk : Talk E) where
     halts_sooner halt h = record {
       stops = stops_sooner halt h.stops;
       reads = λ all.
-          let few = h.reads (all_front (OnlyReads talk) es fs all) in
+          let few = h.reads (all_front (AsksToRead talk) es fs all) in
           let sum = costs-append talk a.database a.aheads es fs in
           omega (arith, few, sum);
     }

@@ -3,6 +3,7 @@ use Rattle.std.proofs.Common.{◌≡◌, inl, inr, ℕ, ◌<◌, ◌≤◌, Bool
 use Rattle.std.specs.Prelude.{⊤, IfErr, OnOk, Ok, Err, Result}
 use Rattle.std.specs.Io.KnownBytes.{append_known}
 use Rattle.std.proofs.lemmas.List.{append-nil}
+use Rattle.afl_base.specs.declared.files.Files.{Ghosts as FilesOf}
 use Rattle.afl_base.specs.Causes.{Rose}
 use Rattle.db_model.specs.declared.commands.Command.{Command}
 use Rattle.db_model.specs.declared.refusals.Refusal.{Refusal}
@@ -14,13 +15,13 @@ use Rattle.intake.specs.declared.halt.Halt.{Halt}
 use Rattle.intake.specs.declared.halt.Halt.TheVariants.{Space, Flash, Sink}
 use Rattle.intake.specs.Sent.{FailsNow, Sent}
 use Rattle.session_model.specs.Steps.{WrotePart}
-use Rattle.run_model.specs.Talk.{Talk, after, last, output}
-use Rattle.answering.specs.Carried.{Carried, FoundNone, HaltsIn, LacksPages, SaidLess, SaidNone, Standing, Stopped, no_space, standing_of}
+use Rattle.run_model.specs.Talk.{Talk, after_entry, last_database, talk_output}
+use Rattle.answering.specs.Carried.{Carried, FoundNoRoom, HaltsIn, LacksPages, SaidLess, SaidNone, Standing, Stopped, no_space, standing_of}
 use Rattle.db_model.specs.declared.refusals.Refusal.TheVariants as no
 use Rattle.db_model.proofs.ReplyTexts.{text_refused}
 use Rattle.reply_text.proofs.Pieces.{append_known-nil}
 use Rattle.reply_text.specs.WroteLess.{WroteLess}
-use Rattle.answering.specs.Taking.{Carries, GoesOn, HaltsInBytes, HaltsWithin, HasOne, Input, Running, Saying, TakesBytes, Told, running}
+use Rattle.answering.specs.Taking.{CarriesEntries, KeepsRunning, HaltsInBytes, HaltsWithin, HasOne, Input, Running, TakesBytes, Told, running}
 
 -- the same, where the sink holds this
 abbrev pub held_by : Standing → Option (List ℕ) → Standing
@@ -43,11 +44,11 @@ one_front x y (a ∷ more) zs e = let long = ap length e in let sum = length-app
 
 module _ {E : Type 0} (talk : Talk E) (some : (entry : E) (reply : Reply) → 0 < length (talk.sent entry (text reply))) (entry : E) (old new : Standing) (h1 : Option (List ℕ)) where
   -- nothing was written for the entries before the one that was not carried out
-  said_before : (front rest : List E) (e : E) → entry ∷ [] ≡ front ++ e ∷ rest → old.held ≡ append_known old.held (output talk old.database front)
+  said_before : (front rest : List E) (e : E) → entry ∷ [] ≡ front ++ e ∷ rest → old.held ≡ append_known old.held (talk_output talk old.database front)
   said_before front rest e split =
-      sym (ap (λ es. append_known old.held (output talk old.database es)) (one_front entry e front rest split) ∙ append_known-nil old.held)
+      sym (ap (λ es. append_known old.held (talk_output talk old.database es)) (one_front entry e front rest split) ∙ append_known-nil old.held)
 
-  none_before : (front rest : List E) (e : E) (before : Option (List ℕ)) → entry ∷ [] ≡ front ++ e ∷ rest → before ≡ append_known old.held (output talk old.database front) → before ≡ old.held
+  none_before : (front rest : List E) (e : E) (before : Option (List ℕ)) → entry ∷ [] ≡ front ++ e ∷ rest → before ≡ append_known old.held (talk_output talk old.database front) → before ≡ old.held
   none_before front rest e before split is =
       is ∙ sym (said_before front rest e split)
 
@@ -55,7 +56,7 @@ module _ {E : Type 0} (talk : Talk E) (some : (entry : E) (reply : Reply) → 0 
     -- less of the reply was gathered
     less_still : SaidLess talk (entry ∷ []) old (held_by new h1) → SaidLess talk (entry ∷ []) old new
     less_still s =
-        let reply = talk.sent s.entry (text ((after talk (last talk old.database s.front) s.entry).1)) in
+        let reply = talk.sent s.entry (text ((after_entry talk (last_database talk old.database s.front) s.entry).1)) in
         record {
           front = s.front;
           entry = s.entry;
@@ -71,7 +72,7 @@ module _ {E : Type 0} (talk : Talk E) (some : (entry : E) (reply : Reply) → 0 
     -- all of it was gathered, and less went out
     less_went : 0 < length w.left → Carried talk (entry ∷ []) old (held_by new h1) → SaidLess talk (entry ∷ []) old new
     less_went left c =
-        let reply = (after talk old.database entry).1 in
+        let reply = (after_entry talk old.database entry).1 in
         record {
           front = [];
           entry = entry;
@@ -101,7 +102,7 @@ module _ {E : Type 0} (talk : Talk E) (some : (entry : E) (reply : Reply) → 0 
       }
 
       -- the line that there is no space went out, or less of it
-      found_still : w.left ≡ [] → FoundNone talk Lacks (entry ∷ []) old (held_by new h1) → FoundNone talk Lacks (entry ∷ []) old new
+      found_still : w.left ≡ [] → FoundNoRoom talk Lacks (entry ∷ []) old (held_by new h1) → FoundNoRoom talk Lacks (entry ∷ []) old new
       unfolding still_stopped
       found_still none f = record {
         stopped = still_stopped f.stopped;
@@ -120,7 +121,7 @@ module _ {E : Type 0} (talk : Talk E) (some : (entry : E) (reply : Reply) → 0 
             held = less_of_less old.held new.held h1 line w (subst (λ h. WroteLess h h1 line) (none_before t.front t.rest t.entry s.before t.split s.front_is) s.held);
           }
 
-      unsaid_now : 0 < length w.left → FoundNone talk Lacks (entry ∷ []) old (held_by new h1) → SaidNone talk Lacks (entry ∷ []) old new
+      unsaid_now : 0 < length w.left → FoundNoRoom talk Lacks (entry ∷ []) old (held_by new h1) → SaidNone talk Lacks (entry ∷ []) old new
       unfolding still_stopped
       unsaid_now left f =
           let t = f.stopped in
@@ -131,7 +132,7 @@ module _ {E : Type 0} (talk : Talk E) (some : (entry : E) (reply : Reply) → 0 
             stopped = still_stopped t;
             before = old.held;
             front_is = said_before t.front t.rest t.entry t.split;
-            held = less_of_all old.held new.held h1 line w (f.held ∙ ap (λ es. append_known old.held (output talk old.database es ++ line)) none) left long;
+            held = less_of_all old.held new.held h1 line w (f.held ∙ ap (λ es. append_known old.held (talk_output talk old.database es ++ line)) none) left long;
           }
 
       -- why it went no further, before the reply was handed on and behind
@@ -143,7 +144,7 @@ module _ {E : Type 0} (talk : Talk E) (some : (entry : E) (reply : Reply) → 0 
 
       flash_still : Halts Flash → HaltsIn talk Lacks (entry ∷ []) old new Flash
       flash_still h = record {
-        stops = part_of_part old.held new.held h1 (output talk old.database (entry ∷ [])) w h.stops;
+        stops = part_of_part old.held new.held h1 (talk_output talk old.database (entry ∷ [])) w h.stops;
         reads = h.reads;
       }
 
@@ -180,7 +181,7 @@ on_ok : {A B : Type 0} (answered : Result ⊤ Halt) → (A → B) → OnOk answe
 on_ok (Ok done) f says = f says
 on_ok (Err halt) f says = tt
 
-module _ {E Q P V : Type 0} (input : Input E Q P) (files : Saying V)
+module _ {E Q P V : Type 0} (input : Input E Q P) (files : FilesOf V)
     (some : (read : List ℕ → Result Command Refusal) (entry : E) (reply : Reply) → 0 < length ((input.talk read).sent entry (text reply)))
     (a b : Running V P) (held : Option (List ℕ)) (replies : ℕ) where
   -- the session, and what the sink behind has of the reply
@@ -197,8 +198,8 @@ module _ {E Q P V : Type 0} (input : Input E Q P) (files : Saying V)
   Lacks = LacksPages files.state files.asks files.lacks b.session
 
   module _ (entries : Q → List E) (one : HasOne input a.part entries) (w : WroteFront a.held held b.held) (later : b.replies ≤ replies) where
-    on_now : GoesOn input files a b → GoesOn input files a now
-    on_now on = record { faults = on.faults; replies = omega (arith, on.replies, later); store = on.store }
+    on_now : KeepsRunning input files a b → KeepsRunning input files a now
+    on_now on = record { faults = on.faults; replies = omega (arith, on.replies, later); store = on.store; lent = on.lent }
 
     told_now : (halt halt_now : Halt)
         → ((read : List ℕ → Result Command Refusal) (entry : E) → HaltsIn (input.talk read) Lacks (entry ∷ []) old (held_by new b.held) halt → HaltsIn (input.talk read) Lacks (entry ∷ []) old new halt_now)
@@ -223,7 +224,7 @@ module _ {E Q P V : Type 0} (input : Input E Q P) (files : Saying V)
     still_sink : HaltsWithin input files a b entries Sink → HaltsWithin input files a now entries Sink
     still_sink h = still Sink (λ read entry. sink_still (input.talk read) (some read) entry old new b.held w Lacks) h
 
-    fails_now : (answered : Result ⊤ Halt) → FailsNow answered b.replies replies w.left → OnOk answered (Carries input files a b entries)
+    fails_now : (answered : Result ⊤ Halt) → FailsNow answered b.replies replies w.left → OnOk answered (CarriesEntries input files a b entries)
         → IfErr answered (λ halt. HaltsWithin input files a b entries halt) → HaltsWithin input files a now entries Sink
     fails_now (Ok done) fails c h = record {
       kept = λ going kept lost. absurd (true_false b.session.lost (c.kept going kept) lost);
@@ -247,7 +248,7 @@ module _ {E Q P V : Type 0} (input : Input E Q P) (files : Saying V)
     fails_now (Err Flash) fails c h = absurd (fails.fine refl)
     fails_now (Err Sink) fails c h = still_sink h
 
-    pub sent_reply : (answered : Result ⊤ Halt) (halt : Halt) → OnOk answered (Carries input files a b entries)
+    pub sent_reply : (answered : Result ⊤ Halt) (halt : Halt) → OnOk answered (CarriesEntries input files a b entries)
         → IfErr answered (λ h. HaltsWithin input files a b entries h) → Sent answered b.replies replies w.left (Err halt) → HaltsWithin input files a now entries halt
     sent_reply answered Space c h sent = still Space (λ read entry. space_still (input.talk read) (some read) entry old new b.held w Lacks sent.1) (rw sent.0 at h)
     sent_reply answered Flash c h sent = still Flash (λ read entry. flash_still (input.talk read) (some read) entry old new b.held w Lacks) (rw sent at h)

@@ -15,20 +15,20 @@ use Rattle.db_model.specs.Step.{Reads, Refused, Reply, outcome, step}
 use Rattle.db_model.proofs.ReplyTexts.{text_refused}
 use Rattle.reply_text.proofs.Pieces.{append_known-nil}
 use Rattle.reply_text.specs.WroteLess.{WroteLess}
-use Rattle.run_model.specs.Talk.{OnlyReads, Talk, after, aheads_answered, answered, cost_answered, costs}
+use Rattle.run_model.specs.Talk.{AsksToRead, Talk, after_entry, aheads_answered, answered, cost_answered, talk_costs}
 use Rattle.answering.specs.Carried.{Carried, HaltsIn, SaidLess, Standing, Stopped, no_space}
 use Rattle.answering.proofs.Accepted.{accepted}
 
 -- ---- an entry that asks for a command: its reply and its cost
 
 module _ {E : Type 0} (talk : Talk E) (entry : E) (a b : Standing) (c : Command) (is : talk.heard entry ≡ Ok c) where
-  steps : after talk a.database entry ≡ step a.database c
+  steps : after_entry talk a.database entry ≡ step a.database c
   steps = ap (answered a.database) is
 
-  sent_is : talk.sent entry (text ((after talk a.database entry).1)) ≡ talk.sent entry (text ((step a.database c).1))
+  sent_is : talk.sent entry (text ((after_entry talk a.database entry).1)) ≡ talk.sent entry (text ((step a.database c).1))
   sent_is = ap (λ (d : Database × Reply). talk.sent entry (text d.1)) steps
 
-  command_reads : (Reads c → b.reads ≤ a.reads + cost_of a.database a.aheads c) → AllByRecursion (OnlyReads talk) (entry ∷ []) → b.reads ≤ a.reads + costs talk a.database a.aheads (entry ∷ [])
+  command_reads : (Reads c → b.reads ≤ a.reads + cost_of a.database a.aheads c) → AllByRecursion (AsksToRead talk) (entry ∷ []) → b.reads ≤ a.reads + talk_costs talk a.database a.aheads (entry ∷ [])
   command_reads reads all =
       let few = reads (all.0 c is) in
       let cost : cost_answered a.database a.aheads (talk.heard entry) ≡ cost_of a.database a.aheads c = ap (cost_answered a.database a.aheads) is in
@@ -40,7 +40,7 @@ module _ {E : Type 0} (talk : Talk E) (entry : E) (a b : Standing) (c : Command)
   unfolding sent_is command_reads
   command_faulted Lacks reads part = record {
     stops = subst (λ (t : List ℕ). WrotePart a.held b.held t)
-        (sym sent_is ∙ sym (append-nil (talk.sent entry (text ((after talk a.database entry).1))))) part;
+        (sym sent_is ∙ sym (append-nil (talk.sent entry (text ((after_entry talk a.database entry).1))))) part;
     reads = command_reads reads;
   }
 
@@ -48,17 +48,17 @@ module _ {E : Type 0} (talk : Talk E) (entry : E) (a b : Standing) (tells : b.te
   -- ---- an entry that is refused
 
   module _ (r : Refusal) (is : talk.heard entry ≡ Err r) (database : b.database ≡ a.database) where
-    refused_is : after talk a.database entry ≡ (a.database, Refused r)
+    refused_is : after_entry talk a.database entry ≡ (a.database, Refused r)
     refused_is = ap (answered a.database) is
 
-    refused_sent : talk.sent entry (text ((after talk a.database entry).1)) ≡ talk.sent entry (refusal_text r)
+    refused_sent : talk.sent entry (text ((after_entry talk a.database entry).1)) ≡ talk.sent entry (refusal_text r)
     refused_sent = ap (λ (d : Database × Reply). talk.sent entry (text d.1)) refused_is ∙ ap (talk.sent entry) (text_refused r)
 
     pub refused_carried : b.aheads ≡ a.aheads → b.reads ≤ a.reads → b.held ≡ append_known a.held (talk.sent entry (refusal_text r)) → Carried talk (entry ∷ []) a b
     refused_carried aheads reads held = record {
       tells = tells;
       database = database ∙ sym (ap (λ (d : Database × Reply). d.0) refused_is);
-      held = held ∙ ap (append_known a.held) (sym refused_sent ∙ sym (append-nil (talk.sent entry (text ((after talk a.database entry).1)))));
+      held = held ∙ ap (append_known a.held) (sym refused_sent ∙ sym (append-nil (talk.sent entry (text ((after_entry talk a.database entry).1)))));
       aheads = aheads ∙ sym (ap (aheads_answered a.database a.aheads) is);
       reads = λ all. omega (arith, reads);
     }
@@ -88,7 +88,7 @@ module _ {E : Type 0} (talk : Talk E) (entry : E) (a b : Standing) (tells : b.te
     command_carried database held aheads reads = record {
       tells = tells;
       database = database ∙ sym (ap (λ (d : Database × Reply). d.0) (steps talk entry a b c is));
-      held = held ∙ ap (append_known a.held) (sym (sent_is talk entry a b c is) ∙ sym (append-nil (talk.sent entry (text ((after talk a.database entry).1)))));
+      held = held ∙ ap (append_known a.held) (sym (sent_is talk entry a b c is) ∙ sym (append-nil (talk.sent entry (text ((after_entry talk a.database entry).1)))));
       aheads = aheads ∙ sym (ap (aheads_answered a.database a.aheads) is);
       reads = command_reads talk entry a b c is reads;
     }

@@ -1,6 +1,7 @@
 -- Laws of an input: its bytes are taken one after the other.
 use Rattle.std.specs.Prelude.{◌≡◌, ℕ, ◌≤◌, false, List, [], ◌++◌, IsTrue, Result}
 use Rattle.std.proofs.Common.{refl, sym, subst, ◌∙◌, arith}
+use Rattle.afl_base.specs.declared.files.Files.{Ghosts as FilesOf}
 use Rattle.afl_base.specs.Causes.{Rose}
 use Rattle.db_model.specs.declared.commands.Command.{Command}
 use Rattle.db_model.specs.declared.refusals.Refusal.{Refusal}
@@ -8,18 +9,19 @@ use Rattle.db_model.specs.Reading.{IsReader}
 use Rattle.intake.specs.declared.halt.Halt.{Halt}
 use Rattle.run_model.specs.Line.{ComesInParts, Line}
 use Rattle.answering.specs.Carried.{Carried, HaltsIn, LacksPages, standing_of}
-use Rattle.answering.specs.Taking.{Carries, GoesOn, HaltsInBytes, Input, Running, Saying, TakesBytes}
+use Rattle.answering.specs.Taking.{CarriesEntries, KeepsRunning, HaltsInBytes, Input, Running, TakesBytes}
 use Rattle.answering.proofs.Composed.{carried_none, carried_then, halts_later, halts_sooner}
 
 rose_later : (a b c : ℕ) → a ≤ b → Rose b c → Rose a c
 rose_later a b c low rose = omega (arith, low, rose)
 
-module _ {E Q P V : Type 0} (input : Input E Q P) (files : Saying V) (line : Line E) (parts : ComesInParts input.cut line) where
-  on_then : (a b c : Running V P) → GoesOn input files a b → GoesOn input files b c → GoesOn input files a c
+module _ {E Q P V : Type 0} (input : Input E Q P) (files : FilesOf V) (line : Line E) (parts : ComesInParts input.cut line) where
+  on_then : (a b c : Running V P) → KeepsRunning input files a b → KeepsRunning input files b c → KeepsRunning input files a c
   on_then a b c x y = record {
     faults = omega (arith, x.faults, y.faults);
     replies = omega (arith, x.replies, y.replies);
     store = y.store ∙ x.store;
+    lent = y.lent ∙ x.lent;
   }
 
   pub taken_none : (a : Running V P) → TakesBytes input files a [] a
@@ -31,11 +33,11 @@ module _ {E Q P V : Type 0} (input : Input E Q P) (files : Saying V) (line : Lin
       carried = λ going told read reader q k.
           let s = standing_of files.state files.reads a.session a.held in
           subst (λ (es : List E). Carried (input.talk read) es s s) (sym (parts.none_ended q)) (carried_none (input.talk read) s);
-      on = record { faults = omega arith; replies = omega arith; store = refl };
+      on = record { faults = omega arith; replies = omega arith; store = refl; lent = refl };
     };
   }
 
-  told_on : (a b : Running V P) (es : Q → List E) → Carries input files a b es → a.session.stopped ≡ false → IsTrue (files.state a.session.files).tells
+  told_on : (a b : Running V P) (es : Q → List E) → CarriesEntries input files a b es → a.session.stopped ≡ false → IsTrue (files.state a.session.files).tells
       → (read : List ℕ → Result Command Refusal) → IsReader read → (q : Q) → input.Keeps q a.part → IsTrue (files.state b.session.files).tells
   told_on a b es x going told read reader q k = (x.carried going told read reader q k).tells ∙ told
 

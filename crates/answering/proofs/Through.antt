@@ -1,6 +1,7 @@
 -- From the bytes that a session took to the entries that it carried out.
 use Rattle.std.proofs.Common.{◌≡◌, inl, inr, ℕ, false, true, List, refl, ap, sym, subst, ◌∙◌, arith}
 use Rattle.std.specs.Prelude.{⊤, IsTrue, Option, Result, Ok, Err}
+use Rattle.afl_base.specs.declared.files.Files.{Ghosts as FilesOf}
 use Rattle.afl_base.specs.Causes.{Rose}
 use Rattle.db_model.specs.declared.commands.Command.{Command}
 use Rattle.db_model.specs.declared.refusals.Refusal.{Refusal}
@@ -12,11 +13,11 @@ use Rattle.intake.specs.declared.halt.Stop.TheVariants.{Input as BadInput, Long,
 use Rattle.intake.specs.Through.{Through}
 use Rattle.run_model.specs.Line.{ComesInParts, Line}
 use Rattle.answering.specs.Carried.{Carried, HaltsIn, LacksPages, standing_of}
-use Rattle.answering.specs.Taking.{EndsInput, GoesOn, HaltsAtLast, HaltsInBytes, Input, Running, Saying, TakesBytes}
+use Rattle.answering.specs.Taking.{EndsInput, KeepsRunning, HaltsAtLast, HaltsInBytes, Input, Running, TakesBytes}
 use Rattle.answering.specs.Went.{Reaches, Went}
 use Rattle.answering.proofs.Composed.{carried_then, halts_later}
 
-module _ {E Q P V T : Type 0} (input : Input E Q P) (files : Saying V) (line : Line E) (parts : ComesInParts input.cut line) (seen : T → Running V P) where
+module _ {E Q P V T : Type 0} (input : Input E Q P) (files : FilesOf V) (line : Line E) (parts : ComesInParts input.cut line) (seen : T → Running V P) where
   abbrev pub Takes : T → List ℕ → T → Type 0
   Takes a came b = TakesBytes input files (seen a) came (seen b)
 
@@ -29,12 +30,12 @@ module _ {E Q P V T : Type 0} (input : Input E Q P) (files : Saying V) (line : L
   abbrev pub HaltsAtEnd : T → T → Halt → Type 0
   HaltsAtEnd a b halt = HaltsAtLast input files (seen a) (seen b) halt
 
-  module _ (a b : T) (left left_now : Option (List ℕ)) (going : (seen a).session.stopped ≡ false) where
+  module _ (a b : T) (left left_now : Option (List ℕ)) (reads reads_now : ℕ) (going : (seen a).session.stopped ≡ false) where
     -- ---- what is so whether the files tell or not
 
     -- no count falls, and what failed has counted it; only a fault of the files loses them
     pub record Sum (result : Result ⊤ Stop) : Type 0 where
-      pub on : GoesOn input files (seen a) (seen b)
+      pub on : KeepsRunning input files (seen a) (seen b)
       pub kept : (seen a).session.lost ≡ false → (seen b).session.lost ≡ true → result ≡ Err (Halted halt.Flash)
       pub flash : result ≡ Err (Halted halt.Flash) → Rose (files.faults (seen a).session.files) (files.faults (seen b).session.files)
       pub sink : result ≡ Err (Halted halt.Sink) → Rose (seen a).replies (seen b).replies
@@ -42,11 +43,11 @@ module _ {E Q P V T : Type 0} (input : Input E Q P) (files : Saying V) (line : L
     clash : (c : T) → (seen c).session.lost ≡ false → (seen c).session.lost ≡ true → ⊥
     clash c e f = let n : false ≡ true = sym e ∙ f in cc
 
-    later : (x y z : T) → GoesOn input files (seen x) (seen y) → GoesOn input files (seen y) (seen z) → GoesOn input files (seen x) (seen z)
-    later x y z e f = record { faults = omega (arith, e.faults, f.faults); replies = omega (arith, e.replies, f.replies); store = f.store ∙ e.store }
+    later : (x y z : T) → KeepsRunning input files (seen x) (seen y) → KeepsRunning input files (seen y) (seen z) → KeepsRunning input files (seen x) (seen z)
+    later x y z e f = record { faults = omega (arith, e.faults, f.faults); replies = omega (arith, e.replies, f.replies); store = f.store ∙ e.store; lent = f.lent ∙ e.lent }
 
-    pub sum : (result : Result ⊤ Stop) → Through Takes Ends Halts HaltsAtEnd result a b left left_now → Sum result
-    unfolding Takes Ends Halts HaltsAtEnd clash later
+    pub sum : (result : Result ⊤ Stop) → Through Takes Ends Halts HaltsAtEnd result a b left left_now reads reads_now → Sum result
+    unfolding clash later
     sum (Ok done) t = record {
       on = later a t.last b t.takes.carries.on t.ends.on;
       kept = λ kept lost. absurd (clash b (t.ends.kept (t.takes.carries.going going) (t.takes.carries.kept going kept)) lost);
@@ -87,7 +88,7 @@ module _ {E Q P V T : Type 0} (input : Input E Q P) (files : Saying V) (line : L
           omega (arith, rose, before);
     }
 
-    pub reaches : (result : Result ⊤ Stop) → Through Takes Ends Halts HaltsAtEnd result a b left left_now → Reaches result left left_now
+    pub reaches : (result : Result ⊤ Stop) → Through Takes Ends Halts HaltsAtEnd result a b left left_now reads reads_now → Reaches result left left_now
     reaches (Ok done) t = t.at_end
     reaches (Err BadInput) t = tt
     reaches (Err Long) t = record { bytes = t.came; more = t.more; left = t.left; many = t.many; one = t.one }
@@ -100,10 +101,10 @@ module _ {E Q P V T : Type 0} (input : Input E Q P) (files : Saying V) (line : L
       told_then : (c : T) (came : List ℕ) → Takes a came c → IsTrue (files.state (seen c).session.files).tells
       told_then c came t = (t.carries.carried going told read reader input.cut.start keeps).tells ∙ told
 
-      pub went : (result : Result ⊤ Stop) → Through Takes Ends Halts HaltsAtEnd result a b left left_now
+      pub went : (result : Result ⊤ Stop) → Through Takes Ends Halts HaltsAtEnd result a b left left_now reads reads_now
           → Went line (input.talk read) (standing_of files.state files.reads (seen a).session (seen a).held) (standing_of files.state files.reads (seen b).session (seen b).held)
           left left_now (LacksPages files.state files.asks files.lacks (seen b).session) result
-      unfolding Takes Ends Halts HaltsAtEnd told_then
+      unfolding told_then
       went (Ok done) t =
           let old = standing_of files.state files.reads (seen a).session (seen a).held in
           let mid = standing_of files.state files.reads (seen t.last).session (seen t.last).held in

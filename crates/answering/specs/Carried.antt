@@ -1,8 +1,10 @@
 -- What a session makes of the entries of an input.
-use Rattle.std.specs.Prelude.{◌≡◌, ◌⊎◌, ℕ, ◌+◌, ◌≤◌, Bool, false, List, [], ◌∷◌, ◌++◌, Option, IsErrOf, Result}
+use Rattle.std.specs.Prelude.{◌≡◌, ◌⊎◌, ℕ, ◌+◌, ◌≤◌, Bool, false, List, [], ◌∷◌, ◌++◌, length, Option, IsErrOf, Result}
 use Rattle.std.specs.Io.KnownBytes.{append_known}
 use Rattle.std.specs.List.{AllByRecursion}
 use Rattle.afl_base.specs.Causes.{Rose}
+use Rattle.afl_base.specs.declared.files.Files.{Ghosts as FilesOf}
+use Rattle.afl_base.specs.declared.stream.Sink.{Ghosts as SinkOf}
 use Rattle.afl_base.specs.Files.{State}
 use Rattle.antelope_engine.specs.Seen.{Seen}
 use Rattle.db_model.specs.declared.commands.Command.{Command}
@@ -14,7 +16,7 @@ use Rattle.db_model.specs.Step.{step}
 use Rattle.intake.specs.declared.halt.Halt.{Halt}
 use Rattle.intake.specs.declared.halt.Halt.TheVariants.{Space, Flash, Sink}
 use Rattle.reply_text.specs.WroteLess.{WroteLess}
-use Rattle.run_model.specs.Talk.{Asks, OnlyReads, Talk, after, costs, last, last_aheads, output}
+use Rattle.run_model.specs.Talk.{AsksCommand, AsksToRead, Talk, after_entry, talk_costs, last_database, talk_aheads, talk_output}
 use Rattle.session_model.specs.Steps.{WrotePart}
 use Rattle.session_model.specs.Wanted.{WantsOver}
 use Rattle.space_model.specs.Enough.{most}
@@ -35,10 +37,10 @@ module _ {E : Type 0} (talk : Talk E) where
   -- the entries were carried out, and their replies were written
   pub record Carried (entries : List E) (old new : Standing) : Type 0 where
     pub tells : new.tells ≡ old.tells
-    pub database : new.database ≡ last talk old.database entries
-    pub held : new.held ≡ append_known old.held (output talk old.database entries)
-    pub aheads : new.aheads ≡ last_aheads talk old.database old.aheads entries
-    pub reads : AllByRecursion (OnlyReads talk) entries → new.reads ≤ old.reads + costs talk old.database old.aheads entries
+    pub database : new.database ≡ last_database talk old.database entries
+    pub held : new.held ≡ append_known old.held (talk_output talk old.database entries)
+    pub aheads : new.aheads ≡ talk_aheads talk old.database old.aheads entries
+    pub reads : AllByRecursion (AsksToRead talk) entries → new.reads ≤ old.reads + talk_costs talk old.database old.aheads entries
 
   -- those in front were carried out, and the next is a command that is not refused and lacks n pages
   pub record Stopped (Lacks : Command → ℕ → Type 0) (entries : List E) (old new : Standing) : Type 0 where
@@ -48,22 +50,22 @@ module _ {E : Type 0} (talk : Talk E) where
     pub split : entries ≡ front ++ entry ∷ rest
     pub command : Command
     pub n : ℕ
-    pub asks : Asks talk entry command
+    pub asks : AsksCommand talk entry command
     pub tells : new.tells ≡ old.tells
-    pub database : new.database ≡ last talk old.database front
-    pub accepted : is_refused ((step (last talk old.database front) command).1) ≡ false
+    pub database : new.database ≡ last_database talk old.database front
+    pub accepted : is_refused ((step (last_database talk old.database front) command).1) ≡ false
     pub lacks : Lacks command n
 
   -- and what was written is this
-  pub record FoundNone (Lacks : Command → ℕ → Type 0) (entries : List E) (old new : Standing) : Type 0 where
+  pub record FoundNoRoom (Lacks : Command → ℕ → Type 0) (entries : List E) (old new : Standing) : Type 0 where
     pub stopped : Stopped Lacks entries old new
-    pub held : new.held ≡ append_known old.held (output talk old.database stopped.front ++ no_space talk stopped.entry stopped.n)
+    pub held : new.held ≡ append_known old.held (talk_output talk old.database stopped.front ++ no_space talk stopped.entry stopped.n)
 
   -- or less than the last line of it
   pub record SaidNone (Lacks : Command → ℕ → Type 0) (entries : List E) (old new : Standing) : Type 0 where
     pub stopped : Stopped Lacks entries old new
     pub before : Option (List ℕ)
-    pub front_is : before ≡ append_known old.held (output talk old.database stopped.front)
+    pub front_is : before ≡ append_known old.held (talk_output talk old.database stopped.front)
     pub held : WroteLess before new.held (no_space talk stopped.entry stopped.n)
 
   -- the entries up to one were carried out, and less than its reply was written
@@ -74,20 +76,20 @@ module _ {E : Type 0} (talk : Talk E) where
     pub split : entries ≡ front ++ entry ∷ rest
     pub tells : new.tells ≡ old.tells
     pub before : Option (List ℕ)
-    pub front_is : before ≡ append_known old.held (output talk old.database front)
-    pub held : WroteLess before new.held (talk.sent entry (text ((after talk (last talk old.database front) entry).1)))
-    pub database : new.database ≡ last talk old.database (front ++ entry ∷ [])
+    pub front_is : before ≡ append_known old.held (talk_output talk old.database front)
+    pub held : WroteLess before new.held (talk.sent entry (text ((after_entry talk (last_database talk old.database front) entry).1)))
+    pub database : new.database ≡ last_database talk old.database (front ++ entry ∷ [])
 
   -- why no more of these entries was carried out
-  abbrev pub StopsBy : (Command → ℕ → Type 0) → List E → Standing → Standing → Halt → Type 0
-  StopsBy Lacks entries old new Space = FoundNone Lacks entries old new
-  StopsBy Lacks entries old new Sink = SaidLess entries old new ⊎ SaidNone Lacks entries old new
-  StopsBy Lacks entries old new Flash = WrotePart old.held new.held (output talk old.database entries)
+  abbrev pub StopsEntries : (Command → ℕ → Type 0) → List E → Standing → Standing → Halt → Type 0
+  StopsEntries Lacks entries old new Space = FoundNoRoom Lacks entries old new
+  StopsEntries Lacks entries old new Sink = SaidLess entries old new ⊎ SaidNone Lacks entries old new
+  StopsEntries Lacks entries old new Flash = WrotePart old.held new.held (talk_output talk old.database entries)
 
   -- it went no further within these entries
   pub record HaltsIn (Lacks : Command → ℕ → Type 0) (entries : List E) (old new : Standing) (halt : Halt) : Type 0 where
-    pub stops : StopsBy Lacks entries old new halt
-    pub reads : AllByRecursion (OnlyReads talk) entries → new.reads ≤ old.reads + costs talk old.database old.aheads entries
+    pub stops : StopsEntries Lacks entries old new halt
+    pub reads : AllByRecursion (AsksToRead talk) entries → new.reads ≤ old.reads + talk_costs talk old.database old.aheads entries
 
 -- ---- a session and a sink
 
@@ -112,3 +114,10 @@ pub record HasHaltCause {T : Type 0} (files files_now replies replies_now : ℕ)
   pub replies_later : replies ≤ replies_now
   pub flash : IsErrOf result Flash → Rose files files_now
   pub sink : IsErrOf result Sink → Rose replies replies_now
+
+-- a call that answers entries of an input: what the files lie in keeps its size, and files and sink hold on to what they borrow
+pub record ChangesOrHalts {V K T : Type 0} (v : FilesOf V) (k : SinkOf K) (old new : V) (before now : K) (result : Result T Halt) : Type 0 where
+  pub store : length (v.state new).store ≡ length (v.state old).store
+  pub lent : v.lent new ≡ v.lent old
+  pub sink_lent : k.lent now ≡ k.lent before
+  pub cause : HasHaltCause (v.faults old) (v.faults new) (k.faults before) (k.faults now) result

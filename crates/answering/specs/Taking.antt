@@ -1,7 +1,7 @@
 -- What a session makes of the bytes of an input as they come.
 use Rattle.std.specs.Prelude.{◌≡◌, ℕ, ◌≤◌, true, false, List, [], ◌∷◌, length, Option, IsTrue, Result}
 use Rattle.afl_base.specs.Causes.{Rose}
-use Rattle.afl_base.specs.Files.{State}
+use Rattle.afl_base.specs.declared.files.Files.{Ghosts as FilesOf}
 use Rattle.antelope_engine.specs.Seen.{Seen}
 use Rattle.db_model.specs.declared.commands.Command.{Command}
 use Rattle.db_model.specs.declared.refusals.Refusal.{Refusal}
@@ -33,23 +33,13 @@ pub record Input (E Q P : Type 0) : Type 1 where
 abbrev pub HasOne : {E Q P : Type 0} → Input E Q P → P → (Q → List E) → Type 0
 HasOne {E = E} {Q = Q} input part entries = (q : Q) → input.Keeps q part → (entry : E) × (entries q ≡ entry ∷ [])
 
--- what is said of files
-pub record Saying (V : Type 0) : Type 1 where
-  pub state : V → State
-  pub reads : V → ℕ
-  pub faults : V → ℕ
-  pub asks : V → ℕ → ℕ → ℕ → ℕ → Type 0
-  pub lacks : V → ℕ → Type 0
-
-abbrev pub saying : {V : Type 0} → (V → State) → (V → ℕ) → (V → ℕ) → (V → ℕ → ℕ → ℕ → ℕ → Type 0) → (V → ℕ → Type 0) → Saying V
-saying state reads faults asks lacks = record { state = state; reads = reads; faults = faults; asks = asks; lacks = lacks }
-
-module _ {E Q P V : Type 0} (input : Input E Q P) (files : Saying V) where
-  -- no count falls, and what the files are kept in has its length
-  pub record GoesOn (a b : Running V P) : Type 0 where
+module _ {E Q P V : Type 0} (input : Input E Q P) (files : FilesOf V) where
+  -- no count falls, what the files are kept in has its length, and they hold on to what they borrow
+  pub record KeepsRunning (a b : Running V P) : Type 0 where
     pub faults : files.faults a.session.files ≤ files.faults b.session.files
     pub replies : a.replies ≤ b.replies
     pub store : length (files.state b.session.files).store ≡ length (files.state a.session.files).store
+    pub lent : files.lent b.session.files ≡ files.lent a.session.files
 
   -- P of each way to read commands and of what is begun, where the files tell
   abbrev pub Told : Running V P → (Talk E → Q → Type 0) → Type 0
@@ -57,21 +47,21 @@ module _ {E Q P V : Type 0} (input : Input E Q P) (files : Saying V) where
       → (read : List ℕ → Result Command Refusal) → IsReader read → (q : Q) → input.Keeps q a.part → Says (input.talk read) q
 
   -- the entries were carried out where the session was not stopped, and it is not stopped then
-  pub record Carries (a b : Running V P) (entries : Q → List E) : Type 0 where
+  pub record CarriesEntries (a b : Running V P) (entries : Q → List E) : Type 0 where
     pub going : a.session.stopped ≡ false → b.session.stopped ≡ false
     pub kept : a.session.stopped ≡ false → a.session.lost ≡ false → b.session.lost ≡ false
     pub carried : a.session.stopped ≡ false → Told a (λ talk q. Carried talk (entries q)
         (standing_of files.state files.reads a.session a.held) (standing_of files.state files.reads b.session b.held))
-    pub on : GoesOn a b
+    pub on : KeepsRunning a b
 
   -- bytes were taken, and what they end was carried out
   pub record TakesBytes (a : Running V P) (came : List ℕ) (b : Running V P) : Type 0 where
     pub keeps : (q : Q) → input.Keeps q a.part → input.Keeps (input.cut.begun q came) b.part
-    pub carries : Carries a b (λ q. input.cut.ended q came)
+    pub carries : CarriesEntries a b (λ q. input.cut.ended q came)
 
   -- the input ended, and what was left of it was answered
   abbrev pub EndsInput : Running V P → Running V P → Type 0
-  EndsInput a b = Carries a b input.cut.left
+  EndsInput a b = CarriesEntries a b input.cut.left
 
   -- it went no further within these entries
   pub record HaltsWithin (a b : Running V P) (entries : Q → List E) (halt : Halt) : Type 0 where
@@ -81,7 +71,7 @@ module _ {E Q P V : Type 0} (input : Input E Q P) (files : Saying V) where
     pub halts : a.session.stopped ≡ false
         → Told a (λ talk q. HaltsIn talk (LacksPages files.state files.asks files.lacks b.session) (entries q)
         (standing_of files.state files.reads a.session a.held) (standing_of files.state files.reads b.session b.held) halt)
-    pub on : GoesOn a b
+    pub on : KeepsRunning a b
 
   abbrev pub HaltsInBytes : Running V P → List ℕ → Running V P → Halt → Type 0
   HaltsInBytes a came b halt = HaltsWithin a b (λ q. input.cut.ended q came) halt

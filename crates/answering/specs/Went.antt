@@ -8,13 +8,13 @@ use Rattle.intake.specs.declared.halt.Halt.TheVariants.{Flash, Sink}
 use Rattle.intake.specs.declared.halt.Stop.{Stop}
 use Rattle.intake.specs.declared.halt.Stop.TheVariants.{Input, Long, Halted}
 use Rattle.run_model.specs.Line.{Line}
-use Rattle.run_model.specs.Runs.{TookLimit as PassesLimit}
+use Rattle.run_model.specs.Runs.{CameToLimit}
 use Rattle.run_model.specs.Talk.{Talk}
 use Rattle.answering.specs.Carried.{Carried, HaltsIn, Standing}
 
 module _ {E : Type 0} (line : Line E) (talk : Talk E) (old new : Standing) (left left_now : Option (List ℕ)) where
   -- all bytes came, and all their entries were carried out
-  pub record TookAll : Type 0 where
+  pub record CarriedAll : Type 0 where
     pub bytes : List ℕ
     pub came : left ≡ prepend_known bytes left_now
     pub few : length bytes ≤ 16777216
@@ -29,7 +29,7 @@ module _ {E : Type 0} (line : Line E) (talk : Talk E) (old new : Standing) (left
     pub carried : Carried talk (line.whole bytes) old new
 
   -- the same of 16,777,216 bytes, and one more came
-  pub record TookLimit : Type 0 where
+  pub record ReachedLimit : Type 0 where
     pub bytes : List ℕ
     pub more : List ℕ
     pub came : left ≡ prepend_known (bytes ++ more) left_now
@@ -38,7 +38,7 @@ module _ {E : Type 0} (line : Line E) (talk : Talk E) (old new : Standing) (left
     pub carried : Carried talk (line.whole bytes) old new
 
   -- it went no further within the entries of the bytes that came
-  pub record WentNoFurther (Lacks : Command → ℕ → Type 0) (halt : Halt) : Type 0 where
+  pub record StoppedWithin (Lacks : Command → ℕ → Type 0) (halt : Halt) : Type 0 where
     pub bytes : List ℕ
     pub entries : List E
     pub came : left ≡ prepend_known bytes left_now
@@ -47,15 +47,15 @@ module _ {E : Type 0} (line : Line E) (talk : Talk E) (old new : Standing) (left
     pub halts : HaltsIn talk Lacks entries old new halt
 
   abbrev pub Went : (Command → ℕ → Type 0) → Result ⊤ Stop → Type 0
-  Went Lacks (Ok done) = TookAll
+  Went Lacks (Ok done) = CarriedAll
   Went Lacks (Err Input) = TookSome
-  Went Lacks (Err Long) = TookLimit
-  Went Lacks (Err (Halted halt)) = WentNoFurther Lacks halt
+  Went Lacks (Err Long) = ReachedLimit
+  Went Lacks (Err (Halted halt)) = StoppedWithin Lacks halt
 
 -- how far the bytes of the input came, whether the files tell or not: to their end, or one byte past the limit
 abbrev pub Reaches : Result ⊤ Stop → (left left_now : Option (List ℕ)) → Type 0
 Reaches (Ok done) left left_now = IsAtEnd left_now
-Reaches (Err Long) left left_now = PassesLimit left left_now
+Reaches (Err Long) left left_now = CameToLimit left left_now
 Reaches _ left left_now = ⊤
 
 -- what failed has counted it, and the files' count does not fall

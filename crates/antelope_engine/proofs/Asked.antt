@@ -1,6 +1,9 @@
--- A query and an aggregate leave the database and what its cursors have ahead.
+-- What is so unless a file failed, and of a reply that broke off.
 use Rattle.std.proofs.Common.{◌≡◌, true, false, ℕ, List, Option, Result, Ok, Err, refl, ap, sym, subst, ◌∙◌, rules}
 use Rattle.std.specs.Prelude.{IsErrOf}
+use Rattle.db_model.specs.ReplyText.{text}
+use Rattle.reply_text.specs.WroteLess.{WroteLess}
+use Rattle.session_model.specs.declared.step.Outcome.{Outcome}
 use Rattle.afl_base.specs.Files.{State}
 use Rattle.db_model.specs.declared.commands.Agg.{Agg}
 use Rattle.db_model.specs.declared.commands.Command.{Command}
@@ -21,7 +24,7 @@ use Rattle.session_model.specs.declared.step.Stop.{Stop}
 use Rattle.session_model.specs.declared.step.Stop.TheVariants.{Flash, Sink}
 use Rattle.session_model.specs.Aheads.{aheads_of}
 use Rattle.session_model.specs.Running.{IsRunning}
-use Rattle.session_model.specs.Steps.{UnlessFlash}
+use Rattle.session_model.specs.Steps.{Replies, UnlessFlash, WrotePart}
 use Rattle.session_model.specs.View.{view}
 use Rattle.antelope_engine.specs.Seen.{is_flash}
 use Rattle.antelope_engine.proofs.Moves.{stay_aggregated, stay_asked}
@@ -53,48 +56,15 @@ pub flash_stop : (T : Type 0) (stop : Stop) → is_flash stop ≡ true → IsErr
 flash_stop T Flash is = refl
 flash_stop T Sink is = absurd (cc)
 
--- ---- one that leaves the database
+pub unless_any : (T : Type 0) (stop : Stop) (P : Type 0) → P → UnlessFlash {T = T} (Err stop) P
+unless_any T Sink P p = p
+unless_any T Flash P p = tt
 
-pub database_asked : (db : Database) (query : Query) → (step db (Ask query)).0 ≡ db
-database_asked db query = by_rows (answer_of db query)
-  where
-    by_rows : (r : Result (List (List Value)) Refusal) → (replied db (◌>>=◌ r (λ rows. Ok (db, Rows rows)))).0 ≡ db
-    by_rows (Ok rows) = refl
-    by_rows (Err refusal) = refl
+-- of a reply that broke off
+pub replied_sink : (reply : Reply) (stop : Stop) (before now : Option (List ℕ)) → IsErrOf {T = Outcome} (Err stop) Sink → Replies reply (Err stop) before now → WroteLess before now (text reply)
+replied_sink reply Sink before now is r = r
+replied_sink reply Flash before now is r = absurd (search (rules, is))
 
-pub database_aggregated : (db : Database) (list : List (Agg × List ℕ)) (relation : List ℕ) (nodes : List Node) → (step db (Aggregate list relation nodes)).0 ≡ db
-database_aggregated db list relation nodes = by_named (named db relation)
-  where
-    by_reply : (r : Result Reply Refusal) → (replied db (◌>>=◌ r (λ reply. Ok (db, reply)))).0 ≡ db
-    by_reply (Ok reply) = refl
-    by_reply (Err refusal) = refl
-
-    by_named : (r : Result (ℕ × Relation) Refusal) → (replied db (◌>>=◌ r (λ s. ◌>>=◌ (aggregate_of list (condition_of nodes) s.1) (λ reply. Ok (db, reply))))).0 ≡ db
-    by_named (Ok s) = by_reply (aggregate_of list (condition_of nodes) s.1)
-    by_named (Err refusal) = refl
-
--- what such a command leaves in a session
-pub record LeavesAll (c : Command) : Type 0 where
-  pub database : (db : Database) → (step db c).0 ≡ db
-  pub aheads : (db : Database) (aheads : Aheads) → aheads_after db aheads c ≡ aheads
-
-pub asked_leaves : (query : Query) → LeavesAll (Ask query)
-asked_leaves query = record { database = λ db. database_asked db query; aheads = λ db aheads. stay_asked db aheads query }
-
-pub aggregated_leaves : (list : List (Agg × List ℕ)) (relation : List ℕ) (nodes : List Node) → LeavesAll (Aggregate list relation nodes)
-aggregated_leaves list relation nodes = record {
-  database = λ db. database_aggregated db list relation nodes;
-  aheads = λ db aheads. stay_aggregated db aheads list relation nodes;
-}
-
-module _ (a b : State) (tables : Tables) (held : Held) (opens : List (Option Open)) (c : Command) (leaves : LeavesAll c) {T : Type 0} (r : Result T Stop) (same : UnlessFlash r (b ≡ a)) where
-  pub database_left : UnlessFlash r (view b.files held opens ≡ (step (view a.files held opens) c).0)
-  database_left = unless_map r _ _
-      (λ (e : b ≡ a). ap (λ (s : State). view s.files held opens) e ∙ sym (leaves.database (view a.files held opens))) same
-
-  pub aheads_left : UnlessFlash r (aheads_of b.files opens ≡ aheads_after (view a.files held opens) (aheads_of a.files opens) c)
-  aheads_left = unless_map r _ _
-      (λ (e : b ≡ a). ap (λ (s : State). aheads_of s.files opens) e ∙ sym (leaves.aheads (view a.files held opens) (aheads_of a.files opens))) same
-
-  pub running_left : IsRunning a tables held opens → UnlessFlash r (IsRunning b tables held opens)
-  running_left running = unless_map r _ _ (λ (e : b ≡ a). let P : State → Type 0 = λ s. IsRunning s tables held opens in subst P (sym e) running) same
+pub replied_flash : (reply : Reply) (stop : Stop) (before now : Option (List ℕ)) → IsErrOf {T = Outcome} (Err stop) Flash → Replies reply (Err stop) before now → WrotePart before now (text reply)
+replied_flash reply Flash before now is r = r
+replied_flash reply Sink before now is r = absurd (search (rules, is))

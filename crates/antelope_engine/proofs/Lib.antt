@@ -1,5 +1,4 @@
 pub mod Asked
-pub mod Carried
 pub mod Causes
 pub mod Moves
 pub mod ReadSlots
@@ -8,3 +7,4 @@ pub mod Sessions
 pub mod Slots
 pub mod Spaces
 pub mod Store
+pub mod Untouched

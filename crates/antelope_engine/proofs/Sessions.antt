@@ -1,17 +1,18 @@
 -- A session's invariant after a command and after a start.
 use Rattle.std.proofs.Common.{◌≡◌, ℕ, Bool, false, List, Option, IsTrue, sym, subst}
+use Rattle.afl_base.specs.declared.files.Files.{Ghosts as FilesOf}
 use Rattle.afl_base.specs.Files.{State}
 use Rattle.db_model.specs.declared.commands.Command.{Command}
 use Rattle.db_model.specs.Database.{Database}
 use Rattle.db_model.specs.Sound.{BringsNames, IsSoundDatabase}
 use Rattle.db_model.specs.Step.{outcome, step}
 use Rattle.db_model.proofs.SoundSteps.{step_sound}
-use Rattle.index_set.specs.Tables.{Tables}
 use Rattle.session_model.specs.declared.held.Held.{Held}
 use Rattle.session_model.specs.declared.held.Open.{Open}
 use Rattle.session_model.specs.declared.step.Step.{Step}
 use Rattle.session_model.specs.declared.step.Step.TheVariants.{Done, NoSpace}
-use Rattle.session_model.specs.Running.{IsRunning}
+use Rattle.session_model.specs.Carried.{Runs, Tells, database}
+use Rattle.session_model.specs.declared.base.Base.{Base}
 use Rattle.session_model.specs.Steps.{Does}
 use Rattle.session_model.specs.View.{view}
 use Rattle.stored.specs.Base.{base_of}
@@ -28,11 +29,10 @@ pub sound_done : (db new : Database) (c : Command) (came : Step) (before now : O
 sound_done db new c (Done result) before now names sound does = sound_step db new c names sound does.0
 sound_done db new c (NoSpace need) before now names sound does = subst (λ (z : Database). IsSoundDatabase z) (sym does.0) sound
 
-module _ (state : State) (tables : Tables) (held : Held) (opens : List (Option Open)) (stopped lost : Bool) where
-  -- what runs over a sound database is a session, and one that stopped is one still
-  pub is_session : IsRunning state tables held opens → (IsTrue state.tells → IsSoundDatabase (view state.files held opens)) → (stopped ≡ false → lost ≡ false)
-      → IsSession state tables held opens stopped lost
-  is_session running sound going = record { running = λ e. running; sound = λ e told. sound told; going = going }
+-- what runs over a sound database is a session, and one that stopped is one still
+pub is_session : {V : Type 0} (v : FilesOf V) (base : Base V) (stopped lost : Bool) → Runs v base → (Tells v base → IsSoundDatabase (database v base))
+    → (stopped ≡ false → lost ≡ false) → IsSession v base stopped lost
+is_session v base stopped lost running sound going = record { running = λ e. running; sound = λ e told. sound told; going = going }
 
 -- sound files stand for a sound database
 pub sound_start : (state : State) (held : Held) (opens : List (Option Open)) → IsSoundTable state.files → view state.files held opens ≡ base_of state.files

@@ -11,11 +11,11 @@ use Rattle.session_model.specs.declared.step.Step.TheVariants.{Done, NoSpace}
 use Rattle.session_model.specs.declared.step.Stop.{Stop}
 use Rattle.session_model.specs.Answers as answers
 use Rattle.session_model.specs.Steps.{Answers}
-use Rattle.antelope_engine.specs.Seen.{OnNoSpace}
+use Rattle.antelope_engine.specs.Seen.{WhereNoSpace}
 
 -- the answer has the pages that the reply has
 abbrev pub HasNeed : Answer → Step → Type 0
-HasNeed a step = OnNoSpace {E = Failed} (Ok step) (λ need. a ≡ answer.NoSpace need)
+HasNeed a step = WhereNoSpace {E = Failed} (Ok step) (λ need. a ≡ answer.NoSpace need)
 
 pub space_map : (a : Answer) (P Q : ℕ → Type 0) → ((need : ℕ) → P need → Q need) → answers.OnNoSpace {E = Failed} (Ok a) P → answers.OnNoSpace {E = Failed} (Ok a) Q
 space_map answer.Fine P Q f h = tt
@@ -24,13 +24,13 @@ space_map (answer.Refused r) P Q f h = tt
 space_map (answer.NoSpace need) P Q f h = f need h
 
 -- what is said by the answer is said by the reply
-pub space_told : (a : Answer) (step : Step) (P : ℕ → Type 0) → HasNeed a step → answers.OnNoSpace {E = Failed} (Ok a) P → OnNoSpace {E = Stop} (Ok step) P
+pub space_told : (a : Answer) (step : Step) (P : ℕ → Type 0) → HasNeed a step → answers.OnNoSpace {E = Failed} (Ok a) P → WhereNoSpace {E = Stop} (Ok step) P
 space_told a (Done came) P is h = tt
 space_told a (NoSpace need) P is h = subst (λ (z : Answer). answers.OnNoSpace {E = Failed} (Ok z) P) is h
 
 -- and of the database as it was, since it stays
 pub space_before : (a : Answer) (step : Step) (c : Command) (old new : Database) (P : Database → ℕ → Type 0) → HasNeed a step → Answers c old new a
-    → answers.OnNoSpace {E = Failed} (Ok a) (P new) → OnNoSpace {E = Stop} (Ok step) (P old)
+    → answers.OnNoSpace {E = Failed} (Ok a) (P new) → WhereNoSpace {E = Stop} (Ok step) (P old)
 space_before a (Done came) c old new P is made h = tt
 space_before a (NoSpace need) c old new P is made h =
     let same = (subst (λ (z : Answer). Answers c old new z) is made).1 in

@@ -38,9 +38,9 @@ use Rattle.tuple_file.specs.Tuples.{rows}
 use Rattle.session_model.specs.declared.held.Held.{Held}
 use Rattle.session_model.specs.declared.held.Indexed.{Indexed}
 use Rattle.session_model.specs.declared.held.Open.{Open}
-use Rattle.session_model.specs.Indexed.{index_in}
-use Rattle.session_model.specs.Running.{HasCatalog, HasFile, IsRunning}
-use Rattle.session_model.specs.View.{relation_in, view}
+use Rattle.session_model.specs.Indexed.{index_known}
+use Rattle.session_model.specs.Running.{HasCatalogFile, HasFile, IsRunning}
+use Rattle.session_model.specs.View.{relation_of_rows, view}
 use Rattle.session_model.specs.Wanted.{WantsFew, WantsOver, room_in}
 use Rattle.session_model.proofs.Frames.{count_rows}
 use Rattle.session_model.proofs.Running.{index_there, relation_there}
@@ -57,12 +57,12 @@ module _ (state : State) (tables : Tables) (held : Held) (opens : List (Option O
   size_named id name named = size_by_name state tables held opens r none_asks id name named
 
   relation_slot : (slot : ℕ) (q : Relation) → get_or (view state.files held opens).relations slot None ≡ Some q
-      → (P : Relation → Type 0) → ((t : Tuples) → get_or held.relations slot None ≡ Some t → P (relation_in state.files t)) → P q
+      → (P : Relation → Type 0) → ((t : Tuples) → get_or held.relations slot None ≡ Some t → P (relation_of_rows state.files t)) → P q
   relation_slot slot q e P each =
-      let from = seen_of (relation_in state.files) (get_or held.relations slot None) q (sym (seen (relation_in state.files) held.relations slot) ∙ e) in
+      let from = seen_of (relation_of_rows state.files) (get_or held.relations slot None) q (sym (seen (relation_of_rows state.files) held.relations slot) ∙ e) in
       subst P from.is (each from.from from.there)
 
-  rows_sized : (slot : ℕ) (t : Tuples) → get_or held.relations slot None ≡ Some t → size_in state.files (rows_file slot) ≡ Some (rows_size (relation_in state.files t))
+  rows_sized : (slot : ℕ) (t : Tuples) → get_or held.relations slot None ≡ Some t → size_in state.files (rows_file slot) ≡ Some (rows_size (relation_of_rows state.files t))
   rows_sized slot t e =
       let here = relation_there state tables held opens r slot t e in
       size_named t.file (rows_file slot) here.named
@@ -75,12 +75,12 @@ module _ (state : State) (tables : Tables) (held : Held) (opens : List (Option O
   tree_sized told slot x t (Tree g) e file complete =
       size_named g (tree_file slot) file ∙ ap (λ (n : ℕ). Some n) (sized (bytes_at state.files g) (keys x.attribute (rows state.files t)) complete)
 
-  index_sized : IsTrue state.tells → (slot : ℕ) (x : Indexed) → get_or held.indexes slot None ≡ Some x → (index_in x).kind ≡ MaxHeap
+  index_sized : IsTrue state.tells → (slot : ℕ) (x : Indexed) → get_or held.indexes slot None ≡ Some x → (index_known x).kind ≡ MaxHeap
       → size_in state.files (tree_file slot) ≡ Some (tree_size (keys x.attribute (rows_in (view state.files held opens) x.relation)))
   index_sized told slot x e heap =
       let o = index_there state tables held opens r slot x e in
       let all : rows_in (view state.files held opens) x.relation ≡ rows state.files o.tuples =
-      ap (λ (z : Option Relation). option_map_or (λ (q : Relation). q.rows) z []) (seen (relation_in state.files) held.relations x.relation ∙ ap (option_map (relation_in state.files)) o.is) in
+      ap (λ (z : Option Relation). option_map_or (λ (q : Relation). q.rows) z []) (seen (relation_of_rows state.files) held.relations x.relation ∙ ap (option_map (relation_of_rows state.files)) o.is) in
       let P : List Row → Type 0 = λ rs. size_in state.files (tree_file slot) ≡ Some (tree_size (keys x.attribute rs)) in
       subst P (sym all) (tree_sized told slot x o.tuples x.access heap o.indexed.file (o.indexed.complete told))
 
@@ -91,7 +91,7 @@ module _ (state : State) (tables : Tables) (held : Held) (opens : List (Option O
         (λ t there. subst (λ (n : ℕ). n ≤ 32768) (sym (count_rows state.files t)) (relation_there state tables held opens r slot t there).holds.few);
     rows = λ slot q e. relation_slot slot q e (λ z. size_in state.files (rows_file slot) ≡ Some (rows_size z)) (λ t there. rows_sized slot t there);
     trees = λ slot index e heap.
-        let from = seen_of index_in (get_or held.indexes slot None) index (sym (seen index_in held.indexes slot) ∙ e) in
+        let from = seen_of index_known (get_or held.indexes slot None) index (sym (seen index_known held.indexes slot) ∙ e) in
         let P : Index → Type 0 = λ z. z.kind ≡ MaxHeap → size_in state.files (tree_file slot) ≡ Some (tree_size (keys z.attribute (rows_in (view state.files held opens) z.relation))) in
         subst P from.is (λ h. index_sized told slot from.from from.there h) heap;
   }
@@ -117,7 +117,7 @@ module _ (state : State) (tables : Tables) (held : Held) (opens : List (Option O
   of_catalog : (id : ℕ) → IsNamed state.files id catalog_file → (file_at state.files id).kind ≡ Fixed 6
   of_catalog id named = by_cat held.cat r.catalog
     where
-      by_cat : (o : Option ℕ) → HasCatalog state.files o → (file_at state.files id).kind ≡ Fixed 6
+      by_cat : (o : Option ℕ) → HasCatalogFile state.files o → (file_at state.files id).kind ≡ Fixed 6
       by_cat None h = absurd (h id named)
       by_cat (Some cat) h = ap (λ (i : ℕ). (file_at state.files i).kind) (r.distinct id cat catalog_file named h.0) ∙ h.2
 

@@ -1,4 +1,4 @@
-pub mod Lists
+pub mod Executed
 pub mod Reading
 pub mod Seen
 pub mod Started

@@ -7,24 +7,24 @@ use Rattle.antelope_engine.specs.declared.start_error.StartError.TheVariants.{Ba
 use Rattle.antelope_engine.specs.Seen.{Seen}
 
 -- the files, where no session was started
-abbrev pub files_of : {V : Type 0} → StartError V → V
-files_of (Bad broken files) = files
-files_of (Failed files) = files
+abbrev pub files_left : {V : Type 0} → StartError V → V
+files_left (Bad broken files) = files
+files_left (Failed files) = files
 
 -- and wherever they are
 abbrev pub files_after : {V : Type 0} → Result (Seen V) (StartError V) → V
 files_after (Ok session) = session.files
-files_after (Err error) = files_of error
+files_after (Err error) = files_left error
 
 -- P of the broken rule, where one is broken
-abbrev pub OnBad : {V : Type 0} → StartError V → (BrokenRule → Type 0) → Type 0
-OnBad (Bad broken files) P = P broken
-OnBad (Failed files) P = ⊤
+abbrev pub OnBroken : {V : Type 0} → StartError V → (BrokenRule → Type 0) → Type 0
+OnBroken (Bad broken files) P = P broken
+OnBroken (Failed files) P = ⊤
 
 -- P, where the files could not be read
-abbrev pub OnFailed : {V : Type 0} → StartError V → Type 0 → Type 0
-OnFailed (Bad broken files) P = ⊤
-OnFailed (Failed files) P = P
+abbrev pub OnUnread : {V : Type 0} → StartError V → Type 0 → Type 0
+OnUnread (Bad broken files) P = ⊤
+OnUnread (Failed files) P = P
 
 -- P, where no database was opened
 abbrev pub UnlessBegun : {T E F : Type 0} → Result (Result T E) F → Type 0 → Type 0
@@ -35,4 +35,4 @@ UnlessBegun (Err failed) P = P
 -- the count never falls, and the files could not be read only where it rose
 pub record HasStartCause {V : Type 0} (before now : ℕ) (result : Result (Seen V) (StartError V)) : Type 0 where
   pub later : before ≤ now
-  pub failed : IfErr result (λ error. OnFailed error (Rose before now))
+  pub failed : IfErr result (λ error. OnUnread error (Rose before now))

@@ -4,13 +4,11 @@
 mod answering;
 mod changing;
 mod executing;
-mod list;
 mod reading;
 mod session;
 mod start_error;
 mod writing;
 
-pub use list::{Halt, Halted, exec_all};
 pub use session::Session;
 pub use session_model::{Outcome, Step, Stop};
 pub use start_error::StartError;

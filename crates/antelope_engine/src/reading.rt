@@ -3,16 +3,17 @@
 #![tactic(auto)]
 
 ghost use Rattle.std.specs.Prelude.{◌≡◌, ◌+◌, ◌*◌, ◌<◌, ◌≤◌, None, Some, true, false, ℕ, IfOk, IsSome, IsTrue, OnErr, OnOk, get_or, length, option_and_then, option_map};
+ghost use Rattle.afl_base.specs.Keeping.{OnlyReads};
 ghost use Rattle.afl_base.specs.Causes.{HasCause};
 ghost use Rattle.catalog.specs.CatalogFile.{index_in};
 ghost use Rattle.db_model.specs.Catalog.{Index};
 ghost use Rattle.db_model.specs.HashTree.{buckets};
 ghost use Rattle.index_set.specs.Plans.{kind_of};
-ghost use Rattle.session_model.specs.Indexed.{index_in as index_held};
+ghost use Rattle.session_model.specs.Indexed.{index_known as index_held};
 ghost use Rattle.space_model.specs.Enough.{rows_in};
 ghost use Rattle.tuple_file.specs.declared.tuples.Tuples.{Tuples as AnyTuples};
 ghost use Rattle.tuple_file.specs.Tuples.{HoldsRows, row, slots};
-ghost use Rattle.antelope_engine.specs.Reading.{IsTreeAt, index_at, keys_of, relation_at, row_at, schema_at, tree_of};
+ghost use Rattle.antelope_engine.specs.Reading.{IsTreeAt, index_in_slot, keys_at_index, relation_in_slot, row_in_slot, schema_at, tree_of};
 
 use crate::session::Session;
 use afl_base::{Failed, FileId, Files, IndexId, RelationId, SlotNo};
@@ -28,26 +29,26 @@ impl<V: Files> Session<V> {
         requires running { self.now.stopped ≡ false }
         ensures { result ≡ schema_at self.now.database id }
     {
-        schema_of(&self.held.relations[usize::from(id.number())])
+        schema_of(&self.base.held.relations[usize::from(id.number())])
     }
 
     /// The index in a slot, `None` exactly where the slot is unused.
     pub fn index(&self, id: IndexId) -> Option<IndexEntry>
         requires running { self.now.stopped ≡ false }
-        ensures { option_map index_in result ≡ index_at self.now.database id }
+        ensures { option_map index_in result ≡ index_in_slot self.now.database id }
     {
-        entry_of(&self.held.indexes[usize::from(id.number())])
+        entry_of(&self.base.held.indexes[usize::from(id.number())])
     }
 
     /// The number of slots of the relation in a slot, those of removed rows among them.
     pub fn slots(&self, id: RelationId) -> u16
         requires running { self.now.stopped ≡ false }
-        requires used { IsSome (relation_at self.now.database id) }
+        requires used { IsSome (relation_in_slot self.now.database id) }
         ensures { result ≡ length (rows_in self.now.database id) }
     {
-        match &self.held.relations[usize::from(id.number())] {
+        match &self.base.held.relations[usize::from(id.number())] {
             None => 0,
-            Some(tuples) => tuples.count(&self.files),
+            Some(tuples) => tuples.count(&self.base.files),
         }
     }
 
@@ -56,12 +57,12 @@ impl<V: Files> Session<V> {
         requires running { self.now.stopped ≡ false }
         requires tree { IsTreeAt self.now.database id }
         ensures { IsTrue (V.state self.now.files).tells → (index : Index)
-            → index_at self.now.database id ≡ Some index
-            → result ≡ buckets (keys_of self.now.database index) }
+            → index_in_slot self.now.database id ≡ Some index
+            → result ≡ buckets (keys_at_index self.now.database index) }
     {
-        match tree_of(&self.held.indexes[usize::from(id.number())]) {
+        match tree_of(&self.base.held.indexes[usize::from(id.number())]) {
             None => 0,
-            Some(file) => buckets_in(self.files.size(file)),
+            Some(file) => buckets_in(self.base.files.size(file)),
         }
     }
 
@@ -71,18 +72,21 @@ impl<V: Files> Session<V> {
         requires running { self.old.stopped ≡ false }
         requires slot { slot < length (rows_in self.old.database id) }
         ensures row { IsTrue (V.state self.old.files).tells → IfOk result (λ live.
-            row_at self.old.database id slot ≡ record { tuple = into.new; live = live }) }
-        ensures same { OnOk result (V.state self.new.files ≡ V.state self.old.files) }
+            row_in_slot self.old.database id slot ≡ record { tuple = into.new; live = live }) }
         ensures database { OnOk result (self.new.database ≡ self.old.database) }
         ensures aheads { OnOk result (self.new.aheads ≡ self.old.aheads) }
         ensures running { OnOk result ((self.new.stopped ≡ false) × (self.new.lost ≡ false)) }
         ensures lost { OnErr result ((self.new.stopped ≡ true) × (self.new.lost ≡ true)) }
         ensures reads { V.reads self.new.files ≤ V.reads self.old.files + 6 }
-        ensures store { let old = V.state self.old.files in
-            length (V.state self.new.files).store ≡ length old.store }
-        ensures cause { HasCause (V.faults self.old.files) (V.faults self.new.files) result }
+        ensures frame { OnlyReads V.state V.lent V.reads V.faults self.old.files self.new.files result }
     {
-        match row_in(&mut self.files, &self.held.relations, id, slot, into) {
+        match row_in(
+            &mut self.base.files,
+            &self.base.held.relations,
+            id,
+            slot,
+            into,
+        ) {
             Ok(live) => Ok(live),
             Err(Failed) => {
                 self.stopped = true;
@@ -105,10 +109,8 @@ fn row_in<V: Files>(
     ensures row { let table = (V.state files.old).files in IsTrue (V.state files.old).tells
         → (t : AnyTuples) → get_or relations.now id None ≡ Some t
         → IfOk result (λ live. row table t slot ≡ record { tuple = into.new; live = live }) }
-    ensures same { OnOk result (V.state files.new ≡ V.state files.old) }
     ensures reads { V.reads files.new ≤ V.reads files.old + 6 }
-    ensures store { length (V.state files.new).store ≡ length (V.state files.old).store }
-    ensures cause { HasCause (V.faults files.old) (V.faults files.new) result }
+    ensures frame { OnlyReads V.state V.lent V.reads V.faults files.old files.new result }
 {
     match &relations[usize::from(id.number())] {
         None => Ok(false),

@@ -4,31 +4,32 @@
 
 ghost use Rattle.std.specs.Prelude.{◌≡◌, ◌+◌, ◌*◌, ◌≤◌, None, true, false, IsTrue, IfErr, IfOk, IsErrOf, OnErr, OnOk, length, map, replicate};
 ghost use Rattle.std.specs.List.{range_with_len};
-ghost use Rattle.afl_base.specs.Causes.{HasCause};
+ghost use Rattle.afl_base.specs.Keeping.{OnlyReads};
 ghost use Rattle.db_model.specs.Ahead.{aheads_after, cost_of, no_cursors};
 ghost use Rattle.db_model.specs.Cost.{sum};
 ghost use Rattle.db_model.specs.ReplyText.{text};
 ghost use Rattle.db_model.specs.RunCost.{slots_opened};
-ghost use Rattle.db_model.specs.Sound.{BringsNames};
+ghost use Rattle.db_model.specs.Sound.{BringsNames, IsSoundDatabase};
 ghost use Rattle.db_model.specs.Step.{Reads, outcome, step};
 ghost use Rattle.reply_text.specs.WroteLess.{WroteLess};
 ghost use Rattle.session_model.specs.declared.step.Stop.TheVariants.{Flash, Sink as OfSink};
 ghost use Rattle.session_model.specs.Queries.{IsWellFormed};
-ghost use Rattle.session_model.specs.Steps.{Does, HasStopCause, WrotePart};
+ghost use Rattle.session_model.specs.Carried.{ChangesAndSends};
+ghost use Rattle.session_model.specs.Steps.{Does, WrotePart};
 ghost use Rattle.session_model.specs.Wanted.{WantsOver};
 ghost use Rattle.space_model.specs.Enough.{most};
 ghost use Rattle.stored.specs.Base.{base_of};
 ghost use Rattle.stored.specs.Sound.{BreaksFirst, IsSoundTable};
 ghost use Rattle.db_model.specs.Database.{bare};
-ghost use Rattle.antelope_engine.specs.Seen.{OnNoSpace, is_flash};
-ghost use Rattle.antelope_engine.specs.Started.{HasStartCause, OnBad, UnlessBegun, files_after, files_of};
+ghost use Rattle.antelope_engine.specs.Seen.{WhereNoSpace, OnNothingDone, is_flash};
+ghost use Rattle.antelope_engine.specs.Started.{HasStartCause, OnBroken, UnlessBegun, files_after, files_left};
 
 use crate::executing::carry_out;
 use crate::start_error::StartError;
 use afl_base::{Failed, Files, Sink};
 use db_model::Command;
 use index_set::HashTables;
-use session_model::{Held, Open, Step, Stop};
+use session_model::{Base, Held, Open, Step, Stop};
 use session_start::{BrokenRule, open_database};
 use std::marker::Model;
 
@@ -36,30 +37,26 @@ use std::marker::Model;
 /// its cursors have ahead, and whether it was stopped and whether its files failed.
 #[derive(Drop)]
 pub struct Session<V: Files> {
-    pub(crate) files: V,
-    pub(crate) tables: HashTables,
-    pub(crate) held: Held,
-    pub(crate) opens: [Option<Open>; 4],
+    pub(crate) base: Base<V>,
     pub(crate) stopped: bool,
     pub(crate) lost: bool,
 }
 
 impl<V: Files> Model for Session<V> {
     ghost use Rattle.antelope_engine.specs.Seen.{IsSession, Seen};
-    ghost use Rattle.session_model.specs.Aheads.{aheads_of};
-    ghost use Rattle.session_model.specs.View.{view as view_of};
+    ghost use Rattle.session_model.specs.Carried.{aheads as aheads_in, database as database_of};
 
     ghost Value = { Seen V };
 
     ghost view = { λ s. record {
-      files = s.files;
-      database = view_of (V.state s.files).files s.held s.opens;
-      aheads = aheads_of (V.state s.files).files s.opens;
+      files = s.base.files;
+      database = database_of V.Files s.base;
+      aheads = aheads_in V.Files s.base;
       stopped = s.stopped;
       lost = s.lost;
     } };
 
-    ghost invariant = { λ s. IsSession (V.state s.files) s.tables s.held s.opens s.stopped s.lost };
+    ghost invariant = { λ s. IsSession V.Files s.base s.stopped s.lost };
 }
 
 impl<V: Files> Session<V> {
@@ -75,11 +72,11 @@ impl<V: Files> Session<V> {
             → OnOk result (IsSoundTable (V.state files).files) }
         ensures base { IsTrue (V.state files).tells → IfOk result (λ s.
             s.database ≡ base_of (V.state files).files) }
-        ensures bad { IsTrue (V.state files).tells → IfErr result (λ e. OnBad e (λ broken.
+        ensures bad { IsTrue (V.state files).tells → IfErr result (λ e. OnBroken e (λ broken.
             BreaksFirst (V.state files).files broken.rule broken.place)) }
         ensures same { IfOk result (λ s. V.state s.files ≡ V.state files) }
-        ensures returned { IfErr result (λ e. OnBad e (λ _.
-            V.state (files_of e) ≡ V.state files)) }
+        ensures returned { IfErr result (λ e. OnBroken e (λ _.
+            V.state (files_left e) ≡ V.state files)) }
         ensures running { IfOk result (λ s. (s.stopped ≡ false) × (s.lost ≡ false)) }
         ensures aheads { IfOk result (λ s. s.aheads ≡ no_cursors) }
         ensures reads { let base = base_of (V.state files).files in
@@ -93,11 +90,11 @@ impl<V: Files> Session<V> {
         match session.begin() {
             Ok(Ok(())) => Ok(session),
             Ok(Err(broken)) => {
-                let files = session.files;
+                let files = session.base.files;
                 Err(StartError::Bad { broken, files })
             }
             Err(Failed) => {
-                let files = session.files;
+                let files = session.base.files;
                 Err(StartError::Failed { files })
             }
         }
@@ -111,10 +108,12 @@ impl<V: Files> Session<V> {
         ensures stopped { (result.stopped ≡ true) × (result.lost ≡ true) }
     {
         Session {
-            files,
-            tables: HashTables::new(),
-            held: nothing_held(),
-            opens: none_open(),
+            base: Base {
+                files,
+                tables: HashTables::new(),
+                held: nothing_held(),
+                opens: none_open(),
+            },
             stopped: true,
             lost: true,
         }
@@ -136,22 +135,20 @@ impl<V: Files> Session<V> {
             OnOk r (self.new.database ≡ base_of (V.state self.old.files).files)) }
         ensures bad { IsTrue (V.state self.old.files).tells → IfOk result (λ r. IfErr r (λ broken.
             BreaksFirst (V.state self.old.files).files broken.rule broken.place)) }
-        ensures same { OnOk result (V.state self.new.files ≡ V.state self.old.files) }
         ensures running { IfOk result (λ r. OnOk r ((self.new.stopped ≡ false) × (self.new.lost ≡ false))) }
         ensures stopped { UnlessBegun result (self.new.stopped ≡ true) }
         ensures aheads { IfOk result (λ r. OnOk r (self.new.aheads ≡ no_cursors)) }
         ensures reads { let base = base_of (V.state self.old.files).files in
             IsTrue (V.state self.old.files).tells → V.reads self.new.files ≤ V.reads self.old.files
             + 1024 + 16384 + 16 * sum (map (slots_opened base) (range_with_len 0 8)) }
-        ensures store { length (V.state self.new.files).store ≡ length (V.state self.old.files).store }
-        ensures cause { HasCause (V.faults self.old.files) (V.faults self.new.files) result }
+        ensures frame { OnlyReads V.state V.lent V.reads V.faults self.old.files self.new.files result }
     {
         self.stopped = true;
         self.lost = true;
-        match open_database(&mut self.files, &mut self.tables) {
+        match open_database(&mut self.base.files, &mut self.base.tables) {
             Ok(Ok(held)) => {
-                self.held = held;
-                self.opens = none_open();
+                self.base.held = held;
+                self.base.opens = none_open();
                 self.stopped = false;
                 self.lost = false;
                 Ok(Ok(()))
@@ -182,13 +179,13 @@ impl<V: Files> Session<V> {
         ensures flash { IsTrue (V.state self.old.files).tells → IsErrOf result Flash
             → WrotePart (K.held out.old) (K.held out.new)
             (text (step self.old.database command.now).1) }
-        ensures silent { OnNoSpace result (λ need. K.held out.new ≡ K.held out.old) }
-        ensures wants { IsTrue (V.state self.old.files).tells → OnNoSpace result (λ need.
+        ensures silent { WhereNoSpace result (λ need. K.held out.new ≡ K.held out.old) }
+        ensures wants { IsTrue (V.state self.old.files).tells → WhereNoSpace result (λ need.
             WantsOver (V.asks self.new.files) (V.state self.new.files).files
             self.old.database command.now need) }
-        ensures most { IsTrue (V.state self.old.files).tells → OnNoSpace result (λ need.
+        ensures most { IsTrue (V.state self.old.files).tells → WhereNoSpace result (λ need.
             need ≤ most self.old.database command.now) }
-        ensures lacks { OnNoSpace result (λ need. V.lacks self.new.files need) }
+        ensures lacks { WhereNoSpace result (λ need. V.lacks self.new.files need) }
         ensures aheads { IsTrue (V.state self.old.files).tells → self.new.lost ≡ false
             → self.new.aheads ≡ aheads_after self.old.database self.old.aheads command.now }
         ensures tells { self.new.lost ≡ false
@@ -199,22 +196,12 @@ impl<V: Files> Session<V> {
         ensures running { OnOk result (self.new.stopped ≡ false) }
         ensures stopped { OnErr result (self.new.stopped ≡ true) }
         ensures lost { self.new.lost ≡ true → IsErrOf result Flash }
-        ensures keeps { K.keeps out.old out.new }
-        ensures faultless { OnOk result (K.faults out.new ≡ K.faults out.old) }
-        ensures store { let old = V.state self.old.files in
-            length (V.state self.new.files).store ≡ length old.store }
-        ensures cause { HasStopCause (V.faults self.old.files) (V.faults self.new.files)
-            (K.faults out.old) (K.faults out.new) result }
+        ensures untouched { OnNothingDone result (V.state self.new.files ≡ V.state self.old.files) }
+        ensures same { Reads command.now → V.state self.new.files ≡ V.state self.old.files }
+        ensures frame { ChangesAndSends V.Files K.Sink self.old.files self.new.files out.old out.new result }
     {
         hold_names(command);
-        match carry_out(
-            &mut self.files,
-            &mut self.tables,
-            &mut self.held,
-            &mut self.opens[..],
-            command,
-            out,
-        ) {
+        match carry_out(&mut self.base, command, out) {
             Ok(step) => Ok(step),
             Err(stop) => {
                 self.stopped = true;
@@ -231,6 +218,14 @@ impl<V: Files> Session<V> {
         self.stopped
     }
 
+    /// As long as its files did not fail its database is sound. This does nothing, and says it.
+    pub fn database_is_sound(&self)
+        ensures { IsTrue (V.state self.now.files).tells → self.now.lost ≡ false
+            → IsSoundDatabase self.now.database }
+    {
+        let _lost = self.lost;
+    }
+
     /// Hands the files back. Wherever they did not fail, they are sound and stand for the database
     /// without its cursors.
     pub fn close(self) -> V
@@ -241,7 +236,7 @@ impl<V: Files> Session<V> {
             → base_of (V.state result).files ≡ bare self.database }
         ensures idle { self.lost ≡ false → (V.state result).draft ≡ None }
     {
-        self.files
+        self.base.files
     }
 }
 

@@ -12,11 +12,11 @@ use Rattle.intake.specs.declared.halt.Stop.TheVariants.{Input, Long, Halted}
 use Rattle.reply_text.proofs.Pieces.{append_known-twice}
 use Rattle.reply_text.specs.WroteLess.{WroteLess}
 use Rattle.sound_image.specs.Images.{base}
-use Rattle.answering.specs.Carried.{Carried, FoundNone, SaidLess, SaidNone, Standing, Stopped, no_space}
-use Rattle.answering.specs.Went.{TookAll, TookLimit, TookSome, Went, WentNoFurther}
+use Rattle.answering.specs.Carried.{Carried, FoundNoRoom, SaidLess, SaidNone, Standing, Stopped, no_space}
+use Rattle.answering.specs.Went.{CarriedAll, ReachedLimit, TookSome, Went, StoppedWithin}
 use Rattle.run_model.specs.Line.{Line}
-use Rattle.run_model.specs.Runs.{CarriedOut, FoundNoSpace, InputCutOff, InputEnded, InputFaulted, InputFoundNoSpace, InputTooLong, InputUnsaid, ReplyUnsaid, SpaceUnsaid, StopsAt, World, WrotePart, WroteWithin, machine_from, world}
-use Rattle.run_model.specs.Talk.{Talk, after, last, output}
+use Rattle.run_model.specs.Runs.{CarriedOut, FoundNoSpace, InputCutOff, InputEnded, InputFaulted, InputFoundNoSpace, InputTooLong, InputUnsaid, ReplyUnsaid, SpaceUnsaid, StopsAt, World, WroteInFront, WroteWithin, machine_from, world}
+use Rattle.run_model.specs.Talk.{Talk, after_entry, last_database, talk_output}
 use Rattle.run_model.proofs.Talks.{output-append}
 use Rattle.antelope_run.specs.HandedBack.{HandsBack}
 
@@ -57,30 +57,30 @@ module _ {E : Type 0} (talk : Talk E) (a b : Standing) (image image_now : List �
       stands = record { sound = back.sound; base_is = back.base_is ∙ ap bare s.database };
     }
 
-    pub found : (entries : List E) → FoundNone talk Lacks entries a b → FoundNoSpace (machine_from talk a.database) entries Before After
+    pub found : (entries : List E) → FoundNoRoom talk Lacks entries a b → FoundNoSpace (machine_from talk a.database) entries Before After
     unfolding stops_at
     found entries f = record { front = f.stopped.front; n = f.stopped.n; stops = stops_at entries f.stopped; written = f.held }
 
-    pub space_unsaid : (entries : List E) → SaidNone talk Lacks entries a b → SpaceUnsaid (machine_from talk a.database) (output talk a.database) entries Before After
+    pub space_unsaid : (entries : List E) → SaidNone talk Lacks entries a b → SpaceUnsaid (machine_from talk a.database) (talk_output talk a.database) entries Before After
     unfolding stops_at
     space_unsaid entries f = record {
       front = f.stopped.front;
       n = f.stopped.n;
       stops = stops_at entries f.stopped;
-      written = wrote_within (output talk a.database f.stopped.front) (no_space talk f.stopped.entry f.stopped.n)
-          (output talk a.database f.stopped.front ++ no_space talk f.stopped.entry f.stopped.n) a.held f.before b.held f.front_is f.held refl;
+      written = wrote_within (talk_output talk a.database f.stopped.front) (no_space talk f.stopped.entry f.stopped.n)
+          (talk_output talk a.database f.stopped.front ++ no_space talk f.stopped.entry f.stopped.n) a.held f.before b.held f.front_is f.held refl;
     }
 
     pub reply_unsaid : (entries : List E) → SaidLess talk entries a b → ReplyUnsaid (machine_from talk a.database) entries Before After
     reply_unsaid entries f =
-        let here : List ℕ = talk.sent f.entry (text ((after talk (last talk a.database f.front) f.entry).1)) in
+        let here : List ℕ = talk.sent f.entry (text ((after_entry talk (last_database talk a.database f.front) f.entry).1)) in
         record {
           front = f.front;
           entry = f.entry;
           rest = f.rest;
           split = f.split;
-          written = wrote_within (output talk a.database f.front) here (output talk a.database (f.front ++ f.entry ∷ [])) a.held f.before b.held f.front_is f.held
-              (output-append talk a.database f.front (f.entry ∷ []) ∙ ap (λ t. output talk a.database f.front ++ t) (append-nil here));
+          written = wrote_within (talk_output talk a.database f.front) here (talk_output talk a.database (f.front ++ f.entry ∷ [])) a.held f.before b.held f.front_is f.held
+              (output-append talk a.database f.front (f.entry ∷ []) ∙ ap (λ t. talk_output talk a.database f.front ++ t) (append-nil here));
           stands = record { sound = back.sound; base_is = back.base_is ∙ ap bare f.database };
         }
 
@@ -103,7 +103,7 @@ told_on line talk a b left left_now Lacks (Err (Halted Flash)) w other = absurd 
 module _ {E : Type 0} (line : Line E) (talk : Talk E) (a b : Standing) (image image_now : List ℕ) (left left_now : Option (List ℕ)) (start : a.database ≡ base image)
     (Lacks : Command → ℕ → Type 0) where
   module _ (back : HandsBack b.database Lacks image_now) where
-    pub ended : TookAll line talk a b left left_now → InputEnded line talk (world image left a.held) (world image_now left_now b.held)
+    pub ended : CarriedAll line talk a b left left_now → InputEnded line talk (world image left a.held) (world image_now left_now b.held)
     ended t = record {
       bytes = t.bytes;
       came = record { left = t.came; few = t.few };
@@ -120,7 +120,7 @@ module _ {E : Type 0} (line : Line E) (talk : Talk E) (a b : Standing) (image im
           (carried_out talk a b image image_now left left_now Lacks back (line.whole t.bytes) t.carried);
     }
 
-    pub too_long : TookLimit line talk a b left left_now → InputTooLong line talk (world image left a.held) (world image_now left_now b.held)
+    pub too_long : ReachedLimit line talk a b left left_now → InputTooLong line talk (world image left a.held) (world image_now left_now b.held)
     too_long t = record {
       bytes = t.bytes;
       more = t.more;
@@ -131,7 +131,7 @@ module _ {E : Type 0} (line : Line E) (talk : Talk E) (a b : Standing) (image im
           (carried_out talk a b image image_now left left_now Lacks back (line.whole t.bytes) t.carried);
     }
 
-    pub found_no_space : WentNoFurther line talk a b left left_now Lacks Space → InputFoundNoSpace line talk (world image left a.held) (world image_now left_now b.held)
+    pub found_no_space : StoppedWithin line talk a b left left_now Lacks Space → InputFoundNoSpace line talk (world image left a.held) (world image_now left_now b.held)
     found_no_space t = record {
       bytes = t.bytes;
       entries = t.entries;
@@ -143,13 +143,13 @@ module _ {E : Type 0} (line : Line E) (talk : Talk E) (a b : Standing) (image im
 
     abbrev Unsaid : List E → Database → Type 0
     Unsaid entries db = ReplyUnsaid (machine_from talk db) entries (world image left a.held) (world image_now left_now b.held)
-        ⊎ SpaceUnsaid (machine_from talk db) (output talk db) entries (world image left a.held) (world image_now left_now b.held)
+        ⊎ SpaceUnsaid (machine_from talk db) (talk_output talk db) entries (world image left a.held) (world image_now left_now b.held)
 
     unsaid_at : (entries : List E) → (SaidLess talk entries a b ⊎ SaidNone talk Lacks entries a b) → Unsaid entries a.database
     unsaid_at entries (inl s) = inl (reply_unsaid talk a b image image_now left left_now Lacks back entries s)
     unsaid_at entries (inr s) = inr (space_unsaid talk a b image image_now left left_now Lacks back entries s)
 
-    pub unsaid : WentNoFurther line talk a b left left_now Lacks Sink → InputUnsaid line talk (world image left a.held) (world image_now left_now b.held)
+    pub unsaid : StoppedWithin line talk a b left left_now Lacks Sink → InputUnsaid line talk (world image left a.held) (world image_now left_now b.held)
     unsaid t = record {
       bytes = t.bytes;
       entries = t.entries;
@@ -158,12 +158,12 @@ module _ {E : Type 0} (line : Line E) (talk : Talk E) (a b : Standing) (image im
       stopped = subst (Unsaid t.entries) start (unsaid_at t.entries t.halts.stops);
     }
 
-  pub faulted : WentNoFurther line talk a b left left_now Lacks Flash → InputFaulted line talk (world image left a.held) (world image_now left_now b.held)
+  pub faulted : StoppedWithin line talk a b left left_now Lacks Flash → InputFaulted line talk (world image left a.held) (world image_now left_now b.held)
   faulted t = record {
     bytes = t.bytes;
     entries = t.entries;
     came = record { left = t.came; few = t.few };
     are = t.are;
-    written = subst (λ (db : Database). WrotePart (output talk db t.entries) a.held b.held) start
+    written = subst (λ (db : Database). WroteInFront (talk_output talk db t.entries) a.held b.held) start
         (record { part = t.halts.stops.written; rest = t.halts.stops.left; split = t.halts.stops.whole; held = t.halts.stops.held });
   }

@@ -2,7 +2,7 @@
 use Rattle.std.proofs.Common.{◌≡◌, ◌≢◌, ℕ, Bool, true, false, List, Option, Some, refl, ap}
 use Rattle.std.specs.Prelude.{⊤, IfErr, IsErrOf, OnOk, Result, Ok, Err}
 use Rattle.db_model.specs.declared.commands.Command.{Command}
-use Rattle.dump.specs.Appends.{Appends}
+use Rattle.dump.specs.Appends.{AppendsText}
 use Rattle.intake.specs.declared.halt.Halt.{Halt}
 use Rattle.intake.specs.declared.halt.Halt.TheVariants as halt
 use Rattle.intake.specs.declared.halt.Stop.{Stop}
@@ -12,10 +12,10 @@ use Rattle.session_model.specs.declared.step.Stop.TheVariants as stop
 use Rattle.session_model.specs.Steps.{HasStopCause, UnlessFlash}
 use Rattle.answering.specs.Carried.{HasHaltCause, Standing}
 use Rattle.answering.specs.Went.{HasRunCause, Reaches}
-use Rattle.workload_run.specs.Summed.{StopsBy, SummedUp}
+use Rattle.workload_run.specs.Summed.{StopsCommands, SummedUp}
 use Rattle.antelope_run.specs.declared.words.Form.{Form}
 use Rattle.antelope_run.specs.Comes.{ReachesBy}
-use Rattle.antelope_run.specs.Does.{Generates, OnlyHalts, Writes, halted, stopped}
+use Rattle.antelope_run.specs.Does.{Generates, OnlyHalts, WritesText, halted, stopped}
 use Rattle.antelope_run.specs.Statuses.{TakesInput}
 
 clash : {Goal : Type 0} → false ≡ true → Goal
@@ -25,7 +25,7 @@ clash e = absurd (let n : ⊥ = cc in n)
 
 pub generated : (old new : Standing) (Lacks : Command → ℕ → Type 0) (commands : List Command) (done : Result ⊤ Halt)
     → OnOk done (SummedUp commands old.database new.database old.held new.held)
-    → IfErr done (λ h. StopsBy Lacks commands old.database new.database old.held new.held h)
+    → IfErr done (λ h. StopsCommands Lacks commands old.database new.database old.held new.held h)
     → Generates old new Lacks commands (halted done)
 generated old new Lacks commands (Ok x) ok err = ok
 generated old new Lacks commands (Err h) ok err = err
@@ -57,7 +57,7 @@ generated_cause (Err h) inputs f g r s c = record {
 
 -- ---- a dumped script
 
-pub dumped : (old new : Standing) (text : List ℕ) (done : Result ⊤ AnyStop) → Appends done old.held new.held text → Writes old new text (stopped done)
+pub dumped : (old new : Standing) (text : List ℕ) (done : Result ⊤ AnyStop) → AppendsText done old.held new.held text → WritesText old new text (stopped done)
 dumped old new text (Ok x) h = h
 dumped old new text (Err stop.Sink) h = h
 dumped old new text (Err stop.Flash) h = h

@@ -26,10 +26,10 @@ use Rattle.workload_run.specs.Summed.{summed}
 use Rattle.workload_run.specs.Summed as sums
 use Rattle.antelope_run.specs.declared.words.Form.{Form}
 use Rattle.antelope_run.specs.declared.words.Form.TheVariants.{Run, Gen, Plan, Serve, Dump}
-use Rattle.antelope_run.specs.Does.{Does, Generates, OnlyTells, TellsOn, Writes}
+use Rattle.antelope_run.specs.Does.{DoesForm, Generates, OnlyTells, TellsOn, WritesText}
 use Rattle.antelope_run.specs.HandedBack.{HandsBack}
 use Rattle.antelope_run.specs.Left as left
-use Rattle.antelope_run.specs.Statuses.{LineUnsaid, OnInput, Tells, TellsLess, dumped_text, nothing_yet, planned_text, summed_from, TakesInput}
+use Rattle.antelope_run.specs.Statuses.{LineUnsaid, OnInput, TellsText, TellsLess, dumped_text, nothing_yet, planned_text, summed_from, TakesInput}
 use Rattle.antelope_run.proofs.Finished.{cut_off, ended, faulted, found_no_space, told_on, too_long, unsaid, wrote_within}
 
 -- ---- an input
@@ -70,7 +70,7 @@ module _ (a b : Standing) (image image_now : List ℕ) (before now : Option (Lis
       let other : ◌≢◌ {A = Result ⊤ Stop} (Err (Halted Sink)) (Err (Halted Flash)) = λ e. (let n : ⊥ = cc in n) in
       unsaid line talk a b image image_now before now start Lacks (back (told_on line talk a b before now Lacks (Err (Halted Sink)) w other ∙ told) other) w
 
-  by_run : (result : Result ⊤ Stop) → OnInput Run (λ E line talk. LeavesInput line talk Old New result) → left.Leaves Run Old New result
+  by_run : (result : Result ⊤ Stop) → OnInput Run (λ E line talk. LeavesInput line talk Old New result) → left.LeavesBehind Run Old New result
   by_run (Ok done) h = h
   by_run (Err Input) h = h
   by_run (Err Long) h = h
@@ -78,7 +78,7 @@ module _ (a b : Standing) (image image_now : List ℕ) (before now : Option (Lis
   by_run (Err (Halted Flash)) h = h
   by_run (Err (Halted Sink)) h = h
 
-  by_serve : (result : Result ⊤ Stop) → OnInput Serve (λ E line talk. LeavesInput line talk Old New result) → left.Leaves Serve Old New result
+  by_serve : (result : Result ⊤ Stop) → OnInput Serve (λ E line talk. LeavesInput line talk Old New result) → left.LeavesBehind Serve Old New result
   by_serve (Ok done) h = h
   by_serve (Err Input) h = h
   by_serve (Err Long) h = h
@@ -95,7 +95,7 @@ module _ (a b : Standing) (image image_now : List ℕ) (before now : Option (Lis
     all_made : sums.SummedUp commands a.database b.database a.held b.held → CarriedOut (summed_from a.database) commands Old New
     all_made s = record { written = s.held; stands = record { sound = back.sound; base_is = back.base_is ∙ ap bare s.database } }
 
-    stops_at : (n : ℕ) (s : counted.StopsAt Lacks commands a.database b.database n) → StopsAt (summed_from a.database) commands s.front n image_now
+    stops_at : (n : ℕ) (s : counted.StopsAtCommand Lacks commands a.database b.database n) → StopsAt (summed_from a.database) commands s.front n image_now
     stops_at n s = record {
       entry = s.command;
       rest = s.rest;
@@ -107,11 +107,11 @@ module _ (a b : Standing) (image image_now : List ℕ) (before now : Option (Lis
       stands = record { sound = back.sound; base_is = back.base_is ∙ ap bare s.database };
     }
 
-    found_at : sums.FoundNone Lacks commands a.database b.database a.held b.held → FoundNoSpace (summed_from a.database) commands Old New
+    found_at : sums.SaidNoRoom Lacks commands a.database b.database a.held b.held → FoundNoSpace (summed_from a.database) commands Old New
     unfolding stops_at
     found_at f = record { front = f.stops.front; n = f.n; stops = stops_at f.n f.stops; written = f.held }
 
-    space_unsaid_at : sums.SpaceUnsaid Lacks commands a.database b.database a.held b.held → SpaceUnsaid (summed_from a.database) nothing_yet commands Old New
+    space_unsaid_at : sums.LeftSpaceUnsaid Lacks commands a.database b.database a.held b.held → SpaceUnsaid (summed_from a.database) nothing_yet commands Old New
     unfolding stops_at
     space_unsaid_at f = record {
       front = f.stops.front;
@@ -120,19 +120,19 @@ module _ (a b : Standing) (image image_now : List ℕ) (before now : Option (Lis
       written = less_of (summed a.database f.stops.front ++ refusal_text (no.Space f.n)) f.held;
     }
 
-    line_unsaid : sums.LineUnsaid commands a.database b.database a.held b.held → LineUnsaid commands Old New
+    line_unsaid : sums.LeftLineUnsaid commands a.database b.database a.held b.held → LineUnsaid commands Old New
     line_unsaid s = record {
       written = less_of (summed (base image) commands) (subst (λ (db : Database). WroteLess a.held b.held (summed db commands)) start s.held);
       stands = subst (λ (db : Database). StandsAfter (summed_from db) commands image_now) start
           (record { sound = back.sound; base_is = back.base_is ∙ ap bare s.database });
     }
 
-    unsaid_by : (sums.LineUnsaid commands a.database b.database a.held b.held ⊎ sums.SpaceUnsaid Lacks commands a.database b.database a.held b.held)
+    unsaid_by : (sums.LeftLineUnsaid commands a.database b.database a.held b.held ⊎ sums.LeftSpaceUnsaid Lacks commands a.database b.database a.held b.held)
         → (LineUnsaid commands Old New ⊎ SpaceUnsaid (summed_from (base image)) nothing_yet commands Old New)
     unsaid_by (inl s) = inl (line_unsaid s)
     unsaid_by (inr s) = inr (subst (λ (db : Database). SpaceUnsaid (summed_from db) nothing_yet commands Old New) start (space_unsaid_at s))
 
-  by_gen : (seed count : ℕ) (result : Result ⊤ Stop) → Back result → TellsOn a b result → Generates a b Lacks (first_commands seed count) result → left.Leaves (Gen seed count) Old New result
+  by_gen : (seed count : ℕ) (result : Result ⊤ Stop) → Back result → TellsOn a b result → Generates a b Lacks (first_commands seed count) result → left.LeavesBehind (Gen seed count) Old New result
   by_gen seed count (Ok done) back tells g =
       let other : ◌≢◌ {A = Result ⊤ Stop} (Ok done) (Err (Halted Flash)) = λ e. (let n : ⊥ = cc in n) in
       subst (λ (db : Database). CarriedOut (summed_from db) (first_commands seed count) Old New) start
@@ -150,45 +150,45 @@ module _ (a b : Standing) (image image_now : List ℕ) (before now : Option (Lis
 
   -- ---- what is told of an image
 
-  abbrev pub Stays : Result ⊤ Stop → Type 0
-  Stays result = result ≢ Err (Halted Flash) → image_now ≡ image
+  abbrev pub Stays : Type 0
+  Stays = image_now ≡ image
 
   module _ (text : List ℕ → List ℕ) (unread : now ≡ before) where
-    told_all : (image_now ≡ image) → b.held ≡ append_known a.held (text image) → Tells text Old New
+    told_all : (image_now ≡ image) → b.held ≡ append_known a.held (text image) → TellsText text Old New
     told_all same held = record { leaves = record { same = same; unread = unread }; written = held }
 
     told_less : (image_now ≡ image) → WroteLess a.held b.held (text image) → TellsLess text Old New
     told_less same w = record { leaves = record { same = same; unread = unread }; written = less_of (text image) w }
 
-  by_plan : (rows : ℕ) → now ≡ before → (result : Result ⊤ Stop) → Stays result → Writes a b (planned_text rows image) result → left.Leaves (Plan rows) Old New result
-  by_plan rows unread (Ok done) stays w = told_all (planned_text rows) unread (stays (λ e. (let n : ⊥ = cc in n))) w
+  by_plan : (rows : ℕ) → now ≡ before → (result : Result ⊤ Stop) → Stays → WritesText a b (planned_text rows image) result → left.LeavesBehind (Plan rows) Old New result
+  by_plan rows unread (Ok done) stays w = told_all (planned_text rows) unread stays w
   by_plan rows unread (Err Input) stays w = absurd w
   by_plan rows unread (Err Long) stays w = absurd w
   by_plan rows unread (Err (Halted Space)) stays w = absurd w
-  by_plan rows unread (Err (Halted Flash)) stays w = record { part = w.written; rest = w.left; split = w.whole; held = w.held }
-  by_plan rows unread (Err (Halted Sink)) stays w = told_less (planned_text rows) unread (stays (λ e. (let n : ⊥ = cc in n))) w
+  by_plan rows unread (Err (Halted Flash)) stays w = (record { same = stays; unread = unread }, record { part = w.written; rest = w.left; split = w.whole; held = w.held })
+  by_plan rows unread (Err (Halted Sink)) stays w = told_less (planned_text rows) unread stays w
 
-  by_dump : now ≡ before → (result : Result ⊤ Stop) → Stays result → Writes a b (dumped_text image) result → left.Leaves Dump Old New result
-  by_dump unread (Ok done) stays w = told_all dumped_text unread (stays (λ e. (let n : ⊥ = cc in n))) w
+  by_dump : now ≡ before → (result : Result ⊤ Stop) → Stays → WritesText a b (dumped_text image) result → left.LeavesBehind Dump Old New result
+  by_dump unread (Ok done) stays w = told_all dumped_text unread stays w
   by_dump unread (Err Input) stays w = absurd w
   by_dump unread (Err Long) stays w = absurd w
   by_dump unread (Err (Halted Space)) stays w = absurd w
-  by_dump unread (Err (Halted Flash)) stays w = record { part = w.written; rest = w.left; split = w.whole; held = w.held }
-  by_dump unread (Err (Halted Sink)) stays w = told_less dumped_text unread (stays (λ e. (let n : ⊥ = cc in n))) w
+  by_dump unread (Err (Halted Flash)) stays w = (record { same = stays; unread = unread }, record { part = w.written; rest = w.left; split = w.whole; held = w.held })
+  by_dump unread (Err (Halted Sink)) stays w = told_less dumped_text unread stays w
 
   -- ---- each form
 
-  pub leaves : (sectors : ℕ) → sectors ≡ length image / 4096 → (form : Form) (result : Result ⊤ Stop) → Back result → (OnlyTells form → Stays result) → (OnlyTells form → now ≡ before)
-      → Does a b sectors before now Lacks form result → left.Leaves form Old New result
+  pub leaves : (sectors : ℕ) → sectors ≡ length image / 4096 → (form : Form) (result : Result ⊤ Stop) → Back result → (OnlyTells form → Stays) → (OnlyTells form → now ≡ before)
+      → DoesForm a b sectors before now Lacks form result → left.LeavesBehind form Old New result
   leaves sectors many Run result back stays unread d = by_run result (λ read reader. leaves_input _ _ result back (d read reader))
   leaves sectors many Serve result back stays unread d = by_serve result (λ read reader. leaves_input _ _ result back (d read reader))
   leaves sectors many (Gen seed count) result back stays unread d = by_gen seed count result back d.0 d.1
   leaves sectors many (Plan rows) result back stays unread d =
       by_plan rows (unread tt) result (stays tt)
-      (subst (λ (db : Database). Writes a b (plan_text (planned db rows) (length image / 4096)) result) start
-      (subst (λ (n : ℕ). Writes a b (plan_text (planned a.database rows) n) result) many d.1))
+      (subst (λ (db : Database). WritesText a b (plan_text (planned db rows) (length image / 4096)) result) start
+      (subst (λ (n : ℕ). WritesText a b (plan_text (planned a.database rows) n) result) many d.1))
   leaves sectors many Dump result back stays unread d =
-      by_dump (unread tt) result (stays tt) (subst (λ (db : Database). Writes a b (script db) result) start d.1)
+      by_dump (unread tt) result (stays tt) (subst (λ (db : Database). WritesText a b (script db) result) start d.1)
 
 -- what only tells of an image takes no input
 pub tells_alone : (form : Form) → OnlyTells form → TakesInput (Some form) → ⊥

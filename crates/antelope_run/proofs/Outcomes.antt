@@ -6,7 +6,7 @@ use Rattle.std.specs.Io.KnownBytes.{IsAtEnd}
 use Rattle.afl_base.specs.Causes.{Rose}
 use Rattle.intake.specs.declared.halt.Halt.TheVariants.{Space, Flash, Sink}
 use Rattle.intake.specs.declared.halt.Stop.TheVariants.{Input, Long, Halted}
-use Rattle.run_model.specs.Runs.{Refuses, TookLimit, World}
+use Rattle.run_model.specs.Runs.{Refuses, CameToLimit, World}
 use Rattle.run_model.specs.Scripts.{script_cut, script_line, script_talk}
 use Rattle.run_model.proofs.Parts.{script_parts}
 use Rattle.serve_model.specs.Frames.{frame_cut, frame_line}
@@ -18,9 +18,9 @@ use Rattle.antelope_run.specs.declared.came.Came.{Came}
 use Rattle.antelope_run.specs.declared.came.Came.TheVariants.{Opened, Refused, Unsaid, Failed}
 use Rattle.antelope_run.specs.declared.words.Form.{Form}
 use Rattle.antelope_run.specs.declared.words.Form.TheVariants.{Run, Gen, Plan, Serve, Dump}
-use Rattle.antelope_run.specs.Comes.{ComesTo, HasCause, OnOpened, OnUnopened, ReachesBy, status_by}
-use Rattle.antelope_run.specs.Left.{Leaves}
-use Rattle.antelope_run.specs.Statuses.{Ends, FindsNoSpace, HasSpace, IsCutOff, IsFaulted, IsShort, IsStatus, IsTooLong, IsUnsaid, TakesInput, summed_from}
+use Rattle.antelope_run.specs.Comes.{ComesTo, HasCameCause, OnOpened, OnUnopened, ReachesBy, status_by}
+use Rattle.antelope_run.specs.Left.{LeavesBehind}
+use Rattle.antelope_run.specs.Statuses.{CausedBy, LeftBy, TakenBy, RunEnds, FindsNoSpace, HasSpace, InputIsCutOff, IsFaulted, IsWithinLimit, IsStatus, IsTooLong, IsUnsaid, TakesInput, summed_from}
 use Rattle.antelope_run.proofs.Fronts.{has_fronts}
 use Rattle.antelope_run.proofs.Space.{input_has_space, stops_nowhere}
 
@@ -126,7 +126,7 @@ is_long Failed e = absurd (omega (arith, e))
 
 -- ---- causes
 
-module _ (came : Came) (inputs inputs_now flash flash_now replies replies_now : ℕ) (c : HasCause inputs inputs_now flash flash_now replies replies_now came) where
+module _ (came : Came) (inputs inputs_now flash flash_now replies replies_now : ℕ) (c : HasCameCause inputs inputs_now flash flash_now replies replies_now came) where
   pub cut_cause : status_by came ≡ 2 → Rose inputs inputs_now
   cut_cause e = c.input (is_cut came e)
 
@@ -144,6 +144,13 @@ module _ (came : Came) (inputs inputs_now flash flash_now replies replies_now : 
       by_case (inl h) = c.sink_failed h
       by_case (inr h) = c.unsaid h
 
+  pub caused_by : (status : ℕ) → status ≡ status_by came → CausedBy status inputs inputs_now flash flash_now replies replies_now
+  caused_by status is = record {
+    input = λ e. cut_cause (sym is ∙ e);
+    flash = λ e. flash_cause (sym is ∙ e);
+    sink = λ e. sink_cause (sym is ∙ e);
+  }
+
 -- ---- the input
 
 pub unread_at : (came : Came) (P : Type 0) → OnUnopened came P → status_by came ≡ 6 → P
@@ -153,16 +160,38 @@ module _ (form : Form) (came : Came) (left left_now : Option (List ℕ)) (reache
   pub end_at : status_by came ≡ 0 → TakesInput (Some form) → IsAtEnd left_now
   end_at e takes = subst (λ (k : Came). OnOpened k (λ done. ReachesBy form done left left_now)) (is_ended came e) reaches takes
 
-  pub limit_at : status_by came ≡ 8 → TookLimit left left_now
+  pub limit_at : status_by came ≡ 8 → CameToLimit left left_now
   limit_at e = subst (λ (k : Came). OnOpened k (λ done. ReachesBy form done left left_now)) (is_long came e) reaches
+
+pub taken_by : {S : Type 0} (left : S → Option (List ℕ)) (form : Form) (came : Came) (old new : S) (status : ℕ) → status ≡ status_by came
+    → OnOpened came (λ done. ReachesBy form done (left old) (left new)) → OnUnopened came (new ≡ old) → ((TakesInput (Some form) → ⊥) → new ≡ old)
+    → TakenBy left status (Some form) old new
+taken_by left form came old new status is reaches unread untouched = record {
+  unread = λ e. unread_at came (new ≡ old) unread (sym is ∙ e);
+  untouched = untouched;
+  at_end = λ e. end_at form came (left old) (left new) reaches (sym is ∙ e);
+  one_more = λ e. limit_at form came (left old) (left new) reaches (sym is ∙ e);
+}
+
+-- no form, and nothing done
+pub nothing_left : (old new : World) → LeftBy 1 None old new
+nothing_left old new = record {
+  ends = λ e. absurd (omega (arith, e));
+  cut_off = λ e. absurd (omega (arith, e));
+  no_space = λ e. absurd (omega (arith, e));
+  faulted = λ e. absurd (omega (arith, e));
+  unsaid = λ e. absurd (omega (arith, e));
+  refused = λ e. absurd (omega (arith, e));
+  long = λ e. absurd (omega (arith, e));
+}
 
 -- ---- what is left behind
 
 module _ (form : Form) (came : Came) (old new : World) (comes : ComesTo form old new came) where
-  pub ends_at : status_by came ≡ 0 → Ends (Some form) old new
+  pub ends_at : status_by came ≡ 0 → RunEnds (Some form) old new
   ends_at e = subst (ComesTo form old new) (is_ended came e) comes
 
-  pub cut_at : status_by came ≡ 2 → IsCutOff (Some form) old new
+  pub cut_at : status_by came ≡ 2 → InputIsCutOff (Some form) old new
   cut_at e = subst (ComesTo form old new) (is_cut came e) comes
 
   pub long_at : status_by came ≡ 8 → IsTooLong (Some form) old new
@@ -188,6 +217,18 @@ module _ (form : Form) (came : Came) (old new : World) (comes : ComesTo form old
   pub refused_at : status_by came ≡ 6 → Refuses old new
   refused_at e = subst (ComesTo form old new) (is_refused came e) comes
 
+  -- all of it, for the status that the program ends with
+  pub left_by : (status : ℕ) → status ≡ status_by came → LeftBy status (Some form) old new
+  left_by status is = record {
+    ends = λ e. ends_at (sym is ∙ e);
+    cut_off = λ e. cut_at (sym is ∙ e);
+    no_space = λ e. spaceless_at (sym is ∙ e);
+    faulted = λ e. faulted_at (sym is ∙ e);
+    unsaid = λ e. unsaid_at (sym is ∙ e);
+    refused = λ e. refused_at (sym is ∙ e);
+    long = λ e. long_at (sym is ∙ e);
+  }
+
   -- ---- sound images, and others
 
   sound_by : (k : Came) → ComesTo form old new k → (IsSound old.image → ⊥) → (status_by k ≡ 4) ⊎ (status_by k ≡ 5) ⊎ (status_by k ≡ 6)
@@ -202,7 +243,7 @@ module _ (form : Form) (came : Came) (old new : World) (comes : ComesTo form old
 -- ---- completeness
 
 -- an input within the limit does not pass it
-within_limit : (text : List ℕ) (left left_now : Option (List ℕ)) → left ≡ Some text → length text ≤ 16777216 → TookLimit left left_now → ⊥
+within_limit : (text : List ℕ) (left left_now : Option (List ℕ)) → left ≡ Some text → length text ≤ 16777216 → CameToLimit left left_now → ⊥
 within_limit text left None told few t = (let e : Some text ≡ None = sym told ∙ t.left in let n : ⊥ = cc in n)
 within_limit text left (Some rest) told few t =
     let e : Some text ≡ Some ((t.bytes ++ t.more) ++ rest) = sym told ∙ t.left in
@@ -215,14 +256,14 @@ within_limit text left (Some rest) told few t =
     absurd (omega (arith, few, many, one, whole, split, parts))
 
 -- only words that name an input can pass its limit
-takes_by : (form : Form) (old new : World) → Leaves form old new (Err Long) → TakesInput (Some form)
+takes_by : (form : Form) (old new : World) → LeavesBehind form old new (Err Long) → TakesInput (Some form)
 takes_by Run old new h = tt
 takes_by Serve old new h = tt
 takes_by (Gen seed count) old new h = absurd h
 takes_by (Plan rows) old new h = absurd h
 takes_by Dump old new h = absurd h
 
-module _ (form : Form) (old new : World) (sound : IsSound old.image) (short : IsShort (Some form) old.left) where
+module _ (form : Form) (old new : World) (sound : IsSound old.image) (short : IsWithinLimit (Some form) old.left) where
   pub no_fault_by : (came : Came) → ComesTo form old new came → OnOpened came (λ done. ReachesBy form done old.left new.left)
       → (status_by came ≡ 2 → ⊥) → (status_by came ≡ 4 → ⊥) → (status_by came ≡ 5 → ⊥) → (status_by came ≡ 0) ⊎ (status_by came ≡ 3)
   no_fault_by (Opened (Ok done)) h r input flash sink = inl refl

@@ -8,7 +8,7 @@ use Rattle.intake.specs.declared.halt.Stop.TheVariants.{Input, Long, Halted}
 use Rattle.answering.specs.Carried.{Standing}
 use Rattle.answering.specs.Went.{Went}
 use Rattle.run_model.specs.Line.{Line}
-use Rattle.run_model.specs.Talk.{OnlyReads, Talk, costs}
+use Rattle.run_model.specs.Talk.{AsksToRead, Talk, talk_costs}
 use Rattle.run_model.proofs.Talks.{costs-append}
 use Rattle.antelope_run.proofs.Fronts.{HasFronts, all_front, entries_front, longer_front, whole_front}
 
@@ -18,16 +18,16 @@ all_first P (x ∷ xs) ys h = (h.0, all_first P xs ys h.1)
 
 module _ {E : Type 0} (line : Line E) (has : HasFronts line) (talk : Talk E) (a b : Standing) (left left_now : Option (List ℕ)) (Lacks : Command → ℕ → Type 0) where
   -- the first entries cost no more than all
-  first_cost : (entries rest all : List E) → all ≡ entries ++ rest → AllByRecursion (OnlyReads talk) all
-      → (AllByRecursion (OnlyReads talk) entries → b.reads ≤ a.reads + costs talk a.database a.aheads entries)
-      → b.reads ≤ a.reads + costs talk a.database a.aheads all
+  first_cost : (entries rest all : List E) → all ≡ entries ++ rest → AllByRecursion (AsksToRead talk) all
+      → (AllByRecursion (AsksToRead talk) entries → b.reads ≤ a.reads + talk_costs talk a.database a.aheads entries)
+      → b.reads ≤ a.reads + talk_costs talk a.database a.aheads all
   first_cost entries rest all is reads bound =
-      let few = bound (all_first (OnlyReads talk) entries rest (subst (λ (es : List E). AllByRecursion (OnlyReads talk) es) is reads)) in
+      let few = bound (all_first (AsksToRead talk) entries rest (subst (λ (es : List E). AllByRecursion (AsksToRead talk) es) is reads)) in
       let sum = costs-append talk a.database a.aheads entries rest in
-      subst (λ (es : List E). b.reads ≤ a.reads + costs talk a.database a.aheads es) (sym is) (omega (arith, few, sum))
+      subst (λ (es : List E). b.reads ≤ a.reads + talk_costs talk a.database a.aheads es) (sym is) (omega (arith, few, sum))
 
-  pub reads_few : (result : Result ⊤ Stop) → Went line talk a b left left_now Lacks result → (text : List ℕ) → left ≡ Some text → AllByRecursion (OnlyReads talk) (line.all text)
-      → b.reads ≤ a.reads + costs talk a.database a.aheads (line.all text)
+  pub reads_few : (result : Result ⊤ Stop) → Went line talk a b left left_now Lacks result → (text : List ℕ) → left ≡ Some text → AllByRecursion (AsksToRead talk) (line.all text)
+      → b.reads ≤ a.reads + talk_costs talk a.database a.aheads (line.all text)
   reads_few (Ok done) w text told all =
       let f = all_front line has text left left_now told w.bytes w.came w.at_end in
       first_cost (line.all w.bytes) f.0 (line.all text) f.1 all w.carried.reads

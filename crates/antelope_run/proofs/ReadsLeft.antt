@@ -6,7 +6,7 @@ use Rattle.db_model.specs.RunCost.{opening_cost}
 use Rattle.answering.specs.Carried.{Standing}
 use Rattle.run_model.specs.Line.{Line}
 use Rattle.run_model.specs.Runs.{ReadsWithin, world}
-use Rattle.run_model.specs.Talk.{Talk, costs}
+use Rattle.run_model.specs.Talk.{Talk, talk_costs}
 use Rattle.run_model.specs.Scripts.{script_line, script_talk}
 use Rattle.serve_model.specs.Frames.{frame_line}
 use Rattle.serve_model.specs.Served.{serve_talk}
@@ -27,8 +27,8 @@ module _ (image : List ℕ) (left held : Option (List ℕ)) (before : ℕ) where
     input_reads : {E : Type 0} (line : Line E) (talk : Talk E) → InputReads a left now E line talk → ReadsWithin line talk (world image left held) (now - before)
     input_reads line talk h = λ text told all.
         let few = h text told all in
-        let same = ap (λ (db : Database). costs talk db a.aheads (line.all text)) start in
-        let same_aheads = ap (λ (aheads : Aheads). costs talk (base image) aheads (line.all text)) rest in
+        let same = ap (λ (db : Database). talk_costs talk db a.aheads (line.all text)) start in
+        let same_aheads = ap (λ (aheads : Aheads). talk_costs talk (base image) aheads (line.all text)) rest in
         omega (arith, few, same, same_aheads, opened)
 
     pub reads_by : (form : Form) → CarriedReads form a left now → ReadsAtMost (Some form) (world image left held) (now - before)

@@ -5,12 +5,12 @@ use Rattle.afl_base.specs.Causes.{Rose}
 use Rattle.intake.specs.declared.halt.Halt.TheVariants.{Flash, Sink}
 use Rattle.intake.specs.declared.halt.Stop.{Stop}
 use Rattle.intake.specs.declared.halt.Stop.TheVariants.{Input, Long, Halted}
-use Rattle.run_model.specs.Runs.{Refuses, RefusalUnsaid, TookLimit, World}
+use Rattle.run_model.specs.Runs.{Refuses, RefusalUnsaid, CameToLimit, World}
 use Rattle.sound_image.specs.Images.{IsSound}
 use Rattle.antelope_run.specs.declared.came.Came.{Came}
 use Rattle.antelope_run.specs.declared.came.Came.TheVariants.{Opened, Refused, Unsaid, Failed}
 use Rattle.antelope_run.specs.declared.words.Form.{Form}
-use Rattle.antelope_run.specs.Left.{Leaves, status_of}
+use Rattle.antelope_run.specs.Left.{LeavesBehind, status_of}
 use Rattle.antelope_run.specs.Statuses.{TakesInput}
 
 abbrev pub status_by : Came → ℕ
@@ -20,7 +20,7 @@ status_by Unsaid = 5
 status_by Failed = 4
 
 abbrev pub ComesTo : Form → World → World → Came → Type 0
-ComesTo form old new (Opened done) = IsSound old.image × Leaves form old new done
+ComesTo form old new (Opened done) = IsSound old.image × LeavesBehind form old new done
 ComesTo form old new Refused = Refuses old new
 ComesTo form old new Unsaid = RefusalUnsaid old new
 ComesTo form old new Failed = new.held ≡ old.held
@@ -28,7 +28,7 @@ ComesTo form old new Failed = new.held ≡ old.held
 -- how far the bytes of an input came: to their end, or one byte past the limit
 abbrev pub ReachesBy : Form → Result ⊤ Stop → (left left_now : Option (List ℕ)) → Type 0
 ReachesBy form (Ok done) left left_now = TakesInput (Some form) → IsAtEnd left_now
-ReachesBy form (Err Long) left left_now = TookLimit left left_now
+ReachesBy form (Err Long) left left_now = CameToLimit left left_now
 ReachesBy form _ left left_now = ⊤
 
 -- P of what an opened session came to
@@ -42,7 +42,7 @@ OnUnopened (Opened done) P = ⊤
 OnUnopened _ P = P
 
 -- what is said to have failed has counted it
-pub record HasCause (inputs inputs_now flash flash_now replies replies_now : ℕ) (came : Came) : Type 0 where
+pub record HasCameCause (inputs inputs_now flash flash_now replies replies_now : ℕ) (came : Came) : Type 0 where
   pub input : came ≡ Opened (Err Input) → Rose inputs inputs_now
   pub flash_failed : came ≡ Opened (Err (Halted Flash)) → Rose flash flash_now
   pub sink_failed : came ≡ Opened (Err (Halted Sink)) → Rose replies replies_now

@@ -16,10 +16,10 @@ use Rattle.session_model.specs.Steps.{WrotePart}
 use Rattle.answering.specs.Carried.{Standing}
 use Rattle.answering.specs.Went.{Went}
 use Rattle.run_model.specs.Line.{Line}
-use Rattle.run_model.specs.Talk.{OnlyReads, Talk, costs}
+use Rattle.run_model.specs.Talk.{AsksToRead, Talk, talk_costs}
 use Rattle.space_plan.specs.Lines.{plan_text}
 use Rattle.space_plan.specs.Planned.{planned}
-use Rattle.workload_run.specs.Summed.{StopsBy, SummedUp}
+use Rattle.workload_run.specs.Summed.{StopsCommands, SummedUp}
 use Rattle.antelope_run.specs.declared.words.Form.{Form}
 use Rattle.antelope_run.specs.declared.words.Form.TheVariants.{Run, Gen, Plan, Serve, Dump}
 use Rattle.antelope_run.specs.Statuses.{OnInput}
@@ -28,34 +28,34 @@ module _ (old new : Standing) where
   -- given commands were carried out, and one line was written
   abbrev pub Generates : (Command → ℕ → Type 0) → List Command → Result ⊤ Stop → Type 0
   Generates Lacks commands (Ok done) = SummedUp commands old.database new.database old.held new.held
-  Generates Lacks commands (Err (Halted halt)) = StopsBy Lacks commands old.database new.database old.held new.held halt
+  Generates Lacks commands (Err (Halted halt)) = StopsCommands Lacks commands old.database new.database old.held new.held halt
   Generates Lacks commands (Err Input) = ⊥
   Generates Lacks commands (Err Long) = ⊥
 
   -- a text was written, and the database stays
-  abbrev pub Writes : List ℕ → Result ⊤ Stop → Type 0
-  Writes text (Ok done) = new.held ≡ append_known old.held text
-  Writes text (Err (Halted Sink)) = WroteLess old.held new.held text
-  Writes text (Err (Halted Flash)) = WrotePart old.held new.held text
-  Writes text (Err (Halted Space)) = ⊥
-  Writes text (Err Input) = ⊥
-  Writes text (Err Long) = ⊥
+  abbrev pub WritesText : List ℕ → Result ⊤ Stop → Type 0
+  WritesText text (Ok done) = new.held ≡ append_known old.held text
+  WritesText text (Err (Halted Sink)) = WroteLess old.held new.held text
+  WritesText text (Err (Halted Flash)) = WrotePart old.held new.held text
+  WritesText text (Err (Halted Space)) = ⊥
+  WritesText text (Err Input) = ⊥
+  WritesText text (Err Long) = ⊥
 
   -- the files tell what they told, unless they failed
   abbrev pub TellsOn : Result ⊤ Stop → Type 0
   TellsOn result = result ≢ Err (Halted Flash) → new.tells ≡ old.tells
 
   -- what was done of a form, on a flash of so many sectors
-  abbrev pub Does : (sectors : ℕ) → (left left_now : Option (List ℕ)) → (Command → ℕ → Type 0) → Form → Result ⊤ Stop → Type 0
-  Does sectors left left_now Lacks (Gen seed count) result = TellsOn result × Generates Lacks (first_commands seed count) result
-  Does sectors left left_now Lacks (Plan rows) result = TellsOn result × Writes (plan_text (planned old.database rows) sectors) result
-  Does sectors left left_now Lacks Dump result = TellsOn result × Writes (script old.database) result
-  Does sectors left left_now Lacks form result = OnInput form (λ E line talk. Went line talk old new left left_now Lacks result)
+  abbrev pub DoesForm : (sectors : ℕ) → (left left_now : Option (List ℕ)) → (Command → ℕ → Type 0) → Form → Result ⊤ Stop → Type 0
+  DoesForm sectors left left_now Lacks (Gen seed count) result = TellsOn result × Generates Lacks (first_commands seed count) result
+  DoesForm sectors left left_now Lacks (Plan rows) result = TellsOn result × WritesText (plan_text (planned old.database rows) sectors) result
+  DoesForm sectors left left_now Lacks Dump result = TellsOn result × WritesText (script old.database) result
+  DoesForm sectors left left_now Lacks form result = OnInput form (λ E line talk. Went line talk old new left left_now Lacks result)
 
 -- what an input whose entries only read makes a session read
 abbrev pub InputReads : Standing → Option (List ℕ) → ℕ → (E : Type 0) → Line E → Talk E → Type 0
-InputReads old left reads E line talk = (text : List ℕ) → left ≡ Some text → AllByRecursion (OnlyReads talk) (line.all text)
-    → reads ≤ old.reads + costs talk old.database old.aheads (line.all text)
+InputReads old left reads E line talk = (text : List ℕ) → left ≡ Some text → AllByRecursion (AsksToRead talk) (line.all text)
+    → reads ≤ old.reads + talk_costs talk old.database old.aheads (line.all text)
 
 abbrev pub CarriedReads : Form → Standing → Option (List ℕ) → ℕ → Type 0
 CarriedReads Run old left reads = OnInput Run (InputReads old left reads)

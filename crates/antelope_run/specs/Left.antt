@@ -7,13 +7,13 @@ use Rattle.run_model.specs.Runs.{InputCutOff, InputTooLong, World}
 use Rattle.antelope_run.specs.declared.words.Form.{Form}
 use Rattle.antelope_run.specs.Statuses.{Ended, Faulted, OnInput, Spaceless, Unsaid}
 
-abbrev pub Leaves : Form → World → World → Result ⊤ Stop → Type 0
-Leaves form old new (Ok done) = Ended form old new
-Leaves form old new (Err Input) = OnInput form (λ E line talk. InputCutOff line talk old new)
-Leaves form old new (Err Long) = OnInput form (λ E line talk. InputTooLong line talk old new)
-Leaves form old new (Err (Halted Space)) = Spaceless form old new
-Leaves form old new (Err (Halted Flash)) = Faulted form old new
-Leaves form old new (Err (Halted Sink)) = Unsaid form old new
+abbrev pub LeavesBehind : Form → World → World → Result ⊤ Stop → Type 0
+LeavesBehind form old new (Ok done) = Ended form old new
+LeavesBehind form old new (Err Input) = OnInput form (λ E line talk. InputCutOff line talk old new)
+LeavesBehind form old new (Err Long) = OnInput form (λ E line talk. InputTooLong line talk old new)
+LeavesBehind form old new (Err (Halted Space)) = Spaceless form old new
+LeavesBehind form old new (Err (Halted Flash)) = Faulted form old new
+LeavesBehind form old new (Err (Halted Sink)) = Unsaid form old new
 
 -- the status that the program ends with
 abbrev pub status_of : Result ⊤ Stop → ℕ

@@ -1,6 +1,9 @@
 -- What a run leaves behind, by what its words ask for.
 use Rattle.std.specs.Prelude.{◌≡◌, ◌≢◌, ◌⊎◌, ⊤, ℕ, ◌/◌, ◌≤◌, List, [], length, Option, Some, None, Result}
-use Rattle.std.specs.Io.KnownBytes.{append_known}
+use Rattle.std.specs.Io.KnownBytes.{IsAtEnd, append_known}
+use Rattle.afl_base.specs.declared.flash.Flash.{Ghosts as FlashOf}
+use Rattle.afl_base.specs.declared.stream.Sink.{Ghosts as SinkOf}
+use Rattle.afl_base.specs.Causes.{Rose}
 use Rattle.db_model.specs.declared.commands.Command.{Command}
 use Rattle.db_model.specs.declared.refusals.Refusal.{Refusal}
 use Rattle.db_model.specs.declared.refusals.Refusal.TheVariants as no
@@ -11,7 +14,7 @@ use Rattle.db_model.specs.Step.{after_all}
 use Rattle.db_model.specs.Workload.{first_commands}
 use Rattle.dump_model.specs.Script.{script}
 use Rattle.run_model.specs.Line.{Line}
-use Rattle.run_model.specs.Runs.{CarriedOut, FoundNoSpace, HasEnough, InputCutOff, InputEnded, InputFaulted, InputFoundNoSpace, InputTooLong, InputUnsaid, Machine, ReadsWithin, RefusalUnsaid, SpaceUnsaid, StandsAfter, World, WroteWithin, WrotePart, machine_from}
+use Rattle.run_model.specs.Runs.{CarriedOut, FoundNoSpace, HasEnough, InputCutOff, InputEnded, InputFaulted, InputFoundNoSpace, InputTooLong, InputUnsaid, Machine, ReadsWithin, RefusalUnsaid, Refuses, SpaceUnsaid, StandsAfter, CameToLimit, World, WroteWithin, WroteInFront, machine_from}
 use Rattle.run_model.specs.Scripts.{script_line, script_talk}
 use Rattle.run_model.specs.Talk.{Talk}
 use Rattle.serve_model.specs.Frames.{frame_line}
@@ -65,18 +68,18 @@ abbrev pub dumped_text : List ℕ → List ℕ
 dumped_text image = script (base image)
 
 -- the image stays, and no input is read
-pub record Leaves (old new : World) : Type 0 where
+pub record LeavesImage (old new : World) : Type 0 where
   pub same : new.image ≡ old.image
   pub unread : new.left ≡ old.left
 
 -- and this was written
-pub record Tells (text : List ℕ → List ℕ) (old new : World) : Type 0 where
-  pub leaves : Leaves old new
+pub record TellsText (text : List ℕ → List ℕ) (old new : World) : Type 0 where
+  pub leaves : LeavesImage old new
   pub written : new.held ≡ append_known old.held (text old.image)
 
 -- or less than that
 pub record TellsLess (text : List ℕ → List ℕ) (old new : World) : Type 0 where
-  pub leaves : Leaves old new
+  pub leaves : LeavesImage old new
   pub written : WroteWithin [] (text old.image) old.held new.held
 
 -- ---- status by status, of a sound image
@@ -84,8 +87,8 @@ pub record TellsLess (text : List ℕ → List ℕ) (old new : World) : Type 0 w
 -- 0
 abbrev pub Ended : Form → World → World → Type 0
 Ended (Gen seed count) old new = CarriedOut (summed_from (base old.image)) (first_commands seed count) old new
-Ended (Plan rows) old new = Tells (planned_text rows) old new
-Ended Dump old new = Tells dumped_text old new
+Ended (Plan rows) old new = TellsText (planned_text rows) old new
+Ended Dump old new = TellsText dumped_text old new
 Ended form old new = OnInput form (λ E line talk. InputEnded line talk old new)
 
 -- 3
@@ -93,11 +96,11 @@ abbrev pub Spaceless : Form → World → World → Type 0
 Spaceless (Gen seed count) old new = FoundNoSpace (summed_from (base old.image)) (first_commands seed count) old new
 Spaceless form old new = OnInput form (λ E line talk. InputFoundNoSpace line talk old new)
 
--- 4: nothing is said of the image
+-- 4: nothing is said of the image, but where it is only told of
 abbrev pub Faulted : Form → World → World → Type 0
 Faulted (Gen seed count) old new = new.held ≡ old.held
-Faulted (Plan rows) old new = WrotePart (planned_text rows old.image) old.held new.held
-Faulted Dump old new = WrotePart (dumped_text old.image) old.held new.held
+Faulted (Plan rows) old new = LeavesImage old new × WroteInFront (planned_text rows old.image) old.held new.held
+Faulted Dump old new = LeavesImage old new × WroteInFront (dumped_text old.image) old.held new.held
 Faulted form old new = OnInput form (λ E line talk. InputFaulted line talk old new)
 
 -- 5
@@ -116,12 +119,12 @@ OnForm None P = ⊥
 OnForm (Some form) P = P form
 
 -- 0
-abbrev pub Ends : Option Form → World → World → Type 0
-Ends words old new = IsSound old.image × OnForm words (λ form. Ended form old new)
+abbrev pub RunEnds : Option Form → World → World → Type 0
+RunEnds words old new = IsSound old.image × OnForm words (λ form. Ended form old new)
 
 -- 2
-abbrev pub IsCutOff : Option Form → World → World → Type 0
-IsCutOff words old new = IsSound old.image × OnForm words (λ form. OnInput form (λ E line talk. InputCutOff line talk old new))
+abbrev pub InputIsCutOff : Option Form → World → World → Type 0
+InputIsCutOff words old new = IsSound old.image × OnForm words (λ form. OnInput form (λ E line talk. InputCutOff line talk old new))
 
 -- 8
 abbrev pub IsTooLong : Option Form → World → World → Type 0
@@ -139,11 +142,7 @@ IsFaulted words old new = (new.held ≡ old.held) ⊎ (IsSound old.image × OnFo
 abbrev pub IsUnsaid : Option Form → World → World → Type 0
 IsUnsaid words old new = RefusalUnsaid old new ⊎ (IsSound old.image × OnForm words (λ form. Unsaid form old new))
 
--- ---- completeness, and reads
-
--- the statuses of `top`
-abbrev pub IsStatus : ℕ → Type 0
-IsStatus s = (s ≡ 0) ⊎ (s ≡ 1) ⊎ (s ≡ 2) ⊎ (s ≡ 3) ⊎ (s ≡ 4) ⊎ (s ≡ 5) ⊎ (s ≡ 6) ⊎ (s ≡ 8)
+-- ---- all of them
 
 -- the words name an input
 abbrev pub TakesInput : Option Form → Type 0
@@ -151,9 +150,44 @@ TakesInput (Some Run) = ⊤
 TakesInput (Some Serve) = ⊤
 TakesInput _ = ⊥
 
+-- what a run leaves of the flash, the input and the sink, by its status
+pub record LeftBy (status : ℕ) (words : Option Form) (old new : World) : Type 0 where
+  pub ends : status ≡ 0 → RunEnds words old new
+  pub cut_off : status ≡ 2 → InputIsCutOff words old new
+  pub no_space : status ≡ 3 → FindsNoSpace words old new
+  pub faulted : status ≡ 4 → IsFaulted words old new
+  pub unsaid : status ≡ 5 → IsUnsaid words old new
+  pub refused : status ≡ 6 → Refuses old new
+  pub long : status ≡ 8 → IsTooLong words old new
+
+-- which object counted a fault in the run, by the status
+pub record CausedBy (status inputs inputs_now flashes flashes_now replies replies_now : ℕ) : Type 0 where
+  pub input : status ≡ 2 → Rose inputs inputs_now
+  pub flash : status ≡ 4 → Rose flashes flashes_now
+  pub sink : status ≡ 5 → Rose replies replies_now
+
+-- what was taken of the input, by the status: it is unread where the words name none, and where the image was refused
+pub record TakenBy {S : Type 0} (left : S → Option (List ℕ)) (status : ℕ) (words : Option Form) (old new : S) : Type 0 where
+  pub unread : status ≡ 6 → new ≡ old
+  pub untouched : (TakesInput words → ⊥) → new ≡ old
+  pub at_end : status ≡ 0 → TakesInput words → IsAtEnd (left new)
+  pub one_more : status ≡ 8 → CameToLimit (left old) (left new)
+
+-- the flash has its size, and flash and sink hold on to what they borrow
+pub record BorrowsTheSame {F K : Type 0} (f : FlashOf F) (k : SinkOf K) (old new : F) (before now : K) : Type 0 where
+  pub size : length (f.image new) ≡ length (f.image old)
+  pub lent : f.lent new ≡ f.lent old
+  pub sink_lent : k.lent now ≡ k.lent before
+
+-- ---- completeness, and reads
+
+-- the statuses of `top`
+abbrev pub IsStatus : ℕ → Type 0
+IsStatus s = (s ≡ 0) ⊎ (s ≡ 1) ⊎ (s ≡ 2) ⊎ (s ≡ 3) ⊎ (s ≡ 4) ⊎ (s ≡ 5) ⊎ (s ≡ 6) ⊎ (s ≡ 8)
+
 -- the input, where the words name one, is told and within the limit
-abbrev pub IsShort : Option Form → Option (List ℕ) → Type 0
-IsShort words left = words ≢ None × (TakesInput words → (text : List ℕ) × (left ≡ Some text) × (length text ≤ 16777216))
+abbrev pub IsWithinLimit : Option Form → Option (List ℕ) → Type 0
+IsWithinLimit words left = words ≢ None × (TakesInput words → (text : List ℕ) × (left ≡ Some text) × (length text ≤ 16777216))
 
 -- before each command of an input the flash has enough sectors
 abbrev pub InputHasEnough : World → (E : Type 0) → Line E → Talk E → Type 0

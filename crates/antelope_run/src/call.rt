@@ -6,10 +6,10 @@ ghost use Rattle.std.specs.Prelude.{◌≡◌, ◌≢◌, ◌≤◌, ◌-◌, �
 ghost use Rattle.std.specs.Io.KnownBytes.{append_known, IsAtEnd};
 ghost use Rattle.afl_base.specs.Causes.{Rose};
 ghost use Rattle.reply_text.specs.WroteLess.{WroteLess};
-ghost use Rattle.run_model.specs.Runs.{Refuses, TookLimit, image_line, world};
+ghost use Rattle.run_model.specs.Runs.{image_line, world};
 ghost use Rattle.sound_image.specs.Images.{IsSound};
-ghost use Rattle.antelope_run.specs.Comes.{ComesTo, HasCause, OnOpened, OnUnopened, ReachesBy, status_by};
-ghost use Rattle.antelope_run.specs.Statuses.{Ends, FindsNoSpace, HasSpace, IsCutOff, IsFaulted, IsShort, IsStatus, IsTooLong, IsUnsaid, ReadsAtMost, TakesInput};
+ghost use Rattle.antelope_run.specs.Comes.{ComesTo, HasCameCause, OnOpened, OnUnopened, ReachesBy, status_by};
+ghost use Rattle.antelope_run.specs.Statuses.{CausedBy, HasSpace, IsWithinLimit, IsStatus, BorrowsTheSame, LeftBy, ReadsAtMost, TakenBy, TakesInput};
 ghost use Rattle.antelope_run.specs.Words.{HasFewCommands, form_of};
 ghost use Rattle.antelope_run.specs.declared.came.Came.TheVariants as AnyCame;
 
@@ -46,40 +46,18 @@ pub fn top<F: Flash, S: Source, K: Sink>(
     flash: F,
 ) -> (u8, F)
     ensures only { IsStatus result.0 }
-    ensures size { length (F.image result.1) ≡ length (F.image flash) }
     ensures words { (result.0 ≡ 1) ↔ (form_of words.now ≡ None) }
     ensures words_leave { result.0 ≡ 1 → (script.new ≡ script.old) × (out.new ≡ out.old) × (result.1 ≡ flash) }
-    ensures script { result.0 ≡ 2 → Rose (S.faults script.old) (S.faults script.new) }
-    ensures flash { result.0 ≡ 4 → Rose (F.faults flash) (F.faults result.1) }
-    ensures sink { result.0 ≡ 5 → Rose (K.faults out.old) (K.faults out.new) }
-    ensures unread { result.0 ≡ 6 → script.new ≡ script.old }
-    ensures untouched { (TakesInput (form_of words.now) → ⊥) → script.new ≡ script.old }
-    ensures at_end { result.0 ≡ 0 → TakesInput (form_of words.now) → IsAtEnd (S.left script.new) }
-    ensures one_more { result.0 ≡ 8 → TookLimit (S.left script.old) (S.left script.new) }
-    ensures ends { IsTrue F.tells → result.0 ≡ 0 → Ends (form_of words.now)
-        (world (F.image flash) (S.left script.old) (K.held out.old))
-        (world (F.image result.1) (S.left script.new) (K.held out.new)) }
-    ensures cut_off { IsTrue F.tells → result.0 ≡ 2 → IsCutOff (form_of words.now)
-        (world (F.image flash) (S.left script.old) (K.held out.old))
-        (world (F.image result.1) (S.left script.new) (K.held out.new)) }
-    ensures no_space { IsTrue F.tells → result.0 ≡ 3 → FindsNoSpace (form_of words.now)
-        (world (F.image flash) (S.left script.old) (K.held out.old))
-        (world (F.image result.1) (S.left script.new) (K.held out.new)) }
-    ensures faulted { IsTrue F.tells → result.0 ≡ 4 → IsFaulted (form_of words.now)
-        (world (F.image flash) (S.left script.old) (K.held out.old))
-        (world (F.image result.1) (S.left script.new) (K.held out.new)) }
-    ensures unsaid { IsTrue F.tells → result.0 ≡ 5 → IsUnsaid (form_of words.now)
-        (world (F.image flash) (S.left script.old) (K.held out.old))
-        (world (F.image result.1) (S.left script.new) (K.held out.new)) }
-    ensures refused { IsTrue F.tells → result.0 ≡ 6 → Refuses
-        (world (F.image flash) (S.left script.old) (K.held out.old))
-        (world (F.image result.1) (S.left script.new) (K.held out.new)) }
-    ensures long { IsTrue F.tells → result.0 ≡ 8 → IsTooLong (form_of words.now)
+    ensures caused { CausedBy result.0 (S.faults script.old) (S.faults script.new) (F.faults flash)
+        (F.faults result.1) (K.faults out.old) (K.faults out.new) }
+    ensures taken { TakenBy S.left result.0 (form_of words.now) script.old script.new }
+    ensures kept { BorrowsTheSame F.Flash K.Sink flash result.1 out.old out.new }
+    ensures told { IsTrue F.tells → LeftBy result.0 (form_of words.now)
         (world (F.image flash) (S.left script.old) (K.held out.old))
         (world (F.image result.1) (S.left script.new) (K.held out.new)) }
     ensures unsound { IsTrue F.tells → form_of words.now ≢ None → (IsSound (F.image flash) → ⊥)
         → (result.0 ≡ 4) ⊎ (result.0 ≡ 5) ⊎ (result.0 ≡ 6) }
-    ensures no_fault { IsTrue F.tells → IsSound (F.image flash) → IsShort (form_of words.now) (S.left script.old)
+    ensures no_fault { IsTrue F.tells → IsSound (F.image flash) → IsWithinLimit (form_of words.now) (S.left script.old)
         → (Rose (S.faults script.old) (S.faults script.new) → ⊥) → (Rose (F.faults flash) (F.faults result.1) → ⊥)
         → (Rose (K.faults out.old) (K.faults out.new) → ⊥) → (result.0 ≡ 0) ⊎ (result.0 ≡ 3) }
     ensures suffices { IsTrue F.tells → IsSound (F.image flash)
@@ -87,7 +65,6 @@ pub fn top<F: Flash, S: Source, K: Sink>(
     ensures reads { IsTrue F.tells → IsSound (F.image flash)
         → ReadsAtMost (form_of words.now) (world (F.image flash) (S.left script.old) (K.held out.old))
         (F.reads result.1 - F.reads flash) }
-    ensures keeps { K.keeps out.old out.new }
 {
     match form(words) {
         Some(form) => {
@@ -127,11 +104,10 @@ fn run_form<F: Flash, S: Source, K: Sink>(
     ensures reaches { OnOpened result.0 (λ done. ReachesBy form done (S.left input.old) (S.left input.new)) }
     ensures unread { OnUnopened result.0 (input.new ≡ input.old) }
     ensures untouched { (TakesInput (Some form) → ⊥) → input.new ≡ input.old }
-    ensures size { length (F.image result.1) ≡ length (F.image flash) }
     ensures reads { IsTrue F.tells → IsSound (F.image flash) → ReadsAtMost (Some form)
         (world (F.image flash) (S.left input.old) (K.held out.old)) (F.reads result.1 - F.reads flash) }
-    ensures keeps { K.keeps out.old out.new }
-    ensures cause { HasCause (S.faults input.old) (S.faults input.new) (F.faults flash) (F.faults result.1)
+    ensures kept { BorrowsTheSame F.Flash K.Sink flash result.1 out.old out.new }
+    ensures cause { HasCameCause (S.faults input.old) (S.faults input.new) (F.faults flash) (F.faults result.1)
         (K.faults out.old) (K.faults out.new) result.0 }
 {
     sound_files_are_a_sound_database();
@@ -161,7 +137,7 @@ fn refuse<K: Sink>(out: &mut K, rule: u8, place: u16) -> Came
         → K.held out.new ≡ append_known (K.held out.old) (image_line rule place) }
     ensures unsaid { result ≡ AnyCame.Unsaid → WroteLess (K.held out.old) (K.held out.new) (image_line rule place) }
     ensures rose { result ≡ AnyCame.Unsaid → Rose (K.faults out.old) (K.faults out.new) }
-    ensures keeps { K.keeps out.old out.new }
+    ensures lent { K.lent out.new ≡ K.lent out.old }
 {
     match write_image_line(out, rule, place) {
         Ok(()) => Came::Refused,

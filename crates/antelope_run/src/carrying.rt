@@ -15,7 +15,7 @@ ghost use Rattle.space_plan.specs.Lines.{plan_text};
 ghost use Rattle.space_plan.specs.Planned.{planned};
 ghost use Rattle.antelope_run.specs.declared.words.Form.TheVariants as Form;
 ghost use Rattle.antelope_run.specs.Comes.{ReachesBy};
-ghost use Rattle.antelope_run.specs.Does.{CarriedReads, Does, Generates, OnlyHalts, OnlyTells, TellsOn, Writes, halted, stopped};
+ghost use Rattle.antelope_run.specs.Does.{CarriedReads, DoesForm, Generates, OnlyHalts, OnlyTells, TellsOn, WritesText, halted, stopped};
 ghost use Rattle.antelope_run.specs.Statuses.{TakesInput};
 ghost use Rattle.antelope_run.specs.Words.{HasFewCommands};
 
@@ -39,7 +39,7 @@ pub fn carry_out<V: Files, S: Source, K: Sink>(
     requires running { session.old.stopped ≡ false }
     requires commands { HasFewCommands form }
     ensures does { IsTrue (V.state session.old.files).tells → session.old.lost ≡ false → IsSoundDatabase session.old.database
-        → Does (standing_of V.state V.reads session.old (K.held out.old))
+        → DoesForm (standing_of V.state V.reads session.old (K.held out.old))
         (standing_of V.state V.reads session.new (K.held out.new)) sectors (S.left input.old) (S.left input.new)
         (LacksPages V.state V.asks V.lacks session.new) form result }
     ensures reaches { ReachesBy form result (S.left input.old) (S.left input.new) }
@@ -47,10 +47,11 @@ pub fn carry_out<V: Files, S: Source, K: Sink>(
     ensures store { length (V.state session.new.files).store ≡ length (V.state session.old.files).store }
     ensures reads { IsTrue (V.state session.old.files).tells → CarriedReads form
         (standing_of V.state V.reads session.old (K.held out.old)) (S.left input.old) (V.reads session.new.files) }
-    ensures same { OnlyTells form → result ≢ Err (Stop.Halted Halt.Flash)
+    ensures same { OnlyTells form
         → (V.state session.new.files).store ≡ (V.state session.old.files).store }
     ensures unread { (TakesInput (Some form) → ⊥) → input.new ≡ input.old }
-    ensures keeps { K.keeps out.old out.new }
+    ensures borrows { V.lent session.new.files ≡ V.lent session.old.files }
+    ensures lent { K.lent out.new ≡ K.lent out.old }
     ensures cause { HasRunCause (S.faults input.old) (S.faults input.new)
         (V.faults session.old.files) (V.faults session.new.files) (K.faults out.old) (K.faults out.new) result }
 {
@@ -79,7 +80,8 @@ fn generate_all<V: Files, K: Sink>(
     ensures lost { session.old.lost ≡ false → session.new.lost ≡ true → result ≡ Err (Stop.Halted Halt.Flash) }
     ensures store { length (V.state session.new.files).store ≡ length (V.state session.old.files).store }
     ensures halts { OnlyHalts result }
-    ensures keeps { K.keeps out.old out.new }
+    ensures borrows { V.lent session.new.files ≡ V.lent session.old.files }
+    ensures lent { K.lent out.new ≡ K.lent out.old }
     ensures cause { (inputs : ℕ) → HasRunCause inputs inputs (V.faults session.old.files)
         (V.faults session.new.files) (K.faults out.old) (K.faults out.new) result }
 {
@@ -106,10 +108,10 @@ fn plan<V: Files, K: Sink>(
     ensures does { let old = standing_of V.state V.reads session.old (K.held out.old) in
         let new = standing_of V.state V.reads session.new (K.held out.new) in
         IsTrue (V.state session.old.files).tells → IsSoundDatabase session.old.database
-        → TellsOn old new result × Writes old new (plan_text (planned session.old.database rows) sectors) result }
+        → TellsOn old new result × WritesText old new (plan_text (planned session.old.database rows) sectors) result }
     ensures same { session.new ≡ session.old }
     ensures halts { OnlyHalts result }
-    ensures keeps { K.keeps out.old out.new }
+    ensures lent { K.lent out.new ≡ K.lent out.old }
     ensures cause { (inputs : ℕ) → HasRunCause inputs inputs (V.faults session.old.files)
         (V.faults session.new.files) (K.faults out.old) (K.faults out.new) result }
 {
@@ -126,12 +128,14 @@ fn dump_all<V: Files, K: Sink>(session: &mut Session<V>, out: &mut K) -> Result<
     ensures does { let old = standing_of V.state V.reads session.old (K.held out.old) in
         let new = standing_of V.state V.reads session.new (K.held out.new) in
         IsTrue (V.state session.old.files).tells → IsSoundDatabase session.old.database
-        → TellsOn old new result × Writes old new (script session.old.database) result }
+        → TellsOn old new result × WritesText old new (script session.old.database) result }
     ensures same { result ≢ Err (Stop.Halted Halt.Flash) → IsAsBefore V.state session.old session.new }
+    ensures files { V.state session.new.files ≡ V.state session.old.files }
     ensures lost { session.old.lost ≡ false → session.new.lost ≡ true → result ≡ Err (Stop.Halted Halt.Flash) }
     ensures store { length (V.state session.new.files).store ≡ length (V.state session.old.files).store }
     ensures halts { OnlyHalts result }
-    ensures keeps { K.keeps out.old out.new }
+    ensures borrows { V.lent session.new.files ≡ V.lent session.old.files }
+    ensures lent { K.lent out.new ≡ K.lent out.old }
     ensures cause { (inputs : ℕ) → HasRunCause inputs inputs (V.faults session.old.files)
         (V.faults session.new.files) (K.faults out.old) (K.faults out.new) result }
 {

@@ -17,6 +17,7 @@ pub fn close<F: Flash>(session: Session<Volume<F>>) -> F
     ensures back { let files = ⟦<Volume<F> as Files>⟧ in
         IsTrue (files.state session.files).tells → session.lost ≡ false → HandsBack session.database
         (LacksPages files.state files.asks files.lacks session) (F.image result) }
+    ensures lent { F.lent result ≡ ⟦<Volume<F> as Files>⟧.lent session.files }
     ensures reads { F.reads result ≡ ⟦<Volume<F> as Files>⟧.reads session.files }
     ensures faults { F.faults result ≡ ⟦<Volume<F> as Files>⟧.faults session.files }
 {

@@ -16,7 +16,7 @@ pub fn write_image_line<K: Sink>(out: &mut K, rule: u8, place: u16) -> Result<()
     ensures written { OnOk result
         (K.held out.new ≡ append_known (K.held out.old) (image_line rule place)) }
     ensures failed { OnErr result (WroteLess (K.held out.old) (K.held out.new) (image_line rule place)) }
-    ensures keeps { K.keeps out.old out.new }
+    ensures lent { K.lent out.new ≡ K.lent out.old }
     ensures cause { HasCause (K.faults out.old) (K.faults out.new) result }
 {
     write_line_of_counts(out, b"no image ", u64::from(rule), b" ", u64::from(place))

@@ -5,7 +5,7 @@
 ghost use Rattle.std.specs.Prelude.{◌≡◌, ◌≤◌, IfSome, IsTrue};
 ghost use Rattle.std.specs.Char.{is_ascii_digit};
 ghost use Rattle.std.specs.List.{list_all};
-ghost use Rattle.antelope_run.specs.Words.{HasFewCommands, alone, at_most, form_of, generated_by, number_in, planned_by, value_from, with_one, with_two};
+ghost use Rattle.antelope_run.specs.Words.{HasFewCommands, alone, at_most, form_of, generated_by, number_word, planned_by, value_from, with_one, with_two};
 
 use crate::words::Form;
 
@@ -80,7 +80,7 @@ fn generated(seed: &[u8], count: &[u8]) -> Option<Form>
 
 // A number of 1 to so many digits, in this range.
 fn number(word: &[u8], digits: usize, least: u32, most: u32) -> Option<u32>
-    ensures number { result ≡ number_in digits least most word.now }
+    ensures number { result ≡ number_word digits least most word.now }
     ensures within { IfSome result (λ n. n ≤ most) }
 {
     if word.is_empty() || word.len() > digits || !is_digits(word) {

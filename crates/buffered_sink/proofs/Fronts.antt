@@ -1,23 +1,40 @@
 -- Laws of texts of which a part went through a sink that gathers.
-use Rattle.std.proofs.Common.{◌≡◌, ℕ, ◌<◌, List, [], ◌++◌, length, Option, Some, None, refl, ap, subst, sym, ◌∙◌, append_assoc, arith, length-append}
-use Rattle.std.proofs.lemmas.List.{append-nil, append_cancel_left}
+use Rattle.std.proofs.Common.{◌≡◌, ℕ, ◌<◌, List, [], ◌++◌, length, drop, Option, Some, None, refl, ap, subst, sym, ◌∙◌, append_assoc, arith, length-append}
+use Rattle.std.proofs.lemmas.List.{append-nil, append_cancel_left, take-append-drop}
 use Rattle.std.specs.Io.KnownBytes.{append_known}
-use Rattle.buffered_sink.specs.Handing.{Grew, Hands, WroteFront}
+use Rattle.padded.proofs.Facts.{some_same}
+use Rattle.buffered_sink.specs.Handing.{Hands, WroteFront, front_of}
 use Rattle.reply_text.proofs.Pieces.{append_known-nil, append_known-twice}
 use Rattle.reply_text.specs.WroteLess.{WroteLess}
 
+-- some bytes more went into a sink
+pub record Grew (old new : Option (List ℕ)) : Type 0 where
+  pub more : List ℕ
+  pub held : new ≡ append_known old more
+
+pub grew : (old new : Option (List ℕ)) → front_of old new ≡ old → Grew old new
+grew None new e = record { more = []; held = e }
+grew (Some xs) None e = absurd (cc)
+grew (Some xs) (Some ys) e =
+    let rest = drop (length xs) ys in
+    record { more = rest; held = ap (λ zs. Some zs) (sym (take-append-drop (length xs) ys) ∙ ap (λ zs. zs ++ rest) (some_same _ xs e)) }
+
 -- nothing more was handed on
-abbrev pub front_unsent : (h0 h1 : Option (List ℕ)) (waits : List ℕ) → Grew h0 h1 → WroteFront h0 h1 (append_known h1 waits)
-front_unsent h0 h1 waits g = record { written = g.more; left = waits; held = g.held; whole = refl }
+abbrev pub front_unsent : (h0 h1 : Option (List ℕ)) (waits : List ℕ) → front_of h0 h1 ≡ h0 → WroteFront h0 h1 (append_known h1 waits)
+front_unsent h0 h1 waits e =
+    let g = grew h0 h1 e in
+    record { written = g.more; left = waits; held = g.held; whole = refl }
 
 -- what waited was handed on as far as the sink took it
-abbrev pub front_sent : (h0 h1 h2 : Option (List ℕ)) (waited waits : List ℕ) → Grew h0 h1 → Hands h1 h2 waited waits → WroteFront h0 h2 (append_known h1 waited)
-front_sent h0 h1 h2 waited waits g h = record {
-  written = g.more ++ h.went;
-  left = waits;
-  held = h.held ∙ ap (λ k. append_known k h.went) g.held ∙ append_known-twice h0 g.more h.went;
-  whole = ap (append_known h1) h.split ∙ sym (append_known-twice h1 h.went waits) ∙ ap (λ k. append_known k waits) (sym h.held);
-}
+abbrev pub front_sent : (h0 h1 h2 : Option (List ℕ)) (waited waits : List ℕ) → front_of h0 h1 ≡ h0 → Hands h1 h2 waited waits → WroteFront h0 h2 (append_known h1 waited)
+front_sent h0 h1 h2 waited waits e h =
+    let g = grew h0 h1 e in
+    record {
+      written = g.more ++ h.went;
+      left = waits;
+      held = h.held ∙ ap (λ k. append_known k h.went) g.held ∙ append_known-twice h0 g.more h.went;
+      whole = ap (append_known h1) h.split ∙ sym (append_known-twice h1 h.went waits) ∙ ap (λ k. append_known k waits) (sym h.held);
+    }
 
 -- and it took all
 pub all_sent : (h1 h2 : Option (List ℕ)) (waited waits : List ℕ) → waits ≡ [] → Hands h1 h2 waited waits → h2 ≡ append_known h1 waited
@@ -26,9 +43,6 @@ all_sent h1 h2 waited waits e h =
 
 pub none_left : (h0 h2 wanted : Option (List ℕ)) → (w : WroteFront h0 h2 wanted) → w.left ≡ [] → wanted ≡ h2
 none_left h0 h2 wanted w e = w.whole ∙ ap (append_known h2) e ∙ append_known-nil h2
-
-some_same : (xs ys : List ℕ) → Some xs ≡ Some ys → xs ≡ ys
-some_same xs ys e = cc
 
 -- ---- a part of a text
 
@@ -79,12 +93,12 @@ less_of_less h0 h2 wanted all w l =
 -- ---- a text that is written to a sink which gathers, and in which nothing waited
 
 -- it was not gathered whole
-pub less_unsent : (h0 h1 : Option (List ℕ)) (none waits all : List ℕ) → none ≡ [] → Grew h0 h1 → WroteLess (append_known h0 none) (append_known h1 waits) all → WroteLess h0 h1 all
+pub less_unsent : (h0 h1 : Option (List ℕ)) (none waits all : List ℕ) → none ≡ [] → front_of h0 h1 ≡ h0 → WroteLess (append_known h0 none) (append_known h1 waits) all → WroteLess h0 h1 all
 less_unsent h0 h1 none waits all e g l =
     less_of_less h0 h1 (append_known h1 waits) all (front_unsent h0 h1 waits g) (subst (λ h. WroteLess h (append_known h1 waits) all) (ap (append_known h0) e ∙ append_known-nil h0) l)
 
 -- it was gathered whole, and not handed on whole
-pub less_sent : (h0 h1 h2 : Option (List ℕ)) (none waited waits all : List ℕ) → none ≡ [] → Grew h0 h1 → Hands h1 h2 waited waits → 0 < length waits
+pub less_sent : (h0 h1 h2 : Option (List ℕ)) (none waited waits all : List ℕ) → none ≡ [] → front_of h0 h1 ≡ h0 → Hands h1 h2 waited waits → 0 < length waits
     → append_known h1 waited ≡ append_known (append_known h0 none) all → 0 < length all → WroteLess h0 h2 all
 less_sent h0 h1 h2 none waited waits all e g h left is some =
     less_of_all h0 h2 (append_known h1 waited) all (front_sent h0 h1 h2 waited waits g h) (is ∙ ap (λ k. append_known k all) (ap (append_known h0) e ∙ append_known-nil h0)) left some

@@ -1,11 +1,11 @@
 -- Bytes that wait before a sink, and go on into it.
-use Rattle.std.specs.Prelude.{◌≡◌, ℕ, List, ◌++◌, Option}
+use Rattle.std.specs.Prelude.{◌≡◌, ℕ, List, ◌++◌, Option, Some, None, length, option_map, take}
 use Rattle.std.specs.Io.KnownBytes.{append_known}
 
--- some bytes more went into a sink
-pub record Grew (old new : Option (List ℕ)) : Type 0 where
-  pub more : List ℕ
-  pub held : new ≡ append_known old more
+-- as many of the bytes that a sink holds as it held before
+abbrev pub front_of : Option (List ℕ) → Option (List ℕ) → Option (List ℕ)
+front_of None new = new
+front_of (Some bytes) new = option_map (take (length bytes)) new
 
 -- the first of the bytes that waited went into the sink, and the others still wait
 pub record Hands (old new : Option (List ℕ)) (waited waits : List ℕ) : Type 0 where

@@ -4,5 +4,5 @@
 mod gathered;
 mod waiting;
 
-pub use gathered::Buffered;
+pub use gathered::{Buffered, Since};
 pub use waiting::Waiting;

@@ -3,8 +3,8 @@
 #![tactic(auto)]
 
 ghost use Rattle.std.specs.Prelude.{◌≡◌, ◌+◌, ◌<◌, ◌≤◌, ◌++◌, [], IfOk, OnErr, OnOk, length, min, nat_eq, take};
+ghost use Rattle.afl_base.specs.Keeping.{Sends};
 ghost use Rattle.std.specs.Io.KnownBytes.{append_known};
-ghost use Rattle.afl_base.specs.Causes.{HasCause};
 ghost use Rattle.buffered_sink.specs.Handing.{Hands};
 
 use afl_base::{Failed, Sink};
@@ -67,9 +67,7 @@ impl Waiting {
         ensures none { OnOk result (self.new.bytes ≡ []) }
         ensures room { OnOk result (self.new.room ≡ 512) }
         ensures some { OnErr result (0 < length self.new.bytes) }
-        ensures keeps { K.keeps out.old out.new }
-        ensures faultless { OnOk result (K.faults out.new ≡ K.faults out.old) }
-        ensures cause { HasCause (K.faults out.old) (K.faults out.new) result }
+        ensures frame { Sends K.lent K.faults out.old out.new result }
     {
         while self.from < self.to {
             match self.offer(out) {
@@ -90,9 +88,7 @@ impl Waiting {
         ensures bytes { IfOk result (λ n.
             K.held out.new ≡ append_known (K.held out.old) (take n self.now.bytes)) }
         ensures failed { OnErr result (K.held out.new ≡ K.held out.old) }
-        ensures keeps { K.keeps out.old out.new }
-        ensures faultless { OnOk result (K.faults out.new ≡ K.faults out.old) }
-        ensures cause { HasCause (K.faults out.old) (K.faults out.new) result }
+        ensures frame { Sends K.lent K.faults out.old out.new result }
     {
         out.write(&self.bytes[self.from..self.to])
     }

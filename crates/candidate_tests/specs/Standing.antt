@@ -35,8 +35,8 @@ pub record IsOurs (tuple : List Value) : Type 0 where
   pub r : IsTrue (is_key (slice_get tuple 2))
 
 -- the indexes: k in order, l in a tree, r in the first table
-abbrev pub indexes_of : Tuples → ℕ → List IndexInfo
-indexes_of tuples tree =
+abbrev pub three_indexes : Tuples → ℕ → List IndexInfo
+three_indexes tuples tree =
     record { attribute = 0; column = column_of tuples 0; access = Order }
     ∷ record { attribute = 1; column = column_of tuples 1; access = Tree tree }
     ∷ record { attribute = 2; column = column_of tuples 2; access = Table First }
@@ -53,12 +53,12 @@ pub record IsStanding (state : State) (tables : Tables) (tuples : Tuples) (tree 
   pub idle : state.draft ≡ None
 
 -- each file that was live is live, and no slot is gone
-pub record GoesOn (old new : State) (tuples : Tuples) : Type 0 where
+pub record StandsOn (old new : State) (tuples : Tuples) : Type 0 where
   pub live : (id : ℕ) → IsLive old.files id → IsLive new.files id
   pub slots : slots old.files tuples ≤ slots new.files tuples
 
 -- each file that was there is as it was
-pub record KeepsAll (old new : State) : Type 0 where
+pub record LeavesFiles (old new : State) : Type 0 where
   pub same : (id : ℕ) → IsLive old.files id → place new.files id ≡ place old.files id
   pub draft : new.draft ≡ old.draft
   pub tells : new.tells ≡ old.tells

@@ -5,7 +5,7 @@ ghost use Rattle.afl_base.specs.Files.{IsLive, KeepsBytes, file_at, size_at};
 ghost use Rattle.afl_base.specs.declared.kind.Kind.TheVariants.{Doubling};
 ghost use Rattle.index_set.specs.declared.info.TableId.{TableId as AnyTable};
 ghost use Rattle.index_set.specs.Tables.{entries};
-ghost use Rattle.candidate_tests.specs.Standing.{GoesOn, IsStanding, KeepsAll, Lengthens};
+ghost use Rattle.candidate_tests.specs.Standing.{StandsOn, IsStanding, LeavesFiles, Lengthens};
 
 use crate::counting::Counts;
 use crate::known::Known;
@@ -29,7 +29,7 @@ pub fn change_all<V: Files>(
     ensures stands { OnOk result (
         IsStanding (V.state files.new) tables.new relation.now.tuples relation.now.tree) }
     ensures goes_on { OnOk result (
-        GoesOn (V.state files.old) (V.state files.new) relation.now.tuples) }
+        StandsOn (V.state files.old) (V.state files.new) relation.now.tuples) }
 {
     let erased = counts.erased.get();
     add_row(files, tables, relation, known)?;
@@ -67,7 +67,7 @@ fn add_row<V: Files>(
     ensures stands { OnOk result (
         IsStanding (V.state files.new) tables.new relation.now.tuples relation.now.tree) }
     ensures goes_on { OnOk result (
-        GoesOn (V.state files.old) (V.state files.new) relation.now.tuples) }
+        StandsOn (V.state files.old) (V.state files.new) relation.now.tuples) }
 {
     let tuple = known.add().ok_or("there is no place for a row")?;
     relation.insert(files, tables, &tuple)?;
@@ -86,7 +86,7 @@ fn merge_both<V: Files>(
     ensures stands { OnOk result (
         IsStanding (V.state files.new) tables.now relation.now.tuples relation.now.tree) }
     ensures goes_on { OnOk result (
-        GoesOn (V.state files.old) (V.state files.new) relation.now.tuples) }
+        StandsOn (V.state files.old) (V.state files.new) relation.now.tuples) }
 {
     merge(files, counts, relation.tuples.file)?;
     merge(files, counts, relation.tree)?;
@@ -149,7 +149,7 @@ fn overwrite_one<V: Files>(files: &mut V, id: FileId, at: u32) -> Result<(), Fai
 #[tactic(auto, using(crate::proofs::Kept::keeps_same, crate::proofs::Kept::keeps_then))]
 fn collect<V: Files>(files: &mut V, counts: &Counts, before: u32) -> Result<(), Fail>
     requires idle { (V.state files.old).draft ≡ None }
-    ensures keeps { OnOk result (KeepsAll (V.state files.old) (V.state files.new)) }
+    ensures keeps { OnOk result (LeavesFiles (V.state files.old) (V.state files.new)) }
 {
     for turn in 0..40u8 {
         grow_another(files)?;
@@ -164,7 +164,7 @@ fn collect<V: Files>(files: &mut V, counts: &Counts, before: u32) -> Result<(), 
 #[tactic(auto, using(crate::proofs::Kept::keeps_others))]
 fn grow_another<V: Files>(files: &mut V) -> Result<(), Fail>
     requires idle { (V.state files.old).draft ≡ None }
-    ensures keeps { OnOk result (KeepsAll (V.state files.old) (V.state files.new)) }
+    ensures keeps { OnOk result (LeavesFiles (V.state files.old) (V.state files.new)) }
 {
     let id = empty_file(files, Name::new(b"S").ok_or("name")?)?;
     for turn in 0..5u16 {

@@ -38,11 +38,15 @@ impl<'a, F: Flash + Drop> CountingFlash<'a, F> {
 impl<F: Flash + Drop> Flash for CountingFlash<'_, F> {
     ghost tells = { F.tells };
 
+    ghost cuts = { F.cuts };
+
     ghost image = { λ f. F.image f.inner };
 
     ghost faults = { λ f. F.faults f.inner };
 
     ghost reads = { λ f. F.reads f.inner };
+
+    ghost lent = { λ f. F.lent f.inner };
 
     fn sectors(&self) -> u16 {
         self.inner.sectors()

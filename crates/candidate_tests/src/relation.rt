@@ -6,7 +6,7 @@ ghost use Rattle.db_model.specs.Row.{row_length};
 ghost use Rattle.afl_base.specs.declared.kind.Kind.TheVariants.{Doubling};
 ghost use Rattle.index_set.specs.declared.info.TableId.TheVariants.{First};
 ghost use Rattle.index_set.specs.Tables.{entries};
-ghost use Rattle.candidate_tests.specs.Standing.{AreOurs, GoesOn, IsOurs, IsStanding, KeepsAll, indexes_of};
+ghost use Rattle.candidate_tests.specs.Standing.{AreOurs, StandsOn, IsOurs, IsStanding, LeavesFiles, three_indexes};
 
 use crate::volumes::empty_file;
 use afl_base::{FileId, Files, Name, SlotNo};
@@ -29,7 +29,7 @@ impl Relation {
     pub fn indexes(&self) -> Indexes
         requires ours { AreOurs self.now.tuples.schema.attributes }
         requires short { row_length self.now.tuples.schema.attributes ≤ 128 }
-        ensures indexes { result ≡ indexes_of self.now.tuples self.now.tree }
+        ensures indexes { result ≡ three_indexes self.now.tuples self.now.tree }
     {
         let mut list = Indexes::new();
         list.push(IndexInfo {
@@ -62,7 +62,7 @@ impl Relation {
         ensures stands { OnOk result (
             IsStanding (V.state files.new) tables.new self.now.tuples self.now.tree) }
         ensures goes_on { OnOk result (
-            GoesOn (V.state files.old) (V.state files.new) self.now.tuples) }
+            StandsOn (V.state files.old) (V.state files.new) self.now.tuples) }
     {
         let indexes = self.indexes();
         let slot = SlotNo::new(self.tuples.count(files)).ok_or("no slot")?;
@@ -125,7 +125,7 @@ fn empty_tree<V: Files>(files: &mut V, name: Name) -> Result<FileId, Fail>
     ensures live { IfOk result (λ id. IsLive (V.state files.new).files id) }
     ensures kind { IfOk result (λ id. (file_at (V.state files.new).files id).kind ≡ Doubling) }
     ensures new { IfOk result (λ id. place (V.state files.old).files id ≡ None) }
-    ensures keeps { OnOk result (KeepsAll (V.state files.old) (V.state files.new)) }
+    ensures keeps { OnOk result (LeavesFiles (V.state files.old) (V.state files.new)) }
 {
     if !is_free(files, name) {
         return Err(Fail::new("there is no place for a file"));

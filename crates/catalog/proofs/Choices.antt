@@ -28,22 +28,10 @@ pub and_right : (a b : Bool) → b ≡ false → (a && b) ≡ false
 and_right true b e = e
 and_right false b e = refl
 
-pub and_both : (a b : Bool) → a ≡ true → b ≡ true → (a && b) ≡ true
-and_both true b e f = f
-and_both false b e f = absurd (cc)
-
 pub and_last : (s d t : Bool) → true ≡ s → false ≡ d → (s && not d && not t) ≡ not t
 and_last true false t e f = refl
 and_last true true t e f = absurd (cc)
 and_last false d t e f = absurd (cc)
-
-pub and_first : (a b : Bool) → (a && b) ≡ true → a ≡ true
-and_first true b e = refl
-and_first false b e = absurd (cc)
-
-pub and_second : (a b : Bool) → (a && b) ≡ true → b ≡ true
-and_second true b e = e
-and_second false b e = absurd (cc)
 
 pub then_some_if : {X : Type 0} (b : Bool) (x : X) → then_some b x ≡ (if b then Some x else None)
 then_some_if true x = refl

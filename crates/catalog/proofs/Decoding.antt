@@ -9,7 +9,8 @@ use Rattle.db_model.specs.Catalog.{attribute_of, attributes_of, relation_slot_of
 use Rattle.db_model.specs.Names.{is_name}
 use Rattle.db_model.specs.Row.{up_to_zero}
 use Rattle.catalog.specs.Rules.{is_attribute, is_row, is_schema}
-use Rattle.catalog.proofs.Choices.{and_both, and_first, and_left, and_right, and_second}
+use Rattle.padded.proofs.Facts.{both_true, first_part, second_part}
+use Rattle.catalog.proofs.Choices.{and_left, and_right}
 
 -- a slot that is used
 pub used_slot : (slot : List ℕ) → (slice_index slot 0 == 0) ≡ false → relation_slot_of slot ≡ Some (schema_of slot)
@@ -18,8 +19,8 @@ used_slot slot e = rw e refl
 -- ---- attributes
 
 all_behind : {X : Type 0} (test : X → Bool) (xs : List X) (x : X) → list_all test xs ≡ true → test x ≡ true → list_all test (xs ++ x ∷ []) ≡ true
-all_behind test [] x all one = and_both (test x) true one refl
-all_behind test (y ∷ ys) x all one = and_both (test y) _ (and_first (test y) (list_all test ys) all) (all_behind test ys x (and_second (test y) (list_all test ys) all) one)
+all_behind test [] x all one = both_true (test x) true one refl
+all_behind test (y ∷ ys) x all one = both_true (test y) _ (first_part (test y) (list_all test ys) all) (all_behind test ys x (second_part (test y) (list_all test ys) all) one)
 
 pub length-attributes : (n : ℕ) (bytes : List ℕ) → length (attributes_of n bytes) ≡ n
 length-attributes n bytes = length-map-range_with_len (λ j. attribute_of (slice_range bytes (18 * j) (18 * j + 18))) 0 n
@@ -55,7 +56,7 @@ pub schema_good : (version : ℕ) (slot : List ℕ) → is_name (up_to_zero (tak
 schema_good version slot name attributes row =
     let n : ℕ = slice_index slot 160 in
     let list : List Attribute = attributes_of n (drop 16 slot) in
-    and_both _ (is_row list) (and_both (is_name (up_to_zero (take 16 slot))) _ name (ap (λ m. nat_le m 8 && list_all (is_attribute version) list) (length-attributes n (drop 16 slot)) ∙ attributes)) row
+    both_true _ (is_row list) (both_true (is_name (up_to_zero (take 16 slot))) _ name (ap (λ m. nat_le m 8 && list_all (is_attribute version) list) (length-attributes n (drop 16 slot)) ∙ attributes)) row
 
 pub same_schema : (slot name : List ℕ) (attributes : List Attribute) → name ≡ up_to_zero (take 16 slot) → attributes ≡ attributes_of (slice_index slot 160) (drop 16 slot) → record { name = name; attributes = attributes } ≡ schema_of slot
 same_schema slot name attributes e f = rw (e, f) refl

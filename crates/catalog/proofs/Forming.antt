@@ -14,20 +14,21 @@ use Rattle.catalog.specs.declared.types.IndexEntry.{IndexEntry}
 use Rattle.catalog.specs.CatalogFile.{IsCatalogSize, index_in, indexes_in}
 use Rattle.catalog.specs.Formed.{AreBehind, AreSchemas, HasCatalogSize, is_schema_slot}
 use Rattle.catalog.specs.Rules.{is_behind, is_index_form, is_named_among, is_relation_slot, is_schema, sound_index, sound_relation}
-use Rattle.catalog.proofs.Choices.{and_first, and_second, some_if}
+use Rattle.padded.proofs.Facts.{first_part, second_part}
+use Rattle.catalog.proofs.Choices.{some_if}
 
 -- ---- relations
 
 form_of_slot : (version : ℕ) (slot : List ℕ) (o : Option Schema) → is_relation_slot version slot o ≡ true → is_schema_slot version o ≡ true
 form_of_slot version slot None e = refl
-form_of_slot version slot (Some schema) e = and_first (is_schema version schema) (bytes_eq slot (relation_slot_bytes (Some schema))) e
+form_of_slot version slot (Some schema) e = first_part (is_schema version schema) (bytes_eq slot (relation_slot_bytes (Some schema))) e
 
 pub relation_formed : (version : ℕ) (slot : List ℕ) (before : List (Option Schema)) (o : Option (Option Schema)) → o ≡ sound_relation version slot before → IfSome o (λ r. is_schema_slot version r ≡ true)
 unfolding sound_relation
 relation_formed version slot before None e = tt
 relation_formed version slot before (Some r) e =
     let found = some_if _ r (relation_slot_of slot) e in
-    let form = and_first (is_relation_slot version slot (relation_slot_of slot)) (not (is_named_among (relation_slot_of slot) before)) found.0 in
+    let form = first_part (is_relation_slot version slot (relation_slot_of slot)) (not (is_named_among (relation_slot_of slot) before)) found.0 in
     subst (λ (o : Option Schema). is_schema_slot version o ≡ true) (sym found.1) (form_of_slot version slot (relation_slot_of slot) form)
 
 schemas_behind : (version : ℕ) (xs : List (Option Schema)) (x : Option Schema) → AreSchemas version xs → is_schema_slot version x ≡ true → AreSchemas version (xs ++ x ∷ [])
@@ -51,7 +52,7 @@ index_behind slot relations before None e = tt
 index_behind slot relations before (Some x) e =
     let found = some_if _ (option_map index_in x) (index_slot_of slot) e in
     subst (λ (o : Option Index). is_behind relations before o ≡ true) (sym found.1)
-    (and_second (is_index_form slot (index_slot_of slot)) (is_behind relations before (index_slot_of slot)) found.0)
+    (second_part (is_index_form slot (index_slot_of slot)) (is_behind relations before (index_slot_of slot)) found.0)
 
 behind_next : (relations : List (Option Schema)) (xs : List (Option Index)) (x : Option Index) → AreBehind relations xs → is_behind relations xs x ≡ true → AreBehind relations (xs ++ x ∷ [])
 behind_next relations xs x all one i = ⊎_elim before from (cases_lt i (length xs))

@@ -3,7 +3,7 @@ use Rattle.std.proofs.Common.{◌≡◌, ℕ, ◌+◌, ◌-◌, ◌≤◌, List,
 use Rattle.std.specs.Prelude.{slice_range}
 use Rattle.std.proofs.lemmas.List.{drop-drop, drop-take, drop_at, length-take-le, take-append-le, take_at}
 use Rattle.afl_base.specs.Fields.{put_at}
-use Rattle.afl_base.proofs.FieldLaws.{drop-put_at, length-put_at}
+use Rattle.afl_base.proofs.FieldLaws.{drop-put_at}
 use Rattle.afl_base.proofs.PutLaws.{take-put_at}
 
 range_front : (xs : List ℕ) (a b : ℕ) → a ≤ b → slice_range xs a b ≡ drop a (take b xs)

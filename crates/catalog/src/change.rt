@@ -1,5 +1,5 @@
 ghost use Rattle.std.specs.Prelude.{◌≡◌, ◌+◌, ◌-◌, ◌*◌, ◌≤◌, OnOk, Some, None, length, slice_index};
-ghost use Rattle.afl_base.specs.Causes.{HasCause};
+ghost use Rattle.afl_base.specs.Keeping.{Changes};
 ghost use Rattle.afl_base.specs.Files.{Becomes, IsLive, bytes_at, file_at};
 ghost use Rattle.db_model.specs.Catalog.{with_slot};
 ghost use Rattle.catalog.specs.CatalogFile.{IsCatalogSize, IsPrepared, PutsIndex, PutsRelation, index_in};
@@ -37,8 +37,7 @@ pub fn put_relation<V: Files>(
     requires form { IsCatalogSize (length (bytes_at (V.state files.old).files cat)) }
     requires prepared { IsPrepared (file_at (V.state files.old).files cat) (176 * id) 176 }
     ensures put { OnOk result (PutsRelation (V.state files.old) (V.state files.new) cat id (Some schema.now)) }
-    ensures store { length (V.state files.new).store ≡ length (V.state files.old).store }
-    ensures cause { HasCause (V.faults files.old) (V.faults files.new) result }
+    ensures frame { Changes V.state V.lent V.reads V.faults files.old files.new result }
 {
     replace(
         files,
@@ -55,8 +54,7 @@ pub fn clear_relation<V: Files>(files: &mut V, cat: FileId, id: RelationId) -> R
     requires form { IsCatalogSize (length (bytes_at (V.state files.old).files cat)) }
     requires prepared { IsPrepared (file_at (V.state files.old).files cat) (176 * id) 176 }
     ensures cleared { OnOk result (PutsRelation (V.state files.old) (V.state files.new) cat id None) }
-    ensures store { length (V.state files.new).store ≡ length (V.state files.old).store }
-    ensures cause { HasCause (V.faults files.old) (V.faults files.new) result }
+    ensures frame { Changes V.state V.lent V.reads V.faults files.old files.new result }
 {
     let slot: [u8; 176] = unused_slot();
     replace(files, cat, 176 * u32::from(id.number()), &slot)
@@ -74,8 +72,7 @@ pub fn put_index<V: Files>(
     requires form { IsCatalogSize (length (bytes_at (V.state files.old).files cat)) }
     requires prepared { IsPrepared (file_at (V.state files.old).files cat) (1408 + 8 * id) 8 }
     ensures put { OnOk result (PutsIndex (V.state files.old) (V.state files.new) cat id (Some (index_in entry.now))) }
-    ensures store { length (V.state files.new).store ≡ length (V.state files.old).store }
-    ensures cause { HasCause (V.faults files.old) (V.faults files.new) result }
+    ensures frame { Changes V.state V.lent V.reads V.faults files.old files.new result }
 {
     replace(
         files,
@@ -92,8 +89,7 @@ pub fn clear_index<V: Files>(files: &mut V, cat: FileId, id: IndexId) -> Result<
     requires form { IsCatalogSize (length (bytes_at (V.state files.old).files cat)) }
     requires prepared { IsPrepared (file_at (V.state files.old).files cat) (1408 + 8 * id) 8 }
     ensures cleared { OnOk result (PutsIndex (V.state files.old) (V.state files.new) cat id None) }
-    ensures store { length (V.state files.new).store ≡ length (V.state files.old).store }
-    ensures cause { HasCause (V.faults files.old) (V.faults files.new) result }
+    ensures frame { Changes V.state V.lent V.reads V.faults files.old files.new result }
 {
     let slot: [u8; 8] = unused_slot();
     replace(files, cat, 1408 + 8 * u32::from(id.number()), &slot)
@@ -109,8 +105,7 @@ fn replace<V: Files>(files: &mut V, cat: FileId, at: u32, slot: &[u8]) -> Result
     requires prepared { IsPrepared (file_at (V.state files.old).files cat) at (length slot.now) }
     ensures replaced { OnOk result (Becomes (V.state files.old) (V.state files.new) cat 1480
         (with_slot (bytes_at (V.state files.old).files cat) at slot.now)) }
-    ensures store { length (V.state files.new).store ≡ length (V.state files.old).store }
-    ensures cause { HasCause (V.faults files.old) (V.faults files.new) result }
+    ensures frame { Changes V.state V.lent V.reads V.faults files.old files.new result }
 {
     let size = files.size(cat);
     if size == 0 {

@@ -1,6 +1,6 @@
 ghost use Rattle.std.specs.Prelude.{◌≡◌, ◌<◌, ◌≤◌, ◌+◌, ◌*◌, Some, None, IfErr, IfNone, IfOk, IfSome, IsFalse, IsTrue, OnOk, get_or, length, option_map, slice_range, true};
+ghost use Rattle.afl_base.specs.Keeping.{OnlyReads};
 ghost use Rattle.std.specs.List.{list_any, slice_get};
-ghost use Rattle.afl_base.specs.Causes.{HasCause};
 ghost use Rattle.afl_base.specs.Files.{IsLive, bytes_at};
 ghost use Rattle.db_model.specs.Catalog.{catalog_of, index_slot_of};
 ghost use Rattle.db_model.specs.Step.{allows};
@@ -32,10 +32,8 @@ pub fn load_indexes<V: Files>(
         (λ r. OnOk r (first 8 (breaks_index (bytes_at (V.state files.old).files cat)) ≡ None)) }
     ensures broken { IsTrue (V.state files.old).tells → IfOk result
         (λ r. IfErr r (λ slot. first 8 (breaks_index (bytes_at (V.state files.old).files cat)) ≡ Some slot)) }
-    ensures same { OnOk result (V.state files.new ≡ V.state files.old) }
     ensures reads { V.reads files.new ≤ V.reads files.old + 24 }
-    ensures store { length (V.state files.new).store ≡ length (V.state files.old).store }
-    ensures cause { HasCause (V.faults files.old) (V.faults files.new) result }
+    ensures frame { OnlyReads V.state V.lent V.reads V.faults files.old files.new result }
 {
     let mut indexes = [None; 8];
     for slot in 0..8u16 {
@@ -65,10 +63,8 @@ fn load_index<V: Files>(
         relations.now (indexes_in before.now)) }
     ensures behind { IfOk result (λ r. IfSome r (λ index.
         is_behind relations.now (indexes_in before.now) (option_map index_in index) ≡ true)) }
-    ensures same { OnOk result (V.state files.new ≡ V.state files.old) }
     ensures reads { V.reads files.new ≤ V.reads files.old + 3 }
-    ensures store { length (V.state files.new).store ≡ length (V.state files.old).store }
-    ensures cause { HasCause (V.faults files.old) (V.faults files.new) result }
+    ensures frame { OnlyReads V.state V.lent V.reads V.faults files.old files.new result }
 {
     let mut bytes = [0u8; 8];
     files.read(cat, 1408 + 8 * u32::from(slot), &mut bytes)?;

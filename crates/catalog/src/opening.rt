@@ -1,5 +1,5 @@
 ghost use Rattle.std.specs.Prelude.{◌≡◌, ◌<◌, ◌≤◌, ◌+◌, None, Some, IfErr, IfOk, IfSome, IsTrue, OnOk, ◌⊎◌, get_or, is_some, length};
-ghost use Rattle.afl_base.specs.Causes.{HasCause};
+ghost use Rattle.afl_base.specs.Keeping.{OnlyReads};
 ghost use Rattle.afl_base.specs.Files.{IsLive, bytes_at, size_at};
 ghost use Rattle.db_model.specs.Catalog.{catalog_of};
 ghost use Rattle.catalog.specs.CatalogFile.{IsCatalogSize, indexes_in};
@@ -30,10 +30,8 @@ pub fn load<V: Files>(files: &mut V) -> Result<Result<Catalog, BadCatalog>, Fail
     ensures known { IfOk result (λ r. OnOk r (first 32 (is_stranger (V.state files.old).files) ≡ None)) }
     ensures matched { IfOk result (λ r. IfOk r (λ catalog. first 16
         (breaks_files (V.state files.old).files catalog.relations (indexes_in catalog.indexes)) ≡ None)) }
-    ensures same { OnOk result (V.state files.new ≡ V.state files.old) }
     ensures reads { V.reads files.new ≤ V.reads files.old + 99 }
-    ensures store { length (V.state files.new).store ≡ length (V.state files.old).store }
-    ensures cause { HasCause (V.faults files.old) (V.faults files.new) result }
+    ensures frame { OnlyReads V.state V.lent V.reads V.faults files.old files.new result }
 {
     match first_stranger(files) {
         Some(place) => return Ok(Err(BadCatalog { rule: 14, place })),
@@ -59,10 +57,8 @@ fn read_catalog<V: Files>(files: &mut V) -> Result<Result<Catalog, BadCatalog>, 
         (λ r. IfErr r (λ bad. broken_catalog (catalog_bytes_in (V.state files.old).files) ≡ Some (bad.rule, bad.place))) }
     ensures formed { IfOk result (λ r. IfOk r (λ catalog. IsFormed catalog)) }
     ensures size { IfOk result (λ r. OnOk r (HasCatalogSize (V.state files.old).files)) }
-    ensures same { OnOk result (V.state files.new ≡ V.state files.old) }
     ensures reads { V.reads files.new ≤ V.reads files.old + 99 }
-    ensures store { length (V.state files.new).store ≡ length (V.state files.old).store }
-    ensures cause { HasCause (V.faults files.old) (V.faults files.new) result }
+    ensures frame { OnlyReads V.state V.lent V.reads V.faults files.old files.new result }
 {
     match files.find(catalog_file()) {
         Some(cat) => read_file(files, cat),
@@ -80,10 +76,8 @@ fn read_file<V: Files>(files: &mut V, cat: FileId) -> Result<Result<Catalog, Bad
         (λ r. IfErr r (λ bad. broken_catalog (bytes_at (V.state files.old).files cat) ≡ Some (bad.rule, bad.place))) }
     ensures formed { IfOk result (λ r. IfOk r (λ catalog. IsFormed catalog)) }
     ensures size { IfOk result (λ r. OnOk r (IsCatalogSize (size_at (V.state files.old).files cat))) }
-    ensures same { OnOk result (V.state files.new ≡ V.state files.old) }
     ensures reads { V.reads files.new ≤ V.reads files.old + 99 }
-    ensures store { length (V.state files.new).store ≡ length (V.state files.old).store }
-    ensures cause { HasCause (V.faults files.old) (V.faults files.new) result }
+    ensures frame { OnlyReads V.state V.lent V.reads V.faults files.old files.new result }
 {
     let version = match read_version(files, cat)? {
         Some(version) => version,
@@ -115,10 +109,8 @@ fn read_version<V: Files>(files: &mut V, cat: FileId) -> Result<Option<u8>, Fail
     ensures number { IfOk result (λ version. IfSome version (λ n. (n ≡ 1) ⊎ (n ≡ 2))) }
     ensures size { IfOk result
         (λ version. IfSome version (λ _. IsCatalogSize (length (bytes_at (V.state files.old).files cat)))) }
-    ensures same { OnOk result (V.state files.new ≡ V.state files.old) }
     ensures reads { V.reads files.new ≤ V.reads files.old + 3 }
-    ensures store { length (V.state files.new).store ≡ length (V.state files.old).store }
-    ensures cause { HasCause (V.faults files.old) (V.faults files.new) result }
+    ensures frame { OnlyReads V.state V.lent V.reads V.faults files.old files.new result }
 {
     match files.size(cat) {
         0 => Ok(Some(2)),

@@ -1,6 +1,6 @@
 ghost use Rattle.std.specs.Prelude.{◌≡◌, ◌<◌, ◌≤◌, ◌+◌, ◌*◌, true, Some, None, IfErr, IfOk, IfSome, IsTrue, OnOk, length, slice_range};
+ghost use Rattle.afl_base.specs.Keeping.{OnlyReads};
 ghost use Rattle.std.specs.List.{list_any};
-ghost use Rattle.afl_base.specs.Causes.{HasCause};
 ghost use Rattle.afl_base.specs.Files.{IsLive, bytes_at};
 ghost use Rattle.db_model.specs.Catalog.{catalog_of, version_of};
 ghost use Rattle.catalog.specs.Formed.{AreSchemas, is_schema_slot};
@@ -27,10 +27,8 @@ pub fn load_relations<V: Files>(
         (λ r. OnOk r (first 8 (breaks_relation (bytes_at (V.state files.old).files cat)) ≡ None)) }
     ensures broken { IsTrue (V.state files.old).tells → IfOk result
         (λ r. IfErr r (λ slot. first 8 (breaks_relation (bytes_at (V.state files.old).files cat)) ≡ Some slot)) }
-    ensures same { OnOk result (V.state files.new ≡ V.state files.old) }
     ensures reads { V.reads files.new ≤ V.reads files.old + 72 }
-    ensures store { length (V.state files.new).store ≡ length (V.state files.old).store }
-    ensures cause { HasCause (V.faults files.old) (V.faults files.new) result }
+    ensures frame { OnlyReads V.state V.lent V.reads V.faults files.old files.new result }
 {
     let mut relations = [None, None, None, None, None, None, None, None];
     for slot in 0..8u16 {
@@ -58,10 +56,8 @@ fn load_relation<V: Files>(
         (λ r. r ≡ sound_relation version
         (slice_range (bytes_at (V.state files.old).files cat) (176 * slot) (176 * slot + 176)) before.now) }
     ensures formed { IfOk result (λ r. IfSome r (λ relation. is_schema_slot version relation ≡ true)) }
-    ensures same { OnOk result (V.state files.new ≡ V.state files.old) }
     ensures reads { V.reads files.new ≤ V.reads files.old + 9 }
-    ensures store { length (V.state files.new).store ≡ length (V.state files.old).store }
-    ensures cause { HasCause (V.faults files.old) (V.faults files.new) result }
+    ensures frame { OnlyReads V.state V.lent V.reads V.faults files.old files.new result }
 {
     let mut bytes = [0u8; 176];
     files.read(cat, 176 * u32::from(slot), &mut bytes)?;

@@ -7,6 +7,7 @@ use Rattle.std.proofs.lemmas.List.Folds.{length-prefix_len}
 use Rattle.afl_base.specs.Fields.{u16_at, u16_bytes}
 use Rattle.afl_base.specs.Image.{or_at, or_front}
 use Rattle.afl_base.specs.Names.{is_file_name, is_name_byte}
+use Rattle.padded.proofs.Facts.{all_zeros, both_parts}
 use Rattle.padded.specs.Padded.{padded}
 use Rattle.coffee_header.specs.Headers.{header_of, header_bytes, is_kind, is_flags, is_name_field, is_header, name_in, fields, IsValid}
 use Rattle.coffee_header.specs.declared.header.Header.{Header}
@@ -25,10 +26,6 @@ chosen : {A : Type 0} (t : Bool) (x y : A) → (if t then Some x else None) ≡ 
 chosen true x y e = (refl, cc)
 chosen false x y e = cc
 
-both : (a b : Bool) → a && b ≡ true → (a ≡ true) × (b ≡ true)
-both true b e = (refl, e)
-both false b e = cc
-
 cons_same : (x y : ℕ) (xs ys : List ℕ) → x ≡ y → xs ≡ ys → x ∷ xs ≡ y ∷ ys
 cons_same x y xs ys e f = cc
 
@@ -37,12 +34,8 @@ prefix-zeros : (name : List ℕ) (n : ℕ) → list_all is_name_byte name ≡ tr
 prefix-zeros [] zero all = refl
 prefix-zeros [] (suc n) all = refl
 prefix-zeros (x ∷ xs) n all =
-    let h = both (is_name_byte x) (list_all is_name_byte xs) all in
+    let h = both_parts (is_name_byte x) (list_all is_name_byte xs) all in
     rw h.0 (ap (λ k. 1 + k) (prefix-zeros xs n h.1) ∙ omega arith)
-
-zeros_all : (n : ℕ) → list_all (λ b. b == 0) (replicate n 0) ≡ true
-zeros_all zero = refl
-zeros_all (suc n) = zeros_all n
 
 is_zero : (x : ℕ) → x == 0 ≡ true → x ≡ 0
 is_zero x e = grind (arith, nat_tests)
@@ -51,7 +44,7 @@ is_zero x e = grind (arith, nat_tests)
 zeros_are : (xs : List ℕ) → list_all (λ b. b == 0) xs ≡ true → xs ≡ replicate (length xs) 0
 zeros_are [] all = refl
 zeros_are (x ∷ xs) all =
-    let h = both (x == 0) (list_all (λ b. b == 0) xs) all in
+    let h = both_parts (x == 0) (list_all (λ b. b == 0) xs) all in
     cons_same x 0 xs _ (is_zero x h.0) (zeros_are xs h.1)
 
 number_back : (n : ℕ) → n < 65536 → n % 256 + 256 * (n / 256 % 256 + 256 * 0) ≡ n
@@ -59,11 +52,11 @@ number_back n small = omega arith
 
 field_back : (name : List ℕ) (n : ℕ) → is_file_name name ≡ true → (name_in (name ++ replicate n 0) ≡ name) × (is_name_field (name ++ replicate n 0) ≡ true)
 field_back name n good =
-    let all : list_all is_name_byte name ≡ true = (both _ _ good).1 in
+    let all : list_all is_name_byte name ≡ true = (both_parts _ _ good).1 in
     let size = prefix-zeros name n all in
     let here : name_in (name ++ replicate n 0) ≡ name = ap (λ k. take k (name ++ replicate n 0)) size ∙ take_at name (replicate n 0) (length name) refl in
     let rest : list_all (λ b. b == 0) (drop (prefix_len is_name_byte (name ++ replicate n 0)) (name ++ replicate n 0)) ≡ true =
-    rw (size, drop_at name (replicate n 0) (length name) refl) (zeros_all n) in
+    rw (size, drop_at name (replicate n 0) (length name) refl) (all_zeros n) in
     (here, rw (here, rest, good) refl)
 
 -- a header is read as it was written
@@ -76,7 +69,7 @@ header_back h v =
 name_back : (field : List ℕ) → is_name_field field ≡ true → padded (length field) (name_in field) ≡ field
 name_back field good =
     let n = prefix_len is_name_byte field in
-    let zeros : list_all (λ b. b == 0) (drop (prefix_len is_name_byte field) field) ≡ true = (both (is_file_name (name_in field)) (list_all (λ b. b == 0) (drop (prefix_len is_name_byte field) field)) good).1 in
+    let zeros : list_all (λ b. b == 0) (drop (prefix_len is_name_byte field) field) ≡ true = (both_parts (is_file_name (name_in field)) (list_all (λ b. b == 0) (drop (prefix_len is_name_byte field) field)) good).1 in
     let size : length (name_in field) ≡ n = length-prefix_len is_name_byte field in
     ap (λ t. name_in field ++ t) (ap (λ k. replicate k 0) (omega (arith, length-drop n field)) ∙ sym (zeros_are (drop n field) zeros)) ∙ take-append-drop n field
 
@@ -94,7 +87,7 @@ unfolding header_of header_bytes u16_bytes u16_at
 ten_back b0 b1 b2 b3 b4 b5 b6 b7 b8 b9 field h long small e =
     let bytes = b0 ∷ b1 ∷ b2 ∷ b3 ∷ b4 ∷ b5 ∷ b6 ∷ b7 ∷ b8 ∷ b9 ∷ field in
     let c = chosen (is_header bytes) (fields bytes) h e in
-    let name : padded 22 (name_in field) ≡ field = ap (λ n. padded n (name_in field)) (sym long) ∙ name_back field (both _ _ c.0).1 in
+    let name : padded 22 (name_in field) ≡ field = ap (λ n. padded n (name_in field)) (sym long) ∙ name_back field (both_parts _ _ c.0).1 in
     subst (λ g. header_bytes g ≡ bytes) c.1
     (number_bytes b0 b1 _ _ small.0 small.1 (number_bytes b2 b3 _ _ small.2 small.3 (number_bytes b4 b5 _ _ small.4 small.5 (number_bytes b6 b7 _ _ small.6 small.7
     (cons_same b8 b8 _ _ refl (cons_same b9 b9 _ _ refl name))))))
@@ -115,8 +108,8 @@ unfolding header_of u16_at or_at
 ten_flags b0 b1 b2 b3 b4 b5 b6 b7 b8 b9 b field h e good =
     let bytes = b0 ∷ b1 ∷ b2 ∷ b3 ∷ b4 ∷ b5 ∷ b6 ∷ b7 ∷ b8 ∷ b9 ∷ field in
     let c = chosen (is_header bytes) (fields bytes) h e in
-    let form : (is_kind b8 && is_flags b9 ≡ true) × (is_name_field field ≡ true) = both (is_kind b8 && is_flags b9) (is_name_field field) c.0 in
-    let kind : is_kind b8 ≡ true = (both (is_kind b8) (is_flags b9) form.0).0 in
+    let form : (is_kind b8 && is_flags b9 ≡ true) × (is_name_field field ≡ true) = both_parts (is_kind b8 && is_flags b9) (is_name_field field) c.0 in
+    let kind : is_kind b8 ≡ true = (both_parts (is_kind b8) (is_flags b9) form.0).0 in
     let flags : is_flags (bit_or b9 b) ≡ true = subst (λ g. is_flags (bit_or g.flags b) ≡ true) (sym c.1) good in
     subst (λ g. header_of (b0 ∷ b1 ∷ b2 ∷ b3 ∷ b4 ∷ b5 ∷ b6 ∷ b7 ∷ b8 ∷ bit_or b9 b ∷ or_front field []) ≡ Some (record g { flags = bit_or g.flags b })) c.1
     (rw (or_front_none field, kind, flags, form.1) refl)

@@ -3,6 +3,7 @@ use Rattle.std.proofs.Common.{length, ◌*◌, ◌≡◌, ◌⊎◌, inl, inr, t
 use Rattle.std.proofs.lemmas.List.{append-nil, take-append-drop}
 use Rattle.std.specs.List.{filter, list_any}
 use Rattle.std.specs.Option.{option_map, option_or}
+use Rattle.padded.proofs.Facts.{both_parts, either_part}
 use Rattle.afl_base.specs.declared.ids.PageId.{PageId}
 use Rattle.coffee_layout.specs.Files.{Placed, entry_with, extents, files_in, is_file, is_log, log_of, logs_in}
 use Rattle.coffee_layout.specs.Rules.{broken_files, broken_image, first_failing, first_page, first_repeated, first_some, has_fields, has_log_fields, is_log_of, names_its_log, same_name}
@@ -16,7 +17,7 @@ use Rattle.coffee_layout.specs.declared.file.FileAt.{FileAt}
 use Rattle.coffee_layout.proofs.Entries.{failing_filter}
 use Rattle.coffee_layout.proofs.Namings.{Each}
 use Rattle.coffee_layout.proofs.Tilings.{tiled_unbroken}
-use Rattle.coffee_layout.proofs.Tests.{both, false_eq, or_none, true_eq, true_or_false}
+use Rattle.coffee_layout.proofs.Tests.{false_eq, or_none, true_eq, true_or_false}
 
 -- a rule of logs, judged at each extent
 pub place_logs : (rule : ℕ) (page : Option PageId) (r : Option BadImage) (test : Placed → Bool) (us : List Unit) → ((place : Option ℕ) → page ≡ option_map page_id place → r ≡ at_place rule place)
@@ -72,14 +73,10 @@ each_tested : (P : Placed → Type 0) (test : Placed → Bool) (es : List Placed
 each_tested P test [] ps = tt
 each_tested P test (e ∷ es) ps = test_turn P (test e) e (filter test es) ps.0 (each_tested P test es ps.1)
 
-or_turn : (a b : Bool) → a || b ≡ true → (a ≡ true) ⊎ (b ≡ true)
-or_turn true b e = inl refl
-or_turn false b e = inr e
-
 -- one that passes, and what holds of it
 any_pick : (P : Placed → Type 0) (R : Type 0) (test : Placed → Bool) (es : List Placed) → list_any test es ≡ true → Each P es → ((e : Placed) → test e ≡ true → P e → R) → R
 any_pick P R test [] h ps f = cc
-any_pick P R test (e ∷ es) h ps f = ⊎_elim (λ (t : test e ≡ true). f e t ps.0) (λ (t : list_any test es ≡ true). any_pick P R test es t ps.1 f) (or_turn (test e) (list_any test es) h)
+any_pick P R test (e ∷ es) h ps f = ⊎_elim (λ (t : test e ≡ true). f e t ps.0) (λ (t : list_any test es ≡ true). any_pick P R test es t ps.1 f) (either_part (test e) (list_any test es) h)
 
 -- a log has 16 pages
 log_pages : (e : Placed) → has_fields e ≡ true → is_log e ≡ true → e.header.max_pages ≡ 16
@@ -87,7 +84,7 @@ log_pages e fields log =
     let flags : e.header.flags ≡ 19 = true_eq e.header.flags 19 log in
     let file : is_file e ≡ false = rw flags refl in
     let all : has_log_fields e.header ≡ true = (rw (file, log) at fields) in
-    true_eq e.header.max_pages 16 (both _ _ all).1
+    true_eq e.header.max_pages 16 (both_parts _ _ all).1
 
 logs_inside : (image : List ℕ) (us : List Unit) → IsTiled nowhere image us → first_failing has_fields (extents 0 us) ≡ None → Each (λ l. l.page + 16 ≤ pages_of image) (logs_in us)
 logs_inside image us t fields =
@@ -112,7 +109,7 @@ file_log_fits pages logs f inside named = log_fits_one pages f.header.log_page
     (⊎_elim
     (λ (t : f.header.flags == 3 ≡ true). inl (true_eq f.header.log_page 0 (rw t at named)))
     (λ (t : f.header.flags == 3 ≡ false). inr (any_pick (λ l. l.page + 16 ≤ pages) (f.header.log_page - 1 + 16 ≤ pages) (is_log_of f) logs (rw t at named) inside
-    (λ l is at. let here = true_eq (l.page + 1) f.header.log_page (both (l.page + 1 == f.header.log_page) (same_name l.header.name f.header.name) is).0 in omega (arith, at, here))))
+    (λ l is at. let here = true_eq (l.page + 1) f.header.log_page (both_parts (l.page + 1 == f.header.log_page) (same_name l.header.name f.header.name) is).0 in omega (arith, at, here))))
     (true_or_false (f.header.flags == 3)))
 
 all_logs_fit : (pages : ℕ) (logs files : List Placed) → Each (λ l. l.page + 16 ≤ pages) logs → Each (λ f. names_its_log logs f ≡ true) files → LogsFit pages files

@@ -1,5 +1,6 @@
 -- A search over the units of a tiled image, for the first extent that fails a test.
 use Rattle.std.proofs.Common.{◌≡◌, ℕ, ◌+◌, ◌≤◌, ◌<◌, Bool, true, false, List, [], ◌∷◌, Option, Some, None, refl, ap, sym, subst, ◌∙◌, arith}
+use Rattle.padded.proofs.Facts.{some_same}
 use Rattle.coffee_layout.specs.Files.{Placed, extents}
 use Rattle.coffee_layout.specs.Rules.{first_failing}
 use Rattle.coffee_layout.specs.Tiling.{IsTiled, KeepRules, broken_at, nowhere}
@@ -65,9 +66,6 @@ searched_end test image us page behind s = ended s.after_free s.rest s.keep s.wh
 -- what was read at the page, where the units that keep the rules are read as they stand
 abbrev pub IsRead : List ℕ → ℕ → Option Unit → Type 0
 IsRead image page o = (building : ℕ → Bool) (after_free : Bool) → broken_at building image page after_free ≡ None → o ≡ unit_at image page
-
-some_same : (u v : Unit) → Some u ≡ Some v → u ≡ v
-some_same u v e = cc
 
 read_unit : (test : Placed → Bool) (image : List ℕ) (us : List Unit) (page : ℕ) (u : Unit) (s : Stands test image us page) → IsRead image page (Some u) → s.unit ≡ u
 read_unit test image us page u s is = some_same s.unit u (sym s.here ∙ sym (is nowhere s.after_free s.kept))

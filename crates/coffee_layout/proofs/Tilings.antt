@@ -4,7 +4,7 @@ use Rattle.std.proofs.lemmas.Bool.{cases_lt}
 use Rattle.afl_base.specs.Image.{page_bytes}
 use Rattle.padded.specs.Zeros.{is_zeros}
 use Rattle.coffee_layout.specs.Units.{is_free, pages_of, size_of, total, unit_at}
-use Rattle.coffee_layout.specs.Tiling.{KeepRules, IsTiled, broken_at, broken_unit, broken_suffix, broken_from, broken_tiling, units_from, units_of, at_page}
+use Rattle.coffee_layout.specs.Tiling.{KeepRules, IsCovered, IsTiled, StandFrom, broken_at, broken_unit, broken_suffix, broken_from, broken_tiling, units_from, units_of, at_page}
 use Rattle.coffee_layout.specs.declared.unit.Unit.{Unit}
 use Rattle.coffee_layout.specs.declared.unit.Unit.TheVariants.{Free, Isolated, Extent}
 use Rattle.coffee_layout.proofs.Tests.{lt_true, lt_false, false_lt, false_eq, neither, none_else, or_none}
@@ -87,15 +87,29 @@ keep_unbroken building (suc turns) image page after_free enough within e =
     (λ (behind : pages_of image ≤ page). rw (units_end (suc turns) image page behind) (tt, omega arith))
     (cases_lt page (pages_of image))
 
--- a list that keeps the rules is what the walk gives
-pub units_kept : (building : ℕ → Bool) (us : List Unit) (turns : ℕ) (image : List ℕ) (page : ℕ) (after_free : Bool) → KeepRules building image page after_free us → page + total us ≡ pages_of image → pages_of image ≤ page + turns → units_from turns image page ≡ us
-units_kept building [] turns image page after_free k whole enough = units_end turns image page (omega arith)
-units_kept building (u ∷ us) zero image page after_free k whole enough =
-    absurd (omega (arith, kept_some building image page after_free u k.0 k.1))
-units_kept building (u ∷ us) (suc turns) image page after_free k whole enough =
-    let some = kept_some building image page after_free u k.0 k.1 in
-    units_step turns image page u (omega arith) k.0
-    ∙ ap (λ t. u ∷ t) (units_kept building us turns image (page + size_of u) (is_free u) k.2 (omega arith) (omega arith))
+-- units that cover an image are what the walk gives
+units_standing : (us : List Unit) (turns : ℕ) (image : List ℕ) (page : ℕ) → StandFrom image page us → page + total us ≡ pages_of image → pages_of image ≤ page + turns → units_from turns image page ≡ us
+units_standing [] turns image page s whole enough = units_end turns image page (omega arith)
+units_standing (u ∷ us) zero image page s whole enough = absurd (omega (arith, s.1))
+units_standing (u ∷ us) (suc turns) image page s whole enough =
+    units_step turns image page u (omega (arith, s.1)) s.0
+    ∙ ap (λ t. u ∷ t) (units_standing us turns image (page + size_of u) s.2 (omega arith) (omega (arith, s.1)))
+
+pub units_covered : (image : List ℕ) (us : List Unit) → IsCovered image us → units_of image ≡ us
+unfolding units_of
+units_covered image us c = units_standing us (pages_of image) image 0 c.stand (omega (arith, c.whole)) (omega arith)
+
+pub one_cover : (image : List ℕ) (us vs : List Unit) → IsCovered image us → IsCovered image vs → us ≡ vs
+one_cover image us vs c d = sym (units_covered image us c) ∙ units_covered image vs d
+
+-- units that keep the rules cover the image
+kept_stand : (building : ℕ → Bool) (us : List Unit) (image : List ℕ) (page : ℕ) (after_free : Bool) → KeepRules building image page after_free us → StandFrom image page us
+kept_stand building [] image page after_free k = tt
+kept_stand building (u ∷ us) image page after_free k =
+    (k.0, kept_some building image page after_free u k.0 k.1, kept_stand building us image (page + size_of u) (is_free u) k.2)
+
+pub tiled_covered : (building : ℕ → Bool) (image : List ℕ) (us : List Unit) → IsTiled building image us → IsCovered image us
+tiled_covered building image us t = record { stand = kept_stand building us image 0 false t.keep; whole = t.whole }
 
 pub unbroken_kept : (building : ℕ → Bool) (us : List Unit) (image : List ℕ) (page : ℕ) (after_free : Bool) → KeepRules building image page after_free us → page + total us ≡ pages_of image → broken_from building image page after_free us ≡ None
 unbroken_kept building [] image page after_free k whole = rw (lt_false page (pages_of image) (omega arith)) refl
@@ -110,8 +124,7 @@ tiled_unbroken building image whole e =
 
 -- a list that tiles the image is that of its units
 pub units_tiled : (building : ℕ → Bool) (image : List ℕ) (us : List Unit) → IsTiled building image us → units_of image ≡ us
-unfolding units_of
-units_tiled building image us t = units_kept building us (pages_of image) image 0 false t.keep (omega (arith, t.whole)) (omega arith)
+units_tiled building image us t = units_covered image us (tiled_covered building image us t)
 
 pub unbroken_tiled : (building : ℕ → Bool) (image : List ℕ) (us : List Unit) → IsTiled building image us → broken_tiling building image ≡ None
 unbroken_tiled building image us t =

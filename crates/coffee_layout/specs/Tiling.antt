@@ -1,5 +1,5 @@
 -- Tilings: the units of an image one behind the other, and the rules 1 to 4 at each of them.
-use Rattle.std.specs.Prelude.{◌≡◌, ⊤, ℕ, zero, suc, ◌+◌, ◌*◌, ◌%◌, Bool, false, ◌&&◌, ◌||◌, not, ◌==◌, nat_lt, List, [], ◌∷◌, length, Option, Some, None, if◌then◌else◌}
+use Rattle.std.specs.Prelude.{◌≡◌, ⊤, ℕ, zero, suc, ◌+◌, ◌*◌, ◌%◌, ◌≤◌, Bool, false, ◌&&◌, ◌||◌, not, ◌==◌, nat_lt, List, [], ◌∷◌, length, Option, Some, None, if◌then◌else◌}
 use Rattle.std.specs.Option.{option_or}
 use Rattle.afl_base.specs.Image.{page_bytes}
 use Rattle.padded.specs.Zeros.{is_zeros}
@@ -44,6 +44,16 @@ KeepRules building image page after_free (u ∷ us) =
 -- the units tile the image: they keep the rules 1 to 4, and their pages are all pages
 pub record IsTiled (building : ℕ → Bool) (image : List ℕ) (us : List Unit) : Type 0 where
   pub keep : KeepRules building image 0 false us
+  pub whole : 256 * total us ≡ length image
+
+-- the units stand in the image one behind the other from a page on, and each has a page
+abbrev pub StandFrom : List ℕ → ℕ → List Unit → Type 0
+StandFrom image page [] = ⊤
+StandFrom image page (u ∷ us) = (unit_at image page ≡ Some u) × (1 ≤ size_of u) × StandFrom image (page + size_of u) us
+
+-- the units cover the image, where the rules 3 and 4 may be broken too: their pages are all pages
+pub record IsCovered (image : List ℕ) (us : List Unit) : Type 0 where
+  pub stand : StandFrom image 0 us
   pub whole : 256 * total us ≡ length image
 
 -- the units from a page on, up to the end of the flash or a page at which none begins

@@ -1,5 +1,5 @@
-ghost use Rattle.std.specs.Prelude.{◌≡◌, ◌≢◌, ℕ, ◌+◌, ◌-◌, ◌*◌, ◌/◌, ◌≤◌, ◌<◌, length, slice_index, Option, None, Some, IsTrue, IfOk, IfSome, ◌⊎◌};
-ghost use Rattle.afl_base.specs.Causes.{HasCause};
+ghost use Rattle.std.specs.Prelude.{◌≡◌, ◌≢◌, ◌+◌, ◌-◌, ◌*◌, ◌/◌, ◌≤◌, ◌<◌, length, slice_index, Option, None, Some, IsTrue, IfOk, IfSome, ◌⊎◌};
+ghost use Rattle.afl_base.specs.Keeping.{OnlyReads};
 ghost use Rattle.coffee_layout.specs.FileBytes.{IsEnd, file_byte, last_in, place_or, region_place, table_of};
 ghost use Rattle.coffee_layout.specs.Units.{pages_of};
 ghost use Rattle.coffee_layout.specs.Walks.{LogFits};
@@ -23,10 +23,8 @@ pub fn file_size<F: Flash>(
     ensures size { IsTrue F.tells → IfOk result
         (λ n. IsEnd (file_byte (F.image flash.old) page.0 log) (256 * pages - 32) n) }
     ensures within { IfOk result (λ n. n + 32 ≤ 256 * pages) }
-    ensures same { F.image flash.new ≡ F.image flash.old }
     ensures reads { F.reads flash.new ≤ F.reads flash.old + 6 * pages }
-    ensures reads_later { F.reads flash.old ≤ F.reads flash.new }
-    ensures cause { HasCause (F.faults flash.old) (F.faults flash.new) result }
+    ensures frame { OnlyReads F.image F.lent F.reads F.faults flash.old flash.new result }
 {
     flash.sectors();
     let capacity = 256 * u32::from(pages) - 32;
@@ -58,10 +56,8 @@ fn region_end<F: Flash>(
     ensures end { IsTrue F.tells → IfOk result
         (λ n. IsEnd (λ p. file_byte (F.image flash.old) page.0 log (128 * region + p)) len n) }
     ensures within { IfOk result (λ n. n ≤ len) }
-    ensures same { F.image flash.new ≡ F.image flash.old }
     ensures reads { F.reads flash.new ≤ F.reads flash.old + 3 }
-    ensures reads_later { F.reads flash.old ≤ F.reads flash.new }
-    ensures cause { HasCause (F.faults flash.old) (F.faults flash.new) result }
+    ensures frame { OnlyReads F.image F.lent F.reads F.faults flash.old flash.new result }
 {
     let place = region_place(flash, page, log, region, len)?;
     let mut bytes = [0; 128];
@@ -100,10 +96,8 @@ pub fn region_place<F: Flash>(
     ensures place { IsTrue F.tells → IfOk result
         (λ p. p ≡ region_place (F.image flash.old) page.0 log region) }
     ensures inside { IfOk result (λ p. p + len ≤ length (F.image flash.old)) }
-    ensures same { F.image flash.new ≡ F.image flash.old }
     ensures reads { F.reads flash.new ≤ F.reads flash.old + 1 }
-    ensures reads_later { F.reads flash.old ≤ F.reads flash.new }
-    ensures cause { HasCause (F.faults flash.old) (F.faults flash.new) result }
+    ensures frame { OnlyReads F.image F.lent F.reads F.faults flash.old flash.new result }
 {
     flash.sectors();
     let direct = 256 * u32::from(page.0) + 32 + 128 * region;
@@ -124,10 +118,8 @@ fn logged_place<F: Flash>(
     ensures place { IsTrue F.tells → IfOk result
         (λ p. p ≡ place_or direct log.0 (last_in (table_of (F.image flash.old) log.0) region 30)) }
     ensures inside { IfOk result (λ p. (p ≡ direct) ⊎ (p + 128 ≤ length (F.image flash.old))) }
-    ensures same { F.image flash.new ≡ F.image flash.old }
     ensures reads { F.reads flash.new ≤ F.reads flash.old + 1 }
-    ensures reads_later { F.reads flash.old ≤ F.reads flash.new }
-    ensures cause { HasCause (F.faults flash.old) (F.faults flash.new) result }
+    ensures frame { OnlyReads F.image F.lent F.reads F.faults flash.old flash.new result }
 {
     flash.sectors();
     let mut table = [0; 60];

@@ -1,6 +1,6 @@
-ghost use Rattle.std.specs.Prelude.{◌≡◌, ℕ, ◌+◌, ◌*◌, ◌/◌, ◌≤◌, ◌<◌, false, true, length, List, IsTrue, IfOk};
+ghost use Rattle.std.specs.Prelude.{◌≡◌, ◌+◌, ◌*◌, ◌/◌, ◌≤◌, ◌<◌, true, length, List, IsTrue, IfOk};
+ghost use Rattle.afl_base.specs.Keeping.{OnlyReads};
 ghost use Rattle.std.specs.Option.{option_map};
-ghost use Rattle.afl_base.specs.Causes.{HasCause};
 ghost use Rattle.coffee_layout.specs.Files.{Placed, extents};
 ghost use Rattle.coffee_layout.specs.Rules.{first_failing};
 ghost use Rattle.coffee_layout.specs.Tiling.{IsTiled, nowhere};
@@ -38,10 +38,8 @@ pub(crate) fn first_failing<F: Flash>(
         (λ r. (us : List Unit) (files : List Placed) → IsTiled nowhere (F.image flash.old) us
         → HasEntries rule (F.image flash.old) table.now files
         → r ≡ option_map page_id (first_failing (keeps_rule rule (F.image flash.old) files) (extents 0 us))) }
-    ensures same { F.image flash.new ≡ F.image flash.old }
     ensures reads { F.reads flash.new ≤ F.reads flash.old + 20 * pages_of (F.image flash.old) }
-    ensures reads_later { F.reads flash.old ≤ F.reads flash.new }
-    ensures cause { HasCause (F.faults flash.old) (F.faults flash.new) result }
+    ensures frame { OnlyReads F.image F.lent F.reads F.faults flash.old flash.new result }
 {
     let pages = 16 * flash.sectors();
     let mut page: u16 = 0;
@@ -69,10 +67,8 @@ fn unit_keeps<F: Flash>(
     ensures keeps { IsTrue F.tells → IfOk result
         (λ r. (files : List Placed) → HasEntries rule (F.image flash.old) table.now files
         → r ≡ keeps_unit (keeps_rule rule (F.image flash.old) files) page unit.now) }
-    ensures same { F.image flash.new ≡ F.image flash.old }
     ensures reads { F.reads flash.new ≤ F.reads flash.old + 19 }
-    ensures reads_later { F.reads flash.old ≤ F.reads flash.new }
-    ensures cause { HasCause (F.faults flash.old) (F.faults flash.new) result }
+    ensures frame { OnlyReads F.image F.lent F.reads F.faults flash.old flash.new result }
 {
     match unit {
         Unit::Free => Ok(true),
@@ -92,10 +88,8 @@ fn extent_keeps<F: Flash>(
     ensures keeps { IsTrue F.tells → IfOk result
         (λ r. (files : List Placed) → HasEntries rule (F.image flash.old) table.now files
         → r ≡ keeps_rule rule (F.image flash.old) files (record { page = page; header = header.now })) }
-    ensures same { F.image flash.new ≡ F.image flash.old }
     ensures reads { F.reads flash.new ≤ F.reads flash.old + 19 }
-    ensures reads_later { F.reads flash.old ≤ F.reads flash.new }
-    ensures cause { HasCause (F.faults flash.old) (F.faults flash.new) result }
+    ensures frame { OnlyReads F.image F.lent F.reads F.faults flash.old flash.new result }
 {
     match rule {
         ExtentRule::Fields => Ok(has_fields(header)),

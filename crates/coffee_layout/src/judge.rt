@@ -1,7 +1,7 @@
 ghost use Rattle.std.specs.Prelude.{◌≡◌, ℕ, ◌+◌, ◌*◌, ◌/◌, ◌≤◌, length, map, List, Option, None, Some, IsTrue, IfOk, OnOk, MatchResult};
+ghost use Rattle.afl_base.specs.Keeping.{OnlyReads};
 ghost use Rattle.std.specs.List.{All};
 ghost use Rattle.std.specs.Option.{option_map};
-ghost use Rattle.afl_base.specs.Causes.{HasCause};
 ghost use Rattle.coffee_layout.specs.Files.{FitsIn, entry_of, entry_with, files_in, listed};
 ghost use Rattle.coffee_layout.specs.Rules.{broken_image, first_some};
 ghost use Rattle.coffee_layout.specs.Tiling.{IsTiled, at_place, nowhere};
@@ -27,10 +27,8 @@ pub fn check<F: Flash>(flash: &mut F, table: &mut Table) -> Result<Result<(), Ba
         (λ sound. (broken_image (F.image flash.old) ≡ None) × (table.new.items ≡ listed (F.image flash.old)))
         (λ bad. broken_image (F.image flash.old) ≡ Some bad)) }
     ensures fits { IfOk result (λ r. OnOk r (All (FitsIn (pages_of (F.image flash.old))) table.new.items)) }
-    ensures same { F.image flash.new ≡ F.image flash.old }
     ensures reads { F.reads flash.new ≤ F.reads flash.old + 400 * pages_of (F.image flash.old) }
-    ensures reads_later { F.reads flash.old ≤ F.reads flash.new }
-    ensures cause { HasCause (F.faults flash.old) (F.faults flash.new) result }
+    ensures frame { OnlyReads F.image F.lent F.reads F.faults flash.old flash.new result }
 {
     flash.sectors();
     table.clear();
@@ -59,10 +57,8 @@ fn broken_named<F: Flash>(flash: &mut F, table: &[FileAt]) -> Result<Option<BadI
         (λ r. (us : List Unit) → IsTiled nowhere (F.image flash.old) us
         → table.now ≡ map (λ f. entry_with f 0 0) (files_in us)
         → r ≡ first_some (named_rules (F.image flash.old) us)) }
-    ensures same { F.image flash.new ≡ F.image flash.old }
     ensures reads { F.reads flash.new ≤ F.reads flash.old + 32 + 92 * pages_of (F.image flash.old) }
-    ensures reads_later { F.reads flash.old ≤ F.reads flash.new }
-    ensures cause { HasCause (F.faults flash.old) (F.faults flash.new) result }
+    ensures frame { OnlyReads F.image F.lent F.reads F.faults flash.old flash.new result }
 {
     if let Some(bad) = at_place(6, repeated_name(table)) {
         return Ok(Some(bad));
@@ -85,10 +81,8 @@ fn broken_measured<F: Flash>(flash: &mut F, table: &[FileAt]) -> Result<Option<B
         (λ r. (us : List Unit) → IsTiled nowhere (F.image flash.old) us
         → table.now ≡ map (entry_of (F.image flash.old)) (files_in us)
         → r ≡ first_some (measured_rules (F.image flash.old) us)) }
-    ensures same { F.image flash.new ≡ F.image flash.old }
     ensures reads { F.reads flash.new ≤ F.reads flash.old + 40 * pages_of (F.image flash.old) }
-    ensures reads_later { F.reads flash.old ≤ F.reads flash.new }
-    ensures cause { HasCause (F.faults flash.old) (F.faults flash.new) result }
+    ensures frame { OnlyReads F.image F.lent F.reads F.faults flash.old flash.new result }
 {
     if let Some(bad) = at_place(11, first_failing(flash, table, ExtentRule::Inside)?) {
         return Ok(Some(bad));

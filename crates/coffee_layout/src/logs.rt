@@ -1,15 +1,14 @@
-ghost use Rattle.std.specs.Prelude.{◌≡◌, ℕ, ◌+◌, ◌-◌, ◌*◌, ◌/◌, ◌%◌, ◌≤◌, ◌<◌, ◌==◌, ◌&&◌, ◌||◌, not, false, true, length, map, min, List, slice_range, IsTrue, IfOk, OnOk};
-ghost use Rattle.std.specs.List.{list_all, list_any, range_with_len};
-ghost use Rattle.afl_base.specs.Causes.{HasCause};
-ghost use Rattle.afl_base.specs.Fields.{u16_at};
+ghost use Rattle.std.specs.Prelude.{◌≡◌, ◌+◌, ◌-◌, ◌*◌, ◌/◌, ◌%◌, ◌≤◌, ◌<◌, ◌==◌, ◌&&◌, ◌||◌, not, false, true, length, min, slice_range, IsTrue, IfOk, OnOk};
+ghost use Rattle.afl_base.specs.Keeping.{OnlyReads};
+ghost use Rattle.std.specs.List.{list_any};
 ghost use Rattle.flash_range.specs.Range.{pages_touched};
-ghost use Rattle.coffee_layout.specs.FileBytes.{number_in, table_of, used_in};
+ghost use Rattle.coffee_layout.specs.FileBytes.{table_of, used_in};
 ghost use Rattle.coffee_layout.specs.Rules.{has_regions_inside, is_clear, is_front_filled, is_region_inside};
 ghost use Rattle.padded.specs.Zeros.{is_zeros};
 ghost use Rattle.coffee_layout.specs.Walks.{fits_entry, is_its_log};
 
 use crate::file::FileAt;
-use afl_base::{Failed, Flash, PageId, get_u16};
+use afl_base::{Failed, Flash, PageId, SECTOR_SIZE, get_u16};
 use flash_range::read_range;
 use padded::is_zeros;
 
@@ -38,10 +37,8 @@ pub(crate) fn is_front_filled<F: Flash>(flash: &mut F, page: u16) -> Result<bool
     requires page { 256 * page + 256 ≤ length (F.image flash.old) }
     ensures filled { IsTrue F.tells → IfOk result
         (λ r. r ≡ is_front_filled (table_of (F.image flash.old) page)) }
-    ensures same { F.image flash.new ≡ F.image flash.old }
     ensures reads { F.reads flash.new ≤ F.reads flash.old + 1 }
-    ensures reads_later { F.reads flash.old ≤ F.reads flash.new }
-    ensures cause { HasCause (F.faults flash.old) (F.faults flash.new) result }
+    ensures frame { OnlyReads F.image F.lent F.reads F.faults flash.old flash.new result }
 {
     let mut table = [0; TABLE];
     read_table(flash, page, &mut table)?;
@@ -52,10 +49,8 @@ pub(crate) fn is_front_filled<F: Flash>(flash: &mut F, page: u16) -> Result<bool
 pub fn read_table<F: Flash>(flash: &mut F, page: u16, table: &mut [u8; 60]) -> Result<(), Failed>
     requires page { 256 * page + 256 ≤ length (F.image flash.old) }
     ensures table { IsTrue F.tells → OnOk result (table.new ≡ table_of (F.image flash.old) page) }
-    ensures same { F.image flash.new ≡ F.image flash.old }
     ensures reads { F.reads flash.new ≤ F.reads flash.old + 1 }
-    ensures reads_later { F.reads flash.old ≤ F.reads flash.new }
-    ensures cause { HasCause (F.faults flash.old) (F.faults flash.new) result }
+    ensures frame { OnlyReads F.image F.lent F.reads F.faults flash.old flash.new result }
 {
     flash.read(PageId(page), 32, table)
 }
@@ -98,10 +93,8 @@ pub(crate) fn fits_its_file<F: Flash>(
     requires page { 256 * page + 256 ≤ length (F.image flash.old) }
     ensures fits { IsTrue F.tells → IfOk result
         (λ r. r ≡ fits_entry page (table_of (F.image flash.old) page) files.now) }
-    ensures same { F.image flash.new ≡ F.image flash.old }
     ensures reads { F.reads flash.new ≤ F.reads flash.old + 1 }
-    ensures reads_later { F.reads flash.old ≤ F.reads flash.new }
-    ensures cause { HasCause (F.faults flash.old) (F.faults flash.new) result }
+    ensures frame { OnlyReads F.image F.lent F.reads F.faults flash.old flash.new result }
 {
     let mut table = [0; TABLE];
     read_table(flash, page, &mut table)?;
@@ -138,10 +131,8 @@ fn is_number_inside(number: u16, pages: u16, size: u32) -> bool
 pub(crate) fn is_clear<F: Flash>(flash: &mut F, page: u16) -> Result<bool, Failed>
     requires page { 256 * page + 256 ≤ length (F.image flash.old) }
     ensures clear { IsTrue F.tells → IfOk result (λ r. r ≡ is_clear (F.image flash.old) page) }
-    ensures same { F.image flash.new ≡ F.image flash.old }
     ensures reads { F.reads flash.new ≤ F.reads flash.old + 19 }
-    ensures reads_later { F.reads flash.old ≤ F.reads flash.new }
-    ensures cause { HasCause (F.faults flash.old) (F.faults flash.new) result }
+    ensures frame { OnlyReads F.image F.lent F.reads F.faults flash.old flash.new result }
 {
     let mut table = [0; TABLE];
     read_table(flash, page, &mut table)?;
@@ -150,19 +141,17 @@ pub(crate) fn is_clear<F: Flash>(flash: &mut F, page: u16) -> Result<bool, Faile
     if !range_is_zeros(flash, place + 92, place + 96)? {
         return Ok(false);
     }
-    range_is_zeros(flash, place + 96 + 128 * used, place + 4096)
+    range_is_zeros(flash, place + 96 + 128 * used, place + SECTOR_SIZE as u32)
 }
 
 // Whether the bytes from one place up to another are zero, as far as the flash has them.
 fn range_is_zeros<F: Flash>(flash: &mut F, from: u32, to: u32) -> Result<bool, Failed>
     ensures zeros { IsTrue F.tells → IfOk result
         (λ r. r ≡ is_zeros (slice_range (F.image flash.old) from to)) }
-    ensures same { F.image flash.new ≡ F.image flash.old }
     ensures reads { F.reads flash.new ≤ F.reads flash.old + pages_touched from (to - from) }
-    ensures reads_later { F.reads flash.old ≤ F.reads flash.new }
-    ensures cause { HasCause (F.faults flash.old) (F.faults flash.new) result }
+    ensures frame { OnlyReads F.image F.lent F.reads F.faults flash.old flash.new result }
 {
-    let end = to.min(4096 * u32::from(flash.sectors()));
+    let end = to.min(SECTOR_SIZE as u32 * u32::from(flash.sectors()));
     let mut at = from;
     while at < end {
         let n = (end - at).min(256 - at % 256);
@@ -181,10 +170,8 @@ fn piece_is_zeros<F: Flash>(flash: &mut F, place: u32, n: u32) -> Result<bool, F
     requires range { place + n ≤ length (F.image flash.old) }
     ensures zeros { IsTrue F.tells → IfOk result
         (λ r. r ≡ is_zeros (slice_range (F.image flash.old) place (place + n))) }
-    ensures same { F.image flash.new ≡ F.image flash.old }
     ensures reads { F.reads flash.new ≤ F.reads flash.old + 1 }
-    ensures reads_later { F.reads flash.old ≤ F.reads flash.new }
-    ensures cause { HasCause (F.faults flash.old) (F.faults flash.new) result }
+    ensures frame { OnlyReads F.image F.lent F.reads F.faults flash.old flash.new result }
 {
     let mut bytes = [0; 256];
     let piece = &mut bytes[..n as usize];

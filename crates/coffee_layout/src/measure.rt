@@ -1,9 +1,8 @@
-ghost use Rattle.std.specs.Prelude.{◌≡◌, ℕ, ◌+◌, ◌*◌, ◌/◌, ◌≤◌, ◌<◌, ◌||◌, not, nat_le, length, map, List, None, IsTrue, IfOk, OnOk};
+ghost use Rattle.std.specs.Prelude.{◌≡◌, ℕ, ◌+◌, ◌*◌, ◌/◌, ◌≤◌, ◌<◌, ◌||◌, nat_le, length, map, List, None, IsTrue, IfOk, OnOk};
+ghost use Rattle.afl_base.specs.Keeping.{OnlyReads};
 ghost use Rattle.std.specs.List.{All};
 ghost use Rattle.std.specs.Option.{option_map};
-ghost use Rattle.afl_base.specs.Causes.{HasCause};
 ghost use Rattle.afl_base.specs.Fit.{fit};
-ghost use Rattle.coffee_layout.specs.FileBytes.{IsEnd, file_byte};
 ghost use Rattle.coffee_layout.specs.Files.{FitsIn, Placed, entry_of, entry_with, used_of};
 ghost use Rattle.coffee_layout.specs.Rules.{first_failing, has_few_pages};
 ghost use Rattle.coffee_layout.specs.Units.{pages_of};
@@ -22,10 +21,8 @@ pub(crate) fn measure_table<F: Flash>(flash: &mut F, table: &mut Table) -> Resul
         → table.old.items ≡ map (λ f. entry_with f 0 0) files
         → table.new.items ≡ map (entry_of (F.image flash.old)) files) }
     ensures fits { OnOk result (All (FitsIn (pages_of (F.image flash.old))) table.new.items) }
-    ensures same { F.image flash.new ≡ F.image flash.old }
     ensures reads { F.reads flash.new ≤ F.reads flash.old + 32 * (1 + 6 * pages_of (F.image flash.old)) }
-    ensures reads_later { F.reads flash.old ≤ F.reads flash.new }
-    ensures cause { HasCause (F.faults flash.old) (F.faults flash.new) result }
+    ensures frame { OnlyReads F.image F.lent F.reads F.faults flash.old flash.new result }
 {
     measure_all(flash, table.as_mut_slice())?;
     Ok(())
@@ -39,10 +36,8 @@ fn measure_all<F: Flash>(flash: &mut F, table: &mut [FileAt]) -> Result<(), Fail
         → table.old ≡ map (λ f. entry_with f 0 0) files
         → table.new ≡ map (entry_of (F.image flash.old)) files) }
     ensures fits { OnOk result (All (FitsIn (pages_of (F.image flash.old))) table.new) }
-    ensures same { F.image flash.new ≡ F.image flash.old }
     ensures reads { F.reads flash.new ≤ F.reads flash.old + 32 * (1 + 6 * pages_of (F.image flash.old)) }
-    ensures reads_later { F.reads flash.old ≤ F.reads flash.new }
-    ensures cause { HasCause (F.faults flash.old) (F.faults flash.new) result }
+    ensures frame { OnlyReads F.image F.lent F.reads F.faults flash.old flash.new result }
 {
     for i in 0..table.len() {
         let file = measured(flash, &table[i])?;
@@ -56,10 +51,8 @@ fn measured<F: Flash>(flash: &mut F, file: &FileAt) -> Result<FileAt, Failed>
     requires placed { IsPlaced (pages_of (F.image flash.old)) file.now }
     ensures measured { IsTrue F.tells → IfOk result (λ e. IsMeasured (F.image flash.old) file.now e) }
     ensures fits { IfOk result (λ e. FitsIn (pages_of (F.image flash.old)) e) }
-    ensures same { F.image flash.new ≡ F.image flash.old }
     ensures reads { F.reads flash.new ≤ F.reads flash.old + (1 + 6 * pages_of (F.image flash.old)) }
-    ensures reads_later { F.reads flash.old ≤ F.reads flash.new }
-    ensures cause { HasCause (F.faults flash.old) (F.faults flash.new) result }
+    ensures frame { OnlyReads F.image F.lent F.reads F.faults flash.old flash.new result }
 {
     let pages = 16 * flash.sectors();
     let log = fitting(pages, file.log);
@@ -97,10 +90,8 @@ fn log_used<F: Flash>(flash: &mut F, log: Option<PageId>) -> Result<u8, Failed>
     ensures used { IsTrue F.tells → IfOk result (λ n. n ≡ used_of (F.image flash.old) log) }
     ensures few { IfOk result (λ n. n ≤ 30) }
     ensures none { IfOk result (λ n. log ≡ None → n ≡ 0) }
-    ensures same { F.image flash.new ≡ F.image flash.old }
     ensures reads { F.reads flash.new ≤ F.reads flash.old + 1 }
-    ensures reads_later { F.reads flash.old ≤ F.reads flash.new }
-    ensures cause { HasCause (F.faults flash.old) (F.faults flash.new) result }
+    ensures frame { OnlyReads F.image F.lent F.reads F.faults flash.old flash.new result }
 {
     let Some(log) = log else {
         return Ok(0);

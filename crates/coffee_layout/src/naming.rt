@@ -1,9 +1,9 @@
-ghost use Rattle.std.specs.Prelude.{◌≡◌, ℕ, ◌+◌, ◌*◌, ◌/◌, ◌≤◌, ◌<◌, ◌==◌, ◌&&◌, not, true, length, map, List, Some, IsTrue, IfOk};
+ghost use Rattle.std.specs.Prelude.{◌≡◌, ◌+◌, ◌*◌, ◌/◌, ◌≤◌, ◌<◌, ◌==◌, ◌&&◌, not, true, length, map, List, Some, IsTrue, IfOk};
+ghost use Rattle.afl_base.specs.Keeping.{OnlyReads};
 ghost use Rattle.std.specs.List.{All, list_any};
 ghost use Rattle.std.specs.Option.{option_map};
-ghost use Rattle.afl_base.specs.Causes.{HasCause};
 ghost use Rattle.coffee_layout.specs.Files.{Placed, entry_with, files_in, is_log, logs_in};
-ghost use Rattle.coffee_layout.specs.Rules.{first_failing, names_its_log, same_name};
+ghost use Rattle.coffee_layout.specs.Rules.{first_failing, names_its_log};
 ghost use Rattle.coffee_layout.specs.Tiling.{IsTiled, nowhere};
 ghost use Rattle.coffee_layout.specs.Units.{pages_of, unit_at};
 ghost use Rattle.coffee_layout.specs.Walks.{IsPlaced, is_log_at, keeps_unit, page_id};
@@ -29,10 +29,8 @@ pub(crate) fn first_unlogged<F: Flash>(
         (λ r. (us : List Unit) → IsTiled nowhere (F.image flash.old) us
         → table.now ≡ map (λ f. entry_with f 0 0) (files_in us)
         → r ≡ option_map page_id (first_failing (names_its_log (logs_in us)) (files_in us))) }
-    ensures same { F.image flash.new ≡ F.image flash.old }
     ensures reads { F.reads flash.new ≤ F.reads flash.old + 32 * (1 + pages_of (F.image flash.old)) }
-    ensures reads_later { F.reads flash.old ≤ F.reads flash.new }
-    ensures cause { HasCause (F.faults flash.old) (F.faults flash.new) result }
+    ensures frame { OnlyReads F.image F.lent F.reads F.faults flash.old flash.new result }
 {
     for file in table {
         if !names_its_log(flash, file.page)? {
@@ -49,10 +47,8 @@ fn names_its_log<F: Flash>(flash: &mut F, page: PageId) -> Result<bool, Failed>
         (λ r. (us : List Unit) (f : Placed) → IsTiled nowhere (F.image flash.old) us
         → page.0 ≡ f.page → unit_at (F.image flash.old) f.page ≡ Some (Extent f.header)
         → r ≡ names_its_log (logs_in us) f) }
-    ensures same { F.image flash.new ≡ F.image flash.old }
     ensures reads { F.reads flash.new ≤ F.reads flash.old + (1 + pages_of (F.image flash.old)) }
-    ensures reads_later { F.reads flash.old ≤ F.reads flash.new }
-    ensures cause { HasCause (F.faults flash.old) (F.faults flash.new) result }
+    ensures frame { OnlyReads F.image F.lent F.reads F.faults flash.old flash.new result }
 {
     match next_unit(flash, page)? {
         Some(Unit::Extent(header)) => header_names_its_log(flash, &header),
@@ -66,10 +62,8 @@ fn header_names_its_log<F: Flash>(flash: &mut F, header: &Header) -> Result<bool
     ensures names { IsTrue F.tells → IfOk result
         (λ r. (us : List Unit) (f : Placed) → IsTiled nowhere (F.image flash.old) us
         → f.header ≡ header.now → r ≡ names_its_log (logs_in us) f) }
-    ensures same { F.image flash.new ≡ F.image flash.old }
     ensures reads { F.reads flash.new ≤ F.reads flash.old + pages_of (F.image flash.old) }
-    ensures reads_later { F.reads flash.old ≤ F.reads flash.new }
-    ensures cause { HasCause (F.faults flash.old) (F.faults flash.new) result }
+    ensures frame { OnlyReads F.image F.lent F.reads F.faults flash.old flash.new result }
 {
     if header.flags == 3 {
         return Ok(header.log_page == 0);
@@ -85,10 +79,8 @@ fn is_active_log<F: Flash>(flash: &mut F, log: u16, name: &Name) -> Result<bool,
     ensures active { IsTrue F.tells → IfOk result
         (λ r. (us : List Unit) → IsTiled nowhere (F.image flash.old) us
         → r ≡ list_any (is_log_at log name.now) (logs_in us)) }
-    ensures same { F.image flash.new ≡ F.image flash.old }
     ensures reads { F.reads flash.new ≤ F.reads flash.old + pages_of (F.image flash.old) }
-    ensures reads_later { F.reads flash.old ≤ F.reads flash.new }
-    ensures cause { HasCause (F.faults flash.old) (F.faults flash.new) result }
+    ensures frame { OnlyReads F.image F.lent F.reads F.faults flash.old flash.new result }
 {
     let pages = 16 * flash.sectors();
     let mut page: u16 = 0;

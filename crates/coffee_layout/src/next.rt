@@ -1,6 +1,5 @@
-ghost use Rattle.std.specs.Prelude.{◌≡◌, ◌+◌, ◌*◌, ◌≤◌, ◌==◌, length, bit_and, IsTrue, IfOk};
-ghost use Rattle.std.specs.List.{list_all};
-ghost use Rattle.afl_base.specs.Causes.{HasCause};
+ghost use Rattle.std.specs.Prelude.{◌≡◌, ◌+◌, ◌*◌, ◌≤◌, ◌==◌, length, IsTrue, IfOk};
+ghost use Rattle.afl_base.specs.Keeping.{OnlyReads};
 ghost use Rattle.padded.specs.Zeros.{is_zeros};
 ghost use Rattle.coffee_layout.specs.Units.{unit_at, unit_of};
 
@@ -14,10 +13,8 @@ use padded::is_zeros;
 pub fn next_unit<F: Flash>(flash: &mut F, page: PageId) -> Result<Option<Unit>, Failed>
     requires page { 256 * page.0 + 256 ≤ length (F.image flash.old) }
     ensures unit { IsTrue F.tells → IfOk result (λ u. u ≡ unit_at (F.image flash.old) page.0) }
-    ensures same { F.image flash.new ≡ F.image flash.old }
     ensures reads { F.reads flash.new ≤ F.reads flash.old + 1 }
-    ensures reads_later { F.reads flash.old ≤ F.reads flash.new }
-    ensures cause { HasCause (F.faults flash.old) (F.faults flash.new) result }
+    ensures frame { OnlyReads F.image F.lent F.reads F.faults flash.old flash.new result }
 {
     let mut bytes = [0; 32];
     flash.read(page, 0, &mut bytes)?;

@@ -1,5 +1,5 @@
 ghost use Rattle.std.specs.Prelude.{◌≡◌, ℕ, Bool, ◌+◌, ◌*◌, ◌≤◌, ◌<◌, false, true, length, take, Some, IsTrue, IfOk, OnOk, IfSome, MatchResult, None};
-ghost use Rattle.afl_base.specs.Causes.{HasCause};
+ghost use Rattle.afl_base.specs.Keeping.{OnlyReads};
 ghost use Rattle.afl_base.specs.Image.{page_bytes};
 ghost use Rattle.coffee_layout.specs.Tiling.{broken_at, broken_suffix, broken_unit, nowhere};
 ghost use Rattle.padded.specs.Zeros.{is_zeros};
@@ -27,10 +27,8 @@ pub(crate) fn sound_unit<F: Flash>(
         × (broken_at nowhere (F.image flash.old) page after_free ≡ None))
         (λ rule. broken_at nowhere (F.image flash.old) page after_free ≡ Some rule)) }
     ensures inside { IfOk result (λ r. IfOk r (λ u. IsInside pages page u)) }
-    ensures same { F.image flash.new ≡ F.image flash.old }
     ensures reads { F.reads flash.new ≤ F.reads flash.old + 1 }
-    ensures reads_later { F.reads flash.old ≤ F.reads flash.new }
-    ensures cause { HasCause (F.faults flash.old) (F.faults flash.new) result }
+    ensures frame { OnlyReads F.image F.lent F.reads F.faults flash.old flash.new result }
 {
     let mut bytes = [0; 256];
     read_page(flash, page, &mut bytes)?;
@@ -54,10 +52,8 @@ pub fn unit_in<F: Flash>(flash: &mut F, page: u16, pages: u16) -> Result<Option<
         → broken_at building (F.image flash.old) page after_free ≡ None → IfOk result
         (λ r. r ≡ unit_at (F.image flash.old) page) }
     ensures inside { IfOk result (λ r. IfSome r (λ u. IsInside pages page u)) }
-    ensures same { F.image flash.new ≡ F.image flash.old }
     ensures reads { F.reads flash.new ≤ F.reads flash.old + 1 }
-    ensures reads_later { F.reads flash.old ≤ F.reads flash.new }
-    ensures cause { HasCause (F.faults flash.old) (F.faults flash.new) result }
+    ensures frame { OnlyReads F.image F.lent F.reads F.faults flash.old flash.new result }
 {
     let unit = match next_unit(flash, PageId(page))? {
         Some(unit) => unit,
@@ -72,10 +68,8 @@ pub fn unit_in<F: Flash>(flash: &mut F, page: u16, pages: u16) -> Result<Option<
 fn read_page<F: Flash>(flash: &mut F, page: u16, bytes: &mut [u8; 256]) -> Result<(), Failed>
     requires page { 256 * page + 256 ≤ length (F.image flash.old) }
     ensures bytes { IsTrue F.tells → OnOk result (bytes.new ≡ page_bytes (F.image flash.old) page) }
-    ensures same { F.image flash.new ≡ F.image flash.old }
     ensures reads { F.reads flash.new ≤ F.reads flash.old + 1 }
-    ensures reads_later { F.reads flash.old ≤ F.reads flash.new }
-    ensures cause { HasCause (F.faults flash.old) (F.faults flash.new) result }
+    ensures frame { OnlyReads F.image F.lent F.reads F.faults flash.old flash.new result }
 {
     flash.read(PageId(page), 0, bytes)
 }

@@ -1,9 +1,9 @@
-ghost use Rattle.std.specs.Prelude.{◌≡◌, ℕ, ◌+◌, ◌*◌, ◌/◌, ◌≤◌, ◌<◌, false, [], ◌∷◌, ◌++◌, length, List, None, Some, slice_get, IsTrue, IfOk, MatchResult};
-ghost use Rattle.std.specs.List.{All, filter};
-ghost use Rattle.afl_base.specs.Causes.{HasCause};
-ghost use Rattle.coffee_layout.specs.Files.{Placed, entry_with, extents, files_in, is_file};
+ghost use Rattle.std.specs.Prelude.{◌≡◌, ℕ, ◌+◌, ◌*◌, ◌/◌, ◌≤◌, ◌<◌, false, [], ◌∷◌, ◌++◌, List, None, Some, IsTrue, IfOk, MatchResult};
+ghost use Rattle.afl_base.specs.Keeping.{OnlyReads};
+ghost use Rattle.std.specs.List.{All};
+ghost use Rattle.coffee_layout.specs.Files.{Placed, entry_with, files_in};
 ghost use Rattle.coffee_layout.specs.Tiling.{broken_tiling, nowhere, units_of};
-ghost use Rattle.coffee_layout.specs.Units.{pages_of, size_of};
+ghost use Rattle.coffee_layout.specs.Units.{pages_of};
 ghost use Rattle.coffee_layout.specs.Walks.{IsInside, IsPlaced, IsSketched, files_of_unit};
 ghost use Rattle.coffee_layout.specs.declared.file.FileAt.{FileAt};
 
@@ -25,10 +25,8 @@ pub(crate) fn judge_units<F: Flash>(
         × IsSketched table.new.items extra (files_in (units_of (F.image flash.old))))
         (λ bad. broken_tiling nowhere (F.image flash.old) ≡ Some bad)) }
     ensures placed { All (λ e. IsPlaced (pages_of (F.image flash.old)) e) table.new.items }
-    ensures same { F.image flash.new ≡ F.image flash.old }
     ensures reads { F.reads flash.new ≤ F.reads flash.old + pages_of (F.image flash.old) }
-    ensures reads_later { F.reads flash.old ≤ F.reads flash.new }
-    ensures cause { HasCause (F.faults flash.old) (F.faults flash.new) result }
+    ensures frame { OnlyReads F.image F.lent F.reads F.faults flash.old flash.new result }
 {
     let pages = 16 * flash.sectors();
     let mut page: u16 = 0;

@@ -1,5 +1,5 @@
-ghost use Rattle.std.specs.Prelude.{◌≡◌, ◌≢◌, ℕ, ◌+◌, ◌-◌, ◌*◌, ◌/◌, ◌%◌, ◌≤◌, ◌<◌, min, true, false, length, slice_index, Option, None, Some, IsTrue, IfOk, OnOk};
-ghost use Rattle.afl_base.specs.Causes.{HasCause};
+ghost use Rattle.std.specs.Prelude.{◌≡◌, ◌≢◌, ℕ, ◌+◌, ◌-◌, ◌*◌, ◌/◌, ◌%◌, ◌≤◌, ◌<◌, min, true, false, length, slice_index, Option, None, Some, IsTrue, IfOk, OnErr, OnOk};
+ghost use Rattle.afl_base.specs.Keeping.{ChangesFlash, OnlyReads, Programs};
 ghost use Rattle.afl_base.specs.Image.{page_bytes};
 ghost use Rattle.afl_base.specs.Regions.{regions};
 ghost use Rattle.flash_range.specs.Range.{Outside, PageOutside};
@@ -7,6 +7,7 @@ ghost use Rattle.coffee_layout.specs.FileBytes.{file_byte, last_in, table_of};
 ghost use Rattle.coffee_layout.specs.Units.{pages_of};
 ghost use Rattle.coffee_layout.specs.Walks.{LogFits};
 ghost use Rattle.coffee_log.specs.FileChanges.{FileBecomes, IsFile, IsPlain, one_if, records_for};
+ghost use Rattle.coffee_log.specs.FileCuts.{IsFileCut};
 ghost use Rattle.coffee_log.specs.Logs.{AddsRecords, IsLog};
 
 use crate::records::log_put;
@@ -28,10 +29,8 @@ pub fn read_file<F: Flash>(
     ensures bytes { IsTrue F.tells → OnOk result
         ((k : ℕ)
         → k < length into.old → slice_index into.new k ≡ file_byte (F.image flash.old) page.0 log (at + k)) }
-    ensures same { F.image flash.new ≡ F.image flash.old }
     ensures reads { F.reads flash.new ≤ F.reads flash.old + 3 * regions at (length into.old) }
-    ensures reads_later { F.reads flash.old ≤ F.reads flash.new }
-    ensures cause { HasCause (F.faults flash.old) (F.faults flash.new) result }
+    ensures frame { OnlyReads F.image F.lent F.reads F.faults flash.old flash.new result }
 {
     flash.sectors();
     match log {
@@ -46,10 +45,8 @@ fn read_plain<F: Flash>(flash: &mut F, page: PageId, at: u32, into: &mut [u8]) -
     ensures bytes { IsTrue F.tells → OnOk result
         ((k : ℕ)
         → k < length into.old → slice_index into.new k ≡ file_byte (F.image flash.old) page.0 None (at + k)) }
-    ensures same { F.image flash.new ≡ F.image flash.old }
     ensures reads { F.reads flash.new ≤ F.reads flash.old + 2 * regions at (length into.old) }
-    ensures reads_later { F.reads flash.old ≤ F.reads flash.new }
-    ensures cause { HasCause (F.faults flash.old) (F.faults flash.new) result }
+    ensures frame { OnlyReads F.image F.lent F.reads F.faults flash.old flash.new result }
 {
     flash.sectors();
     read_range(flash, 256 * u32::from(page.0) + 32 + at, into)?;
@@ -69,10 +66,8 @@ fn read_logged<F: Flash>(
     ensures bytes { IsTrue F.tells → OnOk result
         ((k : ℕ) → k < length into.old
         → slice_index into.new k ≡ file_byte (F.image flash.old) page.0 (Some log) (at + k)) }
-    ensures same { F.image flash.new ≡ F.image flash.old }
     ensures reads { F.reads flash.new ≤ F.reads flash.old + 3 * regions at (length into.old) }
-    ensures reads_later { F.reads flash.old ≤ F.reads flash.new }
-    ensures cause { HasCause (F.faults flash.old) (F.faults flash.new) result }
+    ensures frame { OnlyReads F.image F.lent F.reads F.faults flash.old flash.new result }
 {
     if into.is_empty() {
         return Ok(());
@@ -97,10 +92,8 @@ fn read_by_table<F: Flash>(
     ensures bytes { IsTrue F.tells → table.now ≡ table_of (F.image flash.old) log.0 → OnOk result
         ((k : ℕ) → k < length into.old
         → slice_index into.new k ≡ file_byte (F.image flash.old) page.0 (Some log) (at + k)) }
-    ensures same { F.image flash.new ≡ F.image flash.old }
     ensures reads { F.reads flash.new ≤ F.reads flash.old + 2 * regions at (length into.old) }
-    ensures reads_later { F.reads flash.old ≤ F.reads flash.new }
-    ensures cause { HasCause (F.faults flash.old) (F.faults flash.new) result }
+    ensures frame { OnlyReads F.image F.lent F.reads F.faults flash.old flash.new result }
 {
     flash.sectors();
     let mut done = 0;
@@ -129,11 +122,9 @@ fn read_piece<F: Flash>(
     ensures bytes { IsTrue F.tells → table.now ≡ table_of (F.image flash.old) log.0 → IfOk result
         (λ n. (k : ℕ) → k < n
         → slice_index into.new k ≡ file_byte (F.image flash.old) page.0 (Some log) (at + k)) }
-    ensures same { F.image flash.new ≡ F.image flash.old }
     ensures reads { F.reads flash.new ≤ F.reads flash.old + 2 * regions at (length into.old) }
     ensures read { IfOk result (λ n. F.reads flash.new ≤ F.reads flash.old + 2 * regions at n) }
-    ensures reads_later { F.reads flash.old ≤ F.reads flash.new }
-    ensures cause { HasCause (F.faults flash.old) (F.faults flash.new) result }
+    ensures frame { OnlyReads F.image F.lent F.reads F.faults flash.old flash.new result }
 {
     flash.sectors();
     match last_record(table, at / 128) {
@@ -206,10 +197,8 @@ fn read_part<F: Flash>(
     ensures bytes { IsTrue F.tells → OnOk result
         ((k : ℕ)
         → k < length into.old → slice_index into.new k ≡ file_byte (F.image flash.old) page.0 log (at + k)) }
-    ensures same { F.image flash.new ≡ F.image flash.old }
     ensures reads { F.reads flash.new ≤ F.reads flash.old + 3 }
-    ensures reads_later { F.reads flash.old ≤ F.reads flash.new }
-    ensures cause { HasCause (F.faults flash.old) (F.faults flash.new) result }
+    ensures frame { OnlyReads F.image F.lent F.reads F.faults flash.old flash.new result }
 {
     flash.sectors();
     let front = at % 128;
@@ -242,12 +231,14 @@ pub fn overwrite_file<F: Flash>(
         → FileBecomes (F.image flash.old) (F.image flash.new) page.0 pages (Some log) n size at bytes.now) }
     ensures adds { IsTrue F.tells → IfOk result (λ n. IsLog (F.image flash.old) log.0 used
         → AddsRecords (F.image flash.old) (F.image flash.new) log.0 used n (at / 128) (256 * pages - 32)) }
+    ensures cut { IsTrue F.tells → IsTrue F.cuts → OnErr result
+        ((size : ℕ) → IsFile (F.image flash.old) page.0 pages (Some log) used size
+        → at + length bytes.now ≤ size → size + 32 ≤ 256 * pages
+        → IsFileCut (F.image flash.old) (F.image flash.new) page.0 pages (Some log) size at bytes.now) }
     ensures other_pages { IsTrue F.tells → (p : ℕ) → PageOutside (256 * log.0) 4096 p
         → page_bytes (F.image flash.new) p ≡ page_bytes (F.image flash.old) p }
-    ensures size { length (F.image flash.new) ≡ length (F.image flash.old) }
     ensures reads { F.reads flash.new ≤ F.reads flash.old + 3 * regions at (length bytes.now) }
-    ensures reads_later { F.reads flash.old ≤ F.reads flash.new }
-    ensures cause { HasCause (F.faults flash.old) (F.faults flash.new) result }
+    ensures frame { ChangesFlash F.image F.lent F.reads F.faults flash.old flash.new result }
 {
     flash.sectors();
     let mut records = used;
@@ -297,10 +288,11 @@ pub fn append_file<F: Flash>(
     ensures adds { IsTrue F.tells → (l : PageId) → log ≡ Some l
         → IfOk result (λ n. IsFile (F.image flash.old) page.0 pages log used at
         → AddsRecords (F.image flash.old) (F.image flash.new) l.0 used n (at / 128) (256 * pages - 32)) }
-    ensures size { length (F.image flash.new) ≡ length (F.image flash.old) }
+    ensures cut { IsTrue F.tells → IsTrue F.cuts → OnErr result
+        (IsFile (F.image flash.old) page.0 pages log used at
+        → IsFileCut (F.image flash.old) (F.image flash.new) page.0 pages log at at bytes.now) }
     ensures reads { F.reads flash.new ≤ F.reads flash.old + 4 }
-    ensures reads_later { F.reads flash.old ≤ F.reads flash.new }
-    ensures cause { HasCause (F.faults flash.old) (F.faults flash.new) result }
+    ensures frame { ChangesFlash F.image F.lent F.reads F.faults flash.old flash.new result }
 {
     match log {
         None => {
@@ -335,10 +327,11 @@ fn append_logged<F: Flash>(
     ensures adds { IsTrue F.tells → IfOk result
         (λ n. IsFile (F.image flash.old) page.0 pages (Some log) used at
         → AddsRecords (F.image flash.old) (F.image flash.new) log.0 used n (at / 128) (256 * pages - 32)) }
-    ensures size { length (F.image flash.new) ≡ length (F.image flash.old) }
+    ensures cut { IsTrue F.tells → IsTrue F.cuts → OnErr result
+        (IsFile (F.image flash.old) page.0 pages (Some log) used at
+        → IsFileCut (F.image flash.old) (F.image flash.new) page.0 pages (Some log) at at bytes.now) }
     ensures reads { F.reads flash.new ≤ F.reads flash.old + 4 }
-    ensures reads_later { F.reads flash.old ≤ F.reads flash.new }
-    ensures cause { HasCause (F.faults flash.old) (F.faults flash.new) result }
+    ensures frame { ChangesFlash F.image F.lent F.reads F.faults flash.old flash.new result }
 {
     if bytes.is_empty() {
         return Ok(used);
@@ -361,10 +354,8 @@ fn is_logged<F: Flash>(flash: &mut F, log: PageId, region: u32) -> Result<bool, 
         (λ b. b ≡ false → last_in (table_of (F.image flash.old) log.0) region 30 ≡ None) }
     ensures logged { IsTrue F.tells → IfOk result
         (λ b. b ≡ true → one_if (last_in (table_of (F.image flash.old) log.0) region 30) ≡ 1) }
-    ensures same { F.image flash.new ≡ F.image flash.old }
     ensures reads { F.reads flash.new ≤ F.reads flash.old + 1 }
-    ensures reads_later { F.reads flash.old ≤ F.reads flash.new }
-    ensures cause { HasCause (F.faults flash.old) (F.faults flash.new) result }
+    ensures frame { OnlyReads F.image F.lent F.reads F.faults flash.old flash.new result }
 {
     let mut table = [0; 60];
     read_table(flash, log.0, &mut table)?;
@@ -386,9 +377,13 @@ fn append_plain<F: Flash>(flash: &mut F, page: PageId, at: u32, bytes: &[u8]) ->
     ensures others { IsTrue F.tells → OnOk result
         ((k : ℕ) → Outside (256 * page.0 + 32 + at) (length bytes.now) k
         → slice_index (F.image flash.new) k ≡ slice_index (F.image flash.old) k) }
-    ensures size { length (F.image flash.new) ≡ length (F.image flash.old) }
-    ensures reads { F.reads flash.new ≡ F.reads flash.old }
-    ensures cause { HasCause (F.faults flash.old) (F.faults flash.new) result }
+    ensures cut { IsTrue F.tells → IsTrue F.cuts → OnErr result
+        ((pages used : ℕ) (log : Option PageId)
+        → IsFile (F.image flash.old) page.0 pages log used at
+        → IsPlain (F.image flash.old) log at (length bytes.now)
+        → at + length bytes.now + 32 ≤ 256 * pages → 256 * (page.0 + pages) ≤ length (F.image flash.old)
+        → IsFileCut (F.image flash.old) (F.image flash.new) page.0 pages log at at bytes.now) }
+    ensures frame { Programs F.image F.lent F.reads F.faults flash.old flash.new result }
 {
     flash.sectors();
     program_range(flash, 256 * u32::from(page.0) + 32 + at, bytes)?;
@@ -418,12 +413,13 @@ fn put_part<F: Flash>(
         → FileBecomes (F.image flash.old) (F.image flash.new) page.0 pages (Some log) (used + 1) total at bytes.now) }
     ensures adds { IsTrue F.tells → OnOk result (IsLog (F.image flash.old) log.0 used
         → AddsRecords (F.image flash.old) (F.image flash.new) log.0 used (used + 1) (at / 128) (256 * pages - 32)) }
+    ensures cut { IsTrue F.tells → IsTrue F.cuts → OnErr result
+        ((size : ℕ) → IsFile (F.image flash.old) page.0 pages (Some log) used size → at ≤ size → size + 32 ≤ 256 * pages
+        → IsFileCut (F.image flash.old) (F.image flash.new) page.0 pages (Some log) size at bytes.now) }
     ensures other_pages { IsTrue F.tells → (p : ℕ) → PageOutside (256 * log.0) 4096 p
         → page_bytes (F.image flash.new) p ≡ page_bytes (F.image flash.old) p }
-    ensures size { length (F.image flash.new) ≡ length (F.image flash.old) }
     ensures reads { F.reads flash.new ≤ F.reads flash.old + 3 }
-    ensures reads_later { F.reads flash.old ≤ F.reads flash.new }
-    ensures cause { HasCause (F.faults flash.old) (F.faults flash.new) result }
+    ensures frame { ChangesFlash F.image F.lent F.reads F.faults flash.old flash.new result }
 {
     let region = at / 128;
     // The last region of an extent has 96 bytes of content. What its record holds behind them is zero.
@@ -452,10 +448,8 @@ fn load_front<F: Flash>(
         ((k : ℕ)
         → k < len → slice_index buffer.new k ≡ file_byte (F.image flash.old) page.0 (Some log) (at + k)) }
     ensures behind { (k : ℕ) → len ≤ k → slice_index buffer.new k ≡ slice_index buffer.old k }
-    ensures same { F.image flash.new ≡ F.image flash.old }
     ensures reads { F.reads flash.new ≤ F.reads flash.old + 3 }
-    ensures reads_later { F.reads flash.old ≤ F.reads flash.new }
-    ensures cause { HasCause (F.faults flash.old) (F.faults flash.new) result }
+    ensures frame { OnlyReads F.image F.lent F.reads F.faults flash.old flash.new result }
 {
     read_part(flash, page, Some(log), at, &mut buffer[..len as usize])?;
     Ok(())

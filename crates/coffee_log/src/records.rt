@@ -1,10 +1,10 @@
-ghost use Rattle.std.specs.Prelude.{◌≡◌, ℕ, ◌+◌, ◌*◌, ◌≤◌, ◌<◌, length, IsTrue, IfOk, OnOk};
-ghost use Rattle.afl_base.specs.Causes.{HasCause};
+ghost use Rattle.std.specs.Prelude.{◌≡◌, ℕ, ◌+◌, ◌*◌, ◌≤◌, ◌<◌, IsTrue, IfOk, OnErr, OnOk};
+ghost use Rattle.afl_base.specs.Keeping.{OnlyReads, Programs};
 ghost use Rattle.afl_base.specs.Image.{page_bytes};
 ghost use Rattle.flash_range.specs.Range.{PageOutside};
 ghost use Rattle.coffee_layout.specs.FileBytes.{last_in, table_of, used_in};
 ghost use Rattle.coffee_layout.specs.Units.{pages_of};
-ghost use Rattle.coffee_log.specs.Logs.{IsLog, PutsRecord};
+ghost use Rattle.coffee_log.specs.Logs.{IsCutRecord, IsLog, PutsRecord};
 
 use afl_base::{Failed, Flash, PageId, put_u16};
 use coffee_layout::{last_record, read_table, records_used};
@@ -15,10 +15,8 @@ pub fn log_region<F: Flash>(flash: &mut F, log: PageId, region: u16) -> Result<O
     requires log { log.0 + 16 ≤ pages_of (F.image flash.old) }
     ensures last { IsTrue F.tells → IfOk result
         (λ r. r ≡ last_in (table_of (F.image flash.old) log.0) region 30) }
-    ensures same { F.image flash.new ≡ F.image flash.old }
     ensures reads { F.reads flash.new ≤ F.reads flash.old + 1 }
-    ensures reads_later { F.reads flash.old ≤ F.reads flash.new }
-    ensures cause { HasCause (F.faults flash.old) (F.faults flash.new) result }
+    ensures frame { OnlyReads F.image F.lent F.reads F.faults flash.old flash.new result }
 {
     let mut table = [0; 60];
     read_table(flash, log.0, &mut table)?;
@@ -33,10 +31,8 @@ pub fn log_used<F: Flash>(flash: &mut F, log: PageId) -> Result<u8, Failed>
     requires log { log.0 + 16 ≤ pages_of (F.image flash.old) }
     ensures used { IsTrue F.tells → IfOk result (λ n. n ≡ used_in (table_of (F.image flash.old) log.0)) }
     ensures few { IfOk result (λ n. n ≤ 30) }
-    ensures same { F.image flash.new ≡ F.image flash.old }
     ensures reads { F.reads flash.new ≤ F.reads flash.old + 1 }
-    ensures reads_later { F.reads flash.old ≤ F.reads flash.new }
-    ensures cause { HasCause (F.faults flash.old) (F.faults flash.new) result }
+    ensures frame { OnlyReads F.image F.lent F.reads F.faults flash.old flash.new result }
 {
     let mut table = [0; 60];
     read_table(flash, log.0, &mut table)?;
@@ -59,11 +55,12 @@ pub fn log_put<F: Flash>(
     ensures put { IsTrue F.tells → OnOk result
         (IsLog (F.image flash.old) log.0 used
         → PutsRecord (F.image flash.old) (F.image flash.new) log.0 used region bytes.now) }
+    ensures cut { IsTrue F.tells → IsTrue F.cuts → OnErr result
+        (IsLog (F.image flash.old) log.0 used
+        → IsCutRecord (F.image flash.old) (F.image flash.new) log used region bytes.now) }
     ensures other_pages { IsTrue F.tells → (p : ℕ) → PageOutside (256 * log.0) 4096 p
         → page_bytes (F.image flash.new) p ≡ page_bytes (F.image flash.old) p }
-    ensures size { length (F.image flash.new) ≡ length (F.image flash.old) }
-    ensures reads { F.reads flash.new ≡ F.reads flash.old }
-    ensures cause { HasCause (F.faults flash.old) (F.faults flash.new) result }
+    ensures frame { Programs F.image F.lent F.reads F.faults flash.old flash.new result }
 {
     let front = 256 * u32::from(log.0);
     let mut number = [0; 2];

@@ -3,6 +3,7 @@ use Rattle.std.proofs.Common.{◌≡◌, ◌≢◌, inl, inr, ⊎_elim, ℕ, zer
 use Rattle.std.specs.List.{list_all}
 use Rattle.std.proofs.lemmas.Bool.{cases_eq, cases_lt}
 use Rattle.std.proofs.lemmas.List.{ext_get_or, get_or-take, length-append, length-replicate, length-take-le}
+use Rattle.padded.proofs.Facts.{both_parts}
 use Rattle.afl_base.specs.Fields.{u16_bytes}
 use Rattle.afl_base.specs.Image.{or_at, page_bytes}
 use Rattle.afl_base.specs.Names.{is_file_name, is_name_byte}
@@ -19,7 +20,7 @@ use Rattle.coffee_layout.specs.declared.unit.Unit.TheVariants.{Free, Isolated, E
 use Rattle.coffee_layout.proofs.Frames.{ends_free, keep_rest, replaced, total-append}
 use Rattle.coffee_layout.proofs.FreeBlocks.{free_block}
 use Rattle.coffee_layout.proofs.MarkLaws.{mark_front, mark_rest, mark_unit}
-use Rattle.coffee_layout.proofs.Tests.{both, eq_false, lt_false, true_eq, true_le, true_or_false}
+use Rattle.coffee_layout.proofs.Tests.{eq_false, lt_false, true_eq, true_le, true_or_false}
 use Rattle.coffee_layout.proofs.Tilings.{units_tiled}
 use Rattle.flash_range.proofs.Ranges.{or_on_zero, or_outside}
 use Rattle.flash_range.specs.Range.{Outside}
@@ -54,8 +55,8 @@ free_zeros building image (suc n) page free rest k q low high =
 
 zero_at : (xs : List ℕ) (i : ℕ) → is_zeros xs ≡ true → get_or xs i 0 ≡ 0
 zero_at [] i all = refl
-zero_at (x ∷ xs) zero all = true_eq x 0 (both (x == 0) (list_all (λ b. b == 0) xs) all).0
-zero_at (x ∷ xs) (suc i) all = zero_at xs i (both (x == 0) (list_all (λ b. b == 0) xs) all).1
+zero_at (x ∷ xs) zero all = true_eq x 0 (both_parts (x == 0) (list_all (λ b. b == 0) xs) all).0
+zero_at (x ∷ xs) (suc i) all = zero_at xs i (both_parts (x == 0) (list_all (λ b. b == 0) xs) all).1
 
 page_zero : (image : List ℕ) (k : ℕ) → is_zeros (page_bytes image (k / 256)) ≡ true → get_or image k 0 ≡ 0
 page_zero image k all = byte_in_page image k ∙ zero_at (page_bytes image (k / 256)) (k % 256) all
@@ -109,7 +110,7 @@ lowest_front (u ∷ us) others n h low =
 
 name_short : (name : List ℕ) → is_file_name name ≡ true → length name ≤ 15
 name_short name good =
-    true_le (length name) 15 (both (nat_le 1 (length name)) (nat_le (length name) 15) (both (nat_le 1 (length name) && nat_le (length name) 15) (list_all is_name_byte name) good).0).1
+    true_le (length name) 15 (both_parts (nat_le 1 (length name)) (nat_le (length name) 15) (both_parts (nat_le 1 (length name) && nat_le (length name) 15) (list_all is_name_byte name) good).0).1
 
 pub length-header_bytes : (h : Header) → is_file_name h.name ≡ true → length (header_bytes h) ≡ 32
 unfolding header_bytes u16_bytes

@@ -41,10 +41,6 @@ pub pages_rest : (front rest : List Unit) → HavePages (front ++ rest) → Have
 pages_rest [] rest h = h
 pages_rest (u ∷ us) rest h = pages_rest us rest h.1
 
-pub pages_append : (us vs : List Unit) → HavePages us → HavePages vs → HavePages (us ++ vs)
-pages_append [] vs h k = k
-pages_append (u ∷ us) vs h k = (h.0, pages_append us vs h.1 k)
-
 -- THE UNIT AT A PAGE
 
 pub begun_here : (u : Unit) (us : List Unit) (from page : ℕ) → from ≡ page → unit_begun (u ∷ us) from page ≡ Some u
@@ -57,13 +53,6 @@ begun_there u us from page e = rw (eq_false from page e) refl
 pub begun_before : (us : List Unit) (from page : ℕ) → HavePages us → page < from → unit_begun us from page ≡ None
 begun_before [] from page h before = refl
 begun_before (u ∷ us) from page h before = begun_there u us from page (λ e. omega arith) ∙ begun_before us (from + size_of u) page h.1 (omega arith)
-
--- nor behind the last
-pub begun_behind : (us : List Unit) (from page : ℕ) → HavePages us → from + total us ≤ page → unit_begun us from page ≡ None
-begun_behind [] from page h behind = refl
-begun_behind (u ∷ us) from page h behind =
-    let some = h.0 in
-    begun_there u us from page (λ e. omega arith) ∙ begun_behind us (from + size_of u) page h.1 (omega arith)
 
 -- a unit that begins among others does so at their first page or behind it
 pub begun_from : (us : List Unit) (from page : ℕ) (u : Unit) → HavePages us → unit_begun us from page ≡ Some u → from ≤ page

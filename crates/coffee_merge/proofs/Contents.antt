@@ -18,7 +18,7 @@ use Rattle.coffee_layout.proofs.Tilings.{units_tiled, unbroken_tiled}
 use Rattle.coffee_log.specs.FileChanges.{FileBecomes, IsFile, OutsideFile}
 use Rattle.coffee_log.proofs.UnitLaws.{StandsAt, other_kept, units_stay}
 use Rattle.coffee_merge.specs.Begun.{active_at, unit_begun}
-use Rattle.coffee_merge.specs.Holding.{Copies, CopiesPart, Entries, Holds, IsDrafted, IsIn, IsStored, KeepsContent, KeepsOthers, Sets, Writes, building_of, file_header, has_extent_at, log_header}
+use Rattle.coffee_merge.specs.Holding.{Copies, CopiesPart, Entries, Holds, IsDrafted, IsIn, IsStored, KeepsContent, KeepsOthers, Writes, building_of, file_header, has_extent_at, log_header}
 use Rattle.coffee_merge.proofs.Begun.{begun_split}
 use Rattle.coffee_merge.proofs.Holdings.{draft_apart, draft_unit, entries_apart, file_unit, held_set, holds_tiled, in_table, is_in_set, log_unit}
 use Rattle.coffee_merge.proofs.Kept.{KeepsBodies, KeepsBody, bodies_kept, body_content, body_drafted, body_kept, body_stored, fits_kept, holds_units}
@@ -286,11 +286,3 @@ holds_written_with old new table draft i e used total at bytes h is long becomes
       drafted = λ d drafted. body_content old new d long (subst (λ log. KeepsBody old new d.page.0 d.pages log) (sym (h.drafted d drafted).no_log) (draft_stays old new table draft i e h is becomes.others d drafted));
       units = units_tiled (building_of draft) new (units_of old) (changed_tiled old new table draft i e h is long becomes.others);
     }
-
--- the same where no file is under construction
-pub holds_written : (old new : List ℕ) (table : Entries) (i : ℕ) (e : FileAt) (used total at : ℕ) (bytes : List ℕ) → Holds old table None → IsIn table i e → length new ≡ length old → FileBecomes old new e.page.0 e.pages e.log used total at bytes
-    → total + 32 ≤ 256 * e.pages → (e.log ≡ None → used ≡ 0) → (1 ≤ total → file_byte new e.page.0 e.log (total - 1) ≢ 0)
-    → Sets old new table i (Some (resized e used total)) × (units_of new ≡ units_of old)
-holds_written old new table i e used total at bytes h is long becomes room unused last =
-    let w = holds_written_with old new table None i e used total at bytes h is long becomes room unused last in
-    (record { holds = w.holds; others = w.others }, w.units)

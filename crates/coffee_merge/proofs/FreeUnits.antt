@@ -1,5 +1,5 @@
 -- Free pages are units, and a change of headers makes none.
-use Rattle.std.proofs.Common.{◌≡◌, ⊎_elim, ℕ, ◌+◌, ◌-◌, ◌≤◌, ◌<◌, Bool, true, false, List, [], ◌∷◌, get_or, Option, Some, ap, sym, ◌∙◌, arith}
+use Rattle.std.proofs.Common.{◌≡◌, ⊎_elim, ℕ, ◌+◌, ◌-◌, ◌≤◌, ◌<◌, Bool, true, false, List, [], ◌∷◌, get_or, Option, Some, refl, ap, sym, ◌∙◌, arith}
 use Rattle.std.proofs.lemmas.Bool.{cases_lt}
 use Rattle.coffee_header.specs.declared.header.Header.{Header}
 use Rattle.coffee_layout.specs.Marks.{free_pages}
@@ -9,8 +9,8 @@ use Rattle.coffee_layout.specs.declared.unit.Unit.{Unit}
 use Rattle.coffee_layout.specs.declared.unit.Unit.TheVariants.{Free, Isolated, Extent}
 use Rattle.coffee_space.proofs.Walks.{marks_behind, marks_front}
 use Rattle.coffee_merge.specs.Begun.{unit_begun}
-use Rattle.coffee_merge.specs.Holding.{is_free_at}
-use Rattle.coffee_merge.specs.Takes.{FreesNone}
+use Rattle.coffee_merge.specs.Holding.{TakesOnly, is_free_at}
+use Rattle.coffee_merge.specs.Takes.{KeepsFree}
 use Rattle.coffee_merge.proofs.Beginning.{IsBegun}
 use Rattle.coffee_merge.proofs.Begun.{HavePages, active_begun, begun_here, begun_marks, begun_there, have_pages}
 use Rattle.coffee_merge.proofs.Marked.{Reflags}
@@ -54,8 +54,8 @@ free_or_extent g o e f = let both : Some Free ≡ Some (Extent g) = sym e ∙ f 
 
 -- NO PAGE BECOMES FREE
 
-pub frees_same : (old new : List ℕ) → units_of new ≡ units_of old → FreesNone old new
-frees_same old new same = λ p free. ap (λ us. get_or (free_pages us) p false) (sym same) ∙ free
+abbrev pub FreesNone : (old new : List ℕ) → Type 0
+FreesNone old new = (p : ℕ) → is_free_at new p ≡ true → is_free_at old p ≡ true
 
 pub frees_then : (old mid new : List ℕ) → FreesNone old mid → FreesNone mid new → FreesNone old new
 frees_then old mid new first second = λ p free. first p (second p free)
@@ -70,3 +70,22 @@ begun_frees building old new page h b = λ p free.
     let begun = free_unit (units_of new) p (have_pages building new (units_of new) b.tiled) free in
     let unit = (active_begun (units_of new) page h b.here).0 in
     free_begun (units_of old) p (sym (b.units p (λ low high. yes_no (is_free_at new p) free (begun_marks is_free (units_of new) page (Extent h) p unit low high))) ∙ begun)
+
+-- THE SAME PAGES ARE FREE
+
+pub frees_free : (old new : List ℕ) → KeepsFree old new → FreesNone old new
+frees_free old new keeps = λ p free. sym (keeps p) ∙ free
+
+pub takes_free : (old new : List ℕ) → KeepsFree old new → TakesOnly old new 0 0
+takes_free old new keeps = λ p free out. keeps p ∙ free
+
+pub free_by : (old new : List ℕ) → TakesOnly old new 0 0 → FreesNone old new → KeepsFree old new
+free_by old new takes frees = λ p. same_by (is_free_at new p) (is_free_at old p) (frees p) (λ free. takes p free (λ a b. omega arith))
+  where
+    same_by : (a b : Bool) → (a ≡ true → b ≡ true) → (b ≡ true → a ≡ true) → a ≡ b
+    same_by true b f g = sym (f refl)
+    same_by false true f g = g refl
+    same_by false false f g = refl
+
+pub free_same : (old new : List ℕ) → units_of new ≡ units_of old → KeepsFree old new
+free_same old new same = λ p. ap (λ us. get_or (free_pages us) p false) same

@@ -1,8 +1,9 @@
 -- What a bit that is programmed into byte 9 of a header makes of the header, and of the unit that it begins.
-use Rattle.std.proofs.Common.{◌≡◌, ℕ, ◌+◌, ◌*◌, ◌≤◌, ◌⊎◌, inl, inr, ⊎_elim, Bool, true, false, ◌||◌, ◌==◌, List, [], ◌∷◌, length, take, get_or, slice_index, Option, Some, None, if◌then◌else◌, refl, ap, sym, subst, ◌∙◌, arith, bit_and, bit_or}
+use Rattle.std.proofs.Common.{◌≡◌, ℕ, ◌+◌, ◌*◌, ◌≤◌, ⊎_elim, Bool, true, false, ◌||◌, ◌==◌, List, [], ◌∷◌, length, take, get_or, slice_index, Option, Some, None, if◌then◌else◌, refl, ap, sym, subst, ◌∙◌, arith, bit_and, bit_or}
 use Rattle.std.specs.Option.{option_map}
 use Rattle.std.proofs.lemmas.List.{length-take-le}
 use Rattle.std.proofs.lemmas.List.Folds.{list_all_at}
+use Rattle.padded.proofs.Facts.{both_parts, either_part}
 use Rattle.afl_base.specs.Image.{or_at, or_front, page_bytes}
 use Rattle.afl_base.proofs.Images.{length_or_at, length_range, or_at_page}
 use Rattle.coffee_header.specs.Headers.{fields, header_of, is_flags, is_header}
@@ -11,13 +12,9 @@ use Rattle.coffee_header.specs.declared.header.Header.{Header}
 use Rattle.coffee_header.proofs.HeaderLaws.{header_flags}
 use Rattle.coffee_layout.specs.Units.{unit_at, unit_of}
 use Rattle.coffee_layout.specs.declared.unit.Unit.TheVariants.{Free, Isolated, Extent}
-use Rattle.coffee_layout.proofs.Tests.{both, true_eq}
+use Rattle.coffee_layout.proofs.Tests.{true_eq}
 
 -- FLAGS
-
-either : (a b : Bool) → a || b ≡ true → (a ≡ true) ⊎ (b ≡ true)
-either true b e = inl refl
-either false b e = inr e
 
 -- what holds of each of the flags
 pub of_flags : (P : ℕ → Type 0) → P 2 → P 3 → P 11 → P 19 → P 7 → P 15 → P 23 → (f : ℕ) → is_flags f ≡ true → P f
@@ -30,17 +27,17 @@ of_flags P a b c d e g h f is =
     (λ (s : (f == 2 || f == 3) ≡ true). ⊎_elim
     (λ (s : f == 2 ≡ true). subst P (sym (true_eq f 2 s)) a)
     (λ (s : f == 3 ≡ true). subst P (sym (true_eq f 3 s)) b)
-    (either (f == 2) (f == 3) s))
+    (either_part (f == 2) (f == 3) s))
     (λ (s : f == 11 ≡ true). subst P (sym (true_eq f 11 s)) c)
-    (either (f == 2 || f == 3) (f == 11) s))
+    (either_part (f == 2 || f == 3) (f == 11) s))
     (λ (s : f == 19 ≡ true). subst P (sym (true_eq f 19 s)) d)
-    (either (f == 2 || f == 3 || f == 11) (f == 19) s))
+    (either_part (f == 2 || f == 3 || f == 11) (f == 19) s))
     (λ (s : f == 7 ≡ true). subst P (sym (true_eq f 7 s)) e)
-    (either (f == 2 || f == 3 || f == 11 || f == 19) (f == 7) s))
+    (either_part (f == 2 || f == 3 || f == 11 || f == 19) (f == 7) s))
     (λ (s : f == 15 ≡ true). subst P (sym (true_eq f 15 s)) g)
-    (either (f == 2 || f == 3 || f == 11 || f == 19 || f == 7) (f == 15) s))
+    (either_part (f == 2 || f == 3 || f == 11 || f == 19 || f == 7) (f == 15) s))
     (λ (s : f == 23 ≡ true). subst P (sym (true_eq f 23 s)) h)
-    (either (f == 2 || f == 3 || f == 11 || f == 19 || f == 7 || f == 15) (f == 23) is)
+    (either_part (f == 2 || f == 3 || f == 11 || f == 19 || f == 7 || f == 15) (f == 23) is)
 
 -- flags are no isolated page's, and not 0
 pub flags_whole : (f : ℕ) → is_flags f ≡ true → bit_and f 34 == 34 ≡ false
@@ -60,7 +57,7 @@ pub header_ninth : (bytes : List ℕ) (h : Header) → header_of bytes ≡ Some 
 unfolding header_of
 header_ninth bytes h e =
     let c = chosen (is_header bytes) (fields bytes) h e in
-    let form = (both _ _ (both _ _ c.0).0).1 in
+    let form = (both_parts _ _ (both_parts _ _ c.0).0).1 in
     (ap (λ g. g.flags) c.1, subst (λ g. is_flags g.flags ≡ true) c.1 form)
 
 unit_by : (bytes : List ℕ) (h : Header) → is_zeros bytes ≡ false → bit_and (slice_index bytes 9) 34 == 34 ≡ false → header_of bytes ≡ Some h → unit_of bytes ≡ Some (Extent h)

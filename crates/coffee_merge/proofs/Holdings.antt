@@ -5,6 +5,7 @@ use Rattle.std.specs.List.{list_any}
 use Rattle.std.proofs.lemmas.Bool.{cases_eq, cases_lt}
 use Rattle.std.proofs.lemmas.List.{get_or-set_other, get_or-set_same, get_or_past, length-set}
 use Rattle.std.proofs.lemmas.List.Folds.{list_any_at}
+use Rattle.padded.proofs.Facts.{either_part}
 use Rattle.afl_base.specs.declared.ids.PageId.{PageId}
 use Rattle.coffee_header.specs.declared.header.Header.{Header}
 use Rattle.coffee_layout.specs.Tiling.{IsTiled, units_of}
@@ -13,7 +14,6 @@ use Rattle.coffee_layout.specs.declared.file.FileAt.{FileAt}
 use Rattle.coffee_layout.specs.declared.unit.Unit.TheVariants.{Extent}
 use Rattle.coffee_layout.proofs.Tests.{eq_true, true_eq}
 use Rattle.coffee_layout.proofs.Tilings.{tiled_unbroken}
-use Rattle.coffee_log.specs.FileChanges.{Apart}
 use Rattle.coffee_log.proofs.UnitLaws.{FilesApart}
 use Rattle.coffee_merge.specs.Begun.{unit_begun}
 use Rattle.coffee_merge.specs.Holding.{Entries, Holds, IsIn, building_of, draft_header, file_flags, file_header, has_extent_at, is_held, log_header}
@@ -87,10 +87,6 @@ draft_apart image table d i e h is =
       logs = λ l m none log. cc;
     }
 
--- nor has an extent with its own log
-pub log_apart : (image : List ℕ) (table : Entries) (draft : Option FileAt) (i : ℕ) (e : FileAt) (l : PageId) → Holds image table draft → IsIn table i e → e.log ≡ Some l → Apart e.page.0 e.pages l.0
-log_apart image table draft i e l h is log = (h.stored i e is).file.apart l log
-
 -- PLACES OF A TABLE
 
 pub in_table : (table : Entries) (i : ℕ) (e : FileAt) → IsIn table i e → i < length table
@@ -123,10 +119,6 @@ is_in_set table i o k d is =
 
 -- EXTENTS THAT ARE HELD
 
-or_true : (a b : Bool) → a || b ≡ true → (a ≡ true) ⊎ (b ≡ true)
-or_true true b e = inl refl
-or_true false b e = inr e
-
 true_or : (a b : Bool) → (a ≡ true) ⊎ (b ≡ true) → a || b ≡ true
 true_or true b e = refl
 true_or false b e = ⊎_elim (λ (a : false ≡ true). cc) (λ (h : b ≡ true). h) e
@@ -143,7 +135,7 @@ log_read page e (Some l) is t = record { log = l; is = is; place = true_eq l.0 p
 
 -- a file that has an extent at a page has its own there, or its log
 pub extent_read : (page : ℕ) (e : FileAt) → has_extent_at page (Some e) ≡ true → (e.page.0 ≡ page) ⊎ LogAt e page
-extent_read page e t = ⊎_elim (λ (a : e.page.0 == page ≡ true). inl (true_eq e.page.0 page a)) (λ (b : is_its_log page e.log ≡ true). inr (log_read page e e.log refl b)) (or_true (e.page.0 == page) (is_its_log page e.log) t)
+extent_read page e t = ⊎_elim (λ (a : e.page.0 == page ≡ true). inl (true_eq e.page.0 page a)) (λ (b : is_its_log page e.log ≡ true). inr (log_read page e e.log refl b)) (either_part (e.page.0 == page) (is_its_log page e.log) t)
 
 pub extent_here : (page : ℕ) (e : FileAt) → e.page.0 ≡ page → has_extent_at page (Some e) ≡ true
 extent_here page e here = true_or (e.page.0 == page) (is_its_log page e.log) (inl (eq_true e.page.0 page here))
@@ -168,12 +160,12 @@ held_any page (o ∷ os) t =
     ⊎_elim
     (λ (a : has_extent_at page o ≡ true). held_first page o os a)
     (λ (b : list_any (has_extent_at page) os ≡ true). let more = held_any page os b in record { place = suc more.place; entry = more.entry; is_in = more.is_in; extent = more.extent })
-    (or_true (has_extent_at page o) (list_any (has_extent_at page) os) t)
+    (either_part (has_extent_at page o) (list_any (has_extent_at page) os) t)
 
 -- an extent that is held is one of a file's, or of the draft's
 pub held_by : (table : Entries) (draft : Option FileAt) (page : ℕ) → is_held table draft page ≡ true → HeldBy table page ⊎ (has_extent_at page draft ≡ true)
 held_by table draft page t =
-    ⊎_elim (λ (a : list_any (has_extent_at page) table ≡ true). inl (held_any page table a)) (λ (b : has_extent_at page draft ≡ true). inr b) (or_true (list_any (has_extent_at page) table) (has_extent_at page draft) t)
+    ⊎_elim (λ (a : list_any (has_extent_at page) table ≡ true). inl (held_any page table a)) (λ (b : has_extent_at page draft ≡ true). inr b) (either_part (list_any (has_extent_at page) table) (has_extent_at page draft) t)
 
 -- the extents of a file and of the draft are held
 pub held_in : (table : Entries) (draft : Option FileAt) (i : ℕ) (e : FileAt) (page : ℕ) → IsIn table i e → has_extent_at page (Some e) ≡ true → is_held table draft page ≡ true

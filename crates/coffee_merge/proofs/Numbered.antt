@@ -1,6 +1,7 @@
 -- The page of a log comes into the header of a file that has none.
 use Rattle.std.proofs.Common.{◌≡◌, ◌≢◌, ℕ, ◌+◌, ◌*◌, ◌/◌, ◌%◌, ◌≤◌, ◌<◌, inl, inr, ⊎_elim, Bool, true, false, ◌&&◌, List, [], ◌∷◌, ◌++◌, length, take, get_or, Some, None, if◌then◌else◌, refl, ap, sym, subst, ◌∙◌, arith}
 use Rattle.std.proofs.lemmas.List.{length-take-le}
+use Rattle.padded.proofs.Facts.{both_parts}
 use Rattle.afl_base.specs.Fields.{put_at, u16_at, u16_bytes}
 use Rattle.afl_base.specs.Image.{or_at, or_front, page_bytes}
 use Rattle.afl_base.proofs.Images.{length_or_at, length_range, or_at_page, or_at_range}
@@ -12,7 +13,6 @@ use Rattle.coffee_layout.specs.Units.{pages_of, total, unit_at}
 use Rattle.coffee_layout.specs.declared.unit.Unit.{Unit}
 use Rattle.coffee_layout.specs.declared.unit.Unit.TheVariants.{Extent}
 use Rattle.coffee_layout.proofs.Frames.{ends_free, keep_rest, replaced, total-append}
-use Rattle.coffee_layout.proofs.Tests.{both}
 use Rattle.coffee_layout.proofs.Tilings.{kept_some, units_tiled}
 use Rattle.flash_range.proofs.Ranges.{or_outside}
 use Rattle.flash_range.specs.Range.{Outside}
@@ -39,9 +39,9 @@ unfolding header_of u16_at u16_bytes or_at
 ten_number b2 b3 b4 b5 b6 b7 b8 b9 n field h small e =
     let bytes = 0 ∷ 0 ∷ b2 ∷ b3 ∷ b4 ∷ b5 ∷ b6 ∷ b7 ∷ b8 ∷ b9 ∷ field in
     let c = chosen (is_header bytes) (fields bytes) h e in
-    let form : (is_kind b8 && is_flags b9 ≡ true) × (is_name_field field ≡ true) = both (is_kind b8 && is_flags b9) (is_name_field field) c.0 in
-    let kind : is_kind b8 ≡ true = (both (is_kind b8) (is_flags b9) form.0).0 in
-    let flags : is_flags b9 ≡ true = (both (is_kind b8) (is_flags b9) form.0).1 in
+    let form : (is_kind b8 && is_flags b9 ≡ true) × (is_name_field field ≡ true) = both_parts (is_kind b8 && is_flags b9) (is_name_field field) c.0 in
+    let kind : is_kind b8 ≡ true = (both_parts (is_kind b8) (is_flags b9) form.0).0 in
+    let flags : is_flags b9 ≡ true = (both_parts (is_kind b8) (is_flags b9) form.0).1 in
     subst (λ g. header_of (n % 256 ∷ (n / 256 % 256) ∷ b2 ∷ b3 ∷ b4 ∷ b5 ∷ b6 ∷ b7 ∷ b8 ∷ b9 ∷ field) ≡ Some (record g { log_page = n })) c.1
     (rw (kind, flags, form.1, number_back n small) refl)
 

@@ -1,11 +1,11 @@
 -- A table is held as it was where the active extents of an image stay, and their pages.
-use Rattle.std.proofs.Common.{◌≡◌, ℕ, Bool, List, length, Option, None, Some, ◌∙◌}
+use Rattle.std.proofs.Common.{◌≡◌, ℕ, Bool, List, length, Option, None, Some, sym, subst, ◌∙◌}
 use Rattle.std.specs.Prelude.{Result, Ok, Err, IfOk}
 use Rattle.afl_base.specs.FileErrors.{OnSpace, UnlessFailed}
 use Rattle.afl_base.specs.declared.kind.FileError.{FileError}
 use Rattle.afl_base.specs.declared.kind.FileError.TheVariants.{Space, Failed}
 use Rattle.coffee_header.specs.declared.header.Header.{Header}
-use Rattle.coffee_layout.specs.Marks.{active_pages}
+use Rattle.coffee_layout.specs.Marks.{IsCramped, IsLowestRun, IsRun, NoRun, active_pages, free_pages}
 use Rattle.coffee_layout.specs.Tiling.{IsTiled, nowhere, units_of}
 use Rattle.coffee_layout.specs.Units.{is_active}
 use Rattle.coffee_layout.specs.declared.file.FileAt.{FileAt}
@@ -14,12 +14,15 @@ use Rattle.coffee_layout.specs.declared.unit.Unit.TheVariants.{Extent}
 use Rattle.coffee_layout.proofs.Frames.{KeepsFile}
 use Rattle.coffee_layout.proofs.KeptFiles.{AreActive, KeepsActive, kept_file}
 use Rattle.coffee_layout.proofs.Tilings.{unbroken_tiled}
-use Rattle.coffee_space.specs.Collection.{active_extents}
+use Rattle.coffee_space.specs.Collection.{IsCollected, active_extents, KeepsActive as LeavesActive}
 use Rattle.coffee_merge.specs.Begun.{active_at}
-use Rattle.coffee_merge.specs.Holding.{Entries, Holds, IsIn, Stays, file_header, log_header}
+use Rattle.coffee_merge.specs.Holding.{Entries, Holds, IsIn, Stays, TakesOnly, file_header, log_header}
+use Rattle.coffee_merge.specs.Outcomes.{IsObtained, LeavesAll}
+use Rattle.coffee_merge.specs.Takes.{LooksIn}
 use Rattle.coffee_merge.proofs.Begun.{active_begun, active_same, begun_marks, have_pages}
 use Rattle.coffee_merge.proofs.Holdings.{holds_pages, holds_tiled}
 use Rattle.coffee_merge.proofs.Kept.{KeepsBodies, bodies_kept, body_kept, holds_bodies}
+use Rattle.coffee_merge.proofs.Taken.{obtain_takes}
 
 -- the pages of an active extent are active
 pub active_marks : (us : List Unit) (page : ℕ) (h : Header) → active_at us page ≡ Some h → AreActive (active_pages us) page h.max_pages
@@ -43,33 +46,39 @@ obtained old new table h long tiled same keeps =
       kept = bodies_kept old new table long bodies;
     }
 
--- what an answer that is not Failed says
-pub on_space : {T : Type 0} (r : Result T FileError) (P : Type 0) (Q : ℕ → Type 0) → UnlessFailed r P → (P → (need : ℕ) → Q need) → OnSpace r Q
-on_space (Ok x) P Q p f = tt
-on_space (Err (Space need)) P Q p f = f p need
-on_space (Err Failed) P Q p f = tt
+-- what `obtain` says of tilings where it did not fail
+abbrev pub Obtains : (old new : List ℕ) → (pages : ℕ) → Type 0
+Obtains old new pages = (building : ℕ → Bool) (us : List Unit) → IsTiled building old us
+    → LeavesActive building old new us × ((page : ℕ) → IsRun (free_pages us) page pages → new ≡ old) × (NoRun (free_pages us) pages → IsCollected building old new us)
 
-pub on_ok : {T : Type 0} (r : Result T FileError) (P : Type 0) (R Q : T → Type 0) → UnlessFailed r P → IfOk r R → (P → (x : T) → R x → Q x) → IfOk r Q
-on_ok (Ok x) P R Q p k f = f p x k
-on_ok (Err e) P R Q p k f = k
+pub obtains_by : {T : Type 0} (old new : List ℕ) (pages : ℕ) (r : Result T FileError) → UnlessFailed r ((building : ℕ → Bool) (us : List Unit) → IsTiled building old us → LeavesActive building old new us)
+    → ((building : ℕ → Bool) (us : List Unit) → IsTiled building old us → (page : ℕ) → IsRun (free_pages us) page pages → new ≡ old)
+    → UnlessFailed r ((building : ℕ → Bool) (us : List Unit) → IsTiled building old us → NoRun (free_pages us) pages → IsCollected building old new us)
+    → UnlessFailed r (Obtains old new pages)
+obtains_by old new pages (Ok x) kept untouched collected = λ building us t. (kept building us t, untouched building us t, collected building us t)
+obtains_by old new pages (Err (Space need)) kept untouched collected = λ building us t. (kept building us t, untouched building us t, collected building us t)
+obtains_by old new pages (Err Failed) kept untouched collected = tt
 
-pub space_then : {T : Type 0} (r : Result T FileError) (P Q : ℕ → Type 0) → OnSpace r P → ((need : ℕ) → P need → Q need) → OnSpace r Q
-space_then (Ok x) P Q p f = tt
-space_then (Err (Space need)) P Q p f = f need p
-space_then (Err Failed) P Q p f = tt
+-- the same of tables
+stays_by : (old new : List ℕ) (table : Entries) (pages : ℕ) → Holds old table None → length new ≡ length old → Obtains old new pages → Stays old new table × TakesOnly old new 0 0 × LooksIn old new pages
+stays_by old new table pages h long o =
+    let found = o nowhere (units_of old) (holds_tiled old table None h) in
+    (obtained old new table h long found.0.tiled found.0.extents found.0.active, obtain_takes nowhere old new pages found.1 found.2, record { same = found.1; collected = found.2 })
 
-unless_three : {T : Type 0} (r : Result T FileError) (P Q R S : Type 0) → UnlessFailed r P → UnlessFailed r Q → UnlessFailed r R → (P → Q → R → S) → UnlessFailed r S
-unless_three (Ok x) P Q R S p q s f = f p q s
-unless_three (Err (Space need)) P Q R S p q s f = f p q s
-unless_three (Err Failed) P Q R S p q s f = tt
+pub found_by : {T : Type 0} (old new : List ℕ) (pages : ℕ) (r : Result T FileError) (place : T → ℕ) → length new ≡ length old → UnlessFailed r (Obtains old new pages)
+    → IfOk r (λ x. (building : ℕ → Bool) (us : List Unit) → IsTiled building old us → IsLowestRun (free_pages (units_of new)) pages (place x))
+    → IfOk r (λ x. (table : Entries) → Holds old table None → IsObtained old new table pages (place x))
+found_by old new pages (Ok x) place long o run = λ table h.
+    let s = stays_by old new table pages h long o in
+    record { stays = s.0; untaken = s.1; looked = s.2; run = run nowhere (units_of old) (holds_tiled old table None h) }
+found_by old new pages (Err e) place long o run = run
 
--- what `obtain` says of tilings, said of tables
-pub kept_by : {T : Type 0} (old new : List ℕ) (r : Result T FileError) → length new ≡ length old
-    → UnlessFailed r ((building : ℕ → Bool) (us : List Unit) → IsTiled building old us → IsTiled building new (units_of new))
-    → UnlessFailed r ((building : ℕ → Bool) (us : List Unit) → IsTiled building old us → active_extents (units_of new) ≡ active_extents us)
-    → UnlessFailed r ((building : ℕ → Bool) (us : List Unit) → IsTiled building old us → KeepsActive old new (active_pages us))
-    → UnlessFailed r ((table : Entries) → Holds old table None → Stays old new table)
-kept_by old new r long tiled extents active =
-    unless_three r _ _ _ _ tiled extents active (λ p q s table h.
-    let was = holds_tiled old table None h in
-    obtained old new table h long (p nowhere (units_of old) was) (q nowhere (units_of old) was) (s nowhere (units_of old) was))
+pub left_by : {T : Type 0} (old new : List ℕ) (pages : ℕ) (r : Result T FileError) → length new ≡ length old → UnlessFailed r (Obtains old new pages)
+    → OnSpace r (λ need. (building : ℕ → Bool) (us : List Unit) → IsTiled building old us → IsCramped (units_of new) need)
+    → OnSpace r (λ need. need ≡ pages)
+    → OnSpace r (λ need. (table : Entries) → Holds old table None → LeavesAll old new table need)
+left_by old new pages (Ok x) long o cramped asked = tt
+left_by old new pages (Err (Space need)) long o cramped asked = λ table h.
+    let s = stays_by old new table pages h long o in
+    record { stays = s.0; untaken = s.1; looked = subst (LooksIn old new) (sym asked) s.2; cramped = cramped nowhere (units_of old) (holds_tiled old table None h) }
+left_by old new pages (Err Failed) long o cramped asked = tt

@@ -12,7 +12,7 @@ use Rattle.coffee_layout.specs.declared.unit.Unit.TheVariants.{Extent}
 use Rattle.coffee_merge.specs.Begun.{active_at, active_header, unit_begun}
 use Rattle.coffee_merge.specs.Flags.{flagged, obsoleted}
 use Rattle.coffee_merge.specs.Holding.{file_flags, file_header, has_extent_at, log_header}
-use Rattle.coffee_merge.specs.Takes.{FreesNone}
+use Rattle.coffee_merge.proofs.FreeUnits.{FreesNone}
 use Rattle.coffee_merge.proofs.Begun.{HavePages, begun_apart, begun_inside}
 use Rattle.coffee_merge.proofs.FreeUnits.{frees_then, reflags_frees}
 use Rattle.coffee_merge.proofs.Holdings.{extent_here, log_here}

@@ -4,6 +4,7 @@ use Rattle.std.specs.List.{list_any}
 use Rattle.std.specs.Cmp.Lexicographic.{same_text, other_text}
 use Rattle.std.proofs.lemmas.Bool.{both_ways, cases_order}
 use Rattle.std.proofs.lemmas.List.Folds.{list_any-append}
+use Rattle.padded.proofs.Facts.{both_parts}
 use Rattle.afl_base.specs.declared.kind.Kind.TheVariants.{Doubling, Fixed}
 use Rattle.coffee_header.specs.Headers.{fields, header_of, is_header, is_kind}
 use Rattle.coffee_header.specs.declared.header.Header.{Header}
@@ -11,7 +12,7 @@ use Rattle.coffee_layout.specs.Files.{Placed, kind_of, log_of}
 use Rattle.coffee_layout.specs.Rules.{first_repeated, same_name}
 use Rattle.coffee_layout.specs.declared.file.FileAt.{FileAt}
 use Rattle.coffee_layout.proofs.Namings.{Each}
-use Rattle.coffee_layout.proofs.Tests.{both, false_eq, true_eq, true_or_false}
+use Rattle.coffee_layout.proofs.Tests.{false_eq, true_eq, true_or_false}
 use Rattle.coffee_merge.specs.Holding.{Entries, IsIn, file_flags, kind_number, log_number}
 use Rattle.coffee_merge.proofs.SoundUnits.{Among, Rising, each_all, each_pick, or_second}
 
@@ -131,7 +132,7 @@ kind_turn false g h k e = cc
 -- the kind of a header is 0 or 1
 pub header_kind : (bytes : List ℕ) (h : Header) → header_of bytes ≡ Some h → is_kind h.kind ≡ true
 unfolding header_of
-header_kind bytes h e = kind_turn (is_header bytes) (fields bytes) h (λ t. (both _ _ (both _ _ t).0).0) e
+header_kind bytes h e = kind_turn (is_header bytes) (fields bytes) h (λ t. (both_parts _ _ (both_parts _ _ t).0).0) e
 
 number_turn : (k pages : ℕ) → is_kind k ≡ true → (t : Bool) → k == 0 ≡ t → kind_number (if t then Doubling else Fixed pages) ≡ k
 number_turn k pages is true e = sym (true_eq k 0 e)

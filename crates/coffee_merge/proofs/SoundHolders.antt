@@ -3,6 +3,7 @@ use Rattle.std.proofs.Common.{◌≡◌, ◌⊎◌, inl, inr, ℕ, suc, ◌+◌,
 use Rattle.std.specs.List.{filter, list_any}
 use Rattle.std.proofs.lemmas.Bool.{not-true, not_from_false}
 use Rattle.std.proofs.lemmas.List.Folds.{list_any_at}
+use Rattle.padded.proofs.Facts.{both_parts, some_same}
 use Rattle.afl_base.specs.declared.ids.PageId.{PageId}
 use Rattle.afl_base.specs.declared.kind.Kind.{Kind}
 use Rattle.afl_base.specs.declared.kind.Kind.TheVariants.{Doubling, Fixed}
@@ -13,7 +14,7 @@ use Rattle.coffee_layout.specs.Tiling.{nowhere, units_of}
 use Rattle.coffee_layout.specs.declared.file.FileAt.{FileAt}
 use Rattle.coffee_layout.proofs.Namings.{Each, each_filter}
 use Rattle.coffee_layout.proofs.Sizes.{size_is}
-use Rattle.coffee_layout.proofs.Tests.{both, eq_false, eq_true, true_eq, true_or_false}
+use Rattle.coffee_layout.proofs.Tests.{eq_false, eq_true, true_eq, true_or_false}
 use Rattle.coffee_log.specs.Logs.{IsLog}
 use Rattle.coffee_merge.specs.Begun.{active_at}
 use Rattle.coffee_merge.specs.Holding.{Entries, Holds, IsIn, IsStored, file_flags, file_header, has_extent_at, has_shape, kind_number, log_header, log_number}
@@ -34,7 +35,7 @@ placed_log e l = record { page = l.0; header = log_header e.name }
 
 pub kind_is : (kind : Kind) (pages : ℕ) → has_shape kind pages ≡ true → (if kind_number kind == 0 then Doubling else Fixed pages) ≡ kind
 kind_is Doubling pages e = refl
-kind_is (Fixed n) pages e = let same : n ≡ pages = true_eq n pages (both (n == pages) _ (both _ _ e).0).0 in ap Fixed (sym same)
+kind_is (Fixed n) pages e = let same : n ≡ pages = true_eq n pages (both_parts (n == pages) _ (both_parts _ _ e).0).0 in ap Fixed (sym same)
 
 pub log_is : (log : Option PageId) → (if log_number log == 0 then None else Some (record { 0 = log_number log - 1 })) ≡ log
 log_is None = refl
@@ -95,9 +96,6 @@ pub record IsLogOf (table : Entries) (g : Placed) : Type 0 where
   pub logged : entry.log ≡ Some log
   pub is : g ≡ placed_log entry log
 
-one_header : (g k : Header) → Some g ≡ Some k → g ≡ k
-one_header g k e = cc
-
 placed_at : ℕ → Header → Placed
 placed_at page h = record { page = page; header = h }
 
@@ -109,10 +107,10 @@ unfolding placed_at
 holder image table page h holds active = ⊎_elim
     (λ (by : HeldBy table page). ⊎_elim
     (λ (here : by.entry.page.0 ≡ page).
-    let header : h ≡ file_header by.entry = one_header h (file_header by.entry) (sym active ∙ ap (active_at (units_of image)) (sym here) ∙ holds.files by.place by.entry by.is_in) in
+    let header : h ≡ file_header by.entry = some_same h (file_header by.entry) (sym active ∙ ap (active_at (units_of image)) (sym here) ∙ holds.files by.place by.entry by.is_in) in
     inl (record { place = by.place; entry = by.entry; is_in = by.is_in; is = placed_same page by.entry.page.0 h (file_header by.entry) (sym here) header }))
     (λ (at : LogAt by.entry page).
-    let header : h ≡ log_header by.entry.name = one_header h (log_header by.entry.name) (sym active ∙ ap (active_at (units_of image)) (sym at.place) ∙ holds.logs by.place by.entry at.log by.is_in at.is) in
+    let header : h ≡ log_header by.entry.name = some_same h (log_header by.entry.name) (sym active ∙ ap (active_at (units_of image)) (sym at.place) ∙ holds.logs by.place by.entry at.log by.is_in at.is) in
     inr (record { place = by.place; entry = by.entry; log = at.log; is_in = by.is_in; logged = at.is; is = placed_same page at.log.0 h (log_header by.entry.name) (sym at.place) header }))
     (extent_read page by.entry by.extent))
     (λ (no : has_extent_at page None ≡ true). cc)

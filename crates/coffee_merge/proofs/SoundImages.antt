@@ -3,6 +3,7 @@ use Rattle.std.proofs.Common.{◌≡◌, inl, inr, ℕ, ◌+◌, ◌≤◌, true
 use Rattle.std.specs.List.{list_any}
 use Rattle.std.specs.Option.{IfSome}
 use Rattle.std.proofs.lemmas.Bool.{and_from}
+use Rattle.padded.proofs.Facts.{both_parts}
 use Rattle.afl_base.specs.declared.ids.PageId.{PageId}
 use Rattle.afl_base.specs.declared.kind.Kind.{Kind}
 use Rattle.afl_base.specs.declared.kind.Kind.TheVariants.{Doubling, Fixed}
@@ -13,7 +14,7 @@ use Rattle.coffee_layout.specs.Tiling.{at_place, units_of}
 use Rattle.coffee_layout.specs.Walks.{has_few}
 use Rattle.coffee_layout.specs.declared.file.FileAt.{FileAt}
 use Rattle.coffee_layout.proofs.Measures.{few_same}
-use Rattle.coffee_layout.proofs.Tests.{both, eq_true, true_eq, true_or_false}
+use Rattle.coffee_layout.proofs.Tests.{eq_true, true_eq, true_or_false}
 use Rattle.coffee_merge.specs.Holding.{Entries, Holds, IsIn, IsStored, has_shape, kind_number, log_number}
 use Rattle.coffee_merge.proofs.Holdings.{holds_tiled}
 use Rattle.coffee_merge.proofs.SoundEntries.{none_repeated, same_named}
@@ -27,8 +28,8 @@ use Rattle.coffee_merge.proofs.SoundUnits.{Among, among_any, among_filter, faili
 shape_fields : (kind : Kind) (pages : ℕ) → has_shape kind pages ≡ true → (if kind_number kind == 0 then is_doubling pages else nat_le 1 pages && nat_le pages 15) ≡ true
 shape_fields Doubling pages e = e
 shape_fields (Fixed n) pages e =
-    let a = both (n == pages && nat_le 1 n) (nat_le n 15) e in
-    let b = both (n == pages) (nat_le 1 n) a.0 in
+    let a = both_parts (n == pages && nat_le 1 n) (nat_le n 15) e in
+    let b = both_parts (n == pages) (nat_le 1 n) a.0 in
     let same = true_eq n pages b.0 in
     subst (λ p. nat_le 1 p && nat_le p 15 ≡ true) same (and_from (nat_le 1 n) (nat_le n 15) b.1 a.1)
 

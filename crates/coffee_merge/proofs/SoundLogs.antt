@@ -5,11 +5,12 @@ use Rattle.std.proofs.lemmas.Bool.{and_from, cases_lt, le-leb, not-true, or_left
 use Rattle.std.proofs.lemmas.List.{get_or-drop, get_or_past, length-drop, length-take}
 use Rattle.std.proofs.lemmas.List.FromFn.{get_or-range_with_len, length-range_with_len}
 use Rattle.std.proofs.lemmas.List.Sums.{prefix_len-le-length, prefix_len_is, prefix_len_passes}
+use Rattle.padded.proofs.Facts.{both_parts}
 use Rattle.afl_base.proofs.Images.{range_at}
 use Rattle.coffee_layout.specs.FileBytes.{number_in, records, table_of, used_in}
 use Rattle.coffee_layout.specs.Rules.{has_regions_inside, is_clear, is_front_filled, is_region_inside}
 use Rattle.padded.specs.Zeros.{is_zeros}
-use Rattle.coffee_layout.proofs.Tests.{both, eq_true, eq_false, false_eq, lt_true, true_eq, true_lt}
+use Rattle.coffee_layout.proofs.Tests.{eq_true, eq_false, false_eq, lt_true, true_eq, true_lt}
 use Rattle.coffee_log.specs.FileChanges.{BeginsBelow}
 use Rattle.coffee_log.specs.Logs.{IsLog}
 use Rattle.coffee_merge.proofs.SoundUnits.{or_second}
@@ -18,8 +19,8 @@ use Rattle.coffee_merge.proofs.SoundUnits.{or_second}
 
 pub all_at : {A : Type 0} (test : A → Bool) (xs : List A) (k : ℕ) (d : A) → k < length xs → list_all test xs ≡ true → test (get_or xs k d) ≡ true
 all_at test [] k d l e = absurd (omega arith)
-all_at test (x ∷ xs) zero d l e = (both (test x) (list_all test xs) e).0
-all_at test (x ∷ xs) (suc k) d l e = all_at test xs k d (omega arith) (both (test x) (list_all test xs) e).1
+all_at test (x ∷ xs) zero d l e = (both_parts (test x) (list_all test xs) e).0
+all_at test (x ∷ xs) (suc k) d l e = all_at test xs k d (omega arith) (both_parts (test x) (list_all test xs) e).1
 
 pub all_from : {A : Type 0} (test : A → Bool) (xs : List A) (d : A) → ((k : ℕ) → k < length xs → test (get_or xs k d) ≡ true) → list_all test xs ≡ true
 all_from test [] d f = refl
@@ -61,7 +62,7 @@ log_from_rules image log filled clear =
     let used = used_in (table_of image log) in
     let few = used_few (table_of image log) in
     let all = length_records in
-    let parts = both (is_zeros (slice_range image (256 * log + 92) (256 * log + 96))) (is_zeros (slice_range image (256 * log + 96 + 128 * used_in (table_of image log)) (256 * log + 4096))) clear in
+    let parts = both_parts (is_zeros (slice_range image (256 * log + 92) (256 * log + 96))) (is_zeros (slice_range image (256 * log + 96 + 128 * used_in (table_of image log)) (256 * log + 4096))) clear in
     record {
       few = few;
       used_are = λ i l z.
@@ -117,7 +118,7 @@ below_from_regions image log pages size inside is i l =
     let there : (number_in (table_of image log) i == 0 || is_region_inside pages size (number_in (table_of image log) i)) ≡ true =
     sym (ap (λ k. number_in (table_of image log) k == 0 || is_region_inside pages size (number_in (table_of image log) k)) at) ∙ here in
     let region = or_second (number_in (table_of image log) i == 0) (is_region_inside pages size (number_in (table_of image log) i)) there (eq_false (number_in (table_of image log) i) 0 (is.used_are i l)) in
-    true_lt (128 * (number_in (table_of image log) i - 1)) size (both (nat_le (number_in (table_of image log) i) (2 * pages)) (nat_lt (128 * (number_in (table_of image log) i - 1)) size) region).1
+    true_lt (128 * (number_in (table_of image log) i - 1)) size (both_parts (nat_le (number_in (table_of image log) i) (2 * pages)) (nat_lt (128 * (number_in (table_of image log) i - 1)) size) region).1
 
 pub regions_from_below : (image : List ℕ) (log pages used size : ℕ) → IsLog image log used → BeginsBelow image log used size → size + 32 ≤ 256 * pages → has_regions_inside pages size (table_of image log) ≡ true
 regions_from_below image log pages used size is below fits =

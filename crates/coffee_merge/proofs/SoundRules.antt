@@ -3,6 +3,7 @@ use Rattle.std.proofs.Common.{◌≡◌, ◌⊎◌, inl, inr, ℕ, ◌+◌, ◌-
 use Rattle.std.specs.List.{list_any}
 use Rattle.std.proofs.lemmas.Bool.{or_cases}
 use Rattle.std.proofs.lemmas.List.{drop_all, length-drop}
+use Rattle.padded.proofs.Facts.{both_parts}
 use Rattle.afl_base.specs.Image.{page_bytes}
 use Rattle.afl_base.specs.declared.ids.PageId.{PageId}
 use Rattle.coffee_header.specs.Headers.{is_kind}
@@ -16,7 +17,7 @@ use Rattle.coffee_layout.specs.declared.unit.Unit.{Unit}
 use Rattle.coffee_layout.specs.declared.unit.Unit.TheVariants.{Extent}
 use Rattle.coffee_layout.proofs.Judging.{or_nothing}
 use Rattle.coffee_layout.proofs.Namings.{each_stands}
-use Rattle.coffee_layout.proofs.Tests.{both, eq_true, or_none, true_eq}
+use Rattle.coffee_layout.proofs.Tests.{eq_true, or_none, true_eq}
 use Rattle.coffee_layout.proofs.Tilings.{tiled_unbroken}
 use Rattle.coffee_merge.specs.Begun.{active_at}
 use Rattle.coffee_merge.specs.Holding.{file_header, log_header}
@@ -140,8 +141,8 @@ pub record HasFileFields (h : Header) : Type 0 where
 pub file_fields : (f : Placed) → has_fields f ≡ true → is_file f ≡ true → HasFileFields f.header
 file_fields f fields file =
     let all : has_file_fields f.header ≡ true = (rw file at fields) in
-    let first = both _ _ all in
-    let second = both _ _ first.0 in
+    let first = both_parts _ _ all in
+    let second = both_parts _ _ first.0 in
     record { records = true_eq f.header.log_records 30 second.0; size = true_eq f.header.log_record_size 128 second.1; shape = first.1 }
 
 -- a log has the header that its name says
@@ -150,10 +151,10 @@ log_fields g fields log =
     let flags = true_eq g.header.flags 19 log in
     let file : is_file g ≡ false = rw flags refl in
     let all : has_log_fields g.header ≡ true = (rw (file, log) at fields) in
-    let a = both _ _ all in
-    let b = both _ _ a.0 in
-    let c = both _ _ b.0 in
-    let d = both _ _ c.0 in
+    let a = both_parts _ _ all in
+    let b = both_parts _ _ a.0 in
+    let c = both_parts _ _ b.0 in
+    let d = both_parts _ _ c.0 in
     sym (header_is g.header 0 0 0 16 1 19 g.header.name (sym (true_eq g.header.log_page 0 c.1)) (sym (true_eq g.header.log_records 0 d.0)) (sym (true_eq g.header.log_record_size 0 d.1))
     (sym (true_eq g.header.max_pages 16 a.1)) (sym (true_eq g.header.kind 1 b.1)) (sym flags) refl)
 
@@ -176,7 +177,7 @@ file_log image us f r a =
     (λ (s : f.header.flags ≡ 11).
     let t = flags_no_log f.header s in
     let g = any_among (is_log_of f) (logs_in us) (rw t at named) in
-    let parts = both (g.0.page + 1 == f.header.log_page) (same_name g.0.header.name f.header.name) g.2 in
+    let parts = both_parts (g.0.page + 1 == f.header.log_page) (same_name g.0.header.name f.header.name) g.2 in
     inr (record { log = g.0; is = g.1; page = true_eq (g.0.page + 1) f.header.log_page parts.0; name = named_same g.0.header.name f.header.name parts.1; flags = s }))
     (file_flags_are f (filter_among is_file f (extents 0 us) a).1)
 

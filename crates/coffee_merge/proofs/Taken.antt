@@ -1,20 +1,15 @@
 -- Pages that were free stay free, but for those that a new extent takes.
-use Rattle.std.proofs.Common.{◌≡◌, ⊎_elim, ℕ, ◌+◌, ◌-◌, ◌*◌, ◌/◌, ◌≤◌, ◌<◌, Bool, true, false, List, [], ◌∷◌, length, get_or, Some, None, refl, ap, sym, subst, ◌∙◌, arith}
+use Rattle.std.proofs.Common.{◌≡◌, ⊎_elim, ℕ, ◌+◌, ◌-◌, ◌*◌, ◌/◌, ◌≤◌, ◌<◌, Bool, true, false, List, [], ◌∷◌, get_or, Some, None, refl, ap, sym, subst, ◌∙◌, arith}
 use Rattle.std.proofs.lemmas.Bool.{cases_lt}
 use Rattle.std.proofs.lemmas.List.{get_or_past}
-use Rattle.std.specs.Prelude.{Result, Ok, Err}
-use Rattle.afl_base.specs.FileErrors.{UnlessFailed}
 use Rattle.afl_base.specs.Image.{or_at}
 use Rattle.afl_base.specs.Names.{is_file_name}
 use Rattle.afl_base.specs.declared.ids.PageId.{PageId}
-use Rattle.afl_base.specs.declared.kind.FileError.{FileError}
-use Rattle.afl_base.specs.declared.kind.FileError.TheVariants.{Space, Failed}
 use Rattle.afl_base.specs.declared.kind.Kind.{Kind}
 use Rattle.coffee_header.specs.Headers.{header_bytes}
 use Rattle.coffee_header.specs.declared.header.Header.{Header}
-use Rattle.coffee_layout.specs.FileBytes.{file_byte}
 use Rattle.coffee_layout.specs.Marks.{IsLowestRun, IsRun, NoRun, free_pages, is_taken}
-use Rattle.coffee_layout.specs.Tiling.{IsTiled, nowhere, units_of}
+use Rattle.coffee_layout.specs.Tiling.{nowhere, units_of}
 use Rattle.coffee_layout.specs.Units.{is_free, size_of, total}
 use Rattle.coffee_layout.specs.declared.file.FileAt.{FileAt}
 use Rattle.coffee_layout.specs.declared.unit.Unit.{Unit}
@@ -26,11 +21,10 @@ use Rattle.coffee_space.proofs.MarksLeft.{length-pages_by, mark_left, marks_left
 use Rattle.coffee_space.proofs.Walks.{marks_behind, marks_front}
 use Rattle.coffee_merge.specs.Begun.{unit_begun}
 use Rattle.coffee_merge.specs.Flags.{flagged, obsoleted}
-use Rattle.coffee_merge.specs.Holding.{Begins, Entries, Holds, IsIn, TakesOnly, building_of, draft_header, extent_of, file_header, is_free_at, log_header}
+use Rattle.coffee_merge.specs.Holding.{Entries, Holds, IsIn, TakesOnly, draft_header, extent_of, file_header, is_free_at, log_header}
 use Rattle.coffee_merge.proofs.Beginning.{IsBegun}
 use Rattle.coffee_merge.proofs.Begun.{HavePages, begun_marks, have_pages}
 use Rattle.coffee_merge.proofs.Commits.{replaced_file, replaced_log, replaced_retires, valid}
-use Rattle.coffee_merge.proofs.Contents.{CopiesInto, place_in, write_tiled}
 use Rattle.coffee_merge.proofs.Drafting.{draft_begun}
 use Rattle.coffee_merge.proofs.FreeUnits.{free_or_extent, free_unit, yes_no}
 use Rattle.coffee_merge.proofs.Holdings.{LogAt, draft_unit, extent_read, file_unit, holds_pages, holds_tiled, log_unit}
@@ -42,10 +36,6 @@ use Rattle.coffee_merge.proofs.Retired.{Retires, retires}
 
 takes_by : (old new : List ℕ) (page pages : ℕ) → HavePages (units_of old) → ((p : ℕ) → unit_begun (units_of old) 0 p ≡ Some Free → (page ≤ p → p < page + pages → ⊥) → unit_begun (units_of new) 0 p ≡ Some Free) → TakesOnly old new page pages
 takes_by old new page pages h same = λ p free out. begun_marks is_free (units_of new) p Free p (same p (free_unit (units_of old) p h free) out) (omega arith) (omega arith)
-
--- where the units stay no page is taken
-pub takes_same : (old new : List ℕ) → units_of new ≡ units_of old → TakesOnly old new 0 0
-takes_same old new same = λ p free out. ap (λ us. get_or (free_pages us) p false) same ∙ free
 
 -- one change after another that takes no page
 pub takes_then : (old mid new : List ℕ) (page pages : ℕ) → TakesOnly old mid page pages → TakesOnly mid new 0 0 → TakesOnly old new page pages
@@ -91,48 +81,10 @@ replace_takes old table d e i page h place is =
     (retires_takes (flagged old d.page.0 1) (obsoleted (flagged old d.page.0 1) e.page.0 e.log) e (have_pages nowhere (flagged old d.page.0 1) (units_of (flagged old d.page.0 1)) (valid old table d h).tiled)
     (replaced_file old table d e i h is) (λ l log. replaced_log old table d e i l h is log) (replaced_retires old table d e i h is)))
 
-pub write_takes : (old : List ℕ) (table : Entries) (d : FileAt) (at : ℕ) (bytes : List ℕ) → Holds old table (Some d) → at + length bytes + 32 ≤ 256 * d.pages → TakesOnly old (or_at old (place_in d at) bytes) 0 0
-write_takes old table d at bytes h fits = takes_same old (or_at old (place_in d at) bytes) (units_tiled (building_of (Some d)) (or_at old (place_in d at) bytes) (units_of old) (write_tiled old table d at bytes h fits))
-
 pub log_takes : (old new : List ℕ) (table : Entries) (i : ℕ) (e : FileAt) (log : PageId) → Holds old table None → IsIn table i e → HasLog old new (units_of old) e log → TakesOnly old new log.0 16
 log_takes old new table i e log h is has =
     takes_by old new log.0 16 (holds_pages old table None h)
     (λ p free out. has.units p (λ same. free_or_extent (file_header e) (unit_begun (units_of old) 0 p) free (ap (unit_begun (units_of old) 0) same ∙ file_unit old table None i e h is)) out ∙ free)
-
--- the same of a place and a page that are named otherwise
-pub write_takes_there : (old new : List ℕ) (page : PageId) (pages place at : ℕ) (bytes : List ℕ) → place ≡ 256 * page.0 + 32 + at → new ≡ or_at old place bytes → at + length bytes + 32 ≤ 256 * pages
-    → (table : Entries) (d : FileAt) → Holds old table (Some d) → d.page ≡ page → d.pages ≡ pages → TakesOnly old new 0 0
-write_takes_there old new page pages place at bytes there is fits table d h same_page same_pages =
-    let here : place ≡ place_in d at = there ∙ ap (λ (q : PageId). 256 * q.0 + 32 + at) (sym same_page) in
-    subst (λ image. TakesOnly old image 0 0) (sym (is ∙ ap (λ k. or_at old k bytes) here)) (write_takes old table d at bytes h (omega arith))
-
--- a copy of so many bytes takes no page
-abbrev pub CopyTakes : (old new : List ℕ) → PageId → (pages : ℕ) → FileAt → Type 0
-CopyTakes old new page pages from =
-    (table : Entries) (d : FileAt) (i : ℕ) → Holds old table (Some d) → d.page ≡ page → d.pages ≡ pages → d.size ≡ from.size → IsIn table i from → ((p : ℕ) → p + 32 < 256 * pages → file_byte old page.0 None p ≡ 0) → TakesOnly old new 0 0
-
-pub copy_takes_none : (old : List ℕ) (page : PageId) (pages : ℕ) (from : FileAt) → CopyTakes old old page pages from
-copy_takes_none old page pages from = λ table d i h same_page same_pages same_size is zeros. takes_same old old refl
-
-pub copy_takes_more : (old mid new : List ℕ) (page : PageId) (pages : ℕ) (from : FileAt) (done : ℕ) → CopiesInto old mid page pages from done → CopyTakes old mid page pages from
-    → ((table : Entries) (d : FileAt) → Holds mid table (Some d) → d.page ≡ page → d.pages ≡ pages → TakesOnly mid new 0 0) → CopyTakes old new page pages from
-copy_takes_more old mid new page pages from done copies takes part = λ table d i h same_page same_pages same_size is zeros.
-    takes_then old mid new 0 0 (takes table d i h same_page same_pages same_size is zeros) (part table d (copies table d i h same_page same_pages same_size is zeros).holds same_page same_pages)
-
--- a file moves into the pages of its new extent
-pub move_takes : (old begun copied new : List ℕ) (file : FileAt) (page : PageId) (pages : ℕ) → file.size + 32 ≤ 256 * pages
-    → ((table : Entries) (size : ℕ) → Holds old table None → size + 32 ≤ 256 * pages → Begins old begun table (extent_of file.name file.kind page.0 pages size))
-    → ((table : Entries) → Holds old table None → TakesOnly old begun page.0 pages)
-    → CopiesInto begun copied page pages file file.size
-    → CopyTakes begun copied page pages file
-    → ((table : Entries) (d : FileAt) (i : ℕ) → Holds copied table (Some d) → d.page ≡ page → IsIn table i file → TakesOnly copied new 0 0)
-    → (table : Entries) (i : ℕ) → Holds old table None → IsIn table i file → TakesOnly old new page.0 pages
-move_takes old begun copied new file page pages fits begins begin_takes copies copy commit table i h is =
-    let d : FileAt = extent_of file.name file.kind page.0 pages file.size in
-    let b = begins table file.size h fits in
-    takes_then old copied new page.0 pages
-    (takes_then old begun copied page.0 pages (begin_takes table h) (copy table d i b.holds refl refl refl is (λ p low. b.zeros p low)))
-    (commit table d i (copies table d i b.holds refl refl refl is (λ p low. b.zeros p low)).holds refl is)
 
 -- COLLECTIONS
 
@@ -181,17 +133,3 @@ obtain_takes building old new n untouched collected = λ p free out. ⊎_elim
     (λ (gone : is_free_at new p ≡ false).
     collected_takes building old new (collected (λ page run. yes_no (is_free_at old p) free (ap (λ image. is_free_at image p) (sym (untouched page run)) ∙ gone))) p free out)
     (true_or_false (is_free_at new p))
-
--- what an answer that is not Failed says of them
-pub untaken_by : {T : Type 0} (old new : List ℕ) (n : ℕ) (r : Result T FileError) → ((building : ℕ → Bool) (us : List Unit) → IsTiled building old us → (page : ℕ) → IsRun (free_pages us) page n → new ≡ old)
-    → UnlessFailed r ((building : ℕ → Bool) (us : List Unit) → IsTiled building old us → NoRun (free_pages us) n → IsCollected building old new us)
-    → UnlessFailed r ((table : Entries) → Holds old table None → TakesOnly old new 0 0)
-untaken_by old new n r untouched collected =
-    unless_weaker r _ _ collected (λ c table h.
-    let tiled = holds_tiled old table None h in
-    obtain_takes nowhere old new n (untouched nowhere (units_of old) tiled) (c nowhere (units_of old) tiled))
-  where
-    unless_weaker : {T : Type 0} (r : Result T FileError) (P Q : Type 0) → UnlessFailed r P → (P → Q) → UnlessFailed r Q
-    unless_weaker (Ok x) P Q p f = f p
-    unless_weaker (Err (Space need)) P Q p f = f p
-    unless_weaker (Err Failed) P Q p f = tt

@@ -1,6 +1,7 @@
 pub mod Begun
+pub mod CutMarks
 pub mod Flags
 pub mod Holding
-pub mod Obtained
+pub mod Outcomes
 pub mod TableFiles
 pub mod Takes

@@ -1,5 +1,5 @@
 -- Which pages a new extent or log takes, and which pages of the flash stay as they were.
-use Rattle.std.specs.Prelude.{◌≡◌, ℕ, ◌<◌, false, true, List, Option}
+use Rattle.std.specs.Prelude.{◌≡◌, ℕ, ◌<◌, false, List, Option}
 use Rattle.afl_base.specs.Image.{page_bytes}
 use Rattle.coffee_layout.specs.Marks.{IsLowestRun, IsRun, NoRun, free_pages}
 use Rattle.coffee_layout.specs.Tiling.{nowhere, units_of}
@@ -12,9 +12,9 @@ use Rattle.coffee_merge.specs.Holding.{has_extent_at, is_free_at}
 abbrev pub KeepsPagesBut : (old new : List ℕ) → (page pages : ℕ) → Option FileAt → Type 0
 KeepsPagesBut old new page pages file = (p : ℕ) → Outside page pages p → has_extent_at p file ≡ false → page_bytes new p ≡ page_bytes old p
 
--- no page becomes free
-abbrev pub FreesNone : (old new : List ℕ) → Type 0
-FreesNone old new = (p : ℕ) → is_free_at new p ≡ true → is_free_at old p ≡ true
+-- the same pages are free
+abbrev pub KeepsFree : (old new : List ℕ) → Type 0
+KeepsFree old new = (p : ℕ) → is_free_at new p ≡ is_free_at old p
 
 -- pages are looked for in the image as it was, where so many are free in a row, else in the collected one
 pub record LooksIn (old image : List ℕ) (pages : ℕ) : Type 0 where

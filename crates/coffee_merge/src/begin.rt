@@ -1,15 +1,13 @@
-ghost use Rattle.std.specs.Prelude.{◌≡◌, ◌≢◌, ◌+◌, ◌*◌, ◌≤◌, ℕ, true, None, length, IsTrue, IfOk, OnOk};
-ghost use Rattle.afl_base.specs.Causes.{HasCause};
-ghost use Rattle.afl_base.specs.FileErrors.{HasFileCause, OnSpace, UnlessFailed};
+ghost use Rattle.std.specs.Prelude.{◌≡◌, ◌≢◌, ◌+◌, ◌*◌, ◌≤◌, ℕ, true, None, length, IsTrue, IfOk, OnErr, OnOk};
+ghost use Rattle.afl_base.specs.Keeping.{ChangesFlashOrLacks, Programs};
+ghost use Rattle.afl_base.specs.Cuts.{IsCutProgram};
+ghost use Rattle.afl_base.specs.FileErrors.{OnSpace};
 ghost use Rattle.afl_base.specs.Image.{or_at, page_bytes};
 ghost use Rattle.afl_base.specs.Names.{is_file_name};
 ghost use Rattle.coffee_header.specs.Headers.{header_bytes, is_flags, is_kind};
-ghost use Rattle.coffee_layout.specs.Marks.{IsCramped};
-ghost use Rattle.coffee_layout.specs.Tiling.{units_of};
 ghost use Rattle.coffee_layout.specs.Units.{pages_of};
-ghost use Rattle.coffee_merge.specs.Holding.{Begins, Entries, Holds, Stays, TakesOnly, draft_header, extent_of, has_shape};
-ghost use Rattle.coffee_merge.specs.Obtained.{IsObtained};
-ghost use Rattle.coffee_merge.specs.Takes.{LooksIn, Takes};
+ghost use Rattle.coffee_merge.specs.Holding.{Entries, Holds, draft_header, extent_of, has_shape};
+ghost use Rattle.coffee_merge.specs.Outcomes.{BeginsFile, IsObtained, LeavesAll};
 
 use afl_base::{Failed, FileError, Flash, Kind, Name, PageId};
 use coffee_header::{Header, write_header};
@@ -28,30 +26,13 @@ pub fn begin_extent<F: Flash>(
     requires shape { has_shape kind pages ≡ true }
     ensures begun { IsTrue F.tells → IfOk result
         (λ page. (table : Entries) (size : ℕ) → Holds (F.image flash.old) table None → size + 32 ≤ 256 * pages
-        → Begins (F.image flash.old) (F.image flash.new) table (extent_of name.now kind page.0 pages size)) }
-    ensures kept { IsTrue F.tells → OnSpace result
-        (λ _. (table : Entries) → Holds (F.image flash.old) table None
-        → Stays (F.image flash.old) (F.image flash.new) table) }
-    ensures taken { IsTrue F.tells → IfOk result
-        (λ page. (table : Entries) → Holds (F.image flash.old) table None
-        → TakesOnly (F.image flash.old) (F.image flash.new) page.0 pages) }
-    ensures untaken { IsTrue F.tells → OnSpace result
-        (λ _. (table : Entries) → Holds (F.image flash.old) table None
-        → TakesOnly (F.image flash.old) (F.image flash.new) 0 0) }
-    ensures lowest { IsTrue F.tells → IfOk result
-        (λ page. (table : Entries) → Holds (F.image flash.old) table None
-        → Takes (F.image flash.old) (F.image flash.new) page.0 pages None) }
-    ensures looked { IsTrue F.tells → OnSpace result
-        (λ _. (table : Entries) → Holds (F.image flash.old) table None
-        → LooksIn (F.image flash.old) (F.image flash.new) pages) }
-    ensures cramped { IsTrue F.tells → OnSpace result
+        → BeginsFile (F.image flash.old) (F.image flash.new) table (extent_of name.now kind page.0 pages size)) }
+    ensures left { IsTrue F.tells → OnSpace result
         (λ need. (table : Entries) → Holds (F.image flash.old) table None
-        → IsCramped (units_of (F.image flash.new)) need) }
+        → LeavesAll (F.image flash.old) (F.image flash.new) table need) }
     ensures need { OnSpace result (λ need. need ≡ pages) }
     ensures inside { IfOk result (λ page. page.0 + pages ≤ pages_of (F.image flash.new)) }
-    ensures size { length (F.image flash.new) ≡ length (F.image flash.old) }
-    ensures reads_later { F.reads flash.old ≤ F.reads flash.new }
-    ensures cause { HasFileCause (F.faults flash.old) (F.faults flash.new) result }
+    ensures frame { ChangesFlashOrLacks F.image F.lent F.reads F.faults flash.old flash.new result }
 {
     let page = obtain_pages(flash, pages)?;
     put_file_header(flash, page, name, kind, pages)?;
@@ -64,23 +45,12 @@ pub(crate) fn obtain_pages<F: Flash>(flash: &mut F, pages: u16) -> Result<PageId
     ensures run { IsTrue F.tells → IfOk result
         (λ page. (table : Entries) → Holds (F.image flash.old) table None
         → IsObtained (F.image flash.old) (F.image flash.new) table pages page.0) }
-    ensures kept { IsTrue F.tells → OnSpace result
-        (λ _. (table : Entries) → Holds (F.image flash.old) table None
-        → Stays (F.image flash.old) (F.image flash.new) table) }
-    ensures untaken { IsTrue F.tells → UnlessFailed result
-        ((table : Entries) → Holds (F.image flash.old) table None
-        → TakesOnly (F.image flash.old) (F.image flash.new) 0 0) }
-    ensures looked { IsTrue F.tells → UnlessFailed result
-        ((table : Entries) → Holds (F.image flash.old) table None
-        → LooksIn (F.image flash.old) (F.image flash.new) pages) }
-    ensures cramped { IsTrue F.tells → OnSpace result
+    ensures left { IsTrue F.tells → OnSpace result
         (λ need. (table : Entries) → Holds (F.image flash.old) table None
-        → IsCramped (units_of (F.image flash.new)) need) }
+        → LeavesAll (F.image flash.old) (F.image flash.new) table need) }
     ensures need { OnSpace result (λ need. need ≡ pages) }
     ensures inside { IfOk result (λ page. 256 * (page.0 + pages) ≤ length (F.image flash.new)) }
-    ensures size { length (F.image flash.new) ≡ length (F.image flash.old) }
-    ensures reads_later { F.reads flash.old ≤ F.reads flash.new }
-    ensures cause { HasFileCause (F.faults flash.old) (F.faults flash.new) result }
+    ensures frame { ChangesFlashOrLacks F.image F.lent F.reads F.faults flash.old flash.new result }
 {
     obtain(flash, pages)
 }
@@ -99,9 +69,9 @@ fn put_file_header<F: Flash>(
         (F.image flash.new ≡ or_at (F.image flash.old) (256 * page.0) (header_bytes (draft_header (extent_of name.now kind page.0 pages 0)))) }
     ensures other_pages { IsTrue F.tells → (p : ℕ) → p ≢ page.0
         → page_bytes (F.image flash.new) p ≡ page_bytes (F.image flash.old) p }
-    ensures size { length (F.image flash.new) ≡ length (F.image flash.old) }
-    ensures reads { F.reads flash.new ≡ F.reads flash.old }
-    ensures cause { HasCause (F.faults flash.old) (F.faults flash.new) result }
+    ensures cut { IsTrue F.tells → IsTrue F.cuts → OnErr result
+        (IsCutProgram (F.image flash.old) (F.image flash.new) (256 * page.0) (header_bytes (draft_header (extent_of name.now kind page.0 pages 0)))) }
+    ensures frame { Programs F.image F.lent F.reads F.faults flash.old flash.new result }
 {
     let header = Header {
         log_page: 0,
@@ -132,9 +102,9 @@ pub(crate) fn put_header<F: Flash>(
         (F.image flash.new ≡ or_at (F.image flash.old) (256 * page.0) (header_bytes header.now)) }
     ensures other_pages { IsTrue F.tells → (p : ℕ) → p ≢ page.0
         → page_bytes (F.image flash.new) p ≡ page_bytes (F.image flash.old) p }
-    ensures size { length (F.image flash.new) ≡ length (F.image flash.old) }
-    ensures reads { F.reads flash.new ≡ F.reads flash.old }
-    ensures cause { HasCause (F.faults flash.old) (F.faults flash.new) result }
+    ensures cut { IsTrue F.tells → IsTrue F.cuts → OnErr result
+        (IsCutProgram (F.image flash.old) (F.image flash.new) (256 * page.0) (header_bytes header.now)) }
+    ensures frame { Programs F.image F.lent F.reads F.faults flash.old flash.new result }
 {
     header.name.bytes();
     let mut bytes = [0; 32];

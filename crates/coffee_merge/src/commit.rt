@@ -1,13 +1,14 @@
-ghost use Rattle.std.specs.Prelude.{◌≡◌, ◌≢◌, ◌⊎◌, ◌+◌, ◌-◌, ◌*◌, ◌≤◌, ◌<◌, ◌∷◌, [], ℕ, None, Some, get_or, length, IsTrue, OnOk};
-ghost use Rattle.afl_base.specs.Causes.{HasCause};
+ghost use Rattle.std.specs.Prelude.{◌≡◌, ◌≢◌, ◌⊎◌, ◌+◌, ◌-◌, ◌*◌, ◌≤◌, ◌<◌, ◌∷◌, [], ℕ, None, Some, get_or, length, IsTrue, OnErr, OnOk};
+ghost use Rattle.afl_base.specs.Keeping.{Programs};
 ghost use Rattle.afl_base.specs.Image.{or_at, page_bytes};
 ghost use Rattle.coffee_layout.specs.FileBytes.{file_byte};
 ghost use Rattle.coffee_layout.specs.Files.{FitsIn};
 ghost use Rattle.coffee_layout.specs.Units.{pages_of};
 ghost use Rattle.coffee_layout.specs.declared.file.FileAt.{FileAt};
-ghost use Rattle.coffee_merge.specs.Flags.{obsoleted};
+ghost use Rattle.coffee_merge.specs.CutMarks.{IsCutObsolete, IsCutReplace, IsOneOf};
+ghost use Rattle.coffee_merge.specs.Flags.{flagged, obsoleted};
 ghost use Rattle.coffee_merge.specs.Holding.{Commits, Entries, Holds, IsIn, IsNewName, Sets, TakesOnly};
-ghost use Rattle.coffee_merge.specs.Takes.{FreesNone};
+ghost use Rattle.coffee_merge.specs.Takes.{KeepsFree};
 
 use afl_base::{Failed, Flash, PageId};
 use coffee_layout::FileAt;
@@ -21,17 +22,14 @@ pub fn commit_extent<F: Flash>(flash: &mut F, page: PageId) -> Result<(), Failed
         → d.page ≡ page → i < length table → get_or table i None ≡ None → IsNewName table d.name
         → (1 ≤ d.size → file_byte (F.image flash.old) page.0 None (d.size - 1) ≢ 0)
         → Commits (F.image flash.old) (F.image flash.new) table i d) }
-    ensures taken { IsTrue F.tells → OnOk result
+    ensures free { IsTrue F.tells → OnOk result
         ((table : Entries) (d : FileAt) → Holds (F.image flash.old) table (Some d) → d.page ≡ page
-        → TakesOnly (F.image flash.old) (F.image flash.new) 0 0) }
-    ensures freed { IsTrue F.tells → OnOk result
-        ((table : Entries) (d : FileAt) → Holds (F.image flash.old) table (Some d) → d.page ≡ page
-        → FreesNone (F.image flash.old) (F.image flash.new)) }
+        → KeepsFree (F.image flash.old) (F.image flash.new)) }
     ensures other_pages { IsTrue F.tells → (p : ℕ) → p ≢ page.0
         → page_bytes (F.image flash.new) p ≡ page_bytes (F.image flash.old) p }
-    ensures size { length (F.image flash.new) ≡ length (F.image flash.old) }
-    ensures reads { F.reads flash.new ≡ F.reads flash.old }
-    ensures cause { HasCause (F.faults flash.old) (F.faults flash.new) result }
+    ensures cut { IsTrue F.tells → IsTrue F.cuts → OnErr result
+        (IsOneOf (F.image flash.new) (F.image flash.old) (flagged (F.image flash.old) page.0 1)) }
+    ensures frame { Programs F.image F.lent F.reads F.faults flash.old flash.new result }
 {
     flash.program(page, 9, &[1])
 }
@@ -47,22 +45,19 @@ pub fn replace_file<F: Flash>(flash: &mut F, page: PageId, old: &FileAt) -> Resu
         → d.page ≡ page → IsIn table i old.now → old.now.name ≡ d.name
         → (1 ≤ d.size → file_byte (F.image flash.old) page.0 None (d.size - 1) ≢ 0)
         → Commits (F.image flash.old) (F.image flash.new) table i d) }
-    ensures taken { IsTrue F.tells → OnOk result
+    ensures free { IsTrue F.tells → OnOk result
         ((table : Entries) (d : FileAt) (i : ℕ) → Holds (F.image flash.old) table (Some d)
-        → d.page ≡ page → IsIn table i old.now → TakesOnly (F.image flash.old) (F.image flash.new) 0 0) }
-    ensures freed { IsTrue F.tells → OnOk result
-        ((table : Entries) (d : FileAt) (i : ℕ) → Holds (F.image flash.old) table (Some d)
-        → d.page ≡ page → IsIn table i old.now
-        → FreesNone (F.image flash.old) (F.image flash.new)) }
+        → d.page ≡ page → IsIn table i old.now → KeepsFree (F.image flash.old) (F.image flash.new)) }
     ensures other_pages { IsTrue F.tells → (p : ℕ) → p ≢ page.0 → p ≢ old.now.page.0
         → ((l : PageId) → old.now.log ≡ Some l → p ≢ l.0)
         → page_bytes (F.image flash.new) p ≡ page_bytes (F.image flash.old) p }
     ensures survives { IsTrue F.tells → page.0 ≢ old.now.page.0
         → ((l : PageId) → old.now.log ≡ Some l → page.0 ≢ l.0)
-        → (page_bytes (F.image flash.new) old.now.page.0 ≡ page_bytes (F.image flash.old) old.now.page.0) ⊎ (page_bytes (F.image flash.new) page.0 ≡ or_at (page_bytes (F.image flash.old) page.0) 9 (1 ∷ [])) }
-    ensures size { length (F.image flash.new) ≡ length (F.image flash.old) }
-    ensures reads { F.reads flash.new ≡ F.reads flash.old }
-    ensures cause { HasCause (F.faults flash.old) (F.faults flash.new) result }
+        → (page_bytes (F.image flash.new) old.now.page.0 ≡ page_bytes (F.image flash.old) old.now.page.0)
+        ⊎ (page_bytes (F.image flash.new) page.0 ≡ or_at (page_bytes (F.image flash.old) page.0) 9 (1 ∷ [])) }
+    ensures cut { IsTrue F.tells → IsTrue F.cuts → OnErr result
+        (IsCutReplace (F.image flash.old) (F.image flash.new) page.0 old.now.page.0 old.now.log) }
+    ensures frame { Programs F.image F.lent F.reads F.faults flash.old flash.new result }
 {
     flash.program(page, 9, &[1])?;
     mark_obsolete(flash, old)
@@ -80,9 +75,9 @@ pub fn retire_file<F: Flash>(flash: &mut F, file: &FileAt) -> Result<(), Failed>
     ensures other_pages { IsTrue F.tells → (p : ℕ) → p ≢ file.now.page.0
         → ((l : PageId) → file.now.log ≡ Some l → p ≢ l.0)
         → page_bytes (F.image flash.new) p ≡ page_bytes (F.image flash.old) p }
-    ensures size { length (F.image flash.new) ≡ length (F.image flash.old) }
-    ensures reads { F.reads flash.new ≡ F.reads flash.old }
-    ensures cause { HasCause (F.faults flash.old) (F.faults flash.new) result }
+    ensures cut { IsTrue F.tells → IsTrue F.cuts → OnErr result
+        (IsCutObsolete (F.image flash.old) (F.image flash.new) file.now.page.0 file.now.log) }
+    ensures frame { Programs F.image F.lent F.reads F.faults flash.old flash.new result }
 {
     mark_obsolete(flash, file)
 }
@@ -95,9 +90,9 @@ fn mark_obsolete<F: Flash>(flash: &mut F, file: &FileAt) -> Result<(), Failed>
     ensures others { IsTrue F.tells → (q : ℕ) → q ≢ file.now.page.0
         → ((l : PageId) → file.now.log ≡ Some l → q ≢ l.0)
         → page_bytes (F.image flash.new) q ≡ page_bytes (F.image flash.old) q }
-    ensures size { length (F.image flash.new) ≡ length (F.image flash.old) }
-    ensures reads { F.reads flash.new ≡ F.reads flash.old }
-    ensures cause { HasCause (F.faults flash.old) (F.faults flash.new) result }
+    ensures cut { IsTrue F.tells → IsTrue F.cuts → OnErr result
+        (IsCutObsolete (F.image flash.old) (F.image flash.new) file.now.page.0 file.now.log) }
+    ensures frame { Programs F.image F.lent F.reads F.faults flash.old flash.new result }
 {
     flash.program(file.page, 9, &[4])?;
     match file.log {

@@ -1,11 +1,13 @@
 ghost use Rattle.std.specs.Prelude.{◌≡◌, ◌+◌, ◌*◌, ◌≤◌, ◌<◌, ℕ, None, Some, length, IsTrue, OnOk};
-ghost use Rattle.afl_base.specs.Causes.{HasCause};
+ghost use Rattle.afl_base.specs.Keeping.{ChangesFlash, Programs};
 ghost use Rattle.coffee_layout.specs.FileBytes.{file_byte};
 ghost use Rattle.coffee_layout.specs.Files.{FitsIn};
 ghost use Rattle.coffee_layout.specs.Units.{pages_of};
 ghost use Rattle.coffee_layout.specs.declared.file.FileAt.{FileAt};
-ghost use Rattle.coffee_merge.specs.Holding.{Copies, CopiesPart, Entries, Holds, IsIn, TakesOnly, Writes};
-ghost use Rattle.coffee_merge.specs.Takes.{FreesNone, KeepsPagesBut};
+ghost use Rattle.coffee_merge.specs.CutMarks.{KeepsHead};
+ghost use Rattle.coffee_merge.specs.Holding.{CopiesPart, Entries, Holds, IsIn, Writes};
+ghost use Rattle.coffee_merge.specs.Outcomes.{CopiesFile};
+ghost use Rattle.coffee_merge.specs.Takes.{KeepsFree, KeepsPagesBut};
 
 use afl_base::{Failed, Flash, PageId};
 use coffee_layout::FileAt;
@@ -28,18 +30,13 @@ pub fn write_extent<F: Flash>(
         → d.pages ≡ pages → at + length bytes.now ≤ d.size
         → ((k : ℕ) → k < length bytes.now → file_byte (F.image flash.old) page.0 None (at + k) ≡ 0)
         → Writes (F.image flash.old) (F.image flash.new) table d at bytes.now) }
-    ensures taken { IsTrue F.tells → OnOk result
+    ensures free { IsTrue F.tells → OnOk result
         ((table : Entries) (d : FileAt) → Holds (F.image flash.old) table (Some d) → d.page ≡ page
-        → d.pages ≡ pages → TakesOnly (F.image flash.old) (F.image flash.new) 0 0) }
-    ensures freed { IsTrue F.tells → OnOk result
-        ((table : Entries) (d : FileAt) → Holds (F.image flash.old) table (Some d) → d.page ≡ page
-        → d.pages ≡ pages
-        → FreesNone (F.image flash.old) (F.image flash.new)) }
+        → d.pages ≡ pages → KeepsFree (F.image flash.old) (F.image flash.new)) }
     ensures other_pages { IsTrue F.tells
         → KeepsPagesBut (F.image flash.old) (F.image flash.new) page.0 pages None }
-    ensures size { length (F.image flash.new) ≡ length (F.image flash.old) }
-    ensures reads { F.reads flash.new ≡ F.reads flash.old }
-    ensures cause { HasCause (F.faults flash.old) (F.faults flash.new) result }
+    ensures head { IsTrue F.tells → IsTrue F.cuts → KeepsHead (F.image flash.old) (F.image flash.new) page.0 }
+    ensures frame { Programs F.image F.lent F.reads F.faults flash.old flash.new result }
 {
     flash.sectors();
     program_range(flash, 256 * u32::from(page.0) + 32 + at, bytes)
@@ -60,22 +57,11 @@ pub fn copy_file<F: Flash>(
         ((table : Entries) (d : FileAt) (i : ℕ) → Holds (F.image flash.old) table (Some d)
         → d.page ≡ page → d.pages ≡ pages → d.size ≡ from.now.size → IsIn table i from.now
         → ((p : ℕ) → p + 32 < 256 * pages → file_byte (F.image flash.old) page.0 None p ≡ 0)
-        → Copies (F.image flash.old) (F.image flash.new) table d from.now from.now.size) }
-    ensures taken { IsTrue F.tells → OnOk result
-        ((table : Entries) (d : FileAt) (i : ℕ) → Holds (F.image flash.old) table (Some d)
-        → d.page ≡ page → d.pages ≡ pages → d.size ≡ from.now.size → IsIn table i from.now
-        → ((p : ℕ) → p + 32 < 256 * pages → file_byte (F.image flash.old) page.0 None p ≡ 0)
-        → TakesOnly (F.image flash.old) (F.image flash.new) 0 0) }
-    ensures freed { IsTrue F.tells → OnOk result
-        ((table : Entries) (d : FileAt) (i : ℕ) → Holds (F.image flash.old) table (Some d)
-        → d.page ≡ page → d.pages ≡ pages → d.size ≡ from.now.size → IsIn table i from.now
-        → ((p : ℕ) → p + 32 < 256 * pages → file_byte (F.image flash.old) page.0 None p ≡ 0)
-        → FreesNone (F.image flash.old) (F.image flash.new)) }
+        → CopiesFile (F.image flash.old) (F.image flash.new) table d from.now) }
     ensures other_pages { IsTrue F.tells
         → KeepsPagesBut (F.image flash.old) (F.image flash.new) page.0 pages None }
-    ensures size { length (F.image flash.new) ≡ length (F.image flash.old) }
-    ensures reads_later { F.reads flash.old ≤ F.reads flash.new }
-    ensures cause { HasCause (F.faults flash.old) (F.faults flash.new) result }
+    ensures head { IsTrue F.tells → IsTrue F.cuts → KeepsHead (F.image flash.old) (F.image flash.new) page.0 }
+    ensures frame { ChangesFlash F.image F.lent F.reads F.faults flash.old flash.new result }
 {
     let mut done = 0;
     while done < from.size {
@@ -106,18 +92,13 @@ fn copy_part<F: Flash>(
         → d.page ≡ page → d.pages ≡ pages → d.size ≡ from.now.size → IsIn table i from.now
         → ((p : ℕ) → at ≤ p → p + 32 < 256 * pages → file_byte (F.image flash.old) page.0 None p ≡ 0)
         → CopiesPart (F.image flash.old) (F.image flash.new) table d from.now at n) }
-    ensures taken { IsTrue F.tells → OnOk result
+    ensures free { IsTrue F.tells → OnOk result
         ((table : Entries) (d : FileAt) → Holds (F.image flash.old) table (Some d) → d.page ≡ page
-        → d.pages ≡ pages → TakesOnly (F.image flash.old) (F.image flash.new) 0 0) }
-    ensures freed { IsTrue F.tells → OnOk result
-        ((table : Entries) (d : FileAt) → Holds (F.image flash.old) table (Some d) → d.page ≡ page
-        → d.pages ≡ pages
-        → FreesNone (F.image flash.old) (F.image flash.new)) }
+        → d.pages ≡ pages → KeepsFree (F.image flash.old) (F.image flash.new)) }
     ensures other_pages { IsTrue F.tells
         → KeepsPagesBut (F.image flash.old) (F.image flash.new) page.0 pages None }
-    ensures size { length (F.image flash.new) ≡ length (F.image flash.old) }
-    ensures reads_later { F.reads flash.old ≤ F.reads flash.new }
-    ensures cause { HasCause (F.faults flash.old) (F.faults flash.new) result }
+    ensures head { IsTrue F.tells → IsTrue F.cuts → KeepsHead (F.image flash.old) (F.image flash.new) page.0 }
+    ensures frame { ChangesFlash F.image F.lent F.reads F.faults flash.old flash.new result }
 {
     let mut buffer = [0; 1024];
     let part = &mut buffer[..n as usize];

@@ -1,4 +1,4 @@
-ghost use Rattle.std.specs.Prelude.{◌≡◌, ◌≤◌, ℕ, ◌++◌, ◌+◌, ◌*◌, true, List, length, map, replicate, Some, None};
+ghost use Rattle.std.specs.Prelude.{◌≡◌, ◌≢◌, ◌≤◌, ℕ, ◌++◌, ◌+◌, ◌*◌, true, List, length, map, replicate, Some, None};
 ghost use Rattle.std.specs.List.{Contains};
 ghost use Rattle.std.specs.Option.{IfSome};
 ghost use Rattle.afl_base.specs.Shares.{gap_for, shares};
@@ -10,8 +10,8 @@ ghost use Rattle.coffee_layout.specs.Tiling.{units_of};
 ghost use Rattle.coffee_layout.specs.Units.{pages_of};
 ghost use Rattle.coffee_layout.specs.Walks.{has_few};
 ghost use Rattle.coffee_layout.specs.declared.file.FileAt.{FileAt};
-ghost use Rattle.coffee_merge.specs.Holding.{Entries, Holds, IsIn};
-ghost use Rattle.coffee_merge.specs.TableFiles.{file_of, stored_files};
+ghost use Rattle.coffee_merge.specs.Holding.{Entries, Holds, IsIn, Moves, Stays};
+ghost use Rattle.coffee_merge.specs.TableFiles.{SameFiles, file_of, stored_files};
 
 /// The files of a sound image, in page order and with any number of free places behind them, are a
 /// table that holds it. There are at most 32, and a doubling one has at most twice the pages that its
@@ -28,16 +28,20 @@ pub fn sound_table()
 {}
 
 /// An image that a table of at most 32 places holds is sound where each doubling file has at most twice
-/// the pages that its size needs. Else that rule, the last, is the first that is broken.
+/// the pages that its size needs. Else that rule, the last, is the first that is broken: where one file
+/// alone has more, at its page.
 pub fn held_image()
     ensures sound { (image : List ℕ) (table : Entries) → Holds image table None → length table ≤ 32
         → ((i : ℕ) (e : FileAt) → IsIn table i e → has_few e ≡ true) → broken_image image ≡ None }
     ensures rule { (image : List ℕ) (table : Entries) → Holds image table None → length table ≤ 32
         → IfSome (broken_image image) (λ bad. bad.rule ≡ 13) }
+    ensures place { (image : List ℕ) (table : Entries) (page : ℕ) → Holds image table None → length table ≤ 32
+        → ((i : ℕ) (e : FileAt) → IsIn table i e → e.page.0 ≢ page → has_few e ≡ true)
+        → IfSome (broken_image image) (λ bad. bad ≡ record { rule = 13; place = page }) }
 {}
 
 /// The files that an image stands for are those of each table that holds it, and their sizes are the
-/// lengths of their bytes.
+/// lengths of their bytes. No other entries are listed.
 pub fn held_files()
     ensures each { (image : List ℕ) (table : Entries) (i : ℕ) (e : FileAt) → Holds image table None
         → IsIn table i e → Contains (files_of image) (file_of image e) }
@@ -45,6 +49,18 @@ pub fn held_files()
         → Contains (files_of image) f → (i : ℕ) × (e : FileAt) × IsIn table i e × (f ≡ file_of image e) }
     ensures size { (image : List ℕ) (table : Entries) (i : ℕ) (e : FileAt) → Holds image table None
         → IsIn table i e → length (file_bytes image e.page.0 e.pages e.log) ≡ e.size }
+    ensures listed { (image : List ℕ) (table : Entries) (e : FileAt) → Holds image table None
+        → Contains (listed image) e → (k : ℕ) × IsIn table k e }
+{}
+
+/// An image stands for the same files where all are held as they were, and where one has moved and keeps
+/// its name, its kind and its size.
+pub fn kept_files()
+    ensures stays { (old new : List ℕ) (table : Entries) → Holds old table None → Stays old new table
+        → SameFiles old new }
+    ensures moves { (old new : List ℕ) (table : Entries) (i : ℕ) (from to : FileAt) → Holds old table None
+        → IsIn table i from → Moves old new table i from to
+        → to.name ≡ from.name → to.kind ≡ from.kind → to.size ≡ from.size → SameFiles old new }
 {}
 
 /// A sound image that is cramped has no more sectors than its files take, and one gap: what a file takes

@@ -12,6 +12,6 @@ mod rewrite;
 pub use begin::begin_extent;
 pub use commit::{commit_extent, replace_file, retire_file};
 pub use copy::{copy_file, write_extent};
-pub use laws::{cramped_sectors, held_files, held_image, sound_table};
+pub use laws::{cramped_sectors, held_files, held_image, kept_files, sound_table};
 pub use logging::add_log;
 pub use rewrite::{grow, merge};

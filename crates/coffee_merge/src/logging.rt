@@ -1,17 +1,16 @@
-ghost use Rattle.std.specs.Prelude.{◌≡◌, ◌≢◌, ◌+◌, ◌*◌, ◌≤◌, ◌<◌, ℕ, true, None, Some, length, IsTrue, IfOk, OnOk};
-ghost use Rattle.afl_base.specs.Causes.{HasCause};
+ghost use Rattle.std.specs.Prelude.{◌≡◌, ◌≢◌, ◌+◌, ◌*◌, ◌≤◌, ◌<◌, ℕ, true, None, length, IsTrue, IfOk, OnErr, OnOk};
+ghost use Rattle.afl_base.specs.Keeping.{ChangesFlashOrLacks, Programs};
 ghost use Rattle.afl_base.specs.Fields.{u16_bytes};
-ghost use Rattle.afl_base.specs.FileErrors.{HasFileCause, OnSpace};
+ghost use Rattle.afl_base.specs.FileErrors.{OnSpace};
 ghost use Rattle.afl_base.specs.Image.{or_at, page_bytes};
 ghost use Rattle.afl_base.specs.Names.{is_file_name};
 ghost use Rattle.coffee_header.specs.Headers.{header_bytes};
 ghost use Rattle.coffee_layout.specs.Files.{FitsIn};
-ghost use Rattle.coffee_layout.specs.Marks.{IsCramped};
-ghost use Rattle.coffee_layout.specs.Tiling.{units_of};
 ghost use Rattle.coffee_layout.specs.Units.{pages_of};
+ghost use Rattle.coffee_merge.specs.CutMarks.{IsCutNaming};
 ghost use Rattle.coffee_merge.specs.Flags.{flagged};
-ghost use Rattle.coffee_merge.specs.Holding.{Entries, Holds, IsIn, Logs, Stays, TakesOnly, log_header};
-ghost use Rattle.coffee_merge.specs.Takes.{LooksIn, Takes};
+ghost use Rattle.coffee_merge.specs.Holding.{Entries, Holds, IsIn, log_header};
+ghost use Rattle.coffee_merge.specs.Outcomes.{LeavesAll, LogsFile};
 
 use crate::begin::{obtain_pages, put_header};
 use afl_base::{Failed, FileError, Flash, Name, PageId, put_u16};
@@ -26,32 +25,13 @@ pub fn add_log<F: Flash>(flash: &mut F, file: &FileAt) -> Result<PageId, FileErr
     ensures logged { IsTrue F.tells → IfOk result
         (λ log. (table : Entries) (i : ℕ) → Holds (F.image flash.old) table None
         → IsIn table i file.now → file.now.log ≡ None
-        → Logs (F.image flash.old) (F.image flash.new) table i file.now log) }
-    ensures kept { IsTrue F.tells → OnSpace result
-        (λ _. (table : Entries) → Holds (F.image flash.old) table None
-        → Stays (F.image flash.old) (F.image flash.new) table) }
-    ensures taken { IsTrue F.tells → IfOk result
-        (λ log. (table : Entries) (i : ℕ) → Holds (F.image flash.old) table None
-        → IsIn table i file.now → file.now.log ≡ None
-        → TakesOnly (F.image flash.old) (F.image flash.new) log.0 16) }
-    ensures untaken { IsTrue F.tells → OnSpace result
-        (λ _. (table : Entries) → Holds (F.image flash.old) table None
-        → TakesOnly (F.image flash.old) (F.image flash.new) 0 0) }
-    ensures lowest { IsTrue F.tells → IfOk result
-        (λ log. (table : Entries) (i : ℕ) → Holds (F.image flash.old) table None
-        → IsIn table i file.now → file.now.log ≡ None
-        → Takes (F.image flash.old) (F.image flash.new) log.0 16 (Some file.now)) }
-    ensures looked { IsTrue F.tells → OnSpace result
-        (λ _. (table : Entries) → Holds (F.image flash.old) table None
-        → LooksIn (F.image flash.old) (F.image flash.new) 16) }
-    ensures cramped { IsTrue F.tells → OnSpace result
+        → LogsFile (F.image flash.old) (F.image flash.new) table i file.now log) }
+    ensures left { IsTrue F.tells → OnSpace result
         (λ need. (table : Entries) → Holds (F.image flash.old) table None
-        → IsCramped (units_of (F.image flash.new)) need) }
+        → LeavesAll (F.image flash.old) (F.image flash.new) table need) }
     ensures need { OnSpace result (λ need. need ≡ 16) }
     ensures inside { IfOk result (λ log. log.0 + 16 ≤ pages_of (F.image flash.new)) }
-    ensures size { length (F.image flash.new) ≡ length (F.image flash.old) }
-    ensures reads_later { F.reads flash.old ≤ F.reads flash.new }
-    ensures cause { HasFileCause (F.faults flash.old) (F.faults flash.new) result }
+    ensures frame { ChangesFlashOrLacks F.image F.lent F.reads F.faults flash.old flash.new result }
 {
     flash.sectors();
     let log = obtain_pages(flash, 16)?;
@@ -68,9 +48,7 @@ fn put_log_header<F: Flash>(flash: &mut F, log: PageId, name: &Name) -> Result<(
         (F.image flash.new ≡ or_at (F.image flash.old) (256 * log.0) (header_bytes (log_header name.now))) }
     ensures other_pages { IsTrue F.tells → (p : ℕ) → p ≢ log.0
         → page_bytes (F.image flash.new) p ≡ page_bytes (F.image flash.old) p }
-    ensures size { length (F.image flash.new) ≡ length (F.image flash.old) }
-    ensures reads { F.reads flash.new ≡ F.reads flash.old }
-    ensures cause { HasCause (F.faults flash.old) (F.faults flash.new) result }
+    ensures frame { Programs F.image F.lent F.reads F.faults flash.old flash.new result }
 {
     let header = Header {
         log_page: 0,
@@ -92,9 +70,9 @@ fn name_log<F: Flash>(flash: &mut F, page: PageId, log: PageId) -> Result<(), Fa
         (F.image flash.new ≡ flagged (or_at (F.image flash.old) (256 * page.0) (u16_bytes (log.0 + 1))) page.0 8) }
     ensures other_pages { IsTrue F.tells → (p : ℕ) → p ≢ page.0
         → page_bytes (F.image flash.new) p ≡ page_bytes (F.image flash.old) p }
-    ensures size { length (F.image flash.new) ≡ length (F.image flash.old) }
-    ensures reads { F.reads flash.new ≡ F.reads flash.old }
-    ensures cause { HasCause (F.faults flash.old) (F.faults flash.new) result }
+    ensures cut { IsTrue F.tells → IsTrue F.cuts → OnErr result
+        (IsCutNaming (F.image flash.old) (F.image flash.new) page.0 log.0) }
+    ensures frame { Programs F.image F.lent F.reads F.faults flash.old flash.new result }
 {
     let mut number = [0; 2];
     put_u16(&mut number, 0, log.0 + 1);

@@ -1,4 +1,7 @@
+pub mod ActiveExtents
+pub mod Beginning
 pub mod Bits
+pub mod BreakingOff
 pub mod Collected
 pub mod Erasing
 pub mod ExtentsLeft
@@ -6,6 +9,7 @@ pub mod FreeRuns
 pub mod Isolating
 pub mod MarksLeft
 pub mod Obtaining
+pub mod PartWay
 pub mod SectorMarks
 pub mod Spans
 pub mod UnitsLeft

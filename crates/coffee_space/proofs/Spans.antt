@@ -1,6 +1,7 @@
 -- A walk goes from a free page to the next sector, since all pages up to there are free.
-use Rattle.std.proofs.Common.{◌≡◌, ℕ, zero, suc, ◌+◌, ◌-◌, ◌*◌, ◌/◌, ◌%◌, ◌≤◌, ◌<◌, ⊎_elim, Bool, true, false, not, ◌&&◌, ◌||◌, List, [], ◌∷◌, ◌++◌, length, replicate, get_or, Some, refl, ap, sym, subst, ◌∙◌, arith}
+use Rattle.std.proofs.Common.{◌≡◌, ℕ, zero, suc, ◌+◌, ◌-◌, ◌*◌, ◌/◌, ◌%◌, ◌≤◌, ◌<◌, ⊎_elim, Bool, true, false, not, ◌&&◌, ◌||◌, ◌==◌, List, [], ◌∷◌, ◌++◌, length, replicate, get_or, Some, refl, ap, sym, subst, ◌∙◌, arith}
 use Rattle.std.proofs.lemmas.Bool.{cases_lt}
+use Rattle.padded.proofs.Facts.{some_same}
 use Rattle.afl_base.specs.Image.{page_bytes}
 use Rattle.coffee_layout.specs.Marks.{IsLowestRun, free_pages, pages_by}
 use Rattle.coffee_layout.specs.Tiling.{KeepRules}
@@ -12,7 +13,8 @@ use Rattle.coffee_layout.proofs.Searches.{IsRead}
 use Rattle.coffee_layout.proofs.Tests.{true_or_false}
 use Rattle.coffee_space.specs.Collection.{cut_pages, touches}
 use Rattle.coffee_space.specs.Sectors.{Marks, is_marked}
-use Rattle.coffee_space.specs.Steps.{IsolatesPage, IsolatesPages}
+use Rattle.coffee_space.specs.Steps.{IsolatesPages, first_pages, is_chosen, is_part}
+use Rattle.coffee_space.specs.declared.part.Part.{Part}
 use Rattle.coffee_space.proofs.FreeRuns.{Walked, walked_used}
 use Rattle.coffee_space.proofs.Isolating.{Isolating, isolating_next, isolating_reads, page_on}
 use Rattle.coffee_space.proofs.SectorMarks.{Marked, Marking, is_used, marked_next}
@@ -25,13 +27,6 @@ or_false false = refl
 true_false : (b : Bool) → b ≡ true → b ≡ false → ⊥
 true_false true e f = cc
 true_false false e f = cc
-
-and_not : (b : Bool) → b && not b ≡ false
-and_not true = refl
-and_not false = refl
-
-same_unit : (u v : Unit) → Some u ≡ Some v → u ≡ v
-same_unit u v e = cc
 
 -- n free pages in front of others
 
@@ -54,6 +49,10 @@ cuts_past taken (suc n) page us i =
     let f : page + 1 + n ≡ page + suc n = omega arith in
     ap (λ k. get_or (cut_pages taken page (replicate (suc n) Free ++ us)) k false) e ∙ cuts_past taken n (page + 1) us i ∙ ap (λ p. get_or (cut_pages taken p us) i false) f
 
+firsts_past : (n : ℕ) (us : List Unit) (i : ℕ) → get_or (first_pages (replicate n Free ++ us)) (n + i) false ≡ get_or (first_pages us) i false
+firsts_past zero us i = let e : 0 + i ≡ i = omega arith in ap (λ k. get_or (first_pages us) k false) e
+firsts_past (suc n) us i = let e : suc n + i ≡ suc (n + i) = omega arith in ap (λ k. get_or (first_pages (replicate (suc n) Free ++ us)) k false) e ∙ firsts_past n us i
+
 -- n free pages stand at a page, and what is ahead behind them
 pub record Span (building : ℕ → Bool) (image : List ℕ) (us : List Unit) (page n : ℕ) : Type 0 where
   pub next : Ahead building image us (page + n)
@@ -64,8 +63,9 @@ span_at : (building : ℕ → Bool) (image : List ℕ) (us : List Unit) (page n 
     → KeepRules building image (page + n) true rest → page + n + total rest ≡ pages_of image
     → ((test : Unit → Bool) (i : ℕ) → get_or (pages_by test us) (page + i) false ≡ get_or (pages_by test units) i false)
     → ((taken : ℕ → Bool) (i : ℕ) → get_or (cut_pages taken 0 us) (page + i) false ≡ get_or (cut_pages taken page units) i false)
+    → ((i : ℕ) → get_or (first_pages us) (page + i) false ≡ get_or (first_pages units) i false)
     → Span building image us page n
-span_at building image us page n units rest front keep whole marks cuts = record {
+span_at building image us page n units rest front keep whole marks cuts firsts = record {
   next = record {
     after_free = true;
     rest = rest;
@@ -78,6 +78,9 @@ span_at building image us page n units rest front keep whole marks cuts = record
     cuts = λ taken i.
         let e : page + n + i ≡ page + (n + i) = omega arith in
         ap (λ k. get_or (cut_pages taken 0 us) k false) e ∙ cuts taken (n + i) ∙ ap (λ vs. get_or (cut_pages taken page vs) (n + i) false) front ∙ cuts_past taken n page rest i;
+    firsts = λ i.
+        let e : page + n + i ≡ page + (n + i) = omega arith in
+        ap (λ k. get_or (first_pages us) k false) e ∙ firsts (n + i) ∙ ap (λ vs. get_or (first_pages vs) (n + i) false) front ∙ firsts_past n rest i;
   };
   marks = λ test q low high.
       let e : q ≡ page + (q - page) = omega arith in
@@ -93,16 +96,17 @@ span_read : (building : ℕ → Bool) (image : List ℕ) (us : List Unit) (secto
     → KeepRules building image page after_free rest → page + total rest ≡ pages_of image
     → ((test : Unit → Bool) (i : ℕ) → get_or (pages_by test us) (page + i) false ≡ get_or (pages_by test rest) i false)
     → ((taken : ℕ → Bool) (i : ℕ) → get_or (cut_pages taken 0 us) (page + i) false ≡ get_or (cut_pages taken page rest) i false)
+    → ((i : ℕ) → get_or (first_pages us) (page + i) false ≡ get_or (first_pages rest) i false)
     → Span building image us page (16 - page % 16)
-span_read building image us sectors page after_free [] all before is keep whole marks cuts = absurd (omega arith)
-span_read building image us sectors page after_free (v ∷ rest) all before is keep whole marks cuts =
-    let free : v ≡ Free = same_unit v Free (sym keep.0 ∙ sym (is building after_free keep.1)) in
+span_read building image us sectors page after_free [] all before is keep whole marks cuts firsts = absurd (omega arith)
+span_read building image us sectors page after_free (v ∷ rest) all before is keep whole marks cuts firsts =
+    let free : v ≡ Free = some_same v Free (sym keep.0 ∙ sym (is building after_free keep.1)) in
     let sector = free_sector building image sectors page after_free rest all (subst (λ w. KeepRules building image page after_free (w ∷ rest)) free keep) (subst (λ w. page + total (w ∷ rest) ≡ pages_of image) free whole) in
-    span_at building image us page (16 - page % 16) (v ∷ rest) sector.rest (ap (λ w. w ∷ rest) free ∙ sector.front) sector.keep sector.whole marks cuts
+    span_at building image us page (16 - page % 16) (v ∷ rest) sector.rest (ap (λ w. w ∷ rest) free ∙ sector.front) sector.keep sector.whole marks cuts firsts
 
 -- where a free page is read, those up to the next sector are free
 pub span : (building : ℕ → Bool) (image : List ℕ) (us : List Unit) (sectors page : ℕ) → pages_of image ≡ 16 * sectors → page < pages_of image → Ahead building image us page → IsRead image page (Some Free) → Span building image us page (16 - page % 16)
-span building image us sectors page all before a is = span_read building image us sectors page a.after_free a.rest all before is a.keep a.whole a.marks a.cuts
+span building image us sectors page all before a is = span_read building image us sectors page a.after_free a.rest all before is a.keep a.whole a.marks a.cuts a.firsts
 
 -- RUNS
 
@@ -166,34 +170,41 @@ marked_behind building image us used active used_new active_new sectors page (Ex
 
 -- ISOLATED PAGES
 
--- a free page is not isolated
-free_kept : (taken : ℕ → Bool) (page : ℕ) → touches taken page 1 && not (taken (page / 16)) ≡ false
-free_kept taken page = ap (λ b. b && not (taken (page / 16))) (or_false (taken (page / 16))) ∙ and_not (taken (page / 16))
+and_part : (t p : Bool) → (t && p) && not t ≡ false
+and_part true true = refl
+and_part true false = refl
+and_part false p = refl
 
-isolating_span : (taken building : ℕ → Bool) (old now new : List ℕ) (us : List Unit) (page n : ℕ) → Span building old us page n → Isolating taken building old now us page → 1 ≤ n
-    → IsolatesPages taken (touches taken page 1) now new page 1 → Isolating taken building old new us (page + n)
-isolating_span taken building old now new us page n s i some pages =
+-- a free page is not isolated
+free_kept : (taken : ℕ → Bool) (page : ℕ) (p : Bool) → (touches taken page 1 && p) && not (taken (page / 16)) ≡ false
+free_kept taken page p = ap (λ b. (b && p) && not (taken (page / 16))) (or_false (taken (page / 16))) ∙ and_part (taken (page / 16)) p
+
+isolating_span : (taken building : ℕ → Bool) (part : Part) (old now new : List ℕ) (us : List Unit) (page n : ℕ) → Span building old us page n → Isolating taken building part old now us page → 1 ≤ n
+    → IsolatesPages taken part (touches taken page 1) now new page 1 → Isolating taken building part old new us (page + n)
+isolating_span taken building part old now new us page n s i some pages =
     let stays : (q : ℕ) → page ≤ q → page_bytes new q ≡ page_bytes now q = λ q from. ⊎_elim
     (λ (here : q < page + 1).
-    let e : q ≡ page = omega arith in
-    (pages.here q from here).kept (ap (λ p. touches taken page 1 && not (taken (p / 16))) e ∙ free_kept taken page))
+    let e : page + 0 ≡ q = omega arith in
+    let f : page ≡ page + 0 = omega arith in
+    subst (λ p. page_bytes new p ≡ page_bytes now p) e ((pages.here 0 (omega arith)).kept (ap (λ p. (touches taken page 1 && is_part part (0 == 0)) && not (taken (p / 16))) (sym f) ∙ free_kept taken page (is_part part (0 == 0)))))
     (λ (past : page + 1 ≤ q). pages.others q (λ a b. absurd (omega arith)))
     (cases_lt q (page + 1)) in
     record {
       ahead = s.next;
       done = λ q h. ⊎_elim
-          (λ (before : q < page). page_on (get_or (cut_pages taken 0 us) q false && not (taken (q / 16))) old now new q (pages.others q (λ a b. absurd (omega arith))) (i.done q before))
-          (λ (here : page ≤ q). subst (λ c. IsolatesPage (c && not (taken (q / 16))) old new q) (sym (s.cuts taken q here h))
-          (record { isolated = λ w. absurd (true_false (taken (q / 16) && not (taken (q / 16))) w (and_not (taken (q / 16)))); kept = λ w. stays q here ∙ i.same q here }))
+          (λ (before : q < page). page_on (is_chosen taken part us q) old now new q (pages.others q (λ a b. absurd (omega arith))) (i.done q before))
+          (λ (here : page ≤ q).
+          let none : is_chosen taken part us q ≡ false = ap (λ c. (c && is_part part (get_or (first_pages us) q false)) && not (taken (q / 16))) (s.cuts taken q here h) ∙ and_part (taken (q / 16)) (is_part part (get_or (first_pages us) q false)) in
+          record { isolated = λ w. absurd (true_false (is_chosen taken part us q) w none); kept = λ w. stays q here ∙ i.same q here })
           (cases_lt q page);
       same = λ q h. stays q (omega arith) ∙ i.same q (omega arith);
     }
 
-pub isolating_behind : (taken building : ℕ → Bool) (old now new : List ℕ) (us : List Unit) (sectors page : ℕ) (u : Unit) → pages_of old ≡ 16 * sectors → length now ≡ length old → page < pages_of old → IsRead now page (Some u) → Isolating taken building old now us page
-    → IsolatesPages taken (touches taken page (size_of u)) now new page (size_of u) → Isolating taken building old new us (behind page u)
-isolating_behind taken building old now new us sectors page Free all long before is i pages =
-    isolating_span taken building old now new us page (16 - page % 16) (span building old us sectors page all before i.ahead (read_same old now page (Some Free) long (i.same page (omega arith)) is)) i (omega arith) pages
-isolating_behind taken building old now new us sectors page Isolated all long before is i pages =
-    isolating_next taken building old now new us page Isolated (isolating_reads taken building old now us page Isolated long before i is) i pages
-isolating_behind taken building old now new us sectors page (Extent h) all long before is i pages =
-    isolating_next taken building old now new us page (Extent h) (isolating_reads taken building old now us page (Extent h) long before i is) i pages
+pub isolating_behind : (taken building : ℕ → Bool) (part : Part) (old now new : List ℕ) (us : List Unit) (sectors page : ℕ) (u : Unit) → pages_of old ≡ 16 * sectors → length now ≡ length old → page < pages_of old → IsRead now page (Some u) → Isolating taken building part old now us page
+    → IsolatesPages taken part (touches taken page (size_of u)) now new page (size_of u) → Isolating taken building part old new us (behind page u)
+isolating_behind taken building part old now new us sectors page Free all long before is i pages =
+    isolating_span taken building part old now new us page (16 - page % 16) (span building old us sectors page all before i.ahead (read_same old now page (Some Free) long (i.same page (omega arith)) is)) i (omega arith) pages
+isolating_behind taken building part old now new us sectors page Isolated all long before is i pages =
+    isolating_next taken building part old now new us page Isolated (isolating_reads taken building part old now us page Isolated long before i is) i pages
+isolating_behind taken building part old now new us sectors page (Extent h) all long before is i pages =
+    isolating_next taken building part old now new us page (Extent h) (isolating_reads taken building part old now us page (Extent h) long before i is) i pages

@@ -1,22 +1,27 @@
-ghost use Rattle.std.specs.Prelude.{◌≡◌, ℕ, Bool, ◌+◌, ◌*◌, ◌/◌, ◌≤◌, ◌<◌, true, false, not, ◌&&◌, ◌∷◌, [], length, replicate, List, IsTrue, IfOk, OnOk, if◌then◌else◌};
-ghost use Rattle.afl_base.specs.Causes.{HasCause};
+ghost use Rattle.std.specs.Prelude.{◌≡◌, ℕ, Bool, ◌+◌, ◌*◌, ◌/◌, ◌≤◌, ◌<◌, true, false, not, ◌&&◌, ◌∷◌, [], length, replicate, List, IsTrue, IfOk, OnOk, OnErr, if◌then◌else◌};
+ghost use Rattle.afl_base.specs.Keeping.{ChangesFlash, Programs};
+ghost use Rattle.afl_base.specs.Cuts.{IsCutErase};
 ghost use Rattle.afl_base.specs.Image.{or_at, page_bytes};
 ghost use Rattle.coffee_layout.specs.Marks.{is_taken};
 ghost use Rattle.coffee_layout.specs.Tiling.{IsTiled};
 ghost use Rattle.coffee_layout.specs.Units.{pages_of};
 ghost use Rattle.coffee_layout.specs.declared.unit.Unit.{Unit};
 ghost use Rattle.coffee_space.specs.Collection.{IsCollected, number_taken, touches};
+ghost use Rattle.coffee_space.specs.Cutting.{IsCutCollection};
 ghost use Rattle.coffee_space.specs.Sectors.{taken_in};
-ghost use Rattle.coffee_space.specs.Steps.{Erases, Isolates, IsolatesPages};
+ghost use Rattle.coffee_space.specs.Steps.{Erases, ErasesSome, Isolates, IsolatesSome, IsolatesSomeUnit, IsolatesUnit, StaysOrIsolated};
 
 use crate::marking::{Sectors, mark_sectors};
+use crate::part::Part;
 use afl_base::{Failed, Flash, PageId, SectorId};
 use coffee_layout::unit_in;
 
-/// Erases the sectors that have a page in use and no active page, and answers their number. Before,
-/// each page that a unit has outside of them, where it has another inside, is isolated. On an image
-/// that the rules 1 to 4 do not allow it may do nothing and answer 0. After `Failed` the image may be
-/// between the two, and a page or a sector of it may hold anything.
+/// Erases the sectors that have a page in use and no active page, and answers their number. Each page
+/// that a unit has outside of them, where it has another inside, is isolated: the pages behind its
+/// header before the sectors are erased, from the last to the first, and its header after. So as long
+/// as a page of an extent has bytes and is not isolated, its header stands. On an image
+/// that the rules 1 to 4 do not allow it may do nothing and answer 0. After `Failed` the image is
+/// between the two, where failures are cuts; else a page or a sector of it may hold anything.
 pub fn collect<F: Flash>(flash: &mut F) -> Result<u16, Failed>
     ensures collected { IsTrue F.tells → OnOk result
         ((building : ℕ → Bool) (us : List Unit) → IsTiled building (F.image flash.old) us
@@ -24,29 +29,35 @@ pub fn collect<F: Flash>(flash: &mut F) -> Result<u16, Failed>
     ensures number { IsTrue F.tells → IfOk result
         (λ n. (building : ℕ → Bool) (us : List Unit) → IsTiled building (F.image flash.old) us
         → n ≡ number_taken (is_taken us) (length (F.image flash.old) / 4096)) }
-    ensures size { length (F.image flash.new) ≡ length (F.image flash.old) }
-    ensures reads { F.reads flash.new ≤ F.reads flash.old + 2 * pages_of (F.image flash.old) }
-    ensures reads_later { F.reads flash.old ≤ F.reads flash.new }
-    ensures cause { HasCause (F.faults flash.old) (F.faults flash.new) result }
+    ensures reads { F.reads flash.new ≤ F.reads flash.old + 3 * pages_of (F.image flash.old) }
+    ensures cut { IsTrue F.tells → IsTrue F.cuts → OnErr result
+        ((building : ℕ → Bool) (us : List Unit) → IsTiled building (F.image flash.old) us
+        → IsCutCollection building (F.image flash.old) (F.image flash.new) us) }
+    ensures frame { ChangesFlash F.image F.lent F.reads F.faults flash.old flash.new result }
 {
     let sectors = match mark_sectors(flash)? {
         Some(sectors) => sectors,
         None => return Ok(0),
     };
-    isolate(flash, &sectors)?;
+    isolate(flash, &sectors, Part::Behind)?;
     let erased = erase(flash, &sectors)?;
+    isolate(flash, &sectors, Part::Header)?;
     Ok(erased)
 }
 
-// Isolates the pages outside of the taken sectors that belong to a unit with a page inside.
-fn isolate<F: Flash>(flash: &mut F, sectors: &Sectors) -> Result<(), Failed>
+// Isolates the pages of a part outside of the taken sectors that belong to a unit with a page inside,
+// in rising order.
+fn isolate<F: Flash>(flash: &mut F, sectors: &Sectors, part: Part) -> Result<(), Failed>
     ensures isolated { IsTrue F.tells → OnOk result
         ((building : ℕ → Bool) (us : List Unit) → IsTiled building (F.image flash.old) us
-        → Isolates (taken_in sectors.now.used.bits sectors.now.active.bits) (F.image flash.old) (F.image flash.new) us) }
-    ensures size { length (F.image flash.new) ≡ length (F.image flash.old) }
+        → Isolates (taken_in sectors.now.used.bits sectors.now.active.bits) part
+        (F.image flash.old) (F.image flash.new) us) }
+    ensures cut { IsTrue F.tells → IsTrue F.cuts → OnErr result
+        ((building : ℕ → Bool) (us : List Unit) → IsTiled building (F.image flash.old) us
+        → IsolatesSome (taken_in sectors.now.used.bits sectors.now.active.bits) part
+        (F.image flash.old) (F.image flash.new) us) }
     ensures reads { F.reads flash.new ≤ F.reads flash.old + pages_of (F.image flash.old) }
-    ensures reads_later { F.reads flash.old ≤ F.reads flash.new }
-    ensures cause { HasCause (F.faults flash.old) (F.faults flash.new) result }
+    ensures frame { ChangesFlash F.image F.lent F.reads F.faults flash.old flash.new result }
 {
     let all = 16 * flash.sectors();
     let mut page: u16 = 0;
@@ -55,7 +66,7 @@ fn isolate<F: Flash>(flash: &mut F, sectors: &Sectors) -> Result<(), Failed>
             Some(unit) => unit,
             None => return Ok(()),
         };
-        isolate_unit(flash, sectors, page, unit.pages())?;
+        isolate_unit(flash, sectors, part, page, unit.pages())?;
         page = unit.behind(page);
     }
     Ok(())
@@ -65,23 +76,27 @@ fn isolate<F: Flash>(flash: &mut F, sectors: &Sectors) -> Result<(), Failed>
 fn isolate_unit<F: Flash>(
     flash: &mut F,
     sectors: &Sectors,
+    part: Part,
     page: u16,
     pages: u16,
 ) -> Result<(), Failed>
     requires inside { 256 * (page + pages) ≤ length (F.image flash.old) }
     ensures isolated { IsTrue F.tells → OnOk result
-        (IsolatesPages (taken_in sectors.now.used.bits sectors.now.active.bits) (touches (taken_in sectors.now.used.bits sectors.now.active.bits) page pages) (F.image flash.old) (F.image flash.new) page pages) }
-    ensures size { length (F.image flash.new) ≡ length (F.image flash.old) }
-    ensures reads { F.reads flash.new ≡ F.reads flash.old }
-    ensures cause { HasCause (F.faults flash.old) (F.faults flash.new) result }
+        (IsolatesUnit (taken_in sectors.now.used.bits sectors.now.active.bits) part
+        (F.image flash.old) (F.image flash.new) page pages) }
+    ensures cut { IsTrue F.tells → IsTrue F.cuts → OnErr result
+        (IsolatesSomeUnit (taken_in sectors.now.used.bits sectors.now.active.bits) part
+        (F.image flash.old) (F.image flash.new) page pages) }
+    ensures frame { Programs F.image F.lent F.reads F.faults flash.old flash.new result }
 {
     flash.sectors();
     let cut = is_cut(sectors, page, pages);
     let mut done: u16 = 0;
     while done < pages {
+        let meant = cut && part.has(done);
         isolate_page(
             flash,
-            cut && !sectors.takes((page + done) / 16),
+            meant && !sectors.takes((page + done) / 16),
             page + done,
         )?;
         done += 1;
@@ -114,11 +129,11 @@ fn isolate_page<F: Flash>(flash: &mut F, wanted: bool, page: u16) -> Result<(), 
         → page_bytes (F.image flash.new) page ≡ or_at (page_bytes (F.image flash.old) page) 9 (34 ∷ [])) }
     ensures unwanted { IsTrue F.tells → OnOk result
         (wanted ≡ false → page_bytes (F.image flash.new) page ≡ page_bytes (F.image flash.old) page) }
-    ensures others { IsTrue F.tells → OnOk result
-        ((q : ℕ) → (q ≡ page → ⊥) → page_bytes (F.image flash.new) q ≡ page_bytes (F.image flash.old) q) }
-    ensures size { length (F.image flash.new) ≡ length (F.image flash.old) }
-    ensures reads { F.reads flash.new ≡ F.reads flash.old }
-    ensures cause { HasCause (F.faults flash.old) (F.faults flash.new) result }
+    ensures others { IsTrue F.tells
+        → (q : ℕ) → (q ≡ page → ⊥) → page_bytes (F.image flash.new) q ≡ page_bytes (F.image flash.old) q }
+    ensures cut { IsTrue F.tells → IsTrue F.cuts → OnErr result
+        (StaysOrIsolated wanted (F.image flash.old) (F.image flash.new) page) }
+    ensures frame { Programs F.image F.lent F.reads F.faults flash.old flash.new result }
 {
     if !wanted {
         return Ok(());
@@ -127,22 +142,21 @@ fn isolate_page<F: Flash>(flash: &mut F, wanted: bool, page: u16) -> Result<(), 
     Ok(())
 }
 
-// Erases the taken sectors, and answers their number.
+// Erases the taken sectors from the last to the first, and answers their number.
 fn erase<F: Flash>(flash: &mut F, sectors: &Sectors) -> Result<u16, Failed>
     ensures erased { IsTrue F.tells → OnOk result
         (Erases (taken_in sectors.now.used.bits sectors.now.active.bits) (F.image flash.old) (F.image flash.new)) }
+    ensures cut { IsTrue F.tells → IsTrue F.cuts → OnErr result
+        (ErasesSome (taken_in sectors.now.used.bits sectors.now.active.bits) (F.image flash.old) (F.image flash.new)) }
     ensures number { IfOk result
         (λ n. n ≡ number_taken (taken_in sectors.now.used.bits sectors.now.active.bits) (length (F.image flash.old) / 4096)) }
-    ensures size { length (F.image flash.new) ≡ length (F.image flash.old) }
-    ensures reads { F.reads flash.new ≡ F.reads flash.old }
-    ensures cause { HasCause (F.faults flash.old) (F.faults flash.new) result }
+    ensures frame { Programs F.image F.lent F.reads F.faults flash.old flash.new result }
 {
-    let all = flash.sectors();
-    let mut sector: u16 = 0;
+    let mut sector = flash.sectors();
     let mut number: u16 = 0;
-    while sector < all {
+    while 0 < sector {
+        sector -= 1;
         number += erase_sector(flash, sectors.takes(sector), sector)?;
-        sector += 1;
     }
     Ok(number)
 }
@@ -157,9 +171,9 @@ fn erase_sector<F: Flash>(flash: &mut F, wanted: bool, sector: u16) -> Result<u1
     ensures others { IsTrue F.tells → OnOk result
         ((q : ℕ)
         → (q / 16 ≡ sector → ⊥) → page_bytes (F.image flash.new) q ≡ page_bytes (F.image flash.old) q) }
-    ensures size { length (F.image flash.new) ≡ length (F.image flash.old) }
-    ensures reads { F.reads flash.new ≡ F.reads flash.old }
-    ensures cause { HasCause (F.faults flash.old) (F.faults flash.new) result }
+    ensures cut { IsTrue F.tells → IsTrue F.cuts → OnErr result
+        ((wanted ≡ true) × IsCutErase (F.image flash.old) (F.image flash.new) sector) }
+    ensures frame { Programs F.image F.lent F.reads F.faults flash.old flash.new result }
 {
     if !wanted {
         return Ok(0);

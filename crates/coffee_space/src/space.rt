@@ -1,11 +1,12 @@
-ghost use Rattle.std.specs.Prelude.{◌≡◌, ℕ, Bool, ◌+◌, ◌*◌, ◌≤◌, true, length, false, List, slice_index_or, IsTrue, IfOk};
-ghost use Rattle.afl_base.specs.FileErrors.{HasFileCause, OnSpace, UnlessFailed};
-ghost use Rattle.afl_base.specs.Image.{page_bytes};
-ghost use Rattle.coffee_layout.specs.Marks.{IsCramped, IsLowestRun, IsRun, NoRun, active_pages, free_pages};
+ghost use Rattle.std.specs.Prelude.{◌≡◌, ℕ, Bool, ◌+◌, ◌*◌, ◌≤◌, length, List, IsTrue, IfOk, OnErr};
+ghost use Rattle.afl_base.specs.Keeping.{ChangesFlashOrLacks};
+ghost use Rattle.afl_base.specs.FileErrors.{OnSpace, UnlessFailed};
+ghost use Rattle.coffee_layout.specs.Marks.{IsCramped, IsLowestRun, IsRun, NoRun, free_pages};
 ghost use Rattle.coffee_layout.specs.Tiling.{IsTiled, units_of};
 ghost use Rattle.coffee_layout.specs.Units.{pages_of};
 ghost use Rattle.coffee_layout.specs.declared.unit.Unit.{Unit};
-ghost use Rattle.coffee_space.specs.Collection.{IsCollected, active_extents};
+ghost use Rattle.coffee_space.specs.Collection.{IsCollected, KeepsActive};
+ghost use Rattle.coffee_space.specs.Cutting.{IsCutCollection};
 
 use crate::collection::collect;
 use crate::runs::find_run;
@@ -31,20 +32,14 @@ pub fn obtain<F: Flash>(flash: &mut F, pages: u16) -> Result<PageId, FileError>
     ensures collected { IsTrue F.tells → UnlessFailed result
         ((building : ℕ → Bool) (us : List Unit) → IsTiled building (F.image flash.old) us
         → NoRun (free_pages us) pages → IsCollected building (F.image flash.old) (F.image flash.new) us) }
-    ensures tiled { IsTrue F.tells → UnlessFailed result
+    ensures kept { IsTrue F.tells → UnlessFailed result
         ((building : ℕ → Bool) (us : List Unit) → IsTiled building (F.image flash.old) us
-        → IsTiled building (F.image flash.new) (units_of (F.image flash.new))) }
-    ensures extents { IsTrue F.tells → UnlessFailed result
+        → KeepsActive building (F.image flash.old) (F.image flash.new) us) }
+    ensures reads { F.reads flash.new ≤ F.reads flash.old + 5 * pages_of (F.image flash.old) }
+    ensures cut { IsTrue F.tells → IsTrue F.cuts → OnErr result
         ((building : ℕ → Bool) (us : List Unit) → IsTiled building (F.image flash.old) us
-        → active_extents (units_of (F.image flash.new)) ≡ active_extents us) }
-    ensures active { IsTrue F.tells → UnlessFailed result
-        ((building : ℕ → Bool) (us : List Unit) → IsTiled building (F.image flash.old) us
-        → (page : ℕ) → slice_index_or (active_pages us) page false ≡ true
-        → page_bytes (F.image flash.new) page ≡ page_bytes (F.image flash.old) page) }
-    ensures size { length (F.image flash.new) ≡ length (F.image flash.old) }
-    ensures reads { F.reads flash.new ≤ F.reads flash.old + 4 * pages_of (F.image flash.old) }
-    ensures reads_later { F.reads flash.old ≤ F.reads flash.new }
-    ensures cause { HasFileCause (F.faults flash.old) (F.faults flash.new) result }
+        → IsCutCollection building (F.image flash.old) (F.image flash.new) us) }
+    ensures frame { ChangesFlashOrLacks F.image F.lent F.reads F.faults flash.old flash.new result }
 {
     match find_run(flash, pages)? {
         Some(page) => Ok(page),
@@ -66,16 +61,14 @@ fn obtain_collected<F: Flash>(flash: &mut F, pages: u16) -> Result<PageId, FileE
     ensures collected { IsTrue F.tells → UnlessFailed result
         ((building : ℕ → Bool) (us : List Unit) → IsTiled building (F.image flash.old) us
         → IsCollected building (F.image flash.old) (F.image flash.new) us) }
-    ensures tiled { IsTrue F.tells → UnlessFailed result
+    ensures kept { IsTrue F.tells → UnlessFailed result
         ((building : ℕ → Bool) (us : List Unit) → IsTiled building (F.image flash.old) us
-        → IsTiled building (F.image flash.new) (units_of (F.image flash.new))) }
-    ensures extents { IsTrue F.tells → UnlessFailed result
+        → KeepsActive building (F.image flash.old) (F.image flash.new) us) }
+    ensures reads { F.reads flash.new ≤ F.reads flash.old + 4 * pages_of (F.image flash.old) }
+    ensures cut { IsTrue F.tells → IsTrue F.cuts → OnErr result
         ((building : ℕ → Bool) (us : List Unit) → IsTiled building (F.image flash.old) us
-        → active_extents (units_of (F.image flash.new)) ≡ active_extents us) }
-    ensures size { length (F.image flash.new) ≡ length (F.image flash.old) }
-    ensures reads { F.reads flash.new ≤ F.reads flash.old + 3 * pages_of (F.image flash.old) }
-    ensures reads_later { F.reads flash.old ≤ F.reads flash.new }
-    ensures cause { HasFileCause (F.faults flash.old) (F.faults flash.new) result }
+        → IsCutCollection building (F.image flash.old) (F.image flash.new) us) }
+    ensures frame { ChangesFlashOrLacks F.image F.lent F.reads F.faults flash.old flash.new result }
 {
     flash.sectors();
     if collect(flash)? == 0 {

@@ -1,7 +1,7 @@
 -- What `prepare` asks for is little where few bytes come.
 use Rattle.std.proofs.Common.{◌≡◌, ℕ, ◌+◌, ◌*◌, ◌≤◌, Bool, List, length, true, false, max, nat_lt, Option, Some, None, IsTrue, if◌then◌else◌, refl, ap, sym, ◌∙◌, arith}
-use Rattle.std.specs.Prelude.{unwrap_or}
 use Rattle.std.proofs.Math.Nat.{le-max_left, le-max_right}
+use Rattle.padded.proofs.Facts.{some_same}
 use Rattle.afl_base.specs.Files.{File, IsLive, file_at, size_at}
 use Rattle.afl_base.specs.Fit.{fit}
 use Rattle.afl_base.specs.declared.kind.Kind.{Kind}
@@ -16,14 +16,11 @@ use Rattle.coffee_volume.specs.declared.entry.Entry.{Entry}
 use Rattle.coffee_volume.proofs.Stepped.{fixed_shape, full_few}
 use Rattle.coffee_volume.proofs.Tables.{entry_seen, file_of, size_seen, stored_here}
 
-some_is : (a b : ℕ) → Some a ≡ Some b → a ≡ b
-some_is a b e = ap (λ (o : Option ℕ). unwrap_or o a) e
-
 asked_by : (full few none : Bool) (pages need bound : ℕ) → (full ≡ true → 2 * pages ≤ bound) → pages ≤ bound → 16 ≤ bound
     → (if full then Some (2 * pages) else (if few then Some pages else (if none then Some 16 else None))) ≡ Some need → need ≤ bound
-asked_by true few none pages need bound grow keep log e = let same = some_is (2 * pages) need e in let h = grow refl in omega (arith, same, h)
-asked_by false true none pages need bound grow keep log e = let same = some_is pages need e in omega (arith, same, keep)
-asked_by false false true pages need bound grow keep log e = let same = some_is 16 need e in omega (arith, same, log)
+asked_by true few none pages need bound grow keep log e = let same = some_same (2 * pages) need e in let h = grow refl in omega (arith, same, h)
+asked_by false true none pages need bound grow keep log e = let same = some_same pages need e in omega (arith, same, keep)
+asked_by false false true pages need bound grow keep log e = let same = some_same 16 need e in omega (arith, same, log)
 asked_by false false false pages need bound grow keep log e = absurd (cc)
 
 asked_kind : (kind : Kind) (pages size b : ℕ) → kind ≡ Doubling → has_shape kind pages ≡ true → has_few_of kind pages size ≡ true → size + 32 ≤ 256 * pages → b ≤ 4096 → size ≤ 4194304

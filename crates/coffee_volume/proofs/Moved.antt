@@ -78,21 +78,6 @@ room_becomes tells image table draft i e records room inside is =
 pub same_place : (table : Entries) (i : ℕ) (d : FileAt) → IsIn table i d → set table i (Some d) ≡ table
 same_place table i d is = ap (λ (o : Option FileAt). set table i o) (sym is) ∙ set-get_or table i None
 
--- two changes that leave a file's bytes
-pub stays_then : (a b c : State) (id : ℕ) → Becomes a b id (size_at a.files id) (bytes_at a.files id) → Becomes b c id (size_at b.files id) (bytes_at b.files id) → Becomes a c id (size_at a.files id) (bytes_at a.files id)
-stays_then a b c id x y = record {
-  live = y.live;
-  name = y.name ∙ x.name;
-  kind = y.kind ∙ x.kind;
-  size = y.size ∙ x.size;
-  bytes = λ told. y.bytes (x.tells ∙ told) ∙ x.bytes told;
-  others = λ k other. y.others k other ∙ x.others k other;
-  names = λ n none. y.names n (x.names n none);
-  used = y.used ∙ x.used;
-  draft = y.draft ∙ x.draft;
-  tells = y.tells ∙ x.tells;
-}
-
 -- where no pages are asked for
 none_of : (o : Option ℕ) → ((n : ℕ) → o ≡ Some n → ⊥) → o ≡ None
 none_of None never = refl

@@ -6,12 +6,13 @@ use Rattle.std.proofs.lemmas.List.{ext_get_or, get_or-set_same, get_or-set_other
 use Rattle.std.proofs.lemmas.Bool.{cases_eq}
 use Rattle.std.proofs.Math.Logic.{⊎_elim}
 use Rattle.std.specs.Prelude.{Result, Ok, Err}
+use Rattle.padded.proofs.Facts.{some_same}
 use Rattle.afl_base.specs.FileErrors.{OnSpace}
 use Rattle.afl_base.specs.declared.kind.FileError.{FileError}
 use Rattle.afl_base.specs.declared.kind.FileError.TheVariants.{Space, Failed}
 use Rattle.afl_base.specs.Files.{AreDistinct, File, IsLive, IsNamed, IsUnnamed, bytes_at, file_at, name_at, place, used}
 use Rattle.afl_base.specs.Places.{AreTaken}
-use Rattle.afl_base.proofs.FileLaws.{file_here, named_here, some_free, used_all}
+use Rattle.afl_base.proofs.FileLaws.{file_here, named_here, some_free}
 use Rattle.coffee_layout.specs.FileBytes.{file_byte, file_bytes}
 use Rattle.coffee_layout.specs.declared.file.FileAt.{FileAt}
 use Rattle.coffee_layout.proofs.Sizes.{end_spelt}
@@ -42,9 +43,6 @@ places_set table i o = map-set (option_map (λ (e : Entry). e.at)) table i o
 
 pub length_places : (table : EntryTable) → length (places table) ≡ length table
 length_places table = length-map table (option_map (λ (e : Entry). e.at))
-
-some_same : (e d : Entry) → Some e ≡ Some d → e ≡ d
-some_same e d is = cc
 
 -- a place holds one entry
 pub one_entry : (table : EntryTable) (i : ℕ) (e d : Entry) → IsEntry table i e → IsEntry table i d → e ≡ d
@@ -294,10 +292,6 @@ regular_new pages table i f regular inside none fine =
 
 pub regular_gone : (pages : ℕ) (table : EntryTable) (i : ℕ) → AreRegular pages table → i < length table → AreRegular pages (set table i None)
 regular_gone pages table i regular inside = regular_set pages table i None regular inside (λ d is. absurd (cc)) (λ d is. absurd (cc))
-
--- a table with no free place
-pub used_full : (table : EntryTable) → ((k : ℕ) → k < length table → is_some (get_or table k None) ≡ true) → used (files_seen false [] table) ≡ length table
-used_full table full = used_all (files_seen false [] table) (λ k low. seen_is_live false [] table k ∙ full k (omega (arith, length_seen false [] table))) ∙ length_seen false [] table
 
 -- ANSWERS WITHOUT SPACE
 

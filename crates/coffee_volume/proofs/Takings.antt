@@ -1,28 +1,31 @@
 -- Which pages that were free a change leaves in use.
-use Rattle.std.proofs.Common.{◌≡◌, ◌≢◌, inl, inr, ⊎_elim, ℕ, ◌+◌, ◌*◌, ◌<◌, ◌≤◌, Bool, true, false, not, ◌&&◌, List, length, set, Option, Some, None, IsTrue, refl, sym, ap, ◌∙◌, subst, arith}
-use Rattle.std.specs.Prelude.{Result, Ok, Err}
+use Rattle.std.proofs.Common.{◌≡◌, inl, inr, ⊎_elim, ℕ, ◌+◌, ◌<◌, ◌≤◌, Bool, true, false, not, ◌&&◌, List, length, set, Option, Some, None, IsTrue, refl, sym, ap, ◌∙◌, subst, arith}
+use Rattle.std.specs.Prelude.{Result, Err}
 use Rattle.std.proofs.lemmas.Bool.{cases_lt}
 use Rattle.std.proofs.lemmas.List.{get_or-set_same}
 use Rattle.afl_base.specs.FileErrors.{OnSpace, UnlessFailed}
 use Rattle.afl_base.specs.Files.{Becomes, File, IsLive, bytes_at, file_at, size_at}
-use Rattle.afl_base.specs.Image.{page_bytes}
 use Rattle.afl_base.specs.declared.ids.PageId.{PageId}
 use Rattle.afl_base.specs.declared.kind.FileError.{FileError}
 use Rattle.afl_base.specs.declared.kind.FileError.TheVariants.{Space, Failed}
 use Rattle.afl_base.specs.declared.kind.Kind.{Kind}
 use Rattle.afl_base.specs.declared.kind.Kind.TheVariants.{Doubling}
+use Rattle.coffee_layout.specs.FileBytes.{file_byte}
 use Rattle.coffee_layout.specs.declared.file.FileAt.{FileAt}
 use Rattle.coffee_layout.proofs.Tests.{true_or_false}
-use Rattle.coffee_merge.specs.Holding.{Begins, Holds, IsIn, Entries, TakesOnly, extent_of, is_free_at}
-use Rattle.coffee_merge.specs.Takes.{FreesNone, LooksIn, Takes}
+use Rattle.coffee_merge.specs.Holding.{Holds, IsIn, Entries, TakesOnly, extent_of, is_free_at}
+use Rattle.coffee_merge.specs.Outcomes.{LogsFile, MovesFile}
+use Rattle.coffee_merge.specs.Takes.{KeepsFree}
+use Rattle.coffee_merge.proofs.FreeUnits.{frees_free, takes_free}
 use Rattle.coffee_merge.proofs.Lowest.{takes_more}
 use Rattle.coffee_merge.proofs.Taken.{takes_then}
-use Rattle.coffee_volume.specs.Lowest.{LooksFor, PlacesDraft, PlacesFile, Provides, StepsTo, Stops, log_for}
+use Rattle.coffee_volume.specs.Lowest.{LooksFor, PlacesDraft, PlacesFile, Provides, StepsTo, Stops, TakesStep, log_for}
 use Rattle.coffee_volume.specs.Steps.{step_for}
 use Rattle.coffee_volume.specs.Taking.{IsFileOf, LiesIn, TakesForDraft, TakesForFile, TakesNone, TakesWithin}
 use Rattle.coffee_volume.specs.Volumes.{AtEntry, EntryTable, FromTo, IsEntry, files_seen, places, state_seen}
 use Rattle.coffee_volume.specs.declared.entry.Entry.{Entry}
-use Rattle.coffee_volume.proofs.Changes.{MakesFile, held, made_sets}
+use Rattle.coffee_volume.specs.declared.step.Step.TheVariants.{Grow, Merge, Log}
+use Rattle.coffee_volume.proofs.Changes.{BeginsDraft, MakesFile, draft_begun, held, made_sets}
 use Rattle.coffee_volume.proofs.Drafted.{first_some}
 use Rattle.coffee_volume.proofs.Tables.{entry_seen, file_of, in_places, length_places, one_entry, told_by}
 
@@ -43,12 +46,15 @@ only_lies old new page pages p takes free taken = ⊎_elim
 pub none_taken : (old new : List ℕ) → TakesOnly old new 0 0 → TakesNone old new
 none_taken old new takes = λ p free. takes p free (λ a b. omega arith)
 
+pub free_taken : (old new : List ℕ) → KeepsFree old new → TakesNone old new
+free_taken old new keeps = λ p free. keeps p ∙ free
+
 -- the pages of an extent
 pub extent_taken : (old new : List ℕ) (e : FileAt) → TakesOnly old new e.page.0 e.pages → TakesWithin e old new
 extent_taken old new e takes = λ p free taken. inl (only_lies old new e.page.0 e.pages p takes free taken)
 
 -- the pages of a log
-pub log_taken : (old new : List ℕ) (e : FileAt) (l : PageId) → e.log ≡ Some l → TakesOnly old new l.0 16 → TakesWithin e old new
+log_taken : (old new : List ℕ) (e : FileAt) (l : PageId) → e.log ≡ Some l → TakesOnly old new l.0 16 → TakesWithin e old new
 log_taken old new e l log takes = λ p free taken. inr (let both = only_lies old new l.0 16 p takes free taken in (l, log, both.0, both.1))
 
 -- none
@@ -67,40 +73,28 @@ draft_taken old new table d h takes = λ p free taken.
 
 -- CALLS
 
--- a call that takes no page
-pub stayed_taken : (tells failed : Bool) (old new : List ℕ) (table : EntryTable) (draft : Option FileAt) → draft ≡ None → (IsTrue tells → failed ≡ false → Holds old (places table) draft) → (IsTrue tells → (t : Entries) → Holds old t None → TakesOnly old new 0 0)
-    → IsTrue (tells && not failed) → TakesNone old new
-stayed_taken tells failed old new table draft idle says takes told =
-    let both = told_by tells failed told in
-    none_taken old new (takes both.0 (places table) (held tells failed old table draft says idle both.0 both.1))
-
 -- an extent that is begun and committed for a new file
 pub made_taken : (tells failed : Bool) (old mid new : List ℕ) (table : EntryTable) (draft : Option FileAt) (i : ℕ) (name : List ℕ) (kind : Kind) (page : PageId) (pages : ℕ) (f : Entry) → MakesFile tells failed old mid new table draft i name kind page pages f
-    → (IsTrue tells → (t : Entries) → Holds old t None → TakesOnly old mid page.0 pages) → (IsTrue tells → (t : Entries) (d : FileAt) → Holds mid t (Some d) → d.page ≡ page → TakesOnly mid new 0 0)
     → IsTrue (tells && not failed) → TakesForFile name old new
-made_taken tells failed old mid new table draft i name kind page pages f m first second told =
+made_taken tells failed old mid new table draft i name kind page pages f m told =
     let both = told_by tells failed told in
     let e : FileAt = extent_of name kind page.0 pages 0 in
     let some = first_some kind m.is_kind in
     let number = m.number in
-    let h = held tells failed old table draft m.stands.told m.idle both.0 both.1 in
-    let b = m.begun both.0 (places table) 0 h (omega arith) in
-    let takes = takes_then old mid new page.0 pages (first both.0 (places table) h) (second both.0 (places table) e b.holds refl) in
+    let b = m.begun both.0 (places table) 0 (held tells failed old table draft m.stands.told m.idle both.0 both.1) (omega arith) in
+    let takes = takes_then old mid new page.0 pages b.taken (takes_free mid new (m.keeps_free both.0 (places table) e b.begins.holds refl)) in
     let sets = made_sets tells failed old mid new table draft i name kind page pages f m both.0 both.1 in
     let inside : i < length (places table) = omega (arith, length_places table, m.inside) in
     file_taken old new (set (places table) i (Some e)) None i e sets.holds (get_or-set_same (places table) i (Some e) None inside) (extent_taken old new e takes)
 
 pub made_lowest : (tells failed : Bool) (old mid new : List ℕ) (table : EntryTable) (draft : Option FileAt) (i : ℕ) (name : List ℕ) (kind : Kind) (page : PageId) (pages : ℕ) (f : Entry) → MakesFile tells failed old mid new table draft i name kind page pages f
-    → (IsTrue tells → (t : Entries) → Holds old t None → Takes old mid page.0 pages None) → (IsTrue tells → (t : Entries) (d : FileAt) → Holds mid t (Some d) → d.page ≡ page → FreesNone mid new)
-    → (IsTrue tells → (p : ℕ) → p ≢ page.0 → page_bytes new p ≡ page_bytes mid p)
     → IsTrue (tells && not failed) → PlacesFile name pages old new
-made_lowest tells failed old mid new table draft i name kind page pages f m first frees others told =
+made_lowest tells failed old mid new table draft i name kind page pages f m told =
     let both = told_by tells failed told in
     let e : FileAt = extent_of name kind page.0 pages 0 in
     let some = first_some kind m.is_kind in
     let number = m.number in
-    let h = held tells failed old table draft m.stands.told m.idle both.0 both.1 in
-    let b = m.begun both.0 (places table) 0 h (omega arith) in
+    let b = m.begun both.0 (places table) 0 (held tells failed old table draft m.stands.told m.idle both.0 both.1) (omega arith) in
     let sets = made_sets tells failed old mid new table draft i name kind page pages f m both.0 both.1 in
     let inside : i < length (places table) = omega (arith, length_places table, m.inside) in
     let is : IsIn (set (places table) i (Some e)) i e = get_or-set_same (places table) i (Some e) None inside in
@@ -108,54 +102,50 @@ made_lowest tells failed old mid new table draft i name kind page pages f m firs
       file = e;
       is = record { name = refl; active = sets.holds.files i e is; logged = λ l log. absurd (cc); stored = sets.holds.stored i e is };
       many = refl;
-      takes = takes_more old mid new page.0 pages None (first both.0 (places table) h)
-          (λ p out apart. others both.0 p (λ same. out (omega (arith, same)) (omega (arith, same))))
-          (frees both.0 (places table) e b.holds refl);
+      takes = takes_more old mid new page.0 pages None b.lowest
+          (λ p out apart. m.other_pages both.0 p (λ same. out (omega (arith, same)) (omega (arith, same))))
+          (frees_free mid new (m.keeps_free both.0 (places table) e b.begins.holds refl));
     }
 
 -- a draft that is begun
-pub begun_taken : (tells failed : Bool) (old new : List ℕ) (table : EntryTable) (draft : Option FileAt) (name : List ℕ) (page pages size : ℕ) → draft ≡ None → (IsTrue tells → failed ≡ false → Holds old (places table) draft) → size + 32 ≤ 256 * pages
-    → (IsTrue tells → (t : Entries) (n : ℕ) → Holds old t None → n + 32 ≤ 256 * pages → Begins old new t (extent_of name Doubling page pages n)) → (IsTrue tells → (t : Entries) → Holds old t None → TakesOnly old new page pages)
+pub begun_taken : (tells failed : Bool) (old new : List ℕ) (table : EntryTable) (draft : Option FileAt) (name : List ℕ) (page pages size : ℕ) → BeginsDraft tells failed old new table draft name page pages size
     → IsTrue (tells && not failed) → TakesForDraft name old new
-begun_taken tells failed old new table draft name page pages size idle says fits begun takes told =
+begun_taken tells failed old new table draft name page pages size d told =
     let both = told_by tells failed told in
-    let d : FileAt = extent_of name Doubling page pages size in
-    let h = held tells failed old table draft says idle both.0 both.1 in
-    draft_taken old new (places table) d (begun both.0 (places table) size h fits).holds (extent_taken old new d (takes both.0 (places table) h))
+    let b = draft_begun tells failed old new table draft name page pages size d both.0 both.1 in
+    draft_taken old new (places table) (extent_of name Doubling page pages size) b.begins.holds (extent_taken old new (extent_of name Doubling page pages size) b.taken)
 
-pub begun_lowest : (tells failed : Bool) (old new : List ℕ) (table : EntryTable) (draft : Option FileAt) (name : List ℕ) (page pages size : ℕ) → draft ≡ None → (IsTrue tells → failed ≡ false → Holds old (places table) draft) → size + 32 ≤ 256 * pages
-    → (IsTrue tells → (t : Entries) (n : ℕ) → Holds old t None → n + 32 ≤ 256 * pages → Begins old new t (extent_of name Doubling page pages n)) → (IsTrue tells → (t : Entries) → Holds old t None → Takes old new page pages None)
+pub begun_lowest : (tells failed : Bool) (old new : List ℕ) (table : EntryTable) (draft : Option FileAt) (name : List ℕ) (page pages size : ℕ) → BeginsDraft tells failed old new table draft name page pages size
     → IsTrue (tells && not failed) → PlacesDraft name pages old new
-begun_lowest tells failed old new table draft name page pages size idle says fits begun takes told =
+begun_lowest tells failed old new table draft name page pages size d told =
     let both = told_by tells failed told in
-    let d : FileAt = extent_of name Doubling page pages size in
-    let h = held tells failed old table draft says idle both.0 both.1 in
-    let now = (begun both.0 (places table) size h fits).holds in
+    let b = draft_begun tells failed old new table draft name page pages size d both.0 both.1 in
     record {
-      draft = d;
-      is = record { name = refl; begun = now.begun d refl; no_log = refl };
+      draft = extent_of name Doubling page pages size;
+      is = record { name = refl; begun = b.begins.holds.begun (extent_of name Doubling page pages size) refl; no_log = refl };
       many = refl;
-      takes = takes both.0 (places table) h;
+      takes = b.lowest;
     }
 
--- where pages were looked for, and there are none
-pub stayed_looked : (tells failed : Bool) (old new : List ℕ) (table : EntryTable) (draft : Option FileAt) (n : ℕ) → draft ≡ None → (IsTrue tells → failed ≡ false → Holds old (places table) draft) → (IsTrue tells → (t : Entries) → Holds old t None → LooksIn old new n)
-    → IsTrue (tells && not failed) → LooksIn old new n
-stayed_looked tells failed old new table draft n idle says looked told =
-    let both = told_by tells failed told in
-    looked both.0 (places table) (held tells failed old table draft says idle both.0 both.1)
-
--- where an extent could not be had
-pub space_untaken : {T : Type 0} (r : Result T FileError) (old new : List ℕ) → OnSpace r (λ need. (table : Entries) → Holds old table None → TakesOnly old new 0 0) → OnSpace r (λ need. (table : Entries) → Holds old table None → TakesNone old new)
-space_untaken (Ok x) old new takes = tt
-space_untaken (Err (Space need)) old new takes = λ table h. none_taken old new (takes table h)
-space_untaken (Err Failed) old new takes = tt
-
-pub error_untaken : (T U : Type 0) (e : FileError) (old new : List ℕ) → OnSpace {T = T} (Err e) (λ need. (table : Entries) → Holds old table None → TakesOnly old new 0 0) → OnSpace {T = U} (Err e) (λ need. (table : Entries) → Holds old table None → TakesNone old new)
-error_untaken T U (Space need) old new takes = λ table h. none_taken old new (takes table h)
-error_untaken T U Failed old new takes = tt
-
 -- THE STEPS OF A FILE
+
+-- a file that is grown or merged has moved into its new extent
+pub grow_takes : (old new : List ℕ) (table : Entries) (i : ℕ) (from to : FileAt) → MovesFile old new table i from to → TakesStep Grow old new table i from to
+grow_takes old new table i from to m = record { moves = m.moves; taken = extent_taken old new to m.taken; lowest = m.lowest }
+
+pub merge_takes : (old new : List ℕ) (table : Entries) (i : ℕ) (from to : FileAt) → MovesFile old new table i from to → TakesStep Merge old new table i from to
+merge_takes old new table i from to m = record { moves = m.moves; taken = extent_taken old new to m.taken; lowest = m.lowest }
+
+-- and one that got a log has stayed where it was
+pub log_takes : (old new : List ℕ) (table : Entries) (i : ℕ) (e : FileAt) (l : PageId) → Holds old table None → IsIn table i e → e.log ≡ None → LogsFile old new table i e l → TakesStep Log old new table i e (record e { log = Some l })
+log_takes old new table i e l h is none has =
+    let to : FileAt = record e { log = Some l } in
+    let room = (h.stored i e is).fits.size in
+    record {
+      moves = record { sets = has.logs.sets; same = λ p low. has.logs.content p (omega arith) ∙ ap (λ (o : Option PageId). file_byte old e.page.0 o p) (sym none) };
+      taken = log_taken old new to l refl has.taken;
+      lowest = has.lowest;
+    }
 
 -- the entry in a place that was set
 pub set_entry : (table : EntryTable) (i : ℕ) (f e : Entry) → i < length table → IsEntry (set table i (Some f)) i e → f ≡ e

@@ -4,10 +4,11 @@
 use Rattle.std.specs.Prelude.{◌≡◌, ◌⊎◌, ℕ, List, Option, Some, None, if◌then◌else◌}
 use Rattle.afl_base.specs.declared.ids.PageId.{PageId}
 use Rattle.coffee_layout.specs.declared.file.FileAt.{FileAt}
+use Rattle.coffee_merge.specs.Holding.{Entries, Moves}
 use Rattle.coffee_merge.specs.Takes.{LooksIn, Takes}
 use Rattle.coffee_volume.specs.Rooms.{lacks_log, records_needed}
 use Rattle.coffee_volume.specs.Steps.{IsAfter, need_of, step_for}
-use Rattle.coffee_volume.specs.Taking.{IsDraftOf, IsFileOf}
+use Rattle.coffee_volume.specs.Taking.{IsDraftOf, IsFileOf, TakesWithin}
 use Rattle.coffee_volume.specs.declared.step.Step.{Step}
 use Rattle.coffee_volume.specs.declared.step.Step.TheVariants.{Grow, Merge, Log}
 
@@ -44,6 +45,12 @@ abbrev pub pages_taken : Step → FileAt → ℕ
 pages_taken Grow to = to.pages
 pages_taken Merge to = to.pages
 pages_taken Log to = 16
+
+-- a step moves a file into the lowest pages; of those that were free it takes no others
+pub record TakesStep (step : Step) (old new : List ℕ) (table : Entries) (i : ℕ) (from to : FileAt) : Type 0 where
+  pub moves : Moves old new table i from to
+  pub taken : TakesWithin to old new
+  pub lowest : Takes old new (page_taken step to) (pages_taken step to) (Some from)
 
 -- a step with a file, if there is one, puts it into the lowest pages
 abbrev pub StepsTo : Option Step → (old new : List ℕ) → (from to : FileAt) → Type 0

@@ -1,6 +1,6 @@
-ghost use Rattle.std.specs.Prelude.{◌≡◌, ◌≢◌, ◌-◌, ◌≤◌, ℕ, Some, None, length, get_or, IsTrue, OnOk};
-ghost use Rattle.afl_base.specs.Causes.{HasCause};
+ghost use Rattle.std.specs.Prelude.{◌≡◌, ◌≢◌, ◌-◌, ◌≤◌, ℕ, Some, None, get_or, IsTrue, OnOk};
 ghost use Rattle.afl_base.specs.Files.{Commits};
+ghost use Rattle.afl_base.specs.Keeping.{Changes};
 ghost use Rattle.afl_base.specs.Places.{AreTaken};
 ghost use Rattle.coffee_layout.specs.FileBytes.{file_byte};
 ghost use Rattle.coffee_volume.specs.Taking.{TakesNone};
@@ -23,9 +23,8 @@ impl<F: Flash> Volume<F> {
             Commits (⟦<Self as Files>⟧.state self.old) (⟦<Self as Files>⟧.state self.new) id) }
         ensures taken { OnOk result (
             WhereTold (⟦<Self as Files>⟧.state self.old) (⟦<Self as Files>⟧.state self.new) TakesNone) }
-        ensures store { length (F.image self.new.flash) ≡ length (F.image self.old.flash) }
-        ensures reads_later { F.reads self.old.flash ≤ F.reads self.new.flash }
-        ensures cause { HasCause (F.faults self.old.flash) (F.faults self.new.flash) result }
+        ensures frame { let files = ⟦<Self as Files>⟧ in
+            Changes files.state files.lent files.reads files.faults self.old self.new result }
     {
         let old = self.entry(id).at;
         let failed = self.failed;
@@ -53,9 +52,8 @@ impl<F: Flash> Volume<F> {
             Commits (⟦<Self as Files>⟧.state self.old) (⟦<Self as Files>⟧.state self.new) id) }
         ensures taken { OnOk result (
             WhereTold (⟦<Self as Files>⟧.state self.old) (⟦<Self as Files>⟧.state self.new) TakesNone) }
-        ensures store { length (F.image self.new.flash) ≡ length (F.image self.old.flash) }
-        ensures reads_later { F.reads self.old.flash ≤ F.reads self.new.flash }
-        ensures cause { HasCause (F.faults self.old.flash) (F.faults self.new.flash) result }
+        ensures frame { let files = ⟦<Self as Files>⟧ in
+            Changes files.state files.lent files.reads files.faults self.old self.new result }
     {
         let failed = self.failed;
         self.failed = true;

@@ -11,10 +11,10 @@ use coffee_merge::{begin_extent, commit_extent, retire_file, write_extent};
 
 impl<F: Flash> Files for Volume<F> {
     ghost use Rattle.std.specs.Prelude.{◌≡◌, ◌≢◌, ℕ, ◌+◌, ◌-◌, ◌*◌, ◌<◌, ◌≤◌, max, ◌&&◌, not, None, length, replicate, slice_index, slice_range, IfOk, IsSome, IsTrue, OnOk};
-    ghost use Rattle.afl_base.specs.Causes.{HasCause};
-    ghost use Rattle.afl_base.specs.FileErrors.{HasFileCause, OnSpace, UnlessFailed};
+    ghost use Rattle.afl_base.specs.FileErrors.{OnSpace, UnlessFailed};
     ghost use Rattle.afl_base.specs.Files.{Appends, Commits, Creates, Drafts, IsKind, IsLive, IsNamed, IsUnnamed, Keeps, KeepsBytes, Overwrites, Removes, WritesDraft, draft_in, file_at, first_pages, size_at, used};
     ghost use Rattle.afl_base.specs.Fit.{fit};
+    ghost use Rattle.afl_base.specs.Keeping.{Changes, ChangesOrLacks};
     ghost use Rattle.afl_base.specs.Regions.{regions};
     ghost use Rattle.coffee_volume.specs.Lowest.{Looks, PlacesDraft, PlacesFile, Provides, Stops};
     ghost use Rattle.coffee_volume.specs.Taking.{KeepsUnits, TakesForDraft, TakesForFile, TakesNone};
@@ -25,6 +25,8 @@ impl<F: Flash> Files for Volume<F> {
     ghost faults = { λ v. F.faults v.flash };
 
     ghost reads = { λ v. F.reads v.flash };
+
+    ghost lent = { λ v. F.lent v.flash };
 
     ghost lacks = { λ v n. Lacks (F.tells && not v.failed) (F.image v.flash) n };
 
@@ -74,14 +76,10 @@ impl<F: Flash> Files for Volume<F> {
         ensures looked { OnSpace result (λ need.
             WhereTold (⟦<Self as Files>⟧.state self.old) (⟦<Self as Files>⟧.state self.new) (Looks need)) }
         ensures need { OnSpace result (λ need. need ≡ first_pages kind) }
-        ensures lacks { OnSpace result (λ need. ⟦<Self as Files>⟧.lacks self.new need) }
         ensures kept { OnSpace result (λ _.
             Keeps (⟦<Self as Files>⟧.state self.old) (⟦<Self as Files>⟧.state self.new)) }
-        ensures store { length (⟦<Self as Files>⟧.state self.new).store
-            ≡ length (⟦<Self as Files>⟧.state self.old).store }
-        ensures reads_later { ⟦<Self as Files>⟧.reads self.old ≤ ⟦<Self as Files>⟧.reads self.new }
-        ensures cause { HasFileCause (⟦<Self as Files>⟧.faults self.old)
-            (⟦<Self as Files>⟧.faults self.new) result }
+        ensures frame { let files = ⟦<Self as Files>⟧ in
+            ChangesOrLacks files.state files.lent files.reads files.faults files.lacks self.old self.new result }
     {
         let id = free_in(&self.table);
         let pages = first_pages(kind);
@@ -122,10 +120,8 @@ impl<F: Flash> Files for Volume<F> {
             Removes (⟦<Self as Files>⟧.state self.old) (⟦<Self as Files>⟧.state self.new) id) }
         ensures taken { OnOk result (
             WhereTold (⟦<Self as Files>⟧.state self.old) (⟦<Self as Files>⟧.state self.new) TakesNone) }
-        ensures store { length (⟦<Self as Files>⟧.state self.new).store
-            ≡ length (⟦<Self as Files>⟧.state self.old).store }
-        ensures reads_later { ⟦<Self as Files>⟧.reads self.old ≤ ⟦<Self as Files>⟧.reads self.new }
-        ensures cause { HasCause (⟦<Self as Files>⟧.faults self.old) (⟦<Self as Files>⟧.faults self.new) result }
+        ensures frame { let files = ⟦<Self as Files>⟧ in
+            Changes files.state files.lent files.reads files.faults self.old self.new result }
     {
         let file = self.entry(id).at;
         let failed = self.failed;
@@ -170,12 +166,8 @@ impl<F: Flash> Files for Volume<F> {
         ensures need_fixed { OnSpace result (λ need. (n : ℕ)
             → (file_at (⟦<Self as Files>⟧.state self.old).files id).kind ≡ Kind.Fixed n → need ≤ 16) }
         ensures asked { OnSpace result (λ need. ⟦<Self as Files>⟧.asks self.new id overwrites bytes need) }
-        ensures lacks { OnSpace result (λ need. ⟦<Self as Files>⟧.lacks self.new need) }
-        ensures store { length (⟦<Self as Files>⟧.state self.new).store
-            ≡ length (⟦<Self as Files>⟧.state self.old).store }
-        ensures reads_later { ⟦<Self as Files>⟧.reads self.old ≤ ⟦<Self as Files>⟧.reads self.new }
-        ensures cause { HasFileCause (⟦<Self as Files>⟧.faults self.old)
-            (⟦<Self as Files>⟧.faults self.new) result }
+        ensures frame { let files = ⟦<Self as Files>⟧ in
+            ChangesOrLacks files.state files.lent files.reads files.faults files.lacks self.old self.new result }
     {
         self.reshape(id, overwrites, bytes)?;
         self.provide_log(id, overwrites, bytes)?;
@@ -200,10 +192,8 @@ impl<F: Flash> Files for Volume<F> {
             ≡ (file_at (⟦<Self as Files>⟧.state self.old).files id).room) }
         ensures units { OnOk result (
             WhereTold (⟦<Self as Files>⟧.state self.old) (⟦<Self as Files>⟧.state self.new) KeepsUnits) }
-        ensures store { length (⟦<Self as Files>⟧.state self.new).store
-            ≡ length (⟦<Self as Files>⟧.state self.old).store }
-        ensures reads_later { ⟦<Self as Files>⟧.reads self.old ≤ ⟦<Self as Files>⟧.reads self.new }
-        ensures cause { HasCause (⟦<Self as Files>⟧.faults self.old) (⟦<Self as Files>⟧.faults self.new) result }
+        ensures frame { let files = ⟦<Self as Files>⟧ in
+            Changes files.state files.lent files.reads files.faults self.old self.new result }
     {
         let entry = self.entry(id);
         let file = entry.at;
@@ -245,10 +235,8 @@ impl<F: Flash> Files for Volume<F> {
         ensures room { OnOk result ((file_at (⟦<Self as Files>⟧.state self.new).files id).room ≡ 0) }
         ensures units { OnOk result (
             WhereTold (⟦<Self as Files>⟧.state self.old) (⟦<Self as Files>⟧.state self.new) KeepsUnits) }
-        ensures store { length (⟦<Self as Files>⟧.state self.new).store
-            ≡ length (⟦<Self as Files>⟧.state self.old).store }
-        ensures reads_later { ⟦<Self as Files>⟧.reads self.old ≤ ⟦<Self as Files>⟧.reads self.new }
-        ensures cause { HasCause (⟦<Self as Files>⟧.faults self.old) (⟦<Self as Files>⟧.faults self.new) result }
+        ensures frame { let files = ⟦<Self as Files>⟧ in
+            Changes files.state files.lent files.reads files.faults self.old self.new result }
     {
         let entry = self.entry(id);
         let file = entry.at;
@@ -293,14 +281,10 @@ impl<F: Flash> Files for Volume<F> {
         ensures looked { OnSpace result (λ need.
             WhereTold (⟦<Self as Files>⟧.state self.old) (⟦<Self as Files>⟧.state self.new) (Looks need)) }
         ensures need { OnSpace result (λ need. need ≡ fit size) }
-        ensures lacks { OnSpace result (λ need. ⟦<Self as Files>⟧.lacks self.new need) }
         ensures kept { OnSpace result (λ _.
             Keeps (⟦<Self as Files>⟧.state self.old) (⟦<Self as Files>⟧.state self.new)) }
-        ensures store { length (⟦<Self as Files>⟧.state self.new).store
-            ≡ length (⟦<Self as Files>⟧.state self.old).store }
-        ensures reads_later { ⟦<Self as Files>⟧.reads self.old ≤ ⟦<Self as Files>⟧.reads self.new }
-        ensures cause { HasFileCause (⟦<Self as Files>⟧.faults self.old)
-            (⟦<Self as Files>⟧.faults self.new) result }
+        ensures frame { let files = ⟦<Self as Files>⟧ in
+            ChangesOrLacks files.state files.lent files.reads files.faults files.lacks self.old self.new result }
     {
         let pages = fit(size);
         let failed = self.failed;
@@ -338,10 +322,8 @@ impl<F: Flash> Files for Volume<F> {
             WritesDraft (⟦<Self as Files>⟧.state self.old) (⟦<Self as Files>⟧.state self.new) at bytes.now) }
         ensures taken { OnOk result (
             WhereTold (⟦<Self as Files>⟧.state self.old) (⟦<Self as Files>⟧.state self.new) TakesNone) }
-        ensures store { length (⟦<Self as Files>⟧.state self.new).store
-            ≡ length (⟦<Self as Files>⟧.state self.old).store }
-        ensures reads_later { ⟦<Self as Files>⟧.reads self.old ≤ ⟦<Self as Files>⟧.reads self.new }
-        ensures cause { HasCause (⟦<Self as Files>⟧.faults self.old) (⟦<Self as Files>⟧.faults self.new) result }
+        ensures frame { let files = ⟦<Self as Files>⟧ in
+            Changes files.state files.lent files.reads files.faults self.old self.new result }
     {
         let draft = drafted(&self.draft);
         let failed = self.failed;
@@ -362,10 +344,8 @@ impl<F: Flash> Files for Volume<F> {
             Commits (⟦<Self as Files>⟧.state self.old) (⟦<Self as Files>⟧.state self.new) id) }
         ensures taken { OnOk result (
             WhereTold (⟦<Self as Files>⟧.state self.old) (⟦<Self as Files>⟧.state self.new) TakesNone) }
-        ensures store { length (⟦<Self as Files>⟧.state self.new).store
-            ≡ length (⟦<Self as Files>⟧.state self.old).store }
-        ensures reads_later { ⟦<Self as Files>⟧.reads self.old ≤ ⟦<Self as Files>⟧.reads self.new }
-        ensures cause { HasCause (⟦<Self as Files>⟧.faults self.old) (⟦<Self as Files>⟧.faults self.new) result }
+        ensures frame { let files = ⟦<Self as Files>⟧ in
+            Changes files.state files.lent files.reads files.faults self.old self.new result }
     {
         let draft = drafted(&self.draft);
         match find_in(&self.table, &draft.name) {

@@ -26,7 +26,7 @@ pub enum MountError<F> {
 
 impl<F: Flash> Volume<F> {
     /// Judges the image and lists its files, whose ids are given in page order from 0. At most 448
-    /// reads for each page of the flash. Nothing is written.
+    /// reads for each page of the flash. Nothing is written, where it fails too.
     pub fn mount(mut flash: F) -> Result<Volume<F>, MountError<F>>
         ensures sound { IsTrue F.tells → OnOk result (broken_image (F.image flash) ≡ None) }
         ensures files { IsTrue F.tells → IfOk result (λ v.
@@ -41,6 +41,9 @@ impl<F: Flash> Volume<F> {
         ensures same { MatchResult result
             (λ v. (⟦<Self as Files>⟧.state v).store ≡ F.image flash)
             (λ error. F.image (flash_of error) ≡ F.image flash) }
+        ensures lent { MatchResult result
+            (λ v. ⟦<Self as Files>⟧.lent v ≡ F.lent flash)
+            (λ error. F.lent (flash_of error) ≡ F.lent flash) }
         ensures reads { MatchResult result
             (λ v. ⟦<Self as Files>⟧.reads v ≤ F.reads flash + 448 * pages_of (F.image flash))
             (λ error. F.reads (flash_of error) ≤ F.reads flash + 448 * pages_of (F.image flash)) }
@@ -73,6 +76,7 @@ impl<F: Flash> Volume<F> {
     /// failed, the image keeps its rules, and its files are those of the volume.
     pub fn unmount(self) -> F
         ensures image { F.image result ≡ (⟦<Self as Files>⟧.state self).store }
+        ensures lent { F.lent result ≡ ⟦<Self as Files>⟧.lent self }
         ensures reads { F.reads result ≡ ⟦<Self as Files>⟧.reads self }
         ensures faults { F.faults result ≡ ⟦<Self as Files>⟧.faults self }
         ensures sound { WhereIdle (⟦<Self as Files>⟧.state self) (broken_image (F.image result) ≡ None) }

@@ -1,7 +1,8 @@
-ghost use Rattle.std.specs.Prelude.{◌≡◌, ℕ, ◌+◌, ◌*◌, ◌≤◌, max, None, Some, length, OnOk};
-ghost use Rattle.afl_base.specs.FileErrors.{HasFileCause, OnSpace, UnlessFailed};
+ghost use Rattle.std.specs.Prelude.{◌≡◌, ℕ, ◌+◌, ◌*◌, ◌≤◌, max, None, Some, OnOk};
+ghost use Rattle.afl_base.specs.FileErrors.{OnSpace, UnlessFailed};
 ghost use Rattle.afl_base.specs.Files.{IsLive, KeepsBytes, file_at, size_at};
 ghost use Rattle.afl_base.specs.Fit.{fit};
+ghost use Rattle.afl_base.specs.Keeping.{ChangesOrLacks};
 ghost use Rattle.coffee_volume.specs.Lowest.{LooksFor, StepsTo, log_for};
 ghost use Rattle.coffee_volume.specs.Rooms.{pages_asked};
 ghost use Rattle.coffee_volume.specs.Steps.{IsAfter, MayTake, need_of, step_for};
@@ -55,10 +56,8 @@ impl<F: Flash> Volume<F> {
             (λ old new. AtEntry self.old.table id (λ e. LooksFor (step_for e overwrites bytes) e need old new))) }
         ensures untaken { OnSpace result (λ _.
             WhereTold (⟦<Self as Files>⟧.state self.old) (⟦<Self as Files>⟧.state self.new) TakesNone) }
-        ensures lacks { OnSpace result (λ need. ⟦<Self as Files>⟧.lacks self.new need) }
-        ensures store { length (F.image self.new.flash) ≡ length (F.image self.old.flash) }
-        ensures reads_later { F.reads self.old.flash ≤ F.reads self.new.flash }
-        ensures cause { HasFileCause (F.faults self.old.flash) (F.faults self.new.flash) result }
+        ensures frame { let files = ⟦<Self as Files>⟧ in
+            ChangesOrLacks files.state files.lent files.reads files.faults files.lacks self.old self.new result }
     {
         let at = self.entry(id).at;
         match step_for(&at, overwrites, bytes) {
@@ -103,10 +102,8 @@ impl<F: Flash> Volume<F> {
             (λ old new. AtEntry self.old.table id (λ e. LooksFor (log_for e overwrites bytes) e need old new))) }
         ensures untaken { OnSpace result (λ _.
             WhereTold (⟦<Self as Files>⟧.state self.old) (⟦<Self as Files>⟧.state self.new) TakesNone) }
-        ensures lacks { OnSpace result (λ need. ⟦<Self as Files>⟧.lacks self.new need) }
-        ensures store { length (F.image self.new.flash) ≡ length (F.image self.old.flash) }
-        ensures reads_later { F.reads self.old.flash ≤ F.reads self.new.flash }
-        ensures cause { HasFileCause (F.faults self.old.flash) (F.faults self.new.flash) result }
+        ensures frame { let files = ⟦<Self as Files>⟧ in
+            ChangesOrLacks files.state files.lent files.reads files.faults files.lacks self.old self.new result }
     {
         let at = self.entry(id).at;
         if lacks_log(&at, overwrites, bytes) {
@@ -136,10 +133,8 @@ impl<F: Flash> Volume<F> {
             (λ old new. AtEntry self.old.table id (λ e. LooksFor (Some step) e need old new))) }
         ensures untaken { OnSpace result (λ _.
             WhereTold (⟦<Self as Files>⟧.state self.old) (⟦<Self as Files>⟧.state self.new) TakesNone) }
-        ensures lacks { OnSpace result (λ need. ⟦<Self as Files>⟧.lacks self.new need) }
-        ensures store { length (F.image self.new.flash) ≡ length (F.image self.old.flash) }
-        ensures reads_later { F.reads self.old.flash ≤ F.reads self.new.flash }
-        ensures cause { HasFileCause (F.faults self.old.flash) (F.faults self.new.flash) result }
+        ensures frame { let files = ⟦<Self as Files>⟧ in
+            ChangesOrLacks files.state files.lent files.reads files.faults files.lacks self.old self.new result }
     {
         let at = self.entry(id).at;
         let failed = self.failed;

@@ -1,15 +1,13 @@
-ghost use Rattle.std.specs.Prelude.{◌≡◌, ◌≢◌, ℕ, ◌+◌, ◌*◌, ◌≤◌, ◌==◌, not, true, None, Some, length, IsTrue, IfOk};
-ghost use Rattle.afl_base.specs.FileErrors.{HasFileCause, OnSpace};
+ghost use Rattle.std.specs.Prelude.{◌≡◌, ◌≢◌, ◌+◌, ◌*◌, ◌≤◌, ◌==◌, not, true, None, Some, IsTrue, IfOk};
+ghost use Rattle.afl_base.specs.Keeping.{ChangesFlashOrLacks};
+ghost use Rattle.afl_base.specs.FileErrors.{OnSpace};
 ghost use Rattle.coffee_layout.specs.Files.{FitsIn};
-ghost use Rattle.coffee_layout.specs.Marks.{IsCramped};
-ghost use Rattle.coffee_layout.specs.Tiling.{units_of};
 ghost use Rattle.coffee_layout.specs.Units.{pages_of};
-ghost use Rattle.coffee_merge.specs.Holding.{Moves, Stays, has_shape};
-ghost use Rattle.coffee_merge.specs.Takes.{LooksIn, Takes};
-ghost use Rattle.coffee_volume.specs.Lowest.{log_page, page_taken, pages_taken};
+ghost use Rattle.coffee_merge.specs.Holding.{has_shape};
+ghost use Rattle.coffee_merge.specs.Outcomes.{LeavesAll};
+ghost use Rattle.coffee_volume.specs.Lowest.{TakesStep};
 ghost use Rattle.coffee_volume.specs.Rooms.{has_too_few, lacks_log, own_record, records_needed};
 ghost use Rattle.coffee_volume.specs.Steps.{IsAfter, MayTake, WhereHeld, WhereStands, need_of, step_for};
-ghost use Rattle.coffee_volume.specs.Taking.{TakesNone, TakesWithin};
 
 use afl_base::{FileError, Flash};
 use coffee_layout::FileAt;
@@ -65,25 +63,13 @@ pub(crate) fn take_step<F: Flash>(
     requires shape { has_shape file.now.kind file.now.pages ≡ true }
     requires may { MayTake step file.now }
     ensures moved { IsTrue F.tells → IfOk result (λ to. WhereStands (F.image flash.old) file.now
-        (λ table i. Moves (F.image flash.old) (F.image flash.new) table i file.now to)) }
+        (λ table i. TakesStep step (F.image flash.old) (F.image flash.new) table i file.now to)) }
     ensures after { IfOk result (λ to. IsAfter step file.now to) }
-    ensures kept { IsTrue F.tells → OnSpace result (λ _. WhereHeld (F.image flash.old)
-        (λ table. Stays (F.image flash.old) (F.image flash.new) table)) }
-    ensures taken { IsTrue F.tells → IfOk result (λ to. WhereStands (F.image flash.old) file.now
-        (λ table i. TakesWithin to (F.image flash.old) (F.image flash.new))) }
-    ensures untaken { IsTrue F.tells → OnSpace result (λ _. WhereHeld (F.image flash.old)
-        (λ table. TakesNone (F.image flash.old) (F.image flash.new))) }
-    ensures lowest { IsTrue F.tells → IfOk result (λ to. WhereStands (F.image flash.old) file.now
-        (λ table i. Takes (F.image flash.old) (F.image flash.new) (page_taken step to) (pages_taken step to) (Some file.now))) }
-    ensures looked { IsTrue F.tells → OnSpace result (λ _. WhereHeld (F.image flash.old)
-        (λ table. LooksIn (F.image flash.old) (F.image flash.new) (need_of step file.now))) }
-    ensures cramped { IsTrue F.tells → OnSpace result (λ need. WhereHeld (F.image flash.old)
-        (λ table. IsCramped (units_of (F.image flash.new)) need)) }
+    ensures left { IsTrue F.tells → OnSpace result (λ need. WhereHeld (F.image flash.old)
+        (λ table. LeavesAll (F.image flash.old) (F.image flash.new) table need)) }
     ensures need { OnSpace result (λ need. need ≡ need_of step file.now) }
     ensures inside { IfOk result (λ to. FitsIn (pages_of (F.image flash.new)) to) }
-    ensures size { length (F.image flash.new) ≡ length (F.image flash.old) }
-    ensures reads_later { F.reads flash.old ≤ F.reads flash.new }
-    ensures cause { HasFileCause (F.faults flash.old) (F.faults flash.new) result }
+    ensures frame { ChangesFlashOrLacks F.image F.lent F.reads F.faults flash.old flash.new result }
 {
     match step {
         Step::Grow => grow(flash, file),
@@ -97,34 +83,19 @@ fn log<F: Flash>(flash: &mut F, file: &FileAt) -> Result<FileAt, FileError>
     requires fits { FitsIn (pages_of (F.image flash.old)) file.now }
     requires none { file.now.log ≡ None }
     ensures moved { IsTrue F.tells → IfOk result (λ to. WhereStands (F.image flash.old) file.now
-        (λ table i. Moves (F.image flash.old) (F.image flash.new) table i file.now to)) }
-    ensures after { IfOk result (λ to. to ≡ record file.now { log = to.log }) }
-    ensures logged { IfOk result (λ to. to.log ≢ None) }
-    ensures kept { IsTrue F.tells → OnSpace result (λ _. WhereHeld (F.image flash.old)
-        (λ table. Stays (F.image flash.old) (F.image flash.new) table)) }
-    ensures taken { IsTrue F.tells → IfOk result (λ to. WhereStands (F.image flash.old) file.now
-        (λ table i. TakesWithin to (F.image flash.old) (F.image flash.new))) }
-    ensures untaken { IsTrue F.tells → OnSpace result (λ _. WhereHeld (F.image flash.old)
-        (λ table. TakesNone (F.image flash.old) (F.image flash.new))) }
-    ensures lowest { IsTrue F.tells → IfOk result (λ to. WhereStands (F.image flash.old) file.now
-        (λ table i. Takes (F.image flash.old) (F.image flash.new) (log_page to.log) 16 (Some file.now))) }
-    ensures looked { IsTrue F.tells → OnSpace result (λ _. WhereHeld (F.image flash.old)
-        (λ table. LooksIn (F.image flash.old) (F.image flash.new) 16)) }
-    ensures cramped { IsTrue F.tells → OnSpace result (λ need. WhereHeld (F.image flash.old)
-        (λ table. IsCramped (units_of (F.image flash.new)) need)) }
+        (λ table i. TakesStep Step.Log (F.image flash.old) (F.image flash.new) table i file.now to)) }
+    ensures after { IfOk result (λ to. IsAfter Step.Log file.now to) }
+    ensures left { IsTrue F.tells → OnSpace result (λ need. WhereHeld (F.image flash.old)
+        (λ table. LeavesAll (F.image flash.old) (F.image flash.new) table need)) }
     ensures need { OnSpace result (λ need. need ≡ 16) }
     ensures inside { IfOk result (λ to. FitsIn (pages_of (F.image flash.new)) to) }
-    ensures size { length (F.image flash.new) ≡ length (F.image flash.old) }
-    ensures reads_later { F.reads flash.old ≤ F.reads flash.new }
-    ensures cause { HasFileCause (F.faults flash.old) (F.faults flash.new) result }
+    ensures frame { ChangesFlashOrLacks F.image F.lent F.reads F.faults flash.old flash.new result }
 {
-    match add_log(flash, file) {
-        Ok(log) => Ok(FileAt {
-            log: Some(log),
-            ..*file
-        }),
-        Err(error) => Err(error),
-    }
+    let log = add_log(flash, file)?;
+    Ok(FileAt {
+        log: Some(log),
+        ..*file
+    })
 }
 
 // The records that so many overwrites and bytes need: one for the bytes, where the file has a log or is

@@ -3,7 +3,7 @@
 #![tactic(auto)]
 
 ghost use Rattle.std.specs.Prelude.{None, ◌≡◌, ◌+◌, ◌*◌, ◌<◌, ◌≤◌, ◌∷◌, [], false, true, IfOk, IfSome, IsTrue, MatchBool, MatchOption, OnErr, OnOk, List, get_or, length};
-ghost use Rattle.afl_base.specs.Causes.{HasCause};
+ghost use Rattle.afl_base.specs.Keeping.{OnlyReads};
 ghost use Rattle.db_model.specs.Row.{Row, no_row};
 ghost use Rattle.index_set.specs.Complete.{AreReadable};
 ghost use Rattle.tuple_file.specs.Tuples.{HoldsRows, rows, slots};
@@ -122,9 +122,6 @@ impl JoinCursor {
             IsTrue state.tells → IfOk result (λ found. IfSome found (λ p.
             get_or rights p.slot no_row ≡ record { tuple = right.new; live = true })) }
         ensures below { IfOk result (λ found. IfSome found (λ p. p.slot < self.now.right_slots)) }
-        ensures same { OnOk result (V.state files.new ≡ V.state files.old) }
-        ensures store { length (V.state files.new).store ≡ length (V.state files.old).store }
-        ensures cause { HasCause (V.faults files.old) (V.faults files.new) result }
         ensures reads { let state = V.state files.old in let lefts = rows state.files self.now.left in
             let rights = rows state.files self.now.right in
             IsTrue state.tells → IfOk result (λ found.
@@ -138,6 +135,7 @@ impl JoinCursor {
             IsTrue state.tells → OnErr result (FitsPairs self.now state tables.now
             → V.reads files.new + join_cost_behind self.now lefts rights
             ≤ V.reads files.old + join_cost_ahead self.now lefts rights) }
+        ensures frame { OnlyReads V.state V.lent V.reads V.faults files.old files.new result }
     {
         let slot = match SlotNo::new(self.at) {
             Some(slot) => slot,
@@ -207,9 +205,6 @@ impl JoinCursor {
             let lefts = rows state.files self.old.left in let rights = rows state.files self.old.right in
             IsTrue state.tells → OnErr result (FitsPairs self.old state tables.now
             → pairs_left self.old lefts rights ≡ pairs_left self.new lefts rights) }
-        ensures same { OnOk result (V.state files.new ≡ V.state files.old) }
-        ensures store { length (V.state files.new).store ≡ length (V.state files.old).store }
-        ensures cause { HasCause (V.faults files.old) (V.faults files.new) result }
         ensures reads { let state = V.state files.old in let lefts = rows state.files self.old.left in
             let rights = rows state.files self.old.right in
             IsTrue state.tells → OnOk result (FitsPairs self.old state tables.now
@@ -224,6 +219,7 @@ impl JoinCursor {
             IsTrue state.tells → OnErr result (FitsPairs self.old state tables.now
             → V.reads files.new + join_cost_behind self.new lefts rights
             ≤ V.reads files.old + join_cost_ahead self.old lefts rights) }
+        ensures frame { OnlyReads V.state V.lent V.reads V.faults files.old files.new result }
     {
         'lefts: while self.at < self.left_slots {
             match self.pair_at(files, tables, left, right)? {

@@ -2,9 +2,9 @@
 
 #![tactic(auto)]
 
-ghost use Rattle.std.specs.Prelude.{None, ◌≡◌, ◌==◌, ◌+◌, ◌-◌, ◌<◌, ◌≤◌, ◌∷◌, [], true, IfOk, IfSome, IsTrue, MatchOption, OnErr, OnOk, get_or, length, slice_get, if◌then◌else◌};
+ghost use Rattle.std.specs.Prelude.{None, ◌≡◌, ◌==◌, ◌+◌, ◌-◌, ◌<◌, ◌≤◌, ◌∷◌, [], true, IfOk, IfSome, IsTrue, MatchOption, OnErr, get_or, slice_get, if◌then◌else◌};
+ghost use Rattle.afl_base.specs.Keeping.{OnlyReads};
 ghost use Rattle.std.specs.List.{range_with_len};
-ghost use Rattle.afl_base.specs.Causes.{HasCause};
 ghost use Rattle.db_model.specs.declared.schemas.Range.TheVariants.{Between};
 ghost use Rattle.db_model.specs.Answers.{same_value};
 ghost use Rattle.db_model.specs.Cost.{ranges_at};
@@ -130,9 +130,6 @@ fn right_side<V: Files>(
         IsTrue state.tells → IfOk result (λ c. AreIndexesOf state tables.now all indexes.now
         → HasAhead inner.now test all from slots
         → passing test all (ahead c all) ≡ passing test all (range_with_len from (slots - from))) }
-    ensures same { OnOk result (V.state files.new ≡ V.state files.old) }
-    ensures store { length (V.state files.new).store ≡ length (V.state files.old).store }
-    ensures cause { HasCause (V.faults files.old) (V.faults files.new) result }
     ensures reads { let state = V.state files.old in let all = rows state.files right.now in
         let cost = right_cost indexes.now partner.now.on partner.now.value all in
         IsTrue state.tells → IfOk result (λ c. AreIndexesOf state tables.now all indexes.now
@@ -140,6 +137,7 @@ fn right_side<V: Files>(
     ensures reads_err { let state = V.state files.old in let all = rows state.files right.now in
         let cost = right_cost indexes.now partner.now.on partner.now.value all in
         OnErr result (V.reads files.new ≤ V.reads files.old + inner_cost inner.now cost all) }
+    ensures frame { OnlyReads V.state V.lent V.reads V.faults files.old files.new result }
 {
     match inner {
         Some(inner) => Ok(*inner),
@@ -199,9 +197,6 @@ pub(crate) fn next_partner<V: Files>(
     ensures slots { IfOk result (λ found. IfSome found (λ p. p.inner.slots ≡ slots)) }
     ensures safe { IfOk result (λ found. IfSome found (λ p.
         IsSafeBy p.inner.search (V.state files.old))) }
-    ensures same { OnOk result (V.state files.new ≡ V.state files.old) }
-    ensures store { length (V.state files.new).store ≡ length (V.state files.old).store }
-    ensures cause { HasCause (V.faults files.old) (V.faults files.new) result }
     ensures reads { let state = V.state files.old in let all = rows state.files right.now in
         let cost = right_cost indexes.now partner.now.on partner.now.value all in
         IsTrue state.tells → IfOk result (λ found. AreIndexesOf state tables.now all indexes.now
@@ -214,6 +209,7 @@ pub(crate) fn next_partner<V: Files>(
         IsTrue state.tells → OnErr result (AreIndexesOf state tables.now all indexes.now
         → FitsInner inner.now state tables.now all
         → V.reads files.new ≤ V.reads files.old + inner_cost inner.now cost all) }
+    ensures frame { OnlyReads V.state V.lent V.reads V.faults files.old files.new result }
 {
     let mut stands = right_side(files, tables, right, indexes, partner, inner, from, slots)?;
     match next_row(files, tables, right, &mut stands, partner, into)? {

@@ -3,7 +3,7 @@
 #![tactic(auto)]
 
 ghost use Rattle.std.specs.Prelude.{None, ◌≡◌, ◌+◌, ◌<◌, ◌≤◌, ◌∷◌, [], IfOk, IfSome, IsTrue, MatchOption, OnErr, OnOk, Option, List, length};
-ghost use Rattle.afl_base.specs.Causes.{HasCause};
+ghost use Rattle.afl_base.specs.Keeping.{OnlyReads};
 ghost use Rattle.db_model.specs.declared.schemas.Attribute.{Attribute};
 ghost use Rattle.db_model.specs.Ahead.{walk_of as walk_by};
 ghost use Rattle.db_model.specs.Answers.{selected};
@@ -113,14 +113,12 @@ impl SelectCursor {
         ensures rests { IfOk result (λ c. c.candidates.place ≡ None) }
         ensures chosen { IfOk result (λ c. IsChosen c.candidates.search indexes.now) }
         ensures may_read { IfOk result (λ c. MayRead (V.state files.old) tuples c.candidates) }
-        ensures same { OnOk result (V.state files.new ≡ V.state files.old) }
-        ensures store { length (V.state files.new).store ≡ length (V.state files.old).store }
-        ensures cause { HasCause (V.faults files.old) (V.faults files.new) result }
         ensures reads { let state = V.state files.old in
             let ranges = ranges_of tuples.schema.attributes in
             (condition : Option Cond) → IsCodeOf tuples.schema.attributes condition code
             → V.reads files.new ≤ V.reads files.old
             + begin_cost (slots state.files tuples) (plan (kinds indexes.now) (ranges condition)) }
+        ensures frame { OnlyReads V.state V.lent V.reads V.faults files.old files.new result }
     {
         let ranges = ranges_of(&code);
         let slots = tuples.count(files);
@@ -197,9 +195,6 @@ impl SelectCursor {
         ensures within { self.old.candidates.end ≤ self.old.candidates.slots
             → self.new.candidates.end ≤ self.new.candidates.slots }
         ensures may_read { MayRead (V.state files.old) self.new.tuples self.new.candidates }
-        ensures same { OnOk result (V.state files.new ≡ V.state files.old) }
-        ensures store { length (V.state files.new).store ≡ length (V.state files.old).store }
-        ensures cause { HasCause (V.faults files.old) (V.faults files.new) result }
         ensures reads { let state = V.state files.old in let all = rows state.files self.old.tuples in
             IsTrue state.tells → OnOk result (Fits self.old.candidates state tables.now all
             → V.reads files.new + cost_ahead self.new.candidates all
@@ -212,6 +207,7 @@ impl SelectCursor {
             let all = rows state.files self.old.tuples in
             IsTrue state.tells → OnErr result (Fits self.old.candidates state tables.now all
             → V.reads files.new ≤ V.reads files.old + next_cost self.old all) }
+        ensures frame { OnlyReads V.state V.lent V.reads V.faults files.old files.new result }
     {
         let mut candidates = self.candidates;
         let found = next_row(

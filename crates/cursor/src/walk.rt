@@ -3,7 +3,7 @@
 #![tactic(auto)]
 
 ghost use Rattle.std.specs.Prelude.{None, ◌≡◌, ◌+◌, ◌<◌, ◌≤◌, ◌∷◌, [], true, IfOk, IfSome, IsTrue, MatchOption, OnErr, OnOk, List, get_or, length};
-ghost use Rattle.afl_base.specs.Causes.{HasCause};
+ghost use Rattle.afl_base.specs.Keeping.{OnlyReads};
 ghost use Rattle.db_model.specs.Row.{AllSuit, Row, no_row};
 ghost use Rattle.index_set.specs.Walks.{Fits, Waits, ahead, cost_ahead};
 ghost use Rattle.tuple_file.specs.Tuples.{HoldsRows, row, rows, slots};
@@ -17,6 +17,7 @@ use tuple_file::Tuples;
 /// A test of tuples.
 pub(crate) trait Test {
     ghost use Rattle.std.specs.Prelude.{◌≡◌, Bool, List};
+    ghost use Rattle.afl_base.specs.Keeping.{OnlyReads};
     ghost use Rattle.db_model.specs.declared.values.Value.{Value};
 
     /// Whether a tuple passes.
@@ -44,10 +45,8 @@ fn is_answer<V: Files, T: Test>(
         IsTrue state.tells → IfOk result (λ yes. IsTrue yes
         → get_or all slot no_row ≡ record { tuple = into.new; live = true }) }
     ensures suits { OnOk result (AllSuit tuples.now.schema.attributes into.new) }
-    ensures same { OnOk result (V.state files.new ≡ V.state files.old) }
-    ensures store { length (V.state files.new).store ≡ length (V.state files.old).store }
-    ensures cause { HasCause (V.faults files.old) (V.faults files.new) result }
     ensures reads { V.reads files.new ≤ V.reads files.old + 6 }
+    ensures frame { OnlyReads V.state V.lent V.reads V.faults files.old files.new result }
 {
     let live = tuples.row(files, slot, into)?;
     Ok(live && test.holds(into))
@@ -92,9 +91,6 @@ pub(crate) fn next_row<V: Files, T: Test>(
     ensures order { candidates.old.from ≤ candidates.old.end → candidates.new.from ≤ candidates.new.end }
     ensures within { candidates.old.end ≤ candidates.old.slots
         → candidates.new.end ≤ candidates.new.slots }
-    ensures same { OnOk result (V.state files.new ≡ V.state files.old) }
-    ensures store { length (V.state files.new).store ≡ length (V.state files.old).store }
-    ensures cause { HasCause (V.faults files.old) (V.faults files.new) result }
     ensures reads { let state = V.state files.old in let all = rows state.files tuples.now in
         IsTrue state.tells → OnOk result (Fits candidates.old state tables.now all
         → V.reads files.new + cost_ahead candidates.new all
@@ -106,6 +102,7 @@ pub(crate) fn next_row<V: Files, T: Test>(
         let slots = passed_until (T.passes test.now) all (ahead candidates.old all) in
         IsTrue state.tells → OnErr result (Fits candidates.old state tables.now all
         → V.reads files.new ≤ V.reads files.old + cost_of candidates.old all (length slots)) }
+    ensures frame { OnlyReads V.state V.lent V.reads V.faults files.old files.new result }
 {
     'slots: loop {
         match candidates.next(files, tables)? {

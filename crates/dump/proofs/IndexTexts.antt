@@ -9,11 +9,11 @@ use Rattle.db_model.specs.declared.schemas.Schema.{Schema}
 use Rattle.db_model.specs.Catalog.{Index}
 use Rattle.db_model.specs.Database.{Database}
 use Rattle.db_model.specs.Sound.{IsSoundDatabase, IsSoundIndex}
-use Rattle.antelope_engine.specs.Reading.{index_at, schema_at}
+use Rattle.antelope_engine.specs.Reading.{index_in_slot, schema_at}
 use Rattle.dump.specs.Parts.{index_lines}
 use Rattle.dump_model.proofs.Lexing.{false_true}
 use Rattle.dump_model.proofs.Slots.{some_same}
-use Rattle.dump_model.specs.Script.{command_line, index_command, name_at}
+use Rattle.dump_model.specs.Script.{command_line, index_command, attribute_name}
 
 none_some : {A : Type 0} {x : A} → None ≡ Some x → ⊥
 none_some h = cc
@@ -31,7 +31,7 @@ below_length [] p a h = cc
 below_length (x ∷ xs) zero a h = grind (arith, nat_tests)
 below_length (x ∷ xs) (suc p) a h = let e = below_length xs p a h in grind (arith, nat_tests)
 
-module _ (db : Database) (sound : IsSoundDatabase db) (k : ℕ) {index : Index} (stands : Some index ≡ index_at db k) where
+module _ (db : Database) (sound : IsSoundDatabase db) (k : ℕ) {index : Index} (stands : Some index ≡ index_in_slot db k) where
   index_is : IsSoundIndex db.relations index
   index_is = sound.indexes k index (sym stands)
 
@@ -53,12 +53,12 @@ module _ (db : Database) (sound : IsSoundDatabase db) (k : ℕ) {index : Index} 
 
     -- its line
     pub index_line_is : {a : Attribute} → true ≡ nat_lt index.attribute (length schema.attributes) → a ≡ slice_index_or schema.attributes index.attribute a
-        → command_line (CreateIndex schema.name a.name index.kind) ≡ index_lines db.relations (index_at db k)
+        → command_line (CreateIndex schema.name a.name index.kind) ≡ index_lines db.relations (index_in_slot db k)
     index_line_is {a} below e =
         let place : slice_get index_is.relation.schema.attributes index.attribute ≡ Some a = subst (λ s. slice_get s.attributes index.attribute ≡ Some a) same_schema (there schema.attributes index.attribute a (sym below) e) in
         let command : List ℕ → Option Attribute → Command = λ name found. CreateIndex name (elim found [ None ↦ [] | Some b ↦ b.name ]) index.kind in
         let wanted : CreateIndex schema.name a.name index.kind ≡ index_command db.relations index =
         ap (λ s. CreateIndex s.name a.name index.kind) same_schema
         ∙ ap (command index_is.relation.schema.name) (sym place)
-        ∙ ap (λ slot. elim slot [ None ↦ CreateIndex [] [] index.kind | Some r ↦ CreateIndex r.schema.name (name_at r.schema.attributes index.attribute) index.kind ]) (sym index_is.stands) in
+        ∙ ap (λ slot. elim slot [ None ↦ CreateIndex [] [] index.kind | Some r ↦ CreateIndex r.schema.name (attribute_name r.schema.attributes index.attribute) index.kind ]) (sym index_is.stands) in
         ap command_line wanted ∙ ap (index_lines db.relations) stands

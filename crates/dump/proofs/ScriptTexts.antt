@@ -10,7 +10,7 @@ use Rattle.db_model.specs.Answers.{live_tuples}
 use Rattle.db_model.specs.Catalog.{Index}
 use Rattle.db_model.specs.Database.{Relation, Database, used}
 use Rattle.db_model.specs.Row.{Row}
-use Rattle.antelope_engine.specs.Reading.{relation_at, schema_at}
+use Rattle.antelope_engine.specs.Reading.{relation_in_slot, schema_at}
 use Rattle.space_model.specs.Enough.{rows_in}
 use Rattle.dump.specs.Parts.{attribute_lines, index_lines, relation_lines, row_lines, schema_lines, slots_of_all}
 use Rattle.dump_model.proofs.Slots.{some_same}
@@ -91,8 +91,8 @@ slots_front (Some r ∷ slots) (suc k) = let e = slots_front slots k in omega (a
 
 -- ---- a relation in its slot
 
-pub lines_of : (db : Database) (k : ℕ) (schema : Schema) → schema_at db k ≡ Some schema → relation_lines (relation_at db k) ≡ schema_lines schema ++ flat_map (row_lines schema.name) (rows_in db k)
-lines_of db k schema h = by_slot (relation_at db k) h
+pub lines_of : (db : Database) (k : ℕ) (schema : Schema) → schema_at db k ≡ Some schema → relation_lines (relation_in_slot db k) ≡ schema_lines schema ++ flat_map (row_lines schema.name) (rows_in db k)
+lines_of db k schema h = by_slot (relation_in_slot db k) h
   where
     by_slot : (slot : Option Relation) → option_map (λ r. r.schema) slot ≡ Some schema → relation_lines slot ≡ schema_lines schema ++ flat_map (row_lines schema.name) (rows_of_slot slot)
     by_slot None e = cc

@@ -6,7 +6,7 @@ use Rattle.buffered_sink.proofs.Fronts.{front_part}
 use Rattle.buffered_sink.specs.Handing.{WroteFront}
 use Rattle.reply_text.proofs.Pieces.{append_known-nil}
 use Rattle.session_model.specs.Steps.{WrotePart}
-use Rattle.antelope_engine.specs.Reading.{relation_at, schema_at}
+use Rattle.antelope_engine.specs.Reading.{relation_in_slot, schema_at}
 use Rattle.db_model.specs.declared.commands.Command.{Command}
 use Rattle.db_model.specs.declared.commands.Command.TheVariants.{CreateRelation}
 use Rattle.db_model.specs.declared.schemas.Schema.{Schema}
@@ -34,7 +34,7 @@ unfolding command_line
 line_some command = let e = length-append (command_text command) (59 ∷ 10 ∷ []) in omega (arith, e)
 
 -- nor are the lines of a relation
-pub relation_some : (db : Database) (id : ℕ) (schema : Schema) → schema_at db id ≡ Some schema → 0 < length (relation_lines (relation_at db id))
+pub relation_some : (db : Database) (id : ℕ) (schema : Schema) → schema_at db id ≡ Some schema → 0 < length (relation_lines (relation_in_slot db id))
 relation_some db id schema is =
     let first = line_some (CreateRelation schema.name) in
     let front = length-append (command_line (CreateRelation schema.name)) (attribute_lines schema.name schema.attributes) in

@@ -6,16 +6,16 @@ use Rattle.db_model.specs.Sound.{IsSoundDatabase}
 use Rattle.reply_text.specs.WroteLess.{WroteLess}
 use Rattle.session_model.specs.declared.step.Stop.{Stop}
 use Rattle.session_model.specs.declared.step.Stop.TheVariants.{Sink}
-use Rattle.dump.specs.Appends.{Appends}
+use Rattle.dump.specs.Appends.{AppendsText}
 use Rattle.dump.specs.Parts.{index_lines, relation_lines}
 use Rattle.dump.proofs.Items.{appends_behind, appends_front}
 use Rattle.dump.proofs.ScriptTexts.{script_parts}
 use Rattle.dump_model.specs.Script.{script}
 
 -- the relations were not written to their end
-pub relations_cut : (stop : Stop) (db : Database) (h0 h1 : Option (List ℕ)) → Appends (Err stop) h0 h1 (flat_map relation_lines db.relations) → Appends (Err stop) h0 h1 (script db)
+pub relations_cut : (stop : Stop) (db : Database) (h0 h1 : Option (List ℕ)) → AppendsText (Err stop) h0 h1 (flat_map relation_lines db.relations) → AppendsText (Err stop) h0 h1 (script db)
 relations_cut stop db h0 h1 w =
-    subst (Appends (Err stop) h0 h1) (sym (script_parts db)) (appends_front stop h0 h1 (flat_map relation_lines db.relations) (flat_map (index_lines db.relations) db.indexes) w)
+    subst (AppendsText (Err stop) h0 h1) (sym (script_parts db)) (appends_front stop h0 h1 (flat_map relation_lines db.relations) (flat_map (index_lines db.relations) db.indexes) w)
 
 module _ (db d : Database) (h0 h1 h2 : Option (List ℕ)) where
   -- the relations were written, and then the indexes

@@ -7,7 +7,7 @@ use Rattle.session_model.specs.declared.step.Stop.TheVariants.{Flash, Sink}
 use Rattle.session_model.specs.Steps.{WrotePart}
 
 -- all of it; a proper prefix where the sink failed; a prefix where the files did
-abbrev pub Appends : Result ⊤ Stop → Option (List ℕ) → Option (List ℕ) → List ℕ → Type 0
-Appends (Ok done) old new all = new ≡ append_known old all
-Appends (Err Sink) old new all = WroteLess old new all
-Appends (Err Flash) old new all = WrotePart old new all
+abbrev pub AppendsText : Result ⊤ Stop → Option (List ℕ) → Option (List ℕ) → List ℕ → Type 0
+AppendsText (Ok done) old new all = new ≡ append_known old all
+AppendsText (Err Sink) old new all = WroteLess old new all
+AppendsText (Err Flash) old new all = WrotePart old new all

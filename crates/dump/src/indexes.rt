@@ -3,10 +3,10 @@
 #![tactic(auto)]
 
 ghost use Rattle.std.specs.Prelude.{◌≡◌, ◌<◌, false, OnErr, OnOk, flat_map};
+ghost use Rattle.afl_base.specs.Keeping.{Sends};
 ghost use Rattle.std.specs.Io.KnownBytes.{append_known};
-ghost use Rattle.afl_base.specs.Causes.{HasCause};
 ghost use Rattle.db_model.specs.Sound.{IsSoundDatabase};
-ghost use Rattle.antelope_engine.specs.Reading.{index_at};
+ghost use Rattle.antelope_engine.specs.Reading.{index_in_slot};
 ghost use Rattle.dump.specs.Parts.{index_lines};
 ghost use Rattle.reply_text.specs.WroteLess.{WroteLess};
 
@@ -23,9 +23,7 @@ pub fn write_indexes<V: Files, K: Sink>(session: &Session<V>, out: &mut K) -> Re
     ensures failed { let db = session.now.database in IsSoundDatabase db
         → OnErr result (WroteLess (K.held out.old) (K.held out.new)
         (flat_map (index_lines db.relations) db.indexes)) }
-    ensures keeps { K.keeps out.old out.new }
-    ensures faultless { OnOk result (K.faults out.new ≡ K.faults out.old) }
-    ensures cause { HasCause (K.faults out.old) (K.faults out.new) result }
+    ensures frame { Sends K.lent K.faults out.old out.new result }
 {
     for slot in 0..8u16 {
         write_index(session, index_id(slot), out)?;
@@ -52,13 +50,11 @@ fn write_index<V: Files, K: Sink>(
     requires running { session.now.stopped ≡ false }
     ensures written { let db = session.now.database in IsSoundDatabase db
         → OnOk result (K.held out.new ≡ append_known (K.held out.old)
-        (index_lines db.relations (index_at db id))) }
+        (index_lines db.relations (index_in_slot db id))) }
     ensures failed { let db = session.now.database in IsSoundDatabase db
         → OnErr result (WroteLess (K.held out.old) (K.held out.new)
-        (index_lines db.relations (index_at db id))) }
-    ensures keeps { K.keeps out.old out.new }
-    ensures faultless { OnOk result (K.faults out.new ≡ K.faults out.old) }
-    ensures cause { HasCause (K.faults out.old) (K.faults out.new) result }
+        (index_lines db.relations (index_in_slot db id))) }
+    ensures frame { Sends K.lent K.faults out.old out.new result }
 {
     let index = match session.index(id) {
         Some(index) => index,

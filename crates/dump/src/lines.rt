@@ -3,8 +3,8 @@
 #![tactic(auto)]
 
 ghost use Rattle.std.specs.Prelude.{◌≡◌, OnErr, OnOk};
+ghost use Rattle.afl_base.specs.Keeping.{Sends};
 ghost use Rattle.std.specs.Io.KnownBytes.{append_known};
-ghost use Rattle.afl_base.specs.Causes.{HasCause};
 ghost use Rattle.db_model.specs.declared.commands.Command.TheVariants.{CreateRelation, CreateIndex};
 ghost use Rattle.db_model.specs.Grammar.{kind_word};
 ghost use Rattle.db_model.specs.Keywords.{keyword_text};
@@ -23,9 +23,7 @@ pub fn write_relation_line<K: Sink>(out: &mut K, relation: &Ident) -> Result<(),
         OnOk result (K.held out.new ≡ append_known (K.held out.old) line) }
     ensures failed { let line = command_line (CreateRelation relation.now) in
         OnErr result (WroteLess (K.held out.old) (K.held out.new) line) }
-    ensures keeps { K.keeps out.old out.new }
-    ensures faultless { OnOk result (K.faults out.new ≡ K.faults out.old) }
-    ensures cause { HasCause (K.faults out.old) (K.faults out.new) result }
+    ensures frame { Sends K.lent K.faults out.old out.new result }
 {
     write_three(out, b"CREATE RELATION ", relation.bytes(), b";\n")
 }
@@ -40,9 +38,7 @@ pub fn write_attribute_line<K: Sink>(
         OnOk result (K.held out.new ≡ append_known (K.held out.old) line) }
     ensures failed { let line = command_line (attribute_command relation.now attribute.now) in
         OnErr result (WroteLess (K.held out.old) (K.held out.new) line) }
-    ensures keeps { K.keeps out.old out.new }
-    ensures faultless { OnOk result (K.faults out.new ≡ K.faults out.old) }
-    ensures cause { HasCause (K.faults out.old) (K.faults out.new) result }
+    ensures frame { Sends K.lent K.faults out.old out.new result }
 {
     write_three(
         out,
@@ -60,9 +56,7 @@ fn write_domain<K: Sink>(out: &mut K, domain: &Domain) -> Result<(), Failed>
         ≡ append_known (K.held out.old) (domain_text (domain_named domain.now))) }
     ensures failed { OnErr result
         (WroteLess (K.held out.old) (K.held out.new) (domain_text (domain_named domain.now))) }
-    ensures keeps { K.keeps out.old out.new }
-    ensures faultless { OnOk result (K.faults out.new ≡ K.faults out.old) }
-    ensures cause { HasCause (K.faults out.old) (K.faults out.new) result }
+    ensures frame { Sends K.lent K.faults out.old out.new result }
 {
     match domain {
         Domain::Int => write_all(out, b"INT"),
@@ -78,9 +72,7 @@ pub fn write_row_line<K: Sink>(out: &mut K, relation: &Ident, tuple: &Tuple) -> 
         OnOk result (K.held out.new ≡ append_known (K.held out.old) line) }
     ensures failed { let line = command_line (row_command relation.now tuple.now) in
         OnErr result (WroteLess (K.held out.old) (K.held out.new) line) }
-    ensures keeps { K.keeps out.old out.new }
-    ensures faultless { OnOk result (K.faults out.new ≡ K.faults out.old) }
-    ensures cause { HasCause (K.faults out.old) (K.faults out.new) result }
+    ensures frame { Sends K.lent K.faults out.old out.new result }
 {
     write_all(out, b"INSERT (")?;
     write_values(out, tuple)?;
@@ -98,9 +90,7 @@ pub fn write_index_line<K: Sink>(
         OnOk result (K.held out.new ≡ append_known (K.held out.old) line) }
     ensures failed { let line = command_line (CreateIndex relation.now attribute.now kind.now) in
         OnErr result (WroteLess (K.held out.old) (K.held out.new) line) }
-    ensures keeps { K.keeps out.old out.new }
-    ensures faultless { OnOk result (K.faults out.new ≡ K.faults out.old) }
-    ensures cause { HasCause (K.faults out.old) (K.faults out.new) result }
+    ensures frame { Sends K.lent K.faults out.old out.new result }
 {
     write_three(out, b"CREATE INDEX ", relation.bytes(), b".")?;
     write_all(out, attribute.bytes())?;

@@ -3,8 +3,8 @@
 #![tactic(auto, using(reply_text::proofs::Pieces::less_front, reply_text::proofs::Pieces::less_behind, reply_text::proofs::Pieces::less_third))]
 
 ghost use Rattle.std.specs.Prelude.{◌≡◌, ◌++◌, decimal, OnErr, OnOk};
+ghost use Rattle.afl_base.specs.Keeping.{Sends};
 ghost use Rattle.std.specs.Io.KnownBytes.{append_known};
-ghost use Rattle.afl_base.specs.Causes.{HasCause};
 ghost use Rattle.reply_text.specs.WroteLess.{WroteLess};
 
 use afl_base::{Failed, Sink};
@@ -22,9 +22,7 @@ pub fn write_three<K: Sink>(
         OnOk result (K.held out.new ≡ append_known (K.held out.old) all) }
     ensures failed { let all = first.now ++ second.now ++ third.now in
         OnErr result (WroteLess (K.held out.old) (K.held out.new) all) }
-    ensures keeps { K.keeps out.old out.new }
-    ensures faultless { OnOk result (K.faults out.new ≡ K.faults out.old) }
-    ensures cause { HasCause (K.faults out.old) (K.faults out.new) result }
+    ensures frame { Sends K.lent K.faults out.old out.new result }
 {
     write_all(out, first)?;
     write_all(out, second)?;
@@ -42,9 +40,7 @@ pub fn write_number_between<K: Sink>(
         OnOk result (K.held out.new ≡ append_known (K.held out.old) all) }
     ensures failed { let all = first.now ++ decimal number ++ third.now in
         OnErr result (WroteLess (K.held out.old) (K.held out.new) all) }
-    ensures keeps { K.keeps out.old out.new }
-    ensures faultless { OnOk result (K.faults out.new ≡ K.faults out.old) }
-    ensures cause { HasCause (K.faults out.old) (K.faults out.new) result }
+    ensures frame { Sends K.lent K.faults out.old out.new result }
 {
     let mut buffer = Buffer::new();
     write_three(out, first, buffer.format(number).as_bytes(), third)

@@ -2,13 +2,14 @@
 
 #![tactic(auto)]
 
-ghost use Rattle.std.specs.Prelude.{◌≡◌, ◌+◌, ◌*◌, ◌<◌, ◌≤◌, true, false, IsErrOf, IsTrue, OnOk, Some, flat_map, length};
+ghost use Rattle.std.specs.Prelude.{◌≡◌, ◌+◌, ◌*◌, ◌<◌, ◌≤◌, true, false, IsErrOf, IsTrue, Some, flat_map, length};
 ghost use Rattle.db_model.specs.Sound.{IsSoundDatabase};
-ghost use Rattle.antelope_engine.specs.Reading.{relation_at, schema_at};
+ghost use Rattle.antelope_engine.specs.Reading.{relation_in_slot, schema_at};
 ghost use Rattle.session_model.specs.declared.step.Stop.TheVariants.{Flash};
-ghost use Rattle.session_model.specs.Steps.{HasStopCause, UnlessFlash};
+ghost use Rattle.session_model.specs.Carried.{Recites};
+ghost use Rattle.session_model.specs.Steps.{UnlessFlash};
 ghost use Rattle.space_model.specs.Enough.{rows_in};
-ghost use Rattle.dump.specs.Appends.{Appends};
+ghost use Rattle.dump.specs.Appends.{AppendsText};
 ghost use Rattle.dump.specs.Parts.{relation_lines, slots_of_all};
 ghost use Rattle.dump.specs.Unchanged.{IsAsBefore};
 
@@ -24,19 +25,15 @@ pub fn write_relations<V: Files, K: Sink>(session: &mut Session<V>, out: &mut K)
     requires running { session.old.stopped ≡ false }
     ensures wrote { let db = session.old.database in
         IsTrue (V.state session.old.files).tells → IsSoundDatabase db
-        → Appends result (K.held out.old) (K.held out.new)
+        → AppendsText result (K.held out.old) (K.held out.new)
         (flat_map relation_lines db.relations) }
     ensures same { UnlessFlash result (IsAsBefore V.state session.old session.new) }
     ensures lost { IsErrOf result Flash
         → (session.new.stopped ≡ true) × (session.new.lost ≡ true) }
     ensures reads { let slots = slots_of_all session.old.database.relations in
         V.reads session.new.files ≤ V.reads session.old.files + 6 * slots }
-    ensures store { let old = V.state session.old.files in
-        length (V.state session.new.files).store ≡ length old.store }
-    ensures keeps { K.keeps out.old out.new }
-    ensures faultless { OnOk result (K.faults out.new ≡ K.faults out.old) }
-    ensures cause { HasStopCause (V.faults session.old.files) (V.faults session.new.files)
-        (K.faults out.old) (K.faults out.new) result }
+    ensures frame { Recites V.Files K.Sink session.old.files session.new.files
+        out.old out.new result }
 {
     for slot in 0..8u16 {
         match write_relation(session, relation_id(slot), out) {
@@ -66,19 +63,15 @@ fn write_relation<V: Files, K: Sink>(
     requires running { session.old.stopped ≡ false }
     ensures wrote { let db = session.old.database in
         IsTrue (V.state session.old.files).tells → IsSoundDatabase db
-        → Appends result (K.held out.old) (K.held out.new)
-        (relation_lines (relation_at db id)) }
+        → AppendsText result (K.held out.old) (K.held out.new)
+        (relation_lines (relation_in_slot db id)) }
     ensures same { UnlessFlash result (IsAsBefore V.state session.old session.new) }
     ensures lost { IsErrOf result Flash
         → (session.new.stopped ≡ true) × (session.new.lost ≡ true) }
     ensures reads { let slots = length (rows_in session.old.database id) in
         V.reads session.new.files ≤ V.reads session.old.files + 6 * slots }
-    ensures store { let old = V.state session.old.files in
-        length (V.state session.new.files).store ≡ length old.store }
-    ensures keeps { K.keeps out.old out.new }
-    ensures faultless { OnOk result (K.faults out.new ≡ K.faults out.old) }
-    ensures cause { HasStopCause (V.faults session.old.files) (V.faults session.new.files)
-        (K.faults out.old) (K.faults out.new) result }
+    ensures frame { Recites V.Files K.Sink session.old.files session.new.files
+        out.old out.new result }
 {
     match session.schema(id) {
         Some(schema) => write_used(session, id, &schema, out),
@@ -97,19 +90,15 @@ pub fn write_lines<V: Files, K: Sink>(
     requires schema { schema_at session.old.database id ≡ Some schema.now }
     ensures wrote { let db = session.old.database in
         IsTrue (V.state session.old.files).tells → IsSoundDatabase db
-        → Appends result (K.held out.old) (K.held out.new)
-        (relation_lines (relation_at db id)) }
+        → AppendsText result (K.held out.old) (K.held out.new)
+        (relation_lines (relation_in_slot db id)) }
     ensures same { UnlessFlash result (IsAsBefore V.state session.old session.new) }
     ensures lost { IsErrOf result Flash
         → (session.new.stopped ≡ true) × (session.new.lost ≡ true) }
     ensures reads { let slots = length (rows_in session.old.database id) in
         V.reads session.new.files ≤ V.reads session.old.files + 6 * slots }
-    ensures store { let old = V.state session.old.files in
-        length (V.state session.new.files).store ≡ length old.store }
-    ensures keeps { K.keeps out.old out.new }
-    ensures faultless { OnOk result (K.faults out.new ≡ K.faults out.old) }
-    ensures cause { HasStopCause (V.faults session.old.files) (V.faults session.new.files)
-        (K.faults out.old) (K.faults out.new) result }
+    ensures frame { Recites V.Files K.Sink session.old.files session.new.files
+        out.old out.new result }
 {
     match write_schema(out, schema) {
         Ok(()) => {}

@@ -2,13 +2,14 @@
 
 #![tactic(auto)]
 
-ghost use Rattle.std.specs.Prelude.{◌≡◌, ◌+◌, ◌*◌, ◌<◌, ◌≤◌, true, false, IsErrOf, IsSome, IsTrue, OnOk, flat_map, length};
+ghost use Rattle.std.specs.Prelude.{◌≡◌, ◌+◌, ◌*◌, ◌<◌, ◌≤◌, true, false, IsErrOf, IsSome, IsTrue, flat_map, length};
 ghost use Rattle.db_model.specs.Sound.{IsSoundDatabase};
-ghost use Rattle.antelope_engine.specs.Reading.{relation_at, row_at};
+ghost use Rattle.antelope_engine.specs.Reading.{relation_in_slot, row_in_slot};
 ghost use Rattle.session_model.specs.declared.step.Stop.TheVariants.{Flash};
-ghost use Rattle.session_model.specs.Steps.{HasStopCause, UnlessFlash};
+ghost use Rattle.session_model.specs.Carried.{Recites};
+ghost use Rattle.session_model.specs.Steps.{UnlessFlash};
 ghost use Rattle.space_model.specs.Enough.{rows_in};
-ghost use Rattle.dump.specs.Appends.{Appends};
+ghost use Rattle.dump.specs.Appends.{AppendsText};
 ghost use Rattle.dump.specs.Parts.{row_lines};
 ghost use Rattle.dump.specs.Unchanged.{IsAsBefore};
 
@@ -25,22 +26,18 @@ pub fn write_rows<V: Files, K: Sink>(
     out: &mut K,
 ) -> Result<(), Stop>
     requires running { session.old.stopped ≡ false }
-    requires used { IsSome (relation_at session.old.database id) }
+    requires used { IsSome (relation_in_slot session.old.database id) }
     ensures wrote { let db = session.old.database in
         IsTrue (V.state session.old.files).tells → IsSoundDatabase db
-        → Appends result (K.held out.old) (K.held out.new)
+        → AppendsText result (K.held out.old) (K.held out.new)
         (flat_map (row_lines relation.now) (rows_in db id)) }
     ensures same { UnlessFlash result (IsAsBefore V.state session.old session.new) }
     ensures lost { IsErrOf result Flash
         → (session.new.stopped ≡ true) × (session.new.lost ≡ true) }
     ensures reads { let slots = length (rows_in session.old.database id) in
         V.reads session.new.files ≤ V.reads session.old.files + 6 * slots }
-    ensures store { let old = V.state session.old.files in
-        length (V.state session.new.files).store ≡ length old.store }
-    ensures keeps { K.keeps out.old out.new }
-    ensures faultless { OnOk result (K.faults out.new ≡ K.faults out.old) }
-    ensures cause { HasStopCause (V.faults session.old.files) (V.faults session.new.files)
-        (K.faults out.old) (K.faults out.new) result }
+    ensures frame { Recites V.Files K.Sink session.old.files session.new.files
+        out.old out.new result }
 {
     let mut tuple = Tuple::new();
     for at in 0..session.slots(id) {
@@ -69,18 +66,14 @@ fn write_row<V: Files, K: Sink>(
     requires slot { slot < length (rows_in session.old.database id) }
     ensures wrote { let db = session.old.database in
         IsTrue (V.state session.old.files).tells → IsSoundDatabase db
-        → Appends result (K.held out.old) (K.held out.new)
-        (row_lines relation.now (row_at db id slot)) }
+        → AppendsText result (K.held out.old) (K.held out.new)
+        (row_lines relation.now (row_in_slot db id slot)) }
     ensures same { UnlessFlash result (IsAsBefore V.state session.old session.new) }
     ensures lost { IsErrOf result Flash
         → (session.new.stopped ≡ true) × (session.new.lost ≡ true) }
     ensures reads { V.reads session.new.files ≤ V.reads session.old.files + 6 }
-    ensures store { let old = V.state session.old.files in
-        length (V.state session.new.files).store ≡ length old.store }
-    ensures keeps { K.keeps out.old out.new }
-    ensures faultless { OnOk result (K.faults out.new ≡ K.faults out.old) }
-    ensures cause { HasStopCause (V.faults session.old.files) (V.faults session.new.files)
-        (K.faults out.old) (K.faults out.new) result }
+    ensures frame { Recites V.Files K.Sink session.old.files session.new.files
+        out.old out.new result }
 {
     match session.tuple(id, slot, tuple) {
         Ok(true) => match write_row_line(out, relation, tuple) {

@@ -3,8 +3,8 @@
 #![tactic(auto)]
 
 ghost use Rattle.std.specs.Prelude.{◌≡◌, OnErr, OnOk};
+ghost use Rattle.afl_base.specs.Keeping.{Sends};
 ghost use Rattle.std.specs.Io.KnownBytes.{append_known};
-ghost use Rattle.afl_base.specs.Causes.{HasCause};
 ghost use Rattle.dump.specs.Parts.{attribute_lines, schema_lines};
 ghost use Rattle.reply_text.specs.WroteLess.{WroteLess};
 
@@ -18,9 +18,7 @@ pub fn write_schema<K: Sink>(out: &mut K, schema: &Schema) -> Result<(), Failed>
         (K.held out.new ≡ append_known (K.held out.old) (schema_lines schema.now)) }
     ensures failed { OnErr result
         (WroteLess (K.held out.old) (K.held out.new) (schema_lines schema.now)) }
-    ensures keeps { K.keeps out.old out.new }
-    ensures faultless { OnOk result (K.faults out.new ≡ K.faults out.old) }
-    ensures cause { HasCause (K.faults out.old) (K.faults out.new) result }
+    ensures frame { Sends K.lent K.faults out.old out.new result }
 {
     write_relation_line(out, &schema.name)?;
     write_attributes(out, &schema.name, schema.attributes.as_slice())
@@ -35,9 +33,7 @@ fn write_attributes<K: Sink>(
         OnOk result (K.held out.new ≡ append_known (K.held out.old) all) }
     ensures failed { let all = attribute_lines relation.now attributes.now in
         OnErr result (WroteLess (K.held out.old) (K.held out.new) all) }
-    ensures keeps { K.keeps out.old out.new }
-    ensures faultless { OnOk result (K.faults out.new ≡ K.faults out.old) }
-    ensures cause { HasCause (K.faults out.old) (K.faults out.new) result }
+    ensures frame { Sends K.lent K.faults out.old out.new result }
 {
     for at in 0..attributes.len() {
         write_attribute_line(out, relation, &attributes[at])?;

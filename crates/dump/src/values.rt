@@ -3,8 +3,8 @@
 #![tactic(auto, using(reply_text::proofs::Pieces::less_front, reply_text::proofs::Pieces::less_behind, reply_text::proofs::Pieces::less_third))]
 
 ghost use Rattle.std.specs.Prelude.{◌≡◌, ◌++◌, OnErr, OnOk};
+ghost use Rattle.afl_base.specs.Keeping.{Sends};
 ghost use Rattle.std.specs.Io.KnownBytes.{append_known};
-ghost use Rattle.afl_base.specs.Causes.{HasCause};
 ghost use Rattle.db_model.specs.ReplyText.{value_text};
 ghost use Rattle.dump.specs.Parts.{comma_before};
 ghost use Rattle.dump_model.specs.Script.{values_text};
@@ -21,9 +21,7 @@ pub fn write_values<K: Sink>(out: &mut K, tuple: &Tuple) -> Result<(), Failed>
         (K.held out.new ≡ append_known (K.held out.old) (values_text tuple.now)) }
     ensures failed { OnErr result
         (WroteLess (K.held out.old) (K.held out.new) (values_text tuple.now)) }
-    ensures keeps { K.keeps out.old out.new }
-    ensures faultless { OnOk result (K.faults out.new ≡ K.faults out.old) }
-    ensures cause { HasCause (K.faults out.old) (K.faults out.new) result }
+    ensures frame { Sends K.lent K.faults out.old out.new result }
 {
     for (at, value) in tuple.as_slice().iter().enumerate() {
         write_value(out, at, value)?;
@@ -37,9 +35,7 @@ fn write_value<K: Sink>(out: &mut K, at: usize, value: &Value) -> Result<(), Fai
         OnOk result (K.held out.new ≡ append_known (K.held out.old) all) }
     ensures failed { let all = comma_before at ++ value_text value.now in
         OnErr result (WroteLess (K.held out.old) (K.held out.new) all) }
-    ensures keeps { K.keeps out.old out.new }
-    ensures faultless { OnOk result (K.faults out.new ≡ K.faults out.old) }
-    ensures cause { HasCause (K.faults out.old) (K.faults out.new) result }
+    ensures frame { Sends K.lent K.faults out.old out.new result }
 {
     write_comma(out, at)?;
     match value {
@@ -52,9 +48,7 @@ fn write_comma<K: Sink>(out: &mut K, at: usize) -> Result<(), Failed>
     ensures written { OnOk result
         (K.held out.new ≡ append_known (K.held out.old) (comma_before at)) }
     ensures failed { OnErr result (WroteLess (K.held out.old) (K.held out.new) (comma_before at)) }
-    ensures keeps { K.keeps out.old out.new }
-    ensures faultless { OnOk result (K.faults out.new ≡ K.faults out.old) }
-    ensures cause { HasCause (K.faults out.old) (K.faults out.new) result }
+    ensures frame { Sends K.lent K.faults out.old out.new result }
 {
     if at == 0 {
         return Ok(());

@@ -2,11 +2,12 @@
 
 #![tactic(auto)]
 
-ghost use Rattle.std.specs.Prelude.{◌≡◌, ◌+◌, ◌*◌, ◌≤◌, true, IsErrOf, IsTrue, OnOk, false, length};
+ghost use Rattle.std.specs.Prelude.{◌≡◌, ◌+◌, ◌*◌, ◌≤◌, true, IsErrOf, IsTrue, false};
 ghost use Rattle.db_model.specs.Sound.{IsSoundDatabase};
 ghost use Rattle.session_model.specs.declared.step.Stop.TheVariants.{Flash};
-ghost use Rattle.session_model.specs.Steps.{HasStopCause, UnlessFlash};
-ghost use Rattle.dump.specs.Appends.{Appends};
+ghost use Rattle.session_model.specs.Carried.{Recites};
+ghost use Rattle.session_model.specs.Steps.{UnlessFlash};
+ghost use Rattle.dump.specs.Appends.{AppendsText};
 ghost use Rattle.dump.specs.Parts.{slots_of_all};
 ghost use Rattle.dump.specs.Unchanged.{IsAsBefore};
 ghost use Rattle.dump_model.specs.Script.{script};
@@ -29,18 +30,14 @@ pub fn write<V: Files, K: Sink>(session: &mut Session<V>, out: &mut K) -> Result
     requires running { session.old.stopped ≡ false }
     ensures wrote { let db = session.old.database in
         IsTrue (V.state session.old.files).tells → IsSoundDatabase db
-        → Appends result (K.held out.old) (K.held out.new) (script db) }
+        → AppendsText result (K.held out.old) (K.held out.new) (script db) }
     ensures same { UnlessFlash result (IsAsBefore V.state session.old session.new) }
     ensures lost { IsErrOf result Flash
         → (session.new.stopped ≡ true) × (session.new.lost ≡ true) }
     ensures reads { let slots = slots_of_all session.old.database.relations in
         V.reads session.new.files ≤ V.reads session.old.files + 6 * slots }
-    ensures store { let old = V.state session.old.files in
-        length (V.state session.new.files).store ≡ length old.store }
-    ensures keeps { K.keeps out.old out.new }
-    ensures faultless { OnOk result (K.faults out.new ≡ K.faults out.old) }
-    ensures cause { HasStopCause (V.faults session.old.files) (V.faults session.new.files)
-        (K.faults out.old) (K.faults out.new) result }
+    ensures frame { Recites V.Files K.Sink session.old.files session.new.files
+        out.old out.new result }
 {
     match write_relations(session, out) {
         Ok(()) => {}

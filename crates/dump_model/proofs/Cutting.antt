@@ -21,7 +21,7 @@ use Rattle.db_model.specs.ReplyText.{value_text}
 use Rattle.db_model.specs.Pieces.{entries_after}
 use Rattle.db_model.specs.Script.{Entry, Long, Bytes, ended, unended, past_white, ends_piece, quoted_after, commands, finished, whole}
 use Rattle.db_model.proofs.Cutting.{commands_after}
-use Rattle.dump_model.specs.Made.{IsShort}
+use Rattle.dump_model.specs.Made.{IsShortText}
 use Rattle.dump_model.specs.Script.{command_line, command_text, domain_text, values_text}
 use Rattle.dump_model.proofs.Lexing.{false_true, and_left, and_right, IsPrintedValue, digits}
 use Rattle.dump_model.proofs.Texts.{IsPrinted, IsPrintedDomain, ArePrintedValues}
@@ -238,6 +238,6 @@ finished_texts (c ∷ cs) = ap (λ es. Bytes (command_text c) ∷ es) (finished_
 pub lines_whole : (cs : List Command) → AllByRecursion IsPrinted cs → whole (flat_map command_line cs) ≡ commands (flat_map command_line cs)
 lines_whole cs h = ap finished (lines_cut cs h) ∙ finished_texts cs ∙ sym (lines_cut cs h)
 
-pub lines_short : (cs : List Command) → AllByRecursion IsPrinted cs → AllByRecursion IsShort cs
+pub lines_short : (cs : List Command) → AllByRecursion IsPrinted cs → AllByRecursion IsShortText cs
 lines_short [] h = tt
 lines_short (c ∷ cs) h = ((fits-command c h.0).short, lines_short cs h.1)

@@ -25,7 +25,7 @@ use Rattle.db_model.specs.Spelling.{nodes_of}
 use Rattle.db_model.specs.Step.{Fine, outcome, replied}
 use Rattle.dump_model.specs.Made.{IsFine, Makes, MakesPacked, replies_to}
 use Rattle.dump_model.specs.Packed.{moved_index, packed, packed_relation}
-use Rattle.dump_model.specs.Script.{command_text, domain_named, relation_commands, attribute_command, index_command, row_command, name_at, script_commands}
+use Rattle.dump_model.specs.Script.{command_text, domain_named, relation_commands, attribute_command, index_command, row_command, attribute_name, script_commands}
 use Rattle.db_model.specs.Sound.{are_distinct}
 use Rattle.dump_model.proofs.Facts.{AllIndexFacts, DatabaseFacts, IndexFacts, RelationFacts, database_facts, relation_names}
 use Rattle.dump_model.proofs.Cutting.{lines_cut, lines_short, lines_whole}
@@ -148,7 +148,7 @@ printed_index slots before index relations is =
     let sound = sound_at slots index.relation is.relation relations is.used in
     let wanted : CreateIndex is.relation.schema.name is.attribute.name index.kind ≡ index_command slots index =
     ap (λ found. CreateIndex is.relation.schema.name (elim found [ None ↦ [] | Some a ↦ a.name ]) index.kind) (sym is.placed)
-    ∙ ap (λ found. elim found [ None ↦ CreateIndex [] [] index.kind | Some r ↦ CreateIndex r.schema.name (name_at r.schema.attributes index.attribute) index.kind ]) (sym is.used) in
+    ∙ ap (λ found. elim found [ None ↦ CreateIndex [] [] index.kind | Some r ↦ CreateIndex r.schema.name (attribute_name r.schema.attributes index.attribute) index.kind ]) (sym is.used) in
     subst IsPrinted wanted (sound.name, name_printed is.relation.schema.attributes index.attribute is.attribute sound.attributes is.placed)
 
 printed_indexes : (slots : List (Option Relation)) (before rest : List Index) → AllByRecursion RelationFacts (used slots) → AllIndexFacts slots before rest → AllByRecursion IsPrinted (map (index_command slots) rest)

@@ -20,8 +20,8 @@ use Rattle.db_model.specs.Refusing.{◌>>=◌, ◌>>◌, refuse_if, refuse_found
 use Rattle.db_model.specs.Row.{Row}
 use Rattle.db_model.specs.Step.{Fine, Outcome, outcome, upgraded, create_index, allows, keys, key_of, first_fall, refuse_kind}
 use Rattle.db_model.specs.Typing.{domain_of}
-use Rattle.dump_model.specs.Packed.{slots_of, new_slot, live_rows, moved_index, packed_relation}
-use Rattle.dump_model.specs.Script.{index_command, name_at}
+use Rattle.dump_model.specs.Packed.{slots_for, new_slot, kept_rows, moved_index, packed_relation}
+use Rattle.dump_model.specs.Script.{index_command, attribute_name}
 use Rattle.db_model.specs.Sound.{are_distinct, attribute_names}
 use Rattle.dump_model.proofs.Facts.{IndexFacts, SuitsKind, relation_names}
 use Rattle.dump_model.proofs.Lexing.{false_true, and_left, and_right}
@@ -120,26 +120,26 @@ falls_lower a b (z ∷ zs) le h =
     by_test true e i = cc
     by_test false e i = ap (λ t. cond t (Some a) (first_fall (z ∷ zs))) (not_less a z (at_most_third a b z le (at_most b z e))) ∙ i
 
-live_behind : (place : ℕ) (a : ℤ) (rows : List Row) → falls_behind a (keys place rows) ≡ None → falls_behind a (keys place (live_rows rows)) ≡ None
+live_behind : (place : ℕ) (a : ℤ) (rows : List Row) → falls_behind a (keys place rows) ≡ None → falls_behind a (keys place (kept_rows rows)) ≡ None
 live_behind place a [] h = refl
 live_behind place a (row ∷ rows) h = by_test (int_lt key a) refl h (λ i. live_behind place key rows i) (λ i. live_behind place a rows i)
   where
     key : ℤ
     key = key_of (slice_get row.tuple place)
 
-    by_live : (t : Bool) → int_lt key a ≡ false → falls_behind key (keys place (live_rows rows)) ≡ None → falls_behind a (keys place (live_rows rows)) ≡ None
-        → falls_behind a (keys place (cond t (row ∷ live_rows rows) (live_rows rows))) ≡ None
-    by_live true e i j = ap (λ t. cond t (Some a) (falls_behind key (keys place (live_rows rows)))) e ∙ i
+    by_live : (t : Bool) → int_lt key a ≡ false → falls_behind key (keys place (kept_rows rows)) ≡ None → falls_behind a (keys place (kept_rows rows)) ≡ None
+        → falls_behind a (keys place (cond t (row ∷ kept_rows rows) (kept_rows rows))) ≡ None
+    by_live true e i j = ap (λ t. cond t (Some a) (falls_behind key (keys place (kept_rows rows)))) e ∙ i
     by_live false e i j = j
 
     by_test : (t : Bool) → int_lt key a ≡ t → cond t (Some a) (falls_behind key (keys place rows)) ≡ None
-        → (falls_behind key (keys place rows) ≡ None → falls_behind key (keys place (live_rows rows)) ≡ None)
-        → (falls_behind a (keys place rows) ≡ None → falls_behind a (keys place (live_rows rows)) ≡ None)
-        → falls_behind a (keys place (live_rows (row ∷ rows))) ≡ None
+        → (falls_behind key (keys place rows) ≡ None → falls_behind key (keys place (kept_rows rows)) ≡ None)
+        → (falls_behind a (keys place rows) ≡ None → falls_behind a (keys place (kept_rows rows)) ≡ None)
+        → falls_behind a (keys place (kept_rows (row ∷ rows))) ≡ None
     by_test true e i from_key from_a = cc
     by_test false e i from_key from_a = by_live row.live e (from_key i) (from_a (falls_lower a key (keys place rows) (at_most a key e) i))
 
-live_rises : (place : ℕ) (rows : List Row) → first_fall (keys place rows) ≡ None → first_fall (keys place (live_rows rows)) ≡ None
+live_rises : (place : ℕ) (rows : List Row) → first_fall (keys place rows) ≡ None → first_fall (keys place (kept_rows rows)) ≡ None
 live_rises place [] h = refl
 live_rises place (row ∷ rows) h = by_live row.live (live_behind place key rows h) (live_rises place rows (not_behind (keys place rows) h))
   where
@@ -154,7 +154,7 @@ live_rises place (row ∷ rows) h = by_live row.live (live_behind place key rows
     not_behind [] i = refl
     not_behind (z ∷ zs) i = not_behind_by (int_lt z key) z zs i
 
-    by_live : (t : Bool) → first_fall (key ∷ keys place (live_rows rows)) ≡ None → first_fall (keys place (live_rows rows)) ≡ None → first_fall (keys place (cond t (row ∷ live_rows rows) (live_rows rows))) ≡ None
+    by_live : (t : Bool) → first_fall (key ∷ keys place (kept_rows rows)) ≡ None → first_fall (keys place (kept_rows rows)) ≡ None → first_fall (keys place (cond t (row ∷ kept_rows rows) (kept_rows rows))) ≡ None
     by_live true i j = i
     by_live false i j = j
 
@@ -169,7 +169,7 @@ filter_few p (x ∷ xs) = by_test (p x) (filter_few p xs)
 -- ---- the indexes so far
 
 abbrev pub with_indexes : List Relation → List Index → Database
-with_indexes rs indexes = record { version = 2; relations = slots_of 8 rs; indexes = slots_of 8 indexes; cursors = replicate 4 None }
+with_indexes rs indexes = record { version = 2; relations = slots_for 8 rs; indexes = slots_for 8 indexes; cursors = replicate 4 None }
 
 -- the relation of each of them is in a used slot
 abbrev pub AreUsed : List (Option Relation) → List Index → Type 0
@@ -204,18 +204,18 @@ absent_index slots k place n m r (index ∷ indexes) is used alone =
         absurd (false_true (sym h ∙ ap (λ t. (index.relation == k) && t) f ∙ ap (λ t. t && true) ((Decides-eqb index.relation k).1 same)))
 
 not_refused : (kind : IndexKind) (slots : List (Option Relation)) (before : List Index) (place : ℕ) (rows : List Row) (rs : List Relation) → SuitsKind kind before place rows
-    → refuse_kind kind (with_indexes rs (map (moved_index slots) before)) (keys place (live_rows rows)) ≡ Ok tt
+    → refuse_kind kind (with_indexes rs (map (moved_index slots) before)) (keys place (kept_rows rows)) ≡ Ok tt
 not_refused Inline slots before place rows rs h = ap (λ fall. refuse_found fall no.NotOrdered) (live_rises place rows h)
 not_refused MaxHeap slots before place rows rs h = refl
 not_refused MemHash slots before place rows rs h =
     let moved : List Index = map (moved_index slots) before in
-    let same : length (filter is_hash_table (used (slots_of 8 moved))) ≡ length (filter is_hash_table before) =
+    let same : length (filter is_hash_table (used (slots_for 8 moved))) ≡ length (filter is_hash_table before) =
     ap (λ xs. length (filter is_hash_table xs)) (used_front moved (8 - length moved)) ∙ ap length (tables_moved slots before) ∙ length-map (filter is_hash_table before) (moved_index slots) in
-    let few : nat_le 2 (length (filter is_hash_table (used (slots_of 8 moved)))) ≡ false = let e = h.0 in grind (arith, nat_tests) in
-    let many = length-map (live_rows rows) (λ row. key_of (slice_get row.tuple place)) in
+    let few : nat_le 2 (length (filter is_hash_table (used (slots_for 8 moved)))) ≡ false = let e = h.0 in grind (arith, nat_tests) in
+    let many = length-map (kept_rows rows) (λ row. key_of (slice_get row.tuple place)) in
     let less = filter_few (λ row. row.live) rows in
-    let room : nat_lt 2048 (length (keys place (live_rows rows))) ≡ false = let e = h.1 in grind (arith, nat_tests) in
-    ap (λ t. ◌>>◌ (refuse_if t (no.Full pool.HashTables 2)) (refuse_if (nat_lt 2048 (length (keys place (live_rows rows)))) (no.Full pool.HashEntries 2048))) few
+    let room : nat_lt 2048 (length (keys place (kept_rows rows))) ≡ false = let e = h.1 in grind (arith, nat_tests) in
+    ap (λ t. ◌>>◌ (refuse_if t (no.Full pool.HashTables 2)) (refuse_if (nat_lt 2048 (length (keys place (kept_rows rows)))) (no.Full pool.HashEntries 2048))) few
     ∙ ap (λ t. refuse_if t (no.Full pool.HashEntries 2048)) room
 
 -- ---- CREATE INDEX
@@ -233,15 +233,15 @@ makes_index slots before index distinct few used_before is apart =
     let db : Database = with_indexes rs moved in
     let k : ℕ = new_slot slots index.relation in
     let many : length moved < 8 = let e = length-map before (moved_index slots) in omega (arith, e, few) in
-    let put : ℕ → List (Option Index) = λ slot. set (slots_of 8 moved) slot (Some (moved_index slots index)) in
-    let made : List (Option Index) → Outcome = λ indexes. Ok (record { version = 2; relations = slots_of 8 rs; indexes = indexes; cursors = replicate 4 None }, Fine) in
-    let asked : Result ⊤ Refusal = refuse_kind index.kind db (keys place (live_rows r.rows)) in
+    let put : ℕ → List (Option Index) = λ slot. set (slots_for 8 moved) slot (Some (moved_index slots index)) in
+    let made : List (Option Index) → Outcome = λ indexes. Ok (record { version = 2; relations = slots_for 8 rs; indexes = indexes; cursors = replicate 4 None }, Fine) in
+    let asked : Result ⊤ Refusal = refuse_kind index.kind db (keys place (kept_rows r.rows)) in
     let slotted : Option ℕ → Outcome = λ free. ◌>>=◌ (found_or free (no.Full pool.Indexes 8)) (λ slot. ◌>>◌ asked (made (put slot))) in
-    let tested : Bool → Bool → Outcome = λ allowed there. ◌>>◌ (refuse_if (not allowed) no.Domain) (◌>>◌ (refuse_if there no.Exists) (slotted (free_from 0 (slots_of 8 moved)))) in
+    let tested : Bool → Bool → Outcome = λ allowed there. ◌>>◌ (refuse_if (not allowed) no.Domain) (◌>>◌ (refuse_if there no.Exists) (slotted (free_from 0 (slots_for 8 moved)))) in
     let wanted : CreateIndex r.schema.name is.attribute.name index.kind ≡ index_command slots index =
     ap (λ found. CreateIndex r.schema.name (elim found [ None ↦ [] | Some a ↦ a.name ]) index.kind) (sym is.placed)
-    ∙ ap (λ found. elim found [ None ↦ CreateIndex [] [] index.kind | Some r ↦ CreateIndex r.schema.name (name_at r.schema.attributes index.attribute) index.kind ]) (sym is.used) in
-    let found : relation_from r.schema.name 0 (slots_of 8 rs) ≡ Some (k, packed_relation r) =
+    ∙ ap (λ found. elim found [ None ↦ CreateIndex [] [] index.kind | Some r ↦ CreateIndex r.schema.name (attribute_name r.schema.attributes index.attribute) index.kind ]) (sym is.used) in
+    let found : relation_from r.schema.name 0 (slots_for 8 rs) ≡ Some (k, packed_relation r) =
     moved_from slots 0 index.relation r (replicate (8 - length rs) None) distinct is.used ∙ (let e : 0 + k ≡ k = omega arith in ap (λ j. Some (j, packed_relation r)) e) in
     let at : place_of is.attribute.name attributes ≡ Some place = placed_from attributes 0 place is.attribute apart is.placed ∙ (let e : 0 + place ≡ place = omega arith in ap (λ j. Some j) e) in
     let of : domain_of attributes is.attribute.name ≡ Some is.attribute.domain = ap (λ p. option_map (λ a. a.domain) (option_and_then (slice_get attributes) p)) at ∙ ap (option_map (λ a. a.domain)) is.placed in
@@ -252,15 +252,15 @@ makes_index slots before index distinct few used_before is apart =
     ◌>>=◌ (found_or (domain_of s.1.schema.attributes is.attribute.name) (no.NoAttribute 1)) (λ d.
     ◌>>◌ (refuse_if (not (allows index.kind d)) no.Domain)
     (◌>>◌ (refuse_if (is_some (index_slot db s.0 p)) no.Exists)
-    (◌>>=◌ (found_or (free_from 0 (slots_of 8 moved)) (no.Full pool.Indexes 8)) (λ slot.
-    ◌>>◌ (refuse_kind index.kind db (keys p s.1.rows)) (made (set (slots_of 8 moved) slot (Some (record { kind = index.kind; relation = s.0; attribute = p })))))))))))
+    (◌>>=◌ (found_or (free_from 0 (slots_for 8 moved)) (no.Full pool.Indexes 8)) (λ slot.
+    ◌>>◌ (refuse_kind index.kind db (keys p s.1.rows)) (made (set (slots_for 8 moved) slot (Some (record { kind = index.kind; relation = s.0; attribute = p })))))))))))
     found
     ∙ ap (λ p. ◌>>=◌ (found_or p (no.NoAttribute 1)) (λ p.
     ◌>>=◌ (found_or (domain_of attributes is.attribute.name) (no.NoAttribute 1)) (λ d.
     ◌>>◌ (refuse_if (not (allows index.kind d)) no.Domain)
     (◌>>◌ (refuse_if (is_some (index_slot db k p)) no.Exists)
-    (◌>>=◌ (found_or (free_from 0 (slots_of 8 moved)) (no.Full pool.Indexes 8)) (λ slot.
-    ◌>>◌ (refuse_kind index.kind db (keys p (live_rows r.rows))) (made (set (slots_of 8 moved) slot (Some (record { kind = index.kind; relation = k; attribute = p }))))))))))
+    (◌>>=◌ (found_or (free_from 0 (slots_for 8 moved)) (no.Full pool.Indexes 8)) (λ slot.
+    ◌>>◌ (refuse_kind index.kind db (keys p (kept_rows r.rows))) (made (set (slots_for 8 moved) slot (Some (record { kind = index.kind; relation = k; attribute = p }))))))))))
     at
     ∙ ap (λ d. ◌>>=◌ (found_or d (no.NoAttribute 1)) (λ d. tested (allows index.kind d) (is_some (index_slot db k place)))) of
     ∙ ap (λ t. tested t (is_some (index_slot db k place))) is.allowed
@@ -268,5 +268,5 @@ makes_index slots before index distinct few used_before is apart =
     ∙ ap slotted (slot_free 8 moved many)
     ∙ ap (λ a. ◌>>◌ a (made (put (length moved)))) (not_refused index.kind slots before place r.rows rs is.kind)
     ∙ ap made (slot_taken 8 moved (moved_index slots index) many)
-    ∙ ap (λ xs. made (slots_of 8 xs)) (sym (map-append (moved_index slots) before (index ∷ []))) in
+    ∙ ap (λ xs. made (slots_for 8 xs)) (sym (map-append (moved_index slots) before (index ∷ []))) in
     subst (λ c. outcome db c ≡ Ok (with_indexes rs (map (moved_index slots) (before ++ index ∷ [])), Fine)) wanted (ap upgraded step)

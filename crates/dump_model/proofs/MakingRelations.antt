@@ -24,7 +24,7 @@ use Rattle.db_model.specs.Refusing.{◌>>=◌, ◌>>◌, refuse_if, refuse_found
 use Rattle.db_model.specs.Row.{Row, AllSuit, AllRowsSuit, fields_length, row_length}
 use Rattle.db_model.specs.Step.{Reply, Fine, Outcome, outcome, upgraded, changed_by, add_attribute, domain_asked, insert_into, unsuited, unsuited_from, fallen, fallen_from, is_ordered}
 use Rattle.dump_model.specs.Made.{Makes}
-use Rattle.dump_model.specs.Packed.{slots_of, live_rows, packed_relation}
+use Rattle.dump_model.specs.Packed.{slots_for, kept_rows, packed_relation}
 use Rattle.dump_model.specs.Script.{domain_named, relation_commands, attribute_command, row_command}
 use Rattle.db_model.specs.Sound.{are_distinct, attribute_names}
 use Rattle.dump_model.proofs.Facts.{RelationFacts, relation_names}
@@ -36,7 +36,7 @@ makes-append a b c (x ∷ xs) ys h i = (h.0, h.1, makes-append h.0 b c xs ys h.2
 
 -- a database in the making: some relations, and no index yet
 abbrev pub with_relations : List Relation → Database
-with_relations rs = record { version = 2; relations = slots_of 8 rs; indexes = replicate 8 None; cursors = replicate 4 None }
+with_relations rs = record { version = 2; relations = slots_for 8 rs; indexes = replicate 8 None; cursors = replicate 4 None }
 
 -- ---- CREATE RELATION
 
@@ -48,8 +48,8 @@ makes_relation : (rs : List Relation) (name : List ℕ) → length rs < 8 → is
 makes_relation rs name few fresh =
     let new = bare_relation name [] [] in
     let made : List (Option Relation) → Outcome = λ slots. Ok (record { version = 2; relations = slots; indexes = replicate 8 None; cursors = replicate 4 None }, Fine) in
-    let at : Result ℕ Refusal → Outcome = λ slot. upgraded (◌>>=◌ slot (λ k. made (set (slots_of 8 rs) k (Some new)))) in
-    ap (λ found. upgraded (◌>>◌ (refuse_if (is_some found) no.Exists) (◌>>=◌ (found_or (free_from 0 (slots_of 8 rs)) (no.Full pool.Relations 8)) (λ k. made (set (slots_of 8 rs) k (Some new)))))) (absent name 8 rs fresh)
+    let at : Result ℕ Refusal → Outcome = λ slot. upgraded (◌>>=◌ slot (λ k. made (set (slots_for 8 rs) k (Some new)))) in
+    ap (λ found. upgraded (◌>>◌ (refuse_if (is_some found) no.Exists) (◌>>=◌ (found_or (free_from 0 (slots_for 8 rs)) (no.Full pool.Relations 8)) (λ k. made (set (slots_for 8 rs) k (Some new)))))) (absent name 8 rs fresh)
     ∙ ap (λ free. at (found_or free (no.Full pool.Relations 8))) (slot_free 8 rs few)
     ∙ ap made (slot_taken 8 rs new few)
 
@@ -61,7 +61,7 @@ changed_last : (change : ℕ → Database → Relation → Result (Relation × R
 changed_last change rs r new fresh changed =
     let db = with_relations (rs ++ r ∷ []) in
     let made : List (Option Relation) → Outcome = λ slots. Ok (record { version = 2; relations = slots; indexes = replicate 8 None; cursors = replicate 4 None }, Fine) in
-    let put : ℕ → Relation × Reply → Outcome = λ k done. Ok (record { version = 2; relations = set (slots_of 8 (rs ++ r ∷ [])) k (Some done.0); indexes = replicate 8 None; cursors = replicate 4 None }, done.1) in
+    let put : ℕ → Relation × Reply → Outcome = λ k done. Ok (record { version = 2; relations = set (slots_for 8 (rs ++ r ∷ [])) k (Some done.0); indexes = replicate 8 None; cursors = replicate 4 None }, done.1) in
     ap (λ found. ◌>>=◌ (found_or found no.NoRelation) (λ s. ◌>>=◌ (change s.0 db s.1) (put s.0))) (found_last 8 rs r fresh)
     ∙ ap (λ done. ◌>>=◌ done (put (length rs))) changed
     ∙ ap made (slot_changed 8 rs r new)
@@ -161,7 +161,7 @@ inserted rs name attributes done values some suit few =
 -- the rows so far, and those still to come
 makes_rows : (rs : List Relation) (name : List ℕ) (attributes : List Attribute) (done rest : List Row) → is_among name (relation_names rs) ≡ false
     → (0 < length rest → 0 < length attributes) → AllRowsSuit attributes rest → length done + length rest ≤ 32768
-    → Makes (with_relations (rs ++ bare_relation name attributes done ∷ [])) (map (row_command name) (live_tuples rest)) (with_relations (rs ++ bare_relation name attributes (done ++ live_rows rest) ∷ []))
+    → Makes (with_relations (rs ++ bare_relation name attributes done ∷ [])) (map (row_command name) (live_tuples rest)) (with_relations (rs ++ bare_relation name attributes (done ++ kept_rows rest) ∷ []))
 makes_rows rs name attributes done [] fresh filled suit few = ap (λ rows. with_relations (rs ++ bare_relation name attributes rows ∷ [])) (sym (append-nil done))
 makes_rows rs name attributes done (row ∷ rest) fresh filled suit few =
     by_live row.live refl
@@ -175,15 +175,15 @@ makes_rows rs name attributes done (row ∷ rest) fresh filled suit few =
     state rows = with_relations (rs ++ bare_relation name attributes rows ∷ [])
 
     by_live : (t : Bool) → row.live ≡ t
-        → Makes (state (done ++ new ∷ [])) (map (row_command name) (live_tuples rest)) (state ((done ++ new ∷ []) ++ live_rows rest))
-        → Makes (state done) (map (row_command name) (live_tuples rest)) (state (done ++ live_rows rest))
-        → Makes (state done) (map (row_command name) (cond t (row.tuple ∷ live_tuples rest) (live_tuples rest))) (state (done ++ cond t (row ∷ live_rows rest) (live_rows rest)))
+        → Makes (state (done ++ new ∷ [])) (map (row_command name) (live_tuples rest)) (state ((done ++ new ∷ []) ++ kept_rows rest))
+        → Makes (state done) (map (row_command name) (live_tuples rest)) (state (done ++ kept_rows rest))
+        → Makes (state done) (map (row_command name) (cond t (row.tuple ∷ live_tuples rest) (live_tuples rest))) (state (done ++ cond t (row ∷ kept_rows rest) (kept_rows rest)))
     by_live false e with_row without = without
     by_live true e with_row without =
         let same : new ≡ row = ap (λ t. record { tuple = row.tuple; live = t }) (sym e) in
         let one = changed_last (insert_into row.tuple) rs (bare_relation name attributes done) (bare_relation name attributes (done ++ new ∷ [])) fresh
         (inserted rs name attributes done row.tuple (filled (omega arith)) suit.0 (omega (arith, few))) in
-        (state (done ++ new ∷ []), one, subst (λ rows. Makes (state (done ++ new ∷ [])) (map (row_command name) (live_tuples rest)) (state rows)) (append_assoc done (new ∷ []) (live_rows rest) ∙ ap (λ r. done ++ r ∷ live_rows rest) same) with_row)
+        (state (done ++ new ∷ []), one, subst (λ rows. Makes (state (done ++ new ∷ [])) (map (row_command name) (live_tuples rest)) (state rows)) (append_assoc done (new ∷ []) (kept_rows rest) ∙ ap (λ r. done ++ r ∷ kept_rows rest) same) with_row)
 
 -- ---- relations
 

@@ -11,8 +11,8 @@ use Rattle.db_model.specs.Row.{Row}
 use Rattle.db_model.specs.Sound.{BringsNames, IsSoundDatabase}
 use Rattle.db_model.specs.Step.{replied, step}
 use Rattle.dump_model.specs.Made.{Makes}
-use Rattle.dump_model.specs.Packed.{live_rows, moved_index, new_slot, packed, packed_relation, slots_of}
-use Rattle.dump_model.specs.Script.{attribute_command, command_line, index_command, name_at, relation_commands, row_command, script, script_commands}
+use Rattle.dump_model.specs.Packed.{kept_rows, moved_index, new_slot, packed, packed_relation, slots_for}
+use Rattle.dump_model.specs.Script.{attribute_command, command_line, index_command, attribute_name, relation_commands, row_command, script, script_commands}
 use Rattle.dump_model.proofs.Facts.{AllIndexFacts, database_facts}
 use Rattle.dump_model.proofs.Made.{makes_packed, printed}
 use Rattle.dump_model.proofs.Slots.{some_same, used_front}
@@ -39,20 +39,20 @@ module _ (kept : (db : Database) (command : Command) → BringsNames command →
 
 -- ---- its relations
 
-live_twice : (rows : List Row) → live_rows (live_rows rows) ≡ live_rows rows
+live_twice : (rows : List Row) → kept_rows (kept_rows rows) ≡ kept_rows rows
 live_twice [] = refl
 live_twice (row ∷ rows) = by_live row.live refl (live_twice rows)
   where
-    by_live : (t : Bool) → row.live ≡ t → live_rows (live_rows rows) ≡ live_rows rows → live_rows (cond t (row ∷ live_rows rows) (live_rows rows)) ≡ cond t (row ∷ live_rows rows) (live_rows rows)
-    by_live true e h = ap (λ t. cond t (row ∷ live_rows (live_rows rows)) (live_rows (live_rows rows))) e ∙ ap (λ rs. row ∷ rs) h
+    by_live : (t : Bool) → row.live ≡ t → kept_rows (kept_rows rows) ≡ kept_rows rows → kept_rows (cond t (row ∷ kept_rows rows) (kept_rows rows)) ≡ cond t (row ∷ kept_rows rows) (kept_rows rows)
+    by_live true e h = ap (λ t. cond t (row ∷ kept_rows (kept_rows rows)) (kept_rows (kept_rows rows))) e ∙ ap (λ rs. row ∷ rs) h
     by_live false e h = h
 
-same_tuples : (rows : List Row) → live_tuples (live_rows rows) ≡ live_tuples rows
+same_tuples : (rows : List Row) → live_tuples (kept_rows rows) ≡ live_tuples rows
 same_tuples [] = refl
 same_tuples (row ∷ rows) = by_live row.live refl (same_tuples rows)
   where
-    by_live : (t : Bool) → row.live ≡ t → live_tuples (live_rows rows) ≡ live_tuples rows → live_tuples (cond t (row ∷ live_rows rows) (live_rows rows)) ≡ cond t (row.tuple ∷ live_tuples rows) (live_tuples rows)
-    by_live true e h = ap (λ t. cond t (row.tuple ∷ live_tuples (live_rows rows)) (live_tuples (live_rows rows))) e ∙ ap (λ ts. row.tuple ∷ ts) h
+    by_live : (t : Bool) → row.live ≡ t → live_tuples (kept_rows rows) ≡ live_tuples rows → live_tuples (cond t (row ∷ kept_rows rows) (kept_rows rows)) ≡ cond t (row.tuple ∷ live_tuples rows) (live_tuples rows)
+    by_live true e h = ap (λ t. cond t (row.tuple ∷ live_tuples (kept_rows rows)) (live_tuples (kept_rows rows))) e ∙ ap (λ ts. row.tuple ∷ ts) h
     by_live false e h = h
 
 packed_relations : (rs : List Relation) → map packed_relation (map packed_relation rs) ≡ map packed_relation rs
@@ -93,11 +93,11 @@ new_there (Some q ∷ slots) (suc k) r behind h = ap (λ n. suc n) (new_there sl
 
 module _ (slots : List (Option Relation)) (n : ℕ) where
   abbrev closed_up : List (Option Relation)
-  closed_up = slots_of n (map packed_relation (used slots))
+  closed_up = slots_for n (map packed_relation (used slots))
 
   same_index : (index : Index) (r : Relation) → get_or slots index.relation None ≡ Some r → index_command closed_up (moved_index slots index) ≡ index_command slots index
   same_index index r h =
-      let command : Option Relation → Command = λ slot. elim slot [ None ↦ CreateIndex [] [] index.kind | Some q ↦ CreateIndex q.schema.name (name_at q.schema.attributes index.attribute) index.kind ] in
+      let command : Option Relation → Command = λ slot. elim slot [ None ↦ CreateIndex [] [] index.kind | Some q ↦ CreateIndex q.schema.name (attribute_name q.schema.attributes index.attribute) index.kind ] in
       ap command (moved_there slots index.relation r (replicate (n - length (map packed_relation (used slots))) None) h) ∙ sym (ap command h)
 
   same_indexes : (before rest : List Index) → AllIndexFacts slots before rest → map (index_command closed_up) (map (moved_index slots) rest) ≡ map (index_command slots) rest
@@ -115,7 +115,7 @@ module _ (slots : List (Option Relation)) (n : ℕ) where
 
 -- ---- databases
 
-in_slots : {A : Type 0} (n : ℕ) (xs : List A) → used (slots_of n xs) ≡ xs
+in_slots : {A : Type 0} (n : ℕ) (xs : List A) → used (slots_for n xs) ≡ xs
 in_slots n xs = used_front xs (n - length xs)
 
 pub same_script : (db : Database) → IsSoundDatabase db → script (packed db) ≡ script db
@@ -124,9 +124,9 @@ same_script db is =
     let rs = map packed_relation (used db.relations) in
     let xs = map (moved_index db.relations) (used db.indexes) in
     ap (flat_map command_line)
-    (ap (λ qs. flat_map relation_commands qs ++ map (index_command (slots_of 8 rs)) (used (slots_of 8 xs))) (in_slots 8 rs)
-    ∙ ap (λ ys. flat_map relation_commands rs ++ map (index_command (slots_of 8 rs)) ys) (in_slots 8 xs)
-    ∙ ap (λ cs. cs ++ map (index_command (slots_of 8 rs)) xs) (all_commands (used db.relations))
+    (ap (λ qs. flat_map relation_commands qs ++ map (index_command (slots_for 8 rs)) (used (slots_for 8 xs))) (in_slots 8 rs)
+    ∙ ap (λ ys. flat_map relation_commands rs ++ map (index_command (slots_for 8 rs)) ys) (in_slots 8 xs)
+    ∙ ap (λ cs. cs ++ map (index_command (slots_for 8 rs)) xs) (all_commands (used db.relations))
     ∙ ap (λ cs. flat_map relation_commands (used db.relations) ++ cs) (same_indexes db.relations 8 [] (used db.indexes) facts.indexes))
 
 pub packed_twice : (db : Database) → IsSoundDatabase db → packed (packed db) ≡ packed db
@@ -134,8 +134,8 @@ packed_twice db is =
     let facts = database_facts db is in
     let rs = map packed_relation (used db.relations) in
     let xs = map (moved_index db.relations) (used db.indexes) in
-    let made : List Relation → List Index → Database = λ qs ys. record { version = 2; relations = slots_of 8 qs; indexes = slots_of 8 ys; cursors = replicate 4 None } in
-    ap (λ qs. made (map packed_relation qs) (map (moved_index (slots_of 8 rs)) (used (slots_of 8 xs)))) (in_slots 8 rs)
-    ∙ ap (λ qs. made qs (map (moved_index (slots_of 8 rs)) (used (slots_of 8 xs)))) (packed_relations (used db.relations))
-    ∙ ap (λ ys. made rs (map (moved_index (slots_of 8 rs)) ys)) (in_slots 8 xs)
+    let made : List Relation → List Index → Database = λ qs ys. record { version = 2; relations = slots_for 8 qs; indexes = slots_for 8 ys; cursors = replicate 4 None } in
+    ap (λ qs. made (map packed_relation qs) (map (moved_index (slots_for 8 rs)) (used (slots_for 8 xs)))) (in_slots 8 rs)
+    ∙ ap (λ qs. made qs (map (moved_index (slots_for 8 rs)) (used (slots_for 8 xs)))) (packed_relations (used db.relations))
+    ∙ ap (λ ys. made rs (map (moved_index (slots_for 8 rs)) ys)) (in_slots 8 xs)
     ∙ ap (made rs) (moved_twice db.relations 8 [] (used db.indexes) facts.indexes)

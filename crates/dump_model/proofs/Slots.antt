@@ -6,7 +6,7 @@ use Rattle.std.proofs.Math.Seq.{set-append_seam}
 use Rattle.std.proofs.lemmas.List.{length-map, map-append}
 use Rattle.std.proofs.lemmas.Slice.Eq.{bytes_eq-Decides}
 use Rattle.db_model.specs.Database.{Relation, used, free_from, is_among, relation_from}
-use Rattle.dump_model.specs.Packed.{slots_of}
+use Rattle.dump_model.specs.Packed.{slots_for}
 use Rattle.db_model.specs.Sound.{are_distinct}
 use Rattle.dump_model.proofs.Facts.{relation_names}
 use Rattle.dump_model.proofs.Lexing.{false_true, and_left, and_right}
@@ -78,12 +78,12 @@ used_few (None ∷ slots) = let e = used_few slots in omega (arith, e)
 used_few (Some x ∷ slots) = let e = used_few slots in omega (arith, e)
 
 -- the first free slot is behind them
-pub slots_next : {A : Type 0} (n : ℕ) (xs : List A) → length xs < n → slots_of n xs ≡ map (λ x. Some x) xs ++ None ∷ replicate (n - (length xs + 1)) None
+pub slots_next : {A : Type 0} (n : ℕ) (xs : List A) → length xs < n → slots_for n xs ≡ map (λ x. Some x) xs ++ None ∷ replicate (n - (length xs + 1)) None
 slots_next n xs h =
     let e : n - length xs ≡ suc (n - (length xs + 1)) = omega arith in
     ap (λ k. map (λ x. Some x) xs ++ replicate k None) e
 
-pub slots_more : {A : Type 0} (n : ℕ) (xs : List A) (x : A) → slots_of n (xs ++ x ∷ []) ≡ map (λ x. Some x) xs ++ Some x ∷ replicate (n - (length xs + 1)) None
+pub slots_more : {A : Type 0} (n : ℕ) (xs : List A) (x : A) → slots_for n (xs ++ x ∷ []) ≡ map (λ x. Some x) xs ++ Some x ∷ replicate (n - (length xs + 1)) None
 slots_more n xs x =
     let many : length (xs ++ x ∷ []) ≡ length xs + 1 = length-append xs (x ∷ []) in
     ap (λ k. map (λ x. Some x) (xs ++ x ∷ []) ++ replicate (n - k) None) many
@@ -99,15 +99,15 @@ set_at xs old new behind =
     ap (λ k. set (map (λ x. Some x) xs ++ old ∷ behind) k new) (sym (length-map xs (λ x. Some x))) ∙ set-append_seam (map (λ x. Some x) xs) old behind new
 
 -- the first free slot is taken
-pub slot_taken : {A : Type 0} (n : ℕ) (xs : List A) (x : A) → length xs < n → set (slots_of n xs) (length xs) (Some x) ≡ slots_of n (xs ++ x ∷ [])
+pub slot_taken : {A : Type 0} (n : ℕ) (xs : List A) (x : A) → length xs < n → set (slots_for n xs) (length xs) (Some x) ≡ slots_for n (xs ++ x ∷ [])
 slot_taken n xs x h =
     ap (λ slots. set slots (length xs) (Some x)) (slots_next n xs h) ∙ set_at xs None (Some x) (replicate (n - (length xs + 1)) None) ∙ sym (slots_more n xs x)
 
-pub slot_free : {A : Type 0} (n : ℕ) (xs : List A) → length xs < n → free_from 0 (slots_of n xs) ≡ Some (length xs)
+pub slot_free : {A : Type 0} (n : ℕ) (xs : List A) → length xs < n → free_from 0 (slots_for n xs) ≡ Some (length xs)
 slot_free n xs h = ap (free_from 0) (slots_next n xs h) ∙ free_at 0 xs (replicate (n - (length xs + 1)) None) ∙ (let e : 0 + length xs ≡ length xs = omega arith in ap (λ k. Some k) e)
 
 -- the last one that was taken is another
-pub slot_changed : {A : Type 0} (n : ℕ) (xs : List A) (x y : A) → set (slots_of n (xs ++ x ∷ [])) (length xs) (Some y) ≡ slots_of n (xs ++ y ∷ [])
+pub slot_changed : {A : Type 0} (n : ℕ) (xs : List A) (x y : A) → set (slots_for n (xs ++ x ∷ [])) (length xs) (Some y) ≡ slots_for n (xs ++ y ∷ [])
 slot_changed n xs x y =
     ap (λ slots. set slots (length xs) (Some y)) (slots_more n xs x) ∙ set_at xs (Some x) (Some y) (replicate (n - (length xs + 1)) None) ∙ sym (slots_more n xs y)
 
@@ -125,7 +125,7 @@ absent_from name n (r ∷ rs) m fresh =
     ap (λ t. cond t (Some (n, r)) (relation_from name (n + 1) (map (λ x. Some x) rs ++ replicate m None))) other
     ∙ absent_from name (n + 1) rs m (or_right (bytes_eq r.schema.name name) (is_among name (relation_names rs)) fresh)
 
-pub absent : (name : List ℕ) (n : ℕ) (rs : List Relation) → is_among name (relation_names rs) ≡ false → relation_from name 0 (slots_of n rs) ≡ None
+pub absent : (name : List ℕ) (n : ℕ) (rs : List Relation) → is_among name (relation_names rs) ≡ false → relation_from name 0 (slots_for n rs) ≡ None
 absent name n rs fresh = absent_from name 0 rs (n - length rs) fresh
 
 found_from : (n : ℕ) (rs : List Relation) (r : Relation) (behind : List (Option Relation)) → is_among r.schema.name (relation_names rs) ≡ false → relation_from r.schema.name n (map (λ x. Some x) rs ++ Some r ∷ behind) ≡ Some (n + length rs, r)
@@ -140,6 +140,6 @@ found_from n (q ∷ rs) r behind fresh =
     ∙ ap (λ k. Some (k, r)) e
 
 -- the last one is found by its name
-pub found_last : (n : ℕ) (rs : List Relation) (r : Relation) → is_among r.schema.name (relation_names rs) ≡ false → relation_from r.schema.name 0 (slots_of n (rs ++ r ∷ [])) ≡ Some (length rs, r)
+pub found_last : (n : ℕ) (rs : List Relation) (r : Relation) → is_among r.schema.name (relation_names rs) ≡ false → relation_from r.schema.name 0 (slots_for n (rs ++ r ∷ [])) ≡ Some (length rs, r)
 found_last n rs r fresh =
     ap (relation_from r.schema.name 0) (slots_more n rs r) ∙ found_from 0 rs r (replicate (n - (length rs + 1)) None) fresh ∙ (let e : 0 + length rs ≡ length rs = omega arith in ap (λ k. Some (k, r)) e)

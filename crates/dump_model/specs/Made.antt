@@ -17,8 +17,8 @@ Makes db (c ∷ commands) made =
     (next : Database) × (outcome db c ≡ Ok (next, Fine)) × Makes next commands made
 
 -- a text of at most 512 bytes
-abbrev pub IsShort : Command → Type 0
-IsShort command = length (command_text command) ≤ 512
+abbrev pub IsShortText : Command → Type 0
+IsShortText command = length (command_text command) ≤ 512
 
 abbrev pub IsFine : Reply → Type 0
 IsFine reply = reply ≡ Fine
@@ -35,7 +35,7 @@ module _ (read : List ℕ → Result Command Refusal) where
     -- it is cut into the texts of its commands, and none is left unfinished
     pub cut : commands (script db) ≡ map (λ command. Bytes (command_text command)) (script_commands db)
     pub whole : whole (script db) ≡ commands (script db)
-    pub short : AllByRecursion IsShort (script_commands db)
+    pub short : AllByRecursion IsShortText (script_commands db)
     -- these make the packed database
     pub makes : Makes empty_database (script_commands db) (packed db)
     pub replies : AllByRecursion IsFine (replies_to empty_database (commands (script db)))

@@ -4,16 +4,16 @@ use Rattle.db_model.specs.Catalog.{Index}
 use Rattle.db_model.specs.Database.{Relation, Database, used}
 use Rattle.db_model.specs.Row.{Row}
 
-abbrev pub live_rows : List Row → List Row
-live_rows rows = filter (λ row. row.live) rows
+abbrev pub kept_rows : List Row → List Row
+kept_rows rows = filter (λ row. row.live) rows
 
 -- of a relation the live rows alone
 abbrev pub packed_relation : Relation → Relation
-packed_relation r = record r { rows = live_rows r.rows }
+packed_relation r = record r { rows = kept_rows r.rows }
 
 -- these in the first slots of n, and none behind them
-abbrev pub slots_of : {A : Type 0} → ℕ → List A → List (Option A)
-slots_of n xs = map (λ x. Some x) xs ++ replicate (n - length xs) None
+abbrev pub slots_for : {A : Type 0} → ℕ → List A → List (Option A)
+slots_for n xs = map (λ x. Some x) xs ++ replicate (n - length xs) None
 
 -- the slot that a used slot gets: so many are used before it
 abbrev pub new_slot : {A : Type 0} → List (Option A) → ℕ → ℕ
@@ -27,7 +27,7 @@ moved_index relations index = record index { relation = new_slot relations index
 abbrev pub packed : Database → Database
 packed db = record {
   version = 2;
-  relations = slots_of 8 (map packed_relation (used db.relations));
-  indexes = slots_of 8 (map (moved_index db.relations) (used db.indexes));
+  relations = slots_for 8 (map packed_relation (used db.relations));
+  indexes = slots_for 8 (map (moved_index db.relations) (used db.indexes));
   cursors = replicate 4 None;
 }

@@ -39,14 +39,14 @@ relation_commands r =
     ++ map (row_command r.schema.name) (live_tuples r.rows))
 
 -- the name of the attribute at a place
-abbrev pub name_at : List Attribute → ℕ → List ℕ
-name_at attributes place = elim (slice_get attributes place) [ None ↦ [] | Some a ↦ a.name ]
+abbrev pub attribute_name : List Attribute → ℕ → List ℕ
+attribute_name attributes place = elim (slice_get attributes place) [ None ↦ [] | Some a ↦ a.name ]
 
 abbrev pub index_command : List (Option Relation) → Index → Command
 index_command relations index =
     elim (get_or relations index.relation None) [
       | None ↦ CreateIndex [] [] index.kind
-      | Some r ↦ CreateIndex r.schema.name (name_at r.schema.attributes index.attribute) index.kind
+      | Some r ↦ CreateIndex r.schema.name (attribute_name r.schema.attributes index.attribute) index.kind
     ]
 
 -- all relations in slot order, then all indexes in slot order

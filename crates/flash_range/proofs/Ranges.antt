@@ -1,11 +1,11 @@
 -- Laws of ranges of bytes that may cross pages.
-use Rattle.std.proofs.Common.{bit_or, ◌≡◌, ℕ, zero, suc, ◌+◌, ◌-◌, ◌%◌, ◌≤◌, ◌<◌, min, List, [], ◌∷◌, ◌++◌, length, take, drop, get_or, refl, ap, sym, ◌∙◌, arith, append_assoc, ⊎_elim}
+use Rattle.std.proofs.Common.{bit_or, ◌≡◌, ℕ, zero, suc, ◌+◌, ◌-◌, ◌%◌, ◌≤◌, ◌<◌, ◌⊎◌, inl, inr, min, List, [], ◌∷◌, ◌++◌, length, take, drop, get_or, refl, ap, sym, ◌∙◌, arith, append_assoc, ⊎_elim}
 use Rattle.std.proofs.lemmas.Bool.{cases_lt}
 use Rattle.std.proofs.lemmas.List.{take-append-drop, drop-drop, drop_at, take_at, append_cancel_right, length-drop, get_or_append_left, get_or-append_right, get_or-take, length-take-le}
 use borrow.Rule.Slice.PartMut.{put_mid}
 use Rattle.afl_base.proofs.Images.{or_at_before, or_at_inside, or_at_behind}
 use Rattle.afl_base.specs.Image.{or_at, or_front}
-use Rattle.flash_range.specs.Range.{Outside, pages_touched}
+use Rattle.flash_range.specs.Range.{IsCutRange, Outside, pages_touched}
 
 -- a piece that ends with its page, or with the range, touches one page more
 pub touched_more : (place done n len : ℕ) → n ≡ min (len - done) (256 - (place + done) % 256) → done < len → (0 < done → done < len → (place + done) % 256 ≡ 0) → pages_touched place (done + n) ≡ pages_touched place done + 1
@@ -95,3 +95,27 @@ or_front-nothing (x ∷ xs) = refl
 pub or_at-nothing : (image : List ℕ) (at : ℕ) → or_at image at [] ≡ image
 unfolding or_at
 or_at-nothing image at = ap (λ t. take at image ++ t) (or_front-nothing (drop at image)) ∙ take-append-drop at image
+
+-- cuts
+
+zero_or : (n : ℕ) → (n ≡ 0) ⊎ (0 < n)
+zero_or zero = inl refl
+zero_or (suc n) = inr (omega arith)
+
+-- a cut behind pieces that are done is a cut in the range
+pub cut_more : (image mid new bytes rest : List ℕ) (place from done : ℕ) → mid ≡ or_at image place (take done bytes) → IsCutRange mid new from rest → from ≡ place + done → rest ≡ drop done bytes
+    → place + length bytes ≤ length image → done < length bytes → (0 < done → (place + done) % 256 ≡ 0) → IsCutRange image new place bytes
+cut_more image mid new bytes rest place from done front cut here is fits low turn =
+    let long : length rest ≡ length bytes - done = ap (λ xs. length xs) is ∙ length-drop done bytes in
+    let within = cut.within in
+    record {
+      done = done + cut.done;
+      within = omega arith;
+      whole = λ few one. ⊎_elim
+          (λ (z : done ≡ 0). ⊎_elim (λ (n : cut.done ≡ 0). inl (omega arith)) (λ (a : cut.done ≡ length rest). inr (omega arith)) (cut.whole (omega arith) (omega arith)))
+          (λ (s : 0 < done). let t = turn s in absurd (omega arith))
+          (zero_or done);
+      is = cut.is ∙ ap (λ m. or_at m from (take cut.done rest)) front ∙ ap (λ p. or_at (or_at image place (take done bytes)) p (take cut.done rest)) here
+          ∙ ap (λ xs. or_at (or_at image place (take done bytes)) (place + done) (take cut.done xs)) is
+          ∙ program_more image bytes place done cut.done fits (omega arith);
+    }

@@ -1,7 +1,7 @@
-ghost use Rattle.std.specs.Prelude.{◌≡◌, ℕ, ◌+◌, ◌-◌, ◌%◌, ◌≤◌, min, length, take, IsTrue, OnOk, IfOk};
-ghost use Rattle.afl_base.specs.Causes.{HasCause};
+ghost use Rattle.std.specs.Prelude.{◌≡◌, ℕ, ◌+◌, ◌-◌, ◌%◌, ◌≤◌, min, length, take, IsTrue, OnErr, OnOk, IfOk};
+ghost use Rattle.afl_base.specs.Keeping.{Programs};
 ghost use Rattle.afl_base.specs.Image.{or_at, page_bytes};
-ghost use Rattle.flash_range.specs.Range.{PageOutside};
+ghost use Rattle.flash_range.specs.Range.{IsCutRange, PageOutside};
 
 use afl_base::{Failed, Flash, PageId};
 
@@ -13,9 +13,9 @@ pub fn program_range<F: Flash>(flash: &mut F, place: u32, bytes: &[u8]) -> Resul
         (F.image flash.new ≡ or_at (F.image flash.old) place bytes.now) }
     ensures other_pages { IsTrue F.tells → (p : ℕ) → PageOutside place (length bytes.now) p
         → page_bytes (F.image flash.new) p ≡ page_bytes (F.image flash.old) p }
-    ensures size { length (F.image flash.new) ≡ length (F.image flash.old) }
-    ensures reads { F.reads flash.new ≡ F.reads flash.old }
-    ensures cause { HasCause (F.faults flash.old) (F.faults flash.new) result }
+    ensures cut { IsTrue F.tells → IsTrue F.cuts → OnErr result
+        (IsCutRange (F.image flash.old) (F.image flash.new) place bytes.now) }
+    ensures frame { Programs F.image F.lent F.reads F.faults flash.old flash.new result }
 {
     // What the number of sectors promises bounds the place, so that it fits a page number.
     flash.sectors();
@@ -35,9 +35,9 @@ fn program_piece<F: Flash>(flash: &mut F, place: u32, bytes: &[u8]) -> Result<us
         (λ n. F.image flash.new ≡ or_at (F.image flash.old) place (take n bytes.now)) }
     ensures other_pages { IsTrue F.tells → (p : ℕ) → PageOutside place (length bytes.now) p
         → page_bytes (F.image flash.new) p ≡ page_bytes (F.image flash.old) p }
-    ensures size { length (F.image flash.new) ≡ length (F.image flash.old) }
-    ensures reads { F.reads flash.new ≡ F.reads flash.old }
-    ensures cause { HasCause (F.faults flash.old) (F.faults flash.new) result }
+    ensures cut { IsTrue F.tells → IsTrue F.cuts → OnErr result
+        (IsCutRange (F.image flash.old) (F.image flash.new) place bytes.now) }
+    ensures frame { Programs F.image F.lent F.reads F.faults flash.old flash.new result }
 {
     flash.sectors();
     let at = (place % 256) as u16;

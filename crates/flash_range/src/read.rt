@@ -1,5 +1,5 @@
 ghost use Rattle.std.specs.Prelude.{◌≡◌, ℕ, ◌+◌, ◌-◌, ◌%◌, ◌^◌, ◌≤◌, ◌<◌, min, length, slice_index, slice_range, IsTrue, OnOk, IfOk};
-ghost use Rattle.afl_base.specs.Causes.{HasCause};
+ghost use Rattle.afl_base.specs.Keeping.{OnlyReads};
 ghost use Rattle.flash_range.specs.Range.{pages_touched};
 
 use afl_base::{Failed, Flash, PageId};
@@ -10,12 +10,10 @@ pub fn read_range<F: Flash>(flash: &mut F, place: u32, into: &mut [u8]) -> Resul
     requires range { place + length into.old ≤ length (F.image flash.old) }
     ensures bytes { IsTrue F.tells → OnOk result
         (into.new ≡ slice_range (F.image flash.old) place (place + length into.old)) }
-    ensures same { F.image flash.new ≡ F.image flash.old }
     ensures reads { F.reads flash.new ≤ F.reads flash.old + pages_touched place (length into.old) }
-    ensures reads_later { F.reads flash.old ≤ F.reads flash.new }
     ensures counted { OnOk result
         (min (F.reads flash.old + pages_touched place (length into.old)) (2 ^ 64 - 1) ≤ F.reads flash.new) }
-    ensures cause { HasCause (F.faults flash.old) (F.faults flash.new) result }
+    ensures frame { OnlyReads F.image F.lent F.reads F.faults flash.old flash.new result }
 {
     // What the number of sectors promises bounds the place, so that it fits a page number.
     flash.sectors();
@@ -33,11 +31,9 @@ fn read_piece<F: Flash>(flash: &mut F, place: u32, into: &mut [u8]) -> Result<us
     ensures piece { IfOk result (λ n. n ≡ min (length into.old) (256 - place % 256)) }
     ensures bytes { IsTrue F.tells → IfOk result
         (λ n. (k : ℕ) → k < n → slice_index into.new k ≡ slice_index (F.image flash.old) (place + k)) }
-    ensures same { F.image flash.new ≡ F.image flash.old }
     ensures reads { F.reads flash.new ≤ F.reads flash.old + 1 }
-    ensures reads_later { F.reads flash.old ≤ F.reads flash.new }
     ensures counted { min (F.reads flash.old + 1) (2 ^ 64 - 1) ≤ F.reads flash.new }
-    ensures cause { HasCause (F.faults flash.old) (F.faults flash.new) result }
+    ensures frame { OnlyReads F.image F.lent F.reads F.faults flash.old flash.new result }
 {
     flash.sectors();
     let at = (place % 256) as u16;

@@ -6,4 +6,8 @@ mod cached_tests;
 #[cfg(test)]
 mod calls;
 #[cfg(test)]
+mod cut_tests;
+#[cfg(test)]
+mod system_tests;
+#[cfg(test)]
 mod tests;

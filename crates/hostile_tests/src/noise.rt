@@ -109,11 +109,15 @@ impl<F: Flash + Drop> Flash for NoisyFlash<F> {
 
     ghost tells = { false };
 
+    ghost cuts = { F.cuts };
+
     ghost image = { λ f. F.image f.inner };
 
     ghost faults = { λ f. F.faults f.inner };
 
     ghost reads = { λ f. F.reads f.inner };
+
+    ghost lent = { λ f. F.lent f.inner };
 
     fn sectors(&self) -> u16 {
         self.inner.sectors()

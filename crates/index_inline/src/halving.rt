@@ -1,5 +1,5 @@
-ghost use Rattle.std.specs.Prelude.{◌≡◌, ◌+◌, ◌*◌, ◌<◌, ◌≤◌, ℕ, IsTrue, IfOk, OnOk, length};
-ghost use Rattle.afl_base.specs.Causes.{HasCause};
+ghost use Rattle.std.specs.Prelude.{◌≡◌, ◌+◌, ◌*◌, ◌<◌, ◌≤◌, ℕ, IsTrue, IfOk};
+ghost use Rattle.afl_base.specs.Keeping.{OnlyReads};
 ghost use Rattle.afl_base.specs.KeyColumn.{HasField, IsWidth, key_of};
 ghost use Rattle.db_model.specs.Cost.{bits};
 ghost use Rattle.index_inline.specs.Span.{IsFront, Rises, passes};
@@ -22,11 +22,8 @@ pub(crate) fn count_before<V: Files>(
     ensures within { IfOk result (λ front. front ≤ slots) }
     ensures front { IsTrue (V.state files.old).tells → Rises (key_of (V.state files.old) column.now) slots
         → IfOk result (λ front. IsFront (λ slot. passes upper within.now (key_of (V.state files.old) column.now slot)) slots front) }
-    ensures same { OnOk result (V.state files.new ≡ V.state files.old) }
     ensures reads { V.reads files.new ≤ V.reads files.old + 6 * bits slots }
-    ensures reads_later { V.reads files.old ≤ V.reads files.new }
-    ensures store { length (V.state files.new).store ≡ length (V.state files.old).store }
-    ensures cause { HasCause (V.faults files.old) (V.faults files.new) result }
+    ensures frame { OnlyReads V.state V.lent V.reads V.faults files.old files.new result }
 {
     let mut low = 0;
     let mut high = slots;
@@ -54,11 +51,8 @@ fn comes_before<V: Files>(
     requires field { HasField (V.state files.old) column.now slot }
     ensures test { IsTrue (V.state files.old).tells → IfOk result
         (λ before. before ≡ passes upper within.now (key_of (V.state files.old) column.now slot)) }
-    ensures same { OnOk result (V.state files.new ≡ V.state files.old) }
     ensures reads { V.reads files.new ≤ V.reads files.old + 6 }
-    ensures reads_later { V.reads files.old ≤ V.reads files.new }
-    ensures store { length (V.state files.new).store ≡ length (V.state files.old).store }
-    ensures cause { HasCause (V.faults files.old) (V.faults files.new) result }
+    ensures frame { OnlyReads V.state V.lent V.reads V.faults files.old files.new result }
 {
     let Some(slot) = SlotNo::new(slot) else {
         return Err(Failed);

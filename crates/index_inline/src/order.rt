@@ -1,5 +1,5 @@
-ghost use Rattle.std.specs.Prelude.{◌≡◌, ◌+◌, ◌*◌, ◌<◌, ◌≤◌, ℕ, IsTrue, IfOk, OnOk, length};
-ghost use Rattle.afl_base.specs.Causes.{HasCause};
+ghost use Rattle.std.specs.Prelude.{◌≡◌, ◌+◌, ◌*◌, ◌<◌, ◌≤◌, ℕ, IsTrue, IfOk};
+ghost use Rattle.afl_base.specs.Keeping.{OnlyReads};
 ghost use Rattle.afl_base.specs.KeyColumn.{HasField, IsWidth};
 ghost use Rattle.db_model.specs.Step.{first_fall};
 ghost use Rattle.index_inline.specs.Keys.{keys_of};
@@ -17,11 +17,8 @@ pub fn ordered<V: Files>(
     requires width { IsWidth column.now.width }
     requires fields { (slot : ℕ) → slot < slots → HasField (V.state files.old) column.now slot }
     ensures ordered { IsTrue (V.state files.old).tells → IfOk result (λ fall. fall ≡ first_fall (keys_of (V.state files.old) column.now slots)) }
-    ensures same { OnOk result (V.state files.new ≡ V.state files.old) }
     ensures reads { V.reads files.new ≤ V.reads files.old + 6 * slots }
-    ensures reads_later { V.reads files.old ≤ V.reads files.new }
-    ensures store { length (V.state files.new).store ≡ length (V.state files.old).store }
-    ensures cause { HasCause (V.faults files.old) (V.faults files.new) result }
+    ensures frame { OnlyReads V.state V.lent V.reads V.faults files.old files.new result }
 {
     let mut last = i64::MIN;
     for at in 0..slots {

@@ -1,5 +1,5 @@
-ghost use Rattle.std.specs.Prelude.{◌≡◌, ◌+◌, ◌*◌, ◌<◌, ◌≤◌, ℕ, IsTrue, IfOk, OnOk, length};
-ghost use Rattle.afl_base.specs.Causes.{HasCause};
+ghost use Rattle.std.specs.Prelude.{◌+◌, ◌*◌, ◌<◌, ◌≤◌, ℕ, IsTrue, IfOk};
+ghost use Rattle.afl_base.specs.Keeping.{OnlyReads};
 ghost use Rattle.afl_base.specs.KeyColumn.{HasField, IsWidth, key_of};
 ghost use Rattle.db_model.specs.Cost.{bits};
 ghost use Rattle.index_inline.specs.Keys.{NeverFalls, keys_of};
@@ -26,11 +26,8 @@ pub fn range<V: Files>(
         → IfOk result (λ r. IsSpan within.now (key_of (V.state files.old) column.now) slots r.0 r.1) }
     ensures order { IfOk result (λ r. r.0 ≤ r.1) }
     ensures end { IfOk result (λ r. r.1 ≤ slots) }
-    ensures same { OnOk result (V.state files.new ≡ V.state files.old) }
     ensures reads { V.reads files.new ≤ V.reads files.old + 6 * (2 * bits slots) }
-    ensures reads_later { V.reads files.old ≤ V.reads files.new }
-    ensures store { length (V.state files.new).store ≡ length (V.state files.old).store }
-    ensures cause { HasCause (V.faults files.old) (V.faults files.new) result }
+    ensures frame { OnlyReads V.state V.lent V.reads V.faults files.old files.new result }
 {
     let from = count_before(files, column, slots, false, within)?;
     let to = count_before(files, column, slots, true, within)?;

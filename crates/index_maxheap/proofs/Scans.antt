@@ -5,6 +5,7 @@ use Rattle.std.specs.List.{filter}
 use Rattle.std.specs.Ordering.{int_eq}
 use Rattle.std.proofs.lemmas.Bool.Decides.{nat_tests}
 use Rattle.std.proofs.lemmas.List.{drop_all, drop_more}
+use Rattle.padded.proofs.Facts.{first_part}
 use Rattle.index_tree.specs.Pairs.{Pair, no_pair}
 use Rattle.index_tree.specs.Places.{is_wanted}
 use Rattle.index_tree.specs.TreeFile.{Holds, key_at, slot_at}
@@ -35,10 +36,6 @@ wants_is : (bytes : List ℕ) (rest : List Pair) (pair : ℕ) (key : ℤ) (from 
 wants_is bytes rest pair key from holds short within =
     ap (λ (k : ℤ). int_eq k key && nat_lt from (slot_at bytes 0 pair)) (holds.key pair short within)
     ∙ ap (λ (b : Bool). int_eq (get_or rest pair no_pair).key key && b) (below_next from (slot_at bytes 0 pair) (get_or rest pair no_pair).slot (holds.slot pair short within))
-
-first_part : (a b : Bool) → (a && b) ≡ true → a ≡ true
-first_part true b e = refl
-first_part false b e = e
 
 pub found : (bytes : List ℕ) (rest : List Pair) (pair : ℕ) (key : ℤ) (from : ℕ) → Holds bytes 0 rest → pair < 32 → pair < length rest → wants_at bytes key from pair ≡ true →
     filter (is_wanted key from) (drop pair rest) ≡ record { key = key; slot = slot_at bytes 0 pair - 1 } ∷ filter (is_wanted key from) (drop (pair + 1) rest)

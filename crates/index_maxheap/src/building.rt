@@ -2,15 +2,13 @@
 
 #![tactic(auto)]
 
-ghost use Rattle.std.specs.Prelude.{◌≡◌, ◌≢◌, ◌+◌, ◌*◌, ◌^◌, ◌<◌, ◌≤◌, ◌++◌, ◌∷◌, [], ℕ, List, IfOk, IsSome, IsTrue, OnOk, get_or, length, replicate, slice_range};
-ghost use Rattle.afl_base.specs.Causes.{HasCause};
-ghost use Rattle.afl_base.specs.Fields.{put_at, u16_at};
-ghost use Rattle.afl_base.specs.Files.{Drafts, draft_in};
+ghost use Rattle.std.specs.Prelude.{◌≡◌, ◌≢◌, ◌+◌, ◌*◌, ◌^◌, ◌<◌, ◌≤◌, ℕ, List, IfOk, IsSome, IsTrue, OnOk, length, replicate};
+ghost use Rattle.afl_base.specs.Keeping.{Changes};
+ghost use Rattle.afl_base.specs.Files.{draft_in};
 ghost use Rattle.afl_base.specs.KeyColumn.{HasField, IsWidth, key_of};
 ghost use Rattle.db_model.specs.HashTree.{buckets};
-ghost use Rattle.index_tree.specs.Buckets.{IsFirstBucket, IsPairBytes};
 ghost use Rattle.index_maxheap.specs.Builds.{Builds, DraftsBucket, DraftsPair, HasZeros, IsSafeBuild, OnlyDraftChanges, with_pair};
-ghost use Rattle.index_tree.specs.Pairs.{Pair, keys_of, pairs_of};
+ghost use Rattle.index_tree.specs.Pairs.{Pair, keys_of};
 ghost use Rattle.index_tree.specs.Places.{Rises};
 ghost use Rattle.afl_base.specs.Keys.{first_keys};
 ghost use Rattle.index_tree.specs.Trees.{IsTreeOf};
@@ -19,6 +17,7 @@ ghost use Rattle.index_tree.specs.TreeFile.{bucket_place};
 use crate::bytes::{first_bucket, pair_bytes};
 use crate::loads::level_with_room;
 use crate::path::node;
+use crate::tree::{HEAD_SIZE, NEXT_AT, bucket_place};
 use afl_base::{Failed, Files, KeyColumn, SlotNo, put_u16};
 
 // Writes a pair where the draft has zeros.
@@ -28,9 +27,7 @@ fn write_pair<V: Files>(files: &mut V, at: u32, key: &i32, slot: SlotNo) -> Resu
     requires zeros { IsTrue (V.state files.old).tells
         → HasZeros (draft_in (V.state files.old)).bytes at 6 }
     ensures written { OnOk result (DraftsPair (V.state files.old) (V.state files.new) at (record { key = key.now; slot = slot })) }
-    ensures store { length (V.state files.new).store ≡ length (V.state files.old).store }
-    ensures reads_later { V.reads files.old ≤ V.reads files.new }
-    ensures cause { HasCause (V.faults files.old) (V.faults files.new) result }
+    ensures frame { Changes V.state V.lent V.reads V.faults files.old files.new result }
 {
     let bytes = pair_bytes(key, slot);
     files.draft_write(at, &bytes)?;
@@ -54,12 +51,10 @@ fn write_bucket<V: Files>(
     requires zeros { IsTrue (V.state files.old).tells
         → HasZeros (draft_in (V.state files.old)).bytes at 2 }
     ensures written { OnOk result (DraftsBucket (V.state files.old) (V.state files.new) at opened (record { key = key.now; slot = slot })) }
-    ensures store { length (V.state files.new).store ≡ length (V.state files.old).store }
-    ensures reads_later { V.reads files.old ≤ V.reads files.new }
-    ensures cause { HasCause (V.faults files.old) (V.faults files.new) result }
+    ensures frame { Changes V.state V.lent V.reads V.faults files.old files.new result }
 {
     let bucket = first_bucket(key, slot);
-    files.draft_write(683 + 195 * u32::from(opened), &bucket)?;
+    files.draft_write(bucket_place(opened), &bucket)?;
     let mut number = [0; 2];
     put_u16(&mut number, 0, opened + 1);
     files.draft_write(at, &number)?;
@@ -76,7 +71,7 @@ fn spot(load: u16, node: u16, place: u32) -> u32
     if load == 0 {
         2 * u32::from(node)
     } else {
-        place + 192
+        place + NEXT_AT as u32
     }
 }
 
@@ -105,9 +100,7 @@ fn build_slot<V: Files>(
         IfOk result (λ opens. Builds loads.new places.new (opened + opens) (draft_in (V.state files.new)).bytes (with_pair ps key.now slot)) }
     ensures safe { IfOk result (λ opens. IsSafeBuild loads.new places.new (opened + opens) most (slot + 1)) }
     ensures only { OnOk result (OnlyDraftChanges (V.state files.old) (V.state files.new)) }
-    ensures store { length (V.state files.new).store ≡ length (V.state files.old).store }
-    ensures reads_later { V.reads files.old ≤ V.reads files.new }
-    ensures cause { HasCause (V.faults files.old) (V.faults files.new) result }
+    ensures frame { Changes V.state V.lent V.reads V.faults files.old files.new result }
 {
     let level = level_with_room(loads, key);
     let node = node(key, level);
@@ -123,7 +116,7 @@ fn build_slot<V: Files>(
     }
     write_bucket(files, spot(load, node, places[n]), opened, key, slot)?;
     loads[n] = load + 1;
-    places[n] = 683 + 195 * u32::from(opened);
+    places[n] = bucket_place(opened);
     Ok(1)
 }
 
@@ -150,11 +143,9 @@ pub fn build<V: Files>(
     ensures tree { IsTrue (V.state files.old).tells
         → OnOk result (IsTreeOf (draft_in (V.state files.new)).bytes (first_keys (key_of (V.state files.old) column) slots)) }
     ensures only { OnOk result (OnlyDraftChanges (V.state files.old) (V.state files.new)) }
-    ensures store { length (V.state files.new).store ≡ length (V.state files.old).store }
-    ensures reads_later { V.reads files.old ≤ V.reads files.new }
-    ensures cause { HasCause (V.faults files.old) (V.faults files.new) result }
+    ensures frame { Changes V.state V.lent V.reads V.faults files.old files.new result }
 {
-    files.draft_write(682, &[1])?;
+    files.draft_write(HEAD_SIZE as u32 - 1, &[1])?;
     let mut loads = [0u16; 341];
     let mut places = [0u32; 341];
     let mut opened = 0u16;

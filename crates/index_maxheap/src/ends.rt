@@ -2,8 +2,8 @@
 
 #![tactic(auto)]
 
-ghost use Rattle.std.specs.Prelude.{◌≡◌, ◌≢◌, ◌+◌, ◌*◌, ◌-◌, ◌^◌, ◌%◌, ◌<◌, ◌≤◌, ℕ, ℤ, List, None, length, min, IsTrue, IfOk, OnOk};
-ghost use Rattle.afl_base.specs.Causes.{HasCause};
+ghost use Rattle.std.specs.Prelude.{◌≡◌, ◌≢◌, ◌+◌, ◌*◌, ◌-◌, ◌^◌, ◌%◌, ◌<◌, ◌≤◌, ℕ, ℤ, List, None, min, IsTrue, IfOk};
+ghost use Rattle.afl_base.specs.Keeping.{OnlyReads};
 ghost use Rattle.afl_base.specs.Fields.{u16_at};
 ghost use Rattle.afl_base.specs.Files.{IsLive, bytes_at, size_at};
 ghost use Rattle.db_model.specs.Cost.{keys_beside};
@@ -17,7 +17,7 @@ ghost use Rattle.index_maxheap.specs.Walks.{Finds, IsSafeLook, LeadsOn, Looks};
 
 use crate::path::node;
 use crate::rooms::End;
-use crate::tree::{filled, read_bucket, read_number};
+use crate::tree::{BUCKET_SIZE, NEXT_AT, bucket_place, filled, read_bucket, read_number};
 use afl_base::{Failed, FileId, Files, get_u16};
 
 /// What a look at the bucket of a number finds: no bucket, so many pairs, or 32 and the number in `next`.
@@ -37,26 +37,23 @@ fn look_at<V: Files>(files: &mut V, index: FileId, number: u16) -> Result<Look, 
     ensures onward { IsTrue (V.state files.old).tells
         → IfOk result (λ found. LeadsOn found (bytes_at (V.state files.old).files index) number) }
     ensures safe { IfOk result (λ found. IsSafeLook found number (size_at (V.state files.old).files index)) }
-    ensures same { OnOk result (V.state files.new ≡ V.state files.old) }
     ensures none { number ≡ 0 → V.reads files.new ≤ V.reads files.old }
     ensures reads { V.reads files.new ≤ V.reads files.old + 9 }
-    ensures store { length (V.state files.new).store ≡ length (V.state files.old).store }
-    ensures reads_later { V.reads files.old ≤ V.reads files.new }
-    ensures cause { HasCause (V.faults files.old) (V.faults files.new) result }
+    ensures frame { OnlyReads V.state V.lent V.reads V.faults files.old files.new result }
 {
     if number == 0 {
         return Ok(Look::None);
     }
-    if files.size(index) < 683 + 195 * u32::from(number) {
+    if files.size(index) < bucket_place(number) {
         return Ok(Look::None);
     }
-    let mut bytes = [0; 195];
+    let mut bytes = [0; BUCKET_SIZE];
     read_bucket(files, index, number, &mut bytes)?;
     let pair = filled(&bytes);
     if pair < 32 {
         return Ok(Look::Room { pair });
     }
-    let next = get_u16(&bytes, 192);
+    let next = get_u16(&bytes, NEXT_AT);
     Ok(Look::Full { next })
 }
 
@@ -74,7 +71,7 @@ fn spot_behind(key: &i32, level: u8, number: u16) -> u32
         1 => 2 * u32::from(node(key, 2)),
         2 => 2 * u32::from(node(key, 3)),
         3 => 2 * u32::from(node(key, 4)),
-        _ => 683 + 195 * (u32::from(number) - 1) + 192,
+        _ => bucket_place(number - 1) + NEXT_AT as u32,
     }
 }
 
@@ -93,11 +90,8 @@ fn number_behind<V: Files>(
     ensures number { IsTrue (V.state files.old).tells
         → (level ≡ 4 → next ≡ u16_at (bytes_at (V.state files.old).files index) at)
         → IfOk result (λ n. n ≡ u16_at (bytes_at (V.state files.old).files index) at) }
-    ensures same { OnOk result (V.state files.new ≡ V.state files.old) }
     ensures reads { V.reads files.new + 3 * level ≤ V.reads files.old + 3 * min (level + 1) 4 }
-    ensures store { length (V.state files.new).store ≡ length (V.state files.old).store }
-    ensures reads_later { V.reads files.old ≤ V.reads files.new }
-    ensures cause { HasCause (V.faults files.old) (V.faults files.new) result }
+    ensures frame { OnlyReads V.state V.lent V.reads V.faults files.old files.new result }
 {
     if level < 4 {
         read_number(files, index, at)
@@ -112,7 +106,7 @@ fn pair_place(number: u16, pair: u8) -> u32
     requires short { pair < 32 }
     ensures { result ≡ bucket_place (number - 1) + 6 * pair }
 {
-    683 + 195 * (u32::from(number) - 1) + 6 * u32::from(pair)
+    bucket_place(number - 1) + 6 * u32::from(pair)
 }
 
 /// Where a pair of the key goes, in a file that is not too large for a tree.
@@ -124,13 +118,10 @@ pub fn find_end<V: Files>(files: &mut V, index: FileId, key: &i32) -> Result<End
         → IsTree (bytes_at (V.state files.old).files index) ps
         → IfOk result (λ end. Finds end (bytes_at (V.state files.old).files index) ps key.now) }
     ensures within { IfOk result (λ end. IsWithin end (size_at (V.state files.old).files index)) }
-    ensures same { OnOk result (V.state files.new ≡ V.state files.old) }
     ensures reads { IsTrue (V.state files.old).tells → (keys : List ℤ)
         → IsTreeOf (bytes_at (V.state files.old).files index) keys
         → V.reads files.new ≤ V.reads files.old + walk_left (keys_beside key.now keys) None }
-    ensures store { length (V.state files.new).store ≡ length (V.state files.old).store }
-    ensures reads_later { V.reads files.old ≤ V.reads files.new }
-    ensures cause { HasCause (V.faults files.old) (V.faults files.new) result }
+    ensures frame { OnlyReads V.state V.lent V.reads V.faults files.old files.new result }
 {
     let mut at = 0;
     let mut level = 0u8;

@@ -2,18 +2,17 @@
 
 #![tactic(auto)]
 
-ghost use Rattle.std.specs.Prelude.{◌≡◌, ◌≢◌, ◌+◌, ◌*◌, ◌-◌, ◌<◌, ◌≤◌, ◌∷◌, ◌++◌, ◌/◌, ◌^◌, [], ℕ, ℤ, List, length, IsTrue, OnOk};
-ghost use Rattle.afl_base.specs.Causes.{HasCause};
-ghost use Rattle.afl_base.specs.Fields.{put_at, u16_at};
-ghost use Rattle.afl_base.specs.Files.{Becomes, IsLive, bytes_at, file_at, size_at};
+ghost use Rattle.std.specs.Prelude.{◌≡◌, ◌+◌, ◌-◌, ◌<◌, ◌≤◌, ◌∷◌, ◌++◌, ◌/◌, [], ℤ, List, length, IsTrue, OnOk};
+ghost use Rattle.afl_base.specs.Keeping.{Changes};
+ghost use Rattle.afl_base.specs.Files.{IsLive, bytes_at, file_at, size_at};
 ghost use Rattle.afl_base.specs.Regions.{regions};
-ghost use Rattle.index_tree.specs.Buckets.{IsFirstBucket, IsPairBytes};
 ghost use Rattle.index_tree.specs.Places.{KeepsNumbers};
 ghost use Rattle.index_tree.specs.Trees.{IsTreeOf};
 ghost use Rattle.index_maxheap.specs.Rooms.{HasRoomFor, OnlyIndexChanges, PutsBucket, PutsPair, room_of};
 
 use crate::bytes::{first_bucket, pair_bytes};
 use crate::rooms::{End, Room};
+use crate::tree::{BUCKET_SIZE, HEAD_SIZE};
 use afl_base::{Failed, FileId, Files, SlotNo, put_u16};
 
 /// Puts the pair of the key and the next slot into the tree, with the room that `room` said it needs.
@@ -36,9 +35,7 @@ pub fn insert<V: Files>(
         → length keys ≡ slot → room.now ≡ room_of (bytes_at (V.state files.old).files index) key.now
         → OnOk result (KeepsNumbers (bytes_at (V.state files.old).files index) (bytes_at (V.state files.new).files index)) }
     ensures only { OnOk result (OnlyIndexChanges (V.state files.old) (V.state files.new) index) }
-    ensures store { length (V.state files.new).store ≡ length (V.state files.old).store }
-    ensures reads_later { V.reads files.old ≤ V.reads files.new }
-    ensures cause { HasCause (V.faults files.old) (V.faults files.new) result }
+    ensures frame { Changes V.state V.lent V.reads V.faults files.old files.new result }
 {
     match room.end {
         End::Pair { at } => put_pair(files, index, at, key, slot),
@@ -59,9 +56,7 @@ fn put_pair<V: Files>(
     requires range { at + 7 ≤ size_at (V.state files.old).files index }
     requires records { regions at 6 ≤ (file_at (V.state files.old).files index).records }
     ensures put { OnOk result (PutsPair (V.state files.old) (V.state files.new) index at (record { key = key.now; slot = slot })) }
-    ensures store { length (V.state files.new).store ≡ length (V.state files.old).store }
-    ensures reads_later { V.reads files.old ≤ V.reads files.new }
-    ensures cause { HasCause (V.faults files.old) (V.faults files.new) result }
+    ensures frame { Changes V.state V.lent V.reads V.faults files.old files.new result }
 {
     let bytes = pair_bytes(key, slot);
     files.overwrite(index, at, &bytes)?;
@@ -83,11 +78,9 @@ fn put_bucket<V: Files>(
     requires records { regions at 2 ≤ (file_at (V.state files.old).files index).records }
     requires room { 195 ≤ (file_at (V.state files.old).files index).room }
     ensures put { OnOk result (PutsBucket (V.state files.old) (V.state files.new) index at (record { key = key.now; slot = slot })) }
-    ensures store { length (V.state files.new).store ≡ length (V.state files.old).store }
-    ensures reads_later { V.reads files.old ≤ V.reads files.new }
-    ensures cause { HasCause (V.faults files.old) (V.faults files.new) result }
+    ensures frame { Changes V.state V.lent V.reads V.faults files.old files.new result }
 {
-    let number = ((files.size(index) - 683) / 195 + 1) as u16;
+    let number = ((files.size(index) - HEAD_SIZE as u32) / BUCKET_SIZE as u32 + 1) as u16;
     let bucket = first_bucket(key, slot);
     files.append(index, &bucket)?;
     let mut bytes = [0; 2];

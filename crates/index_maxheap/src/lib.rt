@@ -23,4 +23,5 @@ pub use needs::room;
 pub use places::{Found, Place};
 pub use rooms::{End, Room};
 pub use searching::next;
+pub use tree::{BUCKET_SIZE, HEAD_SIZE};
 pub use verifying::verify;

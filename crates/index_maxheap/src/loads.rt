@@ -2,11 +2,11 @@
 
 #![tactic(auto)]
 
-ghost use Rattle.std.specs.Prelude.{◌≡◌, ◌≢◌, ◌+◌, ◌*◌, ◌<◌, ◌≤◌, ℕ, IfOk, IsTrue, OnOk, get_or, length};
+ghost use Rattle.std.specs.Prelude.{◌≡◌, ◌≢◌, ◌+◌, ◌*◌, ◌<◌, ◌≤◌, ℕ, IfOk, IsTrue, get_or};
+ghost use Rattle.afl_base.specs.Keeping.{OnlyReads};
 ghost use Rattle.db_model.specs.HashTree.{buckets, node};
-ghost use Rattle.afl_base.specs.Causes.{HasCause};
 ghost use Rattle.afl_base.specs.KeyColumn.{HasField, IsWidth, key_of};
-ghost use Rattle.index_tree.specs.Loads.{Counts, IsLevel, Loads};
+ghost use Rattle.index_tree.specs.Loads.{IsLevel, Loads};
 ghost use Rattle.afl_base.specs.Keys.{first_keys};
 
 use crate::path::node;
@@ -46,11 +46,8 @@ pub fn buckets_for<V: Files>(files: &mut V, column: KeyColumn, slots: u16) -> Re
     ensures buckets { IsTrue (V.state files.old).tells
         → IfOk result (λ n. n ≡ buckets (first_keys (key_of (V.state files.old) column) slots)) }
     ensures few { IfOk result (λ n. n ≤ 1365) }
-    ensures same { OnOk result (V.state files.new ≡ V.state files.old) }
     ensures reads { V.reads files.new ≤ V.reads files.old + 6 * slots }
-    ensures store { length (V.state files.new).store ≡ length (V.state files.old).store }
-    ensures reads_later { V.reads files.old ≤ V.reads files.new }
-    ensures cause { HasCause (V.faults files.old) (V.faults files.new) result }
+    ensures frame { OnlyReads V.state V.lent V.reads V.faults files.old files.new result }
 {
     let mut loads = [0u16; 341];
     let mut buckets = 0u16;

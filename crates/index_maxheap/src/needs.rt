@@ -2,8 +2,8 @@
 
 #![tactic(auto)]
 
-ghost use Rattle.std.specs.Prelude.{◌≡◌, ◌+◌, ◌<◌, ◌≤◌, List, ℤ, None, length, IsTrue, IfOk, OnOk};
-ghost use Rattle.afl_base.specs.Causes.{HasCause};
+ghost use Rattle.std.specs.Prelude.{◌≡◌, ◌+◌, ◌<◌, ◌≤◌, List, ℤ, None, IsTrue, IfOk};
+ghost use Rattle.afl_base.specs.Keeping.{OnlyReads};
 ghost use Rattle.afl_base.specs.Files.{IsLive, bytes_at, size_at};
 ghost use Rattle.db_model.specs.Cost.{keys_beside};
 ghost use Rattle.index_tree.specs.Trees.{IsTreeOf};
@@ -12,6 +12,7 @@ ghost use Rattle.index_maxheap.specs.Searches.{walk_left};
 
 use crate::ends::find_end;
 use crate::rooms::{End, Room};
+use crate::tree::{BUCKET_SIZE, HEAD_SIZE};
 use afl_base::{Failed, FileId, Files, regions};
 
 // What an insert at an end of a path needs.
@@ -29,7 +30,7 @@ fn room_for(end: End) -> Room
         },
         End::Bucket { at } => Room {
             overwrites: regions(at, 2),
-            bytes: 195,
+            bytes: BUCKET_SIZE as u32,
             end,
         },
         End::Nowhere => Room {
@@ -53,16 +54,13 @@ pub fn room<V: Files>(files: &mut V, index: FileId, key: &i32) -> Result<Room, F
     ensures small { IfOk result (λ room. 0 < room.overwrites
         → size_at (V.state files.old).files index ≤ 268000) }
     ensures none { IfOk result (λ room. room.overwrites ≡ 0 → room.bytes ≡ 0) }
-    ensures same { OnOk result (V.state files.new ≡ V.state files.old) }
     ensures reads { IsTrue (V.state files.old).tells → (keys : List ℤ)
         → IsTreeOf (bytes_at (V.state files.old).files index) keys
         → V.reads files.new ≤ V.reads files.old + walk_left (keys_beside key.now keys) None }
-    ensures store { length (V.state files.new).store ≡ length (V.state files.old).store }
-    ensures reads_later { V.reads files.old ≤ V.reads files.new }
-    ensures cause { HasCause (V.faults files.old) (V.faults files.new) result }
+    ensures frame { OnlyReads V.state V.lent V.reads V.faults files.old files.new result }
 {
     let size = files.size(index);
-    if size < 683 {
+    if size < HEAD_SIZE as u32 {
         return Ok(room_for(End::Nowhere));
     }
     if size > 268_000 {

@@ -2,9 +2,9 @@
 
 #![tactic(auto)]
 
-ghost use Rattle.std.specs.Prelude.{◌≡◌, ◌≢◌, ◌+◌, ◌*◌, ◌-◌, ◌<◌, ◌≤◌, ◌&&◌, ℕ, ℤ, List, MatchOption, Some, length, min, nat_lt, slice_range, IsTrue, IfOk, IfSome, OnOk};
+ghost use Rattle.std.specs.Prelude.{◌≡◌, ◌+◌, ◌*◌, ◌-◌, ◌<◌, ◌≤◌, ◌&&◌, ℤ, List, MatchOption, Some, length, min, nat_lt, slice_range, IsTrue, IfOk, IfSome};
+ghost use Rattle.afl_base.specs.Keeping.{OnlyReads};
 ghost use Rattle.std.specs.Ordering.{int_eq};
-ghost use Rattle.afl_base.specs.Causes.{HasCause};
 ghost use Rattle.afl_base.specs.Files.{IsLive, bytes_at, size_at};
 ghost use Rattle.db_model.specs.Cost.{keys_beside};
 ghost use Rattle.afl_base.specs.Keys.{HasNone, IsFirstOf};
@@ -15,7 +15,7 @@ ghost use Rattle.index_maxheap.specs.Searches.{IsPlaceOf, IsSafe, IsSafeStep, Is
 
 use crate::path::node;
 use crate::places::{Found, Place};
-use crate::tree::{read_bucket, read_number};
+use crate::tree::{BUCKET_SIZE, HEAD_SIZE, NEXT_AT, bucket_place, read_bucket, read_number};
 use afl_base::{Failed, FileId, Files, SlotNo, get_i32, get_u16};
 
 /// What a look into one bucket comes to.
@@ -34,14 +34,14 @@ pub enum Scanned {
     Passed,
 }
 
-fn slot_in(bytes: &[u8; 195], pair: u8) -> u16
+fn slot_in(bytes: &[u8; BUCKET_SIZE], pair: u8) -> u16
     requires { pair < 32 }
     ensures { result ≡ slot_at bytes.now 0 pair }
 {
     get_u16(bytes, 6 * usize::from(pair) + 4)
 }
 
-fn has_key(bytes: &[u8; 195], pair: u8, key: &i32) -> bool
+fn has_key(bytes: &[u8; BUCKET_SIZE], pair: u8, key: &i32) -> bool
     requires { pair < 32 }
     ensures { result ≡ int_eq (key_at bytes.now 0 pair) key.now }
 {
@@ -49,7 +49,7 @@ fn has_key(bytes: &[u8; 195], pair: u8, key: &i32) -> bool
 }
 
 // Whether a pair has the key, and a slot that is not below one.
-fn is_wanted(bytes: &[u8; 195], pair: u8, key: &i32, from: u16) -> bool
+fn is_wanted(bytes: &[u8; BUCKET_SIZE], pair: u8, key: &i32, from: u16) -> bool
     requires { pair < 32 }
     ensures { result ≡ (int_eq (key_at bytes.now 0 pair) key.now && nat_lt from (slot_at bytes.now 0 pair)) }
 {
@@ -57,7 +57,7 @@ fn is_wanted(bytes: &[u8; 195], pair: u8, key: &i32, from: u16) -> bool
 }
 
 // Looks for a key in a bucket, from a pair on, and passes slots that are below one.
-fn scan(bytes: &[u8; 195], start: u8, key: &i32, from: u16) -> Scanned
+fn scan(bytes: &[u8; BUCKET_SIZE], start: u8, key: &i32, from: u16) -> Scanned
     requires { start ≤ 32 }
     ensures short { IsShort result from }
     ensures scans { (rest : List Pair) → Holds bytes.now 0 rest → start ≤ length rest
@@ -83,7 +83,7 @@ fn number_onward<V: Files>(
     files: &mut V,
     index: FileId,
     place: Place,
-    bytes: &[u8; 195],
+    bytes: &[u8; BUCKET_SIZE],
     key: &i32,
 ) -> Result<u16, Failed>
     requires live { IsLive (V.state files.old).files index }
@@ -94,16 +94,13 @@ fn number_onward<V: Files>(
     ensures number { IsTrue (V.state files.old).tells
         → place.bucket ≡ number_of (bytes_at (V.state files.old).files index) key.now place.hop
         → IfOk result (λ n. n ≡ number_of (bytes_at (V.state files.old).files index) key.now (place.hop + 1)) }
-    ensures same { OnOk result (V.state files.new ≡ V.state files.old) }
     ensures reads { V.reads files.new + 3 * min place.hop 4 ≤ V.reads files.old + 3 * min (place.hop + 1) 4 }
-    ensures store { length (V.state files.new).store ≡ length (V.state files.old).store }
-    ensures reads_later { V.reads files.old ≤ V.reads files.new }
-    ensures cause { HasCause (V.faults files.old) (V.faults files.new) result }
+    ensures frame { OnlyReads V.state V.lent V.reads V.faults files.old files.new result }
 {
     if place.hop < 4 {
         read_number(files, index, 2 * u32::from(node(key, place.hop as u8 + 1)))
     } else {
-        Ok(get_u16(bytes, 192))
+        Ok(get_u16(bytes, NEXT_AT))
     }
 }
 
@@ -124,17 +121,14 @@ fn look_in<V: Files>(
         → IsPlaceOf (bytes_at (V.state files.old).files index) keys key.now from (Some place)
         → IfOk result (λ s. Steps s (bytes_at (V.state files.old).files index) keys key.now from) }
     ensures safe { IfOk result (λ s. IsSafeStep s place.hop from) }
-    ensures same { OnOk result (V.state files.new ≡ V.state files.old) }
     ensures cost { IfOk result (λ s. V.reads files.new + 3 * min place.hop 4 ≤ V.reads files.old + 9 + 3 * min (hop_after s place.hop) 4) }
     ensures reads { V.reads files.new + 3 * min place.hop 4 ≤ V.reads files.old + 9 + 3 * min (place.hop + 1) 4 }
-    ensures store { length (V.state files.new).store ≡ length (V.state files.old).store }
-    ensures reads_later { V.reads files.old ≤ V.reads files.new }
-    ensures cause { HasCause (V.faults files.old) (V.faults files.new) result }
+    ensures frame { OnlyReads V.state V.lent V.reads V.faults files.old files.new result }
 {
-    if files.size(index) < 683 + 195 * u32::from(place.bucket) {
+    if files.size(index) < bucket_place(place.bucket) {
         return Ok(Step::End);
     }
-    let mut bytes = [0; 195];
+    let mut bytes = [0; BUCKET_SIZE];
     read_bucket(files, index, place.bucket, &mut bytes)?;
     match scan(&bytes, place.pair, key, from) {
         Scanned::Found { pair, slot } => match SlotNo::new(slot) {
@@ -182,7 +176,6 @@ fn walk<V: Files>(
         (λ f. IsFirstOf key.now keys from f.slot
         × IsPlaceOf (bytes_at (V.state files.old).files index) keys key.now (f.slot + 1) (Some f.place))) }
     ensures forward { IfOk result (λ r. IfSome r (λ f. from ≤ f.slot)) }
-    ensures same { OnOk result (V.state files.new ≡ V.state files.old) }
     ensures reads { IsTrue (V.state files.old).tells → (keys : List ℤ)
         → IsTreeOf (bytes_at (V.state files.old).files index) keys
         → IsStart (bytes_at (V.state files.old).files index) keys key.now from start
@@ -192,9 +185,7 @@ fn walk<V: Files>(
         → IsStart (bytes_at (V.state files.old).files index) keys key.now from start
         → IfOk result (λ r. IfSome r (λ f. V.reads files.new + walk_left (keys_beside key.now keys) (Some f.place)
         ≤ V.reads files.old + walk_left (keys_beside key.now keys) (Some start) + 9)) }
-    ensures store { length (V.state files.new).store ≡ length (V.state files.old).store }
-    ensures reads_later { V.reads files.old ≤ V.reads files.new }
-    ensures cause { HasCause (V.faults files.old) (V.faults files.new) result }
+    ensures frame { OnlyReads V.state V.lent V.reads V.faults files.old files.new result }
 {
     if start.bucket == 0 {
         return Ok(None);
@@ -241,7 +232,6 @@ pub fn next<V: Files>(
         (λ f. IsFirstOf key.now keys from f.slot
         × IsPlaceOf (bytes_at (V.state files.old).files index) keys key.now (f.slot + 1) (Some f.place))) }
     ensures forward { IfOk result (λ r. IfSome r (λ f. from ≤ f.slot)) }
-    ensures same { OnOk result (V.state files.new ≡ V.state files.old) }
     ensures reads { IsTrue (V.state files.old).tells → (keys : List ℤ)
         → IsTreeOf (bytes_at (V.state files.old).files index) keys
         → IsPlaceOf (bytes_at (V.state files.old).files index) keys key.now from place
@@ -251,11 +241,9 @@ pub fn next<V: Files>(
         → IsPlaceOf (bytes_at (V.state files.old).files index) keys key.now from place
         → IfOk result (λ r. IfSome r (λ f. V.reads files.new + walk_left (keys_beside key.now keys) (Some f.place)
         ≤ V.reads files.old + walk_left (keys_beside key.now keys) place + 9)) }
-    ensures store { length (V.state files.new).store ≡ length (V.state files.old).store }
-    ensures reads_later { V.reads files.old ≤ V.reads files.new }
-    ensures cause { HasCause (V.faults files.old) (V.faults files.new) result }
+    ensures frame { OnlyReads V.state V.lent V.reads V.faults files.old files.new result }
 {
-    if files.size(index) < 683 {
+    if files.size(index) < HEAD_SIZE as u32 {
         return Ok(None);
     }
     match place {

@@ -2,13 +2,13 @@
 
 #![tactic(auto)]
 
-ghost use Rattle.std.specs.Prelude.{◌≡◌, ◌≢◌, ◌+◌, ◌*◌, ◌-◌, ◌^◌, ◌<◌, ◌≤◌, ◌⊎◌, ℕ, ℤ, pos, Bool, true, false, List, length, IsTrue, IfOk, IfSome, OnOk, get_or, slice_range, ◌%◌};
+ghost use Rattle.std.specs.Prelude.{◌≡◌, ◌≢◌, ◌+◌, ◌*◌, ◌-◌, ◌^◌, ◌<◌, ◌≤◌, ◌⊎◌, ℕ, ℤ, pos, true, false, length, IsTrue, IfOk, IfSome, OnOk, get_or, slice_range, ◌%◌};
+ghost use Rattle.afl_base.specs.Keeping.{OnlyReads};
 ghost use Rattle.std.specs.Ordering.{int_eq};
-ghost use Rattle.afl_base.specs.Causes.{HasCause};
 ghost use Rattle.afl_base.specs.Fields.{i32_at, u16_at};
 ghost use Rattle.afl_base.specs.Files.{IsLive, bytes_at, size_at};
 ghost use Rattle.afl_base.specs.KeyColumn.{HasField, IsWidth, key_of};
-ghost use Rattle.index_tree.specs.Pairs.{Pair, pairs_of};
+ghost use Rattle.index_tree.specs.Pairs.{pairs_of};
 ghost use Rattle.afl_base.specs.Keys.{first_keys};
 ghost use Rattle.index_tree.specs.Trees.{IsTreeOf};
 ghost use Rattle.index_tree.specs.TreeFile.{bucket_place, key_at, slot_at};
@@ -16,7 +16,7 @@ ghost use Rattle.index_maxheap.specs.Verify.{AreHeads, Goes, IsDone, Opens, Veri
 
 use crate::loads::level_with_room;
 use crate::path::node;
-use crate::tree::{filled, read_bucket};
+use crate::tree::{BUCKET_SIZE, HEAD_SIZE, NEXT_AT, bucket_place, filled, read_bucket};
 use afl_base::{Failed, FileId, Files, KeyColumn, SlotNo, get_i32, get_u16};
 
 /// The number behind a bucket, and how many pairs it has in front of its empty ones.
@@ -34,7 +34,7 @@ fn is_key(bytes: &[u8], at: usize, key: &i32) -> bool
 }
 
 // Whether no pair from one on has a slot or a key.
-fn is_blank(bytes: &[u8; 195], from: u8) -> bool
+fn is_blank(bytes: &[u8; BUCKET_SIZE], from: u8) -> bool
     ensures yes { result ≡ true → (i : ℕ) → from ≤ i → i < 32 → (slot_at bytes.now 0 i ≡ 0)
         × (key_at bytes.now 0 i ≡ pos 0) }
     ensures no_ { result ≡ false → (i : ℕ) × (from ≤ i) × (i < 32)
@@ -73,19 +73,16 @@ fn open_bucket<V: Files>(
         → IfOk result (λ tail. Opens tail (bytes_at (V.state files.old).files index) number level (record { key = key.now; slot = slot })) }
     ensures safe { IfOk result (λ tail. IfSome tail (λ _. (number ≢ 0)
         × (bucket_place number ≤ size_at (V.state files.old).files index))) }
-    ensures same { OnOk result (V.state files.new ≡ V.state files.old) }
     ensures reads { V.reads files.new ≤ V.reads files.old + 9 }
-    ensures store { length (V.state files.new).store ≡ length (V.state files.old).store }
-    ensures reads_later { V.reads files.old ≤ V.reads files.new }
-    ensures cause { HasCause (V.faults files.old) (V.faults files.new) result }
+    ensures frame { OnlyReads V.state V.lent V.reads V.faults files.old files.new result }
 {
     if number == 0 {
         return Ok(None);
     }
-    if files.size(index) < 683 + 195 * u32::from(number) {
+    if files.size(index) < bucket_place(number) {
         return Ok(None);
     }
-    let mut bytes = [0; 195];
+    let mut bytes = [0; BUCKET_SIZE];
     read_bucket(files, index, number, &mut bytes)?;
     if get_u16(&bytes, 4) != slot.number() + 1 {
         return Ok(None);
@@ -93,14 +90,14 @@ fn open_bucket<V: Files>(
     if !is_key(&bytes, 0, key) {
         return Ok(None);
     }
-    if bytes[194] != 1 {
+    if bytes[BUCKET_SIZE - 1] != 1 {
         return Ok(None);
     }
     let fill = filled(&bytes);
     if !is_blank(&bytes, fill) {
         return Ok(None);
     }
-    let next = get_u16(&bytes, 192);
+    let next = get_u16(&bytes, NEXT_AT);
     if is_upper(level, next) {
         return Ok(None);
     }
@@ -125,11 +122,8 @@ fn has_pair<V: Files>(
         → IfOk result (λ has. has ≡ false
         → i32_at (bytes_at (V.state files.old).files index) at ≡ key.now
         → u16_at (bytes_at (V.state files.old).files index) (at + 4) ≢ slot + 1) }
-    ensures same { OnOk result (V.state files.new ≡ V.state files.old) }
     ensures reads { V.reads files.new ≤ V.reads files.old + 6 }
-    ensures store { length (V.state files.new).store ≡ length (V.state files.old).store }
-    ensures reads_later { V.reads files.old ≤ V.reads files.new }
-    ensures cause { HasCause (V.faults files.old) (V.faults files.new) result }
+    ensures frame { OnlyReads V.state V.lent V.reads V.faults files.old files.new result }
 {
     let mut bytes = [0; 6];
     files.read(index, at, &mut bytes)?;
@@ -143,7 +137,7 @@ fn has_pair<V: Files>(
 }
 
 // The number of the bucket that a node opens next.
-fn number_for(heads: &[u8; 683], node: u16, load: u16, next: u16) -> u16
+fn number_for(heads: &[u8; HEAD_SIZE], node: u16, load: u16, next: u16) -> u16
     requires { node ≤ 340 }
     ensures first { load ≡ 0 → result ≡ u16_at heads.now (2 * node) }
     ensures later { load ≢ 0 → result ≡ next }
@@ -160,7 +154,7 @@ fn number_for(heads: &[u8; 683], node: u16, load: u16, next: u16) -> u16
 fn verify_slot<V: Files>(
     files: &mut V,
     index: FileId,
-    heads: &[u8; 683],
+    heads: &[u8; HEAD_SIZE],
     loads: &mut [u16; 341],
     places: &mut [u32; 341],
     nexts: &mut [u16; 341],
@@ -184,11 +178,8 @@ fn verify_slot<V: Files>(
     ensures inside { IfOk result (λ opens. (i : ℕ)
         → get_or places.new i 0 + 195 ≤ size_at (V.state files.old).files index) }
     ensures low { IfOk result (λ opens. (i : ℕ) → get_or places.new i 0 < 2 ^ 25) }
-    ensures same { OnOk result (V.state files.new ≡ V.state files.old) }
     ensures reads { V.reads files.new ≤ V.reads files.old + 9 }
-    ensures store { length (V.state files.new).store ≡ length (V.state files.old).store }
-    ensures reads_later { V.reads files.old ≤ V.reads files.new }
-    ensures cause { HasCause (V.faults files.old) (V.faults files.new) result }
+    ensures frame { OnlyReads V.state V.lent V.reads V.faults files.old files.new result }
 {
     let level = level_with_room(loads, key);
     let node = node(key, level);
@@ -212,7 +203,7 @@ fn verify_slot<V: Files>(
         None => Ok(None),
         Some(tail) => {
             loads[n] = load + 1;
-            places[n] = 683 + 195 * (u32::from(number) - 1);
+            places[n] = bucket_place(number - 1);
             nexts[n] = tail.next;
             fills[n] = tail.fill;
             Ok(Some(1))
@@ -221,17 +212,18 @@ fn verify_slot<V: Files>(
 }
 
 // The numbers of the nodes, and the byte behind them.
-fn read_heads<V: Files>(files: &mut V, index: FileId, heads: &mut [u8; 683]) -> Result<(), Failed>
+fn read_heads<V: Files>(
+    files: &mut V,
+    index: FileId,
+    heads: &mut [u8; HEAD_SIZE],
+) -> Result<(), Failed>
     requires live { IsLive (V.state files.old).files index }
     requires range { 683 ≤ size_at (V.state files.old).files index }
     ensures bytes { IsTrue (V.state files.old).tells
         → OnOk result (heads.new ≡ slice_range (bytes_at (V.state files.old).files index) 0 683) }
     ensures long { length heads.new ≡ 683 }
-    ensures same { OnOk result (V.state files.new ≡ V.state files.old) }
     ensures reads { V.reads files.new ≤ V.reads files.old + 18 }
-    ensures store { length (V.state files.new).store ≡ length (V.state files.old).store }
-    ensures reads_later { V.reads files.old ≤ V.reads files.new }
-    ensures cause { HasCause (V.faults files.old) (V.faults files.new) result }
+    ensures frame { OnlyReads V.state V.lent V.reads V.faults files.old files.new result }
 {
     let all = &mut heads[..];
     files.read(index, 0, all)?;
@@ -239,7 +231,7 @@ fn read_heads<V: Files>(files: &mut V, index: FileId, heads: &mut [u8; 683]) -> 
 }
 
 // Whether a node has no number, or a last bucket with no pair behind those that were seen.
-fn is_done(heads: &[u8; 683], node: u16, load: u16, next: u16, fill: u8) -> bool
+fn is_done(heads: &[u8; HEAD_SIZE], node: u16, load: u16, next: u16, fill: u8) -> bool
     requires { node ≤ 340 }
     ensures yes { result ≡ true → IsDone heads.now node load next fill }
     ensures no_ { result ≡ false → IsDone heads.now node load next fill → ⊥ }
@@ -254,7 +246,12 @@ fn is_done(heads: &[u8; 683], node: u16, load: u16, next: u16, fill: u8) -> bool
 }
 
 // Whether all nodes are.
-fn are_done(heads: &[u8; 683], loads: &[u16; 341], nexts: &[u16; 341], fills: &[u8; 341]) -> bool
+fn are_done(
+    heads: &[u8; HEAD_SIZE],
+    loads: &[u16; 341],
+    nexts: &[u16; 341],
+    fills: &[u8; 341],
+) -> bool
     ensures yes { result ≡ true → (n : ℕ) → n < 341
         → IsDone heads.now n (get_or loads.now n 0) (get_or nexts.now n 0) (get_or fills.now n 0) }
     ensures no_ { result ≡ false → (n : ℕ) × (n < 341)
@@ -289,19 +286,16 @@ pub fn verify<V: Files>(
         → IfOk result (λ meets. meets ≡ false
         → IsTreeOf (bytes_at (V.state files.old).files index) (first_keys (key_of (V.state files.old) column) slots)
         → ⊥) }
-    ensures same { OnOk result (V.state files.new ≡ V.state files.old) }
     ensures reads { V.reads files.new ≤ V.reads files.old + (15 * slots + 2048) }
-    ensures store { length (V.state files.new).store ≡ length (V.state files.old).store }
-    ensures reads_later { V.reads files.old ≤ V.reads files.new }
-    ensures cause { HasCause (V.faults files.old) (V.faults files.new) result }
+    ensures frame { OnlyReads V.state V.lent V.reads V.faults files.old files.new result }
 {
     let size = files.size(index);
-    if size < 683 {
+    if size < HEAD_SIZE as u32 {
         return Ok(false);
     }
-    let mut heads = [0u8; 683];
+    let mut heads = [0u8; HEAD_SIZE];
     read_heads(files, index, &mut heads)?;
-    if heads[682] != 1 {
+    if heads[HEAD_SIZE - 1] != 1 {
         return Ok(false);
     }
     let mut loads = [0u16; 341];
@@ -330,7 +324,7 @@ pub fn verify<V: Files>(
             Some(opens) => opened += opens,
         }
     }
-    if size != 683 + 195 * u32::from(opened) {
+    if size != bucket_place(opened) {
         return Ok(false);
     }
     Ok(are_done(&heads, &loads, &nexts, &fills))

@@ -68,7 +68,7 @@ module _ (old new : State) (tables : Tables) (y : IndexInfo) (slots : ℕ) where
   order_held (Ok m) is = λ yes tree. let P : Access → Type 0 = λ a. IsHeld new tables slots a in subst P (sym is) tt
   order_held (Err e) is = tt
 
-  pub tree_held : (file : ℕ) (r : Result Bool Failed) → y.access ≡ Tree file → OnOk r (new ≡ old) → HeldIfWhole r
+  pub tree_held : (file : ℕ) (r : Result Bool Failed) → y.access ≡ Tree file → new ≡ old → HeldIfWhole r
   tree_held file (Ok m) is same = λ yes tree.
       let D : Access → Type 0 = λ a. IsDoublingTree old a in
       let H : Access → Type 0 = λ a. IsHeld new tables slots a in

@@ -3,7 +3,7 @@
 #![tactic(auto)]
 
 ghost use Rattle.std.specs.Prelude.{None, ℤ, ◌≡◌, ◌+◌, ◌<◌, ◌≤◌, ◌∷◌, [], List, IfOk, IfSome, IsTrue, OnOk, OnErr, MatchOption, length, max};
-ghost use Rattle.afl_base.specs.Causes.{HasCause};
+ghost use Rattle.afl_base.specs.Keeping.{OnlyReads};
 ghost use Rattle.afl_base.specs.Files.{IsLive, State};
 ghost use Rattle.db_model.specs.Ahead.{walk_of as walk_by};
 ghost use Rattle.db_model.specs.Cost.{begin_cost, chosen_cost, keys_beside};
@@ -14,7 +14,7 @@ ghost use Rattle.index_set.specs.Plans.{kinds, slots_passed};
 ghost use Rattle.index_set.specs.Tables.{Tables, entries};
 ghost use Rattle.index_maxheap.specs.Searches.{walk_left};
 ghost use Rattle.afl_base.specs.Keys.{IsFirstOf};
-ghost use Rattle.index_set.specs.Walks.{Fits, HasPlace, IsChosen, IsMoved, IsMovedBy, IsSafeBy, LacksKey, Waits, ahead, cost_ahead, reads_ahead, reads_next, slots_in, walk_of};
+ghost use Rattle.index_set.specs.Walks.{Fits, HasPlace, IsChosen, IsMoved, IsMovedBy, IsSafeBy, LacksKey, Waits, ahead, cost_ahead, reads_ahead, reads_next, walk_of};
 
 use crate::choices::{Plan, choose, range_of};
 use crate::info::{Indexes, TableId};
@@ -90,16 +90,13 @@ impl Candidates {
         ensures slots { IfOk result (λ c. c.slots ≡ slots) }
         ensures order { IfOk result (λ c. c.from ≤ c.end) }
         ensures within { IfOk result (λ c. c.end ≤ c.slots) }
-        ensures same { OnOk result (V.state files.new ≡ V.state files.old) }
         ensures reads { let plan = plan (kinds indexes.now) ranges.now in
             V.reads files.new ≤ V.reads files.old + begin_cost slots plan }
-        ensures reads_later { V.reads files.old ≤ V.reads files.new }
         ensures cost { let state = V.state files.old in IsTrue state.tells → IfOk result (λ c.
             (all : List Row) → slots ≤ length all → AreIndexesOf state tables.now all indexes.now
             → begin_cost slots (plan (kinds indexes.now) ranges.now) + cost_ahead c all
             ≤ chosen_cost (kinds indexes.now) ranges.now all) }
-        ensures store { length (V.state files.new).store ≡ length (V.state files.old).store }
-        ensures cause { HasCause (V.faults files.old) (V.faults files.new) result }
+        ensures frame { OnlyReads V.state V.lent V.reads V.faults files.old files.new result }
     {
         let plan = choose(indexes, ranges);
         match plan {
@@ -206,7 +203,6 @@ impl Candidates {
         ensures search { self.new.search ≡ self.old.search }
         ensures order { self.old.from ≤ self.old.end → self.new.from ≤ self.new.end }
         ensures within { self.old.end ≤ self.old.slots → self.new.end ≤ self.new.slots }
-        ensures same { OnOk result (V.state files.new ≡ V.state files.old) }
         ensures reads { let state = V.state files.old in IsTrue state.tells → OnOk result
             ((all : List Row) → Fits self.old state tables.now all
             → V.reads files.new + reads_ahead self.new all
@@ -214,9 +210,7 @@ impl Candidates {
         ensures reads_err { let state = V.state files.old in IsTrue state.tells → OnErr result
             ((all : List Row) → Fits self.old state tables.now all
             → V.reads files.new ≤ V.reads files.old + reads_next self.old all) }
-        ensures reads_later { V.reads files.old ≤ V.reads files.new }
-        ensures store { length (V.state files.new).store ≡ length (V.state files.old).store }
-        ensures cause { HasCause (V.faults files.old) (V.faults files.new) result }
+        ensures frame { OnlyReads V.state V.lent V.reads V.faults files.old files.new result }
     {
         match self.find(files, tables)? {
             None => {
@@ -262,7 +256,6 @@ impl Candidates {
         ensures search { self.new.search ≡ self.old.search }
         ensures order { self.old.from ≤ self.old.end → self.new.from ≤ self.new.end }
         ensures within { self.old.end ≤ self.old.slots → self.new.end ≤ self.new.slots }
-        ensures same { OnOk result (V.state files.new ≡ V.state files.old) }
         ensures reads { let state = V.state files.old in IsTrue state.tells → OnOk result
             ((all : List Row) → Fits self.old state tables.now all
             → V.reads files.new + reads_ahead self.new all
@@ -270,9 +263,7 @@ impl Candidates {
         ensures reads_err { let state = V.state files.old in IsTrue state.tells → OnErr result
             ((all : List Row) → Fits self.old state tables.now all
             → V.reads files.new ≤ V.reads files.old + reads_next self.old all) }
-        ensures reads_later { V.reads files.old ≤ V.reads files.new }
-        ensures store { length (V.state files.new).store ≡ length (V.state files.old).store }
-        ensures cause { HasCause (V.faults files.old) (V.faults files.new) result }
+        ensures frame { OnlyReads V.state V.lent V.reads V.faults files.old files.new result }
     {
         let search = self.search;
         match search {
@@ -322,7 +313,6 @@ impl Candidates {
             (λ slot. (self.old.from ≤ slot) × (self.new.from ≡ slot + 1))) }
         ensures slots { self.new.slots ≡ self.old.slots }
         ensures search { self.new.search ≡ self.old.search }
-        ensures same { OnOk result (V.state files.new ≡ V.state files.old) }
         ensures unmoved { OnErr result (self.new ≡ self.old) }
         ensures unread { self.old.slots ≤ self.old.from → V.reads files.new ≡ V.reads files.old }
         ensures over { self.old.slots ≤ self.old.from → self.new ≡ self.old }
@@ -336,9 +326,7 @@ impl Candidates {
         ensures reads_err { IsTrue (V.state files.old).tells
             → (keys : List ℤ) → HasPlace (V.state files.old) file key.now keys self.old
             → V.reads files.new ≤ V.reads files.old + walk_left (keys_beside key.now keys) self.old.place }
-        ensures reads_later { V.reads files.old ≤ V.reads files.new }
-        ensures store { length (V.state files.new).store ≡ length (V.state files.old).store }
-        ensures cause { HasCause (V.faults files.old) (V.faults files.new) result }
+        ensures frame { OnlyReads V.state V.lent V.reads V.faults files.old files.new result }
     {
         if self.slots <= self.from {
             return Ok(None);

@@ -2,10 +2,10 @@
 
 #![tactic(auto)]
 
-ghost use Rattle.std.specs.Prelude.{◌≡◌, ◌≢◌, ◌+◌, ◌*◌, ◌<◌, ◌≤◌, List, None, IsTrue, IfOk, OnOk, IfSome, MatchOption, length, option_map, ℕ};
+ghost use Rattle.std.specs.Prelude.{◌≡◌, ◌≢◌, ◌+◌, ◌*◌, ◌<◌, ◌≤◌, List, None, IsTrue, IfOk, IfSome, MatchOption, length, option_map, ℕ};
+ghost use Rattle.afl_base.specs.Keeping.{OnlyReads};
 ghost use Rattle.std.specs.Bool.{Decides};
 ghost use Rattle.std.specs.List.{list_any};
-ghost use Rattle.afl_base.specs.Causes.{HasCause};
 ghost use Rattle.afl_base.specs.KeyColumn.{HasField, IsWidth};
 ghost use Rattle.db_model.specs.declared.schemas.Range.{Range as AnyRange};
 ghost use Rattle.db_model.specs.Plan as model;
@@ -213,10 +213,7 @@ pub fn verify_all<V: Files>(
         → AreHeld (V.state files.new) tables.new slots indexes.now) }
     ensures tables { KeepsTables tables.old tables.new indexes.now }
     ensures reads { V.reads files.new ≤ V.reads files.old + most_reads_of_all slots indexes.now }
-    ensures same { OnOk result (V.state files.new ≡ V.state files.old) }
-    ensures reads_later { V.reads files.old ≤ V.reads files.new }
-    ensures store { length (V.state files.new).store ≡ length (V.state files.old).store }
-    ensures cause { HasCause (V.faults files.old) (V.faults files.new) result }
+    ensures frame { OnlyReads V.state V.lent V.reads V.faults files.old files.new result }
 {
     let count = indexes.len();
     for nth in 0..count {
@@ -244,10 +241,7 @@ fn is_complete<V: Files>(
         → IsHeld (V.state files.new) tables.new slots info.now.access) }
     ensures tables { (number : AnyTable) → IsNoTable number info.now.access → entries tables.new number ≡ entries tables.old number }
     ensures reads { V.reads files.new ≤ V.reads files.old + most_reads slots info.now.access }
-    ensures same { OnOk result (V.state files.new ≡ V.state files.old) }
-    ensures reads_later { V.reads files.old ≤ V.reads files.new }
-    ensures store { length (V.state files.new).store ≡ length (V.state files.old).store }
-    ensures cause { HasCause (V.faults files.old) (V.faults files.new) result }
+    ensures frame { OnlyReads V.state V.lent V.reads V.faults files.old files.new result }
 {
     let access = info.access;
     match access {
@@ -265,10 +259,7 @@ fn is_ordered<V: Files>(files: &mut V, column: &KeyColumn, slots: u16) -> Result
     ensures ordered { let state = V.state files.old in IsTrue state.tells → IfOk result (λ whole.
         Decides whole (first_fall (keys_of state column.now slots) ≡ None)) }
     ensures reads { V.reads files.new ≤ V.reads files.old + 6 * slots }
-    ensures same { OnOk result (V.state files.new ≡ V.state files.old) }
-    ensures reads_later { V.reads files.old ≤ V.reads files.new }
-    ensures store { length (V.state files.new).store ≡ length (V.state files.old).store }
-    ensures cause { HasCause (V.faults files.old) (V.faults files.new) result }
+    ensures frame { OnlyReads V.state V.lent V.reads V.faults files.old files.new result }
 {
     let fall = ordered(files, column, slots)?;
     Ok(fall.is_none())
@@ -290,10 +281,7 @@ fn fill_whole<V: Files>(
     ensures size { IfOk result (λ whole. IsTrue whole → length (entries tables.new table) ≡ slots) }
     ensures reads { V.reads files.new ≤ V.reads files.old + 6 * slots }
     ensures other { (other : AnyTable) → other ≢ table → entries tables.new other ≡ entries tables.old other }
-    ensures same { OnOk result (V.state files.new ≡ V.state files.old) }
-    ensures reads_later { V.reads files.old ≤ V.reads files.new }
-    ensures store { length (V.state files.new).store ≡ length (V.state files.old).store }
-    ensures cause { HasCause (V.faults files.old) (V.faults files.new) result }
+    ensures frame { OnlyReads V.state V.lent V.reads V.faults files.old files.new result }
 {
     if slots > 2048 {
         return Ok(tables.len(table) == slots);

@@ -2,11 +2,11 @@
 
 #![tactic(auto)]
 
-ghost use Rattle.std.specs.Prelude.{◌≡◌, ◌≢◌, ◌+◌, ◌<◌, ◌≤◌, ◌++◌, ◌∷◌, [], ℤ, pos, negsuc, List, None, IsTrue, OnOk, IfOk, length, slice_get};
+ghost use Rattle.std.specs.Prelude.{◌≡◌, ◌≢◌, ◌+◌, ◌<◌, ◌++◌, ◌∷◌, [], ℤ, pos, negsuc, List, None, IsTrue, OnOk, IfOk, length, slice_get};
+ghost use Rattle.afl_base.specs.Keeping.{Changes, ChangesOrLacks};
 ghost use Rattle.afl_base.specs.declared.kind.Kind.TheVariants as Kind;
 ghost use Rattle.afl_base.specs.Asked.{asks_few};
-ghost use Rattle.afl_base.specs.Causes.{HasCause};
-ghost use Rattle.afl_base.specs.FileErrors.{HasFileCause, OnSpace, UnlessFailed};
+ghost use Rattle.afl_base.specs.FileErrors.{OnSpace, UnlessFailed};
 ghost use Rattle.afl_base.specs.Files.{IsLive, bytes_at, file_at};
 ghost use Rattle.afl_base.specs.Frames.{Prepares, Spares};
 ghost use Rattle.db_model.specs.Row.{Row, is_between};
@@ -44,10 +44,7 @@ pub fn prepare_all<V: Files>(
     ensures asked { IsTrue (V.state files.old).tells → OnSpace result (λ need.
         OneAsksFor (asks_few (V.asks files.new) (V.state files.new).files) (V.state files.new) tuple.now need
         indexes.now) }
-    ensures lacks { OnSpace result (λ need. V.lacks files.new need) }
-    ensures reads_later { V.reads files.old ≤ V.reads files.new }
-    ensures store { length (V.state files.new).store ≡ length (V.state files.old).store }
-    ensures cause { HasFileCause (V.faults files.old) (V.faults files.new) result }
+    ensures frame { ChangesOrLacks V.state V.lent V.reads V.faults V.lacks files.old files.new result }
 {
     let mut rooms = Rooms::new();
     let count = indexes.len();
@@ -95,10 +92,7 @@ fn prepare_one<V: Files>(files: &mut V, access: Access, key: &i32) -> Result<Roo
     ensures exact { IsTrue (V.state files.old).tells → IfOk result (λ room. IsRoomFor (V.state files.old) key.now room access) }
     ensures asked { IsTrue (V.state files.old).tells → OnSpace result (λ need.
         AsksFor (asks_few (V.asks files.new) (V.state files.new).files) (V.state files.new) key.now need access) }
-    ensures lacks { OnSpace result (λ need. V.lacks files.new need) }
-    ensures reads_later { V.reads files.old ≤ V.reads files.new }
-    ensures store { length (V.state files.new).store ≡ length (V.state files.old).store }
-    ensures cause { HasFileCause (V.faults files.old) (V.faults files.new) result }
+    ensures frame { ChangesOrLacks V.state V.lent V.reads V.faults V.lacks files.old files.new result }
 {
     match access {
         Access::Order => Ok(Room::default()),
@@ -121,10 +115,7 @@ fn prepare_tree<V: Files>(files: &mut V, file: FileId, key: &i32) -> Result<Room
         → (keys : List ℤ) → IsTreeOf bytes keys → OnSpace result (λ need.
         asks_few (V.asks files.new) (V.state files.new).files file
         ((room_of bytes key.now).overwrites) ((room_of bytes key.now).bytes) need) }
-    ensures lacks { OnSpace result (λ need. V.lacks files.new need) }
-    ensures reads_later { V.reads files.old ≤ V.reads files.new }
-    ensures store { length (V.state files.new).store ≡ length (V.state files.old).store }
-    ensures cause { HasFileCause (V.faults files.old) (V.faults files.new) result }
+    ensures frame { ChangesOrLacks V.state V.lent V.reads V.faults V.lacks files.old files.new result }
 {
     let room = room(files, file, key)?;
     if room.overwrites == 0 {
@@ -164,9 +155,7 @@ pub fn insert_all<V: Files>(
     ensures others { OnOk result
         (Spares (V.state files.old) (V.state files.new) (IsNoTree indexes.now)) }
     ensures tables { OnOk result (KeepsTables tables.old tables.new indexes.now) }
-    ensures reads_later { V.reads files.old ≤ V.reads files.new }
-    ensures store { length (V.state files.new).store ≡ length (V.state files.old).store }
-    ensures cause { HasCause (V.faults files.old) (V.faults files.new) result }
+    ensures frame { Changes V.state V.lent V.reads V.faults files.old files.new result }
 {
     let count = indexes.len();
     for nth in 0..count {
@@ -201,9 +190,7 @@ fn insert_one<V: Files>(
     ensures held { OnOk result (IsHeld (V.state files.new) tables.new (slot + 1) access) }
     ensures others { OnOk result (Spares (V.state files.old) (V.state files.new) (λ id. IsApart id access)) }
     ensures tables { OnOk result ((number : AnyTable) → IsNoTable number access → entries tables.new number ≡ entries tables.old number) }
-    ensures reads_later { V.reads files.old ≤ V.reads files.new }
-    ensures store { length (V.state files.new).store ≡ length (V.state files.old).store }
-    ensures cause { HasCause (V.faults files.old) (V.faults files.new) result }
+    ensures frame { Changes V.state V.lent V.reads V.faults files.old files.new result }
 {
     match access {
         Access::Order => Ok(()),

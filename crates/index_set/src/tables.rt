@@ -3,8 +3,8 @@
 #![tactic(auto)]
 
 ghost use Rattle.std.specs.Prelude.{◌≡◌, ◌≢◌, ◌+◌, ◌*◌, ◌<◌, ◌≤◌, ◌++◌, ◌∷◌, ℕ, [], IsTrue, MatchOption, OnOk, length, map};
+ghost use Rattle.afl_base.specs.Keeping.{OnlyReads};
 ghost use Rattle.std.specs.List.{range_with_len};
-ghost use Rattle.afl_base.specs.Causes.{HasCause};
 ghost use Rattle.afl_base.specs.KeyColumn.{HasField, IsWidth, key_of};
 ghost use Rattle.index_set.specs.declared.info.TableId.{TableId as AnyTable};
 ghost use Rattle.index_set.specs.Tables.{entries};
@@ -60,11 +60,8 @@ impl HashTables {
         ensures size { OnOk result (length (entries self.new table) ≡ slots) }
         ensures other { (other : AnyTable) → other ≢ table
             → entries self.new other ≡ entries self.old other }
-        ensures same { OnOk result (V.state files.new ≡ V.state files.old) }
         ensures reads { V.reads files.new ≤ V.reads files.old + 6 * slots }
-        ensures reads_later { V.reads files.old ≤ V.reads files.new }
-        ensures store { length (V.state files.new).store ≡ length (V.state files.old).store }
-        ensures cause { HasCause (V.faults files.old) (V.faults files.new) result }
+        ensures frame { OnlyReads V.state V.lent V.reads V.faults files.old files.new result }
     {
         self.clear(table);
         for at in 0..slots {

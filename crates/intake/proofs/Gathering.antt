@@ -3,7 +3,7 @@ use Rattle.std.proofs.Common.{◌≡◌, ℕ, ◌≤◌, List, [], ◌∷◌, �
 use Rattle.std.specs.Prelude.{⊤, IfErr, OnOk, Ok, Err, Result}
 use Rattle.std.specs.Io.KnownBytes.{append_known}
 use Rattle.buffered_sink.proofs.Fronts.{all_sent, front_sent}
-use Rattle.buffered_sink.specs.Handing.{Grew, Hands, WroteFront}
+use Rattle.buffered_sink.specs.Handing.{Hands, WroteFront, front_of}
 use Rattle.intake.specs.declared.halt.Halt.{Halt}
 use Rattle.intake.specs.declared.halt.Halt.TheVariants.{Space, Flash, Sink}
 use Rattle.intake.specs.Sent.{Sent}
@@ -45,7 +45,7 @@ module _ (T : Out → Out → Type 0) (H : Out → Out → Halt → Type 0) (k0 
   -- a reply was
   pub sent_halts : ((a b now : Out) (answer : Result ⊤ Halt) (halt : Halt) → OnOk answer (T a b) → IfErr answer (λ h. H a b h)
       → (went : WroteFront a.held now.held b.held) → b.faults ≤ now.faults → Sent answer b.faults now.faults went.left (Err halt) → H a now halt)
-      → Grew k0 k1 → f1 ≤ f2 → (halt : Halt) → Sent answered f1 f2 w2 (Err halt) → H (out_of k0 f0) (out_of k2 f2) halt
+      → front_of k0 k1 ≡ k0 → f1 ≤ f2 → (halt : Halt) → Sent answered f1 f2 w2 (Err halt) → H (out_of k0 f0) (out_of k2 f2) halt
   sent_halts law grew later halt sent =
       law (out_of k0 f0) (out_of (append_known k1 w1) f1) (out_of k2 f2) answered halt
       (subst (λ (o : Out). OnOk answered (T o (out_of (append_known k1 w1) f1))) before takes)

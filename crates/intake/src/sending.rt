@@ -8,21 +8,21 @@ ghost use Rattle.intake.specs.Sent.{Sent};
 
 use crate::halt::Halt;
 use afl_base::{Failed, Sink};
-use buffered_sink::Buffered;
+use buffered_sink::{Buffered, Since};
 
 /// Hands on what waits of a reply, unless the sink has failed before. What waits behind a fault of the
 /// flash goes out as far as the sink takes it.
-pub fn send<'a, K: Sink>(
-    gathered: &mut Buffered<'a, K>,
+pub fn send<'a, K: Sink, S: Since>(
+    gathered: &mut Buffered<'a, K, S>,
     answered: Result<(), Halt>,
 ) -> Result<(), Halt>
     ensures hands { Hands (K.held gathered.old.out.now) (K.held gathered.new.out.now)
-        gathered.old.waiting.bytes gathered.new.waiting.bytes }
+        gathered.old.waiting.now.bytes gathered.new.waiting.now.bytes }
     ensures sent { Sent answered (K.faults gathered.old.out.now) (K.faults gathered.new.out.now)
-        gathered.new.waiting.bytes result }
-    ensures out { gathered.new.out.ghost_name ≡ gathered.old.out.ghost_name }
-    ensures keeps { K.keeps gathered.old.out.now gathered.new.out.now }
-    ensures faultless { gathered.new.waiting.bytes ≡ []
+        gathered.new.waiting.now.bytes result }
+    ensures lent { ⟦<Buffered<'a, K, S> as Sink>⟧.lent gathered.new
+        ≡ ⟦<Buffered<'a, K, S> as Sink>⟧.lent gathered.old }
+    ensures faultless { gathered.new.waiting.now.bytes ≡ []
         → K.faults gathered.new.out.now ≡ K.faults gathered.old.out.now }
     ensures later { K.faults gathered.old.out.now ≤ K.faults gathered.new.out.now }
 {

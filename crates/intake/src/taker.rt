@@ -38,7 +38,7 @@ pub trait Taker {
             (self.new, out_of (K.held out.new) (K.faults out.new)) halt) }
         ensures silent { (out.new ≡ out.old) ⊎ HasReply self.old byte }
         ensures stays { stays self.old self.new }
-        ensures keeps { K.keeps out.old out.new };
+        ensures lent { K.lent out.new ≡ K.lent out.old };
 
     /// Takes the end of the input.
     fn end<K: Sink>(&mut self, out: &mut K) -> Result<(), Halt>
@@ -49,7 +49,7 @@ pub trait Taker {
             (self.new, out_of (K.held out.new) (K.faults out.new)) halt) }
         ensures silent { (out.new ≡ out.old) ⊎ HasReplyAtEnd self.old }
         ensures stays { stays self.old self.new }
-        ensures keeps { K.keeps out.old out.new };
+        ensures lent { K.lent out.new ≡ K.lent out.old };
 
     ghost stayed: { (a : Self) → stays a a };
 

@@ -2,88 +2,136 @@
 
 #![tactic(auto)]
 
-ghost use Rattle.std.specs.Prelude.{◌≡◌, ℕ, ◌≤◌, List, [], ◌∷◌, length, take, IfOk, OnOk, IfErr, OnErr, Err};
+ghost use Rattle.std.specs.Prelude.{◌≡◌, ◌≢◌, ℕ, ◌≤◌, List, [], ◌∷◌, Some, length, take, IfOk, OnOk, IfErr, OnErr, Err};
 ghost use Rattle.std.specs.Io.KnownBytes.{prepend_known, IsAtEnd};
-ghost use Rattle.afl_base.specs.Causes.{HasCause, Rose};
+ghost use Rattle.afl_base.specs.Causes.{CountsOne, HasCause, Rose};
 ghost use Rattle.intake.specs.Through.{Through, out_of};
 
 use crate::halt::{Halt, Stop};
 use crate::sending::send;
 use crate::taker::Taker;
 use afl_base::{Failed, Sink, Source};
-use buffered_sink::{Buffered, Waiting};
+use buffered_sink::{Buffered, Since, Waiting};
+use std::marker::{Brand, PhantomData};
 
 // The most bytes that an input may have.
 const LIMIT: u32 = 16_777_216;
 
 // Takes a byte, and what waits of a reply goes out.
-fn take_byte<'a, T: Taker, K: Sink>(
+fn take_byte<T: Taker, K: Sink>(
     taker: &mut T,
-    gathered: &mut Buffered<'a, K>,
+    out: &mut K,
+    waiting: &mut Waiting,
     byte: u8,
 ) -> Result<(), Halt>
-    requires none { gathered.old.waiting.bytes ≡ [] }
-    ensures takes { OnOk result (T.Takes
-        (taker.old, out_of (K.held gathered.old.out.now) (K.faults gathered.old.out.now)) (byte ∷ [])
-        (taker.new, out_of (K.held gathered.new.out.now) (K.faults gathered.new.out.now))) }
+    requires none { waiting.old.bytes ≡ [] }
+    ensures takes { OnOk result (T.Takes (taker.old, out_of (K.held out.old) (K.faults out.old)) (byte ∷ [])
+        (taker.new, out_of (K.held out.new) (K.faults out.new))) }
     ensures halts { IfErr result (λ halt. T.Halts
-        (taker.old, out_of (K.held gathered.old.out.now) (K.faults gathered.old.out.now)) (byte ∷ [])
-        (taker.new, out_of (K.held gathered.new.out.now) (K.faults gathered.new.out.now)) halt) }
-    ensures none { OnOk result (gathered.new.waiting.bytes ≡ []) }
+        (taker.old, out_of (K.held out.old) (K.faults out.old)) (byte ∷ [])
+        (taker.new, out_of (K.held out.new) (K.faults out.new)) halt) }
+    ensures none { OnOk result (waiting.new.bytes ≡ []) }
     ensures stays { T.stays taker.old taker.new }
-    ensures out { gathered.new.out.ghost_name ≡ gathered.old.out.ghost_name }
-    ensures keeps { K.keeps gathered.old.out.now gathered.new.out.now }
+    ensures lent { K.lent out.new ≡ K.lent out.old }
 {
-    let answered = taker.take(gathered, byte);
-    match send(gathered, answered) {
+    take_byte_since::<T, K, Brand>(taker, out, waiting, byte)
+}
+
+// The same through a sink that gathers, from now on.
+fn take_byte_since<T: Taker, K: Sink, N: Since>(
+    taker: &mut T,
+    out: &mut K,
+    waiting: &mut Waiting,
+    byte: u8,
+) -> Result<(), Halt>
+    requires now { N.held ≡ Some (K.held out.old) }
+    requires none { waiting.old.bytes ≡ [] }
+    ensures takes { OnOk result (T.Takes (taker.old, out_of (K.held out.old) (K.faults out.old)) (byte ∷ [])
+        (taker.new, out_of (K.held out.new) (K.faults out.new))) }
+    ensures halts { IfErr result (λ halt. T.Halts
+        (taker.old, out_of (K.held out.old) (K.faults out.old)) (byte ∷ [])
+        (taker.new, out_of (K.held out.new) (K.faults out.new)) halt) }
+    ensures none { OnOk result (waiting.new.bytes ≡ []) }
+    ensures stays { T.stays taker.old taker.new }
+    ensures lent { K.lent out.new ≡ K.lent out.old }
+{
+    let mut gathered = Buffered {
+        out,
+        waiting,
+        since: PhantomData::<N>,
+    };
+    let answered = taker.take(&mut gathered, byte);
+    match send(&mut gathered, answered) {
         Ok(()) => Ok(()),
         Err(halt) => Err(halt),
     }
 }
 
 // Takes the end, and what waits of a reply goes out.
-fn take_end<'a, T: Taker, K: Sink>(
+fn take_end<T: Taker, K: Sink>(
     taker: &mut T,
-    gathered: &mut Buffered<'a, K>,
+    out: &mut K,
+    waiting: &mut Waiting,
 ) -> Result<(), Halt>
-    requires none { gathered.old.waiting.bytes ≡ [] }
-    ensures ends { OnOk result (T.Ends
-        (taker.old, out_of (K.held gathered.old.out.now) (K.faults gathered.old.out.now))
-        (taker.new, out_of (K.held gathered.new.out.now) (K.faults gathered.new.out.now))) }
+    requires none { waiting.old.bytes ≡ [] }
+    ensures ends { OnOk result (T.Ends (taker.old, out_of (K.held out.old) (K.faults out.old))
+        (taker.new, out_of (K.held out.new) (K.faults out.new))) }
     ensures halts { IfErr result (λ halt. T.HaltsAtEnd
-        (taker.old, out_of (K.held gathered.old.out.now) (K.faults gathered.old.out.now))
-        (taker.new, out_of (K.held gathered.new.out.now) (K.faults gathered.new.out.now)) halt) }
+        (taker.old, out_of (K.held out.old) (K.faults out.old))
+        (taker.new, out_of (K.held out.new) (K.faults out.new)) halt) }
     ensures stays { T.stays taker.old taker.new }
-    ensures out { gathered.new.out.ghost_name ≡ gathered.old.out.ghost_name }
-    ensures keeps { K.keeps gathered.old.out.now gathered.new.out.now }
+    ensures lent { K.lent out.new ≡ K.lent out.old }
 {
-    let answered = taker.end(gathered);
-    match send(gathered, answered) {
+    take_end_since::<T, K, Brand>(taker, out, waiting)
+}
+
+// The same through a sink that gathers, from now on.
+fn take_end_since<T: Taker, K: Sink, N: Since>(
+    taker: &mut T,
+    out: &mut K,
+    waiting: &mut Waiting,
+) -> Result<(), Halt>
+    requires now { N.held ≡ Some (K.held out.old) }
+    requires none { waiting.old.bytes ≡ [] }
+    ensures ends { OnOk result (T.Ends (taker.old, out_of (K.held out.old) (K.faults out.old))
+        (taker.new, out_of (K.held out.new) (K.faults out.new))) }
+    ensures halts { IfErr result (λ halt. T.HaltsAtEnd
+        (taker.old, out_of (K.held out.old) (K.faults out.old))
+        (taker.new, out_of (K.held out.new) (K.faults out.new)) halt) }
+    ensures stays { T.stays taker.old taker.new }
+    ensures lent { K.lent out.new ≡ K.lent out.old }
+{
+    let mut gathered = Buffered {
+        out,
+        waiting,
+        since: PhantomData::<N>,
+    };
+    let answered = taker.end(&mut gathered);
+    match send(&mut gathered, answered) {
         Ok(()) => Ok(()),
         Err(halt) => Err(halt),
     }
 }
 
 // Takes some bytes.
-fn take_all<'a, T: Taker, K: Sink>(
+fn take_all<T: Taker, K: Sink>(
     taker: &mut T,
-    gathered: &mut Buffered<'a, K>,
+    out: &mut K,
+    waiting: &mut Waiting,
     bytes: &[u8],
 ) -> Result<(), Halt>
-    requires none { gathered.old.waiting.bytes ≡ [] }
-    ensures takes { OnOk result (T.Takes
-        (taker.old, out_of (K.held gathered.old.out.now) (K.faults gathered.old.out.now)) bytes.now
-        (taker.new, out_of (K.held gathered.new.out.now) (K.faults gathered.new.out.now))) }
+    requires none { waiting.old.bytes ≡ [] }
+    ensures takes { OnOk result (T.Takes (taker.old, out_of (K.held out.old) (K.faults out.old)) bytes.now
+        (taker.new, out_of (K.held out.new) (K.faults out.new))) }
     ensures halts { IfErr result (λ halt. T.Halts
-        (taker.old, out_of (K.held gathered.old.out.now) (K.faults gathered.old.out.now)) bytes.now
-        (taker.new, out_of (K.held gathered.new.out.now) (K.faults gathered.new.out.now)) halt) }
-    ensures none { OnOk result (gathered.new.waiting.bytes ≡ []) }
+        (taker.old, out_of (K.held out.old) (K.faults out.old)) bytes.now
+        (taker.new, out_of (K.held out.new) (K.faults out.new)) halt) }
+    ensures none { OnOk result (waiting.new.bytes ≡ []) }
     ensures stays { T.stays taker.old taker.new }
-    ensures out { gathered.new.out.ghost_name ≡ gathered.old.out.ghost_name }
-    ensures keeps { K.keeps gathered.old.out.now gathered.new.out.now }
+    ensures lent { K.lent out.new ≡ K.lent out.old }
 {
     for byte in bytes {
-        match take_byte(taker, gathered, *byte) {
+        match take_byte(taker, out, waiting, *byte) {
             Ok(()) => {}
             Err(halt) => return Err(halt),
         }
@@ -99,6 +147,8 @@ fn read_front<S: Source>(input: &mut S, buffer: &mut [u8], want: usize) -> Resul
     ensures bytes { IfOk result (λ n. S.left input.old ≡ prepend_known (take n buffer.new) (S.left input.new)) }
     ensures end { IfOk result (λ n. n ≡ 0 → IsAtEnd (S.left input.new)) }
     ensures failed { OnErr result (S.left input.new ≡ S.left input.old) }
+    ensures counted { CountsOne (S.reads input.old) (S.reads input.new) }
+    ensures faultless { OnOk result (S.faults input.new ≡ S.faults input.old) }
     ensures cause { HasCause (S.faults input.old) (S.faults input.new) result }
 {
     let n = input.read(&mut buffer[..want])?;
@@ -114,39 +164,15 @@ pub fn take_through<S: Source, T: Taker, K: Sink>(
 ) -> Result<(), Stop>
     ensures through { Through T.Takes T.Ends T.Halts T.HaltsAtEnd result
         (taker.old, out_of (K.held out.old) (K.faults out.old))
-        (taker.new, out_of (K.held out.new) (K.faults out.new)) (S.left input.old) (S.left input.new) }
+        (taker.new, out_of (K.held out.new) (K.faults out.new))
+        (S.left input.old) (S.left input.new) (S.reads input.old) (S.reads input.new) }
     ensures input { result ≡ Err Stop.Input → Rose (S.faults input.old) (S.faults input.new) }
+    ensures faultless { result ≢ Err Stop.Input → S.faults input.new ≡ S.faults input.old }
     ensures later { S.faults input.old ≤ S.faults input.new }
     ensures stays { T.stays taker.old taker.new }
-    ensures keeps { K.keeps out.old out.new }
+    ensures lent { K.lent out.new ≡ K.lent out.old }
 {
-    let mut gathered = Buffered {
-        out,
-        waiting: Waiting::new(),
-    };
-    match take_gathered(input, taker, &mut gathered) {
-        Ok(()) => Ok(()),
-        Err(stop) => Err(stop),
-    }
-}
-
-// The same through a sink that gathers what is written for each byte.
-fn take_gathered<'a, S: Source, T: Taker, K: Sink>(
-    input: &mut S,
-    taker: &mut T,
-    gathered: &mut Buffered<'a, K>,
-) -> Result<(), Stop>
-    requires none { gathered.old.waiting.bytes ≡ [] }
-    ensures through { Through T.Takes T.Ends T.Halts T.HaltsAtEnd result
-        (taker.old, out_of (K.held gathered.old.out.now) (K.faults gathered.old.out.now))
-        (taker.new, out_of (K.held gathered.new.out.now) (K.faults gathered.new.out.now))
-        (S.left input.old) (S.left input.new) }
-    ensures input { result ≡ Err Stop.Input → Rose (S.faults input.old) (S.faults input.new) }
-    ensures later { S.faults input.old ≤ S.faults input.new }
-    ensures stays { T.stays taker.old taker.new }
-    ensures out { gathered.new.out.ghost_name ≡ gathered.old.out.ghost_name }
-    ensures keeps { K.keeps gathered.old.out.now gathered.new.out.now }
-{
+    let mut waiting = Waiting::new();
     let mut buffer = [0u8; 4096];
     let mut taken = 0;
     'reads: loop {
@@ -155,7 +181,7 @@ fn take_gathered<'a, S: Source, T: Taker, K: Sink>(
             return Err(Stop::Input);
         };
         if n == 0 {
-            return match take_end(taker, gathered) {
+            return match take_end(taker, out, &mut waiting) {
                 Ok(()) => Ok(()),
                 Err(halt) => Err(Stop::Halted(halt)),
             };
@@ -163,7 +189,7 @@ fn take_gathered<'a, S: Source, T: Taker, K: Sink>(
         if taken == LIMIT {
             return Err(Stop::Long);
         }
-        match take_all(taker, gathered, &buffer[..n]) {
+        match take_all(taker, out, &mut waiting, &buffer[..n]) {
             Ok(()) => {}
             Err(halt) => return Err(Stop::Halted(halt)),
         }

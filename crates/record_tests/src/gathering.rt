@@ -2,6 +2,7 @@ use afl_base::{Failed, Sink};
 use afl_sim::MemSink;
 use buffered_sink::{Buffered, Waiting};
 use reply_text::write_all;
+use std::marker::{Brand, PhantomData};
 
 // Bytes that differ from their neighbours.
 fn numbered() -> [u8; 1200] {
@@ -13,10 +14,11 @@ fn numbered() -> [u8; 1200] {
 }
 
 // Writes the text in pieces of 7 bytes, and hands on what waits.
-fn write_text<K: Sink>(out: &mut K, text: &[u8]) -> Result<(), Failed> {
+fn write_text<K: Sink>(out: &mut K, waiting: &mut Waiting, text: &[u8]) -> Result<(), Failed> {
     let mut gathered = Buffered {
         out,
-        waiting: Waiting::new(),
+        waiting,
+        since: PhantomData::<Brand>,
     };
     for piece in text.chunks(7) {
         write_all(&mut gathered, piece)?;
@@ -25,10 +27,11 @@ fn write_text<K: Sink>(out: &mut K, text: &[u8]) -> Result<(), Failed> {
 }
 
 // Writes a short line in three pieces, and hands on twice what waits.
-fn write_line<K: Sink>(out: &mut K) -> Result<(), Failed> {
+fn write_line<K: Sink>(out: &mut K, waiting: &mut Waiting) -> Result<(), Failed> {
     let mut gathered = Buffered {
         out,
-        waiting: Waiting::new(),
+        waiting,
+        since: PhantomData::<Brand>,
     };
     write_all(&mut gathered, b"rows")?;
     write_all(&mut gathered, b" 12")?;
@@ -38,10 +41,11 @@ fn write_line<K: Sink>(out: &mut K) -> Result<(), Failed> {
 }
 
 // Hands a reply on twice. It answers whether the first time alone failed.
-fn fails_once<K: Sink>(out: &mut K) -> bool {
+fn fails_once<K: Sink>(out: &mut K, waiting: &mut Waiting) -> bool {
     let mut gathered = Buffered {
         out,
-        waiting: Waiting::new(),
+        waiting,
+        since: PhantomData::<Brand>,
     };
     if write_all(&mut gathered, b"ok\n").is_err() {
         return false;
@@ -53,7 +57,7 @@ fn fails_once<K: Sink>(out: &mut K) -> bool {
 fn a_short_text_goes_out_in_one_call(rt: HostRuntime) {
     let mut room = [0u8; 8];
     let mut sink = MemSink::new(&mut room, Some(2));
-    assert!(rt; write_line(&mut sink).is_ok());
+    assert!(rt; write_line(&mut sink, &mut Waiting::new()).is_ok());
     assert!(rt; sink.written() == b"rows 12\n".as_slice());
 }
 
@@ -62,7 +66,7 @@ fn a_long_text_goes_out_in_buffers_full(rt: HostRuntime) {
     let text = numbered();
     let mut room = [0u8; 1200];
     let mut sink = MemSink::new(&mut room, Some(4));
-    assert!(rt; write_text(&mut sink, &text).is_ok());
+    assert!(rt; write_text(&mut sink, &mut Waiting::new(), &text).is_ok());
     assert!(rt; sink.written() == text.as_slice());
 }
 
@@ -70,7 +74,9 @@ fn a_long_text_goes_out_in_buffers_full(rt: HostRuntime) {
 fn holds_up_to(text: &[u8; 1200], fails: u64, held: usize) -> bool {
     let mut room = [0u8; 1200];
     let mut sink = MemSink::new(&mut room, Some(fails));
-    write_text(&mut sink, text).is_err() && held <= 1200 && sink.written() == &text[..held]
+    write_text(&mut sink, &mut Waiting::new(), text).is_err()
+        && held <= 1200
+        && sink.written() == &text[..held]
 }
 
 #[test]
@@ -86,7 +92,7 @@ fn a_sink_may_take_a_part_of_a_buffer(rt: HostRuntime) {
     let text = numbered();
     let mut room = [0u8; 700];
     let mut sink = MemSink::new(&mut room, None);
-    assert!(rt; write_text(&mut sink, &text).is_err());
+    assert!(rt; write_text(&mut sink, &mut Waiting::new(), &text).is_err());
     assert!(rt; sink.written().len() == 700);
     assert!(rt; text.starts_with(sink.written()));
 }
@@ -95,6 +101,6 @@ fn a_sink_may_take_a_part_of_a_buffer(rt: HostRuntime) {
 fn what_a_sink_did_not_take_goes_out_later(rt: HostRuntime) {
     let mut room = [0u8; 8];
     let mut sink = MemSink::new(&mut room, Some(1));
-    assert!(rt; fails_once(&mut sink));
+    assert!(rt; fails_once(&mut sink, &mut Waiting::new()));
     assert!(rt; sink.written() == b"ok\n".as_slice());
 }

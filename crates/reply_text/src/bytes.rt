@@ -1,9 +1,9 @@
 #![tactic(auto, using(crate::proofs::Pieces::less_front, crate::proofs::Pieces::less_behind, crate::proofs::Pieces::less_third))]
 
 ghost use Rattle.std.specs.Prelude.{◌≡◌, ◌++◌, decimal, OnErr, OnOk};
+ghost use Rattle.afl_base.specs.Keeping.{Sends};
 ghost use Rattle.std.specs.Fmt.{signed_decimal};
 ghost use Rattle.std.specs.Io.KnownBytes.{append_known};
-ghost use Rattle.afl_base.specs.Causes.{HasCause};
 ghost use Rattle.db_model.specs.ReplyText.{line};
 ghost use Rattle.reply_text.specs.WroteLess.{WroteLess};
 
@@ -14,9 +14,7 @@ use itoa::Buffer;
 pub fn write_all<K: Sink>(out: &mut K, bytes: &[u8]) -> Result<(), Failed>
     ensures written { OnOk result (K.held out.new ≡ append_known (K.held out.old) bytes.now) }
     ensures failed { OnErr result (WroteLess (K.held out.old) (K.held out.new) bytes.now) }
-    ensures keeps { K.keeps out.old out.new }
-    ensures faultless { OnOk result (K.faults out.new ≡ K.faults out.old) }
-    ensures cause { HasCause (K.faults out.old) (K.faults out.new) result }
+    ensures frame { Sends K.lent K.faults out.old out.new result }
 {
     let mut done = 0;
     while done < bytes.len() {
@@ -30,9 +28,7 @@ pub fn write_number<K: Sink>(out: &mut K, number: u64) -> Result<(), Failed>
     ensures written { OnOk result
         (K.held out.new ≡ append_known (K.held out.old) (decimal number)) }
     ensures failed { OnErr result (WroteLess (K.held out.old) (K.held out.new) (decimal number)) }
-    ensures keeps { K.keeps out.old out.new }
-    ensures faultless { OnOk result (K.faults out.new ≡ K.faults out.old) }
-    ensures cause { HasCause (K.faults out.old) (K.faults out.new) result }
+    ensures frame { Sends K.lent K.faults out.old out.new result }
 {
     let mut buffer = Buffer::new();
     write_all(out, buffer.format(number).as_bytes())
@@ -45,9 +41,7 @@ pub fn write_signed<K: Sink>(out: &mut K, number: &i64) -> Result<(), Failed>
         (K.held out.new ≡ append_known (K.held out.old) (signed_decimal number.now)) }
     ensures failed { OnErr result
         (WroteLess (K.held out.old) (K.held out.new) (signed_decimal number.now)) }
-    ensures keeps { K.keeps out.old out.new }
-    ensures faultless { OnOk result (K.faults out.new ≡ K.faults out.old) }
-    ensures cause { HasCause (K.faults out.old) (K.faults out.new) result }
+    ensures frame { Sends K.lent K.faults out.old out.new result }
 {
     let mut buffer = Buffer::new();
     write_all(out, buffer.format(*number).as_bytes())
@@ -59,9 +53,7 @@ pub fn write_count<K: Sink>(out: &mut K, words: &[u8], count: u64) -> Result<(),
         (K.held out.new ≡ append_known (K.held out.old) (words.now ++ decimal count)) }
     ensures failed { OnErr result
         (WroteLess (K.held out.old) (K.held out.new) (words.now ++ decimal count)) }
-    ensures keeps { K.keeps out.old out.new }
-    ensures faultless { OnOk result (K.faults out.new ≡ K.faults out.old) }
-    ensures cause { HasCause (K.faults out.old) (K.faults out.new) result }
+    ensures frame { Sends K.lent K.faults out.old out.new result }
 {
     write_all(out, words)?;
     write_number(out, count)
@@ -79,9 +71,7 @@ pub fn write_line_of_counts<K: Sink>(
         (line (words.now ++ decimal count ++ (next_words.now ++ decimal next_count)))) }
     ensures failed { OnErr result (WroteLess (K.held out.old) (K.held out.new)
         (line (words.now ++ decimal count ++ (next_words.now ++ decimal next_count)))) }
-    ensures keeps { K.keeps out.old out.new }
-    ensures faultless { OnOk result (K.faults out.new ≡ K.faults out.old) }
-    ensures cause { HasCause (K.faults out.old) (K.faults out.new) result }
+    ensures frame { Sends K.lent K.faults out.old out.new result }
 {
     write_count(out, words, count)?;
     write_count(out, next_words, next_count)?;
@@ -93,9 +83,7 @@ pub fn write_line<K: Sink>(out: &mut K, words: &[u8]) -> Result<(), Failed>
     ensures written { OnOk result
         (K.held out.new ≡ append_known (K.held out.old) (line words.now)) }
     ensures failed { OnErr result (WroteLess (K.held out.old) (K.held out.new) (line words.now)) }
-    ensures keeps { K.keeps out.old out.new }
-    ensures faultless { OnOk result (K.faults out.new ≡ K.faults out.old) }
-    ensures cause { HasCause (K.faults out.old) (K.faults out.new) result }
+    ensures frame { Sends K.lent K.faults out.old out.new result }
 {
     write_all(out, words)?;
     write_all(out, b"\n")
@@ -107,9 +95,7 @@ pub fn write_line_with<K: Sink>(out: &mut K, words: &[u8], count: u64) -> Result
         (K.held out.new ≡ append_known (K.held out.old) (line (words.now ++ decimal count))) }
     ensures failed { OnErr result
         (WroteLess (K.held out.old) (K.held out.new) (line (words.now ++ decimal count))) }
-    ensures keeps { K.keeps out.old out.new }
-    ensures faultless { OnOk result (K.faults out.new ≡ K.faults out.old) }
-    ensures cause { HasCause (K.faults out.old) (K.faults out.new) result }
+    ensures frame { Sends K.lent K.faults out.old out.new result }
 {
     write_all(out, words)?;
     write_number(out, count)?;
@@ -126,9 +112,7 @@ pub fn write_line_with_signed<K: Sink>(
         (K.held out.new ≡ append_known (K.held out.old) (line (words.now ++ signed_decimal number.now))) }
     ensures failed { OnErr result
         (WroteLess (K.held out.old) (K.held out.new) (line (words.now ++ signed_decimal number.now))) }
-    ensures keeps { K.keeps out.old out.new }
-    ensures faultless { OnOk result (K.faults out.new ≡ K.faults out.old) }
-    ensures cause { HasCause (K.faults out.old) (K.faults out.new) result }
+    ensures frame { Sends K.lent K.faults out.old out.new result }
 {
     write_all(out, words)?;
     write_signed(out, number)?;

@@ -1,6 +1,6 @@
 ghost use Rattle.std.specs.Prelude.{◌≡◌, OnErr, OnOk};
+ghost use Rattle.afl_base.specs.Keeping.{Sends};
 ghost use Rattle.std.specs.Io.KnownBytes.{append_known};
-ghost use Rattle.afl_base.specs.Causes.{HasCause};
 ghost use Rattle.db_model.specs.ReplyText.{count_text, ok_text};
 ghost use Rattle.reply_text.specs.WroteLess.{WroteLess};
 
@@ -12,9 +12,7 @@ use afl_base::{Failed, Sink};
 pub fn write_ok<K: Sink>(out: &mut K) -> Result<(), Failed>
     ensures written { OnOk result (K.held out.new ≡ append_known (K.held out.old) ok_text) }
     ensures failed { OnErr result (WroteLess (K.held out.old) (K.held out.new) ok_text) }
-    ensures keeps { K.keeps out.old out.new }
-    ensures faultless { OnOk result (K.faults out.new ≡ K.faults out.old) }
-    ensures cause { HasCause (K.faults out.old) (K.faults out.new) result }
+    ensures frame { Sends K.lent K.faults out.old out.new result }
 {
     write_line(out, b"ok")
 }
@@ -26,9 +24,7 @@ pub fn write_rows<K: Sink>(out: &mut K, count: u64) -> Result<(), Failed>
     ensures written { OnOk result
         (K.held out.new ≡ append_known (K.held out.old) (count_text count)) }
     ensures failed { OnErr result (WroteLess (K.held out.old) (K.held out.new) (count_text count)) }
-    ensures keeps { K.keeps out.old out.new }
-    ensures faultless { OnOk result (K.faults out.new ≡ K.faults out.old) }
-    ensures cause { HasCause (K.faults out.old) (K.faults out.new) result }
+    ensures frame { Sends K.lent K.faults out.old out.new result }
 {
     write_line_with(out, b"rows ", count)
 }

@@ -1,6 +1,6 @@
 ghost use Rattle.std.specs.Prelude.{◌≡◌, ◌++◌, codes, OnErr, OnOk};
+ghost use Rattle.afl_base.specs.Keeping.{Sends};
 ghost use Rattle.std.specs.Io.KnownBytes.{append_known};
-ghost use Rattle.afl_base.specs.Causes.{HasCause};
 ghost use Rattle.db_model.specs.ReplyText.{pool_text, refusal_text};
 ghost use Rattle.reply_text.specs.WroteLess.{WroteLess};
 
@@ -15,9 +15,7 @@ pub fn write_refusal<K: Sink>(out: &mut K, refusal: &Refusal) -> Result<(), Fail
         (K.held out.new ≡ append_known (K.held out.old) (refusal_text refusal.now)) }
     ensures failed { OnErr result
         (WroteLess (K.held out.old) (K.held out.new) (refusal_text refusal.now)) }
-    ensures keeps { K.keeps out.old out.new }
-    ensures faultless { OnOk result (K.faults out.new ≡ K.faults out.old) }
-    ensures cause { HasCause (K.faults out.old) (K.faults out.new) result }
+    ensures frame { Sends K.lent K.faults out.old out.new result }
 {
     match refusal {
         Refusal::Syntax { at } => write_line_with(out, b"no syntax ", u64::from(*at)),

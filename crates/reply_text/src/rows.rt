@@ -1,8 +1,8 @@
 #![tactic(auto, using(crate::proofs::Pieces::less_front, crate::proofs::Pieces::less_behind, crate::proofs::Pieces::less_third))]
 
 ghost use Rattle.std.specs.Prelude.{◌≡◌, ◌++◌, OnErr, OnOk};
+ghost use Rattle.afl_base.specs.Keeping.{Sends};
 ghost use Rattle.std.specs.Io.KnownBytes.{append_known};
-ghost use Rattle.afl_base.specs.Causes.{HasCause};
 ghost use Rattle.db_model.specs.ReplyText.{number_text, numbers_text, row_text, value_text};
 ghost use Rattle.reply_text.specs.Commas.{comma_before};
 ghost use Rattle.reply_text.specs.WroteLess.{WroteLess};
@@ -18,9 +18,7 @@ pub fn write_row<K: Sink>(out: &mut K, tuple: &Tuple) -> Result<(), Failed>
         (K.held out.new ≡ append_known (K.held out.old) (row_text tuple.now)) }
     ensures failed { OnErr result
         (WroteLess (K.held out.old) (K.held out.new) (row_text tuple.now)) }
-    ensures keeps { K.keeps out.old out.new }
-    ensures faultless { OnOk result (K.faults out.new ≡ K.faults out.old) }
-    ensures cause { HasCause (K.faults out.old) (K.faults out.new) result }
+    ensures frame { Sends K.lent K.faults out.old out.new result }
 {
     for (at, value) in tuple.as_slice().iter().enumerate() {
         write_field(out, at, value)?;
@@ -35,9 +33,7 @@ pub fn write_numbers<K: Sink>(out: &mut K, numbers: &[Option<i64>]) -> Result<()
         (K.held out.new ≡ append_known (K.held out.old) (numbers_text numbers.now)) }
     ensures failed { OnErr result
         (WroteLess (K.held out.old) (K.held out.new) (numbers_text numbers.now)) }
-    ensures keeps { K.keeps out.old out.new }
-    ensures faultless { OnOk result (K.faults out.new ≡ K.faults out.old) }
-    ensures cause { HasCause (K.faults out.old) (K.faults out.new) result }
+    ensures frame { Sends K.lent K.faults out.old out.new result }
 {
     for (at, number) in numbers.iter().enumerate() {
         write_aggregate(out, at, number)?;
@@ -50,9 +46,7 @@ fn write_comma<K: Sink>(out: &mut K, at: usize) -> Result<(), Failed>
     ensures written { OnOk result
         (K.held out.new ≡ append_known (K.held out.old) (comma_before at)) }
     ensures failed { OnErr result (WroteLess (K.held out.old) (K.held out.new) (comma_before at)) }
-    ensures keeps { K.keeps out.old out.new }
-    ensures faultless { OnOk result (K.faults out.new ≡ K.faults out.old) }
-    ensures cause { HasCause (K.faults out.old) (K.faults out.new) result }
+    ensures frame { Sends K.lent K.faults out.old out.new result }
 {
     if at == 0 {
         return Ok(());
@@ -66,9 +60,7 @@ fn write_field<K: Sink>(out: &mut K, at: usize, value: &Value) -> Result<(), Fai
         (K.held out.new ≡ append_known (K.held out.old) (comma_before at ++ value_text value.now)) }
     ensures failed { OnErr result
         (WroteLess (K.held out.old) (K.held out.new) (comma_before at ++ value_text value.now)) }
-    ensures keeps { K.keeps out.old out.new }
-    ensures faultless { OnOk result (K.faults out.new ≡ K.faults out.old) }
-    ensures cause { HasCause (K.faults out.old) (K.faults out.new) result }
+    ensures frame { Sends K.lent K.faults out.old out.new result }
 {
     write_comma(out, at)?;
     match value {
@@ -83,9 +75,7 @@ fn write_between<K: Sink>(out: &mut K, mark: &[u8], bytes: &[u8]) -> Result<(), 
         (K.held out.new ≡ append_known (K.held out.old) (mark.now ++ bytes.now ++ mark.now)) }
     ensures failed { OnErr result
         (WroteLess (K.held out.old) (K.held out.new) (mark.now ++ bytes.now ++ mark.now)) }
-    ensures keeps { K.keeps out.old out.new }
-    ensures faultless { OnOk result (K.faults out.new ≡ K.faults out.old) }
-    ensures cause { HasCause (K.faults out.old) (K.faults out.new) result }
+    ensures frame { Sends K.lent K.faults out.old out.new result }
 {
     write_all(out, mark)?;
     write_all(out, bytes)?;
@@ -98,9 +88,7 @@ fn write_aggregate<K: Sink>(out: &mut K, at: usize, number: &Option<i64>) -> Res
         (K.held out.new ≡ append_known (K.held out.old) (comma_before at ++ number_text number.now)) }
     ensures failed { OnErr result
         (WroteLess (K.held out.old) (K.held out.new) (comma_before at ++ number_text number.now)) }
-    ensures keeps { K.keeps out.old out.new }
-    ensures faultless { OnOk result (K.faults out.new ≡ K.faults out.old) }
-    ensures cause { HasCause (K.faults out.old) (K.faults out.new) result }
+    ensures frame { Sends K.lent K.faults out.old out.new result }
 {
     write_comma(out, at)?;
     match number {

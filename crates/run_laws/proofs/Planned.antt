@@ -13,8 +13,8 @@ use Rattle.db_model.specs.Script as script
 use Rattle.db_model.specs.Sound.{IsSoundDatabase}
 use Rattle.run_model.specs.Runs.{HasEnough, World, machine_from}
 use Rattle.run_model.specs.Scripts.{script_talk}
-use Rattle.run_model.specs.Talk.{last}
-use Rattle.sound_image.specs.Images.{IsSound, base, files_in}
+use Rattle.run_model.specs.Talk.{last_database}
+use Rattle.sound_image.specs.Images.{IsSound, base, files_of_image}
 use Rattle.space_model.specs.Enough.{enough, most}
 use Rattle.stored.specs.Base.{base_of}
 use Rattle.stored.specs.Sound.{IsSoundTable}
@@ -23,7 +23,7 @@ use Rattle.stored.specs.Sound.{IsSoundTable}
 pub sound_base : ((files : Table) → IsSoundTable files → IsSoundDatabase (base_of files))
     → (image : List ℕ) → IsSound image → IsSoundDatabase (base image)
 unfolding base
-sound_base law image sound = law (files_in image) sound.database
+sound_base law image sound = law (files_of_image image) sound.database
 
 module _ (read : List ℕ → Result Command Refusal) (db : Database) (sectors : ℕ) where
   -- it asks for nothing, or there are enough sectors for it
@@ -35,7 +35,7 @@ module _ (read : List ℕ → Result Command Refusal) (db : Database) (sectors :
   EachSuffices entries = (front rest : List Entry) (bytes : List ℕ) (command : Command) → entries ≡ front ++ Bytes bytes ∷ rest
       → read bytes ≡ Ok command → Suffices (script.last read db front) command
 
-  pub enough_before : ((front : List Entry) → last (script_talk read) db front ≡ script.last read db front)
+  pub enough_before : ((front : List Entry) → last_database (script_talk read) db front ≡ script.last read db front)
       → (entries : List Entry) → EachSuffices entries → HasEnough (machine_from (script_talk read) db) sectors entries
   enough_before same entries each front rest Long command split asks = absurd (let n : ⊥ = cc in n)
   enough_before same entries each front rest Unfinished command split asks = absurd (let n : ⊥ = cc in n)

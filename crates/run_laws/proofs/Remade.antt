@@ -2,7 +2,7 @@
 use Rattle.std.proofs.Common.{◌≡◌, ℕ, ◌*◌, List, replicate, Some, ap, sym, ◌∙◌}
 use Rattle.std.specs.Io.KnownBytes.{append_known}
 use Rattle.antelope_run.specs.declared.words.Form.TheVariants.{Run}
-use Rattle.antelope_run.specs.Statuses.{Ends}
+use Rattle.antelope_run.specs.Statuses.{RunEnds}
 use Rattle.db_model.specs.Database.{Database, empty_database}
 use Rattle.db_model.specs.Sound.{IsSoundDatabase}
 use Rattle.dump_model.specs.Packed.{packed}
@@ -15,7 +15,7 @@ use Rattle.sound_image.specs.Images.{IsSound, base}
 pub dumped_script : (old new : World) → Dumps old new → new.held ≡ Some (script (base old.image))
 dumped_script old new dumps = dumps.ends.1.written ∙ ap (λ held. append_known held (script (base old.image))) dumps.empty
 
-pub made_again : ((db : Database) (old new : World) → IsSoundDatabase db → old.left ≡ Some (script db) → base old.image ≡ empty_database → Ends (Some Run) old new → Remakes db old new)
+pub made_again : ((db : Database) (old new : World) → IsSoundDatabase db → old.left ≡ Some (script db) → base old.image ≡ empty_database → RunEnds (Some Run) old new → Remakes db old new)
     → ((sectors : ℕ) → base (replicate (4096 * sectors) 0) ≡ empty_database)
     → ((image : List ℕ) → IsSound image → IsSoundDatabase (base image))
     → (sectors : ℕ) (dumped told old new : World) → RunsDump sectors dumped told old new → Remakes (base dumped.image) old new

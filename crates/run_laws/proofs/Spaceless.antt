@@ -15,7 +15,7 @@ use Rattle.run_laws.proofs.Opening.{apart}
 use Rattle.run_model.specs.Line.{ComesInParts, Cut, Line}
 use Rattle.run_model.specs.Runs.{AreEntries, FoundNoSpace, InputFoundNoSpace, World, machine_from}
 use Rattle.run_model.specs.Scripts.{script_talk}
-use Rattle.run_model.specs.Talk.{Talk, answered, last, output}
+use Rattle.run_model.specs.Talk.{Talk, answered, last_database, talk_output}
 use Rattle.run_model.proofs.Beginnings.{begins}
 use Rattle.run_model.proofs.Talks.{output-append}
 use Rattle.serve_model.specs.Served.{serve_talk}
@@ -51,19 +51,19 @@ TellsApart {E = E} talk = (entry : E) (reply : Reply) (n : ℕ) (us : List ℕ) 
 module _ {E : Type 0} (talk : Talk E) where
   -- what is written for more entries than a front and the next, a command
   longer : (db : Database) (front mid : List E) (entry : E) (command : Command) (tail : List ℕ) → talk.heard entry ≡ Ok command
-      → (rest : List ℕ) × (output talk db ((front ++ entry ∷ []) ++ mid) ++ tail ≡ output talk db front ++ (talk.sent entry (text ((step (last talk db front) command).1)) ++ rest))
+      → (rest : List ℕ) × (talk_output talk db ((front ++ entry ∷ []) ++ mid) ++ tail ≡ talk_output talk db front ++ (talk.sent entry (text ((step (last_database talk db front) command).1)) ++ rest))
   longer db front mid entry command tail asks =
-      let sent : List ℕ = talk.sent entry (text ((step (last talk db front) command).1)) in
-      let more : List ℕ = output talk (last talk db (front ++ entry ∷ [])) mid in
-      let one : output talk (last talk db front) (entry ∷ []) ≡ sent =
-      ap (λ heard. talk.sent entry (text ((answered (last talk db front) heard).1)) ++ []) asks ∙ append-nil sent in
-      let split : output talk db ((front ++ entry ∷ []) ++ mid) ≡ (output talk db front ++ sent) ++ more =
+      let sent : List ℕ = talk.sent entry (text ((step (last_database talk db front) command).1)) in
+      let more : List ℕ = talk_output talk (last_database talk db (front ++ entry ∷ [])) mid in
+      let one : talk_output talk (last_database talk db front) (entry ∷ []) ≡ sent =
+      ap (λ heard. talk.sent entry (text ((answered (last_database talk db front) heard).1)) ++ []) asks ∙ append-nil sent in
+      let split : talk_output talk db ((front ++ entry ∷ []) ++ mid) ≡ (talk_output talk db front ++ sent) ++ more =
       output-append talk db (front ++ entry ∷ []) mid
-      ∙ ap (λ bytes. bytes ++ more) (output-append talk db front (entry ∷ []) ∙ ap (λ bytes. output talk db front ++ bytes) one) in (
+      ∙ ap (λ bytes. bytes ++ more) (output-append talk db front (entry ∷ []) ∙ ap (λ bytes. talk_output talk db front ++ bytes) one) in (
         more ++ tail,
         ap (λ bytes. bytes ++ tail) split
-            ∙ append_assoc (output talk db front ++ sent) more tail
-            ∙ append_assoc (output talk db front) sent (more ++ tail),
+            ∙ append_assoc (talk_output talk db front ++ sent) more tail
+            ∙ append_assoc (talk_output talk db front) sent (more ++ tail),
       )
 
   module _ (tells : TellsApart talk) (db : Database) (entries : List E) (old new : World) (bytes : List ℕ) (told : old.held ≡ Some bytes) where
@@ -71,7 +71,7 @@ module _ {E : Type 0} (talk : Talk E) where
     Found = FoundNoSpace (machine_from talk db) entries old new
 
     abbrev written_by : Found → List ℕ
-    written_by a = output talk db a.front ++ talk.sent a.stops.entry (refusal_text (no.Space a.n))
+    written_by a = talk_output talk db a.front ++ talk.sent a.stops.entry (refusal_text (no.Space a.n))
 
     same_written : (a b : Found) → written_by a ≡ written_by b
     same_written a b = append_cancel_left bytes (written_by a) (written_by b) (some_same (sym (here a) ∙ here b))
@@ -84,11 +84,11 @@ module _ {E : Type 0} (talk : Talk E) where
         let r = begins a.front b.front a.stops.entry b.stops.entry a.stops.rest b.stops.rest (sym a.stops.split ∙ b.stops.split) less in
         let end : List ℕ = talk.sent b.stops.entry (refusal_text (no.Space b.n)) in
         let far = longer db a.front r.mid a.stops.entry a.stops.command end a.stops.asks in
-        let same : output talk db a.front ++ talk.sent a.stops.entry (refusal_text (no.Space a.n))
-        ≡ output talk db a.front ++ (talk.sent a.stops.entry (text ((step (last talk db a.front) a.stops.command).1)) ++ far.0) =
-        same_written a b ∙ ap (λ es. output talk db es ++ end) r.is ∙ far.1 in
-        tells a.stops.entry ((step (last talk db a.front) a.stops.command).1) a.n far.0 a.stops.accepted
-        (sym (append_cancel_left (output talk db a.front) _ _ same))
+        let same : talk_output talk db a.front ++ talk.sent a.stops.entry (refusal_text (no.Space a.n))
+        ≡ talk_output talk db a.front ++ (talk.sent a.stops.entry (text ((step (last_database talk db a.front) a.stops.command).1)) ++ far.0) =
+        same_written a b ∙ ap (λ es. talk_output talk db es ++ end) r.is ∙ far.1 in
+        tells a.stops.entry ((step (last_database talk db a.front) a.stops.command).1) a.n far.0 a.stops.accepted
+        (sym (append_cancel_left (talk_output talk db a.front) _ _ same))
 
     pub one_front : (a b : Found) → a.front ≡ b.front
     one_front a b =

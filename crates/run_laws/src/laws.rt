@@ -4,7 +4,7 @@
 
 ghost use Rattle.std.specs.Prelude.{◌≡◌, ◌≤◌, ◌/◌, ℕ, List, length, Some, Result};
 ghost use Rattle.antelope_run.specs.declared.words.Form.TheVariants.{Run};
-ghost use Rattle.antelope_run.specs.Statuses.{Ends, HasSpace};
+ghost use Rattle.antelope_run.specs.Statuses.{RunEnds, HasSpace};
 ghost use Rattle.db_model.specs.declared.commands.Command.{Command};
 ghost use Rattle.db_model.specs.declared.refusals.Refusal.{Refusal};
 ghost use Rattle.db_model.specs.Database.{Database, empty_database};
@@ -33,7 +33,7 @@ use stored::sound_files_are_a_sound_database;
 pub fn dumped_scripts_make_their_image()
     ensures { (read : List ℕ → Result Command Refusal) → IsReader read
         → (db : Database) (old new : World) → IsSoundDatabase db → old.left ≡ Some (script db)
-        → base old.image ≡ empty_database → Ends (Some Run) old new → Remakes db old new }
+        → base old.image ≡ empty_database → RunEnds (Some Run) old new → Remakes db old new }
 {
     scripts_make_their_database();
     scripts_are_answered_in_order();

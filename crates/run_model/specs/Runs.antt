@@ -13,7 +13,7 @@ use Rattle.space_model.specs.Enough.{enough, most}
 use Rattle.sound_image.specs.Images.{IsFirstBroken, IsSound, base}
 use Rattle.sound_image.specs.Lacking.{LacksFor}
 use Rattle.run_model.specs.Line.{Line}
-use Rattle.run_model.specs.Talk.{Asks, OnlyReads, Talk, costs, last, output}
+use Rattle.run_model.specs.Talk.{AsksCommand, AsksToRead, Talk, talk_costs, last_database, talk_output}
 
 -- what there is before and after a run: the image, what is left of the input, and what the sink holds
 pub record World : Type 0 where
@@ -27,7 +27,7 @@ world image left held = record { image = image; left = left; held = held }
 -- ---- what was written
 
 -- a part of these bytes from their front on, or all of them
-pub record WrotePart (all : List ℕ) (old new : Option (List ℕ)) : Type 0 where
+pub record WroteInFront (all : List ℕ) (old new : Option (List ℕ)) : Type 0 where
   pub part : List ℕ
   pub rest : List ℕ
   pub split : all ≡ part ++ rest
@@ -103,9 +103,9 @@ module _ {E : Type 0} (m : Machine E) where
 -- the relational machine, started at a database
 abbrev pub machine_from : {E : Type 0} → Talk E → Database → Machine E
 machine_from talk db = record {
-  written = output talk db;
-  last = last talk db;
-  Asks = Asks talk;
+  written = talk_output talk db;
+  last = last_database talk db;
+  Asks = AsksCommand talk;
   refused = λ entry n. talk.sent entry (refusal_text (no.Space n));
 }
 
@@ -157,7 +157,7 @@ module _ {E : Type 0} (line : Line E) (talk : Talk E) where
     pub entries : List E
     pub came : Came bytes old new
     pub are : AreEntries bytes entries new
-    pub written : WrotePart (output talk (base old.image) entries) old.held new.held
+    pub written : WroteInFront (talk_output talk (base old.image) entries) old.held new.held
 
   -- 5: a reply, or that there is no space, was not wholly written
   pub record InputUnsaid (old new : World) : Type 0 where
@@ -166,15 +166,15 @@ module _ {E : Type 0} (line : Line E) (talk : Talk E) where
     pub came : Came bytes old new
     pub are : AreEntries bytes entries new
     pub stopped : ReplyUnsaid (machine_from talk (base old.image)) entries old new
-        ⊎ SpaceUnsaid (machine_from talk (base old.image)) (output talk (base old.image)) entries old new
+        ⊎ SpaceUnsaid (machine_from talk (base old.image)) (talk_output talk (base old.image)) entries old new
 
   -- what an input whose entries only read may make a run read, its opening included
   abbrev pub ReadsWithin : World → ℕ → Type 0
-  ReadsWithin old n = (text : List ℕ) → old.left ≡ Some text → AllByRecursion (OnlyReads talk) (line.all text)
-      → n ≤ opening_cost (base old.image) (length old.image / 256) + costs talk (base old.image) no_cursors (line.all text)
+  ReadsWithin old n = (text : List ℕ) → old.left ≡ Some text → AllByRecursion (AsksToRead talk) (line.all text)
+      → n ≤ opening_cost (base old.image) (length old.image / 256) + talk_costs talk (base old.image) no_cursors (line.all text)
 
 -- 16,777,216 bytes came, and one more
-pub record TookLimit (old new : Option (List ℕ)) : Type 0 where
+pub record CameToLimit (old new : Option (List ℕ)) : Type 0 where
   pub bytes : List ℕ
   pub more : List ℕ
   pub left : old ≡ prepend_known (bytes ++ more) new

@@ -28,34 +28,34 @@ cost_answered db aheads (Ok command) = cost_of db aheads command
 cost_answered db aheads (Err refusal) = 0
 
 module _ {E : Type 0} (talk : Talk E) where
-  abbrev pub Asks : E → Command → Type 0
-  Asks entry command = talk.heard entry ≡ Ok command
+  abbrev pub AsksCommand : E → Command → Type 0
+  AsksCommand entry command = talk.heard entry ≡ Ok command
 
   -- it only reads, or is refused before it is carried out
-  abbrev pub OnlyReads : E → Type 0
-  OnlyReads entry = (command : Command) → Asks entry command → Reads command
+  abbrev pub AsksToRead : E → Type 0
+  AsksToRead entry = (command : Command) → AsksCommand entry command → Reads command
 
   -- the database after an entry, and the reply to it
-  abbrev pub after : Database → E → Database × Reply
-  after db entry = answered db (talk.heard entry)
+  abbrev pub after_entry : Database → E → Database × Reply
+  after_entry db entry = answered db (talk.heard entry)
 
   -- what is written for entries, one after the other
-  abbrev pub output : Database → List E → List ℕ
-  output db [] = []
-  output db (entry ∷ entries) = talk.sent entry (text ((after db entry).1)) ++ output ((after db entry).0) entries
+  abbrev pub talk_output : Database → List E → List ℕ
+  talk_output db [] = []
+  talk_output db (entry ∷ entries) = talk.sent entry (text ((after_entry db entry).1)) ++ talk_output ((after_entry db entry).0) entries
 
   -- the database after all of them
-  abbrev pub last : Database → List E → Database
-  last db [] = db
-  last db (entry ∷ entries) = last ((after db entry).0) entries
+  abbrev pub last_database : Database → List E → Database
+  last_database db [] = db
+  last_database db (entry ∷ entries) = last_database ((after_entry db entry).0) entries
 
   -- what the cursors have ahead then
-  abbrev pub last_aheads : Database → Aheads → List E → Aheads
-  last_aheads db aheads [] = aheads
-  last_aheads db aheads (entry ∷ entries) = last_aheads ((after db entry).0) (aheads_answered db aheads (talk.heard entry)) entries
+  abbrev pub talk_aheads : Database → Aheads → List E → Aheads
+  talk_aheads db aheads [] = aheads
+  talk_aheads db aheads (entry ∷ entries) = talk_aheads ((after_entry db entry).0) (aheads_answered db aheads (talk.heard entry)) entries
 
   -- what they may read
-  abbrev pub costs : Database → Aheads → List E → ℕ
-  costs db aheads [] = 0
-  costs db aheads (entry ∷ entries) =
-      cost_answered db aheads (talk.heard entry) + costs ((after db entry).0) (aheads_answered db aheads (talk.heard entry)) entries
+  abbrev pub talk_costs : Database → Aheads → List E → ℕ
+  talk_costs db aheads [] = 0
+  talk_costs db aheads (entry ∷ entries) =
+      cost_answered db aheads (talk.heard entry) + talk_costs ((after_entry db entry).0) (aheads_answered db aheads (talk.heard entry)) entries

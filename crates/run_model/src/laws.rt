@@ -13,7 +13,7 @@ ghost use Rattle.db_model.specs.Script as script;
 ghost use Rattle.run_model.specs.Line.{ComesInParts};
 ghost use Rattle.run_model.specs.Runs.{ReplyUnsaid, World, machine_from};
 ghost use Rattle.run_model.specs.Scripts.{script_cut, script_line, script_talk};
-ghost use Rattle.run_model.specs.Talk.{Talk, costs, last, output};
+ghost use Rattle.run_model.specs.Talk.{Talk, talk_costs, last_database, talk_output};
 
 /// What was written tells at which entry a reply was not wholly written.
 pub fn one_reply_is_unsaid<E>()
@@ -36,9 +36,9 @@ pub fn scripts_come_in_parts()
 /// What is written for the entries of a script, the database after them and what they may read are those of scripts.
 pub fn scripts_are_answered_in_order()
     ensures output { (read : List ℕ → Result Command Refusal) (db : Database) (entries : List Entry)
-        → output (script_talk read) db entries ≡ script.output read db entries }
+        → talk_output (script_talk read) db entries ≡ script.output read db entries }
     ensures last { (read : List ℕ → Result Command Refusal) (db : Database) (entries : List Entry)
-        → last (script_talk read) db entries ≡ script.last read db entries }
+        → last_database (script_talk read) db entries ≡ script.last read db entries }
     ensures costs { (read : List ℕ → Result Command Refusal) (db : Database) (aheads : Aheads) (entries : List Entry)
-        → costs (script_talk read) db aheads entries ≡ run.costs read db aheads entries }
+        → talk_costs (script_talk read) db aheads entries ≡ run.costs read db aheads entries }
 {}

@@ -143,3 +143,28 @@ fn an_index_keeps_its_relation_from_being_packed(rt: HostRuntime) -> Result<(), 
     expect_on(rt.alloc(), &PACKED, image.as_mut_slice())?;
     expect_size(rt.alloc(), image.as_mut_slice(), "T0", 8)
 }
+
+const MADE: Case = Case {
+    shows: "two rows stand under an index",
+    script: &[
+        Part::Once(TWO),
+        Part::Once("CREATE INDEX s.k TYPE INLINE; INSERT (1, 'a') INTO s; INSERT (2, 'b') INTO s;"),
+    ],
+    replies: &[Part::Often("ok\n", 6)],
+};
+
+const REFUSED: Case = Case {
+    shows: "a PACK and two inserts are refused",
+    script: &[Part::Once("PACK s; INSERT (1, 'c') INTO s; INSERT (3, 'long') INTO s;")],
+    replies: &[Part::Once("no indexed\nno ordered 2\nno value 2\n")],
+};
+
+#[test]
+fn a_refused_command_leaves_the_image_byte_for_byte(rt: HostRuntime) -> Result<(), Fail> {
+    let mut image = erased(rt.alloc())?;
+    expect_on(rt.alloc(), &MADE, image.as_mut_slice())?;
+    let before = Vec::from_slice(rt.alloc(), image.as_slice())?;
+    expect_on(rt.alloc(), &REFUSED, image.as_mut_slice())?;
+    assert!(rt; image.as_slice() == before.as_slice());
+    Ok(())
+}

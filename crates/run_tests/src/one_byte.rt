@@ -19,6 +19,8 @@ impl<S: Source + Drop> Source for OneByte<S> {
 
     ghost faults = { λ s. S.faults s.inner };
 
+    ghost reads = { λ s. S.reads s.inner };
+
     fn read(&mut self, into: &mut [u8]) -> Result<usize, Failed> {
         self.inner.read(&mut into[..1])
     }

@@ -6,7 +6,7 @@ use Rattle.std.proofs.lemmas.Bool.Decides.{nat_tests}
 use Rattle.db_model.specs.Pieces.{ended_by}
 use Rattle.db_model.specs.Script.{Entry, Long, Unfinished, Bytes, ended, ends_piece, unended, past_white}
 use Rattle.db_model.specs.Tokens.{is_white}
-use Rattle.script_run.specs.Gathers.{Gathers}
+use Rattle.script_run.specs.Gathers.{GathersPiece}
 
 choose : {P : Type 0} (b : Bool) → (b ≡ true → P) → (b ≡ false → P) → P
 choose true f g = f refl
@@ -31,23 +31,23 @@ none_kept (x ∷ xs) h = absurd (omega (arith, length-take 512 (x ∷ xs)))
 
 -- ---- what is kept
 
-pub gathers_none : Gathers [] [] false
+pub gathers_none : GathersPiece [] [] false
 gathers_none = record { bytes_are = refl; long_is = refl }
 
-pub keep_white : (p bytes : List ℕ) (long : Bool) (b : ℕ) → Gathers p bytes long → length bytes ≡ 0 → is_white b ≡ true → Gathers (p ++ b ∷ []) bytes long
+pub keep_white : (p bytes : List ℕ) (long : Bool) (b : ℕ) → GathersPiece p bytes long → length bytes ≡ 0 → is_white b ≡ true → GathersPiece (p ++ b ∷ []) bytes long
 keep_white p bytes long b g none white =
     let empty : past_white p ≡ [] = none_kept (past_white p) (sym (ap length g.bytes_are) ∙ none) in
     let same : past_white (p ++ b ∷ []) ≡ past_white p = past_push p b ∙ ap (λ t. pushed t b) empty ∙ (rw white (sym empty)) in
     record { bytes_are = g.bytes_are ∙ ap (λ t. take 512 t) (sym same); long_is = g.long_is ∙ ap (λ t. nat_lt 512 (length t)) (sym same) }
 
-pub keep_full : (p bytes : List ℕ) (long : Bool) (b : ℕ) → Gathers p bytes long → length bytes ≡ 512 → Gathers (p ++ b ∷ []) bytes true
+pub keep_full : (p bytes : List ℕ) (long : Bool) (b : ℕ) → GathersPiece p bytes long → length bytes ≡ 512 → GathersPiece (p ++ b ∷ []) bytes true
 keep_full p bytes long b g full =
     let least : 512 ≤ length (past_white p) = omega (arith, ap length g.bytes_are, length-take 512 (past_white p)) in
     let now : past_white (p ++ b ∷ []) ≡ past_white p ++ b ∷ [] = past_push p b ∙ pushed_some (past_white p) b (inl (omega arith)) in
     let more : 512 < length (past_white (p ++ b ∷ [])) = omega (arith, ap length now, length-append (past_white p) (b ∷ [])) in
     record { bytes_are = g.bytes_are ∙ sym (take-append-le 512 (past_white p) (b ∷ []) least) ∙ ap (λ t. take 512 t) (sym now); long_is = grind (arith, nat_tests) }
 
-pub keep_more : (p bytes : List ℕ) (long : Bool) (b : ℕ) → Gathers p bytes long → length bytes < 512 → (0 < length bytes) ⊎ (is_white b ≡ false) → Gathers (p ++ b ∷ []) (bytes ++ b ∷ []) long
+pub keep_more : (p bytes : List ℕ) (long : Bool) (b : ℕ) → GathersPiece p bytes long → length bytes < 512 → (0 < length bytes) ⊎ (is_white b ≡ false) → GathersPiece (p ++ b ∷ []) (bytes ++ b ∷ []) long
 keep_more p bytes long b g room some =
     let short : length (past_white p) < 512 = omega (arith, ap length g.bytes_are, length-take 512 (past_white p)) in
     let all : bytes ≡ past_white p = g.bytes_are ∙ take_all 512 (past_white p) (omega arith) in
@@ -71,23 +71,23 @@ unended_some : (t : List ℕ) → 0 < length t → unended t ≡ Unfinished ∷ 
 unended_some [] some = absurd (omega arith)
 unended_some (x ∷ xs) some = refl
 
-kept_all : (p bytes : List ℕ) → Gathers p bytes false → past_white p ≡ bytes
+kept_all : (p bytes : List ℕ) → GathersPiece p bytes false → past_white p ≡ bytes
 kept_all p bytes g =
     let short : length (past_white p) ≤ 512 = grind (arith, nat_tests, g.long_is) in
     sym (g.bytes_are ∙ take_all 512 (past_white p) short)
 
-pub said_long : (p bytes : List ℕ) → Gathers p bytes true → ended (past_white p) ≡ Long ∷ []
+pub said_long : (p bytes : List ℕ) → GathersPiece p bytes true → ended (past_white p) ≡ Long ∷ []
 said_long p bytes g = ended_long (past_white p) (sym g.long_is)
 
-pub kept_none : (p bytes : List ℕ) (long : Bool) → Gathers p bytes long → length bytes ≡ 0 → past_white p ≡ []
+pub kept_none : (p bytes : List ℕ) (long : Bool) → GathersPiece p bytes long → length bytes ≡ 0 → past_white p ≡ []
 kept_none p bytes long g none = none_kept (past_white p) (sym (ap length g.bytes_are) ∙ none)
 
-pub said_some : (p bytes : List ℕ) → Gathers p bytes false → 0 < length bytes → ended (past_white p) ≡ Bytes bytes ∷ []
+pub said_some : (p bytes : List ℕ) → GathersPiece p bytes false → 0 < length bytes → ended (past_white p) ≡ Bytes bytes ∷ []
 said_some p bytes g some =
     let same = kept_all p bytes g in
     ap ended same ∙ ended_some bytes some (ap (λ t. nat_lt 512 (length t)) (sym same) ∙ sym g.long_is)
 
-pub unclosed_some : (p bytes : List ℕ) (long : Bool) → Gathers p bytes long → 0 < length bytes → unended (past_white p) ≡ Unfinished ∷ []
+pub unclosed_some : (p bytes : List ℕ) (long : Bool) → GathersPiece p bytes long → 0 < length bytes → unended (past_white p) ≡ Unfinished ∷ []
 unclosed_some p bytes long g some = unended_some (past_white p) (omega (arith, ap length g.bytes_are, length-take 512 (past_white p)))
 
 -- what a `;` ends

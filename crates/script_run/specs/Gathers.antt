@@ -3,10 +3,10 @@ use Rattle.std.specs.Prelude.{◌≡◌, ℕ, Bool, nat_lt, List, [], ◌∷◌,
 use Rattle.db_model.specs.Script.{Entry, past_white}
 
 -- its first 512 bytes without white space in front, and whether it has more
-pub record Gathers (piece bytes : List ℕ) (long : Bool) : Type 0 where
+pub record GathersPiece (piece bytes : List ℕ) (long : Bool) : Type 0 where
   pub bytes_are : bytes ≡ take 512 (past_white piece)
   pub long_is : long ≡ nat_lt 512 (length (past_white piece))
 
 -- whatever the piece is, one entry comes of it
 abbrev pub AsksOne : List ℕ → Bool → (List ℕ → List Entry) → Type 0
-AsksOne bytes long entries = (piece : List ℕ) → Gathers piece bytes long → (entry : Entry) × (entries piece ≡ entry ∷ [])
+AsksOne bytes long entries = (piece : List ℕ) → GathersPiece piece bytes long → (entry : Entry) × (entries piece ≡ entry ∷ [])

@@ -4,12 +4,12 @@ use Rattle.answering.specs.Taking.{Input}
 use Rattle.db_model.specs.Script.{Entry}
 use Rattle.run_model.specs.Scripts.{script_cut, script_talk}
 use Rattle.script_run.specs.declared.piece.Piece.{Piece}
-use Rattle.script_run.specs.Gathers.{Gathers}
+use Rattle.script_run.specs.Gathers.{GathersPiece}
 
 -- of a piece it is kept whether it stands in quotes, and its first bytes
-pub record Keeps (begun : Bool × List ℕ) (piece : Piece) : Type 0 where
+pub record KeepsPiece (begun : Bool × List ℕ) (piece : Piece) : Type 0 where
   pub quoted_is : piece.quoted ≡ begun.0
-  pub gathers : Gathers begun.1 piece.bytes.items piece.long
+  pub gathers : GathersPiece begun.1 piece.bytes.items piece.long
 
 abbrev pub script_input : Input Entry (Bool × List ℕ) Piece
-script_input = record { talk = script_talk; cut = script_cut; Keeps = Keeps }
+script_input = record { talk = script_talk; cut = script_cut; Keeps = KeepsPiece }

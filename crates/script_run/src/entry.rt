@@ -14,7 +14,7 @@ ghost use Rattle.db_model.specs.Script.{Bytes};
 ghost use Rattle.db_model.specs.Spelling.{nodes_of};
 ghost use Rattle.intake.specs.declared.halt.Halt.TheVariants as Halt;
 ghost use Rattle.reply_text.specs.WroteLess.{WroteLess};
-ghost use Rattle.answering.specs.Carried.{Carried, HaltsIn, HasHaltCause, LacksPages, standing_of};
+ghost use Rattle.answering.specs.Carried.{Carried, HaltsIn, ChangesOrHalts, LacksPages, standing_of};
 ghost use Rattle.run_model.specs.Scripts.{script_talk};
 
 use afl_base::{Failed, Files, Sink};
@@ -32,7 +32,7 @@ pub fn refuse<K: Sink>(out: &mut K, refusal: &Refusal) -> Result<(), Halt>
     ensures sink { IfErr result (λ halt. halt ≡ Halt.Sink) }
     ensures rose { OnErr result (Rose (K.faults out.old) (K.faults out.new)) }
     ensures later { K.faults out.old ≤ K.faults out.new }
-    ensures keeps { K.keeps out.old out.new }
+    ensures lent { K.lent out.new ≡ K.lent out.old }
 {
     match write_refusal(out, refusal) {
         Ok(()) => Ok(()),
@@ -61,10 +61,8 @@ pub fn carry_out<V: Files, K: Sink>(
         (standing_of V.state V.reads session.new (K.held out.new)) halt) }
     ensures running { OnOk result (session.new.stopped ≡ false) }
     ensures lost { session.old.lost ≡ false → session.new.lost ≡ true → IsErrOf result Halt.Flash }
-    ensures store { length (V.state session.new.files).store ≡ length (V.state session.old.files).store }
-    ensures keeps { K.keeps out.old out.new }
-    ensures cause { HasHaltCause (V.faults session.old.files) (V.faults session.new.files)
-        (K.faults out.old) (K.faults out.new) result }
+    ensures frame { ChangesOrHalts V.Files K.Sink session.old.files session.new.files
+        out.old out.new result }
 {
     readings_are_unique();
     match parser.parse(bytes, command) {
@@ -99,10 +97,8 @@ fn execute<V: Files, K: Sink>(
         (standing_of V.state V.reads session.new (K.held out.new)) halt) }
     ensures running { OnOk result (session.new.stopped ≡ false) }
     ensures lost { session.old.lost ≡ false → session.new.lost ≡ true → IsErrOf result Halt.Flash }
-    ensures store { length (V.state session.new.files).store ≡ length (V.state session.old.files).store }
-    ensures keeps { K.keeps out.old out.new }
-    ensures cause { HasHaltCause (V.faults session.old.files) (V.faults session.new.files)
-        (K.faults out.old) (K.faults out.new) result }
+    ensures frame { ChangesOrHalts V.Files K.Sink session.old.files session.new.files
+        out.old out.new result }
 {
     match session.exec(command, out) {
         Ok(Step::Done(_)) => Ok(()),

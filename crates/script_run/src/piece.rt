@@ -5,7 +5,7 @@
 ghost use Rattle.std.specs.Prelude.{◌≡◌, ℕ, List, [], ◌∷◌, ◌++◌, false};
 ghost use Rattle.db_model.specs.Script.{ends_piece, quoted_after};
 ghost use Rattle.db_model.specs.Tokens.{is_white};
-ghost use Rattle.script_run.specs.Gathers.{Gathers};
+ghost use Rattle.script_run.specs.Gathers.{GathersPiece};
 
 use arrayvec::ArrayVec;
 
@@ -23,7 +23,7 @@ pub struct Piece {
 impl Piece {
     /// A piece of which no byte has come.
     pub fn new() -> Piece
-        ensures gathers { Gathers [] result.bytes.items result.long }
+        ensures gathers { GathersPiece [] result.bytes.items result.long }
         ensures outside { result.quoted ≡ false }
     {
         Piece {
@@ -35,7 +35,7 @@ impl Piece {
 
     /// Forgets what came: the next piece begins.
     pub fn clear(&mut self)
-        ensures gathers { Gathers [] self.new.bytes.items self.new.long }
+        ensures gathers { GathersPiece [] self.new.bytes.items self.new.long }
         ensures outside { self.new.quoted ≡ false }
     {
         self.bytes.clear();
@@ -52,8 +52,8 @@ impl Piece {
 
     /// Takes the next byte of the piece.
     pub fn push(&mut self, byte: u8)
-        ensures gathers { (p : List ℕ) → Gathers p self.old.bytes.items self.old.long
-            → Gathers (p ++ byte ∷ []) self.new.bytes.items self.new.long }
+        ensures gathers { (p : List ℕ) → GathersPiece p self.old.bytes.items self.old.long
+            → GathersPiece (p ++ byte ∷ []) self.new.bytes.items self.new.long }
         ensures quoted { self.new.quoted ≡ quoted_after self.old.quoted byte }
     {
         self.quoted = quoted_after(self.quoted, byte);
@@ -61,8 +61,8 @@ impl Piece {
     }
 
     fn keep(&mut self, byte: u8)
-        ensures gathers { (p : List ℕ) → Gathers p self.old.bytes.items self.old.long
-            → Gathers (p ++ byte ∷ []) self.new.bytes.items self.new.long }
+        ensures gathers { (p : List ℕ) → GathersPiece p self.old.bytes.items self.old.long
+            → GathersPiece (p ++ byte ∷ []) self.new.bytes.items self.new.long }
         ensures quoted { self.new.quoted ≡ self.old.quoted }
     {
         if self.bytes.is_empty() && is_white(byte) {

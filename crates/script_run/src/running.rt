@@ -8,11 +8,11 @@ ghost use Rattle.db_model.specs.declared.refusals.Refusal.{Refusal as AnyRefusal
 ghost use Rattle.db_model.specs.Reading.{IsReader};
 ghost use Rattle.db_model.specs.Script.{ended, past_white, unended};
 ghost use Rattle.intake.specs.declared.halt.Halt.TheVariants as Halt;
-ghost use Rattle.answering.specs.Carried.{Carried, HaltsIn, HasHaltCause, LacksPages, standing_of};
-ghost use Rattle.answering.specs.Taking.{EndsInput, HaltsAtLast, HaltsInBytes, HasOne, TakesBytes, running, saying};
+ghost use Rattle.answering.specs.Carried.{Carried, ChangesOrHalts, HaltsIn, HasHaltCause, LacksPages, standing_of};
+ghost use Rattle.answering.specs.Taking.{EndsInput, HaltsAtLast, HaltsInBytes, HasOne, TakesBytes, running};
 ghost use Rattle.run_model.specs.Scripts.{script_cut, script_talk};
-ghost use Rattle.script_run.specs.Gathers.{AsksOne, Gathers};
-ghost use Rattle.script_run.specs.Input.{Keeps, script_input};
+ghost use Rattle.script_run.specs.Gathers.{AsksOne, GathersPiece};
+ghost use Rattle.script_run.specs.Input.{KeepsPiece, script_input};
 
 use crate::entry::{carry_out, refuse};
 use crate::piece::Piece;
@@ -37,23 +37,23 @@ impl<'a, V: Files> Taker for Runner<'a, V> {
     ghost use Rattle.std.proofs.Common.{refl, ◌∙◌};
     ghost use Rattle.answering.proofs.SentReplies.{sent_behind, sent_reply};
     ghost use Rattle.answering.proofs.Taken.{halted_before, halted_behind, taken_more, taken_none};
-    ghost use Rattle.answering.specs.Taking.{EndsInput, HaltsAtLast, HaltsInBytes, HasOne, TakesBytes, running, saying};
+    ghost use Rattle.answering.specs.Taking.{EndsInput, HaltsAtLast, HaltsInBytes, HasOne, TakesBytes, running};
     ghost use Rattle.db_model.proofs.ReplyTexts.{text_some};
     ghost use Rattle.run_model.specs.Scripts.{script_cut, script_line};
     ghost use Rattle.script_run.specs.Input.{script_input};
     ghost use Rattle.run_model.proofs.Parts.{script_parts};
 
-    ghost Takes = { λ a came b. TakesBytes script_input (saying V.state V.reads V.faults V.asks V.lacks)
+    ghost Takes = { λ a came b. TakesBytes script_input V.Files
         (running a.0.session.now a.0.piece a.1.held a.1.faults) came (running b.0.session.now b.0.piece b.1.held b.1.faults) };
 
-    ghost Ends = { λ a b. EndsInput script_input (saying V.state V.reads V.faults V.asks V.lacks)
+    ghost Ends = { λ a b. EndsInput script_input V.Files
         (running a.0.session.now a.0.piece a.1.held a.1.faults) (running b.0.session.now b.0.piece b.1.held b.1.faults) };
 
-    ghost Halts = { λ a came b halt. HaltsInBytes script_input (saying V.state V.reads V.faults V.asks V.lacks)
+    ghost Halts = { λ a came b halt. HaltsInBytes script_input V.Files
         (running a.0.session.now a.0.piece a.1.held a.1.faults) came
         (running b.0.session.now b.0.piece b.1.held b.1.faults) halt };
 
-    ghost HaltsAtEnd = { λ a b halt. HaltsAtLast script_input (saying V.state V.reads V.faults V.asks V.lacks)
+    ghost HaltsAtEnd = { λ a b halt. HaltsAtLast script_input V.Files
         (running a.0.session.now a.0.piece a.1.held a.1.faults) (running b.0.session.now b.0.piece b.1.held b.1.faults) halt };
 
     ghost HasReply = { λ a byte. HasOne script_input a.piece (λ q. script_cut.ended q (byte ∷ [])) };
@@ -81,31 +81,31 @@ impl<'a, V: Files> Taker for Runner<'a, V> {
 
     ghost stayed_on = { λ a b c e f. f ∙ e };
 
-    ghost none = { λ a. taken_none script_input (saying V.state V.reads V.faults V.asks V.lacks) script_line script_parts
+    ghost none = { λ a. taken_none script_input V.Files script_line script_parts
         (running a.0.session.now a.0.piece a.1.held a.1.faults) };
 
     ghost more = { λ a b c xs ys e f.
-        taken_more script_input (saying V.state V.reads V.faults V.asks V.lacks) script_line script_parts
+        taken_more script_input V.Files script_line script_parts
         (running a.0.session.now a.0.piece a.1.held a.1.faults) (running b.0.session.now b.0.piece b.1.held b.1.faults)
         (running c.0.session.now c.0.piece c.1.held c.1.faults) xs ys e f };
 
     ghost halts_behind = { λ a b c xs ys halt e f.
-        halted_behind script_input (saying V.state V.reads V.faults V.asks V.lacks) script_line script_parts
+        halted_behind script_input V.Files script_line script_parts
         (running a.0.session.now a.0.piece a.1.held a.1.faults) (running b.0.session.now b.0.piece b.1.held b.1.faults)
         (running c.0.session.now c.0.piece c.1.held c.1.faults) xs ys halt e f };
 
     ghost halts_before = { λ a b xs ys halt e.
-        halted_before script_input (saying V.state V.reads V.faults V.asks V.lacks) script_line script_parts
+        halted_before script_input V.Files script_line script_parts
         (running a.0.session.now a.0.piece a.1.held a.1.faults) (running b.0.session.now b.0.piece b.1.held b.1.faults)
         xs ys halt e };
 
     ghost sent = { λ a b now byte answered halt one takes halts went later sent.
-        sent_behind script_input (saying V.state V.reads V.faults V.asks V.lacks) (λ read entry reply. text_some reply)
+        sent_behind script_input V.Files (λ read entry reply. text_some reply)
         (running a.0.session.now a.0.piece a.1.held a.1.faults) (running b.0.session.now b.0.piece b.1.held b.1.faults)
         now.held now.faults (byte ∷ []) answered halt one takes halts went later sent };
 
     ghost sent_at_end = { λ a b now answered halt one ends halts went later sent.
-        sent_reply script_input (saying V.state V.reads V.faults V.asks V.lacks) (λ read entry reply. text_some reply)
+        sent_reply script_input V.Files (λ read entry reply. text_some reply)
         (running a.0.session.now a.0.piece a.1.held a.1.faults) (running b.0.session.now b.0.piece b.1.held b.1.faults)
         now.held now.faults script_cut.left one went later answered halt ends halts sent };
 }
@@ -119,14 +119,14 @@ fn take_byte<V: Files, K: Sink>(
     out: &mut K,
     byte: u8,
 ) -> Result<(), Halt>
-    ensures takes { OnOk result (TakesBytes script_input (saying V.state V.reads V.faults V.asks V.lacks)
+    ensures takes { OnOk result (TakesBytes script_input V.Files
         (running session.old piece.old (K.held out.old) (K.faults out.old)) (byte ∷ [])
         (running session.new piece.new (K.held out.new) (K.faults out.new))) }
-    ensures halts { IfErr result (λ halt. HaltsInBytes script_input (saying V.state V.reads V.faults V.asks V.lacks)
+    ensures halts { IfErr result (λ halt. HaltsInBytes script_input V.Files
         (running session.old piece.old (K.held out.old) (K.faults out.old)) (byte ∷ [])
         (running session.new piece.new (K.held out.new) (K.faults out.new)) halt) }
     ensures silent { (out.new ≡ out.old) ⊎ HasOne script_input piece.old (λ q. script_cut.ended q (byte ∷ [])) }
-    ensures keeps { K.keeps out.old out.new }
+    ensures lent { K.lent out.new ≡ K.lent out.old }
 {
     if session.is_stopped() {
         return Err(Halt::Flash);
@@ -149,14 +149,14 @@ fn take_end<V: Files, K: Sink>(
     piece: &Piece,
     out: &mut K,
 ) -> Result<(), Halt>
-    ensures ends { OnOk result (EndsInput script_input (saying V.state V.reads V.faults V.asks V.lacks)
+    ensures ends { OnOk result (EndsInput script_input V.Files
         (running session.old piece.now (K.held out.old) (K.faults out.old))
         (running session.new piece.now (K.held out.new) (K.faults out.new))) }
-    ensures halts { IfErr result (λ halt. HaltsAtLast script_input (saying V.state V.reads V.faults V.asks V.lacks)
+    ensures halts { IfErr result (λ halt. HaltsAtLast script_input V.Files
         (running session.old piece.now (K.held out.old) (K.faults out.old))
         (running session.new piece.now (K.held out.new) (K.faults out.new)) halt) }
     ensures silent { (out.new ≡ out.old) ⊎ HasOne script_input piece.now (λ q. script_cut.left q) }
-    ensures keeps { K.keeps out.old out.new }
+    ensures lent { K.lent out.new ≡ K.lent out.old }
 {
     if session.is_stopped() {
         return Err(Halt::Flash);
@@ -178,23 +178,21 @@ fn answer_ended<V: Files, K: Sink>(
     requires running { session.old.stopped ≡ false }
     ensures carried { IsTrue (V.state session.old.files).tells → OnOk result (
         (read : List ℕ → Result AnyCommand AnyRefusal) → IsReader read
-        → (p : List ℕ) → Gathers p piece.now.bytes.items piece.now.long
+        → (p : List ℕ) → GathersPiece p piece.now.bytes.items piece.now.long
         → Carried (script_talk read) (ended (past_white p)) (standing_of V.state V.reads session.old (K.held out.old))
         (standing_of V.state V.reads session.new (K.held out.new))) }
     ensures halts { IsTrue (V.state session.old.files).tells → IfErr result (λ halt.
         (read : List ℕ → Result AnyCommand AnyRefusal) → IsReader read
-        → (p : List ℕ) → Gathers p piece.now.bytes.items piece.now.long
+        → (p : List ℕ) → GathersPiece p piece.now.bytes.items piece.now.long
         → HaltsIn (script_talk read) (LacksPages V.state V.asks V.lacks session.new) (ended (past_white p))
         (standing_of V.state V.reads session.old (K.held out.old))
         (standing_of V.state V.reads session.new (K.held out.new)) halt) }
     ensures running { OnOk result (session.new.stopped ≡ false) }
     ensures lost { session.old.lost ≡ false → session.new.lost ≡ true → IsErrOf result Halt.Flash }
-    ensures store { length (V.state session.new.files).store ≡ length (V.state session.old.files).store }
     ensures silent { (out.new ≡ out.old)
         ⊎ AsksOne piece.now.bytes.items piece.now.long (λ p. ended (past_white p)) }
-    ensures keeps { K.keeps out.old out.new }
-    ensures cause { HasHaltCause (V.faults session.old.files) (V.faults session.new.files)
-        (K.faults out.old) (K.faults out.new) result }
+    ensures frame { ChangesOrHalts V.Files K.Sink session.old.files session.new.files
+        out.old out.new result }
 {
     if piece.long {
         return match refuse(out, &Refusal::Long) {
@@ -220,19 +218,19 @@ fn answer_unended<V: Files, K: Sink>(
     requires running { session.old.stopped ≡ false }
     ensures carried { IsTrue (V.state session.old.files).tells → OnOk result (
         (read : List ℕ → Result AnyCommand AnyRefusal) → IsReader read
-        → (p : List ℕ) → Gathers p piece.now.bytes.items piece.now.long
+        → (p : List ℕ) → GathersPiece p piece.now.bytes.items piece.now.long
         → Carried (script_talk read) (unended (past_white p)) (standing_of V.state V.reads session.old (K.held out.old))
         (standing_of V.state V.reads session.new (K.held out.new))) }
     ensures halts { IsTrue (V.state session.old.files).tells → IfErr result (λ halt.
         (read : List ℕ → Result AnyCommand AnyRefusal) → IsReader read
-        → (p : List ℕ) → Gathers p piece.now.bytes.items piece.now.long
+        → (p : List ℕ) → GathersPiece p piece.now.bytes.items piece.now.long
         → HaltsIn (script_talk read) (LacksPages V.state V.asks V.lacks session.new) (unended (past_white p))
         (standing_of V.state V.reads session.old (K.held out.old))
         (standing_of V.state V.reads session.new (K.held out.new)) halt) }
     ensures same { session.new ≡ session.old }
     ensures silent { (out.new ≡ out.old)
         ⊎ AsksOne piece.now.bytes.items piece.now.long (λ p. unended (past_white p)) }
-    ensures keeps { K.keeps out.old out.new }
+    ensures lent { K.lent out.new ≡ K.lent out.old }
     ensures cause { HasHaltCause (V.faults session.old.files) (V.faults session.new.files)
         (K.faults out.old) (K.faults out.new) result }
 {

@@ -11,7 +11,7 @@ ghost use Rattle.db_model.specs.Reading.{IsReader};
 ghost use Rattle.intake.specs.declared.halt.Halt.TheVariants as Halt;
 ghost use Rattle.intake.specs.declared.halt.Stop.TheVariants as Stop;
 ghost use Rattle.run_model.specs.Scripts.{script_line, script_talk};
-ghost use Rattle.script_run.specs.Input.{Keeps};
+ghost use Rattle.script_run.specs.Input.{KeepsPiece};
 
 use crate::piece::Piece;
 use crate::running::Runner;
@@ -38,7 +38,8 @@ pub fn run_script<V: Files, S: Source, K: Sink>(
     ensures reaches { Reaches result (S.left script.old) (S.left script.new) }
     ensures lost { session.old.lost ≡ false → session.new.lost ≡ true → result ≡ Err (Stop.Halted Halt.Flash) }
     ensures store { length (V.state session.new.files).store ≡ length (V.state session.old.files).store }
-    ensures keeps { K.keeps out.old out.new }
+    ensures borrows { V.lent session.new.files ≡ V.lent session.old.files }
+    ensures lent { K.lent out.new ≡ K.lent out.old }
     ensures cause { HasRunCause (S.faults script.old) (S.faults script.new)
         (V.faults session.old.files) (V.faults session.new.files) (K.faults out.old) (K.faults out.new) result }
 {
@@ -58,7 +59,7 @@ fn run_through<'a, V: Files, S: Source, K: Sink>(
     out: &mut K,
 ) -> Result<(), Stop>
     requires running { runner.old.session.now.stopped ≡ false }
-    requires none { Keeps (false, []) runner.old.piece }
+    requires none { KeepsPiece (false, []) runner.old.piece }
     ensures went { IsTrue (V.state runner.old.session.now.files).tells
         → (read : List ℕ → Result AnyCommand AnyRefusal) → IsReader read
         → Went script_line (script_talk read)
@@ -70,8 +71,9 @@ fn run_through<'a, V: Files, S: Source, K: Sink>(
         → result ≡ Err (Stop.Halted Halt.Flash) }
     ensures store { let new = V.state runner.new.session.now.files in
         length new.store ≡ length (V.state runner.old.session.now.files).store }
-    ensures lent { runner.new.session.ghost_name ≡ runner.old.session.ghost_name }
-    ensures keeps { K.keeps out.old out.new }
+    ensures session { runner.new.session.ghost_name ≡ runner.old.session.ghost_name }
+    ensures borrows { V.lent runner.new.session.now.files ≡ V.lent runner.old.session.now.files }
+    ensures lent { K.lent out.new ≡ K.lent out.old }
     ensures cause { HasRunCause (S.faults script.old) (S.faults script.new)
         (V.faults runner.old.session.now.files) (V.faults runner.new.session.now.files)
         (K.faults out.old) (K.faults out.new) result }

@@ -9,7 +9,7 @@ use Rattle.db_model.specs.ReplyText.{text}
 use Rattle.intake.specs.declared.halt.Halt.TheVariants.{Space, Flash, Sink}
 use Rattle.reply_text.proofs.Pieces.{append_known-nil}
 use Rattle.reply_text.specs.WroteLess.{WroteLess}
-use Rattle.run_model.specs.Talk.{Talk, after}
+use Rattle.run_model.specs.Talk.{Talk, after_entry}
 use Rattle.session_model.specs.Steps.{WrotePart}
 use Rattle.serve.specs.Answered.{FindsNone, SaysLess, SaysPart}
 
@@ -32,7 +32,7 @@ module _ {E : Type 0} (talk : Talk E) (entry : E) (Lacks : Command → ℕ → T
 
   pub part_halts : SaysPart talk entry a b → HaltsIn talk Lacks (entry ∷ []) a b Flash
   part_halts s = record {
-    stops = subst (λ (t : List ℕ). WrotePart a.held b.held t) (sym (append-nil (talk.sent entry (text ((after talk a.database entry).1))))) s.held;
+    stops = subst (λ (t : List ℕ). WrotePart a.held b.held t) (sym (append-nil (talk.sent entry (text ((after_entry talk a.database entry).1))))) s.held;
     reads = s.reads;
   }
 

@@ -4,7 +4,7 @@ use Rattle.std.specs.Prelude.{◌==◌, option_map, option_and_then, nat_lt, if�
 use Rattle.std.proofs.lemmas.Bool.Decides.{nat_tests, Decides-eqb}
 use Rattle.std.proofs.lemmas.List.{take-append-le, take_all, length-take}
 use Rattle.serve_model.specs.Frames.{Frame, Broken, Long, Asked, decoded, escaped, frame_of, frame_from, part_behind, is_client}
-use Rattle.serve.specs.Gathers.{Opened, with_front, opened, opened_escape, one_more, Decoding, Gathers, GathersBy, Keeps, KeepsPart}
+use Rattle.serve.specs.Gathers.{Opened, with_front, escape_opened, opened_escape, one_more, Decoding, GathersPart, GathersBy, HoldsPart, KeepsPart}
 
 -- ---- decoding
 
@@ -30,17 +30,17 @@ closed_escape b o = by_tests (b == 220) (b == 221)
     by_tests false true = closed_front 219 o
     by_tests false false = refl
 
-pub decoded_opened : (part : List ℕ) → decoded part ≡ closed (opened part)
+pub decoded_opened : (part : List ℕ) → decoded part ≡ closed (escape_opened part)
 decoded_opened [] = refl
 decoded_opened (b ∷ []) = by_test (b == 219)
   where
     by_test : (t : Bool) → (if t then None else Some (b ∷ [])) ≡ closed (if t then Some (record { bytes = []; escaped = true }) else Some (record { bytes = b ∷ []; escaped = false }))
     by_test true = refl
     by_test false = refl
-decoded_opened (b ∷ c ∷ bytes) = by_test (b == 219) (ap (escaped c) (decoded_opened bytes) ∙ closed_escape c (opened bytes)) (ap (option_map (λ rest. b ∷ rest)) (decoded_opened (c ∷ bytes)) ∙ closed_front b (opened (c ∷ bytes)))
+decoded_opened (b ∷ c ∷ bytes) = by_test (b == 219) (ap (escaped c) (decoded_opened bytes) ∙ closed_escape c (escape_opened bytes)) (ap (option_map (λ rest. b ∷ rest)) (decoded_opened (c ∷ bytes)) ∙ closed_front b (escape_opened (c ∷ bytes)))
   where
-    by_test : (t : Bool) → escaped c (decoded bytes) ≡ closed (opened_escape c (opened bytes)) → option_map (λ rest. b ∷ rest) (decoded (c ∷ bytes)) ≡ closed (option_map (with_front b) (opened (c ∷ bytes)))
-        → (if t then escaped c (decoded bytes) else option_map (λ rest. b ∷ rest) (decoded (c ∷ bytes))) ≡ closed (if t then opened_escape c (opened bytes) else option_map (with_front b) (opened (c ∷ bytes)))
+    by_test : (t : Bool) → escaped c (decoded bytes) ≡ closed (opened_escape c (escape_opened bytes)) → option_map (λ rest. b ∷ rest) (decoded (c ∷ bytes)) ≡ closed (option_map (with_front b) (escape_opened (c ∷ bytes)))
+        → (if t then escaped c (decoded bytes) else option_map (λ rest. b ∷ rest) (decoded (c ∷ bytes))) ≡ closed (if t then opened_escape c (escape_opened bytes) else option_map (with_front b) (escape_opened (c ∷ bytes)))
     by_test true e f = e
     by_test false e f = f
 
@@ -78,7 +78,7 @@ open_escape = Some (record { bytes = []; escaped = true })
 abbrev open_bytes : List ℕ → Option Opened
 open_bytes bytes = Some (record { bytes = bytes; escaped = false })
 
-pub opened_more : (part : List ℕ) (b : ℕ) → opened (part ++ b ∷ []) ≡ option_and_then (one_more b) (opened part)
+pub opened_more : (part : List ℕ) (b : ℕ) → escape_opened (part ++ b ∷ []) ≡ option_and_then (one_more b) (escape_opened part)
 opened_more [] b = by_test (b == 219)
   where
     by_test : (t : Bool) → cond t open_escape (open_bytes (b ∷ [])) ≡ cond t open_escape (open_bytes ([] ++ b ∷ []))
@@ -97,12 +97,12 @@ opened_more (a ∷ []) b = by_tests (a == 219) (b == 220) (b == 221) (b == 219)
     by_tests false s t true = refl
     by_tests false s t false = refl
 opened_more (a ∷ c ∷ part) b =
-    by_test (a == 219) (ap (opened_escape c) (opened_more part b) ∙ sym (more_escape b c (opened part))) (ap (option_map (with_front a)) (opened_more (c ∷ part) b) ∙ sym (more_front b a (opened (c ∷ part))))
+    by_test (a == 219) (ap (opened_escape c) (opened_more part b) ∙ sym (more_escape b c (escape_opened part))) (ap (option_map (with_front a)) (opened_more (c ∷ part) b) ∙ sym (more_front b a (escape_opened (c ∷ part))))
   where
-    by_test : (t : Bool) → opened_escape c (opened (part ++ b ∷ [])) ≡ option_and_then (one_more b) (opened_escape c (opened part))
-        → option_map (with_front a) (opened ((c ∷ part) ++ b ∷ [])) ≡ option_and_then (one_more b) (option_map (with_front a) (opened (c ∷ part)))
-        → (if t then opened_escape c (opened (part ++ b ∷ [])) else option_map (with_front a) (opened ((c ∷ part) ++ b ∷ [])))
-        ≡ option_and_then (one_more b) (if t then opened_escape c (opened part) else option_map (with_front a) (opened (c ∷ part)))
+    by_test : (t : Bool) → opened_escape c (escape_opened (part ++ b ∷ [])) ≡ option_and_then (one_more b) (opened_escape c (escape_opened part))
+        → option_map (with_front a) (escape_opened ((c ∷ part) ++ b ∷ [])) ≡ option_and_then (one_more b) (option_map (with_front a) (escape_opened (c ∷ part)))
+        → (if t then opened_escape c (escape_opened (part ++ b ∷ [])) else option_map (with_front a) (escape_opened ((c ∷ part) ++ b ∷ [])))
+        ≡ option_and_then (one_more b) (if t then opened_escape c (escape_opened part) else option_map (with_front a) (escape_opened (c ∷ part)))
     by_test true e f = e
     by_test false e f = f
 
@@ -136,18 +136,18 @@ frame_some [] some = absurd (omega (arith, some))
 frame_some (b ∷ bytes) some = refl
 
 -- an escape is broken
-pub refused_broken : (part bytes : List ℕ) (long escaped broken : Bool) → Keeps (opened part) bytes long escaped broken → broken ≡ true → frame_from (decoded part) ≡ Broken
-refused_broken part bytes long escaped broken h e = ap frame_from (decoded_opened part ∙ by_opened (opened part) h)
+pub refused_broken : (part bytes : List ℕ) (long escaped broken : Bool) → HoldsPart (escape_opened part) bytes long escaped broken → broken ≡ true → frame_from (decoded part) ≡ Broken
+refused_broken part bytes long escaped broken h e = ap frame_from (decoded_opened part ∙ by_opened (escape_opened part) h)
   where
-    by_opened : (o : Option Opened) → Keeps o bytes long escaped broken → closed o ≡ None
+    by_opened : (o : Option Opened) → HoldsPart o bytes long escaped broken → closed o ≡ None
     by_opened None k = refl
     by_opened (Some o) k = let h = k.0 in cc
 
 -- an escape is open
-pub refused_open : (part bytes : List ℕ) (long escaped broken : Bool) → Keeps (opened part) bytes long escaped broken → escaped ≡ true → frame_from (decoded part) ≡ Broken
-refused_open part bytes long escaped broken h e = ap frame_from (decoded_opened part ∙ by_opened (opened part) h)
+pub refused_open : (part bytes : List ℕ) (long escaped broken : Bool) → HoldsPart (escape_opened part) bytes long escaped broken → escaped ≡ true → frame_from (decoded part) ≡ Broken
+refused_open part bytes long escaped broken h e = ap frame_from (decoded_opened part ∙ by_opened (escape_opened part) h)
   where
-    by_opened : (o : Option Opened) → Keeps o bytes long escaped broken → closed o ≡ None
+    by_opened : (o : Option Opened) → HoldsPart o bytes long escaped broken → closed o ≡ None
     by_opened None k = refl
     by_opened (Some o) k = ap (λ t. if t then None else Some o.bytes) (sym k.1 ∙ e)
 
@@ -158,10 +158,10 @@ pub record Decodes (part bytes : List ℕ) (long : Bool) : Type 0 where
   pub kept : bytes ≡ take 513 all
   pub more : long ≡ nat_lt 513 (length all)
 
-pub decodes : (part bytes : List ℕ) (long escaped broken : Bool) → Keeps (opened part) bytes long escaped broken → broken ≡ false → escaped ≡ false → Decodes part bytes long
-decodes part bytes long escaped broken h e f = by_opened (opened part) (decoded_opened part) h
+pub decodes : (part bytes : List ℕ) (long escaped broken : Bool) → HoldsPart (escape_opened part) bytes long escaped broken → broken ≡ false → escaped ≡ false → Decodes part bytes long
+decodes part bytes long escaped broken h e f = by_opened (escape_opened part) (decoded_opened part) h
   where
-    by_opened : (o : Option Opened) → decoded part ≡ closed o → Keeps o bytes long escaped broken → Decodes part bytes long
+    by_opened : (o : Option Opened) → decoded part ≡ closed o → HoldsPart o bytes long escaped broken → Decodes part bytes long
     by_opened None d k = cc
     by_opened (Some o) d k = record { all = o.bytes; decodes = d ∙ ap (λ t. if t then None else Some o.bytes) (sym k.1 ∙ f); kept = k.2; more = k.3 }
 
@@ -214,21 +214,21 @@ other_byte b h = by_test (b == 192) (λ e. h ((Decides-eqb b 192).0 e))
 
 -- what a push does
 abbrev Pushes : ℕ → Decoding → Decoding → Type 0
-Pushes b old new = (o : Option Opened) → Keeps o old.bytes old.long old.escaped old.broken → Keeps (option_and_then (one_more b) o) new.bytes new.long new.escaped new.broken
+Pushes b old new = (o : Option Opened) → HoldsPart o old.bytes old.long old.escaped old.broken → HoldsPart (option_and_then (one_more b) o) new.bytes new.long new.escaped new.broken
 
-pushed : (part : List ℕ) (b : ℕ) (old new : Decoding) → KeepsPart part old → Pushes b old new → new.begun ≡ true → Gathers (part ++ b ∷ []) new
+pushed : (part : List ℕ) (b : ℕ) (old new : Decoding) → KeepsPart part old → Pushes b old new → new.begun ≡ true → GathersPart (part ++ b ∷ []) new
 pushed part b old new kept push begun =
     subst (λ t. GathersBy t (part ++ b ∷ []) new) (sym begun)
-    (let n = length-append part (b ∷ []) in omega (arith, n), subst (λ o. Keeps o new.bytes new.long new.escaped new.broken) (sym (opened_more part b)) (push (opened part) kept))
+    (let n = length-append part (b ∷ []) in omega (arith, n), subst (λ o. HoldsPart o new.bytes new.long new.escaped new.broken) (sym (opened_more part b)) (push (escape_opened part) kept))
 
 -- the first byte of a part
-pub gathers_first : (part : List ℕ) (b : ℕ) (old mid new : Decoding) → (b ≡ 192 → ⊥) → old.begun ≡ false → Gathers part old → KeepsPart [] mid → mid.begun ≡ true → Pushes b mid new → new.begun ≡ mid.begun → Gathers (part_behind part (b ∷ [])) new
+pub gathers_first : (part : List ℕ) (b : ℕ) (old mid new : Decoding) → (b ≡ 192 → ⊥) → old.begun ≡ false → GathersPart part old → KeepsPart [] mid → mid.begun ≡ true → Pushes b mid new → new.begun ≡ mid.begun → GathersPart (part_behind part (b ∷ [])) new
 gathers_first part b old mid new other begun h kept mid_begun push same =
     let empty : part ≡ [] = subst (λ t. GathersBy t part old) begun h in
     rw (other_byte b other, empty) (pushed [] b mid new kept push (same ∙ mid_begun))
 
 -- another byte of it
-pub gathers_more : (part : List ℕ) (b : ℕ) (old new : Decoding) → (b ≡ 192 → ⊥) → old.begun ≡ true → Gathers part old → Pushes b old new → new.begun ≡ old.begun → Gathers (part_behind part (b ∷ [])) new
+pub gathers_more : (part : List ℕ) (b : ℕ) (old new : Decoding) → (b ≡ 192 → ⊥) → old.begun ≡ true → GathersPart part old → Pushes b old new → new.begun ≡ old.begun → GathersPart (part_behind part (b ∷ [])) new
 gathers_more part b old new other begun h push same =
     let kept = subst (λ t. GathersBy t part old) begun h in
     rw (other_byte b other) (pushed part b old new kept.1 push (same ∙ begun))

@@ -10,7 +10,7 @@ use Rattle.db_model.specs.ReplyText.{refusal_text, text}
 use Rattle.db_model.specs.Step.{Reads, Refused, Reply, outcome, step}
 use Rattle.db_model.proofs.ReplyTexts.{text_refused}
 use Rattle.reply_text.specs.WroteLess.{WroteLess}
-use Rattle.run_model.specs.Talk.{Talk, after, answered, cost_answered}
+use Rattle.run_model.specs.Talk.{Talk, after_entry, answered, cost_answered}
 use Rattle.session_model.specs.Steps.{WrotePart}
 use Rattle.serve.specs.Answered.{FindsNone, ReadsFew, SaysLess, SaysPart}
 
@@ -18,10 +18,10 @@ module _ {E : Type 0} (talk : Talk E) (entry : E) (a b : Standing) where
   -- ---- a command
 
   module _ (c : Command) (is : talk.heard entry ≡ Ok c) (reads : Reads c → b.reads ≤ a.reads + cost_of a.database a.aheads c) where
-    pub steps : after talk a.database entry ≡ step a.database c
+    pub steps : after_entry talk a.database entry ≡ step a.database c
     steps = ap (answered a.database) is
 
-    sent_is : talk.sent entry (text ((step a.database c).1)) ≡ talk.sent entry (text ((after talk a.database entry).1))
+    sent_is : talk.sent entry (text ((step a.database c).1)) ≡ talk.sent entry (text ((after_entry talk a.database entry).1))
     sent_is = sym (ap (λ (d : Database × Reply). talk.sent entry (text d.1)) steps)
 
     reads_few : ReadsFew talk entry a b
@@ -58,10 +58,10 @@ module _ {E : Type 0} (talk : Talk E) (entry : E) (a b : Standing) where
   -- ---- a refusal
 
   module _ (r : Refusal) (is : talk.heard entry ≡ Err r) (tells : b.tells ≡ a.tells) (database : b.database ≡ a.database) where
-    pub refused_is : after talk a.database entry ≡ (a.database, Refused r)
+    pub refused_is : after_entry talk a.database entry ≡ (a.database, Refused r)
     refused_is = ap (answered a.database) is
 
-    refused_sent : talk.sent entry (refusal_text r) ≡ talk.sent entry (text ((after talk a.database entry).1))
+    refused_sent : talk.sent entry (refusal_text r) ≡ talk.sent entry (text ((after_entry talk a.database entry).1))
     refused_sent = ap (talk.sent entry) (sym (text_refused r)) ∙ sym (ap (λ (d : Database × Reply). talk.sent entry (text d.1)) refused_is)
 
     pub refused_says_less : b.reads ≤ a.reads → WroteLess a.held b.held (talk.sent entry (refusal_text r)) → SaysLess talk entry a b

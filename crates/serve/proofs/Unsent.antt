@@ -6,7 +6,7 @@ use Rattle.std.specs.Io.KnownBytes.{append_known}
 use Rattle.reply_text.proofs.Pieces.{append_known-nil, append_known-twice}
 use Rattle.reply_text.specs.WroteLess.{WroteLess}
 use Rattle.session_model.specs.Steps.{WrotePart}
-use Rattle.serve.specs.Front.{Fronted, HoldsOn, front_bytes, front_held}
+use Rattle.serve.specs.Front.{front_held}
 
 some_same : {x y : List ℕ} → Some x ≡ Some y → x ≡ y
 some_same h = cc
@@ -79,21 +79,3 @@ frame_unended h mid k f c text e (inr sent) = record {
 pub frame_held : (h mid k : Option (List ℕ)) (f : Option ℕ) (c : ℕ) (text : List ℕ) → front_held mid f ≡ append_known (append_known h (c ∷ [])) text → k ≡ append_known (front_held mid f) (192 ∷ []) → k ≡ append_known h (c ∷ text ++ 192 ∷ [])
 frame_held h mid k f c text e sent =
     sent ∙ ap (λ h. append_known h (192 ∷ [])) (e ∙ append_known-twice h (c ∷ []) text) ∙ append_known-twice h (c ∷ text) (192 ∷ [])
-
--- ---- nothing was written
-
--- where nothing was written and no call failed, the sink behind holds what it held
-pub unsaid : (a b : Fronted) → HoldsOn a b → b.failed ≡ false → front_held b.held b.front ≡ front_held a.held a.front → b.held ≡ a.held
-unsaid a b x fine same = by_held a.held b.held refl refl
-  where
-    none : (xs more : List ℕ) → Some xs ≡ Some (xs ++ more) → more ≡ []
-    none xs [] e = refl
-    none xs (m ∷ more) e = let many = ap length (some_same e) in let sum = length-append xs (m ∷ more) in absurd (omega (arith, many, sum))
-
-    by_held : (h k : Option (List ℕ)) → a.held ≡ h → b.held ≡ k → b.held ≡ a.held
-    by_held None None e f = f ∙ sym e
-    by_held None (Some ks) e f = let n : Some (ks ++ front_bytes b.front) ≡ None = sym (ap (λ h. front_held h b.front) f) ∙ same ∙ ap (λ h. front_held h a.front) e in cc
-    by_held (Some bs) k e f =
-        let start : front_held a.held a.front ≡ Some (bs ++ front_bytes a.front) = ap (λ h. front_held h a.front) e in
-        let grown : Some (bs ++ front_bytes a.front) ≡ Some ((bs ++ front_bytes a.front) ++ x.more) = sym start ∙ sym same ∙ x.held ∙ ap (λ h. append_known h x.more) start in
-        (x.silent fine (none (bs ++ front_bytes a.front) x.more grown)).0

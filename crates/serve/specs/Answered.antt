@@ -7,7 +7,7 @@ use Rattle.db_model.specs.Ahead.{cost_of}
 use Rattle.db_model.specs.ReplyText.{text}
 use Rattle.db_model.specs.Step.{Reads, outcome}
 use Rattle.reply_text.specs.WroteLess.{WroteLess}
-use Rattle.run_model.specs.Talk.{Asks, OnlyReads, Talk, after, costs}
+use Rattle.run_model.specs.Talk.{AsksCommand, AsksToRead, Talk, after_entry, talk_costs}
 use Rattle.session_model.specs.declared.step.Step.{Step}
 use Rattle.session_model.specs.declared.step.Step.TheVariants.{Done, NoSpace}
 use Rattle.session_model.specs.declared.step.Stop.{Stop}
@@ -17,12 +17,12 @@ use Rattle.session_model.specs.Steps.{WrotePart, outcome_of}
 module _ {E : Type 0} (talk : Talk E) (entry : E) where
   -- where it only reads, it reads no more than is counted for it
   abbrev pub ReadsFew : Standing → Standing → Type 0
-  ReadsFew old new = AllByRecursion (OnlyReads talk) (entry ∷ []) → new.reads ≤ old.reads + costs talk old.database old.aheads (entry ∷ [])
+  ReadsFew old new = AllByRecursion (AsksToRead talk) (entry ∷ []) → new.reads ≤ old.reads + talk_costs talk old.database old.aheads (entry ∷ [])
 
   -- it asks for a command that is not refused and finds no space: nothing was written, and the database is as before
   pub record FindsNone (Lacks : Command → ℕ → Type 0) (n : ℕ) (old new : Standing) : Type 0 where
     pub command : Command
-    pub asks : Asks talk entry command
+    pub asks : AsksCommand talk entry command
     pub accepted : IsOk (outcome old.database command)
     pub lacks : Lacks command n
     pub tells : new.tells ≡ old.tells
@@ -33,18 +33,18 @@ module _ {E : Type 0} (talk : Talk E) (entry : E) where
   -- it was carried out, and less than the reply was written
   pub record SaysLess (old new : Standing) : Type 0 where
     pub tells : new.tells ≡ old.tells
-    pub database : new.database ≡ (after talk old.database entry).0
-    pub held : WroteLess old.held new.held (talk.sent entry (text ((after talk old.database entry).1)))
+    pub database : new.database ≡ (after_entry talk old.database entry).0
+    pub held : WroteLess old.held new.held (talk.sent entry (text ((after_entry talk old.database entry).1)))
     pub reads : ReadsFew old new
 
   -- a part of the reply was written, or all
   pub record SaysPart (old new : Standing) : Type 0 where
-    pub held : WrotePart old.held new.held (talk.sent entry (text ((after talk old.database entry).1)))
+    pub held : WrotePart old.held new.held (talk.sent entry (text ((after_entry talk old.database entry).1)))
     pub reads : ReadsFew old new
 
   -- by the answer to it
   abbrev pub Answered : (Command → ℕ → Type 0) → Result Step Stop → Standing → Standing → Type 0
-  Answered Lacks (Ok (Done came)) old new = Carried talk (entry ∷ []) old new × (outcome_of ((after talk old.database entry).1) ≡ came)
+  Answered Lacks (Ok (Done came)) old new = Carried talk (entry ∷ []) old new × (outcome_of ((after_entry talk old.database entry).1) ≡ came)
   Answered Lacks (Ok (NoSpace n)) old new = FindsNone Lacks n old new
   Answered Lacks (Err Sink) old new = SaysLess old new
   Answered Lacks (Err Flash) old new = SaysPart old new

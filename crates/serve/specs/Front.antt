@@ -2,6 +2,7 @@
 use Rattle.std.specs.Prelude.{◌≡◌, ℕ, ◌≤◌, Bool, true, false, List, [], ◌∷◌, Option, Some, None}
 use Rattle.std.specs.Io.KnownBytes.{append_known}
 use Rattle.afl_base.specs.Causes.{Rose}
+use Rattle.buffered_sink.specs.Handing.{front_of}
 
 -- the byte that has not gone out yet
 abbrev pub front_bytes : Option ℕ → List ℕ
@@ -27,11 +28,14 @@ pub record Fronted : Type 0 where
 abbrev pub fronted : Option (List ℕ) → ℕ → Option ℕ → Bool → Fronted
 fronted held faults front failed = record { held = held; faults = faults; front = front; failed = failed }
 
--- some bytes more were written; where none were and no call failed, the byte has not gone out either
+-- what it holds is seen behind the byte
+abbrev pub seen : Fronted → Option (List ℕ)
+seen f = front_held f.held f.front
+
+-- only more bytes were written; where none were and no call failed, the byte has not gone out either
 pub record HoldsOn (old new : Fronted) : Type 0 where
-  pub more : List ℕ
-  pub held : front_held new.held new.front ≡ append_known (front_held old.held old.front) more
-  pub silent : new.failed ≡ false → more ≡ [] → (new.held ≡ old.held) × (new.front ≡ old.front)
+  pub held : front_of (seen old) (seen new) ≡ seen old
+  pub silent : new.failed ≡ false → seen new ≡ seen old → new.held ≡ old.held
   pub faultless : new.failed ≡ false → (old.failed ≡ false) × (new.faults ≡ old.faults)
   pub fault : old.failed ≡ false → new.failed ≡ true → Rose old.faults new.faults
   pub later : old.faults ≤ new.faults

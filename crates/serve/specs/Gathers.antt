@@ -18,10 +18,10 @@ abbrev pub opened_escape : ℕ → Option Opened → Option Opened
 opened_escape b rest = if b == 220 then option_map (with_front 192) rest else (if b == 221 then option_map (with_front 219) rest else None)
 
 -- None where an escape is broken
-abbrev pub opened : List ℕ → Option Opened
-opened [] = Some (record { bytes = []; escaped = false })
-opened (b ∷ []) = if b == 219 then Some (record { bytes = []; escaped = true }) else Some (record { bytes = b ∷ []; escaped = false })
-opened (b ∷ c ∷ bytes) = if b == 219 then opened_escape c (opened bytes) else option_map (with_front b) (opened (c ∷ bytes))
+abbrev pub escape_opened : List ℕ → Option Opened
+escape_opened [] = Some (record { bytes = []; escaped = false })
+escape_opened (b ∷ []) = if b == 219 then Some (record { bytes = []; escaped = true }) else Some (record { bytes = b ∷ []; escaped = false })
+escape_opened (b ∷ c ∷ bytes) = if b == 219 then opened_escape c (escape_opened bytes) else option_map (with_front b) (escape_opened (c ∷ bytes))
 
 -- one byte more
 abbrev pub one_more : ℕ → Opened → Option Opened
@@ -45,20 +45,20 @@ pub record Decoding : Type 0 where
   pub begun : Bool
 
 -- of a part so far a decoder holds these
-abbrev pub Keeps : Option Opened → List ℕ → Bool → Bool → Bool → Type 0
-Keeps None bytes long escaped broken = broken ≡ true
-Keeps (Some o) bytes long escaped broken = (broken ≡ false) × (escaped ≡ o.escaped) × (bytes ≡ take 513 o.bytes) × (long ≡ nat_lt 513 (length o.bytes))
+abbrev pub HoldsPart : Option Opened → List ℕ → Bool → Bool → Bool → Type 0
+HoldsPart None bytes long escaped broken = broken ≡ true
+HoldsPart (Some o) bytes long escaped broken = (broken ≡ false) × (escaped ≡ o.escaped) × (bytes ≡ take 513 o.bytes) × (long ≡ nat_lt 513 (length o.bytes))
 
 abbrev pub KeepsPart : List ℕ → Decoding → Type 0
-KeepsPart part d = Keeps (opened part) d.bytes d.long d.escaped d.broken
+KeepsPart part d = HoldsPart (escape_opened part) d.bytes d.long d.escaped d.broken
 
 abbrev pub GathersBy : Bool → List ℕ → Decoding → Type 0
 GathersBy true part d = (0 < length part) × KeepsPart part d
 GathersBy false part d = part ≡ []
 
 -- the bytes since the last END are this part
-abbrev pub Gathers : List ℕ → Decoding → Type 0
-Gathers part d = GathersBy d.begun part d
+abbrev pub GathersPart : List ℕ → Decoding → Type 0
+GathersPart part d = GathersBy d.begun part d
 
 -- ---- what a byte ends
 

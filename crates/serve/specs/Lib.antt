@@ -1,5 +1,4 @@
 pub mod Answered
 pub mod Front
 pub mod Gathers
-pub mod Holding
 pub mod Input

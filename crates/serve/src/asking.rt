@@ -4,25 +4,28 @@
 
 ghost use Rattle.std.specs.Prelude.{◌≡◌, ◌≤◌, false, true, ℕ, List, Result, Ok, Some, IsErrOf, IsTrue, OnOk, length};
 ghost use Rattle.answering.specs.Carried.{LacksPages, standing_of};
-ghost use Rattle.antelope_engine.specs.Seen.{OnNoSpace};
+ghost use Rattle.antelope_engine.specs.Seen.{WhereNoSpace};
 ghost use Rattle.db_model.specs.declared.commands.Command.{Command as AnyCommand};
 ghost use Rattle.db_model.specs.declared.refusals.Refusal.{Refusal as AnyRefusal};
 ghost use Rattle.db_model.specs.Cond.{IsCondition};
 ghost use Rattle.db_model.specs.Reading.{IsReader};
 ghost use Rattle.db_model.specs.Spelling.{nodes_of};
 ghost use Rattle.serve.specs.Answered.{Answered};
+ghost use Rattle.serve.specs.Front.{fronted};
 ghost use Rattle.serve_model.specs.Frames.{Asked, is_client};
 ghost use Rattle.serve_model.specs.Served.{heard, serve_talk};
 ghost use Rattle.session_model.specs.declared.step.Stop.TheVariants.{Flash};
+ghost use Rattle.session_model.specs.Carried.{ChangesAndSends};
 ghost use Rattle.session_model.specs.Steps.{HasStopCause};
 
-use crate::framed::Framed;
+use crate::framed::{Begun, Framed};
 use crate::hearing::hear;
 use crate::replies::refuse;
 use afl_base::{Failed, Files, Sink};
 use antelope_engine::{Outcome, Session, Step, Stop};
 use aql_parse::Parser;
 use db_model::Command;
+use std::marker::{Brand, PhantomData};
 
 /// Carries out what a client asks for in these bytes, which are read into `command`, and writes the reply
 /// frame; where there is no space, nothing is written and nothing is changed.
@@ -48,15 +51,12 @@ pub fn answer<V: Files, K: Sink>(
         (LacksPages V.state V.asks V.lacks session.new) result
         (standing_of V.state V.reads session.old (K.held out.old))
         (standing_of V.state V.reads session.new (K.held out.new)) }
-    ensures silent { OnNoSpace result (λ need. K.held out.new ≡ K.held out.old) }
-    ensures lacks { OnNoSpace result (λ need. V.lacks session.new.files need) }
+    ensures silent { WhereNoSpace result (λ need. K.held out.new ≡ K.held out.old) }
+    ensures lacks { WhereNoSpace result (λ need. V.lacks session.new.files need) }
     ensures running { OnOk result (session.new.stopped ≡ false) }
     ensures lost { session.old.lost ≡ false → session.new.lost ≡ true → IsErrOf result Flash }
-    ensures store { length (V.state session.new.files).store ≡ length (V.state session.old.files).store }
-    ensures keeps { K.keeps out.old out.new }
-    ensures faultless { OnOk result (K.faults out.new ≡ K.faults out.old) }
-    ensures cause { HasStopCause (V.faults session.old.files) (V.faults session.new.files)
-        (K.faults out.old) (K.faults out.new) result }
+    ensures frame { ChangesAndSends V.Files K.Sink session.old.files session.new.files
+        out.old out.new result }
 {
     match hear(parser, client, bytes, command) {
         Ok(()) => match reply(session, client, command, out) {
@@ -86,58 +86,51 @@ fn reply<V: Files, K: Sink>(
         (LacksPages V.state V.asks V.lacks session.new) result
         (standing_of V.state V.reads session.old (K.held out.old))
         (standing_of V.state V.reads session.new (K.held out.new)) }
-    ensures silent { OnNoSpace result (λ need. K.held out.new ≡ K.held out.old) }
-    ensures lacks { OnNoSpace result (λ need. V.lacks session.new.files need) }
+    ensures silent { WhereNoSpace result (λ need. K.held out.new ≡ K.held out.old) }
+    ensures lacks { WhereNoSpace result (λ need. V.lacks session.new.files need) }
     ensures running { OnOk result (session.new.stopped ≡ false) }
     ensures lost { session.old.lost ≡ false → session.new.lost ≡ true → IsErrOf result Flash }
-    ensures store { length (V.state session.new.files).store ≡ length (V.state session.old.files).store }
-    ensures keeps { K.keeps out.old out.new }
-    ensures faultless { OnOk result (K.faults out.new ≡ K.faults out.old) }
-    ensures cause { HasStopCause (V.faults session.old.files) (V.faults session.new.files)
-        (K.faults out.old) (K.faults out.new) result }
+    ensures frame { ChangesAndSends V.Files K.Sink session.old.files session.new.files
+        out.old out.new result }
 {
-    let mut framed = Framed {
-        out,
-        front: Some(client),
-        failed: false,
-    };
-    match reply_framed(session, client, command, &mut framed) {
+    match reply_since::<V, K, Brand>(session, client, command, out) {
         Ok(step) => Ok(step),
         Err(stop) => Err(stop),
     }
 }
 
-// The same through the sink that puts the client first.
+// The same through the sink that puts the client first, from now on.
 #[tactic(auto, using(answering::proofs::WellFormed::well_formed))]
-fn reply_framed<'a, V: Files, K: Sink>(
+fn reply_since<V: Files, K: Sink, B: Begun>(
     session: &mut Session<V>,
     client: u8,
     command: &Command,
-    framed: &mut Framed<'a, K>,
+    out: &mut K,
 ) -> Result<Step, Stop>
+    requires begun { B.start ≡ Some (fronted (K.held out.old) (K.faults out.old) (Some client) false) }
     requires running { session.old.stopped ≡ false }
     requires condition { IsCondition (nodes_of command.now) }
-    requires front { framed.old.front ≡ Some client }
-    requires fine { framed.old.failed ≡ false }
     ensures answered { IsTrue (V.state session.old.files).tells
         → (read : List ℕ → Result AnyCommand AnyRefusal) (bytes : List ℕ)
         → heard read (Asked client bytes) ≡ Ok command.now
         → Answered (serve_talk read) (Asked client bytes)
         (LacksPages V.state V.asks V.lacks session.new) result
-        (standing_of V.state V.reads session.old (K.held framed.old.out.now))
-        (standing_of V.state V.reads session.new (K.held framed.new.out.now)) }
-    ensures silent { OnNoSpace result (λ need. K.held framed.new.out.now ≡ K.held framed.old.out.now) }
-    ensures lacks { OnNoSpace result (λ need. V.lacks session.new.files need) }
+        (standing_of V.state V.reads session.old (K.held out.old))
+        (standing_of V.state V.reads session.new (K.held out.new)) }
+    ensures silent { WhereNoSpace result (λ need. K.held out.new ≡ K.held out.old) }
+    ensures lacks { WhereNoSpace result (λ need. V.lacks session.new.files need) }
     ensures running { OnOk result (session.new.stopped ≡ false) }
     ensures lost { session.old.lost ≡ false → session.new.lost ≡ true → IsErrOf result Flash }
-    ensures store { length (V.state session.new.files).store ≡ length (V.state session.old.files).store }
-    ensures out { framed.new.out.ghost_name ≡ framed.old.out.ghost_name }
-    ensures keeps { K.keeps framed.old.out.now framed.new.out.now }
-    ensures faultless { OnOk result (K.faults framed.new.out.now ≡ K.faults framed.old.out.now) }
-    ensures cause { HasStopCause (V.faults session.old.files) (V.faults session.new.files)
-        (K.faults framed.old.out.now) (K.faults framed.new.out.now) result }
+    ensures frame { ChangesAndSends V.Files K.Sink session.old.files session.new.files
+        out.old out.new result }
 {
-    match session.exec(command, framed) {
+    let mut framed = Framed {
+        out,
+        front: Some(client),
+        failed: false,
+        begun: PhantomData::<B>,
+    };
+    match session.exec(command, &mut framed) {
         Ok(Step::Done(outcome)) => match framed.finish() {
             Ok(()) => Ok(Step::Done(outcome)),
             Err(Failed) => Err(Stop::Sink),

@@ -3,7 +3,7 @@
 #![tactic(auto)]
 
 ghost use Rattle.std.specs.Prelude.{◌≡◌, ◌≤◌, ◌∷◌, [], false, true, ℕ, List, Result, IfErr, IsErrOf, IsTrue, OnOk, length};
-ghost use Rattle.answering.specs.Carried.{Carried, HaltsIn, HasHaltCause, LacksPages, standing_of};
+ghost use Rattle.answering.specs.Carried.{Carried, HaltsIn, ChangesOrHalts, LacksPages, standing_of};
 ghost use Rattle.db_model.specs.declared.commands.Command.{Command as AnyCommand};
 ghost use Rattle.db_model.specs.declared.refusals.Refusal.{Refusal as AnyRefusal};
 ghost use Rattle.db_model.specs.Reading.{IsReader};
@@ -42,10 +42,8 @@ pub fn carry_out<V: Files, K: Sink>(
         (standing_of V.state V.reads session.new (K.held out.new)) halt) }
     ensures running { OnOk result (session.new.stopped ≡ false) }
     ensures lost { session.old.lost ≡ false → session.new.lost ≡ true → IsErrOf result Halt.Flash }
-    ensures store { length (V.state session.new.files).store ≡ length (V.state session.old.files).store }
-    ensures keeps { K.keeps out.old out.new }
-    ensures cause { HasHaltCause (V.faults session.old.files) (V.faults session.new.files)
-        (K.faults out.old) (K.faults out.new) result }
+    ensures frame { ChangesOrHalts V.Files K.Sink session.old.files session.new.files
+        out.old out.new result }
 {
     match answer(session, parser, command, client, bytes, out) {
         Ok(Step::Done(_)) => Ok(()),

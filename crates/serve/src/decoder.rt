@@ -3,8 +3,8 @@
 #![tactic(auto)]
 
 ghost use Rattle.std.specs.Prelude.{◌≡◌, ◌≤◌, ◌<◌, ℕ, Bool, false, true, not, List, [], ◌∷◌, ◌++◌, length, take, nat_lt, Option, Some, None, option_and_then};
-ghost use Rattle.serve_model.specs.Frames.{Frame, decoded, ended_by, frame_from, frame_of, is_client, part_behind};
-ghost use Rattle.serve.specs.Gathers.{Decoding, Gathers, HasFrame, Keeps, KeepsPart, Opened, client_in, command_in, one_more, opened, told};
+ghost use Rattle.serve_model.specs.Frames.{Frame, decoded, ended_frames, frame_from, frame_of, is_client, part_behind};
+ghost use Rattle.serve.specs.Gathers.{Decoding, GathersPart, HasFrame, HoldsPart, KeepsPart, Opened, client_in, command_in, one_more, escape_opened, told};
 
 use crate::fed::Fed;
 use crate::replies::END;
@@ -39,7 +39,7 @@ impl Model for Decoder {
 impl Decoder {
     /// A decoder of which no byte has come.
     pub fn new() -> Decoder
-        ensures { Gathers [] result }
+        ensures { GathersPart [] result }
     {
         Decoder {
             bytes: ArrayVec::new(),
@@ -53,8 +53,8 @@ impl Decoder {
     /// Takes one byte. `More` comes exactly where no frame that is not empty ends at it, and else what the
     /// frame is.
     pub fn feed(&mut self, byte: u8) -> Fed
-        ensures frames { (part : List ℕ) → Gathers part self.old → ended_by part (byte ∷ []) ≡ told result self.new }
-        ensures part { (part : List ℕ) → Gathers part self.old → Gathers (part_behind part (byte ∷ [])) self.new }
+        ensures frames { (part : List ℕ) → GathersPart part self.old → ended_frames part (byte ∷ []) ≡ told result self.new }
+        ensures part { (part : List ℕ) → GathersPart part self.old → GathersPart (part_behind part (byte ∷ [])) self.new }
         ensures frame { result ≡ Fed.Frame → HasFrame self.new }
     {
         if byte == END {
@@ -71,7 +71,7 @@ impl Decoder {
 
     /// Whether bytes of a frame have come that has not ended.
     pub fn is_begun(&self) -> bool
-        ensures { (part : List ℕ) → Gathers part self.now → result ≡ nat_lt 0 (length part) }
+        ensures { (part : List ℕ) → GathersPart part self.now → result ≡ nat_lt 0 (length part) }
     {
         self.begun
     }
@@ -109,8 +109,8 @@ impl Decoder {
     // A byte of the part that is no END.
     fn push(&mut self, byte: u8)
         ensures kept { (o : Option Opened)
-            → Keeps o self.old.bytes self.old.long self.old.escaped self.old.broken
-            → Keeps (option_and_then (one_more byte) o) self.new.bytes self.new.long self.new.escaped self.new.broken }
+            → HoldsPart o self.old.bytes self.old.long self.old.escaped self.old.broken
+            → HoldsPart (option_and_then (one_more byte) o) self.new.bytes self.new.long self.new.escaped self.new.broken }
         ensures begun { self.new.begun ≡ self.old.begun }
     {
         if self.broken {
@@ -155,8 +155,8 @@ impl Decoder {
 
     // The part ends.
     fn end(&mut self) -> Fed
-        ensures frames { (part : List ℕ) → Gathers part self.old → frame_of part ≡ told result self.new }
-        ensures part { Gathers [] self.new }
+        ensures frames { (part : List ℕ) → GathersPart part self.old → frame_of part ≡ told result self.new }
+        ensures part { GathersPart [] self.new }
         ensures frame { result ≡ Fed.Frame → HasFrame self.new }
     {
         if !self.begun {

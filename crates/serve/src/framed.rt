@@ -2,27 +2,49 @@
 
 #![tactic(auto)]
 
-ghost use Rattle.std.specs.Prelude.{◌≡◌, ◌⊎◌, ◌∷◌, [], true, None, OnErr, OnOk};
+ghost use Rattle.std.specs.Prelude.{◌≡◌, ◌⊎◌, ◌∷◌, [], true, None, Some, OnErr, OnOk};
 ghost use Rattle.std.specs.Io.KnownBytes.{append_known};
+ghost use Rattle.afl_base.specs.Keeping.{Sends};
 ghost use Rattle.afl_base.specs.Causes.{HasCause};
-ghost use Rattle.serve.specs.Front.{front_held};
+ghost use Rattle.serve.specs.Front.{Fronted, HoldsOn, front_held, fronted};
 
 use crate::replies::END;
 use afl_base::{Failed, Sink};
+use std::marker::{Brand, PhantomData};
+
+/// A time that proofs speak of.
+pub trait Begun {
+    ghost use Rattle.std.specs.Prelude.{Option};
+    ghost use Rattle.serve.specs.Front.{Fronted};
+
+    // How a sink stood then, where it is known which one is meant.
+    ghost start: { Option Fronted };
+}
+
+impl Begun for Brand {
+    ghost use Rattle.std.specs.Prelude.{None};
+
+    ghost start = { None };
+}
 
 /// Stands before a sink: a byte goes out with the first byte of what is written. As a sink it holds that
 /// byte from the start, and it has its own count of faults.
 #[derive(Drop)]
-pub struct Framed<'a, K: Sink> {
+pub struct Framed<'a, K: Sink, B: Begun> {
     /// The sink behind it.
     pub out: &'a mut K,
     /// The byte, until it has gone out.
     pub front: Option<u8>,
     /// Whether a call of the sink behind it failed.
     pub failed: bool,
+    /// The time from which on it stands there.
+    pub begun: PhantomData<B>,
+
+    pub ghost on: { (start : Fronted) → B.start ≡ Some start
+        → HoldsOn start (fronted (K.held out.now) (K.faults out.now) front failed) },
 }
 
-impl<'a, K: Sink> Framed<'a, K> {
+impl<'a, K: Sink, B: Begun> Framed<'a, K, B> {
     /// The byte goes out, where it has not yet, and then END.
     pub fn finish(&mut self) -> Result<(), Failed>
         ensures written { OnOk result (K.held self.new.out.now
@@ -30,42 +52,18 @@ impl<'a, K: Sink> Framed<'a, K> {
         ensures failed { OnErr result ((K.held self.new.out.now ≡ K.held self.old.out.now)
             ⊎ (K.held self.new.out.now ≡ front_held (K.held self.old.out.now) self.old.front)) }
         ensures faultless { OnOk result (K.faults self.new.out.now ≡ K.faults self.old.out.now) }
-        ensures out { self.new.out.ghost_name ≡ self.old.out.ghost_name }
-        ensures keeps { K.keeps self.old.out.now self.new.out.now }
+        ensures lent { ⟦<Self as Sink>⟧.lent self.new ≡ ⟦<Self as Sink>⟧.lent self.old }
         ensures cause { HasCause (K.faults self.old.out.now) (K.faults self.new.out.now) result }
     {
-        match self.send_front() {
-            Ok(()) => {}
-            Err(Failed) => return Err(Failed),
+        match send_front(self.out, self.front) {
+            Ok(()) => self.front = None,
+            Err(Failed) => {
+                self.failed = true;
+                return Err(Failed);
+            }
         }
         match self.out.write(&[END]) {
             Ok(_) => Ok(()),
-            Err(Failed) => Err(Failed),
-        }
-    }
-
-    // The byte goes out, where it has not yet.
-    fn send_front(&mut self) -> Result<(), Failed>
-        ensures sent { OnOk result
-            (K.held self.new.out.now ≡ front_held (K.held self.old.out.now) self.old.front) }
-        ensures gone { OnOk result (self.new.front ≡ None) }
-        ensures faultless { OnOk result (K.faults self.new.out.now ≡ K.faults self.old.out.now) }
-        ensures fine { OnOk result (self.new.failed ≡ self.old.failed) }
-        ensures held { OnErr result (K.held self.new.out.now ≡ K.held self.old.out.now) }
-        ensures stays { OnErr result (self.new.front ≡ self.old.front) }
-        ensures failed { OnErr result (self.new.failed ≡ true) }
-        ensures out { self.new.out.ghost_name ≡ self.old.out.ghost_name }
-        ensures keeps { K.keeps self.old.out.now self.new.out.now }
-        ensures cause { HasCause (K.faults self.old.out.now) (K.faults self.new.out.now) result }
-    {
-        let Some(byte) = self.front else {
-            return Ok(());
-        };
-        match self.out.write(&[byte]) {
-            Ok(_) => {
-                self.front = None;
-                Ok(())
-            }
             Err(Failed) => {
                 self.failed = true;
                 Err(Failed)
@@ -74,24 +72,38 @@ impl<'a, K: Sink> Framed<'a, K> {
     }
 }
 
-impl<'a, K: Sink> Sink for Framed<'a, K> {
-    ghost use Rattle.std.specs.Prelude.{◌≡◌};
-    ghost use Rattle.std.proofs.Common.{refl, ◌∙◌};
-    ghost use Rattle.serve.specs.Front.{HoldsOn, front_faults, front_held, fronted};
-    ghost use Rattle.serve.specs.Holding.{held_on, held_on_on};
+// The byte goes out, where it has not yet.
+fn send_front<K: Sink>(out: &mut K, front: Option<u8>) -> Result<(), Failed>
+    ensures sent { OnOk result (K.held out.new ≡ front_held (K.held out.old) front) }
+    ensures held { OnErr result (K.held out.new ≡ K.held out.old) }
+    ensures frame { Sends K.lent K.faults out.old out.new result }
+{
+    let Some(byte) = front else {
+        return Ok(());
+    };
+    match out.write(&[byte]) {
+        Ok(_) => Ok(()),
+        Err(Failed) => Err(Failed),
+    }
+}
+
+impl<'a, K: Sink, B: Begun> Sink for Framed<'a, K, B> {
+    ghost use Rattle.std.specs.Prelude.{◌∷◌};
+    ghost use Rattle.serve.specs.Front.{front_faults, front_held};
 
     ghost held = { λ s. front_held (K.held s.out.now) s.front };
 
     ghost faults = { λ s. front_faults s.failed };
 
-    ghost keeps = { λ a b. (b.out.ghost_name ≡ a.out.ghost_name) × K.keeps a.out.now b.out.now
-        × HoldsOn (fronted (K.held a.out.now) (K.faults a.out.now) a.front a.failed)
-        (fronted (K.held b.out.now) (K.faults b.out.now) b.front b.failed) };
+    ghost lent = { λ s. s.out.ghost_name ∷ K.lent s.out.now };
 
     fn write(&mut self, bytes: &[u8]) -> Result<usize, Failed> {
-        match self.send_front() {
-            Ok(()) => {}
-            Err(Failed) => return Err(Failed),
+        match send_front(self.out, self.front) {
+            Ok(()) => self.front = None,
+            Err(Failed) => {
+                self.failed = true;
+                return Err(Failed);
+            }
         }
         match self.out.write(bytes) {
             Ok(taken) => Ok(taken),
@@ -101,18 +113,4 @@ impl<'a, K: Sink> Sink for Framed<'a, K> {
             }
         }
     }
-
-    ghost kept = { λ a. (
-      refl,
-      K.kept a.out.now,
-      held_on (fronted (K.held a.out.now) (K.faults a.out.now) a.front a.failed),
-    ) };
-
-    ghost kept_on = { λ a b c e f. (
-      f.0 ∙ e.0,
-      K.kept_on a.out.now b.out.now c.out.now e.1 f.1,
-      held_on_on (fronted (K.held a.out.now) (K.faults a.out.now) a.front a.failed)
-          (fronted (K.held b.out.now) (K.faults b.out.now) b.front b.failed)
-          (fronted (K.held c.out.now) (K.faults c.out.now) c.front c.failed) e.2 f.2,
-    ) };
 }

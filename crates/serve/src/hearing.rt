@@ -10,7 +10,7 @@ ghost use Rattle.db_model.specs.Cond.{IsCondition};
 ghost use Rattle.db_model.specs.Reading.{IsReader};
 ghost use Rattle.db_model.specs.Spelling.{nodes_of};
 ghost use Rattle.serve_model.specs.Frames.{Asked};
-ghost use Rattle.serve_model.specs.Served.{heard, numbered, own_cursor};
+ghost use Rattle.serve_model.specs.Served.{heard, numbered_cursor, own_cursor};
 
 use aql_parse::{Parser, readings_are_unique};
 use db_model::{Command, Refusal};
@@ -61,7 +61,7 @@ fn own_cursor(client: u8, command: &mut Command) -> Result<(), Refusal>
 }
 
 fn own(client: u8, number: &mut i64) -> Result<(), Refusal>
-    ensures { (made : ℤ → AnyCommand) → numbered client number.old made ≡ read_as result (made number.new) }
+    ensures { (made : ℤ → AnyCommand) → numbered_cursor client number.old made ≡ read_as result (made number.new) }
 {
     if *number != 1 {
         return Err(Refusal::NoCursor);

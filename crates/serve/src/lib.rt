@@ -14,6 +14,6 @@ mod whole;
 pub use asking::answer;
 pub use decoder::Decoder;
 pub use fed::Fed;
-pub use framed::Framed;
+pub use framed::{Begun, Framed};
 pub use serving::Server;
 pub use whole::serve_line;

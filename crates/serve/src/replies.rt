@@ -3,6 +3,7 @@
 #![tactic(auto)]
 
 ghost use Rattle.std.specs.Prelude.{◌≡◌, ◌∷◌, ◌++◌, [], OnErr, OnOk};
+ghost use Rattle.afl_base.specs.Keeping.{Sends};
 ghost use Rattle.std.specs.Io.KnownBytes.{append_known};
 ghost use Rattle.afl_base.specs.Causes.{HasCause};
 ghost use Rattle.db_model.specs.ReplyText.{refusal_text};
@@ -21,9 +22,7 @@ pub fn refuse<K: Sink>(out: &mut K, client: u8, refusal: &Refusal) -> Result<(),
         ≡ append_known (K.held out.old) (client ∷ refusal_text refusal.now ++ 192 ∷ [])) }
     ensures failed { OnErr result (WroteLess (K.held out.old) (K.held out.new)
         (client ∷ refusal_text refusal.now ++ 192 ∷ [])) }
-    ensures keeps { K.keeps out.old out.new }
-    ensures faultless { OnOk result (K.faults out.new ≡ K.faults out.old) }
-    ensures cause { HasCause (K.faults out.old) (K.faults out.new) result }
+    ensures frame { Sends K.lent K.faults out.old out.new result }
 {
     match write_all(out, &[client]) {
         Ok(()) => {}

@@ -3,13 +3,13 @@
 #![tactic(auto)]
 
 ghost use Rattle.std.specs.Prelude.{◌≡◌, ◌⊎◌, ◌≤◌, ◌∷◌, [], false, true, ℕ, List, Result, IfErr, IsErrOf, IsTrue, OnOk, length};
-ghost use Rattle.answering.specs.Carried.{Carried, HaltsIn, HasHaltCause, LacksPages, standing_of};
-ghost use Rattle.answering.specs.Taking.{EndsInput, HaltsAtLast, HaltsInBytes, HasOne, TakesBytes, running, saying};
+ghost use Rattle.answering.specs.Carried.{Carried, ChangesOrHalts, HaltsIn, HasHaltCause, LacksPages, standing_of};
+ghost use Rattle.answering.specs.Taking.{EndsInput, HaltsAtLast, HaltsInBytes, HasOne, TakesBytes, running};
 ghost use Rattle.db_model.specs.declared.commands.Command.{Command as AnyCommand};
 ghost use Rattle.db_model.specs.declared.refusals.Refusal.{Refusal as AnyRefusal};
 ghost use Rattle.db_model.specs.Reading.{IsReader};
 ghost use Rattle.intake.specs.declared.halt.Halt.TheVariants as Halt;
-ghost use Rattle.serve.specs.Gathers.{Gathers, HasFrame, told};
+ghost use Rattle.serve.specs.Gathers.{GathersPart, HasFrame, told};
 ghost use Rattle.serve.specs.Input.{frame_input};
 ghost use Rattle.serve_model.specs.Frames.{Frame, frame_cut};
 ghost use Rattle.serve_model.specs.Served.{serve_talk};
@@ -39,24 +39,24 @@ impl<'a, V: Files> Taker for Server<'a, V> {
     ghost use Rattle.std.proofs.Common.{refl, ◌∙◌};
     ghost use Rattle.answering.proofs.SentReplies.{sent_behind, sent_reply};
     ghost use Rattle.answering.proofs.Taken.{halted_before, halted_behind, taken_more, taken_none};
-    ghost use Rattle.answering.specs.Taking.{EndsInput, HaltsAtLast, HaltsInBytes, HasOne, TakesBytes, running, saying};
+    ghost use Rattle.answering.specs.Taking.{EndsInput, HaltsAtLast, HaltsInBytes, HasOne, TakesBytes, running};
     ghost use Rattle.serve.specs.Input.{frame_input, frame_some};
     ghost use Rattle.serve_model.proofs.Ending.{frame_parts};
     ghost use Rattle.serve_model.specs.Frames.{frame_cut, frame_line};
 
-    ghost Takes = { λ a came b. TakesBytes frame_input (saying V.state V.reads V.faults V.asks V.lacks)
+    ghost Takes = { λ a came b. TakesBytes frame_input V.Files
         (running a.0.session.now a.0.decoder a.1.held a.1.faults) came
         (running b.0.session.now b.0.decoder b.1.held b.1.faults) };
 
-    ghost Ends = { λ a b. EndsInput frame_input (saying V.state V.reads V.faults V.asks V.lacks)
+    ghost Ends = { λ a b. EndsInput frame_input V.Files
         (running a.0.session.now a.0.decoder a.1.held a.1.faults)
         (running b.0.session.now b.0.decoder b.1.held b.1.faults) };
 
-    ghost Halts = { λ a came b halt. HaltsInBytes frame_input (saying V.state V.reads V.faults V.asks V.lacks)
+    ghost Halts = { λ a came b halt. HaltsInBytes frame_input V.Files
         (running a.0.session.now a.0.decoder a.1.held a.1.faults) came
         (running b.0.session.now b.0.decoder b.1.held b.1.faults) halt };
 
-    ghost HaltsAtEnd = { λ a b halt. HaltsAtLast frame_input (saying V.state V.reads V.faults V.asks V.lacks)
+    ghost HaltsAtEnd = { λ a b halt. HaltsAtLast frame_input V.Files
         (running a.0.session.now a.0.decoder a.1.held a.1.faults)
         (running b.0.session.now b.0.decoder b.1.held b.1.faults) halt };
 
@@ -85,31 +85,31 @@ impl<'a, V: Files> Taker for Server<'a, V> {
 
     ghost stayed_on = { λ a b c e f. f ∙ e };
 
-    ghost none = { λ a. taken_none frame_input (saying V.state V.reads V.faults V.asks V.lacks) frame_line frame_parts
+    ghost none = { λ a. taken_none frame_input V.Files frame_line frame_parts
         (running a.0.session.now a.0.decoder a.1.held a.1.faults) };
 
     ghost more = { λ a b c xs ys e f.
-        taken_more frame_input (saying V.state V.reads V.faults V.asks V.lacks) frame_line frame_parts
+        taken_more frame_input V.Files frame_line frame_parts
         (running a.0.session.now a.0.decoder a.1.held a.1.faults) (running b.0.session.now b.0.decoder b.1.held b.1.faults)
         (running c.0.session.now c.0.decoder c.1.held c.1.faults) xs ys e f };
 
     ghost halts_behind = { λ a b c xs ys halt e f.
-        halted_behind frame_input (saying V.state V.reads V.faults V.asks V.lacks) frame_line frame_parts
+        halted_behind frame_input V.Files frame_line frame_parts
         (running a.0.session.now a.0.decoder a.1.held a.1.faults) (running b.0.session.now b.0.decoder b.1.held b.1.faults)
         (running c.0.session.now c.0.decoder c.1.held c.1.faults) xs ys halt e f };
 
     ghost halts_before = { λ a b xs ys halt e.
-        halted_before frame_input (saying V.state V.reads V.faults V.asks V.lacks) frame_line frame_parts
+        halted_before frame_input V.Files frame_line frame_parts
         (running a.0.session.now a.0.decoder a.1.held a.1.faults) (running b.0.session.now b.0.decoder b.1.held b.1.faults)
         xs ys halt e };
 
     ghost sent = { λ a b now byte answered halt one takes halts went later sent.
-        sent_behind frame_input (saying V.state V.reads V.faults V.asks V.lacks) frame_some
+        sent_behind frame_input V.Files frame_some
         (running a.0.session.now a.0.decoder a.1.held a.1.faults) (running b.0.session.now b.0.decoder b.1.held b.1.faults)
         now.held now.faults (byte ∷ []) answered halt one takes halts went later sent };
 
     ghost sent_at_end = { λ a b now answered halt one ends halts went later sent.
-        sent_reply frame_input (saying V.state V.reads V.faults V.asks V.lacks) frame_some
+        sent_reply frame_input V.Files frame_some
         (running a.0.session.now a.0.decoder a.1.held a.1.faults) (running b.0.session.now b.0.decoder b.1.held b.1.faults)
         now.held now.faults frame_cut.left one went later answered halt ends halts sent };
 }
@@ -123,14 +123,14 @@ fn take_byte<V: Files, K: Sink>(
     out: &mut K,
     byte: u8,
 ) -> Result<(), Halt>
-    ensures takes { OnOk result (TakesBytes frame_input (saying V.state V.reads V.faults V.asks V.lacks)
+    ensures takes { OnOk result (TakesBytes frame_input V.Files
         (running session.old decoder.old (K.held out.old) (K.faults out.old)) (byte ∷ [])
         (running session.new decoder.new (K.held out.new) (K.faults out.new))) }
-    ensures halts { IfErr result (λ halt. HaltsInBytes frame_input (saying V.state V.reads V.faults V.asks V.lacks)
+    ensures halts { IfErr result (λ halt. HaltsInBytes frame_input V.Files
         (running session.old decoder.old (K.held out.old) (K.faults out.old)) (byte ∷ [])
         (running session.new decoder.new (K.held out.new) (K.faults out.new)) halt) }
     ensures silent { (out.new ≡ out.old) ⊎ HasOne frame_input decoder.old (λ q. frame_cut.ended q (byte ∷ [])) }
-    ensures keeps { K.keeps out.old out.new }
+    ensures lent { K.lent out.new ≡ K.lent out.old }
 {
     if session.is_stopped() {
         return Err(Halt::Flash);
@@ -148,14 +148,14 @@ fn take_end<V: Files, K: Sink>(
     decoder: &Decoder,
     out: &mut K,
 ) -> Result<(), Halt>
-    ensures ends { OnOk result (EndsInput frame_input (saying V.state V.reads V.faults V.asks V.lacks)
+    ensures ends { OnOk result (EndsInput frame_input V.Files
         (running session.old decoder.now (K.held out.old) (K.faults out.old))
         (running session.new decoder.now (K.held out.new) (K.faults out.new))) }
-    ensures halts { IfErr result (λ halt. HaltsAtLast frame_input (saying V.state V.reads V.faults V.asks V.lacks)
+    ensures halts { IfErr result (λ halt. HaltsAtLast frame_input V.Files
         (running session.old decoder.now (K.held out.old) (K.faults out.old))
         (running session.new decoder.now (K.held out.new) (K.faults out.new)) halt) }
     ensures silent { (out.new ≡ out.old) ⊎ HasOne frame_input decoder.now (λ q. frame_cut.left q) }
-    ensures keeps { K.keeps out.old out.new }
+    ensures lent { K.lent out.new ≡ K.lent out.old }
 {
     if session.is_stopped() {
         return Err(Halt::Flash);
@@ -191,11 +191,9 @@ fn answer_fed<V: Files, K: Sink>(
         (standing_of V.state V.reads session.new (K.held out.new)) halt) }
     ensures running { OnOk result (session.new.stopped ≡ false) }
     ensures lost { session.old.lost ≡ false → session.new.lost ≡ true → IsErrOf result Halt.Flash }
-    ensures store { length (V.state session.new.files).store ≡ length (V.state session.old.files).store }
     ensures silent { (out.new ≡ out.old) ⊎ ((frame : Frame) × (told fed decoder.now ≡ frame ∷ [])) }
-    ensures keeps { K.keeps out.old out.new }
-    ensures cause { HasHaltCause (V.faults session.old.files) (V.faults session.new.files)
-        (K.faults out.old) (K.faults out.new) result }
+    ensures frame { ChangesOrHalts V.Files K.Sink session.old.files session.new.files
+        out.old out.new result }
 {
     match fed {
         Fed::More => Ok(()),

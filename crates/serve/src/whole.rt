@@ -10,7 +10,7 @@ ghost use Rattle.db_model.specs.declared.refusals.Refusal.{Refusal as AnyRefusal
 ghost use Rattle.db_model.specs.Reading.{IsReader};
 ghost use Rattle.intake.specs.declared.halt.Halt.TheVariants as Halt;
 ghost use Rattle.intake.specs.declared.halt.Stop.TheVariants as Stop;
-ghost use Rattle.serve.specs.Gathers.{Gathers};
+ghost use Rattle.serve.specs.Gathers.{GathersPart};
 ghost use Rattle.serve_model.specs.Frames.{frame_line};
 ghost use Rattle.serve_model.specs.Served.{serve_talk};
 
@@ -39,7 +39,8 @@ pub fn serve_line<V: Files, S: Source, K: Sink>(
     ensures reaches { Reaches result (S.left line.old) (S.left line.new) }
     ensures lost { session.old.lost ≡ false → session.new.lost ≡ true → result ≡ Err (Stop.Halted Halt.Flash) }
     ensures store { length (V.state session.new.files).store ≡ length (V.state session.old.files).store }
-    ensures keeps { K.keeps out.old out.new }
+    ensures borrows { V.lent session.new.files ≡ V.lent session.old.files }
+    ensures lent { K.lent out.new ≡ K.lent out.old }
     ensures cause { HasRunCause (S.faults line.old) (S.faults line.new)
         (V.faults session.old.files) (V.faults session.new.files) (K.faults out.old) (K.faults out.new) result }
 {
@@ -59,7 +60,7 @@ fn serve_through<'a, V: Files, S: Source, K: Sink>(
     out: &mut K,
 ) -> Result<(), Stop>
     requires running { server.old.session.now.stopped ≡ false }
-    requires none { Gathers [] server.old.decoder }
+    requires none { GathersPart [] server.old.decoder }
     ensures went { IsTrue (V.state server.old.session.now.files).tells
         → (read : List ℕ → Result AnyCommand AnyRefusal) → IsReader read
         → Went frame_line (serve_talk read)
@@ -71,8 +72,9 @@ fn serve_through<'a, V: Files, S: Source, K: Sink>(
         → result ≡ Err (Stop.Halted Halt.Flash) }
     ensures store { let new = V.state server.new.session.now.files in
         length new.store ≡ length (V.state server.old.session.now.files).store }
-    ensures lent { server.new.session.ghost_name ≡ server.old.session.ghost_name }
-    ensures keeps { K.keeps out.old out.new }
+    ensures session { server.new.session.ghost_name ≡ server.old.session.ghost_name }
+    ensures borrows { V.lent server.new.session.now.files ≡ V.lent server.old.session.now.files }
+    ensures lent { K.lent out.new ≡ K.lent out.old }
     ensures cause { HasRunCause (S.faults line.old) (S.faults line.new)
         (V.faults server.old.session.now.files) (V.faults server.new.session.now.files)
         (K.faults out.old) (K.faults out.new) result }

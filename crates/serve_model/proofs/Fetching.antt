@@ -16,9 +16,9 @@ use Rattle.db_model.specs.Refusing.{◌>>=◌, ◌>>◌, found_or, refuse_if}
 use Rattle.db_model.specs.Step.{Reply, Fine, Rows, Spares, answer_of, relations_read, outcome, replied, step, open_cursor_of}
 use Rattle.db_model.proofs.Steps.{cursor_kept}
 use Rattle.run_model.specs.Talk.{answered}
-use Rattle.serve_model.specs.Fetching.{FetchesItsAnswer, Opens, asks, fetched, is_close, is_fetch, is_read, keeps_open}
+use Rattle.serve_model.specs.Fetching.{FetchesItsAnswer, OpensQuery, asks, replies_fetched, is_close, is_fetch, is_read, keeps_open}
 use Rattle.serve_model.specs.Frames.{Frame, Broken, Long, Asked, Unfinished}
-use Rattle.serve_model.specs.Served.{after, numbered, own_cursor}
+use Rattle.serve_model.specs.Served.{after_frame, numbered_cursor, own_cursor}
 
 -- ---- the places of cursors
 
@@ -129,7 +129,7 @@ module _ (read : List ℕ → Result Command Refusal) where
 
   -- a command that speaks of the sender's cursor
   kept_numbered : (place : ℕ) (cursor : Cursor) (db : Database) (sender : ℕ) (number : ℤ) (made : ℤ → Command) → (int_eq number (pos 1) ≡ true → Spares place (made (pos sender)))
-      → cursor_at db place ≡ Some cursor → cursor_at ((answered db (numbered sender number made)).0) place ≡ Some cursor
+      → cursor_at db place ≡ Some cursor → cursor_at ((answered db (numbered_cursor sender number made)).0) place ≡ Some cursor
   kept_numbered place cursor db sender number made spares h = by_test (int_eq number (pos 1)) refl
     where
       by_test : (t : Bool) → int_eq number (pos 1) ≡ t → cursor_at ((answered db (cond t (Ok (made (pos sender))) (Err no.NoCursor))).0) place ≡ Some cursor
@@ -148,7 +148,7 @@ module _ (read : List ℕ → Result Command Refusal) where
 
   -- a frame that is no FETCH 1 and no CLOSE 1 of the client leaves its cursor
   kept_frame : (client : ℕ) (cursor : Cursor) (db : Database) (frame : Frame) → 1 ≤ client → asks read is_fetch client frame ≡ false → asks read is_close client frame ≡ false
-      → cursor_at db (client - 1) ≡ Some cursor → cursor_at ((after read db frame).0) (client - 1) ≡ Some cursor
+      → cursor_at db (client - 1) ≡ Some cursor → cursor_at ((after_frame read db frame).0) (client - 1) ≡ Some cursor
   kept_frame client cursor db Broken low no_fetch no_close h = h
   kept_frame client cursor db (Long sender) low no_fetch no_close h = h
   kept_frame client cursor db Unfinished low no_fetch no_close h = h
@@ -177,7 +177,7 @@ module _ (read : List ℕ → Result Command Refusal) where
 
   -- a frame that is a FETCH 1 of the client
   fetched_frame : (client : ℕ) (cursor : Cursor) (db : Database) (frame : Frame) → 1 ≤ client → client ≤ 4 → asks read is_fetch client frame ≡ true → cursor_at db (client - 1) ≡ Some cursor
-      → ((after read db frame).1 ≡ Rows (take 1 cursor.rows)) × (cursor_at ((after read db frame).0) (client - 1) ≡ Some (record cursor { rows = drop 1 cursor.rows }))
+      → ((after_frame read db frame).1 ≡ Rows (take 1 cursor.rows)) × (cursor_at ((after_frame read db frame).0) (client - 1) ≡ Some (record cursor { rows = drop 1 cursor.rows }))
   fetched_frame client cursor db Broken low high is h = cc
   fetched_frame client cursor db (Long sender) low high is h = cc
   fetched_frame client cursor db Unfinished low high is h = cc
@@ -200,28 +200,28 @@ module _ (read : List ℕ → Result Command Refusal) where
   -- ---- all frames
 
   heads : (client : ℕ) → 1 ≤ client → client ≤ 4 → (cursor : Cursor) (db : Database) (frames : List Frame) → IsTrue (keeps_open read client frames) → cursor_at db (client - 1) ≡ Some cursor
-      → AreHeads cursor.rows (fetched read client db frames)
+      → AreHeads cursor.rows (replies_fetched read client db frames)
   heads client low high cursor db [] stays h = tt
   heads client low high cursor db (frame ∷ frames) stays h =
       let apart = not_true (asks read is_close client frame || list_any (asks read is_close client) frames) stays in
       let no_close = or_left (asks read is_close client frame) (list_any (asks read is_close client) frames) apart in
       let rest : IsTrue (keeps_open read client frames) = ap not (or_right (asks read is_close client frame) (list_any (asks read is_close client) frames) apart) in
-      let next : Database = (after read db frame).0 in
+      let next : Database = (after_frame read db frame).0 in
       by_test (asks read is_fetch client frame) refl
       (λ e. let f = fetched_frame client cursor db frame low high e h in (f.0, heads client low high (record cursor { rows = drop 1 cursor.rows }) next frames rest f.1))
       (λ e. heads client low high cursor next frames rest (kept_frame client cursor db frame low e no_close h))
     where
       by_test : (t : Bool) → asks read is_fetch client frame ≡ t
-          → (asks read is_fetch client frame ≡ true → AreHeads cursor.rows ((after read db frame).1 ∷ fetched read client ((after read db frame).0) frames))
-          → (asks read is_fetch client frame ≡ false → AreHeads cursor.rows (fetched read client ((after read db frame).0) frames))
-          → AreHeads cursor.rows (cond t ((after read db frame).1 ∷ fetched read client ((after read db frame).0) frames) (fetched read client ((after read db frame).0) frames))
+          → (asks read is_fetch client frame ≡ true → AreHeads cursor.rows ((after_frame read db frame).1 ∷ replies_fetched read client ((after_frame read db frame).0) frames))
+          → (asks read is_fetch client frame ≡ false → AreHeads cursor.rows (replies_fetched read client ((after_frame read db frame).0) frames))
+          → AreHeads cursor.rows (cond t ((after_frame read db frame).1 ∷ replies_fetched read client ((after_frame read db frame).0) frames) (replies_fetched read client ((after_frame read db frame).0) frames))
       by_test true e same other = same e
       by_test false e same other = other e
 
-  pub fetches : (client : ℕ) (rows : List (List Value)) (db : Database) (frame : Frame) → length db.cursors ≡ 4 → Opens read client rows db frame → FetchesItsAnswer read client rows db frame
+  pub fetches : (client : ℕ) (rows : List (List Value)) (db : Database) (frame : Frame) → length db.cursors ≡ 4 → OpensQuery read client rows db frame → FetchesItsAnswer read client rows db frame
   fetches client rows db frame four o frames stays n within =
-      let is : after read db frame ≡ step db (command.OpenCursor (pos client) o.query) = ap (answered db) o.asked in
+      let is : after_frame read db frame ≡ step db (command.OpenCursor (pos client) o.query) = ap (answered db) o.asked in
       let s = opens client db o.query rows four (ap (λ d. d.1) (sym is) ∙ o.fine) o.answered in
       let cursor : Cursor = record { reads = relations_read o.query; rows = rows } in
-      let stands : cursor_at ((after read db frame).0) (client - 1) ≡ Some cursor = ap (λ d. cursor_at d.0 (client - 1)) is ∙ s.2 in
-      nth rows (fetched read client ((after read db frame).0) frames) (heads client s.0 s.1 cursor ((after read db frame).0) frames stays stands) n within
+      let stands : cursor_at ((after_frame read db frame).0) (client - 1) ≡ Some cursor = ap (λ d. cursor_at d.0 (client - 1)) is ∙ s.2 in
+      nth rows (replies_fetched read client ((after_frame read db frame).0) frames) (heads client s.0 s.1 cursor ((after_frame read db frame).0) frames stays stands) n within

@@ -11,7 +11,7 @@ use Rattle.db_model.specs.Sound.{IsSoundDatabase}
 use Rattle.db_model.specs.Step.{Reply, Refused}
 use Rattle.run_model.specs.Talk.{answered}
 use Rattle.serve_model.specs.Frames.{Frame, Broken, Long, Asked, decoded, escaped, frame_from, frame_of, frames, frames_in, is_client, is_end}
-use Rattle.serve_model.specs.Served.{IsOfClient, after, client_of, framed, heard, parts, served}
+use Rattle.serve_model.specs.Served.{IsOfClient, after_frame, client_of, framed, heard, parts, served}
 use Rattle.serve_model.proofs.Ascii.{AreAscii, are_ascii, ascii-cons, ascii_reply}
 use Rattle.serve_model.proofs.Textual.{IsTextualDatabase, IsTextualReply, StaysTextual, sound_textual, stays_textual}
 
@@ -69,7 +69,7 @@ refused_part frame refusal rest few = one_part frame (Refused refusal) rest few 
 -- ---- all replies
 
 module _ (read : List ℕ → Result Command Refusal) where
-  frame_textual : (db : Database) (frame : Frame) → IsTextualDatabase db → StaysTextual (after read db frame)
+  frame_textual : (db : Database) (frame : Frame) → IsTextualDatabase db → StaysTextual (after_frame read db frame)
   frame_textual db frame h = by_heard (heard read frame)
     where
       by_heard : (r : Result Command Refusal) → StaysTextual (answered db r)
@@ -81,16 +81,16 @@ module _ (read : List ℕ → Result Command Refusal) where
   cut_parts db [] rest h few = refl
   cut_parts db (frame ∷ all) rest h few =
       let s = frame_textual db frame h in
-      let next : Database = (after read db frame).0 in
-      ap (slice_split is_end) (append_assoc (framed frame (text ((after read db frame).1))) (served read next all) rest)
-      ∙ one_part frame ((after read db frame).1) (served read next all ++ rest) few.0 s.1
-      ∙ ap (λ ps. (client_of frame ∷ text ((after read db frame).1)) ∷ ps) (cut_parts next all rest s.0 few.1)
+      let next : Database = (after_frame read db frame).0 in
+      ap (slice_split is_end) (append_assoc (framed frame (text ((after_frame read db frame).1))) (served read next all) rest)
+      ∙ one_part frame ((after_frame read db frame).1) (served read next all ++ rest) few.0 s.1
+      ∙ ap (λ ps. (client_of frame ∷ text ((after_frame read db frame).1)) ∷ ps) (cut_parts next all rest s.0 few.1)
 
   plain_parts : (db : Database) (all : List Frame) → IsTextualDatabase db → AllByRecursion IsOfClient all → AllByRecursion (λ part. decoded part ≡ Some part) (parts read db all)
   plain_parts db [] h few = tt
   plain_parts db (frame ∷ all) h few =
       let s = frame_textual db frame h in
-      (decoded_plain (client_of frame ∷ text ((after read db frame).1)) (plain_reply frame ((after read db frame).1) few.0 s.1), plain_parts ((after read db frame).0) all s.0 few.1)
+      (decoded_plain (client_of frame ∷ text ((after_frame read db frame).1)) (plain_reply frame ((after_frame read db frame).1) few.0 s.1), plain_parts ((after_frame read db frame).0) all s.0 few.1)
 
   pub served_parts : (db : Database) (all : List Frame) (rest : List ℕ) → IsSoundDatabase db → AllByRecursion IsOfClient all
       → slice_split is_end (served read (bare db) all ++ rest) ≡ parts read (bare db) all ++ slice_split is_end rest

@@ -10,7 +10,7 @@ use Rattle.db_model.specs.declared.values.Value.{Value}
 use Rattle.db_model.specs.Database.{Database}
 use Rattle.db_model.specs.Step.{Reply, Fine, Rows, answer_of}
 use Rattle.serve_model.specs.Frames.{Frame, Asked}
-use Rattle.serve_model.specs.Served.{after, heard}
+use Rattle.serve_model.specs.Served.{after_frame, heard}
 
 -- FETCH 1
 abbrev pub is_fetch : Command → Bool
@@ -33,26 +33,26 @@ module _ (read : List ℕ → Result Command Refusal) where
   asks test client _ = false
 
   -- the replies to a client's FETCH 1
-  abbrev pub fetched : ℕ → Database → List Frame → List Reply
-  fetched client db [] = []
-  fetched client db (frame ∷ frames) =
-      if asks is_fetch client frame then (after read db frame).1 ∷ fetched client ((after read db frame).0) frames else fetched client ((after read db frame).0) frames
+  abbrev pub replies_fetched : ℕ → Database → List Frame → List Reply
+  replies_fetched client db [] = []
+  replies_fetched client db (frame ∷ frames) =
+      if asks is_fetch client frame then (after_frame read db frame).1 ∷ replies_fetched client ((after_frame read db frame).0) frames else replies_fetched client ((after_frame read db frame).0) frames
 
   -- none of the frames is a CLOSE 1 of the client
   abbrev pub keeps_open : ℕ → List Frame → Bool
   keeps_open client frames = not (list_any (asks is_close client) frames)
 
   -- a frame is an OPEN 1 of the client for a query with these rows, and the reply to it is `ok`
-  pub record Opens (client : ℕ) (rows : List (List Value)) (db : Database) (frame : Frame) : Type 0 where
+  pub record OpensQuery (client : ℕ) (rows : List (List Value)) (db : Database) (frame : Frame) : Type 0 where
     pub query : Query
     pub asked : heard read frame ≡ Ok (command.OpenCursor (pos client) query)
     pub answered : answer_of db query ≡ Ok rows
-    pub fine : (after read db frame).1 ≡ Fine
+    pub fine : (after_frame read db frame).1 ≡ Fine
 
   -- the nth reply to a FETCH 1 of the client, as long as it closes nothing, is the nth row of its answer as it was at the OPEN, or no
   -- row where none is left, whatever frames of any client stand between
   abbrev pub FetchesItsAnswer : ℕ → List (List Value) → Database → Frame → Type 0
   FetchesItsAnswer client rows db opening =
       (frames : List Frame) → IsTrue (keeps_open client frames)
-      → (n : ℕ) → n < length (fetched client ((after read db opening).0) frames)
-      → slice_get (fetched client ((after read db opening).0) frames) n ≡ Some (Rows (take 1 (drop n rows)))
+      → (n : ℕ) → n < length (replies_fetched client ((after_frame read db opening).0) frames)
+      → slice_get (replies_fetched client ((after_frame read db opening).0) frames) n ≡ Some (Rows (take 1 (drop n rows)))

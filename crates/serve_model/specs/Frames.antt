@@ -50,14 +50,14 @@ frame_of (b ∷ bytes) = frame_from (decoded (b ∷ bytes)) ∷ []
 -- ---- all parts
 
 -- what stands behind the last END
-abbrev pub unended : List ℕ → List Frame
-unended [] = []
-unended (b ∷ bytes) = Unfinished ∷ []
+abbrev pub unended_frame : List ℕ → List Frame
+unended_frame [] = []
+unended_frame (b ∷ bytes) = Unfinished ∷ []
 
 -- of parts the last has no END behind it
 abbrev pub frames_in : List (List ℕ) → List Frame
 frames_in [] = []
-frames_in (part ∷ []) = unended part
+frames_in (part ∷ []) = unended_frame part
 frames_in (part ∷ next ∷ parts) = frame_of part ++ frames_in (next ∷ parts)
 
 -- the frames of some bytes: cut at each END, and each part decoded
@@ -65,12 +65,12 @@ abbrev pub frames : List ℕ → List Frame
 frames bytes = frames_in (slice_split is_end bytes)
 
 -- the frames without a last one that is unfinished
-abbrev pub finished : List Frame → List Frame
-finished [] = []
-finished (Unfinished ∷ rest) = finished rest
-finished (Broken ∷ rest) = Broken ∷ finished rest
-finished (Long client ∷ rest) = Long client ∷ finished rest
-finished (Asked client command ∷ rest) = Asked client command ∷ finished rest
+abbrev pub finished_frames : List Frame → List Frame
+finished_frames [] = []
+finished_frames (Unfinished ∷ rest) = finished_frames rest
+finished_frames (Broken ∷ rest) = Broken ∷ finished_frames rest
+finished_frames (Long client ∷ rest) = Long client ∷ finished_frames rest
+finished_frames (Asked client command ∷ rest) = Asked client command ∷ finished_frames rest
 
 -- ---- bytes that come one by one
 
@@ -80,15 +80,15 @@ part_behind part [] = part
 part_behind part (b ∷ bytes) = if is_end b then part_behind [] bytes else part_behind (part ++ b ∷ []) bytes
 
 -- the frames that they end
-abbrev pub ended_by : List ℕ → List ℕ → List Frame
-ended_by part [] = []
-ended_by part (b ∷ bytes) = if is_end b then frame_of part ++ ended_by [] bytes else ended_by (part ++ b ∷ []) bytes
+abbrev pub ended_frames : List ℕ → List ℕ → List Frame
+ended_frames part [] = []
+ended_frames part (b ∷ bytes) = if is_end b then frame_of part ++ ended_frames [] bytes else ended_frames (part ++ b ∷ []) bytes
 
 -- ---- a line of frames, whole and as its bytes come
 
 abbrev pub frame_line : Line Frame
-frame_line = record { all = frames; whole = λ bytes. finished (frames bytes) }
+frame_line = record { all = frames; whole = λ bytes. finished_frames (frames bytes) }
 
 -- the bytes of the part at hand
 abbrev pub frame_cut : Cut Frame (List ℕ)
-frame_cut = record { start = []; begun = part_behind; ended = ended_by; left = unended }
+frame_cut = record { start = []; begun = part_behind; ended = ended_frames; left = unended_frame }

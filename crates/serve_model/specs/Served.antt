@@ -9,19 +9,19 @@ use Rattle.db_model.specs.Database.{Database}
 use Rattle.db_model.specs.Refusing.{◌>>=◌}
 use Rattle.db_model.specs.ReplyText.{text}
 use Rattle.db_model.specs.Step.{Reply}
-use Rattle.run_model.specs.Talk.{Talk, answered, last, output}
+use Rattle.run_model.specs.Talk.{Talk, answered, last_database, talk_output}
 use Rattle.serve_model.specs.Frames.{Frame, Broken, Long, Asked, Unfinished}
 
 -- ---- what is asked
 
 -- a client's cursor is the one of its number; it has no other
-abbrev pub numbered : ℕ → ℤ → (ℤ → Command) → Result Command Refusal
-numbered client number command = if int_eq number (pos 1) then Ok (command (pos client)) else Err no.NoCursor
+abbrev pub numbered_cursor : ℕ → ℤ → (ℤ → Command) → Result Command Refusal
+numbered_cursor client number command = if int_eq number (pos 1) then Ok (command (pos client)) else Err no.NoCursor
 
 abbrev pub own_cursor : ℕ → Command → Result Command Refusal
-own_cursor client (command.OpenCursor number query) = numbered client number (λ n. command.OpenCursor n query)
-own_cursor client (command.FetchCursor number) = numbered client number command.FetchCursor
-own_cursor client (command.CloseCursor number) = numbered client number command.CloseCursor
+own_cursor client (command.OpenCursor number query) = numbered_cursor client number (λ n. command.OpenCursor n query)
+own_cursor client (command.FetchCursor number) = numbered_cursor client number command.FetchCursor
+own_cursor client (command.CloseCursor number) = numbered_cursor client number command.CloseCursor
 own_cursor client c = Ok c
 
 -- ---- what is written
@@ -37,7 +37,7 @@ client_of Unfinished = 0
 abbrev pub framed : Frame → List ℕ → List ℕ
 framed frame text = client_of frame ∷ text ++ 192 ∷ []
 
--- ---- frames one after the other
+-- ---- frames one after_frame the other
 
 -- `read` reads the bytes of a command, or says why they are none (see `Reading` of db_model)
 module _ (read : List ℕ → Result Command Refusal) where
@@ -51,24 +51,24 @@ module _ (read : List ℕ → Result Command Refusal) where
   abbrev pub serve_talk : Talk Frame
   serve_talk = record { heard = heard; sent = framed }
 
-  -- the database after a frame, and the reply to it
-  abbrev pub after : Database → Frame → Database × Reply
-  after db frame = answered db (heard frame)
+  -- the database after_frame a frame, and the reply to it
+  abbrev pub after_frame : Database → Frame → Database × Reply
+  after_frame db frame = answered db (heard frame)
 
-  -- the reply frames, one after the other
+  -- the reply frames, one after_frame the other
   abbrev pub served : Database → List Frame → List ℕ
-  served db frames = output serve_talk db frames
+  served db frames = talk_output serve_talk db frames
 
-  -- the database after all frames
-  abbrev pub after_all : Database → List Frame → Database
-  after_all db frames = last serve_talk db frames
+  -- the database after_frame all frames
+  abbrev pub after_frames : Database → List Frame → Database
+  after_frames db frames = last_database serve_talk db frames
 
   -- ---- what is served, cut at each END
 
   -- for each frame the client's byte and the text of the reply
   abbrev pub parts : Database → List Frame → List (List ℕ)
   parts db [] = []
-  parts db (frame ∷ frames) = (client_of frame ∷ text ((after db frame).1)) ∷ parts ((after db frame).0) frames
+  parts db (frame ∷ frames) = (client_of frame ∷ text ((after_frame db frame).1)) ∷ parts ((after_frame db frame).0) frames
 
 -- it is of one of the clients, or of none that is known
 abbrev pub IsOfClient : Frame → Type 0

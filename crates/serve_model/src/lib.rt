@@ -12,16 +12,16 @@ ghost use Rattle.db_model.specs.ReplyText.{text};
 ghost use Rattle.db_model.specs.Sound.{IsSoundDatabase};
 ghost use Rattle.db_model.specs.Step.{Refused};
 ghost use Rattle.run_model.specs.Line.{ComesInParts};
-ghost use Rattle.serve_model.specs.Fetching.{FetchesItsAnswer, Opens};
-ghost use Rattle.serve_model.specs.Frames.{Frame, decoded, ended_by, finished, frame_cut, frame_line, frames, is_end, part_behind, unended};
+ghost use Rattle.serve_model.specs.Fetching.{FetchesItsAnswer, OpensQuery};
+ghost use Rattle.serve_model.specs.Frames.{Frame, decoded, ended_frames, finished_frames, frame_cut, frame_line, frames, is_end, part_behind, unended_frame};
 ghost use Rattle.serve_model.specs.Served.{IsOfClient, client_of, framed, parts, served};
 
 /// The frames of some bytes are those that the bytes end one by one, and then one that is unfinished
 /// where bytes are left.
 #[tactic(auto, using(crate::proofs::Ending::frames_ended, crate::proofs::Ending::frames_finished))]
 pub fn frames_end_one_by_one()
-    ensures all { (bytes : List ℕ) → frames bytes ≡ ended_by [] bytes ++ unended (part_behind [] bytes) }
-    ensures finished { (bytes : List ℕ) → finished (frames bytes) ≡ ended_by [] bytes }
+    ensures all { (bytes : List ℕ) → frames bytes ≡ ended_frames [] bytes ++ unended_frame (part_behind [] bytes) }
+    ensures finished { (bytes : List ℕ) → finished_frames (frames bytes) ≡ ended_frames [] bytes }
 {}
 
 /// The bytes of a line of frames may come in any parts.
@@ -36,7 +36,7 @@ pub fn clients_fetch_their_answers()
     ensures { (read : List ℕ → Result Command Refusal)
         (client : ℕ) (rows : List (List Value)) (db : Database) (frame : Frame)
         → length db.cursors ≡ 4
-        → Opens read client rows db frame
+        → OpensQuery read client rows db frame
         → FetchesItsAnswer read client rows db frame }
 {}
 

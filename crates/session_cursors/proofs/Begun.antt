@@ -22,15 +22,15 @@ use Rattle.session_model.specs.declared.held.Held.{Held}
 use Rattle.session_model.specs.declared.held.Open.{Open}
 use Rattle.session_model.specs.declared.held.OpenJoin.{OpenJoin}
 use Rattle.session_model.specs.declared.held.OpenSelect.{OpenSelect}
-use Rattle.session_model.specs.Aheads.{join_ahead, join_stops, select_ahead}
-use Rattle.session_model.specs.Indexed.{index_of, infos_of}
-use Rattle.session_model.specs.View.{relation_in, view}
+use Rattle.session_model.specs.Aheads.{ahead_of_join, join_stops, ahead_of_select}
+use Rattle.session_model.specs.Indexed.{index_of_info, infos_of}
+use Rattle.session_model.specs.View.{relation_of_rows, view}
 use Rattle.session_model.proofs.Running.{indexes_seen}
 use Rattle.session_cursors.proofs.JoinCounts.{first_stops, many_pairs, stops_from}
 
 -- ---- the indexes of a relation, as the machine sees them
 
-seen_kinds : (k : ℕ) (infos : List IndexInfo) → kinds_of (map (index_of k) infos) ≡ kinds infos
+seen_kinds : (k : ℕ) (infos : List IndexInfo) → kinds_of (map (index_of_info k) infos) ≡ kinds infos
 seen_kinds k [] = refl
 seen_kinds k (info ∷ infos) = λ i. (kinds (info ∷ [])) ++ seen_kinds k infos i
 
@@ -43,7 +43,7 @@ pub select_begun : (files : Table) (o : OpenSelect) (t : Tuples) (infos : List I
     → walk_of o.cursor.candidates.search ≡ model.walk_of (kinds infos) (plan (kinds infos) (ranges_of t.schema.attributes condition))
     → ahead o.cursor.candidates (rows files t) ≡ slots_passed (kinds infos) (ranges_of t.schema.attributes condition) (length (rows files t)) (rows files t)
     → slots_left o.cursor (rows files t) ≡ selected_slots t.schema.attributes condition (rows files t)
-    → select_ahead files o ≡ model.select_ahead t.schema.name (kinds infos) (ranges_of t.schema.attributes condition) (relation_in files t) condition
+    → ahead_of_select files o ≡ model.select_ahead t.schema.name (kinds infos) (ranges_of t.schema.attributes condition) (relation_of_rows files t) condition
 select_begun files o t infos condition tuples walk slots stops =
     let all : List Row = rows files t in
     let whole : length all ≡ length all - 0 = omega arith in
@@ -86,7 +86,7 @@ stops_begun c lefts rights at from ln rn =
 -- from two relations
 pub join_begun : (files : Table) (o : OpenJoin) (s t : Tuples) (infos : List IndexInfo) (left_on right_on : ℕ) → o.cursor.left ≡ s → o.cursor.right ≡ t → o.cursor.right_indexes ≡ infos
     → o.cursor.left_on ≡ left_on → o.cursor.right_on ≡ right_on → o.cursor.at ≡ 0 → o.cursor.from ≡ 0 → o.cursor.left_slots ≡ length (rows files s) → o.cursor.right_slots ≡ length (rows files t)
-    → join_ahead files o ≡ model.join_ahead s.schema.name t.schema.name (left_on, right_on) (kinds infos) (rows files s) (rows files t)
+    → ahead_of_join files o ≡ model.join_ahead s.schema.name t.schema.name (left_on, right_on) (kinds infos) (rows files s) (rows files t)
 join_begun files o s t infos left_on right_on le re is lo ro at from ln rn =
     let whole : length (rows files s) - 0 ≡ length (rows files s) = omega arith in
     let ss : range_with_len o.cursor.at (o.cursor.left_slots - o.cursor.at) ≡ range_with_len 0 (length (rows files s)) =

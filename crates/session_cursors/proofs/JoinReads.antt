@@ -19,7 +19,7 @@ use Rattle.cursor.specs.declared.join.JoinCursor.{JoinCursor}
 use Rattle.cursor.specs.Pairs.{inner_cost, join_cost_ahead, join_cost_behind, lefts_of, pairs_left, right_cost, right_costs}
 use Rattle.tuple_file.specs.Tuples.{rows}
 use Rattle.session_model.specs.declared.held.OpenJoin.{OpenJoin}
-use Rattle.session_model.specs.Aheads.{join_ahead, join_stops}
+use Rattle.session_model.specs.Aheads.{ahead_of_join, join_stops}
 use Rattle.session_cursors.proofs.JoinCounts.{drop_range}
 use Rattle.session_cursors.proofs.JoinSteps.{over, rows_from}
 
@@ -54,11 +54,11 @@ module _ (files : Table) (o : OpenJoin) (at from : ℕ) where
   before = range_with_len o.cursor.at (o.cursor.left_slots - o.cursor.at)
 
   abbrev after : List ℕ → List ℕ
-  after stops = slots_left (join_ahead files o).source stops before
+  after stops = slots_left (ahead_of_join files o).source stops before
 
   ahead_by : range_with_len at (o.cursor.left_slots - at) ≡ after (join_stops was (rows files was.left) (rows files was.right))
       → join_stops now (rows files was.left) (rows files was.right) ≡ drop 1 (join_stops was (rows files was.left) (rows files was.right))
-      → join_ahead files (record { cursor = now; places = o.places }) ≡ fetched (join_ahead files o)
+      → ahead_of_join files (record { cursor = now; places = o.places }) ≡ fetched (ahead_of_join files o)
   ahead_by ss ts = λ i. record {
     source = OfJoin o.cursor.left.schema.name o.cursor.right.schema.name (o.cursor.left_on, o.cursor.right_on) (kinds o.cursor.right_indexes);
     slots = ss i;
@@ -67,7 +67,7 @@ module _ (files : Table) (o : OpenJoin) (at from : ℕ) where
 
   pub ahead_found : o.cursor.at ≤ at → at < o.cursor.left_slots
       → join_stops was (rows files was.left) (rows files was.right) ≡ at ∷ join_stops now (rows files was.left) (rows files was.right)
-      → join_ahead files (record { cursor = now; places = o.places }) ≡ fetched (join_ahead files o)
+      → ahead_of_join files (record { cursor = now; places = o.places }) ≡ fetched (ahead_of_join files o)
   ahead_found later below e =
       let n : ℕ = o.cursor.left_slots - o.cursor.at in
       let go : at - o.cursor.at + 1 - 1 ≡ at - o.cursor.at = omega arith in
@@ -81,7 +81,7 @@ module _ (files : Table) (o : OpenJoin) (at from : ℕ) where
       ∙ ap (λ (m : ℕ). range_with_len m (n - (at - o.cursor.at))) there ∙ ap (range_with_len at) left in
       ahead_by (sym dropped ∙ sym (ap after e)) (sym (ap (drop 1) e))
 
-  pub ahead_none : o.cursor.left_slots ≤ at → join_stops was (rows files was.left) (rows files was.right) ≡ [] → join_ahead files (record { cursor = now; places = o.places }) ≡ fetched (join_ahead files o)
+  pub ahead_none : o.cursor.left_slots ≤ at → join_stops was (rows files was.left) (rows files was.right) ≡ [] → ahead_of_join files (record { cursor = now; places = o.places }) ≡ fetched (ahead_of_join files o)
   ahead_none end e =
       let none : o.cursor.left_slots - at ≡ 0 = omega (arith, end) in
       ahead_by (ap (range_with_len at) none ∙ sym (ap after e)) (over now (rows files was.left) (rows files was.right) end ∙ sym (ap (drop 1) e))

@@ -14,7 +14,7 @@ use Rattle.cursor.specs.Pairs.{HasAnswered, MayReadPairs, join_cost_ahead, join_
 use Rattle.tuple_file.specs.Tuples.{rows}
 use Rattle.session_model.specs.declared.held.OpenJoin.{OpenJoin}
 use Rattle.session_model.specs.declared.held.Side.{Side}
-use Rattle.session_model.specs.Aheads.{join_ahead, join_stops}
+use Rattle.session_model.specs.Aheads.{ahead_of_join, join_stops}
 use Rattle.session_model.specs.View.{project_pair}
 use Rattle.session_model.proofs.Cursors.{none_or_some}
 use Rattle.session_model.proofs.Frames.{count_rows}
@@ -75,7 +75,7 @@ module _ (state : State) (o : OpenJoin) (d : JoinCursor) (left right : List Valu
         let w : d.from ≤ o.cursor.right_slots = subst (λ (n : ℕ). d.from ≤ n) (ap (λ (z : JoinCursor). z.right_slots) s.stands) s.within in
         next_stop o.cursor lefts rights (all_lefts state o.cursor s.may) d.at d.from None left right s.later inside a.some w (rights_long state o.cursor s.may) a.left_row a.right_row first_pair
 
-  pub ahead_then : (found : Bool) → JoinStep state o.cursor d found left right → join_ahead state.files (record { cursor = now; places = o.places }) ≡ fetched (join_ahead state.files o)
+  pub ahead_then : (found : Bool) → JoinStep state o.cursor d found left right → ahead_of_join state.files (record { cursor = now; places = o.places }) ≡ fetched (ahead_of_join state.files o)
   ahead_then true s = ahead_found state.files o d.at d.from s.later (inside s) (stop s)
   ahead_then false s =
       ahead_none state.files o d.at d.from (subst (λ (n : ℕ). n ≤ d.at) (ap (λ (z : JoinCursor). z.left_slots) s.stands) s.here)

@@ -56,9 +56,6 @@ aheads_put files opens n o = map-set (option_map (ahead_in files)) opens n o
 pub refused_stays : (db : Database) (aheads : Aheads) (c : Command) (r : Refusal) → outcome db c ≡ Err r → aheads_after db aheads c ≡ aheads
 refused_stays db aheads c r e = ap (λ (o : Outcome). cond (is_refused (replied db o).1) aheads (moved db aheads c)) e
 
-pub refused_free : (db : Database) (aheads : Aheads) (c : Command) (r : Refusal) → outcome db c ≡ Err r → cost_of db aheads c ≡ 0
-refused_free db aheads c r e = ap (λ (o : Outcome). cond (is_refused (replied db o).1) 0 (price db aheads c)) e
-
 pub done_moves : (db new : Database) (aheads : Aheads) (c : Command) (reply : Reply) → outcome db c ≡ Ok (new, reply) → is_refused reply ≡ false → aheads_after db aheads c ≡ moved db aheads c
 done_moves db new aheads c reply e fine =
     ap (λ (o : Outcome). cond (is_refused (replied db o).1) aheads (moved db aheads c)) e ∙ ap (λ (b : Bool). cond b aheads (moved db aheads c)) fine

@@ -1,6 +1,6 @@
 -- What the machine makes of a query is what its cursor begins with.
 use Rattle.std.proofs.Common.{◌≡◌, ℕ, ◌+◌, Bool, true, false, cond, List, [], ◌∷◌, length, Option, Some, None, refl, ap, sym, ◌∙◌, subst, Ok, Err}
-use Rattle.std.specs.Prelude.{IsOk, OnErr, Result, option_map, option_and_then, unwrap_or}
+use Rattle.std.specs.Prelude.{IsOk, Result, option_map, option_and_then, unwrap_or}
 use Rattle.std.specs.Option.{option_map_or}
 use Rattle.std.specs.Str.{bytes_eq}
 use Rattle.std.proofs.lemmas.Slice.Eq.{bytes_eq-Decides}
@@ -27,20 +27,14 @@ use Rattle.session_model.specs.declared.held.Open.{Open}
 use Rattle.session_model.specs.declared.held.Open.TheVariants.{Select, Join}
 use Rattle.session_model.specs.declared.held.OpenJoin.{OpenJoin}
 use Rattle.session_model.specs.declared.held.OpenSelect.{OpenSelect}
-use Rattle.session_model.specs.Aheads.{join_ahead, select_ahead}
+use Rattle.session_model.specs.Aheads.{ahead_of_join, ahead_of_select}
 use Rattle.session_model.specs.Cells.{cell_from}
 use Rattle.session_model.specs.Indexed.{infos_of}
-use Rattle.session_model.specs.View.{join_left, relation_in, select_left, view}
+use Rattle.session_model.specs.View.{join_left, relation_of_rows, select_left, view}
 use Rattle.session_model.proofs.Frames.{count_rows}
 use Rattle.session_model.proofs.Views.{found_in_view, named_none, named_some}
-use Rattle.session_cursors.specs.Opened.{Begins}
+use Rattle.session_cursors.specs.Opened.{BeginsAnswer}
 use Rattle.session_cursors.proofs.Begun.{kinds_held}
-
--- ---- results
-
-pub on_err : {A B : Type 0} (r : Result A B) {X : Type 0} → X → OnErr r X
-on_err (Ok a) x = tt
-on_err (Err e) x = x
 
 -- ---- relations by name
 
@@ -58,8 +52,8 @@ module _ (files : Table) (held : Held) (opens : List (Option Open)) where
   abbrev db : Database
   db = view files held opens
 
-  found : (name : List ℕ) (k : ℕ) (t : Tuples) → cell_from name 0 held.relations ≡ Some (k, t) → relation_named db name ≡ Some (k, relation_in files t)
-  found name k t e = found_in_view files name 0 held.relations ∙ ap (option_map (λ (p : ℕ × Tuples). (p.0, relation_in files p.1))) e
+  found : (name : List ℕ) (k : ℕ) (t : Tuples) → cell_from name 0 held.relations ≡ Some (k, t) → relation_named db name ≡ Some (k, relation_of_rows files t)
+  found name k t e = found_in_view files name 0 held.relations ∙ ap (option_map (λ (p : ℕ × Tuples). (p.0, relation_of_rows files p.1))) e
 
   -- ---- a SELECT
 
@@ -68,20 +62,20 @@ module _ (files : Table) (held : Held) (opens : List (Option Open)) where
     select_unnamed e = ap (λ (r : Result (ℕ × Relation) Refusal). ◌>>=◌ r (λ s. select_from list (condition_of nodes) s.1)) (named_none files held opens name e)
 
     module _ (k : ℕ) (t : Tuples) (e : cell_from name 0 held.relations ≡ Some (k, t)) where
-      select_answer : answer_of db (query.Select list name nodes) ≡ select_from list (condition_of nodes) (relation_in files t)
+      select_answer : answer_of db (query.Select list name nodes) ≡ select_from list (condition_of nodes) (relation_of_rows files t)
       select_answer = ap (λ (r : Result (ℕ × Relation) Refusal). ◌>>=◌ r (λ s. select_from list (condition_of nodes) s.1)) (named_some files held opens name k t e)
 
-      pub select_refused : (refusal : Refusal) → select_from list (condition_of nodes) (relation_in files t) ≡ Err refusal → answer_of db (query.Select list name nodes) ≡ Err refusal
+      pub select_refused : (refusal : Refusal) → select_from list (condition_of nodes) (relation_of_rows files t) ≡ Err refusal → answer_of db (query.Select list name nodes) ≡ Err refusal
       select_refused refusal h = select_answer ∙ h
 
-      pub select_answered : (answer : List (List Value)) → select_from list (condition_of nodes) (relation_in files t) ≡ Ok answer → IsOk (answer_of db (query.Select list name nodes))
+      pub select_answered : (answer : List (List Value)) → select_from list (condition_of nodes) (relation_of_rows files t) ≡ Ok answer → IsOk (answer_of db (query.Select list name nodes))
       select_answered answer h = subst (λ (r : Result (List (List Value)) Refusal). IsOk r) (sym (select_answer ∙ h)) refl
 
-      pub select_begins : (o : OpenSelect) (answer : List (List Value)) → select_from list (condition_of nodes) (relation_in files t) ≡ Ok answer → select_left files o ≡ answer → o.cursor.tuples ≡ t
-          → select_ahead files o ≡ model.select_ahead t.schema.name (kinds (infos_of k t held.indexes)) (ranges_of t.schema.attributes (condition_of nodes)) (relation_in files t) (condition_of nodes)
-          → Begins db files (query.Select list name nodes) (Select o)
+      pub select_begins : (o : OpenSelect) (answer : List (List Value)) → select_from list (condition_of nodes) (relation_of_rows files t) ≡ Ok answer → select_left files o ≡ answer → o.cursor.tuples ≡ t
+          → ahead_of_select files o ≡ model.select_ahead t.schema.name (kinds (infos_of k t held.indexes)) (ranges_of t.schema.attributes (condition_of nodes)) (relation_of_rows files t) (condition_of nodes)
+          → BeginsAnswer db files (query.Select list name nodes) (Select o)
       select_begins o answer h left tuples ahead =
-          let r : Relation = relation_in files t in
+          let r : Relation = relation_of_rows files t in
           let by : List ℕ → Kinds → Ahead = λ n ks. model.select_ahead n ks (ranges_of t.schema.attributes (condition_of nodes)) r (condition_of nodes) in
           record {
             rows = select_answer ∙ h ∙ ap (λ (l : List (List Value)). Ok l) (sym left);
@@ -113,22 +107,22 @@ module _ (files : Table) (held : Held) (opens : List (Option Open)) where
 
     module _ (j : ℕ) (s : Tuples) (e : cell_from left 0 held.relations ≡ Some (j, s)) where
       pub right_unnamed : cell_from right 0 held.relations ≡ None → answer_of db (query.Join left right on list) ≡ Err no.NoRelation
-      right_unnamed f = ap left_answer (named_some files held opens left j s e) ∙ ap (right_answer (relation_in files s)) (named_none files held opens right f)
+      right_unnamed f = ap left_answer (named_some files held opens left j s e) ∙ ap (right_answer (relation_of_rows files s)) (named_none files held opens right f)
 
       module _ (k : ℕ) (t : Tuples) (f : cell_from right 0 held.relations ≡ Some (k, t)) where
-        join_answer : answer_of db (query.Join left right on list) ≡ join_of on list (relation_in files s) (relation_in files t)
-        join_answer = ap left_answer (named_some files held opens left j s e) ∙ ap (right_answer (relation_in files s)) (named_some files held opens right k t f)
+        join_answer : answer_of db (query.Join left right on list) ≡ join_of on list (relation_of_rows files s) (relation_of_rows files t)
+        join_answer = ap left_answer (named_some files held opens left j s e) ∙ ap (right_answer (relation_of_rows files s)) (named_some files held opens right k t f)
 
-        pub join_refused : (refusal : Refusal) → join_of on list (relation_in files s) (relation_in files t) ≡ Err refusal → answer_of db (query.Join left right on list) ≡ Err refusal
+        pub join_refused : (refusal : Refusal) → join_of on list (relation_of_rows files s) (relation_of_rows files t) ≡ Err refusal → answer_of db (query.Join left right on list) ≡ Err refusal
         join_refused refusal h = join_answer ∙ h
 
-        pub join_begins : (o : OpenJoin) (answer : List (List Value)) (left_on right_on : ℕ) → join_of on list (relation_in files s) (relation_in files t) ≡ Ok answer → join_left files o ≡ answer
+        pub join_begins : (o : OpenJoin) (answer : List (List Value)) (left_on right_on : ℕ) → join_of on list (relation_of_rows files s) (relation_of_rows files t) ≡ Ok answer → join_left files o ≡ answer
             → place_of on s.schema.attributes ≡ Some left_on → place_of on t.schema.attributes ≡ Some right_on → o.cursor.left ≡ s → o.cursor.right ≡ t
-            → join_ahead files o ≡ model.join_ahead s.schema.name t.schema.name (left_on, right_on) (kinds (infos_of k t held.indexes)) (rows files s) (rows files t)
-            → Begins db files (query.Join left right on list) (Join o)
+            → ahead_of_join files o ≡ model.join_ahead s.schema.name t.schema.name (left_on, right_on) (kinds (infos_of k t held.indexes)) (rows files s) (rows files t)
+            → BeginsAnswer db files (query.Join left right on list) (Join o)
         join_begins o answer left_on right_on h is lo ro le re ahead =
-            let l : Relation = relation_in files s in
-            let r : Relation = relation_in files t in
+            let l : Relation = relation_of_rows files s in
+            let r : Relation = relation_of_rows files t in
             let name_l : s.schema.name ≡ left = name_found left 0 j s held.relations e in
             let name_r : t.schema.name ≡ right = name_found right 0 k t held.relations f in
             let by : List ℕ → List ℕ → ℕ × ℕ → Kinds → Ahead = λ m n places ks. model.join_ahead m n places ks l.rows r.rows in

@@ -1,5 +1,5 @@
 -- A FETCH of a SELECT: the head of the answer, what is ahead then, and what was read.
-use Rattle.std.proofs.Common.{◌≡◌, ℕ, ◌+◌, ◌-◌, ◌*◌, ◌≤◌, List, [], ◌∷◌, length, map, take, drop, filter, get_or, slice_get, Option, Some, None, MatchOption, is_some, refl, ap, sym, ◌∙◌, subst, arith, length-drop}
+use Rattle.std.proofs.Common.{◌≡◌, ℕ, ◌+◌, ◌-◌, ◌*◌, ◌≤◌, List, [], ◌∷◌, length, map, drop, filter, get_or, slice_get, Option, Some, None, MatchOption, refl, ap, sym, ◌∙◌, subst, arith, length-drop}
 use Rattle.std.specs.List.{range_with_len}
 use Rattle.afl_base.specs.Files.{Table}
 use Rattle.db_model.specs.declared.values.Value.{Value}
@@ -9,23 +9,17 @@ use Rattle.db_model.specs.Row.{Row, no_row}
 use Rattle.index_set.specs.declared.candidates.Candidates.{Candidates}
 use Rattle.index_set.specs.declared.candidates.Search.{Search}
 use Rattle.index_set.specs.declared.candidates.Search.TheVariants as by
-use Rattle.index_set.specs.Walks.{ahead, cost_ahead, reads_by, takes}
+use Rattle.index_set.specs.Walks.{ahead, cost_ahead, reads_by, takes, walk_of}
 use Rattle.cursor.specs.declared.select.SelectCursor.{SelectCursor}
 use Rattle.cursor.specs.Remaining.{is_live_and, next_cost, passes, slots_left}
 use Rattle.tuple_file.specs.declared.tuples.Tuples.{Tuples}
 use Rattle.tuple_file.specs.Tuples.{rows}
 use Rattle.session_model.specs.declared.held.OpenSelect.{OpenSelect}
-use Rattle.session_model.specs.Aheads.{select_ahead, walk_of}
+use Rattle.session_model.specs.Aheads.{ahead_of_select}
 use Rattle.session_model.specs.View.{project}
-use Rattle.session_cursors.specs.Fetched.{one_or_none}
 use Rattle.session_cursors.proofs.Passed.{passed_few, stops}
 
 -- ---- the head of the answer
-
-pub took_row : (places : List ℕ) (found : Option ℕ) (tuple : List Value) (old now : List (List Value)) → MatchOption found (old ≡ []) (λ _. old ≡ tuple ∷ now)
-    → take 1 (map (project places) old) ≡ one_or_none (is_some found) (project places tuple)
-took_row places None tuple old now e = ap (λ (l : List (List Value)). take 1 (map (project places) l)) e
-took_row places (Some slot) tuple old now e = ap (λ (l : List (List Value)). take 1 (map (project places) l)) e
 
 pub left_rows : (places : List ℕ) (found : Option ℕ) (tuple : List Value) (old now : List (List Value)) → MatchOption found (old ≡ []) (λ _. old ≡ tuple ∷ now) → (found ≡ None → now ≡ [])
     → map (project places) now ≡ drop 1 (map (project places) old)
@@ -75,7 +69,7 @@ module _ (files : Table) (o : OpenSelect) (d : SelectCursor) (tuples : d.tuples 
   pub ahead_then : (found : Option ℕ)
       → MatchOption found (slots_left o.cursor (rows files o.cursor.tuples) ≡ []) (λ slot. slots_left o.cursor (rows files o.cursor.tuples) ≡ slot ∷ slots_left d (rows files o.cursor.tuples))
       → MatchOption found (d.candidates.from ≡ d.candidates.slots) (λ slot. d.candidates.from ≡ slot + 1)
-      → select_ahead files (record { cursor = d; places = o.places }) ≡ fetched (select_ahead files o)
+      → ahead_of_select files (record { cursor = d; places = o.places }) ≡ fetched (ahead_of_select files o)
   ahead_then None e from =
       let none : ahead d.candidates (rows files d.tuples) ≡ [] = own_slots ∙ behind_all o.cursor d (rows files o.cursor.tuples) search slots from in
       let ss : ahead d.candidates (rows files d.tuples) ≡ after (slots_left o.cursor (rows files o.cursor.tuples)) before = none ∙ sym (ap (λ (l : List ℕ). after l before) e) in

@@ -21,7 +21,7 @@ use Rattle.session_model.specs.declared.held.Open.{Open}
 use Rattle.session_model.specs.declared.held.Open.TheVariants.{Select, Join}
 use Rattle.session_model.specs.Aheads.{ahead_in, aheads_of}
 use Rattle.session_model.specs.Running.{IsCursorSlot, IsRunning}
-use Rattle.session_model.specs.View.{cursor_in, relation_in, view}
+use Rattle.session_model.specs.View.{cursor_in, relation_of_rows, view}
 use Rattle.session_model.proofs.Joins.{join_fits, join_reads}
 use Rattle.session_model.proofs.Opens.{cursor_view}
 use Rattle.session_model.proofs.Selects.{select_fits, select_reads}
@@ -71,12 +71,12 @@ module _ (files : Table) (held : Held) (opens : List (Option Open)) (sound : IsS
   -- the relation that is held in a slot is found by its name
   pub named_rows : (k : ℕ) (t : Tuples) → get_or held.relations k None ≡ Some t → rows_named (view files held opens) t.schema.name ≡ rows files t
   named_rows k t there =
-      let slots : List (Option Relation) = map (option_map (relation_in files)) held.relations in
-      let stands : get_or slots k None ≡ Some (relation_in files t) = mapped_at (relation_in files) held.relations k (Some t) there in
+      let slots : List (Option Relation) = map (option_map (relation_of_rows files)) held.relations in
+      let stands : get_or slots k None ≡ Some (relation_of_rows files t) = mapped_at (relation_of_rows files) held.relations k (Some t) there in
       let here : 0 + k ≡ k = omega arith in
-      let found : relation_from t.schema.name 0 slots ≡ Some (0 + k, relation_in files t) =
-      found_first t.schema.name 0 k (relation_in files t) slots stands ((bytes_eq-Decides t.schema.name t.schema.name).1 refl)
-      (λ j q e same. sound.names j k q (relation_in files t) e stands ((bytes_eq-Decides q.schema.name t.schema.name).0 same)) in
+      let found : relation_from t.schema.name 0 slots ≡ Some (0 + k, relation_of_rows files t) =
+      found_first t.schema.name 0 k (relation_of_rows files t) slots stands ((bytes_eq-Decides t.schema.name t.schema.name).1 refl)
+      (λ j q e same. sound.names j k q (relation_of_rows files t) e stands ((bytes_eq-Decides q.schema.name t.schema.name).0 same)) in
       ap (λ (o : Option (ℕ × Relation)). option_map_or (λ s. s.1.rows) o []) found
 
   pub finds_rows : (state : State) (o : Open) → state.files ≡ files → IsCursorSlot state held (Some o) → FindsRows (view files held opens) files o

@@ -41,9 +41,9 @@ one_or_none true row = row ∷ []
 one_or_none false row = []
 
 -- there is no such cursor; or a row was found, or none
-abbrev pub reply_of : Option Bool → List Value → Reply
-reply_of None row = Refused no.NoCursor
-reply_of (Some found) row = Rows (one_or_none found row)
+abbrev pub reply_fetched : Option Bool → List Value → Reply
+reply_fetched None row = Refused no.NoCursor
+reply_fetched (Some found) row = Rows (one_or_none found row)
 
 -- ---- what it costs
 

@@ -2,8 +2,8 @@
 
 #![tactic(auto)]
 
-ghost use Rattle.std.specs.Prelude.{◌≡◌, ◌+◌, ◌≤◌, Some, None, IfOk, IsTrue, OnOk, Option, get_or, length, map};
-ghost use Rattle.afl_base.specs.Causes.{HasCause};
+ghost use Rattle.std.specs.Prelude.{◌≡◌, ◌+◌, ◌≤◌, Some, None, IfOk, IsTrue, Option, get_or, map};
+ghost use Rattle.afl_base.specs.Keeping.{OnlyReads};
 ghost use Rattle.cursor.specs.Pairs.{matching};
 ghost use Rattle.db_model.specs.Ahead as model;
 ghost use Rattle.db_model.specs.Answers.{selected};
@@ -13,10 +13,10 @@ ghost use Rattle.db_model.specs.Plan.{plan as plan_of, ranges_of};
 ghost use Rattle.index_set.specs.Plans.{kinds};
 ghost use Rattle.lvm.specs.Code.{IsCodeOf};
 ghost use Rattle.tuple_file.specs.Tuples.{rows, slots};
-ghost use Rattle.session_model.specs.Aheads.{join_ahead, select_ahead};
+ghost use Rattle.session_model.specs.Aheads.{ahead_of_join, ahead_of_select};
 ghost use Rattle.session_model.specs.Indexed.{infos_of};
 ghost use Rattle.session_model.specs.Running.{IsRunning, IsWaiting, IsWaitingJoin};
-ghost use Rattle.session_model.specs.View.{join_left, project, project_pair, relation_in, select_left};
+ghost use Rattle.session_model.specs.View.{join_left, project, project_pair, relation_of_rows, select_left};
 
 use afl_base::{Failed, Files};
 use cursor::{JoinCursor, SelectCursor};
@@ -43,19 +43,17 @@ pub(crate) fn begin_select<V: Files>(
         ≡ map (project plan.places) (selected attributes condition (rows state.files tuples.now))) }
     ensures ahead { let state = V.state files.old in let attributes = tuples.now.schema.attributes in
         let infos = infos_of k tuples.now held.now.indexes in IsTrue state.tells → IfOk result (λ o.
-        (condition : Option Cond) → IsCodeOf attributes condition plan.code → select_ahead state.files o
+        (condition : Option Cond) → IsCodeOf attributes condition plan.code → ahead_of_select state.files o
         ≡ model.select_ahead tuples.now.schema.name (kinds infos) (ranges_of attributes condition)
-        (relation_in state.files tuples.now) condition) }
+        (relation_of_rows state.files tuples.now) condition) }
     ensures tuples { IfOk result (λ o. o.cursor.tuples ≡ tuples.now) }
     ensures waits { IfOk result (λ o. IsWaiting (V.state files.old) held.now o.cursor) }
-    ensures same { OnOk result (V.state files.new ≡ V.state files.old) }
     ensures reads { let attributes = tuples.now.schema.attributes in
         let infos = infos_of k tuples.now held.now.indexes in
         (condition : Option Cond) → IsCodeOf attributes condition plan.code
         → V.reads files.new ≤ V.reads files.old + begin_cost (slots (V.state files.old).files tuples.now)
         (plan_of (kinds infos) (ranges_of attributes condition)) }
-    ensures store { length (V.state files.new).store ≡ length (V.state files.old).store }
-    ensures cause { HasCause (V.faults files.old) (V.faults files.new) result }
+    ensures frame { OnlyReads V.state V.lent V.reads V.faults files.old files.new result }
 {
     let indexes = indexes_of(&held.indexes, k, tuples);
     let cursor = SelectCursor::begin(files, tables, tuples.copy(), &indexes, plan.code)?;
@@ -85,7 +83,7 @@ pub(crate) fn begin_join<V: Files>(
         ≡ map (project_pair plan.places)
         (matching plan.left_on plan.right_on (rows files left.now) (rows files right.now)) }
     ensures ahead { let files = (V.state files.now).files in
-        let infos = infos_of k right.now held.now.indexes in join_ahead files result
+        let infos = infos_of k right.now held.now.indexes in ahead_of_join files result
         ≡ model.join_ahead left.now.schema.name right.now.schema.name (plan.left_on, plan.right_on)
         (kinds infos) (rows files left.now) (rows files right.now) }
     ensures left { result.cursor.left ≡ left.now }

@@ -2,43 +2,32 @@
 
 #![tactic(auto)]
 
-ghost use Rattle.std.specs.Prelude.{◌≡◌, IsTrue};
+ghost use Rattle.std.specs.Prelude.{◌≡◌, Ok};
 ghost use Rattle.db_model.specs.declared.commands.Command.TheVariants as command;
 ghost use Rattle.db_model.specs.Ahead.{aheads_after};
-ghost use Rattle.session_model.specs.Aheads.{aheads_of};
-ghost use Rattle.session_model.specs.Running.{IsRunning};
-ghost use Rattle.session_model.specs.Steps.{Answers, answer_of};
-ghost use Rattle.session_model.specs.View.{view};
+ghost use Rattle.session_model.specs.Carried.{Carries, Runs, aheads, database};
+ghost use Rattle.session_model.specs.Steps.{Answers};
 
 use crate::numbers::open_place;
 use afl_base::Files;
 use db_model::Refusal;
-use index_set::HashTables;
-use session_model::{Held, Open};
+use session_model::{Answer, Base};
 
 /// Closes a cursor, or says how it is refused.
-pub fn close_cursor<V: Files>(
-    files: &V,
-    tables: &HashTables,
-    held: &Held,
-    opens: &mut [Option<Open>],
-    number: &i64,
-) -> Option<Refusal>
-    requires running { IsRunning (V.state files.now) tables.now held.now opens.old }
-    ensures done { let old = view (V.state files.now).files held.now opens.old in
-        let new = view (V.state files.now).files held.now opens.new in
-        Answers (command.CloseCursor number.now) old new (answer_of result) }
-    ensures running { IsRunning (V.state files.now) tables.now held.now opens.new }
-    ensures aheads { let db = view (V.state files.now).files held.now opens.old in
-        let aheads = aheads_of (V.state files.now).files opens.old in
-        aheads_of (V.state files.now).files opens.new
-        ≡ aheads_after db aheads (command.CloseCursor number.now) }
+pub fn close_cursor<V: Files>(base: &mut Base<V>, number: &i64) -> Answer
+    requires running { Runs V.Files base.old }
+    ensures carried { Carries V.Files (command.CloseCursor number.now) base.old base.new (Ok result) }
+    ensures opens_only { base.new ≡ record base.old { opens = base.new.opens } }
+    ensures done { Answers (command.CloseCursor number.now) (database V.Files base.old)
+        (database V.Files base.new) result }
+    ensures ahead { let db = database V.Files base.old in
+        aheads V.Files base.new ≡ aheads_after db (aheads V.Files base.old) (command.CloseCursor number.now) }
 {
-    match open_place(opens, number) {
+    match open_place(&base.opens[..], number) {
         Some(place) => {
-            opens[place] = None;
-            None
+            base.opens[place] = None;
+            Answer::Fine
         }
-        None => Some(Refusal::NoCursor),
+        None => Answer::Refused(Refusal::NoCursor),
     }
 }

@@ -2,20 +2,18 @@
 
 #![tactic(auto)]
 
-ghost use Rattle.std.specs.Prelude.{◌≡◌, ◌+◌, ◌≤◌, IfOk, IsErrOf, IsTrue, OnOk, length};
-ghost use Rattle.afl_base.specs.Causes.{HasCause};
+ghost use Rattle.std.specs.Prelude.{◌≡◌, ◌+◌, ◌≤◌, IfOk, IsErrOf, IsTrue, OnOk};
+ghost use Rattle.afl_base.specs.Keeping.{OnlyReads};
 ghost use Rattle.db_model.specs.declared.commands.Command.TheVariants as command;
 ghost use Rattle.db_model.specs.Ahead.{aheads_after, cost_of};
-ghost use Rattle.db_model.specs.ReplyText.{text};
 ghost use Rattle.db_model.specs.Sound.{IsSoundDatabase};
 ghost use Rattle.db_model.specs.Step.{step};
-ghost use Rattle.reply_text.specs.WroteLess.{WroteLess};
-ghost use Rattle.session_model.specs.declared.step.Stop.TheVariants.{Flash, Sink as OfSink};
+ghost use Rattle.session_model.specs.declared.step.Stop.TheVariants.{Flash};
 ghost use Rattle.session_model.specs.Aheads.{aheads_of};
+ghost use Rattle.session_model.specs.Carried.{AnswersRows, Runs};
 ghost use Rattle.session_model.specs.Running.{IsRunning};
-ghost use Rattle.session_model.specs.Steps.{HasStopCause, UnlessFlash, Writes};
 ghost use Rattle.session_model.specs.View.{view};
-ghost use Rattle.session_cursors.specs.Fetched.{reply_of};
+ghost use Rattle.session_cursors.specs.Fetched.{reply_fetched};
 
 use crate::heads::fetch_open;
 use crate::numbers::open_place;
@@ -23,7 +21,7 @@ use crate::replies::write_reply;
 use afl_base::{Failed, Files, Sink};
 use db_model::Tuple;
 use index_set::HashTables;
-use session_model::{Held, Open, Outcome, Stop};
+use session_model::{Base, Held, Open, Outcome, Stop};
 
 // Takes the next row of an open cursor: `Some` says whether there is one, `None` that there is no such cursor.
 fn take_row<V: Files>(
@@ -38,19 +36,17 @@ fn take_row<V: Files>(
     ensures done { let db = view (V.state files.old).files held.now opens.old in
         let new = view (V.state files.new).files held.now opens.new in
         IsTrue (V.state files.old).tells → IfOk result (λ came.
-        step db (command.FetchCursor number.now) ≡ (new, reply_of came into.new)) }
+        step db (command.FetchCursor number.now) ≡ (new, reply_fetched came into.new)) }
     ensures running { OnOk result (IsRunning (V.state files.new) tables.now held.now opens.new) }
     ensures aheads { let db = view (V.state files.old).files held.now opens.old in
         let aheads = aheads_of (V.state files.old).files opens.old in
         IsTrue (V.state files.old).tells → OnOk result (aheads_of (V.state files.new).files opens.new
         ≡ aheads_after db aheads (command.FetchCursor number.now)) }
-    ensures same { OnOk result (V.state files.new ≡ V.state files.old) }
     ensures reads { let db = view (V.state files.old).files held.now opens.old in
         let aheads = aheads_of (V.state files.old).files opens.old in
         IsTrue (V.state files.old).tells → IsSoundDatabase db → V.reads files.new
         ≤ V.reads files.old + cost_of db aheads (command.FetchCursor number.now) }
-    ensures store { length (V.state files.new).store ≡ length (V.state files.old).store }
-    ensures cause { HasCause (V.faults files.old) (V.faults files.new) result }
+    ensures frame { OnlyReads V.state V.lent V.reads V.faults files.old files.new result }
 {
     let place = match open_place(opens, number) {
         Some(place) => place,
@@ -67,44 +63,25 @@ fn take_row<V: Files>(
 
 /// Takes the next row of an open cursor, and writes it and `rows 1`; `rows 0` where none is to come; or the refusal.
 pub fn fetch_cursor<V: Files, K: Sink>(
-    files: &mut V,
-    tables: &HashTables,
-    held: &Held,
-    opens: &mut [Option<Open>],
+    base: &mut Base<V>,
     number: &i64,
     out: &mut K,
 ) -> Result<Outcome, Stop>
-    requires running { IsRunning (V.state files.old) tables.now held.now opens.old }
-    ensures done { let db = view (V.state files.old).files held.now opens.old in
-        let reply = (step db (command.FetchCursor number.now)).1 in
-        IsTrue (V.state files.old).tells → IfOk result (λ came.
-        Writes reply came (K.held out.old) (K.held out.new)) }
-    ensures database { let db = view (V.state files.old).files held.now opens.old in
-        IsTrue (V.state files.old).tells → UnlessFlash result
-        (view (V.state files.new).files held.now opens.new ≡ (step db (command.FetchCursor number.now)).0) }
-    ensures sink { let db = view (V.state files.old).files held.now opens.old in
-        let reply = (step db (command.FetchCursor number.now)).1 in
-        IsTrue (V.state files.old).tells → IsErrOf result OfSink
-        → WroteLess (K.held out.old) (K.held out.new) (text reply) }
-    ensures flash { IsErrOf result Flash → K.held out.new ≡ K.held out.old }
-    ensures running { UnlessFlash result (IsRunning (V.state files.new) tables.now held.now opens.new) }
-    ensures aheads { let db = view (V.state files.old).files held.now opens.old in
-        let aheads = aheads_of (V.state files.old).files opens.old in
-        IsTrue (V.state files.old).tells → UnlessFlash result (aheads_of (V.state files.new).files opens.new
-        ≡ aheads_after db aheads (command.FetchCursor number.now)) }
-    ensures same { UnlessFlash result (V.state files.new ≡ V.state files.old) }
-    ensures reads { let db = view (V.state files.old).files held.now opens.old in
-        let aheads = aheads_of (V.state files.old).files opens.old in
-        IsTrue (V.state files.old).tells → IsSoundDatabase db → V.reads files.new
-        ≤ V.reads files.old + cost_of db aheads (command.FetchCursor number.now) }
-    ensures keeps { K.keeps out.old out.new }
-    ensures faultless { OnOk result (K.faults out.new ≡ K.faults out.old) }
-    ensures store { length (V.state files.new).store ≡ length (V.state files.old).store }
-    ensures cause { HasStopCause (V.faults files.old) (V.faults files.new)
-        (K.faults out.old) (K.faults out.new) result }
+    requires running { Runs V.Files base.old }
+    ensures written { AnswersRows V.Files K.Sink (command.FetchCursor number.now) base.old base.new
+        out.old out.new result }
+    ensures files_and_opens { base.new ≡ record base.old { files = base.new.files; opens = base.new.opens } }
+    ensures silent { IsErrOf result Flash → K.held out.new ≡ K.held out.old }
 {
     let mut row = Tuple::new();
-    let came = match take_row(files, tables, held, opens, number, &mut row) {
+    let came = match take_row(
+        &mut base.files,
+        &base.tables,
+        &base.held,
+        &mut base.opens[..],
+        number,
+        &mut row,
+    ) {
         Ok(came) => came,
         Err(Failed) => return Err(Stop::Flash),
     };

@@ -2,13 +2,13 @@
 
 #![tactic(auto)]
 
-ghost use Rattle.std.specs.Prelude.{◌≡◌, ◌+◌, ◌≤◌, Some, IfOk, IsTrue, OnOk, drop, length, take};
-ghost use Rattle.afl_base.specs.Causes.{HasCause};
+ghost use Rattle.std.specs.Prelude.{◌≡◌, ◌+◌, ◌≤◌, Some, IfOk, IsTrue, OnOk, drop, take};
+ghost use Rattle.afl_base.specs.Keeping.{OnlyReads};
 ghost use Rattle.db_model.specs.Ahead.{fetched};
 ghost use Rattle.db_model.specs.Database.{Database};
 ghost use Rattle.session_model.specs.declared.held.Held.{Held as AnyHeld};
 ghost use Rattle.session_model.specs.declared.held.Open.TheVariants.{Select as OfSelect, Join as OfJoin};
-ghost use Rattle.session_model.specs.Aheads.{ahead_in, join_ahead, select_ahead};
+ghost use Rattle.session_model.specs.Aheads.{ahead_in, ahead_of_join, ahead_of_select};
 ghost use Rattle.session_model.specs.Running.{IsCursorSlot, IsWaiting, IsWaitingJoin};
 ghost use Rattle.session_model.specs.View.{cursor_in, join_left, select_left};
 ghost use Rattle.session_cursors.specs.Fetched.{CanFetch, CanJoin, CanSelect, FindsRows, fetch_price, one_or_none};
@@ -31,16 +31,14 @@ fn fetch_select<V: Files>(
     ensures left { let state = V.state files.old in IsTrue state.tells → OnOk result
         (select_left state.files opened.new ≡ drop 1 (select_left state.files opened.old)) }
     ensures ahead { let state = V.state files.old in IsTrue state.tells → OnOk result
-        (select_ahead state.files opened.new ≡ fetched (select_ahead state.files opened.old)) }
+        (ahead_of_select state.files opened.new ≡ fetched (ahead_of_select state.files opened.old)) }
     ensures tuples { OnOk result (opened.new.cursor.tuples ≡ opened.old.cursor.tuples) }
     ensures waits { OnOk result ((held : AnyHeld) → IsWaiting (V.state files.old) held opened.old.cursor
         → IsWaiting (V.state files.old) held opened.new.cursor) }
-    ensures same { OnOk result (V.state files.new ≡ V.state files.old) }
     ensures reads { let state = V.state files.old in IsTrue state.tells → (db : Database)
         → FindsRows db state.files (OfSelect opened.old)
         → V.reads files.new ≤ V.reads files.old + fetch_price db state.files (OfSelect opened.old) }
-    ensures store { length (V.state files.new).store ≡ length (V.state files.old).store }
-    ensures cause { HasCause (V.faults files.old) (V.faults files.new) result }
+    ensures frame { OnlyReads V.state V.lent V.reads V.faults files.old files.new result }
 {
     if opened.cursor.candidates.slots <= opened.cursor.candidates.from {
         return Ok(false);
@@ -65,17 +63,15 @@ fn fetch_join<V: Files>(
     ensures left { let state = V.state files.old in IsTrue state.tells → OnOk result
         (join_left state.files opened.new ≡ drop 1 (join_left state.files opened.old)) }
     ensures ahead { let state = V.state files.old in IsTrue state.tells → OnOk result
-        (join_ahead state.files opened.new ≡ fetched (join_ahead state.files opened.old)) }
+        (ahead_of_join state.files opened.new ≡ fetched (ahead_of_join state.files opened.old)) }
     ensures left_tuples { OnOk result (opened.new.cursor.left ≡ opened.old.cursor.left) }
     ensures right_tuples { OnOk result (opened.new.cursor.right ≡ opened.old.cursor.right) }
     ensures waits { OnOk result ((held : AnyHeld) → IsWaitingJoin (V.state files.old) held opened.old.cursor
         → IsWaitingJoin (V.state files.old) held opened.new.cursor) }
-    ensures same { OnOk result (V.state files.new ≡ V.state files.old) }
     ensures reads { let state = V.state files.old in IsTrue state.tells → (db : Database)
         → FindsRows db state.files (OfJoin opened.old)
         → V.reads files.new ≤ V.reads files.old + fetch_price db state.files (OfJoin opened.old) }
-    ensures store { length (V.state files.new).store ≡ length (V.state files.old).store }
-    ensures cause { HasCause (V.faults files.old) (V.faults files.new) result }
+    ensures frame { OnlyReads V.state V.lent V.reads V.faults files.old files.new result }
 {
     if opened.cursor.right_slots == 0 {
         opened.cursor.at = opened.cursor.left_slots;
@@ -106,12 +102,10 @@ pub(crate) fn fetch_open<V: Files>(
         (ahead_in state.files opened.new ≡ fetched (ahead_in state.files opened.old)) }
     ensures waits { OnOk result ((held : AnyHeld) → IsCursorSlot (V.state files.old) held (Some opened.old)
         → IsCursorSlot (V.state files.old) held (Some opened.new)) }
-    ensures same { OnOk result (V.state files.new ≡ V.state files.old) }
     ensures reads { let state = V.state files.old in IsTrue state.tells → (db : Database)
         → FindsRows db state.files opened.old
         → V.reads files.new ≤ V.reads files.old + fetch_price db state.files opened.old }
-    ensures store { length (V.state files.new).store ≡ length (V.state files.old).store }
-    ensures cause { HasCause (V.faults files.old) (V.faults files.new) result }
+    ensures frame { OnlyReads V.state V.lent V.reads V.faults files.old files.new result }
 {
     match opened {
         Open::Select(select) => fetch_select(files, tables, select, into),

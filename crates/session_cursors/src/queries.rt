@@ -2,8 +2,8 @@
 
 #![tactic(auto)]
 
-ghost use Rattle.std.specs.Prelude.{◌≡◌, ◌+◌, ◌<◌, ◌≤◌, Err, None, Some, IfErr, IfOk, IfSome, IsOk, IsTrue, MatchOption, MatchResult, OnErr, OnOk, get_or, length};
-ghost use Rattle.afl_base.specs.Causes.{HasCause};
+ghost use Rattle.std.specs.Prelude.{◌≡◌, ◌+◌, ◌<◌, ◌≤◌, Err, None, Some, IfErr, IfOk, IfSome, IsOk, IsTrue, MatchOption, OnErr, get_or, length};
+ghost use Rattle.afl_base.specs.Keeping.{OnlyReads};
 ghost use Rattle.db_model.specs.declared.commands.Query.TheVariants.{Select as OfSelect, Join as OfJoin};
 ghost use Rattle.db_model.specs.Cond.{IsCondition};
 ghost use Rattle.db_model.specs.Cost.{open_cost};
@@ -12,7 +12,7 @@ ghost use Rattle.session_model.specs.Cells.{cell_from};
 ghost use Rattle.session_model.specs.Queries.{HasConditions};
 ghost use Rattle.session_model.specs.Running.{IsCursorSlot, IsRunning};
 ghost use Rattle.session_model.specs.View.{view};
-ghost use Rattle.session_cursors.specs.Opened.{Begins};
+ghost use Rattle.session_cursors.specs.Opened.{BeginsAnswer};
 
 use crate::beginning::{begin_join, begin_select};
 use afl_base::{Failed, Files};
@@ -51,7 +51,7 @@ fn open_select<V: Files>(
     ensures begins { let db = view (V.state files.old).files held.now opens.now in
         let query = OfSelect list.now relation.now condition.now in
         IsTrue (V.state files.old).tells → IfOk result (λ came. IfOk came (λ o.
-        Begins db (V.state files.old).files query o)) }
+        BeginsAnswer db (V.state files.old).files query o)) }
     ensures refused { let db = view (V.state files.old).files held.now opens.now in
         let query = OfSelect list.now relation.now condition.now in
         IfOk result (λ came. IfErr came (λ refusal. answer_of db query ≡ Err refusal)) }
@@ -60,13 +60,11 @@ fn open_select<V: Files>(
         OnErr result (IsOk (answer_of db query)) }
     ensures waits { IfOk result (λ came. IfOk came (λ o.
         IsCursorSlot (V.state files.old) held.now (Some o))) }
-    ensures same { OnOk result (V.state files.new ≡ V.state files.old) }
     ensures reads { let db = view (V.state files.old).files held.now opens.now in
         let query = OfSelect list.now relation.now condition.now in
         V.reads files.new ≤ V.reads files.old + open_cost db query }
     ensures unread { IfOk result (λ came. OnErr came (V.reads files.new ≡ V.reads files.old)) }
-    ensures store { length (V.state files.new).store ≡ length (V.state files.old).store }
-    ensures cause { HasCause (V.faults files.old) (V.faults files.new) result }
+    ensures frame { OnlyReads V.state V.lent V.reads V.faults files.old files.new result }
 {
     let (k, tuples) = match named(held, relation) {
         Some((k, tuples)) => (k, tuples),
@@ -94,7 +92,7 @@ fn open_join<V: Files>(
     requires running { IsRunning (V.state files.now) tables.now held.now opens.now }
     ensures begins { let db = view (V.state files.now).files held.now opens.now in
         let query = OfJoin left.now right.now on.now list.now in
-        IfOk result (λ o. Begins db (V.state files.now).files query o) }
+        IfOk result (λ o. BeginsAnswer db (V.state files.now).files query o) }
     ensures refused { let db = view (V.state files.now).files held.now opens.now in
         let query = OfJoin left.now right.now on.now list.now in
         IfErr result (λ refusal. answer_of db query ≡ Err refusal) }
@@ -127,19 +125,17 @@ pub(crate) fn open_query<V: Files>(
     requires condition { HasConditions query.now }
     ensures begins { let db = view (V.state files.old).files held.now opens.now in
         IsTrue (V.state files.old).tells → IfOk result (λ came. IfOk came (λ o.
-        Begins db (V.state files.old).files query.now o)) }
+        BeginsAnswer db (V.state files.old).files query.now o)) }
     ensures refused { let db = view (V.state files.old).files held.now opens.now in
         IfOk result (λ came. IfErr came (λ refusal. answer_of db query.now ≡ Err refusal)) }
     ensures answered { let db = view (V.state files.old).files held.now opens.now in
         OnErr result (IsOk (answer_of db query.now)) }
     ensures waits { IfOk result (λ came. IfOk came (λ o.
         IsCursorSlot (V.state files.old) held.now (Some o))) }
-    ensures same { OnOk result (V.state files.new ≡ V.state files.old) }
     ensures reads { let db = view (V.state files.old).files held.now opens.now in
         V.reads files.new ≤ V.reads files.old + open_cost db query.now }
     ensures unread { IfOk result (λ came. OnErr came (V.reads files.new ≡ V.reads files.old)) }
-    ensures store { length (V.state files.new).store ≡ length (V.state files.old).store }
-    ensures cause { HasCause (V.faults files.old) (V.faults files.new) result }
+    ensures frame { OnlyReads V.state V.lent V.reads V.faults files.old files.new result }
 {
     match query {
         Query::Select {

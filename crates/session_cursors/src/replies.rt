@@ -3,13 +3,13 @@
 #![tactic(auto)]
 
 ghost use Rattle.std.specs.Prelude.{◌≡◌, ◌∷◌, [], IfOk, OnErr, OnOk};
+ghost use Rattle.afl_base.specs.Keeping.{Sends};
 ghost use Rattle.std.specs.Io.KnownBytes.{append_known};
-ghost use Rattle.afl_base.specs.Causes.{HasCause};
 ghost use Rattle.db_model.specs.ReplyText.{text};
 ghost use Rattle.db_model.specs.Step.{Rows};
 ghost use Rattle.reply_text.specs.WroteLess.{WroteLess};
-ghost use Rattle.session_model.specs.Steps.{Writes};
-ghost use Rattle.session_cursors.specs.Fetched.{reply_of};
+ghost use Rattle.session_model.specs.Steps.{WritesReply};
+ghost use Rattle.session_cursors.specs.Fetched.{reply_fetched};
 
 use afl_base::{Failed, Sink};
 use db_model::{Refusal, Tuple};
@@ -23,9 +23,7 @@ fn write_one<K: Sink>(out: &mut K, row: &Tuple) -> Result<(), Failed>
         (K.held out.new ≡ append_known (K.held out.old) (text (Rows (row.now ∷ [])))) }
     ensures failed { OnErr result
         (WroteLess (K.held out.old) (K.held out.new) (text (Rows (row.now ∷ [])))) }
-    ensures keeps { K.keeps out.old out.new }
-    ensures faultless { OnOk result (K.faults out.new ≡ K.faults out.old) }
-    ensures cause { HasCause (K.faults out.old) (K.faults out.new) result }
+    ensures frame { Sends K.lent K.faults out.old out.new result }
 {
     write_row(out, row)?;
     write_rows(out, 1)
@@ -38,25 +36,23 @@ pub(crate) fn write_reply<K: Sink>(
     row: &Tuple,
 ) -> Result<Outcome, Failed>
     ensures done { IfOk result (λ outcome.
-        Writes (reply_of came row.now) outcome (K.held out.old) (K.held out.new)) }
+        WritesReply (reply_fetched came row.now) outcome (K.held out.old) (K.held out.new)) }
     ensures failed { OnErr result
-        (WroteLess (K.held out.old) (K.held out.new) (text (reply_of came row.now))) }
-    ensures keeps { K.keeps out.old out.new }
-    ensures faultless { OnOk result (K.faults out.new ≡ K.faults out.old) }
-    ensures cause { HasCause (K.faults out.old) (K.faults out.new) result }
+        (WroteLess (K.held out.old) (K.held out.new) (text (reply_fetched came row.now))) }
+    ensures frame { Sends K.lent K.faults out.old out.new result }
 {
     match came {
-        None => match write_refusal(out, &Refusal::NoCursor) {
-            Ok(()) => Ok(Outcome::Refused),
-            Err(Failed) => Err(Failed),
-        },
-        Some(true) => match write_one(out, row) {
-            Ok(()) => Ok(Outcome::Rows(1)),
-            Err(Failed) => Err(Failed),
-        },
-        Some(false) => match write_rows(out, 0) {
-            Ok(()) => Ok(Outcome::Rows(0)),
-            Err(Failed) => Err(Failed),
-        },
+        None => {
+            write_refusal(out, &Refusal::NoCursor)?;
+            Ok(Outcome::Refused)
+        }
+        Some(true) => {
+            write_one(out, row)?;
+            Ok(Outcome::Rows(1))
+        }
+        Some(false) => {
+            write_rows(out, 0)?;
+            Ok(Outcome::Rows(0))
+        }
     }
 }

@@ -33,7 +33,7 @@ use Rattle.session_model.specs.Aheads.{aheads_of}
 use Rattle.session_model.specs.Cells.{cell_from}
 use Rattle.session_model.specs.Frames.{with_indexed}
 use Rattle.session_model.specs.Indexed.{IsAllowedAt}
-use Rattle.session_model.specs.Running.{IsIndexSlot, IsIndexedOn, IsRunning, catalog_bytes}
+use Rattle.session_model.specs.Running.{IsIndexSlot, IsIndexedOn, IsRunning, bytes_of_catalog}
 use Rattle.session_model.specs.View.{view}
 use Rattle.session_model.specs.Wanted.{WantsFew, room_in}
 use Rattle.session_model.proofs.Aheads.{catalog_aheads, index_aheads}
@@ -256,7 +256,7 @@ pub no_catalog : (state : State) (tables : Tables) (held : Held) (opens : List (
     → (k : ℕ) (t : Tuples) → get_or held.relations k None ≡ Some t → ⊥
 unfolding schema_of
 no_catalog state tables held opens r told none k t e =
-    let listed = ap (λ (o : Option ℕ). catalog_of (catalog_bytes state.files o)) (sym none) ∙ r.listed told in
+    let listed = ap (λ (o : Option ℕ). catalog_of (bytes_of_catalog state.files o)) (sym none) ∙ r.listed told in
     let relations : replicate 8 None ≡ map (option_map schema_of) held.relations = sym no_relations ∙ ap (λ (c : Slots). c.relations) listed in
     let here : None ≡ Some t.schema = sym (none_in 8 k) ∙ ap (λ (l : List (Option Schema)). get_or l k None) relations ∙ seen_at held.relations k t e in
     absurd (cc)

@@ -22,7 +22,7 @@ use Rattle.space_model.specs.FileNames.{rows_file, tree_file}
 use Rattle.tuple_file.specs.declared.tuples.Tuples.{Tuples}
 use Rattle.tuple_file.specs.Tuples.{slots}
 use Rattle.session_model.specs.declared.held.Indexed.{Indexed}
-use Rattle.session_model.specs.Frames.{HasBytes, Leaves}
+use Rattle.session_model.specs.Frames.{HasBytes, LeavesOthers}
 use Rattle.session_model.proofs.Leaves.{leaves_becomes}
 use Rattle.session_model.proofs.Running.{bytes_by, catalog_no_rows, row_no_tree}
 use Rattle.session_indexes.specs.declared.sites.Site.{Site}
@@ -30,7 +30,7 @@ use Rattle.session_indexes.specs.Made.{IsMade, IsNobodys, IsReadyFor, KeepsTaken
 use Rattle.session_indexes.specs.Trees.{PutsTree}
 use Rattle.session_indexes.proofs.Puts.{live_catalog}
 
-module _ (old new : State) (cat : ℕ) (t : Tuples) (site : Site) (ready : IsReadyFor old cat t site) (l : Leaves old new (tree_file site.slot)) where
+module _ (old new : State) (cat : ℕ) (t : Tuples) (site : Site) (ready : IsReadyFor old cat t site) (l : LeavesOthers old new (tree_file site.slot)) where
   rows_stay : place new.files t.file ≡ place old.files t.file
   rows_stay = l.others t.file (rows_file site.relation) ready.named (λ e. catalog_no_rows site.relation (sym e)) (row_no_tree site.relation site.slot)
 
@@ -45,7 +45,7 @@ module _ (old new : State) (cat : ℕ) (t : Tuples) (site : Site) (ready : IsRea
 
 -- the index slot was put
 module _ (old new : State) (cat : ℕ) (t : Tuples) (site : Site) (ready : IsReadyFor old cat t site) (kind : IndexKind) (u : PutsIndex old new cat site.slot (Some (index_for site kind))) where
-  put_leaves : Leaves old new (tree_file site.slot)
+  put_leaves : LeavesOthers old new (tree_file site.slot)
   put_leaves = leaves_becomes old new cat _ _ (tree_file site.slot) ready.catalog.0 u
 
   put_bytes : HasBytes old new cat (bytes_for old cat site kind)

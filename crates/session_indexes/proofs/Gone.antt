@@ -21,7 +21,7 @@ use Rattle.session_model.specs.declared.held.Open.{Open}
 use Rattle.session_model.specs.Aheads.{aheads_of}
 use Rattle.session_model.specs.Cells.{cell_from}
 use Rattle.session_model.specs.Frames.{with_indexed}
-use Rattle.session_model.specs.Running.{HasCatalog, HasFile, IsRunning, ReadsRows}
+use Rattle.session_model.specs.Running.{HasCatalogFile, HasFile, IsRunning, ReadsRows}
 use Rattle.session_model.specs.View.{cursor_in, view}
 use Rattle.session_model.specs.Wanted.{WantsFew}
 use Rattle.session_model.proofs.Aheads.{catalog_aheads, index_aheads}
@@ -30,14 +30,14 @@ use Rattle.session_model.proofs.Leaves.{leaves_becomes, leaves_removes, leaves_t
 use Rattle.session_model.proofs.Running.{catalog_no_tree, differ, index_there, reads_other, some_same}
 use Rattle.session_model.proofs.Wanted.{relation_seen, wants_catalog}
 use Rattle.session_indexes.specs.declared.removing.Standing.{Standing}
-use Rattle.session_indexes.specs.Made.{AsksSlot}
+use Rattle.session_indexes.specs.Made.{AsksIndexSlot}
 use Rattle.session_indexes.specs.Removed.{IsRemovable, IsTaken}
 use Rattle.session_indexes.proofs.Refused.{removed, slot_seen}
 use Rattle.session_indexes.proofs.Puts.{live_catalog}
 
 -- ---- the files
 
-module _ (s0 s1 : State) (cat slot : ℕ) (idle : s0.draft ≡ None) (catalog : HasCatalog s0.files (Some cat)) (u : PutsIndex s0 s1 cat slot None) where
+module _ (s0 s1 : State) (cat slot : ℕ) (idle : s0.draft ≡ None) (catalog : HasCatalogFile s0.files (Some cat)) (u : PutsIndex s0 s1 cat slot None) where
   cat_named : IsNamed s1.files cat catalog_file
   cat_named = (becomes_spares s0 s1 cat _ _ (live_catalog s0.files cat catalog) u).named cat ∙ catalog.0
 
@@ -145,7 +145,7 @@ module _ (s0 : State) (tables : Tables) (held : Held) (opens : List (Option Open
     same_aheads told =
         catalog_aheads s0 s1 tables held opens r (leaves_becomes s0 s1 cat _ _ catalog_file (catalog_there s0 tables held opens cat r has).0 u) told
 
-    pub room_wants : (asks : ℕ → ℕ → ℕ → ℕ → Type 0) (need : ℕ) → AsksSlot asks s1 cat standing.slot need
+    pub room_wants : (asks : ℕ → ℕ → ℕ → ℕ → Type 0) (need : ℕ) → AsksIndexSlot asks s1 cat standing.slot need
         → WantsFew asks s1.files (view s1.files held opens) (command.RemoveIndex name attribute) need
     room_wants asks need a =
         rw (relation_seen s1.files held opens name k t cell, is.place, slot_seen k is.at 0 held.indexes, is.found)

@@ -24,9 +24,9 @@ use Rattle.space_model.specs.FileNames.{catalog_file, rows_file, tree_file}
 use Rattle.tuple_file.specs.declared.tuples.Tuples.{Tuples}
 use Rattle.tuple_file.specs.Column.{IsNumber, is_number}
 use Rattle.tuple_file.specs.Tuples.{HoldsRows}
-use Rattle.session_model.specs.Frames.{Leaves}
+use Rattle.session_model.specs.Frames.{LeavesOthers}
 use Rattle.session_model.specs.Indexed.{IsAllowedAt}
-use Rattle.session_model.specs.Running.{HasCatalog}
+use Rattle.session_model.specs.Running.{HasCatalogFile}
 use Rattle.stored.proofs.FewFiles.{few_files}
 use Rattle.session_model.proofs.Leaves.{leaves_becomes, leaves_commits, leaves_same, leaves_then}
 use Rattle.session_model.proofs.Running.{bytes_by, catalog_no_rows, differ, holds_by}
@@ -117,8 +117,8 @@ module _ (s0 s1 s2 : State) (cat : ℕ) (t : Tuples) (site : Site) (ready : IsRe
         one_is _ (subst (λ (z : Draft). slice_index z.bytes (length z.bytes - 1) ≡ 1) (sym same_draft) (ends_marked (draft_in s2).bytes (keys_at s1 t site) (d.tree (sym d.tells ∙ sym p.tells ∙ told))))
 
     module _ (s4 : State) (file : ℕ) (k : Commits s3 s4 file) where
-      catalog_2 : HasCatalog s2.files (Some cat)
-      catalog_2 = subst (λ (f : Table). HasCatalog f (Some cat)) (sym d.files) (catalog_stays s0 s1 cat u ready.catalog)
+      catalog_2 : HasCatalogFile s2.files (Some cat)
+      catalog_2 = subst (λ (f : Table). HasCatalogFile f (Some cat)) (sym d.files) (catalog_stays s0 s1 cat u ready.catalog)
 
       named_3 : IsNamed s3.files cat catalog_file
       named_3 = (becomes_spares s2 s3 cat _ _ (live_catalog s2.files cat catalog_2) p).named cat ∙ catalog_2.0
@@ -139,7 +139,7 @@ module _ (s0 s1 s2 : State) (cat : ℕ) (t : Tuples) (site : Site) (ready : IsRe
       rows_1 : bytes_at s2.files cat ≡ bytes_at s1.files cat
       rows_1 = ap (λ (f : Table). bytes_at f cat) d.files
 
-      leaves_all : Leaves s0 s4 (tree_file site.slot)
+      leaves_all : LeavesOthers s0 s4 (tree_file site.slot)
       leaves_all =
           let name = tree_file site.slot in
           let a = leaves_becomes s0 s1 cat _ _ name ready.catalog.0 u in

@@ -16,7 +16,7 @@ use Rattle.session_model.specs.declared.held.Held.{Held}
 use Rattle.session_model.specs.declared.held.Indexed.{Indexed}
 use Rattle.session_model.specs.declared.held.Open.{Open}
 use Rattle.session_model.specs.Cells.{cell_from}
-use Rattle.session_model.specs.Indexed.{index_in}
+use Rattle.session_model.specs.Indexed.{index_known}
 use Rattle.session_model.specs.View.{view}
 use Rattle.session_model.proofs.Views.{found_in_view}
 use Rattle.session_model.proofs.Rules.{both_parts, true_eq}
@@ -24,13 +24,13 @@ use Rattle.session_indexes.specs.Sites.{is_held_on, slot_from}
 
 -- ---- slots of indexes
 
-pub slot_seen : (relation attribute n : ℕ) (xs : List (Option Indexed)) → index_from relation attribute n (map (option_map index_in) xs) ≡ slot_from relation attribute n xs
+pub slot_seen : (relation attribute n : ℕ) (xs : List (Option Indexed)) → index_from relation attribute n (map (option_map index_known) xs) ≡ slot_from relation attribute n xs
 slot_seen relation attribute n [] = refl
 slot_seen relation attribute n (None ∷ xs) = slot_seen relation attribute (n + 1) xs
 slot_seen relation attribute n (Some x ∷ xs) =
-    ap (λ (o : Option ℕ). cond (is_on relation attribute (index_in x)) (Some n) o) (slot_seen relation attribute (n + 1) xs)
+    ap (λ (o : Option ℕ). cond (is_on relation attribute (index_known x)) (Some n) o) (slot_seen relation attribute (n + 1) xs)
 
-pub free_seen : (n : ℕ) (xs : List (Option Indexed)) → free_from n (map (option_map index_in) xs) ≡ free_from n xs
+pub free_seen : (n : ℕ) (xs : List (Option Indexed)) → free_from n (map (option_map index_known) xs) ≡ free_from n xs
 free_seen n [] = refl
 free_seen n (None ∷ xs) = refl
 free_seen n (Some x ∷ xs) = free_seen (n + 1) xs

@@ -22,9 +22,9 @@ use Rattle.space_model.specs.Wants.{room_for}
 use Rattle.tuple_file.specs.declared.tuples.Tuples.{Tuples}
 use Rattle.tuple_file.specs.Tuples.{HoldsRows, rows, slots}
 use Rattle.session_model.specs.declared.held.Indexed.{Indexed}
-use Rattle.session_model.specs.Frames.{HasBytes, Leaves}
-use Rattle.session_model.specs.Indexed.{index_in}
-use Rattle.session_model.specs.Running.{AreOfDatabase, HasCatalog, HasFile}
+use Rattle.session_model.specs.Frames.{HasBytes, LeavesOthers}
+use Rattle.session_model.specs.Indexed.{index_known}
+use Rattle.session_model.specs.Running.{AreOfDatabase, HasCatalogFile, HasFile}
 use Rattle.session_indexes.specs.declared.sites.Site.{Site}
 
 -- ---- before
@@ -33,7 +33,7 @@ use Rattle.session_indexes.specs.declared.sites.Site.{Site}
 pub record IsReadyFor (state : State) (cat : ℕ) (t : Tuples) (site : Site) : Type 0 where
   pub slot : site.slot < 8
   pub idle : state.draft ≡ None
-  pub catalog : HasCatalog state.files (Some cat)
+  pub catalog : HasCatalogFile state.files (Some cat)
   pub holds : HoldsRows state t
   pub named : IsNamed state.files t.file (rows_file site.relation)
   pub unnamed : IsUnnamed state.files (tree_file site.slot)
@@ -65,7 +65,7 @@ IsNobodys number xs = (j : ℕ) (y : Indexed) → get_or xs j None ≡ Some y �
 
 -- the index stands in its slot of the catalog, and is complete
 pub record IsMade (old new : State) (before after : Tables) (xs : List (Option Indexed)) (cat : ℕ) (t : Tuples) (site : Site) (access : Access) : Type 0 where
-  pub leaves : Leaves old new (tree_file site.slot)
+  pub leaves : LeavesOthers old new (tree_file site.slot)
   pub bytes : HasBytes old new cat (bytes_for old cat site (kind_of access))
   pub idle : new.draft ≡ None
   pub file : HasFile new.files site.slot access
@@ -78,12 +78,12 @@ pub record IsMade (old new : State) (before after : Tables) (xs : List (Option I
 
 -- the kind refuses no index of these keys beside those of a list
 abbrev pub IsUnrefused : IndexKind → List (Option Indexed) → List ℤ → Type 0
-IsUnrefused kind xs ks = (db : Database) → db.indexes ≡ map (option_map index_in) xs → refuse_kind kind db ks ≡ Ok tt
+IsUnrefused kind xs ks = (db : Database) → db.indexes ≡ map (option_map index_known) xs → refuse_kind kind db ks ≡ Ok tt
 
 -- or refuses it as was answered
 abbrev pub IsTried : IndexKind → List (Option Indexed) → List ℤ → Result Access Refusal → Type 0
 IsTried kind xs ks (Ok access) = IsUnrefused kind xs ks
-IsTried kind xs ks (Err refusal) = (db : Database) → db.indexes ≡ map (option_map index_in) xs → refuse_kind kind db ks ≡ Err refusal
+IsTried kind xs ks (Err refusal) = (db : Database) → db.indexes ≡ map (option_map index_known) xs → refuse_kind kind db ks ≡ Err refusal
 
 -- no two indexes have one tree or one table
 abbrev pub AreElsewhere : List (Option Indexed) → Type 0
@@ -92,12 +92,12 @@ AreElsewhere xs = (i j : ℕ) (x y : Indexed) → i ≢ j → get_or xs i None �
 -- ---- space
 
 -- room for the index slot in the catalog
-abbrev pub AsksSlot : (ℕ → ℕ → ℕ → ℕ → Type 0) → State → ℕ → ℕ → ℕ → Type 0
-AsksSlot asks state cat slot need =
+abbrev pub AsksIndexSlot : (ℕ → ℕ → ℕ → ℕ → Type 0) → State → ℕ → ℕ → ℕ → Type 0
+AsksIndexSlot asks state cat slot need =
     asks_few asks state.files cat ((room_for (size_at state.files cat) (1408 + 8 * slot) 8).0) ((room_for (size_at state.files cat) (1408 + 8 * slot) 8).1) need
 
 -- or an extent for a tree of the keys
 abbrev pub AsksIndex : (ℕ → ℕ → ℕ → ℕ → Type 0) → State → ℕ → ℕ → IndexKind → List ℤ → ℕ → Type 0
-AsksIndex asks state cat slot Inline ks need = AsksSlot asks state cat slot need
-AsksIndex asks state cat slot MemHash ks need = AsksSlot asks state cat slot need
-AsksIndex asks state cat slot MaxHeap ks need = AsksSlot asks state cat slot need ⊎ (need ≡ fit (tree_size ks))
+AsksIndex asks state cat slot Inline ks need = AsksIndexSlot asks state cat slot need
+AsksIndex asks state cat slot MemHash ks need = AsksIndexSlot asks state cat slot need
+AsksIndex asks state cat slot MaxHeap ks need = AsksIndexSlot asks state cat slot need ⊎ (need ≡ fit (tree_size ks))

@@ -9,7 +9,7 @@ use Rattle.tuple_file.specs.declared.tuples.Tuples.{Tuples}
 use Rattle.session_model.specs.declared.held.Held.{Held}
 use Rattle.session_model.specs.declared.held.Indexed.{Indexed}
 use Rattle.session_model.specs.declared.held.Open.{Open}
-use Rattle.session_model.specs.Frames.{HasBytes, Leaves}
+use Rattle.session_model.specs.Frames.{HasBytes, LeavesOthers}
 use Rattle.session_model.specs.View.{view}
 use Rattle.session_indexes.specs.declared.removing.Standing.{Standing}
 use Rattle.session_indexes.specs.Sites.{slot_from}
@@ -28,7 +28,7 @@ pub record IsRemovable (held : Held) (opens : List (Option Open)) (name attribut
 
 -- the slot of the catalog is empty, and no file has the name of its tree
 pub record IsTaken (old new : State) (cat slot : ℕ) : Type 0 where
-  pub leaves : Leaves old new (tree_file slot)
+  pub leaves : LeavesOthers old new (tree_file slot)
   pub bytes : HasBytes old new cat (with_index_slot (bytes_at old.files cat) slot None)
   pub idle : new.draft ≡ None
   pub unnamed : IsUnnamed new.files (tree_file slot)

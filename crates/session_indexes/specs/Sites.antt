@@ -27,23 +27,23 @@ slot_from relation attribute n (x ∷ xs) = if is_held_on relation attribute x t
 
 -- ---- hash tables
 
-abbrev pub is_table : TableId → Access → Bool
-is_table First (Table First) = true
-is_table Second (Table Second) = true
-is_table number _ = false
+abbrev pub is_this_table : TableId → Access → Bool
+is_this_table First (Table First) = true
+is_this_table Second (Table Second) = true
+is_this_table number _ = false
 
 abbrev pub is_in_table : TableId → Option Indexed → Bool
 is_in_table number None = false
-is_in_table number (Some x) = is_table number x.access
+is_in_table number (Some x) = is_this_table number x.access
 
 -- whether an index has the table
-abbrev pub is_taken : TableId → List (Option Indexed) → Bool
-is_taken number [] = false
-is_taken number (x ∷ xs) = if is_in_table number x then true else is_taken number xs
+abbrev pub is_table_taken : TableId → List (Option Indexed) → Bool
+is_table_taken number [] = false
+is_table_taken number (x ∷ xs) = if is_in_table number x then true else is_table_taken number xs
 
 -- a table that no index has
 abbrev pub free_table : List (Option Indexed) → Option TableId
-free_table xs = if not (is_taken First xs) then Some First else if not (is_taken Second xs) then Some Second else None
+free_table xs = if not (is_table_taken First xs) then Some First else if not (is_table_taken Second xs) then Some Second else None
 
 -- ---- sites
 

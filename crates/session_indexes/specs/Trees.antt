@@ -6,7 +6,7 @@ use Rattle.db_model.specs.declared.schemas.IndexKind.TheVariants.{MaxHeap}
 use Rattle.index_tree.specs.Trees.{IsTreeOf}
 use Rattle.space_model.specs.FileNames.{tree_file}
 use Rattle.tuple_file.specs.declared.tuples.Tuples.{Tuples}
-use Rattle.session_model.specs.Frames.{HasBytes, Leaves}
+use Rattle.session_model.specs.Frames.{HasBytes, LeavesOthers}
 use Rattle.session_indexes.specs.declared.sites.Site.{Site}
 use Rattle.session_indexes.specs.Made.{bytes_for, keys_at}
 
@@ -20,7 +20,7 @@ pub record DraftsTree (old new : State) (name : List ℕ) (ks : List ℤ) : Type
 
 -- the file of the index slot is the tree of the attribute's keys, and the catalog has the index
 pub record PutsTree (old new : State) (cat : ℕ) (t : Tuples) (site : Site) (file : ℕ) : Type 0 where
-  pub leaves : Leaves old new (tree_file site.slot)
+  pub leaves : LeavesOthers old new (tree_file site.slot)
   pub bytes : HasBytes old new cat (bytes_for old cat site MaxHeap)
   pub idle : new.draft ≡ None
   pub named : IsNamed new.files file (tree_file site.slot)

@@ -3,6 +3,7 @@
 #![tactic(auto)]
 
 ghost use Rattle.std.specs.Prelude.{◌≡◌, List, Option, IfOk, IsTrue, OnErr, OnOk, length};
+ghost use Rattle.afl_base.specs.Keeping.{ChangesOrLacks, OnlyReads};
 ghost use Rattle.afl_base.specs.Causes.{HasCause};
 ghost use Rattle.afl_base.specs.FileErrors.{HasFileCause, OnSpace, UnlessFailed};
 ghost use Rattle.afl_base.specs.Files.{KeepsBytes};
@@ -14,7 +15,7 @@ ghost use Rattle.session_model.specs.Indexed.{IsAllowedAt};
 ghost use Rattle.session_model.specs.declared.held.Indexed.{Indexed as AnyIndexed};
 ghost use Rattle.tuple_file.specs.Column.{IsNumber};
 ghost use Rattle.tuple_file.specs.Tuples.{HoldsRows, rows};
-ghost use Rattle.session_indexes.specs.Made.{AreElsewhere, AsksIndex, AsksSlot, IsMade, IsReadyFor};
+ghost use Rattle.session_indexes.specs.Made.{AreElsewhere, AsksIndex, AsksIndexSlot, IsMade, IsReadyFor};
 ghost use Rattle.session_indexes.specs.Made.{IsTried, IsUnrefused, KeepsTaken, keys_at};
 
 use crate::sites::Site;
@@ -25,7 +26,7 @@ use afl_base::{Failed, FileError, FileId, Files};
 use db_model::{IndexKind, Pool, Refusal};
 use index_inline::ordered;
 use index_set::{Access, HashTables};
-use session_model::Indexed;
+use session_model::{Held, Indexed};
 use tuple_file::Tuples;
 
 // The key of an attribute before the first that falls.
@@ -34,9 +35,7 @@ fn fall<V: Files>(files: &mut V, tuples: &Tuples, attribute: u8) -> Result<Optio
     requires number { IsNumber tuples.now.schema.attributes attribute }
     ensures fall { let old = V.state files.old in IsTrue old.tells → IfOk result (λ fall.
         fall ≡ first_fall (keys attribute (rows old.files tuples.now))) }
-    ensures same { OnOk result (V.state files.new ≡ V.state files.old) }
-    ensures store { length (V.state files.new).store ≡ length (V.state files.old).store }
-    ensures cause { HasCause (V.faults files.old) (V.faults files.new) result }
+    ensures frame { OnlyReads V.state V.lent V.reads V.faults files.old files.new result }
 {
     let column = tuples.column(attribute);
     let slots = tuples.count(files);
@@ -67,10 +66,8 @@ fn make_order<V: Files>(
     ensures space { let old = V.state files.old in let new = V.state files.new in
         OnSpace result (λ need. KeepsBytes old new cat) }
     ensures asked { OnSpace result (λ need.
-        AsksSlot (V.asks files.new) (V.state files.new) cat site.now.slot need) }
-    ensures lacks { OnSpace result (λ need. V.lacks files.new need) }
-    ensures store { length (V.state files.new).store ≡ length (V.state files.old).store }
-    ensures cause { HasFileCause (V.faults files.old) (V.faults files.new) result }
+        AsksIndexSlot (V.asks files.new) (V.state files.new) cat site.now.slot need) }
+    ensures frame { ChangesOrLacks V.state V.lent V.reads V.faults V.lacks files.old files.new result }
 {
     match fall(files, tuples, site.attribute) {
         Ok(None) => {}
@@ -107,9 +104,7 @@ fn make_tree<V: Files>(
     ensures asked { let old = V.state files.old in let ks = keys_at old tuples.now site.now in
         IsTrue old.tells → OnSpace result (λ need.
         AsksIndex (V.asks files.new) (V.state files.new) cat site.now.slot MaxHeap ks need) }
-    ensures lacks { OnSpace result (λ need. V.lacks files.new need) }
-    ensures store { length (V.state files.new).store ≡ length (V.state files.old).store }
-    ensures cause { HasFileCause (V.faults files.old) (V.faults files.new) result }
+    ensures frame { ChangesOrLacks V.state V.lent V.reads V.faults V.lacks files.old files.new result }
 {
     match add_tree(files, cat, tuples, site) {
         Ok(file) => Ok(Ok(Access::Tree(file))),
@@ -143,10 +138,8 @@ fn make_table<V: Files>(
     ensures space { let old = V.state files.old in let new = V.state files.new in
         OnSpace result (λ need. KeepsBytes old new cat) }
     ensures asked { OnSpace result (λ need.
-        AsksSlot (V.asks files.new) (V.state files.new) cat site.now.slot need) }
-    ensures lacks { OnSpace result (λ need. V.lacks files.new need) }
-    ensures store { length (V.state files.new).store ≡ length (V.state files.old).store }
-    ensures cause { HasFileCause (V.faults files.old) (V.faults files.new) result }
+        AsksIndexSlot (V.asks files.new) (V.state files.new) cat site.now.slot need) }
+    ensures frame { ChangesOrLacks V.state V.lent V.reads V.faults V.lacks files.old files.new result }
 {
     let Some(table) = free_table(indexes) else {
         return Ok(Err(Refusal::Full {
@@ -176,7 +169,7 @@ fn make_table<V: Files>(
 pub fn make_index<V: Files>(
     files: &mut V,
     tables: &mut HashTables,
-    indexes: &[Option<Indexed>],
+    held: &Held,
     cat: FileId,
     tuples: &Tuples,
     site: &Site,
@@ -184,29 +177,27 @@ pub fn make_index<V: Files>(
 ) -> Result<Result<Access, Refusal>, FileError>
     requires ready { IsReadyFor (V.state files.old) cat tuples.now site.now }
     requires allowed { IsAllowedAt tuples.now.schema.attributes site.now.attribute kind }
-    requires apart { AreElsewhere indexes.now }
+    requires apart { AreElsewhere held.now.indexes }
     ensures made { let old = V.state files.old in let new = V.state files.new in
         IfOk result (λ r. IfOk r (λ access.
-        IsMade old new tables.old tables.new indexes.now cat tuples.now site.now access)) }
+        IsMade old new tables.old tables.new held.now.indexes cat tuples.now site.now access)) }
     ensures kind { IfOk result (λ r. IfOk r (λ access. kind_of access ≡ kind)) }
     ensures tried { let old = V.state files.old in let ks = keys_at old tuples.now site.now in
-        IsTrue old.tells → IfOk result (λ r. IsTried kind indexes.now ks r) }
+        IsTrue old.tells → IfOk result (λ r. IsTried kind held.now.indexes ks r) }
     ensures unrefused { let old = V.state files.old in let ks = keys_at old tuples.now site.now in
-        IsTrue old.tells → OnSpace result (λ need. IsUnrefused kind indexes.now ks) }
+        IsTrue old.tells → OnSpace result (λ need. IsUnrefused kind held.now.indexes ks) }
     ensures refused { IfOk result (λ r. OnErr r (V.state files.new ≡ V.state files.old)) }
-    ensures tables { UnlessFailed result (KeepsTaken tables.old tables.new indexes.now) }
+    ensures tables { UnlessFailed result (KeepsTaken tables.old tables.new held.now.indexes) }
     ensures space { let old = V.state files.old in let new = V.state files.new in
         OnSpace result (λ need. KeepsBytes old new cat) }
     ensures asked { let old = V.state files.old in let ks = keys_at old tuples.now site.now in
         IsTrue old.tells → OnSpace result (λ need.
         AsksIndex (V.asks files.new) (V.state files.new) cat site.now.slot kind ks need) }
-    ensures lacks { OnSpace result (λ need. V.lacks files.new need) }
-    ensures store { length (V.state files.new).store ≡ length (V.state files.old).store }
-    ensures cause { HasFileCause (V.faults files.old) (V.faults files.new) result }
+    ensures frame { ChangesOrLacks V.state V.lent V.reads V.faults V.lacks files.old files.new result }
 {
     match kind {
         IndexKind::Inline => make_order(files, cat, tuples, site),
         IndexKind::MaxHeap => make_tree(files, cat, tuples, site),
-        IndexKind::MemHash => make_table(files, tables, indexes, cat, tuples, site),
+        IndexKind::MemHash => make_table(files, tables, &held.indexes, cat, tuples, site),
     }
 }

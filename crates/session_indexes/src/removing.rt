@@ -3,6 +3,7 @@
 #![tactic(auto)]
 
 ghost use Rattle.std.specs.Prelude.{◌≡◌, Err, IfErr, IfOk, IsTrue, None, OnOk, Some, length};
+ghost use Rattle.afl_base.specs.Keeping.{Changes, ChangesOrLacks};
 ghost use Rattle.afl_base.specs.Causes.{HasCause};
 ghost use Rattle.afl_base.specs.FileErrors.{HasFileCause, OnSpace};
 ghost use Rattle.afl_base.specs.Files.{KeepsBytes, Table};
@@ -11,11 +12,12 @@ ghost use Rattle.db_model.specs.declared.commands.Command.TheVariants as command
 ghost use Rattle.session_model.specs.Aheads.{aheads_of};
 ghost use Rattle.session_model.specs.Answers.{OnNoSpace};
 ghost use Rattle.session_model.specs.Cells.{cell_from};
-ghost use Rattle.session_model.specs.Running.{HasCatalog, HasFile, IsRunning};
+ghost use Rattle.session_model.specs.Carried.{Carries, Runs};
+ghost use Rattle.session_model.specs.Running.{HasCatalogFile, HasFile, IsRunning};
 ghost use Rattle.session_model.specs.Steps.{Answers};
 ghost use Rattle.session_model.specs.View.{view};
 ghost use Rattle.session_model.specs.Wanted.{WantsFew};
-ghost use Rattle.session_indexes.specs.Made.{AsksSlot};
+ghost use Rattle.session_indexes.specs.Made.{AsksIndexSlot};
 ghost use Rattle.session_indexes.specs.Removed.{IsRemovable, IsTaken};
 
 use crate::relations::relation_named;
@@ -24,7 +26,7 @@ use crate::slots::{clear_entry, hold};
 use afl_base::{Failed, FileError, FileId, Files, IndexId, RelationId};
 use db_model::{Ident, Refusal};
 use index_set::{Access, HashTables};
-use session_model::{Answer, Held, Open, least_reader};
+use session_model::{Answer, Base, Held, Open, least_reader};
 use tuple_file::Tuples;
 
 /// An index in its slot, and by what it finds the slots of a key.
@@ -77,16 +79,14 @@ fn take_index<V: Files>(
     access: Access,
 ) -> Result<(), FileError>
     requires idle { (V.state files.old).draft ≡ None }
-    requires catalog { HasCatalog (V.state files.old).files (Some cat) }
+    requires catalog { HasCatalogFile (V.state files.old).files (Some cat) }
     requires file { HasFile (V.state files.old).files slot access }
     ensures taken { OnOk result (IsTaken (V.state files.old) (V.state files.new) cat slot) }
     ensures space { let old = V.state files.old in let new = V.state files.new in
         OnSpace result (λ need. KeepsBytes old new cat) }
     ensures asked { OnSpace result (λ need.
-        AsksSlot (V.asks files.new) (V.state files.new) cat slot need) }
-    ensures lacks { OnSpace result (λ need. V.lacks files.new need) }
-    ensures store { length (V.state files.new).store ≡ length (V.state files.old).store }
-    ensures cause { HasFileCause (V.faults files.old) (V.faults files.new) result }
+        AsksIndexSlot (V.asks files.new) (V.state files.new) cat slot need) }
+    ensures frame { ChangesOrLacks V.state V.lent V.reads V.faults V.lacks files.old files.new result }
 {
     match clear_entry(files, cat, slot) {
         Ok(()) => {}
@@ -107,36 +107,25 @@ fn take_index<V: Files>(
 
 /// Takes an index away: its slot first, and then its file, where it has one.
 pub fn remove_index<V: Files>(
-    files: &mut V,
-    tables: &HashTables,
-    held: &mut Held,
-    opens: &[Option<Open>],
+    base: &mut Base<V>,
     relation: &Ident,
     attribute: &Ident,
 ) -> Result<Answer, Failed>
-    requires running { IsRunning (V.state files.old) tables.now held.old opens.now }
-    ensures done { let old = view (V.state files.old).files held.old opens.now in
-        let new = view (V.state files.new).files held.new opens.now in
-        IsTrue (V.state files.old).tells → IfOk result (λ answer.
-        Answers (command.RemoveIndex relation.now attribute.now) old new answer) }
-    ensures running { OnOk result (IsRunning (V.state files.new) tables.now held.new opens.now) }
-    ensures aheads { let old = V.state files.old in let new = V.state files.new in
-        IsTrue old.tells → OnOk result
-        (aheads_of new.files opens.now ≡ aheads_of old.files opens.now) }
-    ensures tells { OnOk result ((V.state files.new).tells ≡ (V.state files.old).tells) }
-    ensures wants { let new = view (V.state files.new).files held.new opens.now in
-        IsTrue (V.state files.old).tells → OnNoSpace result (λ need.
-        WantsFew (V.asks files.new) (V.state files.new).files new
-        (command.RemoveIndex relation.now attribute.now) need) }
-    ensures lacks { OnNoSpace result (λ need. V.lacks files.new need) }
-    ensures store { length (V.state files.new).store ≡ length (V.state files.old).store }
-    ensures cause { HasCause (V.faults files.old) (V.faults files.new) result }
+    requires running { Runs V.Files base.old }
+    ensures carried { Carries V.Files (command.RemoveIndex relation.now attribute.now) base.old base.new result }
 {
-    let cat = held.cat;
-    let Some(found) = relation_named(held, relation) else {
+    let cat = base.held.cat;
+    let Some(found) = relation_named(&base.held, relation) else {
         return Ok(Answer::Refused(Refusal::NoRelation));
     };
-    let standing = match index_on(held, opens, found.0, found.1, relation, attribute) {
+    let standing = match index_on(
+        &base.held,
+        &base.opens[..],
+        found.0,
+        found.1,
+        relation,
+        attribute,
+    ) {
         Ok(standing) => standing,
         Err(refusal) => return Ok(Answer::Refused(refusal)),
     };
@@ -144,9 +133,9 @@ pub fn remove_index<V: Files>(
     let Some(cat) = cat else {
         return Ok(Answer::Refused(Refusal::NoRelation));
     };
-    match take_index(files, cat, standing.slot, standing.access) {
+    match take_index(&mut base.files, cat, standing.slot, standing.access) {
         Ok(()) => {
-            hold(held, standing.slot, None);
+            hold(&mut base.held, standing.slot, None);
             Ok(Answer::Fine)
         }
         Err(FileError::Space { need }) => Ok(Answer::NoSpace(need)),

@@ -3,13 +3,14 @@
 #![tactic(auto)]
 
 ghost use Rattle.std.specs.Prelude.{◌≡◌, ◌+◌, ◌*◌, None, Some, OnOk, length};
+ghost use Rattle.afl_base.specs.Keeping.{Changes, ChangesOrLacks};
 ghost use Rattle.afl_base.specs.Causes.{HasCause};
 ghost use Rattle.afl_base.specs.FileErrors.{HasFileCause, OnSpace, UnlessFailed};
 ghost use Rattle.afl_base.specs.Files.{KeepsBytes, file_at};
 ghost use Rattle.catalog.specs.CatalogFile.{IsPrepared, PutsIndex};
 ghost use Rattle.session_model.specs.Frames.{with_indexed};
-ghost use Rattle.session_model.specs.Running.{HasCatalog};
-ghost use Rattle.session_indexes.specs.Made.{AsksSlot, index_for};
+ghost use Rattle.session_model.specs.Running.{HasCatalogFile};
+ghost use Rattle.session_indexes.specs.Made.{AsksIndexSlot, index_for};
 
 use crate::sites::Site;
 use afl_base::{Failed, FileError, FileId, Files, IndexId};
@@ -20,16 +21,14 @@ use session_model::{Held, Indexed, prepare_catalog};
 /// Makes room for a change of an index slot. No byte changes.
 pub fn prepare_slot<V: Files>(files: &mut V, cat: FileId, slot: IndexId) -> Result<(), FileError>
     requires idle { (V.state files.old).draft ≡ None }
-    requires catalog { HasCatalog (V.state files.old).files (Some cat) }
+    requires catalog { HasCatalogFile (V.state files.old).files (Some cat) }
     ensures kept { UnlessFailed result (KeepsBytes (V.state files.old) (V.state files.new) cat) }
-    ensures catalog { OnOk result (HasCatalog (V.state files.new).files (Some cat)) }
+    ensures catalog { OnOk result (HasCatalogFile (V.state files.new).files (Some cat)) }
     ensures prepared { let file = file_at (V.state files.new).files cat in
         OnOk result (IsPrepared file (1408 + 8 * slot) 8) }
     ensures asked { OnSpace result (λ need.
-        AsksSlot (V.asks files.new) (V.state files.new) cat slot need) }
-    ensures lacks { OnSpace result (λ need. V.lacks files.new need) }
-    ensures store { length (V.state files.new).store ≡ length (V.state files.old).store }
-    ensures cause { HasFileCause (V.faults files.old) (V.faults files.new) result }
+        AsksIndexSlot (V.asks files.new) (V.state files.new) cat slot need) }
+    ensures frame { ChangesOrLacks V.state V.lent V.reads V.faults V.lacks files.old files.new result }
 {
     match prepare_catalog(files, cat, 1408 + 8 * u32::from(slot.number()), 8) {
         Ok(()) => Ok(()),
@@ -45,13 +44,12 @@ pub fn put_site<V: Files>(
     site: &Site,
     kind: IndexKind,
 ) -> Result<(), Failed>
-    requires catalog { HasCatalog (V.state files.old).files (Some cat) }
+    requires catalog { HasCatalogFile (V.state files.old).files (Some cat) }
     requires prepared { let file = file_at (V.state files.old).files cat in
         IsPrepared file (1408 + 8 * site.now.slot) 8 }
     ensures put { let old = V.state files.old in let new = V.state files.new in
         OnOk result (PutsIndex old new cat site.now.slot (Some (index_for site.now kind))) }
-    ensures store { length (V.state files.new).store ≡ length (V.state files.old).store }
-    ensures cause { HasCause (V.faults files.old) (V.faults files.new) result }
+    ensures frame { Changes V.state V.lent V.reads V.faults files.old files.new result }
 {
     let entry = IndexEntry {
         kind,
@@ -70,16 +68,14 @@ pub fn put_entry<V: Files>(
     kind: IndexKind,
 ) -> Result<(), FileError>
     requires idle { (V.state files.old).draft ≡ None }
-    requires catalog { HasCatalog (V.state files.old).files (Some cat) }
+    requires catalog { HasCatalogFile (V.state files.old).files (Some cat) }
     ensures put { let old = V.state files.old in let new = V.state files.new in
         OnOk result (PutsIndex old new cat site.now.slot (Some (index_for site.now kind))) }
     ensures space { let old = V.state files.old in let new = V.state files.new in
         OnSpace result (λ need. KeepsBytes old new cat) }
     ensures asked { OnSpace result (λ need.
-        AsksSlot (V.asks files.new) (V.state files.new) cat site.now.slot need) }
-    ensures lacks { OnSpace result (λ need. V.lacks files.new need) }
-    ensures store { length (V.state files.new).store ≡ length (V.state files.old).store }
-    ensures cause { HasFileCause (V.faults files.old) (V.faults files.new) result }
+        AsksIndexSlot (V.asks files.new) (V.state files.new) cat site.now.slot need) }
+    ensures frame { ChangesOrLacks V.state V.lent V.reads V.faults V.lacks files.old files.new result }
 {
     match prepare_slot(files, cat, site.slot) {
         Ok(()) => {}
@@ -95,16 +91,14 @@ pub fn put_entry<V: Files>(
 /// Empties an index slot of the catalog. All others stay.
 pub fn clear_entry<V: Files>(files: &mut V, cat: FileId, slot: IndexId) -> Result<(), FileError>
     requires idle { (V.state files.old).draft ≡ None }
-    requires catalog { HasCatalog (V.state files.old).files (Some cat) }
+    requires catalog { HasCatalogFile (V.state files.old).files (Some cat) }
     ensures cleared { let old = V.state files.old in let new = V.state files.new in
         OnOk result (PutsIndex old new cat slot None) }
     ensures space { let old = V.state files.old in let new = V.state files.new in
         OnSpace result (λ need. KeepsBytes old new cat) }
     ensures asked { OnSpace result (λ need.
-        AsksSlot (V.asks files.new) (V.state files.new) cat slot need) }
-    ensures lacks { OnSpace result (λ need. V.lacks files.new need) }
-    ensures store { length (V.state files.new).store ≡ length (V.state files.old).store }
-    ensures cause { HasFileCause (V.faults files.old) (V.faults files.new) result }
+        AsksIndexSlot (V.asks files.new) (V.state files.new) cat slot need) }
+    ensures frame { ChangesOrLacks V.state V.lent V.reads V.faults V.lacks files.old files.new result }
 {
     match prepare_slot(files, cat, slot) {
         Ok(()) => {}

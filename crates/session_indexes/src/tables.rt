@@ -3,7 +3,7 @@
 #![tactic(auto)]
 
 ghost use Rattle.std.specs.Prelude.{◌≡◌, ◌<◌, ◌≤◌, IsFalse, IsTrue};
-ghost use Rattle.session_indexes.specs.Sites.{free_table, is_in_table, is_taken};
+ghost use Rattle.session_indexes.specs.Sites.{free_table, is_in_table, is_table_taken};
 
 use index_set::{Access, TableId};
 use session_model::Indexed;
@@ -19,7 +19,7 @@ fn is_in_table(index: &Option<Indexed>, table: TableId) -> bool
 
 // Whether an index has the table.
 fn is_taken(indexes: &[Option<Indexed>], table: TableId) -> bool
-    ensures { result ≡ is_taken table indexes.now }
+    ensures { result ≡ is_table_taken table indexes.now }
 {
     for i in 0..indexes.len() {
         if is_in_table(&indexes[i], table) {

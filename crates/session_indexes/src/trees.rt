@@ -3,6 +3,7 @@
 #![tactic(auto)]
 
 ghost use Rattle.std.specs.Prelude.{◌≡◌, ◌≢◌, ◌<◌, None, IfOk, IsTrue, OnOk, length};
+ghost use Rattle.afl_base.specs.Keeping.{ChangesOrLacks};
 ghost use Rattle.afl_base.specs.FileErrors.{HasFileCause, OnSpace};
 ghost use Rattle.afl_base.specs.Files.{IsUnnamed, Keeps, KeepsBytes, used};
 ghost use Rattle.afl_base.specs.Fit.{fit};
@@ -43,9 +44,7 @@ fn draft_tree<V: Files>(
     ensures kept { OnSpace result (λ need. Keeps (V.state files.old) (V.state files.new)) }
     ensures need { let old = V.state files.old in IsTrue old.tells → OnSpace result (λ need.
         need ≡ fit (tree_size (keys attribute (rows old.files tuples.now)))) }
-    ensures lacks { OnSpace result (λ need. V.lacks files.new need) }
-    ensures store { length (V.state files.new).store ≡ length (V.state files.old).store }
-    ensures cause { HasFileCause (V.faults files.old) (V.faults files.new) result }
+    ensures frame { ChangesOrLacks V.state V.lent V.reads V.faults V.lacks files.old files.new result }
 {
     let slots = tuples.count(files);
     let Ok(buckets) = buckets_for(files, tuples.column(attribute), slots) else {
@@ -79,9 +78,7 @@ pub fn add_tree<V: Files>(
     ensures asked { let old = V.state files.old in let ks = keys_at old tuples.now site.now in
         IsTrue old.tells → OnSpace result (λ need.
         AsksIndex (V.asks files.new) (V.state files.new) cat site.now.slot MaxHeap ks need) }
-    ensures lacks { OnSpace result (λ need. V.lacks files.new need) }
-    ensures store { length (V.state files.new).store ≡ length (V.state files.old).store }
-    ensures cause { HasFileCause (V.faults files.old) (V.faults files.new) result }
+    ensures frame { ChangesOrLacks V.state V.lent V.reads V.faults V.lacks files.old files.new result }
 {
     match prepare_slot(files, cat, site.slot) {
         Ok(()) => {}

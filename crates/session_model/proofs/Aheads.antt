@@ -1,30 +1,27 @@
 -- What open cursors have ahead stays where rows come behind the others.
-use Rattle.std.proofs.Common.{◌≡◌, ℕ, zero, suc, ◌+◌, ◌-◌, ◌<◌, ◌≤◌, ◌⊎◌, Bool, true, false, cond, List, [], ◌∷◌, ◌++◌, length, map, take, drop, filter, get_or, replicate, flat_map, Option, Some, None, refl, ap, sym, ◌∙◌, subst, arith, inl, inr, IsTrue}
-use Rattle.std.specs.Prelude.{⊤, option_map}
+use Rattle.std.proofs.Common.{◌≡◌, ℕ, ◌+◌, ◌-◌, ◌≤◌, List, ◌++◌, length, take, drop, filter, get_or, replicate, flat_map, Option, Some, None, refl, ap, sym, ◌∙◌, subst, arith, inl, inr, IsTrue}
 use Rattle.std.specs.List.{range_with_len}
 use Rattle.std.proofs.Math.Logic.{⊎_elim}
-use Rattle.afl_base.specs.Files.{State, Table}
-use Rattle.db_model.specs.Ahead.{Ahead, OfJoin, OfSelect, partners}
+use Rattle.afl_base.specs.Files.{State}
+use Rattle.db_model.specs.Ahead.{OfJoin, OfSelect, partners}
 use Rattle.db_model.specs.Row.{Row, no_row}
-use Rattle.index_set.specs.declared.candidates.Candidates.{Candidates}
 use Rattle.index_set.specs.Plans.{kinds}
 use Rattle.index_set.specs.Tables.{Tables}
-use Rattle.index_set.specs.Walks.{RowsGrow, Waits, ahead, takes}
+use Rattle.index_set.specs.Walks.{RowsGrow, ahead}
 use Rattle.index_set.proofs.Grown.{ahead_kept}
 use Rattle.session_model.proofs.Kept.{ahead_none, side_kept, slots_left_kept}
 use Rattle.cursor.specs.declared.join.JoinCursor.{JoinCursor}
-use Rattle.cursor.specs.declared.select.SelectCursor.{SelectCursor}
-use Rattle.cursor.specs.Pairs.{lefts_of, matching, rights_of}
+use Rattle.cursor.specs.Pairs.{matching}
 use Rattle.cursor.specs.Remaining.{is_live_and, passes, slots_left}
 use Rattle.space_model.specs.FileNames.{catalog_file, rows_file, tree_file}
 use Rattle.tuple_file.specs.declared.tuples.Tuples.{Tuples}
-use Rattle.tuple_file.specs.Tuples.{rows, slots}
+use Rattle.tuple_file.specs.Tuples.{rows}
 use Rattle.session_model.specs.declared.held.Held.{Held}
 use Rattle.session_model.specs.declared.held.Indexed.{Indexed}
 use Rattle.session_model.specs.declared.held.Open.{Open}
 use Rattle.session_model.specs.declared.held.Open.TheVariants.{Select, Join}
 use Rattle.session_model.specs.Aheads.{ahead_in, aheads_of, join_stops, walk_of}
-use Rattle.session_model.specs.Frames.{Leaves, with_indexed, with_tuples}
+use Rattle.session_model.specs.Frames.{LeavesOthers, with_indexed, with_tuples}
 use Rattle.session_model.specs.Running.{IsCursorSlot, IsRunning, ReadsRows}
 use Rattle.session_model.proofs.Catalogs.{IndexChanges, RelationChanges, StaysFor, index_stays, relation_stays, same_rows_grow}
 use Rattle.session_model.proofs.Running.{RowsCome, catalog_no_rows, grow_any, inside}
@@ -92,7 +89,7 @@ rows_aheads old new before after held opens k t r u told =
     (λ j s reads there. grow_any old new before after held opens k t r u told n o e j s reads there))
 
 -- the catalog has changed, and no relation that a cursor reads
-module _ (old new : State) (before : Tables) (held : Held) (opens : List (Option Open)) (r : IsRunning old before held opens) (name : List ℕ) (l : Leaves old new name) where
+module _ (old new : State) (before : Tables) (held : Held) (opens : List (Option Open)) (r : IsRunning old before held opens) (name : List ℕ) (l : LeavesOthers old new name) where
   same_aheads : (now : Held) → IsTrue old.tells → ((n : ℕ) (o : Open) → get_or opens n None ≡ Some o → StaysFor name held now o) → aheads_of new.files opens ≡ aheads_of old.files opens
   same_aheads now told stays =
       mapped_same (ahead_in new.files) (ahead_in old.files) opens
@@ -100,7 +97,7 @@ module _ (old new : State) (before : Tables) (held : Held) (opens : List (Option
       ahead_stays old new held o told (subst P e (r.cursors n (omega (arith, inside opens n o e, r.four))))
       (λ j s reads there. same_rows_grow old new before before held opens r name l j s there ((stays n o e).relation j s reads there).0))
 
-pub catalog_aheads : (old new : State) (tables : Tables) (held : Held) (opens : List (Option Open)) → IsRunning old tables held opens → Leaves old new catalog_file → IsTrue old.tells
+pub catalog_aheads : (old new : State) (tables : Tables) (held : Held) (opens : List (Option Open)) → IsRunning old tables held opens → LeavesOthers old new catalog_file → IsTrue old.tells
     → aheads_of new.files opens ≡ aheads_of old.files opens
 catalog_aheads old new tables held opens r l told =
     same_aheads old new tables held opens r catalog_file l held told

@@ -1,12 +1,11 @@
 -- The reply that was written is the one that the step gives.
-use Rattle.std.proofs.Common.{◌≡◌, ℕ, Bool, true, false, List, [], ◌∷◌, ◌++◌, Option, refl, ap, sym, ◌∙◌, subst, Ok, Err}
-use Rattle.std.specs.Prelude.{IsOk, Result}
+use Rattle.std.proofs.Common.{◌≡◌, ℕ, List, Option, refl, ap, sym, ◌∙◌, subst, Ok, Err}
+use Rattle.std.specs.Prelude.{IsOk}
 use Rattle.std.specs.Io.KnownBytes.{append_known}
-use Rattle.std.proofs.lemmas.Bool.{false≢true}
 use Rattle.db_model.specs.declared.refusals.Refusal.{Refusal}
 use Rattle.db_model.specs.Database.{Database}
 use Rattle.db_model.specs.ReplyText.{count_text, ok_text, refusal_text, text}
-use Rattle.db_model.specs.Step.{Reply, Fine, Rows, Numbers, Removed, Refused, replied}
+use Rattle.db_model.specs.Step.{Fine, Removed, replied}
 use Rattle.db_model.proofs.ReplyTexts.{text_fine, text_refused, text_removed}
 use Rattle.reply_text.specs.WroteLess.{WroteLess}
 use Rattle.session_model.specs.declared.step.Outcome.TheVariants as outcome

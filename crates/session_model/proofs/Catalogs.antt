@@ -1,12 +1,12 @@
 -- The catalog of a session changes, and at most one other file comes, changes or goes.
-use Rattle.std.proofs.Common.{◌≡◌, ◌≢◌, ℕ, zero, suc, ◌+◌, ◌*◌, ◌/◌, ◌<◌, ◌≤◌, ◌⊎◌, Bool, true, false, List, [], ◌∷◌, length, map, set, get_or, Option, Some, None, unwrap_or, refl, ap, sym, ◌∙◌, subst, arith, inl, inr, IsTrue, is_some, ℤ}
-use Rattle.std.specs.Prelude.{⊤, option_map}
+use Rattle.std.proofs.Common.{◌≡◌, ◌≢◌, ℕ, ◌/◌, ◌<◌, ◌≤◌, ◌⊎◌, List, [], ◌∷◌, length, map, set, get_or, Option, Some, None, unwrap_or, refl, ap, sym, ◌∙◌, subst, arith, inl, inr, IsTrue, is_some, ℤ}
+use Rattle.std.specs.Prelude.{option_map}
 use Rattle.std.specs.List.{AllByRecursion}
 use Rattle.std.proofs.Math.Logic.{⊎_elim}
 use Rattle.std.proofs.lemmas.Bool.{cases_eq}
 use Rattle.std.proofs.lemmas.Bool.Decides.{nat_tests}
 use Rattle.std.proofs.lemmas.List.{get_or-set_other, get_or-set_same, length-set, map-set}
-use Rattle.afl_base.specs.Files.{Creates, File, IsLive, IsNamed, IsUnnamed, KeepsBytes, State, Table, bytes_at, file_at, name_at, new_file, no_file, place, size_at}
+use Rattle.afl_base.specs.Files.{Creates, File, IsNamed, IsUnnamed, KeepsBytes, State, Table, bytes_at, new_file, no_file, place}
 use Rattle.afl_base.specs.declared.kind.Kind.TheVariants.{Fixed}
 use Rattle.afl_base.proofs.FileLaws.{file_here, named_here, named_live}
 use Rattle.afl_base.proofs.FrameLaws.{becomes_spares}
@@ -15,7 +15,7 @@ use Rattle.catalog.specs.Catalogs.{index_replaced, relation_replaced}
 use Rattle.catalog.proofs.Replaced.{index_changed, relation_changed}
 use Rattle.db_model.specs.declared.schemas.Schema.{Schema}
 use Rattle.db_model.specs.Catalog.{Catalog as Slots, Index, IsRelation as IsSchema, catalog_of, with_index_slot, with_relation_slot}
-use Rattle.db_model.specs.Database.{Cursor, Relation, with_index, with_relation}
+use Rattle.db_model.specs.Database.{with_index, with_relation}
 use Rattle.db_model.specs.Row.{Row, no_row, row_length, rows_of}
 use Rattle.db_model.specs.Step.{keys, slots_limit}
 use Rattle.index_set.specs.declared.candidates.Search.{Search}
@@ -37,13 +37,13 @@ use Rattle.session_model.specs.declared.held.Held.{Held}
 use Rattle.session_model.specs.declared.held.Indexed.{Indexed}
 use Rattle.session_model.specs.declared.held.Open.{Open}
 use Rattle.session_model.specs.declared.held.Open.TheVariants.{Select, Join}
-use Rattle.session_model.specs.Frames.{HasBytes, Leaves, schema_in, with_indexed, with_tuples}
-use Rattle.session_model.specs.Indexed.{index_in}
-use Rattle.session_model.specs.Running.{HasCatalog, HasFile, IndexStands, IsCursorSlot, IsIndexed, IsIndexedOn, IsIndexSlot, IsListed, IsOpen, IsRelation, IsRelationSlot, IsRunning, IsSide, IsWritten, IsWrittenOrEmpty, ReadsRows, Stands, StandsAs, catalog_bytes}
-use Rattle.session_model.specs.View.{cursor_in, relation_at, relation_in, view}
+use Rattle.session_model.specs.Frames.{HasBytes, LeavesOthers, schema_in, with_indexed, with_tuples}
+use Rattle.session_model.specs.Indexed.{index_known}
+use Rattle.session_model.specs.Running.{HasCatalogFile, HasFile, IndexStands, IsCursorSlot, IsIndexedOn, IsIndexSlot, IsRelationSlot, IsRunning, IsSide, IsWritten, IsWrittenOrEmpty, ReadsRows, StandsAs, bytes_of_catalog}
+use Rattle.session_model.specs.View.{cursor_in, relation_of_file, relation_of_rows, view}
 use Rattle.session_model.proofs.Cursors.{cursor_kept}
 use Rattle.session_model.proofs.Leaves.{leaves_becomes, leaves_catalog}
-use Rattle.session_model.proofs.Running.{bytes_by, catalog_no_rows, catalog_no_tree, differ, holds_by, index_there, inside, relation_there, row_no_tree, rows_apart, some_same, trees_apart}
+use Rattle.session_model.proofs.Running.{bytes_by, catalog_no_rows, catalog_no_tree, differ, holds_by, index_there, inside, relation_there, row_no_tree, rows_apart, trees_apart}
 use Rattle.session_model.proofs.Views.{mapped_put, mapped_same}
 use Rattle.session_model.proofs.Written.{index_written, relation_written}
 
@@ -65,7 +65,7 @@ pub record StaysFor (name : List ℕ) (held now : Held) (o : Open) : Type 0 wher
   pub index : (j : ℕ) (s : Tuples) → ReadsRows o s → get_or held.relations j None ≡ Some s
       → (m : ℕ) (x : Indexed) → get_or held.indexes m None ≡ Some x → x.relation ≡ j → get_or now.indexes m None ≡ Some x
 
-module _ (old new : State) (before after : Tables) (held : Held) (opens : List (Option Open)) (r : IsRunning old before held opens) (name : List ℕ) (l : Leaves old new name) where
+module _ (old new : State) (before after : Tables) (held : Held) (opens : List (Option Open)) (r : IsRunning old before held opens) (name : List ℕ) (l : LeavesOthers old new name) where
   pub rows_place : (j : ℕ) (s : Tuples) → get_or held.relations j None ≡ Some s → rows_file j ≢ name → place new.files s.file ≡ place old.files s.file
   rows_place j s e other = l.others s.file (rows_file j) (relation_there old before held opens r j s e).named (λ same. catalog_no_rows j (sym same)) other
 
@@ -194,8 +194,8 @@ module _ (old new : State) (before after : Tables) (held : Held) (opens : List (
 
   -- ---- what is seen
 
-  pub same_relation : (j : ℕ) (s : Tuples) → rows_file j ≢ name → get_or held.relations j None ≡ Some s → relation_in new.files s ≡ relation_in old.files s
-  same_relation j s other e = ap (λ (o : Option File). relation_at o s.schema) (rows_place j s e other)
+  pub same_relation : (j : ℕ) (s : Tuples) → rows_file j ≢ name → get_or held.relations j None ≡ Some s → relation_of_rows new.files s ≡ relation_of_rows old.files s
+  same_relation j s other e = ap (λ (o : Option File). relation_of_file o s.schema) (rows_place j s e other)
 
   pub same_rows_grow : (j : ℕ) (s : Tuples) → get_or held.relations j None ≡ Some s → rows_file j ≢ name → RowsGrow (rows old.files s) (rows new.files s)
   same_rows_grow j s e other =
@@ -210,19 +210,19 @@ module _ (old new : State) (before after : Tables) (held : Held) (opens : List (
 
 -- ---- the catalog's file changes, and what it says does not
 
-cat_there : (files : Table) (o : Option ℕ) (cat : ℕ) → o ≡ Some cat → HasCatalog files o → HasCatalog files (Some cat)
-cat_there files o cat has h = let P : Option ℕ → Type 0 = λ z. HasCatalog files z in subst P has h
+cat_there : (files : Table) (o : Option ℕ) (cat : ℕ) → o ≡ Some cat → HasCatalogFile files o → HasCatalogFile files (Some cat)
+cat_there files o cat has h = let P : Option ℕ → Type 0 = λ z. HasCatalogFile files z in subst P has h
 
 -- what the catalog's file is
-pub catalog_there : (state : State) (tables : Tables) (held : Held) (opens : List (Option Open)) (cat : ℕ) → IsRunning state tables held opens → held.cat ≡ Some cat → HasCatalog state.files (Some cat)
+pub catalog_there : (state : State) (tables : Tables) (held : Held) (opens : List (Option Open)) (cat : ℕ) → IsRunning state tables held opens → held.cat ≡ Some cat → HasCatalogFile state.files (Some cat)
 catalog_there state tables held opens cat r has = cat_there state.files held.cat cat has r.catalog
 
-bytes_there : (files : Table) (o : Option ℕ) (cat : ℕ) → o ≡ Some cat → catalog_bytes files o ≡ bytes_at files cat
-bytes_there files o cat has = ap (catalog_bytes files) has
+bytes_there : (files : Table) (o : Option ℕ) (cat : ℕ) → o ≡ Some cat → bytes_of_catalog files o ≡ bytes_at files cat
+bytes_there files o cat has = ap (bytes_of_catalog files) has
 
-module _ (old new : State) (tables : Tables) (held now : Held) (opens : List (Option Open)) (r : IsRunning old tables held opens) (l : Leaves old new catalog_file) (idle : new.draft ≡ None)
+module _ (old new : State) (tables : Tables) (held now : Held) (opens : List (Option Open)) (r : IsRunning old tables held opens) (l : LeavesOthers old new catalog_file) (idle : new.draft ≡ None)
     (version : now.version ≡ held.version) (relations : now.relations ≡ held.relations) (indexes : now.indexes ≡ held.indexes)
-    (has : HasCatalog new.files now.cat) (same : IsTrue old.tells → catalog_bytes new.files now.cat ≡ catalog_bytes old.files held.cat) where
+    (has : HasCatalogFile new.files now.cat) (same : IsTrue old.tells → bytes_of_catalog new.files now.cat ≡ bytes_of_catalog old.files held.cat) where
   pub no_rows : (j : ℕ) → rows_file j ≢ catalog_file
   no_rows j e = catalog_no_rows j (sym e)
 
@@ -269,32 +269,32 @@ module _ (old new : State) (tables : Tables) (held now : Held) (opens : List (Op
     catalog = has;
     listed = λ told. let before = sym l.tells ∙ told in
         ap catalog_of (same before) ∙ r.listed before
-        ∙ sym (λ p. record { version = version p; relations = map (option_map schema_in) (relations p); indexes = map (option_map index_in) (indexes p) });
+        ∙ sym (λ p. record { version = version p; relations = map (option_map schema_in) (relations p); indexes = map (option_map index_known) (indexes p) });
     written = λ told. let before = sym l.tells ∙ told in subst IsWrittenOrEmpty (sym (same before)) (r.written before);
   }
 
   pub catalog_view : IsTrue old.tells → view new.files now opens ≡ view old.files held opens
   catalog_view told =
-      let rs : map (option_map (relation_in new.files)) now.relations ≡ map (option_map (relation_in old.files)) held.relations =
-      ap (map (option_map (relation_in new.files))) relations
-      ∙ mapped_same (relation_in new.files) (relation_in old.files) held.relations (λ j s e. same_relation old new tables tables held opens r catalog_file l j s (no_rows j) e) in
+      let rs : map (option_map (relation_of_rows new.files)) now.relations ≡ map (option_map (relation_of_rows old.files)) held.relations =
+      ap (map (option_map (relation_of_rows new.files))) relations
+      ∙ mapped_same (relation_of_rows new.files) (relation_of_rows old.files) held.relations (λ j s e. same_relation old new tables tables held opens r catalog_file l j s (no_rows j) e) in
       let cs : map (option_map (cursor_in new.files)) opens ≡ map (option_map (cursor_in old.files)) opens =
       mapped_same (cursor_in new.files) (cursor_in old.files) opens (λ n o e. same_cursor old new tables tables held opens r catalog_file l now told n o e (stays o)) in
-      λ p. record { version = version p; relations = rs p; indexes = map (option_map index_in) (indexes p); cursors = cs p }
+      λ p. record { version = version p; relations = rs p; indexes = map (option_map index_known) (indexes p); cursors = cs p }
 
 -- room was made in the catalog
 module _ (old new : State) (tables : Tables) (held : Held) (opens : List (Option Open)) (r : IsRunning old tables held opens) (cat : ℕ) (has : held.cat ≡ Some cat) (u : KeepsBytes old new cat) where
-  room_leaves : Leaves old new catalog_file
+  room_leaves : LeavesOthers old new catalog_file
   room_leaves = leaves_becomes old new cat _ _ catalog_file ((catalog_there old tables held opens cat r has).0) u
 
-  room_catalog : HasCatalog new.files held.cat
+  room_catalog : HasCatalogFile new.files held.cat
   room_catalog =
       let h = catalog_there old tables held opens cat r has in
-      let P : Option ℕ → Type 0 = λ o. HasCatalog new.files o in
+      let P : Option ℕ → Type 0 = λ o. HasCatalogFile new.files o in
       subst P (sym has)
       ((becomes_spares old new cat _ _ (named_live old.files cat catalog_file h.0) u).named cat ∙ h.0, subst IsCatalogSize (sym u.size) h.1, u.kind ∙ h.2)
 
-  room_bytes : IsTrue old.tells → catalog_bytes new.files held.cat ≡ catalog_bytes old.files held.cat
+  room_bytes : IsTrue old.tells → bytes_of_catalog new.files held.cat ≡ bytes_of_catalog old.files held.cat
   room_bytes told = bytes_there new.files held.cat cat has ∙ u.bytes told ∙ sym (bytes_there old.files held.cat cat has)
 
   pub room_running : IsRunning new tables held opens
@@ -309,23 +309,23 @@ with_catalog held id = record { version = held.version; cat = Some id; relations
 
 module _ (old new : State) (tables : Tables) (held : Held) (opens : List (Option Open)) (r : IsRunning old tables held opens) (none : held.cat ≡ None) (id : ℕ) (u : Creates old new id catalog_file (Fixed 6)) where
   unnamed_catalog : IsUnnamed old.files catalog_file
-  unnamed_catalog = let P : Option ℕ → Type 0 = λ o. HasCatalog old.files o in subst P none r.catalog
+  unnamed_catalog = let P : Option ℕ → Type 0 = λ o. HasCatalogFile old.files o in subst P none r.catalog
 
-  made_leaves : Leaves old new catalog_file
+  made_leaves : LeavesOthers old new catalog_file
   made_leaves = leaves_catalog old new id catalog_file unnamed_catalog u
 
   made_empty : bytes_at new.files id ≡ []
   made_empty = ap (λ (f : File). f.bytes) (file_here new.files id (new_file catalog_file (Fixed 6)) u.file)
 
-  made_catalog : HasCatalog new.files (Some id)
+  made_catalog : HasCatalogFile new.files (Some id)
   made_catalog = (
     named_here new.files id (new_file catalog_file (Fixed 6)) u.file,
     inl (ap (λ (xs : List ℕ). length xs) made_empty),
     ap (λ (f : File). f.kind) (file_here new.files id (new_file catalog_file (Fixed 6)) u.file),
   )
 
-  made_bytes : IsTrue old.tells → catalog_bytes new.files (Some id) ≡ catalog_bytes old.files held.cat
-  made_bytes told = made_empty ∙ sym (ap (catalog_bytes old.files) none)
+  made_bytes : IsTrue old.tells → bytes_of_catalog new.files (Some id) ≡ bytes_of_catalog old.files held.cat
+  made_bytes told = made_empty ∙ sym (ap (bytes_of_catalog old.files) none)
 
   pub made_running : IsRunning new tables (with_catalog held id) opens
   made_running = catalog_kept old new tables held (with_catalog held id) opens r made_leaves (u.draft ∙ r.idle) refl refl refl made_catalog made_bytes
@@ -364,8 +364,8 @@ apart_by_name files i j (InTable number) b other x y table = table number refl
 pub record IndexChanges (old new : State) (before after : Tables) (held : Held) (opens : List (Option Open)) (i : ℕ) (x : Option Indexed) (cat : ℕ) : Type 0 where
   pub below : i < 8
   pub has : held.cat ≡ Some cat
-  pub leaves : Leaves old new (tree_file i)
-  pub bytes : HasBytes old new cat (with_index_slot (bytes_at old.files cat) i (option_map index_in x))
+  pub leaves : LeavesOthers old new (tree_file i)
+  pub bytes : HasBytes old new cat (with_index_slot (bytes_at old.files cat) i (option_map index_known x))
   pub idle : new.draft ≡ None
   pub slot : IsIndexSlot new after held i x
   pub tables : (j : ℕ) (y : Indexed) (number : TableId) → j ≢ i → get_or held.indexes j None ≡ Some y → y.access ≡ InTable number → entries after number ≡ entries before number
@@ -431,7 +431,7 @@ module _ (old new : State) (before after : Tables) (held : Held) (opens : List (
       (cases_eq b i))
       (cases_eq a i)
 
-  cat_bytes : IsTrue old.tells → catalog_bytes new.files held.cat ≡ with_index_slot (bytes_at old.files cat) i (option_map index_in x)
+  cat_bytes : IsTrue old.tells → bytes_of_catalog new.files held.cat ≡ with_index_slot (bytes_at old.files cat) i (option_map index_known x)
   cat_bytes told = bytes_there new.files held.cat cat u.has ∙ u.bytes.bytes told
 
   old_size : IsCatalogSize (length (bytes_at old.files cat))
@@ -454,24 +454,24 @@ module _ (old new : State) (before after : Tables) (held : Held) (opens : List (
         (cases_eq j i);
     apart = index_apart;
     cursors = λ n below. cursor_slot n below (get_or opens n None) refl (r.cursors n below);
-    catalog = let P : Option ℕ → Type 0 = λ o. HasCatalog new.files o in subst P (sym u.has) (u.bytes.named, inr (inr u.bytes.size), u.bytes.kind);
+    catalog = let P : Option ℕ → Type 0 = λ o. HasCatalogFile new.files o in subst P (sym u.has) (u.bytes.named, inr (inr u.bytes.size), u.bytes.kind);
     listed = λ told. let past = sym u.leaves.tells ∙ told in
         ap catalog_of (cat_bytes past)
-        ∙ index_changed (bytes_at old.files cat) i (option_map index_in x) old_size u.below
-        ∙ ap (λ (c : Slots). index_replaced c i (option_map index_in x)) (ap catalog_of (sym (bytes_there old.files held.cat cat u.has)) ∙ r.listed past)
-        ∙ ap (λ (xs : List (Option Index)). record { version = 2; relations = map (option_map schema_in) held.relations; indexes = xs }) (sym (map-set (option_map index_in) held.indexes i x));
+        ∙ index_changed (bytes_at old.files cat) i (option_map index_known x) old_size u.below
+        ∙ ap (λ (c : Slots). index_replaced c i (option_map index_known x)) (ap catalog_of (sym (bytes_there old.files held.cat cat u.has)) ∙ r.listed past)
+        ∙ ap (λ (xs : List (Option Index)). record { version = 2; relations = map (option_map schema_in) held.relations; indexes = xs }) (sym (map-set (option_map index_known) held.indexes i x));
     written = λ told some. let past = sym u.leaves.tells ∙ told in
         subst IsWritten (sym (cat_bytes past))
-        (index_written (bytes_at old.files cat) i (option_map index_in x) old_size u.below (subst IsWrittenOrEmpty (bytes_there old.files held.cat cat u.has) (r.written past)));
+        (index_written (bytes_at old.files cat) i (option_map index_known x) old_size u.below (subst IsWrittenOrEmpty (bytes_there old.files held.cat cat u.has) (r.written past)));
   }
 
-  pub index_view : IsTrue old.tells → view new.files (with_indexed held i x) opens ≡ record (with_index (view old.files held opens) i (option_map index_in x)) { version = 2 }
+  pub index_view : IsTrue old.tells → view new.files (with_indexed held i x) opens ≡ record (with_index (view old.files held opens) i (option_map index_known x)) { version = 2 }
   index_view told =
-      let rs : map (option_map (relation_in new.files)) held.relations ≡ map (option_map (relation_in old.files)) held.relations =
-      mapped_same (relation_in new.files) (relation_in old.files) held.relations (λ j s e. same_relation old new before after held opens r (tree_file i) u.leaves j s (row_no_tree j i) e) in
+      let rs : map (option_map (relation_of_rows new.files)) held.relations ≡ map (option_map (relation_of_rows old.files)) held.relations =
+      mapped_same (relation_of_rows new.files) (relation_of_rows old.files) held.relations (λ j s e. same_relation old new before after held opens r (tree_file i) u.leaves j s (row_no_tree j i) e) in
       let cs : map (option_map (cursor_in new.files)) opens ≡ map (option_map (cursor_in old.files)) opens =
       mapped_same (cursor_in new.files) (cursor_in old.files) opens (λ n o e. same_cursor old new before after held opens r (tree_file i) u.leaves (with_indexed held i x) told n o e (index_stays n o e)) in
-      λ p. record { version = 2; relations = rs p; indexes = map-set (option_map index_in) held.indexes i x p; cursors = cs p }
+      λ p. record { version = 2; relations = rs p; indexes = map-set (option_map index_known) held.indexes i x p; cursors = cs p }
 
 -- ---- a relation has come, grown by an attribute, or gone
 
@@ -480,7 +480,7 @@ module _ (old new : State) (before after : Tables) (held : Held) (opens : List (
 pub record RelationChanges (old new : State) (tables : Tables) (held : Held) (opens : List (Option Open)) (k : ℕ) (t : Option Tuples) (cat : ℕ) : Type 0 where
   pub below : k < 8
   pub has : held.cat ≡ Some cat
-  pub leaves : Leaves old new (rows_file k)
+  pub leaves : LeavesOthers old new (rows_file k)
   pub bytes : HasBytes old new cat (with_relation_slot (bytes_at old.files cat) k (option_map schema_in t))
   pub idle : new.draft ≡ None
   pub form : IsSchema (option_map schema_in t)
@@ -517,7 +517,7 @@ module _ (old new : State) (tables : Tables) (held : Held) (opens : List (Option
     index = λ j s reads there m y e rel. e;
   }
 
-  new_bytes : IsTrue old.tells → catalog_bytes new.files held.cat ≡ with_relation_slot (bytes_at old.files cat) k (option_map schema_in t)
+  new_bytes : IsTrue old.tells → bytes_of_catalog new.files held.cat ≡ with_relation_slot (bytes_at old.files cat) k (option_map schema_in t)
   new_bytes told = bytes_there new.files held.cat cat u.has ∙ u.bytes.bytes told
 
   was_size : IsCatalogSize (length (bytes_at old.files cat))
@@ -541,21 +541,21 @@ module _ (old new : State) (tables : Tables) (held : Held) (opens : List (Option
     indexes = λ j below. relation_index j (get_or held.indexes j None) refl (r.indexes j below);
     apart = r.apart;
     cursors = λ n below. kept_cursor old new tables tables held opens r (rows_file k) u.leaves (with_tuples held k t) (get_or opens n None) (λ p is. relation_stays n p is) (r.cursors n below);
-    catalog = let P : Option ℕ → Type 0 = λ o. HasCatalog new.files o in subst P (sym u.has) (u.bytes.named, inr (inr u.bytes.size), u.bytes.kind);
+    catalog = let P : Option ℕ → Type 0 = λ o. HasCatalogFile new.files o in subst P (sym u.has) (u.bytes.named, inr (inr u.bytes.size), u.bytes.kind);
     listed = λ told. let past = sym u.leaves.tells ∙ told in
         ap catalog_of (new_bytes past)
         ∙ relation_changed (bytes_at old.files cat) k (option_map schema_in t) was_size u.below u.form
         ∙ ap (λ (c : Slots). relation_replaced c k (option_map schema_in t)) (ap catalog_of (sym (bytes_there old.files held.cat cat u.has)) ∙ r.listed past)
-        ∙ ap (λ (rs : List (Option Schema)). record { version = 2; relations = rs; indexes = map (option_map index_in) held.indexes }) (sym (map-set (option_map schema_in) held.relations k t));
+        ∙ ap (λ (rs : List (Option Schema)). record { version = 2; relations = rs; indexes = map (option_map index_known) held.indexes }) (sym (map-set (option_map schema_in) held.relations k t));
     written = λ told some. let past = sym u.leaves.tells ∙ told in
         subst IsWritten (sym (new_bytes past))
         (relation_written (bytes_at old.files cat) k (option_map schema_in t) was_size u.below u.form (subst IsWrittenOrEmpty (bytes_there old.files held.cat cat u.has) (r.written past)));
   }
 
-  pub relation_view : IsTrue old.tells → view new.files (with_tuples held k t) opens ≡ record (with_relation (view old.files held opens) k (option_map (relation_in new.files) t)) { version = 2 }
+  pub relation_view : IsTrue old.tells → view new.files (with_tuples held k t) opens ≡ record (with_relation (view old.files held opens) k (option_map (relation_of_rows new.files) t)) { version = 2 }
   relation_view told =
-      let rs : map (option_map (relation_in new.files)) (set held.relations k t) ≡ set (map (option_map (relation_in old.files)) held.relations) k (option_map (relation_in new.files) t) =
-      mapped_put (relation_in new.files) (relation_in old.files) held.relations k t (λ j s other e. same_relation old new tables tables held opens r (rows_file k) u.leaves j s (rows_apart j k other) e) in
+      let rs : map (option_map (relation_of_rows new.files)) (set held.relations k t) ≡ set (map (option_map (relation_of_rows old.files)) held.relations) k (option_map (relation_of_rows new.files) t) =
+      mapped_put (relation_of_rows new.files) (relation_of_rows old.files) held.relations k t (λ j s other e. same_relation old new tables tables held opens r (rows_file k) u.leaves j s (rows_apart j k other) e) in
       let cs : map (option_map (cursor_in new.files)) opens ≡ map (option_map (cursor_in old.files)) opens =
       mapped_same (cursor_in new.files) (cursor_in old.files) opens (λ n o e. same_cursor old new tables tables held opens r (rows_file k) u.leaves (with_tuples held k t) told n o e (relation_stays n o e)) in
-      λ p. record { version = 2; relations = rs p; indexes = map (option_map index_in) held.indexes; cursors = cs p }
+      λ p. record { version = 2; relations = rs p; indexes = map (option_map index_known) held.indexes; cursors = cs p }

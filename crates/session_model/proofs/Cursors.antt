@@ -1,15 +1,12 @@
 -- What an open cursor has still to answer, where rows come behind the others.
-use Rattle.std.proofs.Common.{◌≡◌, ℕ, zero, suc, ◌<◌, ◌≤◌, ◌⊎◌, List, [], ◌∷◌, length, map, get_or, Option, Some, None, refl, ap, sym, ◌∙◌, subst, arith, inl, inr, IsTrue}
+use Rattle.std.proofs.Common.{◌≡◌, ℕ, zero, suc, ◌<◌, ◌≤◌, ◌⊎◌, List, [], ◌∷◌, map, get_or, Some, None, refl, ap, sym, ◌∙◌, subst, arith, inl, inr, IsTrue}
 use Rattle.std.proofs.Math.Logic.{⊎_elim}
 use Rattle.afl_base.specs.Files.{State}
 use Rattle.db_model.specs.declared.values.Value.{Value}
-use Rattle.db_model.specs.Row.{Row}
-use Rattle.index_set.specs.Walks.{RowsGrow, Waits}
-use Rattle.cursor.specs.Pairs.{pairs_left}
-use Rattle.cursor.specs.Remaining.{remaining}
+use Rattle.index_set.specs.Walks.{RowsGrow}
 use Rattle.session_model.proofs.Kept.{pairs_kept, remaining_kept, remaining_none}
 use Rattle.tuple_file.specs.declared.tuples.Tuples.{Tuples}
-use Rattle.tuple_file.specs.Tuples.{rows, slots}
+use Rattle.tuple_file.specs.Tuples.{rows}
 use Rattle.session_model.specs.declared.held.Held.{Held}
 use Rattle.session_model.specs.declared.held.Open.{Open}
 use Rattle.session_model.specs.declared.held.Open.TheVariants.{Select, Join}

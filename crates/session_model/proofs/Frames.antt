@@ -1,10 +1,9 @@
 -- What stays of rows and indexes where some files change, or where room is made in them.
 use Rattle.std.proofs.Common.{◌≡◌, ◌≢◌, ℕ, ◌*◌, ◌≤◌, List, [], ◌∷◌, ◌++◌, length, Option, unwrap_or, ap, sym, ◌∙◌, subst, IsTrue, ◌/◌, ℤ}
 use Rattle.std.proofs.lemmas.List.FromFn.{length-map-range_with_len}
-use Rattle.afl_base.specs.Files.{File, State, Table, bytes_at, file_at, no_file, place, size_at}
+use Rattle.afl_base.specs.Files.{File, State, Table, bytes_at, no_file}
 use Rattle.afl_base.specs.Frames.{Prepares, Spares}
 use Rattle.afl_base.proofs.FrameLaws.{live_by_name}
-use Rattle.db_model.specs.declared.values.Value.{Value}
 use Rattle.db_model.specs.Step.{keys}
 use Rattle.db_model.specs.Row.{Row, row_length, row_at, rows_bytes, rows_of}
 use Rattle.index_set.specs.declared.info.Access.{Access}

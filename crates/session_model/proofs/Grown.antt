@@ -1,16 +1,12 @@
 -- A relation without rows has one attribute more: its indexes stay complete, and no open cursor reads rows of it.
-use Rattle.std.proofs.Common.{◌≡◌, ◌≢◌, ℕ, zero, suc, ◌+◌, ◌*◌, ◌/◌, ◌<◌, ◌≤◌, ◌⊎◌, Bool, true, false, List, [], ◌∷◌, ◌++◌, length, map, get_or, Option, Some, None, refl, ap, sym, ◌∙◌, subst, arith, inl, inr, IsTrue}
-use Rattle.std.specs.Prelude.{slice_get}
-use Rattle.std.specs.Option.{option_map_or}
+use Rattle.std.proofs.Common.{◌≡◌, ℕ, zero, suc, ◌*◌, ◌/◌, ◌<◌, ◌≤◌, List, [], ◌∷◌, ◌++◌, length, get_or, Option, Some, None, refl, ap, sym, ◌∙◌, subst, arith, inl, inr}
 use Rattle.std.proofs.Math.Nat.{mul-zero, zero-div}
 use Rattle.afl_base.specs.Files.{IsLive, State, bytes_at, file_at, size_at}
 use Rattle.db_model.specs.declared.schemas.Attribute.{Attribute}
 use Rattle.db_model.specs.declared.schemas.IndexKind.{IndexKind}
-use Rattle.db_model.specs.Row.{Row, row_length, rows_bytes, rows_of}
-use Rattle.db_model.specs.Step.{allows, keys}
-use Rattle.index_set.specs.declared.info.Access.{Access}
-use Rattle.index_set.specs.declared.info.TableId.{TableId}
-use Rattle.index_set.specs.Complete.{IsComplete, IsHeld}
+use Rattle.db_model.specs.Row.{Row, row_length, rows_bytes}
+use Rattle.db_model.specs.Step.{keys}
+use Rattle.index_set.specs.Complete.{IsComplete}
 use Rattle.index_set.specs.Plans.{kind_of}
 use Rattle.index_set.specs.Tables.{Tables}
 use Rattle.space_model.specs.FileNames.{rows_file}
@@ -20,7 +16,7 @@ use Rattle.session_model.specs.declared.held.Held.{Held}
 use Rattle.session_model.specs.declared.held.Indexed.{Indexed}
 use Rattle.session_model.specs.declared.held.Open.{Open}
 use Rattle.session_model.specs.declared.held.Open.TheVariants.{Select, Join}
-use Rattle.session_model.specs.Frames.{Leaves}
+use Rattle.session_model.specs.Frames.{LeavesOthers}
 use Rattle.session_model.specs.Indexed.{IsAllowedAt}
 use Rattle.session_model.specs.Running.{IsCursorSlot, IsIndexedOn, IsRunning, ReadsRows}
 use Rattle.session_model.proofs.Catalogs.{kept_complete, kept_file, kept_held}
@@ -86,7 +82,7 @@ module _ (old new : State) (tables : Tables) (held : Held) (opens : List (Option
       read (Join c) (inr reads) h = empty c.cursor.right c.cursor.right_slots reads.0 (h.right reads.0).side.few reads.1
 
   -- its indexes are complete for the rows that there are not
-  pub grown_indexes : (l : Leaves old new (rows_file k)) (s : Tuples) (a : Attribute) → s.schema.attributes ≡ t.schema.attributes ++ a ∷ [] → size_at new.files s.file ≡ 0
+  pub grown_indexes : (l : LeavesOthers old new (rows_file k)) (s : Tuples) (a : Attribute) → s.schema.attributes ≡ t.schema.attributes ++ a ∷ [] → size_at new.files s.file ≡ 0
       → (j : ℕ) (y : Indexed) → get_or held.indexes j None ≡ Some y → y.relation ≡ k → IsIndexedOn new tables j y (Some s)
   grown_indexes l s a more empty j y e rel =
       let d = on_relation old tables held opens r k t there j y e rel in

@@ -1,9 +1,8 @@
 -- A row was put behind the others of a relation, or there was no room for it.
-use Rattle.std.proofs.Common.{◌≡◌, ◌≢◌, ℕ, ◌+◌, ◌<◌, ◌≤◌, List, [], ◌∷◌, ◌++◌, length, get_or, Option, Some, None, refl, ap, sym, ◌∙◌, subst, arith, IsTrue, length-append}
+use Rattle.std.proofs.Common.{◌≡◌, ℕ, ◌+◌, ◌<◌, List, [], ◌∷◌, ◌++◌, length, get_or, Option, Some, None, refl, ap, sym, ◌∙◌, subst, arith, IsTrue, length-append}
 use Rattle.std.proofs.lemmas.List.{get_or_append_left}
-use Rattle.afl_base.specs.Files.{State, Table, bytes_at}
+use Rattle.afl_base.specs.Files.{State}
 use Rattle.afl_base.specs.Frames.{Prepares, Spares}
-use Rattle.db_model.specs.Database.{Database}
 use Rattle.db_model.specs.Row.{Row, no_row}
 use Rattle.db_model.specs.Step.{slots_limit}
 use Rattle.index_set.specs.declared.info.IndexInfo.{IndexInfo}
@@ -18,10 +17,10 @@ use Rattle.session_model.specs.declared.held.Open.{Open}
 use Rattle.session_model.specs.Frames.{StaysAt}
 use Rattle.session_model.specs.Indexed.{infos_of}
 use Rattle.session_model.specs.Running.{IsRunning}
-use Rattle.session_model.specs.View.{relation_in, view}
+use Rattle.session_model.specs.View.{view}
 use Rattle.session_model.proofs.Frames.{complete_kept, held_spared, holds_prepared, rows_prepared, slots_prepared}
 use Rattle.session_model.proofs.Running.{RowsCome, are_complete, are_held, away, one_changes, relation_there, rows_come}
-use Rattle.session_model.proofs.Views.{view_kept, view_set}
+use Rattle.session_model.proofs.Views.{view_kept}
 
 grows_by : (old new : List Row) (row : Row) → new ≡ old ++ row ∷ [] → RowsGrow old new
 grows_by old new row e = record {

@@ -1,6 +1,6 @@
 -- An open cursor of two relations may go on where it rests, and waits again where it has answered a pair.
-use Rattle.std.proofs.Common.{◌≡◌, ℕ, ◌<◌, ◌≤◌, List, [], ◌∷◌, get_or, Option, Some, None, refl, ap, sym, ◌∙◌, subst, arith, IsTrue}
-use Rattle.std.specs.Prelude.{⊤, slice_get}
+use Rattle.std.proofs.Common.{◌≡◌, ℕ, ◌≤◌, List, [], ◌∷◌, get_or, Option, Some, None, refl, ap, sym, ◌∙◌, subst, arith, IsTrue}
+use Rattle.std.specs.Prelude.{slice_get}
 use Rattle.std.specs.List.{AllByRecursion}
 use Rattle.afl_base.specs.Files.{State}
 use Rattle.index_set.specs.declared.candidates.Candidates.{Candidates}
@@ -10,12 +10,11 @@ use Rattle.index_set.specs.Tables.{Tables}
 use Rattle.cursor.specs.declared.join.JoinCursor.{JoinCursor}
 use Rattle.cursor.specs.Pairs.{FitsInner, FitsPairs, HasAhead, HasSlots, IsSafeInner, MayReadPairs, belongs}
 use Rattle.tuple_file.specs.declared.tuples.Tuples.{Tuples}
-use Rattle.tuple_file.specs.Tuples.{HoldsRows, rows, slots}
+use Rattle.tuple_file.specs.Tuples.{rows, slots}
 use Rattle.session_model.specs.declared.held.Held.{Held}
-use Rattle.session_model.specs.declared.held.Indexed.{Indexed}
 use Rattle.session_model.specs.declared.held.Open.{Open}
-use Rattle.session_model.specs.Indexed.{info_of, infos_of}
-use Rattle.session_model.specs.Running.{IsRightSide, IsRunning, IsSide, IsWaitingJoin, StandsAs}
+use Rattle.session_model.specs.Indexed.{infos_of}
+use Rattle.session_model.specs.Running.{IsRunning, IsSide, IsWaitingJoin, StandsAs}
 use Rattle.session_model.proofs.Readable.{index_complete, index_readable}
 use Rattle.session_model.proofs.Running.{all_of, on_relation, relation_there}
 

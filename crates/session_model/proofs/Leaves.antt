@@ -1,15 +1,15 @@
 -- Commands that change the catalog, and at most one other file beside it, leave all other files.
-use Rattle.std.proofs.Common.{◌≡◌, ◌≢◌, ℕ, List, Option, Some, None, true, refl, ap, sym, ◌∙◌, subst, IsTrue}
+use Rattle.std.proofs.Common.{◌≡◌, ◌≢◌, ℕ, List, Option, Some, None, true, refl, ap, sym, ◌∙◌, subst}
 use Rattle.std.proofs.Math.Logic.{⊎_elim}
 use Rattle.std.proofs.lemmas.Bool.{cases_eq}
-use Rattle.afl_base.specs.Files.{AreDistinct, Becomes, Commits, Creates, File, IsLive, IsNamed, IsUnnamed, Removes, State, Table, draft_in, file_at, name_at, new_file, place}
+use Rattle.afl_base.specs.Files.{AreDistinct, Becomes, Commits, Creates, File, IsNamed, IsUnnamed, Removes, State, Table, draft_in, file_at, name_at, new_file, place}
 use Rattle.afl_base.specs.declared.kind.Kind.{Kind}
 use Rattle.afl_base.specs.declared.kind.Kind.TheVariants.{Doubling, Fixed}
-use Rattle.afl_base.proofs.FileLaws.{file_here, live_here, named_here, named_live, names_stay, place_live}
+use Rattle.afl_base.proofs.FileLaws.{named_here, named_live, place_live}
 use Rattle.afl_base.proofs.FrameLaws.{becomes_spares}
 use Rattle.catalog.specs.Rules.{is_of_database}
 use Rattle.space_model.specs.FileNames.{catalog_file}
-use Rattle.session_model.specs.Frames.{Leaves}
+use Rattle.session_model.specs.Frames.{LeavesOthers}
 use Rattle.session_model.specs.Running.{AreOfDatabase}
 use Rattle.session_model.proofs.Running.{distinct_spared, known_spared}
 
@@ -31,7 +31,7 @@ free_name files id n free is = none_some n (sym (ap (λ (o : Option File). name_
     name_of None = None
     name_of (Some f) = Some f.name
 
-pub leaves_same : (a b : State) (name : List ℕ) → b.files ≡ a.files → b.tells ≡ a.tells → Leaves a b name
+pub leaves_same : (a b : State) (name : List ℕ) → b.files ≡ a.files → b.tells ≡ a.tells → LeavesOthers a b name
 leaves_same a b name files tells = record {
   others = λ id n is x y. ap (λ (t : Table). place t id) files;
   unnamed = λ n x y none. subst (λ (t : Table). IsUnnamed t n) (sym files) none;
@@ -40,7 +40,7 @@ leaves_same a b name files tells = record {
   tells = tells;
 }
 
-pub leaves_then : (a b c : State) (name : List ℕ) → Leaves a b name → Leaves b c name → Leaves a c name
+pub leaves_then : (a b c : State) (name : List ℕ) → LeavesOthers a b name → LeavesOthers b c name → LeavesOthers a c name
 leaves_then a b c name f g = record {
   others = λ id n is x y. let e = f.others id n is x y in
       g.others id n (ap (λ (o : Option File). name_of o) e ∙ is) x y ∙ e;
@@ -55,7 +55,7 @@ leaves_then a b c name f g = record {
     name_of (Some f) = Some f.name
 
 -- the catalog is changed
-pub leaves_becomes : (a b : State) (cat total : ℕ) (told name : List ℕ) → IsNamed a.files cat catalog_file → Becomes a b cat total told → Leaves a b name
+pub leaves_becomes : (a b : State) (cat total : ℕ) (told name : List ℕ) → IsNamed a.files cat catalog_file → Becomes a b cat total told → LeavesOthers a b name
 leaves_becomes a b cat total told name named u =
     let f = becomes_spares a b cat total told (named_live a.files cat catalog_file named) u in
     record {
@@ -96,7 +96,7 @@ distinct_new a b id name here none others d i j n x y =
     (cases_eq j id))
     (cases_eq i id)
 
-pub leaves_creates : (a b : State) (id : ℕ) (name : List ℕ) (kind : Kind) → IsUnnamed a.files name → is_of_database name kind ≡ true → Creates a b id name kind → Leaves a b name
+pub leaves_creates : (a b : State) (id : ℕ) (name : List ℕ) (kind : Kind) → IsUnnamed a.files name → is_of_database name kind ≡ true → Creates a b id name kind → LeavesOthers a b name
 leaves_creates a b id name kind none is u = record {
   others = λ k n named x y. u.others k (λ e. free_name a.files id n u.free (subst (λ (j : ℕ). IsNamed a.files j n) e named));
   unnamed = λ n x y missing. u.names n y missing;
@@ -106,7 +106,7 @@ leaves_creates a b id name kind none is u = record {
 }
 
 -- the catalog is made
-pub leaves_catalog : (a b : State) (id : ℕ) (name : List ℕ) → IsUnnamed a.files catalog_file → Creates a b id catalog_file (Fixed 6) → Leaves a b name
+pub leaves_catalog : (a b : State) (id : ℕ) (name : List ℕ) → IsUnnamed a.files catalog_file → Creates a b id catalog_file (Fixed 6) → LeavesOthers a b name
 leaves_catalog a b id name none u = record {
   others = λ k n named x y. u.others k (λ e. free_name a.files id n u.free (subst (λ (j : ℕ). IsNamed a.files j n) e named));
   unnamed = λ n x y missing. u.names n x missing;
@@ -116,7 +116,7 @@ leaves_catalog a b id name none u = record {
 }
 
 -- a draft of the name has become its file, where there was none
-pub leaves_commits : (a b : State) (id : ℕ) (name : List ℕ) → (draft_in a).name ≡ name → IsUnnamed a.files name → is_of_database name Doubling ≡ true → Commits a b id → Leaves a b name
+pub leaves_commits : (a b : State) (id : ℕ) (name : List ℕ) → (draft_in a).name ≡ name → IsUnnamed a.files name → is_of_database name Doubling ≡ true → Commits a b id → LeavesOthers a b name
 leaves_commits a b id name given none is u =
     let missing : IsUnnamed a.files (draft_in a).name = subst (λ (n : List ℕ). IsUnnamed a.files n) (sym given) none in
     let there = place_live b.files id u.live in
@@ -131,7 +131,7 @@ leaves_commits a b id name given none is u =
     }
 
 -- the file of the name is gone
-pub leaves_removes : (a b : State) (id : ℕ) (name : List ℕ) → IsNamed a.files id name → Removes a b id → Leaves a b name
+pub leaves_removes : (a b : State) (id : ℕ) (name : List ℕ) → IsNamed a.files id name → Removes a b id → LeavesOthers a b name
 leaves_removes a b id name named u = record {
   others = λ k n was x y. u.others k (λ e. y (one_name a.files k id n name e was named));
   unnamed = λ n x y missing. u.names n missing;

@@ -1,16 +1,15 @@
 -- The indexes of a relation may be read, and are complete for its rows.
-use Rattle.std.proofs.Common.{◌≡◌, ◌≢◌, ℕ, zero, suc, ◌+◌, ◌<◌, ◌≤◌, ◌⊎◌, Bool, true, false, cond, List, [], ◌∷◌, length, get_or, Option, Some, None, refl, ap, sym, ◌∙◌, subst, arith, inl, inr, IsTrue, eqb}
-use Rattle.std.specs.Prelude.{⊤, slice_get}
-use Rattle.std.specs.List.{AllByRecursion}
+use Rattle.std.proofs.Common.{◌≡◌, ◌≢◌, ℕ, zero, suc, ◌<◌, ◌≤◌, Bool, true, false, cond, List, [], ◌∷◌, get_or, Option, Some, None, refl, ap, sym, ◌∙◌, arith, inl, inr, IsTrue, eqb}
+use Rattle.std.specs.Prelude.{slice_get}
 use Rattle.std.specs.Option.{option_map_or}
 use Rattle.std.proofs.lemmas.Bool.Decides.{nat_tests}
 use Rattle.std.proofs.lemmas.List.FromFn.{get_or-map-range_with_len}
-use Rattle.afl_base.specs.Files.{IsLive, State, bytes_at}
+use Rattle.afl_base.specs.Files.{State, bytes_at}
 use Rattle.db_model.specs.declared.schemas.Attribute.{Attribute}
 use Rattle.db_model.specs.declared.schemas.Domain.{Domain}
 use Rattle.db_model.specs.declared.schemas.Domain.TheVariants.{Int, Long, Time, Str}
 use Rattle.db_model.specs.declared.schemas.IndexKind.{IndexKind}
-use Rattle.db_model.specs.declared.schemas.IndexKind.TheVariants.{Inline, MaxHeap, MemHash}
+use Rattle.db_model.specs.declared.schemas.IndexKind.TheVariants.{MaxHeap, MemHash}
 use Rattle.db_model.specs.Row.{Row, no_row, row_at, width}
 use Rattle.db_model.specs.Step.{allows}
 use Rattle.index_set.specs.declared.candidates.Search.{Search}
@@ -25,7 +24,7 @@ use Rattle.index_set.specs.Tables.{Tables}
 use Rattle.index_set.specs.Walks.{IsChosen}
 use Rattle.cursor.specs.Remaining.{AreOnNumbers}
 use Rattle.tuple_file.specs.declared.tuples.Tuples.{Tuples}
-use Rattle.tuple_file.specs.Column.{IsNumber, column_of, is_number}
+use Rattle.tuple_file.specs.Column.{IsNumber, is_number}
 use Rattle.tuple_file.specs.Tuples.{HoldsRows, rows, slots}
 use Rattle.tuple_file.proofs.Columns.{column_field, column_key, column_width}
 use Rattle.session_model.specs.declared.held.Held.{Held}

@@ -1,13 +1,13 @@
 -- A catalog that is written for a sound database breaks no rule.
-use Rattle.std.proofs.Common.{◌≡◌, ◌≢◌, ℕ, zero, suc, ◌+◌, ◌-◌, ◌*◌, ◌<◌, ◌≤◌, ◌⊎◌, inl, inr, Bool, true, false, not, ◌&&◌, ◌||◌, ◌==◌, cond, nat_le, nat_lt, List, [], ◌∷◌, length, map, take, get_or, filter, Option, Some, None, if◌then◌else◌, refl, ap, sym, subst, ◌∙◌, arith, IsTrue}
-use Rattle.std.specs.Prelude.{is_some, slice_get, slice_range, ⊤}
+use Rattle.std.proofs.Common.{◌≡◌, ℕ, zero, suc, ◌+◌, ◌-◌, ◌<◌, ◌≤◌, Bool, true, false, not, ◌&&◌, ◌==◌, cond, nat_le, nat_lt, List, [], ◌∷◌, length, take, get_or, filter, Option, Some, None, if◌then◌else◌, refl, ap, ◌∙◌, arith}
+use Rattle.std.specs.Prelude.{is_some, slice_range}
 use Rattle.std.specs.List.{AllByRecursion, list_all, list_any}
 use Rattle.std.specs.Str.{bytes_eq}
 use Rattle.std.proofs.Math.Logic.{⊎_elim}
 use Rattle.std.proofs.lemmas.Bool.{cases_lt}
 use Rattle.std.proofs.lemmas.Bool.Decides.{nat_tests}
 use Rattle.std.proofs.lemmas.Slice.Eq.{bytes_eq-Decides}
-use Rattle.afl_base.specs.Files.{File, IsNamed, IsUnnamed, Table, place}
+use Rattle.afl_base.specs.Files.{File, Table, place}
 use Rattle.catalog.specs.CatalogFile.{IsCatalogSize}
 use Rattle.catalog.specs.Rules.{breaks_files, differ, first, has_form, has_name, how_many, is_attribute, is_behind, is_domain, is_index_form, is_named_among, is_of_database, is_relation_slot, is_row, is_same_place, is_schema, is_stranger, is_table, is_third_table, is_tree, stands_on}
 use Rattle.catalog.proofs.Firsts.{first_more, first_none}
@@ -16,12 +16,13 @@ use Rattle.db_model.specs.declared.schemas.Domain.{Domain}
 use Rattle.db_model.specs.declared.schemas.Domain.TheVariants.{Int, Long, Time, Str}
 use Rattle.db_model.specs.declared.schemas.Schema.{Schema}
 use Rattle.db_model.specs.Catalog.{Index, IsDomain, index_slot_bytes, relation_slot_bytes, version_mark}
-use Rattle.db_model.specs.Database.{is_hash_table, is_on, used}
+use Rattle.db_model.specs.Database.{is_hash_table, used}
 use Rattle.db_model.specs.Names.{is_name}
 use Rattle.db_model.specs.Row.{row_length}
 use Rattle.db_model.specs.Sound.{IsSoundAttribute, IsSoundSchema, are_distinct, attribute_names}
-use Rattle.db_model.specs.Step.{allows}
 use Rattle.space_model.specs.FileNames.{is_there, rows_file, tree_file}
+use Rattle.padded.proofs.Facts.{both_true, some_same}
+pub use Rattle.padded.proofs.Facts.{both_parts}
 
 -- ---- tests
 
@@ -40,23 +41,11 @@ eq_true m n h = grind (arith, nat_tests)
 pub true_eq : (m n : ℕ) → m == n ≡ true → m ≡ n
 true_eq m n h = grind (arith, nat_tests)
 
-pub both_true : (a b : Bool) → a ≡ true → b ≡ true → (a && b) ≡ true
-both_true true b e f = f
-both_true false b e f = e
-
-pub both_parts : (a b : Bool) → (a && b) ≡ true → (a ≡ true) × (b ≡ true)
-both_parts true b e = (refl, e)
-both_parts false b e = cc
-
 pub not_false : (b : Bool) → b ≡ false → not b ≡ true
 not_false b e = ap not e
 
 pub not_true : (b : Bool) → b ≡ true → not b ≡ false
 not_true b e = ap not e
-
-pub false_by : (b : Bool) → (b ≡ true → ⊥) → b ≡ false
-false_by true h = absurd (h refl)
-false_by false h = refl
 
 pub same_bytes : (a b : List ℕ) → a ≡ b → bytes_eq a b ≡ true
 same_bytes a b e = (bytes_eq-Decides a b).1 e
@@ -137,9 +126,6 @@ tables_counted (Some y ∷ xs) zero x e t =
     let same : y ≡ x = some_same y x e in
     let here : is_hash_table y ≡ true = ap is_hash_table same ∙ t in
     rw here (omega arith)
-  where
-    some_same : (a b : Index) → Some a ≡ Some b → a ≡ b
-    some_same a b e = cc
 tables_counted (None ∷ xs) (suc k) x e t = tables_counted xs k x e t
 tables_counted (Some y ∷ xs) (suc k) x e t = counted (is_hash_table y) (how_many is_table (take k xs)) (filter is_hash_table (used xs)) (tables_counted xs k x e t)
   where

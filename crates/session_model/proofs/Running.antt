@@ -1,15 +1,16 @@
 -- What is so of a session goes on being so where rows come to one relation.
-use Rattle.std.proofs.Common.{◌≡◌, ◌≢◌, ℕ, zero, suc, ◌+◌, ◌*◌, ◌/◌, ◌<◌, ◌≤◌, ◌⊎◌, Bool, true, false, cond, List, [], ◌∷◌, length, map, get_or, Option, Some, None, unwrap_or, refl, ap, sym, ◌∙◌, subst, arith, inl, inr, IsTrue, is_some, eqb, ◌==◌, filter, ℤ, ◌||◌}
-use Rattle.std.specs.Prelude.{⊤, option_map}
+use Rattle.std.proofs.Common.{◌≡◌, ◌≢◌, ℕ, zero, suc, ◌+◌, ◌*◌, ◌/◌, ◌<◌, ◌≤◌, Bool, true, false, cond, List, [], ◌∷◌, length, map, get_or, Option, Some, None, unwrap_or, refl, ap, sym, ◌∙◌, subst, arith, inl, inr, IsTrue, is_some, eqb, ◌==◌, filter, ℤ, ◌||◌}
+use Rattle.std.specs.Prelude.{option_map}
 use Rattle.std.specs.List.{AllByRecursion}
 use Rattle.std.proofs.Math.Logic.{⊎_elim}
 use Rattle.std.specs.Str.{bytes_eq}
 use Rattle.std.proofs.lemmas.Slice.Eq.{bytes_eq-Decides}
 use Rattle.std.proofs.lemmas.Bool.{cases_eq}
 use Rattle.std.proofs.lemmas.Bool.Decides.{nat_tests}
-use Rattle.afl_base.specs.Files.{AreDistinct, File, IsLive, IsNamed, IsUnnamed, State, Table, bytes_at, file_at, name_at, no_file, place, size_at}
+use Rattle.afl_base.specs.Files.{AreDistinct, File, IsLive, IsNamed, IsUnnamed, State, Table, bytes_at, file_at, no_file, place}
 use Rattle.afl_base.specs.Frames.{Spares}
 use Rattle.afl_base.proofs.FrameLaws.{live_by_name, spares_fewer, unnamed_by_name}
+pub use Rattle.padded.proofs.Facts.{some_same}
 use Rattle.afl_base.proofs.FileLaws.{file_here, live_here, named_here, named_live, place_live}
 use Rattle.catalog.specs.CatalogFile.{IsCatalogSize}
 use Rattle.catalog.specs.Rules.{is_of_database}
@@ -26,7 +27,7 @@ use Rattle.index_set.specs.Complete.{AreComplete, AreHeld, IsComplete, IsHeld}
 use Rattle.index_set.specs.Inserts.{AreApart, IsApart, IsElsewhere, IsNoTable, IsNoTree, KeepsTables}
 use Rattle.index_set.specs.Walks.{RowsGrow}
 use Rattle.index_set.proofs.Grown.{waits_kept}
-use Rattle.index_set.specs.Tables.{Tables, entries}
+use Rattle.index_set.specs.Tables.{Tables}
 use Rattle.index_tree.specs.Trees.{IsTreeOf}
 use Rattle.space_model.specs.FileNames.{catalog_file, rows_file, tree_file}
 use Rattle.tuple_file.specs.declared.tuples.Tuples.{Tuples}
@@ -36,9 +37,9 @@ use Rattle.session_model.specs.declared.held.Indexed.{Indexed}
 use Rattle.session_model.specs.declared.held.Open.{Open}
 use Rattle.session_model.specs.declared.held.Open.TheVariants.{Select, Join}
 use Rattle.session_model.specs.Frames.{StaysAt}
-use Rattle.session_model.specs.Indexed.{IsAllowed, AreAllowed, index_in, index_of, info_of, infos_of}
-use Rattle.session_model.specs.Running.{AreOfDatabase, HasCatalog, HasFile, IsCursorSlot, IsIndexed, IsIndexedOn, IsIndexSlot, IsListed, IsOpen, IsRelation, IsRelationSlot, IsRunning, IsSide, IsWrittenOrEmpty, ReadsRows, catalog_bytes}
-use Rattle.session_model.specs.View.{cursor_in, relation_at, relation_in}
+use Rattle.session_model.specs.Indexed.{IsAllowed, AreAllowed, index_known, index_of_info, info_of, infos_of}
+use Rattle.session_model.specs.Running.{AreOfDatabase, HasCatalogFile, HasFile, IsCursorSlot, IsIndexed, IsIndexedOn, IsIndexSlot, HoldsRelation, IsRelationSlot, IsRunning, IsSide, IsWrittenOrEmpty, ReadsRows, bytes_of_catalog}
+use Rattle.session_model.specs.View.{cursor_in, relation_of_file}
 use Rattle.session_model.proofs.Cursors.{cursor_kept}
 use Rattle.session_model.proofs.Frames.{bytes_spared, held_spared}
 use Rattle.session_model.proofs.Views.{OneChanges}
@@ -54,9 +55,6 @@ pub all_of : (P : IndexInfo → Type 0) (k : ℕ) (t : Tuples) (xs : List (Optio
 all_of P k t [] h = tt
 all_of P k t (None ∷ xs) h = all_of P k t xs (λ i x e. h (suc i) x e)
 all_of P k t (Some x ∷ xs) h = chosen P k t x (infos_of k t xs) (eqb x.relation k) refl (h zero x refl) (all_of P k t xs (λ i y e. h (suc i) y e))
-
-pub some_same : {A : Type 0} (a b : A) → Some a ≡ Some b → a ≡ b
-some_same a b e = cc
 
 first : (P : IndexInfo → Type 0) (t : Tuples) (x y : Indexed) (rest : List IndexInfo) (b : Bool) → b ≡ true → y ≡ x → AllByRecursion P (cond b (info_of t y ∷ rest) rest) → P (info_of t x)
 first P t x y rest true is e h = subst (λ (z : Indexed). P (info_of t z)) e h.0
@@ -92,15 +90,15 @@ apart_of k t (Some x ∷ xs) h =
     (apart_of k t xs (λ i j y z other a b. h (suc i) (suc j) y z (λ e. other (omega arith)) a b))
 
 -- they are those that the machine sees
-chosen_index : (k : ℕ) (t : Tuples) (x : Indexed) (indexes : List Index) (rest : List IndexInfo) (b : Bool) → eqb x.relation k ≡ b → indexes ≡ map (index_of k) rest
-    → cond b (index_in x ∷ indexes) indexes ≡ map (index_of k) (cond b (info_of t x ∷ rest) rest)
-chosen_index k t x indexes rest true e h = let same : x.relation ≡ k = grind (arith, nat_tests) in λ i. index_of (same i) (info_of t x) ∷ h i
+chosen_index : (k : ℕ) (t : Tuples) (x : Indexed) (indexes : List Index) (rest : List IndexInfo) (b : Bool) → eqb x.relation k ≡ b → indexes ≡ map (index_of_info k) rest
+    → cond b (index_known x ∷ indexes) indexes ≡ map (index_of_info k) (cond b (info_of t x ∷ rest) rest)
+chosen_index k t x indexes rest true e h = let same : x.relation ≡ k = grind (arith, nat_tests) in λ i. index_of_info (same i) (info_of t x) ∷ h i
 chosen_index k t x indexes rest false e h = h
 
-pub indexes_seen : (k : ℕ) (t : Tuples) (xs : List (Option Indexed)) → filter (λ index. index.relation == k) (used (map (option_map index_in) xs)) ≡ map (index_of k) (infos_of k t xs)
+pub indexes_seen : (k : ℕ) (t : Tuples) (xs : List (Option Indexed)) → filter (λ index. index.relation == k) (used (map (option_map index_known) xs)) ≡ map (index_of_info k) (infos_of k t xs)
 indexes_seen k t [] = refl
 indexes_seen k t (None ∷ xs) = indexes_seen k t xs
-indexes_seen k t (Some x ∷ xs) = chosen_index k t x (filter (λ index. index.relation == k) (used (map (option_map index_in) xs))) (infos_of k t xs) (eqb x.relation k) refl (indexes_seen k t xs)
+indexes_seen k t (Some x ∷ xs) = chosen_index k t x (filter (λ index. index.relation == k) (used (map (option_map index_known) xs))) (infos_of k t xs) (eqb x.relation k) refl (indexes_seen k t xs)
 
 -- ---- names tell files apart
 
@@ -211,7 +209,7 @@ on state tables i x (Some s) h = record { tuples = s; is = refl; indexed = h }
 -- ---- a session that is running
 
 module _ (state : State) (tables : Tables) (held : Held) (opens : List (Option Open)) (r : IsRunning state tables held opens) where
-  pub relation_there : (k : ℕ) (t : Tuples) → get_or held.relations k None ≡ Some t → IsRelation state held.version k t
+  pub relation_there : (k : ℕ) (t : Tuples) → get_or held.relations k None ≡ Some t → HoldsRelation state held.version k t
   relation_there k t e = let P : Option Tuples → Type 0 = λ o. IsRelationSlot state held.version k o in
       subst P e (r.relations k (omega (arith, inside held.relations k t e, r.eight)))
 
@@ -319,7 +317,7 @@ module _ (old new : State) (before after : Tables) (held : Held) (opens : List (
   relation_new j None e h = unnamed_spared old new _ (rows_file j) u.spared h
   relation_new j (Some s) e h =
       ⊎_elim
-      (λ same. let P : Tuples → Type 0 = λ z. IsRelation new held.version j z in
+      (λ same. let P : Tuples → Type 0 = λ z. HoldsRelation new held.version j z in
       subst P (sym (is_t j s same e))
       (record { holds = u.holds; named = named_spared old new _ t.file (rows_file j) u.spared (subst (λ (z : Tuples). IsNamed old.files z.file (rows_file j)) (is_t j s same e) h.named); few = u.few }))
       (λ other. let stays = place_stays j s other e in
@@ -410,7 +408,7 @@ module _ (old new : State) (before after : Tables) (held : Held) (opens : List (
         record { side = side_new n (Join c) e c.cursor.right c.cursor.right_slots (inr (some, refl)) is.side; indexes = is.indexes };
   }
 
-  catalog_new : (cat : Option ℕ) → HasCatalog old.files cat → HasCatalog new.files cat × (catalog_bytes new.files cat ≡ catalog_bytes old.files cat)
+  catalog_new : (cat : Option ℕ) → HasCatalogFile old.files cat → HasCatalogFile new.files cat × (bytes_of_catalog new.files cat ≡ bytes_of_catalog old.files cat)
   catalog_new None h = (unnamed_spared old new _ catalog_file u.spared h, refl)
   catalog_new (Some cat) h =
       let bytes = bytes_by old.files new.files cat (u.spared.others cat (cat_stays old before held opens r k cat t u.there h.0)) in
@@ -442,7 +440,7 @@ module _ (old new : State) (before after : Tables) (held : Held) (opens : List (
     version = refl;
     relations = refl;
     indexes = refl;
-    others = λ j s other e. ap (λ (o : Option File). relation_at o s.schema) (place_stays j s other e);
+    others = λ j s other e. ap (λ (o : Option File). relation_of_file o s.schema) (place_stays j s other e);
     cursors = λ n o e. let P : Option Open → Type 0 = λ z. IsCursorSlot old held z in
         cursor_kept old new held o told (subst P e (r.cursors n (omega (arith, inside opens n o e, r.four)))) (λ j t2 reads there. grow_any told n o e j t2 reads there);
   }

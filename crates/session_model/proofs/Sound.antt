@@ -1,5 +1,5 @@
 -- The files of a session that runs over a sound database are sound, and stand for it without its cursors.
-use Rattle.std.proofs.Common.{◌≡◌, ◌≢◌, ℕ, zero, suc, ◌+◌, ◌*◌, ◌<◌, ◌≤◌, ◌⊎◌, inl, inr, Bool, true, false, not, ◌&&◌, ◌==◌, List, [], ◌∷◌, length, map, take, get_or, replicate, Option, Some, None, refl, ap, sym, subst, ◌∙◌, arith, IsTrue, ℤ}
+use Rattle.std.proofs.Common.{◌≡◌, ℕ, zero, suc, ◌+◌, ◌*◌, ◌<◌, ◌⊎◌, inl, inr, true, false, not, ◌&&◌, ◌==◌, List, [], ◌∷◌, length, map, take, get_or, replicate, Option, Some, None, refl, ap, sym, subst, ◌∙◌, arith, IsTrue, ℤ}
 use Rattle.std.specs.Prelude.{is_some, option_map, slice_get, slice_range}
 use Rattle.std.specs.List.{list_any, range_with_len}
 use Rattle.std.specs.Option.{option_map_or}
@@ -8,19 +8,17 @@ use Rattle.std.proofs.Math.Logic.{⊎_elim}
 use Rattle.std.proofs.lemmas.List.{ext_get_or, get_or-map}
 use Rattle.std.proofs.lemmas.List.FromFn.{get_or-map-range_with_len, length-map-range_with_len}
 use Rattle.std.proofs.lemmas.Slice.Eq.{bytes_eq-Decides}
-use Rattle.afl_base.specs.Files.{File, IsNamed, IsUnnamed, State, Table, bytes_at, file_at, size_at}
+use Rattle.afl_base.specs.Files.{IsNamed, IsUnnamed, State, bytes_at}
 use Rattle.catalog.specs.CatalogFile.{IsCatalogSize}
 use Rattle.catalog.specs.Rules.{breaks_files, breaks_index, breaks_relation, broken_catalog, catalog_bytes_in, catalog_in, first, first_broken, has_name, is_behind, is_index_form, is_named_among, is_relation_slot, is_same_place, is_schema, is_sound_index, is_sound_relation, is_third_table, is_tree, stands_on}
 use Rattle.catalog.proofs.Breaks.{breaks_none, breaks_nothing, empty_breaks_none}
 use Rattle.catalog.proofs.Named.{named_none}
 use Rattle.db_model.specs.declared.schemas.Attribute.{Attribute}
-use Rattle.db_model.specs.declared.schemas.IndexKind.{IndexKind}
-use Rattle.db_model.specs.declared.schemas.IndexKind.TheVariants.{Inline, MaxHeap, MemHash}
 use Rattle.db_model.specs.declared.schemas.Schema.{Schema}
 use Rattle.db_model.specs.Catalog.{Catalog as Slots, Index, catalog_of, index_at, relation_at, version_of}
 use Rattle.db_model.specs.Database.{Database, Relation, bare, is_on}
 use Rattle.db_model.specs.Row.{Row, rows_of}
-use Rattle.db_model.specs.Sound.{IsIndexOf, IsSoundDatabase, IsSoundRelation, SuitKind}
+use Rattle.db_model.specs.Sound.{IsSoundDatabase, SuitKind}
 use Rattle.db_model.specs.Step.{allows, keys}
 use Rattle.index_set.specs.declared.info.Access.{Access}
 use Rattle.index_set.specs.declared.info.Access.TheVariants.{Order, Tree, Table as InTable}
@@ -29,21 +27,22 @@ use Rattle.index_set.specs.Plans.{kind_of}
 use Rattle.index_set.specs.Tables.{Tables}
 use Rattle.index_tree.specs.Trees.{IsTreeOf}
 use Rattle.space_model.specs.Enough.{rows_in}
-use Rattle.space_model.specs.FileNames.{bytes_named, bytes_of, catalog_file, file_named, is_there, rows_file, tree_file}
+use Rattle.space_model.specs.FileNames.{bytes_named, bytes_of, catalog_file, is_there, rows_file, tree_file}
 use Rattle.stored.specs.Base as stored
 use Rattle.stored.specs.Base.{base_of}
-use Rattle.stored.specs.Sound.{IsComplete, IsSoundTable, KeepsIndex, KeepsRows, keys_in}
+use Rattle.stored.specs.Sound.{IsIndexComplete, IsSoundTable, KeepsIndex, KeepsRows, keys_stored}
 use Rattle.tuple_file.specs.declared.tuples.Tuples.{Tuples}
-use Rattle.tuple_file.specs.Tuples.{AreRows, rows, slots}
+use Rattle.tuple_file.specs.Tuples.{AreRows, rows}
 use Rattle.session_model.specs.declared.held.Held.{Held}
 use Rattle.session_model.specs.declared.held.Indexed.{Indexed}
 use Rattle.session_model.specs.declared.held.Open.{Open}
 use Rattle.session_model.specs.Frames.{schema_in}
-use Rattle.session_model.specs.Indexed.{index_in}
-use Rattle.session_model.specs.Running.{HasCatalog, HasFile, IsIndexSlot, IsRelationSlot, IsRunning, IsWritten, IsWrittenOrEmpty, catalog_bytes}
-use Rattle.session_model.specs.View.{relation_in, view}
+use Rattle.session_model.specs.Indexed.{index_known}
+use Rattle.session_model.specs.Running.{HasCatalogFile, HasFile, IsIndexSlot, IsRelationSlot, IsRunning, IsWritten, bytes_of_catalog}
+use Rattle.session_model.specs.View.{relation_of_rows, view}
 use Rattle.session_model.proofs.Grown.{no_bytes}
-use Rattle.session_model.proofs.Rules.{both_parts, false_by, files_used, formed, index_slot_true, no_strangers, no_third_table, none_any, none_first, not_true, relation_slot_true, schema_true, true_eq}
+use Rattle.padded.proofs.Facts.{both_parts, false_by, some_same}
+use Rattle.session_model.proofs.Rules.{files_used, formed, index_slot_true, no_strangers, no_third_table, none_any, none_first, not_true, relation_slot_true, schema_true, true_eq}
 use Rattle.session_model.proofs.Running.{index_there, inside, relation_there}
 use Rattle.session_model.proofs.Wanted.{by_name, bytes_by_name}
 
@@ -59,9 +58,6 @@ record Seen {A B : Type 0} (f : A → B) (xs : List (Option A)) (i : ℕ) (y : B
   from : A
   there : get_or xs i None ≡ Some from
   is : f from ≡ y
-
-some_same : {A : Type 0} (a b : A) → Some a ≡ Some b → a ≡ b
-some_same a b e = cc
 
 seen_back : {A B : Type 0} (f : A → B) (xs : List (Option A)) (i : ℕ) (y : B) → get_or (map (option_map f) xs) i None ≡ Some y → Seen f xs i y
 seen_back f [] i y e = absurd (cc)
@@ -85,15 +81,15 @@ module _ (state : State) (tables : Tables) (held : Held) (opens : List (Option O
 
   -- ---- the catalog
 
-  catalog_seen : catalog_bytes_in state.files ≡ catalog_bytes state.files held.cat
+  catalog_seen : catalog_bytes_in state.files ≡ bytes_of_catalog state.files held.cat
   catalog_seen = by_cat held.cat r.catalog
     where
-      by_cat : (o : Option ℕ) → HasCatalog state.files o → bytes_named catalog_file state.files ≡ catalog_bytes state.files o
+      by_cat : (o : Option ℕ) → HasCatalogFile state.files o → bytes_named catalog_file state.files ≡ bytes_of_catalog state.files o
       by_cat None h = ap bytes_of (named_none state.files catalog_file h)
       by_cat (Some cat) h = named_bytes cat catalog_file h.0
 
   abbrev slots_held : Slots
-  slots_held = record { version = held.version; relations = map (option_map schema_in) held.relations; indexes = map (option_map index_in) held.indexes }
+  slots_held = record { version = held.version; relations = map (option_map schema_in) held.relations; indexes = map (option_map index_known) held.indexes }
 
   catalog_is : catalog_in state.files ≡ slots_held
   catalog_is = ap catalog_of catalog_seen ∙ r.listed told
@@ -103,57 +99,57 @@ module _ (state : State) (tables : Tables) (held : Held) (opens : List (Option O
   abbrev base_by : Slots → Database
   base_by c = record {
     version = c.version;
-    relations = map (stored.relation_in state.files c.relations) (range_with_len 0 8);
+    relations = map (stored.relation_stored state.files c.relations) (range_with_len 0 8);
     indexes = c.indexes;
     cursors = replicate 4 None;
   }
 
   one_relation : (j : ℕ) (o : Option Tuples) → get_or held.relations j None ≡ o
-      → option_map (λ (schema : Schema). record { schema = schema; rows = rows_of schema.attributes (bytes_named (rows_file j) state.files) }) (option_map schema_in o) ≡ option_map (relation_in state.files) o
+      → option_map (λ (schema : Schema). record { schema = schema; rows = rows_of schema.attributes (bytes_named (rows_file j) state.files) }) (option_map schema_in o) ≡ option_map (relation_of_rows state.files) o
   one_relation j None e = refl
   one_relation j (Some t) e =
       ap (λ (bytes : List ℕ). Some (record { schema = t.schema; rows = rows_of t.schema.attributes bytes }))
       (named_bytes t.file (rows_file j) (relation_there state tables held opens r j t e).named)
 
-  relations_are : map (stored.relation_in state.files (map (option_map schema_in) held.relations)) (range_with_len 0 8) ≡ map (option_map (relation_in state.files)) held.relations
+  relations_are : map (stored.relation_stored state.files (map (option_map schema_in) held.relations)) (range_with_len 0 8) ≡ map (option_map (relation_of_rows state.files)) held.relations
   relations_are =
-      listed_by (stored.relation_in state.files (map (option_map schema_in) held.relations)) (map (option_map (relation_in state.files)) held.relations) 8 None (long held.relations ∙ r.eight)
+      listed_by (stored.relation_stored state.files (map (option_map schema_in) held.relations)) (map (option_map (relation_of_rows state.files)) held.relations) 8 None (long held.relations ∙ r.eight)
       (λ j below.
       let inside_it : j < length held.relations = omega (arith, below, r.eight) in
       ap (option_map (λ (schema : Schema). record { schema = schema; rows = rows_of schema.attributes (bytes_named (rows_file j) state.files) })) (get_or-map (option_map schema_in) held.relations j None None inside_it)
       ∙ one_relation j (get_or held.relations j None) refl
-      ∙ sym (get_or-map (option_map (relation_in state.files)) held.relations j None None inside_it))
+      ∙ sym (get_or-map (option_map (relation_of_rows state.files)) held.relations j None None inside_it))
     where
-      long : (xs : List (Option Tuples)) → length (map (option_map (relation_in state.files)) xs) ≡ length xs
+      long : (xs : List (Option Tuples)) → length (map (option_map (relation_of_rows state.files)) xs) ≡ length xs
       long [] = refl
       long (x ∷ xs) = ap suc (long xs)
 
   -- files stand for the database without its cursors
   pub base_is : base_of state.files ≡ bare (view state.files held opens)
-  base_is = ap base_by catalog_is ∙ (λ i. record { version = held.version; relations = relations_are i; indexes = map (option_map index_in) held.indexes; cursors = replicate 4 None })
+  base_is = ap base_by catalog_is ∙ (λ i. record { version = held.version; relations = relations_are i; indexes = map (option_map index_known) held.indexes; cursors = replicate 4 None })
 
   -- ---- soundness
 
   module _ (s : IsSoundDatabase (view state.files held opens)) where
     abbrev bytes_held : List ℕ
-    bytes_held = catalog_bytes state.files held.cat
+    bytes_held = bytes_of_catalog state.files held.cat
 
-    size_held : IsCatalogSize (length (catalog_bytes state.files held.cat))
+    size_held : IsCatalogSize (length (bytes_of_catalog state.files held.cat))
     size_held = by_cat held.cat r.catalog
       where
-        by_cat : (o : Option ℕ) → HasCatalog state.files o → IsCatalogSize (length (catalog_bytes state.files o))
+        by_cat : (o : Option ℕ) → HasCatalogFile state.files o → IsCatalogSize (length (bytes_of_catalog state.files o))
         by_cat None h = inl refl
         by_cat (Some cat) h = h.1
 
     schema_of_slot : (k : ℕ) → k < 8 → relation_at bytes_held k ≡ get_or (map (option_map schema_in) held.relations) k None
     schema_of_slot k below = sym (get_or-map-range_with_len (relation_at bytes_held) 0 8 k k None below (omega arith)) ∙ ap (λ (c : Slots). get_or c.relations k None) (r.listed told)
 
-    index_of_slot : (i : ℕ) → i < 8 → index_at bytes_held i ≡ get_or (map (option_map index_in) held.indexes) i None
+    index_of_slot : (i : ℕ) → i < 8 → index_at bytes_held i ≡ get_or (map (option_map index_known) held.indexes) i None
     index_of_slot i below = sym (get_or-map-range_with_len (index_at bytes_held) 0 8 i i None below (omega arith)) ∙ ap (λ (c : Slots). get_or c.indexes i None) (r.listed told)
 
     same_tuples_slot : (j k : ℕ) (t u : Tuples) → get_or held.relations j None ≡ Some t → get_or held.relations k None ≡ Some u → t.schema.name ≡ u.schema.name → j ≡ k
     same_tuples_slot j k t u a b e =
-        s.names j k (relation_in state.files t) (relation_in state.files u) (seen (relation_in state.files) held.relations j t a) (seen (relation_in state.files) held.relations k u b) e
+        s.names j k (relation_of_rows state.files t) (relation_of_rows state.files u) (seen (relation_of_rows state.files) held.relations j t a) (seen (relation_of_rows state.files) held.relations k u b) e
 
     new_name : (k : ℕ) (t : Tuples) → get_or held.relations k None ≡ Some t → list_any (has_name t.schema.name) (take k (map (option_map schema_in) held.relations)) ≡ false
     new_name k t there =
@@ -173,19 +169,19 @@ module _ (state : State) (tables : Tables) (held : Held) (opens : List (Option O
         relation_slot_true held.version slot before (relation_at bytes_held k) (w.relations k below)
         (λ schema is.
         let from = seen_back schema_in held.relations k schema (sym (schema_of_slot k below) ∙ is) in
-        let sound = s.relations k (relation_in state.files from.from) (seen (relation_in state.files) held.relations k from.from from.there) in
+        let sound = s.relations k (relation_of_rows state.files from.from) (seen (relation_of_rows state.files) held.relations k from.from from.there) in
         let P : Schema → Type 0 = λ z. (is_schema held.version z ≡ true) × (list_any (has_name z.name) before ≡ false) in
         subst P from.is (schema_true held.version from.from.schema sound.schema, new_name k from.from from.there)) in
         not_true (is_sound_relation (version_of bytes_held) slot (take k (catalog_of bytes_held).relations))
         (ap (λ (c : Slots). is_sound_relation c.version slot (take k c.relations)) (r.listed told) ∙ now)
 
-    index_alone : (i : ℕ) (x : Indexed) → get_or held.indexes i None ≡ Some x → list_any (is_same_place (index_in x)) (take i (map (option_map index_in) held.indexes)) ≡ false
+    index_alone : (i : ℕ) (x : Indexed) → get_or held.indexes i None ≡ Some x → list_any (is_same_place (index_known x)) (take i (map (option_map index_known) held.indexes)) ≡ false
     index_alone i x there =
-        none_any (is_same_place (index_in x)) (map (option_map index_in) held.indexes) i refl
+        none_any (is_same_place (index_known x)) (map (option_map index_known) held.indexes) i refl
         (λ j other below at. false_by (is_on x.relation x.attribute other)
         (λ same.
         let parts = both_parts (other.relation == x.relation) (other.attribute == x.attribute) same in
-        let e : j ≡ i = s.places j i other (index_in x) at (seen index_in held.indexes i x there) (true_eq other.relation x.relation parts.0) (true_eq other.attribute x.attribute parts.1) in
+        let e : j ≡ i = s.places j i other (index_known x) at (seen index_known held.indexes i x there) (true_eq other.relation x.relation parts.0) (true_eq other.attribute x.attribute parts.1) in
         omega (arith, below, e)))
 
     stands_true : (x : Index) (schema : Schema) (a : Attribute) → slice_get schema.attributes x.attribute ≡ Some a → allows x.kind a.domain ≡ true → stands_on x (Some schema) ≡ true
@@ -197,25 +193,25 @@ module _ (state : State) (tables : Tables) (held : Held) (opens : List (Option O
     index_fits w i below =
         let slot : List ℕ = slice_range bytes_held (1408 + 8 * i) (1408 + 8 * i + 8) in
         let relations : List (Option Schema) = map (option_map schema_in) held.relations in
-        let before : List (Option Index) = take i (map (option_map index_in) held.indexes) in
+        let before : List (Option Index) = take i (map (option_map index_known) held.indexes) in
         let now : (is_index_form slot (index_at bytes_held i) && is_behind relations before (index_at bytes_held i)) ≡ true =
         index_slot_true slot relations before (index_at bytes_held i) (w.indexes i below)
         (λ index is.
         let at = sym (index_of_slot i below) ∙ is in
-        let from = seen_back index_in held.indexes i index at in
+        let from = seen_back index_known held.indexes i index at in
         let x = from.from in
-        let sound = s.indexes i (index_in x) (seen index_in held.indexes i x from.there) in
-        let t = seen_back (relation_in state.files) held.relations x.relation sound.relation sound.stands in
-        let stands : stands_on (index_in x) (get_or relations x.relation None) ≡ true =
-        ap (stands_on (index_in x)) (seen schema_in held.relations x.relation t.from t.there)
-        ∙ stands_true (index_in x) t.from.schema sound.suits.attribute
+        let sound = s.indexes i (index_known x) (seen index_known held.indexes i x from.there) in
+        let t = seen_back (relation_of_rows state.files) held.relations x.relation sound.relation sound.stands in
+        let stands : stands_on (index_known x) (get_or relations x.relation None) ≡ true =
+        ap (stands_on (index_known x)) (seen schema_in held.relations x.relation t.from t.there)
+        ∙ stands_true (index_known x) t.from.schema sound.suits.attribute
         (ap (λ (z : Relation). slice_get z.schema.attributes x.attribute) t.is ∙ sound.suits.placed) sound.suits.allowed in
         let P : Index → Type 0 = λ z. (z.relation < 8) × (stands_on z (get_or relations z.relation None) ≡ true) × (list_any (is_same_place z) before ≡ false) × (is_third_table before z ≡ false) in
         subst P from.is (
           omega (arith, inside held.relations x.relation t.from t.there, r.eight),
           stands,
           index_alone i x from.there,
-          no_third_table (map (option_map index_in) held.indexes) i (index_in x) (seen index_in held.indexes i x from.there) s.few_tables,
+          no_third_table (map (option_map index_known) held.indexes) i (index_known x) (seen index_known held.indexes i x from.there) s.few_tables,
         )) in
         not_true (is_sound_index slot (catalog_of bytes_held).relations (take i (catalog_of bytes_held).indexes))
         (ap (λ (c : Slots). is_sound_index slot c.relations (take i c.indexes)) (r.listed told) ∙ now)
@@ -257,12 +253,12 @@ module _ (state : State) (tables : Tables) (held : Held) (opens : List (Option O
     tree_by i x (Tree g) e h = there_named g (tree_file i) h
     tree_by i x (InTable number) e h = not_there (tree_file i) h
 
-    trees_there : (i : ℕ) → i < 8 → is_there (tree_file i) state.files ≡ is_tree (get_or (map (option_map index_in) held.indexes) i None)
+    trees_there : (i : ℕ) → i < 8 → is_there (tree_file i) state.files ≡ is_tree (get_or (map (option_map index_known) held.indexes) i None)
     trees_there i below =
         by_slot (get_or held.indexes i None) refl (r.indexes i below)
-        ∙ ap is_tree (sym (get_or-map (option_map index_in) held.indexes i None None (omega (arith, below, r.eight_indexes))))
+        ∙ ap is_tree (sym (get_or-map (option_map index_known) held.indexes i None None (omega (arith, below, r.eight_indexes))))
       where
-        by_slot : (o : Option Indexed) → get_or held.indexes i None ≡ o → IsIndexSlot state tables held i o → is_there (tree_file i) state.files ≡ is_tree (option_map index_in o)
+        by_slot : (o : Option Indexed) → get_or held.indexes i None ≡ o → IsIndexSlot state tables held i o → is_there (tree_file i) state.files ≡ is_tree (option_map index_known o)
         by_slot None e h = not_there (tree_file i) h
         by_slot (Some x) e h = tree_by i x x.access refl (index_there state tables held opens r i x e).indexed.file
 
@@ -270,7 +266,7 @@ module _ (state : State) (tables : Tables) (held : Held) (opens : List (Option O
     unbroken =
         breaks_nothing state.files (sym (no_strangers state.files r.known)) (ap broken_catalog catalog_seen ∙ catalog_fits)
         (sym (ap (λ (c : Slots). first 16 (breaks_files state.files c.relations c.indexes)) catalog_is
-        ∙ files_used state.files (map (option_map schema_in) held.relations) (map (option_map index_in) held.indexes) rows_there trees_there))
+        ∙ files_used state.files (map (option_map schema_in) held.relations) (map (option_map index_known) held.indexes) rows_there trees_there))
 
     -- ---- rows and indexes
 
@@ -280,7 +276,7 @@ module _ (state : State) (tables : Tables) (held : Held) (opens : List (Option O
         let t = from.from in
         let here = relation_there state tables held opens r k t from.there in
         let bytes = named_bytes t.file (rows_file k) here.named in
-        let sound = s.relations k (relation_in state.files t) (seen (relation_in state.files) held.relations k t from.there) in
+        let sound = s.relations k (relation_of_rows state.files t) (seen (relation_of_rows state.files) held.relations k t from.there) in
         let P : List ℕ → Type 0 = λ bs. AreRows held.version t.schema.attributes bs in
         let Q : Schema → Type 0 = λ z. AreRows held.version z.attributes (bytes_named (rows_file k) state.files) in
         let R : ℕ → Type 0 = λ v. AreRows v schema.attributes (bytes_named (rows_file k) state.files) in
@@ -296,24 +292,24 @@ module _ (state : State) (tables : Tables) (held : Held) (opens : List (Option O
         no_items [] e = refl
         no_items (x ∷ xs) e = absurd (omega (arith, e))
 
-    kept_by : (i : ℕ) (x : Indexed) (access : Access) (ks : List ℤ) → HasFile state.files i access → IsKept state tables access ks → SuitKind (kind_of access) ks → IsComplete (kind_of access) (bytes_named (tree_file i) state.files) ks
+    kept_by : (i : ℕ) (x : Indexed) (access : Access) (ks : List ℤ) → HasFile state.files i access → IsKept state tables access ks → SuitKind (kind_of access) ks → IsIndexComplete (kind_of access) (bytes_named (tree_file i) state.files) ks
     kept_by i x Order ks file h suits = h
     kept_by i x (Tree g) ks file h suits = let P : List ℕ → Type 0 = λ bytes. IsTreeOf bytes ks in subst P (sym (named_bytes g (tree_file i) file)) h
     kept_by i x (InTable number) ks file h suits = suits
 
     index_kept : (i : ℕ) → i < 8 → KeepsIndex state.files i
     index_kept i below index at =
-        let from = seen_back index_in held.indexes i index (sym (ap (λ (c : Slots). get_or c.indexes i None) catalog_is) ∙ at) in
+        let from = seen_back index_known held.indexes i index (sym (ap (λ (c : Slots). get_or c.indexes i None) catalog_is) ∙ at) in
         let x = from.from in
         let o = index_there state tables held opens r i x from.there in
-        let sound = s.indexes i (index_in x) (seen index_in held.indexes i x from.there) in
-        let is : sound.relation ≡ relation_in state.files o.tuples =
-        some_same sound.relation (relation_in state.files o.tuples) (sym sound.stands ∙ seen (relation_in state.files) held.relations x.relation o.tuples o.is) in
+        let sound = s.indexes i (index_known x) (seen index_known held.indexes i x from.there) in
+        let is : sound.relation ≡ relation_of_rows state.files o.tuples =
+        some_same sound.relation (relation_of_rows state.files o.tuples) (sym sound.stands ∙ seen (relation_of_rows state.files) held.relations x.relation o.tuples o.is) in
         let all : rows_in (base_of state.files) x.relation ≡ rows state.files o.tuples =
         ap (λ (db : Database). rows_in db x.relation) base_is
-        ∙ ap (λ (q : Option Relation). option_map_or (λ (z : Relation). z.rows) q []) (seen (relation_in state.files) held.relations x.relation o.tuples o.is) in
-        let P : List Row → Type 0 = λ rs. IsComplete (kind_of x.access) (bytes_named (tree_file i) state.files) (keys x.attribute rs) in
-        let Q : Index → Type 0 = λ z. IsComplete z.kind (bytes_named (tree_file i) state.files) (keys_in state.files z) in
+        ∙ ap (λ (q : Option Relation). option_map_or (λ (z : Relation). z.rows) q []) (seen (relation_of_rows state.files) held.relations x.relation o.tuples o.is) in
+        let P : List Row → Type 0 = λ rs. IsIndexComplete (kind_of x.access) (bytes_named (tree_file i) state.files) (keys x.attribute rs) in
+        let Q : Index → Type 0 = λ z. IsIndexComplete z.kind (bytes_named (tree_file i) state.files) (keys_stored state.files z) in
         let S : Relation → Type 0 = λ z. SuitKind (kind_of x.access) (keys x.attribute z.rows) in
         subst Q from.is (subst P (sym all)
         (kept_by i x x.access (keys x.attribute (rows state.files o.tuples)) o.indexed.file (o.indexed.complete told) (subst S is sound.suits.keys)))

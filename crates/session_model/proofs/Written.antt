@@ -1,12 +1,10 @@
 -- Where one slot of a catalog is replaced, all slots are still what is written for them.
-use Rattle.std.proofs.Common.{◌≡◌, ◌≢◌, ◌⊎◌, inr, ℕ, zero, suc, ◌+◌, ◌-◌, ◌*◌, ◌<◌, ◌≤◌, List, [], ◌∷◌, ◌++◌, length, take, drop, Option, refl, sym, ap, subst, ◌∙◌, arith, length-append}
+use Rattle.std.proofs.Common.{◌≡◌, ◌≢◌, ◌⊎◌, ℕ, zero, suc, ◌+◌, ◌*◌, ◌<◌, ◌≤◌, List, [], ◌∷◌, ◌++◌, length, take, Option, refl, sym, ap, subst, ◌∙◌, arith, length-append}
 use Rattle.std.specs.Prelude.{slice_range}
 use Rattle.std.proofs.Math.Logic.{⊎_elim}
 use Rattle.std.proofs.lemmas.Bool.{cases_eq, cases_lt}
-use Rattle.std.proofs.lemmas.List.{drop-drop, drop-take, drop_at, length-take-le, take-append-le, take_at}
+use Rattle.std.proofs.lemmas.List.{drop_at}
 use Rattle.afl_base.specs.Fields.{put_at}
-use Rattle.afl_base.proofs.FieldLaws.{drop-put_at, length-put_at}
-use Rattle.afl_base.proofs.PutLaws.{take-put_at}
 use Rattle.catalog.specs.CatalogFile.{IsCatalogSize}
 use Rattle.catalog.proofs.Changes.{long_empty, slot_put}
 use Rattle.catalog.proofs.PutRanges.{before_put, behind_put, here_put, range_of_front}

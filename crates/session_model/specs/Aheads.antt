@@ -1,13 +1,12 @@
 -- What the open cursors have ahead, for what a FETCH may read.
-use Rattle.std.specs.Prelude.{ℕ, ℤ, ◌+◌, ◌-◌, List, ◌++◌, length, map, take, drop, flat_map, get_or, replicate, Option, Some, None, option_map}
+use Rattle.std.specs.Prelude.{ℕ, ◌+◌, ◌-◌, List, ◌++◌, length, map, take, drop, flat_map, get_or, replicate, Option, option_map}
 use Rattle.std.specs.List.{range_with_len}
 use Rattle.afl_base.specs.Files.{Table}
 use Rattle.db_model.specs.Ahead.{Ahead, Aheads, OfJoin, OfSelect, partners}
 use Rattle.db_model.specs.Row.{Row, no_row}
-use Rattle.index_set.specs.declared.candidates.Search.{Search}
-use Rattle.index_set.specs.declared.candidates.Search.TheVariants as by
 use Rattle.index_set.specs.Plans.{kinds}
 use Rattle.index_set.specs.Walks.{ahead}
+pub use Rattle.index_set.specs.Walks.{walk_of}
 use Rattle.cursor.specs.declared.join.JoinCursor.{JoinCursor}
 use Rattle.cursor.specs.Pairs.{lefts_of, matching, rights_of}
 use Rattle.cursor.specs.Remaining.{slots_left}
@@ -17,13 +16,8 @@ use Rattle.session_model.specs.declared.held.Open.TheVariants.{Select, Join}
 use Rattle.session_model.specs.declared.held.OpenJoin.{OpenJoin}
 use Rattle.session_model.specs.declared.held.OpenSelect.{OpenSelect}
 
--- the place and the key of a hash tree that is walked
-abbrev pub walk_of : Search → Option (ℕ × ℤ)
-walk_of (by.Tree attribute file key) = Some (attribute, key)
-walk_of _ = None
-
-abbrev pub select_ahead : Table → OpenSelect → Ahead
-select_ahead files o = record {
+abbrev pub ahead_of_select : Table → OpenSelect → Ahead
+ahead_of_select files o = record {
   source = OfSelect o.cursor.tuples.schema.name (walk_of o.cursor.candidates.search);
   slots = ahead o.cursor.candidates (rows files o.cursor.tuples);
   stops = slots_left o.cursor (rows files o.cursor.tuples);
@@ -39,16 +33,16 @@ join_stops c lefts rights =
     replicate (length (matching c.left_on c.right_on (take 1 (drop c.at (lefts_of c lefts))) (drop c.from (rights_of c rights)))) c.at
     ++ flat_map (stops_at c lefts rights) (range_with_len (c.at + 1) (c.left_slots - (c.at + 1)))
 
-abbrev pub join_ahead : Table → OpenJoin → Ahead
-join_ahead files o = record {
+abbrev pub ahead_of_join : Table → OpenJoin → Ahead
+ahead_of_join files o = record {
   source = OfJoin o.cursor.left.schema.name o.cursor.right.schema.name (o.cursor.left_on, o.cursor.right_on) (kinds o.cursor.right_indexes);
   slots = range_with_len o.cursor.at (o.cursor.left_slots - o.cursor.at);
   stops = join_stops o.cursor (rows files o.cursor.left) (rows files o.cursor.right);
 }
 
 abbrev pub ahead_in : Table → Open → Ahead
-ahead_in files (Select o) = select_ahead files o
-ahead_in files (Join o) = join_ahead files o
+ahead_in files (Select o) = ahead_of_select files o
+ahead_in files (Join o) = ahead_of_join files o
 
 abbrev pub aheads_of : Table → List (Option Open) → Aheads
 aheads_of files opens = map (option_map (ahead_in files)) opens

@@ -1,6 +1,5 @@
 -- What a command gives, by its answer.
 use Rattle.std.specs.Prelude.{◌≡◌, ⊤, ℕ, Result, Ok, Err, IsOk}
-use Rattle.db_model.specs.Database.{Database}
 use Rattle.db_model.specs.Step.{Reply, Fine, Removed}
 use Rattle.db_model.specs.declared.refusals.Refusal.{Refusal}
 use Rattle.session_model.specs.declared.answer.Answer.{Answer}
@@ -20,3 +19,11 @@ OnNoSpace (Ok answer.Fine) P = ⊤
 OnNoSpace (Ok (answer.Removed k)) P = ⊤
 OnNoSpace (Ok (answer.Refused r)) P = ⊤
 OnNoSpace (Err e) P = ⊤
+
+-- P, where nothing was changed: a refusal, or a removal of no row
+abbrev pub OnNothing : {E : Type 0} → Result Answer E → Type 0 → Type 0
+OnNothing (Ok (answer.Refused r)) P = P
+OnNothing (Ok (answer.Removed k)) P = k ≡ 0 → P
+OnNothing (Ok answer.Fine) P = ⊤
+OnNothing (Ok (answer.NoSpace need)) P = ⊤
+OnNothing (Err e) P = ⊤

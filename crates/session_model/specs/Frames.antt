@@ -27,7 +27,7 @@ WantsRow asks state tuples infos values need =
 -- ---- the catalog
 
 -- of the files none but the catalog and the one of this name has come, changed or gone
-pub record Leaves (old new : State) (name : List ℕ) : Type 0 where
+pub record LeavesOthers (old new : State) (name : List ℕ) : Type 0 where
   pub others : (id : ℕ) (n : List ℕ) → IsNamed old.files id n → n ≢ catalog_file → n ≢ name → place new.files id ≡ place old.files id
   pub unnamed : (n : List ℕ) → n ≢ catalog_file → n ≢ name → IsUnnamed old.files n → IsUnnamed new.files n
   pub distinct : AreDistinct old.files → AreDistinct new.files

@@ -1,5 +1,5 @@
 -- The indexes of a relation, as the machine sees them.
-use Rattle.std.specs.Prelude.{◌≡◌, ⊤, ℕ, false, List, [], ◌∷◌, Option, Some, None, IsTrue, slice_get, get_or, ◌==◌, if◌then◌else◌}
+use Rattle.std.specs.Prelude.{◌≡◌, ℕ, false, List, [], ◌∷◌, Option, Some, None, IsTrue, slice_get, get_or, ◌==◌, if◌then◌else◌}
 use Rattle.std.specs.List.{AllByRecursion}
 use Rattle.std.specs.Option.{option_map_or}
 use Rattle.db_model.specs.declared.schemas.Attribute.{Attribute}
@@ -13,11 +13,11 @@ use Rattle.tuple_file.specs.Column.{IsNumber, column_of}
 use Rattle.session_model.specs.declared.held.Indexed.{Indexed}
 
 -- what the machine knows of an index
-abbrev pub index_in : Indexed → Index
-index_in x = record { kind = kind_of x.access; relation = x.relation; attribute = x.attribute }
+abbrev pub index_known : Indexed → Index
+index_known x = record { kind = kind_of x.access; relation = x.relation; attribute = x.attribute }
 
-abbrev pub index_of : ℕ → IndexInfo → Index
-index_of relation info = record { kind = kind_of info.access; relation = relation; attribute = info.attribute }
+abbrev pub index_of_info : ℕ → IndexInfo → Index
+index_of_info relation info = record { kind = kind_of info.access; relation = relation; attribute = info.attribute }
 
 -- with the column of its relation's rows
 abbrev pub info_of : Tuples → Indexed → IndexInfo

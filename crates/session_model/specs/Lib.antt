@@ -1,5 +1,6 @@
 pub mod Aheads
 pub mod Answers
+pub mod Carried
 pub mod Cells
 pub mod Frames
 pub mod Indexed

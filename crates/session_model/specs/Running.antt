@@ -25,7 +25,7 @@ use Rattle.session_model.specs.declared.held.Held.{Held}
 use Rattle.session_model.specs.declared.held.Indexed.{Indexed}
 use Rattle.session_model.specs.declared.held.Open.{Open}
 use Rattle.session_model.specs.declared.held.Open.TheVariants.{Select, Join}
-use Rattle.session_model.specs.Indexed.{IsAllowed, index_in, info_of}
+use Rattle.session_model.specs.Indexed.{IsAllowed, index_known, info_of}
 
 -- each file is the catalog, the rows of a relation or a hash tree, and of its kind
 abbrev pub AreOfDatabase : Table → Type 0
@@ -34,14 +34,14 @@ AreOfDatabase files = (id : ℕ) (f : File) → place files id ≡ Some f → is
 -- ---- relations
 
 -- the relation in a slot has the file of its slot, which holds rows, as many as the version allows
-pub record IsRelation (state : State) (version k : ℕ) (t : Tuples) : Type 0 where
+pub record HoldsRelation (state : State) (version k : ℕ) (t : Tuples) : Type 0 where
   pub holds : HoldsRows state t
   pub named : IsNamed state.files t.file (rows_file k)
   pub few : slots state.files t ≤ slots_limit version
 
 abbrev pub IsRelationSlot : State → ℕ → ℕ → Option Tuples → Type 0
 IsRelationSlot state version k None = IsUnnamed state.files (rows_file k)
-IsRelationSlot state version k (Some t) = IsRelation state version k t
+IsRelationSlot state version k (Some t) = HoldsRelation state version k t
 
 -- ---- indexes
 
@@ -135,21 +135,21 @@ IsCursorSlot state held (Some (Join o)) = IsWaitingJoin state held o.cursor
 
 -- ---- the catalog
 
-abbrev pub catalog_bytes : Table → Option ℕ → List ℕ
-catalog_bytes files None = []
-catalog_bytes files (Some cat) = bytes_at files cat
+abbrev pub bytes_of_catalog : Table → Option ℕ → List ℕ
+bytes_of_catalog files None = []
+bytes_of_catalog files (Some cat) = bytes_at files cat
 
-abbrev pub HasCatalog : Table → Option ℕ → Type 0
-HasCatalog files None = IsUnnamed files catalog_file
-HasCatalog files (Some cat) =
+abbrev pub HasCatalogFile : Table → Option ℕ → Type 0
+HasCatalogFile files None = IsUnnamed files catalog_file
+HasCatalogFile files (Some cat) =
     IsNamed files cat catalog_file × IsCatalogSize (size_at files cat) × ((file_at files cat).kind ≡ Fixed 6)
 
 -- the catalog that is told has the schemas and indexes that are held
 abbrev pub IsListed : Table → Held → Type 0
-IsListed files held = catalog_of (catalog_bytes files held.cat) ≡ record {
+IsListed files held = catalog_of (bytes_of_catalog files held.cat) ≡ record {
   version = held.version;
   relations = map (option_map (λ (t : Tuples). t.schema)) held.relations;
-  indexes = map (option_map index_in) held.indexes;
+  indexes = map (option_map index_known) held.indexes;
 }
 
 -- what the bytes of a catalog are read as is what they are written for
@@ -178,6 +178,6 @@ pub record IsRunning (state : State) (tables : Tables) (held : Held) (opens : Li
   pub apart : (i j : ℕ) (x y : Indexed) → i ≢ j → get_or held.indexes i None ≡ Some x → get_or held.indexes j None ≡ Some y
       → IsElsewhere x.access y.access
   pub cursors : (n : ℕ) → n < 4 → IsCursorSlot state held (get_or opens n None)
-  pub catalog : HasCatalog state.files held.cat
+  pub catalog : HasCatalogFile state.files held.cat
   pub listed : IsTrue state.tells → IsListed state.files held
-  pub written : IsTrue state.tells → IsWrittenOrEmpty (catalog_bytes state.files held.cat)
+  pub written : IsTrue state.tells → IsWrittenOrEmpty (bytes_of_catalog state.files held.cat)

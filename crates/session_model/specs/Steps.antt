@@ -7,6 +7,7 @@ use Rattle.db_model.specs.declared.refusals.Refusal.{Refusal}
 use Rattle.db_model.specs.Database.{Database}
 use Rattle.db_model.specs.ReplyText.{text}
 use Rattle.db_model.specs.Step.{Reply, Fine, Rows, Numbers, Removed, Refused, outcome, replied}
+use Rattle.reply_text.specs.WroteLess.{WroteLess}
 use Rattle.session_model.specs.declared.answer.Answer.{Answer}
 use Rattle.session_model.specs.declared.answer.Answer.TheVariants as answer
 use Rattle.session_model.specs.declared.step.Outcome.{Outcome}
@@ -28,9 +29,9 @@ abbrev pub Answers : Command → Database → Database → Answer → Type 0
 Answers command old new a = Changed (outcome old command) old new a
 
 -- a refusal, or none
-abbrev pub answer_of : Option Refusal → Answer
-answer_of None = answer.Fine
-answer_of (Some refusal) = answer.Refused refusal
+abbrev pub answer_for : Option Refusal → Answer
+answer_for None = answer.Fine
+answer_for (Some refusal) = answer.Refused refusal
 
 -- ---- replies
 
@@ -42,8 +43,8 @@ outcome_of (Removed k) = came_to.Rows k
 outcome_of (Refused refusal) = came_to.Refused
 
 -- the text of a reply was written, and it came to this
-abbrev pub Writes : Reply → Outcome → Option (List ℕ) → Option (List ℕ) → Type 0
-Writes reply result before now = (now ≡ append_known before (text reply)) × (outcome_of reply ≡ result)
+abbrev pub WritesReply : Reply → Outcome → Option (List ℕ) → Option (List ℕ) → Type 0
+WritesReply reply result before now = (now ≡ append_known before (text reply)) × (outcome_of reply ≡ result)
 
 -- a part of the bytes was written, or all
 pub record WrotePart (before now : Option (List ℕ)) (all : List ℕ) : Type 0 where
@@ -52,10 +53,16 @@ pub record WrotePart (before now : Option (List ℕ)) (all : List ℕ) : Type 0 
   pub whole : all ≡ written ++ left
   pub held : now ≡ append_known before written
 
+-- the reply was written, or what of it was written before a fault
+abbrev pub Replies : Reply → Result Outcome Stop → Option (List ℕ) → Option (List ℕ) → Type 0
+Replies reply (Ok came) before now = WritesReply reply came before now
+Replies reply (Err Sink) before now = WroteLess before now (text reply)
+Replies reply (Err Flash) before now = WrotePart before now (text reply)
+
 -- the reply was written and the database is the step's; or there was no space, for a command that is not refused: nothing
 -- was written, and the database is as before
 abbrev pub Does : Made → Database → Database → Step → Option (List ℕ) → Option (List ℕ) → Type 0
-Does made old new (Done result) before now = (new ≡ (replied old made).0) × Writes (replied old made).1 result before now
+Does made old new (Done result) before now = (new ≡ (replied old made).0) × WritesReply (replied old made).1 result before now
 Does made old new (NoSpace need) before now = (new ≡ old) × (now ≡ before) × IsOk made
 
 -- ---- failures

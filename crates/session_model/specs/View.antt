@@ -17,14 +17,14 @@ use Rattle.session_model.specs.declared.held.OpenJoin.{OpenJoin}
 use Rattle.session_model.specs.declared.held.OpenSelect.{OpenSelect}
 use Rattle.session_model.specs.declared.held.Side.{Side}
 use Rattle.session_model.specs.declared.held.Side.TheVariants.{Left, Right}
-use Rattle.session_model.specs.Indexed.{index_in}
+use Rattle.session_model.specs.Indexed.{index_known}
 
 -- a relation with the rows of its file
-abbrev pub relation_at : Option File → Schema → Relation
-relation_at place schema = record { schema = schema; rows = rows_of schema.attributes (unwrap_or place no_file).bytes }
+abbrev pub relation_of_file : Option File → Schema → Relation
+relation_of_file place schema = record { schema = schema; rows = rows_of schema.attributes (unwrap_or place no_file).bytes }
 
-abbrev pub relation_in : Table → Tuples → Relation
-relation_in files t = relation_at (place files t.file) t.schema
+abbrev pub relation_of_rows : Table → Tuples → Relation
+relation_of_rows files t = relation_of_file (place files t.file) t.schema
 
 -- ---- cursors
 
@@ -60,7 +60,7 @@ cursor_in files (Join o) =
 abbrev pub view : Table → Held → List (Option Open) → Database
 view files held opens = record {
   version = held.version;
-  relations = map (option_map (relation_in files)) held.relations;
-  indexes = map (option_map index_in) held.indexes;
+  relations = map (option_map (relation_of_rows files)) held.relations;
+  indexes = map (option_map index_known) held.indexes;
   cursors = map (option_map (cursor_in files)) opens;
 }

@@ -2,6 +2,7 @@
 #![tactic(auto)]
 
 mod answer;
+mod base;
 mod finding;
 mod held;
 mod preparing;
@@ -11,6 +12,7 @@ mod replies;
 mod step;
 
 pub use answer::Answer;
+pub use base::Base;
 pub use finding::{find_relation, indexes_of};
 pub use held::{Held, Indexed, Open, OpenJoin, OpenSelect, Side};
 pub use preparing::prepare_catalog;

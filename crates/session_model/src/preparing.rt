@@ -2,10 +2,11 @@
 
 #![tactic(auto)]
 
-ghost use Rattle.std.specs.Prelude.{◌≡◌, ◌+◌, ◌≤◌, None, OnOk, length};
+ghost use Rattle.std.specs.Prelude.{◌≡◌, ◌+◌, ◌≤◌, None, OnOk};
+ghost use Rattle.afl_base.specs.Keeping.{ChangesOrLacks};
 ghost use Rattle.afl_base.specs.declared.kind.Kind.TheVariants.{Fixed};
 ghost use Rattle.afl_base.specs.Asked.{asks_few};
-ghost use Rattle.afl_base.specs.FileErrors.{HasFileCause, OnSpace, UnlessFailed};
+ghost use Rattle.afl_base.specs.FileErrors.{OnSpace, UnlessFailed};
 ghost use Rattle.afl_base.specs.Files.{IsLive, KeepsBytes, file_at, size_at};
 ghost use Rattle.catalog.specs.CatalogFile.{IsCatalogSize, IsPrepared};
 ghost use Rattle.space_model.specs.Wants.{room_for};
@@ -31,9 +32,7 @@ pub fn prepare_catalog<V: Files>(
     ensures prepared { OnOk result (IsPrepared (file_at (V.state files.new).files cat) at len) }
     ensures asked { let size = size_at (V.state files.old).files cat in OnSpace result (λ need.
         asks_few (V.asks files.new) (V.state files.new).files cat ((room_for size at len).0) ((room_for size at len).1) need) }
-    ensures lacks { OnSpace result (λ need. V.lacks files.new need) }
-    ensures store { length (V.state files.new).store ≡ length (V.state files.old).store }
-    ensures cause { HasFileCause (V.faults files.old) (V.faults files.new) result }
+    ensures frame { ChangesOrLacks V.state V.lent V.reads V.faults V.lacks files.old files.new result }
 {
     let (overwrites, bytes) = room_for(files.size(cat), at, len);
     match files.prepare(cat, overwrites, bytes) {

@@ -2,7 +2,7 @@
 
 #![tactic(auto)]
 
-ghost use Rattle.std.specs.Prelude.{◌≡◌, ◌≤◌, List, Option, map, length, option_map};
+ghost use Rattle.std.specs.Prelude.{◌≡◌, ◌≤◌, Option, map, length, option_map};
 ghost use Rattle.afl_base.specs.Files.{Table};
 ghost use Rattle.db_model.specs.Database.{reader_from};
 ghost use Rattle.session_model.specs.Readers.{is_reader};

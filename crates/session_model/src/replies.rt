@@ -2,8 +2,8 @@
 
 #![tactic(auto)]
 
-ghost use Rattle.std.specs.Prelude.{◌≡◌, IfOk, OnErr, OnOk};
-ghost use Rattle.afl_base.specs.Causes.{HasCause};
+ghost use Rattle.std.specs.Prelude.{◌≡◌, IfOk, OnErr};
+ghost use Rattle.afl_base.specs.Keeping.{Sends};
 ghost use Rattle.db_model.specs.Database.{Database};
 ghost use Rattle.db_model.specs.ReplyText.{text};
 ghost use Rattle.db_model.specs.Step.{replied};
@@ -22,9 +22,7 @@ pub fn reply<K: Sink>(out: &mut K, answer: &Answer) -> Result<Step, Failed>
         → Does made old new step (K.held out.old) (K.held out.new)) }
     ensures failed { OnErr result ((made : Made) (old new : Database) → Changed made old new answer.now
         → (new ≡ (replied old made).0) × WroteLess (K.held out.old) (K.held out.new) (text (replied old made).1)) }
-    ensures keeps { K.keeps out.old out.new }
-    ensures faultless { OnOk result (K.faults out.new ≡ K.faults out.old) }
-    ensures cause { HasCause (K.faults out.old) (K.faults out.new) result }
+    ensures frame { Sends K.lent K.faults out.old out.new result }
 {
     match answer {
         Answer::NoSpace(need) => Ok(Step::NoSpace { need: *need }),

@@ -24,7 +24,7 @@ use Rattle.db_model.specs.Typing.{aggregates, first_false, is_aggregable, is_att
 use Rattle.lvm.specs.Code.{first_refusal, ill_typed, missing_name, refusal}
 use Rattle.lvm.proofs.Counting.{ill_typed-behind, ill_typed-in_front, missing_name-behind, missing_name-in_front}
 use Rattle.session_model.specs.View.{value_at}
-use Rattle.session_plans.specs.Aggregates.{answers, column, medians, suits_fold}
+use Rattle.session_plans.specs.Aggregates.{answers, column_values, medians, suits_fold}
 use Rattle.session_plans.specs.Places.{first_of, is_named, items_of}
 use Rattle.session_plans.proofs.Places.{parts, value_by_place}
 use Rattle.session_plans.proofs.Planned.{mapped_same, none_missing, none_typed}
@@ -63,7 +63,7 @@ module _ (attributes : List Attribute) where
       ap (λ (p : Option ℕ). option_map_or (aggregates item.0) (option_map (λ (a : Attribute). a.domain) (option_and_then (slice_get attributes) p)) false) e
       ∙ suited_at item.0 (slice_get attributes k)
 
-  column_by_place : (tuples : List (List Value)) (name : List ℕ) (k : ℕ) → place_of name attributes ≡ Some k → named.column attributes name tuples ≡ column k tuples
+  column_by_place : (tuples : List (List Value)) (name : List ℕ) (k : ℕ) → place_of name attributes ≡ Some k → named.column attributes name tuples ≡ column_values k tuples
   column_by_place tuples name k e =
       mapped_same (λ tuple. unwrap_or (value_of attributes tuple name) (Number (pos 0))) (λ tuple. value_at tuple k)
       (λ tuple. ap (λ (v : Option Value). unwrap_or v (Number (pos 0))) (value_by_place attributes tuple name k e) ∙ unwrap_or-slice_get tuple k (Number (pos 0))) tuples
@@ -88,7 +88,7 @@ module _ (attributes : List Attribute) where
   answers_same tuples (item ∷ list) items e =
       let p = parts (λ (k : ℕ) (xs : List (Agg × ℕ)). (item.0, k) ∷ xs) (place_of item.1 attributes) (items_of attributes list) items e in
       ap (λ (vs : List Value). aggregate item.0 vs ∷ map (λ (i : Agg × List ℕ). aggregate i.0 (named.column attributes i.1 tuples)) list) (column_by_place tuples item.1 p.one p.first_is)
-      ∙ ap (λ (zs : List (Option ℤ)). aggregate item.0 (column p.one tuples) ∷ zs) (answers_same tuples list p.others p.rest_is)
+      ∙ ap (λ (zs : List (Option ℤ)). aggregate item.0 (column_values p.one tuples) ∷ zs) (answers_same tuples list p.others p.rest_is)
       ∙ ap (λ (xs : List (Agg × ℕ)). answers xs tuples) (sym p.all_is)
 
   named_same : (list : List (Agg × List ℕ)) → map (is_attribute attributes) (map (λ (item : Agg × List ℕ). item.1) list) ≡ map (is_named attributes) list

@@ -9,7 +9,7 @@ use Rattle.db_model.specs.Answers.{projected}
 use Rattle.db_model.specs.Item.{place_of, value_of}
 use Rattle.db_model.specs.Typing.{first_false}
 use Rattle.session_model.specs.View.{project}
-use Rattle.session_plans.specs.Places.{places_of}
+use Rattle.session_plans.specs.Places.{places_named}
 
 -- the parts of what was found part by part
 pub record Parts {A B C : Type 0} (f : A → B → C) (first : Option A) (rest : Option B) (all : C) : Type 0 where
@@ -34,11 +34,11 @@ pub value_by_place : (attributes : List Attribute) (tuple : List Value) (name : 
     → value_of attributes tuple name ≡ slice_get tuple k
 value_by_place attributes tuple name k e = ap (option_and_then (slice_get tuple)) e
 
-pub projects : (attributes : List Attribute) (tuple : List Value) (list : List (List ℕ)) (places : List ℕ) → places_of attributes list ≡ Some places
+pub projects : (attributes : List Attribute) (tuple : List Value) (list : List (List ℕ)) (places : List ℕ) → places_named attributes list ≡ Some places
     → projected attributes list tuple ≡ project places tuple
 projects attributes tuple [] places e = let f : places ≡ [] = cc in ap (λ (ps : List ℕ). project ps tuple) (sym f)
 projects attributes tuple (name ∷ list) places e =
-    let p = parts (λ (k : ℕ) (ks : List ℕ). k ∷ ks) (place_of name attributes) (places_of attributes list) places e in
+    let p = parts (λ (k : ℕ) (ks : List ℕ). k ∷ ks) (place_of name attributes) (places_named attributes list) places e in
     let first = ap (λ (v : Option Value). unwrap_or v (Number (pos 0))) (value_by_place attributes tuple name p.one p.first_is) ∙ unwrap_or-slice_get tuple p.one (Number (pos 0)) in
     ap (λ (v : Value). v ∷ projected attributes list tuple) first
     ∙ ap (λ (vs : List Value). get_or tuple p.one (Number (pos 0)) ∷ vs) (projects attributes tuple list p.others p.rest_is)

@@ -14,7 +14,7 @@ use Rattle.db_model.specs.Typing.{first_false, is_attribute}
 use Rattle.lvm.specs.Code.{first_refusal, ill_typed, missing_name, refusal}
 use Rattle.lvm.proofs.Counting.{ill_typed-behind, missing_name-behind, missing_name-in_front}
 use Rattle.session_model.specs.View.{project}
-use Rattle.session_plans.specs.Places.{places_of}
+use Rattle.session_plans.specs.Places.{places_named}
 use Rattle.session_plans.proofs.Places.{all_true, projects}
 
 -- a missing name comes before what is ill typed
@@ -52,7 +52,7 @@ module _ (list : List (List ℕ)) (condition : Option Cond) (r : Relation) where
   pub select_refused : (nope : Refusal) → first_false 0 (map (is_attribute r.schema.attributes) list) ≡ None → refusal (length list) r.schema.attributes condition ≡ Some nope → select_from list condition r ≡ Err nope
   select_refused nope e f = rw (missing_is e, typed_is) (refusing _ _ (Ok (select r.schema.attributes list condition r.rows)) nope f)
 
-  pub select_answers : (places : List ℕ) → places_of r.schema.attributes list ≡ Some places → first_false 0 (map (is_attribute r.schema.attributes) list) ≡ None
+  pub select_answers : (places : List ℕ) → places_named r.schema.attributes list ≡ Some places → first_false 0 (map (is_attribute r.schema.attributes) list) ≡ None
       → refusal (length list) r.schema.attributes condition ≡ None → select_from list condition r ≡ Ok (map (project places) (selected r.schema.attributes condition r.rows))
   select_answers places p e f =
       let answer : List (List Value) → Result (List (List Value)) Refusal = λ ts. Ok ts in

@@ -12,11 +12,11 @@ use Rattle.std.specs.Option.{option_map_or}
 use Rattle.std.specs.Prelude.{IsTrue, false, true}
 
 -- the values at a place of some tuples
-abbrev pub column : ℕ → List (List Value) → List Value
-column place tuples = map (λ tuple. value_at tuple place) tuples
+abbrev pub column_values : ℕ → List (List Value) → List Value
+column_values place tuples = map (λ tuple. value_at tuple place) tuples
 
 abbrev pub answer : List (List Value) → Agg × ℕ → Option ℤ
-answer tuples item = aggregate item.0 (column item.1 tuples)
+answer tuples item = aggregate item.0 (column_values item.1 tuples)
 
 -- each aggregate of its attribute's values
 abbrev pub answers : List (Agg × ℕ) → List (List Value) → List (Option ℤ)
@@ -33,8 +33,8 @@ abbrev pub AllSuitFolds : List Attribute → List (Agg × ℕ) → Type 0
 AllSuitFolds attributes items = AllByRecursion (SuitsFold attributes) items
 
 -- whether one of them is a median
-abbrev pub is_median : Agg × ℕ → Bool
-is_median item = elim item.0 [ Count ↦ false | Sum ↦ false | Min ↦ false | Max ↦ false | Mean ↦ false | Median ↦ true ]
+abbrev pub asks_median : Agg × ℕ → Bool
+asks_median item = elim item.0 [ Count ↦ false | Sum ↦ false | Min ↦ false | Max ↦ false | Mean ↦ false | Median ↦ true ]
 
 abbrev pub medians : List (Agg × ℕ) → Bool
-medians items = list_any is_median items
+medians items = list_any asks_median items

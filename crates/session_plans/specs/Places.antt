@@ -13,10 +13,10 @@ use Rattle.session_model.specs.declared.held.Side.{Side}
 use Rattle.session_model.specs.declared.held.Side.TheVariants.{Left, Right}
 
 -- the places of some names, none where one of them is no attribute
-abbrev pub places_of : List Attribute → List (List ℕ) → Option (List ℕ)
-places_of attributes [] = Some []
-places_of attributes (name ∷ names) =
-    option_and_then (λ place. option_map (λ places. place ∷ places) (places_of attributes names)) (place_of name attributes)
+abbrev pub places_named : List Attribute → List (List ℕ) → Option (List ℕ)
+places_named attributes [] = Some []
+places_named attributes (name ∷ names) =
+    option_and_then (λ place. option_map (λ places. place ∷ places) (places_named attributes names)) (place_of name attributes)
 
 -- of two relations the left one's attribute of a name, else the right one's
 abbrev pub side_of : List Attribute → List Attribute → List ℕ → Option Side

@@ -27,7 +27,7 @@ pub fn place_of(name: &Ident, attributes: &[Attribute]) -> Option<u8>
 pub fn places_of(names: &[Ident], attributes: &[Attribute]) -> Result<Few<u8, 8>, u8>
     requires few { length names.now ≤ 8 }
     requires attributes { length attributes.now ≤ 8 }
-    ensures places { IfOk result (λ places. all.places_of attributes.now names.now ≡ Some places) }
+    ensures places { IfOk result (λ places. all.places_named attributes.now names.now ≡ Some places) }
     ensures known { let are = map (is_attribute attributes.now) names.now in
         OnOk result (first_false 0 are ≡ None) }
     ensures missing { let are = map (is_attribute attributes.now) names.now in

@@ -8,7 +8,7 @@ use Rattle.std.proofs.lemmas.List.{get_or-set_other}
 use Rattle.db_model.specs.declared.commands.Agg.{Agg}
 use Rattle.db_model.specs.declared.commands.Agg.TheVariants.{Count, Sum, Min, Max, Mean, Median}
 use Rattle.db_model.specs.declared.values.Value.{Value}
-use Rattle.session_plans.specs.Aggregates.{answer, answers, is_median, medians}
+use Rattle.session_plans.specs.Aggregates.{answer, answers, asks_median, medians}
 use Rattle.session_model.proofs.Running.{same_default}
 use Rattle.session_queries.specs.Folded.{item_at, no_tally, tally_at}
 use Rattle.session_queries.specs.declared.tally.Tally.{Tally}
@@ -53,7 +53,7 @@ tally_read old tallies i tally inside is behind = is ∙ same_default tallies i 
 
 -- ---- medians
 
-median_there : (agg : Agg) (b : Bool) → (agg ≢ Median → IsFalse b) → IsTrue b → (place : ℕ) → IsTrue (is_median (agg, place))
+median_there : (agg : Agg) (b : Bool) → (agg ≢ Median → IsFalse b) → IsTrue b → (place : ℕ) → IsTrue (asks_median (agg, place))
 median_there Median b once more place = refl
 median_there Count b once more place = absurd (true_and_false b more (once (λ e. absurd (cc))))
 median_there Sum b once more place = absurd (true_and_false b more (once (λ e. absurd (cc))))
@@ -65,10 +65,10 @@ or_right : (a b : Bool) → IsTrue b → IsTrue (a || b)
 or_right true b h = refl
 or_right false b h = h
 
-any_at : (items : List (Agg × ℕ)) (i : ℕ) → i < length items → IsTrue (is_median (item_at items i)) → IsTrue (medians items)
+any_at : (items : List (Agg × ℕ)) (i : ℕ) → i < length items → IsTrue (asks_median (item_at items i)) → IsTrue (medians items)
 any_at [] i inside h = absurd (omega arith)
-any_at (item ∷ items) zero inside h = or_left (is_median item) (medians items) h
-any_at (item ∷ items) (suc i) inside h = or_right (is_median item) (medians items) (any_at items i (omega arith) h)
+any_at (item ∷ items) zero inside h = or_left (asks_median item) (medians items) h
+any_at (item ∷ items) (suc i) inside h = or_right (asks_median item) (medians items) (any_at items i (omega arith) h)
 
 -- one that wants another pass is one of a median
 pub median_of : (items : List (Agg × ℕ)) (i : ℕ) (agg : Agg) (b : Bool) → i < length items → agg ≡ (item_at items i).0 → (agg ≢ Median → IsFalse b) → IsTrue b → IsTrue (medians items)

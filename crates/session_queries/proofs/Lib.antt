@@ -1,5 +1,6 @@
 pub mod Costs
 pub mod FoldSteps
+pub mod Left
 pub mod Lines
 pub mod Paired
 pub mod Passes

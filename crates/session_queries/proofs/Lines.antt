@@ -1,6 +1,6 @@
 -- The rows of a query, written one after the other.
-use Rattle.std.proofs.Common.{rules, ◌≡◌, ℕ, ℤ, ◌+◌, ◌≤◌, true, List, [], ◌∷◌, ◌++◌, length, Option, Some, None, Ok, Err, refl, ap, sym, ◌∙◌, subst, arith, append_assoc, length-append, append-nil}
-use Rattle.std.specs.Prelude.{IfOk, IsErrOf, Result, flat_map}
+use Rattle.std.proofs.Common.{◌≡◌, ℕ, ℤ, ◌+◌, ◌≤◌, true, List, [], ◌∷◌, ◌++◌, length, Option, Some, None, Ok, Err, refl, ap, sym, ◌∙◌, subst, arith, append_assoc, length-append, append-nil}
+use Rattle.std.specs.Prelude.{flat_map}
 use Rattle.std.specs.Io.KnownBytes.{append_known}
 use Rattle.std.proofs.lemmas.Grind.{flat_map-append}
 use Rattle.afl_base.specs.Files.{State}
@@ -15,12 +15,11 @@ use Rattle.index_set.specs.Walks.{Fits, cost_ahead}
 use Rattle.cursor.specs.declared.select.SelectCursor.{SelectCursor}
 use Rattle.reply_text.proofs.Pieces.{held_more, less_behind, less_front}
 use Rattle.reply_text.specs.WroteLess.{WroteLess}
-use Rattle.session_model.specs.declared.step.Outcome.{Outcome}
 use Rattle.session_model.specs.declared.step.Outcome.TheVariants as came
 use Rattle.session_model.specs.declared.step.Stop.{Stop}
 use Rattle.session_model.specs.declared.step.Stop.TheVariants.{Flash, Sink}
-use Rattle.session_model.specs.Steps.{WrotePart, Writes}
-use Rattle.session_queries.specs.Replies.{Replies, WroteAll, WroteNext, rows_left}
+use Rattle.session_model.specs.Steps.{Replies, WritesReply}
+use Rattle.session_queries.specs.Replies.{WroteAll, WroteNext, rows_left}
 
 -- some of the rows have been written, and the rest is left
 pub record Wrote (all left : List (List Value)) (before now : Option (List ℕ)) (count : ℕ) : Type 0 where
@@ -105,29 +104,17 @@ refused_less reply refusal h0 h1 is less =
 
 -- ---- aggregates
 
-pub numbers_done : (reply : Reply) (found wanted : List (Option ℤ)) (h0 h1 : Option (List ℕ)) → reply ≡ Numbers wanted → found ≡ wanted → h1 ≡ append_known h0 (text (Numbers found)) → Writes reply (came.Rows 1) h0 h1
+pub numbers_done : (reply : Reply) (found wanted : List (Option ℤ)) (h0 h1 : Option (List ℕ)) → reply ≡ Numbers wanted → found ≡ wanted → h1 ≡ append_known h0 (text (Numbers found)) → WritesReply reply (came.Rows 1) h0 h1
 numbers_done reply found wanted h0 h1 is same e =
-    subst (λ (r : Reply). Writes r (came.Rows 1) h0 h1) (sym is) (e ∙ ap (λ (zs : List (Option ℤ)). append_known h0 (text (Numbers zs))) same, refl)
+    subst (λ (r : Reply). WritesReply r (came.Rows 1) h0 h1) (sym is) (e ∙ ap (λ (zs : List (Option ℤ)). append_known h0 (text (Numbers zs))) same, refl)
 
 pub numbers_less : (reply : Reply) (found wanted : List (Option ℤ)) (h0 h1 : Option (List ℕ)) → reply ≡ Numbers wanted → found ≡ wanted → WroteLess h0 h1 (text (Numbers found)) → WroteLess h0 h1 (text reply)
 numbers_less reply found wanted h0 h1 is same less =
     subst (λ (r : Reply). WroteLess h0 h1 (text r)) (sym is) (subst (λ (zs : List (Option ℤ)). WroteLess h0 h1 (text (Numbers zs))) same less)
 
--- ---- the three clauses
-
-pub replies_done : (reply : Reply) (result : Result Outcome Stop) (h0 h1 : Option (List ℕ)) → Replies reply result h0 h1 → IfOk result (λ c. Writes reply c h0 h1)
-replies_done reply (Ok c) h0 h1 r = r
-replies_done reply (Err stop) h0 h1 r = tt
-
-pub replies_sink : (reply : Reply) (result : Result Outcome Stop) (h0 h1 : Option (List ℕ)) → Replies reply result h0 h1 → IsErrOf result Sink → WroteLess h0 h1 (text reply)
-replies_sink reply (Err Sink) h0 h1 r e = r
-replies_sink reply (Err Flash) h0 h1 r e = absurd (search rules)
-replies_sink reply (Ok c) h0 h1 r e = absurd (search rules)
-
-pub replies_flash : (reply : Reply) (result : Result Outcome Stop) (h0 h1 : Option (List ℕ)) → Replies reply result h0 h1 → IsErrOf result Flash → WrotePart h0 h1 (text reply)
-replies_flash reply (Err Flash) h0 h1 r e = r
-replies_flash reply (Err Sink) h0 h1 r e = absurd (search rules)
-replies_flash reply (Ok c) h0 h1 r e = absurd (search rules)
+-- nothing was written yet
+pub none_replied : (reply : Reply) (h : Option (List ℕ)) → Replies reply (Err Flash) h h
+none_replied reply h = record { written = []; left = text reply; whole = refl; held = none_written h }
 
 -- ---- the loop over a cursor of one relation
 

@@ -29,10 +29,10 @@ use Rattle.tuple_file.specs.Tuples.{rows, slots}
 use Rattle.session_model.specs.declared.held.Held.{Held}
 use Rattle.session_model.specs.declared.held.Open.{Open}
 use Rattle.session_model.specs.declared.held.Side.{Side}
-use Rattle.session_model.specs.View.{project_pair, relation_in, view}
+use Rattle.session_model.specs.View.{project_pair, relation_of_rows, view}
 use Rattle.session_model.proofs.Frames.{count_rows}
 use Rattle.session_queries.specs.declared.finding.Found.{Found}
-use Rattle.session_queries.specs.Finds.{IsFound}
+use Rattle.session_queries.specs.Finds.{IsRelationFound}
 use Rattle.session_queries.specs.Replies.{WroteAll, WroteNext, joined_left}
 use Rattle.session_queries.proofs.Lines.{Wrote, wrote_all, wrote_more, wrote_none}
 use Rattle.session_queries.proofs.Seen.{kinds_seen, relation_seen}
@@ -51,8 +51,8 @@ join_is on list l r ts e =
     (join l.schema.attributes r.schema.attributes on list l.rows r.rows) ts e
 
 pub join_cost_is : (files : Table) (held : Held) (opens : List (Option Open)) (left right on : List ℕ) (list : List (List ℕ)) (l r : Found) (places : List Side) (left_on right_on : ℕ)
-    → IsFound held left l → IsFound held right r → place_of on l.tuples.schema.attributes ≡ Some left_on → place_of on r.tuples.schema.attributes ≡ Some right_on
-    → join_of on list (relation_in files l.tuples) (relation_in files r.tuples) ≡ Ok (map (project_pair places) (matching left_on right_on (rows files l.tuples) (rows files r.tuples)))
+    → IsRelationFound held left l → IsRelationFound held right r → place_of on l.tuples.schema.attributes ≡ Some left_on → place_of on r.tuples.schema.attributes ≡ Some right_on
+    → join_of on list (relation_of_rows files l.tuples) (relation_of_rows files r.tuples) ≡ Ok (map (project_pair places) (matching left_on right_on (rows files l.tuples) (rows files r.tuples)))
     → query_cost (view files held opens) (query.Join left right on list)
     ≡ 6 * (length (rows files l.tuples) + length (matching left_on right_on (rows files l.tuples) (rows files r.tuples)))
     + right_costs (kinds r.indexes) (left_on, right_on) (rows files r.tuples) (rows files l.tuples)
@@ -63,11 +63,11 @@ join_cost_is files held opens left right on list l r places left_on right_on fl 
     let found = matching left_on right_on lefts rights in
     let answer = join l.tuples.schema.attributes r.tuples.schema.attributes on list lefts rights in
     let many : length answer ≡ length found =
-    ap (λ (ts : List (List Value)). length ts) (join_is on list (relation_in files l.tuples) (relation_in files r.tuples) (map (project_pair places) found) joined)
+    ap (λ (ts : List (List Value)). length ts) (join_is on list (relation_of_rows files l.tuples) (relation_of_rows files r.tuples) (map (project_pair places) found) joined)
     ∙ length-map found (project_pair places) in
     rw (relation_seen files held opens left l fl, relation_seen files held opens right r fr)
-    (ap (λ (n : ℕ). 6 * (length lefts + n) + right_costs (kinds_of (indexes_of db r.slot)) (places_of on (relation_in files l.tuples) (relation_in files r.tuples)) rights lefts) many
-    ∙ ap (λ (k : Kinds). 6 * (length lefts + length found) + right_costs k (places_of on (relation_in files l.tuples) (relation_in files r.tuples)) rights lefts) (kinds_seen files held opens right r fr)
+    (ap (λ (n : ℕ). 6 * (length lefts + n) + right_costs (kinds_of (indexes_of db r.slot)) (places_of on (relation_of_rows files l.tuples) (relation_of_rows files r.tuples)) rights lefts) many
+    ∙ ap (λ (k : Kinds). 6 * (length lefts + length found) + right_costs k (places_of on (relation_of_rows files l.tuples) (relation_of_rows files r.tuples)) rights lefts) (kinds_seen files held opens right r fr)
     ∙ ap (λ (p : Option ℕ). 6 * (length lefts + length found) + right_costs (kinds r.indexes) (unwrap_or p 0, unwrap_or (place_of on r.tuples.schema.attributes) 0) rights lefts) a
     ∙ ap (λ (p : Option ℕ). 6 * (length lefts + length found) + right_costs (kinds r.indexes) (left_on, unwrap_or p 0) rights lefts) b)
 

@@ -13,9 +13,9 @@ use Rattle.index_set.specs.Walks.{Fits, cost_ahead}
 use Rattle.cursor.specs.declared.select.SelectCursor.{SelectCursor}
 use Rattle.cursor.specs.Remaining.{remaining}
 use Rattle.session_model.specs.View.{value_at}
-use Rattle.session_plans.specs.Aggregates.{column}
+use Rattle.session_plans.specs.Aggregates.{column_values}
 use Rattle.session_queries.specs.declared.tally.Tally.{Tally}
-use Rattle.session_queries.specs.Folded.{AllStand, AreClosed, AreDone, AreFolded, AreFolding, Ends, Takes, item_at, taken_by, tally_at}
+use Rattle.session_queries.specs.Folded.{AllStand, AreClosed, AreDone, AreFolded, AreFolding, EndsPass, TakesValue, item_at, taken_by, tally_at}
 
 -- ---- one pass
 
@@ -31,7 +31,7 @@ none_taken true values t h = h
 none_taken false values t h = h
 
 begins : (items : List (Agg × ℕ)) (every : List (List Value)) (tallies : List Tally) → AreFolded items every tallies → AreFolding items every [] tallies
-begins items every tallies h i inside = none_taken (tally_at tallies i).is_open (column (item_at items i).1 every) (tally_at tallies i) (h i inside)
+begins items every tallies h i inside = none_taken (tally_at tallies i).is_open (column_values (item_at items i).1 every) (tally_at tallies i) (h i inside)
 
 pub fold_begins : (state : State) (tables : Tables) (all : List Row) (items : List (Agg × ℕ)) (c : SelectCursor) (tallies : List Tally) (reads : ℕ)
     → Fits c.candidates state tables all → FoldGoes state tables all items c c tallies tallies reads reads
@@ -39,21 +39,21 @@ fold_begins state tables all items c tallies reads fits = record { done = []; wh
 
 -- ---- a tuple is pushed into each
 
-column_more : (place : ℕ) (tuples : List (List Value)) (tuple : List Value) → column place (tuples ++ tuple ∷ []) ≡ column place tuples ++ value_at tuple place ∷ []
+column_more : (place : ℕ) (tuples : List (List Value)) (tuple : List Value) → column_values place (tuples ++ tuple ∷ []) ≡ column_values place tuples ++ value_at tuple place ∷ []
 column_more place [] tuple = refl
 column_more place (t ∷ tuples) tuple = ap (λ (l : List Value). value_at t place ∷ l) (column_more place tuples tuple)
 
-pub folds_more : (items : List (Agg × ℕ)) (every done : List (List Value)) (tuple : List Value) (old new : List Tally) → ((i : ℕ) → i < length items → Takes (value_at tuple (item_at items i).1) (tally_at old i) (tally_at new i))
+pub folds_more : (items : List (Agg × ℕ)) (every done : List (List Value)) (tuple : List Value) (old new : List Tally) → ((i : ℕ) → i < length items → TakesValue (value_at tuple (item_at items i).1) (tally_at old i) (tally_at new i))
     → AreFolding items every done old → AreFolding items every (done ++ tuple ∷ []) new
 folds_more items every done tuple old new takes are i inside =
-    subst (λ (values : List Value). Folds (column (item_at items i).1 every) (taken_by (tally_at new i).is_open values) (tally_at new i).fold) (sym (column_more (item_at items i).1 done tuple))
-    ((takes i inside).told (column (item_at items i).1 every) (column (item_at items i).1 done) (are i inside))
+    subst (λ (values : List Value). Folds (column_values (item_at items i).1 every) (taken_by (tally_at new i).is_open values) (tally_at new i).fold) (sym (column_more (item_at items i).1 done tuple))
+    ((takes i inside).told (column_values (item_at items i).1 every) (column_values (item_at items i).1 done) (are i inside))
 
 pub fold_goes_on : (state : State) (tables : Tables) (all : List Row) (items : List (Agg × ℕ)) (before now after : SelectCursor) (tallies t1 t2 : List Tally) (tuple : List Value) (reads r1 r2 : ℕ)
     → FoldGoes state tables all items before now tallies t1 reads r1
     → remaining now all ≡ tuple ∷ remaining after all
     → Fits after.candidates state tables all
-    → ((i : ℕ) → i < length items → Takes (value_at tuple (item_at items i).1) (tally_at t1 i) (tally_at t2 i))
+    → ((i : ℕ) → i < length items → TakesValue (value_at tuple (item_at items i).1) (tally_at t1 i) (tally_at t2 i))
     → r2 + cost_ahead after.candidates all ≤ r1 + cost_ahead now.candidates all
     → FoldGoes state tables all items before after tallies t2 reads r2
 fold_goes_on state tables all items before now after tallies t1 t2 tuple reads r1 r2 s next fits takes few = record {
@@ -66,8 +66,8 @@ fold_goes_on state tables all items before now after tallies t1 t2 tuple reads r
 
 -- ---- the end of a pass
 
-pub pass_ends : (items : List (Agg × ℕ)) (all : List (List Value)) (old new : List Tally) → ((i : ℕ) → i < length items → Ends (tally_at old i) (tally_at new i)) → AreFolding items all all old → AreFolded items all new
-pass_ends items all old new ends are i inside = (ends i inside).told (column (item_at items i).1 all) (are i inside)
+pub pass_ends : (items : List (Agg × ℕ)) (all : List (List Value)) (old new : List Tally) → ((i : ℕ) → i < length items → EndsPass (tally_at old i) (tally_at new i)) → AreFolding items all all old → AreFolded items all new
+pass_ends items all old new ends are i inside = (ends i inside).told (column_values (item_at items i).1 all) (are i inside)
 
 pub done_closed : (items : List (Agg × ℕ)) (passes : ℕ) (tallies : List Tally) → AllStand passes items tallies → AreClosed items tallies → AreDone items tallies
 done_closed items passes tallies stand closed i inside = (stand i inside).closed (closed i inside)

@@ -26,35 +26,35 @@ use Rattle.tuple_file.specs.declared.tuples.Tuples.{Tuples}
 use Rattle.tuple_file.specs.Tuples.{rows, slots}
 use Rattle.session_model.specs.declared.held.Held.{Held}
 use Rattle.session_model.specs.declared.held.Open.{Open}
-use Rattle.session_model.specs.Indexed.{index_of, infos_of}
+use Rattle.session_model.specs.Indexed.{index_of_info, infos_of}
 use Rattle.session_model.specs.Running.{IsRunning}
-use Rattle.session_model.specs.View.{relation_in, view}
+use Rattle.session_model.specs.View.{relation_of_rows, view}
 use Rattle.session_model.proofs.Readable.{are_indexes, are_numbers, are_on_numbers, are_readable}
 use Rattle.session_model.proofs.Running.{indexes_seen, relation_there}
 use Rattle.session_model.proofs.Views.{found_in_view}
 use Rattle.session_plans.specs.Aggregates.{medians}
 use Rattle.session_queries.specs.declared.finding.Found.{Found}
-use Rattle.session_queries.specs.Finds.{HasSlots, IsFound, IsReady}
+use Rattle.session_queries.specs.Finds.{HasEightSlots, IsRelationFound, IsReadableBy}
 
 -- ---- the relation and its indexes
 
-pub relation_seen : (files : Table) (held : Held) (opens : List (Option Open)) (name : List ℕ) (found : Found) → IsFound held name found
-    → relation_named (view files held opens) name ≡ Some (found.slot, relation_in files found.tuples)
+pub relation_seen : (files : Table) (held : Held) (opens : List (Option Open)) (name : List ℕ) (found : Found) → IsRelationFound held name found
+    → relation_named (view files held opens) name ≡ Some (found.slot, relation_of_rows files found.tuples)
 relation_seen files held opens name found f =
-    found_in_view files name 0 held.relations ∙ ap (option_map (λ (p : ℕ × Tuples). (p.0, relation_in files p.1))) f.cell
+    found_in_view files name 0 held.relations ∙ ap (option_map (λ (p : ℕ × Tuples). (p.0, relation_of_rows files p.1))) f.cell
 
-kinds_same : (k : ℕ) (infos : List IndexInfo) → kinds_of (map (index_of k) infos) ≡ kinds infos
+kinds_same : (k : ℕ) (infos : List IndexInfo) → kinds_of (map (index_of_info k) infos) ≡ kinds infos
 kinds_same k [] = refl
 kinds_same k (info ∷ infos) = ap (λ (l : Kinds). (kind_of info.access, info.attribute) ∷ l) (kinds_same k infos)
 
-pub kinds_seen : (files : Table) (held : Held) (opens : List (Option Open)) (name : List ℕ) (found : Found) → IsFound held name found
+pub kinds_seen : (files : Table) (held : Held) (opens : List (Option Open)) (name : List ℕ) (found : Found) → IsRelationFound held name found
     → kinds_of (indexes_of (view files held opens) found.slot) ≡ kinds found.indexes
 kinds_seen files held opens name found f =
     ap kinds_of (indexes_seen found.slot found.tuples held.indexes)
     ∙ kinds_same found.slot (infos_of found.slot found.tuples held.indexes)
     ∙ ap kinds (sym f.indexes)
 
-pub select_cost_is : (files : Table) (held : Held) (opens : List (Option Open)) (name : List ℕ) (list : List (List ℕ)) (nodes : List Node) (found : Found) → IsFound held name found
+pub select_cost_is : (files : Table) (held : Held) (opens : List (Option Open)) (name : List ℕ) (list : List (List ℕ)) (nodes : List Node) (found : Found) → IsRelationFound held name found
     → query_cost (view files held opens) (query.Select list name nodes)
     ≡ chosen_cost (kinds found.indexes) (ranges_of found.tuples.schema.attributes (condition_of nodes)) (rows files found.tuples)
 select_cost_is files held opens name list nodes found f =
@@ -62,7 +62,7 @@ select_cost_is files held opens name list nodes found f =
     (ap (λ (k : Kinds). chosen_cost k (ranges_of found.tuples.schema.attributes (condition_of nodes)) (rows files found.tuples)) (kinds_seen files held opens name found f))
 
 pub aggregate_cost_is : (files : Table) (held : Held) (opens : List (Option Open)) (name : List ℕ) (list : List (Agg × List ℕ)) (nodes : List Node) (found : Found) (items : List (Agg × ℕ))
-    → IsFound held name found → medians items ≡ list_any is_median list
+    → IsRelationFound held name found → medians items ≡ list_any is_median list
     → aggregate_cost (view files held opens) list name nodes
     ≡ (if medians items then 34 else 1) * chosen_cost (kinds found.indexes) (ranges_of found.tuples.schema.attributes (condition_of nodes)) (rows files found.tuples)
 aggregate_cost_is files held opens name list nodes found items f m =
@@ -93,7 +93,7 @@ refl_le n = omega arith
 -- ---- a session that runs
 
 module _ (state : State) (tables : Tables) (held : Held) (opens : List (Option Open)) (r : IsRunning state tables held opens) where
-  pub has_slots : HasSlots held
+  pub has_slots : HasEightSlots held
   has_slots = record {
     eight = r.eight;
     eight_indexes = r.eight_indexes;
@@ -101,7 +101,7 @@ module _ (state : State) (tables : Tables) (held : Held) (opens : List (Option O
     numbers = λ k t e. are_numbers state tables held opens r k t e;
   }
 
-  pub is_ready : (name : List ℕ) (found : Found) → IsFound held name found → IsReady state tables found
+  pub is_ready : (name : List ℕ) (found : Found) → IsRelationFound held name found → IsReadableBy state tables found
   is_ready name found f = record {
     holds = (relation_there state tables held opens r found.slot found.tuples f.there).holds;
     numbers = subst (λ (infos : List IndexInfo). AreOnNumbers found.tuples.schema.attributes infos) (sym f.indexes)

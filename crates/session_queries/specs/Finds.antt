@@ -13,20 +13,20 @@ use Rattle.session_model.specs.Indexed.{AreNumbers, infos_of}
 use Rattle.session_queries.specs.declared.finding.Found.{Found}
 
 -- relations and their indexes may be looked up
-pub record HasSlots (held : Held) : Type 0 where
+pub record HasEightSlots (held : Held) : Type 0 where
   pub eight : length held.relations ≡ 8
   pub eight_indexes : length held.indexes ≡ 8
   pub short : (k : ℕ) (t : Tuples) → get_or held.relations k None ≡ Some t → row_length t.schema.attributes ≤ 128
   pub numbers : (k : ℕ) (t : Tuples) → get_or held.relations k None ≡ Some t → AreNumbers k t held.indexes
 
 -- it is the first relation of that name, and these are its indexes
-pub record IsFound (held : Held) (name : List ℕ) (found : Found) : Type 0 where
+pub record IsRelationFound (held : Held) (name : List ℕ) (found : Found) : Type 0 where
   pub cell : cell_from name 0 held.relations ≡ Some (found.slot, found.tuples)
   pub there : get_or held.relations found.slot None ≡ Some found.tuples
   pub indexes : found.indexes ≡ infos_of found.slot found.tuples held.indexes
 
 -- its rows may be read by its indexes
-pub record IsReady (state : State) (tables : Tables) (found : Found) : Type 0 where
+pub record IsReadableBy (state : State) (tables : Tables) (found : Found) : Type 0 where
   pub holds : HoldsRows state found.tuples
   pub numbers : AreOnNumbers found.tuples.schema.attributes found.indexes
   pub readable : AreReadable state (slots state.files found.tuples) found.indexes

@@ -5,7 +5,7 @@ use Rattle.db_model.specs.declared.commands.Agg.TheVariants.{Count, Median}
 use Rattle.db_model.specs.declared.values.Value.{Value}
 use Rattle.aggregate.specs.declared.stage.Stage.TheVariants.{Done}
 use Rattle.aggregate.specs.Fold.{Folds, wants_pass}
-use Rattle.session_plans.specs.Aggregates.{column}
+use Rattle.session_plans.specs.Aggregates.{column_values}
 use Rattle.session_queries.specs.declared.tally.Tally.{Tally}
 
 -- what stands where there is no item and no tally
@@ -24,7 +24,7 @@ tally_at tallies i = get_or tallies i no_tally
 -- ---- one tally
 
 -- after so many passes: an open one has had them all and wants another, and a closed one wants none
-pub record Stands (passes : ℕ) (tally : Tally) : Type 0 where
+pub record StandsAfterPasses (passes : ℕ) (tally : Tally) : Type 0 where
   pub wants : IsTrue tally.is_open → IsTrue (wants_pass tally.fold)
   pub passed : IsTrue tally.is_open → tally.fold.passes ≡ passes
   pub few : IsTrue tally.is_open → passes < 33
@@ -38,23 +38,23 @@ taken_by false xs = []
 -- before its first pass
 pub record IsNew (agg : Agg) (tally : Tally) : Type 0 where
   pub agg_is : tally.fold.agg ≡ agg
-  pub stands : Stands 0 tally
+  pub stands : StandsAfterPasses 0 tally
   pub fresh : tally.fold.pushed ≡ 0
   pub told : (all : List Value) → Folds all [] tally.fold
 
 -- it was shown a value
-pub record Takes (value : Value) (old new : Tally) : Type 0 where
+pub record TakesValue (value : Value) (old new : Tally) : Type 0 where
   pub agg : new.fold.agg ≡ old.fold.agg
-  pub stands : (passes : ℕ) → Stands passes old → Stands passes new
+  pub stands : (passes : ℕ) → StandsAfterPasses passes old → StandsAfterPasses passes new
   pub open_only : IsTrue new.is_open → IsTrue old.is_open
   pub pushed : new.fold.pushed ≤ old.fold.pushed + 1
   pub told : (all so_far : List Value) → Folds all (taken_by old.is_open so_far) old.fold
       → Folds all (taken_by new.is_open (so_far ++ value ∷ [])) new.fold
 
 -- a pass was ended
-pub record Ends (old new : Tally) : Type 0 where
+pub record EndsPass (old new : Tally) : Type 0 where
   pub agg : new.fold.agg ≡ old.fold.agg
-  pub stands : (passes : ℕ) → Stands passes old → Stands (passes + 1) new
+  pub stands : (passes : ℕ) → StandsAfterPasses passes old → StandsAfterPasses (passes + 1) new
   pub fresh : IsTrue new.is_open → new.fold.pushed ≡ 0
   pub once : old.fold.agg ≢ Median → IsFalse new.is_open
   pub told : (all : List Value) → Folds all (taken_by old.is_open all) old.fold → Folds all [] new.fold
@@ -66,7 +66,7 @@ abbrev pub HaveAggs : List (Agg × ℕ) → List Tally → Type 0
 HaveAggs items tallies = (i : ℕ) → i < length items → (tally_at tallies i).fold.agg ≡ (item_at items i).0
 
 abbrev pub AllStand : ℕ → List (Agg × ℕ) → List Tally → Type 0
-AllStand passes items tallies = (i : ℕ) → i < length items → Stands passes (tally_at tallies i)
+AllStand passes items tallies = (i : ℕ) → i < length items → StandsAfterPasses passes (tally_at tallies i)
 
 -- none that is open has taken more values in this pass than this number
 abbrev pub PushedFew : ℕ → List (Agg × ℕ) → List Tally → Type 0
@@ -79,13 +79,13 @@ AreClosed items tallies = (i : ℕ) → i < length items → IsFalse (tally_at t
 abbrev pub AreDone : List (Agg × ℕ) → List Tally → Type 0
 AreDone items tallies = (i : ℕ) → i < length items → IsFalse (wants_pass (tally_at tallies i).fold)
 
--- between passes: in those that ended each has taken its column of all tuples, as long as it was open
+-- between passes: in those that ended each has taken its column_values of all tuples, as long as it was open
 abbrev pub AreFolded : List (Agg × ℕ) → List (List Value) → List Tally → Type 0
 AreFolded items all tallies =
-    (i : ℕ) → i < length items → Folds (column (item_at items i).1 all) [] (tally_at tallies i).fold
+    (i : ℕ) → i < length items → Folds (column_values (item_at items i).1 all) [] (tally_at tallies i).fold
 
 -- in a pass: each that is open has taken that of some tuples
 abbrev pub AreFolding : List (Agg × ℕ) → List (List Value) → List (List Value) → List Tally → Type 0
 AreFolding items all so_far tallies =
     (i : ℕ) → i < length items
-    → Folds (column (item_at items i).1 all) (taken_by (tally_at tallies i).is_open (column (item_at items i).1 so_far)) (tally_at tallies i).fold
+    → Folds (column_values (item_at items i).1 all) (taken_by (tally_at tallies i).is_open (column_values (item_at items i).1 so_far)) (tally_at tallies i).fold

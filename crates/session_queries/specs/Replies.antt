@@ -1,38 +1,25 @@
--- What is written for a query, row by row.
-use Rattle.std.specs.Prelude.{◌≡◌, ℕ, Bool, true, false, List, [], ◌∷◌, flat_map, length, map, Option, Result, Ok, Err}
+-- What is written for a query, row by row, and what is read for it.
+use Rattle.std.specs.Prelude.{◌≡◌, ◌+◌, ◌≤◌, ℕ, Bool, true, false, List, [], ◌∷◌, flat_map, length, map, Option, Result, Ok, Err}
 use Rattle.std.specs.Io.KnownBytes.{append_known}
-use Rattle.db_model.specs.declared.refusals.Refusal.{Refusal}
+use Rattle.afl_base.specs.declared.files.Files.{Ghosts as FilesOf}
+use Rattle.db_model.specs.declared.commands.Command.{Command}
 use Rattle.db_model.specs.declared.values.Value.{Value}
-use Rattle.db_model.specs.ReplyText.{row_text, text}
+use Rattle.db_model.specs.Ahead.{cost_of}
+use Rattle.db_model.specs.ReplyText.{row_text}
 use Rattle.db_model.specs.Row.{Row}
-use Rattle.db_model.specs.Step.{Reply, Refused, Rows}
+use Rattle.db_model.specs.Step.{Rows}
 use Rattle.cursor.specs.declared.join.JoinCursor.{JoinCursor}
 use Rattle.cursor.specs.declared.select.SelectCursor.{SelectCursor}
 use Rattle.cursor.specs.Pairs.{pairs_left}
 use Rattle.cursor.specs.Remaining.{remaining}
 use Rattle.reply_text.specs.WroteLess.{WroteLess}
+use Rattle.session_model.specs.declared.base.Base.{Base}
 use Rattle.session_model.specs.declared.held.Side.{Side}
-use Rattle.session_model.specs.declared.step.Outcome.{Outcome}
 use Rattle.session_model.specs.declared.step.Stop.{Stop}
 use Rattle.session_model.specs.declared.step.Stop.TheVariants.{Flash, Sink}
-use Rattle.session_model.specs.Steps.{WrotePart, Writes}
+use Rattle.session_model.specs.Carried.{Tells, aheads, database}
+use Rattle.session_model.specs.Steps.{Replies}
 use Rattle.session_model.specs.View.{project, project_pair}
-
--- the reply was written, or what of it was written before a fault
-abbrev pub Replies : Reply → Result Outcome Stop → Option (List ℕ) → Option (List ℕ) → Type 0
-Replies reply (Ok came) before now = Writes reply came before now
-Replies reply (Err Sink) before now = WroteLess before now (text reply)
-Replies reply (Err Flash) before now = WrotePart before now (text reply)
-
--- the reply to what was made, or the refusal
-abbrev pub reply_of : {A : Type 0} → (A → Reply) → Result A Refusal → Reply
-reply_of f (Ok x) = f x
-reply_of f (Err refusal) = Refused refusal
-
--- what may be read for it: nothing where it is refused
-abbrev pub cost_where : {A : Type 0} → Result A Refusal → ℕ → ℕ
-cost_where (Ok x) cost = cost
-cost_where (Err refusal) cost = 0
 
 -- ---- rows, one by one
 
@@ -65,3 +52,8 @@ rows_left places c all = map (project places) (remaining c all)
 
 abbrev pub joined_left : List Side → JoinCursor → List Row → List Row → List (List Value)
 joined_left places c lefts rights = map (project_pair places) (pairs_left c lefts rights)
+
+-- it read no more than the command may
+abbrev pub ReadsNoMore : {V : Type 0} → FilesOf V → Command → Base V → Base V → Type 0
+ReadsNoMore v command old new =
+    Tells v old → v.reads new.files ≤ v.reads old.files + cost_of (database v old) (aheads v old) command

@@ -2,12 +2,11 @@
 
 #![tactic(auto)]
 
-ghost use Rattle.std.specs.Prelude.{◌≡◌, ◌+◌, ◌*◌, ◌≤◌, ℕ, List, Ok, Err, Option, IfErr, IfOk, IsErrOf, IsTrue, OnErr, OnOk, length, if◌then◌else◌};
+ghost use Rattle.std.specs.Prelude.{◌≡◌, ◌+◌, ◌*◌, ◌≤◌, List, Option, IfErr, IfOk, IsTrue, OnErr, OnOk, if◌then◌else◌};
+ghost use Rattle.afl_base.specs.Keeping.{OnlyReads, Sends};
 ghost use Rattle.std.specs.Io.KnownBytes.{append_known};
-ghost use Rattle.afl_base.specs.Causes.{HasCause};
 ghost use Rattle.afl_base.specs.Files.{Table};
 ghost use Rattle.db_model.specs.declared.commands.Command.TheVariants as command;
-ghost use Rattle.db_model.specs.Ahead.{cost_of};
 ghost use Rattle.db_model.specs.Answers.{selected};
 ghost use Rattle.db_model.specs.Cond.{Cond, IsCondition, condition_of};
 ghost use Rattle.db_model.specs.Cost.{aggregate_cost, chosen_cost};
@@ -19,14 +18,11 @@ ghost use Rattle.lvm.specs.Code.{IsCodeOf};
 ghost use Rattle.reply_text.specs.WroteLess.{WroteLess};
 ghost use Rattle.tuple_file.specs.Tuples.{rows};
 ghost use Rattle.session_model.specs.declared.held.Open.{Open as AnyOpen};
-ghost use Rattle.session_model.specs.declared.step.Stop.TheVariants.{Flash, Sink as OfSink};
-ghost use Rattle.session_model.specs.Aheads.{aheads_of};
-ghost use Rattle.session_model.specs.Running.{IsRunning};
-ghost use Rattle.session_model.specs.Steps.{HasStopCause, UnlessFlash, Writes, WrotePart};
+ghost use Rattle.session_model.specs.Carried.{AnswersRows, Runs};
 ghost use Rattle.session_model.specs.View.{view};
 ghost use Rattle.session_plans.specs.Aggregates.{AllSuitFolds, answers, medians};
-ghost use Rattle.session_queries.specs.Finds.{HasSlots, IsFound, IsReady};
-ghost use Rattle.session_queries.specs.Replies.{Replies};
+ghost use Rattle.session_queries.specs.Finds.{HasEightSlots, IsRelationFound, IsReadableBy};
+ghost use Rattle.session_queries.specs.Replies.{ReadsNoMore};
 
 use crate::finding::{Found, find};
 use crate::folding::{answers_of, new_tallies};
@@ -36,47 +32,26 @@ use cursor::SelectCursor;
 use db_model::{AggList, Condition, Few, Ident, Refusal};
 use index_set::HashTables;
 use reply_text::{write_numbers, write_refusal, write_rows};
-use session_model::{Held, Open, Outcome, Stop};
+use session_model::{Base, Held, Outcome, Stop};
 use session_plans::{AggregatePlan, plan_aggregates};
 
 /// Writes one row with the aggregates of a list, or the refusal. A MEDIAN takes several passes over the rows, and no
 /// buffer.
 pub fn aggregate<V: Files, K: Sink>(
-    files: &mut V,
-    tables: &HashTables,
-    held: &Held,
-    opens: &[Option<Open>],
+    base: &mut Base<V>,
     list: &AggList,
     relation: &Ident,
     condition: &Condition,
     out: &mut K,
 ) -> Result<Outcome, Stop>
-    requires running { IsRunning (V.state files.old) tables.now held.now opens.now }
+    requires running { Runs V.Files base.old }
     requires condition { IsCondition condition.now }
-    ensures done { let db = view (V.state files.old).files held.now opens.now in
-        let reply = (step db (command.Aggregate list.now relation.now condition.now)).1 in
-        IsTrue (V.state files.old).tells → IfOk result (λ came.
-        Writes reply came (K.held out.old) (K.held out.new)) }
-    ensures sink { let db = view (V.state files.old).files held.now opens.now in
-        let reply = (step db (command.Aggregate list.now relation.now condition.now)).1 in
-        IsTrue (V.state files.old).tells → IsErrOf result OfSink
-        → WroteLess (K.held out.old) (K.held out.new) (text reply) }
-    ensures flash { let db = view (V.state files.old).files held.now opens.now in
-        let reply = (step db (command.Aggregate list.now relation.now condition.now)).1 in
-        IsTrue (V.state files.old).tells → IsErrOf result Flash
-        → WrotePart (K.held out.old) (K.held out.new) (text reply) }
-    ensures same { UnlessFlash result (V.state files.new ≡ V.state files.old) }
-    ensures reads { let db = view (V.state files.old).files held.now opens.now in
-        let aheads = aheads_of (V.state files.old).files opens.now in
-        IsTrue (V.state files.old).tells → V.reads files.new
-        ≤ V.reads files.old + cost_of db aheads (command.Aggregate list.now relation.now condition.now) }
-    ensures keeps { K.keeps out.old out.new }
-    ensures faultless { OnOk result (K.faults out.new ≡ K.faults out.old) }
-    ensures store { length (V.state files.new).store ≡ length (V.state files.old).store }
-    ensures cause { HasStopCause (V.faults files.old) (V.faults files.new)
-        (K.faults out.old) (K.faults out.new) result }
+    ensures written { AnswersRows V.Files K.Sink (command.Aggregate list.now relation.now condition.now) base.old base.new
+        out.old out.new result }
+    ensures reads { ReadsNoMore V.Files (command.Aggregate list.now relation.now condition.now) base.old base.new }
+    ensures files_only { base.new ≡ record base.old { files = base.new.files } }
 {
-    let aggregating = match plan_folds(held, list, relation, condition) {
+    let aggregating = match plan_folds(&base.held, list, relation, condition) {
         Ok(aggregating) => aggregating,
         Err(refusal) => {
             return match write_refusal(out, &refusal) {
@@ -85,7 +60,7 @@ pub fn aggregate<V: Files, K: Sink>(
             };
         }
     };
-    let numbers = match folded(files, tables, aggregating) {
+    let numbers = match folded(&mut base.files, &base.tables, aggregating) {
         Ok(numbers) => numbers,
         Err(_) => return Err(Stop::Flash),
     };
@@ -109,9 +84,9 @@ fn plan_folds(
     relation: &Ident,
     condition: &Condition,
 ) -> Result<Aggregating, Refusal>
-    requires slots { HasSlots held.now }
+    requires slots { HasEightSlots held.now }
     requires condition { IsCondition condition.now }
-    ensures found { IfOk result (λ a. IsFound held.now relation.now a.found) }
+    ensures found { IfOk result (λ a. IsRelationFound held.now relation.now a.found) }
     ensures code { IfOk result (λ a.
         IsCodeOf a.found.tuples.schema.attributes (condition_of condition.now) a.plan.code) }
     ensures suit { IfOk result (λ a. AllSuitFolds a.found.tuples.schema.attributes a.plan.items) }
@@ -144,7 +119,7 @@ fn folded<V: Files>(
     tables: &HashTables,
     aggregating: Aggregating,
 ) -> Result<Few<Option<i64>, 8>, Failed>
-    requires ready { IsReady (V.state files.old) tables.now aggregating.found }
+    requires ready { IsReadableBy (V.state files.old) tables.now aggregating.found }
     requires suit { AllSuitFolds aggregating.found.tuples.schema.attributes aggregating.plan.items }
     ensures numbers { let tuples = aggregating.found.tuples in
         let all = rows (V.state files.old).files tuples in
@@ -158,21 +133,14 @@ fn folded<V: Files>(
         → V.reads files.new ≤ V.reads files.old
         + (if medians aggregating.plan.items then 34 else 1) * chosen_cost (kinds aggregating.found.indexes)
         (ranges_of tuples.schema.attributes condition) all }
-    ensures same { OnOk result (V.state files.new ≡ V.state files.old) }
-    ensures store { length (V.state files.new).store ≡ length (V.state files.old).store }
-    ensures cause { HasCause (V.faults files.old) (V.faults files.new) result }
+    ensures frame { OnlyReads V.state V.lent V.reads V.faults files.old files.new result }
 {
     let Aggregating { found, plan } = aggregating;
     let AggregatePlan { items, code } = plan;
-    let mut cursor = match SelectCursor::begin(files, tables, found.tuples, &found.indexes, code) {
-        Ok(cursor) => cursor,
-        Err(_) => return Err(Failed),
-    };
+    let mut cursor = SelectCursor::begin(files, tables, found.tuples, &found.indexes, code)?;
     let mut tallies = new_tallies(items.as_slice());
-    match fold_all(files, tables, &mut cursor, items.as_slice(), &mut tallies) {
-        Ok(()) => Ok(answers_of(items.as_slice(), &tallies)),
-        Err(_) => Err(Failed),
-    }
+    fold_all(files, tables, &mut cursor, items.as_slice(), &mut tallies)?;
+    Ok(answers_of(items.as_slice(), &tallies))
 }
 
 // Writes the row of these numbers.
@@ -181,16 +149,9 @@ fn write_answers<K: Sink>(numbers: &[Option<i64>], out: &mut K) -> Result<(), Fa
         (K.held out.new ≡ append_known (K.held out.old) (text (Numbers numbers.now))) }
     ensures failed { OnErr result
         (WroteLess (K.held out.old) (K.held out.new) (text (Numbers numbers.now))) }
-    ensures keeps { K.keeps out.old out.new }
-    ensures faultless { OnOk result (K.faults out.new ≡ K.faults out.old) }
-    ensures cause { HasCause (K.faults out.old) (K.faults out.new) result }
+    ensures frame { Sends K.lent K.faults out.old out.new result }
 {
-    match write_numbers(out, numbers) {
-        Ok(()) => {}
-        Err(_) => return Err(Failed),
-    }
-    match write_rows(out, 1) {
-        Ok(()) => Ok(()),
-        Err(_) => Err(Failed),
-    }
+    write_numbers(out, numbers)?;
+    write_rows(out, 1)?;
+    Ok(())
 }

@@ -4,7 +4,7 @@
 
 ghost use Rattle.std.specs.Prelude.{◌≡◌, None, IfNone, IfSome};
 ghost use Rattle.session_model.specs.Cells.{cell_from};
-ghost use Rattle.session_queries.specs.Finds.{HasSlots, IsFound};
+ghost use Rattle.session_queries.specs.Finds.{HasEightSlots, IsRelationFound};
 
 use db_model::Ident;
 use index_set::Indexes;
@@ -21,8 +21,8 @@ pub struct Found {
 
 /// The relation of that name, `None` exactly where there is none.
 pub fn find(held: &Held, name: &Ident) -> Option<Found>
-    requires slots { HasSlots held.now }
-    ensures found { IfSome result (λ found. IsFound held.now name.now found) }
+    requires slots { HasEightSlots held.now }
+    ensures found { IfSome result (λ found. IsRelationFound held.now name.now found) }
     ensures none { IfNone result (cell_from name.now 0 held.now.relations ≡ None) }
 {
     let slot = match find_relation(&held.relations, name) {

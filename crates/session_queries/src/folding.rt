@@ -2,12 +2,12 @@
 
 #![tactic(auto)]
 
-ghost use Rattle.std.specs.Prelude.{◌≡◌, ◌<◌, ◌≤◌, ◌||◌, ℕ, List, [], false, length, IsTrue};
+ghost use Rattle.std.specs.Prelude.{◌≡◌, ◌<◌, ◌≤◌, ◌||◌, ℕ, List, false, length, IsTrue};
 ghost use Rattle.db_model.specs.declared.values.Value.{Value as AnyValue};
 ghost use Rattle.aggregate.specs.Limits.{Suits};
 ghost use Rattle.session_model.specs.View.{value_at};
 ghost use Rattle.session_plans.specs.Aggregates.{answers, medians};
-ghost use Rattle.session_queries.specs.Folded.{AreClosed, AreDone, AreFolded, Ends, HaveAggs, IsNew, Takes, item_at, tally_at};
+ghost use Rattle.session_queries.specs.Folded.{AreClosed, AreDone, AreFolded, EndsPass, HaveAggs, IsNew, TakesValue, item_at, tally_at};
 
 use crate::tally::{Tally, end_pass, new_tally, push};
 use db_model::{Agg, Few, Tuple, Value};
@@ -33,7 +33,7 @@ pub fn push_all(items: &[(Agg, u8)], tuple: &Tuple, tallies: &mut [Tally])
     requires few { (i : ℕ) → i < length items.now
         → IsTrue (tally_at tallies.old i).is_open → (tally_at tallies.old i).fold.pushed < 32768 }
     ensures many { length tallies.new ≡ length tallies.old }
-    ensures takes { (i : ℕ) → i < length items.now → Takes (value_at tuple.now (item_at items.now i).1)
+    ensures takes { (i : ℕ) → i < length items.now → TakesValue (value_at tuple.now (item_at items.now i).1)
         (tally_at tallies.old i) (tally_at tallies.new i) }
 {
     for i in 0..items.len() {
@@ -56,7 +56,7 @@ fn value_at(tuple: &Tuple, place: u8) -> Value
 pub fn end_all(items: &[(Agg, u8)], tallies: &mut [Tally]) -> bool
     requires many { length items.now ≤ length tallies.old }
     ensures many { length tallies.new ≡ length tallies.old }
-    ensures ends { (i : ℕ) → i < length items.now → Ends (tally_at tallies.old i) (tally_at tallies.new i) }
+    ensures ends { (i : ℕ) → i < length items.now → EndsPass (tally_at tallies.old i) (tally_at tallies.new i) }
     ensures closed { result ≡ false → AreClosed items.now tallies.new }
     ensures median { HaveAggs items.now tallies.old → IsTrue result → IsTrue (medians items.now) }
 {

@@ -11,10 +11,11 @@ ghost use Rattle.cursor.specs.Pairs.{FitsPairs, MayReadPairs, join_cost_ahead, m
 ghost use Rattle.index_set.specs.Plans.{kinds};
 ghost use Rattle.tuple_file.specs.Tuples.{rows};
 ghost use Rattle.session_model.specs.declared.held.Open.{Open as AnyOpen};
-ghost use Rattle.session_model.specs.Steps.{HasStopCause, UnlessFlash};
+ghost use Rattle.session_model.specs.Steps.{Replies};
+ghost use Rattle.session_model.specs.Carried.{Recites};
 ghost use Rattle.session_model.specs.View.{project_pair, view};
-ghost use Rattle.session_queries.specs.Finds.{HasSlots, IsFound, IsReady};
-ghost use Rattle.session_queries.specs.Replies.{Replies, WroteNext, WroteRows, joined_left};
+ghost use Rattle.session_queries.specs.Finds.{HasEightSlots, IsRelationFound, IsReadableBy};
+ghost use Rattle.session_queries.specs.Replies.{WroteNext, WroteRows, joined_left};
 
 use crate::finding::{Found, find};
 use afl_base::{Files, Sink};
@@ -41,9 +42,9 @@ pub fn plan_pairs(
     on: &Ident,
     list: &Idents,
 ) -> Result<Joining, Refusal>
-    requires slots { HasSlots held.now }
-    ensures left { IfOk result (λ j. IsFound held.now left.now j.left) }
-    ensures right { IfOk result (λ j. IsFound held.now right.now j.right) }
+    requires slots { HasEightSlots held.now }
+    ensures left { IfOk result (λ j. IsRelationFound held.now left.now j.left) }
+    ensures right { IfOk result (λ j. IsRelationFound held.now right.now j.right) }
     ensures rows { IfOk result (λ j. (files : Table) (opens : List (Option AnyOpen))
         → answer_of (view files held.now opens) (query.Join left.now right.now on.now list.now)
         ≡ Ok (map (project_pair j.plan.places) (matching j.plan.left_on j.plan.right_on
@@ -78,8 +79,8 @@ pub fn join<V: Files, K: Sink>(
     joining: Joining,
     out: &mut K,
 ) -> Result<Outcome, Stop>
-    requires left { IsReady (V.state files.old) tables.now joining.left }
-    requires right { IsReady (V.state files.old) tables.now joining.right }
+    requires left { IsReadableBy (V.state files.old) tables.now joining.left }
+    requires right { IsReadableBy (V.state files.old) tables.now joining.right }
     ensures replies { let state = V.state files.old in let plan = joining.plan in
         let pairs = matching plan.left_on plan.right_on (rows state.files joining.left.tuples)
         (rows state.files joining.right.tuples) in
@@ -91,12 +92,7 @@ pub fn join<V: Files, K: Sink>(
         IsTrue state.tells → V.reads files.new ≤ V.reads files.old
         + (6 * (length lefts + length (matching plan.left_on plan.right_on lefts rights))
         + right_costs (kinds joining.right.indexes) (plan.left_on, plan.right_on) rights lefts) }
-    ensures same { UnlessFlash result (V.state files.new ≡ V.state files.old) }
-    ensures keeps { K.keeps out.old out.new }
-    ensures faultless { OnOk result (K.faults out.new ≡ K.faults out.old) }
-    ensures store { length (V.state files.new).store ≡ length (V.state files.old).store }
-    ensures cause { HasStopCause (V.faults files.old) (V.faults files.new)
-        (K.faults out.old) (K.faults out.new) result }
+    ensures frame { Recites V.Files K.Sink files.old files.new out.old out.new result }
 {
     match join_all(files, tables, joining, out) {
         Ok(count) => {
@@ -117,8 +113,8 @@ fn join_all<V: Files, K: Sink>(
     joining: Joining,
     out: &mut K,
 ) -> Result<u32, Stop>
-    requires left { IsReady (V.state files.old) tables.now joining.left }
-    requires right { IsReady (V.state files.old) tables.now joining.right }
+    requires left { IsReadableBy (V.state files.old) tables.now joining.left }
+    requires right { IsReadableBy (V.state files.old) tables.now joining.right }
     ensures wrote { let state = V.state files.old in let plan = joining.plan in
         let pairs = matching plan.left_on plan.right_on (rows state.files joining.left.tuples)
         (rows state.files joining.right.tuples) in
@@ -130,12 +126,7 @@ fn join_all<V: Files, K: Sink>(
         IsTrue state.tells → V.reads files.new ≤ V.reads files.old
         + (6 * (length lefts + length (matching plan.left_on plan.right_on lefts rights))
         + right_costs (kinds joining.right.indexes) (plan.left_on, plan.right_on) rights lefts) }
-    ensures same { UnlessFlash result (V.state files.new ≡ V.state files.old) }
-    ensures keeps { K.keeps out.old out.new }
-    ensures faultless { OnOk result (K.faults out.new ≡ K.faults out.old) }
-    ensures store { length (V.state files.new).store ≡ length (V.state files.old).store }
-    ensures cause { HasStopCause (V.faults files.old) (V.faults files.new)
-        (K.faults out.old) (K.faults out.new) result }
+    ensures frame { Recites V.Files K.Sink files.old files.new out.old out.new result }
 {
     let Joining { left, right, plan } = joining;
     let JoinPlan {
@@ -174,12 +165,7 @@ fn join_rows<V: Files, K: Sink>(
         let rights = rows state.files cursor.old.right in
         IsTrue state.tells → FitsPairs cursor.old state tables.now
         → V.reads files.new ≤ V.reads files.old + join_cost_ahead cursor.old lefts rights }
-    ensures same { UnlessFlash result (V.state files.new ≡ V.state files.old) }
-    ensures keeps { K.keeps out.old out.new }
-    ensures faultless { OnOk result (K.faults out.new ≡ K.faults out.old) }
-    ensures store { length (V.state files.new).store ≡ length (V.state files.old).store }
-    ensures cause { HasStopCause (V.faults files.old) (V.faults files.new)
-        (K.faults out.old) (K.faults out.new) result }
+    ensures frame { Recites V.Files K.Sink files.old files.new out.old out.new result }
 {
     let most = u32::from(cursor.left_slots) * u32::from(cursor.right_slots);
     for count in 0..most {
@@ -225,12 +211,7 @@ fn join_next<V: Files, K: Sink>(
         let rights = rows state.files cursor.old.right in
         IsTrue state.tells → OnErr result (FitsPairs cursor.old state tables.now
         → V.reads files.new ≤ V.reads files.old + join_cost_ahead cursor.old lefts rights) }
-    ensures same { UnlessFlash result (V.state files.new ≡ V.state files.old) }
-    ensures keeps { K.keeps out.old out.new }
-    ensures faultless { OnOk result (K.faults out.new ≡ K.faults out.old) }
-    ensures store { length (V.state files.new).store ≡ length (V.state files.old).store }
-    ensures cause { HasStopCause (V.faults files.old) (V.faults files.new)
-        (K.faults out.old) (K.faults out.new) result }
+    ensures frame { Recites V.Files K.Sink files.old files.new out.old out.new result }
 {
     let mut left = Tuple::new();
     let mut right = Tuple::new();

@@ -3,7 +3,7 @@
 #![tactic(auto)]
 
 ghost use Rattle.std.specs.Prelude.{◌≡◌, ◌+◌, ◌*◌, ◌≤◌, ℕ, List, OnOk, IsTrue, length, if◌then◌else◌};
-ghost use Rattle.afl_base.specs.Causes.{HasCause};
+ghost use Rattle.afl_base.specs.Keeping.{OnlyReads};
 ghost use Rattle.db_model.specs.declared.values.Value.{Value};
 ghost use Rattle.cursor.specs.Remaining.{MayRead, remaining};
 ghost use Rattle.index_set.specs.Walks.{Fits, cost_ahead};
@@ -47,17 +47,12 @@ pub fn fold_all<V: Files>(
         IsTrue state.tells → Fits cursor.old.candidates state tables.now all
         → V.reads files.new ≤ V.reads files.old
         + (if medians items.now then 33 else 1) * cost_ahead cursor.old.candidates all }
-    ensures same { OnOk result (V.state files.new ≡ V.state files.old) }
-    ensures store { length (V.state files.new).store ≡ length (V.state files.old).store }
-    ensures cause { HasCause (V.faults files.old) (V.faults files.new) result }
+    ensures frame { OnlyReads V.state V.lent V.reads V.faults files.old files.new result }
 {
     let first = cursor.candidates;
     for _pass in 0..33u8 {
         restart(cursor, &first);
-        match fold_rows(files, tables, cursor, items, tallies) {
-            Ok(()) => {}
-            Err(_) => return Err(Failed),
-        }
+        fold_rows(files, tables, cursor, items, tallies)?;
         if !end_all(items, tallies) {
             return Ok(());
         }
@@ -101,9 +96,7 @@ fn fold_rows<V: Files>(
     ensures reads { let state = V.state files.old in let all = rows state.files cursor.old.tuples in
         IsTrue state.tells → Fits cursor.old.candidates state tables.now all
         → V.reads files.new ≤ V.reads files.old + cost_ahead cursor.old.candidates all }
-    ensures same { OnOk result (V.state files.new ≡ V.state files.old) }
-    ensures store { length (V.state files.new).store ≡ length (V.state files.old).store }
-    ensures cause { HasCause (V.faults files.old) (V.faults files.new) result }
+    ensures frame { OnlyReads V.state V.lent V.reads V.faults files.old files.new result }
 {
     let mut tuple = Tuple::new();
     'rows: loop {

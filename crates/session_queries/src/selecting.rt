@@ -2,7 +2,7 @@
 
 #![tactic(auto)]
 
-ghost use Rattle.std.specs.Prelude.{◌≡◌, ◌+◌, ◌<◌, ◌≤◌, ℕ, List, Ok, Err, Option, IfErr, IfOk, IsTrue, OnErr, OnOk, length, map};
+ghost use Rattle.std.specs.Prelude.{◌≡◌, ◌+◌, ◌<◌, ◌≤◌, List, Ok, Err, Option, IfErr, IfOk, IsTrue, OnErr, OnOk, map};
 ghost use Rattle.afl_base.specs.Files.{Table};
 ghost use Rattle.db_model.specs.declared.commands.Query.TheVariants as query;
 ghost use Rattle.db_model.specs.Answers.{selected};
@@ -16,10 +16,11 @@ ghost use Rattle.index_set.specs.Walks.{Fits, cost_ahead};
 ghost use Rattle.lvm.specs.Code.{IsCodeOf};
 ghost use Rattle.tuple_file.specs.Tuples.{rows};
 ghost use Rattle.session_model.specs.declared.held.Open.{Open as AnyOpen};
-ghost use Rattle.session_model.specs.Steps.{HasStopCause, UnlessFlash};
+ghost use Rattle.session_model.specs.Steps.{Replies};
+ghost use Rattle.session_model.specs.Carried.{Recites};
 ghost use Rattle.session_model.specs.View.{project, view};
-ghost use Rattle.session_queries.specs.Finds.{HasSlots, IsFound, IsReady};
-ghost use Rattle.session_queries.specs.Replies.{Replies, WroteNext, rows_left};
+ghost use Rattle.session_queries.specs.Finds.{HasEightSlots, IsRelationFound, IsReadableBy};
+ghost use Rattle.session_queries.specs.Replies.{WroteNext, rows_left};
 
 use crate::finding::{Found, find};
 use afl_base::{Files, Sink};
@@ -44,9 +45,9 @@ pub fn plan(
     relation: &Ident,
     condition: &Condition,
 ) -> Result<Selecting, Refusal>
-    requires slots { HasSlots held.now }
+    requires slots { HasEightSlots held.now }
     requires condition { IsCondition condition.now }
-    ensures found { IfOk result (λ s. IsFound held.now relation.now s.found) }
+    ensures found { IfOk result (λ s. IsRelationFound held.now relation.now s.found) }
     ensures code { IfOk result (λ s.
         IsCodeOf s.found.tuples.schema.attributes (condition_of condition.now) s.plan.code) }
     ensures rows { let tree = condition_of condition.now in IfOk result (λ s.
@@ -78,7 +79,7 @@ pub fn select<V: Files, K: Sink>(
     selecting: Selecting,
     out: &mut K,
 ) -> Result<Outcome, Stop>
-    requires ready { IsReady (V.state files.old) tables.now selecting.found }
+    requires ready { IsReadableBy (V.state files.old) tables.now selecting.found }
     ensures replies { let tuples = selecting.found.tuples in
         let all = rows (V.state files.old).files tuples in
         IsTrue (V.state files.old).tells → (condition : Option Cond)
@@ -90,12 +91,7 @@ pub fn select<V: Files, K: Sink>(
         IsTrue (V.state files.old).tells → (condition : Option Cond)
         → IsCodeOf tuples.schema.attributes condition selecting.plan.code → V.reads files.new
         ≤ V.reads files.old + chosen_cost (kinds selecting.found.indexes) (ranges_of tuples.schema.attributes condition) all }
-    ensures same { UnlessFlash result (V.state files.new ≡ V.state files.old) }
-    ensures keeps { K.keeps out.old out.new }
-    ensures faultless { OnOk result (K.faults out.new ≡ K.faults out.old) }
-    ensures store { length (V.state files.new).store ≡ length (V.state files.old).store }
-    ensures cause { HasStopCause (V.faults files.old) (V.faults files.new)
-        (K.faults out.old) (K.faults out.new) result }
+    ensures frame { Recites V.Files K.Sink files.old files.new out.old out.new result }
 {
     let Selecting { found, plan } = selecting;
     let SelectPlan { places, code } = plan;
@@ -125,12 +121,7 @@ fn select_rows<V: Files, K: Sink>(
     ensures reads { let state = V.state files.old in let all = rows state.files cursor.old.tuples in
         IsTrue state.tells → Fits cursor.old.candidates state tables.now all
         → V.reads files.new ≤ V.reads files.old + cost_ahead cursor.old.candidates all }
-    ensures same { UnlessFlash result (V.state files.new ≡ V.state files.old) }
-    ensures keeps { K.keeps out.old out.new }
-    ensures faultless { OnOk result (K.faults out.new ≡ K.faults out.old) }
-    ensures store { length (V.state files.new).store ≡ length (V.state files.old).store }
-    ensures cause { HasStopCause (V.faults files.old) (V.faults files.new)
-        (K.faults out.old) (K.faults out.new) result }
+    ensures frame { Recites V.Files K.Sink files.old files.new out.old out.new result }
 {
     let mut count = 0;
     let mut tuple = Tuple::new();
@@ -188,12 +179,7 @@ fn select_next<V: Files, K: Sink>(
         let all = rows state.files cursor.old.tuples in
         IsTrue state.tells → OnErr result (Fits cursor.old.candidates state tables.now all
         → V.reads files.new ≤ V.reads files.old + cost_ahead cursor.old.candidates all) }
-    ensures same { UnlessFlash result (V.state files.new ≡ V.state files.old) }
-    ensures keeps { K.keeps out.old out.new }
-    ensures faultless { OnOk result (K.faults out.new ≡ K.faults out.old) }
-    ensures store { length (V.state files.new).store ≡ length (V.state files.old).store }
-    ensures cause { HasStopCause (V.faults files.old) (V.faults files.new)
-        (K.faults out.old) (K.faults out.new) result }
+    ensures frame { Recites V.Files K.Sink files.old files.new out.old out.new result }
 {
     match cursor.next(files, tables, tuple) {
         Ok(Some(_)) => {}

@@ -4,7 +4,7 @@
 
 ghost use Rattle.std.specs.Prelude.{◌<◌, IsTrue};
 ghost use Rattle.aggregate.specs.Limits.{Suits};
-ghost use Rattle.session_queries.specs.Folded.{Ends, IsNew, Takes};
+ghost use Rattle.session_queries.specs.Folded.{EndsPass, IsNew, TakesValue};
 
 use aggregate::Fold;
 use db_model::{Agg, Value};
@@ -30,7 +30,7 @@ pub fn new_tally(agg: Agg) -> Tally
 pub fn push(tally: &Tally, value: &Value) -> Tally
     requires suits { Suits tally.now.fold.agg value.now }
     requires few { IsTrue tally.now.is_open → tally.now.fold.pushed < 32768 }
-    ensures { Takes value.now tally.now result }
+    ensures { TakesValue value.now tally.now result }
 {
     if !tally.is_open {
         return *tally;
@@ -45,7 +45,7 @@ pub fn push(tally: &Tally, value: &Value) -> Tally
 
 /// Ends a pass, and closes it where it wants no other.
 pub fn end_pass(tally: &Tally) -> Tally
-    ensures { Ends tally.now result }
+    ensures { EndsPass tally.now result }
 {
     if !tally.is_open {
         return *tally;

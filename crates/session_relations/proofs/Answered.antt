@@ -10,16 +10,13 @@ use Rattle.tuple_file.specs.declared.tuples.Tuples.{Tuples}
 use Rattle.session_model.specs.declared.held.Held.{Held}
 use Rattle.session_model.specs.declared.held.Open.{Open}
 use Rattle.session_model.specs.Cells.{cell_from}
-use Rattle.session_model.specs.View.{relation_in, view}
+use Rattle.session_model.specs.View.{relation_of_rows, view}
 use Rattle.session_model.proofs.Views.{named_none, named_some}
 use Rattle.session_model.specs.declared.answer.Answer.TheVariants as answer
 use Rattle.session_model.specs.Answers.{Changed}
 
 pub answers_fine : (made : Outcome) (old new db : Database) → made ≡ Ok (db, Fine) → new ≡ record db { version = 2 } → Changed (upgraded made) old new answer.Fine
 answers_fine made old new db e same = ap upgraded e ∙ ap (λ (d : Database). Ok (d, Fine)) (sym same)
-
-pub answers_refused : (made : Outcome) (old : Database) (refusal : Refusal) → made ≡ Err refusal → Changed (upgraded made) old old (answer.Refused refusal)
-answers_refused made old refusal e = (ap upgraded e, refl)
 
 pub answers_space : (made : Outcome) (old new db : Database) (need : ℕ) → made ≡ Ok (db, Fine) → new ≡ old → Changed (upgraded made) old new (answer.NoSpace need)
 answers_space made old new db need e same = (rw e refl, same)
@@ -30,10 +27,10 @@ module _ (files : Table) (held : Held) (opens : List (Option Open)) (name : List
   pub changed_missing : cell_from name 0 held.relations ≡ None → changed_by change (view files held opens) name ≡ Err no.NoRelation
   changed_missing e = rw (named_none files held opens name e) refl
 
-  pub changed_refused : (slot : ℕ) (t : Tuples) (refusal : Refusal) → cell_from name 0 held.relations ≡ Some (slot, t) → change slot (view files held opens) (relation_in files t) ≡ Err refusal
+  pub changed_refused : (slot : ℕ) (t : Tuples) (refusal : Refusal) → cell_from name 0 held.relations ≡ Some (slot, t) → change slot (view files held opens) (relation_of_rows files t) ≡ Err refusal
       → changed_by change (view files held opens) name ≡ Err refusal
   changed_refused slot t refusal found refused = rw (named_some files held opens name slot t found, refused) refl
 
-  pub changed_made : (slot : ℕ) (t : Tuples) (r : Relation) → cell_from name 0 held.relations ≡ Some (slot, t) → change slot (view files held opens) (relation_in files t) ≡ Ok (r, Fine)
+  pub changed_made : (slot : ℕ) (t : Tuples) (r : Relation) → cell_from name 0 held.relations ≡ Some (slot, t) → change slot (view files held opens) (relation_of_rows files t) ≡ Ok (r, Fine)
       → changed_by change (view files held opens) name ≡ Ok (with_relation (view files held opens) slot (Some r), Fine)
   changed_made slot t r found made = rw (named_some files held opens name slot t found, made) refl

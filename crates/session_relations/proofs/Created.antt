@@ -22,15 +22,15 @@ use Rattle.session_model.specs.declared.held.Indexed.{Indexed}
 use Rattle.session_model.specs.declared.held.Open.{Open}
 use Rattle.session_model.specs.Cells.{cell_from}
 use Rattle.session_model.specs.Frames.{with_tuples}
-use Rattle.session_model.specs.Running.{IsIndexedOn, IsRelation, IsRunning}
-use Rattle.session_model.specs.View.{relation_in, view}
+use Rattle.session_model.specs.Running.{IsIndexedOn, HoldsRelation, IsRunning}
+use Rattle.session_model.specs.View.{relation_of_rows, view}
 use Rattle.session_model.specs.Wanted.{WantsFew, room_in}
 use Rattle.session_model.proofs.Catalogs.{RelationChanges}
 use Rattle.session_model.proofs.Grown.{rows_of_none, slots_of_none}
 use Rattle.session_model.proofs.Running.{index_there}
 use Rattle.session_model.proofs.Views.{found_in_view}
 use Rattle.session_model.proofs.Wanted.{relation_seen, wants_catalog, wants_new_catalog}
-use Rattle.session_relations.specs.Changes.{AsksSlot, PutsSlot, Shows, bare_relation, bare_schema, changed_at}
+use Rattle.session_relations.specs.Changes.{AsksRelationSlot, PutsSlot, Shows, bare_relation, bare_schema, changed_at}
 use Rattle.session_relations.proofs.Shown.{shows_changed}
 
 -- ---- free slots
@@ -68,7 +68,7 @@ used_slot (Some x) h = (x, refl)
 -- a name that none has, in the database
 pub relation_missing : (files : Table) (held : Held) (opens : List (Option Open)) (name : List ℕ) → cell_from name 0 held.relations ≡ None → relation_named (view files held opens) name ≡ None
 relation_missing files held opens name e =
-    found_in_view files name 0 held.relations ∙ ap (option_map (λ (p : ℕ × Tuples). (p.0, relation_in files p.1))) e
+    found_in_view files name 0 held.relations ∙ ap (option_map (λ (p : ℕ × Tuples). (p.0, relation_of_rows files p.1))) e
 
 pub made_exists : (files : Table) (held : Held) (opens : List (Option Open)) (name : List ℕ) (k : ℕ) (t : Tuples) → cell_from name 0 held.relations ≡ Some (k, t)
     → create_relation (view files held opens) name ≡ Err no.Exists
@@ -76,11 +76,11 @@ made_exists files held opens name k t e = rw (relation_seen files held opens nam
 
 pub made_full : (files : Table) (held : Held) (opens : List (Option Open)) (name : List ℕ) → cell_from name 0 held.relations ≡ None → free_from 0 held.relations ≡ None
     → create_relation (view files held opens) name ≡ Err (no.Full pool.Relations 8)
-made_full files held opens name e full = rw (relation_missing files held opens name e, free_mapped (relation_in files) 0 held.relations, full) refl
+made_full files held opens name e full = rw (relation_missing files held opens name e, free_mapped (relation_of_rows files) 0 held.relations, full) refl
 
 pub made_slot : (files : Table) (held : Held) (opens : List (Option Open)) (name : List ℕ) (slot : ℕ) → cell_from name 0 held.relations ≡ None → free_from 0 held.relations ≡ Some slot
     → create_relation (view files held opens) name ≡ Ok (with_relation (view files held opens) slot (Some (bare_relation name)), Fine)
-made_slot files held opens name slot e free = rw (relation_missing files held opens name e, free_mapped (relation_in files) 0 held.relations, free) refl
+made_slot files held opens name slot e free = rw (relation_missing files held opens name e, free_mapped (relation_of_rows files) 0 held.relations, free) refl
 
 -- ---- the new relation
 
@@ -116,7 +116,7 @@ module _ (state : State) (file k : ℕ) (name : List ℕ) (here : place state.fi
     written = λ told. ap (rows_bytes []) new_rows ∙ sym new_empty;
   }
 
-  new_relation : IsRelation state 2 k (new_tuples file name)
+  new_relation : HoldsRelation state 2 k (new_tuples file name)
   new_relation = record {
     holds = new_holds;
     named = named_here state.files file (new_file (rows_file k) Doubling) here;
@@ -161,11 +161,11 @@ module _ (state : State) (tables : Tables) (held : Held) (opens : List (Option O
       inl (new.0, six)
 
   -- room in the catalog, or the pages of a file of rows
-  pub wants_slot : (slot cat : ℕ) → held.cat ≡ Some cat → free_from 0 held.relations ≡ Some slot → AsksSlot asks state.files cat slot need ⊎ (need ≡ 16)
+  pub wants_slot : (slot cat : ℕ) → held.cat ≡ Some cat → free_from 0 held.relations ≡ Some slot → AsksRelationSlot asks state.files cat slot need ⊎ (need ≡ 16)
       → WantsFew asks state.files (view state.files held opens) (command.CreateRelation name) need
   wants_slot slot cat has free (inr pages) = inr (inr pages)
   wants_slot slot cat has free (inl asked) =
       let few : ℕ → ℕ → ℕ → ℕ → Type 0 = asks_few asks state.files in
       let P : Option ℕ → Type 0 = λ o. IsSomeAnd o (λ k. WantsRelationSlot (size_in state.files) (asks_in few state.files) (room_in state.files) k need) in
-      inr (inl (subst P (sym (free_mapped (relation_in state.files) 0 held.relations ∙ free))
+      inr (inl (subst P (sym (free_mapped (relation_of_rows state.files) 0 held.relations ∙ free))
       (wants_catalog state tables held opens r few cat (176 * slot) 176 need has asked)))

@@ -3,6 +3,7 @@ use Rattle.std.proofs.Common.{◌≡◌, ℕ, zero, suc, ◌+◌, ◌*◌, ◌<�
 use Rattle.std.specs.Prelude.{IsSomeAnd, option_map}
 use Rattle.std.specs.Str.{bytes_eq}
 use Rattle.std.proofs.lemmas.Slice.Eq.{bytes_eq-Decides}
+use Rattle.padded.proofs.Facts.{some_same}
 use Rattle.afl_base.specs.Asked.{asks_few}
 use Rattle.afl_base.specs.Files.{State}
 use Rattle.db_model.specs.Catalog.{Catalog, catalog_of, empty_catalog}
@@ -15,12 +16,12 @@ use Rattle.session_model.specs.declared.held.Held.{Held}
 use Rattle.session_model.specs.declared.held.Open.{Open}
 use Rattle.session_model.specs.Cells.{cell_from}
 use Rattle.session_model.specs.Frames.{schema_in}
-use Rattle.session_model.specs.Running.{IsRunning, catalog_bytes}
+use Rattle.session_model.specs.Running.{IsRunning, bytes_of_catalog}
 use Rattle.session_model.specs.View.{view}
 use Rattle.session_model.specs.Wanted.{room_in}
-use Rattle.session_model.proofs.Running.{slot_is, some_same}
+use Rattle.session_model.proofs.Running.{slot_is}
 use Rattle.session_model.proofs.Wanted.{relation_seen, wants_catalog}
-use Rattle.session_relations.specs.Changes.{AsksSlot}
+use Rattle.session_relations.specs.Changes.{AsksRelationSlot}
 
 -- the relation that is found has the name
 pub cell_named : (name : List ℕ) (n : ℕ) (slots : List (Option Tuples)) (k : ℕ) (t : Tuples) → cell_from name n slots ≡ Some (k, t) → t.schema.name ≡ name
@@ -46,12 +47,12 @@ pub without_catalog : (state : State) (tables : Tables) (held : Held) (opens : L
     → cell_from name 0 held.relations ≡ None
 without_catalog state tables held opens name r told none =
     let empty : catalog_of [] ≡ empty_catalog = refl in
-    let bytes : catalog_bytes state.files held.cat ≡ [] = ap (catalog_bytes state.files) none in
+    let bytes : bytes_of_catalog state.files held.cat ≡ [] = ap (bytes_of_catalog state.files) none in
     none_used name 0 8 held.relations (ap (λ (c : Catalog). c.relations) (sym (r.listed told) ∙ ap catalog_of bytes ∙ empty))
 
 -- what a change of its slot asks for
 pub wants_found : (state : State) (tables : Tables) (held : Held) (opens : List (Option Open)) (asks : ℕ → ℕ → ℕ → ℕ → Type 0) (name : List ℕ) (cat slot need : ℕ) (t : Tuples)
-    → IsRunning state tables held opens → held.cat ≡ Some cat → cell_from name 0 held.relations ≡ Some (slot, t) → AsksSlot asks state.files cat slot need
+    → IsRunning state tables held opens → held.cat ≡ Some cat → cell_from name 0 held.relations ≡ Some (slot, t) → AsksRelationSlot asks state.files cat slot need
     → IsSomeAnd (relation_named (view state.files held opens) name) (λ s. WantsRelationSlot (size_in state.files) (asks_in (asks_few asks state.files) state.files) (room_in state.files) s.0 need)
 wants_found state tables held opens asks name cat slot need t r has cell asked =
     let few : ℕ → ℕ → ℕ → ℕ → Type 0 = asks_few asks state.files in

@@ -2,6 +2,7 @@
 use Rattle.std.proofs.Common.{◌≡◌, ℕ, zero, suc, ◌<◌, Bool, true, false, cond, eqb, List, [], ◌∷◌, length, map, get_or, Option, Some, None, refl, ap, sym, ◌∙◌, subst, arith, Ok, Err}
 use Rattle.std.specs.Prelude.{Result, ⊤, nat_lt, option_map}
 use Rattle.std.proofs.lemmas.Bool.Decides.{nat_tests}
+use Rattle.padded.proofs.Facts.{some_same}
 use Rattle.afl_base.specs.Files.{IsUnnamed, State, Table}
 use Rattle.db_model.specs.declared.refusals.Refusal.{Refusal}
 use Rattle.db_model.specs.declared.refusals.Refusal.TheVariants as no
@@ -17,11 +18,11 @@ use Rattle.session_model.specs.declared.held.Indexed.{Indexed}
 use Rattle.session_model.specs.declared.held.Open.{Open}
 use Rattle.session_model.specs.Cells.{cell_from}
 use Rattle.session_model.specs.Frames.{with_tuples}
-use Rattle.session_model.specs.Indexed.{index_in}
+use Rattle.session_model.specs.Indexed.{index_known}
 use Rattle.session_model.specs.Running.{IsRunning, ReadsRows}
 use Rattle.session_model.specs.View.{cursor_in, view}
 use Rattle.session_model.proofs.Catalogs.{RelationChanges}
-use Rattle.session_model.proofs.Running.{reads_other, some_same}
+use Rattle.session_model.proofs.Running.{reads_other}
 use Rattle.session_model.proofs.Views.{named_none, named_some}
 use Rattle.session_relations.specs.Changes.{PutsSlot, Shows, changed_at, indexes_on, refuse_removal}
 use Rattle.session_relations.proofs.Shown.{shows_changed}
@@ -60,8 +61,8 @@ none_on k (None ∷ xs) none zero y e rel = absurd (cc)
 none_on k (None ∷ xs) none (suc j) y e rel = none_on k xs none j y e rel
 none_on k (Some x ∷ xs) none zero y e rel =
     let same = some_same x y e in
-    first_on k (index_in x) (indexes_on k xs) (eqb x.relation k) (is_equal x.relation k (ap (λ (z : Indexed). z.relation) same ∙ rel)) none
-none_on k (Some x ∷ xs) none (suc j) y e rel = none_on k xs (later_on (index_in x) (indexes_on k xs) (eqb x.relation k) none) j y e rel
+    first_on k (index_known x) (indexes_on k xs) (eqb x.relation k) (is_equal x.relation k (ap (λ (z : Indexed). z.relation) same ∙ rel)) none
+none_on k (Some x ∷ xs) none (suc j) y e rel = none_on k xs (later_on (index_known x) (indexes_on k xs) (eqb x.relation k) none) j y e rel
 
 module _ (old new : State) (tables : Tables) (held : Held) (opens : List (Option Open)) (r : IsRunning old tables held opens) (k cat : ℕ) (t : Tuples) (has : held.cat ≡ Some cat) (below : k < 8)
     (there : get_or held.relations k None ≡ Some t) (unread : reader_from t.schema.name 1 (map (option_map (cursor_in old.files)) opens) ≡ None) (alone : indexes_on k held.indexes ≡ [])

@@ -4,6 +4,7 @@ use Rattle.std.specs.Prelude.{option_map, slice_range}
 use Rattle.std.proofs.Math.Logic.{⊎_elim}
 use Rattle.std.proofs.lemmas.List.{get_or-replicate, length-drop, length-take-le}
 use Rattle.std.proofs.lemmas.List.FromFn.{get_or-map-range_with_len}
+use Rattle.padded.proofs.Facts.{some_same}
 use Rattle.afl_base.specs.Files.{File, IsNamed, State, bytes_at, name_at, no_file, place, size_at}
 use Rattle.catalog.specs.CatalogFile.{PutsRelation}
 use Rattle.db_model.specs.declared.schemas.Attribute.{Attribute}
@@ -18,12 +19,12 @@ use Rattle.tuple_file.specs.Tuples.{HoldsRows, rows, slots}
 use Rattle.session_model.specs.declared.held.Held.{Held}
 use Rattle.session_model.specs.declared.held.Open.{Open}
 use Rattle.session_model.specs.Frames.{schema_in, with_tuples}
-use Rattle.session_model.specs.Running.{IsRunning, IsWritten, IsWrittenOrEmpty, ReadsRows, catalog_bytes}
+use Rattle.session_model.specs.Running.{IsRunning, IsWritten, IsWrittenOrEmpty, ReadsRows, bytes_of_catalog}
 use Rattle.session_model.specs.View.{view}
 use Rattle.session_model.proofs.Catalogs.{catalog_there}
 use Rattle.session_model.proofs.Frames.{count_rows}
 use Rattle.session_model.proofs.Grown.{grown_indexes, holds_none, no_bytes, rows_of_none, slots_of_none, unread_empty}
-use Rattle.session_model.proofs.Running.{catalog_no_rows, differ, holds_by, relation_there, some_same}
+use Rattle.session_model.proofs.Running.{catalog_no_rows, differ, holds_by, relation_there}
 use Rattle.session_relations.specs.Changes.{IsLonger, Shows, changed_at}
 use Rattle.session_relations.proofs.ReadBack.{IsReadBack, alone, longer, read_back_more}
 use Rattle.session_relations.proofs.SlotChanges.{SlotChanges, shows_slot}
@@ -63,7 +64,7 @@ held_back : (state : State) (tables : Tables) (held : Held) (opens : List (Optio
     → get_or held.relations k None ≡ Some t → IsTrue state.tells → IsReadBack (Some t.schema)
 held_back state tables held opens k cat t r has below there told =
     let bytes : List ℕ = bytes_at state.files cat in
-    let same : catalog_bytes state.files held.cat ≡ bytes = ap (catalog_bytes state.files) has in
+    let same : bytes_of_catalog state.files held.cat ≡ bytes = ap (bytes_of_catalog state.files) has in
     let listed = ap catalog_of (sym same) ∙ r.listed told in
     let here : relation_at bytes k ≡ Some t.schema =
     sym (get_or-map-range_with_len (relation_at bytes) 0 8 k k None below (omega arith)) ∙ ap (λ (c : Slots). get_or c.relations k None) listed ∙ seen held.relations k t there in

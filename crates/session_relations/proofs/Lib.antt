@@ -1,9 +1,10 @@
 pub mod Answered
-pub mod Causes
+pub mod Carried
 pub mod Created
 pub mod Found
 pub mod Gone
 pub mod Grown
+pub mod Keeping
 pub mod ReadBack
 pub mod Replaced
 pub mod Shown

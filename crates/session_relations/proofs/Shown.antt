@@ -10,8 +10,8 @@ use Rattle.tuple_file.specs.declared.tuples.Tuples.{Tuples}
 use Rattle.session_model.specs.declared.held.Held.{Held}
 use Rattle.session_model.specs.declared.held.Open.{Open}
 use Rattle.session_model.specs.Frames.{with_tuples}
-use Rattle.session_model.specs.Running.{HasCatalog, IsRunning, catalog_bytes}
-use Rattle.session_model.specs.View.{relation_in, view}
+use Rattle.session_model.specs.Running.{HasCatalogFile, IsRunning, bytes_of_catalog}
+use Rattle.session_model.specs.View.{relation_of_rows, view}
 use Rattle.session_model.proofs.Aheads.{catalog_aheads, relation_aheads}
 use Rattle.session_model.proofs.Catalogs.{RelationChanges, catalog_kept, catalog_there, catalog_view, made_running, made_view, relation_running, relation_view, room_running, room_view, with_catalog}
 use Rattle.session_model.proofs.Leaves.{leaves_becomes, leaves_catalog, leaves_same}
@@ -23,9 +23,9 @@ module _ (old new : State) (tables : Tables) (held : Held) (opens : List (Option
   shows_kept u =
       let l = leaves_same old new catalog_file u.files u.tells in
       let idle : new.draft ≡ None = u.draft ∙ r.idle in
-      let P : Table → Type 0 = λ files. HasCatalog files held.cat in
-      let has : HasCatalog new.files held.cat = subst P (sym u.files) r.catalog in
-      let same = λ (told : IsTrue old.tells). ap (λ (files : Table). catalog_bytes files held.cat) u.files in
+      let P : Table → Type 0 = λ files. HasCatalogFile files held.cat in
+      let has : HasCatalogFile new.files held.cat = subst P (sym u.files) r.catalog in
+      let same = λ (told : IsTrue old.tells). ap (λ (files : Table). bytes_of_catalog files held.cat) u.files in
       record {
         running = catalog_kept old new tables held held opens r l idle refl refl refl has same;
         aheads = λ told. catalog_aheads old new tables held opens r l told;
@@ -45,7 +45,7 @@ module _ (old new : State) (tables : Tables) (held : Held) (opens : List (Option
   -- an empty catalog was made
   pub shows_made : (cat : ℕ) → held.cat ≡ None → Creates old new cat catalog_file (Fixed 6) → Shows old new tables (with_catalog held cat) opens (view old.files held opens)
   shows_made cat none u =
-      let P : Option ℕ → Type 0 = λ o. HasCatalog old.files o in
+      let P : Option ℕ → Type 0 = λ o. HasCatalogFile old.files o in
       record {
         running = made_running old new tables held opens r none cat u;
         aheads = λ told. catalog_aheads old new tables held opens r (leaves_catalog old new cat catalog_file (subst P none r.catalog) u) told;
@@ -55,7 +55,7 @@ module _ (old new : State) (tables : Tables) (held : Held) (opens : List (Option
 
   -- a relation has come, or gone
   pub shows_changed : (k : ℕ) (t : Option Tuples) (cat : ℕ) → RelationChanges old new tables held opens k t cat
-      → Shows old new tables (with_tuples held k t) opens (changed_at (view old.files held opens) k (option_map (relation_in new.files) t))
+      → Shows old new tables (with_tuples held k t) opens (changed_at (view old.files held opens) k (option_map (relation_of_rows new.files) t))
   shows_changed k t cat u = record {
     running = relation_running old new tables held opens k t cat r u;
     aheads = λ told. relation_aheads old new tables held opens k t cat r u told;

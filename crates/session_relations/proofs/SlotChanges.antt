@@ -19,9 +19,9 @@ use Rattle.session_model.specs.declared.held.Indexed.{Indexed}
 use Rattle.session_model.specs.declared.held.Open.{Open}
 use Rattle.session_model.specs.Aheads.{ahead_in, aheads_of}
 use Rattle.session_model.specs.Frames.{schema_in, with_tuples}
-use Rattle.session_model.specs.Indexed.{index_in}
-use Rattle.session_model.specs.Running.{HasCatalog, IsCursorSlot, IsIndexedOn, IsIndexSlot, IsRelationSlot, IsRunning, IsWritten, IsWrittenOrEmpty, ReadsRows, catalog_bytes}
-use Rattle.session_model.specs.View.{cursor_in, relation_in, view}
+use Rattle.session_model.specs.Indexed.{index_known}
+use Rattle.session_model.specs.Running.{HasCatalogFile, IsCursorSlot, IsIndexedOn, IsIndexSlot, IsRelationSlot, IsRunning, IsWritten, IsWrittenOrEmpty, ReadsRows, bytes_of_catalog}
+use Rattle.session_model.specs.View.{cursor_in, relation_of_rows, view}
 use Rattle.session_model.proofs.Aheads.{ahead_stays}
 use Rattle.session_model.proofs.Catalogs.{StaysFor, catalog_there, kept_cursor, kept_index, kept_relation, same_cursor, same_relation, same_rows_grow}
 use Rattle.session_model.proofs.Running.{catalog_no_tree, inside, row_no_tree, rows_apart}
@@ -44,8 +44,8 @@ pub record SlotChanges (old new : State) (tables : Tables) (held : Held) (opens 
 limit_grows : (v : ℕ) → slots_limit v ≤ slots_limit 2
 limit_grows v = grind (arith, nat_tests)
 
-bytes_there : (files : Table) (o : Option ℕ) (cat : ℕ) → o ≡ Some cat → catalog_bytes files o ≡ bytes_at files cat
-bytes_there files o cat has = ap (catalog_bytes files) has
+bytes_there : (files : Table) (o : Option ℕ) (cat : ℕ) → o ≡ Some cat → bytes_of_catalog files o ≡ bytes_at files cat
+bytes_there files o cat has = ap (bytes_of_catalog files) has
 
 module _ (old new : State) (tables : Tables) (held : Held) (opens : List (Option Open)) (k : ℕ) (t : Option Tuples) (cat : ℕ) (r : IsRunning old tables held opens)
     (u : SlotChanges old new tables held opens k t cat) where
@@ -76,7 +76,7 @@ module _ (old new : State) (tables : Tables) (held : Held) (opens : List (Option
     index = λ j s reads there m y e rel. e;
   }
 
-  new_bytes : IsTrue old.tells → catalog_bytes new.files held.cat ≡ with_relation_slot (bytes_at old.files cat) k (option_map schema_in t)
+  new_bytes : IsTrue old.tells → bytes_of_catalog new.files held.cat ≡ with_relation_slot (bytes_at old.files cat) k (option_map schema_in t)
   new_bytes told = bytes_there new.files held.cat cat u.has ∙ u.put.bytes.bytes told
 
   was_size : IsCatalogSize (length (bytes_at old.files cat))
@@ -100,26 +100,26 @@ module _ (old new : State) (tables : Tables) (held : Held) (opens : List (Option
     indexes = λ j below. relation_index j (get_or held.indexes j None) refl (r.indexes j below);
     apart = r.apart;
     cursors = λ n below. kept_cursor old new tables tables held opens r (rows_file k) u.put.leaves (with_tuples held k t) (get_or opens n None) (λ p is. relation_stays n p is) (r.cursors n below);
-    catalog = let P : Option ℕ → Type 0 = λ o. HasCatalog new.files o in subst P (sym u.has) (u.put.bytes.named, inr (inr u.put.bytes.size), u.put.bytes.kind);
+    catalog = let P : Option ℕ → Type 0 = λ o. HasCatalogFile new.files o in subst P (sym u.has) (u.put.bytes.named, inr (inr u.put.bytes.size), u.put.bytes.kind);
     listed = λ told. let past = sym u.put.leaves.tells ∙ told in
         ap catalog_of (new_bytes past)
         ∙ slot_changed (bytes_at old.files cat) k (option_map schema_in t) was_size u.below (u.back past)
         ∙ ap (λ (c : Slots). relation_replaced c k (option_map schema_in t)) (ap catalog_of (sym (bytes_there old.files held.cat cat u.has)) ∙ r.listed past)
-        ∙ ap (λ (rs : List (Option Schema)). record { version = 2; relations = rs; indexes = map (option_map index_in) held.indexes }) (sym (map-set (option_map schema_in) held.relations k t));
+        ∙ ap (λ (rs : List (Option Schema)). record { version = 2; relations = rs; indexes = map (option_map index_known) held.indexes }) (sym (map-set (option_map schema_in) held.relations k t));
     written = λ told some. let past = sym u.put.leaves.tells ∙ told in
         subst IsWritten (sym (new_bytes past))
         (slot_written (bytes_at old.files cat) k (option_map schema_in t) was_size u.below (u.back past) (subst IsWrittenOrEmpty (bytes_there old.files held.cat cat u.has) (r.written past)));
   }
 
-  slot_view : IsTrue old.tells → view new.files (with_tuples held k t) opens ≡ changed_at (view old.files held opens) k (option_map (relation_in new.files) t)
+  slot_view : IsTrue old.tells → view new.files (with_tuples held k t) opens ≡ changed_at (view old.files held opens) k (option_map (relation_of_rows new.files) t)
   slot_view told =
-      let rs : map (option_map (relation_in new.files)) (set held.relations k t) ≡ set (map (option_map (relation_in old.files)) held.relations) k (option_map (relation_in new.files) t) =
-      mapped_put (relation_in new.files) (relation_in old.files) held.relations k t
+      let rs : map (option_map (relation_of_rows new.files)) (set held.relations k t) ≡ set (map (option_map (relation_of_rows old.files)) held.relations) k (option_map (relation_of_rows new.files) t) =
+      mapped_put (relation_of_rows new.files) (relation_of_rows old.files) held.relations k t
       (λ j s other e. same_relation old new tables tables held opens r (rows_file k) u.put.leaves j s (rows_apart j k other) e) in
       let cs : map (option_map (cursor_in new.files)) opens ≡ map (option_map (cursor_in old.files)) opens =
       mapped_same (cursor_in new.files) (cursor_in old.files) opens
       (λ n o e. same_cursor old new tables tables held opens r (rows_file k) u.put.leaves (with_tuples held k t) told n o e (relation_stays n o e)) in
-      λ p. record { version = 2; relations = rs p; indexes = map (option_map index_in) held.indexes; cursors = cs p }
+      λ p. record { version = 2; relations = rs p; indexes = map (option_map index_known) held.indexes; cursors = cs p }
 
   slot_aheads : IsTrue old.tells → aheads_of new.files opens ≡ aheads_of old.files opens
   slot_aheads told =
@@ -128,5 +128,5 @@ module _ (old new : State) (tables : Tables) (held : Held) (opens : List (Option
       ahead_stays old new held o told (subst P e (r.cursors n (omega (arith, inside opens n o e, r.four))))
       (λ j s reads there. same_rows_grow old new tables tables held opens r (rows_file k) u.put.leaves j s there ((relation_stays n o e).relation j s reads there).0))
 
-  pub shows_slot : Shows old new tables (with_tuples held k t) opens (changed_at (view old.files held opens) k (option_map (relation_in new.files) t))
+  pub shows_slot : Shows old new tables (with_tuples held k t) opens (changed_at (view old.files held opens) k (option_map (relation_of_rows new.files) t))
   shows_slot = record { running = slot_running; aheads = slot_aheads; tells = u.put.leaves.tells; seen = slot_view }

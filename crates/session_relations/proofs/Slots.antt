@@ -12,7 +12,7 @@ use Rattle.db_model.specs.declared.schemas.Schema.{Schema}
 use Rattle.db_model.specs.Catalog.{with_relation_slot}
 use Rattle.space_model.specs.FileNames.{catalog_file, rows_file}
 use Rattle.session_model.specs.Frames.{HasBytes}
-use Rattle.session_model.specs.Running.{HasCatalog}
+use Rattle.session_model.specs.Running.{HasCatalogFile}
 use Rattle.session_model.proofs.Leaves.{leaves_becomes, leaves_creates, leaves_removes, leaves_then}
 use Rattle.session_model.proofs.Running.{catalog_no_rows, differ}
 use Rattle.session_relations.specs.Changes.{PutsSlot}
@@ -29,7 +29,7 @@ named_at a b id n e is = ap (option_map (λ (f : File). f.name)) e ∙ is
 still_named : (a b : State) (cat total : ℕ) (told n : List ℕ) → IsNamed a.files cat n → Becomes a b cat total told → IsNamed b.files cat n
 still_named a b cat total told n named u = (becomes_spares a b cat total told (named_live a.files cat n named) u).named cat ∙ named
 
-has_bytes : (a b : State) (cat slot : ℕ) (schema : Option Schema) → HasCatalog a.files (Some cat) → PutsRelation a b cat slot schema
+has_bytes : (a b : State) (cat slot : ℕ) (schema : Option Schema) → HasCatalogFile a.files (Some cat) → PutsRelation a b cat slot schema
     → HasBytes a b cat (with_relation_slot (bytes_at a.files cat) slot schema)
 has_bytes a b cat slot schema has u = record {
   named = still_named a b cat _ _ catalog_file has.0 u;
@@ -43,7 +43,7 @@ pub still_named_beside : (a b : State) (cat id total : ℕ) (told n : List ℕ) 
 still_named_beside a b cat id total told n has named u = (becomes_spares a b cat total told (named_live a.files cat catalog_file has) u).named id ∙ named
 
 -- the slot was put, and no file came or went
-pub slot_put : (a b : State) (cat slot : ℕ) (schema : Option Schema) → a.draft ≡ None → HasCatalog a.files (Some cat) → PutsRelation a b cat slot schema → PutsSlot a b cat slot schema
+pub slot_put : (a b : State) (cat slot : ℕ) (schema : Option Schema) → a.draft ≡ None → HasCatalogFile a.files (Some cat) → PutsRelation a b cat slot schema → PutsSlot a b cat slot schema
 slot_put a b cat slot schema idle has u = record {
   leaves = leaves_becomes a b cat _ _ (rows_file slot) has.0 u;
   bytes = has_bytes a b cat slot schema has u;
@@ -60,7 +60,7 @@ not_free files id free n named none e =
     none_some m is = cc
 
 -- a file that stays where the catalog's slot is put
-bytes_put : (a b c : State) (cat slot : ℕ) (schema : Option Schema) → place b.files cat ≡ place a.files cat → b.tells ≡ a.tells → HasCatalog a.files (Some cat)
+bytes_put : (a b c : State) (cat slot : ℕ) (schema : Option Schema) → place b.files cat ≡ place a.files cat → b.tells ≡ a.tells → HasCatalogFile a.files (Some cat)
     → PutsRelation b c cat slot schema → HasBytes a c cat (with_relation_slot (bytes_at a.files cat) slot schema)
 bytes_put a b c cat slot schema same tells has u =
     let file : file_at b.files cat ≡ file_at a.files cat = ap (λ (o : Option File). unwrap_or o no_file) same in
@@ -72,7 +72,7 @@ bytes_put a b c cat slot schema same tells has u =
     }
 
 -- the file of the rows was made, and then the slot was put
-pub slot_made : (a b c : State) (cat slot file : ℕ) (schema : Option Schema) → slot < 8 → a.draft ≡ None → HasCatalog a.files (Some cat) → IsUnnamed a.files (rows_file slot)
+pub slot_made : (a b c : State) (cat slot file : ℕ) (schema : Option Schema) → slot < 8 → a.draft ≡ None → HasCatalogFile a.files (Some cat) → IsUnnamed a.files (rows_file slot)
     → Creates a b file (rows_file slot) Doubling → PutsRelation b c cat slot schema → PutsSlot a c cat slot schema
 slot_made a b c cat slot file schema below idle has none u v =
     let name : List ℕ = rows_file slot in
@@ -85,7 +85,7 @@ slot_made a b c cat slot file schema below idle has none u v =
     }
 
 -- the slot was put, and then the file of its rows was taken away
-pub slot_gone : (a b c : State) (cat slot file : ℕ) (schema : Option Schema) → a.draft ≡ None → HasCatalog a.files (Some cat) → IsNamed a.files file (rows_file slot)
+pub slot_gone : (a b c : State) (cat slot file : ℕ) (schema : Option Schema) → a.draft ≡ None → HasCatalogFile a.files (Some cat) → IsNamed a.files file (rows_file slot)
     → PutsRelation a b cat slot schema → Removes b c file → PutsSlot a c cat slot schema
 slot_gone a b c cat slot file schema idle has named u v =
     let name : List ℕ = rows_file slot in
@@ -104,7 +104,7 @@ slot_gone a b c cat slot file schema idle has named u v =
     }
 
 -- room was made before
-pub prepared_put : (a b c : State) (cat slot : ℕ) (schema : Option Schema) → KeepsBytes a b cat → HasCatalog a.files (Some cat) → PutsSlot b c cat slot schema → PutsSlot a c cat slot schema
+pub prepared_put : (a b c : State) (cat slot : ℕ) (schema : Option Schema) → KeepsBytes a b cat → HasCatalogFile a.files (Some cat) → PutsSlot b c cat slot schema → PutsSlot a c cat slot schema
 prepared_put a b c cat slot schema u has v = record {
   leaves = leaves_then a b c (rows_file slot) (leaves_becomes a b cat _ _ (rows_file slot) has.0 u) v.leaves;
   bytes = record {
@@ -117,5 +117,5 @@ prepared_put a b c cat slot schema u has v = record {
 }
 
 -- the catalog is one still
-pub prepared_catalog : (a b : State) (cat : ℕ) → KeepsBytes a b cat → HasCatalog a.files (Some cat) → HasCatalog b.files (Some cat)
+pub prepared_catalog : (a b : State) (cat : ℕ) → KeepsBytes a b cat → HasCatalogFile a.files (Some cat) → HasCatalogFile b.files (Some cat)
 prepared_catalog a b cat u has = (still_named a b cat _ _ catalog_file has.0 u, subst IsCatalogSize (sym u.size) has.1, u.kind ∙ has.2)

@@ -19,8 +19,8 @@ use Rattle.session_model.specs.declared.held.Held.{Held}
 use Rattle.session_model.specs.declared.held.Indexed.{Indexed}
 use Rattle.session_model.specs.declared.held.Open.{Open}
 use Rattle.session_model.specs.Aheads.{aheads_of}
-use Rattle.session_model.specs.Frames.{HasBytes, Leaves}
-use Rattle.session_model.specs.Indexed.{index_in}
+use Rattle.session_model.specs.Frames.{HasBytes, LeavesOthers}
+use Rattle.session_model.specs.Indexed.{index_known}
 use Rattle.session_model.specs.Running.{IsRunning}
 use Rattle.session_model.specs.View.{view}
 
@@ -48,25 +48,25 @@ bare_relation name = record { schema = bare_schema name; rows = [] }
 
 -- the catalog has this relation in a slot, and no other file than that of the slot's rows has come, changed or gone
 pub record PutsSlot (old new : State) (cat slot : ℕ) (schema : Option Schema) : Type 0 where
-  pub leaves : Leaves old new (rows_file slot)
+  pub leaves : LeavesOthers old new (rows_file slot)
   pub bytes : HasBytes old new cat (with_relation_slot (bytes_at old.files cat) slot schema)
   pub idle : new.draft ≡ None
 
 -- an extent is asked for, for a change of a relation slot in a catalog
-abbrev pub AsksSlot : (ℕ → ℕ → ℕ → ℕ → Type 0) → Table → ℕ → ℕ → ℕ → Type 0
-AsksSlot asks files cat slot need =
+abbrev pub AsksRelationSlot : (ℕ → ℕ → ℕ → ℕ → Type 0) → Table → ℕ → ℕ → ℕ → Type 0
+AsksRelationSlot asks files cat slot need =
     asks_few asks files cat ((room_for (size_at files cat) (176 * slot) 176).0) ((room_for (size_at files cat) (176 * slot) 176).1) need
 
 -- ---- indexes
 
 -- an index of the relation in a slot stands here
-abbrev pub is_on : ℕ → Option Indexed → Bool
-is_on relation None = false
-is_on relation (Some x) = x.relation == relation
+abbrev pub is_index_on : ℕ → Option Indexed → Bool
+is_index_on relation None = false
+is_index_on relation (Some x) = x.relation == relation
 
 -- the indexes of the relation in a slot
 abbrev pub indexes_on : ℕ → List (Option Indexed) → List Index
-indexes_on relation slots = filter (λ index. index.relation == relation) (used (map (option_map index_in) slots))
+indexes_on relation slots = filter (λ index. index.relation == relation) (used (map (option_map index_known) slots))
 
 -- a relation is taken away where no cursor reads it and no index stands on it
 abbrev pub refuse_removal : Database → List ℕ → ℕ → Result ⊤ Refusal

@@ -2,10 +2,10 @@
 
 #![tactic(auto)]
 
-ghost use Rattle.std.specs.Prelude.{◌≡◌, ◌<◌, ◌⊎◌, ℕ, List, Option, Err, IfErr, IfOk, IsTrue, None, Ok, OnOk, Some, length};
-ghost use Rattle.afl_base.specs.Causes.{HasCause};
+ghost use Rattle.std.specs.Prelude.{◌≡◌, ◌<◌, ◌⊎◌, List, Option, Err, IfErr, IfOk, IsTrue, None, Ok, OnOk, Some, length};
+ghost use Rattle.afl_base.specs.Keeping.{ChangesOrLacks};
 ghost use Rattle.afl_base.specs.declared.kind.Kind.TheVariants.{Doubling};
-ghost use Rattle.afl_base.specs.FileErrors.{HasFileCause, OnSpace, UnlessFailed};
+ghost use Rattle.afl_base.specs.FileErrors.{OnSpace};
 ghost use Rattle.afl_base.specs.Files.{IsUnnamed, Keeps, KeepsBytes, Table, new_file, place, used};
 ghost use Rattle.db_model.specs.declared.commands.Command.TheVariants as command;
 ghost use Rattle.db_model.specs.Database.{free_from, with_relation};
@@ -13,53 +13,38 @@ ghost use Rattle.db_model.specs.Names.{is_name};
 ghost use Rattle.db_model.specs.Step as machine;
 ghost use Rattle.db_model.specs.Step.{Fine};
 ghost use Rattle.space_model.specs.FileNames.{rows_file};
-ghost use Rattle.session_model.specs.Aheads.{aheads_of};
-ghost use Rattle.session_model.specs.Answers.{OnNoSpace};
 ghost use Rattle.session_model.specs.declared.held.Open.{Open as AnyOpen};
-ghost use Rattle.session_model.specs.Running.{HasCatalog, IsRunning};
-ghost use Rattle.session_model.specs.Steps.{Answers};
+ghost use Rattle.session_model.specs.Carried.{Carries, Runs};
+ghost use Rattle.session_model.specs.Running.{HasCatalogFile, IsRunning};
 ghost use Rattle.session_model.specs.View.{view};
 ghost use Rattle.session_model.specs.Wanted.{WantsFew};
-ghost use Rattle.session_relations.specs.Changes.{AsksSlot, PutsSlot, Shows, bare_relation, bare_schema, changed_at};
+ghost use Rattle.session_relations.specs.Changes.{AsksRelationSlot, PutsSlot, Shows, bare_relation, bare_schema, changed_at};
 
 use crate::finding::{Place, free_slot};
 use afl_base::{Failed, FileError, FileId, Files, Kind, RelationId};
 use catalog::{catalog_file, put_relation, rows_file};
 use db_model::{Few, Ident, Pool, Refusal, Schema};
 use index_set::HashTables;
-use session_model::{Answer, Held, Open, find_relation, prepare_catalog};
+use session_model::{Answer, Base, Held, Open, find_relation, prepare_catalog};
 use tuple_file::Tuples;
 
 /// Makes an empty relation: the catalog where it is absent, room in it, the file of its rows, and then its slot.
-pub fn create_relation<V: Files>(
-    files: &mut V,
-    tables: &HashTables,
-    held: &mut Held,
-    opens: &[Option<Open>],
-    name: &Ident,
-) -> Result<Answer, Failed>
-    requires running { IsRunning (V.state files.old) tables.now held.old opens.now }
-    ensures done { let old = view (V.state files.old).files held.old opens.now in
-        let new = view (V.state files.new).files held.new opens.now in
-        IsTrue (V.state files.old).tells → IfOk result (λ answer.
-        Answers (command.CreateRelation name.now) old new answer) }
-    ensures running { OnOk result (IsRunning (V.state files.new) tables.now held.new opens.now) }
-    ensures aheads { IsTrue (V.state files.old).tells → OnOk result
-        (aheads_of (V.state files.new).files opens.now ≡ aheads_of (V.state files.old).files opens.now) }
-    ensures tells { OnOk result ((V.state files.new).tells ≡ (V.state files.old).tells) }
-    ensures wants { let new = view (V.state files.new).files held.new opens.now in
-        IsTrue (V.state files.old).tells → OnNoSpace result (λ need.
-        WantsFew (V.asks files.new) (V.state files.new).files new
-        (command.CreateRelation name.now) need) }
-    ensures lacks { OnNoSpace result (λ need. V.lacks files.new need) }
-    ensures store { length (V.state files.new).store ≡ length (V.state files.old).store }
-    ensures cause { HasCause (V.faults files.old) (V.faults files.new) result }
+pub fn create_relation<V: Files>(base: &mut Base<V>, name: &Ident) -> Result<Answer, Failed>
+    requires running { Runs V.Files base.old }
+    ensures carried { Carries V.Files (command.CreateRelation name.now) base.old base.new result }
 {
-    let slot = match slot_for(held, name) {
+    let slot = match slot_for(&base.held, name) {
         Ok(slot) => slot,
         Err(refusal) => return Ok(Answer::Refused(refusal)),
     };
-    match add_relation(files, tables, held, opens, slot, name) {
+    match add_relation(
+        &mut base.files,
+        &base.tables,
+        &mut base.held,
+        &base.opens[..],
+        slot,
+        name,
+    ) {
         Ok(()) => Ok(Answer::Fine),
         Err(FileError::Space { need }) => Ok(Answer::NoSpace(need)),
         Err(FileError::Failed) => Err(Failed),
@@ -114,25 +99,14 @@ fn add_relation<V: Files>(
         IsTrue (V.state files.old).tells → OnSpace result (λ need.
         WantsFew (V.asks files.new) (V.state files.new).files new
         (command.CreateRelation name.now) need) }
-    ensures lacks { OnSpace result (λ need. V.lacks files.new need) }
-    ensures store { length (V.state files.new).store ≡ length (V.state files.old).store }
-    ensures cause { HasFileCause (V.faults files.old) (V.faults files.new) result }
+    ensures frame { ChangesOrLacks V.state V.lent V.reads V.faults V.lacks files.old files.new result }
 {
-    let cat = match make_catalog(files, tables, held, opens) {
-        Ok(cat) => cat,
-        Err(FileError::Space { need }) => return Err(FileError::Space { need }),
-        Err(FileError::Failed) => return Err(FileError::Failed),
-    };
+    let cat = make_catalog(files, tables, held, opens)?;
     let schema = bare_schema(name);
-    match make_rows(files, &Place { cat, slot }, &schema) {
-        Ok(file) => {
-            held.relations[slot.number() as usize] = Some(Tuples { file, schema });
-            held.version = 2;
-            Ok(())
-        }
-        Err(FileError::Space { need }) => Err(FileError::Space { need }),
-        Err(FileError::Failed) => Err(FileError::Failed),
-    }
+    let file = make_rows(files, &Place { cat, slot }, &schema)?;
+    held.relations[slot.number() as usize] = Some(Tuples { file, schema });
+    held.version = 2;
+    Ok(())
 }
 
 // The schema of a relation that has nothing but its name.
@@ -163,27 +137,20 @@ fn make_catalog<V: Files>(
     ensures kept { OnSpace result (λ _. Keeps (V.state files.old) (V.state files.new)
         × (held.new ≡ held.old) × (held.old.cat ≡ None)) }
     ensures need { OnSpace result (λ need. need ≡ 6) }
-    ensures lacks { OnSpace result (λ need. V.lacks files.new need) }
-    ensures store { length (V.state files.new).store ≡ length (V.state files.old).store }
-    ensures cause { HasFileCause (V.faults files.old) (V.faults files.new) result }
+    ensures frame { ChangesOrLacks V.state V.lent V.reads V.faults V.lacks files.old files.new result }
 {
-    match held.cat {
-        Some(cat) => Ok(cat),
-        None => match files.create(catalog_file(), Kind::Fixed(6)) {
-            Ok(cat) => {
-                held.cat = Some(cat);
-                Ok(cat)
-            }
-            Err(FileError::Space { need }) => Err(FileError::Space { need }),
-            Err(FileError::Failed) => Err(FileError::Failed),
-        },
+    if let Some(cat) = held.cat {
+        return Ok(cat);
     }
+    let cat = files.create(catalog_file(), Kind::Fixed(6))?;
+    held.cat = Some(cat);
+    Ok(cat)
 }
 
 // Makes the file of a new relation's rows, and puts the relation into its slot of the catalog.
 fn make_rows<V: Files>(files: &mut V, at: &Place, schema: &Schema) -> Result<FileId, FileError>
     requires idle { (V.state files.old).draft ≡ None }
-    requires catalog { HasCatalog (V.state files.old).files (Some at.now.cat) }
+    requires catalog { HasCatalogFile (V.state files.old).files (Some at.now.cat) }
     requires unnamed { IsUnnamed (V.state files.old).files (rows_file at.now.slot) }
     requires few { used (V.state files.old).files < 32 }
     ensures put { OnOk result
@@ -194,24 +161,12 @@ fn make_rows<V: Files>(files: &mut V, at: &Place, schema: &Schema) -> Result<Fil
     ensures kept { OnSpace result (λ _.
         KeepsBytes (V.state files.old) (V.state files.new) at.now.cat) }
     ensures asked { OnSpace result (λ need.
-        AsksSlot (V.asks files.new) (V.state files.new).files at.now.cat at.now.slot need
+        AsksRelationSlot (V.asks files.new) (V.state files.new).files at.now.cat at.now.slot need
         ⊎ (need ≡ 16)) }
-    ensures lacks { OnSpace result (λ need. V.lacks files.new need) }
-    ensures store { length (V.state files.new).store ≡ length (V.state files.old).store }
-    ensures cause { HasFileCause (V.faults files.old) (V.faults files.new) result }
+    ensures frame { ChangesOrLacks V.state V.lent V.reads V.faults V.lacks files.old files.new result }
 {
-    match prepare_catalog(files, at.cat, 176 * u32::from(at.slot.number()), 176) {
-        Ok(()) => {}
-        Err(FileError::Space { need }) => return Err(FileError::Space { need }),
-        Err(FileError::Failed) => return Err(FileError::Failed),
-    }
-    let file = match files.create(rows_file(at.slot), Kind::Doubling) {
-        Ok(file) => file,
-        Err(FileError::Space { need }) => return Err(FileError::Space { need }),
-        Err(FileError::Failed) => return Err(FileError::Failed),
-    };
-    match put_relation(files, at.cat, at.slot, schema) {
-        Ok(()) => Ok(file),
-        Err(Failed) => Err(FileError::Failed),
-    }
+    prepare_catalog(files, at.cat, 176 * u32::from(at.slot.number()), 176)?;
+    let file = files.create(rows_file(at.slot), Kind::Doubling)?;
+    put_relation(files, at.cat, at.slot, schema)?;
+    Ok(file)
 }

@@ -2,10 +2,10 @@
 
 #![tactic(auto)]
 
-ghost use Rattle.std.specs.Prelude.{◌≡◌, ◌⊎◌, ℕ, List, Option, Some, None, IfNone, IfSome, get_or, length, nat_lt};
+ghost use Rattle.std.specs.Prelude.{◌≡◌, ◌⊎◌, Option, Some, None, IfNone, IfSome, get_or, length, nat_lt};
 ghost use Rattle.db_model.specs.Database.{free_from};
 ghost use Rattle.session_model.specs.Cells.{cell_from};
-ghost use Rattle.session_relations.specs.Changes.{indexes_on, is_on};
+ghost use Rattle.session_relations.specs.Changes.{indexes_on, is_index_on};
 ghost use Rattle.tuple_file.specs.declared.tuples.Tuples.{Tuples as AnyTuples};
 
 use afl_base::{FileId, RelationId};
@@ -64,7 +64,7 @@ pub fn has_index(indexes: &[Option<Indexed>], relation: RelationId) -> bool
 }
 
 fn is_on(slot: &Option<Indexed>, relation: RelationId) -> bool
-    ensures { result ≡ is_on relation slot.now }
+    ensures { result ≡ is_index_on relation slot.now }
 {
     match slot {
         Some(index) => index.relation == relation,

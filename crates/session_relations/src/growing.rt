@@ -2,25 +2,21 @@
 
 #![tactic(auto)]
 
-ghost use Rattle.std.specs.Prelude.{◌≡◌, ◌≤◌, ◌<◌, ℕ, List, Option, [], Err, IfErr, IfNone, IfOk, IfSome, IsSome, IsTrue, None, Ok, OnOk, Some, get_or, length};
-ghost use Rattle.afl_base.specs.Causes.{HasCause};
-ghost use Rattle.afl_base.specs.FileErrors.{HasFileCause, OnSpace};
+ghost use Rattle.std.specs.Prelude.{◌≡◌, ◌<◌, ℕ, List, Option, [], Err, IfErr, IfOk, IfSome, IsSome, None, Ok, OnOk, Some, get_or, length};
+ghost use Rattle.afl_base.specs.Keeping.{ChangesOrLacks};
+ghost use Rattle.afl_base.specs.FileErrors.{OnSpace};
 ghost use Rattle.afl_base.specs.Files.{KeepsBytes};
 ghost use Rattle.catalog.specs.CatalogFile.{PutsRelation};
 ghost use Rattle.db_model.specs.declared.commands.Command.TheVariants as command;
 ghost use Rattle.db_model.specs.Catalog.{IsDomain};
 ghost use Rattle.db_model.specs.Database.{Database};
-ghost use Rattle.db_model.specs.Item.{place_of};
 ghost use Rattle.db_model.specs.Row.{Row};
 ghost use Rattle.db_model.specs.Step.{Fine, add_attribute, domain_asked};
 ghost use Rattle.db_model.specs.Typing.{is_attribute};
-ghost use Rattle.session_model.specs.Aheads.{aheads_of};
-ghost use Rattle.session_model.specs.Answers.{OnNoSpace};
-ghost use Rattle.session_model.specs.Running.{HasCatalog, IsRunning};
-ghost use Rattle.session_model.specs.Steps.{Answers};
+ghost use Rattle.session_model.specs.Carried.{Carries, Runs};
+ghost use Rattle.session_model.specs.Running.{HasCatalogFile, IsRunning};
 ghost use Rattle.session_model.specs.View.{view};
-ghost use Rattle.session_model.specs.Wanted.{WantsFew};
-ghost use Rattle.session_relations.specs.Changes.{AsksSlot, Grows, IsLonger, Shows, changed_at};
+ghost use Rattle.session_relations.specs.Changes.{AsksRelationSlot, Grows, IsLonger, Shows, changed_at};
 ghost use Rattle.tuple_file.specs.declared.tuples.Tuples.{Tuples as AnyTuples};
 ghost use Rattle.tuple_file.specs.Tuples.{HoldsRows, rows};
 
@@ -29,45 +25,36 @@ use afl_base::{Failed, FileError, Files};
 use catalog::put_relation;
 use db_model::{Attribute, Domain, DomainAsked, Ident, Pool, Refusal, Schema, row_length};
 use index_set::HashTables;
-use session_model::{Answer, Held, Open, prepare_catalog};
+use session_model::{Answer, Base, Held, Open, prepare_catalog};
 use tuple_file::Tuples;
 
 /// Puts an attribute behind the others of a relation that has no slots.
 pub fn create_attribute<V: Files>(
-    files: &mut V,
-    tables: &HashTables,
-    held: &mut Held,
-    opens: &[Option<Open>],
+    base: &mut Base<V>,
     name: &Ident,
     domain: &DomainAsked,
     relation: &Ident,
 ) -> Result<Answer, Failed>
-    requires running { IsRunning (V.state files.old) tables.now held.old opens.now }
-    ensures done { let old = view (V.state files.old).files held.old opens.now in
-        let new = view (V.state files.new).files held.new opens.now in
-        IsTrue (V.state files.old).tells → IfOk result (λ answer.
-        Answers (command.CreateAttribute name.now domain.now relation.now) old new answer) }
-    ensures running { OnOk result (IsRunning (V.state files.new) tables.now held.new opens.now) }
-    ensures aheads { IsTrue (V.state files.old).tells → OnOk result
-        (aheads_of (V.state files.new).files opens.now ≡ aheads_of (V.state files.old).files opens.now) }
-    ensures tells { OnOk result ((V.state files.new).tells ≡ (V.state files.old).tells) }
-    ensures wants { let new = view (V.state files.new).files held.new opens.now in
-        IsTrue (V.state files.old).tells → OnNoSpace result (λ need.
-        WantsFew (V.asks files.new) (V.state files.new).files new
-        (command.CreateAttribute name.now domain.now relation.now) need) }
-    ensures lacks { OnNoSpace result (λ need. V.lacks files.new need) }
-    ensures store { length (V.state files.new).store ≡ length (V.state files.old).store }
-    ensures cause { HasCause (V.faults files.old) (V.faults files.new) result }
+    requires running { Runs V.Files base.old }
+    ensures carried { Carries V.Files (command.CreateAttribute name.now domain.now relation.now)
+        base.old base.new result }
 {
-    let at = match find_place(held, relation) {
+    let at = match find_place(&base.held, relation) {
         Some(at) => at,
         None => return Ok(Answer::Refused(Refusal::NoRelation)),
     };
-    let grown = match grown_at(files, held, &at, name, domain) {
+    let grown = match grown_at(&base.files, &base.held, &at, name, domain) {
         Ok(grown) => grown,
         Err(refusal) => return Ok(Answer::Refused(refusal)),
     };
-    match grow_relation(files, tables, held, opens, &at, grown) {
+    match grow_relation(
+        &mut base.files,
+        &base.tables,
+        &mut base.held,
+        &base.opens[..],
+        &at,
+        grown,
+    ) {
         Ok(()) => Ok(Answer::Fine),
         Err(FileError::Space { need }) => Ok(Answer::NoSpace(need)),
         Err(FileError::Failed) => Err(Failed),
@@ -99,10 +86,7 @@ fn grown_at<V: Files>(
         (record { schema = t.schema; rows = rows (V.state files.now).files t }) ≡ Err refusal) }
 {
     match &held.relations[at.slot.number() as usize] {
-        Some(tuples) => match with_attribute(tuples, tuples.count(files), name, domain) {
-            Ok(grown) => Ok(grown),
-            Err(refusal) => Err(refusal),
-        },
+        Some(tuples) => Ok(with_attribute(tuples, tuples.count(files), name, domain)?),
         None => Err(Refusal::NoRelation),
     }
 }
@@ -208,44 +192,29 @@ fn grow_relation<V: Files>(
         (view (V.state files.old).files held.old opens.now)) }
     ensures held { OnSpace result (λ _. held.new ≡ held.old) }
     ensures asked { OnSpace result (λ need.
-        AsksSlot (V.asks files.new) (V.state files.new).files at.now.cat at.now.slot need) }
-    ensures lacks { OnSpace result (λ need. V.lacks files.new need) }
-    ensures store { length (V.state files.new).store ≡ length (V.state files.old).store }
-    ensures cause { HasFileCause (V.faults files.old) (V.faults files.new) result }
+        AsksRelationSlot (V.asks files.new) (V.state files.new).files at.now.cat at.now.slot need) }
+    ensures frame { ChangesOrLacks V.state V.lent V.reads V.faults V.lacks files.old files.new result }
 {
-    match put_slot(files, at, &grown.schema) {
-        Ok(()) => {
-            held.relations[at.slot.number() as usize] = Some(grown);
-            held.version = 2;
-            Ok(())
-        }
-        Err(FileError::Space { need }) => Err(FileError::Space { need }),
-        Err(FileError::Failed) => Err(FileError::Failed),
-    }
+    put_slot(files, at, &grown.schema)?;
+    held.relations[at.slot.number() as usize] = Some(grown);
+    held.version = 2;
+    Ok(())
 }
 
 // Puts a schema into its slot of the catalog, where there is room for it.
 fn put_slot<V: Files>(files: &mut V, at: &Place, schema: &Schema) -> Result<(), FileError>
     requires idle { (V.state files.old).draft ≡ None }
-    requires catalog { HasCatalog (V.state files.old).files (Some at.now.cat) }
+    requires catalog { HasCatalogFile (V.state files.old).files (Some at.now.cat) }
     ensures put { OnOk result
         (PutsRelation (V.state files.old) (V.state files.new) at.now.cat at.now.slot
         (Some schema.now)) }
     ensures kept { OnSpace result (λ _.
         KeepsBytes (V.state files.old) (V.state files.new) at.now.cat) }
     ensures asked { OnSpace result (λ need.
-        AsksSlot (V.asks files.new) (V.state files.new).files at.now.cat at.now.slot need) }
-    ensures lacks { OnSpace result (λ need. V.lacks files.new need) }
-    ensures store { length (V.state files.new).store ≡ length (V.state files.old).store }
-    ensures cause { HasFileCause (V.faults files.old) (V.faults files.new) result }
+        AsksRelationSlot (V.asks files.new) (V.state files.new).files at.now.cat at.now.slot need) }
+    ensures frame { ChangesOrLacks V.state V.lent V.reads V.faults V.lacks files.old files.new result }
 {
-    match prepare_catalog(files, at.cat, 176 * u32::from(at.slot.number()), 176) {
-        Ok(()) => {}
-        Err(FileError::Space { need }) => return Err(FileError::Space { need }),
-        Err(FileError::Failed) => return Err(FileError::Failed),
-    }
-    match put_relation(files, at.cat, at.slot, schema) {
-        Ok(()) => Ok(()),
-        Err(Failed) => Err(FileError::Failed),
-    }
+    prepare_catalog(files, at.cat, 176 * u32::from(at.slot.number()), 176)?;
+    put_relation(files, at.cat, at.slot, schema)?;
+    Ok(())
 }

@@ -2,7 +2,7 @@
 use Rattle.std.proofs.Common.{◌≡◌, ℕ, zero, suc, ◌+◌, ◌<◌, ◌≤◌, List, [], ◌∷◌, ◌++◌, length, take, drop, ap, sym, subst, ◌∙◌, arith, length-append}
 use Rattle.std.proofs.lemmas.List.{length-take, take-append-le, take_all}
 use Rattle.session_rows.specs.declared.selecting.Selected.{Selected}
-use Rattle.session_rows.specs.Marking.{IsFront}
+use Rattle.session_rows.specs.Marking.{IsMarkedFront}
 
 -- ---- one slot more
 
@@ -35,8 +35,8 @@ few_more xs slot few =
 full_more : (xs : List ℕ) (slot : ℕ) → 29 ≤ length (take 29 xs) → take 29 (xs ++ slot ∷ []) ≡ take 29 xs
 full_more xs slot full = take-append-le 29 xs (slot ∷ []) (omega (arith, full, length-take 29 xs))
 
-pub front_kept : (s : Selected) (slot : ℕ) (firsts slots left : List ℕ) → length s.first < 29 → firsts ≡ s.first ++ slot ∷ [] → IsFront s slots (slot ∷ left)
-    → IsFront (record { count = s.count + 1; first = firsts }) slots left
+pub front_kept : (s : Selected) (slot : ℕ) (firsts slots left : List ℕ) → length s.first < 29 → firsts ≡ s.first ++ slot ∷ [] → IsMarkedFront s slots (slot ∷ left)
+    → IsMarkedFront (record { count = s.count + 1; first = firsts }) slots left
 front_kept s slot firsts slots left few e f =
     let n = next s.count slots slot left f.behind in
     let less : length (take 29 (take s.count slots)) < 29 = subst (λ (xs : List ℕ). length xs < 29) f.first few in
@@ -46,7 +46,7 @@ front_kept s slot firsts slots left few e f =
       behind = n.behind;
     }
 
-pub front_counted : (s : Selected) (slot : ℕ) (slots left : List ℕ) → 29 ≤ length s.first → IsFront s slots (slot ∷ left) → IsFront (record { count = s.count + 1; first = s.first }) slots left
+pub front_counted : (s : Selected) (slot : ℕ) (slots left : List ℕ) → 29 ≤ length s.first → IsMarkedFront s slots (slot ∷ left) → IsMarkedFront (record { count = s.count + 1; first = s.first }) slots left
 front_counted s slot slots left full f =
     let n = next s.count slots slot left f.behind in
     let many : 29 ≤ length (take 29 (take s.count slots)) = subst (λ (xs : List ℕ). 29 ≤ length xs) f.first full in

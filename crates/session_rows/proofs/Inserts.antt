@@ -9,7 +9,7 @@ use Rattle.db_model.specs.declared.values.Value.{Value}
 use Rattle.db_model.specs.Database.{Database, Relation, indexes_of, is_hash_table}
 use Rattle.db_model.specs.Step.{Fine, fallen, insert_into, slots_limit, unsuited}
 use Rattle.index_set.specs.declared.info.IndexInfo.{IndexInfo}
-use Rattle.session_model.specs.Indexed.{index_of}
+use Rattle.session_model.specs.Indexed.{index_of_info}
 use Rattle.session_rows.specs.Refused.{is_table_index}
 use Rattle.session_rows.proofs.Ordered.{tables_seen}
 
@@ -17,10 +17,10 @@ use Rattle.session_rows.proofs.Ordered.{tables_seen}
 pub record Passes (values : List Value) (version slot : ℕ) (infos : List IndexInfo) (r : Relation) : Type 0 where
   pub suited : unsuited r.schema.attributes values ≡ None
   pub room : length r.rows < slots_limit version
-  pub follows : fallen (map (index_of slot) infos) (slice_get r.rows (length r.rows - 1)) values ≡ None
+  pub follows : fallen (map (index_of_info slot) infos) (slice_get r.rows (length r.rows - 1)) values ≡ None
 
 module _ (values : List Value) (version slot : ℕ) (infos : List IndexInfo) (r : Relation) (p : Passes values version slot infos r) (db : Database) (v : db.version ≡ version)
-    (indexes : indexes_of db slot ≡ map (index_of slot) infos) where
+    (indexes : indexes_of db slot ≡ map (index_of_info slot) infos) where
   room_in : nat_le (slots_limit db.version) (length r.rows) ≡ false
   room_in = let h : length r.rows < slots_limit version = p.room in ap (λ (n : ℕ). nat_le (slots_limit n) (length r.rows)) v ∙ test (slots_limit version) h
     where

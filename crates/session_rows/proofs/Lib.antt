@@ -1,4 +1,4 @@
-pub mod Causes
+pub mod Carried
 pub mod Changes
 pub mod Rooms
 pub mod Suited

@@ -30,9 +30,9 @@ use Rattle.tuple_file.specs.declared.tuples.Tuples.{Tuples}
 use Rattle.tuple_file.specs.Tuples.{HoldsRows, row, rows, slots}
 use Rattle.cursor.proofs.Suited.{rows_suit}
 use Rattle.cursor.proofs.Walking.{row_there}
-use Rattle.session_model.specs.Indexed.{AreAllowed, index_of}
+use Rattle.session_model.specs.Indexed.{AreAllowed, index_of_info}
 use Rattle.session_model.proofs.Frames.{count_rows}
-use Rattle.session_rows.specs.Refused.{is_order, is_order_index, is_ordered_by, is_table, is_table_index}
+use Rattle.session_rows.specs.Refused.{is_order, is_order_index, is_ordered_by, is_memhash, is_table_index}
 
 by_test : {P : Type 0} (b : Bool) → (b ≡ true → P) → (b ≡ false → P) → P
 by_test true f g = f refl
@@ -45,16 +45,16 @@ inline_of slot attribute Order = refl
 inline_of slot attribute (Tree file) = refl
 inline_of slot attribute (Table number) = refl
 
-table_of : (slot attribute : ℕ) (access : Access) → is_hash_table (record { kind = kind_of access; relation = slot; attribute = attribute }) ≡ is_table access
+table_of : (slot attribute : ℕ) (access : Access) → is_hash_table (record { kind = kind_of access; relation = slot; attribute = attribute }) ≡ is_memhash access
 table_of slot attribute Order = refl
 table_of slot attribute (Tree file) = refl
 table_of slot attribute (Table number) = refl
 
-pub ordered_seen : (slot place : ℕ) (infos : List IndexInfo) → is_ordered (map (index_of slot) infos) place ≡ is_ordered_by infos place
+pub ordered_seen : (slot place : ℕ) (infos : List IndexInfo) → is_ordered (map (index_of_info slot) infos) place ≡ is_ordered_by infos place
 ordered_seen slot place [] = refl
 ordered_seen slot place (info ∷ infos) = λ i. (inline_of slot info.attribute info.access i && info.attribute == place) || ordered_seen slot place infos i
 
-pub tables_seen : (slot : ℕ) (infos : List IndexInfo) → list_any is_hash_table (map (index_of slot) infos) ≡ list_any is_table_index infos
+pub tables_seen : (slot : ℕ) (infos : List IndexInfo) → list_any is_hash_table (map (index_of_info slot) infos) ≡ list_any is_table_index infos
 tables_seen slot [] = refl
 tables_seen slot (info ∷ infos) = λ i. table_of slot info.attribute info.access i || tables_seen slot infos i
 
@@ -84,16 +84,16 @@ no_order place (info ∷ infos) e = by_test (is_order info.access) (λ is. absur
         let left : list_any is_order_index infos ≡ false = sym (ap (λ (b : Bool). b || list_any is_order_index infos) is) ∙ e in
         ap (λ (b : Bool). (b && info.attribute == place) || is_ordered_by infos place) is ∙ rest left
 
-pub fallen_of_none : (slot : ℕ) (infos : List IndexInfo) (last : Option Row) (new : List Value) → list_any is_order_index infos ≡ false → fallen (map (index_of slot) infos) last new ≡ None
+pub fallen_of_none : (slot : ℕ) (infos : List IndexInfo) (last : Option Row) (new : List Value) → list_any is_order_index infos ≡ false → fallen (map (index_of_info slot) infos) last new ≡ None
 fallen_of_none slot infos None new e = refl
 fallen_of_none slot infos (Some last) new e =
-    nothing_falls (is_ordered (map (index_of slot) infos)) (λ place. ordered_seen slot place infos ∙ no_order place infos e) 0 last.tuple new
+    nothing_falls (is_ordered (map (index_of_info slot) infos)) (λ place. ordered_seen slot place infos ∙ no_order place infos e) 0 last.tuple new
 
 pub fallen_of_last : (slot : ℕ) (infos : List IndexInfo) (o : Option Row) (last new : List Value) (live : Bool) → o ≡ Some (record { tuple = last; live = live })
-    → fallen_from (is_ordered_by infos) 0 last new ≡ fallen (map (index_of slot) infos) o new
+    → fallen_from (is_ordered_by infos) 0 last new ≡ fallen (map (index_of_info slot) infos) o new
 fallen_of_last slot infos o last new live e =
-    fallen_same (is_ordered_by infos) (is_ordered (map (index_of slot) infos)) (λ place. sym (ordered_seen slot place infos)) 0 last new
-    ∙ ap (λ (z : Option Row). fallen (map (index_of slot) infos) z new) (sym e)
+    fallen_same (is_ordered_by infos) (is_ordered (map (index_of_info slot) infos)) (λ place. sym (ordered_seen slot place infos)) 0 last new
+    ∙ ap (λ (z : Option Row). fallen (map (index_of_info slot) infos) z new) (sym e)
 
 -- the last row is the one in the last slot
 pub last_there : (state : State) (t : Tuples) (r : Row) → 0 < slots state.files t → row state.files t (slots state.files t - 1) ≡ r
@@ -151,13 +151,13 @@ have_keys attributes values (info ∷ infos) suit allowed = (key_for attributes 
 -- where there is room for a key in each of them
 pub are_open : (n : ℕ) (infos : List IndexInfo) → (list_any is_table_index infos ≡ true → n < 2048) → AreOpenFor n infos
 are_open n [] h = tt
-are_open n (info ∷ infos) h = (one info.access h, are_open n infos (λ e. h (later (is_table info.access) e)))
+are_open n (info ∷ infos) h = (one info.access h, are_open n infos (λ e. h (later (is_memhash info.access) e)))
   where
     later : (b : Bool) → list_any is_table_index infos ≡ true → (b || list_any is_table_index infos) ≡ true
     later true e = refl
     later false e = e
 
-    one : (access : Access) → ((is_table access || list_any is_table_index infos) ≡ true → n < 2048) → IsOpenFor n access
+    one : (access : Access) → ((is_memhash access || list_any is_table_index infos) ≡ true → n < 2048) → IsOpenFor n access
     one Order few = tt
     one (Tree file) few = tt
     one (Table number) few = few refl
@@ -206,13 +206,13 @@ module _ (attributes : List Attribute) (all : List Row) (values : List Value) (s
       first : is_order info.access ≡ true → ((is_order info.access && info.attribute == info.attribute) || is_ordered_by infos info.attribute) ≡ true
       first is = λ i. (is i && same info.attribute i) || is_ordered_by infos info.attribute
 
-in_order_by : (slot : ℕ) (infos : List IndexInfo) (o : Option Row) (values : List Value) → fallen (map (index_of slot) infos) o values ≡ None
+in_order_by : (slot : ℕ) (infos : List IndexInfo) (o : Option Row) (values : List Value) → fallen (map (index_of_info slot) infos) o values ≡ None
     → (last : Row) → o ≡ Some last → fallen_from (is_ordered_by infos) 0 last.tuple values ≡ None
 in_order_by slot infos o values none last e = fallen_of_last slot infos o last.tuple values last.live e ∙ none
 
 -- a row that does not fall behind the last one may follow
 pub may_follow : (state : State) (tables : Tables) (t : Tuples) (infos : List IndexInfo) (values : List Value) (slot : ℕ) → IsTrue state.tells → HoldsRows state t → AllSuit t.schema.attributes values
-    → AreAllowed t.schema.attributes infos → fallen (map (index_of slot) infos) (slice_get (rows state.files t) (length (rows state.files t) - 1)) values ≡ None
+    → AreAllowed t.schema.attributes infos → fallen (map (index_of_info slot) infos) (slice_get (rows state.files t) (length (rows state.files t) - 1)) values ≡ None
     → AreComplete state tables (rows state.files t) infos → MayAllFollow (rows state.files t) values infos
 may_follow state tables t infos values slot told holds suit allowed none complete =
     all_follow t.schema.attributes (rows state.files t) values suit (all_suit state t told holds) (is_ordered_by infos)

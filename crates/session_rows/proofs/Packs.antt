@@ -16,8 +16,8 @@ use Rattle.tuple_file.specs.Tuples.{rows}
 use Rattle.tuple_file.proofs.Packed.{length-living, living_all}
 use Rattle.session_model.specs.declared.held.Held.{Held}
 use Rattle.session_model.specs.declared.held.Open.{Open}
-use Rattle.session_model.specs.Indexed.{index_of, infos_of}
-use Rattle.session_model.specs.View.{relation_in, view}
+use Rattle.session_model.specs.Indexed.{index_of_info, infos_of}
+use Rattle.session_model.specs.View.{relation_of_rows, view}
 use Rattle.session_model.proofs.Running.{indexes_seen}
 use Rattle.session_rows.specs.Wanted.{WantsPackedRows}
 
@@ -41,22 +41,22 @@ by_none k db r e none =
 
 module _ (files : Table) (held : Held) (opens : List (Option Open)) (k : ℕ) (t : Tuples) where
   indexes_counted : length (indexes_of (view files held opens) k) ≡ length (infos_of k t held.indexes)
-  indexes_counted = ap (λ xs. length xs) (indexes_seen k t held.indexes) ∙ length-map (infos_of k t held.indexes) (index_of k)
+  indexes_counted = ap (λ xs. length xs) (indexes_seen k t held.indexes) ∙ length-map (infos_of k t held.indexes) (index_of_info k)
 
-  pub is_read : (n : ℕ) → reader_of (view files held opens) t.schema.name ≡ Some n → pack k (view files held opens) (relation_in files t) ≡ Err (no.InUse n)
-  is_read n e = by_reader k n (view files held opens) (relation_in files t) e
+  pub is_read : (n : ℕ) → reader_of (view files held opens) t.schema.name ≡ Some n → pack k (view files held opens) (relation_of_rows files t) ≡ Err (no.InUse n)
+  is_read n e = by_reader k n (view files held opens) (relation_of_rows files t) e
 
-  pub is_indexed : reader_of (view files held opens) t.schema.name ≡ None → 0 < length (infos_of k t held.indexes) → pack k (view files held opens) (relation_in files t) ≡ Err no.HasIndex
-  is_indexed e some = by_index k (view files held opens) (relation_in files t) e (omega (arith, some, indexes_counted))
+  pub is_indexed : reader_of (view files held opens) t.schema.name ≡ None → 0 < length (infos_of k t held.indexes) → pack k (view files held opens) (relation_of_rows files t) ≡ Err no.HasIndex
+  is_indexed e some = by_index k (view files held opens) (relation_of_rows files t) e (omega (arith, some, indexes_counted))
 
   pub is_packed : (now : Table) → reader_of (view files held opens) t.schema.name ≡ None → length (infos_of k t held.indexes) ≡ 0 → rows now t ≡ filter (λ row. row.live) (rows files t)
-      → pack k (view files held opens) (relation_in files t) ≡ Ok (relation_in now t, Fine)
+      → pack k (view files held opens) (relation_of_rows files t) ≡ Ok (relation_of_rows now t, Fine)
   is_packed now e none packed =
-      by_none k (view files held opens) (relation_in files t) e (indexes_counted ∙ none)
+      by_none k (view files held opens) (relation_of_rows files t) e (indexes_counted ∙ none)
       ∙ ap (λ (all : List Row). Ok (record { schema = t.schema; rows = all }, Fine)) (sym packed)
 
-  pub may_pack : reader_of (view files held opens) t.schema.name ≡ None → length (infos_of k t held.indexes) ≡ 0 → IsOk (pack k (view files held opens) (relation_in files t))
-  may_pack e none = rw (by_none k (view files held opens) (relation_in files t) e (indexes_counted ∙ none)) refl
+  pub may_pack : reader_of (view files held opens) t.schema.name ≡ None → length (infos_of k t held.indexes) ≡ 0 → IsOk (pack k (view files held opens) (relation_of_rows files t))
+  may_pack e none = rw (by_none k (view files held opens) (relation_of_rows files t) e (indexes_counted ∙ none)) refl
 
 -- ---- lists of indexes, and of rows
 

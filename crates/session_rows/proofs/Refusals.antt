@@ -21,7 +21,7 @@ use Rattle.session_model.specs.declared.answer.Answer.TheVariants as answer
 use Rattle.session_model.specs.declared.held.Held.{Held}
 use Rattle.session_model.specs.declared.held.Open.{Open}
 use Rattle.session_model.specs.Answers.{Changed}
-use Rattle.session_model.specs.View.{relation_in, view}
+use Rattle.session_model.specs.View.{relation_of_rows, view}
 use Rattle.session_rows.specs.Removals.{IsRemoval}
 
 -- ---- what the machine makes of it
@@ -61,21 +61,21 @@ module _ (condition : Option Cond) (k : ℕ) (db : Database) (r : Relation) wher
 -- ---- in a session
 
 module _ (condition : Option Cond) (files : Table) (held : Held) (opens : List (Option Open)) (k : ℕ) (t : Tuples) where
-  pub is_refused : (n : Refusal) → refusal 0 t.schema.attributes condition ≡ Some n → remove_from condition k (view files held opens) (relation_in files t) ≡ Err n
-  is_refused n e = by_refusal condition k (view files held opens) (relation_in files t) n e
+  pub is_refused : (n : Refusal) → refusal 0 t.schema.attributes condition ≡ Some n → remove_from condition k (view files held opens) (relation_of_rows files t) ≡ Err n
+  is_refused n e = by_refusal condition k (view files held opens) (relation_of_rows files t) n e
 
-  pub is_read : (n : ℕ) → refusal 0 t.schema.attributes condition ≡ None → reader_of (view files held opens) t.schema.name ≡ Some n → remove_from condition k (view files held opens) (relation_in files t) ≡ Err (no.InUse n)
-  is_read n e reads = by_reader condition k (view files held opens) (relation_in files t) n e reads
+  pub is_read : (n : ℕ) → refusal 0 t.schema.attributes condition ≡ None → reader_of (view files held opens) t.schema.name ≡ Some n → remove_from condition k (view files held opens) (relation_of_rows files t) ≡ Err (no.InUse n)
+  is_read n e reads = by_reader condition k (view files held opens) (relation_of_rows files t) n e reads
 
   pub removal : (now : Table) (a : Answer) → refusal 0 t.schema.attributes condition ≡ None → reader_of (view files held opens) t.schema.name ≡ None → IsRemoval t.schema.attributes condition (rows files t) (rows now t) a
-      → Changed (remove_from condition k (view files held opens) (relation_in files t)) (relation_in files t) (relation_in now t) a
+      → Changed (remove_from condition k (view files held opens) (relation_of_rows files t)) (relation_of_rows files t) (relation_of_rows now t) a
   removal now answer.Fine e reads h = absurd h
   removal now (answer.Refused n) e reads h = absurd h
   removal now (answer.Removed n) e reads h =
-      by_none condition k (view files held opens) (relation_in files t) e reads
+      by_none condition k (view files held opens) (relation_of_rows files t) e reads
       ∙ (λ i. Ok (record { schema = t.schema; rows = sym h.0 i }, Removed (sym h.1 i)))
   removal now (answer.NoSpace need) e reads h = (
-    rw (by_none condition k (view files held opens) (relation_in files t) e reads) refl,
+    rw (by_none condition k (view files held opens) (relation_of_rows files t) e reads) refl,
     ap (λ (rs : List Row). record { schema = t.schema; rows = rs }) h,
   )
 

@@ -23,7 +23,7 @@ use Rattle.session_model.specs.declared.held.Open.{Open}
 use Rattle.session_model.specs.Answers.{OnNoSpace}
 use Rattle.session_model.specs.Cells.{cell_from}
 use Rattle.session_model.specs.Running.{IsRunning}
-use Rattle.session_model.specs.View.{relation_in, view}
+use Rattle.session_model.specs.View.{relation_of_rows, view}
 use Rattle.session_model.specs.Wanted.{WantsFew, room_in}
 use Rattle.session_model.proofs.Frames.{count_rows}
 use Rattle.session_model.proofs.Running.{relation_there}
@@ -38,7 +38,7 @@ no_space (answer.Removed n) P Q f h = h
 no_space (answer.Refused refusal) P Q f h = h
 
 pub pack_wants : (asks : ℕ → ℕ → ℕ → ℕ → Type 0) (files : Table) (held : Held) (opens : List (Option Open)) (name : List ℕ) (k : ℕ) (t : Tuples) (need : ℕ) → cell_from name 0 held.relations ≡ Some (k, t)
-    → WantsPackedRows (relation_in files t) need → WantsFew asks files (view files held opens) (command.Pack name) need
+    → WantsPackedRows (relation_of_rows files t) need → WantsFew asks files (view files held opens) (command.Pack name) need
 pack_wants asks files held opens name k t need cell h =
     let P : Option (ℕ × Relation) → Type 0 = λ o. IsSomeAnd o (λ s. WantsPacked (size_in files) (asks_in (asks_few asks files) files) (room_in files) s.1 need) in
     subst P (sym (relation_seen files held opens name k t cell)) h
@@ -51,9 +51,9 @@ remove_wants state tables held opens r asks name nodes k t need cell there n cou
     let few = asks_few asks state.files in
     let P : Option (ℕ × Relation) → Type 0 = λ o. IsSomeAnd o
     (λ s. WantsMarks (size_in state.files) (asks_in few state.files) (room_in state.files) s.0 s.1 (length (selected s.1.schema.attributes (condition_of nodes) s.1.rows)) need) in
-    let Q : ℕ → Type 0 = λ m. WantsMarks (size_in state.files) (asks_in few state.files) (room_in state.files) k (relation_in state.files t) m need in
+    let Q : ℕ → Type 0 = λ m. WantsMarks (size_in state.files) (asks_in few state.files) (room_in state.files) k (relation_of_rows state.files t) m need in
     subst P (sym (relation_seen state.files held opens name k t cell)) (subst Q count (by_which h))
   where
-    by_which : WantsRemoval (asks_few asks state.files) t.file n n (size_at state.files t.file) need → WantsMarks (size_in state.files) (asks_in (asks_few asks state.files) state.files) (room_in state.files) k (relation_in state.files t) n need
+    by_which : WantsRemoval (asks_few asks state.files) t.file n n (size_at state.files t.file) need → WantsMarks (size_in state.files) (asks_in (asks_few asks state.files) state.files) (room_in state.files) k (relation_of_rows state.files t) n need
     by_which (inl h) = inl (h.0, h.1, wants_rows state tables held opens r (asks_few asks state.files) k t n 0 need there h.2)
     by_which (inr h) = inr (h.0, h.1 ∙ ap fit ((relation_there state tables held opens r k t there).holds.whole ∙ ap (λ (m : ℕ). row_length t.schema.attributes * m) (sym (count_rows state.files t))))

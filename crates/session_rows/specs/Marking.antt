@@ -20,7 +20,7 @@ pub record IsSelected (s : Selected) (slots : List ℕ) : Type 0 where
   pub first : s.first ≡ take 29 slots
 
 -- of some slots those before the ones that are left
-pub record IsFront (s : Selected) (slots left : List ℕ) : Type 0 where
+pub record IsMarkedFront (s : Selected) (slots left : List ℕ) : Type 0 where
   pub within : s.count ≤ length slots
   pub first : s.first ≡ take 29 (take s.count slots)
   pub behind : drop s.count slots ≡ left

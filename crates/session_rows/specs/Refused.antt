@@ -15,10 +15,10 @@ is_order Order = true
 is_order (Tree file) = false
 is_order (Table number) = false
 
-abbrev pub is_table : Access → Bool
-is_table Order = false
-is_table (Tree file) = false
-is_table (Table number) = true
+abbrev pub is_memhash : Access → Bool
+is_memhash Order = false
+is_memhash (Tree file) = false
+is_memhash (Table number) = true
 
 -- an index keeps the attribute at a place in order
 abbrev pub is_order_on : ℕ → IndexInfo → Bool
@@ -31,7 +31,7 @@ abbrev pub is_order_index : IndexInfo → Bool
 is_order_index info = is_order info.access
 
 abbrev pub is_table_index : IndexInfo → Bool
-is_table_index info = is_table info.access
+is_table_index info = is_memhash info.access
 
 -- a number before, where the one behind it is less
 abbrev pub falls_to : Value → Value → Option ℤ

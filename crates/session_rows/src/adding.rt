@@ -2,17 +2,18 @@
 
 #![tactic(auto)]
 
-ghost use Rattle.std.specs.Prelude.{◌≡◌, ◌≢◌, ◌+◌, ◌<◌, ◌≤◌, ◌++◌, ◌∷◌, [], None, IsTrue, IfOk, OnOk, length, true};
+ghost use Rattle.std.specs.Prelude.{◌≡◌, ◌<◌, ◌≤◌, None, IsTrue, IfOk, OnOk};
+ghost use Rattle.afl_base.specs.Keeping.{Changes, ChangesOrLacks};
 ghost use Rattle.afl_base.specs.Asked.{asks_few};
-ghost use Rattle.afl_base.specs.Causes.{HasCause};
-ghost use Rattle.afl_base.specs.FileErrors.{HasFileCause, OnSpace, UnlessFailed};
+ghost use Rattle.afl_base.specs.FileErrors.{OnSpace, UnlessFailed};
 ghost use Rattle.afl_base.specs.Files.{file_at};
-ghost use Rattle.afl_base.specs.Frames.{Prepares, Spares};
+ghost use Rattle.afl_base.specs.Frames.{Prepares};
 ghost use Rattle.db_model.specs.Row.{AllSuit, row_length};
 ghost use Rattle.index_set.specs.Complete.{AreComplete, AreHeld};
-ghost use Rattle.index_set.specs.Inserts.{AreApart, AreOpenFor, AreRoomFor, HaveKeys, HaveRoom, IsNoTree, KeepsTables, MayAllFollow};
+ghost use Rattle.index_set.specs.Inserts.{AreApart, AreOpenFor, AreRoomFor, HaveKeys, HaveRoom, IsNoTree, MayAllFollow};
 ghost use Rattle.tuple_file.specs.Tuples.{HoldsRows, rows, slots};
 ghost use Rattle.session_model.specs.Frames.{StaysAt, WantsRow};
+ghost use Rattle.session_rows.specs.Changes.{AddsRow};
 
 use afl_base::{Failed, FileError, Files, SlotNo};
 use db_model::{Tuple, row_length};
@@ -38,40 +39,25 @@ pub(crate) fn add_row<V: Files>(
     requires away { IsNoTree indexes.now tuples.now.file }
     requires keys { HaveKeys values.now indexes.now }
     requires open { AreOpenFor slot indexes.now }
-    ensures rows { let all = rows (V.state files.old).files tuples.now in
-        IsTrue (V.state files.old).tells → OnOk result (rows (V.state files.new).files tuples.now
-        ≡ all ++ record { tuple = values.now; live = true } ∷ []) }
-    ensures slots { OnOk result (slots (V.state files.new).files tuples.now ≡ slot + 1) }
-    ensures holds { OnOk result (HoldsRows (V.state files.new) tuples.now) }
+    ensures added { OnOk result (AddsRow (V.state files.old) (V.state files.new)
+        tables.old tables.new tuples.now indexes.now values.now slot) }
     ensures complete { let all = rows (V.state files.old).files tuples.now in
         let now = rows (V.state files.new).files tuples.now in
         IsTrue (V.state files.old).tells → OnOk result
         (AreComplete (V.state files.old) tables.old all indexes.now
         → MayAllFollow all values.now indexes.now
         → AreComplete (V.state files.new) tables.new now indexes.now) }
-    ensures held { OnOk result (AreHeld (V.state files.new) tables.new (slot + 1) indexes.now) }
-    ensures others { let stays = StaysAt tuples.now.file indexes.now in
-        OnOk result (Spares (V.state files.old) (V.state files.new) stays) }
-    ensures tables { OnOk result (KeepsTables tables.old tables.new indexes.now) }
     ensures space { let stays = StaysAt tuples.now.file indexes.now in
         OnSpace result (λ need. Prepares (V.state files.old) (V.state files.new) stays) }
     ensures same_tables { OnSpace result (λ need. tables.new ≡ tables.old) }
-    ensures lacks { OnSpace result (λ need. V.lacks files.new need) }
     ensures wants { let asks = asks_few (V.asks files.new) (V.state files.new).files in
         IsTrue (V.state files.old).tells → OnSpace result (λ need.
         WantsRow asks (V.state files.new) tuples.now indexes.now values.now need) }
-    ensures store { length (V.state files.new).store ≡ length (V.state files.old).store }
-    ensures cause { HasFileCause (V.faults files.old) (V.faults files.new) result }
+    ensures frame { ChangesOrLacks V.state V.lent V.reads V.faults V.lacks files.old files.new result }
 {
-    let rooms = match prepare_row(files, tables, tuples, indexes, values, slot) {
-        Ok(rooms) => rooms,
-        Err(FileError::Space { need }) => return Err(FileError::Space { need }),
-        Err(FileError::Failed) => return Err(FileError::Failed),
-    };
-    match write_row(files, tables, tuples, indexes, &rooms, values, slot) {
-        Ok(()) => Ok(()),
-        Err(Failed) => Err(FileError::Failed),
-    }
+    let rooms = prepare_row(files, tables, tuples, indexes, values, slot)?;
+    write_row(files, tables, tuples, indexes, &rooms, values, slot)?;
+    Ok(())
 }
 
 // Makes room for a row and for its keys. No contents change.
@@ -97,23 +83,14 @@ fn prepare_row<V: Files>(
     ensures rooms { IfOk result (λ rooms. HaveRoom (V.state files.new) rooms indexes.now) }
     ensures exact { IsTrue (V.state files.old).tells → IfOk result (λ rooms.
         AreRoomFor (V.state files.new) values.now rooms indexes.now) }
-    ensures lacks { OnSpace result (λ need. V.lacks files.new need) }
     ensures wants { let asks = asks_few (V.asks files.new) (V.state files.new).files in
         IsTrue (V.state files.old).tells → OnSpace result (λ need.
         WantsRow asks (V.state files.new) tuples.now indexes.now values.now need) }
-    ensures store { length (V.state files.new).store ≡ length (V.state files.old).store }
-    ensures cause { HasFileCause (V.faults files.old) (V.faults files.new) result }
+    ensures frame { ChangesOrLacks V.state V.lent V.reads V.faults V.lacks files.old files.new result }
 {
-    match files.prepare(tuples.file, 0, row_length(&tuples.schema.attributes) as u32) {
-        Ok(()) => {}
-        Err(FileError::Space { need }) => return Err(FileError::Space { need }),
-        Err(FileError::Failed) => return Err(FileError::Failed),
-    }
-    match prepare_all(files, tables, indexes, values, slot) {
-        Ok(rooms) => Ok(rooms),
-        Err(FileError::Space { need }) => Err(FileError::Space { need }),
-        Err(FileError::Failed) => Err(FileError::Failed),
-    }
+    files.prepare(tuples.file, 0, row_length(&tuples.schema.attributes) as u32)?;
+    let rooms = prepare_all(files, tables, indexes, values, slot)?;
+    Ok(rooms)
 }
 
 // Writes a row and its keys, for which room was made.
@@ -138,11 +115,8 @@ fn write_row<V: Files>(
     requires room { let file = file_at (V.state files.old).files tuples.now.file in
         row_length tuples.now.schema.attributes ≤ file.room }
     requires rooms { HaveRoom (V.state files.old) rooms.now indexes.now }
-    ensures rows { let all = rows (V.state files.old).files tuples.now in
-        IsTrue (V.state files.old).tells → OnOk result (rows (V.state files.new).files tuples.now
-        ≡ all ++ record { tuple = values.now; live = true } ∷ []) }
-    ensures slots { OnOk result (slots (V.state files.new).files tuples.now ≡ slot + 1) }
-    ensures holds { OnOk result (HoldsRows (V.state files.new) tuples.now) }
+    ensures added { OnOk result (AddsRow (V.state files.old) (V.state files.new)
+        tables.old tables.new tuples.now indexes.now values.now slot) }
     ensures complete { let all = rows (V.state files.old).files tuples.now in
         let now = rows (V.state files.new).files tuples.now in
         IsTrue (V.state files.old).tells → OnOk result
@@ -150,12 +124,7 @@ fn write_row<V: Files>(
         → AreRoomFor (V.state files.old) values.now rooms.now indexes.now
         → MayAllFollow all values.now indexes.now
         → AreComplete (V.state files.new) tables.new now indexes.now) }
-    ensures held { OnOk result (AreHeld (V.state files.new) tables.new (slot + 1) indexes.now) }
-    ensures others { let stays = StaysAt tuples.now.file indexes.now in
-        OnOk result (Spares (V.state files.old) (V.state files.new) stays) }
-    ensures tables { OnOk result (KeepsTables tables.old tables.new indexes.now) }
-    ensures store { length (V.state files.new).store ≡ length (V.state files.old).store }
-    ensures cause { HasCause (V.faults files.old) (V.faults files.new) result }
+    ensures frame { Changes V.state V.lent V.reads V.faults files.old files.new result }
 {
     tuples.append(files, values)?;
     insert_all(files, tables, indexes, rooms, values, slot)?;

@@ -2,19 +2,20 @@
 
 #![tactic(auto)]
 
-ghost use Rattle.std.specs.Prelude.{◌≡◌, ◌≢◌, ◌+◌, ◌<◌, ◌≤◌, [], ℕ, IsTrue, None, OnOk, Option, length, map};
+ghost use Rattle.std.specs.Prelude.{◌≡◌, ◌≢◌, ◌<◌, ◌≤◌, [], IsTrue, None, OnOk, Option, length, map};
+ghost use Rattle.afl_base.specs.Keeping.{Changes, ChangesOrLacks};
 ghost use Rattle.afl_base.specs.Asked.{asks_few};
-ghost use Rattle.afl_base.specs.Causes.{HasCause};
-ghost use Rattle.afl_base.specs.FileErrors.{HasFileCause, OnSpace};
+ghost use Rattle.afl_base.specs.FileErrors.{OnSpace};
 ghost use Rattle.afl_base.specs.Files.{file_at, size_at};
 ghost use Rattle.afl_base.specs.Fit.{fit};
-ghost use Rattle.afl_base.specs.Frames.{Prepares, Spares};
+ghost use Rattle.afl_base.specs.Frames.{Prepares};
 ghost use Rattle.db_model.specs.Cond.{Cond};
 ghost use Rattle.db_model.specs.Step.{removed_row};
 ghost use Rattle.lvm.specs.Code.{IsCodeOf};
 ghost use Rattle.lvm.specs.Evaluate.{evaluated, verdict};
 ghost use Rattle.tuple_file.specs.Tuples.{HoldsRows, rows, slots as slots_of};
 ghost use Rattle.cursor.specs.Remaining.{selected_slots};
+ghost use Rattle.session_rows.specs.Changes.{ReplacesRows};
 ghost use Rattle.session_rows.specs.Marking.{AreBelow, IsSelected, marked};
 ghost use Rattle.session_rows.specs.Wanted.{WantsRemoval};
 
@@ -41,11 +42,8 @@ pub(crate) fn remove_selected<V: Files>(
         → IsCodeOf attributes condition code.now
         → IsSelected selected.now (selected_slots attributes condition all)
         → rows (V.state files.new).files tuples.now ≡ map (removed_row attributes condition) all) }
-    ensures holds { OnOk result (HoldsRows (V.state files.new) tuples.now) }
-    ensures slots { OnOk result (slots_of (V.state files.new).files tuples.now
-        ≡ slots_of (V.state files.old).files tuples.now) }
-    ensures spared { let file = tuples.now.file in
-        OnOk result (Spares (V.state files.old) (V.state files.new) (λ id. id ≢ file)) }
+    ensures replaces { OnOk result
+        (ReplacesRows (V.state files.old) (V.state files.new) tuples.now) }
     ensures space { OnSpace result (λ need.
         Prepares (V.state files.old) (V.state files.new) (λ id. id ≢ tuples.now.file)) }
     ensures wants { let asks = asks_few (V.asks files.new) (V.state files.new).files in
@@ -53,23 +51,16 @@ pub(crate) fn remove_selected<V: Files>(
         let records = length selected.now.first in
         OnSpace result (λ need.
         WantsRemoval asks tuples.now.file selected.now.count records size need) }
-    ensures lacks { OnSpace result (λ need. V.lacks files.new need) }
-    ensures store { length (V.state files.new).store ≡ length (V.state files.old).store }
-    ensures cause { HasFileCause (V.faults files.old) (V.faults files.new) result }
+    ensures none { selected.now.count ≡ 0 → length selected.now.first ≡ 0
+        → OnOk result (V.state files.new ≡ V.state files.old) }
+    ensures frame { ChangesOrLacks V.state V.lent V.reads V.faults V.lacks files.old files.new result }
 {
     if selected.count > 29 {
-        match rewrite_rows(files, tuples, code) {
-            Ok(()) => Ok(()),
-            Err(FileError::Space { need }) => Err(FileError::Space { need }),
-            Err(FileError::Failed) => Err(FileError::Failed),
-        }
+        rewrite_rows(files, tuples, code)?;
     } else {
-        match mark_slots(files, tuples, &selected.first) {
-            Ok(()) => Ok(()),
-            Err(FileError::Space { need }) => Err(FileError::Space { need }),
-            Err(FileError::Failed) => Err(FileError::Failed),
-        }
+        mark_slots(files, tuples, &selected.first)?;
     }
+    Ok(())
 }
 
 // Removes the rows in some slots, for each of which a record is prepared; for none nothing is.
@@ -84,32 +75,22 @@ fn mark_slots<V: Files>(
     ensures rows { let all = rows (V.state files.old).files tuples.now in
         IsTrue (V.state files.old).tells → OnOk result
         (rows (V.state files.new).files tuples.now ≡ marked slots.now all) }
-    ensures holds { OnOk result (HoldsRows (V.state files.new) tuples.now) }
-    ensures slots { OnOk result (slots_of (V.state files.new).files tuples.now
-        ≡ slots_of (V.state files.old).files tuples.now) }
-    ensures spared { let file = tuples.now.file in
-        OnOk result (Spares (V.state files.old) (V.state files.new) (λ id. id ≢ file)) }
+    ensures replaces { OnOk result
+        (ReplacesRows (V.state files.old) (V.state files.new) tuples.now) }
     ensures space { OnSpace result (λ need.
         Prepares (V.state files.old) (V.state files.new) (λ id. id ≢ tuples.now.file)) }
     ensures some { OnSpace result (λ need. 1 ≤ length slots.now) }
     ensures asked { let asks = asks_few (V.asks files.new) (V.state files.new).files in
         OnSpace result (λ need. asks tuples.now.file (length slots.now) 0 need) }
-    ensures lacks { OnSpace result (λ need. V.lacks files.new need) }
-    ensures store { length (V.state files.new).store ≡ length (V.state files.old).store }
-    ensures cause { HasFileCause (V.faults files.old) (V.faults files.new) result }
+    ensures none { length slots.now ≡ 0 → OnOk result (V.state files.new ≡ V.state files.old) }
+    ensures frame { ChangesOrLacks V.state V.lent V.reads V.faults V.lacks files.old files.new result }
 {
     if slots.is_empty() {
         return Ok(());
     }
-    match files.prepare(tuples.file, slots.len() as u16, 0) {
-        Ok(()) => {}
-        Err(FileError::Space { need }) => return Err(FileError::Space { need }),
-        Err(FileError::Failed) => return Err(FileError::Failed),
-    }
-    match mark_rows(files, tuples, slots) {
-        Ok(()) => Ok(()),
-        Err(Failed) => Err(FileError::Failed),
-    }
+    files.prepare(tuples.file, slots.len() as u16, 0)?;
+    mark_rows(files, tuples, slots)?;
+    Ok(())
 }
 
 // Removes the rows in some slots, for which as many records were prepared.
@@ -125,13 +106,9 @@ fn mark_rows<V: Files>(
     ensures rows { let all = rows (V.state files.old).files tuples.now in
         IsTrue (V.state files.old).tells → OnOk result
         (rows (V.state files.new).files tuples.now ≡ marked slots.now all) }
-    ensures holds { OnOk result (HoldsRows (V.state files.new) tuples.now) }
-    ensures slots { OnOk result (slots_of (V.state files.new).files tuples.now
-        ≡ slots_of (V.state files.old).files tuples.now) }
-    ensures spared { let file = tuples.now.file in
-        OnOk result (Spares (V.state files.old) (V.state files.new) (λ id. id ≢ file)) }
-    ensures store { length (V.state files.new).store ≡ length (V.state files.old).store }
-    ensures cause { HasCause (V.faults files.old) (V.faults files.new) result }
+    ensures replaces { OnOk result
+        (ReplacesRows (V.state files.old) (V.state files.new) tuples.now) }
+    ensures frame { Changes V.state V.lent V.reads V.faults files.old files.new result }
 {
     for slot in slots.as_slice() {
         tuples.mark(files, *slot)?;
@@ -148,27 +125,19 @@ fn rewrite_rows<V: Files>(files: &mut V, tuples: &Tuples, code: &Code) -> Result
         IsTrue (V.state files.old).tells → OnOk result ((condition : Option Cond)
         → IsCodeOf attributes condition code.now
         → rows (V.state files.new).files tuples.now ≡ map (removed_row attributes condition) all) }
-    ensures holds { OnOk result (HoldsRows (V.state files.new) tuples.now) }
-    ensures slots { OnOk result (slots_of (V.state files.new).files tuples.now
-        ≡ slots_of (V.state files.old).files tuples.now) }
-    ensures spared { let file = tuples.now.file in
-        OnOk result (Spares (V.state files.old) (V.state files.new) (λ id. id ≢ file)) }
+    ensures replaces { OnOk result
+        (ReplacesRows (V.state files.old) (V.state files.new) tuples.now) }
     ensures space { OnSpace result (λ need.
         Prepares (V.state files.old) (V.state files.new) (λ id. id ≢ tuples.now.file)) }
     ensures need { let size = size_at (V.state files.new).files tuples.now.file in
         OnSpace result (λ need. need ≡ fit size) }
-    ensures lacks { OnSpace result (λ need. V.lacks files.new need) }
-    ensures store { length (V.state files.new).store ≡ length (V.state files.old).store }
-    ensures cause { HasFileCause (V.faults files.old) (V.faults files.new) result }
+    ensures frame { ChangesOrLacks V.state V.lent V.reads V.faults V.lacks files.old files.new result }
 {
-    match tuples.rewrite(
+    tuples.rewrite(
         files,
         |tuple: &Tuple|
             ensures { result ≡ verdict (evaluated code.entry.now tuple.now []) }
         { code.eval(tuple) },
-    ) {
-        Ok(()) => Ok(()),
-        Err(FileError::Space { need }) => Err(FileError::Space { need }),
-        Err(FileError::Failed) => Err(FileError::Failed),
-    }
+    )?;
+    Ok(())
 }

@@ -2,23 +2,29 @@
 
 #![tactic(auto)]
 
-ghost use Rattle.std.specs.Prelude.{◌≡◌, ◌-◌, ◌<◌, ◌≤◌, ◌++◌, ◌∷◌, ◌⊎◌, ℕ, [], None, Ok, Err, IsTrue, IfOk, MatchOption, OnOk, length, map, slice_get, true};
-ghost use Rattle.afl_base.specs.Causes.{HasCause};
+ghost use Rattle.std.specs.Prelude.{◌≡◌, ◌-◌, ◌<◌, ◌++◌, ◌∷◌, ◌⊎◌, ℕ, [], None, Ok, IsTrue, IfOk, length, map, slice_get, true};
+ghost use Rattle.afl_base.specs.Keeping.{OnlyReads};
 ghost use Rattle.db_model.specs.Database.{Database, indexes_of};
 ghost use Rattle.db_model.specs.Row.{AllSuit};
-ghost use Rattle.db_model.specs.Step.{Fine, fallen as fallen_in, insert_into, slots_limit};
+ghost use Rattle.db_model.specs.Step.{fallen as fallen_in, insert_into, slots_limit};
 ghost use Rattle.index_set.specs.Complete.{AreComplete};
 ghost use Rattle.index_set.specs.Inserts.{AreOpenFor, HaveKeys, MayAllFollow};
 ghost use Rattle.tuple_file.specs.Tuples.{HoldsRows, rows, slots};
-ghost use Rattle.session_model.specs.Indexed.{AreAllowed, index_of};
-ghost use Rattle.session_model.specs.View.{relation_in};
+ghost use Rattle.session_model.specs.Indexed.{AreAllowed, index_of_info};
+ghost use Rattle.session_model.specs.View.{relation_of_rows};
 ghost use Rattle.session_rows.specs.Refused.{IsRefusedBy};
 
 use crate::suiting::{fallen, has_order, has_table, unsuited};
-use afl_base::{Failed, Files, SlotNo};
+use afl_base::{Failed, Files, MOST_SLOTS, SlotNo};
 use db_model::{Pool, Refusal, Tuple};
 use index_set::{HashTables, Indexes};
 use tuple_file::Tuples;
+
+// How many entries a hash table has.
+const MOST_ENTRIES: u16 = 2_048;
+
+// How many rows a relation may have in a database of version 1.
+const MOST_SLOTS_OF_VERSION_1: u16 = 16_384;
 
 /// Why a row may not be put behind the others, `None` where it may.
 pub(crate) fn refused_row<V: Files>(
@@ -32,9 +38,9 @@ pub(crate) fn refused_row<V: Files>(
     requires holds { HoldsRows (V.state files.old) tuples.now }
     requires version { (version ≡ 1) ⊎ (version ≡ 2) }
     requires allowed { AreAllowed tuples.now.schema.attributes indexes.now }
-    ensures refused { let r = relation_in (V.state files.old).files tuples.now in
+    ensures refused { let r = relation_of_rows (V.state files.old).files tuples.now in
         IsTrue (V.state files.old).tells → IfOk result (λ no. (slot : ℕ) (db : Database)
-        → db.version ≡ version → indexes_of db slot ≡ map (index_of slot) indexes.now
+        → db.version ≡ version → indexes_of db slot ≡ map (index_of_info slot) indexes.now
         → IsRefusedBy (insert_into values.now slot db r) no
         (record r { rows = r.rows ++ record { tuple = values.now; live = true } ∷ [] })) }
     ensures suits { let attributes = tuples.now.schema.attributes in
@@ -48,9 +54,7 @@ pub(crate) fn refused_row<V: Files>(
         IsTrue (V.state files.old).tells → IfOk result (λ no. no ≡ None
         → AreComplete (V.state files.old) tables.now all indexes.now
         → MayAllFollow all values.now indexes.now) }
-    ensures same { OnOk result (V.state files.new ≡ V.state files.old) }
-    ensures store { length (V.state files.new).store ≡ length (V.state files.old).store }
-    ensures cause { HasCause (V.faults files.old) (V.faults files.new) result }
+    ensures frame { OnlyReads V.state V.lent V.reads V.faults files.old files.new result }
 {
     if let Some(nth) = unsuited(tuples.schema.attributes.as_slice(), values.as_slice()) {
         return Ok(Some(Refusal::Value { nth }));
@@ -66,10 +70,10 @@ pub(crate) fn refused_row<V: Files>(
     if let Some(last) = fallen_behind(files, tuples, indexes, values)? {
         return Ok(Some(Refusal::NotOrdered { last }));
     }
-    if has_table(indexes) && 2048 <= count {
+    if has_table(indexes) && MOST_ENTRIES <= count {
         return Ok(Some(Refusal::Full {
             pool: Pool::HashEntries,
-            limit: 2048,
+            limit: MOST_ENTRIES,
         }));
     }
     Ok(None)
@@ -79,7 +83,11 @@ pub(crate) fn refused_row<V: Files>(
 fn slots_limit(version: u8) -> u16
     ensures { result ≡ slots_limit version }
 {
-    if version == 1 { 16_384 } else { 32_768 }
+    if version == 1 {
+        MOST_SLOTS_OF_VERSION_1
+    } else {
+        MOST_SLOTS
+    }
 }
 
 // The last row's number, where an index keeps its attribute in order and the new row's is less. The
@@ -93,10 +101,8 @@ fn fallen_behind<V: Files>(
     requires holds { HoldsRows (V.state files.old) tuples.now }
     ensures fallen { let all = rows (V.state files.old).files tuples.now in
         IsTrue (V.state files.old).tells → IfOk result (λ last. (slot : ℕ) → last
-        ≡ fallen_in (map (index_of slot) indexes.now) (slice_get all (length all - 1)) values.now) }
-    ensures same { OnOk result (V.state files.new ≡ V.state files.old) }
-    ensures store { length (V.state files.new).store ≡ length (V.state files.old).store }
-    ensures cause { HasCause (V.faults files.old) (V.faults files.new) result }
+        ≡ fallen_in (map (index_of_info slot) indexes.now) (slice_get all (length all - 1)) values.now) }
+    ensures frame { OnlyReads V.state V.lent V.reads V.faults files.old files.new result }
 {
     if !has_order(indexes) {
         return Ok(None);

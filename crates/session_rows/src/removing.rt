@@ -2,11 +2,10 @@
 
 #![tactic(auto)]
 
-ghost use Rattle.std.specs.Prelude.{◌≡◌, ◌≢◌, IfOk, IsTrue, None, OnOk, Option, Some, get_or, length};
+ghost use Rattle.std.specs.Prelude.{◌≡◌, IfOk, IsTrue, None, OnOk, Option, Some, get_or, length};
+ghost use Rattle.afl_base.specs.Keeping.{Changes};
 ghost use Rattle.afl_base.specs.Asked.{asks_few};
-ghost use Rattle.afl_base.specs.Causes.{HasCause};
 ghost use Rattle.afl_base.specs.Files.{size_at};
-ghost use Rattle.afl_base.specs.Frames.{Spares};
 ghost use Rattle.db_model.specs.declared.commands.Command.TheVariants as command;
 ghost use Rattle.db_model.specs.Answers.{selected};
 ghost use Rattle.db_model.specs.Cond.{Cond, IsCondition, condition_of};
@@ -15,13 +14,11 @@ ghost use Rattle.index_set.specs.Complete.{AreIndexesOf, AreReadable};
 ghost use Rattle.lvm.specs.Code.{IsCodeOf};
 ghost use Rattle.tuple_file.specs.Tuples.{HoldsRows, rows, slots};
 ghost use Rattle.cursor.specs.Remaining.{AreOnNumbers};
-ghost use Rattle.session_model.specs.Aheads.{aheads_of};
-ghost use Rattle.session_model.specs.Answers.{Changed, OnNoSpace};
+ghost use Rattle.session_model.specs.Answers.{Changed, OnNoSpace, OnNothing};
+ghost use Rattle.session_model.specs.Carried.{Carries, Runs};
 ghost use Rattle.session_model.specs.Running.{IsRunning};
-ghost use Rattle.session_model.specs.Steps.{Answers};
-ghost use Rattle.session_model.specs.View.{relation_in, view};
-ghost use Rattle.session_model.specs.Wanted.{WantsFew};
-ghost use Rattle.session_rows.specs.Changes.{GoesOn};
+ghost use Rattle.session_model.specs.View.{relation_of_rows, view};
+ghost use Rattle.session_rows.specs.Changes.{ReplacesRows, RunsOn};
 ghost use Rattle.session_rows.specs.Removals.{IsRemoval};
 ghost use Rattle.session_rows.specs.Wanted.{WantsRemoval};
 
@@ -33,42 +30,35 @@ use cursor::SelectCursor;
 use db_model::{Condition, Ident, Refusal};
 use index_set::{HashTables, Indexes};
 use lvm::Code;
-use session_model::{Answer, Held, Open, find_relation, indexes_of, least_reader};
+use session_model::{Answer, Base, Held, Open, find_relation, indexes_of, least_reader};
 use tuple_file::Tuples;
 
 /// Removes the live rows that satisfy a condition: up to 29 are marked one by one, and more are
 /// written anew in one draft.
 pub fn remove_from<V: Files>(
-    files: &mut V,
-    tables: &HashTables,
-    held: &Held,
-    opens: &[Option<Open>],
+    base: &mut Base<V>,
     relation: &Ident,
     condition: &Condition,
 ) -> Result<Answer, Failed>
-    requires running { IsRunning (V.state files.old) tables.now held.now opens.now }
+    requires running { Runs V.Files base.old }
     requires condition { IsCondition condition.now }
-    ensures done { let old = view (V.state files.old).files held.now opens.now in
-        let new = view (V.state files.new).files held.now opens.now in
-        IsTrue (V.state files.old).tells → IfOk result (λ answer.
-        Answers (command.RemoveFrom relation.now condition.now) old new answer) }
-    ensures running { OnOk result (IsRunning (V.state files.new) tables.now held.now opens.now) }
-    ensures aheads { IsTrue (V.state files.old).tells → OnOk result
-        (aheads_of (V.state files.new).files opens.now ≡ aheads_of (V.state files.old).files opens.now) }
-    ensures tells { OnOk result ((V.state files.new).tells ≡ (V.state files.old).tells) }
-    ensures wants { let new = view (V.state files.new).files held.now opens.now in
-        IsTrue (V.state files.old).tells → OnNoSpace result (λ need.
-        WantsFew (V.asks files.new) (V.state files.new).files new
-        (command.RemoveFrom relation.now condition.now) need) }
-    ensures lacks { OnNoSpace result (λ need. V.lacks files.new need) }
-    ensures store { length (V.state files.new).store ≡ length (V.state files.old).store }
-    ensures cause { HasCause (V.faults files.old) (V.faults files.new) result }
+    ensures carried { Carries V.Files (command.RemoveFrom relation.now condition.now)
+        base.old base.new result }
 {
+    let held = &base.held;
     let Some(k) = find_relation(&held.relations, relation) else {
         return Ok(Answer::Refused(Refusal::NoRelation));
     };
     let tuples = relation_at(&held.relations, k);
-    let answer = remove_at(files, tables, held, opens, k as u16, tuples, condition)?;
+    let answer = remove_at(
+        &mut base.files,
+        &base.tables,
+        held,
+        &base.opens[..],
+        k as u16,
+        tuples,
+        condition,
+    )?;
     Ok(answer)
 }
 
@@ -88,10 +78,10 @@ fn remove_at<V: Files>(
     ensures changed { let old = (V.state files.old).files in let new = (V.state files.new).files in
         let made = remove_in (condition_of condition.now) k in
         IsTrue (V.state files.old).tells → IfOk result (λ answer.
-        Changed (made (view old held.now opens.now) (relation_in old tuples.now))
-        (relation_in old tuples.now) (relation_in new tuples.now) answer) }
+        Changed (made (view old held.now opens.now) (relation_of_rows old tuples.now))
+        (relation_of_rows old tuples.now) (relation_of_rows new tuples.now) answer) }
     ensures goes_on { OnOk result
-        (GoesOn (V.state files.old) (V.state files.new) tables.now held.now opens.now k) }
+        (RunsOn (V.state files.old) (V.state files.new) tables.now held.now opens.now k) }
     ensures wants { let asks = asks_few (V.asks files.new) (V.state files.new).files in
         let attributes = tuples.now.schema.attributes in
         let all = rows (V.state files.new).files tuples.now in
@@ -100,8 +90,8 @@ fn remove_at<V: Files>(
         IsTrue (V.state files.old).tells → OnNoSpace result (λ need.
         WantsRemoval asks tuples.now.file count count size need) }
     ensures lacks { OnNoSpace result (λ need. V.lacks files.new need) }
-    ensures store { length (V.state files.new).store ≡ length (V.state files.old).store }
-    ensures cause { HasCause (V.faults files.old) (V.faults files.new) result }
+    ensures untouched { OnNothing result (V.state files.new ≡ V.state files.old) }
+    ensures frame { Changes V.state V.lent V.reads V.faults files.old files.new result }
 {
     let code = match Code::compile(condition, &tuples.schema, 0) {
         Ok(code) => code,
@@ -135,11 +125,8 @@ fn remove_rows<V: Files>(
         → IsCodeOf attributes condition code
         → AreIndexesOf (V.state files.old) tables.now old indexes.now
         → IsRemoval attributes condition old new answer) }
-    ensures holds { OnOk result (HoldsRows (V.state files.new) tuples.now) }
-    ensures slots { OnOk result (slots (V.state files.new).files tuples.now
-        ≡ slots (V.state files.old).files tuples.now) }
-    ensures spared { let file = tuples.now.file in
-        OnOk result (Spares (V.state files.old) (V.state files.new) (λ id. id ≢ file)) }
+    ensures replaces { OnOk result
+        (ReplacesRows (V.state files.old) (V.state files.new) tuples.now) }
     ensures wants { let asks = asks_few (V.asks files.new) (V.state files.new).files in
         let attributes = tuples.now.schema.attributes in
         let old = rows (V.state files.old).files tuples.now in
@@ -151,8 +138,8 @@ fn remove_rows<V: Files>(
         → WantsRemoval asks tuples.now.file (length (selected attributes condition all))
         (length (selected attributes condition all)) size need) }
     ensures lacks { OnNoSpace result (λ need. V.lacks files.new need) }
-    ensures store { length (V.state files.new).store ≡ length (V.state files.old).store }
-    ensures cause { HasCause (V.faults files.old) (V.faults files.new) result }
+    ensures untouched { OnNothing result (V.state files.new ≡ V.state files.old) }
+    ensures frame { Changes V.state V.lent V.reads V.faults files.old files.new result }
 {
     let mut cursor = SelectCursor::begin(files, tables, tuples.copy(), indexes, code)?;
     let selected = select_slots(files, tables, &mut cursor)?;

@@ -2,12 +2,12 @@
 
 #![tactic(auto)]
 
-ghost use Rattle.std.specs.Prelude.{◌≡◌, ◌+◌, ◌<◌, ◌≤◌, ◌∷◌, [], ℕ, List, IfOk, IsTrue, OnOk, length};
-ghost use Rattle.afl_base.specs.Causes.{HasCause};
+ghost use Rattle.std.specs.Prelude.{◌≡◌, ◌+◌, ◌<◌, ◌≤◌, ◌∷◌, ℕ, List, IfOk, IsTrue, OnOk, length};
+ghost use Rattle.afl_base.specs.Keeping.{OnlyReads};
 ghost use Rattle.index_set.specs.Walks.{Fits};
 ghost use Rattle.tuple_file.specs.Tuples.{rows};
 ghost use Rattle.cursor.specs.Remaining.{MayRead, slots_left};
-ghost use Rattle.session_rows.specs.Marking.{AreBelow, IsFront, IsSelected};
+ghost use Rattle.session_rows.specs.Marking.{AreBelow, IsMarkedFront, IsSelected};
 
 use afl_base::{Failed, Files, SlotNo};
 use cursor::SelectCursor;
@@ -26,9 +26,10 @@ impl Selected {
     fn add(&mut self, slot: SlotNo)
         requires few { self.old.count < 65535 }
         ensures count { self.new.count ≡ self.old.count + 1 }
-        ensures front { (slots left : List ℕ) → IsFront self.old slots (slot ∷ left)
-            → IsFront self.new slots left }
+        ensures front { (slots left : List ℕ) → IsMarkedFront self.old slots (slot ∷ left)
+            → IsMarkedFront self.new slots left }
         ensures below { (n : ℕ) → AreBelow n self.old.first → slot < n → AreBelow n self.new.first }
+        ensures more { length self.new.first ≤ length self.old.first + 1 }
     {
         self.count += 1;
         if self.first.len() < 29 {
@@ -53,10 +54,9 @@ pub(crate) fn select_slots<V: Files>(
         Fits cursor.old.candidates state tables.now all
         → IsSelected selected (slots_left cursor.old all)) }
     ensures below { IfOk result (λ selected. AreBelow cursor.old.candidates.slots selected.first) }
+    ensures few { IfOk result (λ selected. length selected.first ≤ selected.count) }
     ensures code { OnOk result (cursor.new.code ≡ cursor.old.code) }
-    ensures same { OnOk result (V.state files.new ≡ V.state files.old) }
-    ensures store { length (V.state files.new).store ≡ length (V.state files.old).store }
-    ensures cause { HasCause (V.faults files.old) (V.faults files.new) result }
+    ensures frame { OnlyReads V.state V.lent V.reads V.faults files.old files.new result }
 {
     let mut selected = Selected {
         count: 0,
@@ -64,10 +64,9 @@ pub(crate) fn select_slots<V: Files>(
     };
     let mut tuple = Tuple::new();
     'slots: loop {
-        match cursor.next(files, tables, &mut tuple) {
-            Ok(Some(slot)) => selected.add(slot),
-            Ok(None) => break,
-            Err(Failed) => return Err(Failed),
+        match cursor.next(files, tables, &mut tuple)? {
+            Some(slot) => selected.add(slot),
+            None => break,
         }
     }
     Ok(selected)

@@ -2,11 +2,11 @@
 
 #![tactic(auto)]
 
-ghost use Rattle.std.specs.Prelude.{◌≡◌, ◌≤◌, ◌<◌, IfSome, length};
+ghost use Rattle.std.specs.Prelude.{◌≡◌, ◌≤◌, ◌<◌, length};
 ghost use Rattle.std.specs.List.{list_any};
 ghost use Rattle.db_model.specs.Row.{suits};
 ghost use Rattle.db_model.specs.Step.{fallen_from, unsuited, unsuited_from};
-ghost use Rattle.session_rows.specs.Refused.{falls_at, falls_to, is_order, is_order_index, is_order_on, is_ordered_by, is_table, is_table_index};
+ghost use Rattle.session_rows.specs.Refused.{falls_at, falls_to, is_order, is_order_index, is_order_on, is_ordered_by, is_table_index};
 
 use db_model::{Attribute, Domain, Tuple, Value};
 use index_set::{Access, IndexInfo, Indexes};

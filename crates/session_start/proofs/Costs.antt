@@ -14,15 +14,16 @@ use Rattle.db_model.specs.Catalog.{Index}
 use Rattle.db_model.specs.Cost.{sum}
 use Rattle.db_model.specs.Database.{Database, Relation, used}
 use Rattle.db_model.specs.RunCost.{slots_opened}
+use Rattle.padded.proofs.Facts.{seen_at}
 use Rattle.stored.specs.Base.{base_of}
 use Rattle.tuple_file.specs.declared.tuples.Tuples.{Tuples}
 use Rattle.session_model.specs.declared.held.Held.{Held}
 use Rattle.session_model.specs.declared.held.Indexed.{Indexed}
-use Rattle.session_model.specs.Indexed.{index_in}
-use Rattle.session_model.specs.View.{relation_in, view}
+use Rattle.session_model.specs.Indexed.{index_known}
+use Rattle.session_model.specs.View.{relation_of_rows, view}
 use Rattle.session_model.proofs.Frames.{count_rows}
-use Rattle.session_start.specs.Found.{IsFound, slots_held}
-use Rattle.session_start.specs.Reads.{all_reads, all_slots, index_reads, slots_in}
+use Rattle.session_start.specs.Found.{AreFilesFound, slots_held}
+use Rattle.session_start.specs.Reads.{all_reads, all_slots, index_reads, slots_of_relation}
 use Rattle.session_start.proofs.Opened.{base_is}
 
 -- ---- sums over numbers
@@ -69,20 +70,20 @@ as_listed xs =
 -- ---- the slots of each relation, once for each of its indexes
 
 abbrev many : List (Option Indexed) → ℕ → ℕ
-many xs k = length (filter (λ (index : Index). index.relation == k) (used (map (option_map index_in) xs)))
+many xs k = length (filter (λ (index : Index). index.relation == k) (used (map (option_map index_known) xs)))
 
 module _ (files : Table) (relations : List (Option Tuples)) where
   abbrev slots_at : ℕ → ℕ
-  slots_at k = slots_in files (get_or relations k None)
+  slots_at k = slots_of_relation files (get_or relations k None)
 
   abbrev slots_of : Option Indexed → ℕ
   slots_of None = 0
   slots_of (Some x) = slots_at x.relation
 
   one_more : (x : Indexed) (xs : List (Option Indexed)) (k : ℕ) → slots_at k * (1 + many (Some x ∷ xs) k) ≡ slots_at k * (1 + many xs k) + only slots_at x.relation k
-  one_more x xs k = by_test (x.relation == k) (filter (λ (index : Index). index.relation == k) (used (map (option_map index_in) xs)))
+  one_more x xs k = by_test (x.relation == k) (filter (λ (index : Index). index.relation == k) (used (map (option_map index_known) xs)))
     where
-      by_test : (b : Bool) (rest : List Index) → slots_at k * (1 + length (cond b (index_in x ∷ rest) rest)) ≡ slots_at k * (1 + length rest) + (if b then slots_at k else 0)
+      by_test : (b : Bool) (rest : List Index) → slots_at k * (1 + length (cond b (index_known x ∷ rest) rest)) ≡ slots_at k * (1 + length rest) + (if b then slots_at k else 0)
       by_test true rest = times_more (slots_at k) (length rest)
         where
           times_more : (n l : ℕ) → n * (1 + suc l) ≡ n * (1 + l) + n
@@ -93,7 +94,7 @@ module _ (files : Table) (relations : List (Option Tuples)) where
   picked eight r =
       ⊎_elim
       (λ (less : r < 8). over_pick slots_at r 0 8 (omega arith) (omega (arith, less)))
-      (λ (more : 8 ≤ r). let none : slots_at r ≡ 0 = ap (slots_in files) (get_or_past relations r None (omega (arith, eight, more))) in omega (arith, none))
+      (λ (more : 8 ≤ r). let none : slots_at r ≡ 0 = ap (slots_of_relation files) (get_or_past relations r None (omega (arith, eight, more))) in omega (arith, none))
       (cases_lt r 8)
 
   counted : length relations ≡ 8 → (xs : List (Option Indexed)) → over slots_at 0 8 + sum (map slots_of xs) ≤ over (λ k. slots_at k * (1 + many xs k)) 0 8
@@ -113,25 +114,20 @@ module _ (files : Table) (relations : List (Option Tuples)) where
   reads_counted (None ∷ xs) = omega (arith, reads_counted xs)
   reads_counted (Some x ∷ xs) = omega (arith, reads_counted xs)
 
-  slots_listed : length relations ≡ 8 → sum (map (slots_in files) relations) ≡ over slots_at 0 8
+  slots_listed : length relations ≡ 8 → sum (map (slots_of_relation files) relations) ≡ over slots_at 0 8
   slots_listed eight =
-      ap (λ (xs : List (Option Tuples)). sum (map (slots_in files) xs)) (sym (as_listed relations))
-      ∙ sum_through (slots_in files) (λ k. get_or relations k None) (range_with_len 0 (length relations))
+      ap (λ (xs : List (Option Tuples)). sum (map (slots_of_relation files) xs)) (sym (as_listed relations))
+      ∙ sum_through (slots_of_relation files) (λ k. get_or relations k None) (range_with_len 0 (length relations))
       ∙ ap (λ (n : ℕ). over slots_at 0 n) eight
 
 -- ---- all of it
 
-opened_at : (files : Table) (held : Held) (k : ℕ) → slots_opened (view files held (replicate 4 None)) k ≡ slots_in files (get_or held.relations k None) * (1 + many held.indexes k)
+opened_at : (files : Table) (held : Held) (k : ℕ) → slots_opened (view files held (replicate 4 None)) k ≡ slots_of_relation files (get_or held.relations k None) * (1 + many held.indexes k)
 opened_at files held k =
-    ap (λ (o : Option Relation). option_map_or (λ (r : Relation). length r.rows * (1 + many held.indexes k)) o 0) (seen_at held.relations k)
+    ap (λ (o : Option Relation). option_map_or (λ (r : Relation). length r.rows * (1 + many held.indexes k)) o 0) (seen_at (relation_of_rows files) held.relations k)
     ∙ by_slot (get_or held.relations k None) (many held.indexes k)
   where
-    seen_at : (xs : List (Option Tuples)) (k : ℕ) → get_or (map (option_map (relation_in files)) xs) k None ≡ option_map (relation_in files) (get_or xs k None)
-    seen_at [] k = refl
-    seen_at (x ∷ xs) zero = refl
-    seen_at (x ∷ xs) (suc k) = seen_at xs k
-
-    by_slot : (o : Option Tuples) (m : ℕ) → option_map_or (λ (r : Relation). length r.rows * (1 + m)) (option_map (relation_in files) o) 0 ≡ slots_in files o * (1 + m)
+    by_slot : (o : Option Tuples) (m : ℕ) → option_map_or (λ (r : Relation). length r.rows * (1 + m)) (option_map (relation_of_rows files) o) 0 ≡ slots_of_relation files o * (1 + m)
     by_slot None m = grind arith
     by_slot (Some t) m = ap (λ (n : ℕ). n * (1 + m)) (count_rows files t)
 
@@ -142,15 +138,15 @@ opening_reads files held eight eight_indexes =
     let listed = slots_listed files held.relations eight in
     let reads = reads_counted files held.relations held.indexes in
     let all = counted files held.relations eight held.indexes in
-    let same = over_same (slots_opened (view files held (replicate 4 None))) (λ k. slots_in files (get_or held.relations k None) * (1 + many held.indexes k)) (opened_at files held) 0 8 in
-    final (sum (map (slots_in files) held.relations)) (sum (map (index_reads files held.relations) held.indexes)) (sum (map (slots_of files held.relations) held.indexes)) (over (slots_at files held.relations) 0 8)
-    (over (λ k. slots_in files (get_or held.relations k None) * (1 + many held.indexes k)) 0 8) (over (slots_opened (view files held (replicate 4 None))) 0 8) (length held.indexes) listed reads all same eight_indexes
+    let same = over_same (slots_opened (view files held (replicate 4 None))) (λ k. slots_of_relation files (get_or held.relations k None) * (1 + many held.indexes k)) (opened_at files held) 0 8 in
+    final (sum (map (slots_of_relation files) held.relations)) (sum (map (index_reads files held.relations) held.indexes)) (sum (map (slots_of files held.relations) held.indexes)) (over (slots_at files held.relations) 0 8)
+    (over (λ k. slots_of_relation files (get_or held.relations k None) * (1 + many held.indexes k)) 0 8) (over (slots_opened (view files held (replicate 4 None))) 0 8) (length held.indexes) listed reads all same eight_indexes
   where
     final : (slots reads named each counted opened n : ℕ) → slots ≡ each → reads ≤ 15 * named + 2048 * n → each + named ≤ counted → opened ≡ counted → n ≡ 8 → 6 * slots + reads ≤ 16384 + 16 * opened
     final slots reads named each counted opened n a b c d e = omega (arith, a, b, c, d, e)
 
 -- the catalog is read, and then all rows and indexes, or some of them
-pub opened_within : (state : State) (held : Held) → IsFound state held → slots_held held ≡ catalog_in state.files → (before loaded now : ℕ) → loaded ≤ before + 99
+pub opened_within : (state : State) (held : Held) → AreFilesFound state held → slots_held held ≡ catalog_in state.files → (before loaded now : ℕ) → loaded ≤ before + 99
     → now ≤ loaded + 6 * all_slots state.files held.relations + all_reads state.files held.relations held.indexes
     → now ≤ before + 1024 + 16384 + 16 * sum (map (slots_opened (base_of state.files)) (range_with_len 0 8))
 opened_within state held found same before loaded now catalog judged =

@@ -1,5 +1,5 @@
 -- What is held, when all rules are kept: a session that runs, over files that are sound and stand for what is seen.
-use Rattle.std.proofs.Common.{◌≡◌, ℕ, zero, suc, ◌<◌, inl, inr, List, [], ◌∷◌, length, map, get_or, replicate, Option, Some, None, refl, ap, sym, ◌∙◌, subst, arith, IsTrue, ℤ}
+use Rattle.std.proofs.Common.{◌≡◌, ℕ, suc, ◌<◌, inl, inr, List, [], ◌∷◌, length, map, get_or, replicate, Option, Some, None, refl, ap, sym, ◌∙◌, subst, arith, IsTrue, ℤ}
 use Rattle.std.specs.Prelude.{option_map}
 use Rattle.std.specs.List.{range_with_len}
 use Rattle.std.specs.Option.{option_map_or}
@@ -17,58 +17,46 @@ use Rattle.index_set.specs.declared.info.Access.{Access}
 use Rattle.index_set.specs.declared.info.Access.TheVariants.{Order, Tree, Table as InTable}
 use Rattle.index_set.specs.Plans.{kind_of}
 use Rattle.index_set.specs.Tables.{Tables}
+use Rattle.padded.proofs.Facts.{none_there, seen_at, some_same}
 use Rattle.space_model.specs.Enough.{rows_in}
 use Rattle.space_model.specs.FileNames.{bytes_named, bytes_of, catalog_file, rows_file, tree_file}
 use Rattle.space_model.proofs.NamedFiles.{named_found}
 use Rattle.stored.specs.Base as stored
 use Rattle.stored.specs.Base.{base_of}
-use Rattle.stored.specs.Sound.{BreaksFirst, IsComplete, IsSoundTable, KeepsIndex, KeepsRows}
+use Rattle.stored.specs.Sound.{BreaksFirst, IsIndexComplete, IsSoundTable, KeepsIndex, KeepsRows}
 use Rattle.tuple_file.specs.declared.tuples.Tuples.{Tuples}
 use Rattle.tuple_file.specs.Tuples.{AreRows, rows}
 use Rattle.session_model.specs.declared.held.Held.{Held}
 use Rattle.session_model.specs.declared.held.Indexed.{Indexed}
 use Rattle.session_model.specs.declared.held.Open.{Open}
 use Rattle.session_model.specs.Frames.{schema_in}
-use Rattle.session_model.specs.Indexed.{index_in}
-use Rattle.session_model.specs.Running.{HasCatalog, HasFile, IsCursorSlot, IsIndexSlot, IsIndexedOn, IsListed, IsRelationSlot, IsRunning, IsWrittenOrEmpty, catalog_bytes}
-use Rattle.session_model.specs.View.{relation_in, view}
-use Rattle.session_start.specs.Found.{HasRowFile, IsFound, IsPlacedOn, IsPlacedSlot, slots_held}
+use Rattle.session_model.specs.Indexed.{index_known}
+use Rattle.session_model.specs.Running.{HasCatalogFile, HasFile, IsCursorSlot, IsIndexSlot, IsIndexedOn, IsListed, IsRelationSlot, IsRunning, IsWrittenOrEmpty, bytes_of_catalog}
+use Rattle.session_model.specs.View.{relation_of_rows, view}
+use Rattle.session_start.specs.Found.{HasRowFile, AreFilesFound, IsPlacedOn, IsPlacedSlot, slots_held}
 use Rattle.session_start.specs.Judged.{AllEight, BreaksHeld, HasRows, HoldsFew, HoldsSlot, IsKept, IsReadyOf, IsReadyOn, IsReadySlot, KeepsSlot, AreRowsOf, IsKeptOf, IsKeptOn}
 use Rattle.session_start.proofs.Slots.{first_as}
 use Rattle.session_start.proofs.Written.{written_of}
 
 -- ---- slots that are seen
 
-seen_at : {A B : Type 0} (f : A → B) (xs : List (Option A)) (k : ℕ) → get_or (map (option_map f) xs) k None ≡ option_map f (get_or xs k None)
-seen_at f [] k = refl
-seen_at f (x ∷ xs) zero = refl
-seen_at f (x ∷ xs) (suc k) = seen_at f xs k
-
 seen_long : {A B : Type 0} (f : A → B) (xs : List A) → length (map f xs) ≡ length xs
 seen_long f [] = refl
 seen_long f (x ∷ xs) = ap suc (seen_long f xs)
 
-some_same : {A : Type 0} (a b : A) → Some a ≡ Some b → a ≡ b
-some_same a b e = cc
-
 no_some : {A : Type 0} (a : A) → None ≡ Some a → ⊥
 no_some a e = cc
 
-none_there : {A : Type 0} (n k : ℕ) → get_or (replicate {A = Option A} n None) k None ≡ None
-none_there zero k = refl
-none_there (suc n) zero = refl
-none_there (suc n) (suc k) = none_there n k
-
 -- ---- bytes by name
 
-module _ (state : State) (held : Held) (f : IsFound state held) where
+module _ (state : State) (held : Held) (f : AreFilesFound state held) where
   named_bytes : (id : ℕ) (name : List ℕ) → IsNamed state.files id name → bytes_named name state.files ≡ bytes_at state.files id
   named_bytes id name named = ap bytes_of (named_found state.files id name f.distinct named)
 
-  catalog_seen : catalog_bytes_in state.files ≡ catalog_bytes state.files held.cat
+  catalog_seen : catalog_bytes_in state.files ≡ bytes_of_catalog state.files held.cat
   catalog_seen = by_cat held.cat f.catalog
     where
-      by_cat : (o : Option ℕ) → HasCatalog state.files o → bytes_named catalog_file state.files ≡ catalog_bytes state.files o
+      by_cat : (o : Option ℕ) → HasCatalogFile state.files o → bytes_named catalog_file state.files ≡ bytes_of_catalog state.files o
       by_cat None h = ap bytes_of (named_none state.files catalog_file h)
       by_cat (Some cat) h = named_bytes cat catalog_file h.0
 
@@ -84,7 +72,7 @@ module _ (state : State) (held : Held) (f : IsFound state held) where
     abbrev base_by : Slots → Database
     base_by c = record {
       version = c.version;
-      relations = map (stored.relation_in state.files c.relations) (range_with_len 0 8);
+      relations = map (stored.relation_stored state.files c.relations) (range_with_len 0 8);
       indexes = c.indexes;
       cursors = replicate 4 None;
     }
@@ -92,25 +80,25 @@ module _ (state : State) (held : Held) (f : IsFound state held) where
     abbrev with_rows : ℕ → Schema → Relation
     with_rows k schema = record { schema = schema; rows = rows_of schema.attributes (bytes_named (rows_file k) state.files) }
 
-    one_relation : (k : ℕ) (o : Option Tuples) → k < 8 → get_or held.relations k None ≡ o → option_map (with_rows k) (option_map schema_in o) ≡ option_map (relation_in state.files) o
+    one_relation : (k : ℕ) (o : Option Tuples) → k < 8 → get_or held.relations k None ≡ o → option_map (with_rows k) (option_map schema_in o) ≡ option_map (relation_of_rows state.files) o
     one_relation k None below e = refl
     one_relation k (Some t) below e = ap (λ (bytes : List ℕ). Some (record { schema = t.schema; rows = rows_of t.schema.attributes bytes })) (relation_bytes k t below e)
 
-    relations_are : map (stored.relation_in state.files (map (option_map schema_in) held.relations)) (range_with_len 0 8) ≡ map (option_map (relation_in state.files)) held.relations
+    relations_are : map (stored.relation_stored state.files (map (option_map schema_in) held.relations)) (range_with_len 0 8) ≡ map (option_map (relation_of_rows state.files)) held.relations
     relations_are =
-        let g : ℕ → Option Relation = stored.relation_in state.files (map (option_map schema_in) held.relations) in
+        let g : ℕ → Option Relation = stored.relation_stored state.files (map (option_map schema_in) held.relations) in
         let many : length (map g (range_with_len 0 8)) ≡ 8 = length-map-range_with_len g 0 8 in
-        let long = seen_long (option_map (relation_in state.files)) held.relations in
-        ext_get_or None (map g (range_with_len 0 8)) (map (option_map (relation_in state.files)) held.relations) (many ∙ sym (long ∙ f.eight))
+        let long = seen_long (option_map (relation_of_rows state.files)) held.relations in
+        ext_get_or None (map g (range_with_len 0 8)) (map (option_map (relation_of_rows state.files)) held.relations) (many ∙ sym (long ∙ f.eight))
         (λ k h.
         let below : k < 8 = omega (arith, h, many) in
         get_or-map-range_with_len g 0 8 k k None below (omega arith)
         ∙ ap (option_map (with_rows k)) (seen_at schema_in held.relations k)
         ∙ one_relation k (get_or held.relations k None) below refl
-        ∙ sym (seen_at (relation_in state.files) held.relations k))
+        ∙ sym (seen_at (relation_of_rows state.files) held.relations k))
 
     pub base_is : base_of state.files ≡ view state.files held (replicate 4 None)
-    base_is = ap base_by (sym same) ∙ (λ i. record { version = held.version; relations = relations_are i; indexes = map (option_map index_in) held.indexes; cursors = replicate 4 None })
+    base_is = ap base_by (sym same) ∙ (λ i. record { version = held.version; relations = relations_are i; indexes = map (option_map index_known) held.indexes; cursors = replicate 4 None })
 
     -- ---- the rule on rows
 
@@ -142,47 +130,47 @@ module _ (state : State) (held : Held) (f : IsFound state held) where
 
     -- the rule, over some indexes and the rows of relations
     abbrev KeepsBy : ℕ → Slots → Database → Type 0
-    KeepsBy i c db = (index : Index) → get_or c.indexes i None ≡ Some index → IsComplete index.kind (bytes_named (tree_file i) state.files) (keys index.attribute (rows_in db index.relation))
+    KeepsBy i c db = (index : Index) → get_or c.indexes i None ≡ Some index → IsIndexComplete index.kind (bytes_named (tree_file i) state.files) (keys index.attribute (rows_in db index.relation))
 
     rows_seen : (k : ℕ) (t : Tuples) → get_or held.relations k None ≡ Some t → rows_in (view state.files held (replicate 4 None)) k ≡ rows state.files t
-    rows_seen k t e = ap (λ (o : Option Relation). option_map_or (λ (r : Relation). r.rows) o []) (seen_at (relation_in state.files) held.relations k ∙ ap (option_map (relation_in state.files)) e)
+    rows_seen k t e = ap (λ (o : Option Relation). option_map_or (λ (r : Relation). r.rows) o []) (seen_at (relation_of_rows state.files) held.relations k ∙ ap (option_map (relation_of_rows state.files)) e)
 
-    to_complete : (i : ℕ) (access : Access) (ks : List ℤ) → HasFile state.files i access → IsKept state.files access ks → IsComplete (kind_of access) (bytes_named (tree_file i) state.files) ks
+    to_complete : (i : ℕ) (access : Access) (ks : List ℤ) → HasFile state.files i access → IsKept state.files access ks → IsIndexComplete (kind_of access) (bytes_named (tree_file i) state.files) ks
     to_complete i Order ks file h = h
-    to_complete i (Tree file) ks named h = subst (λ (bytes : List ℕ). IsComplete (kind_of (Tree file)) bytes ks) (sym (named_bytes file (tree_file i) named)) h
+    to_complete i (Tree file) ks named h = subst (λ (bytes : List ℕ). IsIndexComplete (kind_of (Tree file)) bytes ks) (sym (named_bytes file (tree_file i) named)) h
     to_complete i (InTable number) ks file h = h
 
-    from_complete : (i : ℕ) (access : Access) (ks : List ℤ) → HasFile state.files i access → IsComplete (kind_of access) (bytes_named (tree_file i) state.files) ks → IsKept state.files access ks
+    from_complete : (i : ℕ) (access : Access) (ks : List ℤ) → HasFile state.files i access → IsIndexComplete (kind_of access) (bytes_named (tree_file i) state.files) ks → IsKept state.files access ks
     from_complete i Order ks file h = h
-    from_complete i (Tree file) ks named h = subst (λ (bytes : List ℕ). IsComplete (kind_of (Tree file)) bytes ks) (named_bytes file (tree_file i) named) h
+    from_complete i (Tree file) ks named h = subst (λ (bytes : List ℕ). IsIndexComplete (kind_of (Tree file)) bytes ks) (named_bytes file (tree_file i) named) h
     from_complete i (InTable number) ks file h = h
 
     to_on : (i : ℕ) (x : Indexed) (o : Option Tuples) → get_or held.relations x.relation None ≡ o → IsPlacedOn state i x o → IsKeptOn state.files x o
-        → IsComplete (kind_of x.access) (bytes_named (tree_file i) state.files) (keys x.attribute (rows_in (view state.files held (replicate 4 None)) x.relation))
+        → IsIndexComplete (kind_of x.access) (bytes_named (tree_file i) state.files) (keys x.attribute (rows_in (view state.files held (replicate 4 None)) x.relation))
     to_on i x None e p h = absurd p
     to_on i x (Some t) e p h =
-        subst (λ (all : List Row). IsComplete (kind_of x.access) (bytes_named (tree_file i) state.files) (keys x.attribute all)) (sym (rows_seen x.relation t e))
+        subst (λ (all : List Row). IsIndexComplete (kind_of x.access) (bytes_named (tree_file i) state.files) (keys x.attribute all)) (sym (rows_seen x.relation t e))
         (to_complete i x.access (keys x.attribute (rows state.files t)) p.file h)
 
     from_on : (i : ℕ) (x : Indexed) (o : Option Tuples) → get_or held.relations x.relation None ≡ o → IsPlacedOn state i x o
-        → IsComplete (kind_of x.access) (bytes_named (tree_file i) state.files) (keys x.attribute (rows_in (view state.files held (replicate 4 None)) x.relation)) → IsKeptOn state.files x o
+        → IsIndexComplete (kind_of x.access) (bytes_named (tree_file i) state.files) (keys x.attribute (rows_in (view state.files held (replicate 4 None)) x.relation)) → IsKeptOn state.files x o
     from_on i x None e p h = tt
     from_on i x (Some t) e p h =
         from_complete i x.access (keys x.attribute (rows state.files t)) p.file
-        (subst (λ (all : List Row). IsComplete (kind_of x.access) (bytes_named (tree_file i) state.files) (keys x.attribute all)) (rows_seen x.relation t e) h)
+        (subst (λ (all : List Row). IsIndexComplete (kind_of x.access) (bytes_named (tree_file i) state.files) (keys x.attribute all)) (rows_seen x.relation t e) h)
 
     pub to_index : (i : ℕ) → i < 8 → KeepsSlot state.files held i → KeepsIndex state.files i
     to_index i below h =
         let now : KeepsBy i (slots_held held) (view state.files held (replicate 4 None)) = λ index e.
-        by_slot (get_or held.indexes i None) (f.indexes i below) h index (sym (seen_at index_in held.indexes i) ∙ e) in
+        by_slot (get_or held.indexes i None) (f.indexes i below) h index (sym (seen_at index_known held.indexes i) ∙ e) in
         subst (KeepsBy i (catalog_in state.files)) (sym base_is) (subst (λ (c : Slots). KeepsBy i c (view state.files held (replicate 4 None))) same now)
       where
-        by_slot : (o : Option Indexed) → IsPlacedSlot state held.relations i o → IsKeptOf state.files held.relations o → (index : Index) → option_map index_in o ≡ Some index
-            → IsComplete index.kind (bytes_named (tree_file i) state.files) (keys index.attribute (rows_in (view state.files held (replicate 4 None)) index.relation))
+        by_slot : (o : Option Indexed) → IsPlacedSlot state held.relations i o → IsKeptOf state.files held.relations o → (index : Index) → option_map index_known o ≡ Some index
+            → IsIndexComplete index.kind (bytes_named (tree_file i) state.files) (keys index.attribute (rows_in (view state.files held (replicate 4 None)) index.relation))
         by_slot None p h index e = absurd (no_some index e)
         by_slot (Some x) p h index e =
-            let P : Index → Type 0 = λ z. IsComplete z.kind (bytes_named (tree_file i) state.files) (keys z.attribute (rows_in (view state.files held (replicate 4 None)) z.relation)) in
-            subst P (some_same (index_in x) index e) (to_on i x (get_or held.relations x.relation None) refl p h)
+            let P : Index → Type 0 = λ z. IsIndexComplete z.kind (bytes_named (tree_file i) state.files) (keys z.attribute (rows_in (view state.files held (replicate 4 None)) z.relation)) in
+            subst P (some_same (index_known x) index e) (to_on i x (get_or held.relations x.relation None) refl p h)
 
     pub from_index : (i : ℕ) → i < 8 → KeepsIndex state.files i → KeepsSlot state.files held i
     from_index i below h = by_slot (get_or held.indexes i None) refl (f.indexes i below)
@@ -192,7 +180,7 @@ module _ (state : State) (held : Held) (f : IsFound state held) where
 
         by_slot : (o : Option Indexed) → get_or held.indexes i None ≡ o → IsPlacedSlot state held.relations i o → IsKeptOf state.files held.relations o
         by_slot None e p = tt
-        by_slot (Some x) e p = from_on i x (get_or held.relations x.relation None) refl p (now (index_in x) (seen_at index_in held.indexes i ∙ ap (option_map index_in) e))
+        by_slot (Some x) e p = from_on i x (get_or held.relations x.relation None) refl p (now (index_known x) (seen_at index_known held.indexes i ∙ ap (option_map index_known) e))
 
     -- ---- what is answered
 
@@ -223,7 +211,7 @@ module _ (state : State) (held : Held) (f : IsFound state held) where
   index_slot tables i None p h = p
   index_slot tables i (Some x) p h = index_on tables i x (get_or held.relations x.relation None) p h
 
-  written_held : slots_held held ≡ catalog_in state.files → first_broken state.files ≡ None → IsWrittenOrEmpty (catalog_bytes state.files held.cat)
+  written_held : slots_held held ≡ catalog_in state.files → first_broken state.files ≡ None → IsWrittenOrEmpty (bytes_of_catalog state.files held.cat)
   written_held same unbroken = subst IsWrittenOrEmpty catalog_seen (written_of state.files unbroken)
 
   pub running_of : (tables : Tables) → state.draft ≡ None → AllEight (HoldsSlot state held) → AllEight (IsReadySlot state tables held) → (IsTrue state.tells → slots_held held ≡ catalog_in state.files)

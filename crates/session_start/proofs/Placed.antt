@@ -29,6 +29,7 @@ use Rattle.index_set.specs.declared.info.TableId.{TableId}
 use Rattle.index_set.specs.declared.info.TableId.TheVariants.{First, Second}
 use Rattle.index_set.specs.Inserts.{IsApart, IsDoublingTree, IsElsewhere, IsNoTable}
 use Rattle.index_set.specs.Plans.{kind_of}
+use Rattle.padded.proofs.Facts.{both_parts, seen_at}
 use Rattle.space_model.specs.FileNames.{catalog_file, is_there, rows_file, tree_file}
 use Rattle.space_model.proofs.NamedFiles.{at_name, named_found}
 use Rattle.stored.proofs.FilesOf.{IsNumbered, by_kind, first_false, in_table, rows_wanted, tree_wanted}
@@ -37,16 +38,12 @@ use Rattle.tuple_file.specs.declared.tuples.Tuples.{Tuples}
 use Rattle.session_model.specs.declared.held.Held.{Held}
 use Rattle.session_model.specs.declared.held.Indexed.{Indexed}
 use Rattle.session_model.specs.Frames.{schema_in}
-use Rattle.session_model.specs.Indexed.{index_in}
-use Rattle.session_model.specs.Running.{AreOfDatabase, HasCatalog, HasFile}
+use Rattle.session_model.specs.Indexed.{index_known}
+use Rattle.session_model.specs.Running.{AreOfDatabase, HasCatalogFile, HasFile}
 use Rattle.session_model.proofs.Running.{differ as files_differ, inside, trees_apart}
-use Rattle.session_start.specs.Found.{AreElsewhere, HasRowFile, IsAccess, IsFound, IsIndexOf, IsPlacedOn, IsPlacedSlot, IsRelationOf, slots_held, table_behind}
+use Rattle.session_start.specs.Found.{ShareNoAccess, HasRowFile, IsAccess, AreFilesFound, IsIndexHeld, IsPlacedOn, IsPlacedSlot, IsRelationOf, slots_held, table_behind}
 
 -- ---- files by name and kind
-
-both : (a b : Bool) → (a && b) ≡ true → (a ≡ true) × (b ≡ true)
-both true b e = (refl, e)
-both false b e = absurd (cc)
 
 pub known_of : (files : Table) → length files ≡ 32 → first 32 (is_stranger files) ≡ None → AreOfDatabase files
 known_of files size none id f e = by_place (place files id) e (first_false (is_stranger files) 32 id (in_table files size id f e) none)
@@ -147,7 +144,7 @@ doubling_by state before i (Tree file) known h = ((at_name state.files file (tre
 doubling_by state before i (InTable number) known h = tt
 
 placed_on : (state : State) (version i : ℕ) (before : List (Option Index)) (x : Indexed) (schema : Option Schema) (o : Option Tuples) → AreDistinct state.files → AreOfDatabase state.files
-    → is_schema_slot version schema ≡ true → stands_on (index_in x) schema ≡ true → is_there (tree_file i) state.files ≡ is_tree (Some (index_in x))
+    → is_schema_slot version schema ≡ true → stands_on (index_known x) schema ≡ true → is_there (tree_file i) state.files ≡ is_tree (Some (index_known x))
     → IsAccess state.files before i x.access → IsRelationOf state.files x.relation schema o → IsPlacedOn state i x o
 placed_on state version i before x None o d known s stands there access h = absurd (cc)
 placed_on state version i before x (Some schema) None d known s stands there access h = absurd h
@@ -170,17 +167,17 @@ some_inside (x ∷ xs) (suc k) b none e = omega (arith, some_inside xs k b none 
 
 index_placed : (state : State) (version i : ℕ) (schemas : List (Option Schema)) (relations : List (Option Tuples)) (before : List (Option Index)) (index : Option Index) (x : Option Indexed)
     → AreDistinct state.files → AreOfDatabase state.files → length schemas ≡ 8 → AreSchemas version schemas → ((k : ℕ) → k < 8 → IsRelationOf state.files k (get_or schemas k None) (get_or relations k None))
-    → is_behind schemas before index ≡ true → is_there (tree_file i) state.files ≡ is_tree index → IsIndexOf state.files before i index x → IsPlacedSlot state relations i x
+    → is_behind schemas before index ≡ true → is_there (tree_file i) state.files ≡ is_tree index → IsIndexHeld state.files before i index x → IsPlacedSlot state relations i x
 index_placed state version i schemas relations before None None d known eight s rels behind there h = unnamed_by state.files (tree_file i) d there
 index_placed state version i schemas relations before None (Some x) d known eight s rels behind there h = absurd h
 index_placed state version i schemas relations before (Some index) None d known eight s rels behind there h = absurd h
 index_placed state version i schemas relations before (Some index) (Some x) d known eight s rels behind there h =
-    let now : is_behind schemas before (Some (index_in x)) ≡ true = ap (λ (z : Index). is_behind schemas before (Some z)) h.0 ∙ behind in
-    let stand : Bool = stands_on (index_in x) (get_or schemas x.relation None) in
-    let same : Bool = list_any (is_same_place (index_in x)) before in
-    let third : Bool = is_third_table before (index_in x) in
-    let stands = (both stand (not same) (both (stand && not same) (not third) now).0).0 in
-    let within = some_inside schemas x.relation (stands_on (index_in x)) refl stands in
+    let now : is_behind schemas before (Some (index_known x)) ≡ true = ap (λ (z : Index). is_behind schemas before (Some z)) h.0 ∙ behind in
+    let stand : Bool = stands_on (index_known x) (get_or schemas x.relation None) in
+    let same : Bool = list_any (is_same_place (index_known x)) before in
+    let third : Bool = is_third_table before (index_known x) in
+    let stands = (both_parts stand (not same) (both_parts (stand && not same) (not third) now).0).0 in
+    let within = some_inside schemas x.relation (stands_on (index_known x)) refl stands in
     placed_on state version i before x (get_or schemas x.relation None) (get_or relations x.relation None) d known (s x.relation) stands
     (there ∙ ap (λ (z : Index). is_tree (Some z)) (sym h.0)) h.1 (rels x.relation (omega (arith, within, eight)))
 
@@ -241,35 +238,35 @@ other_table Second First h = tt
 other_table Second Second h = h refl
 
 module _ (files : Table) (schemas : List (Option Schema)) (indexes : List (Option Index)) (held : List (Option Indexed)) (behind : AreBehind schemas indexes) (long : length held ≡ 8)
-    (each : (i : ℕ) → i < 8 → IsIndexOf files (take i indexes) i (get_or indexes i None) (get_or held i None)) where
+    (each : (i : ℕ) → i < 8 → IsIndexHeld files (take i indexes) i (get_or indexes i None) (get_or held i None)) where
   record IsAt (i : ℕ) (x : Indexed) : Type 0 where
-    index_is : get_or indexes i None ≡ Some (index_in x)
+    index_is : get_or indexes i None ≡ Some (index_known x)
     access : IsAccess files (take i indexes) i x.access
 
   at : (i : ℕ) (x : Indexed) → get_or held i None ≡ Some x → IsAt i x
-  at i x e = by_slot (get_or indexes i None) refl (subst (λ (o : Option Indexed). IsIndexOf files (take i indexes) i (get_or indexes i None) o) e (each i (omega (arith, inside held i x e, long))))
+  at i x e = by_slot (get_or indexes i None) refl (subst (λ (o : Option Indexed). IsIndexHeld files (take i indexes) i (get_or indexes i None) o) e (each i (omega (arith, inside held i x e, long))))
     where
-      by_slot : (o : Option Index) → get_or indexes i None ≡ o → IsIndexOf files (take i indexes) i o (Some x) → IsAt i x
+      by_slot : (o : Option Index) → get_or indexes i None ≡ o → IsIndexHeld files (take i indexes) i o (Some x) → IsAt i x
       by_slot None is h = absurd h
       by_slot (Some index) is h = record { index_is = is ∙ ap (λ (z : Index). Some z) (sym h.0); access = h.1 }
 
   -- no third table
-  few_tables : (j : ℕ) (y : Indexed) (m : TableId) → get_or indexes j None ≡ Some (index_in y) → y.access ≡ InTable m → nat_le 2 (how_many is_table (take j indexes)) ≡ false
+  few_tables : (j : ℕ) (y : Indexed) (m : TableId) → get_or indexes j None ≡ Some (index_known y) → y.access ≡ InTable m → nat_le 2 (how_many is_table (take j indexes)) ≡ false
   few_tables j y m is table =
-      let now : is_behind schemas (take j indexes) (Some (index_in y)) ≡ true = ap (is_behind schemas (take j indexes)) (sym is) ∙ behind j in
-      let stand : Bool = stands_on (index_in y) (get_or schemas y.relation None) in
-      let same : Bool = list_any (is_same_place (index_in y)) (take j indexes) in
-      let third : Bool = is_third_table (take j indexes) (index_in y) in
-      let no = (both (stand && not same) (not third) now).1 in
-      of_table (is_hash_table (index_in y)) (nat_le 2 (how_many is_table (take j indexes))) (ap (λ (a : Access). is_table (Some (record (index_in y) { kind = kind_of a }))) table) no
+      let now : is_behind schemas (take j indexes) (Some (index_known y)) ≡ true = ap (is_behind schemas (take j indexes)) (sym is) ∙ behind j in
+      let stand : Bool = stands_on (index_known y) (get_or schemas y.relation None) in
+      let same : Bool = list_any (is_same_place (index_known y)) (take j indexes) in
+      let third : Bool = is_third_table (take j indexes) (index_known y) in
+      let no = (both_parts (stand && not same) (not third) now).1 in
+      of_table (is_hash_table (index_known y)) (nat_le 2 (how_many is_table (take j indexes))) (ap (λ (a : Access). is_table (Some (record (index_known y) { kind = kind_of a }))) table) no
     where
       of_table : (a b : Bool) → a ≡ true → not (a && b) ≡ true → b ≡ false
       of_table true true e f = absurd (cc)
       of_table true false e f = refl
       of_table false b e f = absurd (cc)
 
-  is_table_at : (i : ℕ) (x : Indexed) (n : TableId) → get_or indexes i None ≡ Some (index_in x) → x.access ≡ InTable n → is_table (get_or indexes i None) ≡ true
-  is_table_at i x n is table = ap is_table is ∙ ap (λ (a : Access). is_table (Some (record (index_in x) { kind = kind_of a }))) table
+  is_table_at : (i : ℕ) (x : Indexed) (n : TableId) → get_or indexes i None ≡ Some (index_known x) → x.access ≡ InTable n → is_table (get_or indexes i None) ≡ true
+  is_table_at i x n is table = ap is_table is ∙ ap (λ (a : Access). is_table (Some (record (index_known x) { kind = kind_of a }))) table
 
   tables_apart : (i j : ℕ) (x y : Indexed) (n m : TableId) → i ≢ j → IsAt i x → IsAt j y → x.access ≡ InTable n → y.access ≡ InTable m → n ≡ m → ⊥
   tables_apart i j x y n m other a b e f same =
@@ -281,7 +278,7 @@ module _ (files : Table) (schemas : List (Option Schema)) (indexes : List (Optio
       (λ (more : j ≤ i). tables_differ indexes j i (omega (arith, more, other)) (is_table_at j y m b.index_is f) (few_tables i x n a.index_is e) (sym one))
       (cases_lt i j)
 
-  pub elsewhere : AreElsewhere held
+  pub elsewhere : ShareNoAccess held
   elsewhere i j x y other e f = by_access x.access y.access refl refl
     where
       a : IsAt i x
@@ -328,17 +325,17 @@ seen_slot (o ∷ entries) zero d below = refl
 seen_slot (o ∷ entries) (suc n) d below = seen_slot entries n d (omega (arith, below))
 
 pub index_next : (files : Table) (entries : List (Option IndexEntry)) (held : List (Option Indexed)) (n : ℕ) (d : Option IndexEntry) (x : Option Indexed) → n < length entries → n < length held
-    → ((i : ℕ) → i < n → IsIndexOf files (take i (indexes_in entries)) i (get_or (indexes_in entries) i None) (get_or held i None))
-    → IsIndexOf files (indexes_in (take n entries)) n (option_map index_of_entry (get_or entries n d)) x
-    → (i : ℕ) → i < n + 1 → IsIndexOf files (take i (indexes_in entries)) i (get_or (indexes_in entries) i None) (get_or (set held n x) i None)
+    → ((i : ℕ) → i < n → IsIndexHeld files (take i (indexes_in entries)) i (get_or (indexes_in entries) i None) (get_or held i None))
+    → IsIndexHeld files (indexes_in (take n entries)) n (option_map index_of_entry (get_or entries n d)) x
+    → (i : ℕ) → i < n + 1 → IsIndexHeld files (take i (indexes_in entries)) i (get_or (indexes_in entries) i None) (get_or (set held n x) i None)
 index_next files entries held n d x below inside_held all one =
-    let P : List (Option Index) → Option Index → Type 0 = λ before o. IsIndexOf files before n o x in
-    filled (λ i o. IsIndexOf files (take i (indexes_in entries)) i (get_or (indexes_in entries) i None) o) held None n x inside_held all
+    let P : List (Option Index) → Option Index → Type 0 = λ before o. IsIndexHeld files before n o x in
+    filled (λ i o. IsIndexHeld files (take i (indexes_in entries)) i (get_or (indexes_in entries) i None) o) held None n x inside_held all
     (subst (λ o. P (take n (indexes_in entries)) o) (seen_slot entries n d below) (subst (λ before. P before (option_map index_of_entry (get_or entries n d))) (taken (option_map index_of_entry) n entries) one))
 
 -- ---- the catalog
 
-catalog_by : (files : Table) (o : Option ℕ) → AreOfDatabase files → HasCatalogSize files → IfSome o (λ id. IsNamed files id catalog_file) → IfNone o (IsUnnamed files catalog_file) → HasCatalog files o
+catalog_by : (files : Table) (o : Option ℕ) → AreOfDatabase files → HasCatalogSize files → IfSome o (λ id. IsNamed files id catalog_file) → IfNone o (IsUnnamed files catalog_file) → HasCatalogFile files o
 catalog_by files None known size found none = none
 catalog_by files (Some cat) known size found none = (found, size cat found, fixed files cat known found)
 
@@ -346,10 +343,10 @@ catalog_by files (Some cat) known size found none = (found, size cat found, fixe
 
 module _ (state : State) (catalog : Catalog) (held : Held) (version : held.version ≡ catalog.version) (formed : IsFormed catalog)
     (rels : (k : ℕ) → k < 8 → IsRelationOf state.files k (get_or catalog.relations k None) (get_or held.relations k None)) (eight : length held.relations ≡ 8)
-    (inds : (i : ℕ) → i < 8 → IsIndexOf state.files (take i (indexes_in catalog.indexes)) i (get_or (indexes_in catalog.indexes) i None) (get_or held.indexes i None)) (eight_indexes : length held.indexes ≡ 8) where
+    (inds : (i : ℕ) → i < 8 → IsIndexHeld state.files (take i (indexes_in catalog.indexes)) i (get_or (indexes_in catalog.indexes) i None) (get_or held.indexes i None)) (eight_indexes : length held.indexes ≡ 8) where
   pub found_of : length state.files ≡ 32 → AreDistinct state.files → first 32 (is_stranger state.files) ≡ None → HasCatalogSize state.files
       → first 16 (breaks_files state.files catalog.relations (indexes_in catalog.indexes)) ≡ None
-      → IfSome held.cat (λ id. IsNamed state.files id catalog_file) → IfNone held.cat (IsUnnamed state.files catalog_file) → IsFound state held
+      → IfSome held.cat (λ id. IsNamed state.files id catalog_file) → IfNone held.cat (IsUnnamed state.files catalog_file) → AreFilesFound state held
   found_of places d strangers size matched found none =
       let known = known_of state.files places strangers in
       record {
@@ -374,16 +371,11 @@ module _ (state : State) (catalog : Catalog) (held : Held) (version : held.versi
   relation_seen k (Some schema) None h = absurd h
   relation_seen k (Some schema) (Some t) h = ap (λ (z : Schema). Some z) h.0
 
-  index_seen : (i : ℕ) (before : List (Option Index)) (index : Option Index) (x : Option Indexed) → IsIndexOf state.files before i index x → option_map index_in x ≡ index
+  index_seen : (i : ℕ) (before : List (Option Index)) (index : Option Index) (x : Option Indexed) → IsIndexHeld state.files before i index x → option_map index_known x ≡ index
   index_seen i before None None h = refl
   index_seen i before None (Some x) h = absurd h
   index_seen i before (Some index) None h = absurd h
   index_seen i before (Some index) (Some x) h = ap (λ (z : Index). Some z) h.0
-
-  seen_at : {A B : Type 0} (f : A → B) (xs : List (Option A)) (k : ℕ) → get_or (map (option_map f) xs) k None ≡ option_map f (get_or xs k None)
-  seen_at f [] k = refl
-  seen_at f (x ∷ xs) zero = refl
-  seen_at f (x ∷ xs) (suc k) = seen_at f xs k
 
   seen_long : {A B : Type 0} (f : A → B) (xs : List A) → length (map f xs) ≡ length xs
   seen_long f [] = refl
@@ -396,8 +388,8 @@ module _ (state : State) (catalog : Catalog) (held : Held) (version : held.versi
       (λ k h. let long = seen_long (option_map schema_in) held.relations in
       seen_at schema_in held.relations k ∙ relation_seen k (get_or catalog.relations k None) (get_or held.relations k None) (rels k (omega (arith, h, long, eight)))) in
       let many : length (indexes_in catalog.indexes) ≡ 8 = seen_long _ catalog.indexes ∙ formed.eight_indexes in
-      let indexes : map (option_map index_in) held.indexes ≡ indexes_in catalog.indexes =
-      ext_get_or None (map (option_map index_in) held.indexes) (indexes_in catalog.indexes) (seen_long (option_map index_in) held.indexes ∙ eight_indexes ∙ sym many)
-      (λ i h. let long = seen_long (option_map index_in) held.indexes in
-      seen_at index_in held.indexes i ∙ index_seen i (take i (indexes_in catalog.indexes)) (get_or (indexes_in catalog.indexes) i None) (get_or held.indexes i None) (inds i (omega (arith, h, long, eight_indexes)))) in
+      let indexes : map (option_map index_known) held.indexes ≡ indexes_in catalog.indexes =
+      ext_get_or None (map (option_map index_known) held.indexes) (indexes_in catalog.indexes) (seen_long (option_map index_known) held.indexes ∙ eight_indexes ∙ sym many)
+      (λ i h. let long = seen_long (option_map index_known) held.indexes in
+      seen_at index_known held.indexes i ∙ index_seen i (take i (indexes_in catalog.indexes)) (get_or (indexes_in catalog.indexes) i None) (get_or held.indexes i None) (inds i (omega (arith, h, long, eight_indexes)))) in
       λ j. record { version = version j; relations = relations j; indexes = indexes j }

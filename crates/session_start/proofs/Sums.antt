@@ -4,7 +4,7 @@ use Rattle.afl_base.specs.Files.{Table}
 use Rattle.db_model.specs.Cost.{sum}
 use Rattle.tuple_file.specs.declared.tuples.Tuples.{Tuples}
 use Rattle.session_model.specs.declared.held.Indexed.{Indexed}
-use Rattle.session_start.specs.Reads.{all_reads, all_slots, index_reads, slots_in}
+use Rattle.session_start.specs.Reads.{all_reads, all_slots, index_reads, slots_of_relation}
 
 sum_next : {A : Type 0} (f : A → ℕ) (xs : List A) (n : ℕ) (d : A) → n < length xs → sum (map f (take (n + 1) xs)) ≡ sum (map f (take n xs)) + f (get_or xs n d)
 sum_next f [] n d h = absurd (omega (arith, h))
@@ -21,13 +21,13 @@ sum_within f [] (suc n) = omega arith
 sum_within f (x ∷ xs) (suc n) = omega (arith, sum_within f xs n)
 
 module _ (files : Table) (relations : List (Option Tuples)) where
-  pub slots_next : (n : ℕ) (d : Option Tuples) → n < length relations → all_slots files (take (n + 1) relations) ≡ all_slots files (take n relations) + slots_in files (get_or relations n d)
+  pub slots_next : (n : ℕ) (d : Option Tuples) → n < length relations → all_slots files (take (n + 1) relations) ≡ all_slots files (take n relations) + slots_of_relation files (get_or relations n d)
   unfolding all_slots
-  slots_next n d h = sum_next (slots_in files) relations n d h
+  slots_next n d h = sum_next (slots_of_relation files) relations n d h
 
   pub slots_within : (n : ℕ) → all_slots files (take n relations) ≤ all_slots files relations
   unfolding all_slots
-  slots_within n = sum_within (slots_in files) relations n
+  slots_within n = sum_within (slots_of_relation files) relations n
 
   pub reads_next : (indexes : List (Option Indexed)) (n : ℕ) (d : Option Indexed) → n < length indexes
       → all_reads files relations (take (n + 1) indexes) ≡ all_reads files relations (take n indexes) + index_reads files relations (get_or indexes n d)

@@ -21,8 +21,8 @@ use Rattle.tuple_file.specs.Tuples.{row, rows, slots}
 use Rattle.session_model.specs.declared.held.Held.{Held}
 use Rattle.session_model.specs.declared.held.Indexed.{Indexed}
 use Rattle.session_model.proofs.Frames.{count_rows}
-use Rattle.session_start.specs.Found.{AreElsewhere}
-use Rattle.session_start.specs.Judged.{IsKept, IsReady, IsReadyOf, IsReadyOn, IsReadySlot}
+use Rattle.session_start.specs.Found.{ShareNoAccess}
+use Rattle.session_start.specs.Judged.{IsKept, MayBeUsed, IsReadyOf, IsReadyOn, IsReadySlot}
 
 pub on_ok : {T E : Type 0} (P Q : T → Type 0) (r : Result T E) → ((x : T) → P x → Q x) → IfOk r P → IfOk r Q
 on_ok P Q (Ok x) f h = f x h
@@ -64,11 +64,11 @@ module _ (state : State) (t : Tuples) (info : IndexInfo) (each : (slot : ℕ) �
   column_keys = keys_whole state info (rows state.files t) (slots state.files t) (count_rows state.files t) has_keys
 
 pub alone_ready : (state : State) (tables : Tables) (x : Indexed) (t : Tuples) → IsAlone x.access → IsDoublingTree state x.access
-    → (IsTrue state.tells → IsComplete state tables x.access (keys x.attribute (rows state.files t))) → IsReady state tables x t
+    → (IsTrue state.tells → IsComplete state tables x.access (keys x.attribute (rows state.files t))) → MayBeUsed state tables x t
 alone_ready state tables x t alone doubling complete = record { held = held_alone state tables (slots state.files t) x.access alone doubling; complete = complete }
 
 pub table_ready : (state : State) (tables : Tables) (x : Indexed) (t : Tuples) (number : TableId) → x.access ≡ InTable number → length (entries tables number) ≡ slots state.files t
-    → (IsTrue state.tells → entries tables number ≡ keys x.attribute (rows state.files t)) → IsReady state tables x t
+    → (IsTrue state.tells → entries tables number ≡ keys x.attribute (rows state.files t)) → MayBeUsed state tables x t
 table_ready state tables x t number is size complete = record {
   held = subst (λ (a : Access). IsHeld state tables (slots state.files t) a) (sym is) size;
   complete = λ told. subst (λ (a : Access). IsComplete state tables a (keys x.attribute (rows state.files t))) (sym is) (complete told);
@@ -95,7 +95,7 @@ ready_on state old new x access (Some t) other same h =
     let r = ready_access state old new t x.attribute x.access access other same (keys x.attribute (rows state.files t)) (slots state.files t) (h.held, h.complete) in
     record { held = r.0; complete = r.1 }
 
-pub others_ready : (state : State) (old new : Tables) (held : Held) (n : ℕ) (y : Indexed) → AreElsewhere held.indexes → get_or held.indexes n None ≡ Some y → ((m : TableId) → IsNoTable m y.access → entries new m ≡ entries old m)
+pub others_ready : (state : State) (old new : Tables) (held : Held) (n : ℕ) (y : Indexed) → ShareNoAccess held.indexes → get_or held.indexes n None ≡ Some y → ((m : TableId) → IsNoTable m y.access → entries new m ≡ entries old m)
     → (i : ℕ) → i ≢ n → IsReadySlot state old held i → IsReadySlot state new held i
 others_ready state old new held n y apart there same i other h = by_slot (get_or held.indexes i None) refl h
   where

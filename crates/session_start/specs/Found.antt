@@ -16,8 +16,8 @@ use Rattle.tuple_file.specs.Tuples.{IsRowFile}
 use Rattle.session_model.specs.declared.held.Held.{Held}
 use Rattle.session_model.specs.declared.held.Indexed.{Indexed}
 use Rattle.session_model.specs.Frames.{schema_in}
-use Rattle.session_model.specs.Indexed.{IsAllowed, index_in, info_of}
-use Rattle.session_model.specs.Running.{AreOfDatabase, HasCatalog, HasFile}
+use Rattle.session_model.specs.Indexed.{IsAllowed, index_known, info_of}
+use Rattle.session_model.specs.Running.{AreOfDatabase, HasCatalogFile, HasFile}
 
 -- ---- what is held for a slot of the catalog
 
@@ -37,17 +37,17 @@ IsAccess files before i (Tree file) = IsNamed files file (tree_file i)
 IsAccess files before i (InTable number) = number ≡ table_behind before
 
 -- the index of the slot, with its tree or table
-abbrev pub IsIndexOf : Table → List (Option Index) → ℕ → Option Index → Option Indexed → Type 0
-IsIndexOf files before i None None = ⊤
-IsIndexOf files before i (Some index) (Some x) = (index_in x ≡ index) × IsAccess files before i x.access
-IsIndexOf files before i _ _ = ⊥
+abbrev pub IsIndexHeld : Table → List (Option Index) → ℕ → Option Index → Option Indexed → Type 0
+IsIndexHeld files before i None None = ⊤
+IsIndexHeld files before i (Some index) (Some x) = (index_known x ≡ index) × IsAccess files before i x.access
+IsIndexHeld files before i _ _ = ⊥
 
 -- the catalog of what is held
 abbrev pub slots_held : Held → Slots
 slots_held held = record {
   version = held.version;
   relations = map (option_map schema_in) held.relations;
-  indexes = map (option_map index_in) held.indexes;
+  indexes = map (option_map index_known) held.indexes;
 }
 
 -- ---- what files have for what is held
@@ -58,7 +58,7 @@ HasRowFile files k None = IsUnnamed files (rows_file k)
 HasRowFile files k (Some t) = IsRowFile files t × IsNamed files t.file (rows_file k)
 
 -- an index is on an attribute of its relation that its kind allows, and a tree has its file
-pub record IsPlaced (state : State) (i : ℕ) (x : Indexed) (t : Tuples) : Type 0 where
+pub record IsIndexPlaced (state : State) (i : ℕ) (x : Indexed) (t : Tuples) : Type 0 where
   pub place : x.attribute < 8
   pub allowed : IsAllowed t.schema.attributes (info_of t x)
   pub file : HasFile state.files i x.access
@@ -66,19 +66,19 @@ pub record IsPlaced (state : State) (i : ℕ) (x : Indexed) (t : Tuples) : Type 
 
 abbrev pub IsPlacedOn : State → ℕ → Indexed → Option Tuples → Type 0
 IsPlacedOn state i x None = ⊥
-IsPlacedOn state i x (Some t) = IsPlaced state i x t
+IsPlacedOn state i x (Some t) = IsIndexPlaced state i x t
 
 abbrev pub IsPlacedSlot : State → List (Option Tuples) → ℕ → Option Indexed → Type 0
 IsPlacedSlot state relations i None = IsUnnamed state.files (tree_file i)
 IsPlacedSlot state relations i (Some x) = IsPlacedOn state i x (get_or relations x.relation None)
 
 -- no two indexes have one tree or one table
-abbrev pub AreElsewhere : List (Option Indexed) → Type 0
-AreElsewhere indexes =
+abbrev pub ShareNoAccess : List (Option Indexed) → Type 0
+ShareNoAccess indexes =
     (i j : ℕ) (x y : Indexed) → i ≢ j → get_or indexes i None ≡ Some x → get_or indexes j None ≡ Some y → IsElsewhere x.access y.access
 
 -- each file has a name and a kind of its own, and what is held has its files
-pub record IsFound (state : State) (held : Held) : Type 0 where
+pub record AreFilesFound (state : State) (held : Held) : Type 0 where
   pub distinct : AreDistinct state.files
   pub known : AreOfDatabase state.files
   pub version : (held.version ≡ 1) ⊎ (held.version ≡ 2)
@@ -86,5 +86,5 @@ pub record IsFound (state : State) (held : Held) : Type 0 where
   pub eight_indexes : length held.indexes ≡ 8
   pub relations : (k : ℕ) → k < 8 → HasRowFile state.files k (get_or held.relations k None)
   pub indexes : (i : ℕ) → i < 8 → IsPlacedSlot state held.relations i (get_or held.indexes i None)
-  pub apart : AreElsewhere held.indexes
-  pub catalog : HasCatalog state.files held.cat
+  pub apart : ShareNoAccess held.indexes
+  pub catalog : HasCatalogFile state.files held.cat

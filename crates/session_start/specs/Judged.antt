@@ -51,13 +51,13 @@ abbrev pub KeepsSlot : Table → Held → ℕ → Type 0
 KeepsSlot files held i = IsKeptOf files held.relations (get_or held.indexes i None)
 
 -- the index may be used: its table has as many keys as the relation has slots, and these keys, where bytes are told
-pub record IsReady (state : State) (tables : Tables) (x : Indexed) (t : Tuples) : Type 0 where
+pub record MayBeUsed (state : State) (tables : Tables) (x : Indexed) (t : Tuples) : Type 0 where
   pub held : IsHeld state tables (slots state.files t) x.access
   pub complete : IsTrue state.tells → IsComplete state tables x.access (keys x.attribute (rows state.files t))
 
 abbrev pub IsReadyOn : State → Tables → Indexed → Option Tuples → Type 0
 IsReadyOn state tables x None = ⊤
-IsReadyOn state tables x (Some t) = IsReady state tables x t
+IsReadyOn state tables x (Some t) = MayBeUsed state tables x t
 
 abbrev pub IsReadyOf : State → Tables → List (Option Tuples) → Option Indexed → Type 0
 IsReadyOf state tables relations None = ⊤

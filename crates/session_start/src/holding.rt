@@ -3,7 +3,6 @@
 #![tactic(auto)]
 
 ghost use Rattle.std.specs.Prelude.{◌≡◌, ◌<◌, ℕ, true, None, get_or, is_some, length, option_map, take};
-ghost use Rattle.std.specs.List.{list_any};
 ghost use Rattle.afl_base.specs.Files.{IsNamed};
 ghost use Rattle.catalog.specs.CatalogFile.{index_in as index_of_entry, indexes_in};
 ghost use Rattle.catalog.specs.Catalogs.{slots_of};
@@ -12,7 +11,7 @@ ghost use Rattle.catalog.specs.Rules.{breaks_files, first, is_stranger, is_table
 ghost use Rattle.db_model.specs.declared.schemas.IndexKind.TheVariants.{MaxHeap as OfHeap};
 ghost use Rattle.index_set.specs.Plans.{kind_of};
 ghost use Rattle.space_model.specs.FileNames.{is_there, rows_file, tree_file};
-ghost use Rattle.session_start.specs.Found.{IsAccess, IsFound, IsIndexOf, IsRelationOf, slots_held, table_behind};
+ghost use Rattle.session_start.specs.Found.{IsAccess, AreFilesFound, IsIndexHeld, IsRelationOf, slots_held, table_behind};
 
 use afl_base::{FileId, Files, IndexId, Name, RelationId};
 use catalog::{Catalog, IndexEntry, catalog_file, rows_file, tree_file};
@@ -28,7 +27,7 @@ pub fn hold<V: Files>(files: &V, catalog: &Catalog) -> Held
     requires known { first 32 (is_stranger (V.state files.now).files) ≡ None }
     requires matched { first 16 (breaks_files (V.state files.now).files catalog.now.relations
         (indexes_in catalog.now.indexes)) ≡ None }
-    ensures found { IsFound (V.state files.now) result }
+    ensures found { AreFilesFound (V.state files.now) result }
     ensures catalog { slots_held result ≡ slots_of catalog.now }
 {
     // A look at any place tells that there are 32, and that names are distinct.
@@ -75,7 +74,7 @@ fn hold_indexes<V: Files>(files: &V, entries: &[Option<IndexEntry>; 8]) -> [Opti
         ≡ is_tree (get_or (indexes_in entries.now) i None) }
     ensures eight { length result ≡ 8 }
     ensures indexes { (i : ℕ) → i < 8
-        → IsIndexOf (V.state files.now).files (take i (indexes_in entries.now)) i
+        → IsIndexHeld (V.state files.now).files (take i (indexes_in entries.now)) i
         (get_or (indexes_in entries.now) i None) (get_or result i None) }
 {
     let mut indexes = [None; 8];
@@ -96,7 +95,7 @@ fn hold_index<V: Files>(
     requires slot { slot < 8 }
     requires matched { is_there (tree_file slot) (V.state files.now).files
         ≡ is_tree (option_map index_of_entry entry.now) }
-    ensures index { IsIndexOf (V.state files.now).files (indexes_in before.now) slot
+    ensures index { IsIndexHeld (V.state files.now).files (indexes_in before.now) slot
         (option_map index_of_entry entry.now) result }
 {
     match entry {

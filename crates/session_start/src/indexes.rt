@@ -2,10 +2,10 @@
 
 #![tactic(auto)]
 
-ghost use Rattle.std.specs.Prelude.{◌≡◌, ◌+◌, ◌*◌, ◌<◌, ◌≤◌, ◌≢◌, ℕ, List, None, IfNone, IfOk, IsTrue, MatchOption, OnOk, get_or, length, map};
+ghost use Rattle.std.specs.Prelude.{◌≡◌, ◌+◌, ◌*◌, ◌<◌, ◌≤◌, ◌≢◌, ℕ, List, None, IfNone, IfOk, IsTrue, MatchOption, get_or, length, map};
+ghost use Rattle.afl_base.specs.Keeping.{OnlyReads};
 ghost use Rattle.std.specs.Bool.{Decides};
 ghost use Rattle.std.specs.List.{range_with_len};
-ghost use Rattle.afl_base.specs.Causes.{HasCause};
 ghost use Rattle.afl_base.specs.KeyColumn.{HasField, IsWidth, key_of};
 ghost use Rattle.db_model.specs.Row.{Row};
 ghost use Rattle.db_model.specs.Step.{keys};
@@ -16,8 +16,8 @@ ghost use Rattle.index_set.specs.Tables.{entries};
 ghost use Rattle.stored.specs.Sound.{IsFirst};
 ghost use Rattle.tuple_file.specs.Tuples.{HoldsRows, rows, slots};
 ghost use Rattle.session_model.specs.Indexed.{IsAllowed, info_of};
-ghost use Rattle.session_start.specs.Found.{IsFound};
-ghost use Rattle.session_start.specs.Judged.{AllEight, HoldsSlot, IsKept, IsReady, IsReadySlot, KeepsSlot};
+ghost use Rattle.session_start.specs.Found.{AreFilesFound};
+ghost use Rattle.session_start.specs.Judged.{AllEight, HoldsSlot, IsKept, MayBeUsed, IsReadySlot, KeepsSlot};
 ghost use Rattle.session_start.specs.Reads.{all_reads, index_reads};
 
 use afl_base::{Failed, Files, KeyColumn};
@@ -31,7 +31,7 @@ pub fn first_incomplete<V: Files>(
     tables: &mut HashTables,
     held: &Held,
 ) -> Result<Option<u16>, Failed>
-    requires found { IsFound (V.state files.old) held.now }
+    requires found { AreFilesFound (V.state files.old) held.now }
     requires holds { AllEight (HoldsSlot (V.state files.old) held.now) }
     ensures kept { let Keeps = KeepsSlot (V.state files.old).files held.now in
         IsTrue (V.state files.old).tells → IfOk result (λ slot.
@@ -40,9 +40,7 @@ pub fn first_incomplete<V: Files>(
         (AllEight (IsReadySlot (V.state files.old) tables.new held.now))) }
     ensures reads { V.reads files.new ≤ V.reads files.old
         + all_reads (V.state files.old).files held.now.relations held.now.indexes }
-    ensures same { OnOk result (V.state files.new ≡ V.state files.old) }
-    ensures store { length (V.state files.new).store ≡ length (V.state files.old).store }
-    ensures cause { HasCause (V.faults files.old) (V.faults files.new) result }
+    ensures frame { OnlyReads V.state V.lent V.reads V.faults files.old files.new result }
 {
     for slot in 0..8u16 {
         let whole = is_whole_slot(files, tables, held, slot)?;
@@ -60,7 +58,7 @@ fn is_whole_slot<V: Files>(
     held: &Held,
     slot: u16,
 ) -> Result<bool, Failed>
-    requires found { IsFound (V.state files.old) held.now }
+    requires found { AreFilesFound (V.state files.old) held.now }
     requires holds { AllEight (HoldsSlot (V.state files.old) held.now) }
     requires slot { slot < 8 }
     ensures kept { IsTrue (V.state files.old).tells → IfOk result (λ whole.
@@ -71,9 +69,7 @@ fn is_whole_slot<V: Files>(
         → IsReadySlot state tables.old held.now i → IsReadySlot state tables.new held.now i }
     ensures reads { V.reads files.new ≤ V.reads files.old
         + index_reads (V.state files.old).files held.now.relations (get_or held.now.indexes slot None) }
-    ensures same { OnOk result (V.state files.new ≡ V.state files.old) }
-    ensures store { length (V.state files.new).store ≡ length (V.state files.old).store }
-    ensures cause { HasCause (V.faults files.old) (V.faults files.new) result }
+    ensures frame { OnlyReads V.state V.lent V.reads V.faults files.old files.new result }
 {
     match &held.indexes[slot as usize] {
         None => Ok(true),
@@ -103,14 +99,12 @@ fn is_whole<V: Files>(
         → IfOk result (λ whole. Decides whole (IsKept files_old index.now.access
         (keys index.now.attribute (rows files_old tuples.now)))) }
     ensures ready { IfOk result (λ whole. IsTrue whole
-        → IsReady (V.state files.old) tables.new index.now tuples.now) }
+        → MayBeUsed (V.state files.old) tables.new index.now tuples.now) }
     ensures tables { (number : AnyTable) → IsNoTable number index.now.access
         → entries tables.new number ≡ entries tables.old number }
     ensures reads { V.reads files.new ≤ V.reads files.old
         + (15 * slots (V.state files.old).files tuples.now + 2048) }
-    ensures same { OnOk result (V.state files.new ≡ V.state files.old) }
-    ensures store { length (V.state files.new).store ≡ length (V.state files.old).store }
-    ensures cause { HasCause (V.faults files.old) (V.faults files.new) result }
+    ensures frame { OnlyReads V.state V.lent V.reads V.faults files.old files.new result }
 {
     let slots = tuples.count(files);
     let info = IndexInfo {
@@ -140,9 +134,7 @@ fn verify_one<V: Files>(
     ensures tables { (number : AnyTable) → IsNoTable number info.access
         → entries tables.new number ≡ entries tables.old number }
     ensures reads { V.reads files.new ≤ V.reads files.old + most_reads slots info.access }
-    ensures same { OnOk result (V.state files.new ≡ V.state files.old) }
-    ensures store { length (V.state files.new).store ≡ length (V.state files.old).store }
-    ensures cause { HasCause (V.faults files.old) (V.faults files.new) result }
+    ensures frame { OnlyReads V.state V.lent V.reads V.faults files.old files.new result }
 {
     let mut alone = Indexes::new();
     alone.push(info);
@@ -168,9 +160,7 @@ fn fill<V: Files>(
     ensures other { (other : AnyTable) → other ≢ table
         → entries tables.new other ≡ entries tables.old other }
     ensures reads { V.reads files.new ≤ V.reads files.old + 6 * slots }
-    ensures same { OnOk result (V.state files.new ≡ V.state files.old) }
-    ensures store { length (V.state files.new).store ≡ length (V.state files.old).store }
-    ensures cause { HasCause (V.faults files.old) (V.faults files.new) result }
+    ensures frame { OnlyReads V.state V.lent V.reads V.faults files.old files.new result }
 {
     if slots > 2048 {
         return Ok(false);

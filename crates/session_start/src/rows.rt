@@ -2,13 +2,13 @@
 
 #![tactic(auto)]
 
-ghost use Rattle.std.specs.Prelude.{◌≡◌, ◌+◌, ◌*◌, ◌<◌, ◌≤◌, ◌⊎◌, ℕ, None, IfNone, IfOk, IfSome, IsTrue, MatchOption, OnOk, get_or, length};
+ghost use Rattle.std.specs.Prelude.{◌≡◌, ◌+◌, ◌*◌, ◌<◌, ◌≤◌, ◌⊎◌, ℕ, None, IfNone, IfOk, IfSome, IsTrue, MatchOption, get_or, length};
+ghost use Rattle.afl_base.specs.Keeping.{OnlyReads};
 ghost use Rattle.std.specs.Bool.{Decides};
-ghost use Rattle.afl_base.specs.Causes.{HasCause};
 ghost use Rattle.stored.specs.Sound.{IsFirst};
 ghost use Rattle.tuple_file.specs.Tuples.{IsRowFile};
 ghost use Rattle.session_start.specs.Judged.{AllEight, AreRowsOf, HasRows, HoldsFew, HoldsSlot};
-ghost use Rattle.session_start.specs.Reads.{all_slots, slots_in};
+ghost use Rattle.session_start.specs.Reads.{all_slots, slots_of_relation};
 
 use afl_base::{Failed, Files};
 use session_model::Held;
@@ -26,9 +26,7 @@ pub fn first_without_rows<V: Files>(files: &mut V, held: &Held) -> Result<Option
     ensures holds { IfOk result (λ slot. IfNone slot (AllEight (HoldsSlot (V.state files.old) held.now))) }
     ensures reads { V.reads files.new ≤ V.reads files.old
         + 6 * all_slots (V.state files.old).files held.now.relations }
-    ensures same { OnOk result (V.state files.new ≡ V.state files.old) }
-    ensures store { length (V.state files.new).store ≡ length (V.state files.old).store }
-    ensures cause { HasCause (V.faults files.old) (V.faults files.new) result }
+    ensures frame { OnlyReads V.state V.lent V.reads V.faults files.old files.new result }
 {
     for slot in 0..8u16 {
         let held_rows = holds_rows(files, &held.relations[slot as usize], held.version)?;
@@ -51,10 +49,8 @@ fn holds_rows<V: Files>(
         Decides valid (AreRowsOf (V.state files.old).files version relation.now)) }
     ensures holds { IfOk result (λ valid. IsTrue valid → HoldsFew (V.state files.old) version relation.now) }
     ensures reads { V.reads files.new ≤ V.reads files.old
-        + 6 * slots_in (V.state files.old).files relation.now }
-    ensures same { OnOk result (V.state files.new ≡ V.state files.old) }
-    ensures store { length (V.state files.new).store ≡ length (V.state files.old).store }
-    ensures cause { HasCause (V.faults files.old) (V.faults files.new) result }
+        + 6 * slots_of_relation (V.state files.old).files relation.now }
+    ensures frame { OnlyReads V.state V.lent V.reads V.faults files.old files.new result }
 {
     match relation {
         None => Ok(true),

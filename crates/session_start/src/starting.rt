@@ -2,16 +2,16 @@
 
 #![tactic(auto)]
 
-ghost use Rattle.std.specs.Prelude.{◌≡◌, ◌+◌, ◌*◌, ◌≤◌, None, IfErr, IfNone, IfOk, IsTrue, MatchOption, OnOk, length, map, replicate};
+ghost use Rattle.std.specs.Prelude.{◌≡◌, ◌+◌, ◌*◌, ◌≤◌, None, IfErr, IfNone, IfOk, IsTrue, MatchOption, OnOk, map, replicate};
+ghost use Rattle.afl_base.specs.Keeping.{OnlyReads};
 ghost use Rattle.std.specs.List.{range_with_len};
-ghost use Rattle.afl_base.specs.Causes.{HasCause};
 ghost use Rattle.db_model.specs.Cost.{sum};
 ghost use Rattle.db_model.specs.RunCost.{slots_opened};
 ghost use Rattle.session_model.specs.Running.{IsRunning};
 ghost use Rattle.session_model.specs.View.{view};
 ghost use Rattle.stored.specs.Base.{base_of};
 ghost use Rattle.stored.specs.Sound.{BreaksFirst, IsSoundTable};
-ghost use Rattle.session_start.specs.Found.{IsFound};
+ghost use Rattle.session_start.specs.Found.{AreFilesFound};
 ghost use Rattle.session_start.specs.Judged.{BreaksHeld, IsReadyAll, KeepsAll};
 ghost use Rattle.session_start.specs.Reads.{all_reads, all_slots};
 
@@ -46,12 +46,10 @@ pub fn open_database<V: Files>(
         IsRunning (V.state files.old) tables.new held (replicate 4 None))) }
     ensures bad { IsTrue (V.state files.old).tells → IfOk result (λ r. IfErr r (λ broken.
         BreaksFirst (V.state files.old).files broken.rule broken.place)) }
-    ensures same { OnOk result (V.state files.new ≡ V.state files.old) }
     ensures reads { let base = base_of (V.state files.old).files in
         IsTrue (V.state files.old).tells → V.reads files.new ≤ V.reads files.old
         + 1024 + 16384 + 16 * sum (map (slots_opened base) (range_with_len 0 8)) }
-    ensures store { length (V.state files.new).store ≡ length (V.state files.old).store }
-    ensures cause { HasCause (V.faults files.old) (V.faults files.new) result }
+    ensures frame { OnlyReads V.state V.lent V.reads V.faults files.old files.new result }
 {
     let catalog = match load(files)? {
         Ok(catalog) => catalog,
@@ -73,16 +71,14 @@ fn first_broken_rule<V: Files>(
     tables: &mut HashTables,
     held: &Held,
 ) -> Result<Option<BrokenRule>, Failed>
-    requires found { IsFound (V.state files.old) held.now }
+    requires found { AreFilesFound (V.state files.old) held.now }
     ensures judged { let files_old = (V.state files.old).files in IsTrue (V.state files.old).tells
         → IfOk result (λ r. MatchOption r (KeepsAll files_old held.now) (λ broken.
         BreaksHeld files_old held.now broken.rule broken.place)) }
     ensures ready { IfOk result (λ r. IfNone r (IsReadyAll (V.state files.old) tables.new held.now)) }
     ensures reads { let files_old = (V.state files.old).files in V.reads files.new ≤ V.reads files.old
         + 6 * all_slots files_old held.now.relations + all_reads files_old held.now.relations held.now.indexes }
-    ensures same { OnOk result (V.state files.new ≡ V.state files.old) }
-    ensures store { length (V.state files.new).store ≡ length (V.state files.old).store }
-    ensures cause { HasCause (V.faults files.old) (V.faults files.new) result }
+    ensures frame { OnlyReads V.state V.lent V.reads V.faults files.old files.new result }
 {
     if let Some(place) = first_without_rows(files, held)? {
         return Ok(Some(BrokenRule { rule: 19, place }));

@@ -37,7 +37,8 @@ pub fn expect_each_on_flash(alloc: Global, cases: &[Case]) -> Result<(), Fail> {
     Ok(())
 }
 
-fn expect_on_flash(alloc: Global, bytes: usize, case: &Case) -> Result<(), Fail> {
+/// Carries out a script over an erased flash of so many bytes.
+pub fn expect_on_flash(alloc: Global, bytes: usize, case: &Case) -> Result<(), Fail> {
     let mut image = vec![in alloc; 0u8; bytes]?;
     let flash = MemFlash::new(image.as_mut_slice()).ok_or("no flash")?;
     expect_over(alloc, mounted(flash)?, case)

@@ -1,6 +1,6 @@
 //! Sessions over a flash in memory: merging, drafts, growth, and full pools.
 
-use crate::cases::{Case, LARGE, expect, expect_each_on_flash};
+use crate::cases::{Case, LARGE, expect, expect_each_on_flash, expect_on_flash};
 use crate::told::{mounted, say, started};
 use afl_sim::MemFlash;
 use arrayvec::ArrayVec;
@@ -108,6 +108,27 @@ const SLOTS: &[Case] = &[Case {
 #[test]
 fn the_last_slot_is_number_32_767(rt: HostRuntime) -> Result<(), Fail> {
     expect_each_on_flash(rt.alloc(), SLOTS)
+}
+
+// 812 rows of four bytes fill a flash of four sectors.
+const FILLED: Case = Case {
+    shows: "a command that has no space does nothing",
+    script: &[
+        Part::Once("CREATE RELATION n;CREATE ATTRIBUTE v DOMAIN LONG IN n;"),
+        Part::Often("INSERT (1) INTO n;", 812),
+        Part::Often("INSERT (2) INTO n;SELECT COUNT(v), MAX(v) FROM n;", 2),
+        Part::Once("REMOVE FROM n WHERE v = 2;SELECT v FROM m;"),
+    ],
+    replies: &[
+        Part::Often("ok\n", 814),
+        Part::Often("no space 32\n812,1\nrows 1\n", 2),
+        Part::Once("rows 0\nno relation\n"),
+    ],
+};
+
+#[test]
+fn a_command_that_has_no_space_does_nothing(rt: HostRuntime) -> Result<(), Fail> {
+    expect_on_flash(rt.alloc(), 16_384, &FILLED)
 }
 
 const SAMPLES: &[u8] = b"CREATE RELATION samples;CREATE ATTRIBUTE minute DOMAIN LONG IN samples;\

@@ -4,13 +4,13 @@
 #[cfg(test)]
 mod cases;
 #[cfg(test)]
+mod file_tests;
+#[cfg(test)]
 mod filling;
 #[cfg(test)]
 mod flash_tests;
 #[cfg(test)]
 mod index_tests;
-#[cfg(test)]
-mod list_tests;
 #[cfg(test)]
 mod row_tests;
 #[cfg(test)]

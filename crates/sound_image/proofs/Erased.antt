@@ -12,7 +12,7 @@ use Rattle.coffee_layout.specs.Units.{pages_of, unit_at, unit_of}
 use Rattle.padded.specs.Zeros.{is_zeros}
 use Rattle.afl_base.specs.Files.{Table}
 use Rattle.db_model.specs.Database.{empty_database}
-use Rattle.sound_image.specs.Images.{IsSound, base, files_in}
+use Rattle.sound_image.specs.Images.{IsSound, base, files_of_image}
 use Rattle.catalog.specs.Rules.{breaks_files, breaks_index, breaks_relation, broken_catalog, first, first_broken}
 use Rattle.stored.specs.Base.{base_of}
 use Rattle.stored.specs.Sound.{IsSoundTable}
@@ -100,8 +100,8 @@ volume_sound n = rw (tiling_kept n) (files_kept n)
 abbrev empty_table : Table
 empty_table = replicate 32 None
 
-files_erased : (n : ℕ) → files_in (erased n) ≡ empty_table
-unfolding files_in
+files_erased : (n : ℕ) → files_of_image (erased n) ≡ empty_table
+unfolding files_of_image
 files_erased n = rw (no_files n) refl
 
 base_empty : base_of empty_table ≡ empty_database

@@ -6,7 +6,7 @@ use Rattle.coffee_layout.specs.Tiling.{units_of}
 use Rattle.coffee_layout.specs.declared.file.FileAt.{FileAt}
 use Rattle.coffee_volume.specs.Mounting.{mounted_state}
 use Rattle.coffee_volume.specs.Volumes.{files_seen, roomless}
-use Rattle.sound_image.specs.Images.{file_from, files_in}
+use Rattle.sound_image.specs.Images.{file_from, files_of_image}
 
 none_seen : (image : List ℕ) (n : ℕ) → files_seen true image (replicate n None) ≡ replicate n None
 none_seen image zero = refl
@@ -18,8 +18,8 @@ seen : (image : List ℕ) (fs : List Placed) (n : ℕ)
 seen image [] n = none_seen image n
 seen image (f ∷ fs) n = ap (λ t. Some (file_from (named_file image f)) ∷ t) (seen image fs n)
 
-pub mounted_files : (image : List ℕ) → (mounted_state image).files ≡ files_in image
-unfolding files_in
+pub mounted_files : (image : List ℕ) → (mounted_state image).files ≡ files_of_image image
+unfolding files_of_image
 mounted_files image =
     let fs = placed_in (units_of image) in
     let same : length (map (entry_of image) fs) ≡ length (map (named_file image) fs) = length-map fs (entry_of image) ∙ sym (length-map fs (named_file image)) in

@@ -8,11 +8,11 @@ use Rattle.session_model.specs.Wanted.{room_in}
 use Rattle.space_model.specs.Enough.{enough, most}
 use Rattle.space_model.specs.FileNames.{size_in}
 use Rattle.space_model.specs.Wants.{Wants}
-use Rattle.sound_image.specs.Images.{base, files_in}
+use Rattle.sound_image.specs.Images.{base, files_of_image}
 
 -- a command wants an extent of n pages, as the files of the image stand
 abbrev pub WantsOf : List ℕ → Command → ℕ → Type 0
-WantsOf image command n = Wants (size_in (files_in image)) (AsksOf image) (room_in (files_in image)) (base image) command n
+WantsOf image command n = Wants (size_in (files_of_image image)) (AsksOf image) (room_in (files_of_image image)) (base image) command n
 
 -- it wants them, no more than the most that are counted for it, and none can be had: the image is cramped for n pages, and so
 -- has fewer sectors than are enough for its database

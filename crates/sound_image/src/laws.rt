@@ -5,7 +5,7 @@
 ghost use Rattle.std.specs.Prelude.{◌≡◌, ℕ, ◌*◌, List, replicate};
 ghost use Rattle.coffee_volume.specs.Mounting.{mounted_state};
 ghost use Rattle.db_model.specs.Database.{empty_database};
-ghost use Rattle.sound_image.specs.Images.{IsFirstBroken, IsSound, base, files_in};
+ghost use Rattle.sound_image.specs.Images.{IsFirstBroken, IsSound, base, files_of_image};
 
 /// The erased image is sound, and its database has no relation and no index.
 #[tactic(auto, using(crate::proofs::Erased::erased_sound, crate::proofs::Erased::erased_base))]
@@ -22,5 +22,5 @@ pub fn sound_image_breaks_no_rule()
 /// The files of an image are those that a volume shows once it is mounted.
 #[tactic(auto, using(crate::proofs::Mounted::mounted_files))]
 pub fn mounted_files_are_the_images()
-    ensures { (image : List ℕ) → (mounted_state image).files ≡ files_in image }
+    ensures { (image : List ℕ) → (mounted_state image).files ≡ files_of_image image }
 {}

@@ -32,6 +32,7 @@ fn tell_places<V: Files>(files: &V)
 /// and what a command wanted of the files and lacked it lacks there.
 pub fn hand_back<F: Flash>(volume: Volume<F>) -> F
     ensures image { F.image result ≡ (⟦<Volume<F> as Files>⟧.state volume).store }
+    ensures lent { F.lent result ≡ ⟦<Volume<F> as Files>⟧.lent volume }
     ensures reads { F.reads result ≡ ⟦<Volume<F> as Files>⟧.reads volume }
     ensures faults { F.faults result ≡ ⟦<Volume<F> as Files>⟧.faults volume }
     ensures sound { let state = ⟦<Volume<F> as Files>⟧.state volume in

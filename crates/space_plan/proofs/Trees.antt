@@ -4,7 +4,7 @@ use Rattle.std.specs.Prelude.{nat_lt}
 use Rattle.std.specs.Option.{option_to_list}
 use Rattle.std.proofs.lemmas.Bool.Decides.{nat_tests}
 use Rattle.std.proofs.lemmas.List.{length-map}
-use Rattle.antelope_engine.specs.Reading.{keys_of}
+use Rattle.antelope_engine.specs.Reading.{keys_at_index}
 use Rattle.db_model.specs.declared.schemas.IndexKind.{IndexKind}
 use Rattle.db_model.specs.declared.schemas.IndexKind.TheVariants.{Inline, MaxHeap, MemHash}
 use Rattle.db_model.specs.Catalog.{Index}
@@ -20,13 +20,13 @@ with_tree MaxHeap size e = refl
 with_tree MemHash size e = cc
 
 pub tree_there : (n : ℕ) (db : Database) (at : Option Index) (index : Index) (size many slots : ℕ) → at ≡ Some index → index.kind ≡ MaxHeap
-    → many ≡ buckets (keys_of db index) → slots ≡ length (rows_in db index.relation) → size ≡ 683 + 195 * buckets_planned n many slots
+    → many ≡ buckets (keys_at_index db index) → slots ≡ length (rows_in db index.relation) → size ≡ 683 + 195 * buckets_planned n many slots
     → size ∷ [] ≡ trees_planned n db (option_to_list at)
 tree_there n db at index size many slots there heap many_is slots_is size_is =
-    let all : length (keys_of db index) ≡ length (rows_in db index.relation) = length-map (rows_in db index.relation) _ in
-    let planned : size ≡ tree_planned n (keys_of db index) =
-    size_is ∙ ap (λ b. 683 + 195 * buckets_planned n b slots) many_is ∙ ap (λ s. 683 + 195 * buckets_planned n (buckets (keys_of db index)) s) (slots_is ∙ sym all) in
-    rw (there, with_tree index.kind (tree_planned n (keys_of db index)) heap, ← planned) refl
+    let all : length (keys_at_index db index) ≡ length (rows_in db index.relation) = length-map (rows_in db index.relation) _ in
+    let planned : size ≡ tree_planned n (keys_at_index db index) =
+    size_is ∙ ap (λ b. 683 + 195 * buckets_planned n b slots) many_is ∙ ap (λ s. 683 + 195 * buckets_planned n (buckets (keys_at_index db index)) s) (slots_is ∙ sym all) in
+    rw (there, with_tree index.kind (tree_planned n (keys_at_index db index)) heap, ← planned) refl
 
 -- a number below 8 is that of its slot
 pub slot_is : (slot id : ℕ) (made : Option ℕ) → slot < 8 → made ≡ (if nat_lt slot 8 then Some slot else None) → made ≡ Some id → id ≡ slot

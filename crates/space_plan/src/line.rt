@@ -3,8 +3,8 @@
 #![tactic(auto)]
 
 ghost use Rattle.std.specs.Prelude.{◌≡◌, OnErr, OnOk};
+ghost use Rattle.afl_base.specs.Keeping.{Sends};
 ghost use Rattle.std.specs.Io.KnownBytes.{append_known};
-ghost use Rattle.afl_base.specs.Causes.{HasCause};
 ghost use Rattle.reply_text.specs.WroteLess.{WroteLess};
 ghost use Rattle.space_plan.specs.Lines.{plan_text};
 
@@ -17,9 +17,7 @@ pub fn write_plan<K: Sink>(out: &mut K, needed: u32, present: u16) -> Result<(),
         (K.held out.new ≡ append_known (K.held out.old) (plan_text needed present)) }
     ensures failed { OnErr result
         (WroteLess (K.held out.old) (K.held out.new) (plan_text needed present)) }
-    ensures keeps { K.keeps out.old out.new }
-    ensures faultless { OnOk result (K.faults out.new ≡ K.faults out.old) }
-    ensures cause { HasCause (K.faults out.old) (K.faults out.new) result }
+    ensures frame { Sends K.lent K.faults out.old out.new result }
 {
     write_line_of_counts(
         out,

@@ -4,7 +4,7 @@
 
 ghost use Rattle.std.specs.Prelude.{◌≡◌, ◌+◌, ◌<◌, ◌≤◌, ◌++◌, [], false, IsTrue, length, map, option_map};
 ghost use Rattle.std.specs.Option.{option_to_list};
-ghost use Rattle.antelope_engine.specs.Reading.{index_at, relation_at};
+ghost use Rattle.antelope_engine.specs.Reading.{index_in_slot, relation_in_slot};
 ghost use Rattle.db_model.specs.Database.{used};
 ghost use Rattle.db_model.specs.Sound.{IsSoundDatabase};
 ghost use Rattle.space_model.specs.Enough.{rows_in};
@@ -20,7 +20,7 @@ use db_model::{Few, IndexKind};
 fn planned_rows<V: Files>(session: &Session<V>, slot: u16, rows: u16) -> Option<u32>
     requires running { session.now.stopped ≡ false }
     requires slot { slot < 8 }
-    ensures { result ≡ option_map (rows_planned rows) (relation_at session.now.database slot) }
+    ensures { result ≡ option_map (rows_planned rows) (relation_in_slot session.now.database slot) }
 {
     let id = RelationId::new(slot)?;
     let schema = session.schema(id)?;
@@ -42,7 +42,7 @@ fn slots_in<V: Files>(session: &Session<V>, id: RelationId) -> u16
 fn planned_tree<V: Files>(session: &Session<V>, slot: u16, rows: u16) -> Option<u32>
     requires running { session.now.stopped ≡ false }
     requires slot { slot < 8 }
-    ensures { let at = index_at session.now.database slot in IsTrue (V.state session.now.files).tells
+    ensures { let at = index_in_slot session.now.database slot in IsTrue (V.state session.now.files).tells
         → option_to_list result ≡ trees_planned rows session.now.database (option_to_list at) }
 {
     let id = IndexId::new(slot)?;

@@ -22,10 +22,10 @@ use Rattle.db_model.specs.Row.{row_at, row_bytes, row_length, rows_of, slots_in}
 use Rattle.db_model.proofs.Decoded.{length-row_read}
 use Rattle.space_model.specs.FileNames.{catalog_file, rows_file, tree_file}
 use Rattle.tuple_file.specs.Tuples.{AreRows}
-use Rattle.stored.specs.Sound.{IsComplete, IsSoundTable, keys_in}
+use Rattle.stored.specs.Sound.{IsIndexComplete, IsSoundTable, keys_stored}
 use Rattle.space_model.specs.FileNames.{bytes_named}
 use Rattle.index_tree.proofs.Law.{sized}
-use Rattle.stored.specs.Base.{base_of, relation_in}
+use Rattle.stored.specs.Base.{base_of, relation_stored}
 use Rattle.catalog.specs.Rules.{catalog_in}
 use Rattle.catalog.specs.Rules.{breaks_files, broken_at, broken_catalog, catalog_bytes_in, differ, earliest, first, first_broken, is_numbered, is_of_database, is_stranger, is_tree}
 use Rattle.space_model.specs.FileNames.{bytes_of, file_named, is_there}
@@ -215,7 +215,7 @@ rows_file_of files f d s found kind n =
     record {
       slot = n.slot;
       relation = relation;
-      there = get_or-map-range_with_len (relation_in files (catalog_in files).relations) 0 8 n.slot n.slot None n.below (omega arith)
+      there = get_or-map-range_with_len (relation_stored files (catalog_in files).relations) 0 8 n.slot n.slot None n.below (omega arith)
           ∙ ap (option_map (λ x. record { schema = x; rows = rows_of x.attributes (bytes_of (file_named (rows_file n.slot) files)) })) used.1;
       name = name;
       kind = kind;
@@ -238,8 +238,8 @@ tree_file_of files f d s found kind n =
       name = name;
       kind = kind;
       size = ap length (sym same)
-          ∙ sized (bytes_named (tree_file n.slot) files) (keys_in files used.0)
-          (subst (λ k. IsComplete k (bytes_named (tree_file n.slot) files) (keys_in files used.0)) used.2 (s.indexes n.slot n.below used.0 used.1));
+          ∙ sized (bytes_named (tree_file n.slot) files) (keys_stored files used.0)
+          (subst (λ k. IsIndexComplete k (bytes_named (tree_file n.slot) files) (keys_stored files used.0)) used.2 (s.indexes n.slot n.below used.0 used.1));
     }
 
 -- the files of a sound image are those of its database

@@ -11,9 +11,9 @@ use Rattle.db_model.specs.Step.{keys}
 use Rattle.space_model.specs.Enough.{rows_in}
 use Rattle.space_model.specs.FileNames.{catalog_file, rows_file, tree_file}
 use Rattle.tuple_file.specs.Tuples.{AreRows}
-use Rattle.stored.specs.Sound.{IsComplete, IsSoundTable}
+use Rattle.stored.specs.Sound.{IsIndexComplete, IsSoundTable}
 use Rattle.space_model.specs.FileNames.{bytes_named}
-use Rattle.stored.specs.Base.{base_of, relation_in}
+use Rattle.stored.specs.Base.{base_of, relation_stored}
 use Rattle.catalog.specs.Rules.{catalog_in}
 use Rattle.catalog.specs.Rules.{breaks_files, broken_at, broken_catalog, catalog_bytes_in, earliest, first, first_broken, is_of_database, is_stranger}
 use Rattle.space_model.specs.FileNames.{bytes_of, file_named, is_there}
@@ -50,7 +50,7 @@ map_same : {X : Type 0} (f g : ℕ → X) → ((k : ℕ) → f k ≡ g k) → (k
 map_same f g h [] = refl
 map_same f g h (k ∷ ks) = ap (λ x. x ∷ map f ks) (h k) ∙ ap (λ rest. g k ∷ rest) (map_same f g h ks)
 
-relation_same : (old new : Table) (schemas : List (Option Schema)) (slot : ℕ) → AreDistinct old → AreDistinct new → HaveSameFiles old new → relation_in old schemas slot ≡ relation_in new schemas slot
+relation_same : (old new : Table) (schemas : List (Option Schema)) (slot : ℕ) → AreDistinct old → AreDistinct new → HaveSameFiles old new → relation_stored old schemas slot ≡ relation_stored new schemas slot
 relation_same old new schemas slot d k s =
     ap (λ bytes. option_map (λ (schema : Schema). record { schema = schema; rows = rows_of schema.attributes bytes }) (get_or schemas slot None)) (bytes_same old new (rows_file slot) d k s)
 
@@ -64,9 +64,9 @@ base_same old new d k s =
       indexes = (catalog_of bytes).indexes;
       cursors = (base_of old).cursors;
     } in
-    ap (λ bytes. made bytes (map (relation_in old (catalog_of bytes).relations) (range_with_len 0 8))) catalog
+    ap (λ bytes. made bytes (map (relation_stored old (catalog_of bytes).relations) (range_with_len 0 8))) catalog
     ∙ ap (made (catalog_bytes_in new))
-    (map_same (relation_in old (catalog_in new).relations) (relation_in new (catalog_in new).relations) (λ slot. relation_same old new (catalog_in new).relations slot d k s) (range_with_len 0 8))
+    (map_same (relation_stored old (catalog_in new).relations) (relation_stored new (catalog_in new).relations) (λ slot. relation_same old new (catalog_in new).relations slot d k s) (range_with_len 0 8))
 
 -- ---- sound tables
 
@@ -155,7 +155,7 @@ sound_same old new d k s few t =
           subst (λ bytes. AreRows (catalog_in new).version schema.attributes bytes) (bytes_same old new (rows_file slot) d k s)
           (subst (λ bytes. get_or (catalog_of bytes).relations slot None ≡ Some schema → AreRows (catalog_of bytes).version schema.attributes (bytes_of (file_named (rows_file slot) old))) catalog (t.rows slot within schema) e);
       indexes = λ slot within index e.
-          subst (λ db. IsComplete index.kind (bytes_named (tree_file slot) new) (keys index.attribute (rows_in db index.relation))) base
-          (subst (λ bytes. IsComplete index.kind bytes (keys index.attribute (rows_in (base_of old) index.relation))) (bytes_same old new (tree_file slot) d k s)
-          (subst (λ bytes. get_or (catalog_of bytes).indexes slot None ≡ Some index → IsComplete index.kind (bytes_named (tree_file slot) old) (keys index.attribute (rows_in (base_of old) index.relation))) catalog (t.indexes slot within index) e));
+          subst (λ db. IsIndexComplete index.kind (bytes_named (tree_file slot) new) (keys index.attribute (rows_in db index.relation))) base
+          (subst (λ bytes. IsIndexComplete index.kind bytes (keys index.attribute (rows_in (base_of old) index.relation))) (bytes_same old new (tree_file slot) d k s)
+          (subst (λ bytes. get_or (catalog_of bytes).indexes slot None ≡ Some index → IsIndexComplete index.kind (bytes_named (tree_file slot) old) (keys index.attribute (rows_in (base_of old) index.relation))) catalog (t.indexes slot within index) e));
     }

@@ -20,8 +20,8 @@ use Rattle.db_model.specs.Sound.{IsIndexOf, IsSoundDatabase, IsSoundIndex, IsSou
 use Rattle.db_model.specs.Step.{allows, keys}
 use Rattle.space_model.specs.Enough.{rows_in}
 use Rattle.space_model.specs.FileNames.{bytes_named, rows_file, tree_file}
-use Rattle.stored.specs.Base.{base_of, relation_in}
-use Rattle.stored.specs.Sound.{IsComplete, IsSoundTable, keys_in}
+use Rattle.stored.specs.Base.{base_of, relation_stored}
+use Rattle.stored.specs.Sound.{IsIndexComplete, IsSoundTable, keys_stored}
 use Rattle.stored.proofs.FilesOf.{unbroken}
 use Rattle.stored.proofs.SoundSlots.{IsUnbroken, among_first, no_some, slot_below, sound_index_slot, sound_schema, sound_slot, some_same, unbroken_slots}
 use Rattle.stored.proofs.WrittenBytes.{rows_count, rows_suit}
@@ -51,7 +51,7 @@ module _ (files : Table) (s : IsSoundTable files) where
 
   pub used_slot : (k : ℕ) (r : Relation) → StandsIn (base_of files).relations k r → IsUsed k r
   used_slot k r e =
-      let at = slot_below (relation_in files (catalog_in files).relations) 8 k r e in
+      let at = slot_below (relation_stored files (catalog_in files).relations) 8 k r e in
       by_schema at.below (get_or (catalog_in files).relations k None) refl at.is
     where
       by_schema : k < 8 → (o : Option Schema) → get_or (catalog_in files).relations k None ≡ o
@@ -102,7 +102,7 @@ module _ (files : Table) (s : IsSoundTable files) where
   pub used_index : (k : ℕ) (index : Index) → StandsIn (base_of files).indexes k index → IsUsedIndex k index
   used_index k index e = let at = slot_below (index_at bytes) 8 k index e in record { below = at.below; is = at.is }
 
-  suit_kind : (kind : IndexKind) (bs : List ℕ) (ks : List ℤ) → IsComplete kind bs ks → SuitKind kind ks
+  suit_kind : (kind : IndexKind) (bs : List ℕ) (ks : List ℤ) → IsIndexComplete kind bs ks → SuitKind kind ks
   suit_kind Inline bs ks c = c
   suit_kind MaxHeap bs ks c = tt
   suit_kind MemHash bs ks c = c
@@ -112,7 +112,7 @@ module _ (files : Table) (s : IsSoundTable files) where
       let u = used_index k index e in
       let slot = sound_index_slot bytes k index slots_are u.below u.is in
       by_schema (get_or (catalog_in files).relations index.relation None) refl slot.stands
-      (suit_kind index.kind (bytes_named (tree_file k) files) (keys_in files index) (s.indexes k u.below index e))
+      (suit_kind index.kind (bytes_named (tree_file k) files) (keys_stored files index) (s.indexes k u.below index e))
     where
       by_attribute : (schema : Schema) (rows : List Row) (o : Option Attribute) → slice_get schema.attributes index.attribute ≡ o
           → elim o [ None ↦ false | Some a ↦ allows index.kind a.domain ] ≡ true → SuitKind index.kind (keys index.attribute rows)
@@ -121,14 +121,14 @@ module _ (files : Table) (s : IsSoundTable files) where
       by_attribute schema rows (Some a) p allowed suits = record { attribute = a; placed = p; allowed = allowed; keys = suits }
 
       by_schema : (o : Option Schema) → get_or (catalog_in files).relations index.relation None ≡ o → stands_on index o ≡ true
-          → SuitKind index.kind (keys_in files index) → IsSoundIndex (base_of files).relations index
+          → SuitKind index.kind (keys_stored files index) → IsSoundIndex (base_of files).relations index
       by_schema None p stands suits = absurd (let n : ⊥ = cc in n)
       by_schema (Some schema) p stands suits =
           let at = slot_below (relation_at bytes) 8 index.relation schema p in
           let rows : List Row = rows_of schema.attributes (bytes_named (rows_file index.relation) files) in
           let relation : Relation = record { schema = schema; rows = rows } in
           let there : StandsIn (base_of files).relations index.relation relation =
-          get_or-map-range_with_len (relation_in files (catalog_in files).relations) 0 8 index.relation index.relation None at.below (omega arith)
+          get_or-map-range_with_len (relation_stored files (catalog_in files).relations) 0 8 index.relation index.relation None at.below (omega arith)
           ∙ ap (option_map (λ (x : Schema). record { schema = x; rows = rows_of x.attributes (bytes_named (rows_file index.relation) files) })) p in
           let same : rows_in (base_of files) index.relation ≡ rows = ap (λ (o : Option Relation). option_map_or (λ (x : Relation). x.rows) o []) there in
           record {
@@ -229,7 +229,7 @@ module _ (files : Table) (s : IsSoundTable files) where
   pub sound_base : IsSoundDatabase (base_of files)
   sound_base = record {
     version = version_is;
-    eight_relations = length-map-range_with_len (relation_in files (catalog_in files).relations) 0 8;
+    eight_relations = length-map-range_with_len (relation_stored files (catalog_in files).relations) 0 8;
     eight_indexes = length-map-range_with_len (index_at bytes) 0 8;
     four_cursors = refl;
     relations = sound_relation;

@@ -17,7 +17,7 @@ use Rattle.space_model.specs.Wants.{IsStoreOf}
 use Rattle.space_model.proofs.NamedFiles.{named_found, size_found}
 use Rattle.stored.specs.Base.{base_of}
 use Rattle.stored.specs.Files.{HasGrowing, IsMatched}
-use Rattle.stored.specs.Sound.{IsComplete, IsSoundTable, keys_in}
+use Rattle.stored.specs.Sound.{IsIndexComplete, IsSoundTable, keys_stored}
 use Rattle.stored.proofs.FilesOf.{whole_rows}
 use Rattle.stored.proofs.HasFiles.{its_files}
 use Rattle.stored.proofs.SoundBase.{sound_relation, used_index, used_slot}
@@ -58,8 +58,8 @@ module _ (files : Table) (size : length files ≡ 32) (d : AreDistinct files) (s
       let there : HasGrowing files (tree_file slot) =
       subst (λ (b : Bool). IsMatched files (tree_file slot) b) (heap_tree index heap)
       (subst (λ (o : Option Index). IsMatched files (tree_file slot) (is_tree o)) e ((its_files files size d s.catalog).trees slot u.below)) in
-      let tree = subst (λ k. IsComplete k (bytes_named (tree_file slot) files) (keys_in files index)) heap (s.indexes slot u.below index e) in
-      sizes_of (tree_file slot) (tree_size (keys_in files index)) there (sized (bytes_named (tree_file slot) files) (keys_in files index) tree)
+      let tree = subst (λ k. IsIndexComplete k (bytes_named (tree_file slot) files) (keys_stored files index)) heap (s.indexes slot u.below index e) in
+      sizes_of (tree_file slot) (tree_size (keys_stored files index)) there (sized (bytes_named (tree_file slot) files) (keys_stored files index) tree)
 
   pub store_of : IsStoreOf (size_in files) (base_of files)
   store_of = record {

@@ -9,8 +9,8 @@ use Rattle.db_model.specs.Row.{rows_of}
 use Rattle.space_model.specs.FileNames.{bytes_named, rows_file}
 
 -- the relation in a slot of the catalog, with the rows of its file
-abbrev pub relation_in : Table → List (Option Schema) → ℕ → Option Relation
-relation_in files schemas slot =
+abbrev pub relation_stored : Table → List (Option Schema) → ℕ → Option Relation
+relation_stored files schemas slot =
     option_map
     (λ schema. record { schema = schema; rows = rows_of schema.attributes (bytes_named (rows_file slot) files) })
     (get_or schemas slot None)
@@ -19,7 +19,7 @@ relation_in files schemas slot =
 abbrev pub base_of : Table → Database
 base_of files = record {
   version = (catalog_in files).version;
-  relations = map (relation_in files (catalog_in files).relations) (range_with_len 0 8);
+  relations = map (relation_stored files (catalog_in files).relations) (range_with_len 0 8);
   indexes = (catalog_in files).indexes;
   cursors = replicate 4 None;
 }

@@ -21,17 +21,17 @@ KeepsRows files slot = (schema : Schema) → get_or (catalog_in files).relations
 
 -- rule 20: an index is complete for the keys of all slots. INLINE: they do not fall. MAXHEAP: its file is their hash tree.
 -- MEMHASH: they are at most 2,048
-abbrev pub IsComplete : IndexKind → List ℕ → List ℤ → Type 0
-IsComplete Inline bytes keys = first_fall keys ≡ None
-IsComplete MaxHeap bytes keys = IsTreeOf bytes keys
-IsComplete MemHash bytes keys = length keys ≤ 2048
+abbrev pub IsIndexComplete : IndexKind → List ℕ → List ℤ → Type 0
+IsIndexComplete Inline bytes keys = first_fall keys ≡ None
+IsIndexComplete MaxHeap bytes keys = IsTreeOf bytes keys
+IsIndexComplete MemHash bytes keys = length keys ≤ 2048
 
-abbrev pub keys_in : Table → Index → List ℤ
-keys_in files index = keys index.attribute (rows_in (base_of files) index.relation)
+abbrev pub keys_stored : Table → Index → List ℤ
+keys_stored files index = keys index.attribute (rows_in (base_of files) index.relation)
 
 abbrev pub KeepsIndex : Table → ℕ → Type 0
 KeepsIndex files slot = (index : Index) → get_or (catalog_in files).indexes slot None ≡ Some index
-    → IsComplete index.kind (bytes_named (tree_file slot) files) (keys_in files index)
+    → IsIndexComplete index.kind (bytes_named (tree_file slot) files) (keys_stored files index)
 
 pub record IsSoundTable (files : Table) : Type 0 where
   -- 14: each file is the catalog, the rows of a relation or a tree, and of its kind

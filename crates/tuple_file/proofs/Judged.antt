@@ -1,5 +1,5 @@
 -- Rows that are written as they were read, field by field.
-use Rattle.std.proofs.Common.{◌≡◌, refl, sym, ap, ◌∙◌, ℕ, zero, suc, ◌-◌, ◌≤◌, Bool, true, false, ◌&&◌, List, [], ◌∷◌, ◌++◌, length, take, drop, get_or, arith, append_assoc, length-append}
+use Rattle.std.proofs.Common.{◌≡◌, refl, sym, ap, ◌∙◌, ℕ, zero, suc, ◌-◌, ◌≤◌, Bool, true, false, List, [], ◌∷◌, ◌++◌, length, take, drop, get_or, arith, append_assoc, length-append}
 use Rattle.std.specs.Prelude.{◌==◌, ◌||◌, ◌↔◌, replicate}
 use Rattle.std.specs.List.{list_all}
 use Rattle.std.proofs.lemmas.Bool.Decides.{nat_tests}
@@ -11,6 +11,7 @@ use Rattle.db_model.specs.Names.{is_text}
 use Rattle.db_model.specs.Row.{field_bytes, field_of, fields_bytes, fields_length, is_text_field, mark, row_bytes, row_of, tuple_of, up_to_zero, width}
 use Rattle.db_model.proofs.Decoded.{length-row_read}
 use Rattle.db_model.proofs.Rows.{drop_front, take_front}
+use Rattle.padded.proofs.Facts.{all_zeros, second_part}
 use Rattle.padded.specs.Padded.{padded}
 
 -- the field that bytes begin with is written as it was read
@@ -31,10 +32,6 @@ are_zeros [] e = refl
 are_zeros (zero ∷ xs) e = ap (λ (ys : List ℕ). 0 ∷ ys) (are_zeros xs e)
 are_zeros (suc b ∷ xs) e = let none : false ≡ true = (rw (suc_test b) at e) in absurd (cc)
 
-all_zeros : (k : ℕ) → list_all (λ b. b == 0) (replicate k 0) ≡ true
-all_zeros zero = refl
-all_zeros (suc k) = all_zeros k
-
 -- a text and the zeros behind it are the field
 text_and_zeros : (field : List ℕ) → list_all (λ b. b == 0) (drop (length (up_to_zero field)) field) ≡ true → padded (length field) (up_to_zero field) ≡ field
 text_and_zeros [] e = refl
@@ -54,12 +51,8 @@ pub text_field : (n : ℕ) (bytes : List ℕ) → n ≤ length bytes → is_text
 text_field n bytes room is =
     let field : List ℕ = take n bytes in
     let long : length field ≡ n = length-take-le n bytes room in
-    let zeros = both (is_text (up_to_zero field)) (list_all (λ b. b == 0) (drop (length (up_to_zero field)) field)) is in
+    let zeros = second_part (is_text (up_to_zero field)) (list_all (λ b. b == 0) (drop (length (up_to_zero field)) field)) is in
     rw is (ap (λ (m : ℕ). padded m (up_to_zero field)) (sym long) ∙ text_and_zeros field zeros)
-  where
-    both : (a b : Bool) → (a && b) ≡ true → b ≡ true
-    both true b e = e
-    both false b e = absurd (cc)
 
 pub text_is : (n : ℕ) (bytes : List ℕ) → IsField (Str n) bytes → is_text_field (take n bytes) ≡ true
 text_is n bytes is = either (is_text_field (take n bytes)) refl

@@ -2,20 +2,18 @@
 
 #![tactic(auto)]
 
-ghost use Rattle.std.specs.Prelude.{◌≡◌, ◌≢◌, ◌+◌, ◌-◌, ◌*◌, ◌≤◌, ◌<◌, Bool, IfOk, IsOkUnless, IsSome, IsTrue, List, MatchBool, None, OnOk, false, filter, length, not, replicate, slice_index, slice_range, true};
+ghost use Rattle.std.specs.Prelude.{◌≡◌, ◌≢◌, ◌+◌, ◌-◌, ◌*◌, ◌≤◌, ◌<◌, Bool, IfOk, IsOkUnless, IsSome, IsTrue, List, MatchBool, None, OnOk, false, length, not, replicate, slice_index, true};
+ghost use Rattle.afl_base.specs.Keeping.{Changes, ChangesOrLacks, OnlyReads};
 ghost use Rattle.std.specs.Fn.{FnReturnsAt};
-ghost use Rattle.std.specs.List.{list_all};
-ghost use Rattle.afl_base.specs.Causes.{HasCause};
-ghost use Rattle.afl_base.specs.Fields.{put_at};
-ghost use Rattle.afl_base.specs.FileErrors.{HasFileCause, OnSpace};
+ghost use Rattle.afl_base.specs.FileErrors.{OnSpace};
 ghost use Rattle.afl_base.specs.Files.{Commits, Drafts, IsLive, Keeps, draft_in, file_at, size_at};
 ghost use Rattle.afl_base.specs.Fit.{fit};
-ghost use Rattle.db_model.specs.Row.{AllRowsSuit, AllSuit, Row, row_bytes, row_length, rows_bytes};
+ghost use Rattle.db_model.specs.Row.{AllRowsSuit, AllSuit, Row, row_length, rows_bytes};
 ghost use Rattle.tuple_file.specs.Drafts.{HasSlot, IsZeroDraft, IsZeroSlot, PutsRow};
 ghost use Rattle.tuple_file.specs.Tuples.{AreAnswered, HoldsRows, IsAnswered, IsLiveTuple, IsRowFile, OnlyDraftChanges, OnlyRowsChange, live_rows, row, rows, slots};
 
 use crate::rows::put_row;
-use crate::tuples::Tuples;
+use crate::tuples::{ROW_SIZE, Tuples};
 use afl_base::{Failed, FileError, Files};
 use db_model::{Tuple, row_length};
 
@@ -47,10 +45,8 @@ impl Tuples {
         ensures only { OnOk result (OnlyRowsChange (V.state files.old) (V.state files.new) self.now) }
         ensures need { OnSpace result (λ need. need
             ≡ fit (size_at (V.state files.old).files self.now.file)) }
-        ensures lacks { OnSpace result (λ need. V.lacks files.new need) }
         ensures kept { OnSpace result (λ _. Keeps (V.state files.old) (V.state files.new)) }
-        ensures store { length (V.state files.new).store ≡ length (V.state files.old).store }
-        ensures cause { HasFileCause (V.faults files.old) (V.faults files.new) result }
+        ensures frame { ChangesOrLacks V.state V.lent V.reads V.faults V.lacks files.old files.new result }
     {
         let slots = self.count(files);
         let size = files.size(self.file);
@@ -84,8 +80,7 @@ impl Tuples {
             × AllRowsSuit self.now.schema.attributes news
             × ((draft_in (V.state files.new)).bytes ≡ rows_bytes self.now.schema.attributes news)) }
         ensures only { OnOk result (OnlyDraftChanges (V.state files.old) (V.state files.new)) }
-        ensures store { length (V.state files.new).store ≡ length (V.state files.old).store }
-        ensures cause { HasCause (V.faults files.old) (V.faults files.new) result }
+        ensures frame { Changes V.state V.lent V.reads V.faults files.old files.new result }
     {
         for slot in 0..count {
             self.draft_answer(files, slot, removed)?;
@@ -115,8 +110,7 @@ impl Tuples {
             × AllSuit self.now.schema.attributes new.tuple
             × PutsRow (V.state files.old) (V.state files.new) self.now slot new) }
         ensures only { OnOk result (OnlyDraftChanges (V.state files.old) (V.state files.new)) }
-        ensures store { length (V.state files.new).store ≡ length (V.state files.old).store }
-        ensures cause { HasCause (V.faults files.old) (V.faults files.new) result }
+        ensures frame { Changes V.state V.lent V.reads V.faults files.old files.new result }
     {
         let mut tuple = Tuple::new();
         let live = self.get(files, slot, &mut tuple)?;
@@ -148,10 +142,8 @@ impl Tuples {
         ensures need { IsTrue (V.state files.old).tells
             → OnSpace result (λ need. need ≡ fit (row_length self.now.schema.attributes
             * length (live_rows (V.state files.old).files self.now))) }
-        ensures lacks { OnSpace result (λ need. V.lacks files.new need) }
         ensures kept { OnSpace result (λ _. Keeps (V.state files.old) (V.state files.new)) }
-        ensures store { length (V.state files.new).store ≡ length (V.state files.old).store }
-        ensures cause { HasFileCause (V.faults files.old) (V.faults files.new) result }
+        ensures frame { ChangesOrLacks V.state V.lent V.reads V.faults V.lacks files.old files.new result }
     {
         let slots = self.count(files);
         let live = self.count_live(files, slots)?;
@@ -172,9 +164,7 @@ impl Tuples {
         ensures live { IsTrue (V.state files.old).tells
             → IfOk result (λ live. live ≡ length (live_rows (V.state files.old).files self.now)) }
         ensures few { IfOk result (λ live. live ≤ count) }
-        ensures same { OnOk result (V.state files.new ≡ V.state files.old) }
-        ensures store { length (V.state files.new).store ≡ length (V.state files.old).store }
-        ensures cause { HasCause (V.faults files.old) (V.faults files.new) result }
+        ensures frame { OnlyReads V.state V.lent V.reads V.faults files.old files.new result }
     {
         let mut live = 0;
         for slot in 0..count {
@@ -189,9 +179,7 @@ impl Tuples {
         requires slot { slot < slots (V.state files.old).files self.now }
         ensures live { IsTrue (V.state files.old).tells
             → IfOk result (λ live. live ≡ (row (V.state files.old).files self.now slot).live) }
-        ensures same { OnOk result (V.state files.new ≡ V.state files.old) }
-        ensures store { length (V.state files.new).store ≡ length (V.state files.old).store }
-        ensures cause { HasCause (V.faults files.old) (V.faults files.new) result }
+        ensures frame { OnlyReads V.state V.lent V.reads V.faults files.old files.new result }
     {
         let mut mark = [0];
         let length = row_length(&self.schema.attributes) as u32;
@@ -222,8 +210,7 @@ impl Tuples {
             → OnOk result ((draft_in (V.state files.new)).bytes
             ≡ rows_bytes self.now.schema.attributes (live_rows (V.state files.old).files self.now)) }
         ensures only { OnOk result (OnlyDraftChanges (V.state files.old) (V.state files.new)) }
-        ensures store { length (V.state files.new).store ≡ length (V.state files.old).store }
-        ensures cause { HasCause (V.faults files.old) (V.faults files.new) result }
+        ensures frame { Changes V.state V.lent V.reads V.faults files.old files.new result }
     {
         let mut written = 0;
         for slot in 0..count {
@@ -263,8 +250,7 @@ impl Tuples {
             × ((draft_in (V.state files.new)).bytes ≡ (draft_in (V.state files.old)).bytes)) }
         ensures few { IfOk result (λ now. now ≤ room) }
         ensures only { OnOk result (OnlyDraftChanges (V.state files.old) (V.state files.new)) }
-        ensures store { length (V.state files.new).store ≡ length (V.state files.old).store }
-        ensures cause { HasCause (V.faults files.old) (V.faults files.new) result }
+        ensures frame { Changes V.state V.lent V.reads V.faults files.old files.new result }
     {
         let mut tuple = Tuple::new();
         let live = self.get(files, slot, &mut tuple)?;
@@ -283,10 +269,8 @@ impl Tuples {
         ensures begun { OnOk result (Drafts (V.state files.old) (V.state files.new)
             (file_at (V.state files.old).files self.now.file).name size (replicate size 0)) }
         ensures need { OnSpace result (λ need. need ≡ fit size) }
-        ensures lacks { OnSpace result (λ need. V.lacks files.new need) }
         ensures kept { OnSpace result (λ _. Keeps (V.state files.old) (V.state files.new)) }
-        ensures store { length (V.state files.new).store ≡ length (V.state files.old).store }
-        ensures cause { HasFileCause (V.faults files.old) (V.faults files.new) result }
+        ensures frame { ChangesOrLacks V.state V.lent V.reads V.faults V.lacks files.old files.new result }
     {
         let name = files.name(self.file);
         files.draft(name, size)?;
@@ -304,8 +288,7 @@ impl Tuples {
             → slice_index (draft_in (V.state files.old)).bytes (length (draft_in (V.state files.old)).bytes - 1)
             ≢ 0 }
         ensures committed { OnOk result (Commits (V.state files.old) (V.state files.new) self.now.file) }
-        ensures store { length (V.state files.new).store ≡ length (V.state files.old).store }
-        ensures cause { HasCause (V.faults files.old) (V.faults files.new) result }
+        ensures frame { Changes V.state V.lent V.reads V.faults files.old files.new result }
     {
         files.draft_commit()?;
         Ok(())
@@ -329,10 +312,9 @@ impl Tuples {
             → OnOk result (PutsRow (V.state files.old) (V.state files.new) self.now before
             (record { tuple = tuple.now; live = live })) }
         ensures only { OnOk result (OnlyDraftChanges (V.state files.old) (V.state files.new)) }
-        ensures store { length (V.state files.new).store ≡ length (V.state files.old).store }
-        ensures cause { HasCause (V.faults files.old) (V.faults files.new) result }
+        ensures frame { Changes V.state V.lent V.reads V.faults files.old files.new result }
     {
-        let mut bytes = [0; 128];
+        let mut bytes = [0; ROW_SIZE];
         let row = &mut bytes[..row_length(&self.schema.attributes)];
         put_row(&self.schema.attributes, tuple, live, row);
         let at = row_length(&self.schema.attributes) as u32 * u32::from(before);

@@ -2,7 +2,7 @@
 
 #![tactic(auto)]
 
-ghost use Rattle.std.specs.Prelude.{◌≡◌, ◌+◌, ◌≤◌, ◌==◌, ◌↔◌, IsTrue, drop, length, replicate, take};
+ghost use Rattle.std.specs.Prelude.{◌≡◌, ◌+◌, ◌≤◌, ◌↔◌, IsTrue, length, replicate, take};
 ghost use Rattle.afl_base.specs.Fields.{put_at};
 ghost use Rattle.padded.specs.Padded.{padded};
 ghost use Rattle.db_model.specs.declared.schemas.Domain.TheVariants.{Time};

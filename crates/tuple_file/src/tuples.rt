@@ -2,10 +2,9 @@
 
 #![tactic(auto)]
 
-ghost use Rattle.std.specs.Prelude.{◌≡◌, ◌+◌, ◌*◌, ◌≤◌, ◌<◌, ◌++◌, [], ◌∷◌, ◌⊎◌, ◌↔◌, IfOk, IsTrue, OnOk, false, length, slice_get, true, ℕ, slice_range, slice_set};
-ghost use Rattle.afl_base.specs.Causes.{HasCause};
-ghost use Rattle.afl_base.specs.Fields.{put_at};
-ghost use Rattle.afl_base.specs.Files.{Becomes, IsLive, State, bytes_at, file_at, size_at};
+ghost use Rattle.std.specs.Prelude.{◌≡◌, ◌+◌, ◌*◌, ◌≤◌, ◌<◌, ◌++◌, [], ◌∷◌, ◌⊎◌, ◌↔◌, IfOk, IsTrue, OnOk, false, length, slice_get, true, ℕ, slice_set};
+ghost use Rattle.afl_base.specs.Keeping.{Changes, OnlyReads};
+ghost use Rattle.afl_base.specs.Files.{IsLive, State, bytes_at, file_at, size_at};
 ghost use Rattle.afl_base.specs.KeyColumn.{HasField, IsWidth, key_of};
 ghost use Rattle.db_model.specs.Row.{AllSuit, fields_length, row_bytes, row_length, rows_bytes};
 ghost use Rattle.db_model.specs.Step.{key_of as key_of_value, slots_limit};
@@ -13,8 +12,14 @@ ghost use Rattle.tuple_file.specs.Column.{IsNumber, column_of};
 ghost use Rattle.tuple_file.specs.Tuples.{AppendsRow, AreRows, HoldsRows, IsInFile, IsRowFile, MarksRow, row, rows, slot_bytes, slots};
 
 use crate::rows::{are_rows, get_tuple, is_live, put_row};
-use afl_base::{Failed, FileId, Files, KeyColumn, SlotNo};
+use afl_base::{Failed, FileId, Files, KeyColumn, MOST_SLOTS, SlotNo};
 use db_model::{Attributes, Schema, Tuple, fields_length, row_length, width};
+
+/// The most bytes of a row.
+pub(crate) const ROW_SIZE: usize = 128;
+
+// The most bytes of rows that are read at once.
+const PIECE_SIZE: usize = 1_024;
 
 /// The rows of a relation, in a file of its own that doubles. A row has at most 128 bytes: its fields
 /// in attribute order and a mark, which says whether the row is live or removed. Row number i is the
@@ -64,10 +69,8 @@ impl Tuples {
             ≡ record { tuple = into.new; live = live }) }
         ensures suits { OnOk result (AllSuit self.now.schema.attributes into.new) }
         ensures size { OnOk result (length into.new ≡ length self.now.schema.attributes) }
-        ensures same { OnOk result (V.state files.new ≡ V.state files.old) }
         ensures reads { V.reads files.new ≤ V.reads files.old + 6 }
-        ensures store { length (V.state files.new).store ≡ length (V.state files.old).store }
-        ensures cause { HasCause (V.faults files.old) (V.faults files.new) result }
+        ensures frame { OnlyReads V.state V.lent V.reads V.faults files.old files.new result }
     {
         self.get(files, slot.number(), into)
     }
@@ -86,12 +89,10 @@ impl Tuples {
             ≡ record { tuple = into.new; live = live }) }
         ensures suits { OnOk result (AllSuit self.now.schema.attributes into.new) }
         ensures size { OnOk result (length into.new ≡ length self.now.schema.attributes) }
-        ensures same { OnOk result (V.state files.new ≡ V.state files.old) }
         ensures reads { V.reads files.new ≤ V.reads files.old + 6 }
-        ensures store { length (V.state files.new).store ≡ length (V.state files.old).store }
-        ensures cause { HasCause (V.faults files.old) (V.faults files.new) result }
+        ensures frame { OnlyReads V.state V.lent V.reads V.faults files.old files.new result }
     {
-        let mut bytes = [0; 128];
+        let mut bytes = [0; ROW_SIZE];
         let row = &mut bytes[..row_length(&self.schema.attributes)];
         self.read(files, slot, row)?;
         get_tuple(&self.schema.attributes, row, into);
@@ -107,10 +108,8 @@ impl Tuples {
         requires slot { slot < 32768 }
         ensures bytes { IsTrue (V.state files.old).tells
             → OnOk result (into.new ≡ slot_bytes (V.state files.old).files self.now slot) }
-        ensures same { OnOk result (V.state files.new ≡ V.state files.old) }
         ensures reads { V.reads files.new ≤ V.reads files.old + 6 }
-        ensures store { length (V.state files.new).store ≡ length (V.state files.old).store }
-        ensures cause { HasCause (V.faults files.old) (V.faults files.new) result }
+        ensures frame { OnlyReads V.state V.lent V.reads V.faults files.old files.new result }
     {
         let at = row_length(&self.schema.attributes) as u32 * u32::from(slot);
         files.read(self.file, at, into)
@@ -156,10 +155,9 @@ impl Tuples {
             (record { tuple = tuple.now; live = true })) }
         ensures records { OnOk result ((file_at (V.state files.new).files self.now.file).records
             ≡ (file_at (V.state files.old).files self.now.file).records) }
-        ensures store { length (V.state files.new).store ≡ length (V.state files.old).store }
-        ensures cause { HasCause (V.faults files.old) (V.faults files.new) result }
+        ensures frame { Changes V.state V.lent V.reads V.faults files.old files.new result }
     {
-        let mut bytes = [0; 128];
+        let mut bytes = [0; ROW_SIZE];
         let row = &mut bytes[..row_length(&self.schema.attributes)];
         put_row(&self.schema.attributes, tuple, true, row);
         files.append(self.file, row)?;
@@ -184,8 +182,7 @@ impl Tuples {
             ≡ (file_at (V.state files.old).files self.now.file).records) }
         ensures room { OnOk result ((file_at (V.state files.new).files self.now.file).room
             ≡ (file_at (V.state files.old).files self.now.file).room) }
-        ensures store { length (V.state files.new).store ≡ length (V.state files.old).store }
-        ensures cause { HasCause (V.faults files.old) (V.faults files.new) result }
+        ensures frame { Changes V.state V.lent V.reads V.faults files.old files.new result }
     {
         let length = row_length(&self.schema.attributes) as u32;
         files.overwrite(
@@ -207,11 +204,9 @@ impl Tuples {
         ensures holds { IfOk result (λ valid. IsTrue valid → HoldsRows (V.state files.old) self.now) }
         ensures few { IfOk result (λ valid. IsTrue valid
             → slots (V.state files.old).files self.now ≤ slots_limit version) }
-        ensures same { OnOk result (V.state files.new ≡ V.state files.old) }
         ensures reads { V.reads files.new
             ≤ V.reads files.old + 6 * slots (V.state files.old).files self.now }
-        ensures store { length (V.state files.new).store ≡ length (V.state files.old).store }
-        ensures cause { HasCause (V.faults files.old) (V.faults files.new) result }
+        ensures frame { OnlyReads V.state V.lent V.reads V.faults files.old files.new result }
     {
         let size = files.size(self.file);
         let length = row_length(&self.schema.attributes) as u32;
@@ -235,10 +230,8 @@ impl Tuples {
         ensures valid { IsTrue (V.state files.old).tells
             → IfOk result (λ valid. IsTrue valid ↔ (rows_bytes self.now.schema.attributes
             (rows (V.state files.old).files self.now) ≡ bytes_at (V.state files.old).files self.now.file)) }
-        ensures same { OnOk result (V.state files.new ≡ V.state files.old) }
         ensures reads { V.reads files.new ≤ V.reads files.old + 6 * count }
-        ensures store { length (V.state files.new).store ≡ length (V.state files.old).store }
-        ensures cause { HasCause (V.faults files.old) (V.faults files.new) result }
+        ensures frame { OnlyReads V.state V.lent V.reads V.faults files.old files.new result }
     {
         let length = row_length(&self.schema.attributes);
         let mut slot = 0;
@@ -265,13 +258,11 @@ impl Tuples {
             → IfOk result (λ valid. IsTrue valid ↔ ((k : ℕ) → k < count
             → row_bytes self.now.schema.attributes (row (V.state files.old).files self.now (slot + k))
             ≡ slot_bytes (V.state files.old).files self.now (slot + k))) }
-        ensures same { OnOk result (V.state files.new ≡ V.state files.old) }
         ensures reads { V.reads files.new ≤ V.reads files.old + 6 * count }
-        ensures store { length (V.state files.new).store ≡ length (V.state files.old).store }
-        ensures cause { HasCause (V.faults files.old) (V.faults files.new) result }
+        ensures frame { OnlyReads V.state V.lent V.reads V.faults files.old files.new result }
     {
         let length = row_length(&self.schema.attributes);
-        let mut bytes = [0; 1024];
+        let mut bytes = [0; PIECE_SIZE];
         let piece = &mut bytes[..length * count as usize];
         files.read(self.file, length as u32 * u32::from(slot), piece)?;
         Ok(are_rows(&self.schema.attributes, count, piece))
@@ -287,7 +278,7 @@ fn rows_at_once(length: usize, left: u16) -> u16
     ensures within { result ≤ left }
     ensures few { length * result ≤ 1024 }
 {
-    let most = (1024 / length) as u16;
+    let most = (PIECE_SIZE / length) as u16;
     if most < left { most } else { left }
 }
 
@@ -295,7 +286,11 @@ fn rows_at_once(length: usize, left: u16) -> u16
 fn slots_limit(version: u8) -> u32
     ensures { result ≡ slots_limit version }
 {
-    if version == 1 { 16_384 } else { 32_768 }
+    if version == 1 {
+        16_384
+    } else {
+        u32::from(MOST_SLOTS)
+    }
 }
 
 fn copy_of(attributes: &Attributes) -> Attributes

@@ -9,7 +9,7 @@ pub record HasFiles (state : State) (n : ℕ) : Type 0 where
   pub count : used state.files ≡ n
 
 -- a file is still live, and as many are as before; a draft is begun where one was
-pub record Stays (old new : State) (id : ℕ) : Type 0 where
+pub record StaysLive (old new : State) (id : ℕ) : Type 0 where
   pub live : IsLive new.files id
   pub used : used new.files ≡ used old.files
   pub draft : new.draft ≡ old.draft
@@ -19,7 +19,7 @@ abbrev pub EndsWell : List ℕ → Type 0
 EndsWell bytes = 1 ≤ length bytes → slice_index bytes (length bytes - 1) ≢ 0
 
 -- a file is prepared for bytes from a place on and for a tail
-pub record IsPrepared (state : State) (id at : ℕ) (bytes tail : List ℕ) : Type 0 where
+pub record IsPreparedFor (state : State) (id at : ℕ) (bytes tail : List ℕ) : Type 0 where
   pub live : IsLive state.files id
   pub range : at + length bytes ≤ size_at state.files id
   pub records : regions at (length bytes) ≤ (file_at state.files id).records

@@ -5,7 +5,7 @@ ghost use Rattle.std.specs.Prelude.{◌≡◌, ◌≢◌, ◌+◌, ◌-◌, ◌*
 ghost use Rattle.afl_base.specs.FileErrors.{OnSpace, UnlessFailed};
 ghost use Rattle.afl_base.specs.Files.{IsKind, IsLive, IsNamed, IsUnnamed, file_at, is_live, size_at, used};
 ghost use Rattle.afl_base.specs.Regions.{regions};
-ghost use Rattle.volume_tests.specs.Counts.{EndsWell, HasFiles, IsPrepared, Stays};
+ghost use Rattle.volume_tests.specs.Counts.{EndsWell, HasFiles, IsPreparedFor, StaysLive};
 
 use afl_base::{Failed, FileError, FileId, Files, Kind, Name, regions};
 
@@ -119,7 +119,7 @@ fn prepared<V: Files>(
 ) -> Result<Option<FileId>, FileError>
     requires { (V.state files.old).draft ≡ None }
     ensures ready { IfOk result (λ place.
-        IfSome place (λ id. IsPrepared (V.state files.new) id at bytes.now tail.now)) }
+        IfSome place (λ id. IsPreparedFor (V.state files.new) id at bytes.now tail.now)) }
     ensures idle { UnlessFailed result ((V.state files.new).draft ≡ None) }
     ensures used { UnlessFailed result (used (V.state files.new).files ≡ used (V.state files.old).files) }
 {
@@ -139,7 +139,7 @@ fn overwrite<V: Files>(files: &mut V, id: FileId, at: u32, bytes: &[u8]) -> Resu
     requires range { at + length bytes.now ≤ size_at (V.state files.old).files id }
     requires records { regions at (length bytes.now) ≤ (file_at (V.state files.old).files id).records }
     requires last { EndsWell bytes.now }
-    ensures stays { OnOk result (Stays (V.state files.old) (V.state files.new) id) }
+    ensures stays { OnOk result (StaysLive (V.state files.old) (V.state files.new) id) }
     ensures room { OnOk result ((file_at (V.state files.new).files id).room
         ≡ (file_at (V.state files.old).files id).room) }
 {
@@ -154,7 +154,7 @@ fn append<V: Files>(files: &mut V, id: FileId, tail: &[u8]) -> Result<(), Failed
     requires live { IsLive (V.state files.old).files id }
     requires room { length tail.now ≤ (file_at (V.state files.old).files id).room }
     requires last { EndsWell tail.now }
-    ensures stays { OnOk result (Stays (V.state files.old) (V.state files.new) id) }
+    ensures stays { OnOk result (StaysLive (V.state files.old) (V.state files.new) id) }
     ensures size { OnOk result (size_at (V.state files.new).files id
         ≡ size_at (V.state files.old).files id + length tail.now) }
     ensures records { OnOk result ((file_at (V.state files.new).files id).records

@@ -8,24 +8,24 @@ use Rattle.db_model.specs.ReplyText.{refusal_text}
 use Rattle.db_model.specs.Workload.{Tally, tally_text}
 use Rattle.reply_text.specs.WroteLess.{WroteLess}
 use Rattle.workload_run.specs.Counted.{Counted, CountedUntil}
-use Rattle.workload_run.specs.Summed.{FoundNone, LineUnsaid, SpaceUnsaid, SummedUp}
+use Rattle.workload_run.specs.Summed.{SaidNoRoom, LeftLineUnsaid, LeftSpaceUnsaid, SummedUp}
 
 module _ (cs : List Command) (a b : Database) (t : Tally) (before now : Option (List ℕ)) where
   pub summed_up : Counted cs a b t → now ≡ append_known before (tally_text t) → SummedUp cs a b before now
   summed_up c e = record { database = c.database; held = e ∙ ap (λ (s : Tally). append_known before (tally_text s)) c.tally_is }
 
-  pub line_unsaid : Counted cs a b t → WroteLess before now (tally_text t) → LineUnsaid cs a b before now
+  pub line_unsaid : Counted cs a b t → WroteLess before now (tally_text t) → LeftLineUnsaid cs a b before now
   line_unsaid c w = record { database = c.database; held = subst (λ (s : Tally). WroteLess before now (tally_text s)) c.tally_is w }
 
   module _ (Lacks : Command → ℕ → Type 0) (n : ℕ) (c : CountedUntil Lacks cs a b t n) where
-    pub found_none : now ≡ append_known before (tally_text t ++ refusal_text (no.Space n)) → FoundNone Lacks cs a b before now
+    pub found_none : now ≡ append_known before (tally_text t ++ refusal_text (no.Space n)) → SaidNoRoom Lacks cs a b before now
     found_none e = record {
       n = n;
       stops = c.stops;
       held = e ∙ ap (λ (s : Tally). append_known before (tally_text s ++ refusal_text (no.Space n))) c.tally_is;
     }
 
-    pub space_unsaid : WroteLess before now (tally_text t ++ refusal_text (no.Space n)) → SpaceUnsaid Lacks cs a b before now
+    pub space_unsaid : WroteLess before now (tally_text t ++ refusal_text (no.Space n)) → LeftSpaceUnsaid Lacks cs a b before now
     space_unsaid w = record {
       n = n;
       stops = c.stops;

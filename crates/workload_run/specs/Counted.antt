@@ -14,7 +14,7 @@ pub record Counted (commands : List Command) (old new : Database) (t : Tally) : 
   pub tally_is : t ≡ tally nothing (replies old commands)
 
 -- those in front were carried out, and the next is not refused and lacks n pages
-pub record StopsAt (Lacks : Command → ℕ → Type 0) (commands : List Command) (old new : Database) (n : ℕ) : Type 0 where
+pub record StopsAtCommand (Lacks : Command → ℕ → Type 0) (commands : List Command) (old new : Database) (n : ℕ) : Type 0 where
   pub front : List Command
   pub command : Command
   pub rest : List Command
@@ -25,11 +25,11 @@ pub record StopsAt (Lacks : Command → ℕ → Type 0) (commands : List Command
 
 -- and the replies to those in front were counted
 pub record CountedUntil (Lacks : Command → ℕ → Type 0) (commands : List Command) (old new : Database) (t : Tally) (n : ℕ) : Type 0 where
-  pub stops : StopsAt Lacks commands old new n
+  pub stops : StopsAtCommand Lacks commands old new n
   pub tally_is : t ≡ tally nothing (replies old stops.front)
 
 -- P of the pages, where there was no space
-abbrev pub OnNoSpace : Result ⊤ Failure → (ℕ → Type 0) → Type 0
-OnNoSpace (Ok done) P = ⊤
-OnNoSpace (Err (NoSpace need)) P = P need
-OnNoSpace (Err Flash) P = ⊤
+abbrev pub OnSpaceFailure : Result ⊤ Failure → (ℕ → Type 0) → Type 0
+OnSpaceFailure (Ok done) P = ⊤
+OnSpaceFailure (Err (NoSpace need)) P = P need
+OnSpaceFailure (Err Flash) P = ⊤

@@ -10,7 +10,7 @@ use Rattle.db_model.specs.Workload.{nothing, tally, tally_text}
 use Rattle.intake.specs.declared.halt.Halt.{Halt}
 use Rattle.intake.specs.declared.halt.Halt.TheVariants.{Space, Flash, Sink}
 use Rattle.reply_text.specs.WroteLess.{WroteLess}
-use Rattle.workload_run.specs.Counted.{StopsAt}
+use Rattle.workload_run.specs.Counted.{StopsAtCommand}
 
 -- the line over commands
 abbrev pub summed : Database → List Command → List ℕ
@@ -26,25 +26,25 @@ pub record SummedUp (commands : List Command) (old new : Database) (before now :
   pub held : now ≡ append_known before (summed old commands)
 
 -- or less than the line
-pub record LineUnsaid (commands : List Command) (old new : Database) (before now : Option (List ℕ)) : Type 0 where
+pub record LeftLineUnsaid (commands : List Command) (old new : Database) (before now : Option (List ℕ)) : Type 0 where
   pub database : new ≡ after_all old commands
   pub held : WroteLess before now (summed old commands)
 
 module _ (Lacks : Command → ℕ → Type 0) where
   -- they stopped where there was no space, and that was written
-  pub record FoundNone (commands : List Command) (old new : Database) (before now : Option (List ℕ)) : Type 0 where
+  pub record SaidNoRoom (commands : List Command) (old new : Database) (before now : Option (List ℕ)) : Type 0 where
     pub n : ℕ
-    pub stops : StopsAt Lacks commands old new n
+    pub stops : StopsAtCommand Lacks commands old new n
     pub held : now ≡ append_known before (summed_until old stops.front n)
 
   -- or less than that
-  pub record SpaceUnsaid (commands : List Command) (old new : Database) (before now : Option (List ℕ)) : Type 0 where
+  pub record LeftSpaceUnsaid (commands : List Command) (old new : Database) (before now : Option (List ℕ)) : Type 0 where
     pub n : ℕ
-    pub stops : StopsAt Lacks commands old new n
+    pub stops : StopsAtCommand Lacks commands old new n
     pub held : WroteLess before now (summed_until old stops.front n)
 
   -- why no more of them was carried out
-  abbrev pub StopsBy : List Command → Database → Database → Option (List ℕ) → Option (List ℕ) → Halt → Type 0
-  StopsBy commands old new before now Space = FoundNone commands old new before now
-  StopsBy commands old new before now Sink = LineUnsaid commands old new before now ⊎ SpaceUnsaid commands old new before now
-  StopsBy commands old new before now Flash = now ≡ before
+  abbrev pub StopsCommands : List Command → Database → Database → Option (List ℕ) → Option (List ℕ) → Halt → Type 0
+  StopsCommands commands old new before now Space = SaidNoRoom commands old new before now
+  StopsCommands commands old new before now Sink = LeftLineUnsaid commands old new before now ⊎ LeftSpaceUnsaid commands old new before now
+  StopsCommands commands old new before now Flash = now ≡ before

@@ -7,7 +7,7 @@ ghost use Rattle.afl_base.specs.Causes.{Rose};
 ghost use Rattle.answering.specs.Carried.{LacksPages};
 ghost use Rattle.db_model.specs.Workload.{first_commands, nothing};
 ghost use Rattle.workload_run.specs.declared.counting.Failure.TheVariants.{Flash};
-ghost use Rattle.workload_run.specs.Counted.{Counted, CountedUntil, OnNoSpace};
+ghost use Rattle.workload_run.specs.Counted.{Counted, CountedUntil, OnSpaceFailure};
 
 use crate::discard::Discard;
 use crate::tally::Tally;
@@ -36,7 +36,7 @@ pub fn carry_out<V: Files>(
     requires none { tally.old ≡ nothing }
     ensures done { IsTrue (V.state session.old.files).tells → OnOk result
         (Counted (first_commands seed count) session.old.database session.new.database tally.new) }
-    ensures space { IsTrue (V.state session.old.files).tells → OnNoSpace result (λ need.
+    ensures space { IsTrue (V.state session.old.files).tells → OnSpaceFailure result (λ need.
         CountedUntil (LacksPages V.state V.asks V.lacks session.new) (first_commands seed count)
         session.old.database session.new.database tally.new need) }
     ensures running { OnOk result (session.new.stopped ≡ false) }
@@ -45,6 +45,7 @@ pub fn carry_out<V: Files>(
         → (V.state session.new.files).tells ≡ (V.state session.old.files).tells }
     ensures store { let old = V.state session.old.files in
         length (V.state session.new.files).store ≡ length old.store }
+    ensures lent { V.lent session.new.files ≡ V.lent session.old.files }
     ensures later { V.faults session.old.files ≤ V.faults session.new.files }
     ensures flash { IsErrOf result Flash
         → Rose (V.faults session.old.files) (V.faults session.new.files) }

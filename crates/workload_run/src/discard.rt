@@ -5,17 +5,13 @@ use afl_base::{Failed, Sink};
 pub struct Discard {}
 
 impl Sink for Discard {
-    ghost use Rattle.std.specs.Prelude.{None, ⊤};
+    ghost use Rattle.std.specs.Prelude.{None, []};
 
     ghost held = { λ s. None };
 
     ghost faults = { λ s. 0 };
 
-    ghost keeps = { λ a b. ⊤ };
-
-    ghost kept = { λ a. tt {0} };
-
-    ghost kept_on = { λ a b c first then. tt {0} };
+    ghost lent = { λ s. [] };
 
     fn write(&mut self, bytes: &[u8]) -> Result<usize, Failed> {
         Ok(bytes.len())

@@ -2,11 +2,11 @@
 
 #![tactic(auto)]
 
-ghost use Rattle.std.specs.Prelude.{◌≡◌, ◌≤◌, false, true, IfErr, IsErrOf, IsTrue, OnOk, length};
-ghost use Rattle.answering.specs.Carried.{HasHaltCause, LacksPages};
+ghost use Rattle.std.specs.Prelude.{◌≡◌, ◌≤◌, false, true, IfErr, IsErrOf, IsTrue, OnOk};
+ghost use Rattle.answering.specs.Carried.{ChangesOrHalts, LacksPages};
 ghost use Rattle.db_model.specs.Workload.{first_commands};
 ghost use Rattle.intake.specs.declared.halt.Halt.TheVariants as Halt;
-ghost use Rattle.workload_run.specs.Summed.{StopsBy, SummedUp};
+ghost use Rattle.workload_run.specs.Summed.{StopsCommands, SummedUp};
 
 use crate::counting::{Failure, carry_out};
 use crate::line::{write_no_space, write_tally};
@@ -35,7 +35,7 @@ pub fn generate<V: Files, K: Sink>(
         (SummedUp (first_commands seed count) session.old.database session.new.database
         (K.held out.old) (K.held out.new)) }
     ensures halts { IsTrue (V.state session.old.files).tells → IfErr result (λ halt.
-        StopsBy (LacksPages V.state V.asks V.lacks session.new) (first_commands seed count)
+        StopsCommands (LacksPages V.state V.asks V.lacks session.new) (first_commands seed count)
         session.old.database session.new.database (K.held out.old) (K.held out.new) halt) }
     ensures silent { IsErrOf result Halt.Flash → K.held out.new ≡ K.held out.old }
     ensures running { OnOk result (session.new.stopped ≡ false) }
@@ -43,11 +43,8 @@ pub fn generate<V: Files, K: Sink>(
         → IsErrOf result Halt.Flash }
     ensures tells { session.new.lost ≡ false
         → (V.state session.new.files).tells ≡ (V.state session.old.files).tells }
-    ensures store { let old = V.state session.old.files in
-        length (V.state session.new.files).store ≡ length old.store }
-    ensures keeps { K.keeps out.old out.new }
-    ensures cause { HasHaltCause (V.faults session.old.files) (V.faults session.new.files)
-        (K.faults out.old) (K.faults out.new) result }
+    ensures frame { ChangesOrHalts V.Files K.Sink session.old.files session.new.files
+        out.old out.new result }
 {
     let mut tally = Tally::new();
     match carry_out(session, seed, count, &mut tally) {

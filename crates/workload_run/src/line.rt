@@ -3,8 +3,8 @@
 #![tactic(auto, using(reply_text::proofs::Pieces::less_front, reply_text::proofs::Pieces::less_behind, reply_text::proofs::Pieces::less_third))]
 
 ghost use Rattle.std.specs.Prelude.{◌≡◌, ◌++◌, decimal, OnErr, OnOk};
+ghost use Rattle.afl_base.specs.Keeping.{Sends};
 ghost use Rattle.std.specs.Io.KnownBytes.{append_known};
-ghost use Rattle.afl_base.specs.Causes.{HasCause};
 ghost use Rattle.db_model.specs.declared.refusals.Refusal.TheVariants as no;
 ghost use Rattle.db_model.specs.ReplyText.{refusal_text};
 ghost use Rattle.db_model.specs.Workload.{tally_text};
@@ -22,9 +22,7 @@ pub fn write_tally<K: Sink>(out: &mut K, tally: &Tally) -> Result<(), Failed>
         (K.held out.new ≡ append_known (K.held out.old) (tally_text tally.now)) }
     ensures failed { OnErr result
         (WroteLess (K.held out.old) (K.held out.new) (tally_text tally.now)) }
-    ensures keeps { K.keeps out.old out.new }
-    ensures faultless { OnOk result (K.faults out.new ≡ K.faults out.old) }
-    ensures cause { HasCause (K.faults out.old) (K.faults out.new) result }
+    ensures frame { Sends K.lent K.faults out.old out.new result }
 {
     write_counts(
         out,
@@ -51,9 +49,7 @@ pub fn write_no_space<K: Sink>(out: &mut K, tally: &Tally, need: u16) -> Result<
         (tally_text tally.now ++ refusal_text (no.Space need))) }
     ensures failed { OnErr result (WroteLess (K.held out.old) (K.held out.new)
         (tally_text tally.now ++ refusal_text (no.Space need))) }
-    ensures keeps { K.keeps out.old out.new }
-    ensures faultless { OnOk result (K.faults out.new ≡ K.faults out.old) }
-    ensures cause { HasCause (K.faults out.old) (K.faults out.new) result }
+    ensures frame { Sends K.lent K.faults out.old out.new result }
 {
     write_tally(out, tally)?;
     write_refusal(out, &Refusal::Space { need })
@@ -71,9 +67,7 @@ fn write_counts<K: Sink>(
         ((words.now ++ decimal count) ++ (more_words.now ++ decimal more_count))) }
     ensures failed { OnErr result (WroteLess (K.held out.old) (K.held out.new)
         ((words.now ++ decimal count) ++ (more_words.now ++ decimal more_count))) }
-    ensures keeps { K.keeps out.old out.new }
-    ensures faultless { OnOk result (K.faults out.new ≡ K.faults out.old) }
-    ensures cause { HasCause (K.faults out.old) (K.faults out.new) result }
+    ensures frame { Sends K.lent K.faults out.old out.new result }
 {
     write_count(out, words, count)?;
     write_count(out, more_words, more_count)

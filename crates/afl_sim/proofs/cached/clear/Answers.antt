@@ -11,4 +11,4 @@ returns-clause-cache g c =
     let place : 4096 * c.from-place.result ≡ 4096 * c.args.sector.0 = ap (λ n. 4096 * n) c.from-place.ensures in
     rw (returns-clause-known g c, c.erase_bytes.ensures, place)
     (cache_erased g.F.Flash.tells (g.F.Flash.image c.args.inner.now) (g.F.Flash.image c.erase.new.self) c.args.memory.now c.args.known.now c.args.sector.0
-    c.requires.cache c.requires.kept c.in_ok-erase.ensures.size c.in_ok-erase.ensures.erased)
+    c.requires.cache c.requires.kept c.in_ok-erase.ensures.frame.size c.in_ok-erase.ensures.erased)

@@ -32,56 +32,32 @@ none_left (OpenCursor n q) r a b d e f g h i = r tt
 none_left (FetchCursor n) r a b d e f g h i = r tt
 none_left (CloseCursor n) r a b d e f g h i = r tt
 
-pub returns-in-CreateRelation-clause-done : goal.returns-in-CreateRelation-clause-done
-returns-in-CreateRelation-clause-done g c = rw c.in-CreateRelation.is c.create_relation.ensures.done
+pub returns-in-CreateRelation : goal.returns-in-CreateRelation
+returns-in-CreateRelation g c = record { carried = rw c.in-CreateRelation.is c.create_relation.ensures.carried }
 
-pub returns-in-CreateRelation-clause-wants : goal.returns-in-CreateRelation-clause-wants
-returns-in-CreateRelation-clause-wants g c = rw c.in-CreateRelation.is c.create_relation.ensures.wants
+pub returns-in-CreateAttribute : goal.returns-in-CreateAttribute
+returns-in-CreateAttribute g c = record { carried = rw c.in-CreateAttribute.is c.create_attribute.ensures.carried }
 
-pub returns-in-CreateAttribute-clause-done : goal.returns-in-CreateAttribute-clause-done
-returns-in-CreateAttribute-clause-done g c = rw c.in-CreateAttribute.is c.create_attribute.ensures.done
+pub returns-in-CreateIndex : goal.returns-in-CreateIndex
+returns-in-CreateIndex g c = record { carried = rw c.in-CreateIndex.is c.create_index.ensures.carried }
 
-pub returns-in-CreateAttribute-clause-wants : goal.returns-in-CreateAttribute-clause-wants
-returns-in-CreateAttribute-clause-wants g c = rw c.in-CreateAttribute.is c.create_attribute.ensures.wants
+pub returns-in-Insert : goal.returns-in-Insert
+returns-in-Insert g c = record { carried = rw c.in-Insert.is c.insert.ensures.carried }
 
-pub returns-in-CreateIndex-clause-done : goal.returns-in-CreateIndex-clause-done
-returns-in-CreateIndex-clause-done g c = rw c.in-CreateIndex.is c.create_index.ensures.done
+pub returns-in-RemoveFrom : goal.returns-in-RemoveFrom
+returns-in-RemoveFrom g c = record { carried = rw c.in-RemoveFrom.is c.remove_from.ensures.carried }
 
-pub returns-in-CreateIndex-clause-wants : goal.returns-in-CreateIndex-clause-wants
-returns-in-CreateIndex-clause-wants g c = rw c.in-CreateIndex.is c.create_index.ensures.wants
+pub returns-in-RemoveRelation : goal.returns-in-RemoveRelation
+returns-in-RemoveRelation g c = record { carried = rw c.in-RemoveRelation.is c.remove_relation.ensures.carried }
 
-pub returns-in-Insert-clause-done : goal.returns-in-Insert-clause-done
-returns-in-Insert-clause-done g c = rw c.in-Insert.is c.insert.ensures.done
+pub returns-in-RemoveIndex : goal.returns-in-RemoveIndex
+returns-in-RemoveIndex g c = record { carried = rw c.in-RemoveIndex.is c.remove_index.ensures.carried }
 
-pub returns-in-Insert-clause-wants : goal.returns-in-Insert-clause-wants
-returns-in-Insert-clause-wants g c = rw c.in-Insert.is c.insert.ensures.wants
+pub returns-in-Pack : goal.returns-in-Pack
+returns-in-Pack g c = record { carried = rw c.in-Pack.is c.pack.ensures.carried }
 
-pub returns-in-RemoveFrom-clause-done : goal.returns-in-RemoveFrom-clause-done
-returns-in-RemoveFrom-clause-done g c = rw c.in-RemoveFrom.is c.remove_from.ensures.done
-
-pub returns-in-RemoveFrom-clause-wants : goal.returns-in-RemoveFrom-clause-wants
-returns-in-RemoveFrom-clause-wants g c = rw c.in-RemoveFrom.is c.remove_from.ensures.wants
-
-pub returns-in-RemoveRelation-clause-done : goal.returns-in-RemoveRelation-clause-done
-returns-in-RemoveRelation-clause-done g c = rw c.in-RemoveRelation.is c.remove_relation.ensures.done
-
-pub returns-in-RemoveRelation-clause-wants : goal.returns-in-RemoveRelation-clause-wants
-returns-in-RemoveRelation-clause-wants g c = rw c.in-RemoveRelation.is c.remove_relation.ensures.wants
-
-pub returns-in-RemoveIndex-clause-done : goal.returns-in-RemoveIndex-clause-done
-returns-in-RemoveIndex-clause-done g c = rw c.in-RemoveIndex.is c.remove_index.ensures.done
-
-pub returns-in-RemoveIndex-clause-wants : goal.returns-in-RemoveIndex-clause-wants
-returns-in-RemoveIndex-clause-wants g c = rw c.in-RemoveIndex.is c.remove_index.ensures.wants
-
-pub returns-in-Pack-clause-done : goal.returns-in-Pack-clause-done
-returns-in-Pack-clause-done g c = rw c.in-Pack.is c.pack.ensures.done
-
-pub returns-in-Pack-clause-wants : goal.returns-in-Pack-clause-wants
-returns-in-Pack-clause-wants g c = rw c.in-Pack.is c.pack.ensures.wants
-
-pub returns-in_default-clause-done : goal.returns-in_default-clause-done
-returns-in_default-clause-done g c =
+pub unreachable-requires : goal.unreachable-requires
+unreachable-requires g c =
     let d = c.in_default in
-    absurd (none_left c.args.command.now c.requires.changes d.not-CreateRelation d.not-CreateAttribute d.not-CreateIndex d.not-Insert
-    d.not-RemoveFrom d.not-RemoveRelation d.not-RemoveIndex d.not-Pack)
+    none_left c.args.command.now c.requires.changes d.not-CreateRelation d.not-CreateAttribute d.not-CreateIndex d.not-Insert
+    d.not-RemoveFrom d.not-RemoveRelation d.not-RemoveIndex d.not-Pack

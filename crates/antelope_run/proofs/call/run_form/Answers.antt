@@ -4,7 +4,7 @@ use Rattle.intake.specs.declared.halt.Halt.TheVariants.{Flash, Sink}
 use Rattle.intake.specs.declared.halt.Stop.TheVariants.{Input, Halted}
 use Rattle.stored.specs.Base.{base_of}
 use Rattle.stored.specs.Sound.{BreaksFirst, IsSoundTable}
-use Rattle.sound_image.specs.Images.{base, files_in, IsSound}
+use Rattle.sound_image.specs.Images.{base, files_of_image, IsSound}
 use Rattle.sound_image.proofs.Judged.{sound_unbroken}
 use Rattle.antelope_run.proofs.Leaving.{leaves, tells_alone}
 use Rattle.run_model.specs.Runs.{world}
@@ -25,15 +25,15 @@ returns-in-Ok-Ok-clause-comes g c = λ told.
     let sound : IsSound image = record { volume = c.in-Ok.ensures.sound told; database = subst IsSoundTable files (rw c.in-Ok-Ok.field-0-is at (began.sound tells)) } in
     let start : c.begin.new.self.database ≡ base image = (rw c.in-Ok-Ok.field-0-is at (began.base tells)) ∙ ap base_of files in
     let kept = (rw c.in-Ok-Ok.field-0-is at began.running).1 in
-    let told_now = ap (λ s. s.tells) began.same ∙ tells in
+    let told_now = ap (λ s. s.tells) began.frame.same ∙ tells in
     let database : IsSoundDatabase c.begin.new.self.database =
-    subst IsSoundDatabase (sym start) (c.sound_files_are_a_sound_database.ensures (files_in image) sound.database) in
+    subst IsSoundDatabase (sym start) (c.sound_files_are_a_sound_database.ensures (files_of_image image) sound.database) in
     let many : c.sectors-sectors.result ≡ length image / 4096 = (let size = c.sectors-sectors.ensures.size in omega (arith, size)) in (
       sound,
       leaves _ _ image (g.F.Flash.image c.close.result) (g.S.Source.left c.args.input.now) (g.S.Source.left c.carry_out-done.new.input) _ start told_now
           c.sectors-sectors.result many c.args.form c.carry_out-done.result
           (λ tells_now other. c.close.ensures.back tells_now (not_true _ c.carry_out-done.new.session.lost (c.carry_out-done.ensures.lost kept) other))
-          (λ only other. c.close.ensures.image ∙ c.carry_out-done.ensures.same only other ∙ ap (λ s. s.store) began.same ∙ store)
+          (λ only. c.close.ensures.image ∙ c.carry_out-done.ensures.same only ∙ ap (λ s. s.store) began.frame.same ∙ store)
           (λ only. ap g.S.Source.left (c.carry_out-done.ensures.unread (tells_alone c.args.form only)))
           (c.carry_out-done.ensures.does told_now kept database),
     )
@@ -49,13 +49,13 @@ returns-in-Ok-Ok-clause-reads g c = λ told sound.
     let start : c.begin.new.self.database ≡ base image = (rw c.in-Ok-Ok.field-0-is at (began.base tells)) ∙ ap base_of files in
     let opened = opened_within image _ files _ _ _ c.sectors-sectors.result c.sectors-sectors.ensures.size c.sectors-sectors.ensures.least (rw (← at) at c.in-Ok.ensures.reads) (began.reads tells) in
     rw c.close.ensures.reads (reads_by image (g.S.Source.left c.args.input.now) (g.K.Sink.held c.args.out.now) (g.F.Flash.reads c.args.flash)
-    _ _ start (rw c.in-Ok-Ok.field-0-is at began.aheads) opened c.args.form (c.carry_out-done.ensures.reads (ap (λ s. s.tells) began.same ∙ tells)))
+    _ _ start (rw c.in-Ok-Ok.field-0-is at began.aheads) opened c.args.form (c.carry_out-done.ensures.reads (ap (λ s. s.tells) began.frame.same ∙ tells)))
 
 pub returns-in-Ok-Ok-clause-cause : goal.returns-in-Ok-Ok-clause-cause
 returns-in-Ok-Ok-clause-cause g c =
     let cause = c.carry_out-done.ensures.cause in
     let mounted = rw (← c.new-session.ensures.files) at c.in-Ok.ensures.cause in
-    let later = c.in-Ok-Ok.ensures.cause.later in
+    let later = c.in-Ok-Ok.ensures.frame.cause.later in
     record {
       input = λ e. let is : c.carry_out-done.result ≡ Err Input = cc in cause.input is;
       flash_failed = λ e.
@@ -123,7 +123,7 @@ returns-in-Ok-Err-clause-comes g c = λ told.
     refused_comes c.refuse-in-Ok-Err.result c.args.form
     (world image (g.S.Source.left c.args.input.now) (g.K.Sink.held c.args.out.now))
     (world (g.F.Flash.image c.close-in-Ok-Err.result) (g.S.Source.left c.args.input.now) (g.K.Sink.held c.refuse-in-Ok-Err.new.out))
-    rule place e.only (inr (c.in-Ok.ensures.sound told, bad)) (c.close-in-Ok-Err.ensures.image ∙ ap (λ s. s.store) began.same ∙ store) e.written e.unsaid
+    rule place e.only (inr (c.in-Ok.ensures.sound told, bad)) (c.close-in-Ok-Err.ensures.image ∙ ap (λ s. s.store) began.frame.same ∙ store) e.written e.unsaid
 
 pub returns-in-Ok-Err-clause-reaches : goal.returns-in-Ok-Err-clause-reaches
 returns-in-Ok-Err-clause-reaches g c = none_opened c.refuse-in-Ok-Err.result _ c.refuse-in-Ok-Err.ensures.only
@@ -149,7 +149,7 @@ returns-in-Err-clause-reads g c = λ told sound.
 pub returns-in-Err-clause-cause : goal.returns-in-Err-clause-cause
 returns-in-Err-clause-cause g c =
     let mounted = rw (← c.new-session.ensures.files) at c.in-Ok.ensures.cause in
-    let rose = c.in-Err.ensures.cause.failed in
+    let rose = c.in-Err.ensures.frame.cause.failed in
     record {
       input = λ e. absurd (let n : ⊥ = cc in n);
       flash_failed = λ e. absurd (let n : ⊥ = cc in n);
@@ -157,6 +157,3 @@ returns-in-Err-clause-cause g c =
       unsaid = λ e. absurd (let n : ⊥ = cc in n);
       unopened = λ e. rw c.close-in-Err.ensures.faults (omega (arith, rose, mounted));
     }
-
-pub returns-in-Err-clause-keeps : goal.returns-in-Err-clause-keeps
-returns-in-Err-clause-keeps g c = g.met.K.Sink.kept c.args.out.now

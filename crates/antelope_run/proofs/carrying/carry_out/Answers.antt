@@ -32,7 +32,7 @@ pub returns-in-Dump-clause-does : goal.returns-in-Dump-clause-does
 returns-in-Dump-clause-does g c = λ told kept sound. rw c.in-Dump.is (c.dump_all.ensures.does told sound)
 
 pub returns-in-Dump-clause-same : goal.returns-in-Dump-clause-same
-returns-in-Dump-clause-same g c = λ tells other. ap (λ s. s.store) (c.dump_all.ensures.same other).files
+returns-in-Dump-clause-same g c = λ tells. ap (λ s. s.store) c.dump_all.ensures.files
 
 pub returns-in-Dump-clause-cause : goal.returns-in-Dump-clause-cause
 returns-in-Dump-clause-cause g c = c.dump_all.ensures.cause (g.S.Source.faults c.args.input.now)

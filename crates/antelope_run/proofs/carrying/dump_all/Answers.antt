@@ -23,7 +23,10 @@ returns-clause-lost g c = λ kept lost.
 
 pub returns-clause-cause : goal.returns-clause-cause
 returns-clause-cause g c = λ inputs.
-    rw c.stopped.ensures (dumped_cause c.write.result inputs _ _ _ _ c.write.ensures.cause)
+    rw c.stopped.ensures (dumped_cause c.write.result inputs _ _ _ _ c.write.ensures.frame.cause)
 
 pub returns-clause-halts : goal.returns-clause-halts
 returns-clause-halts g c = rw c.stopped.ensures (stopped_only c.write.result)
+
+pub returns-clause-files : goal.returns-clause-files
+returns-clause-files g c = c.write.ensures.frame.same

@@ -18,7 +18,7 @@ returns-clause-lost g c = λ kept lost.
 
 pub returns-clause-cause : goal.returns-clause-cause
 returns-clause-cause g c = λ inputs.
-    rw c.halted.ensures (generated_cause c.generate.result inputs _ _ _ _ c.generate.ensures.cause)
+    rw c.halted.ensures (generated_cause c.generate.result inputs _ _ _ _ c.generate.ensures.frame.cause)
 
 pub returns-clause-halts : goal.returns-clause-halts
 returns-clause-halts g c = rw c.halted.ensures (halted_only c.generate.result)

@@ -1,6 +1,6 @@
 use Rattle.std.proofs.Common.{◌≡◌, ap, ◌∙◌}
 use Rattle.cursor.specs.declared.join.JoinCursor.{JoinCursor}
-use Rattle.candidate_tests.specs.Standing.{indexes_of}
+use Rattle.candidate_tests.specs.Standing.{three_indexes}
 use Rattle.candidate_tests.proofs.Standing.{pairs_on}
 use Rattle.candidate_tests.proofs.joins.count_pairs.Goals as goal
 
@@ -14,9 +14,9 @@ loop-turn-preserved g c =
     let same = c.in_ok-found.ensures.stands in
     let left : c.next.new.self.left ≡ t = ap (λ (cursor : JoinCursor). cursor.left) same ∙ before.left in
     let right : c.next.new.self.right ≡ t = ap (λ (cursor : JoinCursor). cursor.right) same ∙ before.right in
-    let indexes : c.next.new.self.right_indexes ≡ indexes_of t tree = ap (λ (cursor : JoinCursor). cursor.right_indexes) same ∙ before.indexes in
+    let indexes : c.next.new.self.right_indexes ≡ three_indexes t tree = ap (λ (cursor : JoinCursor). cursor.right_indexes) same ∙ before.indexes in
     let stands = c.in_ok-change_all.ensures.stands in
-    let goes_on = rw c.in_ok-found.ensures.same at c.in_ok-change_all.ensures.goes_on in
+    let goes_on = rw c.in_ok-found.ensures.frame.same at c.in_ok-change_all.ensures.goes_on in
     record {
       stands = stands;
       left = c.rest_at_some.ensures.left ∙ left;

@@ -11,7 +11,7 @@ use Rattle.catalog.proofs.Loading.{index_broken, index_found, seen_all, seen_mor
 use Rattle.catalog.proofs.indexes.load_indexes.Goals as goal
 
 pub loop-slot-init : goal.loop-slot-init
-loop-slot-init g c = record { same = refl; long = refl; read = λ told. refl; sound = λ told. first_none _; behind = λ i. refl; reads = omega arith; faults = omega arith }
+loop-slot-init g c = record { same = refl; long = refl; read = λ told. refl; sound = λ told. first_none _; behind = λ i. refl; lent = refl; reads = omega arith; later = omega arith; faults = omega arith }
 
 pub returns-in-None-clause-broken : goal.returns-in-None-clause-broken
 returns-in-None-clause-broken g c = λ told.
@@ -26,12 +26,14 @@ loop-slot-preserved g c =
     let is = rw (c.loop-slot.invariant.same, c.in-Some.is) at c.in_ok-index.ensures.index in
     let found = λ (told : IsTrue (g.V.Files.state c.args.files.now).tells). index_found bytes c.loop-slot.slot c.args.relations.now _ (option_map index_in c.in-Some.index) (omega arith) (c.requires.relations told) (c.loop-slot.invariant.read told) (is told) in
     record {
-      same = c.in_ok-index.ensures.same ∙ c.loop-slot.invariant.same;
+      same = c.in_ok-index.ensures.frame.same ∙ c.loop-slot.invariant.same;
       long = length-set c.loop-slot.indexes c.loop-slot.slot c.in-Some.index ∙ c.loop-slot.invariant.long;
       read = λ told. seen_more (option_map index_in) (index_at bytes) c.loop-slot.indexes c.loop-slot.slot c.in-Some.index (omega (arith, c.loop-slot.invariant.long, c.loop-slot-test.true)) (c.loop-slot.invariant.read told) (found told).1;
       sound = λ told. first_more (breaks_index bytes) c.loop-slot.slot (c.loop-slot.invariant.sound told) (found told).0;
       behind = behind_more c.args.relations.now c.loop-slot.indexes c.loop-slot.slot c.in-Some.index (omega (arith, c.loop-slot.invariant.long, c.loop-slot-test.true)) c.loop-slot.invariant.behind (rw c.in-Some.is at c.in_ok-index.ensures.behind);
+      lent = c.in_ok-index.ensures.frame.lent ∙ c.loop-slot.invariant.lent;
       reads = search rules;
+      later = search rules;
       faults = search rules;
     }
 

@@ -14,6 +14,8 @@ invariant-loop-slot g l = record {
   read : IsTrue (g.V.Files.state l.fn.files).tells → indexes_in (take l.slot l.indexes) ≡ map (index_at (bytes_at (g.V.Files.state l.fn.files).files l.cat)) (range_with_len 0 l.slot);
   sound : IsTrue (g.V.Files.state l.fn.files).tells → first l.slot (breaks_index (bytes_at (g.V.Files.state l.fn.files).files l.cat)) ≡ None;
   behind : AreBehind l.relations (indexes_in (take l.slot l.indexes));
+  lent : g.V.Files.lent l.files ≡ g.V.Files.lent l.fn.files;
   reads : g.V.Files.reads l.files ≤ g.V.Files.reads l.fn.files + 3 * l.slot;
+  later : g.V.Files.reads l.fn.files ≤ g.V.Files.reads l.files;
   faults : g.V.Files.faults l.fn.files ≤ g.V.Files.faults l.files;
 }

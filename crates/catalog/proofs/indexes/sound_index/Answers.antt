@@ -3,7 +3,8 @@ use Rattle.std.specs.Prelude.{option_map}
 use Rattle.db_model.specs.Catalog.{index_slot_of}
 use Rattle.catalog.specs.CatalogFile.{index_in, indexes_in}
 use Rattle.catalog.specs.Rules.{is_behind, sound_index}
-use Rattle.catalog.proofs.Choices.{and_both, and_left, and_right, if_none, if_some}
+use Rattle.padded.proofs.Facts.{both_true}
+use Rattle.catalog.proofs.Choices.{and_left, and_right, if_none, if_some}
 use Rattle.catalog.proofs.indexes.sound_index.Goals as goal
 
 pub returns-in_err-index : goal.returns-in_err-index
@@ -21,4 +22,4 @@ pub returns : goal.returns
 unfolding sound_index
 returns c =
     let judged = ap (is_behind c.args.relations.now (indexes_in c.args.before.now)) (sym c.in_ok-index.ensures.some) ∙ sym c.if-not-is_behind.ensures in
-    if_some _ _ (index_slot_of c.args.slot.now) (and_both _ _ c.in_ok-index.ensures.form judged) c.in_ok-index.ensures.some
+    if_some _ _ (index_slot_of c.args.slot.now) (both_true _ _ c.in_ok-index.ensures.form judged) c.in_ok-index.ensures.some

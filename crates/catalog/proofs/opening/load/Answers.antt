@@ -16,7 +16,7 @@ returns-in-Some-first_unmatched-clause-broken g c = λ told.
     let files = (g.V.Files.state c.args.files.now).files in
     let catalog = (rw c.in-Ok.is at c.in_ok-catalog.ensures.catalog) told in
     let sound = (rw c.in-Ok.is at c.in_ok-catalog.ensures.sound) told in
-    let found = rw c.in_ok-catalog.ensures.same at c.in-Some-first_unmatched.ensures in
+    let found = rw c.in_ok-catalog.ensures.frame.same at c.in-Some-first_unmatched.ensures in
     breaks_18 files c.in-Some-first_unmatched.place c.in-None.ensures sound (found ∙ ap (λ (slots : Catalog). first 16 (breaks_files files slots.relations slots.indexes)) catalog)
 
 pub returns-in-None-first_unmatched-clause-catalog : goal.returns-in-None-first_unmatched-clause-catalog
@@ -27,5 +27,5 @@ returns-in-None-first_unmatched-clause-sound g c = λ told.
     let files = (g.V.Files.state c.args.files.now).files in
     let catalog = (rw c.in-Ok.is at c.in_ok-catalog.ensures.catalog) told in
     let sound = (rw c.in-Ok.is at c.in_ok-catalog.ensures.sound) told in
-    let none = rw c.in_ok-catalog.ensures.same at c.in-None-first_unmatched.ensures in
+    let none = rw c.in_ok-catalog.ensures.frame.same at c.in-None-first_unmatched.ensures in
     breaks_nothing files c.in-None.ensures sound (none ∙ ap (λ (slots : Catalog). first 16 (breaks_files files slots.relations slots.indexes)) catalog)

@@ -9,7 +9,7 @@ use Rattle.catalog.proofs.Loading.{filled_all, filled_more, relation_broken, rel
 use Rattle.catalog.proofs.relations.load_relations.Goals as goal
 
 pub loop-slot-init : goal.loop-slot-init
-loop-slot-init g c = record { same = refl; long = refl; read = λ told. refl; sound = λ told. first_none _; formed = λ k. refl; reads = omega arith; faults = omega arith }
+loop-slot-init g c = record { same = refl; long = refl; read = λ told. refl; sound = λ told. first_none _; formed = λ k. refl; lent = refl; reads = omega arith; later = omega arith; faults = omega arith }
 
 pub returns-in-None-clause-broken : goal.returns-in-None-clause-broken
 returns-in-None-clause-broken g c = λ told.
@@ -24,12 +24,14 @@ loop-slot-preserved g c =
     let is = rw (c.loop-slot.invariant.same, c.in-Some.is) at c.in_ok-relation.ensures.relation in
     let found = λ (told : IsTrue (g.V.Files.state c.args.files.now).tells). relation_found bytes c.args.version c.loop-slot.slot _ c.in-Some.relation (omega arith) (c.requires.version told) (c.loop-slot.invariant.read told) (is told) in
     record {
-      same = c.in_ok-relation.ensures.same ∙ c.loop-slot.invariant.same;
+      same = c.in_ok-relation.ensures.frame.same ∙ c.loop-slot.invariant.same;
       long = length-set c.loop-slot.relations c.loop-slot.slot c.in-Some.relation ∙ c.loop-slot.invariant.long;
       read = λ told. filled_more (relation_at bytes) c.loop-slot.relations c.loop-slot.slot c.in-Some.relation (omega (arith, c.loop-slot.invariant.long, c.loop-slot-test.true)) (c.loop-slot.invariant.read told) (found told).1;
       sound = λ told. first_more (breaks_relation bytes) c.loop-slot.slot (c.loop-slot.invariant.sound told) (found told).0;
       formed = schemas_more c.args.version c.loop-slot.relations c.loop-slot.slot c.in-Some.relation (omega (arith, c.loop-slot.invariant.long, c.loop-slot-test.true)) c.loop-slot.invariant.formed (rw c.in-Some.is at c.in_ok-relation.ensures.formed);
+      lent = c.in_ok-relation.ensures.frame.lent ∙ c.loop-slot.invariant.lent;
       reads = search rules;
+      later = search rules;
       faults = search rules;
     }
 

@@ -13,6 +13,8 @@ invariant-loop-slot g l = record {
   read : IsTrue (g.V.Files.state l.fn.files).tells → take l.slot l.relations ≡ map (relation_at (bytes_at (g.V.Files.state l.fn.files).files l.cat)) (range_with_len 0 l.slot);
   sound : IsTrue (g.V.Files.state l.fn.files).tells → first l.slot (breaks_relation (bytes_at (g.V.Files.state l.fn.files).files l.cat)) ≡ None;
   formed : AreSchemas l.version (take l.slot l.relations);
+  lent : g.V.Files.lent l.files ≡ g.V.Files.lent l.fn.files;
   reads : g.V.Files.reads l.files ≤ g.V.Files.reads l.fn.files + 9 * l.slot;
+  later : g.V.Files.reads l.fn.files ≤ g.V.Files.reads l.files;
   faults : g.V.Files.faults l.fn.files ≤ g.V.Files.faults l.files;
 }

@@ -2,7 +2,8 @@ use Rattle.std.proofs.Common.{ap, sym, ◌∙◌}
 use Rattle.std.specs.Prelude.{not}
 use Rattle.db_model.specs.Catalog.{relation_slot_of}
 use Rattle.catalog.specs.Rules.{is_named_among, sound_relation}
-use Rattle.catalog.proofs.Choices.{and_both, and_left, and_right, if_none, if_some, none_if, some_if}
+use Rattle.padded.proofs.Facts.{both_true}
+use Rattle.catalog.proofs.Choices.{and_left, and_right, if_none, if_some, none_if, some_if}
 use Rattle.catalog.proofs.relations.sound_relation.Goals as goal
 
 pub returns-in_err-relation : goal.returns-in_err-relation
@@ -22,4 +23,4 @@ unfolding sound_relation
 returns c =
     let read = some_if _ _ _ c.in_ok-relation.ensures in
     let unnamed = ap not (ap (λ r. is_named_among r c.args.before.now) (sym read.1) ∙ sym c.if-is_named_among.ensures) in
-    if_some _ _ (relation_slot_of c.args.slot.now) (and_both _ _ read.0 unnamed) read.1
+    if_some _ _ (relation_slot_of c.args.slot.now) (both_true _ _ read.0 unnamed) read.1

@@ -15,7 +15,7 @@ pub returns-then-not-branch-clause-first : goal.returns-then-not-branch-clause-f
 returns-then-not-branch-clause-first g c = λ t us files tiled h.
     let image = g.F.Flash.image c.args.flash.now in
     let is : IsRead image c.loop-page.page (Some c.in-Some.unit) = (rw (c.loop-page.invariant.same, c.in-Some.is) at (c.in_ok-unit.ensures.unit t)) in
-    let kept = (rw (c.unit_in.ensures.same, c.loop-page.invariant.same) at (c.in_ok-unit_keeps.ensures.keeps t)) files h in
+    let kept = (rw (c.unit_in.ensures.frame.same, c.loop-page.invariant.same) at (c.in_ok-unit_keeps.ensures.keeps t)) files h in
     sym (ap (option_map page_id) (searched_found (keeps_rule c.args.rule image files) image us c.loop-page.page c.in-Some.unit c.in_ok-unit_keeps.field-0 (omega arith) (c.loop-page.invariant.searched t us files tiled h) is kept c.if-not-branch.true))
 
 pub loop-page-preserved : goal.loop-page-preserved
@@ -25,13 +25,14 @@ loop-page-preserved g c =
       within = c.behind-page.ensures.within c.sectors-pages.result inside.1;
       size = c.loop-page.invariant.size;
       same = search rules;
+      lent = search rules;
       reads = omega (arith, c.behind-page.ensures.onward);
       later = search rules;
       faults = search rules;
       searched = λ t us files tiled h.
           let image = g.F.Flash.image c.args.flash.now in
           let is : IsRead image c.loop-page.page (Some c.in-Some.unit) = (rw (c.loop-page.invariant.same, c.in-Some.is) at (c.in_ok-unit.ensures.unit t)) in
-          let kept = (rw (c.unit_in.ensures.same, c.loop-page.invariant.same) at (c.in_ok-unit_keeps.ensures.keeps t)) files h in
+          let kept = (rw (c.unit_in.ensures.frame.same, c.loop-page.invariant.same) at (c.in_ok-unit_keeps.ensures.keeps t)) files h in
           rw c.behind-page.ensures.value (searched_behind (keeps_rule c.args.rule image files) image us c.sectors-pages.result c.loop-page.page c.in-Some.unit c.in_ok-unit_keeps.field-0 (omega arith) (omega arith) (c.loop-page.invariant.searched t us files tiled h) is kept c.if-not-branch.false);
     }
 

@@ -11,6 +11,7 @@ invariant-loop-page g l = record {
   within : l.page ≤ l.pages;
   size : 256 * l.pages ≡ length (g.F.Flash.image l.fn.flash);
   same : g.F.Flash.image l.flash ≡ g.F.Flash.image l.fn.flash;
+  lent : g.F.Flash.lent l.flash ≡ g.F.Flash.lent l.fn.flash;
   reads : g.F.Flash.reads l.flash ≤ g.F.Flash.reads l.fn.flash + 20 * l.page;
   later : g.F.Flash.reads l.fn.flash ≤ g.F.Flash.reads l.flash;
   faults : g.F.Flash.faults l.fn.flash ≤ g.F.Flash.faults l.flash;

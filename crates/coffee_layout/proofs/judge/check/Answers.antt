@@ -27,7 +27,7 @@ returns-in-Some-2-clause-judged g c = λ t.
     let tiled : IsTiled nowhere image us = tiled_unbroken nowhere image whole judged.0 in
     let five : at_place 5 (first_page (drop 32 (files_in us))) ≡ None = sym (c.at_place.ensures (first_page (drop 32 (files_in us))) judged.1.more) ∙ c.in_default.is in
     let entries : c.judge_units.new.table.items ≡ map (λ f. entry_with f 0 0) (files_in us) = entries_all c.judge_units.new.table.items c.in-Ok.extra (files_in us) judged.1 five in
-    let named : c.in_ok-bad.field-0 ≡ first_some (named_rules image us) = (rw c.judge_units.ensures.same at (c.in_ok-bad.ensures.first t)) us tiled (c.deref.ensures.0 ∙ entries) in
+    let named : c.in_ok-bad.field-0 ≡ first_some (named_rules image us) = (rw c.judge_units.ensures.frame.same at (c.in_ok-bad.ensures.first t)) us tiled (c.deref.ensures.0 ∙ entries) in
     image_named image c.in-Some-2.bad judged.0 five (sym named ∙ c.in-Some-2.is)
 
 pub returns-in-Some-3-clause-judged : goal.returns-in-Some-3-clause-judged
@@ -39,12 +39,12 @@ returns-in-Some-3-clause-judged g c = λ t.
     let tiled : IsTiled nowhere image us = tiled_unbroken nowhere image whole judged.0 in
     let five : at_place 5 (first_page (drop 32 (files_in us))) ≡ None = sym (c.at_place.ensures (first_page (drop 32 (files_in us))) judged.1.more) ∙ c.in_default.is in
     let entries : c.judge_units.new.table.items ≡ map (λ f. entry_with f 0 0) (files_in us) = entries_all c.judge_units.new.table.items c.in-Ok.extra (files_in us) judged.1 five in
-    let named : c.in_ok-bad.field-0 ≡ first_some (named_rules image us) = (rw c.judge_units.ensures.same at (c.in_ok-bad.ensures.first t)) us tiled (c.deref.ensures.0 ∙ entries) in
+    let named : c.in_ok-bad.field-0 ≡ first_some (named_rules image us) = (rw c.judge_units.ensures.frame.same at (c.in_ok-bad.ensures.first t)) us tiled (c.deref.ensures.0 ∙ entries) in
     let none : first_some (named_rules image us) ≡ None = sym named ∙ c.in_default-2.is in
     let table : c.measure_table.new.table.items ≡ map (entry_of image) (files_in us) =
-    (rw (c.broken_named.ensures.same, c.judge_units.ensures.same) at (c.in_ok-measure_table.ensures.measured t)) (files_in us) (named_fit image us tiled none) entries in
+    (rw (c.broken_named.ensures.frame.same, c.judge_units.ensures.frame.same) at (c.in_ok-measure_table.ensures.measured t)) (files_in us) (named_fit image us tiled none) entries in
     let rest : c.in_ok-bad-2.field-0 ≡ first_some (measured_rules image us) =
-    (rw (c.measure_table.ensures.same, c.broken_named.ensures.same, c.judge_units.ensures.same) at (c.in_ok-bad-2.ensures.first t)) us tiled (c.deref-2.ensures.0 ∙ table) in
+    (rw (c.measure_table.ensures.frame.same, c.broken_named.ensures.frame.same, c.judge_units.ensures.frame.same) at (c.in_ok-bad-2.ensures.first t)) us tiled (c.deref-2.ensures.0 ∙ table) in
     image_measured image (Some c.in-Some-3.bad) judged.0 five none (sym rest ∙ c.in-Some-3.is)
 
 pub returns-clause-judged : goal.returns-clause-judged
@@ -56,10 +56,10 @@ returns-clause-judged g c = λ t.
     let tiled : IsTiled nowhere image us = tiled_unbroken nowhere image whole judged.0 in
     let five : at_place 5 (first_page (drop 32 (files_in us))) ≡ None = sym (c.at_place.ensures (first_page (drop 32 (files_in us))) judged.1.more) ∙ c.in_default.is in
     let entries : c.judge_units.new.table.items ≡ map (λ f. entry_with f 0 0) (files_in us) = entries_all c.judge_units.new.table.items c.in-Ok.extra (files_in us) judged.1 five in
-    let named : c.in_ok-bad.field-0 ≡ first_some (named_rules image us) = (rw c.judge_units.ensures.same at (c.in_ok-bad.ensures.first t)) us tiled (c.deref.ensures.0 ∙ entries) in
+    let named : c.in_ok-bad.field-0 ≡ first_some (named_rules image us) = (rw c.judge_units.ensures.frame.same at (c.in_ok-bad.ensures.first t)) us tiled (c.deref.ensures.0 ∙ entries) in
     let none : first_some (named_rules image us) ≡ None = sym named ∙ c.in_default-2.is in
     let table : c.measure_table.new.table.items ≡ map (entry_of image) (files_in us) =
-    (rw (c.broken_named.ensures.same, c.judge_units.ensures.same) at (c.in_ok-measure_table.ensures.measured t)) (files_in us) (named_fit image us tiled none) entries in
+    (rw (c.broken_named.ensures.frame.same, c.judge_units.ensures.frame.same) at (c.in_ok-measure_table.ensures.measured t)) (files_in us) (named_fit image us tiled none) entries in
     let rest : c.in_ok-bad-2.field-0 ≡ first_some (measured_rules image us) =
-    (rw (c.measure_table.ensures.same, c.broken_named.ensures.same, c.judge_units.ensures.same) at (c.in_ok-bad-2.ensures.first t)) us tiled (c.deref-2.ensures.0 ∙ table) in
+    (rw (c.measure_table.ensures.frame.same, c.broken_named.ensures.frame.same, c.judge_units.ensures.frame.same) at (c.in_ok-bad-2.ensures.first t)) us tiled (c.deref-2.ensures.0 ∙ table) in
     (image_measured image None judged.0 five none (sym rest ∙ c.in_default-3.is), table)

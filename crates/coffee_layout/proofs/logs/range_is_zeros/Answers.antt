@@ -19,6 +19,7 @@ loop-at-preserved g c = record {
   within = omega arith;
   turn = λ a b. omega arith;
   same = search rules;
+  lent = search rules;
   zeros = λ t.
       let image = g.F.Flash.image c.args.flash.now in
       let piece : is_zeros (slice_range image c.loop-at.at (c.loop-at.at + c.min-n.result)) ≡ true =

@@ -10,6 +10,7 @@ invariant-loop-at g l = record {
   within : l.at ≤ max l.fn.from l.end;
   turn : l.fn.from < l.at → l.at < l.end → l.at % 256 ≡ 0;
   same : g.F.Flash.image l.flash ≡ g.F.Flash.image l.fn.flash;
+  lent : g.F.Flash.lent l.flash ≡ g.F.Flash.lent l.fn.flash;
   zeros : IsTrue g.F.Flash.tells → is_zeros (slice_range (g.F.Flash.image l.fn.flash) l.at l.fn.to) ≡ is_zeros (slice_range (g.F.Flash.image l.fn.flash) l.fn.from l.fn.to);
   reads : g.F.Flash.reads l.flash ≤ g.F.Flash.reads l.fn.flash + pages_touched l.fn.from (l.at - l.fn.from);
   later : g.F.Flash.reads l.fn.flash ≤ g.F.Flash.reads l.flash;

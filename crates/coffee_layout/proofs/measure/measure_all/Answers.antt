@@ -14,6 +14,7 @@ loop-i-preserved g c =
     let within : c.loop-i.i < length c.loop-i.table = omega (arith, c.loop-i.auto.table) in
     record {
       same = search rules;
+      lent = search rules;
       placed = All-set (λ e. IsPlaced pages e) c.loop-i.table c.loop-i.i c.in_ok-file.file (fits.some, fits.placed) c.loop-i.invariant.placed;
       fits = fits_more (FitsIn pages) c.loop-i.table c.loop-i.i c.in_ok-file.file within fits c.loop-i.invariant.fits;
       measured = λ t files logs all.

@@ -10,6 +10,7 @@ use Rattle.coffee_layout.proofs.measure.measure_all.Given as goal
 abbrev pub invariant-loop-i : goal.invariant-loop-i
 invariant-loop-i g l = record {
   same : g.F.Flash.image l.flash ≡ g.F.Flash.image l.fn.flash;
+  lent : g.F.Flash.lent l.flash ≡ g.F.Flash.lent l.fn.flash;
   placed : All (λ e. IsPlaced (pages_of (g.F.Flash.image l.fn.flash)) e) l.table;
   fits : (k : ℕ) (d : FileAt) → k < l.i → FitsIn (pages_of (g.F.Flash.image l.fn.flash)) (get_or l.table k d);
   measured : IsTrue g.F.Flash.tells → (files : List Placed) → LogsFit (pages_of (g.F.Flash.image l.fn.flash)) files → l.fn.table ≡ map (λ f. entry_with f 0 0) files → l.table ≡ half_measured (g.F.Flash.image l.fn.flash) l.i files;

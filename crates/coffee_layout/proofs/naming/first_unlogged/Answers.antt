@@ -21,6 +21,7 @@ returns-then-not-branch-clause-first g c = λ t us tiled all.
 pub loop-file-preserved : goal.loop-file-preserved
 loop-file-preserved g c = record {
   same = search rules;
+  lent = search rules;
   reads =
       let file = (rw c.loop-file.invariant.same at c.in_ok-names_its_log.ensures.reads) in
       omega (arith, mul_more c.loop-file.file-index (1 + pages_of (g.F.Flash.image c.args.flash.now)), file);

@@ -9,6 +9,7 @@ use Rattle.coffee_layout.proofs.naming.first_unlogged.Given as goal
 abbrev pub invariant-loop-file : goal.invariant-loop-file
 invariant-loop-file g l = record {
   same : g.F.Flash.image l.flash ≡ g.F.Flash.image l.fn.flash;
+  lent : g.F.Flash.lent l.flash ≡ g.F.Flash.lent l.fn.flash;
   reads : g.F.Flash.reads l.flash ≤ g.F.Flash.reads l.fn.flash + l.file-index * (1 + pages_of (g.F.Flash.image l.fn.flash));
   later : g.F.Flash.reads l.fn.flash ≤ g.F.Flash.reads l.flash;
   faults : g.F.Flash.faults l.fn.flash ≤ g.F.Flash.faults l.flash;

@@ -26,6 +26,7 @@ loop-page-preserved g c =
       within = c.behind-page.ensures.within c.sectors-pages.result inside.1;
       size = c.loop-page.invariant.size;
       same = search rules;
+      lent = search rules;
       reads = omega (arith, c.behind-page.ensures.onward);
       later = search rules;
       faults = search rules;

@@ -1,46 +1,81 @@
-use Rattle.std.proofs.Common.{arith, ◌≡◌, ◌+◌, ◌-◌, ◌*◌, ◌/◌, ◌≤◌, length, take, drop, None, Some, refl, ap, sym, subst}
+use Rattle.std.proofs.Common.{arith, ◌≡◌, ◌+◌, ◌-◌, ◌*◌, ◌/◌, ◌≤◌, length, take, drop, None, Some, [], refl, ap, sym, subst}
 use Rattle.std.proofs.lemmas.List.{length-drop, length-take}
+use Rattle.padded.proofs.Facts.{on_err}
 use Rattle.coffee_layout.specs.FileBytes.{last_in, table_of}
 use Rattle.coffee_log.specs.FileChanges.{FileBecomes, IsFile}
 use Rattle.coffee_log.specs.Logs.{AddsRecords}
 use Rattle.coffee_log.proofs.AddedRecords.{adds_kept, adds_none, range_apart}
 use Rattle.coffee_log.proofs.Appends.{plain_end}
-use Rattle.coffee_log.proofs.FileSteps.{append_two}
+use Rattle.coffee_log.proofs.FileCutLaws.{cut_later, cut_same}
+use Rattle.coffee_log.proofs.FileSteps.{append_two, becomes_nothing}
 use Rattle.coffee_log.proofs.contents.append_logged.Goals as goal
 
 pub returns-clause-becomes : goal.returns-clause-becomes
 returns-clause-becomes g c = λ t is.
-    let size0 : length (g.F.Flash.image c.is_logged.new.flash) ≡ length (g.F.Flash.image c.args.flash.now) = ap (λ i. length i) c.in_ok-is_logged.ensures.same in
+    let size0 : length (g.F.Flash.image c.is_logged.new.flash) ≡ length (g.F.Flash.image c.args.flash.now) = ap (λ i. length i) c.in_ok-is_logged.ensures.frame.same in
     let low : c.min-n.result ≤ length c.args.bytes.now = omega arith in
     let front : length (take c.min-n.result c.args.bytes.now) ≡ c.min-n.result = omega (arith, length-take c.min-n.result c.args.bytes.now) in
     let rest : length (take (length c.args.bytes.now - c.min-n.result) (drop c.min-n.result c.args.bytes.now)) ≡ length c.args.bytes.now - c.min-n.result =
     omega (arith, length-take (length c.args.bytes.now - c.min-n.result) (drop c.min-n.result c.args.bytes.now), length-drop c.min-n.result c.args.bytes.now) in
-    let was : IsFile (g.F.Flash.image c.is_logged.new.flash) c.args.page.0 c.args.pages (Some c.args.log) c.args.used c.args.at = subst (λ i. IsFile i c.args.page.0 c.args.pages (Some c.args.log) c.args.used c.args.at) (sym c.in_ok-is_logged.ensures.same) is in
+    let was : IsFile (g.F.Flash.image c.is_logged.new.flash) c.args.page.0 c.args.pages (Some c.args.log) c.args.used c.args.at = subst (λ i. IsFile i c.args.page.0 c.args.pages (Some c.args.log) c.args.used c.args.at) (sym c.in_ok-is_logged.ensures.frame.same) is in
     let put : FileBecomes (g.F.Flash.image c.is_logged.new.flash) (g.F.Flash.image c.put_part.new.flash) c.args.page.0 c.args.pages (Some c.args.log) (c.args.used + 1) (c.args.at + c.min-n.result) c.args.at (take c.min-n.result c.args.bytes.now) =
     c.in_ok-put_part.ensures.becomes t c.args.at (c.args.at + c.min-n.result) was (omega arith) (omega arith) (omega arith) in
     append_two (g.F.Flash.image c.args.flash.now) (g.F.Flash.image c.put_part.new.flash) (g.F.Flash.image c.append_plain-2.new.flash) c.args.bytes.now _ c.args.page.0 c.args.pages (Some c.args.log) (c.args.used + 1) (c.args.used + 1) c.args.at c.min-n.result _ _ _
-    (subst (λ i. FileBecomes i (g.F.Flash.image c.put_part.new.flash) c.args.page.0 c.args.pages (Some c.args.log) (c.args.used + 1) (c.args.at + c.min-n.result) c.args.at (take c.min-n.result c.args.bytes.now)) c.in_ok-is_logged.ensures.same put)
+    (subst (λ i. FileBecomes i (g.F.Flash.image c.put_part.new.flash) c.args.page.0 c.args.pages (Some c.args.log) (c.args.used + 1) (c.args.at + c.min-n.result) c.args.at (take c.min-n.result c.args.bytes.now)) c.in_ok-is_logged.ensures.frame.same put)
     (c.in_ok-append_plain-2.ensures.becomes t c.args.pages (c.args.used + 1) (Some c.args.log) put.kept
     (λ l e some.
     let same : c.args.log ≡ l = cc in
     subst (λ x. last_in (table_of (g.F.Flash.image c.put_part.new.flash) x.0) ((c.args.at + c.min-n.result) / 128) 30 ≡ None) same
     (plain_end (g.F.Flash.image c.put_part.new.flash) c.args.page.0 c.args.pages c.args.log (c.args.used + 1) (c.args.at + c.min-n.result) put.kept (omega arith)))
-    (omega arith) (omega (arith, size0, c.in_ok-put_part.ensures.size)))
+    (omega arith) (omega (arith, size0, c.in_ok-put_part.ensures.frame.size)))
     refl refl refl low (omega arith) (omega arith)
 
 pub returns-clause-adds : goal.returns-clause-adds
 returns-clause-adds g c = λ t is.
-    let was : IsFile (g.F.Flash.image c.is_logged.new.flash) c.args.page.0 c.args.pages (Some c.args.log) c.args.used c.args.at = subst (λ i. IsFile i c.args.page.0 c.args.pages (Some c.args.log) c.args.used c.args.at) (sym c.in_ok-is_logged.ensures.same) is in
+    let was : IsFile (g.F.Flash.image c.is_logged.new.flash) c.args.page.0 c.args.pages (Some c.args.log) c.args.used c.args.at = subst (λ i. IsFile i c.args.page.0 c.args.pages (Some c.args.log) c.args.used c.args.at) (sym c.in_ok-is_logged.ensures.frame.same) is in
     let front : length (take c.min-n.result c.args.bytes.now) ≡ c.min-n.result = omega (arith, length-take c.min-n.result c.args.bytes.now) in
     let rest : length (take (length c.args.bytes.now - c.min-n.result) (drop c.min-n.result c.args.bytes.now)) ≡ length c.args.bytes.now - c.min-n.result =
     omega (arith, length-take (length c.args.bytes.now - c.min-n.result) (drop c.min-n.result c.args.bytes.now), length-drop c.min-n.result c.args.bytes.now) in
     adds_kept (g.F.Flash.image c.args.flash.now) (g.F.Flash.image c.put_part.new.flash) (g.F.Flash.image c.append_plain-2.new.flash) c.args.log.0 c.args.used (c.args.used + 1) (c.args.at / 128) (256 * c.args.pages - 32) (omega arith)
-    (subst (λ i. AddsRecords i (g.F.Flash.image c.put_part.new.flash) c.args.log.0 c.args.used (c.args.used + 1) (c.args.at / 128) (256 * c.args.pages - 32)) c.in_ok-is_logged.ensures.same (c.in_ok-put_part.ensures.adds t (was.logged c.args.log refl)))
+    (subst (λ i. AddsRecords i (g.F.Flash.image c.put_part.new.flash) c.args.log.0 c.args.used (c.args.used + 1) (c.args.at / 128) (256 * c.args.pages - 32)) c.in_ok-is_logged.ensures.frame.same (c.in_ok-put_part.ensures.adds t (was.logged c.args.log refl)))
     (range_apart (g.F.Flash.image c.put_part.new.flash) (g.F.Flash.image c.append_plain-2.new.flash) c.args.page.0 c.args.pages (c.args.at + c.min-n.result) _ c.args.log.0 (is.apart c.args.log refl) (omega arith) (c.in_ok-append_plain-2.ensures.others t))
 
 pub returns-then-not-branch-clause-adds : goal.returns-then-not-branch-clause-adds
 returns-then-not-branch-clause-adds g c = λ t is.
     let none = adds_none (g.F.Flash.image c.args.flash.now) c.args.log.0 c.args.used (c.args.at / 128) (256 * c.args.pages - 32) (is.logged c.args.log refl) in
     adds_kept (g.F.Flash.image c.args.flash.now) (g.F.Flash.image c.is_logged.new.flash) (g.F.Flash.image c.append_plain.new.flash) c.args.log.0 c.args.used c.args.used (c.args.at / 128) (256 * c.args.pages - 32) (omega arith)
-    (subst (λ i. AddsRecords (g.F.Flash.image c.args.flash.now) i c.args.log.0 c.args.used c.args.used (c.args.at / 128) (256 * c.args.pages - 32)) (sym c.in_ok-is_logged.ensures.same) none)
+    (subst (λ i. AddsRecords (g.F.Flash.image c.args.flash.now) i c.args.log.0 c.args.used c.args.used (c.args.at / 128) (256 * c.args.pages - 32)) (sym c.in_ok-is_logged.ensures.frame.same) none)
     (range_apart (g.F.Flash.image c.is_logged.new.flash) (g.F.Flash.image c.append_plain.new.flash) c.args.page.0 c.args.pages c.args.at _ c.args.log.0 (is.apart c.args.log refl) (omega arith) (c.in_ok-append_plain.ensures.others t))
+
+pub returns-in_err-is_logged-clause-cut : goal.returns-in_err-is_logged-clause-cut
+returns-in_err-is_logged-clause-cut g c = λ t u. on_err c.from_residual.result (λ is.
+    cut_same (g.F.Flash.image c.args.flash.now) (g.F.Flash.image c.is_logged.new.flash) c.args.bytes.now c.args.page.0 c.args.pages (Some c.args.log) c.args.used c.args.at c.args.at is (omega arith) c.is_logged.ensures.frame.same)
+
+pub returns-in_err-put_part-clause-cut : goal.returns-in_err-put_part-clause-cut
+returns-in_err-put_part-clause-cut g c = λ t u. on_err c.from_residual-in_err-put_part.result (λ is.
+    let same = c.in_ok-is_logged.ensures.frame.same in
+    let was : IsFile (g.F.Flash.image c.is_logged.new.flash) c.args.page.0 c.args.pages (Some c.args.log) c.args.used c.args.at = subst (λ i. IsFile i c.args.page.0 c.args.pages (Some c.args.log) c.args.used c.args.at) (sym same) is in
+    let nothing : FileBecomes (g.F.Flash.image c.args.flash.now) (g.F.Flash.image c.is_logged.new.flash) c.args.page.0 c.args.pages (Some c.args.log) c.args.used c.args.at c.args.at [] =
+    subst (λ i. FileBecomes (g.F.Flash.image c.args.flash.now) i c.args.page.0 c.args.pages (Some c.args.log) c.args.used c.args.at c.args.at []) (sym same) (becomes_nothing (g.F.Flash.image c.args.flash.now) c.args.page.0 c.args.pages (Some c.args.log) c.args.used c.args.at c.args.at is) in
+    let front : length (take c.min-n.result c.args.bytes.now) ≡ c.min-n.result = omega (arith, length-take c.min-n.result c.args.bytes.now) in
+    cut_later (g.F.Flash.image c.args.flash.now) (g.F.Flash.image c.is_logged.new.flash) (g.F.Flash.image c.put_part.new.flash) c.args.bytes.now _ c.args.page.0 c.args.pages (Some c.args.log) c.args.used c.args.at c.args.at c.args.at c.args.at 0 c.min-n.result
+    nothing (c.in_err-put_part.ensures.cut t u c.args.at was (omega arith) (omega arith)) (omega arith) (omega arith) refl (omega arith) (omega arith) (omega arith))
+
+pub returns-in_err-append_plain-2-clause-cut : goal.returns-in_err-append_plain-2-clause-cut
+returns-in_err-append_plain-2-clause-cut g c = λ t u. on_err c.from_residual-in_err-append_plain-2.result (λ is.
+    let size0 : length (g.F.Flash.image c.is_logged.new.flash) ≡ length (g.F.Flash.image c.args.flash.now) = ap (λ i. length i) c.in_ok-is_logged.ensures.frame.same in
+    let front : length (take c.min-n.result c.args.bytes.now) ≡ c.min-n.result = omega (arith, length-take c.min-n.result c.args.bytes.now) in
+    let rest : length (take (length c.args.bytes.now - c.min-n.result) (drop c.min-n.result c.args.bytes.now)) ≡ length c.args.bytes.now - c.min-n.result =
+    omega (arith, length-take (length c.args.bytes.now - c.min-n.result) (drop c.min-n.result c.args.bytes.now), length-drop c.min-n.result c.args.bytes.now) in
+    let was : IsFile (g.F.Flash.image c.is_logged.new.flash) c.args.page.0 c.args.pages (Some c.args.log) c.args.used c.args.at = subst (λ i. IsFile i c.args.page.0 c.args.pages (Some c.args.log) c.args.used c.args.at) (sym c.in_ok-is_logged.ensures.frame.same) is in
+    let put : FileBecomes (g.F.Flash.image c.is_logged.new.flash) (g.F.Flash.image c.put_part.new.flash) c.args.page.0 c.args.pages (Some c.args.log) (c.args.used + 1) (c.args.at + c.min-n.result) c.args.at (take c.min-n.result c.args.bytes.now) =
+    c.in_ok-put_part.ensures.becomes t c.args.at (c.args.at + c.min-n.result) was (omega arith) (omega arith) (omega arith) in
+    cut_later (g.F.Flash.image c.args.flash.now) (g.F.Flash.image c.put_part.new.flash) (g.F.Flash.image c.append_plain-2.new.flash) c.args.bytes.now _ c.args.page.0 c.args.pages (Some c.args.log) (c.args.used + 1) c.args.at (c.args.at + c.min-n.result) c.args.at _ c.min-n.result _
+    (subst (λ i. FileBecomes i (g.F.Flash.image c.put_part.new.flash) c.args.page.0 c.args.pages (Some c.args.log) (c.args.used + 1) (c.args.at + c.min-n.result) c.args.at (take c.min-n.result c.args.bytes.now)) c.in_ok-is_logged.ensures.frame.same put)
+    (c.in_err-append_plain-2.ensures.cut t u c.args.pages (c.args.used + 1) (Some c.args.log) put.kept
+    (λ l e some.
+    let same : c.args.log ≡ l = cc in
+    subst (λ x. last_in (table_of (g.F.Flash.image c.put_part.new.flash) x.0) ((c.args.at + c.min-n.result) / 128) 30 ≡ None) same
+    (plain_end (g.F.Flash.image c.put_part.new.flash) c.args.page.0 c.args.pages c.args.log (c.args.used + 1) (c.args.at + c.min-n.result) put.kept (omega arith)))
+    (omega arith) (omega (arith, size0, c.in_ok-put_part.ensures.frame.size)))
+    (omega arith) refl refl (omega arith) (omega arith) (omega arith))

@@ -1,5 +1,7 @@
 use Rattle.std.proofs.Common.{rules, arith, ◌≡◌, ◌+◌, ◌-◌, ◌*◌, ◌/◌, ◌∙◌, Some, refl}
+use Rattle.padded.proofs.Facts.{on_err}
 use Rattle.afl_base.specs.Regions.{regions}
+use Rattle.coffee_log.proofs.FileCutLaws.{cut_later}
 use Rattle.coffee_log.proofs.AddedRecords.{adds_more, next_region}
 use Rattle.coffee_log.proofs.FileSteps.{becomes_more, regions_more}
 use Rattle.coffee_log.proofs.contents.overwrite_file.Goals as goal
@@ -13,6 +15,7 @@ loop-done-preserved g c =
       turn = λ a b. omega arith;
       count = omega arith;
       size = search rules;
+      lent = search rules;
       becomes = λ t size is ends fits.
           let b = c.loop-done.invariant.becomes t size is ends fits in
           becomes_more (g.F.Flash.image c.args.flash.now) (g.F.Flash.image c.loop-done.flash) (g.F.Flash.image c.put_part.new.flash) c.args.bytes.now _ c.args.page.0 c.args.pages (Some c.args.log) c.loop-done.records (c.loop-done.records + 1) size size c.args.at
@@ -26,3 +29,9 @@ loop-done-preserved g c =
       later = search rules;
       faults = search rules;
     }
+
+pub returns-in_err-put_part-clause-cut : goal.returns-in_err-put_part-clause-cut
+returns-in_err-put_part-clause-cut g c = λ t u. on_err c.from_residual.result (λ size is ends fits.
+    let b = c.loop-done.invariant.becomes t size is ends fits in
+    cut_later (g.F.Flash.image c.args.flash.now) (g.F.Flash.image c.loop-done.flash) (g.F.Flash.image c.put_part.new.flash) c.args.bytes.now _ c.args.page.0 c.args.pages (Some c.args.log) c.loop-done.records size size c.args.at _ c.loop-done.done _
+    b (c.in_err-put_part.ensures.cut t u size b.kept (omega arith) fits) (omega arith) refl refl (omega arith) (omega arith) (omega arith))

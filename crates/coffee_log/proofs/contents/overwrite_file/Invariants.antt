@@ -12,6 +12,7 @@ invariant-loop-done g l = record {
   turn : 0 < l.done → l.done < length l.bytes → (l.at + l.done) % 128 ≡ 0;
   count : l.records ≡ l.used + regions l.at l.done;
   size : length (g.F.Flash.image l.flash) ≡ length (g.F.Flash.image l.fn.flash);
+  lent : g.F.Flash.lent l.flash ≡ g.F.Flash.lent l.fn.flash;
   becomes : IsTrue g.F.Flash.tells → (size : ℕ) → IsFile (g.F.Flash.image l.fn.flash) l.page.0 l.pages (Some l.log) l.used size → l.at + length l.bytes ≤ size → size + 32 ≤ 256 * l.pages
       → FileBecomes (g.F.Flash.image l.fn.flash) (g.F.Flash.image l.flash) l.page.0 l.pages (Some l.log) l.records size l.at (take l.done l.bytes);
   adds : IsTrue g.F.Flash.tells → IsLog (g.F.Flash.image l.fn.flash) l.log.0 l.used → AddsRecords (g.F.Flash.image l.fn.flash) (g.F.Flash.image l.flash) l.log.0 l.used l.records (l.at / 128) (256 * l.pages - 32);

@@ -9,6 +9,7 @@ invariant-loop-done g l = record {
   size : length (g.F.Flash.image l.fn.flash) ≤ 16773120;
   turn : 0 < l.done → l.done < length l.fn.into → (l.at + l.done) % 128 ≡ 0;
   same : g.F.Flash.image l.flash ≡ g.F.Flash.image l.fn.flash;
+  lent : g.F.Flash.lent l.flash ≡ g.F.Flash.lent l.fn.flash;
   bytes : IsTrue g.F.Flash.tells → l.table ≡ table_of (g.F.Flash.image l.fn.flash) l.log.0 → (k : ℕ) → k < l.done → get_or l.into k 0 ≡ file_byte (g.F.Flash.image l.fn.flash) l.page.0 (Some l.log) (l.at + k);
   reads : g.F.Flash.reads l.flash ≤ g.F.Flash.reads l.fn.flash + 2 * regions l.at l.done;
   later : g.F.Flash.reads l.fn.flash ≤ g.F.Flash.reads l.flash;

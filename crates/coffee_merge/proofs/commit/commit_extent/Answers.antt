@@ -1,10 +1,10 @@
-use Rattle.std.proofs.Common.{sym, subst}
-use Rattle.std.proofs.lemmas.Result.{on_ok_weaker}
-use Rattle.coffee_merge.specs.Holding.{Commits, TakesOnly}
+use Rattle.std.proofs.Common.{sym, subst, arith}
+use Rattle.std.proofs.lemmas.Result.{on_err_weaker, on_ok_weaker}
+use Rattle.coffee_merge.specs.Holding.{Commits}
+use Rattle.coffee_merge.proofs.CutMarkLaws.{one_of}
 use Rattle.coffee_merge.proofs.Commits.{commits}
-use Rattle.coffee_merge.specs.Takes.{FreesNone}
-use Rattle.coffee_merge.proofs.Lowest.{commit_frees}
-use Rattle.coffee_merge.proofs.Taken.{commit_takes}
+use Rattle.coffee_merge.specs.Takes.{KeepsFree}
+use Rattle.coffee_merge.proofs.Lowest.{commit_free}
 use Rattle.coffee_merge.proofs.commit.commit_extent.Goals as goal
 
 pub returns-clause-committed : goal.returns-clause-committed
@@ -15,16 +15,12 @@ returns-clause-committed g c =
     subst (λ image. Commits (g.F.Flash.image c.args.flash.now) image table i d) (sym is) (commits (g.F.Flash.image c.args.flash.now) table d i c.args.page holds place inside free fresh last))
     (c.program.ensures.programmed told)
 
-pub returns-clause-taken : goal.returns-clause-taken
-returns-clause-taken g c =
+pub returns-clause-free : goal.returns-clause-free
+returns-clause-free g c =
     λ told.
     on_ok_weaker c.program.result
-    (λ is table d holds place. subst (λ image. TakesOnly (g.F.Flash.image c.args.flash.now) image 0 0) (sym is) (commit_takes (g.F.Flash.image c.args.flash.now) table d c.args.page holds place))
+    (λ is table d holds place. subst (λ image. KeepsFree (g.F.Flash.image c.args.flash.now) image) (sym is) (commit_free (g.F.Flash.image c.args.flash.now) table d c.args.page holds place))
     (c.program.ensures.programmed told)
 
-pub returns-clause-freed : goal.returns-clause-freed
-returns-clause-freed g c =
-    λ told.
-    on_ok_weaker c.program.result
-    (λ is table d holds place. subst (λ image. FreesNone (g.F.Flash.image c.args.flash.now) image) (sym is) (commit_frees (g.F.Flash.image c.args.flash.now) table d c.args.page holds place))
-    (c.program.ensures.programmed told)
+pub returns-clause-cut : goal.returns-clause-cut
+returns-clause-cut g c = λ t u. on_err_weaker c.program.result (λ cut. one_of (g.F.Flash.image c.args.flash.now) (g.F.Flash.image c.program.new.self) _ _ cut (omega arith)) (c.program.ensures.cut t u)

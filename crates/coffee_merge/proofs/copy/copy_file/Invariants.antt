@@ -1,18 +1,19 @@
 use Rattle.std.proofs.Common.{◌≡◌, ◌-◌, ◌≤◌, None, length, IsTrue}
 use Rattle.coffee_merge.proofs.Contents.{CopiesInto}
+use Rattle.coffee_merge.specs.CutMarks.{KeepsHead}
 use Rattle.coffee_merge.specs.Takes.{KeepsPagesBut}
-use Rattle.coffee_merge.proofs.Lowest.{CopyFrees}
-use Rattle.coffee_merge.proofs.Taken.{CopyTakes}
+use Rattle.coffee_merge.proofs.Lowest.{CopyKeepsFree}
 use Rattle.coffee_merge.proofs.copy.copy_file.Given as goal
 
 abbrev pub invariant-loop-done : goal.invariant-loop-done
 invariant-loop-done g l = record {
   within : l.done ≤ l.from.size;
   size : length (g.F.Flash.image l.flash) ≡ length (g.F.Flash.image l.fn.flash);
+  lent : g.F.Flash.lent l.flash ≡ g.F.Flash.lent l.fn.flash;
   copied : IsTrue g.F.Flash.tells → CopiesInto (g.F.Flash.image l.fn.flash) (g.F.Flash.image l.flash) l.page l.pages l.from l.done;
-  taken : IsTrue g.F.Flash.tells → CopyTakes (g.F.Flash.image l.fn.flash) (g.F.Flash.image l.flash) l.page l.pages l.from;
-  freed : IsTrue g.F.Flash.tells → CopyFrees (g.F.Flash.image l.fn.flash) (g.F.Flash.image l.flash) l.page l.pages l.from;
+  free : IsTrue g.F.Flash.tells → CopyKeepsFree (g.F.Flash.image l.fn.flash) (g.F.Flash.image l.flash) l.page l.pages l.from;
   others : IsTrue g.F.Flash.tells → KeepsPagesBut (g.F.Flash.image l.fn.flash) (g.F.Flash.image l.flash) l.page.0 l.pages None;
+  head : IsTrue g.F.Flash.tells → IsTrue g.F.Flash.cuts → KeepsHead (g.F.Flash.image l.fn.flash) (g.F.Flash.image l.flash) l.page.0;
   reads : g.F.Flash.reads l.fn.flash ≤ g.F.Flash.reads l.flash;
   faults : g.F.Flash.faults l.fn.flash ≤ g.F.Flash.faults l.flash;
 }

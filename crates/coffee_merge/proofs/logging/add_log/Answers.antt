@@ -6,33 +6,17 @@ use Rattle.coffee_merge.proofs.logging.add_log.Goals as goal
 
 pub returns-clause-logged : goal.returns-clause-logged
 returns-clause-logged g c = λ t table i h is none.
+    let old = g.F.Flash.image c.args.flash.now in
     let mid = g.F.Flash.image c.obtain_pages.new.flash in
     let one = g.F.Flash.image c.put_log_header.new.flash in
     let new = g.F.Flash.image c.name_log.new.flash in
     let first = c.in_ok-log.ensures.run t table h in
     let inside = c.in_ok-log.ensures.inside in
     let has = has_log mid one new table i c.args.file.now c.in_ok-log.log first.stays.holds is none first.run c.put_log_header.ensures.name (omega arith) (c.in_ok-put_log_header.ensures.written t) (c.in_ok-name_log.ensures.written t) in
-    stays_logs (g.F.Flash.image c.args.flash.now) mid new table i c.args.file.now c.in_ok-log.log first.stays is none
-    (logged mid new table i c.args.file.now c.in_ok-log.log first.stays.holds is none has (omega arith))
-
-pub returns-clause-taken : goal.returns-clause-taken
-returns-clause-taken g c = λ t table i h is none.
-    let mid = g.F.Flash.image c.obtain_pages.new.flash in
-    let one = g.F.Flash.image c.put_log_header.new.flash in
-    let new = g.F.Flash.image c.name_log.new.flash in
-    let first = c.in_ok-log.ensures.run t table h in
-    let inside = c.in_ok-log.ensures.inside in
-    let has = has_log mid one new table i c.args.file.now c.in_ok-log.log first.stays.holds is none first.run c.put_log_header.ensures.name (omega arith) (c.in_ok-put_log_header.ensures.written t) (c.in_ok-name_log.ensures.written t) in
-    takes_after (g.F.Flash.image c.args.flash.now) mid new c.in_ok-log.log.0 16 (c.in_ok-log.ensures.untaken t table h) (log_takes mid new table i c.args.file.now c.in_ok-log.log first.stays.holds is has)
-
-pub returns-clause-lowest : goal.returns-clause-lowest
-returns-clause-lowest g c = λ t table i h is none.
-    let mid = g.F.Flash.image c.obtain_pages.new.flash in
-    let one = g.F.Flash.image c.put_log_header.new.flash in
-    let new = g.F.Flash.image c.name_log.new.flash in
-    let first = c.in_ok-log.ensures.run t table h in
-    let inside = c.in_ok-log.ensures.inside in
-    let has = has_log mid one new table i c.args.file.now c.in_ok-log.log first.stays.holds is none first.run c.put_log_header.ensures.name (omega arith) (c.in_ok-put_log_header.ensures.written t) (c.in_ok-name_log.ensures.written t) in
-    takes_by (g.F.Flash.image c.args.flash.now) mid new c.in_ok-log.log.0 16 (Some c.args.file.now) (c.in_ok-log.ensures.looked t table h) first.run
-    (λ p out apart. c.name_log.ensures.other_pages t p (not_extent p c.args.file.now apart) ∙ c.put_log_header.ensures.other_pages t p (λ same. out (omega arith) (omega arith)))
-    (log_frees mid new c.args.file.now c.in_ok-log.log has)
+    record {
+      logs = stays_logs old mid new table i c.args.file.now c.in_ok-log.log first.stays is none (logged mid new table i c.args.file.now c.in_ok-log.log first.stays.holds is none has (omega arith));
+      taken = takes_after old mid new c.in_ok-log.log.0 16 first.untaken (log_takes mid new table i c.args.file.now c.in_ok-log.log first.stays.holds is has);
+      lowest = takes_by old mid new c.in_ok-log.log.0 16 (Some c.args.file.now) first.looked first.run
+          (λ p out apart. c.name_log.ensures.other_pages t p (not_extent p c.args.file.now apart) ∙ c.put_log_header.ensures.other_pages t p (λ same. out (omega arith) (omega arith)))
+          (log_frees mid new c.args.file.now c.in_ok-log.log has);
+    }

@@ -30,7 +30,9 @@ slots-preserved g c =
     let read = c.in_ok-is_answer-in-Some.ensures in
     record {
       same = search rules;
-      faults = omega (arith, inv.faults, h.cause.later, read.cause.later);
+      lent = search rules;
+      reads_later = omega (arith, inv.reads_later, h.frame.later, read.frame.later);
+      faults = omega (arith, inv.faults, h.frame.cause.later, read.frame.cause.later);
       slots = search rules;
       search = search rules;
       later = search rules;
@@ -41,5 +43,5 @@ slots-preserved g c =
           let w = inv.told told fits in
           walk_more state c.args.tables.now all (g.T.Test.passes c.args.test.now) before c.slots.candidates c.next.new.self (g.V.Files.reads c.args.files.now) (g.V.Files.reads c.slots.files)
           (g.V.Files.reads c.next.new.files) (g.V.Files.reads c.is_answer.new.files) c.in-Some.slot w ((rw (inv.same, c.in-Some.is) at h.next) told all w.fits) ((rw inv.same at h.reads) told all w.fits) read.reads
-          (sym ((rw (h.same ∙ inv.same) at read.answer) told) ∙ c.if-branch.false) ((rw inv.same at h.fits) told all w.fits);
+          (sym ((rw (h.frame.same ∙ inv.same) at read.answer) told) ∙ c.if-branch.false) ((rw inv.same at h.fits) told all w.fits);
     }

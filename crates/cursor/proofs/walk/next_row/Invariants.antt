@@ -8,6 +8,8 @@ use Rattle.cursor.proofs.walk.next_row.Given as goal
 abbrev pub invariant-slots : goal.invariant-slots
 invariant-slots g l = record {
   same : g.V.Files.state l.files ≡ g.V.Files.state l.fn.files;
+  lent : g.V.Files.lent l.files ≡ g.V.Files.lent l.fn.files;
+  reads_later : g.V.Files.reads l.fn.files ≤ g.V.Files.reads l.files;
   faults : g.V.Files.faults l.fn.files ≤ g.V.Files.faults l.files;
   slots : l.candidates.slots ≡ l.fn.candidates.slots;
   search : l.candidates.search ≡ l.fn.candidates.search;

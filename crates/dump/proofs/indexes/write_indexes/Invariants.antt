@@ -8,6 +8,6 @@ abbrev pub invariant-loop-slot : goal.invariant-loop-slot
 invariant-loop-slot g l = record {
   wrote : IsSoundDatabase l.session.database
       → g.K.Sink.held l.out ≡ append_known (g.K.Sink.held l.fn.out) (flat_map (index_lines l.session.database.relations) (take l.slot l.session.database.indexes));
-  keeps : g.K.Sink.keeps l.fn.out l.out;
+  lent : g.K.Sink.lent l.out ≡ g.K.Sink.lent l.fn.out;
   faults : g.K.Sink.faults l.out ≡ g.K.Sink.faults l.fn.out;
 }

@@ -1,6 +1,6 @@
 use Rattle.std.proofs.Common.{Err, flat_map, subst, sym}
 use Rattle.space_model.specs.Enough.{rows_in}
-use Rattle.dump.specs.Appends.{Appends}
+use Rattle.dump.specs.Appends.{AppendsText}
 use Rattle.dump.specs.Parts.{row_lines, schema_lines}
 use Rattle.dump.proofs.Items.{appends_behind}
 use Rattle.dump.proofs.ScriptTexts.{lines_of}
@@ -13,6 +13,6 @@ returns-in-Err-write_rows-clause-wrote g c = λ told sound.
     let stop = c.in-Err-write_rows.stop in
     let before = g.K.Sink.held c.args.out.now in
     let behind = g.K.Sink.held c.write_rows.new.out in
-    subst (Appends (Err stop) before behind) (sym (lines_of db c.args.id schema c.requires.schema))
+    subst (AppendsText (Err stop) before behind) (sym (lines_of db c.args.id schema c.requires.schema))
     (appends_behind (Err stop) before (g.K.Sink.held c.write_schema.new.out) behind (schema_lines schema) (flat_map (row_lines schema.name) (rows_in db c.args.id))
     c.in-Ok.ensures.written (c.in-Err-write_rows.ensures.wrote told sound))

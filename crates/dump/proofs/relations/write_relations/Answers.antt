@@ -1,11 +1,11 @@
-use Rattle.std.proofs.Common.{◌≡◌, ◌+◌, ◌*◌, ◌<◌, ◌≤◌, Err, IsTrue, None, arith, length, rules, subst, sym}
+use Rattle.std.proofs.Common.{◌≡◌, ◌+◌, ◌*◌, ◌<◌, ◌≤◌, Err, IsTrue, None, arith, length, rules, subst, sym, ◌∙◌}
 use Rattle.std.specs.Io.KnownBytes.{append_known}
 use Rattle.afl_base.specs.Files.{State}
 use Rattle.db_model.specs.Database.{Database}
 use Rattle.db_model.specs.Sound.{IsSoundDatabase}
-use Rattle.antelope_engine.specs.Reading.{relation_at}
+use Rattle.antelope_engine.specs.Reading.{relation_in_slot}
 use Rattle.space_model.specs.Enough.{rows_in}
-use Rattle.dump.specs.Appends.{Appends}
+use Rattle.dump.specs.Appends.{AppendsText}
 use Rattle.dump.specs.Parts.{relation_lines}
 use Rattle.dump.proofs.Items.{appends_item, held_item}
 use Rattle.dump.proofs.ScriptTexts.{slots_front, slots_more}
@@ -27,15 +27,17 @@ loop-slot-preserved g c =
           (subst (λ (state : State). IsTrue state.tells) (sym inv.same.files) told)
           (subst (λ (d : Database). IsSoundDatabase d) (sym inv.same.database) sound) in
           held_item relation_lines db.relations k None below (g.K.Sink.held c.args.out.now) (inv.wrote told sound)
-          (subst (λ (d : Database). behind ≡ append_known now (relation_lines (relation_at d k))) inv.same.database
+          (subst (λ (d : Database). behind ≡ append_known now (relation_lines (relation_in_slot d k))) inv.same.database
           (rw c.relation_id.ensures at wrote));
       same = before_on g.V.Files.state c.args.session.now c.loop-slot.session c.write_relation.new.session inv.same e.same;
       reads =
           let more = slots_more db k in
           let read = subst (λ (d : Database). g.V.Files.reads c.write_relation.new.session.files ≤ g.V.Files.reads c.loop-slot.session.files + 6 * length (rows_in d k)) inv.same.database (rw c.relation_id.ensures at e.reads) in
           omega (arith, more, read, inv.reads);
-      later = let later = e.cause.files_later in omega (arith, later, inv.later);
-      keeps = g.met.K.Sink.kept_on c.args.out.now c.loop-slot.out c.write_relation.new.out inv.keeps e.keeps;
+      files_lent = e.frame.lent ∙ inv.files_lent;
+      reads_later = let later = e.frame.later in omega (arith, later, inv.reads_later);
+      later = let later = e.frame.cause.files_later in omega (arith, later, inv.later);
+      lent = e.frame.sink_lent ∙ inv.lent;
       faults = search rules;
     }
 
@@ -52,7 +54,7 @@ returns-in-Err-clause-wrote g c = λ told sound.
     (subst (λ (state : State). IsTrue state.tells) (sym inv.same.files) told)
     (subst (λ (d : Database). IsSoundDatabase d) (sym inv.same.database) sound) in
     appends_item relation_lines db.relations k None below stop (g.K.Sink.held c.args.out.now) now behind (inv.wrote told sound)
-    (subst (λ (d : Database). Appends (Err stop) now behind (relation_lines (relation_at d k))) inv.same.database
+    (subst (λ (d : Database). AppendsText (Err stop) now behind (relation_lines (relation_in_slot d k))) inv.same.database
     (rw c.relation_id.ensures at wrote))
 
 pub returns-in-Err-clause-reads : goal.returns-in-Err-clause-reads

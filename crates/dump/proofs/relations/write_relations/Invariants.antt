@@ -11,7 +11,9 @@ invariant-loop-slot g l = record {
       → g.K.Sink.held l.out ≡ append_known (g.K.Sink.held l.fn.out) (flat_map relation_lines (take l.slot l.fn.session.database.relations));
   same : IsAsBefore g.V.Files.state l.fn.session l.session;
   reads : g.V.Files.reads l.session.files ≤ g.V.Files.reads l.fn.session.files + 6 * slots_of_all (take l.slot l.fn.session.database.relations);
+  files_lent : g.V.Files.lent l.session.files ≡ g.V.Files.lent l.fn.session.files;
+  reads_later : g.V.Files.reads l.fn.session.files ≤ g.V.Files.reads l.session.files;
   later : g.V.Files.faults l.fn.session.files ≤ g.V.Files.faults l.session.files;
-  keeps : g.K.Sink.keeps l.fn.out l.out;
+  lent : g.K.Sink.lent l.out ≡ g.K.Sink.lent l.fn.out;
   faults : g.K.Sink.faults l.out ≡ g.K.Sink.faults l.fn.out;
 }

@@ -3,9 +3,9 @@ use Rattle.afl_base.specs.Files.{State}
 use Rattle.db_model.specs.Database.{Database}
 use Rattle.db_model.specs.Row.{no_row}
 use Rattle.db_model.specs.Sound.{IsSoundDatabase}
-use Rattle.antelope_engine.specs.Reading.{row_at}
+use Rattle.antelope_engine.specs.Reading.{row_in_slot}
 use Rattle.space_model.specs.Enough.{rows_in}
-use Rattle.dump.specs.Appends.{Appends}
+use Rattle.dump.specs.Appends.{AppendsText}
 use Rattle.dump.specs.Parts.{row_lines}
 use Rattle.dump.proofs.Items.{appends_item}
 use Rattle.dump.proofs.Sessions.{few_rows, no_slot, some_slot}
@@ -32,5 +32,5 @@ returns-in-Err-clause-wrote g c = λ told sound.
     (subst (λ (state : State). IsTrue state.tells) (sym inv.same.files) told)
     (subst (λ (d : Database). IsSoundDatabase d) (sym inv.same.database) sound) in
     appends_item text (rows_in db c.args.id) c.loop-at.at no_row within stop (g.K.Sink.held c.args.out.now) now behind (inv.wrote told sound)
-    (subst (λ (s : ℕ). Appends (Err stop) now behind (text (row_at db c.args.id s))) at
-    (subst (λ (d : Database). Appends (Err stop) now behind (text (row_at d c.args.id c.in-Some.slot))) inv.same.database wrote))
+    (subst (λ (s : ℕ). AppendsText (Err stop) now behind (text (row_in_slot db c.args.id s))) at
+    (subst (λ (d : Database). AppendsText (Err stop) now behind (text (row_in_slot d c.args.id c.in-Some.slot))) inv.same.database wrote))

@@ -1,4 +1,4 @@
-use Rattle.std.proofs.Common.{rules}
+use Rattle.std.proofs.Common.{rules, ◌∙◌}
 use Rattle.dump.specs.Parts.{attribute_line}
 use Rattle.dump.proofs.Items.{held_item, less_item}
 use Rattle.dump.proofs.schemas.write_attributes.Goals as goal
@@ -8,7 +8,7 @@ loop-at-preserved g c =
     let item = c.index-attributes-at in
     record {
       held = held_item (attribute_line c.args.relation.now) c.args.attributes.now c.loop-at.at item.result c.loop-at-test.true (g.K.Sink.held c.args.out.now) c.loop-at.invariant.held (rw item.is at c.in_ok-write_attribute_line.ensures.written);
-      keeps = g.met.K.Sink.kept_on c.args.out.now c.loop-at.out c.write_attribute_line.new.out c.loop-at.invariant.keeps c.in_ok-write_attribute_line.ensures.keeps;
+      lent = c.in_ok-write_attribute_line.ensures.frame.lent ∙ c.loop-at.invariant.lent;
       faults = search rules;
     }
 

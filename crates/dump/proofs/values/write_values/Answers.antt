@@ -1,4 +1,4 @@
-use Rattle.std.proofs.Common.{rules, ◌++◌, get_or, take}
+use Rattle.std.proofs.Common.{rules, ◌∙◌, ◌++◌, get_or, take}
 use Rattle.db_model.specs.ReplyText.{value_text}
 use Rattle.dump.specs.Parts.{comma_before}
 use Rattle.dump_model.specs.Script.{values_text}
@@ -12,7 +12,7 @@ loop-at-preserved g c =
     let at = c.loop-at.at in
     record {
       held = held_more (g.K.Sink.held c.args.out.now) (g.K.Sink.held c.loop-at.out) _ (values_text (take at xs)) (comma_before at ++ value_text (get_or xs at c.value-item.result)) _ c.loop-at.invariant.held (rw c.value-item.is at c.in_ok-write_value.ensures.written) (values_more xs at c.value-item.result c.loop-at-test.true);
-      keeps = g.met.K.Sink.kept_on c.args.out.now c.loop-at.out c.write_value.new.out c.loop-at.invariant.keeps c.in_ok-write_value.ensures.keeps;
+      lent = c.in_ok-write_value.ensures.frame.lent ∙ c.loop-at.invariant.lent;
       faults = search rules;
     }
 

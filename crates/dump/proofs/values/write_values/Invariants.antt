@@ -6,6 +6,6 @@ use Rattle.dump.proofs.values.write_values.Given as goal
 abbrev pub invariant-loop-at : goal.invariant-loop-at
 invariant-loop-at g l = record {
   held : g.K.Sink.held l.out ≡ append_known (g.K.Sink.held l.fn.out) (values_text (take l.at l.value-items));
-  keeps : g.K.Sink.keeps l.fn.out l.out;
+  lent : g.K.Sink.lent l.out ≡ g.K.Sink.lent l.fn.out;
   faults : g.K.Sink.faults l.out ≡ g.K.Sink.faults l.fn.out;
 }

@@ -17,6 +17,7 @@ loop-done-preserved g c = record {
   size = c.loop-done.invariant.size;
   turn = λ a b. turn_more c.args.place c.loop-done.done c.in_ok-done.field-0 (length c.args.into.now) (piece g c) b;
   same = search rules;
+  lent = search rules;
   bytes = λ t. read_more c.loop-done.into c.read_piece.new.into (g.F.Flash.image c.args.flash.now) c.args.place c.loop-done.done c.in_ok-done.field-0 _ (c.loop-done.invariant.bytes t) (rw c.loop-done.invariant.same at c.in_ok-done.ensures.bytes t) (omega (arith, c.loop-done.auto.into)) (omega (arith, c.in_ok-done.ensures.piece, c.read_piece.auto.into));
   reads = omega (arith, touched g c);
   counted = omega (arith, touched g c);

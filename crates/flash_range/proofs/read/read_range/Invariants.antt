@@ -8,6 +8,7 @@ invariant-loop-done g l = record {
   size : length (g.F.Flash.image l.fn.flash) ≤ 16773120;
   turn : 0 < l.done → l.done < length l.fn.into → (l.place + l.done) % 256 ≡ 0;
   same : g.F.Flash.image l.flash ≡ g.F.Flash.image l.fn.flash;
+  lent : g.F.Flash.lent l.flash ≡ g.F.Flash.lent l.fn.flash;
   bytes : IsTrue g.F.Flash.tells → (k : ℕ) → k < l.done → get_or l.into k 0 ≡ get_or (g.F.Flash.image l.fn.flash) (l.place + k) 0;
   reads : g.F.Flash.reads l.flash ≤ g.F.Flash.reads l.fn.flash + pages_touched l.place l.done;
   later : g.F.Flash.reads l.fn.flash ≤ g.F.Flash.reads l.flash;

@@ -1,4 +1,4 @@
-use Rattle.std.proofs.Common.{◌≡◌, ◌≤◌, ◌<◌, ◌+◌, ◌-◌, ◌*◌, ℕ, length, true, false}
+use Rattle.std.proofs.Common.{◌≡◌, ◌≤◌, ◌<◌, ◌+◌, ◌-◌, ◌*◌, ℕ, true, false}
 use Rattle.std.specs.Prelude.{IsTrue}
 use Rattle.afl_base.specs.KeyColumn.{key_of}
 use Rattle.db_model.specs.Cost.{bits}
@@ -10,7 +10,7 @@ invariant-halves g l = record {
   order : l.low ≤ l.high;
   within : l.high ≤ l.slots;
   same : g.V.Files.state l.files ≡ g.V.Files.state l.fn.files;
-  store : length (g.V.Files.state l.files).store ≡ length (g.V.Files.state l.fn.files).store;
+  lent : g.V.Files.lent l.files ≡ g.V.Files.lent l.fn.files;
   later : g.V.Files.faults l.fn.files ≤ g.V.Files.faults l.files;
   passed : IsTrue (g.V.Files.state l.fn.files).tells → Rises (key_of (g.V.Files.state l.fn.files) l.column) l.slots
       → (i : ℕ) → i < l.low → passes l.upper l.within (key_of (g.V.Files.state l.fn.files) l.column i) ≡ true;

@@ -23,7 +23,7 @@ loop-at-preserved g c =
     let slot : c.in-Some.slot ≡ c.loop-at.at = search rules in
     record {
       same = search rules;
-      store = search rules;
+      lent = search rules;
       later = search rules;
       rises = λ told. let key = (rw inv.same at c.in_ok-key.ensures.key) told in
           rises_at (key_of (g.V.Files.state c.args.files.now) c.args.column.now) c.loop-at.at c.in_ok-key.key _ (inv.rises told) (inv.last told)

@@ -1,4 +1,4 @@
-use Rattle.std.proofs.Common.{◌≡◌, ◌≤◌, ◌<◌, ◌+◌, ◌-◌, ◌*◌, length, None, negsuc}
+use Rattle.std.proofs.Common.{◌≡◌, ◌≤◌, ◌<◌, ◌+◌, ◌-◌, ◌*◌, None, negsuc}
 use Rattle.std.specs.Prelude.{IsTrue}
 use Rattle.afl_base.specs.KeyColumn.{key_of}
 use Rattle.db_model.specs.Step.{first_fall}
@@ -8,7 +8,7 @@ use Rattle.index_inline.proofs.order.ordered.Given as goal
 abbrev pub invariant-loop-at : goal.invariant-loop-at
 invariant-loop-at g l = record {
   same : g.V.Files.state l.files ≡ g.V.Files.state l.fn.files;
-  store : length (g.V.Files.state l.files).store ≡ length (g.V.Files.state l.fn.files).store;
+  lent : g.V.Files.lent l.files ≡ g.V.Files.lent l.fn.files;
   later : g.V.Files.faults l.fn.files ≤ g.V.Files.faults l.files;
   rises : IsTrue (g.V.Files.state l.fn.files).tells → first_fall (keys_of (g.V.Files.state l.fn.files) l.column l.at) ≡ None;
   last : IsTrue (g.V.Files.state l.fn.files).tells → 0 < l.at → l.last ≡ key_of (g.V.Files.state l.fn.files) l.column (l.at - 1);

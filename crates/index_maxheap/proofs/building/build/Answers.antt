@@ -1,4 +1,4 @@
-use Rattle.std.proofs.Common.{rules, arith, ◌≡◌, ◌+◌, ◌∙◌, sym, ap}
+use Rattle.std.proofs.Common.{rules, arith, length, ◌≡◌, ◌+◌, ◌∙◌, sym, ap}
 use Rattle.std.specs.Prelude.{FitsSigned, IsTrue}
 use Rattle.std.specs.Int.{w32}
 use Rattle.std.proofs.lemmas.Int.{to_z-of_z}
@@ -29,9 +29,10 @@ loop-slot-init g c =
       begun = wrote.begun;
       size = wrote.size ∙ c.requires.size;
       only = (_, wrote);
-      store = c.in_ok-draft_write.ensures.store;
-      reads_later = c.in_ok-draft_write.ensures.reads_later;
-      faults = c.in_ok-draft_write.ensures.cause.later;
+      store = c.in_ok-draft_write.ensures.frame.store;
+      lent = c.in_ok-draft_write.ensures.frame.lent;
+      reads_later = c.in_ok-draft_write.ensures.frame.later;
+      faults = c.in_ok-draft_write.ensures.frame.cause.later;
       safe = record { light = λ i. zeros_few i 0; inside = λ i. (let z = zeros_few i 0 in omega (arith, z)); under = omega arith };
       builds = λ told. builds_none (draft_in mid).bytes (draft_in old).bytes (bucket_place c.args.most) (c.requires.erased told) (omega arith) (wrote.bytes told);
     }
@@ -42,12 +43,12 @@ build_slot-requires-clause-told g c = λ told.
     let now = g.V.Files.state c.loop-slot.files in
     let inv = c.loop-slot.invariant in
     let f = key_of old c.args.column in
-    let told_now : IsTrue now.tells = rw c.in_ok-key.ensures.same at told in
+    let told_now : IsTrue now.tells = rw c.in_ok-key.ensures.frame.same at told in
     let was : IsTrue old.tells = rw inv.tells at told_now in
     let fits : FitsSigned w32 c.in_ok-key.key = search rules in
     let slot : c.in-Some.slot ≡ c.loop-slot.slot = search rules in
     let key : c.in_ok-key.key ≡ f c.loop-slot.slot = c.in_ok-key.ensures.key told_now ∙ key_same old now c.args.column c.in-Some.slot inv.files ∙ ap f slot in
-    rw (to_z-of_z w32 c.in_ok-key.key fits, c.in_ok-key.ensures.same)
+    rw (to_z-of_z w32 c.in_ok-key.key fits, c.in_ok-key.ensures.frame.same)
     (pairs_of f c.loop-slot.slot, inv.builds was, length_pairs f c.loop-slot.slot ∙ sym slot, next_fits f c.loop-slot.slot c.in-Some.slot c.args.slots c.args.most c.in_ok-key.key key slot c.loop-slot-test.true (c.requires.count was ∙ ap buckets (sym (keys_pairs f c.args.slots))))
 
 pub loop-slot-preserved : goal.loop-slot-preserved
@@ -59,21 +60,22 @@ loop-slot-preserved g c =
     let f = key_of old c.args.column in
     let fits : FitsSigned w32 c.in_ok-key.key = search rules in
     let slot : c.in-Some.slot ≡ c.loop-slot.slot = search rules in
-    let only = rw c.in_ok-key.ensures.same at c.in_ok-opened.ensures.only in
+    let only = rw c.in_ok-key.ensures.frame.same at c.in_ok-opened.ensures.only in
     record {
       files = only.1.files ∙ inv.files;
       tells = only.1.tells ∙ inv.tells;
       begun = only.1.begun;
       size = only.1.size ∙ inv.size;
       only = only_then old now new inv.only only;
-      store = c.in_ok-opened.ensures.store ∙ c.in_ok-key.ensures.store ∙ inv.store;
-      reads_later = omega (arith, inv.reads_later, c.in_ok-key.ensures.reads_later, c.in_ok-opened.ensures.reads_later);
-      faults = omega (arith, inv.faults, c.in_ok-key.ensures.cause.later, c.in_ok-opened.ensures.cause.later);
+      store = c.in_ok-opened.ensures.frame.store ∙ ap (λ s. length s.store) c.in_ok-key.ensures.frame.same ∙ inv.store;
+      lent = c.in_ok-opened.ensures.frame.lent ∙ c.in_ok-key.ensures.frame.lent ∙ inv.lent;
+      reads_later = omega (arith, inv.reads_later, c.in_ok-key.ensures.frame.later, c.in_ok-opened.ensures.frame.later);
+      faults = omega (arith, inv.faults, c.in_ok-key.ensures.frame.cause.later, c.in_ok-opened.ensures.frame.cause.later);
       safe = rw slot at c.in_ok-opened.ensures.safe;
       builds = λ was.
           let told_now : IsTrue now.tells = inv.tells ∙ was in
           let key : c.in_ok-key.key ≡ f c.loop-slot.slot = c.in_ok-key.ensures.key told_now ∙ key_same old now c.args.column c.in-Some.slot inv.files ∙ ap f slot in
-          let built = (rw (to_z-of_z w32 c.in_ok-key.key fits, c.in_ok-key.ensures.same) at c.in_ok-opened.ensures.built) told_now (pairs_of f c.loop-slot.slot) (inv.builds was) (length_pairs f c.loop-slot.slot ∙ sym slot) (rises_next f c.loop-slot.slot c.in-Some.slot c.in_ok-key.key key slot) (next_fits f c.loop-slot.slot c.in-Some.slot c.args.slots c.args.most c.in_ok-key.key key slot c.loop-slot-test.true (c.requires.count was ∙ ap buckets (sym (keys_pairs f c.args.slots)))) in
+          let built = (rw (to_z-of_z w32 c.in_ok-key.key fits, c.in_ok-key.ensures.frame.same) at c.in_ok-opened.ensures.built) told_now (pairs_of f c.loop-slot.slot) (inv.builds was) (length_pairs f c.loop-slot.slot ∙ sym slot) (rises_next f c.loop-slot.slot c.in-Some.slot c.in_ok-key.key key slot) (next_fits f c.loop-slot.slot c.in-Some.slot c.args.slots c.args.most c.in_ok-key.key key slot c.loop-slot-test.true (c.requires.count was ∙ ap buckets (sym (keys_pairs f c.args.slots)))) in
           rw (pairs_next f c.loop-slot.slot c.in-Some.slot c.in_ok-key.key key slot) at built;
     }
 

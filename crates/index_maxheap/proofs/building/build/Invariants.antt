@@ -18,6 +18,7 @@ invariant-loop-slot g l =
       size : length (draft_in now).bytes ≡ bucket_place l.fn.most;
       only : OnlyDraftChanges old now;
       store : length now.store ≡ length old.store;
+      lent : g.V.Files.lent l.files ≡ g.V.Files.lent l.fn.files;
       reads_later : g.V.Files.reads l.fn.files ≤ g.V.Files.reads l.files;
       faults : g.V.Files.faults l.fn.files ≤ g.V.Files.faults l.files;
       safe : IsSafeBuild l.loads l.places l.opened l.fn.most l.slot;

@@ -54,4 +54,4 @@ returns-clause-built g c = λ told ps b many rises fits.
     let n : c.from-n.result ≡ node c.args.key.now level.result = c.from-n.ensures ∙ c.node-node.ensures.value in
     let put = c.in_ok-write_bucket.ensures.written in
     let low : c.spot.result + 3 ≤ bucket_place c.args.opened = c.spot.ensures.low (bucket_place c.args.opened) (omega arith) c.node-node.ensures.bound (c.requires.safe.inside c.from-n.result) in
-    rw (c.from-2.ensures, n) (builds_bucket c.args.loads.now c.args.places.now c.args.opened draft ps c.args.key.now level.result b level.ensures c.args.slot c.spot.result put.0 put.1 new (rw n at c.if-load-ne0.false) (λ z. c.spot.ensures.first (rw n z) ∙ ap (λ m. 2 * m) c.node-node.ensures.value) (λ s. rw n at (c.spot.ensures.next (rw n s))) low many (search rules) (omega (arith, c.requires.size, c.requires.safe.under, c.if-opened-most.false)) rises put.2 put.3 put.4 (put.5.bytes told))
+    rw (c.bucket_place.ensures, n) (builds_bucket c.args.loads.now c.args.places.now c.args.opened draft ps c.args.key.now level.result b level.ensures c.args.slot c.spot.result put.0 put.1 new (rw n at c.if-load-ne0.false) (λ z. c.spot.ensures.first (rw n z) ∙ ap (λ m. 2 * m) c.node-node.ensures.value) (λ s. rw n at (c.spot.ensures.next (rw n s))) low many (search rules) (omega (arith, c.requires.size, c.requires.safe.under, c.if-opened-most.false)) rises put.2 put.3 put.4 (put.5.bytes told))

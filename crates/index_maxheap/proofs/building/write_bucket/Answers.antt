@@ -12,7 +12,7 @@ pub draft_write-requires-2-clause-zeros : goal.draft_write-requires-2-clause-zer
 draft_write-requires-2-clause-zeros g c = λ told.
     let old = g.V.Files.state c.args.files.now in
     let mid = g.V.Files.state c.draft_write.new.self in
-    let first = rw c.from.ensures at c.in_ok-draft_write.ensures.written in
+    let first = rw c.bucket_place.ensures at c.in_ok-draft_write.ensures.written in
     let was = rw first.tells at told in
     let w = c.first_bucket-bucket.result in
     let long : length c.put_u16.new.bytes ≡ 2 = rw c.put_u16.ensures (length-put_at (replicate 2 0) (u16_bytes (c.args.opened + 1)) 0 (omega (arith, long_u16 (c.args.opened + 1)))) in
@@ -25,7 +25,7 @@ returns-clause-written g c =
     let new = g.V.Files.state c.draft_write-2.new.self in
     let w = c.first_bucket-bucket.result in
     let two = c.put_u16.new.bytes in
-    let first = rw c.from.ensures at c.in_ok-draft_write.ensures.written in
+    let first = rw c.bucket_place.ensures at c.in_ok-draft_write.ensures.written in
     let long : length two ≡ 2 = rw c.put_u16.ensures (length-put_at (replicate 2 0) (u16_bytes (c.args.opened + 1)) 0 (omega (arith, long_u16 (c.args.opened + 1)))) in
     let is : u16_at two 0 ≡ c.args.opened + 1 = rw c.put_u16.ensures (u16_at-put_at (replicate 2 0) 0 (c.args.opened + 1) (omega arith) (omega (arith, c.requires.few))) in
     (w, two, c.first_bucket-bucket.ensures, long, is, drafts_then old mid new (draft_in old).name (length (draft_in old).bytes) c.args.at (put_at (draft_in old).bytes (bucket_place c.args.opened) w) two first c.in_ok-draft_write-2.ensures.written)

@@ -46,15 +46,16 @@ loop-hops-preserved g c =
     let key = c.args.key.now in
     let safe = rw (inv.same, c.in-Full.is) at c.in_ok-look_at.ensures.safe in
     record {
-      same = c.in_ok-number-in-Full.ensures.same ∙ c.in_ok-look_at.ensures.same ∙ inv.same;
-      reads = omega (arith, c.in_ok-number-in-Full.ensures.reads_later, c.in_ok-look_at.ensures.reads_later, inv.reads);
-      faults = omega (arith, c.in_ok-number-in-Full.ensures.cause.later, c.in_ok-look_at.ensures.cause.later, inv.faults);
+      same = c.in_ok-number-in-Full.ensures.frame.same ∙ c.in_ok-look_at.ensures.frame.same ∙ inv.same;
+      lent = c.in_ok-number-in-Full.ensures.frame.lent ∙ c.in_ok-look_at.ensures.frame.lent ∙ inv.lent;
+      reads = omega (arith, c.in_ok-number-in-Full.ensures.frame.later, c.in_ok-look_at.ensures.frame.later, inv.reads);
+      faults = omega (arith, c.in_ok-number-in-Full.ensures.frame.cause.later, c.in_ok-look_at.ensures.frame.cause.later, inv.faults);
       level = search rules;
       safe = search rules;
       low = search rules;
       number = λ told.
           let onward = rw c.in-Full.is at ((rw inv.same at c.in_ok-look_at.ensures.onward) told) in
-          (rw (c.in_ok-look_at.ensures.same, inv.same) at c.in_ok-number-in-Full.ensures.number) told
+          (rw (c.in_ok-look_at.ensures.frame.same, inv.same) at c.in_ok-number-in-Full.ensures.number) told
           (λ last. chain_spot bytes key c.loop-hops.level c.loop-hops.number c.in-Full.next c.spot_behind-at.result last c.spot_behind-at.ensures.spot onward);
       left = λ told keys tree.
           let e = keys_beside key keys in

@@ -15,6 +15,7 @@ invariant-loop-hops g l =
     let bytes = bytes_at (g.V.Files.state l.fn.files).files l.index in
     record {
       same : g.V.Files.state l.files ≡ g.V.Files.state l.fn.files;
+      lent : g.V.Files.lent l.files ≡ g.V.Files.lent l.fn.files;
       reads : g.V.Files.reads l.fn.files ≤ g.V.Files.reads l.files;
       faults : g.V.Files.faults l.fn.files ≤ g.V.Files.faults l.files;
       level : l.level ≤ 4;

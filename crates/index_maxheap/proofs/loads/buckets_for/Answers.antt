@@ -12,6 +12,7 @@ use Rattle.index_maxheap.proofs.loads.buckets_for.Goals as goal
 pub loop-slot-init : goal.loop-slot-init
 loop-slot-init g c = record {
   same = refl;
+  lent = refl;
   reads = omega arith;
   reads_later = omega arith;
   faults = omega arith;
@@ -26,10 +27,11 @@ loop-slot-preserved g c =
     let inv = c.loop-slot.invariant in
     let f = key_of (g.V.Files.state c.args.files.now) c.args.column in
     record {
-      same = c.in_ok-key.ensures.same ∙ inv.same;
+      same = c.in_ok-key.ensures.frame.same ∙ inv.same;
+      lent = c.in_ok-key.ensures.frame.lent ∙ inv.lent;
       reads = omega (arith, c.in_ok-key.ensures.reads, inv.reads);
-      reads_later = omega (arith, c.in_ok-key.ensures.reads_later, inv.reads_later);
-      faults = omega (arith, c.in_ok-key.ensures.cause.later, inv.faults);
+      reads_later = omega (arith, c.in_ok-key.ensures.frame.later, inv.reads_later);
+      faults = omega (arith, c.in_ok-key.ensures.frame.cause.later, inv.faults);
       few = λ i. c.add-buckets.ensures.few i c.loop-slot.slot (inv.few i);
       opened = omega (arith, inv.opened, c.add-buckets.ensures.one);
       kept =

@@ -12,6 +12,7 @@ invariant-loop-slot g l =
     let ps = pairs_of (key_of (g.V.Files.state l.fn.files) l.fn.column) l.slot in
     record {
       same : g.V.Files.state l.files ≡ g.V.Files.state l.fn.files;
+      lent : g.V.Files.lent l.files ≡ g.V.Files.lent l.fn.files;
       reads : g.V.Files.reads l.files ≤ g.V.Files.reads l.fn.files + 6 * l.slot;
       reads_later : g.V.Files.reads l.fn.files ≤ g.V.Files.reads l.files;
       faults : g.V.Files.faults l.fn.files ≤ g.V.Files.faults l.files;

@@ -36,7 +36,7 @@ returns-then-number-eq0-clause-steps g c = λ told keys tree at.
     let rest = reach (goes c.args.key.now) c.args.place.hop (numbered 0 keys) in
     let holds = held bytes c.read_bucket.new.into keys c.args.key.now c.args.from c.args.place tree at (c.in_ok-read_bucket.ensures.bytes told) in
     let scans = rw c.in-Passed.is at (c.scan.ensures.scans rest holds at.good.within) in
-    let number = (rw c.in_ok-read_bucket.ensures.same at c.in_ok-number-in-Passed.ensures.number) told at.there in
+    let number = (rw c.in_ok-read_bucket.ensures.frame.same at c.in_ok-number-in-Passed.ensures.number) told at.there in
     none_step bytes keys c.args.key.now c.args.from c.args.place tree at scans (sym number ∙ c.if-number-eq0.true)
 
 pub returns-else-number-eq0-clause-steps : goal.returns-else-number-eq0-clause-steps
@@ -45,5 +45,5 @@ returns-else-number-eq0-clause-steps g c = λ told keys tree at.
     let rest = reach (goes c.args.key.now) c.args.place.hop (numbered 0 keys) in
     let holds = held bytes c.read_bucket.new.into keys c.args.key.now c.args.from c.args.place tree at (c.in_ok-read_bucket.ensures.bytes told) in
     let scans = rw c.in-Passed.is at (c.scan.ensures.scans rest holds at.good.within) in
-    let number = (rw c.in_ok-read_bucket.ensures.same at c.in_ok-number-in-Passed.ensures.number) told at.there in
+    let number = (rw c.in_ok-read_bucket.ensures.frame.same at c.in_ok-number-in-Passed.ensures.number) told at.there in
     onward_step bytes keys c.args.key.now c.args.from c.args.place c.in_ok-number-in-Passed.number at scans number c.if-number-eq0.false

@@ -59,9 +59,10 @@ loop-hops-preserved g c =
     let inv = c.loop-hops.invariant in
     let safe = rw c.in-Onward.is at c.in_ok-slot.ensures.safe in
     record {
-      same = c.in_ok-slot.ensures.same ∙ inv.same;
-      reads_later = omega (arith, c.in_ok-slot.ensures.reads_later, inv.reads_later);
-      faults = omega (arith, c.in_ok-slot.ensures.cause.later, inv.faults);
+      same = c.in_ok-slot.ensures.frame.same ∙ inv.same;
+      lent = c.in_ok-slot.ensures.frame.lent ∙ inv.lent;
+      reads_later = omega (arith, c.in_ok-slot.ensures.frame.later, inv.reads_later);
+      faults = omega (arith, c.in_ok-slot.ensures.frame.cause.later, inv.faults);
       safe = safe.0;
       near = (let next = safe.1 in let near = inv.near in omega (arith, next, near));
       walks = λ told keys tree start.

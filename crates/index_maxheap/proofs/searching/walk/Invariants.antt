@@ -12,6 +12,7 @@ invariant-loop-hops g l =
     let bytes = bytes_at old.files l.index in
     record {
       same : g.V.Files.state l.files ≡ old;
+      lent : g.V.Files.lent l.files ≡ g.V.Files.lent l.fn.files;
       reads_later : g.V.Files.reads l.fn.files ≤ g.V.Files.reads l.files;
       faults : g.V.Files.faults l.fn.files ≤ g.V.Files.faults l.files;
       safe : IsSafe l.place;

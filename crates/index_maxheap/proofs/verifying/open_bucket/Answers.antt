@@ -35,6 +35,6 @@ returns-clause-opens g c = λ told.
     let q : Pair = record { key = c.args.key.now; slot = c.args.slot } in
     let bytes = bytes_at (g.V.Files.state c.args.files.now).files c.args.index in
     let is = c.in_ok-read_bucket.ensures.bytes told in (
-      right_pair bytes c.read_bucket.new.into c.args.number c.args.level q is c.if-number-eq0.false (omega (arith, c.if-size-from.false, c.size.ensures, c.from.ensures)) (sym c.get_u16.ensures ∙ c.if-get_u16-number.false ∙ ap (λ n. n + 1) c.number.ensures.value) (eq_true _ _ (sym c.is_key.ensures ∙ c.if-not-is_key.false)) c.if-bytes-ne1.false,
+      right_pair bytes c.read_bucket.new.into c.args.number c.args.level q is c.if-number-eq0.false (omega (arith, c.if-size-bucket_place.false, c.size.ensures, c.bucket_place.ensures)) (sym c.get_u16.ensures ∙ c.if-get_u16-number.false ∙ ap (λ n. n + 1) c.number.ensures.value) (eq_true _ _ (sym c.is_key.ensures ∙ c.if-not-is_key.false)) c.if-bytes-ne1.false,
       right_tail bytes c.read_bucket.new.into c.args.number c.args.level q is c.filled-fill.result c.get_u16-next.result c.filled-fill.ensures (c.is_blank.ensures.yes c.if-not-is_blank.false) c.get_u16-next.ensures (c.is_upper.ensures.no_ c.if-is_upper.false),
     )

@@ -16,12 +16,13 @@ use Rattle.index_maxheap.proofs.verifying.verify.Goals as goal
 
 pub loop-slot-init : goal.loop-slot-init
 loop-slot-init g c = record {
-  same = c.in_ok-read_heads.ensures.same;
+  same = c.in_ok-read_heads.ensures.frame.same;
+  lent = c.in_ok-read_heads.ensures.frame.lent;
   reads = omega (arith, c.in_ok-read_heads.ensures.reads);
-  reads_later = c.in_ok-read_heads.ensures.reads_later;
-  faults = c.in_ok-read_heads.ensures.cause.later;
+  reads_later = c.in_ok-read_heads.ensures.frame.later;
+  faults = c.in_ok-read_heads.ensures.frame.cause.later;
   light = λ i. zeros_few i 0;
-  inside = λ i. (let z = zeros_few i 0 in omega (arith, z, c.if-size-lt683.false, c.size-size.ensures));
+  inside = λ i. (let z = zeros_few i 0 in omega (arith, z, c.if-size.false, c.size-size.ensures));
   low = λ i. (let z = zeros_few i 0 in omega (arith, z));
   few = omega arith;
   verifies = λ told. (verifies_none (bytes_at (g.V.Files.state c.args.files.now).files c.args.index), refl);
@@ -41,7 +42,7 @@ returns-in-None-clause-no_tree g c = λ told f tree.
     let fits : FitsSigned w32 c.in_ok-key.key = search rules in
     let slot : c.in-Some.slot ≡ c.loop-slot.slot = search rules in
     let key : c.in_ok-key.key ≡ key_at_ c.loop-slot.slot = (rw inv.same at c.in_ok-key.ensures.key) told ∙ ap key_at_ slot in
-    let goes = (rw (to_z-of_z w32 c.in_ok-key.key fits, c.in_ok-key.ensures.same, inv.same, slot, c.in-None.is) at c.in_ok-verify_slot.ensures.goes) told key_at_ key (are_heads bytes c.read_heads.new.heads (c.in_ok-read_heads.ensures.bytes told)) (inv.verifies told).0 in
+    let goes = (rw (to_z-of_z w32 c.in_ok-key.key fits, c.in_ok-key.ensures.frame.same, inv.same, slot, c.in-None.is) at c.in_ok-verify_slot.ensures.goes) told key_at_ key (are_heads bytes c.read_heads.new.heads (c.in_ok-read_heads.ensures.bytes told)) (inv.verifies told).0 in
     goes c.args.slots c.loop-slot-test.true (tree_of_keys bytes key_at_ c.args.slots tree)
 
 pub loop-slot-preserved : goal.loop-slot-preserved
@@ -54,17 +55,18 @@ loop-slot-preserved g c =
     let slot : c.in-Some.slot ≡ c.loop-slot.slot = search rules in
     let light = rw (c.in-Some-2.is, slot) at c.in_ok-verify_slot.ensures.light in
     record {
-      same = c.in_ok-verify_slot.ensures.same ∙ c.in_ok-key.ensures.same ∙ inv.same;
+      same = c.in_ok-verify_slot.ensures.frame.same ∙ c.in_ok-key.ensures.frame.same ∙ inv.same;
+      lent = c.in_ok-verify_slot.ensures.frame.lent ∙ c.in_ok-key.ensures.frame.lent ∙ inv.lent;
       reads = omega (arith, c.in_ok-verify_slot.ensures.reads, c.in_ok-key.ensures.reads, inv.reads);
-      reads_later = omega (arith, c.in_ok-verify_slot.ensures.reads_later, c.in_ok-key.ensures.reads_later, inv.reads_later);
-      faults = omega (arith, c.in_ok-verify_slot.ensures.cause.later, c.in_ok-key.ensures.cause.later, inv.faults);
+      reads_later = omega (arith, c.in_ok-verify_slot.ensures.frame.later, c.in_ok-key.ensures.frame.later, inv.reads_later);
+      faults = omega (arith, c.in_ok-verify_slot.ensures.frame.cause.later, c.in_ok-key.ensures.frame.cause.later, inv.faults);
       light = light.1;
-      inside = rw (c.in_ok-key.ensures.same, inv.same) at c.in_ok-verify_slot.ensures.inside;
+      inside = rw (c.in_ok-key.ensures.frame.same, inv.same) at c.in_ok-verify_slot.ensures.inside;
       low = c.in_ok-verify_slot.ensures.low;
       few = (let one = light.0 in omega (arith, one, inv.few));
       verifies = λ told.
           let key : c.in_ok-key.key ≡ key_at_ c.loop-slot.slot = (rw inv.same at c.in_ok-key.ensures.key) told ∙ ap key_at_ slot in
-          let goes = (rw (to_z-of_z w32 c.in_ok-key.key fits, c.in_ok-key.ensures.same, inv.same, slot, c.in-Some-2.is) at c.in_ok-verify_slot.ensures.goes) told key_at_ key (are_heads bytes c.read_heads.new.heads (c.in_ok-read_heads.ensures.bytes told)) (inv.verifies told).0 in
+          let goes = (rw (to_z-of_z w32 c.in_ok-key.key fits, c.in_ok-key.ensures.frame.same, inv.same, slot, c.in-Some-2.is) at c.in_ok-verify_slot.ensures.goes) told key_at_ key (are_heads bytes c.read_heads.new.heads (c.in_ok-read_heads.ensures.bytes told)) (inv.verifies told).0 in
           (goes.0, ap (λ (n : ℕ). n + c.in-Some-2.opens) (inv.verifies told).1 ∙ sym goes.1);
     }
 
@@ -81,7 +83,7 @@ returns-clause-tree g c = λ told t.
     tree_of_pairs bytes f c.args.slots (seen_tree bytes c.loop-slot.loads c.loop-slot.places c.loop-slot.nexts c.loop-slot.fills (pairs_of f c.args.slots) v.counts v.seen v.tails
     (λ n small. done_heads bytes c.read_heads.new.heads n (get_or c.loop-slot.loads n 0) (get_or c.loop-slot.nexts n 0) (get_or c.loop-slot.fills n 0) heads small (c.are_done.ensures.yes t n small))
     (let long = length_pairs f c.args.slots in omega (arith, long, c.requires.slots))
-    (sym c.size-size.ensures ∙ c.if-size-from.false ∙ ap bucket_place (c.from.ensures ∙ count))
+    (sym c.size-size.ensures ∙ c.if-size-bucket_place.false ∙ c.bucket_place.ensures ∙ ap bucket_place count)
     (sym (head_mark bytes c.read_heads.new.heads (c.in_ok-read_heads.ensures.bytes told)) ∙ c.if-heads-ne1.false))
 
 pub returns-clause-no_tree : goal.returns-clause-no_tree
@@ -95,12 +97,12 @@ returns-clause-no_tree g c = λ told t tree.
     let wrong = c.are_done.ensures.no_ t in
     wrong.2 (heads_done bytes c.read_heads.new.heads wrong.0 (get_or c.loop-slot.loads wrong.0 0) (get_or c.loop-slot.nexts wrong.0 0) (get_or c.loop-slot.fills wrong.0 0) heads wrong.1 (tree_done bytes c.loop-slot.loads c.loop-slot.places c.loop-slot.nexts c.loop-slot.fills (pairs_of f c.args.slots) (tree_of_keys bytes f c.args.slots tree) both.0 wrong.0 wrong.1))
 
-pub returns-then-size-from-clause-no_tree : goal.returns-then-size-from-clause-no_tree
-returns-then-size-from-clause-no_tree g c = λ told t tree.
+pub returns-then-size-bucket_place-clause-no_tree : goal.returns-then-size-bucket_place-clause-no_tree
+returns-then-size-bucket_place-clause-no_tree g c = λ told t tree.
     let old = g.V.Files.state c.args.files.now in
     let bytes = bytes_at old.files c.args.index in
     let f = key_of old c.args.column in
     let end : c.loop-slot.slot ≡ c.args.slots = omega (arith, c.loop-slot-test.false, c.loop-slot.auto.slot-end) in
     let both = rw end at (c.loop-slot.invariant.verifies told) in
     let whole = tree_of_keys bytes f c.args.slots tree in
-    absurd (c.if-size-from.true (c.size-size.ensures ∙ whole.size ∙ ap bucket_place (sym (c.from.ensures ∙ both.1))))
+    absurd (c.if-size-bucket_place.true (c.size-size.ensures ∙ whole.size ∙ ap bucket_place (sym both.1) ∙ sym c.bucket_place.ensures))

@@ -13,6 +13,7 @@ invariant-loop-slot g l =
     let ps = pairs_of (key_of old l.fn.column) l.slot in
     record {
       same : g.V.Files.state l.files ≡ old;
+      lent : g.V.Files.lent l.files ≡ g.V.Files.lent l.fn.files;
       reads : g.V.Files.reads l.files ≤ g.V.Files.reads l.fn.files + (15 * l.slot + 18);
       reads_later : g.V.Files.reads l.fn.files ≤ g.V.Files.reads l.files;
       faults : g.V.Files.faults l.fn.files ≤ g.V.Files.faults l.files;

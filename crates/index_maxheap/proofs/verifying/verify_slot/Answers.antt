@@ -1,8 +1,7 @@
-use Rattle.std.proofs.Common.{◌≡◌, ◌+◌, ◌*◌, ◌-◌, ◌%◌, ◌∙◌, ap, subst, get_or, ℕ, ℤ}
+use Rattle.std.proofs.Common.{◌≡◌, ◌%◌, ◌∙◌, ap, subst, get_or, ℤ}
 use Rattle.afl_base.specs.Files.{bytes_at}
 use Rattle.db_model.specs.HashTree.{node}
 use Rattle.index_tree.specs.Loads.{IsLevel}
-use Rattle.index_tree.specs.TreeFile.{place_of}
 use Rattle.index_tree.proofs.Loaded.{opened_none, opened_some}
 use Rattle.index_maxheap.proofs.Slots.{bucket_seen, bucket_wrong, buckets_one, number_is, pair_seen, pair_wrong}
 use Rattle.index_maxheap.proofs.verifying.verify_slot.Goals as goal
@@ -51,8 +50,7 @@ returns-in-Some-clause-goes g c = λ told f key heads v.
     let m : c.node-node.result ≡ node (f c.args.slot) level.result = c.node-node.ensures.value ∙ ap (λ (z : ℤ). node z level.result) key in
     let is = number_is bytes c.args.loads.now c.args.places.now c.args.nexts.now c.args.fills.now f c.args.slot level.result v lev c.args.heads.now c.number_for-number.result heads whole (rw m at c.node-node.ensures.bound) (rw (n, m) at c.number_for-number.ensures.first) (rw n at c.number_for-number.ensures.later) in
     let tail = rw (c.in-Some.is, key) at (c.in_ok-open_bucket.ensures.opens told) in
-    let place : 683 + 195 * (c.from-in-Some.result - 1) ≡ place_of c.number_for-number.result = ap (λ (k : ℕ). 683 + 195 * (k - 1)) c.from-in-Some.ensures in
     rw n (
-      bucket_seen bytes c.args.loads.now c.args.places.now c.args.nexts.now c.args.fills.now f c.args.slot level.result v lev c.number_for-number.result c.in-Some.tail.next c.in-Some.tail.fill (683 + 195 * (c.from-in-Some.result - 1)) whole is place tail.0 tail.1,
+      bucket_seen bytes c.args.loads.now c.args.places.now c.args.nexts.now c.args.fills.now f c.args.slot level.result v lev c.number_for-number.result c.in-Some.tail.next c.in-Some.tail.fill c.bucket_place.result whole is c.bucket_place.ensures tail.0 tail.1,
       buckets_one bytes c.args.loads.now c.args.places.now c.args.nexts.now c.args.fills.now f c.args.slot level.result v lev 1 (opened_none (get_or c.args.loads.now (node (f c.args.slot) level.result) 0 % 32) whole),
     )

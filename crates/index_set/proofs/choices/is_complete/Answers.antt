@@ -11,7 +11,7 @@ returns-in-Order-clause-held g c =
 
 pub returns-in-Tree-clause-held : goal.returns-in-Tree-clause-held
 returns-in-Tree-clause-held g c =
-    tree_held (g.V.Files.state c.args.files.now) (g.V.Files.state c.verify.new.files) c.args.tables.now c.args.info.now c.args.slots c.in-Tree.file c.verify.result c.in-Tree.is c.verify.ensures.same
+    tree_held (g.V.Files.state c.args.files.now) (g.V.Files.state c.verify.new.files) c.args.tables.now c.args.info.now c.args.slots c.in-Tree.file c.verify.result c.in-Tree.is c.verify.ensures.frame.same
 
 pub returns-in-Table-clause-held : goal.returns-in-Table-clause-held
 returns-in-Table-clause-held g c =

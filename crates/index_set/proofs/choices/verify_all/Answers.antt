@@ -45,9 +45,9 @@ loop-nth-preserved g c =
       held = λ trees.
           let here = here_of xs n y below e (λ info. IsDoublingTree start info.access) trees in
           held_more xs n y below e t0 t1 t2 inv.tables k2 c.requires.apart start c.args.slots (inv.held trees)
-          ((rw (c.in_ok-whole.ensures.same, inv.same) at c.in_ok-whole.ensures.held) c.if-not-whole.false here);
+          ((rw (c.in_ok-whole.ensures.frame.same, inv.same) at c.in_ok-whole.ensures.held) c.if-not-whole.false here);
       most = omega (arith, inv.most, c.in_ok-whole.ensures.reads, reads_next c.args.slots xs n y below e);
-      store = search rules;
+      lent = search rules;
       faults = search rules;
       reads = search rules;
     }

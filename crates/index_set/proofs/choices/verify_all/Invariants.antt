@@ -14,7 +14,7 @@ invariant-loop-nth g l =
       complete : IsTrue start.tells → (all : List Row) → length all ≡ l.slots → HaveKeysOf start all l.indexes → AreComplete start l.tables all (take l.nth l.indexes);
       held : AreDoublingTrees start l.indexes → AreHeld start l.tables l.slots (take l.nth l.indexes);
       most : g.V.Files.reads l.files ≤ g.V.Files.reads l.fn.files + most_reads_of_all l.slots (take l.nth l.indexes);
-      store : length (g.V.Files.state l.files).store ≡ length start.store;
+      lent : g.V.Files.lent l.files ≡ g.V.Files.lent l.fn.files;
       faults : g.V.Files.faults l.fn.files ≤ g.V.Files.faults l.files;
       reads : g.V.Files.reads l.fn.files ≤ g.V.Files.reads l.files;
     }

@@ -66,6 +66,7 @@ loop-nth-preserved g c =
           keeps_next xs n y below e c.requires.apart start before now t0 t1 t2 inv.spares inv.tables put.others put.tables rows c.args.tuple.now c.args.rooms.now c.get-room.result.now c.args.slot c.key_in-key.result
           count c.get-room.ensures has c.key_in-key.ensures (rw (to_z-of_z w32 _ fits) at (put.keeps (inv.spares.tells ∙ told))) all exact (inv.keeps told rows count all exact);
       store = search rules;
+      lent = search rules;
       faults = search rules;
       reads = search rules;
     }

@@ -21,6 +21,7 @@ invariant-loop-nth g l =
       keeps : IsTrue start.tells → (rows : List Row) → length rows ≡ l.slot → AreComplete start l.fn.tables rows l.indexes
           → AreRoomFor start l.tuple l.rooms l.indexes → AllKeepBuckets start now done;
       store : length (g.V.Files.state l.files).store ≡ length (g.V.Files.state l.fn.files).store;
+      lent : g.V.Files.lent l.files ≡ g.V.Files.lent l.fn.files;
       faults : g.V.Files.faults l.fn.files ≤ g.V.Files.faults l.files;
       reads : g.V.Files.reads l.fn.files ≤ g.V.Files.reads l.files;
     }

@@ -55,6 +55,7 @@ loop-nth-preserved g c =
           (key_for (slice_get c.args.tuple.now y.attribute) c.key_in-key.result start c.in-Ok.room y.access has c.key_in-key.ensures
           (room_for start before c.key_in-key.result c.in-Ok.room y.access (inv.prepares.bytes told) (rw (to_z-of_z w32 _ fits) at (c.in-Ok.ensures.exact (inv.prepares.spares.tells ∙ told)))));
       store = search rules;
+      lent = search rules;
       faults = search rules;
       reads = search rules;
     }

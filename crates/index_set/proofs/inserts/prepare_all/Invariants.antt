@@ -11,6 +11,7 @@ invariant-loop-nth g l = record {
   room : HaveRoom (g.V.Files.state l.files) l.rooms (take l.nth l.indexes);
   exact : IsTrue (g.V.Files.state l.fn.files).tells → AreRoomFor (g.V.Files.state l.fn.files) l.tuple l.rooms (take l.nth l.indexes);
   store : length (g.V.Files.state l.files).store ≡ length (g.V.Files.state l.fn.files).store;
+  lent : g.V.Files.lent l.files ≡ g.V.Files.lent l.fn.files;
   faults : g.V.Files.faults l.fn.files ≤ g.V.Files.faults l.files;
   reads : g.V.Files.reads l.fn.files ≤ g.V.Files.reads l.files;
 }

@@ -10,7 +10,7 @@ build-requires-clause-count g c = λ told.
     let old = g.V.Files.state c.args.files.now in
     let now = g.V.Files.state c.draft.new.self in
     let column = c.column-keys.result in
-    let begun = rw c.in_ok-most.ensures.same at c.in_ok-draft.ensures.begun in
+    let begun = rw c.in_ok-most.ensures.frame.same at c.in_ok-draft.ensures.begun in
     let was = rw begun.tells at told in
     c.in_ok-most.ensures.buckets was
     ∙ sym (ap (λ (files : Table). buckets (first_keys (λ (slot : ℕ). number_at (bytes_at files column.file) (key_place column slot) column.width) c.args.slots)) begun.files)

@@ -4,10 +4,9 @@ use Rattle.intake.proofs.through.take_all.Given as goal
 
 abbrev pub invariant-loop-byte : goal.invariant-loop-byte
 invariant-loop-byte g l = record {
-  takes : g.T.Taker.Takes (l.fn.taker, out_of (g.K.Sink.held l.fn.gathered.out.now) (g.K.Sink.faults l.fn.gathered.out.now)) (take l.byte-index l.bytes)
-      (l.taker, out_of (g.K.Sink.held l.gathered.out.now) (g.K.Sink.faults l.gathered.out.now));
+  takes : g.T.Taker.Takes (l.fn.taker, out_of (g.K.Sink.held l.fn.out) (g.K.Sink.faults l.fn.out)) (take l.byte-index l.bytes)
+      (l.taker, out_of (g.K.Sink.held l.out) (g.K.Sink.faults l.out));
   stays : g.T.Taker.stays l.fn.taker l.taker;
-  none : l.gathered.waiting.bytes ≡ [];
-  out : l.gathered.out.ghost_name ≡ l.fn.gathered.out.ghost_name;
-  keeps : g.K.Sink.keeps l.fn.gathered.out.now l.gathered.out.now;
+  none : l.waiting.bytes ≡ [];
+  lent : g.K.Sink.lent l.out ≡ g.K.Sink.lent l.fn.out;
 }

@@ -1,4 +1,4 @@
-use Rattle.std.proofs.Common.{◌-◌, arith, drop, length, rules, sym, take, ℕ}
+use Rattle.std.proofs.Common.{◌∙◌, ◌-◌, arith, drop, length, rules, sym, take, ℕ}
 use Rattle.std.proofs.lemmas.List.{length-take, length-drop}
 use Rattle.reply_text.proofs.Pieces.{held_more, take_piece}
 use Rattle.reply_text.proofs.bytes.write_all.Goals as goal
@@ -11,6 +11,6 @@ loop-done-preserved g c =
     record {
       within = omega (arith, c.in_ok-done.ensures.most, length-take {A = ℕ}, length-drop {A = ℕ});
       held = held_more (g.K.Sink.held c.args.out.now) _ _ (take done bytes) (take n (take (length bytes - done) (drop done bytes))) _ c.loop-done.invariant.held c.in_ok-done.ensures.bytes (sym (take_piece bytes done n c.loop-done.invariant.within));
-      keeps = g.met.K.Sink.kept_on c.args.out.now c.loop-done.out c.write.new.self c.loop-done.invariant.keeps c.in_ok-done.ensures.keeps;
+      lent = c.in_ok-done.ensures.frame.lent ∙ c.loop-done.invariant.lent;
       faults = search rules;
     }

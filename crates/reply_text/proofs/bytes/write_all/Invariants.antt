@@ -6,7 +6,7 @@ abbrev pub invariant-loop-done : goal.invariant-loop-done
 invariant-loop-done g l = record {
   within : l.done ≤ length l.bytes;
   held : g.K.Sink.held l.out ≡ append_known (g.K.Sink.held l.fn.out) (take l.done l.bytes);
-  keeps : g.K.Sink.keeps l.fn.out l.out;
+  lent : g.K.Sink.lent l.out ≡ g.K.Sink.lent l.fn.out;
   faults : g.K.Sink.faults l.out ≡ g.K.Sink.faults l.fn.out;
 }
 

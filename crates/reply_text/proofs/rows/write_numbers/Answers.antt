@@ -1,4 +1,4 @@
-use Rattle.std.proofs.Common.{rules, ◌++◌, get_or, take, None}
+use Rattle.std.proofs.Common.{◌∙◌, rules, ◌++◌, get_or, take, None}
 use Rattle.std.proofs.lemmas.Result.{on_err_weaker, on_ok_weaker}
 use Rattle.db_model.specs.ReplyText.{number_text, numbers_text}
 use Rattle.reply_text.specs.Commas.{comma_before}
@@ -11,7 +11,7 @@ loop-at-preserved g c =
     let at = c.loop-at.at in
     record {
       held = held_more (g.K.Sink.held c.args.out.now) (g.K.Sink.held c.loop-at.out) _ (joined number_text (take at xs)) (comma_before at ++ number_text (get_or xs at None)) _ c.loop-at.invariant.held c.in_ok-write_aggregate.ensures.written (joined_more number_text xs at None c.loop-at-test.true);
-      keeps = g.met.K.Sink.kept_on c.args.out.now c.loop-at.out c.write_aggregate.new.out c.loop-at.invariant.keeps c.in_ok-write_aggregate.ensures.keeps;
+      lent = c.in_ok-write_aggregate.ensures.frame.lent ∙ c.loop-at.invariant.lent;
       faults = search rules;
     }
 

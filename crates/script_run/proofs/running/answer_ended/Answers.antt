@@ -9,7 +9,7 @@ use Rattle.reply_text.specs.WroteLess.{WroteLess}
 use Rattle.script_run.proofs.Gathering.{said_long, said_some}
 use Rattle.answering.proofs.Single.{refused_carried, refused_halts}
 use Rattle.answering.specs.Carried.{Carried, HaltsIn, LacksPages, standing_of}
-use Rattle.script_run.specs.Gathers.{Gathers}
+use Rattle.script_run.specs.Gathers.{GathersPiece}
 use Rattle.run_model.specs.Scripts.{script_talk}
 use Rattle.script_run.proofs.running.answer_ended.Goals as goal
 
@@ -19,7 +19,7 @@ returns-in-Ok-clause-carried g c = λ told read reader p gathers.
     let a = standing_of g.V.Files.state g.V.Files.reads c.args.session.now (g.K.Sink.held c.args.out.now) in
     let b = standing_of g.V.Files.state g.V.Files.reads c.args.session.now (g.K.Sink.held c.refuse.new.out) in
     let P : List Entry → Type 0 = λ es. Carried (script_talk read) es a b in
-    subst P (sym (said_long p v.bytes.items (subst (λ (l : Bool). Gathers p v.bytes.items l) c.if-piece.true gathers)))
+    subst P (sym (said_long p v.bytes.items (subst (λ (l : Bool). GathersPiece p v.bytes.items l) c.if-piece.true gathers)))
     (refused_carried (script_talk read) Long a b refl no.Long refl refl refl (omega arith) c.in-Ok.ensures.written)
 
 pub returns-in-Err-clause-halts : goal.returns-in-Err-clause-halts
@@ -31,14 +31,14 @@ returns-in-Err-clause-halts g c = λ told read reader p gathers.
     let sink : c.in-Err.halt ≡ Sink = search rules in
     let R : Halt → Type 0 = λ halt. HaltsIn (script_talk read) (LacksPages g.V.Files.state g.V.Files.asks g.V.Files.lacks c.args.session.now) (ended (past_white p)) a b halt in
     let P : List Entry → Type 0 = λ es. HaltsIn (script_talk read) (LacksPages g.V.Files.state g.V.Files.asks g.V.Files.lacks c.args.session.now) es a b Sink in
-    subst R (sym sink) (subst P (sym (said_long p v.bytes.items (subst (λ (l : Bool). Gathers p v.bytes.items l) c.if-piece.true gathers)))
+    subst R (sym sink) (subst P (sym (said_long p v.bytes.items (subst (λ (l : Bool). GathersPiece p v.bytes.items l) c.if-piece.true gathers)))
     (refused_halts (script_talk read) Long a b refl no.Long refl refl (LacksPages g.V.Files.state g.V.Files.asks g.V.Files.lacks c.args.session.now) (omega arith) less))
 
 pub returns-in-Ok-carry_out-clause-carried : goal.returns-in-Ok-carry_out-clause-carried
 returns-in-Ok-carry_out-clause-carried g c = λ told read reader p gathers.
     let v = c.args.piece.now in
     let some : 0 < length v.bytes.items = grind (arith, nat_tests, c.if-is_empty.ensures) in
-    let is : ended (past_white p) ≡ Bytes v.bytes.items ∷ [] = said_some p v.bytes.items (subst (λ (l : Bool). Gathers p v.bytes.items l) c.if-piece.false gathers) some in
+    let is : ended (past_white p) ≡ Bytes v.bytes.items ∷ [] = said_some p v.bytes.items (subst (λ (l : Bool). GathersPiece p v.bytes.items l) c.if-piece.false gathers) some in
     let a = standing_of g.V.Files.state g.V.Files.reads c.args.session.now (g.K.Sink.held c.args.out.now) in
     let b = standing_of g.V.Files.state g.V.Files.reads c.carry_out.new.session (g.K.Sink.held c.carry_out.new.out) in
     let P : List Entry → Type 0 = λ es. Carried (script_talk read) es a b in
@@ -49,7 +49,7 @@ pub returns-in-Err-carry_out-clause-halts : goal.returns-in-Err-carry_out-clause
 returns-in-Err-carry_out-clause-halts g c = λ told read reader p gathers.
     let v = c.args.piece.now in
     let some : 0 < length v.bytes.items = grind (arith, nat_tests, c.if-is_empty.ensures) in
-    let is : ended (past_white p) ≡ Bytes v.bytes.items ∷ [] = said_some p v.bytes.items (subst (λ (l : Bool). Gathers p v.bytes.items l) c.if-piece.false gathers) some in
+    let is : ended (past_white p) ≡ Bytes v.bytes.items ∷ [] = said_some p v.bytes.items (subst (λ (l : Bool). GathersPiece p v.bytes.items l) c.if-piece.false gathers) some in
     let a = standing_of g.V.Files.state g.V.Files.reads c.args.session.now (g.K.Sink.held c.args.out.now) in
     let b = standing_of g.V.Files.state g.V.Files.reads c.carry_out.new.session (g.K.Sink.held c.carry_out.new.out) in
     let L = LacksPages g.V.Files.state g.V.Files.asks g.V.Files.lacks c.carry_out.new.session in
@@ -58,10 +58,10 @@ returns-in-Err-carry_out-clause-halts g c = λ told read reader p gathers.
     subst P (sym is) (subst Q c.as_slice.ensures.value (c.in-Err-carry_out.ensures.halts told read reader))
 
 pub returns-in-Ok-clause-silent : goal.returns-in-Ok-clause-silent
-returns-in-Ok-clause-silent g c = inr (λ p gathers. (Long, said_long p c.args.piece.now.bytes.items (subst (λ (l : Bool). Gathers p c.args.piece.now.bytes.items l) c.if-piece.true gathers)))
+returns-in-Ok-clause-silent g c = inr (λ p gathers. (Long, said_long p c.args.piece.now.bytes.items (subst (λ (l : Bool). GathersPiece p c.args.piece.now.bytes.items l) c.if-piece.true gathers)))
 
 pub returns-in-Err-clause-silent : goal.returns-in-Err-clause-silent
-returns-in-Err-clause-silent g c = inr (λ p gathers. (Long, said_long p c.args.piece.now.bytes.items (subst (λ (l : Bool). Gathers p c.args.piece.now.bytes.items l) c.if-piece.true gathers)))
+returns-in-Err-clause-silent g c = inr (λ p gathers. (Long, said_long p c.args.piece.now.bytes.items (subst (λ (l : Bool). GathersPiece p c.args.piece.now.bytes.items l) c.if-piece.true gathers)))
 
 pub returns-then-is_empty-clause-silent : goal.returns-then-is_empty-clause-silent
 returns-then-is_empty-clause-silent g c = inl refl
@@ -70,10 +70,10 @@ pub returns-in-Ok-carry_out-clause-silent : goal.returns-in-Ok-carry_out-clause-
 returns-in-Ok-carry_out-clause-silent g c =
     let v = c.args.piece.now in
     let some : 0 < length v.bytes.items = grind (arith, nat_tests, c.if-is_empty.ensures) in
-    inr (λ p gathers. (Bytes v.bytes.items, said_some p v.bytes.items (subst (λ (l : Bool). Gathers p v.bytes.items l) c.if-piece.false gathers) some))
+    inr (λ p gathers. (Bytes v.bytes.items, said_some p v.bytes.items (subst (λ (l : Bool). GathersPiece p v.bytes.items l) c.if-piece.false gathers) some))
 
 pub returns-in-Err-carry_out-clause-silent : goal.returns-in-Err-carry_out-clause-silent
 returns-in-Err-carry_out-clause-silent g c =
     let v = c.args.piece.now in
     let some : 0 < length v.bytes.items = grind (arith, nat_tests, c.if-is_empty.ensures) in
-    inr (λ p gathers. (Bytes v.bytes.items, said_some p v.bytes.items (subst (λ (l : Bool). Gathers p v.bytes.items l) c.if-piece.false gathers) some))
+    inr (λ p gathers. (Bytes v.bytes.items, said_some p v.bytes.items (subst (λ (l : Bool). GathersPiece p v.bytes.items l) c.if-piece.false gathers) some))

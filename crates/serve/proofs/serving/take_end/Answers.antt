@@ -17,21 +17,21 @@ returns-in-Ok-clause-ends g c = record {
       let b = standing_of g.V.Files.state g.V.Files.reads c.args.session.now (g.K.Sink.held c.refuse.new.out) in
       subst (λ (fs : List Frame). Carried (serve_talk read) fs a b) (sym (begun_unended q (sym c.if-not-is_begun.false ∙ c.is_begun.ensures q k)))
       (refused_carried (serve_talk read) Unfinished a b refl no.Unfinished refl refl refl (omega arith) c.in-Ok.ensures.written);
-  on = record { faults = omega arith; replies = c.in-Ok.ensures.cause.later; store = refl };
+  on = record { faults = omega arith; replies = c.in-Ok.ensures.frame.cause.later; store = refl; lent = refl };
 }
 
 pub returns-in-Err-clause-halts : goal.returns-in-Err-clause-halts
 returns-in-Err-clause-halts g c = record {
   kept = λ e f lost. absurd (true_false (sym lost ∙ f));
   flash = λ e is. absurd (sink_flash is);
-  sink = λ e is. c.in-Err.ensures.cause.failed;
+  sink = λ e is. c.in-Err.ensures.frame.cause.failed;
   halts = λ going tells read reader q k.
       let a = standing_of g.V.Files.state g.V.Files.reads c.args.session.now (g.K.Sink.held c.args.out.now) in
       let b = standing_of g.V.Files.state g.V.Files.reads c.args.session.now (g.K.Sink.held c.refuse.new.out) in
       let Lacks = LacksPages g.V.Files.state g.V.Files.asks g.V.Files.lacks c.args.session.now in
       subst (λ (fs : List Frame). HaltsIn (serve_talk read) Lacks fs a b Sink) (sym (begun_unended q (sym c.if-not-is_begun.false ∙ c.is_begun.ensures q k)))
       (refused_halts (serve_talk read) Unfinished a b refl no.Unfinished refl refl Lacks (omega arith) c.in-Err.ensures.failed);
-  on = record { faults = omega arith; replies = c.in-Err.ensures.cause.later; store = refl };
+  on = record { faults = omega arith; replies = c.in-Err.ensures.frame.cause.later; store = refl; lent = refl };
 }
 
 pub returns-then-is_stopped-clause-silent : goal.returns-then-is_stopped-clause-silent

@@ -1,5 +1,4 @@
 use Rattle.intake.specs.Through.{Out, out_of}
-use Rattle.answering.specs.Taking.{saying}
 use Rattle.answering.proofs.Through.{reaches, sum, went}
 use Rattle.serve_model.specs.Frames.{frame_line}
 use Rattle.serve_model.proofs.Ending.{frame_parts}
@@ -10,45 +9,48 @@ use Rattle.serve.proofs.whole.serve_through.Goals as goal
 
 pub returns-clause-went : goal.returns-clause-went
 returns-clause-went g c = λ told read reader.
-    let files = saying g.V.Files.state g.V.Files.reads g.V.Files.faults g.V.Files.asks g.V.Files.lacks in
     let old : Server g.row.V.Denot × Out = (c.args.server.now, out_of (g.K.Sink.held c.args.out.now) (g.K.Sink.faults c.args.out.now)) in
     let new : Server g.row.V.Denot × Out = (c.take_through.new.taker, out_of (g.K.Sink.held c.take_through.new.out) (g.K.Sink.faults c.take_through.new.out)) in
-    went frame_input files frame_line frame_parts seen old new (g.S.Source.left c.args.line.now) (g.S.Source.left c.take_through.new.input)
+    went frame_input g.V.Files frame_line frame_parts seen old new (g.S.Source.left c.args.line.now) (g.S.Source.left c.take_through.new.input) (g.S.Source.reads c.args.line.now) (g.S.Source.reads c.take_through.new.input)
     c.requires.running told read reader c.requires.none
     c.take_through.result c.take_through.ensures.through
 
 pub returns-clause-reaches : goal.returns-clause-reaches
 returns-clause-reaches g c =
-    let files = saying g.V.Files.state g.V.Files.reads g.V.Files.faults g.V.Files.asks g.V.Files.lacks in
     let old : Server g.row.V.Denot × Out = (c.args.server.now, out_of (g.K.Sink.held c.args.out.now) (g.K.Sink.faults c.args.out.now)) in
     let new : Server g.row.V.Denot × Out = (c.take_through.new.taker, out_of (g.K.Sink.held c.take_through.new.out) (g.K.Sink.faults c.take_through.new.out)) in
-    reaches frame_input files frame_line frame_parts seen old new (g.S.Source.left c.args.line.now) (g.S.Source.left c.take_through.new.input)
+    reaches frame_input g.V.Files frame_line frame_parts seen old new (g.S.Source.left c.args.line.now) (g.S.Source.left c.take_through.new.input) (g.S.Source.reads c.args.line.now) (g.S.Source.reads c.take_through.new.input)
     c.requires.running c.take_through.result c.take_through.ensures.through
 
 pub returns-clause-lost : goal.returns-clause-lost
 returns-clause-lost g c = λ kept lost.
-    let files = saying g.V.Files.state g.V.Files.reads g.V.Files.faults g.V.Files.asks g.V.Files.lacks in
     let old : Server g.row.V.Denot × Out = (c.args.server.now, out_of (g.K.Sink.held c.args.out.now) (g.K.Sink.faults c.args.out.now)) in
     let new : Server g.row.V.Denot × Out = (c.take_through.new.taker, out_of (g.K.Sink.held c.take_through.new.out) (g.K.Sink.faults c.take_through.new.out)) in
-    let total = sum frame_input files frame_line frame_parts seen old new (g.S.Source.left c.args.line.now) (g.S.Source.left c.take_through.new.input)
+    let total = sum frame_input g.V.Files frame_line frame_parts seen old new (g.S.Source.left c.args.line.now) (g.S.Source.left c.take_through.new.input) (g.S.Source.reads c.args.line.now) (g.S.Source.reads c.take_through.new.input)
     c.requires.running c.take_through.result c.take_through.ensures.through in
     total.kept kept lost
 
 pub returns-clause-store : goal.returns-clause-store
 returns-clause-store g c =
-    let files = saying g.V.Files.state g.V.Files.reads g.V.Files.faults g.V.Files.asks g.V.Files.lacks in
     let old : Server g.row.V.Denot × Out = (c.args.server.now, out_of (g.K.Sink.held c.args.out.now) (g.K.Sink.faults c.args.out.now)) in
     let new : Server g.row.V.Denot × Out = (c.take_through.new.taker, out_of (g.K.Sink.held c.take_through.new.out) (g.K.Sink.faults c.take_through.new.out)) in
-    let total = sum frame_input files frame_line frame_parts seen old new (g.S.Source.left c.args.line.now) (g.S.Source.left c.take_through.new.input)
+    let total = sum frame_input g.V.Files frame_line frame_parts seen old new (g.S.Source.left c.args.line.now) (g.S.Source.left c.take_through.new.input) (g.S.Source.reads c.args.line.now) (g.S.Source.reads c.take_through.new.input)
     c.requires.running c.take_through.result c.take_through.ensures.through in
     total.on.store
 
-pub returns-clause-cause : goal.returns-clause-cause
-returns-clause-cause g c =
-    let files = saying g.V.Files.state g.V.Files.reads g.V.Files.faults g.V.Files.asks g.V.Files.lacks in
+pub returns-clause-borrows : goal.returns-clause-borrows
+returns-clause-borrows g c =
     let old : Server g.row.V.Denot × Out = (c.args.server.now, out_of (g.K.Sink.held c.args.out.now) (g.K.Sink.faults c.args.out.now)) in
     let new : Server g.row.V.Denot × Out = (c.take_through.new.taker, out_of (g.K.Sink.held c.take_through.new.out) (g.K.Sink.faults c.take_through.new.out)) in
-    let total = sum frame_input files frame_line frame_parts seen old new (g.S.Source.left c.args.line.now) (g.S.Source.left c.take_through.new.input)
+    let total = sum frame_input g.V.Files frame_line frame_parts seen old new (g.S.Source.left c.args.line.now) (g.S.Source.left c.take_through.new.input) (g.S.Source.reads c.args.line.now) (g.S.Source.reads c.take_through.new.input)
+    c.requires.running c.take_through.result c.take_through.ensures.through in
+    total.on.lent
+
+pub returns-clause-cause : goal.returns-clause-cause
+returns-clause-cause g c =
+    let old : Server g.row.V.Denot × Out = (c.args.server.now, out_of (g.K.Sink.held c.args.out.now) (g.K.Sink.faults c.args.out.now)) in
+    let new : Server g.row.V.Denot × Out = (c.take_through.new.taker, out_of (g.K.Sink.held c.take_through.new.out) (g.K.Sink.faults c.take_through.new.out)) in
+    let total = sum frame_input g.V.Files frame_line frame_parts seen old new (g.S.Source.left c.args.line.now) (g.S.Source.left c.take_through.new.input) (g.S.Source.reads c.args.line.now) (g.S.Source.reads c.take_through.new.input)
     c.requires.running c.take_through.result c.take_through.ensures.through in
     record {
       files_later = total.on.faults;

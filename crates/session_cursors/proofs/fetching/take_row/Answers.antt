@@ -56,7 +56,7 @@ returns-clause-done g c = λ told.
     let same : set (set opens place c.take.new.self) place (Some d) ≡ set opens place (Some d) = set-set opens place c.take.new.self (Some d) in
     let P : State → List (Option Open) → Type 0 = λ s os.
     step (view state.files held opens) (command.FetchCursor c.args.number.now) ≡ (view s.files held os, Rows (one_or_none c.in_ok-found.found c.fetch_open.new.into)) in
-    subst (λ (s : State). P s (set (set opens place c.take.new.self) place (Some d))) (sym h.same)
+    subst (λ (s : State). P s (set (set opens place c.take.new.self) place (Some d))) (sym h.frame.same)
     (subst (λ (os : List (Option Open)). P state os) (sym same)
     (step_fetched state.files held opens c.args.number.now place c.in-Some.ensures.place o there d (one_or_none c.in_ok-found.found c.fetch_open.new.into) (h.row told) (h.left told)))
 
@@ -77,7 +77,7 @@ returns-clause-running g c =
     let d : Open = c.fetch_open.new.opened in
     let same : set (set opens place c.take.new.self) place (Some d) ≡ set opens place (Some d) = set-set opens place c.take.new.self (Some d) in
     let P : State → List (Option Open) → Type 0 = λ s os. IsRunning s tables held os in
-    subst (λ (s : State). P s (set (set opens place c.take.new.self) place (Some d))) (sym h.same)
+    subst (λ (s : State). P s (set (set opens place c.take.new.self) place (Some d))) (sym h.frame.same)
     (subst (λ (os : List (Option Open)). P state os) (sym same)
     (cursor_put state tables held opens place (Some d) r few (h.waits held waits)))
 
@@ -98,7 +98,7 @@ returns-clause-aheads g c = λ told.
     let same : set (set opens place c.take.new.self) place (Some d) ≡ set opens place (Some d) = set-set opens place c.take.new.self (Some d) in
     let P : State → List (Option Open) → Type 0 = λ s os.
     aheads_of s.files os ≡ aheads_after (view state.files held opens) (aheads_of state.files opens) (command.FetchCursor c.args.number.now) in
-    subst (λ (s : State). P s (set (set opens place c.take.new.self) place (Some d))) (sym h.same)
+    subst (λ (s : State). P s (set (set opens place c.take.new.self) place (Some d))) (sym h.frame.same)
     (subst (λ (os : List (Option Open)). P state os) (sym same)
     (aheads_fetched state.files held opens c.args.number.now place c.in-Some.ensures.place o there d (h.left told) (h.ahead told)))
 

@@ -5,7 +5,7 @@ use Rattle.cursor.specs.declared.join.JoinCursor.{JoinCursor}
 use Rattle.cursor.specs.Pairs.{pairs_left}
 use Rattle.cursor.proofs.Joins.{all_passed}
 use Rattle.tuple_file.specs.Tuples.{rows}
-use Rattle.session_model.specs.Aheads.{join_ahead, join_stops}
+use Rattle.session_model.specs.Aheads.{ahead_of_join, join_stops}
 use Rattle.session_model.specs.View.{join_left, project_pair}
 use Rattle.session_model.proofs.Joins.{join_waits}
 use Rattle.session_cursors.proofs.JoinReads.{ahead_none}
@@ -61,7 +61,7 @@ returns-clause-ahead g c = λ told.
     let fits = c.requires.can.fits told in
     let stands : d ≡ record o.cursor { at = d.at; from = d.from; inner = d.inner } = h.stands in
     let is : c.rest.new.self ≡ record o.cursor { at = d.at; from = d.from; inner = None } = c.rest.ensures.rests ∙ ap (λ (z : JoinCursor). record z { inner = None }) stands in
-    let P : JoinCursor → Type 0 = λ z. join_ahead state.files (record { cursor = z; places = o.places }) ≡ fetched (join_ahead state.files o) in
+    let P : JoinCursor → Type 0 = λ z. ahead_of_join state.files (record { cursor = z; places = o.places }) ≡ fetched (ahead_of_join state.files o) in
     subst P (sym is)
     (ahead_then state o d c.next.new.left c.next.new.right c.in_ok-found.found (record {
       may = c.requires.can.may_read;

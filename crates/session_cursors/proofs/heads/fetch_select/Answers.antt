@@ -1,11 +1,10 @@
 use Rattle.std.proofs.Common.{◌<◌, ◌≤◌, ◌+◌, List, map, length, slice_get, refl, ap, sym, subst, ◌∙◌, arith}
 use Rattle.db_model.specs.Cost.{fetch_select_cost, passed}
 use Rattle.db_model.specs.Row.{Row}
-use Rattle.index_set.specs.Walks.{ahead}
+use Rattle.index_set.specs.Walks.{ahead, walk_of}
 use Rattle.cursor.specs.Remaining.{remaining, slots_left}
 use Rattle.tuple_file.specs.declared.tuples.Tuples.{Tuples}
 use Rattle.tuple_file.specs.Tuples.{rows}
-use Rattle.session_model.specs.Aheads.{walk_of}
 use Rattle.session_model.specs.View.{project}
 use Rattle.session_cursors.proofs.SelectSteps.{ahead_then, ended_rows, left_rows, read_failed, read_few, rested_at, rested_on}
 use Rattle.session_cursors.proofs.heads.fetch_select.Goals as goal

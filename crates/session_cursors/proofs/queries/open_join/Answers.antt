@@ -1,6 +1,6 @@
 use Rattle.std.proofs.Common.{refl}
 use Rattle.afl_base.specs.Files.{bytes_at}
-use Rattle.session_model.specs.View.{relation_in}
+use Rattle.session_model.specs.View.{relation_of_rows}
 use Rattle.session_plans.proofs.Joined.{rows_whole}
 use Rattle.session_cursors.proofs.Queried.{join_begins, join_refused, left_unnamed, right_unnamed}
 use Rattle.session_cursors.proofs.queries.open_join.Goals as goal
@@ -20,7 +20,7 @@ returns-in-Err-clause-refused g c =
     let s = c.in-Some.lefts.now in
     let t = c.in-Some-named.rights.now in
     join_refused files c.args.held.now c.args.opens.now c.args.left.now c.args.right.now c.args.on.now c.args.list.now c.in-Some.j s c.in-Some.ensures.found c.in-Some-named.k t c.in-Some-named.ensures.found c.in-Err.refusal
-    (c.in-Err.ensures.refused (relation_in files s) (relation_in files t) refl refl)
+    (c.in-Err.ensures.refused (relation_of_rows files s) (relation_of_rows files t) refl refl)
 
 pub returns-clause-begins : goal.returns-clause-begins
 returns-clause-begins g c =
@@ -30,4 +30,4 @@ returns-clause-begins g c =
     let h = c.begin_join.ensures in
     let p = c.in-Ok.ensures in
     join_begins files c.args.held.now c.args.opens.now c.args.left.now c.args.right.now c.args.on.now c.args.list.now c.in-Some.j s c.in-Some.ensures.found c.in-Some-named.k t c.in-Some-named.ensures.found c.begin_join.result _
-    c.in-Ok.plan.left_on c.in-Ok.plan.right_on (p.rows (relation_in files s) (relation_in files t) refl refl (rows_whole s.schema.attributes (bytes_at files s.file))) h.rows p.left_on p.right_on h.left h.right h.ahead
+    c.in-Ok.plan.left_on c.in-Ok.plan.right_on (p.rows (relation_of_rows files s) (relation_of_rows files t) refl refl (rows_whole s.schema.attributes (bytes_at files s.file))) h.rows p.left_on p.right_on h.left h.right h.ahead

@@ -1,18 +1,18 @@
 use Rattle.std.proofs.Common.{◌≡◌, ◌≤◌, ◌+◌, IsTrue, sym, subst, refl}
-use Rattle.std.specs.Prelude.{IfErr, IfOk, IsOk, OnErr, Result, Err, Ok}
+use Rattle.std.specs.Prelude.{IfErr, IfOk, IsOk, OnErr, Err}
 use Rattle.db_model.specs.declared.commands.Query.{Query}
 use Rattle.db_model.specs.Cost.{open_cost}
 use Rattle.db_model.specs.Step.{answer_of}
+use Rattle.padded.proofs.Facts.{on_err}
 use Rattle.session_model.specs.View.{view}
-use Rattle.session_cursors.specs.Opened.{Begins}
-use Rattle.session_cursors.proofs.Queried.{on_err}
+use Rattle.session_cursors.specs.Opened.{BeginsAnswer}
 use Rattle.session_cursors.proofs.queries.open_query.Goals as goal
 
 pub returns-in-Select-clause-begins : goal.returns-in-Select-clause-begins
 returns-in-Select-clause-begins g c =
     let files = (g.V.Files.state c.args.files.now).files in
     let db = view files c.args.held.now c.args.opens.now in
-    let P : Query → Type 0 = λ q. IsTrue (g.V.Files.state c.args.files.now).tells → IfOk c.open_select.result (λ came. IfOk came (λ o. Begins db files q o)) in
+    let P : Query → Type 0 = λ q. IsTrue (g.V.Files.state c.args.files.now).tells → IfOk c.open_select.result (λ came. IfOk came (λ o. BeginsAnswer db files q o)) in
     subst P (sym c.in-Select.is) c.open_select.ensures.begins
 
 pub returns-in-Select-clause-refused : goal.returns-in-Select-clause-refused
@@ -37,7 +37,7 @@ pub returns-in-Join-clause-begins : goal.returns-in-Join-clause-begins
 returns-in-Join-clause-begins g c = λ told.
     let files = (g.V.Files.state c.args.files.now).files in
     let db = view files c.args.held.now c.args.opens.now in
-    let P : Query → Type 0 = λ q. IfOk c.open_join.result (λ o. Begins db files q o) in
+    let P : Query → Type 0 = λ q. IfOk c.open_join.result (λ o. BeginsAnswer db files q o) in
     subst P (sym c.in-Join.is) c.open_join.ensures.begins
 
 pub returns-in-Join-clause-refused : goal.returns-in-Join-clause-refused

@@ -1,8 +1,8 @@
 use Rattle.std.proofs.Common.{◌≤◌, ◌+◌, ℕ, refl, sym, subst}
-use Rattle.std.specs.Prelude.{OnErr, Result, Ok, Err}
 use Rattle.db_model.specs.Cond.{condition_of}
-use Rattle.session_model.specs.View.{relation_in}
-use Rattle.session_cursors.proofs.Queried.{on_err, select_answered, select_begins, select_price, select_refused, select_unnamed}
+use Rattle.padded.proofs.Facts.{on_err}
+use Rattle.session_model.specs.View.{relation_of_rows}
+use Rattle.session_cursors.proofs.Queried.{select_answered, select_begins, select_price, select_refused, select_unnamed}
 use Rattle.session_cursors.proofs.queries.open_select.Goals as goal
 
 pub returns-in-None-clause-refused : goal.returns-in-None-clause-refused
@@ -13,13 +13,13 @@ pub returns-in-Err-clause-refused : goal.returns-in-Err-clause-refused
 returns-in-Err-clause-refused g c =
     let files = (g.V.Files.state c.args.files.now).files in
     let t = c.in-Some.tuples.now in
-    select_refused files c.args.held.now c.args.opens.now c.args.list.now c.args.relation.now c.args.condition.now c.in-Some.k t c.in-Some.ensures.found c.in-Err.refusal (c.in-Err.ensures.refused (relation_in files t) refl)
+    select_refused files c.args.held.now c.args.opens.now c.args.list.now c.args.relation.now c.args.condition.now c.in-Some.k t c.in-Some.ensures.found c.in-Err.refusal (c.in-Err.ensures.refused (relation_of_rows files t) refl)
 
 pub returns-in_err-opened-clause-answered : goal.returns-in_err-opened-clause-answered
 returns-in_err-opened-clause-answered g c =
     let files = (g.V.Files.state c.args.files.now).files in
     let t = c.in-Some.tuples.now in
-    on_err _ (select_answered files c.args.held.now c.args.opens.now c.args.list.now c.args.relation.now c.args.condition.now c.in-Some.k t c.in-Some.ensures.found _ (c.in-Ok.ensures.rows (relation_in files t) refl))
+    on_err _ (select_answered files c.args.held.now c.args.opens.now c.args.list.now c.args.relation.now c.args.condition.now c.in-Some.k t c.in-Some.ensures.found _ (c.in-Ok.ensures.rows (relation_of_rows files t) refl))
 
 pub returns-in_err-opened-clause-reads : goal.returns-in_err-opened-clause-reads
 returns-in_err-opened-clause-reads g c =
@@ -36,7 +36,7 @@ returns-clause-begins g c = λ told.
     let h = c.in_ok-opened.ensures in
     let tree = condition_of c.args.condition.now in
     select_begins files c.args.held.now c.args.opens.now c.args.list.now c.args.relation.now c.args.condition.now c.in-Some.k t c.in-Some.ensures.found c.in_ok-opened.opened _
-    (c.in-Ok.ensures.rows (relation_in files t) refl) (h.rows told tree c.in-Ok.ensures.code) h.tuples (h.ahead told tree c.in-Ok.ensures.code)
+    (c.in-Ok.ensures.rows (relation_of_rows files t) refl) (h.rows told tree c.in-Ok.ensures.code) h.tuples (h.ahead told tree c.in-Ok.ensures.code)
 
 pub returns-clause-reads : goal.returns-clause-reads
 returns-clause-reads g c =

@@ -6,15 +6,15 @@ use Rattle.session_indexes.proofs.making.make_index.Goals as goal
 
 pub returns-in-Inline-clause-made : goal.returns-in-Inline-clause-made
 returns-in-Inline-clause-made g c =
-    made_for (g.V.Files.state c.args.files.now) (g.V.Files.state c.make_order.new.files) c.args.cat c.args.tuples.now c.args.site.now c.args.tables.now c.args.indexes.now
+    made_for (g.V.Files.state c.args.files.now) (g.V.Files.state c.make_order.new.files) c.args.cat c.args.tuples.now c.args.site.now c.args.tables.now c.args.held.now.indexes
     c.make_order.result c.make_order.ensures.made
 
 pub returns-in-MaxHeap-clause-made : goal.returns-in-MaxHeap-clause-made
 returns-in-MaxHeap-clause-made g c =
-    made_for (g.V.Files.state c.args.files.now) (g.V.Files.state c.make_tree.new.files) c.args.cat c.args.tuples.now c.args.site.now c.args.tables.now c.args.indexes.now
+    made_for (g.V.Files.state c.args.files.now) (g.V.Files.state c.make_tree.new.files) c.args.cat c.args.tuples.now c.args.site.now c.args.tables.now c.args.held.now.indexes
     c.make_tree.result c.make_tree.ensures.made
 
 pub returns-in-Inline-clause-unrefused : goal.returns-in-Inline-clause-unrefused
 returns-in-Inline-clause-unrefused g c = λ told.
-    unrefused_for c.args.kind Inline c.args.indexes.now (keys_at (g.V.Files.state c.args.files.now) c.args.tuples.now c.args.site.now) c.make_order.result c.in-Inline.is
+    unrefused_for c.args.kind Inline c.args.held.now.indexes (keys_at (g.V.Files.state c.args.files.now) c.args.tuples.now c.args.site.now) c.make_order.result c.in-Inline.is
     (c.make_order.ensures.unrefused told)

@@ -46,7 +46,7 @@ returns-in-Ok-put_entry-clause-made g c =
     let n = c.in-Some.table in
     let xs = c.args.indexes.now in
     let nobodys = free_nobodys xs n (sym c.free_table.ensures ∙ c.in-Some.is) in
-    let u = subst (λ (s : State). PutsIndex s s2 c.args.cat site.slot (Some (index_for site MemHash))) c.in-Ok.ensures.same c.in-Ok-put_entry.ensures.put in
+    let u = subst (λ (s : State). PutsIndex s s2 c.args.cat site.slot (Some (index_for site MemHash))) c.in-Ok.ensures.frame.same c.in-Ok-put_entry.ensures.put in
     let number = allowed_number MemHash t site.attribute c.requires.allowed in
     table_made s0 s2 c.args.tables.now c.fill.new.self xs c.args.cat t site n c.requires.ready u
     (λ told. c.in-Ok.ensures.keys told ∙ keys_by s0 t site.attribute number c.requires.ready.holds told c.column-column.result c.count-slots.result c.column-column.ensures.column c.count-slots.ensures.slots)

@@ -21,5 +21,5 @@ returns-clause-drafted g c =
     let s3 = g.V.Files.state c.build.new.files in
     let ks = keys c.args.attribute (rows s0.files c.args.tuples.now) in
     subst (λ (name : List ℕ). DraftsTree s0 s3 name ks) c.tree_file.ensures
-    (drafted s0 s1 s2 s3 _ _ _ c.column-2.result c.count-slots.result ks c.in-Ok.ensures.same c.in-Ok-draft.ensures.begun c.in-Ok-build.ensures.only c.in-Ok-build.ensures.tree
+    (drafted s0 s1 s2 s3 _ _ _ c.column-2.result c.count-slots.result ks c.in-Ok.ensures.frame.same c.in-Ok-draft.ensures.begun c.in-Ok-build.ensures.only c.in-Ok-build.ensures.tree
     (λ told. keys_by s0 c.args.tuples.now c.args.attribute c.requires.number c.requires.holds told c.column-2.result c.count-slots.result c.column-2.ensures.column c.count-slots.ensures.slots))

@@ -5,7 +5,7 @@ use Rattle.session_plans.proofs.naming.places_of.Given as goal
 
 abbrev pub invariant-loop-at : goal.invariant-loop-at
 invariant-loop-at l = record {
-  places : all.places_of l.attributes l.names ≡ option_map (λ ps. l.places ++ ps) (all.places_of l.attributes (drop l.at l.names));
+  places : all.places_named l.attributes l.names ≡ option_map (λ ps. l.places ++ ps) (all.places_named l.attributes (drop l.at l.names));
   missing : first_false 0 (map (is_attribute l.attributes) l.names) ≡ first_false l.at (map (is_attribute l.attributes) (drop l.at l.names));
   room : length l.places ≡ l.at;
 }

@@ -5,7 +5,7 @@ use Rattle.aggregate.specs.Fold.{Folds, wants_pass}
 use Rattle.session_queries.specs.declared.tally.Tally.{Tally}
 use Rattle.std.specs.Prelude.{IsFalse}
 use Rattle.session_model.proofs.Running.{same_default}
-use Rattle.session_plans.specs.Aggregates.{answers, column}
+use Rattle.session_plans.specs.Aggregates.{answers, column_values}
 use Rattle.session_queries.specs.Folded.{item_at, no_tally, tally_at}
 use Rattle.session_queries.proofs.FoldSteps.{answers_more}
 use Rattle.session_queries.proofs.folding.answers_of.Goals as goal
@@ -23,7 +23,7 @@ loop-i-preserved c =
       size = let e = ap (λ (l : List (Option ℤ)). length l) c.push.ensures in omega (arith, e, length-append c.loop-i.answers (c.answer.result ∷ []), inv.size);
       few = inv.few;
       told = λ all aggs are done.
-          let cells = column (item_at items i).1 all in
+          let cells = column_values (item_at items i).1 all in
           let known : Folds cells [] tally.fold = subst (λ (t : Tally). Folds cells [] t.fold) (sym read) (are i c.loop-i-test.true) in
           let ended : IsFalse (wants_pass tally.fold) = subst (λ (t : Tally). IsFalse (wants_pass t.fold)) (sym read) (done i c.loop-i-test.true) in
           let agg : tally.fold.agg ≡ (item_at items i).0 = ap (λ (t : Tally). t.fold.agg) read ∙ aggs i c.loop-i-test.true in

@@ -2,7 +2,7 @@ use Rattle.std.proofs.Common.{rules, arith, ◌<◌, length, sym, ◌∙◌, sub
 use Rattle.std.specs.Prelude.{IsFalse}
 use Rattle.std.proofs.Math.Logic.{⊎_elim}
 use Rattle.session_queries.specs.declared.tally.Tally.{Tally}
-use Rattle.session_queries.specs.Folded.{Ends, tally_at}
+use Rattle.session_queries.specs.Folded.{EndsPass, tally_at}
 use Rattle.session_queries.proofs.FoldSteps.{either_false, either_true, median_of, set_before, set_behind, tally_read}
 use Rattle.session_queries.proofs.folding.end_all.Goals as goal
 
@@ -13,11 +13,11 @@ loop-i-preserved c =
     let new = c.end_pass-tally.result in
     let inside : i < length c.loop-i.tallies = omega (arith, inv.many, c.requires.many) in
     let read = tally_read c.args.tallies.now c.loop-i.tallies i c.index-tallies-i.result inside c.index-tallies-i.is inv.behind in
-    let ended = subst (λ (t : Tally). Ends t new) read c.end_pass-tally.ensures in
+    let ended = subst (λ (t : Tally). EndsPass t new) read c.end_pass-tally.ensures in
     record {
       many = search rules;
       behind = set_behind c.args.tallies.now c.loop-i.tallies i new inv.behind;
-      ends = set_before (λ j tally. Ends (tally_at c.args.tallies.now j) tally) c.loop-i.tallies i new inside inv.ends ended;
+      ends = set_before (λ j tally. EndsPass (tally_at c.args.tallies.now j) tally) c.loop-i.tallies i new inside inv.ends ended;
       closed = λ none.
           let neither = either_false c.loop-i.is_open new.is_open (sym c.either-is_open.ensures ∙ none) in
           set_before (λ j tally. IsFalse tally.is_open) c.loop-i.tallies i new inside (inv.closed neither.0) neither.1;

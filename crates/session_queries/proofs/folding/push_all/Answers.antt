@@ -2,7 +2,7 @@ use Rattle.std.proofs.Common.{rules, arith, ◌<◌, length, subst}
 use Rattle.db_model.specs.declared.values.Value.{Value}
 use Rattle.session_model.specs.View.{value_at}
 use Rattle.session_queries.specs.declared.tally.Tally.{Tally}
-use Rattle.session_queries.specs.Folded.{Takes, item_at, tally_at}
+use Rattle.session_queries.specs.Folded.{TakesValue, item_at, tally_at}
 use Rattle.session_queries.proofs.FoldSteps.{set_before, set_behind, tally_read}
 use Rattle.session_queries.proofs.folding.push_all.Goals as goal
 
@@ -16,7 +16,7 @@ loop-i-preserved c =
     record {
       many = search rules;
       behind = set_behind c.args.tallies.now c.loop-i.tallies i new inv.behind;
-      takes = set_before (λ j tally. Takes (value_at c.args.tuple.now (item_at c.args.items.now j).1) (tally_at c.args.tallies.now j) tally) c.loop-i.tallies i new inside inv.takes
-          (subst (λ (t : Tally). Takes (value_at c.args.tuple.now (item_at c.args.items.now i).1) t new) read
-          (subst (λ (v : Value). Takes v c.index-tallies-i.result new) c.value_at.ensures c.push-tally.ensures));
+      takes = set_before (λ j tally. TakesValue (value_at c.args.tuple.now (item_at c.args.items.now j).1) (tally_at c.args.tallies.now j) tally) c.loop-i.tallies i new inside inv.takes
+          (subst (λ (t : Tally). TakesValue (value_at c.args.tuple.now (item_at c.args.items.now i).1) t new) read
+          (subst (λ (v : Value). TakesValue v c.index-tallies-i.result new) c.value_at.ensures c.push-tally.ensures));
     }

@@ -63,11 +63,12 @@ loop-count-preserved g c =
     let lefts = ap (λ (x : Tuples). rows (g.V.Files.state c.args.files.now).files x) inv.left in
     let rights = ap (λ (x : Tuples). rows (g.V.Files.state c.args.files.now).files x) inv.right in
     record {
-      same = search rules;
-      store = search rules;
-      files_later = omega (arith, inv.files_later, h.cause.files_later);
-      faultless = h.faultless ∙ inv.faultless;
-      keeps = g.met.K.Sink.kept_on c.args.out.now c.loop-count.out c.join_next.new.out inv.keeps h.keeps;
+      same = h.frame.same ∙ inv.same;
+      lent = h.frame.lent ∙ inv.lent;
+      reads_later = omega (arith, inv.reads_later, h.frame.later);
+      files_later = omega (arith, inv.files_later, h.frame.cause.files_later);
+      faultless = h.frame.faultless ∙ inv.faultless;
+      sink_lent = h.frame.sink_lent ∙ inv.sink_lent;
       left = ap (λ (z : JoinCursor). z.left) h.stands ∙ inv.left;
       right = ap (λ (z : JoinCursor). z.right) h.stands ∙ inv.right;
       may_read = rw inv.same at h.may_read;
@@ -100,10 +101,11 @@ returns-clause-wrote g c = λ t f few.
 pub loop-count-init : goal.loop-count-init
 loop-count-init g c = record {
   same = refl;
-  store = refl;
+  lent = refl;
+  reads_later = omega arith;
   files_later = omega arith;
   faultless = refl;
-  keeps = g.met.K.Sink.kept c.args.out.now;
+  sink_lent = refl;
   left = refl;
   right = refl;
   may_read = c.requires.may_read;
@@ -111,6 +113,3 @@ loop-count-init g c = record {
       join_begins (g.V.Files.state c.args.files.now) c.args.tables.now (rows (g.V.Files.state c.args.files.now).files c.args.cursor.now.left) (rows (g.V.Files.state c.args.files.now).files c.args.cursor.now.right)
       c.args.places.now c.args.cursor.now (g.K.Sink.held c.args.out.now) (g.V.Files.reads c.args.files.now) f;
 }
-
-pub returns-in-Err-clause-keeps : goal.returns-in-Err-clause-keeps
-returns-in-Err-clause-keeps g c = g.met.K.Sink.kept_on c.args.out.now c.loop-count.out c.join_next.new.out c.loop-count.invariant.keeps c.in-Err.ensures.keeps

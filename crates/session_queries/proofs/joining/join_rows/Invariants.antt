@@ -1,4 +1,4 @@
-use Rattle.std.proofs.Common.{◌≡◌, ◌≤◌, IsTrue, length}
+use Rattle.std.proofs.Common.{◌≡◌, ◌≤◌, IsTrue}
 use Rattle.cursor.specs.Pairs.{FitsPairs, MayReadPairs}
 use Rattle.tuple_file.specs.Tuples.{rows}
 use Rattle.session_queries.proofs.Paired.{JoinGoes}
@@ -7,10 +7,11 @@ use Rattle.session_queries.proofs.joining.join_rows.Given as goal
 abbrev pub invariant-loop-count : goal.invariant-loop-count
 invariant-loop-count g l = record {
   same : g.V.Files.state l.files ≡ g.V.Files.state l.fn.files;
-  store : length (g.V.Files.state l.files).store ≡ length (g.V.Files.state l.fn.files).store;
+  lent : g.V.Files.lent l.files ≡ g.V.Files.lent l.fn.files;
+  reads_later : g.V.Files.reads l.fn.files ≤ g.V.Files.reads l.files;
   files_later : g.V.Files.faults l.fn.files ≤ g.V.Files.faults l.files;
   faultless : g.K.Sink.faults l.out ≡ g.K.Sink.faults l.fn.out;
-  keeps : g.K.Sink.keeps l.fn.out l.out;
+  sink_lent : g.K.Sink.lent l.out ≡ g.K.Sink.lent l.fn.out;
   left : l.cursor.left ≡ l.fn.cursor.left;
   right : l.cursor.right ≡ l.fn.cursor.right;
   may_read : MayReadPairs (g.V.Files.state l.fn.files) l.cursor;

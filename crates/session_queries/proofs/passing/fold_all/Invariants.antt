@@ -9,7 +9,8 @@ use Rattle.session_queries.proofs.passing.fold_all.Given as goal
 abbrev pub invariant-loop-pass : goal.invariant-loop-pass
 invariant-loop-pass g l = record {
   same : g.V.Files.state l.files ≡ g.V.Files.state l.fn.files;
-  store : length (g.V.Files.state l.files).store ≡ length (g.V.Files.state l.fn.files).store;
+  lent : g.V.Files.lent l.files ≡ g.V.Files.lent l.fn.files;
+  reads_later : g.V.Files.reads l.fn.files ≤ g.V.Files.reads l.files;
   files_later : g.V.Files.faults l.fn.files ≤ g.V.Files.faults l.files;
   tuples : l.cursor.tuples ≡ l.fn.cursor.tuples;
   code : l.cursor.code ≡ l.fn.cursor.code;

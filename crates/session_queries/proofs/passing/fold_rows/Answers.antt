@@ -22,9 +22,10 @@ rows-preserved g c =
     let takes = c.push_all.ensures.takes in
     let went = rw c.in-Ok-Some.field-0-is at h.forward in
     record {
-      same = h.same ∙ inv.same;
-      store = h.store ∙ inv.store;
-      files_later = omega (arith, inv.files_later, h.cause.later);
+      same = h.frame.same ∙ inv.same;
+      lent = h.frame.lent ∙ inv.lent;
+      reads_later = omega (arith, inv.reads_later, h.frame.later);
+      files_later = omega (arith, inv.files_later, h.frame.cause.later);
       tuples = h.tuples ∙ inv.tuples;
       code = h.code ∙ inv.code;
       order = h.order inv.order;
@@ -60,7 +61,8 @@ returns-in-Err-clause-reads g c = λ t f.
 pub rows-init : goal.rows-init
 rows-init g c = record {
   same = refl;
-  store = refl;
+  lent = refl;
+  reads_later = omega arith;
   files_later = omega arith;
   tuples = refl;
   code = refl;

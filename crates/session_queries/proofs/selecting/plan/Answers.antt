@@ -1,5 +1,5 @@
 use Rattle.std.proofs.Common.{refl}
-use Rattle.session_model.specs.View.{relation_in}
+use Rattle.session_model.specs.View.{relation_of_rows}
 use Rattle.session_model.proofs.Views.{named_none, named_some}
 use Rattle.session_queries.proofs.Seen.{select_cost_is}
 use Rattle.session_queries.proofs.selecting.plan.Goals as goal
@@ -10,12 +10,12 @@ returns-in-None-clause-refused c = λ files opens. rw (named_none files c.args.h
 pub returns-in-Ok-clause-rows : goal.returns-in-Ok-clause-rows
 returns-in-Ok-clause-rows c = λ files opens.
     rw (named_some files c.args.held.now opens c.args.relation.now c.in-Some.found.slot c.in-Some.found.tuples c.in-Some.ensures.found.cell)
-    (c.in-Ok.ensures.rows (relation_in files c.in-Some.found.tuples) refl)
+    (c.in-Ok.ensures.rows (relation_of_rows files c.in-Some.found.tuples) refl)
 
 pub returns-in-Err-clause-refused : goal.returns-in-Err-clause-refused
 returns-in-Err-clause-refused c = λ files opens.
     rw (named_some files c.args.held.now opens c.args.relation.now c.in-Some.found.slot c.in-Some.found.tuples c.in-Some.ensures.found.cell)
-    (c.in-Err.ensures.refused (relation_in files c.in-Some.found.tuples) refl)
+    (c.in-Err.ensures.refused (relation_of_rows files c.in-Some.found.tuples) refl)
 
 pub returns-in-Ok-clause-cost : goal.returns-in-Ok-clause-cost
 returns-in-Ok-clause-cost c = λ files opens.

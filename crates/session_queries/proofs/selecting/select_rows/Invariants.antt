@@ -1,4 +1,4 @@
-use Rattle.std.proofs.Common.{◌≡◌, ◌≤◌, ◌-◌, IsTrue, length}
+use Rattle.std.proofs.Common.{◌≡◌, ◌≤◌, ◌-◌, IsTrue}
 use Rattle.index_set.specs.Walks.{Fits}
 use Rattle.cursor.specs.Remaining.{MayRead}
 use Rattle.tuple_file.specs.Tuples.{rows}
@@ -8,10 +8,11 @@ use Rattle.session_queries.proofs.selecting.select_rows.Given as goal
 abbrev pub invariant-rows : goal.invariant-rows
 invariant-rows g l = record {
   same : g.V.Files.state l.files ≡ g.V.Files.state l.fn.files;
-  store : length (g.V.Files.state l.files).store ≡ length (g.V.Files.state l.fn.files).store;
+  lent : g.V.Files.lent l.files ≡ g.V.Files.lent l.fn.files;
+  reads_later : g.V.Files.reads l.fn.files ≤ g.V.Files.reads l.files;
   files_later : g.V.Files.faults l.fn.files ≤ g.V.Files.faults l.files;
   faultless : g.K.Sink.faults l.out ≡ g.K.Sink.faults l.fn.out;
-  keeps : g.K.Sink.keeps l.fn.out l.out;
+  sink_lent : g.K.Sink.lent l.out ≡ g.K.Sink.lent l.fn.out;
   tuples : l.cursor.tuples ≡ l.fn.cursor.tuples;
   order : l.cursor.candidates.from ≤ l.cursor.candidates.end;
   within : l.cursor.candidates.end ≤ l.cursor.candidates.slots;

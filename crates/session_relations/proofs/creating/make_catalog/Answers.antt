@@ -1,7 +1,8 @@
-use Rattle.std.proofs.Common.{arith, ℕ, List, subst}
+use Rattle.std.proofs.Common.{arith, ℕ, List, refl, subst}
 use Rattle.afl_base.specs.declared.kind.Kind.TheVariants.{Fixed}
 use Rattle.afl_base.specs.Files.{Creates}
 use Rattle.stored.proofs.FewFiles.{few_files}
+use Rattle.session_relations.proofs.Keeping.{space_handed}
 use Rattle.session_relations.proofs.Shown.{shows_made}
 use Rattle.session_relations.proofs.creating.make_catalog.Goals as goal
 
@@ -11,9 +12,13 @@ create-requires-clause-place g c =
     let few = few_files s.files c.requires.running.distinct c.requires.running.known in
     omega (arith, few)
 
-pub returns-in-Ok-clause-made : goal.returns-in-Ok-clause-made
-returns-in-Ok-clause-made g c =
+pub returns-clause-made : goal.returns-clause-made
+returns-clause-made g c =
     let old = g.V.Files.state c.args.files.now in
     let new = g.V.Files.state c.create.new.self in
-    shows_made old new c.args.tables.now c.args.held.now c.args.opens.now c.requires.running c.in-Ok.cat c.in-None.is
-    (subst (λ (n : List ℕ). Creates old new c.in-Ok.cat n (Fixed 6)) c.catalog_file.ensures c.in-Ok.ensures.created)
+    shows_made old new c.args.tables.now c.args.held.now c.args.opens.now c.requires.running c.in_ok-cat.cat c.in_default.is
+    (subst (λ (n : List ℕ). Creates old new c.in_ok-cat.cat n (Fixed 6)) c.catalog_file.ensures c.in_ok-cat.ensures.created)
+
+pub returns-in_err-cat-clause-kept : goal.returns-in_err-cat-clause-kept
+returns-in_err-cat-clause-kept g c =
+    space_handed c.create.result c.from_residual.result c.in_err-cat.field-0.0 _ _ c.in_err-cat.was c.from_residual.ensures.1 (λ need kept. (kept, refl, c.in_default.is)) c.create.ensures.kept

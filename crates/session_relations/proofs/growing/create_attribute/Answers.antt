@@ -1,81 +1,88 @@
-use Rattle.std.proofs.Common.{[], Some, ap, ◌∙◌}
+use Rattle.std.proofs.Common.{[], Some, ap, refl, ◌∙◌}
 use Rattle.std.proofs.Math.Logic.{⊎_elim}
+use Rattle.db_model.specs.declared.commands.Command.TheVariants as command
 use Rattle.db_model.specs.Database.{Relation, with_relation}
-use Rattle.db_model.specs.Step.{add_attribute, changed_by}
+use Rattle.db_model.specs.Step.{add_attribute, changed_by, upgraded}
 use Rattle.session_model.specs.declared.held.Held.{Held}
 use Rattle.session_model.specs.Cells.{cell_from}
 use Rattle.session_model.specs.View.{view}
 use Rattle.session_model.proofs.Running.{relation_there}
-use Rattle.session_relations.proofs.Answered.{answers_fine, answers_refused, answers_space, changed_made, changed_missing, changed_refused}
-use Rattle.session_relations.proofs.Causes.{file_failed}
+use Rattle.session_relations.proofs.Answered.{changed_made, changed_missing, changed_refused}
+use Rattle.session_relations.proofs.Carried.{carries_failed, carries_fine, carries_refused, carries_space}
 use Rattle.session_relations.proofs.Found.{wants_found, without_catalog}
 use Rattle.session_relations.proofs.growing.create_attribute.Goals as goal
 
-pub returns-in-None-clause-done : goal.returns-in-None-clause-done
-returns-in-None-clause-done g c =
-    let s0 = g.V.Files.state c.args.files.now in
-    let held = c.args.held.now in
-    let opens = c.args.opens.now in
+pub returns-in-None : goal.returns-in-None
+returns-in-None g c =
+    let base = c.args.base.now in
+    let s0 = g.V.Files.state base.files in
     let relation = c.args.relation.now in
-    λ told. answers_refused _ _ _ (changed_missing s0.files held opens relation (add_attribute c.args.name.now c.args.domain.now)
-    (⊎_elim (λ none. without_catalog s0 c.args.tables.now held opens relation c.requires.running told none) (λ missing. missing) c.in-None.ensures.none))
+    record {
+      carried = carries_refused g.V.Files (command.CreateAttribute c.args.name.now c.args.domain.now relation) base _ c.requires.running
+          (λ told. ap upgraded (changed_missing s0.files base.held base.opens relation (add_attribute c.args.name.now c.args.domain.now)
+          (⊎_elim (λ none. without_catalog s0 base.tables base.held base.opens relation c.requires.running told none) (λ missing. missing) c.in-None.ensures.none)));
+    }
 
 pub grown_at-requires-clause-holds : goal.grown_at-requires-clause-holds
 grown_at-requires-clause-holds g c = λ t there.
-    (relation_there (g.V.Files.state c.args.files.now) c.args.tables.now c.args.held.now c.args.opens.now c.requires.running c.in-Some.at.slot t there).holds
+    let base = c.args.base.now in
+    (relation_there (g.V.Files.state base.files) base.tables base.held base.opens c.requires.running c.in-Some.at.slot t there).holds
 
-pub returns-in-Err-clause-done : goal.returns-in-Err-clause-done
-returns-in-Err-clause-done g c =
-    let files = (g.V.Files.state c.args.files.now).files in
-    let held = c.args.held.now in
-    let opens = c.args.opens.now in
+pub returns-in-Err : goal.returns-in-Err
+returns-in-Err g c =
+    let base = c.args.base.now in
+    let files = (g.V.Files.state base.files).files in
+    let relation = c.args.relation.now in
     let found = c.in-Some.ensures.there in
-    λ told. answers_refused _ _ _ (changed_refused files held opens c.args.relation.now (add_attribute c.args.name.now c.args.domain.now) c.in-Some.at.slot found.0 c.in-Err.refusal found.2
-    (c.in-Err.ensures.refused (view files held opens) found.0 found.1))
+    record {
+      carried = carries_refused g.V.Files (command.CreateAttribute c.args.name.now c.args.domain.now relation) base c.in-Err.refusal c.requires.running
+          (λ told. ap upgraded (changed_refused files base.held base.opens relation (add_attribute c.args.name.now c.args.domain.now) c.in-Some.at.slot found.0 c.in-Err.refusal found.2
+          (c.in-Err.ensures.refused (view files base.held base.opens) found.0 found.1)));
+    }
 
-pub returns-in-Ok-grow_relation-clause-done : goal.returns-in-Ok-grow_relation-clause-done
-returns-in-Ok-grow_relation-clause-done g c =
-    let files = (g.V.Files.state c.args.files.now).files in
-    let held = c.args.held.now in
-    let opens = c.args.opens.now in
-    let old = view files held opens in
-    let found = c.in-Some.ensures.there in
-    let change = add_attribute c.args.name.now c.args.domain.now in
-    let grown : Relation = record { schema = c.in-Ok.grown.schema; rows = [] } in
-    let made = changed_made files held opens c.args.relation.now change c.in-Some.at.slot found.0 grown found.2 (c.in-Ok.ensures.made old found.0 found.1) in
-    λ told. answers_fine (changed_by change old c.args.relation.now) old _ (with_relation old c.in-Some.at.slot (Some grown)) made (c.in-Ok-grow_relation.ensures.made.seen told)
-
-pub returns-in-Ok-grow_relation-clause-aheads : goal.returns-in-Ok-grow_relation-clause-aheads
-returns-in-Ok-grow_relation-clause-aheads g c = c.in-Ok-grow_relation.ensures.made.aheads
-
-pub returns-in-Err-Space-clause-done : goal.returns-in-Err-Space-clause-done
-returns-in-Err-Space-clause-done g c =
-    let files = (g.V.Files.state c.args.files.now).files in
-    let held = c.args.held.now in
-    let opens = c.args.opens.now in
-    let old = view files held opens in
+pub returns-in-Ok-grow_relation : goal.returns-in-Ok-grow_relation
+returns-in-Ok-grow_relation g c =
+    let base = c.args.base.now in
+    let files = (g.V.Files.state base.files).files in
+    let old = view files base.held base.opens in
+    let relation = c.args.relation.now in
     let found = c.in-Some.ensures.there in
     let change = add_attribute c.args.name.now c.args.domain.now in
     let grown : Relation = record { schema = c.in-Ok.grown.schema; rows = [] } in
-    let made = changed_made files held opens c.args.relation.now change c.in-Some.at.slot found.0 grown found.2 (c.in-Ok.ensures.made old found.0 found.1) in
-    let kept = rw c.in-Err-Space.field-0-is at c.in-Err-Space.ensures.kept in
-    λ told. answers_space (changed_by change old c.args.relation.now) old _ (with_relation old c.in-Some.at.slot (Some grown)) c.in-Err-Space.need made (kept.seen told)
+    record {
+      carried = carries_fine g.V.Files (command.CreateAttribute c.args.name.now c.args.domain.now relation) (changed_by change old relation) base c.grow_relation.new.files c.grow_relation.new.held refl refl
+          (λ reads. absurd reads) (with_relation old c.in-Some.at.slot (Some grown))
+          (changed_made files base.held base.opens relation change c.in-Some.at.slot found.0 grown found.2 (c.in-Ok.ensures.made old found.0 found.1))
+          c.in-Ok-grow_relation.ensures.made c.grow_relation.ensures.frame;
+    }
 
-pub returns-in-Err-Space-clause-aheads : goal.returns-in-Err-Space-clause-aheads
-returns-in-Err-Space-clause-aheads g c = (rw c.in-Err-Space.field-0-is at c.in-Err-Space.ensures.kept).aheads
-
-pub returns-in-Err-Space-clause-wants : goal.returns-in-Err-Space-clause-wants
-returns-in-Err-Space-clause-wants g c =
-    let s1 = g.V.Files.state c.grow_relation.new.files in
+pub returns-in-Err-Space : goal.returns-in-Err-Space
+returns-in-Err-Space g c =
+    let base = c.args.base.now in
+    let files = (g.V.Files.state base.files).files in
+    let old = view files base.held base.opens in
+    let now = c.grow_relation.new in
+    let relation = c.args.relation.now in
     let found = c.in-Some.ensures.there in
+    let change = add_attribute c.args.name.now c.args.domain.now in
+    let grown : Relation = record { schema = c.in-Ok.grown.schema; rows = [] } in
     let kept = rw c.in-Err-Space.field-0-is at c.in-Err-Space.ensures.kept in
     let same = rw c.in-Err-Space.field-0-is at c.in-Err-Space.ensures.held in
     let asked = rw c.in-Err-Space.field-0-is at c.in-Err-Space.ensures.asked in
-    let h1 = c.grow_relation.new.held in
     let has = ap (λ (h : Held). h.cat) same ∙ c.in-Some.ensures.cat in
-    let cell = ap (λ (h : Held). cell_from c.args.relation.now 0 h.relations) same ∙ found.2 in
-    λ told. wants_found s1 c.args.tables.now h1 c.args.opens.now (g.V.Files.asks c.grow_relation.new.files) c.args.relation.now c.in-Some.at.cat c.in-Some.at.slot c.in-Err-Space.need
-    found.0 kept.running has cell asked
+    let cell = ap (λ (h : Held). cell_from relation 0 h.relations) same ∙ found.2 in
+    record {
+      carried = carries_space g.V.Files (command.CreateAttribute c.args.name.now c.args.domain.now relation) (changed_by change old relation) base now.files now.held refl refl
+          (λ reads. absurd reads) (with_relation old c.in-Some.at.slot (Some grown)) c.in-Err-Space.need
+          (changed_made files base.held base.opens relation change c.in-Some.at.slot found.0 grown found.2 (c.in-Ok.ensures.made old found.0 found.1)) kept
+          (λ told. wants_found (g.V.Files.state now.files) base.tables now.held base.opens (g.V.Files.asks now.files) relation c.in-Some.at.cat c.in-Some.at.slot c.in-Err-Space.need
+          found.0 kept.running has cell asked)
+          (rw c.in-Err-Space.field-0-is at c.in-Err-Space.ensures.frame);
+    }
 
-pub returns-in-Err-Failed-clause-cause : goal.returns-in-Err-Failed-clause-cause
-returns-in-Err-Failed-clause-cause g c = file_failed _ _ _ _ c.in-Err-Failed.field-0-is c.in-Err-Failed.ensures.cause
+pub returns-in-Err-Failed : goal.returns-in-Err-Failed
+returns-in-Err-Failed g c =
+    record {
+      carried = carries_failed g.V.Files (command.CreateAttribute c.args.name.now c.args.domain.now c.args.relation.now) c.args.base.now _ _ (λ reads. absurd reads)
+          (rw c.in-Err-Failed.field-0-is at c.in-Err-Failed.ensures.frame);
+    }

@@ -7,17 +7,17 @@ use Rattle.session_model.specs.Frames.{StaysAt}
 use Rattle.session_model.proofs.Frames.{complete_kept, rows_prepared}
 use Rattle.session_rows.proofs.adding.add_row.Goals as goal
 
-pub returns-in-Ok-write_row-clause-complete : goal.returns-in-Ok-write_row-clause-complete
-returns-in-Ok-write_row-clause-complete g c = λ told complete follow.
+pub returns-clause-complete : goal.returns-clause-complete
+returns-clause-complete g c = λ told complete follow.
     let s0 = g.V.Files.state c.args.files.now in
     let s1 = g.V.Files.state c.prepare_row.new.files in
     let t = c.args.tuples.now in
-    let f = c.in-Ok.ensures.contents in
+    let f = c.in_ok-rooms.ensures.contents in
     let same = rows_prepared s0 s1 (StaysAt t.file c.args.indexes.now) t f told in
     let after = f.spares.tells ∙ told in
     let P : List Row → Type 0 = λ all. AreComplete s1 c.args.tables.now all c.args.indexes.now in
     let Q : List Row → Type 0 = λ all. MayAllFollow all c.args.values.now c.args.indexes.now in
-    c.in-Ok-write_row.ensures.complete after
+    c.in_ok-write_row.ensures.complete after
     (subst P (sym same) (complete_kept s0 s1 t.file (λ k other. f.bytes told k) c.args.tables.now (rows s0.files t) c.args.indexes.now c.requires.away complete))
-    (c.in-Ok.ensures.exact told)
+    (c.in_ok-rooms.ensures.exact told)
     (subst Q (sym same) follow)

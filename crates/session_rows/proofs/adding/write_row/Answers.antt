@@ -1,4 +1,4 @@
-use Rattle.std.proofs.Common.{true, refl, sym, ◌∙◌}
+use Rattle.std.proofs.Common.{rules, true, refl, sym, ◌∙◌}
 use Rattle.afl_base.proofs.FrameLaws.{becomes_spares}
 use Rattle.db_model.specs.Row.{Row}
 use Rattle.tuple_file.specs.Tuples.{rows}
@@ -31,3 +31,13 @@ returns-clause-complete g c = λ told complete exact follow.
     (complete_kept s0 s1 t.file bytes c.args.tables.now all c.args.indexes.now c.requires.away complete)
     (exact_kept s0 s1 t.file bytes c.args.values.now c.args.rooms.now c.args.indexes.now c.requires.away exact)
     follow)
+
+pub returns-clause-added : goal.returns-clause-added
+returns-clause-added g c = record {
+  row = search rules;
+  count = search rules;
+  holds = search rules;
+  held = search rules;
+  others = search rules;
+  tables = search rules;
+}

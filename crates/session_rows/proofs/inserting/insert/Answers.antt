@@ -1,35 +1,45 @@
 use Rattle.std.proofs.Common.{refl, ◌∙◌}
 use Rattle.afl_base.specs.Asked.{asks_few}
+use Rattle.db_model.specs.declared.commands.Command.TheVariants as command
 use Rattle.db_model.specs.Step.{insert_into}
-use Rattle.session_model.proofs.Views.{gives_of_one, named_none}
+use Rattle.session_model.proofs.Views.{named_none}
 use Rattle.session_model.proofs.Wanted.{wants_row}
-use Rattle.session_rows.proofs.Changes.{one_of}
+use Rattle.session_rows.proofs.Carried.{carries_failed, carries_of_one, carries_refused}
 use Rattle.session_rows.proofs.Wants.{no_space}
 use Rattle.session_rows.proofs.inserting.insert.Goals as goal
 
-pub returns-in_default-clause-done : goal.returns-in_default-clause-done
-returns-in_default-clause-done g c = λ told.
-    (rw (named_none (g.V.Files.state c.args.files.now).files c.args.held.now c.args.opens.now c.args.relation.now c.in_default.ensures.found) refl, refl)
+pub returns-in_default : goal.returns-in_default
+returns-in_default g c = record {
+  carried =
+      let base = c.args.base.now in
+      carries_refused g.V.Files (command.Insert c.args.values.now c.args.relation.now) base _ c.requires.running
+      (λ told. rw (named_none (g.V.Files.state base.files).files base.held base.opens c.args.relation.now c.in_default.ensures.found) refl);
+}
 
-pub returns-clause-done : goal.returns-clause-done
-returns-clause-done g c = λ told.
-    let old = g.V.Files.state c.args.files.now in
-    let new = g.V.Files.state c.insert_at.new.files in
-    let held = c.args.held.now in
-    let opens = c.args.opens.now in
-    let k = c.in-Some.k in
-    let t = c.relation_at-tuples.result.now in
-    let there = c.relation_at-tuples.ensures in
-    gives_of_one (insert_into c.args.values.now) old.files new.files held held opens c.args.relation.now k t c.in_ok-answer.answer (c.in-Some.ensures.found t there)
-    (one_of old new c.insert_at.new.tables held opens k t there c.in_ok-answer.ensures.goes_on told) (c.in_ok-answer.ensures.changed told)
+pub returns-in_err-answer : goal.returns-in_err-answer
+returns-in_err-answer g c = record {
+  carried =
+      carries_failed g.V.Files (command.Insert c.args.values.now c.args.relation.now) c.args.base.now _ c.insert_at.result _ c.from_residual.result c.in_err-answer.was c.from_residual.ensures.1
+      (λ reads. absurd reads) c.insert_at.ensures.frame;
+}
 
-pub returns-clause-wants : goal.returns-clause-wants
-returns-clause-wants g c = λ told.
-    let new = g.V.Files.state c.insert_at.new.files in
-    let t = c.relation_at-tuples.result.now in
-    let there = c.relation_at-tuples.ensures in
-    let h = c.in_ok-answer.ensures in
-    no_space c.in_ok-answer.answer _ _
-    (λ need w. wants_row new c.insert_at.new.tables c.args.held.now c.args.opens.now h.goes_on.running (asks_few (g.V.Files.asks c.insert_at.new.files) new.files) c.args.relation.now c.in-Some.k t c.args.values.now need
-    (h.goes_on.tells ∙ told) there (c.in-Some.ensures.found t there) w)
-    (h.wants told)
+pub returns : goal.returns
+returns g c = record {
+  carried =
+      let base = c.args.base.now in
+      let now = c.insert_at.new in
+      let new = g.V.Files.state now.files in
+      let values = c.args.values.now in
+      let relation = c.args.relation.now in
+      let k = c.in-Some.k in
+      let t = c.relation_at-tuples.result.now in
+      let there = c.relation_at-tuples.ensures in
+      let found = c.in-Some.ensures.found t there in
+      let h = c.in_ok-answer.ensures in
+      carries_of_one g.V.Files (command.Insert values relation) (insert_into values) relation base now.files now.tables k t c.in_ok-answer.answer refl refl (λ reads. absurd reads) found there
+      h.changed h.goes_on
+      (λ told. no_space c.in_ok-answer.answer _ _
+      (λ need w. wants_row new now.tables base.held base.opens h.goes_on.running (asks_few (g.V.Files.asks now.files) new.files) relation k t values need (h.goes_on.tells ∙ told) there found w)
+      (h.wants told))
+      h.lacks h.untouched h.frame;
+}

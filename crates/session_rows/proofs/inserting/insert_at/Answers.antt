@@ -6,7 +6,7 @@ use Rattle.index_set.specs.Complete.{AreComplete, AreHeld}
 use Rattle.index_set.specs.Inserts.{AreApart, IsNoTree, KeepsTables}
 use Rattle.tuple_file.specs.Tuples.{rows, slots}
 use Rattle.session_model.specs.Frames.{StaysAt, WantsRow}
-use Rattle.session_model.specs.Indexed.{AreAllowed, index_of, infos_of}
+use Rattle.session_model.specs.Indexed.{AreAllowed, index_of_info, infos_of}
 use Rattle.session_model.specs.View.{view}
 use Rattle.session_model.proofs.Readable.{are_numbers}
 use Rattle.session_model.proofs.Running.{RowsCome, are_allowed, are_apart, are_complete, are_held, away, indexes_seen, relation_there}
@@ -54,7 +54,7 @@ insert_row-requires-clause-away g c =
 pub returns-clause-changed : goal.returns-clause-changed
 returns-clause-changed g c = λ told.
     c.in_ok-answer.ensures.changed told c.args.k (view (g.V.Files.state c.args.files.now).files c.args.held.now c.args.opens.now) refl
-    (indexes_seen c.args.k c.args.tuples.now c.args.held.now.indexes ∙ ap (λ (l : List IndexInfo). map (index_of c.args.k) l) (sym c.indexes_of-indexes.ensures))
+    (indexes_seen c.args.k c.args.tuples.now c.args.held.now.indexes ∙ ap (λ (l : List IndexInfo). map (index_of_info c.args.k) l) (sym c.indexes_of-indexes.ensures))
 
 pub returns-clause-goes_on : goal.returns-clause-goes_on
 returns-clause-goes_on g c =
@@ -70,15 +70,15 @@ returns-clause-goes_on g c =
     let h = c.in_ok-answer.ensures in
     let u : RowsCome old new before after held opens k t = record {
       there = c.requires.there;
-      spared = subst (λ (l : List IndexInfo). Spares old new (StaysAt t.file l)) e h.others;
-      tables = subst (λ (l : List IndexInfo). KeepsTables before after l) e h.tables;
-      holds = h.holds;
+      spared = subst (λ (l : List IndexInfo). Spares old new (StaysAt t.file l)) e h.grows.others;
+      tables = subst (λ (l : List IndexInfo). KeepsTables before after l) e h.grows.tables;
+      holds = h.grows.holds;
       few = h.few;
-      grown = λ n o is reads. h.grown;
-      grow = λ told n o is reads. h.grow told;
-      filled = subst (λ (l : List IndexInfo). AreHeld new after (slots new.files t) l) e h.held;
+      grown = λ n o is reads. h.grows.more;
+      grow = λ told n o is reads. h.grows.grow told;
+      filled = subst (λ (l : List IndexInfo). AreHeld new after (slots new.files t) l) e h.grows.held;
       complete = λ told. subst (λ (l : List IndexInfo). AreComplete new after (rows new.files t) l) e
-          (h.complete told (subst (λ (l : List IndexInfo). AreComplete old before (rows old.files t) l) (sym e) (are_complete old before held opens c.requires.running k t c.requires.there told)));
+          (h.grows.complete told (subst (λ (l : List IndexInfo). AreComplete old before (rows old.files t) l) (sym e) (are_complete old before held opens c.requires.running k t c.requires.there told)));
     } in
     goes_on old new before after held opens k t c.requires.running u
 

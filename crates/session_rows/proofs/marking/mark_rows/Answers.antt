@@ -40,6 +40,8 @@ loop-slot-preserved g c =
           ∙ ap (λ (n : ℕ). marked (drop n items) next) (add-one i)
           ∙ sym (marks_one R items i slot below here)
           ∙ inv.told told;
-      store = h.store ∙ inv.store;
-      later = omega (arith, inv.later, h.cause.later);
+      store = h.frame.store ∙ inv.store;
+      lent = h.frame.lent ∙ inv.lent;
+      faults = omega (arith, inv.faults, h.frame.cause.later);
+      reads = omega (arith, inv.reads, h.frame.later);
     }

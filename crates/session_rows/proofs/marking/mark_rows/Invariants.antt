@@ -13,5 +13,7 @@ invariant-loop-slot g l = record {
   spared : Spares (g.V.Files.state l.fn.files) (g.V.Files.state l.files) (λ k. k ≢ l.tuples.file);
   told : IsTrue (g.V.Files.state l.fn.files).tells → marked (drop l.slot-index l.slot-items) (rows (g.V.Files.state l.files).files l.tuples) ≡ marked l.slot-items (rows (g.V.Files.state l.fn.files).files l.tuples);
   store : length (g.V.Files.state l.files).store ≡ length (g.V.Files.state l.fn.files).store;
-  later : g.V.Files.faults l.fn.files ≤ g.V.Files.faults l.files;
+  lent : g.V.Files.lent l.files ≡ g.V.Files.lent l.fn.files;
+  faults : g.V.Files.faults l.fn.files ≤ g.V.Files.faults l.files;
+  reads : g.V.Files.reads l.fn.files ≤ g.V.Files.reads l.files;
 }

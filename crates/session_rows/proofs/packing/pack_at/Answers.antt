@@ -1,4 +1,4 @@
-use Rattle.std.proofs.Common.{◌≡◌, List, refl, sym, ◌∙◌}
+use Rattle.std.proofs.Common.{◌≡◌, ℕ, List, refl, sym, ◌∙◌}
 use Rattle.afl_base.specs.declared.kind.FileError.TheVariants.{Space, Failed as FileFailed}
 use Rattle.afl_base.proofs.FrameLaws.{becomes_spares}
 use Rattle.index_set.specs.declared.info.IndexInfo.{IndexInfo}
@@ -6,11 +6,14 @@ use Rattle.session_model.specs.Frames.{StaysAt}
 use Rattle.session_model.specs.Indexed.{infos_of}
 use Rattle.session_model.proofs.Readable.{are_numbers}
 use Rattle.session_model.proofs.Running.{relation_there}
-use Rattle.session_model.specs.View.{relation_in}
-use Rattle.session_rows.proofs.Causes.{failed_cause}
+use Rattle.session_model.specs.View.{relation_of_rows}
+use Rattle.session_rows.proofs.Carried.{changes_failed}
 use Rattle.session_rows.proofs.Changes.{keeps_all, relation_same, rows_dropped, waits_on}
 use Rattle.session_rows.proofs.Packs.{is_indexed, is_packed, is_read, may_pack, no_infos, none_counted, some_counted, wants_packed}
 use Rattle.session_rows.proofs.packing.pack_at.Goals as goal
+
+never_space : {need : ℕ} → Space need ≡ FileFailed → ⊥
+never_space e = cc
 
 pub returns-in-Some-clause-changed : goal.returns-in-Some-clause-changed
 returns-in-Some-clause-changed g c = λ told.
@@ -79,13 +82,16 @@ returns-in-Err-Space-clause-wants g c = λ told.
     let new = g.V.Files.state c.pack.new.files in
     let t = c.args.tuples.now in
     let kept = keeps_all old new (StaysAt t.file (infos_of c.args.k t c.args.held.now.indexes)) (rw c.in-Err-Space.field-0-is at c.in-Err-Space.ensures.kept) in
-    wants_packed (relation_in old.files t) (relation_in new.files t) c.in-Err-Space.need
+    wants_packed (relation_of_rows old.files t) (relation_of_rows new.files t) c.in-Err-Space.need
     (relation_same old new c.args.tables.now c.args.held.now c.args.opens.now c.args.k t c.requires.running c.requires.there kept told)
-    (λ all. no_space (rw c.in-Err-Space.field-0-is at (c.in-Err-Space.ensures.never told all)))
+    (λ all. never_space (rw c.in-Err-Space.field-0-is at (c.in-Err-Space.ensures.never told all)))
     ((rw c.in-Err-Space.field-0-is at c.in-Err-Space.ensures.need) told)
-  where
-    no_space : Space c.in-Err-Space.need ≡ FileFailed → ⊥
-    no_space e = cc
 
-pub returns-in-Err-Failed-clause-cause : goal.returns-in-Err-Failed-clause-cause
-returns-in-Err-Failed-clause-cause g c = failed_cause _ _ _ _ c.in-Err-Failed.field-0-is c.in-Err-Failed.ensures.cause
+pub returns-in-Err-Space-clause-idle : goal.returns-in-Err-Space-clause-idle
+returns-in-Err-Space-clause-idle g c = λ told all. absurd (never_space (rw c.in-Err-Space.field-0-is at (c.in-Err-Space.ensures.never told all)))
+
+pub returns-in-Ok-clause-idle : goal.returns-in-Ok-clause-idle
+returns-in-Ok-clause-idle g c = λ told live. c.in-Ok.ensures.same told live
+
+pub returns-in-Err-Failed-clause-frame : goal.returns-in-Err-Failed-clause-frame
+returns-in-Err-Failed-clause-frame g c = changes_failed g.V.Files _ _ _ (rw c.in-Err-Failed.field-0-is at c.in-Err-Failed.ensures.frame)

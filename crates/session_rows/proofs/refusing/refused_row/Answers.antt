@@ -5,7 +5,7 @@ use Rattle.db_model.specs.declared.schemas.Attribute.{Attribute}
 use Rattle.db_model.specs.Step.{unsuited}
 use Rattle.db_model.proofs.SoundRows.{suited}
 use Rattle.tuple_file.specs.Tuples.{rows, slots}
-use Rattle.session_model.specs.View.{relation_in}
+use Rattle.session_model.specs.View.{relation_of_rows}
 use Rattle.session_rows.specs.Refused.{is_table_index}
 use Rattle.session_rows.proofs.Inserts.{Passes, inserts, too_many_entries}
 use Rattle.session_rows.proofs.Ordered.{are_open, have_keys, may_follow}
@@ -19,28 +19,28 @@ few_by : (has some : Bool) (count n : ℕ) → has ≡ some → count ≡ n → 
 few_by has some count n e f (inl h) is = omega (arith, f, h.1)
 few_by has some count n e f (inr h) is = let both : true ≡ false = sym is ∙ sym e ∙ h in absurd (cc)
 
-pub returns-then-count-ge2048-clause-refused : goal.returns-then-count-ge2048-clause-refused
-returns-then-count-ge2048-clause-refused g c = λ told slot db v indexes.
+pub returns-then-count-ge-MOST_ENTRIES-clause-refused : goal.returns-then-count-ge-MOST_ENTRIES-clause-refused
+returns-then-count-ge-MOST_ENTRIES-clause-refused g c = λ told slot db v indexes.
     let state = g.V.Files.state c.args.files.now in
     let t = c.args.tuples.now in
-    let p : Passes c.args.values.now c.args.version slot c.args.indexes.now (relation_in state.files t) = record {
+    let p : Passes c.args.values.now c.args.version slot c.args.indexes.now (relation_of_rows state.files t) = record {
       suited = suits_by t.schema.attributes _ c.args.values.now _ c.unsuited.result c.as_slice.ensures.items c.as_slice-2.ensures.items c.unsuited.ensures c.in_default.is;
       room = omega (arith, c.if-limit-count.false, c.slots_limit-limit.ensures, c.count-count.ensures.rows);
       follows = sym (c.in_ok-last.ensures.fallen told slot) ∙ c.in_default-2.is;
     } in
-    too_many_entries c.args.values.now c.args.version slot c.args.indexes.now (relation_in state.files t) p db v indexes
-    (sym c.has_table.ensures ∙ c.if-has_table.true) (omega (arith, c.if-count-ge2048.true, c.count-count.ensures.rows))
+    too_many_entries c.args.values.now c.args.version slot c.args.indexes.now (relation_of_rows state.files t) p db v indexes
+    (sym c.has_table.ensures ∙ c.if-has_table.true) (omega (arith, c.if-count-ge-MOST_ENTRIES.true, c.count-count.ensures.rows))
 
 pub returns-clause-refused : goal.returns-clause-refused
 returns-clause-refused g c = λ told slot db v indexes.
     let state = g.V.Files.state c.args.files.now in
     let t = c.args.tuples.now in
-    let p : Passes c.args.values.now c.args.version slot c.args.indexes.now (relation_in state.files t) = record {
+    let p : Passes c.args.values.now c.args.version slot c.args.indexes.now (relation_of_rows state.files t) = record {
       suited = suits_by t.schema.attributes _ c.args.values.now _ c.unsuited.result c.as_slice.ensures.items c.as_slice-2.ensures.items c.unsuited.ensures c.in_default.is;
       room = omega (arith, c.if-limit-count.false, c.slots_limit-limit.ensures, c.count-count.ensures.rows);
       follows = sym (c.in_ok-last.ensures.fallen told slot) ∙ c.in_default-2.is;
     } in
-    inserts c.args.values.now c.args.version slot c.args.indexes.now (relation_in state.files t) p db v indexes
+    inserts c.args.values.now c.args.version slot c.args.indexes.now (relation_of_rows state.files t) p db v indexes
     (few_by c.has_table.result (list_any is_table_index c.args.indexes.now) c.count-count.result (length (rows state.files t)) c.has_table.ensures c.count-count.ensures.rows c.else-has_table.either)
 
 pub returns-clause-suits : goal.returns-clause-suits

@@ -68,7 +68,7 @@ returns-clause-goes_on g c =
     let tree = condition_of c.args.condition.now in
     let h = c.in_ok-answer.ensures in
     goes_on old new tables tables held opens c.args.k t c.requires.running
-    (rows_change old new tables held opens c.args.k t c.requires.running c.requires.there h.spared h.holds h.slots (sym (c.least_reader.ensures old.files) ∙ c.in_default.is)
+    (rows_change old new tables held opens c.args.k t c.requires.running c.requires.there h.replaces.others h.replaces.holds h.replaces.count (sym (c.least_reader.ensures old.files) ∙ c.in_default.is)
     (λ told place.
     let complete = subst (λ (l : List IndexInfo). AreIndexesOf old tables (rows old.files t) l) (sym c.indexes_of-indexes.ensures)
     (are_indexes old tables held opens c.requires.running c.args.k t c.requires.there told) in

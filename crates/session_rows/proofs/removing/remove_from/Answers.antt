@@ -1,34 +1,44 @@
 use Rattle.std.proofs.Common.{refl}
+use Rattle.db_model.specs.declared.commands.Command.TheVariants as command
 use Rattle.db_model.specs.Cond.{condition_of}
 use Rattle.db_model.specs.Step.{remove_from as remove_in}
-use Rattle.session_model.proofs.Views.{gives_of_one, named_none}
-use Rattle.session_rows.proofs.Changes.{one_of}
+use Rattle.session_model.proofs.Views.{named_none}
+use Rattle.session_rows.proofs.Carried.{carries_failed, carries_of_one, carries_refused}
 use Rattle.session_rows.proofs.Wants.{no_space, remove_wants}
 use Rattle.session_rows.proofs.removing.remove_from.Goals as goal
 
-pub returns-in_default-clause-done : goal.returns-in_default-clause-done
-returns-in_default-clause-done g c = λ told.
-    (rw (named_none (g.V.Files.state c.args.files.now).files c.args.held.now c.args.opens.now c.args.relation.now c.in_default.ensures.found) refl, refl)
+pub returns-in_default : goal.returns-in_default
+returns-in_default g c = record {
+  carried =
+      let base = c.args.base.now in
+      carries_refused g.V.Files (command.RemoveFrom c.args.relation.now c.args.condition.now) base _ c.requires.running
+      (λ told. rw (named_none (g.V.Files.state base.files).files base.held base.opens c.args.relation.now c.in_default.ensures.found) refl);
+}
 
-pub returns-clause-done : goal.returns-clause-done
-returns-clause-done g c = λ told.
-    let old = g.V.Files.state c.args.files.now in
-    let new = g.V.Files.state c.remove_at.new.files in
-    let held = c.args.held.now in
-    let opens = c.args.opens.now in
-    let k = c.in-Some.k in
-    let t = c.relation_at-tuples.result.now in
-    let there = c.relation_at-tuples.ensures in
-    gives_of_one (remove_in (condition_of c.args.condition.now)) old.files new.files held held opens c.args.relation.now k t c.in_ok-answer.answer (c.in-Some.ensures.found t there)
-    (one_of old new c.args.tables.now held opens k t there c.in_ok-answer.ensures.goes_on told) (c.in_ok-answer.ensures.changed told)
+pub returns-in_err-answer : goal.returns-in_err-answer
+returns-in_err-answer g c = record {
+  carried =
+      carries_failed g.V.Files (command.RemoveFrom c.args.relation.now c.args.condition.now) c.args.base.now _ c.remove_at.result _ c.from_residual.result c.in_err-answer.was c.from_residual.ensures.1
+      (λ reads. absurd reads) c.remove_at.ensures.frame;
+}
 
-pub returns-clause-wants : goal.returns-clause-wants
-returns-clause-wants g c = λ told.
-    let new = g.V.Files.state c.remove_at.new.files in
-    let t = c.relation_at-tuples.result.now in
-    let there = c.relation_at-tuples.ensures in
-    let h = c.in_ok-answer.ensures in
-    no_space c.in_ok-answer.answer _ _
-    (λ need w. remove_wants new c.args.tables.now c.args.held.now c.args.opens.now h.goes_on.running (g.V.Files.asks c.remove_at.new.files) c.args.relation.now c.args.condition.now c.in-Some.k t need
-    (c.in-Some.ensures.found t there) there _ refl w)
-    (h.wants told)
+pub returns : goal.returns
+returns g c = record {
+  carried =
+      let base = c.args.base.now in
+      let files = c.remove_at.new.files in
+      let new = g.V.Files.state files in
+      let condition = c.args.condition.now in
+      let relation = c.args.relation.now in
+      let k = c.in-Some.k in
+      let t = c.relation_at-tuples.result.now in
+      let there = c.relation_at-tuples.ensures in
+      let found = c.in-Some.ensures.found t there in
+      let h = c.in_ok-answer.ensures in
+      carries_of_one g.V.Files (command.RemoveFrom relation condition) (remove_in (condition_of condition)) relation base files base.tables k t c.in_ok-answer.answer refl refl (λ reads. absurd reads) found there
+      h.changed h.goes_on
+      (λ told. no_space c.in_ok-answer.answer _ _
+      (λ need w. remove_wants new base.tables base.held base.opens h.goes_on.running (g.V.Files.asks files) relation condition k t need found there _ refl w)
+      (h.wants told))
+      h.lacks h.untouched h.frame;
+}

@@ -1,12 +1,14 @@
-use Rattle.std.proofs.Common.{◌≡◌, ℕ, List, length, ap, subst, sym, ◌∙◌}
+use Rattle.std.proofs.Common.{◌≡◌, ◌≢◌, ℕ, List, length, ap, subst, sym, ◌∙◌}
 use Rattle.afl_base.specs.Asked.{asks_few}
 use Rattle.afl_base.specs.Files.{size_at}
+use Rattle.afl_base.specs.Frames.{Prepares}
 use Rattle.db_model.specs.Answers.{selected}
 use Rattle.db_model.specs.Row.{Row}
 use Rattle.cursor.specs.Remaining.{selected_slots}
 use Rattle.tuple_file.specs.Tuples.{rows}
 use Rattle.session_model.proofs.Frames.{rows_prepared}
 use Rattle.session_rows.specs.Wanted.{WantsRemoval}
+use Rattle.session_rows.proofs.Changes.{replaces_prepared}
 use Rattle.session_rows.proofs.Removes.{counted, is_removed, is_selected, wants_selected}
 use Rattle.session_rows.proofs.removing.remove_rows.Goals as goal
 
@@ -19,9 +21,9 @@ returns-in-Ok-clause-removed g c = λ told condition code indexes.
     let t = c.args.tuples.now in
     let begun = c.in_ok-cursor.ensures in
     let all = rows old.files t in
-    let is = is_selected old mid c.args.tables.now t c.copy.result c.args.indexes.now c.args.code c.in_ok-cursor.cursor c.in_ok-selected.selected c.copy.ensures begun.same begun.tuples
+    let is = is_selected old mid c.args.tables.now t c.copy.result c.args.indexes.now c.args.code c.in_ok-cursor.cursor c.in_ok-selected.selected c.copy.ensures begun.frame.same begun.tuples
     begun.slots_left begun.fits c.in_ok-selected.ensures.selected told condition code indexes in (
-      is_removed old late new t c.args.code c.select_slots.new.cursor.code c.in_ok-selected.selected (c.in_ok-selected.ensures.same ∙ begun.same) (c.in_ok-selected.ensures.code ∙ begun.code)
+      is_removed old late new t c.args.code c.select_slots.new.cursor.code c.in_ok-selected.selected (c.in_ok-selected.ensures.frame.same ∙ begun.frame.same) (c.in_ok-selected.ensures.code ∙ begun.code)
           c.in-Ok.ensures.rows told condition code is,
       is.count ∙ counted t.schema.attributes condition all,
     )
@@ -35,9 +37,9 @@ returns-in-Err-Space-clause-wants g c = λ told condition code indexes.
     let t = c.args.tuples.now in
     let begun = c.in_ok-cursor.ensures in
     let all = rows old.files t in
-    let is = is_selected old mid c.args.tables.now t c.copy.result c.args.indexes.now c.args.code c.in_ok-cursor.cursor c.in_ok-selected.selected c.copy.ensures begun.same begun.tuples
+    let is = is_selected old mid c.args.tables.now t c.copy.result c.args.indexes.now c.args.code c.in_ok-cursor.cursor c.in_ok-selected.selected c.copy.ensures begun.frame.same begun.tuples
     begun.slots_left begun.fits c.in_ok-selected.ensures.selected told condition code indexes in
-    let same = c.in_ok-selected.ensures.same ∙ begun.same in
+    let same = c.in_ok-selected.ensures.frame.same ∙ begun.frame.same in
     let kept : rows new.files t ≡ all =
     rows_prepared late new _ t (rw c.in-Err-Space.field-0-is at c.in-Err-Space.ensures.space) (ap (λ s. s.tells) same ∙ told) ∙ ap (λ s. rows s.files t) same in
     let asks = asks_few (g.V.Files.asks c.remove_selected.new.files) new.files in
@@ -47,3 +49,12 @@ returns-in-Err-Space-clause-wants g c = λ told condition code indexes.
     count c.in_ok-selected.selected (selected_slots t.schema.attributes condition all) is
     (counted t.schema.attributes condition all ∙ ap (λ (rs : List Row). length (selected t.schema.attributes condition rs)) (sym kept))
     (rw c.in-Err-Space.field-0-is at c.in-Err-Space.ensures.wants))
+
+pub returns-in-Err-Space-clause-replaces : goal.returns-in-Err-Space-clause-replaces
+returns-in-Err-Space-clause-replaces g c =
+    let old = g.V.Files.state c.args.files.now in
+    let new = g.V.Files.state c.remove_selected.new.files in
+    let t = c.args.tuples.now in
+    let space : Prepares old new (λ id. id ≢ t.file) =
+    rw (c.in_ok-selected.ensures.frame.same ∙ c.in_ok-cursor.ensures.frame.same) at (rw c.in-Err-Space.field-0-is at c.in-Err-Space.ensures.space) in
+    replaces_prepared old new t space c.requires.holds

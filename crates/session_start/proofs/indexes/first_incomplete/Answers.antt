@@ -40,5 +40,7 @@ loop-slot-preserved g c =
       kept = λ told. each_next (KeepsSlot start.files held) n (inv.kept told) (to_true c.in_ok-whole.whole (KeepsSlot start.files held n) (kept told) c.if-not-whole.false);
       ready = each_next (IsReadySlot start c.is_whole_slot.new.tables held) n (λ i below. others i (λ same. omega (arith, below, same)) (inv.ready i below)) (ready c.if-not-whole.false);
       reads = omega (arith, inv.reads, reads, reads_next start.files held.relations held.indexes n None inside);
+      lent = search rules;
+      later = search rules;
       faults = search rules;
     }

@@ -11,5 +11,7 @@ invariant-loop-slot g l =
       kept : IsTrue start.tells → (i : ℕ) → i < l.slot → KeepsSlot start.files l.held i;
       ready : (i : ℕ) → i < l.slot → IsReadySlot start l.tables l.held i;
       reads : g.V.Files.reads l.files ≤ g.V.Files.reads l.fn.files + all_reads start.files l.held.relations (take l.slot l.held.indexes);
+      lent : g.V.Files.lent l.files ≡ g.V.Files.lent l.fn.files;
+      later : g.V.Files.reads l.fn.files ≤ g.V.Files.reads l.files;
       faults : g.V.Files.faults l.fn.files ≤ g.V.Files.faults l.files;
     }

@@ -45,5 +45,7 @@ loop-slot-preserved g c =
           (subst (λ (o : Option Tuples). AreRowsOf start.files held.version o) here (to_true c.in_ok-held_rows.held_rows (AreRowsOf start.files held.version (get_or relations n d)) (rows told) c.if-not-held_rows.false));
       holds = each_next (HoldsSlot start held) n inv.holds (subst (λ (o : Option Tuples). HoldsFew start held.version o) here (holds c.if-not-held_rows.false));
       reads = omega (arith, inv.reads, reads, slots_next start.files relations n d inside);
+      lent = search rules;
+      later = search rules;
       faults = search rules;
     }

@@ -11,5 +11,7 @@ invariant-loop-slot g l =
       rows : IsTrue start.tells → (k : ℕ) → k < l.slot → HasRows start.files l.held k;
       holds : (k : ℕ) → k < l.slot → HoldsSlot start l.held k;
       reads : g.V.Files.reads l.files ≤ g.V.Files.reads l.fn.files + 6 * all_slots start.files (take l.slot l.held.relations);
+      lent : g.V.Files.lent l.files ≡ g.V.Files.lent l.fn.files;
+      later : g.V.Files.reads l.fn.files ≤ g.V.Files.reads l.files;
       faults : g.V.Files.faults l.fn.files ≤ g.V.Files.faults l.files;
     }

@@ -4,12 +4,12 @@ use Rattle.session_start.proofs.Opened.{base_is, breaks_of, running_of, sound_of
 use Rattle.session_start.proofs.starting.open_database.Goals as goal
 
 pub hold-held-requires-clause-size : goal.hold-held-requires-clause-size
-hold-held-requires-clause-size g c = rw c.in_ok-catalog.ensures.same (rw c.in-Ok.is at c.in_ok-catalog.ensures.size)
+hold-held-requires-clause-size g c = rw c.in_ok-catalog.ensures.frame.same (rw c.in-Ok.is at c.in_ok-catalog.ensures.size)
 
 pub returns-in-Some-clause-bad : goal.returns-in-Some-clause-bad
 returns-in-Some-clause-bad g c = λ told.
     let state = g.V.Files.state c.args.files.now in
-    let same = c.in_ok-catalog.ensures.same in
+    let same = c.in_ok-catalog.ensures.frame.same in
     let held = c.hold-held.result in
     let found = rw same at c.hold-held.ensures.found in
     let catalog = (rw c.in-Ok.is at c.in_ok-catalog.ensures.catalog) told in
@@ -20,7 +20,7 @@ returns-in-Some-clause-bad g c = λ told.
 pub returns-in-None-clause-sound : goal.returns-in-None-clause-sound
 returns-in-None-clause-sound g c = λ told.
     let state = g.V.Files.state c.args.files.now in
-    let same = c.in_ok-catalog.ensures.same in
+    let same = c.in_ok-catalog.ensures.frame.same in
     let held = c.hold-held.result in
     let found = rw same at c.hold-held.ensures.found in
     let catalog = (rw c.in-Ok.is at c.in_ok-catalog.ensures.catalog) told in
@@ -31,14 +31,14 @@ returns-in-None-clause-sound g c = λ told.
 pub returns-in-None-clause-base : goal.returns-in-None-clause-base
 returns-in-None-clause-base g c = λ told.
     let state = g.V.Files.state c.args.files.now in
-    let found = rw c.in_ok-catalog.ensures.same at c.hold-held.ensures.found in
+    let found = rw c.in_ok-catalog.ensures.frame.same at c.hold-held.ensures.found in
     let catalog = (rw c.in-Ok.is at c.in_ok-catalog.ensures.catalog) told in
     sym (base_is state c.hold-held.result found (c.hold-held.ensures.catalog ∙ catalog))
 
 pub returns-in-None-clause-running : goal.returns-in-None-clause-running
 returns-in-None-clause-running g c =
     let state = g.V.Files.state c.args.files.now in
-    let same = c.in_ok-catalog.ensures.same in
+    let same = c.in_ok-catalog.ensures.frame.same in
     let held = c.hold-held.result in
     let found = rw same at c.hold-held.ensures.found in
     let catalog = rw c.in-Ok.is at c.in_ok-catalog.ensures.catalog in
@@ -49,7 +49,7 @@ returns-in-None-clause-running g c =
 pub returns-in_err-broken-clause-reads : goal.returns-in_err-broken-clause-reads
 returns-in_err-broken-clause-reads g c = λ told.
     let state = g.V.Files.state c.args.files.now in
-    let same = c.in_ok-catalog.ensures.same in
+    let same = c.in_ok-catalog.ensures.frame.same in
     let found = rw same at c.hold-held.ensures.found in
     let catalog = (rw c.in-Ok.is at c.in_ok-catalog.ensures.catalog) told in
     let judged = rw same at c.first_broken_rule.ensures.reads in
@@ -59,7 +59,7 @@ returns-in_err-broken-clause-reads g c = λ told.
 pub returns-in-Some-clause-reads : goal.returns-in-Some-clause-reads
 returns-in-Some-clause-reads g c = λ told.
     let state = g.V.Files.state c.args.files.now in
-    let same = c.in_ok-catalog.ensures.same in
+    let same = c.in_ok-catalog.ensures.frame.same in
     let found = rw same at c.hold-held.ensures.found in
     let catalog = (rw c.in-Ok.is at c.in_ok-catalog.ensures.catalog) told in
     let judged = rw same at c.first_broken_rule.ensures.reads in
@@ -69,7 +69,7 @@ returns-in-Some-clause-reads g c = λ told.
 pub returns-in-None-clause-reads : goal.returns-in-None-clause-reads
 returns-in-None-clause-reads g c = λ told.
     let state = g.V.Files.state c.args.files.now in
-    let same = c.in_ok-catalog.ensures.same in
+    let same = c.in_ok-catalog.ensures.frame.same in
     let found = rw same at c.hold-held.ensures.found in
     let catalog = (rw c.in-Ok.is at c.in_ok-catalog.ensures.catalog) told in
     let judged = rw same at c.first_broken_rule.ensures.reads in

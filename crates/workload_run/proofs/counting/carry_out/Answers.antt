@@ -1,6 +1,5 @@
-use Rattle.std.proofs.Common.{◌≡◌, ◌≤◌, ◌<◌, Bool, IsTrue, arith, subst, sym, ◌∙◌}
+use Rattle.std.proofs.Common.{◌≡◌, ◌≤◌, ◌<◌, Bool, IsTrue, arith, false, rules, subst, sym, ◌∙◌}
 use Rattle.answering.specs.Carried.{LacksPages}
-use Rattle.antelope_engine.proofs.Carried.{ok_stops}
 use Rattle.db_model.specs.Database.{Database}
 use Rattle.session_model.specs.Wanted.{WantsOver}
 use Rattle.space_model.specs.Enough.{most}
@@ -28,7 +27,7 @@ loop-k-preserved g c =
     let inv = c.loop-k.invariant in
     let e = c.in-Ok-Done.ensures in
     let s = c.exec.new.self in
-    let kept = ok_stops c.in-Ok-Done.field-0 s.lost e.lost in
+    let kept : s.lost ≡ false = search rules in
     let below : c.loop-k.k < 100000 = omega (arith, c.loop-k-test.true, c.requires.few) in
     record {
       going = e.running;
@@ -45,6 +44,7 @@ loop-k-preserved g c =
           rows_next c.args.seed c.loop-k.k c.nth_command.new.command c.nth_command.ensures.command c.args.session.now.database c.loop-k.session.database s.database
           c.loop-k.tally c.count.new.self (inv.rows told) below c.in-Ok-Done.outcome does.1.1 c.count.ensures.counted;
       commands = let more = c.count.ensures.commands in omega (arith, more, inv.commands);
-      store = e.store ∙ inv.store;
-      faults = let later = e.cause.files_later in omega (arith, later, inv.faults);
+      store = e.frame.store ∙ inv.store;
+      lent = e.frame.lent ∙ inv.lent;
+      faults = let later = e.frame.cause.files_later in omega (arith, later, inv.faults);
     }

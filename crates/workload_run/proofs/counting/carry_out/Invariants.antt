@@ -12,5 +12,6 @@ invariant-loop-k g l = record {
   rows : IsTrue (g.V.Files.state l.fn.session.files).tells → l.tally.rows ≤ l.k;
   commands : l.tally.commands ≡ l.k;
   store : length (g.V.Files.state l.session.files).store ≡ length (g.V.Files.state l.fn.session.files).store;
+  lent : g.V.Files.lent l.session.files ≡ g.V.Files.lent l.fn.session.files;
   faults : g.V.Files.faults l.fn.session.files ≤ g.V.Files.faults l.session.files;
 }

@@ -1,27 +1,32 @@
-use Rattle.std.proofs.Common.{◌≡◌, false, None, replicate, sym, subst, refl}
+use Rattle.std.proofs.Common.{◌≡◌, IsTrue, None, replicate, sym, subst, refl}
 use Rattle.afl_base.specs.Files.{State}
-use Rattle.antelope_engine.specs.Seen.{IsSession}
-use Rattle.antelope_engine.proofs.Sessions.{is_session, sound_start}
+use Rattle.db_model.specs.Sound.{IsSoundDatabase}
+use Rattle.session_model.specs.Running.{IsRunning}
+use Rattle.session_model.specs.View.{view}
+use Rattle.antelope_engine.proofs.Sessions.{sound_start}
 use Rattle.antelope_engine.proofs.session.Session.begin.Goals as goal
 
 pub invariant_of-self : goal.invariant_of-self
 invariant_of-self g c =
-    let old = g.V.Files.state c.self.inside.files in
-    let same : g.V.Files.state c.open_database.new.files ≡ old = c.in-Ok-Ok.ensures.same in
+    let old = g.V.Files.state c.self.inside.base.files in
+    let new = g.V.Files.state c.open_database.new.files in
+    let same : new ≡ old = c.in-Ok-Ok.ensures.frame.same in
+    let held = c.in-Ok-Ok.held in
     let running = rw c.in-Ok-Ok.field-0-is at c.in-Ok-Ok.ensures.running in
     let sound = rw c.in-Ok-Ok.field-0-is at c.in-Ok-Ok.ensures.sound in
     let base = rw c.in-Ok-Ok.field-0-is at c.in-Ok-Ok.ensures.base in
-    let P : State → Type 0 = λ s. IsSession s c.open_database.new.tables c.in-Ok-Ok.held (replicate 4 None) false false in
-    rw c.none_open-self-inside.ensures (subst P (sym same)
-    (is_session old c.open_database.new.tables c.in-Ok-Ok.held (replicate 4 None) false false running
-    (λ told. sound_start old c.in-Ok-Ok.held (replicate 4 None) (sound told) (base told)) (λ e. refl)))
+    let runs : IsRunning new c.open_database.new.tables held (replicate 4 None) = subst (λ (s : State). IsRunning s c.open_database.new.tables held (replicate 4 None)) (sym same) running in
+    let is : IsTrue new.tells → IsSoundDatabase (view new.files held (replicate 4 None)) = λ told.
+    let before : IsTrue old.tells = subst (λ (s : State). IsTrue s.tells) same told in
+    subst (λ (s : State). IsSoundDatabase (view s.files held (replicate 4 None))) (sym same) (sound_start old held (replicate 4 None) (sound before) (base before)) in
+    rw c.none_open-self-inside.ensures record { running = λ e. runs; sound = λ e told. is told; going = λ e. refl }
 
 pub returns-in-Ok-Ok-clause-sound : goal.returns-in-Ok-Ok-clause-sound
 returns-in-Ok-Ok-clause-sound g c = rw (← c.self.view_is) (rw c.in-Ok-Ok.field-0-is at c.in-Ok-Ok.ensures.sound)
 
 pub returns-in-Ok-Ok-clause-base : goal.returns-in-Ok-Ok-clause-base
 returns-in-Ok-Ok-clause-base g c =
-    rw (← c.self.view_is) (rw c.none_open-self-inside.ensures (rw c.in-Ok-Ok.ensures.same (rw c.in-Ok-Ok.field-0-is at c.in-Ok-Ok.ensures.base)))
+    rw (← c.self.view_is) (rw c.none_open-self-inside.ensures (rw c.in-Ok-Ok.ensures.frame.same (rw c.in-Ok-Ok.field-0-is at c.in-Ok-Ok.ensures.base)))
 
 pub returns-in-Ok-Ok-clause-reads : goal.returns-in-Ok-Ok-clause-reads
 returns-in-Ok-Ok-clause-reads g c = rw (← c.self.view_is) c.in-Ok-Ok.ensures.reads

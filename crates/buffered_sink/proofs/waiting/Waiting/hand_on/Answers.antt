@@ -11,6 +11,6 @@ loop-self-preserved g c =
     let is = ap (λ k. k.bytes) c.self.view_is in
     record {
       hands = hands_more (g.K.Sink.held c.args.out.now) (g.K.Sink.held c.loop-self.out) (g.K.Sink.held c.offer.new.out) c.args.self.now.bytes waits (slice_range own.bytes (own.from + n) own.to) n c.loop-self.invariant.hands c.in-Ok.ensures.bytes (range_less own.bytes own.from own.to n ∙ ap (λ bytes. drop n bytes) is);
-      keeps = g.met.K.Sink.kept_on c.args.out.now c.loop-self.out c.offer.new.out c.loop-self.invariant.keeps c.in-Ok.ensures.keeps;
+      lent = c.in-Ok.ensures.frame.lent ∙ c.loop-self.invariant.lent;
       faults = search rules;
     }

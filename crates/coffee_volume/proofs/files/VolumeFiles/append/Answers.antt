@@ -14,7 +14,7 @@ pub invariant_of-self : goal.invariant_of-self
 invariant_of-self g c =
     let v = c.args.self.now in
     let s : Stands g.F.Flash.tells v.failed (g.F.Flash.image v.flash) v.table v.draft = record { count = v.count; big = v.big; regular = v.regular; pending = v.pending; space = v.space; told = v.told } in
-    let k = stands_failed g.F.Flash.tells v.failed (g.F.Flash.image v.flash) (g.F.Flash.image c.append_file.new.flash) v.table v.draft s c.append_file.ensures.size in
+    let k = stands_failed g.F.Flash.tells v.failed (g.F.Flash.image v.flash) (g.F.Flash.image c.append_file.new.flash) v.table v.draft s c.append_file.ensures.frame.size in
     record { count = k.count; big = k.big; regular = k.regular; pending = k.pending; space = k.space; told = k.told }
 
 pub invariant_of-self-2 : goal.invariant_of-self-2
@@ -32,9 +32,9 @@ invariant_of-self-2 g c =
     let room : length bytes ≤ e.room = omega (arith, c.requires.room, ap (λ (f : File). f.room) c.entry-entry.ensures.file) in
     let fits : e.at.size + length bytes + 32 ≤ 256 * e.at.pages = omega (arith, room, regular.room.fits) in
     let f : Entry = record { at = record e.at { size = e.at.size + length bytes; used = n }; records = e.records; room = 0 } in
-    let k = stands_same g.F.Flash.tells v.failed old new v.table v.draft i e f s c.append_file.ensures.size c.number.ensures.below is refl
+    let k = stands_same g.F.Flash.tells v.failed old new v.table v.draft i e f s c.append_file.ensures.frame.size c.number.ensures.below is refl
     (regular_appended _ e n (e.at.size + length bytes) (length bytes) regular refl c.requires.some room c.in_ok-used.ensures.few c.in_ok-used.ensures.unlogged)
-    (λ told no. (append_sets old new v.table v.draft i e n bytes (v.told told no) is c.append_file.ensures.size c.requires.some fits c.requires.last
+    (λ told no. (append_sets old new v.table v.draft i e n bytes (v.told told no) is c.append_file.ensures.frame.size c.requires.some fits c.requires.last
     (λ none. c.in_ok-used.ensures.unlogged none ∙ regular.fits.unused none) (c.in_ok-used.ensures.becomes told)).holds) in
     record { count = k.count; big = k.big; regular = k.regular; pending = k.pending; space = k.space; told = k.told }
 
@@ -52,7 +52,7 @@ returns-clause-appended g c =
     let inside : id < length v.table = omega (arith, v.count, c.number.ensures.below, c.number.ensures.value) in
     rw c.number.ensures.value
     (append_becomes (g.F.Flash.tells && not v.failed) old new _ v.table v.draft id e c.in_ok-used.used bytes inside c.entry-entry.ensures.entry v.pending
-    (where_told g.F.Flash.tells v.failed _ v.told) c.append_file.ensures.size c.requires.some fits c.requires.last
+    (where_told g.F.Flash.tells v.failed _ v.told) c.append_file.ensures.frame.size c.requires.some fits c.requires.last
     (λ none. c.in_ok-used.ensures.unlogged none ∙ regular.fits.unused none)
     (λ told. c.in_ok-used.ensures.becomes (told_by g.F.Flash.tells v.failed told).0))
 
@@ -89,5 +89,5 @@ returns-clause-units g c = λ told.
     let both = told_by g.F.Flash.tells v.failed told in
     let room : length bytes ≤ e.room = omega (arith, c.requires.room, ap (λ (f : File). f.room) c.entry-entry.ensures.file) in
     let fits : e.at.size + length bytes + 32 ≤ 256 * e.at.pages = omega (arith, room, regular.room.fits) in
-    (append_sets old new v.table v.draft c.args.id e c.in_ok-used.used bytes (v.told both.0 both.1) c.entry-entry.ensures.entry c.append_file.ensures.size c.requires.some fits c.requires.last
+    (append_sets old new v.table v.draft c.args.id e c.in_ok-used.used bytes (v.told both.0 both.1) c.entry-entry.ensures.entry c.append_file.ensures.frame.size c.requires.some fits c.requires.last
     (λ none. c.in_ok-used.ensures.unlogged none ∙ regular.fits.unused none) (c.in_ok-used.ensures.becomes both.0)).units

@@ -5,7 +5,7 @@ use Rattle.coffee_layout.specs.declared.file.FileAt.{FileAt}
 use Rattle.coffee_merge.specs.Holding.{Holds}
 use Rattle.coffee_volume.specs.Volumes.{places}
 use Rattle.coffee_volume.proofs.Tables.{told_by}
-use Rattle.coffee_volume.proofs.Takings.{none_taken}
+use Rattle.coffee_volume.proofs.Takings.{free_taken}
 use Rattle.coffee_volume.proofs.files.VolumeFiles.draft_write.Goals as goal
 
 pub write_extent-requires-clause-placed : goal.write_extent-requires-clause-placed
@@ -24,7 +24,7 @@ invariant_of-self g c =
     let v = c.args.self.now in
     let after =
     stands_failed g.F.Flash.tells v.failed (g.F.Flash.image v.flash) (g.F.Flash.image c.write_extent.new.flash) v.table v.draft
-    (record { count = v.count; big = v.big; regular = v.regular; pending = v.pending; space = v.space; told = v.told }) c.write_extent.ensures.size in
+    (record { count = v.count; big = v.big; regular = v.regular; pending = v.pending; space = v.space; told = v.told }) c.write_extent.ensures.frame.size in
     record { count = after.count; big = after.big; regular = after.regular; pending = after.pending; space = after.space; told = after.told }
 
 pub invariant_of-self-2 : goal.invariant_of-self-2
@@ -37,7 +37,7 @@ invariant_of-self-2 g c =
       is = c.drafted-draft.ensures;
       range = c.requires.range;
       zeros = c.requires.zeros;
-      size = c.write_extent.ensures.size;
+      size = c.write_extent.ensures.frame.size;
       written = c.in_ok-write_extent.ensures.written;
     }) in
     record { count = after.count; big = after.big; regular = after.regular; pending = after.pending; space = after.space; told = after.told }
@@ -51,7 +51,7 @@ returns-clause-written g c =
       is = c.drafted-draft.ensures;
       range = c.requires.range;
       zeros = c.requires.zeros;
-      size = c.write_extent.ensures.size;
+      size = c.write_extent.ensures.frame.size;
       written = c.in_ok-write_extent.ensures.written;
     })
 
@@ -60,5 +60,5 @@ returns-clause-taken g c = λ told.
     let v = c.args.self.now in
     let old = g.F.Flash.image v.flash in
     let both = told_by g.F.Flash.tells v.failed told in
-    none_taken old (g.F.Flash.image c.write_extent.new.flash)
-    (c.in_ok-write_extent.ensures.taken both.0 (places v.table) c.drafted-draft.result (subst (λ (o : Option FileAt). Holds old (places v.table) o) c.drafted-draft.ensures (v.told both.0 both.1)) refl refl)
+    free_taken old (g.F.Flash.image c.write_extent.new.flash)
+    (c.in_ok-write_extent.ensures.free both.0 (places v.table) c.drafted-draft.result (subst (λ (o : Option FileAt). Holds old (places v.table) o) c.drafted-draft.ensures (v.told both.0 both.1)) refl refl)

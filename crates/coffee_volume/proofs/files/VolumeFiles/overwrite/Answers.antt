@@ -14,7 +14,7 @@ pub invariant_of-self : goal.invariant_of-self
 invariant_of-self g c =
     let v = c.args.self.now in
     let s : Stands g.F.Flash.tells v.failed (g.F.Flash.image v.flash) v.table v.draft = record { count = v.count; big = v.big; regular = v.regular; pending = v.pending; space = v.space; told = v.told } in
-    let k = stands_failed g.F.Flash.tells v.failed (g.F.Flash.image v.flash) (g.F.Flash.image c.overwrite_file.new.flash) v.table v.draft s c.overwrite_file.ensures.size in
+    let k = stands_failed g.F.Flash.tells v.failed (g.F.Flash.image v.flash) (g.F.Flash.image c.overwrite_file.new.flash) v.table v.draft s c.overwrite_file.ensures.frame.size in
     record { count = k.count; big = k.big; regular = k.regular; pending = k.pending; space = k.space; told = k.told }
 
 pub invariant_of-self-2 : goal.invariant_of-self-2
@@ -33,9 +33,9 @@ invariant_of-self-2 g c =
     let few : taken ≤ e.records = omega (arith, c.in_ok-used.ensures.used, c.from-taken.ensures, c.requires.records, ap (λ (f : File). f.records) c.entry-entry.ensures.file) in
     let within : c.args.at + length bytes ≤ e.at.size = omega (arith, c.requires.range, c.entry-entry.ensures.size) in
     let f : Entry = record { at = record e.at { used = n }; records = e.records - taken; room = e.room } in
-    let k = stands_same g.F.Flash.tells v.failed old new v.table v.draft i e f s c.overwrite_file.ensures.size c.number.ensures.below is refl
+    let k = stands_same g.F.Flash.tells v.failed old new v.table v.draft i e f s c.overwrite_file.ensures.frame.size c.number.ensures.below is refl
     (regular_overwritten _ e c.in-Some.log n taken c.entry-entry.ensures.regular c.in-Some.is used few)
-    (λ told no. (overwrite_sets old new v.table v.draft i e c.in-Some.log n c.args.at bytes (v.told told no) is c.overwrite_file.ensures.size c.in-Some.is c.requires.some within
+    (λ told no. (overwrite_sets old new v.table v.draft i e c.in-Some.log n c.args.at bytes (v.told told no) is c.overwrite_file.ensures.frame.size c.in-Some.is c.requires.some within
     (λ all. c.requires.last (all ∙ sym c.entry-entry.ensures.size)) (c.in_ok-used.ensures.becomes told)).holds) in
     record { count = k.count; big = k.big; regular = k.regular; pending = k.pending; space = k.space; told = k.told }
 
@@ -51,7 +51,7 @@ returns-clause-overwritten g c =
     let inside : id < length v.table = omega (arith, v.count, c.number.ensures.below, c.number.ensures.value) in
     rw c.number.ensures.value
     (overwrite_becomes (g.F.Flash.tells && not v.failed) old new _ v.table v.draft id e c.in-Some.log c.in_ok-used.used (e.records - c.from-taken.result) c.args.at bytes inside c.entry-entry.ensures.entry v.pending
-    (where_told g.F.Flash.tells v.failed _ v.told) c.overwrite_file.ensures.size c.in-Some.is c.requires.some within (λ all. c.requires.last (all ∙ sym c.entry-entry.ensures.size))
+    (where_told g.F.Flash.tells v.failed _ v.told) c.overwrite_file.ensures.frame.size c.in-Some.is c.requires.some within (λ all. c.requires.last (all ∙ sym c.entry-entry.ensures.size))
     (λ told. c.in_ok-used.ensures.becomes (told_by g.F.Flash.tells v.failed told).0))
 
 pub returns-clause-records : goal.returns-clause-records
@@ -86,5 +86,5 @@ returns-clause-units g c = λ told.
     let bytes : List ℕ = c.args.bytes.now in
     let both = told_by g.F.Flash.tells v.failed told in
     let within : c.args.at + length bytes ≤ e.at.size = omega (arith, c.requires.range, c.entry-entry.ensures.size) in
-    (overwrite_sets old new v.table v.draft c.args.id e c.in-Some.log c.in_ok-used.used c.args.at bytes (v.told both.0 both.1) c.entry-entry.ensures.entry c.overwrite_file.ensures.size c.in-Some.is c.requires.some within
+    (overwrite_sets old new v.table v.draft c.args.id e c.in-Some.log c.in_ok-used.used c.args.at bytes (v.told both.0 both.1) c.entry-entry.ensures.entry c.overwrite_file.ensures.frame.size c.in-Some.is c.requires.some within
     (λ all. c.requires.last (all ∙ sym c.entry-entry.ensures.size)) (c.in_ok-used.ensures.becomes both.0)).units

@@ -5,7 +5,7 @@ use Rattle.coffee_volume.proofs.files.VolumeFiles.read.Goals as goal
 pub invariant_of-self : goal.invariant_of-self
 invariant_of-self g c =
     let v = c.args.self.now in
-    let same = c.read_file.ensures.same in
+    let same = c.read_file.ensures.frame.same in
     record { count = v.count; big = rw same v.big; regular = rw same v.regular; pending = rw same v.pending; space = v.space; told = rw same v.told }
 
 pub returns-clause-bytes : goal.returns-clause-bytes

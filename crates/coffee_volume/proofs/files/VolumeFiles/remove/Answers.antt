@@ -18,7 +18,7 @@ invariant_of-self-2 g c =
     let idle : v.draft ≡ None = none_drafted (g.F.Flash.tells && not v.failed) old v.draft c.requires.idle in
     let is : IsEntry v.table i e = rw c.number.ensures.value c.entry-file.ensures.entry in
     let inside : i < length v.table = omega (arith, v.count, c.number.ensures.below) in
-    let k = stands_idle g.F.Flash.tells v.failed old new v.table v.draft i None s idle c.retire_file.ensures.size (regular_gone _ v.table i v.regular inside)
+    let k = stands_idle g.F.Flash.tells v.failed old new v.table v.draft i None s idle c.retire_file.ensures.frame.size (regular_gone _ v.table i v.regular inside)
     (λ told no. (c.in_ok-retire_file.ensures.retired told _ i (holds_idle g.F.Flash.tells v.failed old v.table v.draft s idle told no) (in_places v.table i e is)).holds) in
     record { count = k.count; big = k.big; regular = k.regular; pending = k.pending; space = k.space; told = k.told }
 

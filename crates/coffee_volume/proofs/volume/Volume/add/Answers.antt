@@ -7,7 +7,7 @@ use Rattle.coffee_volume.proofs.Drafted.{commit_holds, commit_turns, free_place,
 use Rattle.coffee_volume.proofs.Standing.{Stands, stands_committed, stands_failed, tells_by, where_told}
 use Rattle.coffee_volume.proofs.States.{seen_adds}
 use Rattle.coffee_volume.proofs.Tables.{length_places, new_name, no_entry, regular_new, told_by, unnamed_entries}
-use Rattle.coffee_volume.proofs.Takings.{none_taken}
+use Rattle.coffee_volume.proofs.Takings.{free_taken}
 use Rattle.coffee_volume.proofs.volume.Volume.add.Goals as goal
 
 pub commit_extent-requires : goal.commit_extent-requires
@@ -22,7 +22,7 @@ pub invariant_of-self : goal.invariant_of-self
 invariant_of-self g c =
     let v = c.args.self.now in
     let s : Stands g.F.Flash.tells v.failed (g.F.Flash.image v.flash) v.table v.draft = record { count = v.count; big = v.big; regular = v.regular; pending = v.pending; space = v.space; told = v.told } in
-    let k = stands_failed g.F.Flash.tells v.failed (g.F.Flash.image v.flash) (g.F.Flash.image c.commit_extent.new.flash) v.table v.draft s c.commit_extent.ensures.size in
+    let k = stands_failed g.F.Flash.tells v.failed (g.F.Flash.image v.flash) (g.F.Flash.image c.commit_extent.new.flash) v.table v.draft s c.commit_extent.ensures.frame.size in
     record { count = k.count; big = k.big; regular = k.regular; pending = k.pending; space = k.space; told = k.told }
 
 pub invariant_of-self-2 : goal.invariant_of-self-2
@@ -41,7 +41,7 @@ invariant_of-self-2 g c =
     λ told fine.
     let holds : Holds old (places v.table) (Some d) = subst (λ (o : Option FileAt). Holds old (places v.table) o) c.requires.begun (v.told told fine) in
     c.in_ok-commit_extent.ensures.committed told (places v.table) d i holds refl (omega (arith, inside, length_places v.table)) (free_place v.table i free) (new_name (g.F.Flash.tells && not v.failed) old v.table d.name unnamed) (c.requires.last (tells_by g.F.Flash.tells v.failed told fine)) in
-    let k = stands_committed g.F.Flash.tells v.failed old new v.table v.draft i (roomless d) s c.commit_extent.ensures.size
+    let k = stands_committed g.F.Flash.tells v.failed old new v.table v.draft i (roomless d) s c.commit_extent.ensures.frame.size
     (regular_new (pages_of old) v.table i (roomless d) v.regular inside (no_entry (g.F.Flash.tells && not v.failed) old v.table d.name unnamed) (pending_regular (pages_of old) d pending))
     (λ told fine. commit_holds old new (places v.table) i d pending.used (commits told fine)) in
     record { count = k.count; big = k.big; regular = k.regular; pending = k.pending; space = k.space; told = k.told }
@@ -69,5 +69,5 @@ returns-clause-taken g c = λ told.
     let v = c.args.self.now in
     let old = g.F.Flash.image v.flash in
     let both = told_by g.F.Flash.tells v.failed told in
-    none_taken old (g.F.Flash.image c.commit_extent.new.flash)
-    (c.in_ok-commit_extent.ensures.taken both.0 (places v.table) c.args.draft (subst (λ (o : Option FileAt). Holds old (places v.table) o) c.requires.begun (v.told both.0 both.1)) refl)
+    free_taken old (g.F.Flash.image c.commit_extent.new.flash)
+    (c.in_ok-commit_extent.ensures.free both.0 (places v.table) c.args.draft (subst (λ (o : Option FileAt). Holds old (places v.table) o) c.requires.begun (v.told both.0 both.1)) refl)

@@ -18,14 +18,14 @@ invariant_of-result g c =
     let whole : 256 * pages_of image ≡ length image = omega arith in
     record {
       count = ap length c.in-Ok.ensures.table ∙ mounted_length files most;
-      big = omega (arith, ap length c.check.ensures.same, c.sectors.ensures.most);
-      regular = subst (λ i. AreRegular (pages_of i) c.in-Ok.table) (sym c.check.ensures.same)
+      big = omega (arith, ap length c.check.ensures.frame.same, c.sectors.ensures.most);
+      regular = subst (λ i. AreRegular (pages_of i) c.in-Ok.table) (sym c.check.ensures.frame.same)
           (c.in-Ok.ensures.regular (pages_of image) (subst (λ fs. All (FitsIn (pages_of image)) fs) (sym c.deref.ensures.0) (rw c.in-Ok-Ok.field-0-is at c.in-Ok-Ok.ensures.fits)));
       pending = λ d is. absurd (cc);
       space = λ d is. absurd (cc);
       told = λ tells known.
           let judged : (broken_image image ≡ None) × (c.check.new.table.items ≡ listed image) = (rw c.in-Ok-Ok.field-0-is at c.in-Ok-Ok.ensures.judged) tells in
-          subst (λ i. Holds i (places c.in-Ok.table) None) (sym c.check.ensures.same)
+          subst (λ i. Holds i (places c.in-Ok.table) None) (sym c.check.ensures.frame.same)
           (subst (λ t. Holds image (places t) None) (sym c.in-Ok.ensures.table) (mounted_holds image files (c.deref.ensures.0 ∙ judged.1) judged.0 whole));
     }
 

@@ -8,7 +8,7 @@ use Rattle.coffee_volume.proofs.Drafted.{commit_holds, commit_turns, pending_reg
 use Rattle.coffee_volume.proofs.Standing.{Stands, stands_committed, stands_failed, tells_by, where_told}
 use Rattle.coffee_volume.proofs.States.{seen_replaces}
 use Rattle.coffee_volume.proofs.Tables.{entry_of_name, in_places, one_entry, regular_same, told_by}
-use Rattle.coffee_volume.proofs.Takings.{none_taken}
+use Rattle.coffee_volume.proofs.Takings.{free_taken}
 use Rattle.coffee_volume.proofs.volume.Volume.replace_by.Goals as goal
 
 pub replace_file-requires-clause-page : goal.replace_file-requires-clause-page
@@ -23,7 +23,7 @@ pub invariant_of-self : goal.invariant_of-self
 invariant_of-self g c =
     let v = c.args.self.now in
     let s : Stands g.F.Flash.tells v.failed (g.F.Flash.image v.flash) v.table v.draft = record { count = v.count; big = v.big; regular = v.regular; pending = v.pending; space = v.space; told = v.told } in
-    let k = stands_failed g.F.Flash.tells v.failed (g.F.Flash.image v.flash) (g.F.Flash.image c.replace_file.new.flash) v.table v.draft s c.replace_file.ensures.size in
+    let k = stands_failed g.F.Flash.tells v.failed (g.F.Flash.image v.flash) (g.F.Flash.image c.replace_file.new.flash) v.table v.draft s c.replace_file.ensures.frame.size in
     record { count = k.count; big = k.big; regular = k.regular; pending = k.pending; space = k.space; told = k.told }
 
 pub invariant_of-self-2 : goal.invariant_of-self-2
@@ -44,7 +44,7 @@ invariant_of-self-2 g c =
     λ told fine.
     let holds : Holds old (places v.table) (Some d) = subst (λ (o : Option FileAt). Holds old (places v.table) o) c.requires.begun (v.told told fine) in
     c.in_ok-replace_file.ensures.replaced told (places v.table) d i holds refl (in_places v.table i e is) name (c.requires.last (tells_by g.F.Flash.tells v.failed told fine)) in
-    let k = stands_committed g.F.Flash.tells v.failed old new v.table v.draft i (roomless d) s c.replace_file.ensures.size
+    let k = stands_committed g.F.Flash.tells v.failed old new v.table v.draft i (roomless d) s c.replace_file.ensures.frame.size
     (regular_same (pages_of old) v.table i e (roomless d) v.regular inside is (sym name) (pending_regular (pages_of old) d pending))
     (λ told fine. commit_holds old new (places v.table) i d pending.used (commits told fine)) in
     record { count = k.count; big = k.big; regular = k.regular; pending = k.pending; space = k.space; told = k.told }
@@ -75,5 +75,5 @@ returns-clause-taken g c = λ told.
     let old = g.F.Flash.image v.flash in
     let both = told_by g.F.Flash.tells v.failed told in
     let e : Entry = c.entry-old.result in
-    none_taken old (g.F.Flash.image c.replace_file.new.flash)
-    (c.in_ok-replace_file.ensures.taken both.0 (places v.table) c.args.draft c.args.id (subst (λ (o : Option FileAt). Holds old (places v.table) o) c.requires.begun (v.told both.0 both.1)) refl (in_places v.table c.args.id e c.entry-old.ensures.entry))
+    free_taken old (g.F.Flash.image c.replace_file.new.flash)
+    (c.in_ok-replace_file.ensures.free both.0 (places v.table) c.args.draft c.args.id (subst (λ (o : Option FileAt). Holds old (places v.table) o) c.requires.begun (v.told both.0 both.1)) refl (in_places v.table c.args.id e c.entry-old.ensures.entry))

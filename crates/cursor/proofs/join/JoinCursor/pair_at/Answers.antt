@@ -1,5 +1,5 @@
 use Rattle.std.proofs.Common.{rules, ◌≡◌, ◌+◌, ◌<◌, ◌≤◌, ◌∷◌, [], ◌∙◌, Bool, true, false, cond, ℕ, length, ap, subst, arith, nat_lt}
-use Rattle.std.specs.Prelude.{OnErr, Result, Ok, Err}
+use Rattle.padded.proofs.Facts.{on_err}
 use Rattle.tuple_file.specs.Tuples.{row, rows}
 use Rattle.cursor.specs.Pairs.{FitsPairs, join_cost_ahead, join_cost_behind}
 use Rattle.cursor.proofs.Joins.{fault_cost, left_cost, left_there, no_live, no_right, partner_costs, partner_fault, partner_fits, partner_pairs, row_stands, slot_made}
@@ -43,10 +43,6 @@ returns-then-self-eq0-clause-reads g c = λ told fits.
     left_cost k (rows state.files k.left) (rows state.files k.right) (g.V.Files.reads c.args.files.now) (g.V.Files.reads c.row.new.files) c.requires.here
     (returns-then-self-eq0-clause-next g c told fits) (omega (arith, c.in_ok-row.ensures.reads))
 
-on_err : {A B : Type 0} (r : Result A B) {X : Type 0} → X → OnErr r X
-on_err (Ok a) x = tt
-on_err (Err e) x = x
-
 pub returns-in_err-row-clause-reads_err : goal.returns-in_err-row-clause-reads_err
 returns-in_err-row-clause-reads_err g c = λ told.
     let state = g.V.Files.state c.args.files.now in
@@ -72,7 +68,7 @@ returns-in_err-found-clause-reads_err g c = λ told.
     let stands = row_stands state k t c.in_ok-row.field-0 c.requires.may_read c.requires.here read ∙ ap (λ (b : Bool). cond b (t ∷ []) []) alive in
     let most : FitsPairs k state c.args.tables.now → g.V.Files.reads c.next_partner.new.files + join_cost_behind k lefts rights ≤ g.V.Files.reads c.args.files.now + join_cost_ahead k lefts rights =
     λ fits. partner_fault k lefts rights t stands c.requires.may_read.within few (g.V.Files.reads c.args.files.now) (g.V.Files.reads c.row.new.files) (g.V.Files.reads c.next_partner.new.files) c.requires.here
-    c.in_ok-row.ensures.reads ((rw (c.in_ok-row.ensures.same, c.value_at.ensures) at c.in_err-found.ensures.reads_err) told (fits.indexes some) (fits.inner some)) in
+    c.in_ok-row.ensures.reads ((rw (c.in_ok-row.ensures.frame.same, c.value_at.ensures) at c.in_err-found.ensures.reads_err) told (fits.indexes some) (fits.inner some)) in
     on_err _ most
 
 pub returns-clause-next : goal.returns-clause-next
@@ -89,8 +85,8 @@ returns-clause-next g c = λ told fits.
     let few : k.right_slots ≤ length rights = omega (arith, c.requires.may_read.right_slots some, count_rows state k.right) in
     let stands = row_stands state k t c.in_ok-row.field-0 c.requires.may_read c.requires.here read ∙ ap (λ (b : Bool). cond b (t ∷ []) []) alive in
     partner_pairs k lefts rights t stands c.requires.may_read.within few c.in_ok-found.found c.next_partner.new.into
-    ((rw (c.in_ok-row.ensures.same, c.value_at.ensures) at c.in_ok-found.ensures.next) told (fits.indexes some) (fits.inner some) (fits.ahead some t stands))
-    ((rw c.in_ok-row.ensures.same at c.in_ok-found.ensures.row) told) c.in_ok-found.ensures.below
+    ((rw (c.in_ok-row.ensures.frame.same, c.value_at.ensures) at c.in_ok-found.ensures.next) told (fits.indexes some) (fits.inner some) (fits.ahead some t stands))
+    ((rw c.in_ok-row.ensures.frame.same at c.in_ok-found.ensures.row) told) c.in_ok-found.ensures.below
 
 pub returns-clause-fits : goal.returns-clause-fits
 returns-clause-fits g c = λ told fits.
@@ -103,7 +99,7 @@ returns-clause-fits g c = λ told fits.
     let some : 0 < k.right_slots = search rules in
     let stands = row_stands state k t c.in_ok-row.field-0 c.requires.may_read c.requires.here read ∙ ap (λ (b : Bool). cond b (t ∷ []) []) alive in
     partner_fits k state c.args.tables.now t fits stands c.in_ok-found.found
-    ((rw (c.in_ok-row.ensures.same, c.value_at.ensures) at c.in_ok-found.ensures.stands) told (fits.indexes some) (fits.inner some) (fits.ahead some t stands))
+    ((rw (c.in_ok-row.ensures.frame.same, c.value_at.ensures) at c.in_ok-found.ensures.stands) told (fits.indexes some) (fits.inner some) (fits.ahead some t stands))
 
 pub returns-clause-reads : goal.returns-clause-reads
 returns-clause-reads g c = λ told fits.
@@ -121,7 +117,7 @@ returns-clause-reads g c = λ told fits.
     partner_costs k lefts rights t stands c.requires.may_read.within few c.in_ok-found.found c.next_partner.new.into
     (g.V.Files.reads c.args.files.now) (g.V.Files.reads c.row.new.files) (g.V.Files.reads c.next_partner.new.files) c.requires.here c.in_ok-row.ensures.reads
     (returns-clause-next g c told fits)
-    ((rw (c.in_ok-row.ensures.same, c.value_at.ensures) at c.in_ok-found.ensures.reads) told (fits.indexes some) (fits.inner some))
+    ((rw (c.in_ok-row.ensures.frame.same, c.value_at.ensures) at c.in_ok-found.ensures.reads) told (fits.indexes some) (fits.inner some))
 
 pub returns-clause-left_row : goal.returns-clause-left_row
 returns-clause-left_row g c = λ told.

@@ -15,7 +15,7 @@ loop-at-preserved g c =
     let put = rw (to_z-of_z w32 _ fits) at c.push.ensures.key in
     let slot : c.in-Some.slot ≡ c.loop-at.at = search rules in
     record {
-      same = c.in_ok-key.ensures.same ∙ inv.same;
+      same = c.in_ok-key.ensures.frame.same ∙ inv.same;
       keys = λ told.
           let key = (rw inv.same at c.in_ok-key.ensures.key) told in
           let more = map-range_with_len_more (key_of (g.V.Files.state c.args.files.now) c.args.column.now) 0 c.loop-at.at c.loop-at.at (omega arith) in
@@ -23,7 +23,7 @@ loop-at-preserved g c =
           ∙ ap (λ (k : ℤ). map (key_of (g.V.Files.state c.args.files.now) c.args.column.now) (range_with_len 0 c.loop-at.at) ++ k ∷ []) (key ∙ ap (key_of (g.V.Files.state c.args.files.now) c.args.column.now) slot) ∙ sym more;
       size = (let size = inv.size in ap (λ (ks : List ℤ). length ks) put ∙ length-append (entries c.loop-at.self c.args.table) (c.in_ok-key.key ∷ []) ∙ omega (arith, size));
       other = λ other not. c.push.ensures.other other not ∙ inv.other other not;
-      store = search rules;
+      lent = search rules;
       faults = search rules;
       reads_later = search rules;
       reads = (let less = c.in_ok-key.ensures.reads in let before = inv.reads in omega (arith, less, before));

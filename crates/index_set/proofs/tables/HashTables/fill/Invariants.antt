@@ -12,7 +12,7 @@ invariant-loop-at g l = record {
   keys : IsTrue (g.V.Files.state l.fn.files).tells → entries l.self l.table ≡ map (key_of (g.V.Files.state l.fn.files) l.column) (range_with_len 0 l.at);
   size : length (entries l.self l.table) ≡ l.at;
   other : (other : TableId) → other ≢ l.table → entries l.self other ≡ entries l.fn.self other;
-  store : length (g.V.Files.state l.files).store ≡ length (g.V.Files.state l.fn.files).store;
+  lent : g.V.Files.lent l.files ≡ g.V.Files.lent l.fn.files;
   faults : g.V.Files.faults l.fn.files ≤ g.V.Files.faults l.files;
   reads_later : g.V.Files.reads l.fn.files ≤ g.V.Files.reads l.files;
   reads : g.V.Files.reads l.files ≤ g.V.Files.reads l.fn.files + 6 * l.at;

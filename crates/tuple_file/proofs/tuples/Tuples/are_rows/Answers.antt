@@ -25,9 +25,11 @@ loop-slot-preserved g c =
     let slot : ℕ = c.loop-slot.slot in
     let few : ℕ = c.rows_at_once-few.result in
     record {
-      same = c.in_ok-are_rows_from.ensures.same ∙ inv.same;
+      same = c.in_ok-are_rows_from.ensures.frame.same ∙ inv.same;
+      lent = c.in_ok-are_rows_from.ensures.frame.lent ∙ inv.lent;
+      later = omega (arith, c.in_ok-are_rows_from.ensures.frame.later, inv.later);
       reads = omega (arith, c.in_ok-are_rows_from.ensures.reads, inv.reads);
-      faults = omega (arith, c.in_ok-are_rows_from.ensures.cause.later, inv.faults);
+      faults = omega (arith, c.in_ok-are_rows_from.ensures.frame.cause.later, inv.faults);
       within = omega (arith, c.rows_at_once-few.ensures.within, c.loop-slot-test.true);
       each = λ told k below.
           let judged = (rw inv.same at c.in_ok-are_rows_from.ensures.valid) told in

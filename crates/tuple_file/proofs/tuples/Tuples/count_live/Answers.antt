@@ -9,7 +9,7 @@ use Rattle.tuple_file.proofs.tuples.Tuples.count_live.Goals as goal
 pub loop-slot-init : goal.loop-slot-init
 loop-slot-init g c =
     let bytes = bytes_at (g.V.Files.state c.args.files.now).files c.args.self.now.file in
-    record { same = refl; faults = omega arith; few = omega arith; live = λ told. count_none c.args.self.now.schema.attributes bytes }
+    record { same = refl; lent = refl; later = omega arith; faults = omega arith; few = omega arith; live = λ told. count_none c.args.self.now.schema.attributes bytes }
 
 pub loop-slot-preserved : goal.loop-slot-preserved
 loop-slot-preserved g c =
@@ -19,8 +19,10 @@ loop-slot-preserved g c =
     let read = c.in_ok-is_live in
     let one = bool_below read.field-0 in
     record {
-      same = read.ensures.same ∙ inv.same;
-      faults = omega (arith, read.ensures.cause.later, inv.faults);
+      same = read.ensures.frame.same ∙ inv.same;
+      lent = read.ensures.frame.lent ∙ inv.lent;
+      later = omega (arith, read.ensures.frame.later, inv.later);
+      faults = omega (arith, read.ensures.frame.cause.later, inv.faults);
       few = omega (arith, inv.few, one, c.from.ensures);
       live = λ told.
           ap (λ n. c.loop-slot.live + n) c.from.ensures

@@ -13,5 +13,5 @@ returns-clause-row g c told =
       new,
       answered_one (FnReturnsAt g.F.Fn c.args.removed.now) old tuple c.in_ok-live.live stays (c.in_ok-live.ensures.row told) c.stays-stays.ensures,
       c.in_ok-live.ensures.suits,
-      (rw c.in_ok-live.ensures.same at c.in_ok-draft_row.ensures.written) told,
+      (rw c.in_ok-live.ensures.frame.same at c.in_ok-draft_row.ensures.written) told,
     )

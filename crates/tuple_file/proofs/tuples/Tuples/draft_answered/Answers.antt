@@ -16,6 +16,8 @@ loop-slot-init g c =
     record {
       only = record { begun = c.requires.begun; name = refl; size = refl; files = refl; tells = refl };
       store = refl;
+      lent = refl;
+      later = omega arith;
       faults = omega arith;
       rewritten = λ told.
           subst (λ draft. Rewritten answers attributes (length bytes) (first_rows attributes bytes 0) draft) (sym (c.requires.zeros told))
@@ -46,8 +48,10 @@ loop-slot-preserved g c =
     let inside = slot_inside (row_length attributes) slot (slots files c.args.self.now) (omega (arith, c.loop-slot-test.true, c.requires.count)) in
     record {
       only = record { begun = done.only.begun; name = done.only.name ∙ inv.only.name; size = done.only.size ∙ inv.only.size; files = done.only.files ∙ inv.only.files; tells = done.only.tells ∙ inv.only.tells };
-      store = done.store ∙ inv.store;
-      faults = omega (arith, inv.faults, done.cause.later);
+      store = done.frame.store ∙ inv.store;
+      lent = done.frame.lent ∙ inv.lent;
+      later = omega (arith, inv.later, done.frame.later);
+      faults = omega (arith, inv.faults, done.frame.cause.later);
       rewritten = λ told.
           let said = done.row (inv.only.tells ∙ told) in
           let one = subst (λ (now : Table). IsAnswered answers (row now c.args.self.now slot) said.0) inv.only.files said.1 in

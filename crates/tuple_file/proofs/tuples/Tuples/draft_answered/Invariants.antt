@@ -13,6 +13,8 @@ invariant-loop-slot g l =
     record {
       only : OnlyDraftChanges (g.V.Files.state l.fn.files) (g.V.Files.state l.files);
       store : length (g.V.Files.state l.files).store ≡ length (g.V.Files.state l.fn.files).store;
+      lent : g.V.Files.lent l.files ≡ g.V.Files.lent l.fn.files;
+      later : g.V.Files.reads l.fn.files ≤ g.V.Files.reads l.files;
       faults : g.V.Files.faults l.fn.files ≤ g.V.Files.faults l.files;
       rewritten : IsTrue (g.V.Files.state l.fn.files).tells →
           Rewritten (FnReturnsAt g.F.Fn l.fn.removed) attributes (length bytes) (first_rows attributes bytes l.slot) (draft_in (g.V.Files.state l.files)).bytes;

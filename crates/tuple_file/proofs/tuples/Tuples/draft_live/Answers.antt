@@ -11,6 +11,8 @@ loop-slot-init g c =
     record {
       only = record { begun = c.requires.begun; name = refl; size = refl; files = refl; tells = refl };
       store = refl;
+      lent = refl;
+      later = omega arith;
       faults = omega arith;
       few = omega arith;
       packed = λ told. subst (λ (draft : List ℕ). IsPacked attributes bytes c.args.room 0 0 draft) (sym (c.requires.zeros told)) (packed_none attributes bytes c.args.room);
@@ -31,8 +33,10 @@ loop-slot-preserved g c =
     let done = c.in_ok-written.ensures in
     record {
       only = record { begun = done.only.begun; name = done.only.name ∙ inv.only.name; size = done.only.size ∙ inv.only.size; files = done.only.files ∙ inv.only.files; tells = done.only.tells ∙ inv.only.tells };
-      store = done.store ∙ inv.store;
-      faults = omega (arith, inv.faults, done.cause.later);
+      store = done.frame.store ∙ inv.store;
+      lent = done.frame.lent ∙ inv.lent;
+      later = omega (arith, inv.later, done.frame.later);
+      faults = omega (arith, inv.faults, done.frame.cause.later);
       few = done.few;
       packed = λ told.
           packed_more attributes bytes c.args.room c.loop-slot.slot c.loop-slot.written c.in_ok-written.written

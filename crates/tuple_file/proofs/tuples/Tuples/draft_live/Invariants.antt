@@ -10,6 +10,8 @@ invariant-loop-slot g l =
     record {
       only : OnlyDraftChanges (g.V.Files.state l.fn.files) (g.V.Files.state l.files);
       store : length (g.V.Files.state l.files).store ≡ length (g.V.Files.state l.fn.files).store;
+      lent : g.V.Files.lent l.files ≡ g.V.Files.lent l.fn.files;
+      later : g.V.Files.reads l.fn.files ≤ g.V.Files.reads l.files;
       faults : g.V.Files.faults l.fn.files ≤ g.V.Files.faults l.files;
       few : l.written ≤ l.room;
       packed : IsTrue (g.V.Files.state l.fn.files).tells →

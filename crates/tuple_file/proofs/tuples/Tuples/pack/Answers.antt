@@ -14,7 +14,7 @@ returns-then-live-slots-clause-rows g c told =
     let tuples = c.args.self.now in
     let all = rows (g.V.Files.state c.args.files.now).files tuples in
     let live = c.in_ok-live.ensures.live told in
-    ap (λ (state : State). rows state.files tuples) c.in_ok-live.ensures.same
+    ap (λ (state : State). rows state.files tuples) c.in_ok-live.ensures.frame.same
     ∙ sym (living_all all (sym live ∙ c.if-live-slots.true ∙ c.count-slots.ensures.rows))
 
 pub commit-requires-clause-last : goal.commit-requires-clause-last
@@ -29,7 +29,7 @@ returns-clause-rows g c told =
     let attributes = c.args.self.now.schema.attributes in
     let begun = c.in_ok-begin.ensures.begun in
     let drafted = c.in_ok-draft_live.ensures in
-    let same = c.in_ok-live.ensures.same in
+    let same = c.in_ok-live.ensures.frame.same in
     let begin_told = begun.tells ∙ ap (λ (state : State). state.tells) same ∙ told in
     let files : (g.V.Files.state c.begin.new.files).files ≡ (g.V.Files.state c.args.files.now).files = begun.files ∙ ap (λ (state : State). state.files) same in
     ap (rows_of attributes) (c.in_ok-commit.ensures.committed.bytes (drafted.only.tells ∙ begin_told) ∙ drafted.rows begin_told)

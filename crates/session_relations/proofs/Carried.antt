@@ -1,0 +1,96 @@
+-- What a command makes of the database of a session: a refusal, a change of the catalog, or a failure.
+use Rattle.std.proofs.Common.{◌≡◌, ℕ, Bool, true, false, if◌then◌else◌, Ok, Err, refl, sym, ◌∙◌, subst, arith}
+use Rattle.std.specs.Prelude.{Result}
+use Rattle.afl_base.specs.declared.failed.Failed.{Failed}
+use Rattle.afl_base.specs.declared.files.Files.{Ghosts as FilesOf}
+use Rattle.afl_base.specs.declared.kind.FileError.{FileError}
+use Rattle.afl_base.specs.declared.kind.FileError.TheVariants.{Space, Failed as FileFailed}
+use Rattle.afl_base.specs.Keeping.{ChangesOrLacks}
+use Rattle.db_model.specs.declared.commands.Command.{Command}
+use Rattle.db_model.specs.declared.refusals.Refusal.{Refusal}
+use Rattle.db_model.specs.Ahead.{Aheads, is_refused, moved}
+use Rattle.db_model.specs.Database.{Database}
+use Rattle.db_model.specs.Step.{Fine, Outcome, Reads, outcome, step, upgraded}
+use Rattle.session_model.specs.declared.answer.Answer.TheVariants as answer
+use Rattle.session_model.specs.declared.base.Base.{Base}
+use Rattle.session_model.specs.declared.held.Held.{Held}
+use Rattle.session_model.specs.Answers.{Changed}
+use Rattle.session_model.specs.Carried.{Carries, Runs, Tells, aheads, database}
+use Rattle.session_model.specs.View.{view}
+use Rattle.session_model.specs.Wanted.{WantsFew}
+use Rattle.session_relations.specs.Changes.{Shows}
+use Rattle.session_relations.proofs.Answered.{answers_fine, answers_space}
+
+-- ---- a refusal
+
+pub carries_refused : {V : Type 0} (v : FilesOf V) (command : Command) (base : Base V) (refusal : Refusal) → Runs v base → (Tells v base → outcome (database v base) command ≡ Err refusal)
+    → Carries v command base base (Ok (answer.Refused refusal))
+carries_refused v command base refusal runs refused = record {
+  done = λ told. (refused told, refl);
+  running = runs;
+  ahead = λ told. rw (refused told) refl;
+  tells = refl;
+  wants = λ told. tt;
+  lacks = tt;
+  untouched = refl;
+  same = λ reads. refl;
+  reads = λ told reads. omega arith;
+  frame = record { store = refl; lent = refl; later = omega arith; cause = record { later = omega arith; failed = tt } };
+}
+
+-- ---- a change of the catalog
+
+ahead_stays : (refused : Bool) (before after moved : Aheads) → moved ≡ before → after ≡ before → after ≡ (if refused then before else moved)
+ahead_stays true before after moved stays same = same
+ahead_stays false before after moved stays same = same ∙ sym stays
+
+-- of a base whose files have changed, and what is known of them
+module _ {V : Type 0} (v : FilesOf V) (command : Command) (made : Outcome) (old : Base V) (files : V) (held : Held)
+    (is : outcome (database v old) command ≡ upgraded made) (stays : moved (database v old) (aheads v old) command ≡ aheads v old) (changes : Reads command → ⊥) where
+  pub carries_fine : {T : Type 0} {r : Result T FileError} (db : Database) → made ≡ Ok (db, Fine) → Shows (v.state old.files) (v.state files) old.tables held old.opens (record db { version = 2 })
+      → ChangesOrLacks v.state v.lent v.reads v.faults v.lacks old.files files r → Carries v command old (record old { files = files; held = held }) (Ok answer.Fine)
+  carries_fine db e shows frame = record {
+    done = λ told. is ∙ answers_fine made (database v old) _ db e (shows.seen told);
+    running = shows.running;
+    ahead = λ told. ahead_stays (is_refused ((step (database v old) command).1)) (aheads v old) _ _ stays (shows.aheads told);
+    tells = shows.tells;
+    wants = λ told. tt;
+    lacks = tt;
+    untouched = tt;
+    same = λ reads. absurd (changes reads);
+    reads = λ told reads. absurd (changes reads);
+    frame = record { store = frame.store; lent = frame.lent; later = frame.later; cause = record { later = frame.cause.later; failed = tt } };
+  }
+
+  pub carries_space : {T : Type 0} (db : Database) (need : ℕ) → made ≡ Ok (db, Fine) → Shows (v.state old.files) (v.state files) old.tables held old.opens (database v old)
+      → (Tells v old → WantsFew (v.asks files) (v.state files).files (view (v.state files).files held old.opens) command need)
+      → ChangesOrLacks {T = T} v.state v.lent v.reads v.faults v.lacks old.files files (Err (Space need)) → Carries v command old (record old { files = files; held = held }) (Ok (answer.NoSpace need))
+  carries_space db need e shows wants frame = record {
+    done = λ told. subst (λ (o : Outcome). Changed o (database v old) (view (v.state files).files held old.opens) (answer.NoSpace need)) (sym is) (answers_space made (database v old) _ db need e (shows.seen told));
+    running = shows.running;
+    ahead = λ told. ahead_stays (is_refused ((step (database v old) command).1)) (aheads v old) _ _ stays (shows.aheads told);
+    tells = shows.tells;
+    wants = wants;
+    lacks = frame.lacks;
+    untouched = tt;
+    same = λ reads. absurd (changes reads);
+    reads = λ told reads. absurd (changes reads);
+    frame = record { store = frame.store; lent = frame.lent; later = frame.later; cause = record { later = frame.cause.later; failed = tt } };
+  }
+
+-- ---- a failure
+
+pub carries_failed : {V T : Type 0} (v : FilesOf V) (command : Command) (old new : Base V) (failed : Failed) → (Reads command → ⊥)
+    → ChangesOrLacks {T = T} v.state v.lent v.reads v.faults v.lacks old.files new.files (Err FileFailed) → Carries v command old new (Err failed)
+carries_failed v command old new failed changes frame = record {
+  done = λ told. tt;
+  running = tt;
+  ahead = λ told. tt;
+  tells = tt;
+  wants = λ told. tt;
+  lacks = tt;
+  untouched = tt;
+  same = λ reads. absurd (changes reads);
+  reads = λ told reads. absurd (changes reads);
+  frame = record { store = frame.store; lent = frame.lent; later = frame.later; cause = record { later = frame.cause.later; failed = frame.cause.failed refl } };
+}

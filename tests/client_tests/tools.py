@@ -1,0 +1,149 @@
+"""Tests of the tools: commands by hand, CSV and plots."""
+import os
+import xml.etree.ElementTree
+
+from client_tests.common import EXAMPLES, PROGRAM, made, on_a_pty, program, read, same, station, tool, write
+
+SVG = "{http://www.w3.org/2000/svg}"
+
+
+# The command line
+
+
+def test_commands_are_asked_by_hand():
+    where = station()
+    commands = ("SELECT k FROM s;", "INSERT (9, 'x') INTO s", "REMOVE FROM s", "SELECT MAX(k) FROM s")
+    same(tool("antelope", "ask", where, *commands)[0], "5\n-1\n7\nrows 3\nok\nrows 4\n-\nrows 1\n", "the replies")
+    wrote, _ = tool("antelope", "ask", where, "PACK u", "PACK s", status=1)
+    same(wrote, "no relation\nok\n", "replies with a refusal")
+
+
+def test_each_tool_says_what_it_does():
+    forms = ("", " hub", " ask"), ("", " in", " out")
+    tools = [f"antelope{it}" for it in forms[0]] + [f"antelope_csv{it}" for it in forms[1]] + ["plot", "reader"]
+    for words in map(str.split, tools):
+        same(tool(*words, "--help")[0].startswith("usage: "), True, f"help of {words}")
+        tool(*words, status=2)
+
+
+# CSV
+
+
+def test_rows_go_out_as_csv():
+    where = station()
+    same(tool("antelope_csv", "out", where, "SELECT t, k FROM s")[0], 't,k\nabc,5\n,-1\n"it?,-",7\n', "the CSV")
+    query = "SELECT MIN(k), COUNT(t) FROM s WHERE k > 9"
+    same(tool("antelope_csv", "out", where, query)[0], "MIN(k),COUNT(t)\n,0\n", "aggregates")
+    same(tool("antelope_csv", "out", where, "SELECT k FROM s WHERE k > 9")[0], "k\n", "no rows")
+    tool("antelope_csv", "out", where, "SELECT x FROM s", status=1)
+
+
+def test_csv_comes_in_as_commands():
+    write("rows.csv", "\ufeffk,t\r\n5,abc\r\n\r\n-1,\r\n7,\"it?,-\"\r\n")
+    rows = "INSERT (5, 'abc') INTO s;\nINSERT (-1, '') INTO s;\nINSERT (7, 'it?,-') INTO s;\n"
+    same(tool("antelope_csv", "in", "rows.csv", "s")[0], rows, "the script")
+    made = "CREATE RELATION s;\nCREATE ATTRIBUTE k DOMAIN LONG IN s;\nCREATE ATTRIBUTE t DOMAIN STRING(5) IN s;\n"
+    words = ("in", "rows.csv", "s", "--create", "--domains", "long, STRING(5)")
+    same(tool("antelope_csv", *words)[0], made + rows, "the script with its relation")
+    write("digits.csv", "k;t;u\n5;0077;77\n0;0;-1\n")
+    words = ("in", "digits.csv", "s", "--delimiter", ";")
+    guessed = "INSERT (5, '0077', 77) INTO s;\nINSERT (0, '0', -1) INTO s;\n"
+    same(tool("antelope_csv", *words)[0], guessed, "what is guessed")
+    told = "INSERT ('5', 77, 77) INTO s;\nINSERT ('0', 0, -1) INTO s;\n"
+    same(tool("antelope_csv", *words, "--domains", "STRING(4),INT,LONG")[0], told, "what is told")
+    write("names.csv", "k,t\n")
+    same(tool("antelope_csv", "in", "names.csv", "s")[0], "", "no rows")
+
+
+def test_csv_that_aql_cannot_write_is_refused():
+    for text, domains, says in (
+        ("k,t\n1,a\n2,it's\n", "", "line 3: "),
+        ("k,t\n1,K\u00fcche\n", "", "line 2: "),
+        ("k,t\n1," + "a" * 33 + "\n", "", "line 2: "),
+        ("k,t\n1\n", "", "line 2: 1 values for 2 columns"),
+        ("k,t\n32768,a\n", "INT,STRING(1)", "line 2: '32768' is no number from -32768 to 32767"),
+        ("k,t\n-1,a\n", "TIME,STRING(1)", "line 2: "),
+        ("k,t\n1.5,a\n", "INT,STRING(1)", "line 2: "),
+        ("k,t\n,a\n", "LONG,STRING(1)", "line 2: "),
+        ("k,t\n1,ab\n", "INT,STRING(1)", "line 2: 'ab' has more than 1 characters"),
+        ("k,t\n1,a\n", "INT", "1 domains for 2 columns"),
+        ("k,t\n1,a\n", "INT,TEXT", "'TEXT' is no domain"),
+        ("", "", "no line with names"),
+    ):
+        write("rows.csv", text)
+        words = ("--domains", domains) if domains else ()
+        wrote, said = tool("antelope_csv", "in", "rows.csv", "s", *words, status=1)
+        same((wrote, says in said), ("", True), f"{text!r}: {said}")
+    write("rows.csv", "k t\n1\n")
+    tool("antelope_csv", "in", "rows.csv", "s", "--create", "--domains", "INT", status=1)
+    tool("antelope_csv", "in", "rows.csv", "s", "--create", status=1)
+    tool("antelope_csv", "in", "none.csv", "s", status=1)
+
+
+def test_a_script_of_a_csv_comes_in_parts():
+    write("rows.csv", "k\n" + "".join(f"{it}\n" for it in range(1000)))
+    tool("antelope_csv", "in", "rows.csv", "s", "--parts", "part", "--most", "5000")
+    parts = sorted(it for it in os.listdir(".") if it.endswith(".aql"))
+    same(parts[0], "part-001.aql", "the first name")
+    sizes = [len(read(it)) for it in parts]
+    same((max(sizes) <= 5000, min(sizes[:-1]) > 4950), (True, True), f"sizes {sizes}")
+    wanted = "".join(f"INSERT ({it}) INTO s;\n" for it in range(1000))
+    same(b"".join(read(it) for it in parts).decode() == wanted, True, "the parts together")
+    tool("antelope_csv", "in", "rows.csv", "s", "--most", "5000", status=1)
+
+
+def test_csv_out_and_in_again_is_the_same_database():
+    made("image", read(f"{EXAMPLES}/station.aql").decode())
+    query = "SELECT at, celsius, humidity, sky FROM day"
+    write("day.csv", tool("antelope_csv", "out", f"run:{PROGRAM} serve image -", query)[0])
+    write("image.csv", tool("reader", "image", "--csv", "day")[0])
+    same(read("image.csv"), read("day.csv"), "the rows of the image")
+    words = ("in", "day.csv", "day", "--domains", "TIME, INT, INT, STRING(6)")
+    made("other", tool("antelope_csv", *words, "--create")[0])
+    wanted = program("dump", "image")
+    same(program("dump", "other"), wanted, "the dump")
+    with on_a_pty(script="") as path:
+        tool("antelope_csv", *words, "--create", "--line", path)
+        said = tool("antelope_csv", *words, "--create", "--line", path, status=1)[1]
+        same("0 commands of 27 were carried out" in said, True, said)
+    same(program("dump", "image"), wanted, "the dump of what was sent")
+
+
+# Plots
+
+
+def drawn(where, query):
+    """The places of the points of an SVG, and its texts."""
+    root = xml.etree.ElementTree.fromstring(tool("plot", where, query, "--svg")[0])
+    same(root.tag, f"{SVG}svg", "the root")
+    places = [(float(it.get("cx")), float(it.get("cy"))) for it in root.iter(f"{SVG}circle")]
+    return places, {it.text for it in root.iter(f"{SVG}text")}
+
+
+def test_a_plot_has_a_point_for_each_row():
+    where = station()
+    for query, points in (
+        ("SELECT k, k FROM s", 3),
+        ("SELECT k, k FROM s WHERE k = 5", 1),
+        ("SELECT k, k FROM s WHERE k > 9", 0),
+        ("JOIN s, s ON k PROJECT k, k", 3),
+        ("SELECT MAX(k), COUNT(t) FROM s", 1),
+    ):
+        circles, _ = drawn(where, query)
+        same(len(circles), points, f"points of {query}")
+        same(all(0 <= x <= 800 and 0 <= y <= 480 for x, y in circles), True, f"points of {query} are inside")
+    lines = tool("plot", where, "SELECT k, k FROM s", "--width", "20")[0].splitlines()
+    same(sum(it.count("*") for it in lines), 3, "points in the terminal")
+    same((lines[0], max(map(len, lines)) <= 20, len(lines)), ("k over k, 3 rows", True, 23), "the lines")
+    empty = "SELECT MIN(k), MAX(k) FROM s WHERE k > 9"
+    for query in ("SELECT k FROM s", "SELECT k, t FROM s", empty, "PACK s", "SELECT x FROM s"):
+        tool("plot", where, query, "--svg", status=1)
+
+
+def test_a_plot_puts_points_where_they_belong():
+    schema = "CREATE RELATION s; CREATE ATTRIBUTE k DOMAIN INT IN s; CREATE ATTRIBUTE v DOMAIN INT IN s;"
+    where = station(schema + "INSERT (0, 10) INTO s; INSERT (5, 20) INTO s; INSERT (10, 10) INTO s;")
+    circles, texts = drawn(where, "SELECT k, v FROM s")
+    (first, low), (middle, high), (last, as_low) = circles
+    same((middle - first, low == as_low, high < low), (last - middle, True, True), "the places")
+    same({"0", "10", "20", "k", "v"} <= texts, True, f"numbers and names in {texts}")
