@@ -49,7 +49,7 @@ picked c all =
 
 module _ (c : SelectCursor) (old new : List Row) (grow : RowsGrow old new) (w : Waits c.candidates old) where
   few : c.candidates.from + (c.candidates.slots - c.candidates.from) ≤ length old
-  few = omega (arith, w.few, w.order, w.within)
+  few = omega (arith, w.few, c.candidates.order, c.candidates.within)
 
   pub slots_kept : slots_left c new ≡ slots_left c old
   unfolding picks

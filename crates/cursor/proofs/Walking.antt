@@ -11,7 +11,7 @@ use Rattle.index_set.specs.declared.candidates.Candidates.{Candidates}
 use Rattle.index_set.specs.declared.candidates.Search.{Search}
 use Rattle.index_set.specs.declared.candidates.Search.TheVariants as by
 use Rattle.index_set.specs.Tables.{Tables}
-use Rattle.index_set.specs.Walks.{Fits, ahead, cost_ahead, reads_ahead, reads_by, reads_next}
+use Rattle.index_set.specs.Walks.{Advances, Fits, ahead, cost_ahead, reads_ahead, reads_by, reads_next}
 use Rattle.cursor.specs.Remaining.{cost_of, is_live_and, passed_until, passing}
 use Rattle.cursor.proofs.Lists.{kept, passed_over}
 
@@ -35,6 +35,35 @@ pub record Walking (state : State) (tables : Tables) (all : List Row) (test : Li
 
 pub walk_begins : (state : State) (tables : Tables) (all : List Row) (test : List Value → Bool) (c : Candidates) (reads : ℕ) → Fits c state tables all → Walking state tables all test c c reads reads
 walk_begins state tables all test c reads fits = record { fits = fits; left = refl; few = omega arith; passed = omega arith }
+
+-- a step behind slots that were passed
+pub advances_then : (found : Option ℕ) (before now after : Candidates) → Advances None before now → before.from ≤ now.from → Advances found now after → Advances found before after
+advances_then None before now after first later then_ = record {
+  search = then_.search ∙ first.search;
+  slots = then_.slots ∙ first.slots;
+  below = tt;
+  forward = tt;
+  waits = λ all w. then_.waits all (first.waits all w);
+}
+advances_then (Some slot) before now after first later then_ =
+    let below = then_.below in
+    let slots = first.slots in
+    let forward = then_.forward in
+    let order = forward.0 in
+    record {
+      search = then_.search ∙ first.search;
+      slots = then_.slots ∙ first.slots;
+      below = omega (arith, below, slots);
+      forward = (omega (arith, later, order), forward.1);
+      waits = λ all w. then_.waits all (first.waits all w);
+    }
+
+-- a slot that is passed
+pub passes_by : (slot : ℕ) (before after : Candidates) → Advances (Some slot) before after → Advances None before after
+passes_by slot before after a = record { search = a.search; slots = a.slots; below = tt; forward = tt; waits = a.waits }
+
+pub passes_none : (c : Candidates) → Advances None c c
+passes_none c = record { search = refl; slots = refl; below = tt; forward = tt; waits = λ all w. w }
 
 -- ---- the slots up to the next that is answered
 

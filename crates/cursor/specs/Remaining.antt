@@ -1,16 +1,20 @@
 -- The rows that a cursor of one relation has still to answer.
-use Rattle.std.specs.Prelude.{◌≤◌, ◌<◌, ℕ, ◌+◌, ◌*◌, Bool, ◌&&◌, List, [], filter, get_or, length, map, Option, slice_get}
+use Rattle.std.specs.Prelude.{◌≡◌, ◌≤◌, ◌<◌, ℕ, ◌+◌, ◌*◌, Bool, ◌&&◌, List, [], ◌∷◌, filter, get_or, length, map, Option, None, IfNone, MatchOption, slice_get}
 use Rattle.std.specs.List.{AllByRecursion, range_with_len}
 use Rattle.afl_base.specs.Files.{State}
 use Rattle.db_model.specs.declared.schemas.Attribute.{Attribute}
 use Rattle.db_model.specs.declared.values.Value.{Value}
 use Rattle.db_model.specs.Cond.{Cond}
-use Rattle.db_model.specs.Cost.{passed}
+use Rattle.db_model.specs.Answers.{selected}
+use Rattle.db_model.specs.Cost.{begin_cost, chosen_cost, passed}
 use Rattle.db_model.specs.Item.{selects}
+use Rattle.db_model.specs.Plan.{plan, ranges_of}
 use Rattle.db_model.specs.Row.{Row, no_row}
 use Rattle.index_set.specs.declared.candidates.Candidates.{Candidates}
 use Rattle.index_set.specs.declared.info.IndexInfo.{IndexInfo}
-use Rattle.index_set.specs.Walks.{IsSafeBy, ahead, reads_by}
+use Rattle.index_set.specs.Plans.{kinds, slots_passed}
+use Rattle.index_set.specs.Tables.{Tables}
+use Rattle.index_set.specs.Walks.{Fits, IsChosen, IsSafeBy, ahead, cost_ahead, reads_by}
 use Rattle.lvm.specs.declared.instruction.Instruction.{Instruction}
 use Rattle.lvm.specs.Evaluate.{evaluated, verdict}
 use Rattle.tuple_file.specs.declared.tuples.Tuples.{Tuples}
@@ -58,6 +62,40 @@ next_cost c all = cost_of c.candidates all (length (passed_until (passes c.code)
 -- the slots of the live rows that a condition selects
 abbrev pub selected_slots : List Attribute → Option Cond → List Row → List ℕ
 selected_slots attributes condition all = passing (selects attributes condition) all (range_with_len 0 (length all))
+
+-- ---- where a cursor begins, and its steps
+
+-- by a condition over the rows of a relation: what remains is what the condition selects, and the plan's cost is enough
+pub record BeginsBy (c : SelectCursor) (attributes : List Attribute) (condition : Option Cond) (infos : List IndexInfo) (all : List Row) : Type 0 where
+  pub remaining : remaining c all ≡ selected attributes condition all
+  pub slots_left : slots_left c all ≡ selected_slots attributes condition all
+  pub ahead : ahead c.candidates all ≡ slots_passed (kinds infos) (ranges_of attributes condition) (length all) all
+  pub cost : begin_cost (length all) (plan (kinds infos) (ranges_of attributes condition)) + cost_ahead c.candidates all
+      ≤ chosen_cost (kinds infos) (ranges_of attributes condition) all
+
+-- what it is made of: it rests, over so many slots, by one of the indexes
+pub record IsBegun (c : SelectCursor) (relation : Tuples) (condition : List Instruction) (count : ℕ) (infos : List IndexInfo) : Type 0 where
+  pub tuples : c.tuples ≡ relation
+  pub code : c.code ≡ condition
+  pub slots : c.candidates.slots ≡ count
+  pub rests : c.candidates.place ≡ None
+  pub chosen : IsChosen c.candidates.search infos
+
+-- over these rows, a step of candidates to the next row that is live and passes a test: what is ahead pays for what was read
+pub record StepsTo (found : Option ℕ) (test : List Value → Bool) (old new : Candidates) (state : State) (tables : Tables) (all : List Row) (before after : ℕ) : Type 0 where
+  pub first : MatchOption found (passing test all (ahead old all) ≡ [])
+      (λ slot. passing test all (ahead old all) ≡ slot ∷ passing test all (ahead new all))
+  pub over : IfNone found (ahead new all ≡ [])
+  pub fits : Fits new state tables all
+  pub reads : after + cost_ahead new all ≤ before + cost_ahead old all
+
+-- over these rows, a cursor has answered the first tuple that remained, or there was none
+pub record Yields (found : Option ℕ) (tuple : List Value) (old new : SelectCursor) (state : State) (tables : Tables) (all : List Row) (before after : ℕ) : Type 0 where
+  pub next : MatchOption found (remaining old all ≡ []) (λ _. remaining old all ≡ tuple ∷ remaining new all)
+  pub slot : MatchOption found (slots_left old all ≡ []) (λ slot. slots_left old all ≡ slot ∷ slots_left new all)
+  pub over : IfNone found (remaining new all ≡ [])
+  pub fits : Fits new.candidates state tables all
+  pub reads : after + cost_ahead new.candidates all ≤ before + cost_ahead old.candidates all
 
 -- ---- what holds also where files do not tell
 

@@ -2,7 +2,7 @@
 
 #![tactic(auto)]
 
-ghost use Rattle.std.specs.Prelude.{None, ◌≡◌, ◌+◌, ◌<◌, ◌≤◌, ◌∷◌, [], IfOk, IfSome, IsTrue, MatchOption, OnErr, OnOk, Option, List, length};
+ghost use Rattle.std.specs.Prelude.{None, ◌≡◌, ◌+◌, ◌<◌, ◌≤◌, ◌∷◌, [], IfNone, IfOk, IfSome, IsTrue, MatchOption, OnErr, OnOk, Option, List, length};
 ghost use Rattle.afl_base.specs.Keeping.{OnlyReads};
 ghost use Rattle.db_model.specs.declared.schemas.Attribute.{Attribute};
 ghost use Rattle.db_model.specs.Ahead.{walk_of as walk_by};
@@ -12,11 +12,11 @@ ghost use Rattle.db_model.specs.Cost.{begin_cost, chosen_cost};
 ghost use Rattle.db_model.specs.Plan.{plan, ranges_of};
 ghost use Rattle.db_model.specs.Row.{AllSuit, Row};
 ghost use Rattle.index_set.specs.Complete.{AreIndexesOf, AreReadable};
-ghost use Rattle.index_set.specs.Plans.{kinds, slots_passed};
-ghost use Rattle.index_set.specs.Walks.{Fits, IsChosen, Waits, ahead, cost_ahead, walk_of};
+ghost use Rattle.index_set.specs.Plans.{kinds};
+ghost use Rattle.index_set.specs.Walks.{Advances, Fits, Waits, cost_ahead, walk_of};
 ghost use Rattle.lvm.specs.Code.{IsCodeOf};
 ghost use Rattle.tuple_file.specs.Tuples.{HoldsRows, rows, slots};
-ghost use Rattle.cursor.specs.Remaining.{AreOnNumbers, MayRead, next_cost, remaining, selected_slots, slots_left};
+ghost use Rattle.cursor.specs.Remaining.{AreOnNumbers, BeginsBy, IsBegun, MayRead, Yields, next_cost, remaining, slots_left};
 
 use crate::walk::{Test, next_row};
 use afl_base::{Failed, Files, SlotNo};
@@ -74,22 +74,11 @@ impl SelectCursor {
         requires numbers { AreOnNumbers tuples.schema.attributes indexes.now }
         requires readable { let state = V.state files.old in
             AreReadable state (slots state.files tuples) indexes.now }
-        ensures remaining { let state = V.state files.old in let all = rows state.files tuples in
+        ensures begins { let state = V.state files.old in let all = rows state.files tuples in
             IsTrue state.tells → IfOk result (λ c.
             (condition : Option Cond) → IsCodeOf tuples.schema.attributes condition code
             → AreIndexesOf state tables.now all indexes.now
-            → remaining c all ≡ selected tuples.schema.attributes condition all) }
-        ensures slots_left { let state = V.state files.old in let all = rows state.files tuples in
-            IsTrue state.tells → IfOk result (λ c.
-            (condition : Option Cond) → IsCodeOf tuples.schema.attributes condition code
-            → AreIndexesOf state tables.now all indexes.now
-            → slots_left c all ≡ selected_slots tuples.schema.attributes condition all) }
-        ensures ahead { let state = V.state files.old in let all = rows state.files tuples in
-            let ranges = ranges_of tuples.schema.attributes in
-            IsTrue state.tells → IfOk result (λ c.
-            (condition : Option Cond) → IsCodeOf tuples.schema.attributes condition code
-            → AreIndexesOf state tables.now all indexes.now
-            → ahead c.candidates all ≡ slots_passed (kinds indexes.now) (ranges condition) (length all) all) }
+            → BeginsBy c tuples.schema.attributes condition indexes.now all) }
         ensures walk { let ranges = ranges_of tuples.schema.attributes in IfOk result (λ c.
             (condition : Option Cond) → IsCodeOf tuples.schema.attributes condition code
             → walk_of c.candidates.search
@@ -97,21 +86,8 @@ impl SelectCursor {
         ensures fits { let state = V.state files.old in let all = rows state.files tuples in
             IsTrue state.tells → IfOk result (λ c.
             AreIndexesOf state tables.now all indexes.now → Fits c.candidates state tables.now all) }
-        ensures cost { let state = V.state files.old in let all = rows state.files tuples in
-            let ranges = ranges_of tuples.schema.attributes in
-            IsTrue state.tells → IfOk result (λ c.
-            (condition : Option Cond) → IsCodeOf tuples.schema.attributes condition code
-            → AreIndexesOf state tables.now all indexes.now
-            → begin_cost (length all) (plan (kinds indexes.now) (ranges condition))
-            + cost_ahead c.candidates all ≤ chosen_cost (kinds indexes.now) (ranges condition) all) }
-        ensures tuples { IfOk result (λ c. c.tuples ≡ tuples) }
-        ensures code { IfOk result (λ c. c.code ≡ code) }
-        ensures slots { let state = V.state files.old in
-            IfOk result (λ c. c.candidates.slots ≡ slots state.files tuples) }
-        ensures order { IfOk result (λ c. c.candidates.from ≤ c.candidates.end) }
-        ensures within { IfOk result (λ c. c.candidates.end ≤ c.candidates.slots) }
-        ensures rests { IfOk result (λ c. c.candidates.place ≡ None) }
-        ensures chosen { IfOk result (λ c. IsChosen c.candidates.search indexes.now) }
+        ensures begun { let state = V.state files.old in
+            IfOk result (λ c. IsBegun c tuples code (slots state.files tuples) indexes.now) }
         ensures may_read { IfOk result (λ c. MayRead (V.state files.old) tuples c.candidates) }
         ensures reads { let state = V.state files.old in
             let ranges = ranges_of tuples.schema.attributes in
@@ -133,17 +109,12 @@ impl SelectCursor {
     /// Forgets where in a tree it stands: what remains is the same, and it goes on rightly whatever is
     /// inserted from now on.
     pub fn rest(&mut self)
-        ensures rests { self.new.candidates.place ≡ None }
+        ensures rests { self.new
+            ≡ record self.old { candidates = record self.old.candidates { place = None } } }
         ensures remaining { (all : List Row) → remaining self.new all ≡ remaining self.old all }
         ensures slots_left { (all : List Row) → slots_left self.new all ≡ slots_left self.old all }
         ensures waits { (all : List Row) → Waits self.old.candidates all
             → Waits self.new.candidates all }
-        ensures tuples { self.new.tuples ≡ self.old.tuples }
-        ensures code { self.new.code ≡ self.old.code }
-        ensures from { self.new.candidates.from ≡ self.old.candidates.from }
-        ensures end { self.new.candidates.end ≡ self.old.candidates.end }
-        ensures slots { self.new.candidates.slots ≡ self.old.candidates.slots }
-        ensures search { self.new.candidates.search ≡ self.old.candidates.search }
     {
         let mut candidates = self.candidates;
         candidates.rest();
@@ -159,46 +130,17 @@ impl SelectCursor {
         into: &mut Tuple,
     ) -> Result<Option<SlotNo>, Failed>
         requires may_read { MayRead (V.state files.old) self.old.tuples self.old.candidates }
-        ensures next { let state = V.state files.old in let all = rows state.files self.old.tuples in
+        ensures yields { let state = V.state files.old in let all = rows state.files self.old.tuples in
             IsTrue state.tells → IfOk result (λ found. Fits self.old.candidates state tables.now all
-            → MatchOption found (remaining self.old all ≡ []) (λ _.
-            remaining self.old all ≡ into.new ∷ remaining self.new all)) }
-        ensures slot { let state = V.state files.old in let all = rows state.files self.old.tuples in
-            IsTrue state.tells → IfOk result (λ found. Fits self.old.candidates state tables.now all
-            → MatchOption found (slots_left self.old all ≡ []) (λ slot.
-            slots_left self.old all ≡ slot ∷ slots_left self.new all)) }
-        ensures ended { let state = V.state files.old in let all = rows state.files self.old.tuples in
-            IsTrue state.tells → IfOk result (λ found. Fits self.old.candidates state tables.now all
-            → MatchOption found (remaining self.new all ≡ []) (λ _.
-            Fits self.new.candidates state tables.now all)) }
-        ensures waits { OnOk result ((all : List Row) → Waits self.old.candidates all
-            → Waits self.new.candidates all) }
+            → Yields found into.new self.old self.new state tables.now all (V.reads files.old) (V.reads files.new)) }
+        ensures advances { IfOk result (λ found. Advances found self.old.candidates self.new.candidates) }
+        ensures ended { IfOk result (λ found.
+            IfNone found (self.new.candidates.from ≡ self.new.candidates.slots)) }
+        ensures stands { self.new ≡ record self.old { candidates = self.new.candidates } }
+        ensures unmoved { OnErr result (self.new ≡ self.old) }
         ensures suits { IfOk result (λ found. IfSome found (λ _.
             AllSuit self.old.tuples.schema.attributes into.new)) }
-        ensures below { IfOk result (λ found. IfSome found (λ slot. slot < self.old.candidates.slots)) }
-        ensures forward { IfOk result (λ found. IfSome found (λ _.
-            self.old.candidates.from < self.new.candidates.from)) }
-        ensures fits { let state = V.state files.old in let all = rows state.files self.old.tuples in
-            IsTrue state.tells → OnOk result (Fits self.old.candidates state tables.now all
-            → Fits self.new.candidates state tables.now all) }
-        ensures behind { IfOk result (λ found. MatchOption found
-            (self.new.candidates.from ≡ self.new.candidates.slots)
-            (λ slot. (self.old.candidates.from ≤ slot) × (self.new.candidates.from ≡ slot + 1))) }
-        ensures at_end { IfOk result (λ found. found ≡ None
-            → self.new.candidates.end ≡ self.new.candidates.slots) }
-        ensures tuples { self.new.tuples ≡ self.old.tuples }
-        ensures code { self.new.code ≡ self.old.code }
-        ensures slots { self.new.candidates.slots ≡ self.old.candidates.slots }
-        ensures search { self.new.candidates.search ≡ self.old.candidates.search }
-        ensures order { self.old.candidates.from ≤ self.old.candidates.end
-            → self.new.candidates.from ≤ self.new.candidates.end }
-        ensures within { self.old.candidates.end ≤ self.old.candidates.slots
-            → self.new.candidates.end ≤ self.new.candidates.slots }
         ensures may_read { MayRead (V.state files.old) self.new.tuples self.new.candidates }
-        ensures reads { let state = V.state files.old in let all = rows state.files self.old.tuples in
-            IsTrue state.tells → OnOk result (Fits self.old.candidates state tables.now all
-            → V.reads files.new + cost_ahead self.new.candidates all
-            ≤ V.reads files.old + cost_ahead self.old.candidates all) }
         ensures reads_err { let state = V.state files.old in
             let all = rows state.files self.old.tuples in
             IsTrue state.tells → OnErr result (Fits self.old.candidates state tables.now all

@@ -2,12 +2,12 @@
 
 #![tactic(auto)]
 
-ghost use Rattle.std.specs.Prelude.{None, ◌≡◌, ◌+◌, ◌<◌, ◌≤◌, ◌∷◌, [], true, IfOk, IfSome, IsTrue, MatchOption, OnErr, OnOk, List, get_or, length};
+ghost use Rattle.std.specs.Prelude.{None, ◌≡◌, ◌+◌, ◌<◌, ◌≤◌, ◌∷◌, [], true, IfNone, IfOk, IfSome, IsTrue, MatchOption, OnErr, OnOk, List, get_or, length};
 ghost use Rattle.afl_base.specs.Keeping.{OnlyReads};
 ghost use Rattle.db_model.specs.Row.{AllSuit, Row, no_row};
-ghost use Rattle.index_set.specs.Walks.{Fits, Waits, ahead, cost_ahead};
+ghost use Rattle.index_set.specs.Walks.{Advances, Fits, ahead, cost_ahead};
 ghost use Rattle.tuple_file.specs.Tuples.{HoldsRows, row, rows, slots};
-ghost use Rattle.cursor.specs.Remaining.{MayRead, cost_of, is_live_and, passed_until, passing};
+ghost use Rattle.cursor.specs.Remaining.{MayRead, StepsTo, cost_of, is_live_and, passed_until};
 
 use afl_base::{Failed, Files, SlotNo};
 use db_model::Tuple;
@@ -63,38 +63,17 @@ pub(crate) fn next_row<V: Files, T: Test>(
     into: &mut Tuple,
 ) -> Result<Option<SlotNo>, Failed>
     requires may_read { MayRead (V.state files.old) tuples.now candidates.old }
-    ensures next { let state = V.state files.old in let all = rows state.files tuples.now in
+    ensures steps { let state = V.state files.old in let all = rows state.files tuples.now in
         IsTrue state.tells → IfOk result (λ found. Fits candidates.old state tables.now all
-        → MatchOption found (passing (T.passes test.now) all (ahead candidates.old all) ≡ []) (λ slot.
-        passing (T.passes test.now) all (ahead candidates.old all)
-        ≡ slot ∷ passing (T.passes test.now) all (ahead candidates.new all))) }
-    ensures ended { let state = V.state files.old in let all = rows state.files tuples.now in
-        IsTrue state.tells → IfOk result (λ found. Fits candidates.old state tables.now all
-        → MatchOption found (ahead candidates.new all ≡ []) (λ _. Fits candidates.new state tables.now all)) }
+        → StepsTo found (T.passes test.now) candidates.old candidates.new state tables.now all
+        (V.reads files.old) (V.reads files.new)) }
+    ensures advances { IfOk result (λ found. Advances found candidates.old candidates.new) }
+    ensures ended { IfOk result (λ found. IfNone found (candidates.new.from ≡ candidates.new.slots)) }
     ensures row { let state = V.state files.old in let all = rows state.files tuples.now in
         IsTrue state.tells → IfOk result (λ found. IfSome found (λ slot.
         get_or all slot no_row ≡ record { tuple = into.new; live = true })) }
     ensures suits { IfOk result (λ found. IfSome found (λ _.
         AllSuit tuples.now.schema.attributes into.new)) }
-    ensures waits { OnOk result ((all : List Row) → Waits candidates.old all → Waits candidates.new all) }
-    ensures below { IfOk result (λ found. IfSome found (λ slot. slot < candidates.old.slots)) }
-    ensures fits { let state = V.state files.old in let all = rows state.files tuples.now in
-        IsTrue state.tells → OnOk result (Fits candidates.old state tables.now all
-        → Fits candidates.new state tables.now all) }
-    ensures behind { IfOk result (λ found. MatchOption found (candidates.new.from ≡ candidates.new.slots)
-        (λ slot. candidates.new.from ≡ slot + 1)) }
-    ensures at_end { IfOk result (λ found. found ≡ None
-        → candidates.new.end ≡ candidates.new.slots) }
-    ensures forward { IfOk result (λ found. IfSome found (λ slot. candidates.old.from ≤ slot)) }
-    ensures slots { candidates.new.slots ≡ candidates.old.slots }
-    ensures search { candidates.new.search ≡ candidates.old.search }
-    ensures order { candidates.old.from ≤ candidates.old.end → candidates.new.from ≤ candidates.new.end }
-    ensures within { candidates.old.end ≤ candidates.old.slots
-        → candidates.new.end ≤ candidates.new.slots }
-    ensures reads { let state = V.state files.old in let all = rows state.files tuples.now in
-        IsTrue state.tells → OnOk result (Fits candidates.old state tables.now all
-        → V.reads files.new + cost_ahead candidates.new all
-        ≤ V.reads files.old + cost_ahead candidates.old all) }
     ensures reads_err { let state = V.state files.old in let all = rows state.files tuples.now in
         IsTrue state.tells → OnErr result (Fits candidates.old state tables.now all
         → V.reads files.new ≤ V.reads files.old + cost_ahead candidates.old all) }

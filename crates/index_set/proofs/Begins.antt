@@ -27,7 +27,7 @@ use Rattle.index_set.specs.declared.info.TableId.{TableId}
 use Rattle.index_set.specs.Complete.{AreIndexesOf, AreReadable, HasKeys, HasTree, IsComplete, IsIndexOf, IsReadable, key_in}
 use Rattle.index_set.specs.Plans.{kinds, slots_passed}
 use Rattle.index_set.specs.Tables.{Tables}
-use Rattle.index_set.specs.Walks.{Fits, IsChosen, KnowsRows, Waits, ahead, cost_ahead, reads_by, slots_in, takes}
+use Rattle.index_set.specs.Walks.{Begins, Fits, IsChosen, KnowsRows, Waits, ahead, cost_ahead, reads_by, slots_in, takes}
 use Rattle.index_set.proofs.Costs.{all_counted, few_counted}
 use Rattle.index_set.proofs.Fronts.{keys_front, level_front}
 use Rattle.index_set.proofs.Lists.{here_of, some_of}
@@ -50,16 +50,13 @@ module _ (infos : List IndexInfo) (ranges : List Range) (slots : ℕ) where
       (between_same (λ slot. takes s (get_or all slot no_row)) (λ slot. passes (kinds infos) ranges p (λ place. key_in place (get_or all slot no_row))) 0 slots (λ i a b. same (get_or all i no_row))
       ∙ ap (λ (n : ℕ). filter (λ slot. passes (kinds infos) ranges p (λ place. key_in place (get_or all slot no_row))) (range_with_len 0 n)) none)
 
-  pub begun_ahead : (c : Candidates) (s : Search) (p : model.Plan) → c.search ≡ s → c.from ≡ 0 → c.slots ≡ slots → plan (kinds infos) ranges ≡ p
+  begun_ahead : (c : Candidates) (s : Search) (p : model.Plan) → c.search ≡ s → c.from ≡ 0 → c.slots ≡ slots → plan (kinds infos) ranges ≡ p
       → ((row : Row) → takes s row ≡ passes (kinds infos) ranges p (λ place. key_in place row)) → (all : List Row) → ahead c all ≡ slots_passed (kinds infos) ranges slots all
   begun_ahead c s p searched from count is same all = rw (searched, from, count) (passed_by s p is same all)
 
-  pub begun_waits : (c : Candidates) (s : Search) → c.search ≡ s → ((rows : List Row) (from end slots : ℕ) → KnowsRows s rows from end slots) → c.from ≡ 0 → c.end ≡ slots → c.slots ≡ slots → slots ≤ 32768 → (all : List Row) → slots ≤ length all → Waits c all
-  begun_waits c s searched free from end count small all few = record {
+  begun_waits : (c : Candidates) (s : Search) → c.search ≡ s → ((rows : List Row) (from end slots : ℕ) → KnowsRows s rows from end slots) → c.slots ≡ slots → (all : List Row) → slots ≤ length all → Waits c all
+  begun_waits c s searched free count all few = record {
     few = omega (arith, count, few);
-    small = omega (arith, count, small);
-    order = omega (arith, from);
-    within = omega (arith, end, count);
     knows = subst (λ (t : Search). KnowsRows t all c.from c.end c.slots) (sym searched) (free all c.from c.end c.slots);
   }
 
@@ -76,7 +73,7 @@ module _ (infos : List IndexInfo) (ranges : List Range) (slots : ℕ) where
 
   -- ---- no rows, all rows
 
-  pub nothing_cost : (c : Candidates) → c.search ≡ by.Nothing → c.place ≡ None → plan (kinds infos) ranges ≡ Nothing → (all : List Row) → ahead c all ≡ slots_passed (kinds infos) ranges slots all
+  nothing_cost : (c : Candidates) → c.search ≡ by.Nothing → c.place ≡ None → plan (kinds infos) ranges ≡ Nothing → (all : List Row) → ahead c all ≡ slots_passed (kinds infos) ranges slots all
       → begin_cost slots (plan (kinds infos) ranges) + cost_ahead c all ≤ chosen_cost (kinds infos) ranges all
   nothing_cost c searched rests is all same =
       let count : length (ahead c all) ≡ length (slots_in by.Nothing all 0 slots) = ap (λ (xs : List ℕ). length xs) (same ∙ sym (passed_by by.Nothing Nothing is (λ row. refl) all)) in
@@ -91,13 +88,33 @@ module _ (infos : List IndexInfo) (ranges : List Range) (slots : ℕ) where
       none_taken : (n : ℕ) (all : List Row) → length (slots_in by.Nothing all 0 n) ≤ 0
       none_taken n all = none_in 0 (n - 0)
 
-  pub scan_cost : (c : Candidates) → c.search ≡ by.Scan → c.place ≡ None → plan (kinds infos) ranges ≡ Scan → (all : List Row) → slots ≤ length all → ahead c all ≡ slots_passed (kinds infos) ranges slots all
+  scan_cost : (c : Candidates) → c.search ≡ by.Scan → c.place ≡ None → plan (kinds infos) ranges ≡ Scan → (all : List Row) → slots ≤ length all → ahead c all ≡ slots_passed (kinds infos) ranges slots all
       → begin_cost slots (plan (kinds infos) ranges) + cost_ahead c all ≤ chosen_cost (kinds infos) ranges all
   scan_cost c searched rests is all few same =
       let count : length (ahead c all) ≡ length (slots_in by.Scan all 0 slots) = ap (λ (xs : List ℕ). length xs) (same ∙ sym (passed_by by.Scan Scan is (λ row. refl) all)) in
       let most : length (slots_in by.Scan all 0 slots) ≤ slots - 0 = all_counted (λ slot. takes by.Scan (get_or all slot no_row)) 0 (slots - 0) in
       let cost = ahead_cost c by.Scan (length (slots_in by.Scan all 0 slots)) all searched rests count in
       cost_by Scan all (cost_ahead c all) is (omega (arith, most, cost, few))
+
+  pub nothing_begins : (c : Candidates) → c.search ≡ by.Nothing → c.place ≡ None → c.from ≡ 0 → c.slots ≡ slots → plan (kinds infos) ranges ≡ Nothing → (state : State) (tables : Tables) (all : List Row) → slots ≤ length all
+      → Begins c slots infos ranges state tables all
+  nothing_begins c searched rests from count is state tables all few =
+      let passed = begun_ahead c by.Nothing Nothing searched from count is (λ row. refl) all in
+      record {
+        ahead = passed;
+        fits = record { waits = begun_waits c by.Nothing searched (λ rows from end slots. tt) count all few; index = λ some. rw searched tt };
+        cost = nothing_cost c searched rests is all passed;
+      }
+
+  pub scan_begins : (c : Candidates) → c.search ≡ by.Scan → c.place ≡ None → c.from ≡ 0 → c.slots ≡ slots → plan (kinds infos) ranges ≡ Scan → (state : State) (tables : Tables) (all : List Row) → slots ≤ length all
+      → Begins c slots infos ranges state tables all
+  scan_begins c searched rests from count is state tables all few =
+      let passed = begun_ahead c by.Scan Scan searched from count is (λ row. refl) all in
+      record {
+        ahead = passed;
+        fits = record { waits = begun_waits c by.Scan searched (λ rows from end slots. tt) count all few; index = λ some. rw searched tt };
+        cost = scan_cost c searched rests is all few passed;
+      }
 
   -- ---- by one index
 
@@ -112,10 +129,10 @@ module _ (infos : List IndexInfo) (ranges : List Range) (slots : ℕ) where
     complete_at state tables access all is indexes = subst (λ (a : Access). IsComplete state tables a (keys y.attribute all)) is (here_of infos nth y h e (IsIndexOf state tables all) indexes).complete
 
     -- a tree
-    pub tree_same : (file : ℕ) (key : ℤ) (row : Row) → takes (by.Tree y.attribute file key) row ≡ passes (kinds infos) ranges (ByTree nth key) (λ place. key_in place row)
+    tree_same : (file : ℕ) (key : ℤ) (row : Row) → takes (by.Tree y.attribute file key) row ≡ passes (kinds infos) ranges (ByTree nth key) (λ place. key_in place row)
     tree_same file key row = ap (λ (n : ℕ). int_eq (key_in n row) key) (sym attribute_is)
 
-    pub tree_fits : (c : Candidates) (file : ℕ) (key : ℤ) (state : State) (tables : Tables) (all : List Row) → c.search ≡ by.Tree y.attribute file key → c.place ≡ None → y.access ≡ Tree file → Waits c all → AreIndexesOf state tables all infos → Fits c state tables all
+    tree_fits : (c : Candidates) (file : ℕ) (key : ℤ) (state : State) (tables : Tables) (all : List Row) → c.search ≡ by.Tree y.attribute file key → c.place ≡ None → y.access ≡ Tree file → Waits c all → AreIndexesOf state tables all infos → Fits c state tables all
     tree_fits c file key state tables all searched rests is waits indexes = record {
       waits = waits;
       index = λ some. rw (searched, rests) (complete_at state tables (Tree file) all is indexes, tt);
@@ -127,7 +144,7 @@ module _ (infos : List IndexInfo) (ranges : List Range) (slots : ℕ) where
     pub tree_safe : (file slots : ℕ) (state : State) → y.access ≡ Tree file → AreReadable state slots infos → IsLive state.files file
     tree_safe file n state is readable = subst (λ (a : Access). HasTree state a) is (here_of infos nth y h e (IsReadable state n) readable).tree
 
-    pub tree_cost_met : (c : Candidates) (file : ℕ) (key : ℤ) → c.search ≡ by.Tree y.attribute file key → c.place ≡ None → plan (kinds infos) ranges ≡ ByTree nth key → (all : List Row) → slots ≤ length all → ahead c all ≡ slots_passed (kinds infos) ranges slots all
+    tree_cost_met : (c : Candidates) (file : ℕ) (key : ℤ) → c.search ≡ by.Tree y.attribute file key → c.place ≡ None → plan (kinds infos) ranges ≡ ByTree nth key → (all : List Row) → slots ≤ length all → ahead c all ≡ slots_passed (kinds infos) ranges slots all
         → begin_cost slots (plan (kinds infos) ranges) + cost_ahead c all ≤ chosen_cost (kinds infos) ranges all
     tree_cost_met c file key searched rests is all few same =
         let s : Search = by.Tree y.attribute file key in
@@ -138,11 +155,22 @@ module _ (infos : List IndexInfo) (ranges : List Range) (slots : ℕ) where
         let equal : keys_equal key (keys (place_at (kinds infos) nth) all) ≡ keys_equal key (keys y.attribute all) = ap (keys_equal key) (keys_at all) in
         cost_by (ByTree nth key) all (cost_ahead c all) is (omega (arith, most, cost, beside, equal))
 
+    pub tree_begins : (c : Candidates) (file : ℕ) (key : ℤ) → c.search ≡ by.Tree y.attribute file key → c.place ≡ None → c.from ≡ 0 → c.slots ≡ slots → plan (kinds infos) ranges ≡ ByTree nth key → y.access ≡ Tree file
+        → (state : State) (tables : Tables) (all : List Row) → slots ≤ length all → AreIndexesOf state tables all infos → Begins c slots infos ranges state tables all
+    tree_begins c file key searched rests from count is found state tables all few indexes =
+        let s : Search = by.Tree y.attribute file key in
+        let passed = begun_ahead c s (ByTree nth key) searched from count is (tree_same file key) all in
+        record {
+          ahead = passed;
+          fits = tree_fits c file key state tables all searched rests found (begun_waits c s searched (λ rows from end slots. tt) count all few) indexes;
+          cost = tree_cost_met c file key searched rests is all few passed;
+        }
+
     -- a table
-    pub table_same : (number : TableId) (key : ℤ) (row : Row) → takes (by.Table y.attribute number key) row ≡ passes (kinds infos) ranges (ByTable nth key) (λ place. key_in place row)
+    table_same : (number : TableId) (key : ℤ) (row : Row) → takes (by.Table y.attribute number key) row ≡ passes (kinds infos) ranges (ByTable nth key) (λ place. key_in place row)
     table_same number key row = ap (λ (n : ℕ). int_eq (key_in n row) key) (sym attribute_is)
 
-    pub table_fits : (c : Candidates) (number : TableId) (key : ℤ) (state : State) (tables : Tables) (all : List Row) → c.search ≡ by.Table y.attribute number key → y.access ≡ InTable number → Waits c all → AreIndexesOf state tables all infos → Fits c state tables all
+    table_fits : (c : Candidates) (number : TableId) (key : ℤ) (state : State) (tables : Tables) (all : List Row) → c.search ≡ by.Table y.attribute number key → y.access ≡ InTable number → Waits c all → AreIndexesOf state tables all infos → Fits c state tables all
     table_fits c number key state tables all searched is waits indexes = record {
       waits = waits;
       index = λ some. rw searched (complete_at state tables (InTable number) all is indexes);
@@ -151,7 +179,7 @@ module _ (infos : List IndexInfo) (ranges : List Range) (slots : ℕ) where
     pub table_chosen : (number : TableId) (key : ℤ) → y.access ≡ InTable number → IsChosen (by.Table y.attribute number key) infos
     table_chosen number key is = some_of infos nth y h e (λ info. (info.attribute ≡ y.attribute) × (info.access ≡ InTable number)) (refl, is)
 
-    pub table_cost_met : (c : Candidates) (number : TableId) (key : ℤ) → c.search ≡ by.Table y.attribute number key → c.place ≡ None → plan (kinds infos) ranges ≡ ByTable nth key → (all : List Row) → slots ≤ length all → ahead c all ≡ slots_passed (kinds infos) ranges slots all
+    table_cost_met : (c : Candidates) (number : TableId) (key : ℤ) → c.search ≡ by.Table y.attribute number key → c.place ≡ None → plan (kinds infos) ranges ≡ ByTable nth key → (all : List Row) → slots ≤ length all → ahead c all ≡ slots_passed (kinds infos) ranges slots all
         → begin_cost slots (plan (kinds infos) ranges) + cost_ahead c all ≤ chosen_cost (kinds infos) ranges all
     table_cost_met c number key searched rests is all few same =
         let s : Search = by.Table y.attribute number key in
@@ -161,15 +189,26 @@ module _ (infos : List IndexInfo) (ranges : List Range) (slots : ℕ) where
         let equal : keys_equal key (keys (place_at (kinds infos) nth) all) ≡ keys_equal key (keys y.attribute all) = ap (keys_equal key) (keys_at all) in
         cost_by (ByTable nth key) all (cost_ahead c all) is (omega (arith, most, cost, equal))
 
+    pub table_begins : (c : Candidates) (number : TableId) (key : ℤ) → c.search ≡ by.Table y.attribute number key → c.place ≡ None → c.from ≡ 0 → c.slots ≡ slots → plan (kinds infos) ranges ≡ ByTable nth key → y.access ≡ InTable number
+        → (state : State) (tables : Tables) (all : List Row) → slots ≤ length all → AreIndexesOf state tables all infos → Begins c slots infos ranges state tables all
+    table_begins c number key searched rests from count is found state tables all few indexes =
+        let s : Search = by.Table y.attribute number key in
+        let passed = begun_ahead c s (ByTable nth key) searched from count is (table_same number key) all in
+        record {
+          ahead = passed;
+          fits = table_fits c number key state tables all searched found (begun_waits c s searched (λ rows from end slots. tt) count all few) indexes;
+          cost = table_cost_met c number key searched rests is all few passed;
+        }
+
     -- an order
-    pub order_same : (range : Range) → range ≡ range_at ranges y.attribute → (row : Row) → takes (by.Order y.attribute range) row ≡ passes (kinds infos) ranges (ByOrder nth) (λ place. key_in place row)
+    order_same : (range : Range) → range ≡ range_at ranges y.attribute → (row : Row) → takes (by.Order y.attribute range) row ≡ passes (kinds infos) ranges (ByOrder nth) (λ place. key_in place row)
     order_same range is row = ap (λ (r : Range). lies_in r (key_in y.attribute row)) is ∙ ap (λ (n : ℕ). lies_in (range_at ranges n) (key_in n row)) (sym attribute_is)
 
     column_at : (state : State) (tables : Tables) (all : List Row) → AreIndexesOf state tables all infos → HasKeys state all y
     column_at state tables all indexes = (here_of infos nth y h e (IsIndexOf state tables all) indexes).column
 
     -- the span of the keys, over rows
-    module _ (c : Candidates) (range : Range) (state : State) (tables : Tables) (all : List Row) (few : slots ≤ length all) (small : slots ≤ 32768) (searched : c.search ≡ by.Order y.attribute range) (rests : c.place ≡ None) (count : c.slots ≡ slots)
+    module _ (c : Candidates) (range : Range) (state : State) (tables : Tables) (all : List Row) (few : slots ≤ length all) (searched : c.search ≡ by.Order y.attribute range) (rests : c.place ≡ None) (count : c.slots ≡ slots)
         (range_is : range ≡ range_at ranges y.attribute) (is : plan (kinds infos) ranges ≡ ByOrder nth) (indexes : AreIndexesOf state tables all infos) (span : IsSpan range (key_of state y.column) slots c.from c.end) where
       row_key : (i : ℕ) → i < slots → key_of state y.column i ≡ key_in y.attribute (get_or all i no_row)
       row_key i below = column_at state tables all indexes i (omega (arith, below, few))
@@ -202,24 +241,20 @@ module _ (infos : List IndexInfo) (ranges : List Range) (slots : ℕ) where
           let order = span.order in let end = span.end in
           rw (searched, count) (sym (between_pass (λ slot. takes (by.Order y.attribute range) (get_or all slot no_row)) 0 c.from slots (omega arith) (omega (arith, order, end)) (λ i a b. before i b)))
 
-      pub order_ahead : ahead c all ≡ slots_passed (kinds infos) ranges slots all
+      order_ahead : ahead c all ≡ slots_passed (kinds infos) ranges slots all
       order_ahead = order_slots ∙ passed_by (by.Order y.attribute range) (ByOrder nth) is (order_same range range_is) all
 
-      pub order_fits : Fits c state tables all
+      order_fits : Fits c state tables all
       order_fits =
-          let order = span.order in let end = span.end in
           record {
             waits = record {
               few = omega (arith, few, count);
-              small = omega (arith, small, count);
-              order = order;
-              within = omega (arith, end, count);
               knows = rw searched (inside, λ i a b. behind i a (omega (arith, b, count)));
             };
             index = λ some. rw searched tt;
           }
 
-      pub order_cost_met : begin_cost slots (plan (kinds infos) ranges) + cost_ahead c all ≤ chosen_cost (kinds infos) ranges all
+      order_cost_met : begin_cost slots (plan (kinds infos) ranges) + cost_ahead c all ≤ chosen_cost (kinds infos) ranges all
       order_cost_met =
           let s : Search = by.Order y.attribute range in
           let found : length (ahead c all) ≡ length (filter (λ slot. takes s (get_or all slot no_row)) (range_with_len 0 slots)) = ap (λ (xs : List ℕ). length xs) (order_slots ∙ count_of s all) in
@@ -229,6 +264,9 @@ module _ (infos : List IndexInfo) (ranges : List Range) (slots : ℕ) where
           ap (λ (n : ℕ). keys_in (range_at ranges n) (keys n all)) attribute_is ∙ ap (λ (r : Range). keys_in r (keys y.attribute all)) (sym range_is) in
           let digits = bits_grow slots (length all) few in
           cost_by (ByOrder nth) all (cost_ahead c all) is (omega (arith, most, cost, same, digits))
+
+      pub order_begins : Begins c slots infos ranges state tables all
+      order_begins = record { ahead = order_ahead; fits = order_fits; cost = order_cost_met }
 
     -- the keys of the first rows do not fall
     pub order_level : (state : State) (tables : Tables) (all : List Row) → slots ≤ length all → y.access ≡ Order → AreIndexesOf state tables all infos → first_fall (keys_of state y.column slots) ≡ None

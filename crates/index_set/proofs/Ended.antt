@@ -7,27 +7,15 @@ use Rattle.index_set.specs.declared.candidates.Candidates.{Candidates}
 use Rattle.index_set.specs.declared.candidates.Search.{Search}
 use Rattle.index_set.specs.declared.candidates.Search.TheVariants as by
 use Rattle.index_set.specs.Tables.{Tables}
-use Rattle.index_set.specs.Walks.{Fits, KnowsRows, Waits, ahead, reads_ahead, reads_by}
+use Rattle.index_set.specs.Walks.{Fits, IsEnded, KnowsRows, Waits, ahead, reads_ahead, reads_by}
 use Rattle.index_set.proofs.Nexts.{no_slots}
 
-abbrev pub ended : Candidates → Candidates
-ended c = record c { from = c.slots; end = c.slots }
-
-nothing_known : (s : Search) (all : List Row) (n : ℕ) → KnowsRows s all n n n
-nothing_known by.Nothing all n = tt
-nothing_known by.Scan all n = tt
-nothing_known (by.Order attribute range) all n = (λ i a b. absurd (omega (arith, a, b)), λ i a b. absurd (omega (arith, a, b)))
-nothing_known (by.Tree attribute file key) all n = tt
-nothing_known (by.Table attribute number key) all n = tt
-
-pub waits_ended : (c : Candidates) (all : List Row) → Waits c all → Waits (ended c) all
-waits_ended c all w = record { few = w.few; small = w.small; order = omega arith; within = omega arith; knows = nothing_known c.search all c.slots }
-
-pub fits_ended : (c : Candidates) (state : State) (tables : Tables) (all : List Row) → Waits c all → Fits (ended c) state tables all
-fits_ended c state tables all w = record { waits = waits_ended c all w; index = λ some. absurd (omega (arith, some)) }
-
-pub ahead_ended : (c : Candidates) (all : List Row) → ahead (ended c) all ≡ []
-ahead_ended c all = no_slots (ended c) all (omega arith)
+nothing_known : (s : Search) (all : List Row) (from end slots : ℕ) → slots ≤ from → from ≤ end → end ≤ slots → KnowsRows s all from end slots
+nothing_known by.Nothing all from end slots over order within = tt
+nothing_known by.Scan all from end slots over order within = tt
+nothing_known (by.Order attribute range) all from end slots over order within = (λ i a b. absurd (omega (arith, a, b, over, within)), λ i a b. absurd (omega (arith, a, b, over, order)))
+nothing_known (by.Tree attribute file key) all from end slots over order within = tt
+nothing_known (by.Table attribute number key) all from end slots over order within = tt
 
 none_less : (s : Search) (place : Option Place) (all : List Row) (k : ℕ) → reads_by s place all 0 ≤ reads_by s place all k
 none_less by.Nothing place all k = omega arith
@@ -36,5 +24,21 @@ none_less (by.Order attribute range) place all k = omega arith
 none_less (by.Tree attribute file key) place all k = omega arith
 none_less (by.Table attribute number key) place all k = omega arith
 
-pub reads_ended : (c : Candidates) (all : List Row) → reads_ahead (ended c) all ≤ reads_ahead c all
-reads_ended c all = rw (ahead_ended c all) (none_less c.search c.place all (length (ahead c all)))
+module _ (old new : Candidates) (is : IsEnded old new) (all : List Row) where
+  over : new.slots ≤ new.from
+  over = (let slots = is.slots in let from = is.from in omega (arith, slots, from))
+
+  pub ahead_ended : ahead new all ≡ []
+  ahead_ended = no_slots new all over
+
+  pub waits_ended : Waits old all → Waits new all
+  waits_ended w =
+      let few = w.few in
+      let slots = is.slots in
+      record { few = omega (arith, few, slots); knows = nothing_known new.search all new.from new.end new.slots over new.order new.within }
+
+  pub fits_ended : (state : State) (tables : Tables) → Waits old all → Fits new state tables all
+  fits_ended state tables w = record { waits = waits_ended w; index = λ some. (let none = over in absurd (omega (arith, some, none))) }
+
+  pub reads_ended : reads_ahead new all ≤ reads_ahead old all
+  reads_ended = rw (ahead_ended, is.search, is.place) (none_less old.search old.place all (length (ahead old all)))

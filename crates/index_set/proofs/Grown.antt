@@ -39,7 +39,7 @@ tests_same f g a (suc n) m h same =
 pub ahead_kept : (c : Candidates) (old new : List Row) → RowsGrow old new → Waits c old → ahead c new ≡ ahead c old
 ahead_kept c old new grow w =
     tests_same (λ slot. takes c.search (get_or new slot no_row)) (λ slot. takes c.search (get_or old slot no_row))
-    c.from (c.slots - c.from) (length old) (omega (arith, w.few, w.order, w.within))
+    c.from (c.slots - c.from) (length old) (omega (arith, w.few, c.order, c.within))
     (λ i below. ap (takes c.search) (grow.same i below))
 
 knows_kept : (s : Search) (old new : List Row) (from end slots : ℕ) → RowsGrow old new → end ≤ slots → slots ≤ length old → KnowsRows s old from end slots → KnowsRows s new from end slots
@@ -55,10 +55,7 @@ knows_kept (by.Table attribute number key) old new from end slots grow within fe
 pub waits_kept : (c : Candidates) (old new : List Row) → RowsGrow old new → Waits c old → Waits c new
 waits_kept c old new grow w = record {
   few = omega (arith, w.few, grow.more);
-  small = w.small;
-  order = w.order;
-  within = w.within;
-  knows = knows_kept c.search old new c.from c.end c.slots grow w.within w.few w.knows;
+  knows = knows_kept c.search old new c.from c.end c.slots grow c.within w.few w.knows;
 }
 
 -- ---- inserts

@@ -17,7 +17,7 @@ use Rattle.index_set.specs.Complete.{key_in}
 use Rattle.index_set.specs.Tables.{Tables, entries}
 use Rattle.index_maxheap.specs.Searches.{walk_left}
 use Rattle.afl_base.specs.Keys.{IsFirstOf}
-use Rattle.index_set.specs.Walks.{Fits, LacksKey, HasIndex, HasPlace, IsMoved, IsMovedBy, KnowsRows, Waits, ahead, reads_ahead, reads_by, slots_in, takes}
+use Rattle.index_set.specs.Walks.{Advances, Finds, Fits, LacksKey, HasIndex, HasPlace, IsMoved, IsMovedBy, KnowsRows, Waits, ahead, reads_ahead, reads_by, slots_in, takes}
 use Rattle.index_set.proofs.Seeks.{key_of_slot}
 use Rattle.index_set.proofs.Slots.{between_first, between_none}
 
@@ -50,8 +50,8 @@ nothing_ahead c rows e = ahead_none c rows (λ i a b. ap (λ (s : Search). takes
 -- ---- in order
 
 pub order_next : (old new : Candidates) (state : State) (tables : Tables) (rows : List Row) (attribute : ℕ) (range : Range) (r : Option ℕ) → old.search ≡ by.Order attribute range → Fits old state tables rows
-    → MatchOption r (old.end ≤ old.from) (λ slot. (slot ≡ old.from) × (slot < old.end)) → IsMoved r old new → MatchOption r (new.end ≡ old.end) (λ slot. (new.end ≡ old.end) × (slot < old.end))
-    → MatchOption r (ahead old rows ≡ []) (λ slot. (ahead old rows ≡ slot ∷ ahead new rows) × Fits new state tables rows)
+    → MatchOption r (old.end ≤ old.from) (λ slot. (slot ≡ old.from) × (slot < old.end)) → IsMoved r old new → MatchOption r (new.end ≡ old.end) (λ slot. new.end ≡ old.end)
+    → Finds r old new state tables rows
 order_next old new state tables rows attribute range None is fits found moved end =
     let K : Search → Type 0 = λ s. KnowsRows s rows old.from old.end old.slots in
     let knows = subst K is fits.waits.knows in
@@ -59,14 +59,12 @@ order_next old new state tables rows attribute range None is fits found moved en
 order_next old new state tables rows attribute range (Some slot) is fits found moved end =
     let K : Search → Type 0 = λ s. KnowsRows s rows old.from old.end old.slots in
     let knows = subst K is fits.waits.knows in
-    let within = fits.waits.within in
+    let within = old.within in
     let few = fits.waits.few in
-    let small = fits.waits.small in
     let at = found.0 in
     let below = found.1 in
     let from = moved.0 in
     let slots = moved.1 in
-    let stop = end.0 in
     let searched : new.search ≡ by.Order attribute range = moved.2 ∙ is in
     let N : Search → Type 0 = λ s. KnowsRows s rows new.from new.end new.slots in
     let I : Search → Type 0 = λ s. HasIndex s new.place state tables rows new.from in (
@@ -75,10 +73,7 @@ order_next old new state tables rows attribute range (Some slot) is fits found m
       record {
         waits = record {
           few = omega (arith, few, slots);
-          small = omega (arith, small, slots);
-          order = omega (arith, from, stop, below);
-          within = omega (arith, stop, slots, within);
-          knows = subst N (sym searched) (λ i a b. knows.0 i (omega (arith, a, from, at)) (omega (arith, b, stop)), λ i a b. knows.1 i (omega (arith, a, stop)) (omega (arith, b, slots)));
+          knows = subst N (sym searched) (λ i a b. knows.0 i (omega (arith, a, from, at)) (omega (arith, b, end)), λ i a b. knows.1 i (omega (arith, a, end)) (omega (arith, b, slots)));
         };
         index = λ _. subst I (sym searched) tt;
       },
@@ -97,20 +92,7 @@ module _ (old new : Candidates) (rows : List Row) (attribute : ℕ) (key : ℤ) 
       (same slot ∙ sym (key_of_slot attribute key rows slot) ∙ first.here) (λ i a b. same i ∙ sym (key_of_slot attribute key rows i) ∙ first.before i a b)
 
 pub moved_waits : (old new : Candidates) (rows : List Row) (slot : ℕ) → IsMovedBy (Some slot) old new → Waits old rows → KnowsRows new.search rows new.from new.end new.slots → Waits new rows
-moved_waits old new rows slot moved waits knows =
-    let few = waits.few in
-    let small = waits.small in
-    let from = moved.0 in
-    let end = moved.1 in
-    let slots = moved.2 in
-    let below = moved.5 in
-    record {
-      few = omega (arith, few, slots);
-      small = omega (arith, small, slots);
-      order = omega (arith, from, end, slots, below);
-      within = omega (arith, end);
-      knows = knows;
-    }
+moved_waits old new rows slot moved waits knows = (let few = waits.few in let slots = moved.2 in record { few = omega (arith, few, slots); knows = knows })
 
 pub no_slots : (c : Candidates) (rows : List Row) → c.slots ≤ c.from → ahead c rows ≡ []
 no_slots c rows none = ahead_none c rows (λ i a b. absurd (omega (arith, none, a, b)))
@@ -127,7 +109,7 @@ module _ (old new : Candidates) (state : State) (tables : Tables) (rows : List R
 
   tree_option : (r : Option ℕ) → (HasPlace state file key (keys attribute rows) old → old.slots ≤ length (keys attribute rows)
       → MatchOption r (LacksKey key (keys attribute rows) old.from old.slots) (λ slot. IsFirstOf key (keys attribute rows) old.from slot × HasPlace state file key (keys attribute rows) new))
-      → IsMovedBy r old new → MatchOption r (ahead old rows ≡ []) (λ slot. (ahead old rows ≡ slot ∷ ahead new rows) × Fits new state tables rows)
+      → IsMovedBy r old new → Finds r old new state tables rows
   tree_option None found moved = ⊎_elim (λ none. no_slots old rows none) (λ some. lacks_ahead old new rows attribute key tests (found (placed some) enough)) (over_or_some old.from old.slots)
   tree_option (Some slot) found moved =
       let order = moved.4 in
@@ -148,12 +130,12 @@ module _ (old new : Candidates) (state : State) (tables : Tables) (rows : List R
 
   pub tree_result : (r : Result (Option ℕ) Failed) → IfOk r (λ found. (ks : List ℤ) → HasPlace state file key ks old → old.slots ≤ length ks
       → MatchOption found (LacksKey key ks old.from old.slots) (λ slot. IsFirstOf key ks old.from slot × HasPlace state file key ks new))
-      → IfOk r (λ found. IsMovedBy found old new) → IfOk r (λ found. MatchOption found (ahead old rows ≡ []) (λ slot. (ahead old rows ≡ slot ∷ ahead new rows) × Fits new state tables rows))
+      → IfOk r (λ found. IsMovedBy found old new) → IfOk r (λ found. Finds found old new state tables rows)
   tree_result (Ok found) h moved = tree_option found (h (keys attribute rows)) moved
   tree_result (Err e) h moved = tt
 
   spent : (before after : ℕ) (found : Option ℕ) → IsMovedBy found old new
-      → MatchOption found (ahead old rows ≡ []) (λ slot. (ahead old rows ≡ slot ∷ ahead new rows) × Fits new state tables rows)
+      → Finds found old new state tables rows
       → MatchOption found (after + walk_of new ≤ before + walk_of old) (λ _. after + walk_of new ≤ before + walk_of old + 9)
       → after + reads_ahead new rows ≤ before + reads_ahead old rows
   spent before after None moved next h =
@@ -169,7 +151,7 @@ module _ (old new : Candidates) (state : State) (tables : Tables) (rows : List R
       omega (arith, a, b, n, h)
 
   pub tree_reads : (before after : ℕ) (r : Result (Option ℕ) Failed) → (old.slots ≤ old.from → after ≡ before) → (old.slots ≤ old.from → new ≡ old) → IfOk r (λ found. IsMovedBy found old new)
-      → IfOk r (λ found. MatchOption found (ahead old rows ≡ []) (λ slot. (ahead old rows ≡ slot ∷ ahead new rows) × Fits new state tables rows))
+      → IfOk r (λ found. Finds found old new state tables rows)
       → (HasPlace state file key (keys attribute rows) old → old.slots ≤ length (keys attribute rows)
       → IfOk r (λ found. MatchOption found (after + walk_of new ≤ before + walk_of old) (λ _. after + walk_of new ≤ before + walk_of old + 9)))
       → OnOk r (after + reads_ahead new rows ≤ before + reads_ahead old rows)
@@ -193,7 +175,7 @@ module _ (old new : Candidates) (state : State) (tables : Tables) (rows : List R
   reached e = let few = fits.waits.few in let n = length_keys attribute rows in let m : length (entries tables number) ≡ length (keys attribute rows) = ap (λ (xs : List ℤ). length xs) e in omega (arith, few, n, m)
 
   pub table_next : (r : Option ℕ) → (old.slots ≤ length (entries tables number) → MatchOption r (LacksKey key (entries tables number) old.from old.slots) (λ slot. IsFirstOf key (entries tables number) old.from slot))
-      → IsMovedBy r old new → MatchOption r (ahead old rows ≡ []) (λ slot. (ahead old rows ≡ slot ∷ ahead new rows) × Fits new state tables rows)
+      → IsMovedBy r old new → Finds r old new state tables rows
   table_next None found moved =
       ⊎_elim (λ none. no_slots old rows none)
       (λ some. let e = entered some in let P : List ℤ → Type 0 = λ ks. LacksKey key ks old.from old.slots in lacks_ahead old new rows attribute key trials (subst P e (found (reached e))))
@@ -216,7 +198,7 @@ module _ (old new : Candidates) (state : State) (tables : Tables) (attribute fil
   pub tree_all : (r : Result (Option ℕ) Failed) → IfOk r (λ found. (ks : List ℤ) → HasPlace state file key ks old → old.slots ≤ length ks
       → MatchOption found (LacksKey key ks old.from old.slots) (λ slot. IsFirstOf key ks old.from slot × HasPlace state file key ks new))
       → IfOk r (λ found. IsMovedBy found old new)
-      → IfOk r (λ found. (rows : List Row) → Fits old state tables rows → MatchOption found (ahead old rows ≡ []) (λ slot. (ahead old rows ≡ slot ∷ ahead new rows) × Fits new state tables rows))
+      → IfOk r (λ found. (rows : List Row) → Fits old state tables rows → Finds found old new state tables rows)
   tree_all (Ok found) h moved = λ rows fits. tree_result old new state tables rows attribute file key is fits (Ok found) h moved
   tree_all (Err e) h moved = tt
 
@@ -231,77 +213,67 @@ module _ (old new : Candidates) (state : State) (tables : Tables) (attribute fil
       tree_reads old new state tables rows attribute file key is fits before after (Ok found) unread over moved (tree_result old new state tables rows attribute file key is fits (Ok found) h moved) (spends (keys attribute rows))
   reads_all before after (Err e) unread over h moved spends = tt
 
--- ---- the two halves
-
-pub ahead_of : (A B : Type 0) (C : ℕ → Type 0) (r : Option ℕ) → MatchOption r A (λ slot. C slot × B) → MatchOption r A C
-ahead_of A B C None h = h
-ahead_of A B C (Some slot) h = h.0
-
-pub fits_of : (A B : Type 0) (C : ℕ → Type 0) (r : Option ℕ) → MatchOption r A (λ slot. C slot × B) → IfSome r (λ slot. B)
-fits_of A B C None h = tt
-fits_of A B C (Some slot) h = h.1
-
-module _ (old new : Candidates) (state : State) (tables : Tables) where
-  pub all_ahead : (r : Result (Option ℕ) Failed) → IfOk r (λ found. (rows : List Row) → Fits old state tables rows → MatchOption found (ahead old rows ≡ []) (λ slot. (ahead old rows ≡ slot ∷ ahead new rows) × Fits new state tables rows))
-      → IfOk r (λ found. (rows : List Row) → Fits old state tables rows → MatchOption found (ahead old rows ≡ []) (λ slot. ahead old rows ≡ slot ∷ ahead new rows))
-  all_ahead (Ok found) h = λ rows fits. ahead_of (ahead old rows ≡ []) (Fits new state tables rows) (λ slot. ahead old rows ≡ slot ∷ ahead new rows) found (h rows fits)
-  all_ahead (Err e) h = tt
-
-  pub all_fits : (r : Result (Option ℕ) Failed) → IfOk r (λ found. (rows : List Row) → Fits old state tables rows → MatchOption found (ahead old rows ≡ []) (λ slot. (ahead old rows ≡ slot ∷ ahead new rows) × Fits new state tables rows))
-      → IfOk r (λ found. (rows : List Row) → Fits old state tables rows → IfSome found (λ slot. Fits new state tables rows))
-  all_fits (Ok found) h = λ rows fits. fits_of (ahead old rows ≡ []) (Fits new state tables rows) (λ slot. ahead old rows ≡ slot ∷ ahead new rows) found (h rows fits)
-  all_fits (Err e) h = tt
-
 -- ---- what is known of the rows
 
-pub waits_by : (old new : Candidates) (r : Option ℕ) (s : Search) → old.search ≡ s → ((rows : List Row) (from end slots : ℕ) → KnowsRows s rows from end slots) → IsMovedBy r old new → (rows : List Row) → Waits old rows → Waits new rows
-waits_by old new None s is free moved rows w =
-    let from = moved.0 in
-    let end = moved.1 in
-    let slots = moved.2 in
-    let few = w.few in
-    let small = w.small in
-    let order = w.order in
-    let within = w.within in
-    record {
-      few = omega (arith, few, slots);
-      small = omega (arith, small, slots);
-      order = omega (arith, order, from, end);
-      within = omega (arith, within, end, slots);
-      knows = subst (λ (t : Search). KnowsRows t rows new.from new.end new.slots) (sym (moved.3 ∙ is)) (free rows new.from new.end new.slots);
-    }
-waits_by old new (Some slot) s is free moved rows w = moved_waits old new rows slot moved w (subst (λ (t : Search). KnowsRows t rows new.from new.end new.slots) (sym (moved.3 ∙ is)) (free rows new.from new.end new.slots))
+-- whatever the rows, a search that knows nothing of them
+module _ (old new : Candidates) (s : Search) (is : old.search ≡ s) (free : (rows : List Row) (from end slots : ℕ) → KnowsRows s rows from end slots) where
+  known : new.search ≡ old.search → (rows : List Row) → KnowsRows new.search rows new.from new.end new.slots
+  known same rows = subst (λ (t : Search). KnowsRows t rows new.from new.end new.slots) (sym (same ∙ is)) (free rows new.from new.end new.slots)
 
-pub waits_all : (old new : Candidates) (r : Result (Option ℕ) Failed) (s : Search) → old.search ≡ s → ((rows : List Row) (from end slots : ℕ) → KnowsRows s rows from end slots) → IfOk r (λ found. IsMovedBy found old new) → OnOk r ((rows : List Row) → Waits old rows → Waits new rows)
-waits_all old new (Ok found) s is free moved = waits_by old new found s is free moved
-waits_all old new (Err e) s is free moved = tt
+  pub advances_by : (r : Option ℕ) → IsMovedBy r old new → Advances r old new
+  advances_by None moved = record {
+    search = moved.3;
+    slots = moved.2;
+    below = tt;
+    forward = tt;
+    waits = λ rows w. (let few = w.few in let slots = moved.2 in record { few = omega (arith, few, slots); knows = known moved.3 rows });
+  }
+  advances_by (Some slot) moved = record {
+    search = moved.3;
+    slots = moved.2;
+    below = moved.5;
+    forward = (moved.4, moved.0);
+    waits = λ rows w. moved_waits old new rows slot moved w (known moved.3 rows);
+  }
+
+  pub advances_all : (r : Result (Option ℕ) Failed) → IfOk r (λ found. IsMovedBy found old new) → IfOk r (λ found. Advances found old new)
+  advances_all (Ok found) moved = advances_by found moved
+  advances_all (Err e) moved = tt
 
 -- in the order of the slots, up to an end
-pub waits_below : (old new : Candidates) (r : Option ℕ) (end : ℕ) → IsMoved r old new → MatchOption r (new.end ≡ old.end) (λ slot. (new.end ≡ end) × (slot < end)) → IfSome r (λ slot. slot ≡ old.from)
-    → ((rows : List Row) → Waits old rows → (end ≤ old.slots) × ((from : ℕ) → old.from ≤ from → KnowsRows old.search rows from end old.slots)) → (rows : List Row) → Waits old rows → Waits new rows
-waits_below old new None end moved stop at knows rows w = subst (λ (c : Candidates). Waits c rows) (sym moved) w
-waits_below old new (Some slot) end moved stop at knows rows w =
+pub advances_below : (old new : Candidates) (r : Option ℕ) (end : ℕ) → end ≤ old.slots → MatchOption r (end ≤ old.from) (λ slot. (slot ≡ old.from) × (slot < end)) → IsMoved r old new → MatchOption r (new.end ≡ old.end) (λ slot. new.end ≡ end)
+    → ((rows : List Row) → Waits old rows → (from : ℕ) → old.from ≤ from → KnowsRows old.search rows from end old.slots) → Advances r old new
+advances_below old new None end short found moved stop knows = record {
+  search = ap (λ (c : Candidates). c.search) moved;
+  slots = ap (λ (c : Candidates). c.slots) moved;
+  below = tt;
+  forward = tt;
+  waits = λ rows w. subst (λ (c : Candidates). Waits c rows) (sym moved) w;
+}
+advances_below old new (Some slot) end short found moved stop knows =
+    let at = found.0 in
+    let below = found.1 in
     let from = moved.0 in
     let slots = moved.1 in
-    let few = w.few in
-    let small = w.small in
-    let k = knows rows w in
-    let last = stop.0 in
-    let below = stop.1 in
-    let short = k.0 in
-    let known : KnowsRows old.search rows new.from end old.slots = k.1 new.from (omega (arith, from, at)) in
     record {
-      few = omega (arith, few, slots);
-      small = omega (arith, small, slots);
-      order = omega (arith, from, last, below);
-      within = omega (arith, last, short, slots);
-      knows = subst (λ (t : Search). KnowsRows t rows new.from new.end new.slots) (sym moved.2) (subst (λ (n : ℕ). KnowsRows old.search rows new.from n new.slots) (sym last) (subst (λ (n : ℕ). KnowsRows old.search rows new.from end n) (sym slots) known));
+      search = moved.2;
+      slots = slots;
+      below = omega (arith, below, short);
+      forward = (omega (arith, at), from);
+      waits = λ rows w.
+          let few = w.few in
+          let known : KnowsRows old.search rows new.from end old.slots = knows rows w new.from (omega (arith, from, at)) in
+          record {
+            few = omega (arith, few, slots);
+            knows = subst (λ (t : Search). KnowsRows t rows new.from new.end new.slots) (sym moved.2)
+            (subst (λ (n : ℕ). KnowsRows old.search rows new.from n new.slots) (sym stop) (subst (λ (n : ℕ). KnowsRows old.search rows new.from end n) (sym slots) known));
+          };
     }
 
-pub order_known : (c : Candidates) (attribute : ℕ) (range : Range) → c.search ≡ by.Order attribute range → (rows : List Row) → Waits c rows → (c.end ≤ c.slots) × ((from : ℕ) → c.from ≤ from → KnowsRows c.search rows from c.end c.slots)
-order_known c attribute range is rows w =
+pub order_known : (c : Candidates) (attribute : ℕ) (range : Range) → c.search ≡ by.Order attribute range → (rows : List Row) → Waits c rows → (from : ℕ) → c.from ≤ from → KnowsRows c.search rows from c.end c.slots
+order_known c attribute range is rows w from h =
     let knows = subst (λ (s : Search). KnowsRows s rows c.from c.end c.slots) is w.knows in
-    (w.within, λ from h. subst (λ (s : Search). KnowsRows s rows from c.end c.slots) (sym is) (λ i a b. knows.0 i (omega (arith, h, a)) b, λ i a b. knows.1 i a b))
+    subst (λ (s : Search). KnowsRows s rows from c.end c.slots) (sym is) (λ i a b. knows.0 i (omega (arith, h, a)) b, λ i a b. knows.1 i a b)
 
-pub scan_known : (c : Candidates) → c.search ≡ by.Scan → (rows : List Row) → Waits c rows → (c.slots ≤ c.slots) × ((from : ℕ) → c.from ≤ from → KnowsRows c.search rows from c.slots c.slots)
-scan_known c is rows w = (omega arith, λ from h. subst (λ (s : Search). KnowsRows s rows from c.slots c.slots) (sym is) tt)
+pub scan_known : (c : Candidates) → c.search ≡ by.Scan → (rows : List Row) → Waits c rows → (from : ℕ) → c.from ≤ from → KnowsRows c.search rows from c.slots c.slots
+scan_known c is rows w from h = subst (λ (s : Search). KnowsRows s rows from c.slots c.slots) (sym is) tt

@@ -1,10 +1,11 @@
 -- The slots that candidates have still to answer.
-use Rattle.std.specs.Prelude.{◌≡◌, ◌≤◌, ◌<◌, ⊤, ℕ, ◌+◌, ◌-◌, ◌*◌, ℤ, Bool, true, false, List, length, filter, get_or, Option, Some, None}
+use Rattle.std.specs.Prelude.{◌≡◌, ◌≤◌, ◌<◌, ⊤, ℕ, ◌+◌, ◌-◌, ◌*◌, ℤ, Bool, true, false, List, [], ◌∷◌, length, filter, get_or, Option, Some, None, IfSome, MatchOption}
 use Rattle.std.specs.List.{range_with_len}
 use Rattle.std.specs.Ordering.{int_eq}
 use Rattle.afl_base.specs.Files.{State, IsLive, bytes_at}
-use Rattle.db_model.specs.Cost.{keys_beside}
-use Rattle.db_model.specs.Plan.{lies_in}
+use Rattle.db_model.specs.declared.schemas.Range.{Range}
+use Rattle.db_model.specs.Cost.{begin_cost, chosen_cost, keys_beside}
+use Rattle.db_model.specs.Plan.{lies_in, plan}
 use Rattle.db_model.specs.Row.{Row, no_row}
 use Rattle.db_model.specs.Step.{keys}
 use Rattle.index_set.specs.declared.candidates.Candidates.{Candidates}
@@ -15,6 +16,7 @@ use Rattle.index_set.specs.declared.info.IndexInfo.{IndexInfo}
 use Rattle.index_maxheap.specs.declared.places.Place.{Place}
 use Rattle.index_set.specs.Complete.{key_in}
 use Rattle.index_set.specs.Inserts.{SomeOf}
+use Rattle.index_set.specs.Plans.{kinds, slots_passed}
 use Rattle.index_set.specs.Tables.{Tables, entries}
 use Rattle.index_maxheap.specs.Searches.{IsPlaceOf, walk_left}
 use Rattle.afl_base.specs.Keys.{is_key_at}
@@ -53,9 +55,6 @@ KnowsRows _ all from end slots = ⊤
 
 pub record Waits (c : Candidates) (all : List Row) : Type 0 where
   pub few : c.slots ≤ length all
-  pub small : c.slots ≤ 32768
-  pub order : c.from ≤ c.end
-  pub within : c.end ≤ c.slots
   pub knows : KnowsRows c.search all c.from c.end c.slots
 
 -- ---- what they know of their tree or table
@@ -112,7 +111,46 @@ reads_next c all = reads_by c.search c.place all 0
 abbrev pub cost_ahead : Candidates → List Row → ℕ
 cost_ahead c all = 6 * length (ahead c all) + reads_ahead c all
 
+-- ---- where they begin
+
+-- they have ahead the slots below a number that the plan of some ranges passes, and the plan's cost is enough
+pub record Begins (c : Candidates) (slots : ℕ) (infos : List IndexInfo) (ranges : List Range) (state : State) (tables : Tables) (all : List Row) : Type 0 where
+  pub ahead : ahead c all ≡ slots_passed (kinds infos) ranges slots all
+  pub fits : Fits c state tables all
+  pub cost : begin_cost slots (plan (kinds infos) ranges) + cost_ahead c all ≤ chosen_cost (kinds infos) ranges all
+
 -- ---- steps
+
+-- they have gone behind the slot that was found, and know of the rows what they knew
+pub record Advances (found : Option ℕ) (old new : Candidates) : Type 0 where
+  pub search : new.search ≡ old.search
+  pub slots : new.slots ≡ old.slots
+  pub below : IfSome found (λ slot. slot < old.slots)
+  pub forward : IfSome found (λ slot. (old.from ≤ slot) × (new.from ≡ slot + 1))
+  pub waits : (all : List Row) → Waits old all → Waits new all
+
+-- they have gone behind all their slots
+pub record IsEnded (old new : Candidates) : Type 0 where
+  pub search : new.search ≡ old.search
+  pub place : new.place ≡ old.place
+  pub slots : new.slots ≡ old.slots
+  pub from : new.from ≡ old.slots
+  pub end : new.end ≡ old.slots
+
+-- the slot that was found is the first of those that were ahead
+abbrev pub IsFirst : Option ℕ → Candidates → Candidates → List Row → Type 0
+IsFirst found old new all = MatchOption found (ahead old all ≡ []) (λ slot. ahead old all ≡ slot ∷ ahead new all)
+
+-- and they stand behind it
+abbrev pub Finds : Option ℕ → Candidates → Candidates → State → Tables → List Row → Type 0
+Finds found old new state tables all =
+    MatchOption found (ahead old all ≡ []) (λ slot. (ahead old all ≡ slot ∷ ahead new all) × Fits new state tables all)
+
+-- over these rows, a step that began and ended at so many reads: what is ahead pays for what was read
+pub record Steps (found : Option ℕ) (old new : Candidates) (state : State) (tables : Tables) (all : List Row) (before after : ℕ) : Type 0 where
+  pub first : IsFirst found old new all
+  pub fits : Fits new state tables all
+  pub reads : after + reads_ahead new all ≤ before + reads_ahead old all
 
 -- no slot from one up to another has the key
 abbrev pub LacksKey : ℤ → List ℤ → ℕ → ℕ → Type 0

@@ -7,6 +7,7 @@ mod info;
 mod inserts;
 mod laws;
 mod tables;
+mod walks;
 
 pub use candidates::{Candidates, Search};
 pub use choices::{Plan, choose, verify_all};

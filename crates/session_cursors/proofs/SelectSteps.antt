@@ -1,5 +1,6 @@
 -- A FETCH of a SELECT: the head of the answer, what is ahead then, and what was read.
 use Rattle.std.proofs.Common.{◌≡◌, ℕ, ◌+◌, ◌-◌, ◌*◌, ◌≤◌, List, [], ◌∷◌, length, map, drop, filter, get_or, slice_get, Option, Some, None, MatchOption, refl, ap, sym, ◌∙◌, subst, arith, length-drop}
+use Rattle.std.specs.Prelude.{IfNone, IfSome}
 use Rattle.std.specs.List.{range_with_len}
 use Rattle.afl_base.specs.Files.{Table}
 use Rattle.db_model.specs.declared.values.Value.{Value}
@@ -26,9 +27,13 @@ pub left_rows : (places : List ℕ) (found : Option ℕ) (tuple : List Value) (o
 left_rows places None tuple old now e ended = ap (map (project places)) (ended refl) ∙ sym (ap (λ (l : List (List Value)). drop 1 (map (project places) l)) e)
 left_rows places (Some slot) tuple old now e ended = sym (ap (λ (l : List (List Value)). drop 1 (map (project places) l)) e)
 
-pub ended_rows : (A : Type 0) (found : Option ℕ) (now : List (List Value)) → MatchOption found (now ≡ []) (λ _. A) → found ≡ None → now ≡ []
-ended_rows A None now h e = h
-ended_rows A (Some slot) now h e = absurd (cc)
+-- where a cursor rests
+abbrev pub at_root : SelectCursor → SelectCursor
+at_root c = record c { candidates = record c.candidates { place = None } }
+
+pub ended_rows : (found : Option ℕ) (now : List (List Value)) → IfNone found (now ≡ []) → found ≡ None → now ≡ []
+ended_rows None now h e = h
+ended_rows (Some slot) now h e = absurd (cc)
 
 -- ---- what is ahead
 
@@ -140,14 +145,14 @@ module _ (c d : SelectCursor) (all : List Row) (search : d.candidates.search ≡
 -- ---- it rests where it has come to
 
 module _ (found : Option ℕ) where
-  pub rested_at : (A : ℕ → Type 0) (from from_now slots slots_now : ℕ) → from_now ≡ from → slots_now ≡ slots → MatchOption found (from ≡ slots) (λ slot. A slot × (from ≡ slot + 1))
+  pub rested_at : (A : ℕ → Type 0) (from from_now slots slots_now : ℕ) → from_now ≡ from → slots_now ≡ slots → IfNone found (from ≡ slots) → IfSome found (λ slot. A slot × (from ≡ slot + 1))
       → MatchOption found (from_now ≡ slots_now) (λ slot. from_now ≡ slot + 1)
-  rested_at A from from_now slots slots_now e f h =
-      subst (λ (n : ℕ). MatchOption found (n ≡ slots_now) (λ slot. n ≡ slot + 1)) (sym e) (subst (λ (n : ℕ). MatchOption found (from ≡ n) (λ slot. from ≡ slot + 1)) (sym f) (second found h))
+  rested_at A from from_now slots slots_now e f ended forward =
+      subst (λ (n : ℕ). MatchOption found (n ≡ slots_now) (λ slot. n ≡ slot + 1)) (sym e) (subst (λ (n : ℕ). MatchOption found (from ≡ n) (λ slot. from ≡ slot + 1)) (sym f) (joined found ended forward))
     where
-      second : (o : Option ℕ) → MatchOption o (from ≡ slots) (λ slot. A slot × (from ≡ slot + 1)) → MatchOption o (from ≡ slots) (λ slot. from ≡ slot + 1)
-      second None g = g
-      second (Some slot) g = g.1
+      joined : (o : Option ℕ) → IfNone o (from ≡ slots) → IfSome o (λ slot. A slot × (from ≡ slot + 1)) → MatchOption o (from ≡ slots) (λ slot. from ≡ slot + 1)
+      joined None n g = n
+      joined (Some slot) n g = g.1
 
   pub rested_on : (old rest rest_now : List ℕ) → rest_now ≡ rest → MatchOption found (old ≡ []) (λ slot. old ≡ slot ∷ rest) → MatchOption found (old ≡ []) (λ slot. old ≡ slot ∷ rest_now)
   rested_on old rest rest_now e h = subst (λ (l : List ℕ). MatchOption found (old ≡ []) (λ slot. old ≡ slot ∷ l)) (sym e) h

@@ -167,8 +167,6 @@ module _ (old new : State) (before after : Tables) (held : Held) (opens : List (
       let st = stays (Select c) refl in
       record {
         rests = h.rests;
-        order = h.order;
-        within = h.within;
         goes_on = λ some. let is = h.goes_on some in
             let still = st.relation is.slot c.cursor.tuples (some, refl) is.there in
             record {

@@ -50,7 +50,7 @@ slots_left_kept c old new grow w =
     ap (filter (λ slot. is_live_and (passes c.code) (get_or new slot no_row))) (ahead_kept c.candidates old new grow w)
     ∙ filters_same (λ slot. takes c.candidates.search (get_or old slot no_row))
     (λ slot. is_live_and (passes c.code) (get_or new slot no_row)) (λ slot. is_live_and (passes c.code) (get_or old slot no_row))
-    c.candidates.from (c.candidates.slots - c.candidates.from) (length old) (omega (arith, w.few, w.order, w.within))
+    c.candidates.from (c.candidates.slots - c.candidates.from) (length old) (omega (arith, w.few, c.candidates.order, c.candidates.within))
     (λ i below. ap (is_live_and (passes c.code)) (grow.same i below))
 
 pub remaining_kept : (c : SelectCursor) (old new : List Row) → RowsGrow old new → Waits c.candidates old → remaining c new ≡ remaining c old
@@ -58,7 +58,7 @@ remaining_kept c old new grow w =
     ap (λ (slots : List ℕ). tuples_at slots new) (slots_left_kept c old new grow w)
     ∙ reads_same (λ slot. takes c.candidates.search (get_or old slot no_row)) (λ slot. is_live_and (passes c.code) (get_or old slot no_row))
     (λ slot. (get_or new slot no_row).tuple) (λ slot. (get_or old slot no_row).tuple)
-    c.candidates.from (c.candidates.slots - c.candidates.from) (length old) (omega (arith, w.few, w.order, w.within))
+    c.candidates.from (c.candidates.slots - c.candidates.from) (length old) (omega (arith, w.few, c.candidates.order, c.candidates.within))
     (λ i below. ap (λ (row : Row). row.tuple) (grow.same i below))
 
 pub ahead_none : (c : Candidates) (all : List Row) → c.slots ≡ 0 → ahead c all ≡ []

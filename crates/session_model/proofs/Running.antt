@@ -388,8 +388,6 @@ module _ (old new : State) (before after : Tables) (held : Held) (opens : List (
   cursor_new n None e h = h
   cursor_new n (Some (Select c)) e h = record {
     rests = h.rests;
-    order = h.order;
-    within = h.within;
     goes_on = λ some. let is = h.goes_on some in record {
       slot = is.slot;
       there = is.there;

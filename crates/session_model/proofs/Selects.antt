@@ -27,12 +27,10 @@ use Rattle.session_model.proofs.Running.{on_relation, relation_there}
 
 -- a cursor that began over the slots of a relation of the session waits
 pub begun_waits : (state : State) (held : Held) (k : ℕ) (t : Tuples) → get_or held.relations k None ≡ Some t → (c : SelectCursor) → c.tuples ≡ t → c.candidates.place ≡ None
-    → c.candidates.from ≤ c.candidates.end → c.candidates.end ≤ c.candidates.slots → c.candidates.slots ≡ slots state.files t
+    → c.candidates.slots ≡ slots state.files t
     → (IsTrue state.tells → Waits c.candidates (rows state.files t)) → IsChosen c.candidates.search (infos_of k t held.indexes) → IsWaiting state held c
-begun_waits state held k t there c tuples rests order within many waits chosen = record {
+begun_waits state held k t there c tuples rests many waits chosen = record {
   rests = rests;
-  order = order;
-  within = within;
   goes_on = λ some. record {
     slot = k;
     there = there ∙ ap (λ (s : Tuples). Some s) (sym tuples);
@@ -74,11 +72,8 @@ module _ (state : State) (tables : Tables) (held : Held) (opens : List (Option O
   waits_none : (all : List Row) → c.candidates.slots ≡ 0 → Waits c.candidates all
   waits_none all none = record {
     few = omega (arith, none);
-    small = omega (arith, none);
-    order = w.order;
-    within = w.within;
     knows = let P : ℕ → Type 0 = λ n. KnowsRows c.candidates.search all c.candidates.from c.candidates.end n in
-        subst P (sym none) (knows_none c.candidates.search all c.candidates.from c.candidates.end (omega (arith, w.within, none)));
+        subst P (sym none) (knows_none c.candidates.search all c.candidates.from c.candidates.end (omega (arith, c.candidates.within, none)));
   }
 
   has_index : (s : Search) (k : ℕ) (from : ℕ) → get_or held.relations k None ≡ Some c.tuples → IndexStands held k s → IsTrue state.tells → HasIndex s None state tables (rows state.files c.tuples) from
@@ -105,11 +100,9 @@ module _ (state : State) (tables : Tables) (held : Held) (opens : List (Option O
 
   -- it waits again where it has taken a row and rests
   pub select_waits : (d : SelectCursor) → d.candidates.place ≡ None → d.tuples ≡ c.tuples → d.candidates.slots ≡ c.candidates.slots → d.candidates.search ≡ c.candidates.search
-      → d.candidates.from ≤ d.candidates.end → d.candidates.end ≤ d.candidates.slots → (IsTrue state.tells → Waits d.candidates (rows state.files c.tuples)) → IsWaiting state held d
-  select_waits d rests tuples many search_is order within waits = record {
+      → (IsTrue state.tells → Waits d.candidates (rows state.files c.tuples)) → IsWaiting state held d
+  select_waits d rests tuples many search_is waits = record {
     rests = rests;
-    order = order;
-    within = within;
     goes_on = λ some.
         let is = w.goes_on (omega (arith, some, many)) in
         record {

@@ -94,8 +94,6 @@ pub record IsOpen (state : State) (held : Held) (c : SelectCursor) : Type 0 wher
 -- no place in a tree is kept; where the relation had no slot, nothing else is asked
 pub record IsWaiting (state : State) (held : Held) (c : SelectCursor) : Type 0 where
   pub rests : c.candidates.place ≡ None
-  pub order : c.candidates.from ≤ c.candidates.end
-  pub within : c.candidates.end ≤ c.candidates.slots
   pub goes_on : 0 < c.candidates.slots → IsOpen state held c
 
 -- a side of a join that had slots has them still

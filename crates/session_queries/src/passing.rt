@@ -28,9 +28,6 @@ pub fn fold_all<V: Files>(
     tallies: &mut [Tally],
 ) -> Result<(), Failed>
     requires may_read { MayRead (V.state files.old) cursor.old.tuples cursor.old.candidates }
-    requires order { cursor.old.candidates.from ≤ cursor.old.candidates.end }
-    requires within { cursor.old.candidates.end ≤ cursor.old.candidates.slots }
-    requires small { cursor.old.candidates.slots ≤ 32768 }
     requires suit { AllSuitFolds cursor.old.tuples.schema.attributes items.now }
     requires many { length items.now ≤ length tallies.old }
     requires aggs { HaveAggs items.now tallies.old }
@@ -76,9 +73,6 @@ fn fold_rows<V: Files>(
     tallies: &mut [Tally],
 ) -> Result<(), Failed>
     requires may_read { MayRead (V.state files.old) cursor.old.tuples cursor.old.candidates }
-    requires order { cursor.old.candidates.from ≤ cursor.old.candidates.end }
-    requires within { cursor.old.candidates.end ≤ cursor.old.candidates.slots }
-    requires small { cursor.old.candidates.slots ≤ 32768 }
     requires suit { AllSuitFolds cursor.old.tuples.schema.attributes items.now }
     requires many { length items.now ≤ length tallies.old }
     requires aggs { HaveAggs items.now tallies.old }

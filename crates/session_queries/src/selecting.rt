@@ -113,8 +113,6 @@ fn select_rows<V: Files, K: Sink>(
     out: &mut K,
 ) -> Result<Outcome, Stop>
     requires may_read { MayRead (V.state files.old) cursor.old.tuples cursor.old.candidates }
-    requires order { cursor.old.candidates.from ≤ cursor.old.candidates.end }
-    requires within { cursor.old.candidates.end ≤ cursor.old.candidates.slots }
     ensures replies { let state = V.state files.old in let all = rows state.files cursor.old.tuples in
         IsTrue state.tells → Fits cursor.old.candidates state tables.now all
         → Replies (Rows (rows_left places.now cursor.old all)) result (K.held out.old) (K.held out.new) }
@@ -166,10 +164,6 @@ fn select_next<V: Files, K: Sink>(
         → cursor.old.candidates.from < cursor.new.candidates.from) }
     ensures tuples { cursor.new.tuples ≡ cursor.old.tuples }
     ensures slots { cursor.new.candidates.slots ≡ cursor.old.candidates.slots }
-    ensures order { cursor.old.candidates.from ≤ cursor.old.candidates.end
-        → cursor.new.candidates.from ≤ cursor.new.candidates.end }
-    ensures within { cursor.old.candidates.end ≤ cursor.old.candidates.slots
-        → cursor.new.candidates.end ≤ cursor.new.candidates.slots }
     ensures may_read { MayRead (V.state files.old) cursor.new.tuples cursor.new.candidates }
     ensures reads { let state = V.state files.old in let all = rows state.files cursor.old.tuples in
         IsTrue state.tells → OnOk result (Fits cursor.old.candidates state tables.now all

@@ -45,9 +45,6 @@ pub(crate) fn select_slots<V: Files>(
     cursor: &mut SelectCursor,
 ) -> Result<Selected, Failed>
     requires may_read { MayRead (V.state files.old) cursor.old.tuples cursor.old.candidates }
-    requires order { cursor.old.candidates.from ≤ cursor.old.candidates.end }
-    requires within { cursor.old.candidates.end ≤ cursor.old.candidates.slots }
-    requires few { cursor.old.candidates.slots ≤ 32768 }
     ensures selected { let state = V.state files.old in
         let all = rows state.files cursor.old.tuples in
         IsTrue state.tells → IfOk result (λ selected.

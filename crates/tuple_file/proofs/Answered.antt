@@ -1,4 +1,5 @@
 -- Rows about which one answer each was given.
+use Rattle.std.proofs.Common.{arith}
 use Rattle.std.proofs.Common.{◌≡◌, refl, sym, ap, subst, ◌∙◌, ℕ, suc, ◌+◌, ◌*◌, ◌≤◌, Bool, true, false, List, [], ◌∷◌, ◌++◌, length, replicate}
 use Rattle.std.specs.Prelude.{map, MatchBool, not, ◌&&◌, if◌then◌else◌, slice_range}
 use Rattle.afl_base.specs.Fields.{put_at}
@@ -7,6 +8,7 @@ use Rattle.db_model.specs.declared.values.Value.{Value}
 use Rattle.db_model.specs.Row.{AllRowsSuit, AllSuit, Row, row_bytes, row_length, rows_bytes}
 use Rattle.tuple_file.specs.Tuples.{AreAnswered, IsAnswered}
 use Rattle.tuple_file.proofs.Drafted.{IsDrafted, drafted_all, drafted_more, drafted_none, drafted_zeros}
+use Rattle.std.proofs.lemmas.Grind.{common_steps}
 
 pub length-answered : (answers : List Value → Bool → Type 0) (olds news : List Row) → AreAnswered answers olds news → length news ≡ length olds
 length-answered answers [] [] all = refl
@@ -60,10 +62,7 @@ pub answered_by : (attributes : List Attribute) (answers : List Value → Bool �
 answered_by attributes answers test [] [] suit is all = refl
 answered_by attributes answers test [] (new ∷ news) suit is all = absurd all
 answered_by attributes answers test (old ∷ olds) [] suit is all = absurd all
-answered_by attributes answers test (old ∷ olds) (new ∷ news) suit is all =
-    let first = one_by attributes answers test old.tuple old.live new suit.0 is all.0 in
-    let rest = answered_by attributes answers test olds news suit.1 is all.1 in
-    ap (λ (row : Row). row ∷ news) first ∙ ap (λ (rows : List Row). (if old.live && test old.tuple then record old { live = false } else old) ∷ rows) rest
+answered_by attributes answers test (old ∷ olds) (new ∷ news) suit is all = grind (arith, common_steps, one_by, answered_by attributes answers test olds news suit.1 is all.1)
 
 -- ---- a draft of n bytes that holds rows as the answers about the first ones say
 
@@ -78,11 +77,7 @@ rewritten_none answers attributes n = record { news = []; answered = tt; drafted
 pub rewritten_zeros : (answers : List Value → Bool → Type 0) (attributes : List Attribute) (n k : ℕ) (olds : List Row) (draft : List ℕ) → Rewritten answers attributes n olds draft → length olds ≡ k
     → row_length attributes * k + row_length attributes ≤ n
     → slice_range draft (row_length attributes * k) (row_length attributes * k + row_length attributes) ≡ replicate (row_length attributes) 0
-rewritten_zeros answers attributes n k olds draft is many inside =
-    let size = row_length attributes in
-    let count : length is.news ≡ k = length-answered answers olds is.news is.answered ∙ many in
-    subst (λ (m : ℕ). slice_range draft (size * m) (size * m + size) ≡ replicate size 0) count
-    (drafted_zeros attributes n is.news draft is.drafted (subst (λ (m : ℕ). size * m + size ≤ n) (sym count) inside))
+rewritten_zeros answers attributes n k olds draft is many inside = grind (arith, common_steps, length-answered, drafted_zeros)
 
 pub rewritten_more : (answers : List Value → Bool → Type 0) (attributes : List Attribute) (n k : ℕ) (olds : List Row) (old new : Row) (draft after : List ℕ) → Rewritten answers attributes n olds draft → length olds ≡ k
     → row_length attributes * k + row_length attributes ≤ n → IsAnswered answers old new → AllSuit attributes new.tuple → after ≡ put_at draft (row_length attributes * k) (row_bytes attributes new)
@@ -100,6 +95,4 @@ rewritten_more answers attributes n k olds old new draft after is many inside on
 
 pub rewritten_all : (answers : List Value → Bool → Type 0) (attributes : List Attribute) (n k : ℕ) (olds : List Row) (draft : List ℕ) → Rewritten answers attributes n olds draft → length olds ≡ k
     → n ≡ row_length attributes * k → (news : List Row) × AreAnswered answers olds news × AllRowsSuit attributes news × (draft ≡ rows_bytes attributes news)
-rewritten_all answers attributes n k olds draft is many full =
-    let count : length is.news ≡ k = length-answered answers olds is.news is.answered ∙ many in
-    (is.news, is.answered, is.drafted.suit, drafted_all attributes n is.news draft is.drafted (full ∙ ap (λ (m : ℕ). row_length attributes * m) (sym count)))
+rewritten_all answers attributes n k olds draft is many full = grind (arith, common_steps, length-answered, drafted_all)

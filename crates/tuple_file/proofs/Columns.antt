@@ -1,5 +1,5 @@
 -- The keys of a column are the numbers of its attribute.
-use Rattle.std.proofs.Common.{◌≡◌, refl, sym, ap, subst, ◌∙◌, IsTrue, inl, inr, ℕ, zero, suc, get_or, ◌+◌, ◌*◌, ◌<◌, true, false, List, [], ◌∷◌, length, take, drop, Some, None, arith, w16, w32, w64}
+use Rattle.std.proofs.Common.{◌≡◌, refl, sym, ap, ◌∙◌, IsTrue, inl, inr, ℕ, zero, suc, get_or, ◌+◌, ◌*◌, ◌<◌, true, false, List, [], ◌∷◌, length, take, drop, Some, None, arith, w16, w32, w64}
 use Rattle.std.specs.Prelude.{Option, slice_get, slice_range}
 use Rattle.std.specs.Option.{option_map_or}
 use Rattle.std.specs.Int.{cast_signed}
@@ -18,6 +18,7 @@ use Rattle.tuple_file.specs.Tuples.{HoldsRows, row, rows, slots}
 use Rattle.tuple_file.specs.declared.tuples.Tuples.{Tuples}
 use Rattle.tuple_file.proofs.Slots.{length-rows, slot_field, slot_inside}
 use Rattle.tuple_file.proofs.Written.{written_each, written_first}
+use Rattle.std.proofs.lemmas.Grind.{common_steps}
 
 -- the attribute at the place
 pub attribute_at : (attributes : List Attribute) (place : ℕ) → IsNumber attributes place → (a : Attribute) × (slice_get attributes place ≡ Some a) × (is_number a.domain ≡ true)
@@ -83,16 +84,10 @@ wide : (t : Tuples) (place : ℕ) (a : Attribute) → slice_get t.schema.attribu
 wide t place a e = ap (λ (o : Option Attribute). option_map_or (λ (x : Attribute). width x.domain) o 0) e
 
 pub column_width : (t : Tuples) (place : ℕ) → IsNumber t.schema.attributes place → IsWidth (column_of t place).width
-column_width t place number =
-    let found = attribute_at t.schema.attributes place number in
-    subst (λ (n : ℕ). IsWidth n) (sym (wide t place found.0 found.1)) (is_width found.0.domain found.2)
+column_width t place number = grind (arith, common_steps, attribute_at, wide, is_width)
 
 pub column_field : (state : State) (t : Tuples) (place slot : ℕ) → IsNumber t.schema.attributes place → HoldsRows state t → slot < slots state.files t → HasField state (column_of t place) slot
-column_field state t place slot number holds below =
-    let found = attribute_at t.schema.attributes place number in
-    let inside = field_inside t.schema.attributes place found.0 found.1 in
-    let slot_end = slot_inside (row_length t.schema.attributes) slot (slots state.files t) below in
-    record { live = holds.file.live; field = omega (arith, wide t place found.0 found.1, inside, slot_end, holds.whole) }
+column_field state t place slot number holds below = grind (arith, common_steps, attribute_at, field_inside, slot_inside, wide)
 
 pub column_key : (state : State) (t : Tuples) (place slot : ℕ) → IsNumber t.schema.attributes place → HoldsRows state t → IsTrue state.tells → slot < slots state.files t
     → key_of_column state (column_of t place) slot ≡ key_of (slice_get (row state.files t slot).tuple place)

@@ -1,5 +1,5 @@
 -- A draft that grows row by row: rows, and zeros behind them.
-use Rattle.std.proofs.Common.{◌≡◌, ◌≢◌, refl, sym, ap, subst, ◌∙◌, ℕ, suc, ◌+◌, ◌-◌, ◌*◌, ◌≤◌, Bool, true, false, List, [], ◌∷◌, ◌++◌, length, take, drop, replicate, arith, mul-suc}
+use Rattle.std.proofs.Common.{◌≡◌, ◌≢◌, refl, sym, ap, subst, ◌∙◌, ℕ, ◌+◌, ◌-◌, ◌*◌, ◌≤◌, Bool, true, false, List, [], ◌∷◌, ◌++◌, length, take, drop, replicate, arith}
 use Rattle.std.specs.Prelude.{slice_index, slice_range}
 use Rattle.std.proofs.lemmas.Grind.{flat_map-append}
 use Rattle.std.proofs.lemmas.List.{append-nil, drop-drop, drop-replicate, drop_at, get_or-append_right, length-append, take-replicate, take_at}
@@ -8,6 +8,7 @@ use Rattle.db_model.specs.declared.schemas.Attribute.{Attribute}
 use Rattle.padded.specs.Padded.{padded}
 use Rattle.db_model.specs.Row.{AllRowsSuit, AllSuit, Row, fields_bytes, mark, row_bytes, row_length, rows_bytes}
 use Rattle.db_model.proofs.Rows.{length-row}
+use Rattle.std.proofs.lemmas.Grind.{common_steps}
 
 -- ---- bytes, and zeros behind them
 
@@ -24,11 +25,7 @@ put_behind n xs ys inside =
 
 -- what stands there before
 zeros_behind : (n k : ℕ) (xs : List ℕ) → length xs + k ≤ n → slice_range (padded n xs) (length xs) (length xs + k) ≡ replicate k 0
-zeros_behind n k xs inside =
-    let zeros : List ℕ = replicate (n - length xs) 0 in
-    ap (take (length xs + k - length xs)) (drop_at xs zeros (length xs) refl)
-    ∙ take-replicate {X = ℕ} (length xs + k - length xs) (n - length xs) 0 (omega (arith, inside))
-    ∙ ap (λ (m : ℕ). replicate m 0) (omega arith)
+zeros_behind n k xs inside = grind (arith, common_steps, drop_at, take-replicate)
 
 -- nothing is left for zeros
 padded_full : (n : ℕ) (xs : List ℕ) → length xs ≡ n → padded n xs ≡ xs
@@ -38,11 +35,7 @@ padded_full n xs long = let none : n - length xs ≡ 0 = omega (arith, long) in 
 
 pub length-rows_bytes : (attributes : List Attribute) (rows : List Row) → AllRowsSuit attributes rows → length (rows_bytes attributes rows) ≡ row_length attributes * length rows
 length-rows_bytes attributes [] s = omega arith
-length-rows_bytes attributes (row ∷ rows) s =
-    let first = length-row attributes row s.0 in
-    let rest = length-rows_bytes attributes rows s.1 in
-    let more : row_length attributes * suc (length rows) ≡ row_length attributes * length rows + row_length attributes = mul-suc (row_length attributes) (length rows) in
-    length-append (row_bytes attributes row) (rows_bytes attributes rows) ∙ omega (arith, first, rest, more)
+length-rows_bytes attributes (row ∷ rows) s = grind (arith, common_steps, length-row, length-append, length-rows_bytes attributes rows s.1)
 
 pub suit_more : (attributes : List Attribute) (rows : List Row) (row : Row) → AllRowsSuit attributes rows → AllSuit attributes row.tuple → AllRowsSuit attributes (rows ++ row ∷ [])
 suit_more attributes [] row s one = (one, tt)
@@ -72,10 +65,7 @@ row_ends attributes row = ends (fields_bytes attributes row.tuple) (mark row.liv
 
 rows_end : (attributes : List Attribute) (row : Row) (rows : List Row) → EndsWell (rows_bytes attributes (row ∷ rows))
 rows_end attributes row [] = subst EndsWell (sym (append-nil (row_bytes attributes row))) (row_ends attributes row)
-rows_end attributes row (r ∷ rows) =
-    let one = length-append (fields_bytes attributes r.tuple) (mark r.live ∷ []) in
-    let rest = length-append (row_bytes attributes r) (rows_bytes attributes rows) in
-    ends (row_bytes attributes row) (rows_bytes attributes (r ∷ rows)) (omega (arith, one, rest)) (rows_end attributes r rows)
+rows_end attributes row (r ∷ rows) = grind (arith, common_steps, length-append, ends, rows_end attributes r rows)
 
 pub last_mark : (attributes : List Attribute) (rows : List Row) → 1 ≤ length (rows_bytes attributes rows) → slice_index (rows_bytes attributes rows) (length (rows_bytes attributes rows) - 1) ≢ 0
 unfolding EndsWell
@@ -93,26 +83,11 @@ drafted_none attributes n = record { suit = tt; bytes = ap (λ (m : ℕ). replic
 
 pub drafted_zeros : (attributes : List Attribute) (n : ℕ) (rows : List Row) (draft : List ℕ) → IsDrafted attributes n rows draft → row_length attributes * length rows + row_length attributes ≤ n
     → slice_range draft (row_length attributes * length rows) (row_length attributes * length rows + row_length attributes) ≡ replicate (row_length attributes) 0
-drafted_zeros attributes n rows draft is inside =
-    let written = rows_bytes attributes rows in
-    let long = length-rows_bytes attributes rows is.suit in
-    let size = row_length attributes in
-    rw is.bytes (subst (λ (at : ℕ). slice_range (padded n written) at (at + size) ≡ replicate size 0) long (zeros_behind n size written (omega (arith, long, inside))))
+drafted_zeros attributes n rows draft is inside = grind (arith, common_steps, length-rows_bytes, zeros_behind)
 
 pub drafted_more : (attributes : List Attribute) (n : ℕ) (rows : List Row) (row : Row) (draft : List ℕ) → IsDrafted attributes n rows draft → AllSuit attributes row.tuple → row_length attributes * length rows + row_length attributes ≤ n
     → IsDrafted attributes n (rows ++ row ∷ []) (put_at draft (row_length attributes * length rows) (row_bytes attributes row))
-drafted_more attributes n rows row draft is one inside =
-    let written : List ℕ = rows_bytes attributes rows in
-    let new : List ℕ = row_bytes attributes row in
-    let long = length-rows_bytes attributes rows is.suit in
-    let wide = length-row attributes row one in
-    let at : put_at draft (row_length attributes * length rows) new ≡ put_at (padded n written) (length written) new =
-    ap (λ (xs : List ℕ). put_at xs (row_length attributes * length rows) new) is.bytes ∙ ap (λ (m : ℕ). put_at (padded n written) m new) (sym long) in
-    let both : rows_bytes attributes (rows ++ row ∷ []) ≡ written ++ new = flat_map-append (row_bytes attributes) rows (row ∷ []) ∙ ap (λ (xs : List ℕ). written ++ xs) (append-nil new) in
-    record {
-      suit = suit_more attributes rows row is.suit one;
-      bytes = at ∙ put_behind n written new (omega (arith, long, wide, inside)) ∙ ap (padded n) (sym both);
-    }
+drafted_more attributes n rows row draft is one inside = grind (arith, common_steps, length-rows_bytes, length-row, flat_map-append, append-nil, suit_more, put_behind)
 
 pub drafted_all : (attributes : List Attribute) (n : ℕ) (rows : List Row) (draft : List ℕ) → IsDrafted attributes n rows draft → n ≡ row_length attributes * length rows → draft ≡ rows_bytes attributes rows
 drafted_all attributes n rows draft is full = is.bytes ∙ padded_full n (rows_bytes attributes rows) (length-rows_bytes attributes rows is.suit ∙ sym full)

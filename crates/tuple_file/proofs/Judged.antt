@@ -1,5 +1,5 @@
 -- Rows that are written as they were read, field by field.
-use Rattle.std.proofs.Common.{◌≡◌, refl, sym, ap, ◌∙◌, ℕ, zero, suc, ◌-◌, ◌≤◌, Bool, true, false, List, [], ◌∷◌, ◌++◌, length, take, drop, get_or, arith, append_assoc, length-append}
+use Rattle.std.proofs.Common.{◌≡◌, refl, sym, ap, ◌∙◌, ℕ, zero, suc, ◌-◌, ◌≤◌, Bool, true, false, List, [], ◌∷◌, ◌++◌, length, take, drop, get_or, arith, length-append}
 use Rattle.std.specs.Prelude.{◌==◌, ◌||◌, ◌↔◌, replicate}
 use Rattle.std.specs.List.{list_all}
 use Rattle.std.proofs.lemmas.Bool.Decides.{nat_tests}
@@ -7,12 +7,12 @@ use Rattle.std.proofs.lemmas.List.{get_or-drop, length-take-le, take-append-drop
 use Rattle.db_model.specs.declared.schemas.Attribute.{Attribute}
 use Rattle.db_model.specs.declared.schemas.Domain.{Domain}
 use Rattle.db_model.specs.declared.schemas.Domain.TheVariants.{Str}
-use Rattle.db_model.specs.Names.{is_text}
-use Rattle.db_model.specs.Row.{field_bytes, field_of, fields_bytes, fields_length, is_text_field, mark, row_bytes, row_of, tuple_of, up_to_zero, width}
+use Rattle.db_model.specs.Row.{field_bytes, field_of, is_text_field, mark, row_bytes, row_of, up_to_zero, width}
 use Rattle.db_model.proofs.Decoded.{length-row_read}
 use Rattle.db_model.proofs.Rows.{drop_front, take_front}
 use Rattle.padded.proofs.Facts.{all_zeros, second_part}
 use Rattle.padded.specs.Padded.{padded}
+use Rattle.std.proofs.lemmas.Grind.{common_steps}
 
 -- the field that bytes begin with is written as it was read
 abbrev pub IsField : Domain → List ℕ → Type 0
@@ -48,11 +48,7 @@ zeros_are_text zero = refl
 zeros_are_text (suc n) = all_zeros n
 
 pub text_field : (n : ℕ) (bytes : List ℕ) → n ≤ length bytes → is_text_field (take n bytes) ≡ true → IsField (Str n) bytes
-text_field n bytes room is =
-    let field : List ℕ = take n bytes in
-    let long : length field ≡ n = length-take-le n bytes room in
-    let zeros = second_part (is_text (up_to_zero field)) (list_all (λ b. b == 0) (drop (length (up_to_zero field)) field)) is in
-    rw is (ap (λ (m : ℕ). padded m (up_to_zero field)) (sym long) ∙ text_and_zeros field zeros)
+text_field n bytes room is = grind (arith, common_steps, length-take-le, second_part, text_and_zeros)
 
 pub text_is : (n : ℕ) (bytes : List ℕ) → IsField (Str n) bytes → is_text_field (take n bytes) ≡ true
 text_is n bytes is = either (is_text_field (take n bytes)) refl
@@ -75,32 +71,16 @@ length-field a bytes =
 -- a row is its first field and the row behind it
 row_more : (a : Attribute) (attributes : List Attribute) (bytes : List ℕ) → row_bytes (a ∷ attributes) (row_of (a ∷ attributes) bytes)
     ≡ field_bytes a.domain (field_of a.domain bytes) ++ row_bytes attributes (row_of attributes (drop (width a.domain) bytes))
-row_more a attributes bytes =
-    let w = width a.domain in
-    let field : List ℕ = field_bytes a.domain (field_of a.domain bytes) in
-    let fields : List ℕ = fields_bytes attributes (tuple_of attributes (drop w bytes)) in
-    append_assoc field fields (mark (row_of (a ∷ attributes) bytes).live ∷ [])
-    ∙ ap (λ (byte : ℕ). field ++ (fields ++ mark (byte == 1) ∷ [])) (sym (get_or-drop w bytes (fields_length attributes) 0))
+row_more a attributes bytes = grind (arith, common_steps, get_or-drop)
 
 pub field_first : (a : Attribute) (attributes : List Attribute) (bytes : List ℕ) → IsRow (a ∷ attributes) bytes → IsField a.domain bytes
-field_first a attributes bytes is =
-    let w = width a.domain in
-    let rest = row_bytes attributes (row_of attributes (drop w bytes)) in
-    sym (take_front w (field_bytes a.domain (field_of a.domain bytes)) rest (length-field a bytes)) ∙ ap (take w) (sym (row_more a attributes bytes) ∙ is)
+field_first a attributes bytes is = grind (arith, common_steps, take_front, length-field, row_more)
 
 pub row_behind : (a : Attribute) (attributes : List Attribute) (bytes : List ℕ) → IsRow (a ∷ attributes) bytes → IsRow attributes (drop (width a.domain) bytes)
-row_behind a attributes bytes is =
-    let w = width a.domain in
-    let rest = row_bytes attributes (row_of attributes (drop w bytes)) in
-    sym (drop_front w (field_bytes a.domain (field_of a.domain bytes)) rest (length-field a bytes)) ∙ ap (drop w) (sym (row_more a attributes bytes) ∙ is)
+row_behind a attributes bytes is = grind (arith, common_steps, drop_front, length-field, row_more)
 
 pub row_whole : (a : Attribute) (attributes : List Attribute) (bytes : List ℕ) → IsField a.domain bytes → IsRow attributes (drop (width a.domain) bytes) → IsRow (a ∷ attributes) bytes
-row_whole a attributes bytes first rest =
-    let w = width a.domain in
-    row_more a attributes bytes
-    ∙ ap (λ (xs : List ℕ). xs ++ row_bytes attributes (row_of attributes (drop w bytes))) first
-    ∙ ap (λ (xs : List ℕ). take w bytes ++ xs) rest
-    ∙ take-append-drop w bytes
+row_whole a attributes bytes first rest = grind (arith, common_steps, row_more, take-append-drop)
 
 -- a row of no fields is its mark
 pub mark_row : (bytes : List ℕ) → length bytes ≡ 1 → ((get_or bytes 0 0 == 1) || (get_or bytes 0 0 == 3)) ≡ true ↔ IsRow [] bytes
@@ -110,9 +90,4 @@ mark_row (zero ∷ []) one = ((λ e. absurd (cc)), (λ is. absurd (omega (arith,
 mark_row (suc zero ∷ []) one = ((λ e. refl), (λ is. refl))
 mark_row (suc (suc zero) ∷ []) one = ((λ e. absurd (cc)), (λ is. absurd (omega (arith, ap (λ (xs : List ℕ). get_or xs 0 0) is))))
 mark_row (suc (suc (suc zero)) ∷ []) one = ((λ e. refl), (λ is. refl))
-mark_row (suc (suc (suc (suc b))) ∷ []) one =
-    let live : (suc (suc (suc (suc b))) == 1) ≡ false = grind (arith, nat_tests) in
-    let removed : (suc (suc (suc (suc b))) == 3) ≡ false = grind (arith, nat_tests) in (
-      (λ e. let none : false ≡ true = (rw (live, removed) at e) in absurd (cc)),
-      (λ is. absurd (omega (arith, ap (λ (xs : List ℕ). get_or xs 0 0) (rw live at is)))),
-    )
+mark_row (suc (suc (suc (suc b))) ∷ []) one = grind (arith, common_steps, nat_tests)

@@ -11,6 +11,7 @@ use Rattle.db_model.specs.Row.{AllRowsSuit, AllSuit, Row, row_at, row_bytes, row
 use Rattle.tuple_file.proofs.Drafted.{IsDrafted, drafted_all, drafted_more, drafted_none, drafted_zeros}
 use Rattle.tuple_file.proofs.Slots.{slot_inside}
 use Rattle.tuple_file.proofs.Written.{all_rows, first_rows, more_rows, no_rows}
+use Rattle.std.proofs.lemmas.Grind.{common_steps}
 
 -- those of some rows that are live
 abbrev pub living : List Row → List Row
@@ -79,20 +80,11 @@ pub record IsPacked (attributes : List Attribute) (bytes : List ℕ) (room k wri
   pub drafted : IsDrafted attributes (row_length attributes * room) (living (first_rows attributes bytes k)) draft
 
 pub packed_none : (attributes : List Attribute) (bytes : List ℕ) (room : ℕ) → IsPacked attributes bytes room 0 0 (replicate (row_length attributes * room) 0)
-packed_none attributes bytes room =
-    let none : living (first_rows attributes bytes 0) ≡ [] = ap living (no_rows attributes bytes) in
-    record {
-      count = ap (λ (xs : List Row). length xs) (sym none);
-      drafted = subst (λ (xs : List Row). IsDrafted attributes (row_length attributes * room) xs (replicate (row_length attributes * room) 0)) (sym none) (drafted_none attributes (row_length attributes * room));
-    }
+packed_none attributes bytes room = grind (arith, common_steps, first_rows, no_rows, IsDrafted, drafted_none)
 
 pub packed_zeros : (attributes : List Attribute) (bytes : List ℕ) (room k written : ℕ) (draft : List ℕ) → IsPacked attributes bytes room k written draft → written < room
     → slice_range draft (row_length attributes * written) (row_length attributes * written + row_length attributes) ≡ replicate (row_length attributes) 0
-packed_zeros attributes bytes room k written draft is below =
-    let size = row_length attributes in
-    let inside = slot_inside size written room below in
-    subst (λ (m : ℕ). slice_range draft (size * m) (size * m + size) ≡ replicate size 0) (sym is.count)
-    (drafted_zeros attributes (size * room) (living (first_rows attributes bytes k)) draft is.drafted (subst (λ (m : ℕ). size * m + size ≤ size * room) is.count inside))
+packed_zeros attributes bytes room k written draft is below = grind (arith, common_steps, slot_inside, drafted_zeros, first_rows)
 
 -- a live row is put behind those that are written
 packed_live : (attributes : List Attribute) (bytes : List ℕ) (room k written : ℕ) (draft after : List ℕ) → IsPacked attributes bytes room k written draft → written < room
@@ -115,11 +107,7 @@ packed_live attributes bytes room k written draft after is below live suit put =
 -- and a removed one is passed over
 packed_removed : (attributes : List Attribute) (bytes : List ℕ) (room k written : ℕ) (draft : List ℕ) → IsPacked attributes bytes room k written draft → (row_at attributes bytes k).live ≡ false
     → IsPacked attributes bytes room (k + 1) written draft
-packed_removed attributes bytes room k written draft is removed =
-    let row : Row = row_at attributes bytes k in
-    let olds : List Row = living (first_rows attributes bytes k) in
-    let same : living (first_rows attributes bytes (k + 1)) ≡ olds = living_more attributes bytes k ∙ ap (λ (xs : List Row). olds ++ xs) (living_one row false removed) ∙ append-nil olds in
-    record { count = is.count ∙ ap (λ (xs : List Row). length xs) (sym same); drafted = subst (λ (xs : List Row). IsDrafted attributes (row_length attributes * room) xs draft) (sym same) is.drafted }
+packed_removed attributes bytes room k written draft is removed = grind (arith, common_steps, first_rows, living_more, living_one, append-nil, IsDrafted)
 
 -- where the draft has room for all live rows, the next slot takes its turn
 pub packed_more : (attributes : List Attribute) (bytes : List ℕ) (room k written now : ℕ) (draft after : List ℕ) → IsPacked attributes bytes room k written draft → room ≡ length (living (rows_of attributes bytes)) → k < slots_in attributes bytes
@@ -143,7 +131,4 @@ packed_more attributes bytes room k written now draft after is all inside live r
 -- at the end the draft holds the live rows
 pub packed_all : (attributes : List Attribute) (bytes : List ℕ) (room written : ℕ) (draft : List ℕ) → IsPacked attributes bytes room (slots_in attributes bytes) written draft → room ≡ length (living (rows_of attributes bytes))
     → AllRowsSuit attributes (living (rows_of attributes bytes)) × (draft ≡ rows_bytes attributes (living (rows_of attributes bytes)))
-packed_all attributes bytes room written draft is all =
-    let drafted : IsDrafted attributes (row_length attributes * room) (living (rows_of attributes bytes)) draft =
-    subst (λ (xs : List Row). IsDrafted attributes (row_length attributes * room) xs draft) (ap living (all_rows attributes bytes)) is.drafted in
-    (drafted.suit, drafted_all attributes (row_length attributes * room) (living (rows_of attributes bytes)) draft drafted (ap (λ (n : ℕ). row_length attributes * n) all))
+packed_all attributes bytes room written draft is all = grind (arith, common_steps, IsDrafted, all_rows, drafted_all)

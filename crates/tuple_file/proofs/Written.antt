@@ -12,6 +12,7 @@ use Rattle.db_model.proofs.Decoded.{length-row_read}
 use Rattle.db_model.proofs.Rows.{rows_of-insert}
 use Rattle.tuple_file.proofs.Lists.{drop_item}
 use Rattle.tuple_file.proofs.Slots.{length-rows, slot_inside, slots_of_whole}
+use Rattle.std.proofs.lemmas.Grind.{common_steps}
 
 -- the rows of the first k slots
 unfoldable pub first_rows : List Attribute → List ℕ → ℕ → List Row
@@ -48,17 +49,7 @@ written_none attributes bytes = let none : 0 ≡ row_length attributes * 0 = ome
 pub written_more : (attributes : List Attribute) (bytes : List ℕ) (k : ℕ) → rows_bytes attributes (first_rows attributes bytes k) ≡ take (row_length attributes * k) bytes
     → row_bytes attributes (row_at attributes bytes k) ≡ slice_range bytes (row_length attributes * k) (row_length attributes * k + row_length attributes)
     → rows_bytes attributes (first_rows attributes bytes (k + 1)) ≡ take (row_length attributes * (k + 1)) bytes
-written_more attributes bytes k front one =
-    let size = row_length attributes in
-    let at = size * k in
-    let more : size * suc k ≡ at + size = mul-suc size k in
-    let row = row_at attributes bytes k in
-    ap (rows_bytes attributes) (more_rows attributes bytes k)
-    ∙ flat_map-append (row_bytes attributes) (first_rows attributes bytes k) (row ∷ [])
-    ∙ ap (λ (xs : List ℕ). rows_bytes attributes (first_rows attributes bytes k) ++ xs) (append-nil (row_bytes attributes row) ∙ one)
-    ∙ ap (λ (xs : List ℕ). xs ++ take (at + size - at) (drop at bytes)) front
-    ∙ take_more bytes at (at + size - at)
-    ∙ ap (λ (m : ℕ). take m bytes) (omega (arith, more))
+written_more attributes bytes k front one = grind (arith, common_steps, more_rows, flat_map-append, append-nil, take_more)
 
 -- then all are, at the last slot
 pub written_all : (attributes : List Attribute) (bytes : List ℕ) (n : ℕ) → length bytes ≡ row_length attributes * n → rows_bytes attributes (first_rows attributes bytes n) ≡ take (row_length attributes * n) bytes
@@ -137,8 +128,4 @@ written_from attributes bytes n long each = written_all attributes bytes n long 
 -- one row more that is written behind them
 pub written_insert : (attributes : List Attribute) (row : Row) (n : ℕ) (bytes : List ℕ) → length bytes ≡ row_length attributes * n → AllSuit attributes row.tuple → rows_bytes attributes (rows_of attributes bytes) ≡ bytes
     → rows_bytes attributes (rows_of attributes (bytes ++ row_bytes attributes row)) ≡ bytes ++ row_bytes attributes row
-written_insert attributes row n bytes long suit all =
-    ap (rows_bytes attributes) (rows_of-insert attributes row n bytes long suit)
-    ∙ flat_map-append (row_bytes attributes) (rows_of attributes bytes) (row ∷ [])
-    ∙ ap (λ (front : List ℕ). front ++ (row_bytes attributes row ++ [])) all
-    ∙ ap (λ (last : List ℕ). bytes ++ last) (append-nil (row_bytes attributes row))
+written_insert attributes row n bytes long suit all = grind (arith, common_steps, rows_of-insert, flat_map-append, append-nil)

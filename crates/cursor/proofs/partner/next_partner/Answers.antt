@@ -13,7 +13,7 @@ returns-in-Some-clause-next g c = λ told indexes fits all_ahead.
     let test = belongs c.args.partner.now.value c.args.partner.now.on in
     let before = c.in_ok-stands.ensures.ahead told indexes all_ahead in
     let stands = c.in_ok-stands.ensures.fits told indexes fits in
-    let found = (rw (c.in-Some.is, c.in_ok-stands.ensures.frame.same) at c.in_ok-next_row.ensures.next) told stands in
+    let found = ((rw (c.in-Some.is, c.in_ok-stands.ensures.frame.same) at c.in_ok-next_row.ensures.steps) told stands).first in
     let e = sym before ∙ found in
     e ∙ ap (λ (l : List ℕ). c.in-Some.slot ∷ l) (partners_behind test all c.args.from c.args.slots c.in-Some.slot (passing test all (ahead c.next_row.new.candidates all)) c.requires.from e)
 
@@ -24,8 +24,8 @@ returns-in-Some-clause-stands g c = λ told indexes fits all_ahead.
     let test = belongs c.args.partner.now.value c.args.partner.now.on in
     let before = c.in_ok-stands.ensures.ahead told indexes all_ahead in
     let stands = c.in_ok-stands.ensures.fits told indexes fits in
-    let found = (rw (c.in-Some.is, c.in_ok-stands.ensures.frame.same) at c.in_ok-next_row.ensures.next) told stands in
+    let found = ((rw (c.in-Some.is, c.in_ok-stands.ensures.frame.same) at c.in_ok-next_row.ensures.steps) told stands).first in
     let e = sym before ∙ found in (
-      (rw (c.in-Some.is, c.in_ok-stands.ensures.frame.same) at c.in_ok-next_row.ensures.ended) told stands,
+      ((rw (c.in-Some.is, c.in_ok-stands.ensures.frame.same) at c.in_ok-next_row.ensures.steps) told stands).fits,
       partners_behind test all c.args.from c.args.slots c.in-Some.slot (passing test all (ahead c.next_row.new.candidates all)) c.requires.from e,
     )

@@ -1,6 +1,5 @@
-use Rattle.std.proofs.Common.{◌≡◌, ◌≤◌, ◌-◌, IsTrue, List}
-use Rattle.db_model.specs.Row.{Row}
-use Rattle.index_set.specs.Walks.{Fits, Waits}
+use Rattle.std.proofs.Common.{◌≡◌, ◌≤◌, ◌-◌, IsTrue, None}
+use Rattle.index_set.specs.Walks.{Advances, Fits}
 use Rattle.tuple_file.specs.Tuples.{rows}
 use Rattle.cursor.proofs.Walking.{Walking}
 use Rattle.cursor.proofs.walk.next_row.Given as goal
@@ -11,12 +10,8 @@ invariant-slots g l = record {
   lent : g.V.Files.lent l.files ≡ g.V.Files.lent l.fn.files;
   reads_later : g.V.Files.reads l.fn.files ≤ g.V.Files.reads l.files;
   faults : g.V.Files.faults l.fn.files ≤ g.V.Files.faults l.files;
-  slots : l.candidates.slots ≡ l.fn.candidates.slots;
-  search : l.candidates.search ≡ l.fn.candidates.search;
+  passes : Advances None l.fn.candidates l.candidates;
   later : l.fn.candidates.from ≤ l.candidates.from;
-  order : l.fn.candidates.from ≤ l.fn.candidates.end → l.candidates.from ≤ l.candidates.end;
-  within : l.fn.candidates.end ≤ l.fn.candidates.slots → l.candidates.end ≤ l.candidates.slots;
-  waits : (all : List Row) → Waits l.fn.candidates all → Waits l.candidates all;
   told : IsTrue (g.V.Files.state l.fn.files).tells → Fits l.fn.candidates (g.V.Files.state l.fn.files) l.tables (rows (g.V.Files.state l.fn.files).files l.tuples)
       → Walking (g.V.Files.state l.fn.files) l.tables (rows (g.V.Files.state l.fn.files).files l.tuples) (g.T.Test.passes l.test)
       l.fn.candidates l.candidates (g.V.Files.reads l.fn.files) (g.V.Files.reads l.files);

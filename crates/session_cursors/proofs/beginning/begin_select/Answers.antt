@@ -89,10 +89,10 @@ returns-clause-rows g c = λ told condition code.
     let h = c.in_ok-cursor.ensures in
     let cursor = c.in_ok-cursor.cursor in
     let places = c.args.plan.places in
-    let tuples : cursor.tuples ≡ t = h.tuples ∙ e1 in
+    let tuples : cursor.tuples ≡ t = h.begun.tuples ∙ e1 in
     let P : Tuples → List IndexInfo → Type 0 = λ z l. (d : Option Cond) → IsCodeOf z.schema.attributes d c.args.plan.code → AreIndexesOf state tables (rows state.files z) l
     → remaining cursor (rows state.files z) ≡ selected z.schema.attributes d (rows state.files z) in
-    let left : P t (infos_of k t held.indexes) = subst (λ (l : List IndexInfo). P t l) e2 (subst (λ (z : Tuples). P z infos) e1 (h.remaining told)) in
+    let left : P t (infos_of k t held.indexes) = subst (λ (l : List IndexInfo). P t l) e2 (subst (λ (z : Tuples). P z infos) e1 (λ d code_is are. (h.begins told d code_is are).remaining)) in
     ap (λ (z : Tuples). map (project places) (remaining cursor (rows state.files z))) tuples
     ∙ ap (map (project places)) (left condition code (are_indexes state tables held opens r k t there told))
 
@@ -119,11 +119,11 @@ returns-clause-ahead g c = λ told condition code.
     → ahead cursor.candidates (rows state.files z) ≡ slots_passed (kinds l) (ranges_of z.schema.attributes d) (length (rows state.files z)) (rows state.files z) in
     let Q : Tuples → List IndexInfo → Type 0 = λ z l. (d : Option Cond) → IsCodeOf z.schema.attributes d c.args.plan.code
     → walk_of cursor.candidates.search ≡ model.walk_of (kinds l) (plan (kinds l) (ranges_of z.schema.attributes d)) in
-    let stops : O t = subst O e1 (h.slots_left told) in
-    let begins : P t (infos_of k t held.indexes) = subst (λ (l : List IndexInfo). P t l) e2 (subst (λ (z : Tuples). P z infos) e1 (h.ahead told)) in
+    let stops : O t = subst O e1 (λ d code_is are. (h.begins told d code_is are).slots_left) in
+    let begins : P t (infos_of k t held.indexes) = subst (λ (l : List IndexInfo). P t l) e2 (subst (λ (z : Tuples). P z infos) e1 (λ d code_is are. (h.begins told d code_is are).ahead)) in
     let walks : Q t (infos_of k t held.indexes) = subst (λ (l : List IndexInfo). Q t l) e2 (subst (λ (z : Tuples). Q z infos) e1 h.walk) in
     let A : List IndexInfo → Type 0 = λ l. AreIndexesOf state tables (rows state.files t) l in
-    select_begun state.files (record { cursor = cursor; places = c.args.plan.places }) t (infos_of k t held.indexes) condition (h.tuples ∙ e1) (walks condition code) (begins condition code indexes)
+    select_begun state.files (record { cursor = cursor; places = c.args.plan.places }) t (infos_of k t held.indexes) condition (h.begun.tuples ∙ e1) (walks condition code) (begins condition code indexes)
     (stops condition code (subst A (sym e2) indexes))
 
 pub returns-clause-waits : goal.returns-clause-waits
@@ -142,11 +142,11 @@ returns-clause-waits g c =
     let e2 : infos ≡ infos_of k t held.indexes = c.indexes_of-indexes.ensures in
     let h = c.in_ok-cursor.ensures in
     let cursor = c.in_ok-cursor.cursor in
-    let many : cursor.candidates.slots ≡ slots state.files t = h.slots ∙ ap (λ (z : Tuples). slots state.files z) e1 in
+    let many : cursor.candidates.slots ≡ slots state.files t = h.begun.slots ∙ ap (λ (z : Tuples). slots state.files z) e1 in
     let P : Tuples → List IndexInfo → Type 0 = λ z l. AreIndexesOf state tables (rows state.files z) l → Fits cursor.candidates state tables (rows state.files z) in
-    begun_waits state held k t there cursor (h.tuples ∙ e1) h.rests h.order h.within many
+    begun_waits state held k t there cursor (h.begun.tuples ∙ e1) h.begun.rests many
     (λ told. ((subst (λ (l : List IndexInfo). P t l) e2 (subst (λ (z : Tuples). P z infos) e1 (h.fits told))) (are_indexes state tables held opens r k t there told)).waits)
-    (subst (λ (l : List IndexInfo). IsChosen cursor.candidates.search l) e2 h.chosen)
+    (subst (λ (l : List IndexInfo). IsChosen cursor.candidates.search l) e2 h.begun.chosen)
 
 pub returns-in_err-cursor-clause-reads : goal.returns-in_err-cursor-clause-reads
 returns-in_err-cursor-clause-reads g c =

@@ -30,11 +30,11 @@ returns-clause-numbers g c = λ t condition code.
     let indexes = c.requires.ready.complete t in
     let fresh = rw c.as_slice.ensures.items at c.new_tallies-tallies.ensures.fresh in
     let start : AreFolded items left c.new_tallies-tallies.result = λ i inside. (fresh i inside).told (column_values (item_at items i).1 left) in
-    let folded = (rw (h.frame.same, h.tuples, c.as_slice-2.ensures.items) at c.in_ok-fold_all.ensures.folded) t (h.fits t indexes) start in
+    let folded = (rw (h.frame.same, h.begun.tuples, c.as_slice-2.ensures.items) at c.in_ok-fold_all.ensures.folded) t (h.fits t indexes) start in
     let aggs = rw c.as_slice-2.ensures.items at c.in_ok-fold_all.ensures.aggs in
     let done = rw c.as_slice-2.ensures.items at c.in_ok-fold_all.ensures.done in
     (rw c.as_slice-3.ensures.items at c.answers_of.ensures.told) left aggs folded done
-    ∙ ap (λ (tuples : List (List Value)). answers items tuples) (h.remaining t condition code indexes)
+    ∙ ap (λ (tuples : List (List Value)). answers items tuples) (h.begins t condition code indexes).remaining
 
 pub returns-clause-reads : goal.returns-clause-reads
 returns-clause-reads g c = λ t condition code.
@@ -45,8 +45,8 @@ returns-clause-reads g c = λ t condition code.
     let ranges = ranges_of found.tuples.schema.attributes condition in
     let indexes = c.requires.ready.complete t in
     let begun = rw (sym (count_rows (g.V.Files.state c.args.files.now).files found.tuples)) at (h.reads condition code) in
-    let passed = (rw (h.frame.same, h.tuples, c.as_slice-2.ensures.items) at c.in_ok-fold_all.ensures.reads) t (h.fits t indexes) in
-    let paid = passes_paid (medians items) (begin_cost (length all) (plan (kinds found.indexes) ranges)) (cost_ahead c.in_ok-cursor.cursor.candidates all) (chosen_cost (kinds found.indexes) ranges all) (h.cost t condition code indexes) in
+    let passed = (rw (h.frame.same, h.begun.tuples, c.as_slice-2.ensures.items) at c.in_ok-fold_all.ensures.reads) t (h.fits t indexes) in
+    let paid = passes_paid (medians items) (begin_cost (length all) (plan (kinds found.indexes) ranges)) (cost_ahead c.in_ok-cursor.cursor.candidates all) (chosen_cost (kinds found.indexes) ranges all) ((h.begins t condition code indexes).cost) in
     omega (arith, begun, passed, paid)
 
 pub returns-in_err-fold_all-clause-reads : goal.returns-in_err-fold_all-clause-reads
@@ -58,6 +58,6 @@ returns-in_err-fold_all-clause-reads g c = λ t condition code.
     let ranges = ranges_of found.tuples.schema.attributes condition in
     let indexes = c.requires.ready.complete t in
     let begun = rw (sym (count_rows (g.V.Files.state c.args.files.now).files found.tuples)) at (h.reads condition code) in
-    let passed = (rw (h.frame.same, h.tuples, c.as_slice-2.ensures.items) at c.in_err-fold_all.ensures.reads) t (h.fits t indexes) in
-    let paid = passes_paid (medians items) (begin_cost (length all) (plan (kinds found.indexes) ranges)) (cost_ahead c.in_ok-cursor.cursor.candidates all) (chosen_cost (kinds found.indexes) ranges all) (h.cost t condition code indexes) in
+    let passed = (rw (h.frame.same, h.begun.tuples, c.as_slice-2.ensures.items) at c.in_err-fold_all.ensures.reads) t (h.fits t indexes) in
+    let paid = passes_paid (medians items) (begin_cost (length all) (plan (kinds found.indexes) ranges)) (cost_ahead c.in_ok-cursor.cursor.candidates all) (chosen_cost (kinds found.indexes) ranges all) ((h.begins t condition code indexes).cost) in
     omega (arith, begun, passed, paid)

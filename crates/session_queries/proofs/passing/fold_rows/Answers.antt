@@ -1,6 +1,7 @@
 use Rattle.std.proofs.Common.{arith, List, ◌++◌, refl, sym, subst, ap, ◌∙◌, append-nil}
 use Rattle.db_model.specs.declared.values.Value.{Value}
 use Rattle.db_model.specs.Row.{AllSuit}
+use Rattle.cursor.specs.declared.select.SelectCursor.{SelectCursor}
 use Rattle.tuple_file.specs.Tuples.{rows}
 use Rattle.tuple_file.specs.declared.tuples.Tuples.{Tuples}
 use Rattle.session_queries.specs.Folded.{AreFolding}
@@ -20,35 +21,36 @@ rows-preserved g c =
     let inv = c.rows.invariant in
     let h = c.in-Ok-Some.ensures in
     let takes = c.push_all.ensures.takes in
-    let went = rw c.in-Ok-Some.field-0-is at h.forward in
+    let advances = rw c.in-Ok-Some.field-0-is at h.advances in
+    let forward = advances.forward in
+    let order = forward.0 in
+    let from = forward.1 in
     record {
       same = h.frame.same ∙ inv.same;
       lent = h.frame.lent ∙ inv.lent;
       reads_later = omega (arith, inv.reads_later, h.frame.later);
       files_later = omega (arith, inv.files_later, h.frame.cause.later);
-      tuples = h.tuples ∙ inv.tuples;
-      code = h.code ∙ inv.code;
-      order = h.order inv.order;
-      within = h.within inv.within;
-      slots = h.slots ∙ inv.slots;
+      tuples = ap (λ (x : SelectCursor). x.tuples) h.stands ∙ inv.tuples;
+      code = ap (λ (x : SelectCursor). x.code) h.stands ∙ inv.code;
+      slots = advances.slots ∙ inv.slots;
       may_read = rw inv.same at h.may_read;
       many = c.push_all.ensures.many ∙ inv.many;
       aggs = λ i inside. (takes i inside).agg ∙ inv.aggs i inside;
       stand = λ passes stand i inside. (takes i inside).stands passes (inv.stand passes stand i inside);
-      pushed = λ i inside is_open. omega (arith, (takes i inside).pushed, inv.pushed i inside ((takes i inside).open_only is_open), went);
+      pushed = λ i inside is_open. omega (arith, (takes i inside).pushed, inv.pushed i inside ((takes i inside).open_only is_open), order, from);
       told = λ t f.
           let s = inv.told t f in
+          let y = rw c.in-Ok-Some.field-0-is at ((rw (inv.same, inv.tuples) at h.yields) t s.fits) in
           fold_goes_on (g.V.Files.state c.args.files.now) c.args.tables.now (rows (g.V.Files.state c.args.files.now).files c.args.cursor.now.tuples) c.args.items.now c.args.cursor.now c.rows.cursor c.next.new.self c.args.tallies.now c.rows.tallies c.push_all.new.tallies c.next.new.into
           (g.V.Files.reads c.args.files.now) (g.V.Files.reads c.rows.files) (g.V.Files.reads c.next.new.files) s
-          (rw c.in-Ok-Some.field-0-is at ((rw (inv.same, inv.tuples) at h.next) t s.fits))
-          ((rw (inv.same, inv.tuples) at h.fits) t s.fits) takes ((rw (inv.same, inv.tuples) at h.reads) t s.fits);
+          y.next y.fits takes y.reads;
     }
 
 pub returns-in-Ok-None-clause-folded : goal.returns-in-Ok-None-clause-folded
 returns-in-Ok-None-clause-folded g c = λ t f whole are.
     let inv = c.rows.invariant in
     let s = inv.told t f in
-    let none = rw c.in-Ok-None.field-0-is at ((rw (inv.same, inv.tuples) at c.in-Ok-None.ensures.next) t s.fits) in
+    let none = (rw c.in-Ok-None.field-0-is at ((rw (inv.same, inv.tuples) at c.in-Ok-None.ensures.yields) t s.fits)).next in
     let all = s.whole ∙ ap (λ (l : List (List Value)). s.done ++ l) none ∙ append-nil s.done in
     subst (λ (l : List (List Value)). AreFolding c.args.items.now whole l c.rows.tallies) (sym all) (s.folded whole are)
 
@@ -66,8 +68,6 @@ rows-init g c = record {
   files_later = omega arith;
   tuples = refl;
   code = refl;
-  order = c.requires.order;
-  within = c.requires.within;
   slots = refl;
   may_read = c.requires.may_read;
   many = refl;

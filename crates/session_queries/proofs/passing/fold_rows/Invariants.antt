@@ -14,8 +14,6 @@ invariant-rows g l = record {
   files_later : g.V.Files.faults l.fn.files ≤ g.V.Files.faults l.files;
   tuples : l.cursor.tuples ≡ l.fn.cursor.tuples;
   code : l.cursor.code ≡ l.fn.cursor.code;
-  order : l.cursor.candidates.from ≤ l.cursor.candidates.end;
-  within : l.cursor.candidates.end ≤ l.cursor.candidates.slots;
   slots : l.cursor.candidates.slots ≡ l.fn.cursor.candidates.slots;
   may_read : MayRead (g.V.Files.state l.fn.files) l.cursor.tuples l.cursor.candidates;
   many : length l.tallies ≡ length l.fn.tallies;

@@ -14,17 +14,17 @@ pub returns-in-Ok-clause-replies : goal.returns-in-Ok-clause-replies
 returns-in-Ok-clause-replies g c = λ t condition code.
     let h = c.in-Ok.ensures in
     let indexes = c.requires.ready.complete t in
-    let wrote = (rw (h.frame.same, h.tuples) at c.select_rows.ensures.replies) t (h.fits t indexes) in
+    let wrote = (rw (h.frame.same, h.begun.tuples) at c.select_rows.ensures.replies) t (h.fits t indexes) in
     subst (λ (all : List (List Value)). Replies (Rows (map (project c.args.selecting.plan.places) all)) c.select_rows.result (g.K.Sink.held c.args.out.now) (g.K.Sink.held c.select_rows.new.out))
-    (h.remaining t condition code indexes) wrote
+    (h.begins t condition code indexes).remaining wrote
 
 pub returns-in-Ok-clause-reads : goal.returns-in-Ok-clause-reads
 returns-in-Ok-clause-reads g c = λ t condition code.
     let h = c.in-Ok.ensures in
     let indexes = c.requires.ready.complete t in
-    let few = (rw (h.frame.same, h.tuples) at c.select_rows.ensures.reads) t (h.fits t indexes) in
+    let few = (rw (h.frame.same, h.begun.tuples) at c.select_rows.ensures.reads) t (h.fits t indexes) in
     let begun = rw (sym (count_rows (g.V.Files.state c.args.files.now).files c.args.selecting.found.tuples)) at (h.reads condition code) in
-    omega (arith, few, begun, h.cost t condition code indexes)
+    omega (arith, few, begun, (h.begins t condition code indexes).cost)
 
 pub returns-in-Err-clause-reads : goal.returns-in-Err-clause-reads
 returns-in-Err-clause-reads g c = λ t condition code.

@@ -14,8 +14,6 @@ invariant-rows g l = record {
   faultless : g.K.Sink.faults l.out ≡ g.K.Sink.faults l.fn.out;
   sink_lent : g.K.Sink.lent l.out ≡ g.K.Sink.lent l.fn.out;
   tuples : l.cursor.tuples ≡ l.fn.cursor.tuples;
-  order : l.cursor.candidates.from ≤ l.cursor.candidates.end;
-  within : l.cursor.candidates.end ≤ l.cursor.candidates.slots;
   slots : l.cursor.candidates.slots ≡ l.fn.cursor.candidates.slots;
   few : l.count ≤ l.cursor.candidates.from;
   may_read : MayRead (g.V.Files.state l.fn.files) l.cursor.tuples l.cursor.candidates;

@@ -21,9 +21,9 @@ returns-in-Ok-clause-removed g c = λ told condition code indexes.
     let t = c.args.tuples.now in
     let begun = c.in_ok-cursor.ensures in
     let all = rows old.files t in
-    let is = is_selected old mid c.args.tables.now t c.copy.result c.args.indexes.now c.args.code c.in_ok-cursor.cursor c.in_ok-selected.selected c.copy.ensures begun.frame.same begun.tuples
-    begun.slots_left begun.fits c.in_ok-selected.ensures.selected told condition code indexes in (
-      is_removed old late new t c.args.code c.select_slots.new.cursor.code c.in_ok-selected.selected (c.in_ok-selected.ensures.frame.same ∙ begun.frame.same) (c.in_ok-selected.ensures.code ∙ begun.code)
+    let is = is_selected old mid c.args.tables.now t c.copy.result c.args.indexes.now c.args.code c.in_ok-cursor.cursor c.in_ok-selected.selected c.copy.ensures begun.frame.same begun.begun.tuples
+    (λ told condition code indexes. (begun.begins told condition code indexes).slots_left) begun.fits c.in_ok-selected.ensures.selected told condition code indexes in (
+      is_removed old late new t c.args.code c.select_slots.new.cursor.code c.in_ok-selected.selected (c.in_ok-selected.ensures.frame.same ∙ begun.frame.same) (c.in_ok-selected.ensures.code ∙ begun.begun.code)
           c.in-Ok.ensures.rows told condition code is,
       is.count ∙ counted t.schema.attributes condition all,
     )
@@ -37,8 +37,8 @@ returns-in-Err-Space-clause-wants g c = λ told condition code indexes.
     let t = c.args.tuples.now in
     let begun = c.in_ok-cursor.ensures in
     let all = rows old.files t in
-    let is = is_selected old mid c.args.tables.now t c.copy.result c.args.indexes.now c.args.code c.in_ok-cursor.cursor c.in_ok-selected.selected c.copy.ensures begun.frame.same begun.tuples
-    begun.slots_left begun.fits c.in_ok-selected.ensures.selected told condition code indexes in
+    let is = is_selected old mid c.args.tables.now t c.copy.result c.args.indexes.now c.args.code c.in_ok-cursor.cursor c.in_ok-selected.selected c.copy.ensures begun.frame.same begun.begun.tuples
+    (λ told condition code indexes. (begun.begins told condition code indexes).slots_left) begun.fits c.in_ok-selected.ensures.selected told condition code indexes in
     let same = c.in_ok-selected.ensures.frame.same ∙ begun.frame.same in
     let kept : rows new.files t ≡ all =
     rows_prepared late new _ t (rw c.in-Err-Space.field-0-is at c.in-Err-Space.ensures.space) (ap (λ s. s.tells) same ∙ told) ∙ ap (λ s. rows s.files t) same in

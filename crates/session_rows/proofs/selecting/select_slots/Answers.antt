@@ -1,9 +1,10 @@
-use Rattle.std.proofs.Common.{rules, ◌≡◌, ◌∷◌, IsTrue, arith, subst}
+use Rattle.std.proofs.Common.{rules, ap, ◌∙◌, Some, IsTrue, arith, subst}
 use Rattle.afl_base.specs.Files.{State}
 use Rattle.index_set.specs.Walks.{Fits}
 use Rattle.tuple_file.specs.declared.tuples.Tuples.{Tuples}
 use Rattle.tuple_file.specs.Tuples.{rows}
-use Rattle.cursor.specs.Remaining.{slots_left}
+use Rattle.cursor.specs.declared.select.SelectCursor.{SelectCursor}
+use Rattle.cursor.specs.Remaining.{Yields, slots_left}
 use Rattle.session_rows.specs.Marking.{IsMarkedFront}
 use Rattle.session_rows.proofs.selecting.select_slots.Goals as goal
 
@@ -17,26 +18,29 @@ slots-preserved g c =
     let tables = c.args.tables.now in
     let inv = c.slots.invariant in
     let slot = c.in-Some.slot in
-    let Steps : State → Tuples → Type 0 = λ s t. IsTrue s.tells → Fits c1.candidates s tables (rows s.files t) → Fits c2.candidates s tables (rows s.files t) in
-    let Finds : State → Tuples → Type 0 = λ s t. IsTrue s.tells → Fits c1.candidates s tables (rows s.files t) → slots_left c1 (rows s.files t) ≡ slot ∷ slots_left c2 (rows s.files t) in
-    let steps = subst (λ (t : Tuples). Steps s0 t) inv.tuples (subst (λ (s : State). Steps s c1.tuples) inv.same c.in_ok-slot.ensures.fits) in
-    let finds = subst (λ (t : Tuples). Finds s0 t) inv.tuples (subst (λ (s : State). Finds s c1.tuples) inv.same (rw c.in-Some.is at c.in_ok-slot.ensures.slot)) in
-    let low = rw c.in-Some.is at c.in_ok-slot.ensures.below in
+    let h = c.in_ok-slot.ensures in
+    let r1 = g.V.Files.reads c.slots.files in
+    let r2 = g.V.Files.reads c.next.new.files in
+    let Y : State → Tuples → Type 0 = λ s t. IsTrue s.tells → Fits c1.candidates s tables (rows s.files t) → Yields (Some slot) c.next.new.into c1 c2 s tables (rows s.files t) r1 r2 in
+    let yields = subst (λ (t : Tuples). Y s0 t) inv.tuples (subst (λ (s : State). Y s c1.tuples) inv.same (rw c.in-Some.is at h.yields)) in
+    let advances = rw c.in-Some.is at h.advances in
+    let low = advances.below in
+    let forward = advances.forward in
+    let order = forward.0 in
+    let from = forward.1 in
     record {
       same = search rules;
       lent = search rules;
       faults = search rules;
       reads = search rules;
-      tuples = search rules;
-      code = search rules;
-      slots = search rules;
-      order = search rules;
-      within = search rules;
-      few = search rules;
+      tuples = ap (λ (x : SelectCursor). x.tuples) h.stands ∙ inv.tuples;
+      code = ap (λ (x : SelectCursor). x.code) h.stands ∙ inv.code;
+      slots = advances.slots ∙ inv.slots;
+      few = omega (arith, inv.few, order, from, c.add.ensures.count);
       firsts = search rules;
       may_read = search rules;
       below = c.add.ensures.below c0.candidates.slots inv.below (omega (arith, low, inv.slots));
-      fits = λ told f. steps told (inv.fits told f);
+      fits = λ told f. (yields told (inv.fits told f)).fits;
       front = λ told f. c.add.ensures.front (slots_left c0 (rows s0.files c0.tuples)) (slots_left c2 (rows s0.files c0.tuples))
-          (subst (λ left. IsMarkedFront c.slots.selected (slots_left c0 (rows s0.files c0.tuples)) left) (finds told (inv.fits told f)) (inv.front told f));
+          (subst (λ left. IsMarkedFront c.slots.selected (slots_left c0 (rows s0.files c0.tuples)) left) (yields told (inv.fits told f)).slot (inv.front told f));
     }

@@ -14,8 +14,6 @@ invariant-slots g l = record {
   tuples : l.cursor.tuples ≡ l.fn.cursor.tuples;
   code : l.cursor.code ≡ l.fn.cursor.code;
   slots : l.cursor.candidates.slots ≡ l.fn.cursor.candidates.slots;
-  order : l.cursor.candidates.from ≤ l.cursor.candidates.end;
-  within : l.cursor.candidates.end ≤ l.cursor.candidates.slots;
   few : l.selected.count ≤ l.cursor.candidates.from;
   firsts : length l.selected.first ≤ l.selected.count;
   may_read : MayRead (g.V.Files.state l.fn.files) l.cursor.tuples l.cursor.candidates;

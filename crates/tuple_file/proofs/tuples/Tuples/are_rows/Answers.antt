@@ -1,4 +1,4 @@
-use Rattle.std.proofs.Common.{◌≡◌, refl, ℕ, ◌+◌, ◌-◌, ◌*◌, ◌≤◌, ◌<◌, ◌∙◌, sym, subst, arith, mul-add, mul-le-mul_left}
+use Rattle.std.proofs.Common.{◌≡◌, ℕ, ◌+◌, ◌-◌, ◌*◌, ◌≤◌, ◌<◌, ◌∙◌, sym, subst, arith, mul-add, mul-le-mul_left}
 use Rattle.std.proofs.Math.Logic.{⊎_elim}
 use Rattle.std.proofs.lemmas.Bool.{cases_lt}
 use Rattle.afl_base.specs.Files.{bytes_at}
@@ -6,6 +6,7 @@ use Rattle.db_model.specs.Row.{row_bytes, row_length}
 use Rattle.tuple_file.specs.Tuples.{row, slot_bytes}
 use Rattle.tuple_file.proofs.Written.{written_each, written_first, written_from}
 use Rattle.tuple_file.proofs.tuples.Tuples.are_rows.Goals as goal
+use Rattle.std.proofs.lemmas.Grind.{common_steps}
 
 pub are_rows_from-requires-clause-range : goal.are_rows_from-requires-clause-range
 are_rows_from-requires-clause-range g c =
@@ -60,12 +61,4 @@ returns-then-not-branch-clause-valid g c told =
     )
 
 pub returns-clause-valid : goal.returns-clause-valid
-returns-clause-valid g c told =
-    let attributes = c.args.self.now.schema.attributes in
-    let bytes = bytes_at (g.V.Files.state c.args.files.now).files c.args.self.now.file in
-    let inv = c.loop-slot.invariant in
-    let count : ℕ = c.args.count in
-    let end : c.loop-slot.slot ≡ count = omega (arith, c.loop-slot-test.false, inv.within) in (
-      (λ done. written_from attributes bytes count c.requires.whole (λ k below. inv.each told k (omega (arith, end, below)))),
-      (λ all. refl),
-    )
+returns-clause-valid g c told = grind (arith, common_steps, written_from)

@@ -1,15 +1,14 @@
-use Rattle.std.proofs.Common.{◌≡◌, ◌+◌, ◌∙◌, refl, ap, length, List, arith}
+use Rattle.std.proofs.Common.{◌≡◌, ◌+◌, ◌∙◌, ap, length, List, arith}
 use Rattle.afl_base.specs.Files.{bytes_at}
 use Rattle.db_model.specs.Row.{Row}
 use Rattle.tuple_file.specs.Tuples.{slots}
 use Rattle.tuple_file.proofs.Packed.{bool_below, count_more, count_none, living}
 use Rattle.tuple_file.proofs.Written.{all_rows, first_rows}
 use Rattle.tuple_file.proofs.tuples.Tuples.count_live.Goals as goal
+use Rattle.std.proofs.lemmas.Grind.{common_steps}
 
 pub loop-slot-init : goal.loop-slot-init
-loop-slot-init g c =
-    let bytes = bytes_at (g.V.Files.state c.args.files.now).files c.args.self.now.file in
-    record { same = refl; lent = refl; later = omega arith; faults = omega arith; few = omega arith; live = λ told. count_none c.args.self.now.schema.attributes bytes }
+loop-slot-init g c = grind (arith, common_steps, count_none)
 
 pub loop-slot-preserved : goal.loop-slot-preserved
 loop-slot-preserved g c =

@@ -1,4 +1,4 @@
-use Rattle.std.proofs.Common.{◌≡◌, ◌∙◌, refl, sym, ap, subst, length, replicate, List, arith}
+use Rattle.std.proofs.Common.{◌∙◌, sym, subst, length, List, arith}
 use Rattle.std.specs.Fn.{FnReturnsAt}
 use Rattle.afl_base.specs.Files.{Table, bytes_at, draft_in}
 use Rattle.db_model.specs.Row.{Row, row_length}
@@ -7,33 +7,13 @@ use Rattle.tuple_file.proofs.Answered.{Rewritten, rewritten_all, rewritten_more,
 use Rattle.tuple_file.proofs.Slots.{slot_inside}
 use Rattle.tuple_file.proofs.Written.{all_rows, first_rows, length-first_rows, more_rows, no_rows}
 use Rattle.tuple_file.proofs.tuples.Tuples.draft_answered.Goals as goal
+use Rattle.std.proofs.lemmas.Grind.{common_steps}
 
 pub loop-slot-init : goal.loop-slot-init
-loop-slot-init g c =
-    let attributes = c.args.self.now.schema.attributes in
-    let bytes = bytes_at (g.V.Files.state c.args.files.now).files c.args.self.now.file in
-    let answers = FnReturnsAt g.F.Fn c.args.removed.now in
-    record {
-      only = record { begun = c.requires.begun; name = refl; size = refl; files = refl; tells = refl };
-      store = refl;
-      lent = refl;
-      later = omega arith;
-      faults = omega arith;
-      rewritten = λ told.
-          subst (λ draft. Rewritten answers attributes (length bytes) (first_rows attributes bytes 0) draft) (sym (c.requires.zeros told))
-          (subst (λ (olds : List Row). Rewritten answers attributes (length bytes) olds (replicate (length bytes) 0)) (sym (no_rows attributes bytes)) (rewritten_none answers attributes (length bytes)));
-    }
+loop-slot-init g c = grind (arith, common_steps, Rewritten, first_rows, no_rows, rewritten_none)
 
 pub draft_answer-requires-clause-zeros : goal.draft_answer-requires-clause-zeros
-draft_answer-requires-clause-zeros g c told =
-    let attributes = c.args.self.now.schema.attributes in
-    let files = (g.V.Files.state c.args.files.now).files in
-    let bytes = bytes_at files c.args.self.now.file in
-    let slot = c.loop-slot.slot in
-    let inv = c.loop-slot.invariant in
-    let inside = slot_inside (row_length attributes) slot (slots files c.args.self.now) (omega (arith, c.loop-slot-test.true, c.requires.count)) in
-    rewritten_zeros (FnReturnsAt g.F.Fn c.args.removed.now) attributes (length bytes) slot (first_rows attributes bytes slot) (draft_in (g.V.Files.state c.loop-slot.files)).bytes
-    (inv.rewritten (sym inv.only.tells ∙ told)) (length-first_rows attributes bytes slot) (omega (arith, inside, c.requires.holds.whole))
+draft_answer-requires-clause-zeros g c told = grind (arith, common_steps, slot_inside, rewritten_zeros, first_rows, length-first_rows)
 
 pub loop-slot-preserved : goal.loop-slot-preserved
 loop-slot-preserved g c =
@@ -61,16 +41,4 @@ loop-slot-preserved g c =
     }
 
 pub returns-clause-rows : goal.returns-clause-rows
-returns-clause-rows g c told =
-    let attributes = c.args.self.now.schema.attributes in
-    let files = (g.V.Files.state c.args.files.now).files in
-    let bytes = bytes_at files c.args.self.now.file in
-    let answers = FnReturnsAt g.F.Fn c.args.removed.now in
-    let draft = (draft_in (g.V.Files.state c.loop-slot.files)).bytes in
-    let count = slots files c.args.self.now in
-    let inv = c.loop-slot.invariant in
-    let end : c.loop-slot.slot ≡ count = omega (arith, c.loop-slot-test.false, c.loop-slot.auto.slot-end, c.requires.count) in
-    let all : Rewritten answers attributes (length bytes) (first_rows attributes bytes count) draft =
-    subst (λ n. Rewritten answers attributes (length bytes) (first_rows attributes bytes n) draft) end (inv.rewritten told) in
-    let whole = subst (λ (olds : List Row). Rewritten answers attributes (length bytes) olds draft) (all_rows attributes bytes) all in
-    rewritten_all answers attributes (length bytes) count _ draft whole (ap (λ (olds : List Row). length olds) (sym (all_rows attributes bytes)) ∙ length-first_rows attributes bytes count) c.requires.holds.whole
+returns-clause-rows g c told = grind (arith, common_steps, Rewritten, first_rows, all_rows, rewritten_all, length-first_rows)
