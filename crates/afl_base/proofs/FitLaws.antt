@@ -5,7 +5,7 @@ use Rattle.std.proofs.lemmas.Bool.Decides.{nat_tests}
 use Rattle.std.proofs.lemmas.Bool.{cases_lt}
 use Rattle.std.proofs.Math.Logic.{⊎_elim}
 use Rattle.std.proofs.Math.Nat.{le-mul_of_pos_right, mul_assoc, one-le-pow, pow-suc}
-use Rattle.afl_base.specs.Fit.{Holds, first_fit, fit, IsFit}
+use Rattle.afl_base.specs.Fit.{HoldsSize, first_fit, fit, IsFit}
 
 pub fit_more : (n p s : ℕ) → 256 * p < s + 32 → first_fit (suc n) p s ≡ first_fit n (2 * p) s
 fit_more n p s h = grind (arith, nat_tests)
@@ -78,5 +78,5 @@ fit_grows size more room few =
     let is : fit size ≡ 16 * 2 ^ j = was.doubled.1 in
     let some : 1 ≤ 2 ^ j = one-le-pow j 2 (omega arith) in
     let twice : 16 * 2 ^ suc j ≡ 2 * fit size = rw (pow-suc 2 j) (omega arith) in
-    let enough : Holds (16 * 2 ^ suc j) (size + more) = omega (arith, was.holds) in
+    let enough : HoldsSize (16 * 2 ^ suc j) (size + more) = omega (arith, was.holds) in
     omega (arith, next.least (suc j) enough)

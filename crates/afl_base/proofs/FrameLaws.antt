@@ -3,7 +3,7 @@ use Rattle.std.proofs.Common.{◌≡◌, ◌≢◌, ℕ, List, length, Option, S
 use Rattle.std.proofs.Math.Logic.{⊎_elim}
 use Rattle.std.proofs.lemmas.Bool.{cases_eq}
 use Rattle.afl_base.specs.Files.{Becomes, File, IsLive, IsUnnamed, KeepsBytes, State, Table, bytes_at, file_at, name_at, no_file, size_at}
-use Rattle.afl_base.specs.Frames.{Prepares, Spares}
+use Rattle.afl_base.specs.Frames.{Prepares, SparesOthers}
 use Rattle.afl_base.proofs.FileLaws.{named_here, named_live, names_stay, place_live}
 
 -- ---- one file
@@ -17,7 +17,7 @@ module _ (old new : State) (id total : ℕ) (told : List ℕ) (was : IsLive old.
       (λ other. ap (λ (o : Option File). f (unwrap_or o no_file)) (u.others k other))
       (cases_eq k id)
 
-  pub becomes_spares : Spares old new (λ k. k ≢ id)
+  pub becomes_spares : SparesOthers old new (λ k. k ≢ id)
   becomes_spares = record {
     others = u.others;
     named = names_stay old new id total told was u;
@@ -60,7 +60,7 @@ module _ (old new : Table) (named : (k : ℕ) → name_at new k ≡ name_at old 
 
 -- ---- one change after another
 
-pub spares_then : (a b c : State) (P Q R : ℕ → Type 0) → Spares a b P → Spares b c Q → ((k : ℕ) → R k → P k × Q k) → Spares a c R
+pub spares_then : (a b c : State) (P Q R : ℕ → Type 0) → SparesOthers a b P → SparesOthers b c Q → ((k : ℕ) → R k → P k × Q k) → SparesOthers a c R
 spares_then a b c P Q R f g both = record {
   others = λ k r. g.others k ((both k r).1) ∙ f.others k ((both k r).0);
   named = λ k. g.named k ∙ f.named k;
@@ -78,7 +78,7 @@ prepares_then a b c P Q R f g both = record {
 }
 
 -- nothing has changed
-pub spares_same : (a : State) (P : ℕ → Type 0) → Spares a a P
+pub spares_same : (a : State) (P : ℕ → Type 0) → SparesOthers a a P
 spares_same a P = record {
   others = λ k r. refl;
   named = λ k. refl;
@@ -92,7 +92,7 @@ pub prepares_same : (a : State) (P : ℕ → Type 0) → Prepares a a P
 prepares_same a P = record { spares = spares_same a P; sizes = λ k. refl; bytes = λ t k. refl }
 
 -- at fewer places it is so too
-pub spares_fewer : (a b : State) (P Q : ℕ → Type 0) → Spares a b P → ((k : ℕ) → Q k → P k) → Spares a b Q
+pub spares_fewer : (a b : State) (P Q : ℕ → Type 0) → SparesOthers a b P → ((k : ℕ) → Q k → P k) → SparesOthers a b Q
 spares_fewer a b P Q f fewer = record {
   others = λ k q. f.others k (fewer k q);
   named = f.named;

@@ -2,8 +2,8 @@
 use Rattle.std.specs.Prelude.{◌≡◌, ℕ, zero, suc, ◌+◌, ◌*◌, ◌^◌, ◌≤◌, nat_le, if◌then◌else◌}
 
 -- the bytes fit into so many pages behind the 32 bytes of the header
-abbrev pub Holds : ℕ → ℕ → Type 0
-Holds pages size = size + 32 ≤ 256 * pages
+abbrev pub HoldsSize : ℕ → ℕ → Type 0
+HoldsSize pages size = size + 32 ≤ 256 * pages
 
 -- the first of pages, 2 * pages, 4 * pages, .. that holds the size, after at most so many doublings
 abbrev pub first_fit : ℕ → ℕ → ℕ → ℕ
@@ -17,5 +17,5 @@ fit size = first_fit 11 16 size
 -- the least of the numbers 16 * 2 ^ j that holds the size
 pub record IsFit (size pages : ℕ) : Type 0 where
   pub doubled : (j : ℕ) × (pages ≡ 16 * 2 ^ j)
-  pub holds : Holds pages size
-  pub least : (j : ℕ) → Holds (16 * 2 ^ j) size → pages ≤ 16 * 2 ^ j
+  pub holds : HoldsSize pages size
+  pub least : (j : ℕ) → HoldsSize (16 * 2 ^ j) size → pages ≤ 16 * 2 ^ j

@@ -20,10 +20,10 @@ pub record HasField (state : State) (column : KeyColumn) (slot : ℕ) : Type 0 w
   pub field : key_place column slot + column.width ≤ size_at state.files column.file
 
 -- the signed number of a width in the bytes at a place
-unfoldable pub number_at : List ℕ → ℕ → ℕ → ℤ
-number_at bytes at width =
+unfoldable pub number_of_width : List ℕ → ℕ → ℕ → ℤ
+number_of_width bytes at width =
     if width == 2 then cast_signed w16 (little_number 2 (drop at bytes)) else if width == 4 then i32_at bytes at else i64_at bytes at
 
 -- the key of a slot
 abbrev pub key_of : State → KeyColumn → ℕ → ℤ
-key_of state column slot = number_at (bytes_at state.files column.file) (key_place column slot) column.width
+key_of state column slot = number_of_width (bytes_at state.files column.file) (key_place column slot) column.width

@@ -1,7 +1,7 @@
 ghost use Rattle.std.specs.Prelude.{◌≡◌, ◌≢◌, ◌+◌, ◌*◌, ◌≤◌, IfOk, IsTrue};
 ghost use Rattle.afl_base.specs.Files.{IsLive, bytes_at, size_at};
 ghost use Rattle.afl_base.specs.Keeping.{OnlyReads};
-ghost use Rattle.afl_base.specs.KeyColumn.{HasField, IsWidth, key_of, number_at};
+ghost use Rattle.afl_base.specs.KeyColumn.{HasField, IsWidth, key_of, number_of_width};
 
 use crate::failed::Failed;
 use crate::fields::{get_i32, get_i64, get_u16};
@@ -55,7 +55,7 @@ fn read_i16<V: Files>(files: &mut V, file: FileId, at: u32) -> Result<i16, Faile
     requires live { IsLive (V.state files.old).files file }
     requires range { at + 2 ≤ size_at (V.state files.old).files file }
     ensures number { IsTrue (V.state files.old).tells
-        → IfOk result (λ n. n ≡ number_at (bytes_at (V.state files.old).files file) at 2) }
+        → IfOk result (λ n. n ≡ number_of_width (bytes_at (V.state files.old).files file) at 2) }
     ensures reads { V.reads files.new ≤ V.reads files.old + 6 }
     ensures frame { OnlyReads V.state V.lent V.reads V.faults files.old files.new result }
 {
@@ -68,7 +68,7 @@ fn read_i32<V: Files>(files: &mut V, file: FileId, at: u32) -> Result<i32, Faile
     requires live { IsLive (V.state files.old).files file }
     requires range { at + 4 ≤ size_at (V.state files.old).files file }
     ensures number { IsTrue (V.state files.old).tells
-        → IfOk result (λ n. n ≡ number_at (bytes_at (V.state files.old).files file) at 4) }
+        → IfOk result (λ n. n ≡ number_of_width (bytes_at (V.state files.old).files file) at 4) }
     ensures reads { V.reads files.new ≤ V.reads files.old + 6 }
     ensures frame { OnlyReads V.state V.lent V.reads V.faults files.old files.new result }
 {
@@ -81,7 +81,7 @@ fn read_i64<V: Files>(files: &mut V, file: FileId, at: u32) -> Result<i64, Faile
     requires live { IsLive (V.state files.old).files file }
     requires range { at + 8 ≤ size_at (V.state files.old).files file }
     ensures number { IsTrue (V.state files.old).tells
-        → IfOk result (λ n. n ≡ number_at (bytes_at (V.state files.old).files file) at 8) }
+        → IfOk result (λ n. n ≡ number_of_width (bytes_at (V.state files.old).files file) at 8) }
     ensures reads { V.reads files.new ≤ V.reads files.old + 6 }
     ensures frame { OnlyReads V.state V.lent V.reads V.faults files.old files.new result }
 {

@@ -47,7 +47,7 @@ impl<'a> Model for CutFlash<'a> {
 
 impl<'a> CutFlash<'a> {
     ghost use Rattle.std.specs.Prelude.{◌≡◌, ◌↔◌, ◌+◌, ◌≤◌, false, is_err, length, slice_range, IsSome, IfSome};
-    ghost use Rattle.afl_sim.specs.Devices.{counted, done_of, power, writes_left};
+    ghost use Rattle.afl_sim.specs.Devices.{faults_counted, done_of, power, writes_left};
     ghost use Rattle.afl_sim.specs.Lengths.{IsImageLength};
 
     /// Takes the bytes `image` as they stand. `writes` writes are done, and of the next one `front`
@@ -95,7 +95,7 @@ impl<'a> CutFlash<'a> {
     // Fails where the power is gone.
     fn end(&mut self) -> Result<(), Failed>
         ensures fails { is_err result ≡ self.old.off }
-        ensures counts { self.new ≡ record self.old { faults = counted self.old.off self.old.faults } }
+        ensures counts { self.new ≡ record self.old { faults = faults_counted self.old.off self.old.faults } }
     {
         if self.off {
             self.faults = self.faults.saturating_add(1);

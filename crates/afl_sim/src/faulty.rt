@@ -26,7 +26,7 @@ impl<F: Flash + Drop> Model for FaultFlash<F> {
 
 impl<F: Flash + Drop> FaultFlash<F> {
     ghost use Rattle.std.specs.Prelude.{◌≡◌, is_err};
-    ghost use Rattle.afl_sim.specs.Devices.{counted, fails_now, number_of_call};
+    ghost use Rattle.afl_sim.specs.Devices.{faults_counted, fails_now, number_of_call};
 
     /// A flash around `inner` that fails at the calls whose numbers stand in `fails`.
     pub fn new(inner: F, fails: ArrayVec<u64, 16>) -> FaultFlash<F>
@@ -64,7 +64,7 @@ impl<F: Flash + Drop> FaultFlash<F> {
         ensures fails { is_err result ≡ fails_now self.old.fails self.old.calls }
         ensures counts { self.new ≡ record self.old {
           calls = number_of_call self.old.calls;
-          faults = counted (is_err result) self.old.faults;
+          faults = faults_counted (is_err result) self.old.faults;
         } }
     {
         self.calls = self.calls.saturating_add(1);

@@ -41,7 +41,7 @@ impl Model for FileFlash {
 
 impl FileFlash {
     ghost use Rattle.std.specs.Prelude.{◌≡◌, ◌↔◌, ◌*◌, IsSome, IfSome, is_err};
-    ghost use Rattle.afl_sim.specs.Devices.{counted};
+    ghost use Rattle.afl_sim.specs.Devices.{faults_counted};
     ghost use Rattle.afl_sim.specs.Lengths.{IsImageLength};
 
     /// A flash in `file`, which has `length` bytes and was opened for reading and writing. `None`
@@ -68,7 +68,7 @@ impl FileFlash {
     fn judge(&mut self, outcome: io::Result<()>) -> Result<(), Failed>
         ensures sectors { self.new.sectors ≡ self.old.sectors }
         ensures reads { self.new.reads ≡ self.old.reads }
-        ensures counts { self.new.faults ≡ counted (is_err result) self.old.faults }
+        ensures counts { self.new.faults ≡ faults_counted (is_err result) self.old.faults }
     {
         match outcome {
             Ok(()) => Ok(()),
@@ -85,7 +85,7 @@ impl Flash for FileFlash {
     ghost use Rattle.afl_base.specs.Causes.{CountsOne};
     ghost use Rattle.afl_base.specs.Cuts.{IsCutErase, IsCutProgram};
     ghost use Rattle.afl_base.specs.Image.{or_at, zeros_at, page_bytes, sector_bytes};
-    ghost use Rattle.afl_sim.specs.Devices.{counted, untold};
+    ghost use Rattle.afl_sim.specs.Devices.{faults_counted, untold};
     ghost use Rattle.afl_base.specs.Keeping.{OnlyReads, Programs};
 
     ghost tells = { false };
@@ -114,7 +114,7 @@ impl Flash for FileFlash {
         ensures faultless { OnOk result (self.new.faults ≡ self.old.faults) }
         ensures frame { let flash = ⟦<Self as Flash>⟧ in
             OnlyReads flash.image flash.lent flash.reads flash.faults self.old self.new result }
-        ensures counts { self.new.faults ≡ counted (is_err result) self.old.faults }
+        ensures counts { self.new.faults ≡ faults_counted (is_err result) self.old.faults }
     {
         self.reads = self.reads.saturating_add(1);
         let outcome = self
@@ -138,7 +138,7 @@ impl Flash for FileFlash {
         ensures faultless { OnOk result (self.new.faults ≡ self.old.faults) }
         ensures frame { let flash = ⟦<Self as Flash>⟧ in
             Programs flash.image flash.lent flash.reads flash.faults self.old self.new result }
-        ensures counts { self.new.faults ≡ counted (is_err result) self.old.faults }
+        ensures counts { self.new.faults ≡ faults_counted (is_err result) self.old.faults }
     {
         let place = PAGE * u64::from(page.0) + u64::from(at);
         let mut buffer = [0u8; 256];
@@ -162,7 +162,7 @@ impl Flash for FileFlash {
         ensures faultless { OnOk result (self.new.faults ≡ self.old.faults) }
         ensures frame { let flash = ⟦<Self as Flash>⟧ in
             Programs flash.image flash.lent flash.reads flash.faults self.old self.new result }
-        ensures counts { self.new.faults ≡ counted (is_err result) self.old.faults }
+        ensures counts { self.new.faults ≡ faults_counted (is_err result) self.old.faults }
     {
         let outcome = self
             .file
@@ -178,7 +178,7 @@ impl Backing for FileFlash {
     ghost use Rattle.afl_base.specs.Cuts.{IsCutProgram};
     ghost use Rattle.afl_base.specs.Image.{or_at, page_bytes, sector_bytes};
     ghost use Rattle.afl_sim.specs.Caches.{Covers};
-    ghost use Rattle.afl_sim.specs.Devices.{counted, untold};
+    ghost use Rattle.afl_sim.specs.Devices.{faults_counted, untold};
     ghost use Rattle.afl_base.specs.Keeping.{OnlyReads, Programs};
 
     fn read_sector(&mut self, sector: SectorId, into: &mut [u8]) -> Result<(), Failed>
@@ -190,7 +190,7 @@ impl Backing for FileFlash {
         ensures faultless { OnOk result (self.new.faults ≡ self.old.faults) }
         ensures frame { let flash = ⟦<Self as Flash>⟧ in
             OnlyReads flash.image flash.lent flash.reads flash.faults self.old self.new result }
-        ensures counts { self.new.faults ≡ counted (is_err result) self.old.faults }
+        ensures counts { self.new.faults ≡ faults_counted (is_err result) self.old.faults }
     {
         self.reads = self.reads.saturating_add(1);
         let outcome = self.file.read_exact_at(into, SECTOR * u64::from(sector.0));
@@ -211,7 +211,7 @@ impl Backing for FileFlash {
         ensures faultless { OnOk result (self.new.faults ≡ self.old.faults) }
         ensures frame { let flash = ⟦<Self as Flash>⟧ in
             Programs flash.image flash.lent flash.reads flash.faults self.old self.new result }
-        ensures counts { self.new.faults ≡ counted (is_err result) self.old.faults }
+        ensures counts { self.new.faults ≡ faults_counted (is_err result) self.old.faults }
     {
         let outcome = self
             .file
@@ -289,7 +289,7 @@ impl<R: Read + Drop> Source for StdSource<R> {
     ghost use Rattle.std.specs.Prelude.{◌≡◌, ◌≤◌, ℕ, List, Option, None, IfOk, OnErr, OnOk, is_err, length, take};
     ghost use Rattle.std.specs.Io.KnownBytes.{prepend_known, IsAtEnd};
     ghost use Rattle.afl_base.specs.Causes.{CountsOne, HasCause};
-    ghost use Rattle.afl_sim.specs.Devices.{counted};
+    ghost use Rattle.afl_sim.specs.Devices.{faults_counted};
 
     ghost left = { λ s. None };
 
@@ -306,7 +306,7 @@ impl<R: Read + Drop> Source for StdSource<R> {
         ensures counted { CountsOne self.old.reads self.new.reads }
         ensures faultless { OnOk result (self.new.faults ≡ self.old.faults) }
         ensures cause { HasCause self.old.faults self.new.faults result }
-        ensures counts { self.new.faults ≡ counted (is_err result) self.old.faults }
+        ensures counts { self.new.faults ≡ faults_counted (is_err result) self.old.faults }
     {
         self.reads = self.reads.saturating_add(1);
         let Some(n) = read_once(&mut self.reader, into) else {
@@ -347,7 +347,7 @@ impl<W: Write + Drop> StdSink<W> {
 impl<W: Write + Drop> Sink for StdSink<W> {
     ghost use Rattle.std.specs.Prelude.{◌≡◌, ◌≤◌, ℕ, List, Option, None, IfOk, OnErr, is_err, length, take, []};
     ghost use Rattle.std.specs.Io.KnownBytes.{append_known};
-    ghost use Rattle.afl_sim.specs.Devices.{counted};
+    ghost use Rattle.afl_sim.specs.Devices.{faults_counted};
     ghost use Rattle.afl_base.specs.Keeping.{Sends};
 
     ghost held = { λ s. None };
@@ -363,7 +363,7 @@ impl<W: Write + Drop> Sink for StdSink<W> {
         ensures bytes { IfOk result (λ n. None ≡ append_known None (take n bytes.now)) }
         ensures failed { OnErr result (◌≡◌ {A = Option (List ℕ)} None None) }
         ensures frame { let sink = ⟦<Self as Sink>⟧ in Sends sink.lent sink.faults self.old self.new result }
-        ensures counts { self.new ≡ counted (is_err result) self.old }
+        ensures counts { self.new ≡ faults_counted (is_err result) self.old }
     {
         let Some(n) = write_once(&mut self.writer, bytes) else {
             self.faults = self.faults.saturating_add(1);

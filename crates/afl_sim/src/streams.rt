@@ -42,7 +42,7 @@ impl Source for MemSource<'_> {
     ghost use Rattle.std.specs.Prelude.{◌≡◌, ◌≤◌, Some, is_err, length, take, IfOk, OnErr, OnOk, min};
     ghost use Rattle.std.specs.Io.KnownBytes.{prepend_known, IsAtEnd};
     ghost use Rattle.afl_base.specs.Causes.{CountsOne, HasCause};
-    ghost use Rattle.afl_sim.specs.Devices.{counted, nearer, is_first};
+    ghost use Rattle.afl_sim.specs.Devices.{faults_counted, nearer, is_first};
 
     ghost left = { λ s. Some s.left };
 
@@ -60,7 +60,7 @@ impl Source for MemSource<'_> {
         ensures counted { CountsOne self.old.reads self.new.reads }
         ensures faultless { OnOk result (self.new.faults ≡ self.old.faults) }
         ensures cause { HasCause self.old.faults self.new.faults result }
-        ensures counts { self.new.faults ≡ counted (is_err result) self.old.faults }
+        ensures counts { self.new.faults ≡ faults_counted (is_err result) self.old.faults }
         ensures most { IfOk result (λ n. n ≡ min (length into.new) (length self.old.left)) }
         ensures fails { is_err result ≡ is_first self.old.fails_in }
         ensures nearer { self.new.fails_in ≡ nearer self.old.fails_in }
@@ -145,7 +145,7 @@ impl<'a> MemSink<'a> {
 impl Sink for MemSink<'_> {
     ghost use Rattle.std.specs.Prelude.{◌≡◌, ◌≤◌, ◌||◌, Some, is_err, length, take, IfOk, OnErr, nat_eq, min, ◌∷◌, []};
     ghost use Rattle.std.specs.Io.KnownBytes.{append_known};
-    ghost use Rattle.afl_sim.specs.Devices.{counted, nearer, is_first};
+    ghost use Rattle.afl_sim.specs.Devices.{faults_counted, nearer, is_first};
     ghost use Rattle.afl_base.specs.Keeping.{Sends};
 
     ghost held = { λ s. Some s.held };
@@ -162,7 +162,7 @@ impl Sink for MemSink<'_> {
             Some self.new.held ≡ append_known (Some self.old.held) (take n bytes.now)) }
         ensures failed { OnErr result (Some self.new.held ≡ Some self.old.held) }
         ensures frame { let sink = ⟦<Self as Sink>⟧ in Sends sink.lent sink.faults self.old self.new result }
-        ensures counts { self.new.faults ≡ counted (is_err result) self.old.faults }
+        ensures counts { self.new.faults ≡ faults_counted (is_err result) self.old.faults }
         ensures taken { IfOk result (λ n. n ≡ min (length bytes.now) self.old.room) }
         ensures fails { is_err result ≡ (is_first self.old.fails_in || nat_eq self.old.room 0) }
         ensures nearer { self.new.fails_in ≡ nearer self.old.fails_in }

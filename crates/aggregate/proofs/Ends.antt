@@ -6,7 +6,7 @@ use Rattle.std.specs.List.{fold}
 use Rattle.std.proofs.lemmas.Int.{ints, clamps}
 use Rattle.db_model.specs.declared.commands.Agg.{Agg}
 use Rattle.aggregate.specs.Ends.{AreEnds, lesser, greater}
-use Rattle.aggregate.specs.Limits.{lowest, highest}
+use Rattle.aggregate.specs.Limits.{least_sum, greatest_sum}
 use Rattle.std.specs.Prelude.{Option}
 use Rattle.db_model.specs.Answers.{least, greatest}
 use Rattle.aggregate.specs.Order.{up_to, below}
@@ -65,16 +65,16 @@ empty-no_least [] e = refl
 empty-no_least (n ∷ ns) e = cc
 
 -- what the ends say where there are some
-pub ends-are : (agg : Agg) (l g : Option ℤ) (a b : ℤ) → l ≡ Some a → g ≡ Some b → AreEnds agg l g → (lowest agg ≤ℤ a) × (a ≤ℤ b) × (b ≤ℤ highest agg)
+pub ends-are : (agg : Agg) (l g : Option ℤ) (a b : ℤ) → l ≡ Some a → g ≡ Some b → AreEnds agg l g → (least_sum agg ≤ℤ a) × (a ≤ℤ b) × (b ≤ℤ greatest_sum agg)
 ends-are agg l g a b e f h = rw (e, f) at h
 
 -- one more number that the aggregate takes
-pub AreEnds-more : (agg : Agg) (l g : Option ℤ) (n : ℤ) → lowest agg ≤ℤ n → n ≤ℤ highest agg → AreEnds agg l g → AreEnds agg (lesser l n) (greater g n)
+pub AreEnds-more : (agg : Agg) (l g : Option ℤ) (n : ℤ) → least_sum agg ≤ℤ n → n ≤ℤ greatest_sum agg → AreEnds agg l g → AreEnds agg (lesser l n) (greater g n)
 AreEnds-more agg None None n a b h = (a, omega (arith, ints), b)
 AreEnds-more agg (Some l) (Some g) n a b h =
-    let low : lowest agg ≤ℤ l = h.0 in
+    let low : least_sum agg ≤ℤ l = h.0 in
     let mid : l ≤ℤ g = h.1 in
-    let high : g ≤ℤ highest agg = h.2 in
+    let high : g ≤ℤ greatest_sum agg = h.2 in
     (omega (arith, ints, clamps), omega (arith, ints, clamps), omega (arith, ints, clamps))
 AreEnds-more agg None (Some g) n a b h = absurd h
 AreEnds-more agg (Some l) None n a b h = absurd h

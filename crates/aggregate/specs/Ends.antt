@@ -2,12 +2,12 @@
 use Rattle.std.specs.Prelude.{ℤ, ◌≤ℤ◌, Option, Some, None}
 use Rattle.std.specs.Int.{int_min, int_max}
 use Rattle.db_model.specs.declared.commands.Agg.{Agg}
-use Rattle.aggregate.specs.Limits.{lowest, highest}
+use Rattle.aggregate.specs.Limits.{least_sum, greatest_sum}
 
 -- the least and the greatest so far are numbers that the aggregate takes
 abbrev pub AreEnds : Agg → Option ℤ → Option ℤ → Type 0
 AreEnds agg None None = Unit {0}
-AreEnds agg (Some least) (Some greatest) = (lowest agg ≤ℤ least) × (least ≤ℤ greatest) × (greatest ≤ℤ highest agg)
+AreEnds agg (Some least) (Some greatest) = (least_sum agg ≤ℤ least) × (least ≤ℤ greatest) × (greatest ≤ℤ greatest_sum agg)
 AreEnds agg None (Some _) = ⊥
 AreEnds agg (Some _) None = ⊥
 

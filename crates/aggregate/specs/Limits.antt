@@ -6,17 +6,17 @@ use Rattle.db_model.specs.declared.values.Value.{Value}
 use Rattle.db_model.specs.declared.values.Value.TheVariants.{Number, Text}
 
 -- -2^31 for MEDIAN, and -2^47 for the others
-abbrev pub lowest : Agg → ℤ
-lowest Median = negsuc 2147483647
-lowest _ = negsuc 140737488355327
+abbrev pub least_sum : Agg → ℤ
+least_sum Median = negsuc 2147483647
+least_sum _ = negsuc 140737488355327
 
 -- 2^31 - 1 for MEDIAN, and 2^47 for the others
-abbrev pub highest : Agg → ℤ
-highest Median = pos 2147483647
-highest _ = pos 140737488355328
+abbrev pub greatest_sum : Agg → ℤ
+greatest_sum Median = pos 2147483647
+greatest_sum _ = pos 140737488355328
 
 abbrev pub IsNumberFor : Agg → Value → Type 0
-IsNumberFor agg (Number n) = (lowest agg ≤ℤ n) × (n ≤ℤ highest agg)
+IsNumberFor agg (Number n) = (least_sum agg ≤ℤ n) × (n ≤ℤ greatest_sum agg)
 IsNumberFor agg (Text _) = ⊥
 
 -- COUNT takes every value. MEDIAN takes the numbers of LONG's domain, the others those from -2^47 to 2^47.

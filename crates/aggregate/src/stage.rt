@@ -7,7 +7,7 @@ ghost use Rattle.db_model.specs.declared.values.Value.{Value};
 ghost use Rattle.db_model.specs.declared.commands.Agg.{Agg};
 ghost use Rattle.db_model.specs.declared.commands.Agg.TheVariants.{Median};
 ghost use Rattle.db_model.specs.Answers.{aggregate, numbers};
-ghost use Rattle.aggregate.specs.Limits.{Suits, lowest, highest};
+ghost use Rattle.aggregate.specs.Limits.{Suits, least_sum, greatest_sum};
 ghost use Rattle.aggregate.specs.Folding.{IsSearch, IsSoundStage, IsSummary};
 ghost use Rattle.aggregate.specs.Fold.{Knows, is_open, number_for, numbers_for};
 ghost use Rattle.aggregate.specs.Summary.{Summarises};
@@ -63,7 +63,7 @@ impl Stage {
 
 /// The number that the aggregate looks at: none for COUNT.
 pub fn number_for(agg: Agg, value: &Value) -> Option<i64>
-    ensures some { Suits agg value.now → IfSome result (λ n. (lowest agg ≤ℤ n) × (n ≤ℤ highest agg)) }
+    ensures some { Suits agg value.now → IfSome result (λ n. (least_sum agg ≤ℤ n) × (n ≤ℤ greatest_sum agg)) }
     ensures value { result ≡ number_for agg value.now }
 {
     match (agg, value) {

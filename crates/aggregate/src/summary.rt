@@ -7,7 +7,7 @@ ghost use Rattle.std.specs.Int.{w64};
 ghost use Rattle.db_model.specs.declared.commands.Agg.{Agg};
 ghost use Rattle.aggregate.specs.Ends.{AreEnds};
 ghost use Rattle.aggregate.specs.Ends as E;
-ghost use Rattle.aggregate.specs.Limits.{lowest, highest};
+ghost use Rattle.aggregate.specs.Limits.{least_sum, greatest_sum};
 ghost use Rattle.aggregate.specs.Summary.{Summarises};
 ghost use Rattle.db_model.specs.Answers as L;
 
@@ -40,8 +40,8 @@ impl Summary {
         ensures count { result.count ≡ self.count + 1 }
         ensures sum { result.sum ≡ self.sum +ℤ number }
         ensures ends { (agg : Agg)
-            → lowest agg ≤ℤ number
-            → number ≤ℤ highest agg
+            → least_sum agg ≤ℤ number
+            → number ≤ℤ greatest_sum agg
             → AreEnds agg self.least self.greatest
             → AreEnds agg result.least result.greatest }
         ensures told { (ns : List ℤ) → Summarises ns self → Summarises (ns ++ number ∷ []) result }

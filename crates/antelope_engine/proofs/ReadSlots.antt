@@ -17,7 +17,7 @@ use Rattle.db_model.proofs.Buckets.{buckets_bound}
 use Rattle.index_set.specs.declared.info.Access.{Access}
 use Rattle.index_set.specs.declared.info.Access.TheVariants.{Order, Tree, Table as InTable}
 use Rattle.index_set.specs.Complete.{IsComplete}
-use Rattle.index_set.specs.Plans.{kind_of}
+use Rattle.index_set.specs.Plans.{access_kind}
 use Rattle.index_set.specs.Tables.{Tables}
 use Rattle.index_tree.proofs.Law.{sized}
 use Rattle.space_model.specs.Enough.{rows_in}
@@ -131,7 +131,7 @@ module _ (state : State) (tables : Tables) (held : Held) (opens : List (Option O
       let none : None ≡ tree_of from.from = e ∙ ap (option_and_then tree_of) from.there in
       by_access from.from.access none (ap (λ (i : Index). i.kind) from.is ∙ heap)
     where
-      by_access : (a : Access) → ◌≡◌ {A = Option ℕ} None (elim a [ Order ↦ None | Tree f ↦ Some f | InTable number ↦ None ]) → kind_of a ≡ MaxHeap → ⊥
+      by_access : (a : Access) → ◌≡◌ {A = Option ℕ} None (elim a [ Order ↦ None | Tree f ↦ Some f | InTable number ↦ None ]) → access_kind a ≡ MaxHeap → ⊥
       by_access Order e h = absurd (cc)
       by_access (Tree f) e h = absurd (cc)
       by_access (InTable number) e h = absurd (cc)

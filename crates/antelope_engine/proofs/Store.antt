@@ -25,9 +25,9 @@ use Rattle.index_maxheap.specs.Rooms.{end_at, room_for as room_at, room_of}
 use Rattle.index_set.specs.declared.info.Access.{Access}
 use Rattle.index_set.specs.declared.info.Access.TheVariants.{Order, Tree, Table as InTable}
 use Rattle.index_set.specs.Complete.{IsComplete}
-use Rattle.index_set.specs.Plans.{kind_of}
+use Rattle.index_set.specs.Plans.{access_kind}
 use Rattle.index_set.specs.Tables.{Tables}
-use Rattle.index_tree.specs.Ends.{end_of}
+use Rattle.index_tree.specs.Ends.{path_end}
 use Rattle.index_tree.proofs.Law.{sized}
 use Rattle.space_model.specs.Enough.{keys_named, most, rows_in, rows_size, tree_size}
 use Rattle.space_model.specs.FileNames.{asks_in, catalog_file, rows_file, size_in, tree_file}
@@ -68,7 +68,7 @@ module _ (state : State) (tables : Tables) (held : Held) (opens : List (Option O
       size_named t.file (rows_file slot) here.named
       ∙ ap (λ (n : ℕ). Some n) (here.holds.whole ∙ ap (λ (n : ℕ). row_length t.schema.attributes * n) (sym (count_rows state.files t)))
 
-  tree_sized : (told : IsTrue state.tells) (slot : ℕ) (x : Indexed) (t : Tuples) (access : Access) → kind_of access ≡ MaxHeap → HasFile state.files slot access
+  tree_sized : (told : IsTrue state.tells) (slot : ℕ) (x : Indexed) (t : Tuples) (access : Access) → access_kind access ≡ MaxHeap → HasFile state.files slot access
       → IsComplete state tables access (keys x.attribute (rows state.files t)) → size_in state.files (tree_file slot) ≡ Some (tree_size (keys x.attribute (rows state.files t)))
   tree_sized told slot x t Order e file complete = absurd (cc)
   tree_sized told slot x t (InTable number) e file complete = absurd (cc)
@@ -105,7 +105,7 @@ module _ (state : State) (tables : Tables) (held : Held) (opens : List (Option O
 
   room_bytes : (bytes : List ℕ) (key : ℤ) → (room_of bytes key).bytes ≤ 4096
   unfolding room_of
-  room_bytes bytes key = room_small (end_at bytes key (end_of bytes key))
+  room_bytes bytes key = room_small (end_at bytes key (path_end bytes key))
 
   few_pages : (f : File) (need : ℕ) → AreFewFor f need → need ≤ max 16 (2 * fit (length f.bytes))
   few_pages f need few = by_kind f.kind refl

@@ -8,7 +8,7 @@ ghost use Rattle.afl_base.specs.Causes.{HasCause};
 ghost use Rattle.catalog.specs.CatalogFile.{index_in};
 ghost use Rattle.db_model.specs.Catalog.{Index};
 ghost use Rattle.db_model.specs.HashTree.{buckets};
-ghost use Rattle.index_set.specs.Plans.{kind_of};
+ghost use Rattle.index_set.specs.Plans.{access_kind};
 ghost use Rattle.session_model.specs.Indexed.{index_known as index_held};
 ghost use Rattle.space_model.specs.Enough.{rows_in};
 ghost use Rattle.tuple_file.specs.declared.tuples.Tuples.{Tuples as AnyTuples};
@@ -144,7 +144,7 @@ fn entry_of(slot: &Option<Indexed>) -> Option<IndexEntry>
 }
 
 fn kind_of(access: &Access) -> IndexKind
-    ensures { result ≡ kind_of access.now }
+    ensures { result ≡ access_kind access.now }
 {
     match access {
         Access::Order => IndexKind::Inline,

@@ -17,7 +17,7 @@ use Rattle.db_model.specs.declared.tokens.Sign.TheVariants.{LeftBracket, RightBr
 use Rattle.db_model.specs.declared.tokens.Token.{Token}
 use Rattle.db_model.specs.declared.tokens.Token.TheVariants.{Word, Name, Sign}
 use Rattle.db_model.specs.declared.values.Value.{Value}
-use Rattle.aql_parse.specs.Built.{at_most_8, names_in, values_in, aggregates_in, relation_in, select_of, insert_of, join_of, query_of, selection_of, aggregate_of, command_of}
+use Rattle.aql_parse.specs.Built.{at_most_8, name_tokens, values_in, aggregates_in, relation_in, select_of, insert_of, join_read, query_of, selection_of, aggregate_read, command_of}
 use Rattle.aql_parse.proofs.Collecting.{within}
 
 few : {A : Type 0} (xs : List A) → length xs ≤ 8 → at_most_8 xs ≡ Some xs
@@ -26,11 +26,11 @@ few xs h = ap (λ b. if b then Some xs else None) (within xs (nat_le (length xs)
 -- ---- lists
 
 -- names before FROM, or to the end
-names_before : (list : List (List ℕ)) (ts : List Token) → Listed NameItem list ts → (rest : List Token) → names_in rest ≡ [] → names_in (ts ++ rest) ≡ list
+names_before : (list : List (List ℕ)) (ts : List Token) → Listed NameItem list ts → (rest : List Token) → name_tokens rest ≡ [] → name_tokens (ts ++ rest) ≡ list
 names_before _ _ (one _ _ (a_name n)) rest e = ap (λ ns. n ∷ ns) e
 names_before _ _ (more _ as_ _ ys (a_name n) l) rest e = ap (λ ns. n ∷ ns) (names_before as_ ys l rest e)
 
-names_all : (list : List (List ℕ)) (ts : List Token) → Listed NameItem list ts → names_in ts ≡ list
+names_all : (list : List (List ℕ)) (ts : List Token) → Listed NameItem list ts → name_tokens ts ≡ list
 names_all _ _ (one _ _ (a_name n)) = refl
 names_all _ _ (more _ as_ _ ys (a_name n) l) = ap (λ ns. n ∷ ns) (names_all as_ ys l)
 
@@ -90,16 +90,16 @@ select_built : (list : List (List ℕ)) (r : List ℕ) (nodes : List Node) (ts u
 select_built list r nodes ts us l =
     let all : List Token = ts ++ Word KFROM ∷ Name r ∷ us in
     let made : Option (List ℕ) → Option (List (List ℕ)) → Option Query = λ r l. option_and_then (λ relation. option_map (λ list. query.Select list relation nodes) l) r in
-    ap (λ x. made x (at_most_8 (names_in all))) (behind_names list ts l.listed (Word KFROM ∷ Name r ∷ us))
+    ap (λ x. made x (at_most_8 (name_tokens all))) (behind_names list ts l.listed (Word KFROM ∷ Name r ∷ us))
     ∙ ap (λ x. made (Some r) (at_most_8 x)) (names_before list ts l.listed (Word KFROM ∷ Name r ∷ us) refl)
     ∙ ap (made (Some r)) (few list l.few)
 
 join_built : (left right on : List ℕ) (list : List (List ℕ)) (ts : List Token) → ListOf NameItem list ts →
-    join_of (Name left ∷ Sign Comma ∷ Name right ∷ Word KON ∷ Name on ∷ Word KPROJECT ∷ ts) ≡ Some (query.Join left right on list)
+    join_read (Name left ∷ Sign Comma ∷ Name right ∷ Word KON ∷ Name on ∷ Word KPROJECT ∷ ts) ≡ Some (query.Join left right on list)
 join_built left right on list ts l =
     let word : List Token = Name left ∷ Sign Comma ∷ Name right ∷ Word KON ∷ Name on ∷ Word KPROJECT ∷ ts in
     let f : Option (List (List ℕ)) → Option Query = option_map (λ list. query.Join left right on list) in
-    ap f (ap (λ b. if b then None else at_most_8 (names_in ts)) (long_enough word (nat_lt (length word) 6) refl (omega arith)))
+    ap f (ap (λ b. if b then None else at_most_8 (name_tokens ts)) (long_enough word (nat_lt (length word) 6) refl (omega arith)))
     ∙ ap (λ x. f (at_most_8 x)) (names_all list ts l.listed)
     ∙ ap f (few list l.few)
 
@@ -111,7 +111,7 @@ selection_names : (list : List (List ℕ)) (ts : List Token) → Listed NameItem
 selection_names _ _ (one _ _ (a_name n)) rest nodes = refl
 selection_names _ _ (more _ as_ _ ys (a_name n) l) rest nodes = refl
 
-selection_word : (a : Agg) (rest : List Token) (nodes : List Node) → selection_of (Word (agg_word a) ∷ rest) nodes ≡ aggregate_of (Word (agg_word a) ∷ rest) nodes
+selection_word : (a : Agg) (rest : List Token) (nodes : List Node) → selection_of (Word (agg_word a) ∷ rest) nodes ≡ aggregate_read (Word (agg_word a) ∷ rest) nodes
 selection_word agg.Count rest nodes = refl
 selection_word agg.Sum rest nodes = refl
 selection_word agg.Min rest nodes = refl
@@ -119,11 +119,11 @@ selection_word agg.Max rest nodes = refl
 selection_word agg.Mean rest nodes = refl
 selection_word agg.Median rest nodes = refl
 
-selection_aggregates : (list : List (Agg × List ℕ)) (ts : List Token) → Listed AggItem list ts → (rest : List Token) (nodes : List Node) → selection_of (ts ++ rest) nodes ≡ aggregate_of (ts ++ rest) nodes
+selection_aggregates : (list : List (Agg × List ℕ)) (ts : List Token) → Listed AggItem list ts → (rest : List Token) (nodes : List Node) → selection_of (ts ++ rest) nodes ≡ aggregate_read (ts ++ rest) nodes
 selection_aggregates _ _ (one _ _ (an_aggregate a n)) rest nodes = selection_word a (Sign LeftBracket ∷ Name n ∷ Sign RightBracket ∷ rest) nodes
 selection_aggregates _ _ (more _ as_ _ ys (an_aggregate a n) l) rest nodes = selection_word a (Sign LeftBracket ∷ Name n ∷ Sign RightBracket ∷ Sign Comma ∷ (ys ++ rest)) nodes
 
-aggregate_built : (list : List (Agg × List ℕ)) (r : List ℕ) (nodes : List Node) (ts us : List Token) → ListOf AggItem list ts → aggregate_of (ts ++ Word KFROM ∷ Name r ∷ us) nodes ≡ Some (command.Aggregate list r nodes)
+aggregate_built : (list : List (Agg × List ℕ)) (r : List ℕ) (nodes : List Node) (ts us : List Token) → ListOf AggItem list ts → aggregate_read (ts ++ Word KFROM ∷ Name r ∷ us) nodes ≡ Some (command.Aggregate list r nodes)
 aggregate_built list r nodes ts us l =
     let all : List Token = ts ++ Word KFROM ∷ Name r ∷ us in
     let made : Option (List ℕ) → Option (List (Agg × List ℕ)) → Option Command = λ r l. option_and_then (λ relation. option_map (λ list. command.Aggregate list relation nodes) l) r in

@@ -10,7 +10,7 @@ use Rattle.db_model.specs.declared.tokens.Keyword.TheVariants.{KAND, KOR}
 use Rattle.db_model.specs.declared.tokens.Sign.TheVariants.{LeftBracket, RightBracket, Plus, Minus, Star, Slash}
 use Rattle.db_model.specs.declared.tokens.Token.{Token}
 use Rattle.db_model.specs.declared.tokens.Token.TheVariants.{Word, Sign}
-use Rattle.aql_parse.specs.Machine.{run, behind_nodes, move, or_else, to, operand, comparison, joint_node}
+use Rattle.aql_parse.specs.Machine.{run, behind_nodes, move, or_else, to, operand, comparison_move, joint_node}
 use Rattle.aql_parse.specs.declared.symbols.Joint.{Joint}
 use Rattle.aql_parse.specs.declared.symbols.Joint.TheVariants as joint
 use Rattle.aql_parse.specs.declared.symbols.Symbol.{Symbol}
@@ -128,8 +128,8 @@ pub record EndsExpression (rest : List Token) : Type 0 where
   pub products : Refuses want.Products rest
   pub sums : Refuses want.Sums rest
 
--- the sign of a comparison is read behind its left side
-behind_sign : (how : Compare) (n : ℕ) → move (want.Behind n) (compare_sign how) ≡ comparison n how
+-- the sign of a comparison_move is read behind its left side
+behind_sign : (how : Compare) (n : ℕ) → move (want.Behind n) (compare_sign how) ≡ comparison_move n how
 behind_sign compare.Eq n = refl
 behind_sign compare.Ne n = refl
 behind_sign compare.Lt n = refl

@@ -16,7 +16,7 @@ use Rattle.db_model.specs.declared.tokens.Sign.TheVariants.{LeftBracket, RightBr
 use Rattle.db_model.specs.declared.tokens.Token.{Token}
 use Rattle.db_model.specs.declared.tokens.Token.TheVariants.{Word, Name, Sign}
 use Rattle.db_model.specs.declared.values.Value.{Value}
-use Rattle.aql_parse.specs.Machine.{Move, run, behind_nodes, move, or_else, skip, another, to, selected, joined_query, start}
+use Rattle.aql_parse.specs.Machine.{Move, run, behind_nodes, move, or_else, skip, another, to, select_symbols, joined_query, start}
 use Rattle.aql_parse.specs.declared.symbols.Symbol.{Symbol}
 use Rattle.aql_parse.specs.declared.symbols.Symbol.TheVariants as want
 use Rattle.aql_parse.proofs.Runs.{behind-nil, Refuses, run_pass, run_to, another-suc}
@@ -94,11 +94,11 @@ aggregates = record { reads = read_aggregate; comma = λ n. or_none (another n w
 -- ---- queries
 
 -- FROM NAME [WHERE cond]
-selected_runs : (relation : List ℕ) (nodes : List Node) (us : List Token) → Where nodes us → run selected (Word KFROM ∷ Name relation ∷ us) ≡ Some nodes
+selected_runs : (relation : List ℕ) (nodes : List Node) (us : List Token) → Where nodes us → run select_symbols (Word KFROM ∷ Name relation ∷ us) ≡ Some nodes
 selected_runs relation nodes us w = nil-nil (run (want.Where ∷ []) us) ∙ where_runs nodes us w
 
-names_from : (list : List (List ℕ)) (relation : List ℕ) (nodes : List Node) (ts us : List Token) → ListOf NameItem list ts → Where nodes us → run (want.Name ∷ want.MoreNames 7 ∷ selected) (ts ++ Word KFROM ∷ Name relation ∷ us) ≡ Some nodes
-names_from list relation nodes ts us l w = list_runs names list ts l.listed 7 (omega (arith, l.few)) selected (Word KFROM ∷ Name relation ∷ us) (λ k. refl) ∙ selected_runs relation nodes us w
+names_from : (list : List (List ℕ)) (relation : List ℕ) (nodes : List Node) (ts us : List Token) → ListOf NameItem list ts → Where nodes us → run (want.Name ∷ want.MoreNames 7 ∷ select_symbols) (ts ++ Word KFROM ∷ Name relation ∷ us) ≡ Some nodes
+names_from list relation nodes ts us l w = list_runs names list ts l.listed 7 (omega (arith, l.few)) select_symbols (Word KFROM ∷ Name relation ∷ us) (λ k. refl) ∙ selected_runs relation nodes us w
 
 -- the names to the end
 names_last : (list : List (List ℕ)) (ts : List Token) → ListOf NameItem list ts → run (want.Name ∷ want.MoreNames 7 ∷ []) ts ≡ Some []
@@ -112,15 +112,15 @@ joined_runs left right on list ts l =
     nil-nil (behind_nodes [] (behind_nodes [] (behind_nodes [] (behind_nodes [] last)))) ∙ nil-nil (behind_nodes [] (behind_nodes [] last)) ∙ nil-nil last ∙ names_last list ts l
 
 query_runs : (q : Query) (ts : List Token) → IsQuery q ts → run (want.Query ∷ []) ts ≡ Some (query_nodes q)
-query_runs _ _ (select list relation nodes ts us l w) = behind-nil (run (want.Name ∷ want.MoreNames 7 ∷ selected) (ts ++ Word KFROM ∷ Name relation ∷ us)) ∙ names_from list relation nodes ts us l w
+query_runs _ _ (select list relation nodes ts us l w) = behind-nil (run (want.Name ∷ want.MoreNames 7 ∷ select_symbols) (ts ++ Word KFROM ∷ Name relation ∷ us)) ∙ names_from list relation nodes ts us l w
 query_runs _ _ (join left right on list ts l) = behind-nil (run joined_query (Name left ∷ Sign Comma ∷ Name right ∷ Word KON ∷ Name on ∷ Word KPROJECT ∷ ts)) ∙ joined_runs left right on list ts l
 
 -- SELECT is read before it is known whether names or aggregates follow
-selection_names : (list : List (List ℕ)) (ts : List Token) → Listed NameItem list ts → (rest : List Token) → run (want.Selection ∷ []) (ts ++ rest) ≡ run (want.Name ∷ want.MoreNames 7 ∷ selected) (ts ++ rest)
+selection_names : (list : List (List ℕ)) (ts : List Token) → Listed NameItem list ts → (rest : List Token) → run (want.Selection ∷ []) (ts ++ rest) ≡ run (want.Name ∷ want.MoreNames 7 ∷ select_symbols) (ts ++ rest)
 selection_names _ _ (one _ _ (a_name n)) rest = refl
 selection_names _ _ (more _ as_ _ ys (a_name n) l) rest = refl
 
-selection_move : (a : Agg) → move want.Selection (Word (agg_word a)) ≡ to (want.Opening ∷ want.Name ∷ want.Closing ∷ want.MoreAggregates 7 ∷ selected)
+selection_move : (a : Agg) → move want.Selection (Word (agg_word a)) ≡ to (want.Opening ∷ want.Name ∷ want.Closing ∷ want.MoreAggregates 7 ∷ select_symbols)
 selection_move agg.Count = refl
 selection_move agg.Sum = refl
 selection_move agg.Min = refl
@@ -128,12 +128,12 @@ selection_move agg.Max = refl
 selection_move agg.Mean = refl
 selection_move agg.Median = refl
 
-selection_first : (a : Agg) (rest : List Token) → run (want.Selection ∷ []) (Word (agg_word a) ∷ rest) ≡ run (want.Aggregate ∷ want.MoreAggregates 7 ∷ selected) (Word (agg_word a) ∷ rest)
+selection_first : (a : Agg) (rest : List Token) → run (want.Selection ∷ []) (Word (agg_word a) ∷ rest) ≡ run (want.Aggregate ∷ want.MoreAggregates 7 ∷ select_symbols) (Word (agg_word a) ∷ rest)
 selection_first a rest =
-    run_to want.Selection [] (Word (agg_word a)) rest (want.Opening ∷ want.Name ∷ want.Closing ∷ want.MoreAggregates 7 ∷ selected) (selection_move a)
-    ∙ sym (run_to want.Aggregate (want.MoreAggregates 7 ∷ selected) (Word (agg_word a)) rest (want.Opening ∷ want.Name ∷ want.Closing ∷ []) (agg_move a))
+    run_to want.Selection [] (Word (agg_word a)) rest (want.Opening ∷ want.Name ∷ want.Closing ∷ want.MoreAggregates 7 ∷ select_symbols) (selection_move a)
+    ∙ sym (run_to want.Aggregate (want.MoreAggregates 7 ∷ select_symbols) (Word (agg_word a)) rest (want.Opening ∷ want.Name ∷ want.Closing ∷ []) (agg_move a))
 
-selection_aggregates : (list : List (Agg × List ℕ)) (ts : List Token) → Listed AggItem list ts → (rest : List Token) → run (want.Selection ∷ []) (ts ++ rest) ≡ run (want.Aggregate ∷ want.MoreAggregates 7 ∷ selected) (ts ++ rest)
+selection_aggregates : (list : List (Agg × List ℕ)) (ts : List Token) → Listed AggItem list ts → (rest : List Token) → run (want.Selection ∷ []) (ts ++ rest) ≡ run (want.Aggregate ∷ want.MoreAggregates 7 ∷ select_symbols) (ts ++ rest)
 selection_aggregates _ _ (one _ _ (an_aggregate a n)) rest = selection_first a (Sign LeftBracket ∷ Name n ∷ Sign RightBracket ∷ rest)
 selection_aggregates _ _ (more _ as_ _ ys (an_aggregate a n) l) rest = selection_first a (Sign LeftBracket ∷ Name n ∷ Sign RightBracket ∷ Sign Comma ∷ (ys ++ rest))
 
@@ -169,7 +169,7 @@ spells_run _ _ (ask _ _ (join left right on list ts l)) =
     behind-nil (run joined_query (Name left ∷ Sign Comma ∷ Name right ∷ Word KON ∷ Name on ∷ Word KPROJECT ∷ ts)) ∙ joined_runs left right on list ts l
 spells_run _ _ (aggregate list relation nodes ts us l w) =
     behind-nil (run (want.Selection ∷ []) (ts ++ Word KFROM ∷ Name relation ∷ us)) ∙ selection_aggregates list ts l.listed (Word KFROM ∷ Name relation ∷ us)
-    ∙ list_runs aggregates list ts l.listed 7 (omega (arith, l.few)) selected (Word KFROM ∷ Name relation ∷ us) (λ k. refl) ∙ selected_runs relation nodes us w
+    ∙ list_runs aggregates list ts l.listed 7 (omega (arith, l.few)) select_symbols (Word KFROM ∷ Name relation ∷ us) (λ k. refl) ∙ selected_runs relation nodes us w
 spells_run _ _ (remove_from relation nodes us w) = nil-nil (behind_nodes [] (run (want.Where ∷ []) us)) ∙ behind-nil (run (want.Where ∷ []) us) ∙ where_runs nodes us w
 spells_run _ _ (remove_relation relation) = refl
 spells_run _ _ (remove_index relation attribute) = refl

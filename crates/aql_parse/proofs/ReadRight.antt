@@ -14,8 +14,8 @@ use Rattle.db_model.specs.declared.refusals.Refusal.{Refusal}
 use Rattle.db_model.specs.declared.refusals.Refusal.TheVariants as refusal
 use Rattle.db_model.specs.declared.tokens.Token.{Token}
 use Rattle.aql_parse.specs.Built.{command_of}
-use Rattle.aql_parse.specs.Kept.{KeepsAll, AreKept}
-use Rattle.aql_parse.specs.Machine.{run, reach, start}
+use Rattle.aql_parse.specs.Kept.{KeepsNodes, AreKept}
+use Rattle.aql_parse.specs.Machine.{run, readable_tokens, start}
 use Rattle.aql_parse.specs.declared.nodes.Nodes.{Nodes}
 use Rattle.aql_parse.proofs.BuiltRight.{spells_built}
 use Rattle.aql_parse.proofs.Complete.{disj_runs}
@@ -35,9 +35,9 @@ not_whole bytes whole e h c s = let w = s.whole in cc
 
 -- the place of the longest front
 pub wrong_at : (bytes : List ℕ) (tokens : List Token) (ends : List ℕ) (n at : ℕ) → tokens ≡ (tokens_of bytes).items → ends ≡ (tokens_of bytes).ends →
-    n ≡ reach start tokens → at ≡ end_of ends n → GoesWrongAt bytes at
+    n ≡ readable_tokens start tokens → at ≡ end_of ends n → GoesWrongAt bytes at
 wrong_at bytes tokens ends n at e f h p =
-    let far : n ≡ reach start (tokens_of bytes).items = h ∙ ap (reach start) e in
+    let far : n ≡ readable_tokens start (tokens_of bytes).items = h ∙ ap (readable_tokens start) e in
     record {
       tokens = n;
       longest = subst (IsLongestFront (tokens_of bytes).items) (sym far) (longest (tokens_of bytes).items);
@@ -46,19 +46,19 @@ wrong_at bytes tokens ends n at e f h p =
 
 -- the refusal where the machine stops
 pub stops_at : (bytes : List ℕ) (tokens : List Token) (ends : List ℕ) (n at : ℕ) → tokens ≡ (tokens_of bytes).items → ends ≡ (tokens_of bytes).ends →
-    n ≡ reach start tokens → run start tokens ≡ None → at ≡ end_of ends n → IsNoCommand bytes at
+    n ≡ readable_tokens start tokens → run start tokens ≡ None → at ≡ end_of ends n → IsNoCommand bytes at
 stops_at bytes tokens ends n at e f h r p = record { none = none_spelt bytes tokens e r; wrong = wrong_at bytes tokens ends n at e f h p }
 
 -- the refusal where the tokens stop
 pub breaks_off_at : (bytes : List ℕ) (tokens : List Token) (ends : List ℕ) (whole : Bool) (n at : ℕ) → tokens ≡ (tokens_of bytes).items → ends ≡ (tokens_of bytes).ends →
-    whole ≡ (tokens_of bytes).whole → whole ≡ false → n ≡ reach start tokens → at ≡ end_of ends n → IsNoCommand bytes at
+    whole ≡ (tokens_of bytes).whole → whole ≡ false → n ≡ readable_tokens start tokens → at ≡ end_of ends n → IsNoCommand bytes at
 breaks_off_at bytes tokens ends whole n at e f g w h p = record { none = not_whole bytes whole g w; wrong = wrong_at bytes tokens ends n at e f h p }
 
 -- where all tokens are read
 pub record IsRead (tokens : List Token) (nodes : Nodes) : Type 0 where
   pub all : List Node
   pub ran : run start tokens ≡ Some all
-  pub keeps : KeepsAll all nodes
+  pub keeps : KeepsNodes all nodes
 
 pub is_read : (tokens : List Token) (nodes : Nodes) → AreKept (run start tokens) nodes → IsRead tokens nodes
 is_read tokens nodes k = go (run start tokens) refl k
@@ -67,7 +67,7 @@ is_read tokens nodes k = go (run start tokens) refl k
     go None e k = absurd k
     go (Some all) e k = record { all = all; ran = e; keeps = k }
 
-pub all_read : (tokens : List Token) (nodes : Nodes) → AreKept (run start tokens) nodes → length tokens ≡ reach start tokens
+pub all_read : (tokens : List Token) (nodes : Nodes) → AreKept (run start tokens) nodes → length tokens ≡ readable_tokens start tokens
 all_read tokens nodes k = let r = is_read tokens nodes k in sym (read_whole tokens r.all r.ran)
 
 -- a command with too many nodes

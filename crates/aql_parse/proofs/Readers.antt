@@ -11,7 +11,7 @@ use Rattle.db_model.specs.declared.refusals.Pool.TheVariants.{Nodes}
 use Rattle.db_model.specs.declared.refusals.Refusal.{Refusal}
 use Rattle.db_model.specs.declared.refusals.Refusal.TheVariants.{Syntax, Full}
 use Rattle.db_model.specs.declared.tokens.Token.{Token}
-use Rattle.aql_parse.specs.Machine.{run, reach, start}
+use Rattle.aql_parse.specs.Machine.{run, readable_tokens, start}
 use Rattle.aql_parse.proofs.ReadRight.{none_spelt, not_whole, wrong_at}
 use Rattle.aql_parse.proofs.Means.{ReadCommand}
 use Rattle.aql_parse.proofs.Sound.{start_sound}
@@ -24,10 +24,10 @@ record Answer (bytes : List ℕ) : Type 0 where
 refused : (bytes : List ℕ) → ((command : Command) → IsSpelt command bytes → ⊥) → Answer bytes
 refused bytes none =
     let tokens : List Token = (tokens_of bytes).items in
-    let at : ℕ = end_of (tokens_of bytes).ends (reach start (tokens_of bytes).items) in
+    let at : ℕ = end_of (tokens_of bytes).ends (readable_tokens start (tokens_of bytes).items) in
     record {
       result = Err (Syntax at);
-      reading = record { none = none; wrong = wrong_at bytes tokens (tokens_of bytes).ends (reach start tokens) at refl refl refl refl };
+      reading = record { none = none; wrong = wrong_at bytes tokens (tokens_of bytes).ends (readable_tokens start tokens) at refl refl refl refl };
     }
 
 spelt : (bytes : List ℕ) (command : Command) → IsSpelt command bytes → Answer bytes

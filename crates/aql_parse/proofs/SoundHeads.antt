@@ -10,7 +10,7 @@ use Rattle.db_model.specs.declared.tokens.Keyword.TheVariants.{KCREATE, KRELATIO
 use Rattle.db_model.specs.declared.tokens.Sign.TheVariants.{LeftBracket, RightBracket, Comma, Minus}
 use Rattle.db_model.specs.declared.tokens.Token.{Token}
 use Rattle.db_model.specs.declared.tokens.Token.TheVariants.{Word, Name, Number, Sign}
-use Rattle.aql_parse.specs.Machine.{selected, joined_query, aggregated}
+use Rattle.aql_parse.specs.Machine.{select_symbols, joined_query, aggregate_symbols}
 use Rattle.aql_parse.specs.declared.symbols.Symbol.TheVariants as want
 use Rattle.aql_parse.proofs.Means.{ReadCond, moved_cond, ReadQuery, ReadCommand, moved_command, exactly, item_read, a_number, a_kind, MoreRead, no_more, one_more, WhereRead, where_read, Reads, Means, nil, cons}
 
@@ -63,7 +63,7 @@ where_sound _ _ (cons _ _ xs _ ms _ r (cons _ _ ys _ ns _ a (cons _ _ zs _ os _ 
 -- ---- queries
 
 -- a list of names, FROM NAME [WHERE cond]
-select_sound : (n : List ℕ) (ts : List Token) (ns : List Node) → Means (want.MoreNames 7 ∷ selected) ts ns → ReadQuery (Word KSELECT ∷ Name n ∷ ts) ns
+select_sound : (n : List ℕ) (ts : List Token) (ns : List Node) → Means (want.MoreNames 7 ∷ select_symbols) ts ns → ReadQuery (Word KSELECT ∷ Name n ∷ ts) ns
 select_sound n _ _ (cons _ _ ys _ ns _ m (cons _ _ _ _ _ _ exactly (cons _ _ _ _ _ _ (item_read _ _ (a_name r)) (cons _ _ _ _ _ _ (where_read nodes us w) nil)))) =
     let l = many n (Name n ∷ []) (a_name n) 7 ys ns m in
     let spelt = select l.items r nodes (Name n ∷ ys) us (record { listed = l.listed; few = l.few }) w in
@@ -73,7 +73,7 @@ select_sound n _ _ (cons _ _ ys _ ns _ m (cons _ _ _ _ _ _ exactly (cons _ _ _ _
       nodes = sym (append-nil nodes) ∙ sym (ap (λ x. x ++ (nodes ++ [])) l.none);
     }
 
-pub query_select_sound : (ts : List Token) (ns : List Node) → Means (want.Name ∷ want.MoreNames 7 ∷ selected) ts ns → Reads want.Query (Word KSELECT ∷ ts) ns
+pub query_select_sound : (ts : List Token) (ns : List Node) → Means (want.Name ∷ want.MoreNames 7 ∷ select_symbols) ts ns → Reads want.Query (Word KSELECT ∷ ts) ns
 query_select_sound _ _ (cons _ _ _ ys _ ns (item_read _ _ (a_name n)) rest) = select_sound n ys ns rest
 
 pub joined_sound : (ts : List Token) (ns : List Node) → Means joined_query ts ns → Reads want.Query (Word KJOIN ∷ ts) ns
@@ -90,10 +90,10 @@ joined_sound _ _ (cons _ _ _ _ _ _ (item_read _ _ (a_name left)) (cons _ _ _ _ _
 asked_for : (ts : List Token) (ns : List Node) → ReadQuery ts ns → ReadCommand ts ns
 asked_for ts ns q = record { command = command.Ask q.query; spelt = ask q.query ts q.spelt; nodes = q.nodes }
 
-pub selection_name_sound : (n : List ℕ) (ts : List Token) (ns : List Node) → Means (want.MoreNames 7 ∷ selected) ts ns → Reads want.Selection (Name n ∷ ts) ns
+pub selection_name_sound : (n : List ℕ) (ts : List Token) (ns : List Node) → Means (want.MoreNames 7 ∷ select_symbols) ts ns → Reads want.Selection (Name n ∷ ts) ns
 selection_name_sound n ts ns m = asked_for (Word KSELECT ∷ Name n ∷ ts) ns (select_sound n ts ns m)
 
-pub selection_aggregate_sound : (a : Agg) (ts : List Token) (ns : List Node) → Means aggregated ts ns → Reads want.Selection (Word (agg_word a) ∷ ts) ns
+pub selection_aggregate_sound : (a : Agg) (ts : List Token) (ns : List Node) → Means aggregate_symbols ts ns → Reads want.Selection (Word (agg_word a) ∷ ts) ns
 selection_aggregate_sound a _ _ (cons _ _ _ _ _ _ exactly (cons _ _ _ _ _ _ (item_read _ _ (a_name n)) (cons _ _ _ _ _ _ exactly
     (cons _ _ ys _ ns _ m (cons _ _ _ _ _ _ exactly (cons _ _ _ _ _ _ (item_read _ _ (a_name r)) (cons _ _ _ _ _ _ (where_read nodes us w) nil))))))) =
     let first : List Token = Word (agg_word a) ∷ Sign LeftBracket ∷ Name n ∷ Sign RightBracket ∷ [] in

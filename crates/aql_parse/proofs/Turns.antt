@@ -4,9 +4,9 @@ use Rattle.std.proofs.Math.ListN.{drop_of_length-le}
 use Rattle.std.proofs.lemmas.Bool.Decides.{nat_tests}
 use Rattle.db_model.specs.declared.commands.Node.{Node}
 use Rattle.db_model.specs.declared.tokens.Token.{Token}
-use Rattle.aql_parse.specs.Kept.{kept_one, kept, KeepsAll, AreKept}
-use Rattle.aql_parse.specs.Machine.{Move, move, skip, read, finish, run, reach, behind_nodes, behind_move, start}
-use Rattle.aql_parse.specs.Moves.{Moved, Kept, Skipped, HasRead, HasEnded, bulk_all}
+use Rattle.aql_parse.specs.Kept.{kept_one, kept, KeepsNodes, AreKept}
+use Rattle.aql_parse.specs.Machine.{Move, move, skip, read, finish, run, readable_tokens, behind_nodes, behind_move, start}
+use Rattle.aql_parse.specs.Moves.{Moved, IsKeptByMove, Skipped, HasRead, HasEnded, bulk_all}
 use Rattle.aql_parse.specs.declared.nodes.Nodes.{Nodes}
 use Rattle.aql_parse.specs.declared.symbols.Symbol.{Symbol}
 use Rattle.aql_parse.proofs.Light.{light}
@@ -52,10 +52,10 @@ few_all [] k h = h
 few_all (n ∷ ns) k h = few_all ns (kept_one k n) (few_step k n (nat_lt (length k.first) 32) refl h)
 
 -- what is kept where nothing was
-pub kept_from_none : (k : Nodes) (ns : List Node) → k.first ≡ [] → k.over ≡ false → KeepsAll ns (kept k ns)
+pub kept_from_none : (k : Nodes) (ns : List Node) → k.first ≡ [] → k.over ≡ false → KeepsNodes ns (kept k ns)
 kept_from_none k ns e f = told (kept k ns) (kept_all ns [] k (inl (f, e))) (few_all ns k (omega (arith, ap length e)))
   where
-    told : (m : Nodes) → KeptSo ns m → length m.first ≤ 32 → KeepsAll ns m
+    told : (m : Nodes) → KeptSo ns m → length m.first ≤ 32 → KeepsNodes ns m
     told m (inl h) few = record { whole = λ _. h.1; more = λ o. cc; few = few }
     told m (inr h) few = record { whole = λ o. cc; more = λ _. h.1; few = few }
 
@@ -85,10 +85,10 @@ told : (all : List Symbol) (t : Token) (stack : List Symbol) (from nodes : Nodes
 told all t stack from nodes done r e h = subst (λ x. HasRead x stack from nodes done) (sym e) h
 
 pub turn_moved : (all γ stack : List Symbol) (s : Symbol) (t : Token) (from before nodes : Nodes) (done : Bool) → Reading all (s ∷ γ) t from before →
-    Moved (move s t) γ stack done → Kept (move s t) before nodes → done ≡ true → HasRead (read all t) stack from nodes true
+    Moved (move s t) γ stack done → IsKeptByMove (move s t) before nodes → done ≡ true → HasRead (read all t) stack from nodes true
 turn_moved all γ stack s t from before nodes done r m k d = go (move s t) refl m k
   where
-    go : (x : Option Move) → move s t ≡ x → Moved x γ stack done → Kept x before nodes → HasRead (read all t) stack from nodes true
+    go : (x : Option Move) → move s t ≡ x → Moved x γ stack done → IsKeptByMove x before nodes → HasRead (read all t) stack from nodes true
     go None e m k = cc
     go (Some x) e m k =
         told all t stack from nodes true (Some (record { symbols = x.symbols ++ γ; nodes = r.out ++ x.nodes }))
@@ -96,14 +96,14 @@ turn_moved all γ stack s t from before nodes done r m k d = go (move s t) refl 
         (refl, m.1, k ∙ ap (λ y. kept y x.nodes) r.kept ∙ sym (kept-append from r.out x.nodes))
 
 pub turn_skipped : (all γ stack : List Symbol) (s : Symbol) (t : Token) (from before mid nodes : Nodes) (done skipped : Bool) → Reading all (s ∷ γ) t from before →
-    Moved (move s t) γ stack done → Kept (move s t) before mid → done ≡ false → Skipped (skip s) mid nodes skipped → skipped ≡ true → Reading all stack t from nodes
+    Moved (move s t) γ stack done → IsKeptByMove (move s t) before mid → done ≡ false → Skipped (skip s) mid nodes skipped → skipped ≡ true → Reading all stack t from nodes
 turn_skipped all γ stack s t from before mid nodes done skipped r m k d q w = go (move s t) (skip s) refl refl m k q
   where
     assoc : (r : List Node) (b : List Node) (x : Option Move) → behind_move r (behind_move b x) ≡ behind_move (r ++ b) x
     assoc r b None = refl
     assoc r b (Some x) = ap (λ y. Some (record { symbols = x.symbols; nodes = y })) (sym (append_assoc r b x.nodes))
 
-    go : (x : Option Move) (y : Option (List Node)) → move s t ≡ x → skip s ≡ y → Moved x γ stack done → Kept x before mid → Skipped y mid nodes skipped → Reading all stack t from nodes
+    go : (x : Option Move) (y : Option (List Node)) → move s t ≡ x → skip s ≡ y → Moved x γ stack done → IsKeptByMove x before mid → Skipped y mid nodes skipped → Reading all stack t from nodes
     go (Some x) y e f m k q = cc
     go None None e f m k q = cc
     go None (Some b) e f m k q =
@@ -177,7 +177,7 @@ no_nodes = record { first = []; over = false }
 pub record Recognizing (i : ℕ) (tokens : List Token) (stack : List Symbol) (nodes : Nodes) : Type 0 where
   pub out : List Node
   pub same : run start tokens ≡ behind_nodes out (run stack (drop i tokens))
-  pub far : reach start tokens ≡ i + reach stack (drop i tokens)
+  pub far : readable_tokens start tokens ≡ i + readable_tokens stack (drop i tokens)
   pub kept : nodes ≡ kept no_nodes out
   pub light : bulk_all stack ≤ 8 + 4 * i
 
@@ -187,8 +187,8 @@ recognizing_begins tokens = record { out = []; same = sym (behind-nil (run start
 run_when : (γ : List Symbol) (t : Token) (ts : List Token) (r : Option Move) → read γ t ≡ r → run γ (t ∷ ts) ≡ elim r as (λ _. Option (List Node)) [ Some m ↦ behind_nodes m.nodes (run m.symbols ts) | None ↦ None ]
 run_when γ t ts r e = subst (λ y. run γ (t ∷ ts) ≡ elim y as (λ _. Option (List Node)) [ Some m ↦ behind_nodes m.nodes (run m.symbols ts) | None ↦ None ]) e refl
 
-reach_when : (γ : List Symbol) (t : Token) (ts : List Token) (r : Option Move) → read γ t ≡ r → reach γ (t ∷ ts) ≡ elim r as (λ _. ℕ) [ Some m ↦ suc (reach m.symbols ts) | None ↦ 0 ]
-reach_when γ t ts r e = subst (λ y. reach γ (t ∷ ts) ≡ elim y as (λ _. ℕ) [ Some m ↦ suc (reach m.symbols ts) | None ↦ 0 ]) e refl
+reach_when : (γ : List Symbol) (t : Token) (ts : List Token) (r : Option Move) → read γ t ≡ r → readable_tokens γ (t ∷ ts) ≡ elim r as (λ _. ℕ) [ Some m ↦ suc (readable_tokens m.symbols ts) | None ↦ 0 ]
+reach_when γ t ts r e = subst (λ y. readable_tokens γ (t ∷ ts) ≡ elim y as (λ _. ℕ) [ Some m ↦ suc (readable_tokens m.symbols ts) | None ↦ 0 ]) e refl
 
 next_token : (i : ℕ) (tokens : List Token) (t : Token) → i < length tokens → t ≡ get_or tokens i t → drop i tokens ≡ t ∷ drop (i + 1) tokens
 next_token i tokens t h e = drop-cons tokens i t h ∙ ap (λ x. x ∷ drop (suc i) tokens) (sym e) ∙ ap (λ n. t ∷ drop n tokens) (sym (add-one i))
@@ -204,7 +204,7 @@ recognizing_more i tokens stack next nodes more t done r h e k d = go (read stac
     go None f k = cc
     go (Some m) f k =
         let ran : run stack (drop i tokens) ≡ behind_nodes m.nodes (run m.symbols (drop (i + 1) tokens)) = ap (run stack) rest ∙ run_when stack t (drop (i + 1) tokens) (Some m) f in
-        let reached : reach stack (drop i tokens) ≡ suc (reach m.symbols (drop (i + 1) tokens)) = ap (reach stack) rest ∙ reach_when stack t (drop (i + 1) tokens) (Some m) f in
+        let reached : readable_tokens stack (drop i tokens) ≡ suc (readable_tokens m.symbols (drop (i + 1) tokens)) = ap (readable_tokens stack) rest ∙ reach_when stack t (drop (i + 1) tokens) (Some m) f in
         let weight = light stack t m f in
         subst (λ x. Recognizing (i + 1) tokens x more) (sym k.1) (record {
           out = r.out ++ m.nodes;
@@ -216,7 +216,7 @@ recognizing_more i tokens stack next nodes more t done r h e k d = go (read stac
 
 -- a token that cannot come
 pub record Stuck (i : ℕ) (tokens : List Token) : Type 0 where
-  pub far : i ≡ reach start tokens
+  pub far : i ≡ readable_tokens start tokens
   pub none : run start tokens ≡ None
 
 pub recognizing_stuck : (i : ℕ) (tokens : List Token) (stack next : List Symbol) (nodes more : Nodes) (t : Token) (done : Bool) → Recognizing i tokens stack nodes → i < length tokens → t ≡ get_or tokens i t →
@@ -230,7 +230,7 @@ recognizing_stuck i tokens stack next nodes more t done r h e k d = go (read sta
     go (Some m) f k = cc
     go None f k =
         let ran : run stack (drop i tokens) ≡ None = ap (run stack) rest ∙ run_when stack t (drop (i + 1) tokens) None f in
-        let reached : reach stack (drop i tokens) ≡ 0 = ap (reach stack) rest ∙ reach_when stack t (drop (i + 1) tokens) None f in
+        let reached : readable_tokens stack (drop i tokens) ≡ 0 = ap (readable_tokens stack) rest ∙ reach_when stack t (drop (i + 1) tokens) None f in
         record { far = omega (arith, r.far, reached); none = r.same ∙ ap (behind_nodes r.out) ran }
 
 -- nothing is left to read, but more has to come
@@ -243,7 +243,7 @@ recognizing_short i tokens stack nodes more done r h k d = go (finish stack) ref
 
     go : (x : Option (List Node)) → finish stack ≡ x → HasEnded x nodes more done → Stuck (length tokens) tokens
     go (Some ns) f k = cc
-    go None f k = record { far = omega (arith, r.far, ap (reach stack) rest); none = r.same ∙ ap (behind_nodes r.out) (ap (run stack) rest ∙ f) }
+    go None f k = record { far = omega (arith, r.far, ap (readable_tokens stack) rest); none = r.same ∙ ap (behind_nodes r.out) (ap (run stack) rest ∙ f) }
 
 -- nothing is left to read or to come
 pub recognizing_ends : (i : ℕ) (tokens : List Token) (stack : List Symbol) (nodes more : Nodes) (done : Bool) → Recognizing i tokens stack nodes → i ≡ length tokens →
@@ -258,4 +258,4 @@ recognizing_ends i tokens stack nodes more done r h k d = go (finish stack) refl
     go (Some ns) f k =
         let ran : run start tokens ≡ Some (r.out ++ ns) = r.same ∙ ap (behind_nodes r.out) (ap (run stack) rest ∙ f) in
         let all : more ≡ kept no_nodes (r.out ++ ns) = k.1 ∙ ap (λ y. kept y ns) r.kept ∙ sym (kept-append no_nodes r.out ns) in
-        subst (λ x. AreKept x more) (sym ran) (subst (KeepsAll (r.out ++ ns)) (sym all) (kept_from_none no_nodes (r.out ++ ns) refl refl))
+        subst (λ x. AreKept x more) (sym ran) (subst (KeepsNodes (r.out ++ ns)) (sym all) (kept_from_none no_nodes (r.out ++ ns) refl refl))

@@ -10,7 +10,7 @@ use Rattle.db_model.specs.declared.tokens.Keyword.TheVariants.{KRELATION, KDOMAI
 use Rattle.db_model.specs.declared.tokens.Sign.TheVariants.{LeftBracket, RightBracket, Comma, Dot, Equal}
 use Rattle.db_model.specs.declared.tokens.Token.{Token}
 use Rattle.db_model.specs.declared.tokens.Token.TheVariants.{Word, Name, Number, Sign}
-use Rattle.aql_parse.specs.Machine.{Move, to, with_node, operand, selected, or_else, move, skip, read, run, reach, behind_nodes, joint_node, start}
+use Rattle.aql_parse.specs.Machine.{Move, to, with_node, operand, select_symbols, or_else, move, skip, read, run, readable_tokens, behind_nodes, joint_node, start}
 use Rattle.aql_parse.specs.declared.symbols.Joint.{Joint}
 use Rattle.aql_parse.specs.declared.symbols.Joint.TheVariants as joint
 use Rattle.aql_parse.specs.declared.symbols.Symbol.{Symbol}
@@ -106,7 +106,7 @@ more_aggregates (suc n) γ l =
 from_ : (γ : List Symbol) → Live γ → Live (want.WordFrom ∷ γ)
 from_ γ l = put want.WordFrom γ (Word KFROM) [] refl (λ ts. record { products = refl; sums = refl; ands = refl; ors = refl; where_ = refl }) l
 
-selected_ : (γ : List Symbol) → Live γ → Live (selected ++ γ)
+selected_ : (γ : List Symbol) → Live γ → Live (select_symbols ++ γ)
 selected_ γ l = from_ (want.Name ∷ want.Where ∷ γ) (name_ (want.Where ∷ γ) (pass want.Where γ [] refl l l.harmless.where_))
 
 products_ : (γ : List Symbol) → Live γ → Live (want.Products ∷ γ)
@@ -151,10 +151,10 @@ live (want.Command ∷ γ) = put want.Command γ (Word KPACK) (want.Name ∷ [])
 live (want.Create ∷ γ) = put want.Create γ (Word KRELATION) (want.Name ∷ []) refl (λ ts. record { products = refl; sums = refl; ands = refl; ors = refl; where_ = refl }) (name_ γ (live γ))
 live (want.Remove ∷ γ) = put want.Remove γ (Word KRELATION) (want.Name ∷ []) refl (λ ts. record { products = refl; sums = refl; ands = refl; ors = refl; where_ = refl }) (name_ γ (live γ))
 live (want.Query ∷ γ) =
-    put want.Query γ (Word KSELECT) (want.Name ∷ want.MoreNames 7 ∷ selected) refl (λ ts. record { products = refl; sums = refl; ands = refl; ors = refl; where_ = refl })
-    (name_ (want.MoreNames 7 ∷ (selected ++ γ)) (more_names 7 (selected ++ γ) (selected_ γ (live γ))))
+    put want.Query γ (Word KSELECT) (want.Name ∷ want.MoreNames 7 ∷ select_symbols) refl (λ ts. record { products = refl; sums = refl; ands = refl; ors = refl; where_ = refl })
+    (name_ (want.MoreNames 7 ∷ (select_symbols ++ γ)) (more_names 7 (select_symbols ++ γ) (selected_ γ (live γ))))
 live (want.Selection ∷ γ) =
-    put want.Selection γ (Name x) (want.MoreNames 7 ∷ selected) refl (λ ts. record { products = refl; sums = refl; ands = refl; ors = refl; where_ = refl }) (more_names 7 (selected ++ γ) (selected_ γ (live γ)))
+    put want.Selection γ (Name x) (want.MoreNames 7 ∷ select_symbols) refl (λ ts. record { products = refl; sums = refl; ands = refl; ors = refl; where_ = refl }) (more_names 7 (select_symbols ++ γ) (selected_ γ (live γ)))
 live (want.Name ∷ γ) = name_ γ (live γ)
 live (want.Number ∷ γ) = one_word want.Number γ (Number (pos 0)) refl number_harmless (live γ)
 live (want.Value ∷ γ) = one_word want.Value γ (Number (pos 0)) refl number_harmless (live γ)
@@ -204,41 +204,41 @@ record Ends (γ : List Symbol) (ts : List Token) : Type 0 where
   ns : List Node
   accepted : run γ (ts ++ rest) ≡ Some ns
 
-read_ends : (ts : List Token) (γ : List Symbol) → Ends γ (take (reach γ ts) ts)
+read_ends : (ts : List Token) (γ : List Symbol) → Ends γ (take (readable_tokens γ ts) ts)
 read_ends [] γ = let l = live γ in record { rest = l.ts; ns = l.ns; accepted = l.accepted }
 read_ends (t ∷ ts) γ = go (read γ t) refl (λ δ. read_ends ts δ)
   where
-    go : (r : Option Move) → read γ t ≡ r → ((δ : List Symbol) → Ends δ (take (reach δ ts) ts)) → Ends γ (take (elim r as (λ _. ℕ) [ Some m ↦ suc (reach m.symbols ts) | None ↦ 0 ]) (t ∷ ts))
+    go : (r : Option Move) → read γ t ≡ r → ((δ : List Symbol) → Ends δ (take (readable_tokens δ ts) ts)) → Ends γ (take (elim r as (λ _. ℕ) [ Some m ↦ suc (readable_tokens m.symbols ts) | None ↦ 0 ]) (t ∷ ts))
     go None e h = let l = live γ in record { rest = l.ts; ns = l.ns; accepted = l.accepted }
     go (Some m) e h =
         let k = h m.symbols in
-        record { rest = k.rest; ns = m.nodes ++ k.ns; accepted = run_read γ t (take (reach m.symbols ts) ts ++ k.rest) m e ∙ ap (behind_nodes m.nodes) k.accepted }
+        record { rest = k.rest; ns = m.nodes ++ k.ns; accepted = run_read γ t (take (readable_tokens m.symbols ts) ts ++ k.rest) m e ∙ ap (behind_nodes m.nodes) k.accepted }
 
 -- what is read to its end is read from its front on
-read_far : (ts : List Token) (γ : List Symbol) (n : ℕ) (rest : List Token) (ns : List Node) → n ≤ length ts → run γ (take n ts ++ rest) ≡ Some ns → n ≤ reach γ ts
+read_far : (ts : List Token) (γ : List Symbol) (n : ℕ) (rest : List Token) (ns : List Node) → n ≤ length ts → run γ (take n ts ++ rest) ≡ Some ns → n ≤ readable_tokens γ ts
 read_far [] γ zero rest ns h e = omega arith
 read_far [] γ (suc n) rest ns h e = absurd (omega arith)
 read_far (t ∷ ts) γ zero rest ns h e = omega arith
 read_far (t ∷ ts) γ (suc n) rest ns h e = go (read γ t) e (λ δ ms k. read_far ts δ n rest ms (omega arith) k)
   where
     go : (r : Option Move) → elim r as (λ _. Option (List Node)) [ Some m ↦ behind_nodes m.nodes (run m.symbols (take n ts ++ rest)) | None ↦ None ] ≡ Some ns →
-        ((δ : List Symbol) (ms : List Node) → run δ (take n ts ++ rest) ≡ Some ms → n ≤ reach δ ts) → suc n ≤ elim r as (λ _. ℕ) [ Some m ↦ suc (reach m.symbols ts) | None ↦ 0 ]
+        ((δ : List Symbol) (ms : List Node) → run δ (take n ts ++ rest) ≡ Some ms → n ≤ readable_tokens δ ts) → suc n ≤ elim r as (λ _. ℕ) [ Some m ↦ suc (readable_tokens m.symbols ts) | None ↦ 0 ]
     go None e h = cc
     go (Some m) e h = let r = rest_of m.nodes (run m.symbols (take n ts ++ rest)) ns e in omega (arith, h m.symbols r.nodes r.found)
 
-pub reach_fits : (ts : List Token) (γ : List Symbol) → reach γ ts ≤ length ts
+pub reach_fits : (ts : List Token) (γ : List Symbol) → readable_tokens γ ts ≤ length ts
 reach_fits [] γ = omega arith
 reach_fits (t ∷ ts) γ = go (read γ t) (λ δ. reach_fits ts δ)
   where
-    go : (r : Option Move) → ((δ : List Symbol) → reach δ ts ≤ length ts) → elim r as (λ _. ℕ) [ Some m ↦ suc (reach m.symbols ts) | None ↦ 0 ] ≤ length (t ∷ ts)
+    go : (r : Option Move) → ((δ : List Symbol) → readable_tokens δ ts ≤ length ts) → elim r as (λ _. ℕ) [ Some m ↦ suc (readable_tokens m.symbols ts) | None ↦ 0 ] ≤ length (t ∷ ts)
     go None h = omega arith
     go (Some m) h = omega (arith, h m.symbols)
 
 -- how far the machine reads is the longest front that begins a command
-pub longest : (ts : List Token) → IsLongestFront ts (reach start ts)
+pub longest : (ts : List Token) → IsLongestFront ts (readable_tokens start ts)
 longest ts =
     let k = read_ends ts start in
-    let c = start_sound (take (reach start ts) ts ++ k.rest) k.ns k.accepted in
+    let c = start_sound (take (readable_tokens start ts) ts ++ k.rest) k.ns k.accepted in
     record {
       fits = reach_fits ts start;
       begins = record { rest = k.rest; command = c.command; spelling = c.spelt };
@@ -246,7 +246,7 @@ longest ts =
     }
 
 -- tokens that are read to their end are read whole
-pub read_whole : (ts : List Token) (ns : List Node) → run start ts ≡ Some ns → reach start ts ≡ length ts
+pub read_whole : (ts : List Token) (ns : List Node) → run start ts ≡ Some ns → readable_tokens start ts ≡ length ts
 read_whole ts ns e =
     let far = read_far ts start (length ts) [] ns (omega arith) (ap (run start) (ap (λ y. y ++ []) (take-length ts) ∙ append-nil ts) ∙ e) in
     omega (arith, far, reach_fits ts start)

@@ -84,9 +84,9 @@ kind_at ts n = option_and_then token_kind (slice_get ts n)
 -- ---- lists
 
 -- the names up to FROM, or to the end
-abbrev pub names_in : List Token → List (List ℕ)
-names_in [] = []
-names_in (t ∷ ts) = elim (is_from t) [ true ↦ [] | false ↦ elim (token_name t) [ Some n ↦ n ∷ names_in ts | None ↦ names_in ts ] ]
+abbrev pub name_tokens : List Token → List (List ℕ)
+name_tokens [] = []
+name_tokens (t ∷ ts) = elim (is_from t) [ true ↦ [] | false ↦ elim (token_name t) [ Some n ↦ n ∷ name_tokens ts | None ↦ name_tokens ts ] ]
 
 -- the values to the end
 abbrev pub values_in : Bool → List Token → List Value
@@ -113,17 +113,17 @@ at_most_8 xs = if nat_le (length xs) 8 then Some xs else None
 
 -- ---- commands
 
-abbrev pub domain_of : List Token → Option DomainAsked
-domain_of (Word KINT ∷ ts) = Some asked.Int
-domain_of (Word KLONG ∷ ts) = Some asked.Long
-domain_of (Name time ∷ ts) = Some asked.Time
-domain_of (Word KSTRING ∷ ts) = option_map (λ z. asked.Str z) (number_at ts 1)
-domain_of _ = None
+abbrev pub domain_read : List Token → Option DomainAsked
+domain_read (Word KINT ∷ ts) = Some asked.Int
+domain_read (Word KLONG ∷ ts) = Some asked.Long
+domain_read (Name time ∷ ts) = Some asked.Time
+domain_read (Word KSTRING ∷ ts) = option_map (λ z. asked.Str z) (number_at ts 1)
+domain_read _ = None
 
 -- NAME DOMAIN domain IN NAME
-abbrev pub attribute_of : List Token → Option Command
-attribute_of (name ∷ word ∷ ts) = option_and_then (λ n. option_and_then (λ d. option_map (λ r. command.CreateAttribute n d r) (relation_in ts)) (domain_of ts)) (token_name name)
-attribute_of _ = None
+abbrev pub attribute_read : List Token → Option Command
+attribute_read (name ∷ word ∷ ts) = option_and_then (λ n. option_and_then (λ d. option_map (λ r. command.CreateAttribute n d r) (relation_in ts)) (domain_read ts)) (token_name name)
+attribute_read _ = None
 
 -- NAME . NAME TYPE kind
 abbrev pub index_of : List Token → Option Command
@@ -131,7 +131,7 @@ index_of ts = option_and_then (λ r. option_and_then (λ a. option_map (λ k. co
 
 abbrev pub create_of : List Token → Option Command
 create_of (Word KRELATION ∷ ts) = option_map (λ n. command.CreateRelation n) (name_at ts 0)
-create_of (Word KATTRIBUTE ∷ ts) = attribute_of ts
+create_of (Word KATTRIBUTE ∷ ts) = attribute_read ts
 create_of (Word KINDEX ∷ ts) = index_of ts
 create_of _ = None
 
@@ -149,28 +149,28 @@ abbrev pub insert_of : List Token → Option Command
 insert_of ts = option_and_then (λ relation. option_map (λ values. command.Insert values relation) (at_most_8 (values_in false ts))) (relation_in ts)
 
 abbrev pub select_of : List Token → List Node → Option Query
-select_of ts nodes = option_and_then (λ relation. option_map (λ list. query.Select list relation nodes) (at_most_8 (names_in ts))) (relation_in ts)
+select_of ts nodes = option_and_then (λ relation. option_map (λ list. query.Select list relation nodes) (at_most_8 (name_tokens ts))) (relation_in ts)
 
 -- the names behind PROJECT, which is the sixth token
-abbrev pub projected : List Token → Option (List (List ℕ))
-projected ts = if nat_lt (length ts) 6 then None else at_most_8 (names_in (drop 6 ts))
+abbrev pub projected_tokens : List Token → Option (List (List ℕ))
+projected_tokens ts = if nat_lt (length ts) 6 then None else at_most_8 (name_tokens (drop 6 ts))
 
 -- NAME , NAME ON NAME PROJECT NAME {, NAME}
-abbrev pub join_of : List Token → Option Query
-join_of ts = option_and_then (λ l. option_and_then (λ r. option_and_then (λ o. option_map (λ list. query.Join l r o list) (projected ts)) (name_at ts 4)) (name_at ts 2)) (name_at ts 0)
+abbrev pub join_read : List Token → Option Query
+join_read ts = option_and_then (λ l. option_and_then (λ r. option_and_then (λ o. option_map (λ list. query.Join l r o list) (projected_tokens ts)) (name_at ts 4)) (name_at ts 2)) (name_at ts 0)
 
-abbrev pub aggregate_of : List Token → List Node → Option Command
-aggregate_of ts nodes = option_and_then (λ relation. option_map (λ list. command.Aggregate list relation nodes) (at_most_8 (aggregates_in ts))) (relation_in ts)
+abbrev pub aggregate_read : List Token → List Node → Option Command
+aggregate_read ts nodes = option_and_then (λ relation. option_map (λ list. command.Aggregate list relation nodes) (at_most_8 (aggregates_in ts))) (relation_in ts)
 
 abbrev pub query_of : List Token → List Node → Option Query
 query_of (Word KSELECT ∷ ts) nodes = select_of ts nodes
-query_of (Word KJOIN ∷ ts) nodes = join_of ts
+query_of (Word KJOIN ∷ ts) nodes = join_read ts
 query_of _ nodes = None
 
 -- names or aggregates
 abbrev pub selection_of : List Token → List Node → Option Command
 selection_of (Name n ∷ ts) nodes = option_map (λ q. command.Ask q) (select_of (Name n ∷ ts) nodes)
-selection_of ts nodes = aggregate_of ts nodes
+selection_of ts nodes = aggregate_read ts nodes
 
 -- NUMBER query
 abbrev pub open_of : List Token → List Node → Option Command
@@ -181,7 +181,7 @@ abbrev pub command_of : List Token → List Node → Option Command
 command_of (Word KCREATE ∷ ts) nodes = create_of ts
 command_of (Word KINSERT ∷ ts) nodes = insert_of ts
 command_of (Word KSELECT ∷ ts) nodes = selection_of ts nodes
-command_of (Word KJOIN ∷ ts) nodes = option_map (λ q. command.Ask q) (join_of ts)
+command_of (Word KJOIN ∷ ts) nodes = option_map (λ q. command.Ask q) (join_read ts)
 command_of (Word KREMOVE ∷ ts) nodes = remove_of ts nodes
 command_of (Word KPACK ∷ ts) nodes = option_map (λ r. command.Pack r) (name_at ts 0)
 command_of (Word KOPEN ∷ ts) nodes = open_of ts nodes

@@ -11,7 +11,7 @@ kept k [] = k
 kept k (n ∷ ns) = kept (kept_one k n) ns
 
 -- what is kept is all, or the first 32 of more
-pub record KeepsAll (all : List Node) (k : Nodes) : Type 0 where
+pub record KeepsNodes (all : List Node) (k : Nodes) : Type 0 where
   pub whole : k.over ≡ false → k.first ≡ all
   pub more : k.over ≡ true → 32 < length all
   pub few : length k.first ≤ 32
@@ -19,4 +19,4 @@ pub record KeepsAll (all : List Node) (k : Nodes) : Type 0 where
 -- there are nodes, and they are kept
 abbrev pub AreKept : Option (List Node) → Nodes → Type 0
 AreKept None k = ⊥
-AreKept (Some all) k = KeepsAll all k
+AreKept (Some all) k = KeepsNodes all k

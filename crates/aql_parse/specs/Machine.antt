@@ -34,11 +34,11 @@ joined_query = want.Name ∷ want.Comma ∷ want.Name ∷ want.WordOn ∷ want.N
 abbrev pub inserted : List Symbol
 inserted = want.Opening ∷ want.Value ∷ want.MoreValues 7 ∷ want.Closing ∷ want.WordInto ∷ want.Name ∷ []
 
-abbrev pub selected : List Symbol
-selected = want.WordFrom ∷ want.Name ∷ want.Where ∷ []
+abbrev pub select_symbols : List Symbol
+select_symbols = want.WordFrom ∷ want.Name ∷ want.Where ∷ []
 
-abbrev pub aggregated : List Symbol
-aggregated = want.Opening ∷ want.Name ∷ want.Closing ∷ want.MoreAggregates 7 ∷ selected
+abbrev pub aggregate_symbols : List Symbol
+aggregate_symbols = want.Opening ∷ want.Name ∷ want.Closing ∷ want.MoreAggregates 7 ∷ select_symbols
 
 abbrev pub head_move : Symbol → Token → Option Move
 head_move want.Command (Word KCREATE) = to (want.Create ∷ [])
@@ -56,15 +56,15 @@ head_move want.Create (Word KINDEX) = to (want.Name ∷ want.Dot ∷ want.Name �
 head_move want.Remove (Word KFROM) = to (want.Name ∷ want.Where ∷ [])
 head_move want.Remove (Word KRELATION) = to (want.Name ∷ [])
 head_move want.Remove (Word KINDEX) = to (want.Name ∷ want.Dot ∷ want.Name ∷ [])
-head_move want.Query (Word KSELECT) = to (want.Name ∷ want.MoreNames 7 ∷ selected)
+head_move want.Query (Word KSELECT) = to (want.Name ∷ want.MoreNames 7 ∷ select_symbols)
 head_move want.Query (Word KJOIN) = to joined_query
-head_move want.Selection (Name n) = to (want.MoreNames 7 ∷ selected)
-head_move want.Selection (Word KCOUNT) = to aggregated
-head_move want.Selection (Word KSUM) = to aggregated
-head_move want.Selection (Word KMIN) = to aggregated
-head_move want.Selection (Word KMAX) = to aggregated
-head_move want.Selection (Word KMEAN) = to aggregated
-head_move want.Selection (Word KMEDIAN) = to aggregated
+head_move want.Selection (Name n) = to (want.MoreNames 7 ∷ select_symbols)
+head_move want.Selection (Word KCOUNT) = to aggregate_symbols
+head_move want.Selection (Word KSUM) = to aggregate_symbols
+head_move want.Selection (Word KMIN) = to aggregate_symbols
+head_move want.Selection (Word KMAX) = to aggregate_symbols
+head_move want.Selection (Word KMEAN) = to aggregate_symbols
+head_move want.Selection (Word KMEDIAN) = to aggregate_symbols
 head_move _ _ = None
 
 -- ---- names, values and words
@@ -116,8 +116,8 @@ abbrev pub operand : ℕ → List Symbol
 operand n = want.Products ∷ want.Sums ∷ want.Behind n ∷ []
 
 -- what follows a comparison's sign inside n brackets, which are then conditions'
-abbrev pub comparison : ℕ → Compare → Option Move
-comparison n how = to (want.Factor ∷ want.Products ∷ want.Sums ∷ want.Join (joint.Compare how) ∷ want.Around n ∷ [])
+abbrev pub comparison_move : ℕ → Compare → Option Move
+comparison_move n how = to (want.Factor ∷ want.Products ∷ want.Sums ∷ want.Join (joint.Compare how) ∷ want.Around n ∷ [])
 
 abbrev pub condition_move : Symbol → Token → Option Move
 condition_move (want.Inside n) (Sign LeftBracket) = to (want.Inside (n + 1) ∷ [])
@@ -127,12 +127,12 @@ condition_move (want.Inside n) (Quoted bytes) = with_node (node.Text bytes) (ope
 condition_move (want.Inside n) (Name name) = with_node (node.Attribute name) (operand n)
 condition_move (want.Inside n) (Sign Minus) = to (want.Negative ∷ operand n)
 condition_move (want.Behind n) (Sign RightBracket) = if n == 0 then None else to (operand (n - 1))
-condition_move (want.Behind n) (Sign Equal) = comparison n compare.Eq
-condition_move (want.Behind n) (Sign Unequal) = comparison n compare.Ne
-condition_move (want.Behind n) (Sign Less) = comparison n compare.Lt
-condition_move (want.Behind n) (Sign LessEqual) = comparison n compare.Le
-condition_move (want.Behind n) (Sign Greater) = comparison n compare.Gt
-condition_move (want.Behind n) (Sign GreaterEqual) = comparison n compare.Ge
+condition_move (want.Behind n) (Sign Equal) = comparison_move n compare.Eq
+condition_move (want.Behind n) (Sign Unequal) = comparison_move n compare.Ne
+condition_move (want.Behind n) (Sign Less) = comparison_move n compare.Lt
+condition_move (want.Behind n) (Sign LessEqual) = comparison_move n compare.Le
+condition_move (want.Behind n) (Sign Greater) = comparison_move n compare.Gt
+condition_move (want.Behind n) (Sign GreaterEqual) = comparison_move n compare.Ge
 condition_move (want.Around n) (Word KAND) = if n == 0 then None else to (want.Inside 0 ∷ want.Join joint.And ∷ want.Around n ∷ [])
 condition_move (want.Around n) (Word KOR) = if n == 0 then None else to (want.Inside 0 ∷ want.Ands ∷ want.Join joint.Or ∷ want.Ors ∷ want.Closing ∷ want.Around (n - 1) ∷ [])
 condition_move (want.Around n) (Sign RightBracket) = if n == 0 then None else to (want.Around (n - 1) ∷ [])
@@ -211,9 +211,9 @@ run γ [] = finish γ
 run γ (t ∷ ts) = elim (read γ t) [ Some m ↦ behind_nodes m.nodes (run m.symbols ts) | None ↦ None ]
 
 -- how many of the tokens the stack can read
-abbrev pub reach : List Symbol → List Token → ℕ
-reach γ [] = 0
-reach γ (t ∷ ts) = elim (read γ t) [ Some m ↦ suc (reach m.symbols ts) | None ↦ 0 ]
+abbrev pub readable_tokens : List Symbol → List Token → ℕ
+readable_tokens γ [] = 0
+readable_tokens γ (t ∷ ts) = elim (read γ t) [ Some m ↦ suc (readable_tokens m.symbols ts) | None ↦ 0 ]
 
 abbrev pub start : List Symbol
 start = want.Command ∷ []

@@ -13,9 +13,9 @@ Moved None old new moved = (moved ≡ false) × (new ≡ old)
 Moved (Some m) old new moved = (moved ≡ true) × (new ≡ m.symbols ++ old)
 
 -- the nodes of a move are kept
-abbrev pub Kept : Option Move → Nodes → Nodes → Type 0
-Kept None old new = new ≡ old
-Kept (Some m) old new = new ≡ kept old m.nodes
+abbrev pub IsKeptByMove : Option Move → Nodes → Nodes → Type 0
+IsKeptByMove None old new = new ≡ old
+IsKeptByMove (Some m) old new = new ≡ kept old m.nodes
 
 -- true and left out, its nodes kept, or false and as before
 abbrev pub Skipped : Option (List Node) → Nodes → Nodes → Bool → Type 0

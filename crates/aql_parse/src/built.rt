@@ -6,7 +6,7 @@
 #![tactic(auto)]
 
 ghost use Rattle.std.specs.Prelude.{◌≡◌};
-ghost use Rattle.aql_parse.specs.Built.{aggregate_of, attribute_of, command_of, create_of, domain_of, index_of, insert_of, join_of, made, open_of, projected, query_of, remove_of, select_of, selection_of, unindex_of};
+ghost use Rattle.aql_parse.specs.Built.{aggregate_read, attribute_read, command_of, create_of, domain_read, index_of, insert_of, join_read, made, open_of, projected_tokens, query_of, remove_of, select_of, selection_of, unindex_of};
 
 use crate::lists::{aggregates_in, names_in, relation_in, values_in};
 use crate::parts::{kind_at, name_at, number_at, token_name};
@@ -74,7 +74,7 @@ fn create_of(tokens: &[Token], command: &mut Command) -> bool
 
 // NAME DOMAIN domain IN NAME.
 fn attribute_of(tokens: &[Token], command: &mut Command) -> bool
-    ensures { made result command.new ≡ attribute_of tokens.now }
+    ensures { made result command.new ≡ attribute_read tokens.now }
 {
     let [name, _, rest @ ..] = tokens else {
         return false;
@@ -97,7 +97,7 @@ fn attribute_of(tokens: &[Token], command: &mut Command) -> bool
 }
 
 fn domain_of(tokens: &[Token]) -> Option<DomainAsked>
-    ensures { result ≡ domain_of tokens.now }
+    ensures { result ≡ domain_read tokens.now }
 {
     match tokens {
         [Token::Word(Keyword::KINT), ..] => Some(DomainAsked::Int),
@@ -228,7 +228,7 @@ fn select_of(tokens: &[Token], nodes: &mut Condition) -> Option<Query>
 }
 
 fn aggregate_of(tokens: &[Token], nodes: &mut Condition, command: &mut Command) -> bool
-    ensures { made result command.new ≡ aggregate_of tokens.now nodes.old }
+    ensures { made result command.new ≡ aggregate_read tokens.now nodes.old }
 {
     let Some(relation) = relation_in(tokens) else {
         return false;
@@ -246,7 +246,7 @@ fn aggregate_of(tokens: &[Token], nodes: &mut Condition, command: &mut Command) 
 
 // NAME , NAME ON NAME PROJECT NAME {, NAME}.
 fn join_of(tokens: &[Token]) -> Option<Query>
-    ensures { result ≡ join_of tokens.now }
+    ensures { result ≡ join_read tokens.now }
 {
     let left = name_at(tokens, 0)?;
     let right = name_at(tokens, 2)?;
@@ -261,7 +261,7 @@ fn join_of(tokens: &[Token]) -> Option<Query>
 }
 
 fn projected(tokens: &[Token]) -> Option<Idents>
-    ensures { result ≡ projected tokens.now }
+    ensures { result ≡ projected_tokens tokens.now }
 {
     if tokens.len() < 6 {
         return None;

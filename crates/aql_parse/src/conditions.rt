@@ -3,8 +3,8 @@
 #![tactic(auto)]
 
 ghost use Rattle.std.specs.Prelude.{◌≡◌, ◌++◌, ◌≤◌, List, length, true};
-ghost use Rattle.aql_parse.specs.Machine.{comparison, condition_move, operand};
-ghost use Rattle.aql_parse.specs.Moves.{Kept, Moved, bulk};
+ghost use Rattle.aql_parse.specs.Machine.{comparison_move, condition_move, operand};
+ghost use Rattle.aql_parse.specs.Moves.{IsKeptByMove, Moved, bulk};
 ghost use Rattle.aql_parse.specs.declared.symbols.Symbol.{Symbol as SymbolType};
 ghost use Rattle.db_model.specs.Grammar.{minus};
 
@@ -17,7 +17,7 @@ pub fn condition_moves(symbol: Symbol, token: &Token, stack: &mut Stack, nodes: 
     requires room { length stack.old ≤ 2056 }
     requires brackets { bulk symbol ≤ 2060 }
     ensures stack { Moved (condition_move symbol token.now) stack.old stack.new result }
-    ensures nodes { Kept (condition_move symbol token.now) nodes.old nodes.new }
+    ensures nodes { IsKeptByMove (condition_move symbol token.now) nodes.old nodes.new }
 {
     match symbol {
         Symbol::Inside(n) => inside_moves(n, token, stack, nodes),
@@ -38,7 +38,7 @@ fn inside_moves(n: u16, token: &Token, stack: &mut Stack, nodes: &mut Nodes) -> 
     requires room { length stack.old ≤ 2056 }
     requires brackets { n ≤ 2060 }
     ensures stack { Moved (condition_move (Symbol.Inside n) token.now) stack.old stack.new result }
-    ensures nodes { Kept (condition_move (Symbol.Inside n) token.now) nodes.old nodes.new }
+    ensures nodes { IsKeptByMove (condition_move (Symbol.Inside n) token.now) nodes.old nodes.new }
 {
     match token {
         Token::Sign(Sign::LeftBracket) => stack.put(&[Symbol::Inside(n + 1)]),
@@ -98,7 +98,7 @@ fn behind_moves(n: u16, token: &Token, stack: &mut Stack) -> bool
 
 fn put_comparison(how: Compare, n: u16, stack: &mut Stack)
     requires { length stack.old ≤ 2056 }
-    ensures { Moved (comparison n how) stack.old stack.new true }
+    ensures { Moved (comparison_move n how) stack.old stack.new true }
 {
     stack.put(&[
         Symbol::Factor,
@@ -137,7 +137,7 @@ fn around_moves(n: u16, token: &Token, stack: &mut Stack) -> bool
 fn factor_moves(token: &Token, stack: &mut Stack, nodes: &mut Nodes) -> bool
     requires { length stack.old ≤ 2056 }
     ensures stack { Moved (condition_move Symbol.Factor token.now) stack.old stack.new result }
-    ensures nodes { Kept (condition_move Symbol.Factor token.now) nodes.old nodes.new }
+    ensures nodes { IsKeptByMove (condition_move Symbol.Factor token.now) nodes.old nodes.new }
 {
     match token {
         Token::Number(z) => nodes.put(Node::Number(*z)),
@@ -159,7 +159,7 @@ fn factor_moves(token: &Token, stack: &mut Stack, nodes: &mut Nodes) -> bool
 fn negative_moves(token: &Token, nodes: &mut Nodes) -> bool
     ensures stack { (stack : List SymbolType)
         → Moved (condition_move Symbol.Negative token.now) stack stack result }
-    ensures nodes { Kept (condition_move Symbol.Negative token.now) nodes.old nodes.new }
+    ensures nodes { IsKeptByMove (condition_move Symbol.Negative token.now) nodes.old nodes.new }
 {
     match token {
         Token::Number(z) => nodes.put(Node::Number(minus(*z))),

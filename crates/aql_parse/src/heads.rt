@@ -3,7 +3,7 @@
 #![tactic(auto)]
 
 ghost use Rattle.std.specs.Prelude.{◌≡◌, ◌++◌, ◌≤◌, length};
-ghost use Rattle.aql_parse.specs.Machine.{aggregated, head_move, inserted, joined_query};
+ghost use Rattle.aql_parse.specs.Machine.{aggregate_symbols, head_move, inserted, joined_query};
 ghost use Rattle.aql_parse.specs.Moves.{Moved};
 
 use crate::stack::Stack;
@@ -156,7 +156,7 @@ fn selection_moves(token: &Token, stack: &mut Stack) -> bool
 
 fn put_aggregates(stack: &mut Stack)
     requires { length stack.old ≤ 2056 }
-    ensures { stack.new ≡ aggregated ++ stack.old }
+    ensures { stack.new ≡ aggregate_symbols ++ stack.old }
 {
     stack.put(&[
         Symbol::Opening,

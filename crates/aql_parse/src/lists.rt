@@ -3,14 +3,14 @@
 #![tactic(auto)]
 
 ghost use Rattle.std.specs.Prelude.{◌≡◌, false};
-ghost use Rattle.aql_parse.specs.Built.{aggregates_in, at_most_8, made, names_in, relation_in, values_in};
+ghost use Rattle.aql_parse.specs.Built.{aggregates_in, at_most_8, made, name_tokens, relation_in, values_in};
 
 use crate::parts::{introduces, is_from, is_minus, name_at, token_agg, token_name, token_value};
 use db_model::{AggList, Ident, Idents, Token, Tuple};
 
 /// The names up to FROM, or to the end; None where there are more than 8.
 pub fn names_in(tokens: &[Token]) -> Option<Idents>
-    ensures { result ≡ at_most_8 (names_in tokens.now) }
+    ensures { result ≡ at_most_8 (name_tokens tokens.now) }
 {
     let mut list = Idents::new();
     for token in tokens {

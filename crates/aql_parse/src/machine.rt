@@ -4,7 +4,7 @@
 
 ghost use Rattle.std.specs.Prelude.{◌≡◌, ◌≤◌, IfErr, OnOk, None, Some, length};
 ghost use Rattle.aql_parse.specs.Kept.{AreKept};
-ghost use Rattle.aql_parse.specs.Machine.{finish, joint_node, reach, read, run, skip, start};
+ghost use Rattle.aql_parse.specs.Machine.{finish, joint_node, readable_tokens, read, run, skip, start};
 ghost use Rattle.aql_parse.specs.Moves.{HasEnded, HasRead, Skipped, bulk_all};
 
 use crate::moves::moves;
@@ -18,7 +18,7 @@ use db_model::{Node, Token};
 pub fn recognize(tokens: &[Token], stack: &mut Stack, nodes: &mut Nodes) -> Result<(), usize>
     requires { length tokens.now ≤ 512 }
     ensures nodes { OnOk result (AreKept (run start tokens.now) nodes.new) }
-    ensures front { IfErr result (λ n. n ≡ reach start tokens.now) }
+    ensures front { IfErr result (λ n. n ≡ readable_tokens start tokens.now) }
     ensures none { IfErr result (λ _. run start tokens.now ≡ None) }
 {
     stack.clear();

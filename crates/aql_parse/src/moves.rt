@@ -5,7 +5,7 @@
 
 ghost use Rattle.std.specs.Prelude.{◌≤◌, length};
 ghost use Rattle.aql_parse.specs.Machine.{move};
-ghost use Rattle.aql_parse.specs.Moves.{Kept, Moved, bulk};
+ghost use Rattle.aql_parse.specs.Moves.{IsKeptByMove, Moved, bulk};
 
 use crate::conditions::condition_moves;
 use crate::heads::head_moves;
@@ -19,7 +19,7 @@ pub fn moves(symbol: Symbol, token: &Token, stack: &mut Stack, nodes: &mut Nodes
     requires room { length stack.old ≤ 2056 }
     requires brackets { bulk symbol ≤ 2060 }
     ensures stack { Moved (move symbol token.now) stack.old stack.new result }
-    ensures nodes { Kept (move symbol token.now) nodes.old nodes.new }
+    ensures nodes { IsKeptByMove (move symbol token.now) nodes.old nodes.new }
 {
     if head_moves(symbol, token, stack) {
         return true;

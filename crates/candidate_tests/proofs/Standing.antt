@@ -1,7 +1,7 @@
 -- The relation stands while files change.
 use Rattle.std.proofs.Common.{◌≡◌, ◌≢◌, ℕ, ◌+◌, ◌*◌, ◌/◌, ◌<◌, ◌≤◌, List, length, Option, Some, None, IsTrue, is_some, unwrap_or, refl, sym, ap, ◌∙◌, subst, arith}
 use Rattle.afl_base.specs.Files.{Becomes, File, IsLive, KeepsBytes, State, Table, bytes_at, no_file, place}
-use Rattle.afl_base.specs.Frames.{Prepares, Spares}
+use Rattle.afl_base.specs.Frames.{Prepares, SparesOthers}
 use Rattle.afl_base.proofs.FrameLaws.{becomes_spares, keeps_prepares, live_by_name}
 use Rattle.db_model.specs.Row.{row_length, rows_bytes, rows_of}
 use Rattle.index_set.specs.declared.candidates.Candidates.{Candidates}
@@ -58,7 +58,7 @@ holds_by a b t e tells h =
 pub goes_then : (a b c : State) (t : Tuples) → StandsOn a b t → StandsOn b c t → StandsOn a c t
 goes_then a b c t f g = record { live = λ id live. g.live id (f.live id live); slots = omega (arith, f.slots, g.slots) }
 
-goes_spared : (a b : State) (P : ℕ → Type 0) (t : Tuples) → Spares a b P → slots a.files t ≤ slots b.files t → StandsOn a b t
+goes_spared : (a b : State) (P : ℕ → Type 0) (t : Tuples) → SparesOthers a b P → slots a.files t ≤ slots b.files t → StandsOn a b t
 goes_spared a b P t f more = record { live = live_by_name a.files b.files f.named; slots = more }
 
 pub goes_kept : (a b : State) (id : ℕ) (t : Tuples) → IsLive a.files id → KeepsBytes a b id → StandsOn a b t
@@ -180,7 +180,7 @@ pairs_on old new tables t tree c left right indexes s f m =
 -- ---- a row more: room is made in two steps, the row is appended, and its keys are inserted
 
 module _ (a b c d e : State) (before after : Tables) (t : Tuples) (tree slot total : ℕ) (told : List ℕ) (s : IsStanding a before t tree) (first : KeepsBytes a b t.file)
-    (second : Prepares b c (IsNoTree (three_indexes t tree))) (row : Becomes c d t.file total told) (keys : Spares d e (IsNoTree (three_indexes t tree)))
+    (second : Prepares b c (IsNoTree (three_indexes t tree))) (row : Becomes c d t.file total told) (keys : SparesOthers d e (IsNoTree (three_indexes t tree)))
     (old : slots a.files t ≡ slot) where
   away : IsNoTree (three_indexes t tree) t.file
   away = (tt, (s.apart, (tt, tt)))

@@ -7,7 +7,7 @@ use Rattle.afl_base.specs.Files.{File, Table, bytes_at, no_file, place}
 use Rattle.db_model.specs.declared.schemas.Schema.{Schema}
 use Rattle.db_model.specs.Catalog.{Index, catalog_of, version_mark, version_of}
 use Rattle.catalog.specs.CatalogFile.{IsCatalogSize}
-use Rattle.space_model.specs.FileNames.{bytes_of, catalog_file, file_named}
+use Rattle.space_model.specs.FileNames.{bytes_in_file, catalog_file, file_named}
 use Rattle.catalog.specs.Rules.{breaks_files, breaks_index, breaks_relation, broken_catalog, catalog_bytes_in, first, first_broken, has_form, is_stranger, version_in}
 use Rattle.catalog.proofs.Choices.{not_equal, none_if, some_if, then_some_if}
 
@@ -62,15 +62,15 @@ nothing (b ∷ bytes) e = absurd (omega (arith, e))
 
 -- ---- the catalog's file
 
-bytes_of_place : (o : Option File) → bytes_of o ≡ (unwrap_or o no_file).bytes
+bytes_of_place : (o : Option File) → bytes_in_file o ≡ (unwrap_or o no_file).bytes
 bytes_of_place None = refl
 bytes_of_place (Some f) = refl
 
 pub bytes_found : (files : Table) (id : ℕ) → file_named catalog_file files ≡ place files id → catalog_bytes_in files ≡ bytes_at files id
-bytes_found files id e = ap bytes_of e ∙ bytes_of_place (place files id)
+bytes_found files id e = ap bytes_in_file e ∙ bytes_of_place (place files id)
 
 pub no_bytes : (files : Table) → file_named catalog_file files ≡ None → catalog_bytes_in files ≡ []
-no_bytes files e = ap bytes_of e
+no_bytes files e = ap bytes_in_file e
 
 -- ---- all rules
 

@@ -6,8 +6,8 @@ use Rattle.db_model.specs.declared.schemas.Schema.{Schema}
 use Rattle.db_model.specs.Catalog.{Catalog as Slots, Index}
 
 -- the version and the slots of a catalog in memory
-abbrev pub slots_of : Catalog → Slots
-slots_of catalog = record { version = catalog.version; relations = catalog.relations; indexes = indexes_in catalog.indexes }
+abbrev pub catalog_slots : Catalog → Slots
+catalog_slots catalog = record { version = catalog.version; relations = catalog.relations; indexes = indexes_in catalog.indexes }
 
 -- one relation slot is another, and the version is 2
 abbrev pub relation_replaced : Slots → ℕ → Option Schema → Slots

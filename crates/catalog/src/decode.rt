@@ -5,7 +5,7 @@ ghost use Rattle.db_model.specs.Catalog.{attribute_of, attributes_of, domain_fro
 ghost use Rattle.db_model.specs.Database.{is_among};
 ghost use Rattle.db_model.specs.Row.{row_length, up_to_zero};
 ghost use Rattle.catalog.specs.CatalogFile.{index_in};
-ghost use Rattle.catalog.specs.Rules.{is_attribute, is_domain, is_index_form, is_relation_slot, is_row, is_schema};
+ghost use Rattle.catalog.specs.Rules.{is_attribute_slot, is_domain, is_index_form, is_relation_slot, is_row, is_schema};
 ghost use Rattle.db_model.specs.Sound.{are_distinct, attribute_names};
 
 use crate::slots::{index_slot, relation_slot, unused_slot};
@@ -45,7 +45,7 @@ fn read_schema(slot: &[u8], version: u8) -> Option<Schema>
 // The first `n` attributes, None where there are more than 8 or one is of no form.
 fn read_attributes(n: usize, bytes: &[u8], version: u8) -> Option<Attributes>
     requires { 144 ≤ length bytes.now }
-    ensures { result ≡ (if nat_le n 8 && list_all (is_attribute version) (attributes_of n bytes.now)
+    ensures { result ≡ (if nat_le n 8 && list_all (is_attribute_slot version) (attributes_of n bytes.now)
         then Some (attributes_of n bytes.now) else None) }
 {
     let mut attributes = Attributes::new();
@@ -61,7 +61,7 @@ fn read_attributes(n: usize, bytes: &[u8], version: u8) -> Option<Attributes>
 // The attribute in 18 bytes, None where its name or its domain is none.
 fn read_attribute(bytes: &[u8], version: u8) -> Option<Attribute>
     requires { length bytes.now ≡ 18 }
-    ensures { result ≡ (if is_attribute version (attribute_of bytes.now)
+    ensures { result ≡ (if is_attribute_slot version (attribute_of bytes.now)
         then Some (attribute_of bytes.now) else None) }
 {
     let name = Ident::new(up_to_zero(&bytes[..16]))?;

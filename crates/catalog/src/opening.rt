@@ -3,7 +3,7 @@ ghost use Rattle.afl_base.specs.Keeping.{OnlyReads};
 ghost use Rattle.afl_base.specs.Files.{IsLive, bytes_at, size_at};
 ghost use Rattle.db_model.specs.Catalog.{catalog_of};
 ghost use Rattle.catalog.specs.CatalogFile.{IsCatalogSize, indexes_in};
-ghost use Rattle.catalog.specs.Catalogs.{slots_of};
+ghost use Rattle.catalog.specs.Catalogs.{catalog_slots};
 ghost use Rattle.catalog.specs.Formed.{HasCatalogSize, IsFormed};
 ghost use Rattle.catalog.specs.Rules.{breaks_files, broken_catalog, catalog_bytes_in, catalog_in, first, first_broken, is_stranger, is_tree, version_in};
 
@@ -20,7 +20,7 @@ use db_model::{IndexKind, Schema};
 /// files that do not tell their bytes the answer is formed and fits the names, kinds and sizes of files.
 pub fn load<V: Files>(files: &mut V) -> Result<Result<Catalog, BadCatalog>, Failed>
     ensures catalog { IsTrue (V.state files.old).tells → IfOk result
-        (λ r. IfOk r (λ catalog. slots_of catalog ≡ catalog_in (V.state files.old).files)) }
+        (λ r. IfOk r (λ catalog. catalog_slots catalog ≡ catalog_in (V.state files.old).files)) }
     ensures sound { IsTrue (V.state files.old).tells → IfOk result
         (λ r. OnOk r (first_broken (V.state files.old).files ≡ None)) }
     ensures broken { IsTrue (V.state files.old).tells → IfOk result
@@ -50,7 +50,7 @@ pub fn load<V: Files>(files: &mut V) -> Result<Result<Catalog, BadCatalog>, Fail
 // The catalog by itself: rules 15 to 17.
 fn read_catalog<V: Files>(files: &mut V) -> Result<Result<Catalog, BadCatalog>, Failed>
     ensures catalog { IsTrue (V.state files.old).tells → IfOk result
-        (λ r. IfOk r (λ catalog. slots_of catalog ≡ catalog_in (V.state files.old).files)) }
+        (λ r. IfOk r (λ catalog. catalog_slots catalog ≡ catalog_in (V.state files.old).files)) }
     ensures sound { IsTrue (V.state files.old).tells → IfOk result
         (λ r. OnOk r (broken_catalog (catalog_bytes_in (V.state files.old).files) ≡ None)) }
     ensures broken { IsTrue (V.state files.old).tells → IfOk result
@@ -69,7 +69,7 @@ fn read_catalog<V: Files>(files: &mut V) -> Result<Result<Catalog, BadCatalog>, 
 fn read_file<V: Files>(files: &mut V, cat: FileId) -> Result<Result<Catalog, BadCatalog>, Failed>
     requires { IsLive (V.state files.old).files cat }
     ensures catalog { IsTrue (V.state files.old).tells → IfOk result
-        (λ r. IfOk r (λ catalog. slots_of catalog ≡ catalog_of (bytes_at (V.state files.old).files cat))) }
+        (λ r. IfOk r (λ catalog. catalog_slots catalog ≡ catalog_of (bytes_at (V.state files.old).files cat))) }
     ensures sound { IsTrue (V.state files.old).tells → IfOk result
         (λ r. OnOk r (broken_catalog (bytes_at (V.state files.old).files cat) ≡ None)) }
     ensures broken { IsTrue (V.state files.old).tells → IfOk result

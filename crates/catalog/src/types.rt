@@ -20,13 +20,13 @@ pub struct Catalog {
 
 impl Catalog {
     ghost use Rattle.std.specs.Prelude.{◌≡◌, []};
-    ghost use Rattle.catalog.specs.Catalogs.{slots_of};
+    ghost use Rattle.catalog.specs.Catalogs.{catalog_slots};
     ghost use Rattle.catalog.specs.Formed.{IsFormed};
     ghost use Rattle.db_model.specs.Catalog.{catalog_of};
 
     /// No relation and no index, in version 2: the catalog of an absent or empty file.
     pub fn empty() -> Catalog
-        ensures slots { slots_of result ≡ catalog_of [] }
+        ensures slots { catalog_slots result ≡ catalog_of [] }
         ensures formed { IsFormed result }
     {
         Catalog {

@@ -9,7 +9,7 @@ use Rattle.afl_base.specs.Image.{or_at, or_front}
 use Rattle.afl_base.specs.Names.{is_file_name, is_name_byte}
 use Rattle.padded.proofs.Facts.{all_zeros, both_parts}
 use Rattle.padded.specs.Padded.{padded}
-use Rattle.coffee_header.specs.Headers.{header_of, header_bytes, is_kind, is_flags, is_name_field, is_header, name_in, fields, IsValid}
+use Rattle.coffee_header.specs.Headers.{header_of, header_bytes, is_kind, is_flags, is_name_field, is_header, name_of_field, fields, IsValid}
 use Rattle.coffee_header.specs.declared.header.Header.{Header}
 
 with_name : (t : Bool) (h : Header) (xs name : List ℕ) → (if t then Some xs else None) ≡ Some name → (if t then Some (record h { name = xs }) else None) ≡ Some (record h { name = name })
@@ -17,9 +17,9 @@ with_name true h xs name e = let same : xs ≡ name = cc in ap (λ n. Some (reco
 with_name false h xs name e = cc
 
 -- a header is there where kind, flags and name field are of its form
-pub header_from : (bytes name : List ℕ) → is_kind (slice_index bytes 8) ≡ true → is_flags (slice_index bytes 9) ≡ true → (if is_name_field (drop 10 bytes) then Some (name_in (drop 10 bytes)) else None) ≡ Some name → Some (record (fields bytes) { name = name }) ≡ header_of bytes
+pub header_from : (bytes name : List ℕ) → is_kind (slice_index bytes 8) ≡ true → is_flags (slice_index bytes 9) ≡ true → (if is_name_field (drop 10 bytes) then Some (name_of_field (drop 10 bytes)) else None) ≡ Some name → Some (record (fields bytes) { name = name }) ≡ header_of bytes
 unfolding header_of
-header_from bytes name k f e = sym (rw (k, f) (with_name (is_name_field (drop 10 bytes)) (fields bytes) (name_in (drop 10 bytes)) name e))
+header_from bytes name k f e = sym (rw (k, f) (with_name (is_name_field (drop 10 bytes)) (fields bytes) (name_of_field (drop 10 bytes)) name e))
 
 -- what a chosen value says of the choice
 chosen : {A : Type 0} (t : Bool) (x y : A) → (if t then Some x else None) ≡ Some y → (t ≡ true) × (x ≡ y)
@@ -50,11 +50,11 @@ zeros_are (x ∷ xs) all =
 number_back : (n : ℕ) → n < 65536 → n % 256 + 256 * (n / 256 % 256 + 256 * 0) ≡ n
 number_back n small = omega arith
 
-field_back : (name : List ℕ) (n : ℕ) → is_file_name name ≡ true → (name_in (name ++ replicate n 0) ≡ name) × (is_name_field (name ++ replicate n 0) ≡ true)
+field_back : (name : List ℕ) (n : ℕ) → is_file_name name ≡ true → (name_of_field (name ++ replicate n 0) ≡ name) × (is_name_field (name ++ replicate n 0) ≡ true)
 field_back name n good =
     let all : list_all is_name_byte name ≡ true = (both_parts _ _ good).1 in
     let size = prefix-zeros name n all in
-    let here : name_in (name ++ replicate n 0) ≡ name = ap (λ k. take k (name ++ replicate n 0)) size ∙ take_at name (replicate n 0) (length name) refl in
+    let here : name_of_field (name ++ replicate n 0) ≡ name = ap (λ k. take k (name ++ replicate n 0)) size ∙ take_at name (replicate n 0) (length name) refl in
     let rest : list_all (λ b. b == 0) (drop (prefix_len is_name_byte (name ++ replicate n 0)) (name ++ replicate n 0)) ≡ true =
     rw (size, drop_at name (replicate n 0) (length name) refl) (all_zeros n) in
     (here, rw (here, rest, good) refl)
@@ -66,12 +66,12 @@ header_back h v =
     let f = field_back h.name (22 - length h.name) v.name in
     rw (v.kind, v.flags, f.1, f.0, number_back h.log_page v.log_page, number_back h.log_records v.log_records, number_back h.log_record_size v.log_record_size, number_back h.max_pages v.max_pages) refl
 
-name_back : (field : List ℕ) → is_name_field field ≡ true → padded (length field) (name_in field) ≡ field
+name_back : (field : List ℕ) → is_name_field field ≡ true → padded (length field) (name_of_field field) ≡ field
 name_back field good =
     let n = prefix_len is_name_byte field in
-    let zeros : list_all (λ b. b == 0) (drop (prefix_len is_name_byte field) field) ≡ true = (both_parts (is_file_name (name_in field)) (list_all (λ b. b == 0) (drop (prefix_len is_name_byte field) field)) good).1 in
-    let size : length (name_in field) ≡ n = length-prefix_len is_name_byte field in
-    ap (λ t. name_in field ++ t) (ap (λ k. replicate k 0) (omega (arith, length-drop n field)) ∙ sym (zeros_are (drop n field) zeros)) ∙ take-append-drop n field
+    let zeros : list_all (λ b. b == 0) (drop (prefix_len is_name_byte field) field) ≡ true = (both_parts (is_file_name (name_of_field field)) (list_all (λ b. b == 0) (drop (prefix_len is_name_byte field) field)) good).1 in
+    let size : length (name_of_field field) ≡ n = length-prefix_len is_name_byte field in
+    ap (λ t. name_of_field field ++ t) (ap (λ k. replicate k 0) (omega (arith, length-drop n field)) ∙ sym (zeros_are (drop n field) zeros)) ∙ take-append-drop n field
 
 -- the two bytes of the number that two bytes are
 number_bytes : (a b : ℕ) (xs ys : List ℕ) → a < 256 → b < 256 → xs ≡ ys → (a + 256 * (b + 256 * 0)) % 256 ∷ ((a + 256 * (b + 256 * 0)) / 256 % 256) ∷ xs ≡ a ∷ b ∷ ys
@@ -87,7 +87,7 @@ unfolding header_of header_bytes u16_bytes u16_at
 ten_back b0 b1 b2 b3 b4 b5 b6 b7 b8 b9 field h long small e =
     let bytes = b0 ∷ b1 ∷ b2 ∷ b3 ∷ b4 ∷ b5 ∷ b6 ∷ b7 ∷ b8 ∷ b9 ∷ field in
     let c = chosen (is_header bytes) (fields bytes) h e in
-    let name : padded 22 (name_in field) ≡ field = ap (λ n. padded n (name_in field)) (sym long) ∙ name_back field (both_parts _ _ c.0).1 in
+    let name : padded 22 (name_of_field field) ≡ field = ap (λ n. padded n (name_of_field field)) (sym long) ∙ name_back field (both_parts _ _ c.0).1 in
     subst (λ g. header_bytes g ≡ bytes) c.1
     (number_bytes b0 b1 _ _ small.0 small.1 (number_bytes b2 b3 _ _ small.2 small.3 (number_bytes b4 b5 _ _ small.4 small.5 (number_bytes b6 b7 _ _ small.6 small.7
     (cons_same b8 b8 _ _ refl (cons_same b9 b9 _ _ refl name))))))

@@ -18,12 +18,12 @@ abbrev pub is_kind : ℕ → Bool
 is_kind kind = kind == 0 || kind == 1
 
 -- the name at the front of a name field
-abbrev pub name_in : List ℕ → List ℕ
-name_in field = take (prefix_len is_name_byte field) field
+abbrev pub name_of_field : List ℕ → List ℕ
+name_of_field field = take (prefix_len is_name_byte field) field
 
 -- a name field holds a name, and zeros behind it
 abbrev pub is_name_field : List ℕ → Bool
-is_name_field field = is_file_name (name_in field) && is_zeros (drop (prefix_len is_name_byte field) field)
+is_name_field field = is_file_name (name_of_field field) && is_zeros (drop (prefix_len is_name_byte field) field)
 
 -- 32 bytes are a header: byte 8 is the kind, byte 9 the flags, and the bytes from 10 on the name
 abbrev pub is_header : List ℕ → Bool
@@ -38,7 +38,7 @@ fields bytes = record {
   max_pages = u16_at bytes 6;
   kind = slice_index bytes 8;
   flags = slice_index bytes 9;
-  name = name_in (drop 10 bytes);
+  name = name_of_field (drop 10 bytes);
 }
 
 -- the header that 32 bytes are

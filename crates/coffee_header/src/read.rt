@@ -1,7 +1,7 @@
 ghost use Rattle.std.specs.Prelude.{◌≡◌, ◌≤◌, ◌==◌, length, if◌then◌else◌};
 ghost use Rattle.std.specs.List.{prefix_len};
 ghost use Rattle.afl_base.specs.Names.{is_name_byte};
-ghost use Rattle.coffee_header.specs.Headers.{header_of, is_flags, is_kind, is_name_field, name_in};
+ghost use Rattle.coffee_header.specs.Headers.{header_of, is_flags, is_kind, is_name_field, name_of_field};
 ghost use Rattle.padded.specs.Zeros.{is_zeros};
 
 use crate::header::Header;
@@ -38,7 +38,7 @@ fn header_in(bytes: &[u8]) -> Option<Header>
 
 // The name of a name field, None where the field does not hold a name and zeros behind it.
 fn read_name(field: &[u8]) -> Option<Name>
-    ensures { result ≡ (if is_name_field field.now then Some (name_in field.now) else None) }
+    ensures { result ≡ (if is_name_field field.now then Some (name_of_field field.now) else None) }
 {
     let len = name_len(field);
     if !is_zeros(&field[len..]) {

@@ -56,7 +56,7 @@ unfoldable pub file_bytes : List ℕ → (page pages : ℕ) → Option PageId �
 file_bytes image page pages log = trimmed (map (file_byte image page log) (range_with_len 0 (256 * pages - 32)))
 
 -- a list has the values of f below n, without the zeros at their end
-pub record Spells (f : ℕ → ℕ) (n : ℕ) (bytes : List ℕ) : Type 0 where
+pub record ListsValues (f : ℕ → ℕ) (n : ℕ) (bytes : List ℕ) : Type 0 where
   pub short : length bytes ≤ n
   pub here : (p : ℕ) → p < length bytes → f p ≡ slice_index bytes p
   pub after : (p : ℕ) → length bytes ≤ p → p < n → f p ≡ 0

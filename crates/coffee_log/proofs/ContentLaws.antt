@@ -7,12 +7,12 @@ use Rattle.afl_base.specs.declared.ids.PageId.{PageId}
 use Rattle.afl_base.proofs.FieldLaws.{length-put_at}
 use Rattle.afl_base.proofs.Images.{length_range, range_at}
 use Rattle.flash_range.specs.Range.{Outside}
-use Rattle.coffee_layout.specs.FileBytes.{Spells, file_byte, file_bytes}
+use Rattle.coffee_layout.specs.FileBytes.{ListsValues, file_byte, file_bytes}
 use Rattle.coffee_layout.proofs.Spelling.{spells_file, spelt_file}
 use Rattle.coffee_log.specs.FileChanges.{Puts}
 
 -- bytes behind the end are added to the list
-spells-append : (old new : ℕ → ℕ) (n : ℕ) (xs bytes : List ℕ) → Spells old n xs → Puts old new n (length xs) bytes → length xs + length bytes ≤ n → (1 ≤ length bytes → get_or bytes (length bytes - 1) 0 ≢ 0) → Spells new n (xs ++ bytes)
+spells-append : (old new : ℕ → ℕ) (n : ℕ) (xs bytes : List ℕ) → ListsValues old n xs → Puts old new n (length xs) bytes → length xs + length bytes ≤ n → (1 ≤ length bytes → get_or bytes (length bytes - 1) 0 ≢ 0) → ListsValues new n (xs ++ bytes)
 spells-append old new n xs bytes s put fits ends =
     let long : length (xs ++ bytes) ≡ length xs + length bytes = length-append xs bytes in
     record {
@@ -77,7 +77,7 @@ pub put_outside : (old new bytes : List ℕ) (at p : ℕ) → new ≡ put_at old
 put_outside old new bytes at p is fits out = ap (λ xs. get_or xs p 0) is ∙ put_at_outside old bytes at p fits out
 
 -- a byte of the list is a given one, or stays
-put_at_is : (old new : ℕ → ℕ) (n : ℕ) (xs bytes : List ℕ) (at p : ℕ) → Spells old n xs → Puts old new n at bytes → at + length bytes ≤ length xs → p < length xs → new p ≡ get_or (put_at xs at bytes) p 0
+put_at_is : (old new : ℕ → ℕ) (n : ℕ) (xs bytes : List ℕ) (at p : ℕ) → ListsValues old n xs → Puts old new n at bytes → at + length bytes ≤ length xs → p < length xs → new p ≡ get_or (put_at xs at bytes) p 0
 put_at_is old new n xs bytes at p s put fits low =
     let short = s.short in
     ⊎_elim
@@ -91,8 +91,8 @@ put_at_is old new n xs bytes at p s put fits low =
     (cases_lt p at)
 
 -- bytes inside are put into the list
-spells-put : (old new : ℕ → ℕ) (n : ℕ) (xs bytes : List ℕ) (at : ℕ) → Spells old n xs → Puts old new n at bytes → at + length bytes ≤ length xs → (1 ≤ length bytes → at + length bytes ≡ length xs → get_or bytes (length bytes - 1) 0 ≢ 0)
-    → Spells new n (put_at xs at bytes)
+spells-put : (old new : ℕ → ℕ) (n : ℕ) (xs bytes : List ℕ) (at : ℕ) → ListsValues old n xs → Puts old new n at bytes → at + length bytes ≤ length xs → (1 ≤ length bytes → at + length bytes ≡ length xs → get_or bytes (length bytes - 1) 0 ≢ 0)
+    → ListsValues new n (put_at xs at bytes)
 spells-put old new n xs bytes at s put fits ends =
     let long : length (put_at xs at bytes) ≡ length xs = length-put_at xs bytes at fits in
     let short = s.short in

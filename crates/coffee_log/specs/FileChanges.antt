@@ -37,8 +37,8 @@ pub record FileBecomes (old new : List ℕ) (page pages : ℕ) (log : Option Pag
   pub others : (k : ℕ) → OutsideFile page pages log k → slice_index new k ≡ slice_index old k
 
 -- the region of a byte has no record, or nothing is put there
-abbrev pub IsPlain : List ℕ → Option PageId → (at n : ℕ) → Type 0
-IsPlain image log at n = (l : PageId) → log ≡ Some l → 1 ≤ n → last_in (table_of image l.0) (at / 128) 30 ≡ None
+abbrev pub IsUnlogged : List ℕ → Option PageId → (at n : ℕ) → Type 0
+IsUnlogged image log at n = (l : PageId) → log ≡ Some l → 1 ≤ n → last_in (table_of image l.0) (at / 128) 30 ≡ None
 
 abbrev pub one_if : Option ℕ → ℕ
 one_if None = 0

@@ -6,7 +6,7 @@ ghost use Rattle.flash_range.specs.Range.{Outside, PageOutside};
 ghost use Rattle.coffee_layout.specs.FileBytes.{file_byte, last_in, table_of};
 ghost use Rattle.coffee_layout.specs.Units.{pages_of};
 ghost use Rattle.coffee_layout.specs.Walks.{LogFits};
-ghost use Rattle.coffee_log.specs.FileChanges.{FileBecomes, IsFile, IsPlain, one_if, records_for};
+ghost use Rattle.coffee_log.specs.FileChanges.{FileBecomes, IsFile, IsUnlogged, one_if, records_for};
 ghost use Rattle.coffee_log.specs.FileCuts.{IsFileCut};
 ghost use Rattle.coffee_log.specs.Logs.{AddsRecords, IsLog};
 
@@ -371,7 +371,7 @@ fn append_plain<F: Flash>(flash: &mut F, page: PageId, at: u32, bytes: &[u8]) ->
     ensures becomes { IsTrue F.tells → OnOk result
         ((pages used : ℕ) (log : Option PageId)
         → IsFile (F.image flash.old) page.0 pages log used at
-        → IsPlain (F.image flash.old) log at (length bytes.now)
+        → IsUnlogged (F.image flash.old) log at (length bytes.now)
         → at + length bytes.now + 32 ≤ 256 * pages → 256 * (page.0 + pages) ≤ length (F.image flash.old)
         → FileBecomes (F.image flash.old) (F.image flash.new) page.0 pages log used (at + length bytes.now) at bytes.now) }
     ensures others { IsTrue F.tells → OnOk result
@@ -380,7 +380,7 @@ fn append_plain<F: Flash>(flash: &mut F, page: PageId, at: u32, bytes: &[u8]) ->
     ensures cut { IsTrue F.tells → IsTrue F.cuts → OnErr result
         ((pages used : ℕ) (log : Option PageId)
         → IsFile (F.image flash.old) page.0 pages log used at
-        → IsPlain (F.image flash.old) log at (length bytes.now)
+        → IsUnlogged (F.image flash.old) log at (length bytes.now)
         → at + length bytes.now + 32 ≤ 256 * pages → 256 * (page.0 + pages) ≤ length (F.image flash.old)
         → IsFileCut (F.image flash.old) (F.image flash.new) page.0 pages log at at bytes.now) }
     ensures frame { Programs F.image F.lent F.reads F.faults flash.old flash.new result }

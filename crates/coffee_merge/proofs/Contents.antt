@@ -18,7 +18,7 @@ use Rattle.coffee_layout.proofs.Tilings.{units_tiled, unbroken_tiled}
 use Rattle.coffee_log.specs.FileChanges.{FileBecomes, IsFile, OutsideFile}
 use Rattle.coffee_log.proofs.UnitLaws.{StandsAt, other_kept, units_stay}
 use Rattle.coffee_merge.specs.Begun.{active_at, unit_begun}
-use Rattle.coffee_merge.specs.Holding.{Copies, CopiesPart, Entries, Holds, IsDrafted, IsIn, IsStored, KeepsContent, KeepsOthers, Writes, building_of, file_header, has_extent_at, log_header}
+use Rattle.coffee_merge.specs.Holding.{Copies, CopiesPart, Entries, HoldsTable, IsDrafted, IsIn, IsStored, KeepsContent, KeepsOthers, Writes, building_of, file_header, has_extent_at, log_header}
 use Rattle.coffee_merge.proofs.Begun.{begun_split}
 use Rattle.coffee_merge.proofs.Holdings.{draft_apart, draft_unit, entries_apart, file_unit, held_set, holds_tiled, in_table, is_in_set, log_unit}
 use Rattle.coffee_merge.proofs.Kept.{KeepsBodies, KeepsBody, bodies_kept, body_content, body_drafted, body_kept, body_stored, fits_kept, holds_units}
@@ -60,7 +60,7 @@ write_here old d at bytes k low fits zero =
     ∙ ap (λ j. get_or (or_at old (place_in d at) bytes) j 0) place
     ∙ or_on_zero old (place_in d at) bytes k low fits (ap (λ j. get_or old j 0) (sym place) ∙ sym (direct_byte old d.page.0 (at + k)) ∙ zero)
 
-write_bodies : (old : List ℕ) (table : Entries) (d : FileAt) (at : ℕ) (bytes : List ℕ) → Holds old table (Some d) → at + length bytes + 32 ≤ 256 * d.pages → KeepsBodies old (or_at old (place_in d at) bytes) table
+write_bodies : (old : List ℕ) (table : Entries) (d : FileAt) (at : ℕ) (bytes : List ℕ) → HoldsTable old table (Some d) → at + length bytes + 32 ≤ 256 * d.pages → KeepsBodies old (or_at old (place_in d at) bytes) table
 write_bodies old table d at bytes h fits i e is =
     body_kept old (or_at old (place_in d at) bytes) e.page.0 e.pages e.log
     (other_kept old (or_at old (place_in d at) bytes) d.page.0 d.pages None e.page.0 e.pages e.log (draft_apart old table d i e h is) (write_outside old d at bytes fits))
@@ -78,7 +78,7 @@ write_drafted old d at bytes s within = record {
   no_log = s.no_log;
 }
 
-pub write_tiled : (old : List ℕ) (table : Entries) (d : FileAt) (at : ℕ) (bytes : List ℕ) → Holds old table (Some d) → at + length bytes + 32 ≤ 256 * d.pages → IsTiled (building_of (Some d)) (or_at old (place_in d at) bytes) (units_of old)
+pub write_tiled : (old : List ℕ) (table : Entries) (d : FileAt) (at : ℕ) (bytes : List ℕ) → HoldsTable old table (Some d) → at + length bytes + 32 ≤ 256 * d.pages → IsTiled (building_of (Some d)) (or_at old (place_in d at) bytes) (units_of old)
 write_tiled old table d at bytes h fits =
     let whole = h.whole in
     let room = (h.drafted d refl).fits in
@@ -88,7 +88,7 @@ write_tiled old table d at bytes h fits =
     (length_or_at old (place_in d at) bytes) some (omega arith) (write_outside old d at bytes fits)
 
 -- bytes are written into the extent under construction, where it has zeros
-pub written : (old : List ℕ) (table : Entries) (d : FileAt) (at : ℕ) (bytes : List ℕ) → Holds old table (Some d) → at + length bytes ≤ d.size → ((k : ℕ) → k < length bytes → file_byte old d.page.0 None (at + k) ≡ 0)
+pub written : (old : List ℕ) (table : Entries) (d : FileAt) (at : ℕ) (bytes : List ℕ) → HoldsTable old table (Some d) → at + length bytes ≤ d.size → ((k : ℕ) → k < length bytes → file_byte old d.page.0 None (at + k) ≡ 0)
     → Writes old (or_at old (place_in d at) bytes) table d at bytes
 written old table d at bytes h within zeros =
     let new = or_at old (place_in d at) bytes in
@@ -110,7 +110,7 @@ written old table d at bytes h within zeros =
     }
 
 -- the same of a place and a page that are named otherwise
-pub written_there : (old new : List ℕ) (page : PageId) (pages place at : ℕ) (bytes : List ℕ) → place ≡ 256 * page.0 + 32 + at → new ≡ or_at old place bytes → (table : Entries) (d : FileAt) → Holds old table (Some d) → d.page ≡ page → d.pages ≡ pages → at + length bytes ≤ d.size
+pub written_there : (old new : List ℕ) (page : PageId) (pages place at : ℕ) (bytes : List ℕ) → place ≡ 256 * page.0 + 32 + at → new ≡ or_at old place bytes → (table : Entries) (d : FileAt) → HoldsTable old table (Some d) → d.page ≡ page → d.pages ≡ pages → at + length bytes ≤ d.size
     → ((k : ℕ) → k < length bytes → file_byte old page.0 None (at + k) ≡ 0) → Writes old new table d at bytes
 written_there old new page pages place at bytes there is table d h same_page same_pages within zeros =
     let here : place ≡ place_in d at = there ∙ ap (λ (q : PageId). 256 * q.0 + 32 + at) (sym same_page) in
@@ -134,17 +134,17 @@ copied_part old new table d from at n bytes w long read fits = record {
 -- the same of what was read and then written by calls
 pub copied_there : (old mid new : List ℕ) (page : PageId) (pages at n : ℕ) (from : FileAt) (bytes : List ℕ) → mid ≡ old → length bytes ≡ n → at + n ≤ from.size
     → ((k : ℕ) → k < n → get_or bytes k 0 ≡ file_byte old from.page.0 from.log (at + k))
-    → ((table : Entries) (d : FileAt) → Holds mid table (Some d) → d.page ≡ page → d.pages ≡ pages → at + length bytes ≤ d.size → ((k : ℕ) → k < length bytes → file_byte mid page.0 None (at + k) ≡ 0) → Writes mid new table d at bytes)
-    → (table : Entries) (d : FileAt) (i : ℕ) → Holds old table (Some d) → d.page ≡ page → d.pages ≡ pages → d.size ≡ from.size → IsIn table i from → ((p : ℕ) → at ≤ p → p + 32 < 256 * pages → file_byte old page.0 None p ≡ 0)
+    → ((table : Entries) (d : FileAt) → HoldsTable mid table (Some d) → d.page ≡ page → d.pages ≡ pages → at + length bytes ≤ d.size → ((k : ℕ) → k < length bytes → file_byte mid page.0 None (at + k) ≡ 0) → Writes mid new table d at bytes)
+    → (table : Entries) (d : FileAt) (i : ℕ) → HoldsTable old table (Some d) → d.page ≡ page → d.pages ≡ pages → d.size ≡ from.size → IsIn table i from → ((p : ℕ) → at ≤ p → p + 32 < 256 * pages → file_byte old page.0 None p ≡ 0)
     → CopiesPart old new table d from at n
 copied_there old mid new page pages at n from bytes same long within read writes table d i h same_page same_pages same_size is zeros =
     let size = (h.drafted d refl).fits.size in
     copied_part old new table d from at n bytes
     (subst (λ image. Writes image new table d at bytes) same
-    (writes table d (subst (λ image. Holds image table (Some d)) (sym same) h) same_page same_pages (omega arith) (λ k low. ap (λ image. file_byte image page.0 None (at + k)) same ∙ zeros (at + k) (omega arith) (omega arith)))) long read (omega arith)
+    (writes table d (subst (λ image. HoldsTable image table (Some d)) (sym same) h) same_page same_pages (omega arith) (λ k low. ap (λ image. file_byte image page.0 None (at + k)) same ∙ zeros (at + k) (omega arith) (omega arith)))) long read (omega arith)
 
 -- nothing is copied yet
-pub copied_none : (old : List ℕ) (table : Entries) (d from : FileAt) → Holds old table (Some d) → ((p : ℕ) → p + 32 < 256 * d.pages → file_byte old d.page.0 None p ≡ 0) → Copies old old table d from 0
+pub copied_none : (old : List ℕ) (table : Entries) (d from : FileAt) → HoldsTable old table (Some d) → ((p : ℕ) → p + 32 < 256 * d.pages → file_byte old d.page.0 None p ≡ 0) → Copies old old table d from 0
 copied_none old table d from h zeros = record { holds = h; same = λ p low. absurd (omega arith); zeros = λ p from to. zeros p to; kept = λ i e is p low. refl }
 
 -- a part more
@@ -163,14 +163,14 @@ copied_more old mid new table d from i done n is fits room c part = record {
 -- the same for each table and each extent under construction that stands at a page
 abbrev pub CopiesInto : (old new : List ℕ) → PageId → (pages : ℕ) → FileAt → (n : ℕ) → Type 0
 CopiesInto old new page pages from n =
-    (table : Entries) (d : FileAt) (i : ℕ) → Holds old table (Some d) → d.page ≡ page → d.pages ≡ pages → d.size ≡ from.size → IsIn table i from → ((p : ℕ) → p + 32 < 256 * pages → file_byte old page.0 None p ≡ 0) → Copies old new table d from n
+    (table : Entries) (d : FileAt) (i : ℕ) → HoldsTable old table (Some d) → d.page ≡ page → d.pages ≡ pages → d.size ≡ from.size → IsIn table i from → ((p : ℕ) → p + 32 < 256 * pages → file_byte old page.0 None p ≡ 0) → Copies old new table d from n
 
 pub copies_none : (old : List ℕ) (page : PageId) (pages : ℕ) (from : FileAt) → CopiesInto old old page pages from 0
 copies_none old page pages from = λ table d i h same_page same_pages same_size is zeros.
     copied_none old table d from h (λ p low. ap (λ (q : PageId). file_byte old q.0 None p) same_page ∙ zeros p (omega arith))
 
 pub copies_more : (old mid new : List ℕ) (page : PageId) (pages : ℕ) (from : FileAt) (done n : ℕ) → done + n ≤ from.size → CopiesInto old mid page pages from done
-    → ((table : Entries) (d : FileAt) (i : ℕ) → Holds mid table (Some d) → d.page ≡ page → d.pages ≡ pages → d.size ≡ from.size → IsIn table i from → ((p : ℕ) → done ≤ p → p + 32 < 256 * pages → file_byte mid page.0 None p ≡ 0) → CopiesPart mid new table d from done n)
+    → ((table : Entries) (d : FileAt) (i : ℕ) → HoldsTable mid table (Some d) → d.page ≡ page → d.pages ≡ pages → d.size ≡ from.size → IsIn table i from → ((p : ℕ) → done ≤ p → p + 32 < 256 * pages → file_byte mid page.0 None p ≡ 0) → CopiesPart mid new table d from done n)
     → CopiesInto old new page pages from (done + n)
 copies_more old mid new page pages from done n within copies part = λ table d i h same_page same_pages same_size is zeros.
     let size = (h.drafted d refl).fits.size in
@@ -215,7 +215,7 @@ resized_fits old new e used total long fits is room none =
     record { some = f.some; placed = f.placed; size = room; log = f.log; used = few_used new e.log e.page.0 e.pages used total is none; unused = none }
 
 -- A change of the bytes of one file leaves the units, all other files and the draft.
-pub changed_tiled : (old new : List ℕ) (table : Entries) (draft : Option FileAt) (i : ℕ) (e : FileAt) → Holds old table draft → IsIn table i e → length new ≡ length old → ((k : ℕ) → OutsideFile e.page.0 e.pages e.log k → get_or new k 0 ≡ get_or old k 0)
+pub changed_tiled : (old new : List ℕ) (table : Entries) (draft : Option FileAt) (i : ℕ) (e : FileAt) → HoldsTable old table draft → IsIn table i e → length new ≡ length old → ((k : ℕ) → OutsideFile e.page.0 e.pages e.log k → get_or new k 0 ≡ get_or old k 0)
     → IsTiled (building_of draft) new (units_of old)
 changed_tiled old new table draft i e h is long same =
     let whole = h.whole in
@@ -225,23 +225,23 @@ changed_tiled old new table draft i e h is long same =
     units_stay (building_of draft) old new (units_of old) e.page.0 e.pages e.log (stands old e.page.0 (file_header e) (file_unit old table draft i e h is))
     (λ l log. stands old l.0 (log_header e.name) (log_unit old table draft i e l h is log)) (holds_tiled old table draft h) long some (omega arith) same
 
-changed_body : (old new : List ℕ) (table : Entries) (draft : Option FileAt) (i : ℕ) (e : FileAt) → Holds old table draft → IsIn table i e → ((k : ℕ) → OutsideFile e.page.0 e.pages e.log k → get_or new k 0 ≡ get_or old k 0) → (k : ℕ) (d : FileAt) → k ≢ i → IsIn table k d
+changed_body : (old new : List ℕ) (table : Entries) (draft : Option FileAt) (i : ℕ) (e : FileAt) → HoldsTable old table draft → IsIn table i e → ((k : ℕ) → OutsideFile e.page.0 e.pages e.log k → get_or new k 0 ≡ get_or old k 0) → (k : ℕ) (d : FileAt) → k ≢ i → IsIn table k d
     → KeepsBody old new d.page.0 d.pages d.log
 changed_body old new table draft i e h is same k d other there =
     body_kept old new d.page.0 d.pages d.log (other_kept old new e.page.0 e.pages e.log d.page.0 d.pages d.log (entries_apart old table draft i k e d h is there (λ s. other (sym s))) same)
 
-changed_draft : (old new : List ℕ) (table : Entries) (d : FileAt) (i : ℕ) (e : FileAt) → Holds old table (Some d) → IsIn table i e → ((k : ℕ) → OutsideFile e.page.0 e.pages e.log k → get_or new k 0 ≡ get_or old k 0) → KeepsBody old new d.page.0 d.pages None
+changed_draft : (old new : List ℕ) (table : Entries) (d : FileAt) (i : ℕ) (e : FileAt) → HoldsTable old table (Some d) → IsIn table i e → ((k : ℕ) → OutsideFile e.page.0 e.pages e.log k → get_or new k 0 ≡ get_or old k 0) → KeepsBody old new d.page.0 d.pages None
 changed_draft old new table d i e h is same =
     let apart = draft_apart old table d i e h is in
     body_kept old new d.page.0 d.pages None
     (other_kept old new e.page.0 e.pages e.log d.page.0 d.pages None
     (record { extents = λ p a b x y. apart.extents p x y a b; first = λ l log. apart.behind l log; behind = λ l none. cc; logs = λ l m log none. cc }) same)
 
-draft_stays : (old new : List ℕ) (table : Entries) (draft : Option FileAt) (i : ℕ) (e : FileAt) → Holds old table draft → IsIn table i e → ((k : ℕ) → OutsideFile e.page.0 e.pages e.log k → get_or new k 0 ≡ get_or old k 0) → (d : FileAt) → draft ≡ Some d → KeepsBody old new d.page.0 d.pages None
-draft_stays old new table draft i e h is same d drafted = changed_draft old new table d i e (subst (λ o. Holds old table o) drafted h) is same
+draft_stays : (old new : List ℕ) (table : Entries) (draft : Option FileAt) (i : ℕ) (e : FileAt) → HoldsTable old table draft → IsIn table i e → ((k : ℕ) → OutsideFile e.page.0 e.pages e.log k → get_or new k 0 ≡ get_or old k 0) → (d : FileAt) → draft ≡ Some d → KeepsBody old new d.page.0 d.pages None
+draft_stays old new table draft i e h is same d drafted = changed_draft old new table d i e (subst (λ o. HoldsTable old table o) drafted h) is same
 
-changed_holds : (old new : List ℕ) (table : Entries) (draft : Option FileAt) (i : ℕ) (e : FileAt) (used total : ℕ) → Holds old table draft → IsIn table i e → length new ≡ length old → ((k : ℕ) → OutsideFile e.page.0 e.pages e.log k → get_or new k 0 ≡ get_or old k 0)
-    → IsStored new (resized e used total) → Holds new (set table i (Some (resized e used total))) draft
+changed_holds : (old new : List ℕ) (table : Entries) (draft : Option FileAt) (i : ℕ) (e : FileAt) (used total : ℕ) → HoldsTable old table draft → IsIn table i e → length new ≡ length old → ((k : ℕ) → OutsideFile e.page.0 e.pages e.log k → get_or new k 0 ≡ get_or old k 0)
+    → IsStored new (resized e used total) → HoldsTable new (set table i (Some (resized e used total))) draft
 changed_holds old new table draft i e used total h is long same stored =
     let now : FileAt = resized e used total in
     let tiled = changed_tiled old new table draft i e h is long same in
@@ -269,14 +269,14 @@ changed_holds old new table draft i e used total h is long same stored =
 
 -- a place of the table has another entry for the same file, and all else is as it was
 pub record SetsBytes (old new : List ℕ) (table : Entries) (draft : Option FileAt) (i : ℕ) (now : FileAt) : Type 0 where
-  pub holds : Holds new (set table i (Some now)) draft
+  pub holds : HoldsTable new (set table i (Some now)) draft
   pub others : KeepsOthers old new table i
   pub drafted : (d : FileAt) → draft ≡ Some d → KeepsContent old new d
   pub units : units_of new ≡ units_of old
 
 -- A file of the table becomes one with bytes from a place on: its entry has another size and other
 -- records in use, all other files and the draft stay, and so do the units.
-pub holds_written_with : (old new : List ℕ) (table : Entries) (draft : Option FileAt) (i : ℕ) (e : FileAt) (used total at : ℕ) (bytes : List ℕ) → Holds old table draft → IsIn table i e → length new ≡ length old
+pub holds_written_with : (old new : List ℕ) (table : Entries) (draft : Option FileAt) (i : ℕ) (e : FileAt) (used total at : ℕ) (bytes : List ℕ) → HoldsTable old table draft → IsIn table i e → length new ≡ length old
     → FileBecomes old new e.page.0 e.pages e.log used total at bytes → total + 32 ≤ 256 * e.pages → (e.log ≡ None → used ≡ 0) → (1 ≤ total → file_byte new e.page.0 e.log (total - 1) ≢ 0) → SetsBytes old new table draft i (resized e used total)
 holds_written_with old new table draft i e used total at bytes h is long becomes room unused last =
     let s = h.stored i e is in

@@ -9,7 +9,7 @@ use Rattle.coffee_layout.specs.Tiling.{IsTiled, nowhere, units_of}
 use Rattle.coffee_layout.specs.Units.{pages_of, total}
 use Rattle.coffee_layout.specs.declared.unit.Unit.{Unit}
 use Rattle.coffee_layout.proofs.Tilings.{tiled_unbroken}
-use Rattle.coffee_merge.specs.Holding.{Entries, Holds, has_extent_at}
+use Rattle.coffee_merge.specs.Holding.{Entries, HoldsTable, has_extent_at}
 use Rattle.coffee_merge.specs.TableFiles.{stored_file, stored_files}
 use Rattle.coffee_merge.proofs.Begun.{have_pages}
 use Rattle.coffee_merge.proofs.ExtentShares.{HoldsExtents, file_shares}
@@ -21,7 +21,7 @@ or_false : (b : Bool) → b || false ≡ true → b ≡ true
 or_false true e = refl
 or_false false e = e
 
-held_extents : (image : List ℕ) (table : Entries) → Holds image table None → HoldsExtents (units_of image) table
+held_extents : (image : List ℕ) (table : Entries) → HoldsTable image table None → HoldsExtents (units_of image) table
 held_extents image table h = record {
   files = h.files;
   logs = h.logs;
@@ -40,7 +40,7 @@ pub cramped_shares : (image : List ℕ) (n sectors : ℕ) → broken_image image
 cramped_shares image n sectors sound size c =
     let whole : 256 * pages_of image ≡ length image = omega (arith, size) in
     let table : Entries = table_by (entry_of image) (files_in (units_of image)) 0 in
-    let holds : Holds image table None = sound_held image 0 sound whole in
+    let holds : HoldsTable image table None = sound_held image 0 sound whole in
     let tiled : IsTiled nowhere image (units_of image) = tiled_unbroken nowhere image whole holds.tiled in
     let all : 256 * total (units_of image) ≡ length image = tiled.whole in
     let few = cramped_files (units_of image) table n sectors c (cramped_some (units_of image) n c) (omega (arith, all, size)) (have_pages nowhere image (units_of image) tiled) (held_extents image table holds)

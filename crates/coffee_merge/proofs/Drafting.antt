@@ -18,7 +18,7 @@ use Rattle.coffee_layout.proofs.MarkLaws.{run_inside}
 use Rattle.coffee_layout.proofs.Tests.{eq_false, eq_true}
 use Rattle.coffee_layout.proofs.Tilings.{unbroken_tiled}
 use Rattle.coffee_merge.specs.Begun.{active_at}
-use Rattle.coffee_merge.specs.Holding.{Begins, Entries, Holds, IsDrafted, KeepsAll, Stays, building_of, draft_header, extent_of, file_header, has_extent_at, has_shape, is_held, kind_number, log_header}
+use Rattle.coffee_merge.specs.Holding.{BeginsExtent, Entries, HoldsTable, IsDrafted, KeepsContents, Stays, building_of, draft_header, extent_of, file_header, has_extent_at, has_shape, is_held, kind_number, log_header}
 use Rattle.coffee_merge.proofs.Beginning.{IsBegun, begun_lowest}
 use Rattle.coffee_merge.proofs.Holdings.{HeldBy, extent_here, held_by, held_draft, held_in, holds_tiled}
 use Rattle.coffee_merge.proofs.Kept.{KeepsBodies, bodies_kept, body_stored}
@@ -33,14 +33,14 @@ other_place us page q g none is same = clash (sym none ∙ ap (active_at us) (sy
     clash e = cc
 
 -- the files keep their bytes where an extent begins
-pub begun_bodies : (building : ℕ → Bool) (old new : List ℕ) (table : Entries) (draft : Option FileAt) (page : ℕ) (h : Header) → Holds old table draft → 1 ≤ h.max_pages → IsBegun building old new (units_of old) page h → KeepsBodies old new table
+pub begun_bodies : (building : ℕ → Bool) (old new : List ℕ) (table : Entries) (draft : Option FileAt) (page : ℕ) (h : Header) → HoldsTable old table draft → 1 ≤ h.max_pages → IsBegun building old new (units_of old) page h → KeepsBodies old new table
 begun_bodies building old new table draft page h holds some begun = λ i e is. record {
   extent = λ k from to. begun.same k (λ x y. begun.apart e.page.0 (file_header e) (holds.files i e is) (k / 256) (omega arith) (omega arith) (omega arith) (omega arith));
   logged = λ l log k from to. begun.same k (λ x y. begun.apart l.0 (log_header e.name) (holds.logs i e l is log) (k / 256) (omega arith) (omega arith) (omega arith) (omega arith));
 }
 
 -- first one change that keeps the content of all files, and then another
-pub kept_then : (old mid new : List ℕ) (table : Entries) → KeepsAll old mid table → KeepsAll mid new table → KeepsAll old new table
+pub kept_then : (old mid new : List ℕ) (table : Entries) → KeepsContents old mid table → KeepsContents mid new table → KeepsContents old new table
 kept_then old mid new table first second = λ i e is p within. second i e is p within ∙ first i e is p within
 
 -- THE DRAFT
@@ -76,14 +76,14 @@ draft_held table d page held =
     (held_by table None page held)
 
 -- the header of a file under construction is programmed into the lowest run of free pages
-pub draft_begun : (old new : List ℕ) (table : Entries) (name : List ℕ) (kind : Kind) (page pages size : ℕ) → Holds old table None → IsLowestRun (free_pages (units_of old)) pages page → 1 ≤ pages → pages < 65536 → is_file_name name ≡ true
+pub draft_begun : (old new : List ℕ) (table : Entries) (name : List ℕ) (kind : Kind) (page pages size : ℕ) → HoldsTable old table None → IsLowestRun (free_pages (units_of old)) pages page → 1 ≤ pages → pages < 65536 → is_file_name name ≡ true
     → new ≡ or_at old (256 * page) (header_bytes (draft_header (extent_of name kind page pages size))) → IsBegun (building_of (Some (extent_of name kind page pages size))) old new (units_of old) page (draft_header (extent_of name kind page pages size))
 draft_begun old new table name kind page pages size h low some small good is =
     let d : FileAt = extent_of name kind page pages size in
     begun_lowest nowhere (building_of (Some d)) old new (units_of old) page (draft_header d) (holds_tiled old table None h) some low is (draft_valid name kind page pages size good small) refl (draft_allowed page) (λ q other. sym (eq_false page q (λ e. other (sym e))))
 
-pub draft_begins : (old new : List ℕ) (table : Entries) (name : List ℕ) (kind : Kind) (page pages size : ℕ) → Holds old table None → IsLowestRun (free_pages (units_of old)) pages page → 1 ≤ pages → pages < 65536 → is_file_name name ≡ true
-    → has_shape kind pages ≡ true → size + 32 ≤ 256 * pages → new ≡ or_at old (256 * page) (header_bytes (draft_header (extent_of name kind page pages size))) → Begins old new table (extent_of name kind page pages size)
+pub draft_begins : (old new : List ℕ) (table : Entries) (name : List ℕ) (kind : Kind) (page pages size : ℕ) → HoldsTable old table None → IsLowestRun (free_pages (units_of old)) pages page → 1 ≤ pages → pages < 65536 → is_file_name name ≡ true
+    → has_shape kind pages ≡ true → size + 32 ≤ 256 * pages → new ≡ or_at old (256 * page) (header_bytes (draft_header (extent_of name kind page pages size))) → BeginsExtent old new table (extent_of name kind page pages size)
 draft_begins old new table name kind page pages size h low some small good shape fits is =
     let d : FileAt = extent_of name kind page pages size in
     let tiled = holds_tiled old table None h in
@@ -114,5 +114,5 @@ draft_begins old new table name kind page pages size h low some small good shape
     }
 
 -- the same after a change that keeps all files
-pub stays_begins : (old mid new : List ℕ) (table : Entries) (d : FileAt) → Stays old mid table → Begins mid new table d → Begins old new table d
+pub stays_begins : (old mid new : List ℕ) (table : Entries) (d : FileAt) → Stays old mid table → BeginsExtent mid new table d → BeginsExtent old new table d
 stays_begins old mid new table d first second = record { holds = second.holds; zeros = second.zeros; kept = kept_then old mid new table first.kept second.kept }

@@ -16,24 +16,24 @@ use Rattle.coffee_layout.proofs.Tests.{eq_true, true_eq}
 use Rattle.coffee_layout.proofs.Tilings.{tiled_unbroken}
 use Rattle.coffee_log.proofs.UnitLaws.{FilesApart}
 use Rattle.coffee_merge.specs.Begun.{unit_begun}
-use Rattle.coffee_merge.specs.Holding.{Entries, Holds, IsIn, building_of, draft_header, file_flags, file_header, has_extent_at, is_held, log_header}
+use Rattle.coffee_merge.specs.Holding.{Entries, HoldsTable, IsIn, building_of, draft_header, file_flags, file_header, has_extent_at, is_held, log_header}
 use Rattle.coffee_merge.proofs.Begun.{HavePages, active_begun, begun_apart, have_pages}
 
 -- UNITS
 
-pub holds_tiled : (image : List ℕ) (table : Entries) (draft : Option FileAt) → Holds image table draft → IsTiled (building_of draft) image (units_of image)
+pub holds_tiled : (image : List ℕ) (table : Entries) (draft : Option FileAt) → HoldsTable image table draft → IsTiled (building_of draft) image (units_of image)
 holds_tiled image table draft h = tiled_unbroken (building_of draft) image h.whole h.tiled
 
-pub holds_pages : (image : List ℕ) (table : Entries) (draft : Option FileAt) → Holds image table draft → HavePages (units_of image)
+pub holds_pages : (image : List ℕ) (table : Entries) (draft : Option FileAt) → HoldsTable image table draft → HavePages (units_of image)
 holds_pages image table draft h = have_pages (building_of draft) image (units_of image) (holds_tiled image table draft h)
 
-pub file_unit : (image : List ℕ) (table : Entries) (draft : Option FileAt) (i : ℕ) (e : FileAt) → Holds image table draft → IsIn table i e → unit_begun (units_of image) 0 e.page.0 ≡ Some (Extent (file_header e))
+pub file_unit : (image : List ℕ) (table : Entries) (draft : Option FileAt) (i : ℕ) (e : FileAt) → HoldsTable image table draft → IsIn table i e → unit_begun (units_of image) 0 e.page.0 ≡ Some (Extent (file_header e))
 file_unit image table draft i e h is = (active_begun (units_of image) e.page.0 (file_header e) (h.files i e is)).0
 
-pub log_unit : (image : List ℕ) (table : Entries) (draft : Option FileAt) (i : ℕ) (e : FileAt) (l : PageId) → Holds image table draft → IsIn table i e → e.log ≡ Some l → unit_begun (units_of image) 0 l.0 ≡ Some (Extent (log_header e.name))
+pub log_unit : (image : List ℕ) (table : Entries) (draft : Option FileAt) (i : ℕ) (e : FileAt) (l : PageId) → HoldsTable image table draft → IsIn table i e → e.log ≡ Some l → unit_begun (units_of image) 0 l.0 ≡ Some (Extent (log_header e.name))
 log_unit image table draft i e l h is log = (active_begun (units_of image) l.0 (log_header e.name) (h.logs i e l is log)).0
 
-pub draft_unit : (image : List ℕ) (table : Entries) (d : FileAt) → Holds image table (Some d) → unit_begun (units_of image) 0 d.page.0 ≡ Some (Extent (draft_header d))
+pub draft_unit : (image : List ℕ) (table : Entries) (d : FileAt) → HoldsTable image table (Some d) → unit_begun (units_of image) 0 d.page.0 ≡ Some (Extent (draft_header d))
 draft_unit image table d h = (active_begun (units_of image) d.page.0 (draft_header d) (h.begun d refl)).0
 
 -- PAGES
@@ -51,7 +51,7 @@ one_header : (g k : Header) → Some (Extent g) ≡ Some (Extent k) → g ≡ k
 one_header g k e = cc
 
 -- two extents with different headers have no page in common
-apart : (image : List ℕ) (table : Entries) (draft : Option FileAt) → Holds image table draft → (page other : ℕ) (g k : Header) → unit_begun (units_of image) 0 page ≡ Some (Extent g) → unit_begun (units_of image) 0 other ≡ Some (Extent k) → (g ≡ k → ⊥)
+apart : (image : List ℕ) (table : Entries) (draft : Option FileAt) → HoldsTable image table draft → (page other : ℕ) (g k : Header) → unit_begun (units_of image) 0 page ≡ Some (Extent g) → unit_begun (units_of image) 0 other ≡ Some (Extent k) → (g ≡ k → ⊥)
     → (p : ℕ) → page ≤ p → p < page + g.max_pages → other ≤ p → p < other + k.max_pages → ⊥
 apart image table draft h page other g k first second differ p from to behind before =
     ⊎_elim
@@ -60,7 +60,7 @@ apart image table draft h page other g k first second differ p from to behind be
     (cases_eq page other)
 
 -- files in two places have no page in common, logs included
-pub entries_apart : (image : List ℕ) (table : Entries) (draft : Option FileAt) (i j : ℕ) (e d : FileAt) → Holds image table draft → IsIn table i e → IsIn table j d → i ≢ j → FilesApart e.page.0 e.pages e.log d.page.0 d.pages d.log
+pub entries_apart : (image : List ℕ) (table : Entries) (draft : Option FileAt) (i j : ℕ) (e d : FileAt) → HoldsTable image table draft → IsIn table i e → IsIn table j d → i ≢ j → FilesApart e.page.0 e.pages e.log d.page.0 d.pages d.log
 entries_apart image table draft i j e d h is other differ =
     let first = file_unit image table draft i e h is in
     let second = file_unit image table draft j d h other in
@@ -74,7 +74,7 @@ entries_apart image table draft i j e d h is other differ =
     }
 
 -- nor has a file with the draft
-pub draft_apart : (image : List ℕ) (table : Entries) (d : FileAt) (i : ℕ) (e : FileAt) → Holds image table (Some d) → IsIn table i e → FilesApart d.page.0 d.pages None e.page.0 e.pages e.log
+pub draft_apart : (image : List ℕ) (table : Entries) (d : FileAt) (i : ℕ) (e : FileAt) → HoldsTable image table (Some d) → IsIn table i e → FilesApart d.page.0 d.pages None e.page.0 e.pages e.log
 draft_apart image table d i e h is =
     let draft = draft_unit image table d h in
     let file = file_unit image table (Some d) i e h is in

@@ -13,7 +13,7 @@ use Rattle.coffee_layout.proofs.Tilings.{units_tiled, unbroken_tiled}
 use Rattle.coffee_log.specs.FileChanges.{IsFile}
 use Rattle.coffee_log.specs.Logs.{IsLog}
 use Rattle.coffee_merge.specs.Begun.{active_at}
-use Rattle.coffee_merge.specs.Holding.{Entries, Holds, IsDrafted, IsIn, IsStored, KeepsAll, KeepsContent, building_of}
+use Rattle.coffee_merge.specs.Holding.{Entries, HoldsTable, IsDrafted, IsIn, IsStored, KeepsContents, KeepsContent, building_of}
 
 -- all bytes behind the headers of an extent and its log stay
 pub record KeepsBody (old new : List ℕ) (page pages : ℕ) (log : Option PageId) : Type 0 where
@@ -104,13 +104,13 @@ body_drafted old new d long keeps s = record {
 abbrev pub KeepsBodies : (old new : List ℕ) → Entries → Type 0
 KeepsBodies old new table = (i : ℕ) (e : FileAt) → IsIn table i e → KeepsBody old new e.page.0 e.pages e.log
 
-pub bodies_kept : (old new : List ℕ) (table : Entries) → length new ≡ length old → KeepsBodies old new table → KeepsAll old new table
+pub bodies_kept : (old new : List ℕ) (table : Entries) → length new ≡ length old → KeepsBodies old new table → KeepsContents old new table
 bodies_kept old new table long keeps = λ i e is. body_content old new e long (keeps i e is)
 
 -- a table is held as it was, where the image has the same active extents and stores the files
-pub holds_active : (old new : List ℕ) (table : Entries) (draft : Option FileAt) → Holds old table draft → length new ≡ length old → broken_tiling (building_of draft) new ≡ None
+pub holds_active : (old new : List ℕ) (table : Entries) (draft : Option FileAt) → HoldsTable old table draft → length new ≡ length old → broken_tiling (building_of draft) new ≡ None
     → ((page : ℕ) → active_at (units_of new) page ≡ active_at (units_of old) page)
-    → ((i : ℕ) (e : FileAt) → IsIn table i e → IsStored new e) → ((d : FileAt) → draft ≡ Some d → IsDrafted new d) → Holds new table draft
+    → ((i : ℕ) (e : FileAt) → IsIn table i e → IsStored new e) → ((d : FileAt) → draft ≡ Some d → IsDrafted new d) → HoldsTable new table draft
 holds_active old new table draft h long tiled same stored drafted =
     let whole = h.whole in
     record {
@@ -126,14 +126,14 @@ holds_active old new table draft h long tiled same stored drafted =
     }
 
 -- and where it has the same units
-pub holds_units : (old new : List ℕ) (table : Entries) (draft : Option FileAt) → Holds old table draft → length new ≡ length old → IsTiled (building_of draft) new (units_of old)
-    → ((i : ℕ) (e : FileAt) → IsIn table i e → IsStored new e) → ((d : FileAt) → draft ≡ Some d → IsDrafted new d) → Holds new table draft
+pub holds_units : (old new : List ℕ) (table : Entries) (draft : Option FileAt) → HoldsTable old table draft → length new ≡ length old → IsTiled (building_of draft) new (units_of old)
+    → ((i : ℕ) (e : FileAt) → IsIn table i e → IsStored new e) → ((d : FileAt) → draft ≡ Some d → IsDrafted new d) → HoldsTable new table draft
 holds_units old new table draft h long tiled stored drafted =
     holds_active old new table draft h long (unbroken_tiled (building_of draft) new (units_of old) tiled)
     (λ page. ap (λ us. active_at us page) (units_tiled (building_of draft) new (units_of old) tiled)) stored drafted
 
 -- where also the files keep their content
-pub holds_bodies : (old new : List ℕ) (table : Entries) (draft : Option FileAt) → Holds old table draft → length new ≡ length old → broken_tiling (building_of draft) new ≡ None
-    → ((page : ℕ) → active_at (units_of new) page ≡ active_at (units_of old) page) → KeepsBodies old new table → ((d : FileAt) → draft ≡ Some d → IsDrafted new d) → Holds new table draft
+pub holds_bodies : (old new : List ℕ) (table : Entries) (draft : Option FileAt) → HoldsTable old table draft → length new ≡ length old → broken_tiling (building_of draft) new ≡ None
+    → ((page : ℕ) → active_at (units_of new) page ≡ active_at (units_of old) page) → KeepsBodies old new table → ((d : FileAt) → draft ≡ Some d → IsDrafted new d) → HoldsTable new table draft
 holds_bodies old new table draft h long tiled same keeps drafted =
     holds_active old new table draft h long tiled same (λ i e is. body_stored old new e long (keeps i e is) (h.stored i e is)) drafted

@@ -21,7 +21,7 @@ use Rattle.coffee_log.proofs.RecordLaws.{number_image, number_place}
 use Rattle.flash_range.specs.Range.{Outside}
 use Rattle.coffee_merge.specs.Begun.{active_at, active_header, unit_begun}
 use Rattle.coffee_merge.specs.Flags.{flagged}
-use Rattle.coffee_merge.specs.Holding.{Entries, Holds, IsIn, IsStored, Logs, Stays, file_flags, file_header, has_extent_at, header_with, is_held, log_header, log_number}
+use Rattle.coffee_merge.specs.Holding.{Entries, HoldsTable, IsIn, IsStored, Logs, Stays, file_flags, file_header, has_extent_at, header_with, is_held, log_header, log_number}
 use Rattle.coffee_merge.proofs.Beginning.{IsBegun, begun_lowest}
 use Rattle.coffee_merge.proofs.Begun.{active_begun, begun_active}
 use Rattle.coffee_merge.proofs.Drafting.{other_place}
@@ -77,7 +77,7 @@ renamed old one us e log begun long is none some small =
     }
 
 -- the header of a log is programmed into the lowest run of 16 free pages, and its page into the file's
-pub has_log : (old one new : List ℕ) (table : Entries) (i : ℕ) (e : FileAt) (log : PageId) → Holds old table None → IsIn table i e → e.log ≡ None → IsLowestRun (free_pages (units_of old)) 16 log.0 → is_file_name e.name ≡ true → log.0 + 1 < 65536
+pub has_log : (old one new : List ℕ) (table : Entries) (i : ℕ) (e : FileAt) (log : PageId) → HoldsTable old table None → IsIn table i e → e.log ≡ None → IsLowestRun (free_pages (units_of old)) 16 log.0 → is_file_name e.name ≡ true → log.0 + 1 < 65536
     → one ≡ or_at old (256 * log.0) (header_bytes (log_header e.name)) → new ≡ flagged (numbered one e.page.0 (log.0 + 1)) e.page.0 8 → HasLog old new (units_of old) e log
 has_log old one new table i e log h is none low good small first second =
     let begun = begun_lowest nowhere nowhere old one (units_of old) log.0 (log_header e.name) (holds_tiled old table None h) (omega arith) low first (log_valid e.name good) refl refl (λ q other. refl) in
@@ -93,7 +93,7 @@ in_same table i e d is at = one (sym is ∙ at)
     one s = cc
 
 -- the files, without the new log, keep their bytes
-log_bodies : (old new : List ℕ) (table : Entries) (i : ℕ) (e : FileAt) (log : PageId) → Holds old table None → IsIn table i e → e.log ≡ None → HasLog old new (units_of old) e log
+log_bodies : (old new : List ℕ) (table : Entries) (i : ℕ) (e : FileAt) (log : PageId) → HoldsTable old table None → IsIn table i e → e.log ≡ None → HasLog old new (units_of old) e log
     → (j : ℕ) (d : FileAt) → IsIn table j d → KeepsBody old new d.page.0 d.pages d.log
 log_bodies old new table i e log h is none has j d at =
     let some = (h.stored i e is).fits.some in
@@ -172,18 +172,18 @@ more_extents e log page none at =
     clash l s = cc
 
 -- a file in another place begins at another page
-other_page : (image : List ℕ) (table : Entries) (i k : ℕ) (e d : FileAt) → Holds image table None → IsIn table i e → IsIn table k d → k ≢ i → d.page.0 ≢ e.page.0
+other_page : (image : List ℕ) (table : Entries) (i k : ℕ) (e d : FileAt) → HoldsTable image table None → IsIn table i e → IsIn table k d → k ≢ i → d.page.0 ≢ e.page.0
 other_page image table i k e d h is at other same =
     let first = (h.stored i e is).fits.some in
     let second = (h.stored k d at).fits.some in
     (entries_apart image table None i k e d h is at (λ s. other (sym s))).extents e.page.0 (omega arith) (omega arith) (omega arith) (omega arith)
 
-other_log : (image : List ℕ) (table : Entries) (i k : ℕ) (e d : FileAt) (l : PageId) → Holds image table None → IsIn table i e → IsIn table k d → d.log ≡ Some l → k ≢ i → l.0 ≢ e.page.0
+other_log : (image : List ℕ) (table : Entries) (i k : ℕ) (e d : FileAt) (l : PageId) → HoldsTable image table None → IsIn table i e → IsIn table k d → d.log ≡ Some l → k ≢ i → l.0 ≢ e.page.0
 other_log image table i k e d l h is at named other same =
     let first = (h.stored i e is).fits.some in
     (entries_apart image table None i k e d h is at (λ s. other (sym s))).behind l named e.page.0 (omega arith) (omega arith) (omega arith) (omega arith)
 
-logged_files : (old new : List ℕ) (table : Entries) (i : ℕ) (e : FileAt) (log : PageId) → Holds old table None → IsIn table i e → HasLog old new (units_of old) e log
+logged_files : (old new : List ℕ) (table : Entries) (i : ℕ) (e : FileAt) (log : PageId) → HoldsTable old table None → IsIn table i e → HasLog old new (units_of old) e log
     → (k : ℕ) (d : FileAt) → IsIn (set table i (Some (record e { log = Some log }))) k d → active_at (units_of new) d.page.0 ≡ Some (file_header d)
 logged_files old new table i e log h is has k d at =
     ⊎_elim
@@ -192,7 +192,7 @@ logged_files old new table i e log h is has k d at =
     has.others d.page.0 (other_page old table i k e d h is there.1 there.0) (other_place (units_of old) log.0 d.page.0 (file_header d) has.none (h.files k d there.1)) ∙ h.files k d there.1)
     (is_in_set table i (Some (record e { log = Some log })) k d at)
 
-logged_logs : (old new : List ℕ) (table : Entries) (i : ℕ) (e : FileAt) (log : PageId) → Holds old table None → IsIn table i e → HasLog old new (units_of old) e log
+logged_logs : (old new : List ℕ) (table : Entries) (i : ℕ) (e : FileAt) (log : PageId) → HoldsTable old table None → IsIn table i e → HasLog old new (units_of old) e log
     → (k : ℕ) (d : FileAt) (l : PageId) → IsIn (set table i (Some (record e { log = Some log }))) k d → d.log ≡ Some l → active_at (units_of new) l.0 ≡ Some (log_header d.name)
 logged_logs old new table i e log h is has k d l at named =
     ⊎_elim
@@ -205,7 +205,7 @@ logged_logs old new table i e log h is has k d l at named =
     has.others l.0 (other_log old table i k e d l h is there.1 named there.0) (other_place (units_of old) log.0 l.0 (log_header d.name) has.none (h.logs k d l there.1 named)) ∙ h.logs k d l there.1 named)
     (is_in_set table i (Some (record e { log = Some log })) k d at)
 
-logged_only : (old new : List ℕ) (table : Entries) (i : ℕ) (e : FileAt) (log : PageId) → Holds old table None → IsIn table i e → e.log ≡ None → HasLog old new (units_of old) e log
+logged_only : (old new : List ℕ) (table : Entries) (i : ℕ) (e : FileAt) (log : PageId) → HoldsTable old table None → IsIn table i e → e.log ≡ None → HasLog old new (units_of old) e log
     → (page : ℕ) (g : Header) → active_at (units_of new) page ≡ Some g → is_held (set table i (Some (record e { log = Some log }))) None page ≡ true
 logged_only old new table i e log h is none has page g active =
     let inside = in_table table i e is in
@@ -235,14 +235,14 @@ was_named table i e log is k d at =
     (λ (there : (k ≢ i) × IsIn table k d). record { entry = d; is_in = there.1; same = refl })
     (is_in_set table i (Some (record e { log = Some log })) k d at)
 
-same_place : (image : List ℕ) (table : Entries) (j k : ℕ) (name other : List ℕ) → Holds image table None → WasNamed table j name → WasNamed table k other → name ≡ other → j ≡ k
+same_place : (image : List ℕ) (table : Entries) (j k : ℕ) (name other : List ℕ) → HoldsTable image table None → WasNamed table j name → WasNamed table k other → name ≡ other → j ≡ k
 same_place image table j k name other h a b named = h.names j k a.entry b.entry a.is_in b.is_in (a.same ∙ named ∙ sym b.same)
 
-logged_names : (old : List ℕ) (table : Entries) (i : ℕ) (e : FileAt) (log : PageId) → Holds old table None → IsIn table i e
+logged_names : (old : List ℕ) (table : Entries) (i : ℕ) (e : FileAt) (log : PageId) → HoldsTable old table None → IsIn table i e
     → (j k : ℕ) (c d : FileAt) → IsIn (set table i (Some (record e { log = Some log }))) j c → IsIn (set table i (Some (record e { log = Some log }))) k d → c.name ≡ d.name → j ≡ k
 logged_names old table i e log h is j k c d first second named = same_place old table j k c.name d.name h (was_named table i e log is j c first) (was_named table i e log is k d second) named
 
-logged_stored : (old new : List ℕ) (table : Entries) (i : ℕ) (e : FileAt) (log : PageId) → Holds old table None → IsIn table i e → e.log ≡ None → HasLog old new (units_of old) e log → log.0 + 16 ≤ pages_of new
+logged_stored : (old new : List ℕ) (table : Entries) (i : ℕ) (e : FileAt) (log : PageId) → HoldsTable old table None → IsIn table i e → e.log ≡ None → HasLog old new (units_of old) e log → log.0 + 16 ≤ pages_of new
     → (k : ℕ) (d : FileAt) → IsIn (set table i (Some (record e { log = Some log }))) k d → IsStored new d
 logged_stored old new table i e log h is none has inside k d at =
     ⊎_elim
@@ -253,7 +253,7 @@ logged_stored old new table i e log h is none has inside k d at =
     (λ (there : (k ≢ i) × IsIn table k d). body_stored old new d has.long (log_bodies old new table i e log h is none has k d there.1) (h.stored k d there.1))
     (is_in_set table i (Some (record e { log = Some log })) k d at)
 
-pub logged : (old new : List ℕ) (table : Entries) (i : ℕ) (e : FileAt) (log : PageId) → Holds old table None → IsIn table i e → e.log ≡ None → HasLog old new (units_of old) e log → log.0 + 16 ≤ pages_of new → Logs old new table i e log
+pub logged : (old new : List ℕ) (table : Entries) (i : ℕ) (e : FileAt) (log : PageId) → HoldsTable old table None → IsIn table i e → e.log ≡ None → HasLog old new (units_of old) e log → log.0 + 16 ≤ pages_of new → Logs old new table i e log
 logged old new table i e log h is none has inside =
     let whole = h.whole in
     let long = has.long in

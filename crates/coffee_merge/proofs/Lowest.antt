@@ -15,7 +15,7 @@ use Rattle.coffee_layout.proofs.Tilings.{units_tiled}
 use Rattle.flash_range.specs.Range.{Outside, PageOutside}
 use Rattle.coffee_merge.specs.Begun.{unit_begun}
 use Rattle.coffee_merge.specs.Flags.{flagged, obsoleted}
-use Rattle.coffee_merge.specs.Holding.{Entries, Holds, IsIn, building_of, draft_header, extent_of, file_header, has_extent_at, is_free_at, log_header}
+use Rattle.coffee_merge.specs.Holding.{Entries, HoldsTable, IsIn, building_of, draft_header, extent_of, file_header, has_extent_at, is_free_at, log_header}
 use Rattle.coffee_merge.specs.Takes.{KeepsFree, KeepsPagesBut, LooksIn, Takes}
 use Rattle.coffee_merge.proofs.Begun.{active_begun, begun_marks, have_pages}
 use Rattle.coffee_merge.proofs.Commits.{replaced_retires, valid}
@@ -55,7 +55,7 @@ takes_more old mid new page pages file first keeps frees = record {
   lowest = λ earlier low free. first.lowest earlier low (λ i from to. frees i (free i from to));
 }
 
-pub draft_frees : (old new : List ℕ) (table : Entries) (name : List ℕ) (kind : Kind) (page pages : ℕ) → Holds old table None → IsLowestRun (free_pages (units_of old)) pages page → 1 ≤ pages → pages < 65536 → is_file_name name ≡ true
+pub draft_frees : (old new : List ℕ) (table : Entries) (name : List ℕ) (kind : Kind) (page pages : ℕ) → HoldsTable old table None → IsLowestRun (free_pages (units_of old)) pages page → 1 ≤ pages → pages < 65536 → is_file_name name ≡ true
     → new ≡ or_at old (256 * page) (header_bytes (draft_header (extent_of name kind page pages 0))) → FreesNone old new
 draft_frees old new table name kind page pages h low some small good is = begun_frees _ old new page (draft_header (extent_of name kind page pages 0)) (draft_begun old new table name kind page pages 0 h low some small good is)
 
@@ -70,14 +70,14 @@ log_frees old new e log has = λ p free.
 
 -- WHAT STAYS FREE
 
-commit_frees : (old : List ℕ) (table : Entries) (d : FileAt) (page : PageId) → Holds old table (Some d) → d.page ≡ page → FreesNone old (flagged old page.0 1)
+commit_frees : (old : List ℕ) (table : Entries) (d : FileAt) (page : PageId) → HoldsTable old table (Some d) → d.page ≡ page → FreesNone old (flagged old page.0 1)
 commit_frees old table d page h place =
     subst (λ (p : PageId). FreesNone old (flagged old p.0 1)) place (reflags_frees nowhere old (flagged old d.page.0 1) d.page.0 _ (valid old table d h))
 
-pub commit_free : (old : List ℕ) (table : Entries) (d : FileAt) (page : PageId) → Holds old table (Some d) → d.page ≡ page → KeepsFree old (flagged old page.0 1)
+pub commit_free : (old : List ℕ) (table : Entries) (d : FileAt) (page : PageId) → HoldsTable old table (Some d) → d.page ≡ page → KeepsFree old (flagged old page.0 1)
 commit_free old table d page h place = free_by old (flagged old page.0 1) (commit_takes old table d page h place) (commit_frees old table d page h place)
 
-pub replace_free : (old : List ℕ) (table : Entries) (d e : FileAt) (i : ℕ) (page : PageId) → Holds old table (Some d) → d.page ≡ page → IsIn table i e → KeepsFree old (obsoleted (flagged old page.0 1) e.page.0 e.log)
+pub replace_free : (old : List ℕ) (table : Entries) (d e : FileAt) (i : ℕ) (page : PageId) → HoldsTable old table (Some d) → d.page ≡ page → IsIn table i e → KeepsFree old (obsoleted (flagged old page.0 1) e.page.0 e.log)
 replace_free old table d e i page h place is =
     free_by old (obsoleted (flagged old page.0 1) e.page.0 e.log) (replace_takes old table d e i page h place is)
     (subst (λ (p : PageId). FreesNone old (obsoleted (flagged old p.0 1) e.page.0 e.log)) place
@@ -85,7 +85,7 @@ replace_free old table d e i page h place is =
 
 -- a place and a page may be named otherwise
 pub write_free : (old new : List ℕ) (page : PageId) (pages place at : ℕ) (bytes : List ℕ) → place ≡ 256 * page.0 + 32 + at → new ≡ or_at old place bytes → at + length bytes + 32 ≤ 256 * pages
-    → (table : Entries) (d : FileAt) → Holds old table (Some d) → d.page ≡ page → d.pages ≡ pages → KeepsFree old new
+    → (table : Entries) (d : FileAt) → HoldsTable old table (Some d) → d.page ≡ page → d.pages ≡ pages → KeepsFree old new
 write_free old new page pages place at bytes there is fits table d h same_page same_pages =
     let here : place ≡ place_in d at = there ∙ ap (λ (q : PageId). 256 * q.0 + 32 + at) (sym same_page) in
     let inside : at + length bytes + 32 ≤ 256 * d.pages = omega arith in
@@ -99,9 +99,9 @@ range_inside page pages place at n p there fits out = λ from to. out (omega ari
 -- behind a copy of so many bytes the same pages are free
 abbrev pub CopyKeepsFree : (old new : List ℕ) → PageId → (pages : ℕ) → FileAt → Type 0
 CopyKeepsFree old new page pages from =
-    (table : Entries) (d : FileAt) (i : ℕ) → Holds old table (Some d) → d.page ≡ page → d.pages ≡ pages → d.size ≡ from.size → IsIn table i from → ((p : ℕ) → p + 32 < 256 * pages → file_byte old page.0 None p ≡ 0) → KeepsFree old new
+    (table : Entries) (d : FileAt) (i : ℕ) → HoldsTable old table (Some d) → d.page ≡ page → d.pages ≡ pages → d.size ≡ from.size → IsIn table i from → ((p : ℕ) → p + 32 < 256 * pages → file_byte old page.0 None p ≡ 0) → KeepsFree old new
 
 pub copy_free : (old mid new : List ℕ) (page : PageId) (pages : ℕ) (from : FileAt) (done : ℕ) → CopiesInto old mid page pages from done → CopyKeepsFree old mid page pages from
-    → ((table : Entries) (d : FileAt) → Holds mid table (Some d) → d.page ≡ page → d.pages ≡ pages → KeepsFree mid new) → CopyKeepsFree old new page pages from
+    → ((table : Entries) (d : FileAt) → HoldsTable mid table (Some d) → d.page ≡ page → d.pages ≡ pages → KeepsFree mid new) → CopyKeepsFree old new page pages from
 copy_free old mid new page pages from done copies free part = λ table d i h same_page same_pages same_size is zeros p.
     part table d (copies table d i h same_page same_pages same_size is zeros).holds same_page same_pages p ∙ free table d i h same_page same_pages same_size is zeros p

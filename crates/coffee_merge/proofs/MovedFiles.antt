@@ -15,7 +15,7 @@ use Rattle.coffee_layout.specs.declared.file.FileAt.{FileAt}
 use Rattle.coffee_layout.proofs.Measures.{few_same}
 use Rattle.coffee_layout.proofs.Spelling.{spells_file}
 use Rattle.coffee_layout.proofs.Tests.{true_or_false}
-use Rattle.coffee_merge.specs.Holding.{Entries, Holds, IsIn, IsStored, KeepsContent, Moves, Stays}
+use Rattle.coffee_merge.specs.Holding.{Entries, HoldsTable, IsIn, IsStored, KeepsContent, Moves, Stays}
 use Rattle.coffee_merge.specs.TableFiles.{SameFiles, file_of}
 use Rattle.coffee_merge.proofs.Holdings.{in_table, is_in_here, is_in_set, is_in_there}
 use Rattle.coffee_merge.proofs.SoundFiles.{entry_file, file_entry}
@@ -56,20 +56,20 @@ record HasFile (image : List ℕ) (table : Entries) (f : NamedFile) : Type 0 whe
   is_in : IsIn table place entry
   same : file_of image entry ≡ f
 
-same_files : (old new : List ℕ) (table after : Entries) → Holds old table None → Holds new after None → ((i : ℕ) (e : FileAt) → IsIn table i e → HasFile new after (file_of old e)) → ((i : ℕ) (e : FileAt) → IsIn after i e → HasFile old table (file_of new e)) → SameFiles old new
+same_files : (old new : List ℕ) (table after : Entries) → HoldsTable old table None → HoldsTable new after None → ((i : ℕ) (e : FileAt) → IsIn table i e → HasFile new after (file_of old e)) → ((i : ℕ) (e : FileAt) → IsIn after i e → HasFile old table (file_of new e)) → SameFiles old new
 same_files old new table after h k there back = record {
   kept = λ f has. let r = file_entry old table f h has in let s = there r.0 r.1 r.2 in subst (Contains (files_of new)) (s.same ∙ sym r.3) (entry_file new after s.place s.entry k s.is_in);
   only = λ f has. let r = file_entry new after f k has in let s = back r.0 r.1 r.2 in subst (Contains (files_of old)) (s.same ∙ sym r.3) (entry_file old table s.place s.entry h s.is_in);
 }
 
-pub stays_files : (old new : List ℕ) (table : Entries) → Holds old table None → Stays old new table → SameFiles old new
+pub stays_files : (old new : List ℕ) (table : Entries) → HoldsTable old table None → Stays old new table → SameFiles old new
 stays_files old new table h s =
     let same : (i : ℕ) (e : FileAt) → IsIn table i e → file_of new e ≡ file_of old e = λ i e is. content_same old new e (h.stored i e is) (s.holds.stored i e is) (s.kept i e is) in
     same_files old new table table h s.holds
     (λ i e is. record { place = i; entry = e; is_in = is; same = same i e is })
     (λ i e is. record { place = i; entry = e; is_in = is; same = sym (same i e is) })
 
-pub moves_files : (old new : List ℕ) (table : Entries) (i : ℕ) (from to : FileAt) → Holds old table None → IsIn table i from → Moves old new table i from to → to.name ≡ from.name → to.kind ≡ from.kind → to.size ≡ from.size → SameFiles old new
+pub moves_files : (old new : List ℕ) (table : Entries) (i : ℕ) (from to : FileAt) → HoldsTable old table None → IsIn table i from → Moves old new table i from to → to.name ≡ from.name → to.kind ≡ from.kind → to.size ≡ from.size → SameFiles old new
 moves_files old new table i from to h is m name kind size =
     let after = set table i (Some to) in
     let here = is_in_here table i to (in_table table i from is) in
@@ -107,7 +107,7 @@ first_at test page (f ∷ fs) others = ⊎_elim
     true_false e = cc
 
 -- a file that fails rule 13 is the one at that page
-pub held_place : (image : List ℕ) (table : Entries) (page : ℕ) → Holds image table None → length table ≤ 32 → ((k : ℕ) (e : FileAt) → IsIn table k e → e.page.0 ≢ page → has_few e ≡ true)
+pub held_place : (image : List ℕ) (table : Entries) (page : ℕ) → HoldsTable image table None → length table ≤ 32 → ((k : ℕ) (e : FileAt) → IsIn table k e → e.page.0 ≢ page → has_few e ≡ true)
     → IfSome (broken_image image) (λ bad. bad ≡ record { rule = 13; place = page })
 held_place image table page h few sparing =
     subst (λ o. IfSome o (λ bad. bad ≡ record { rule = 13; place = page })) (sym (rules_sound image h.tiled (holds_rules image table h few)))
@@ -125,7 +125,7 @@ listed_among make (x ∷ xs) zero e low is = (x, inl refl, is)
 listed_among make (x ∷ xs) (suc i) e low is = let r = listed_among make xs i e (omega arith) is in let a : Among (r.0) (x ∷ xs) = inr r.1 in (r.0, a, r.2)
 
 -- each entry that is listed is one of the table that is held
-pub held_listed : (image : List ℕ) (table : Entries) (e : FileAt) → Holds image table None → Contains (listed image) e → (k : ℕ) × IsIn table k e
+pub held_listed : (image : List ℕ) (table : Entries) (e : FileAt) → HoldsTable image table None → Contains (listed image) e → (k : ℕ) × IsIn table k e
 held_listed image table e h has =
     let r = listed_among (entry_of image) (files_in (units_of image)) has.0 e has.1 has.2 in
     let by = file_holder image table r.0 h r.1 in

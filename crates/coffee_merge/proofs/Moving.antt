@@ -4,7 +4,7 @@ use Rattle.afl_base.specs.declared.ids.PageId.{PageId}
 use Rattle.coffee_layout.specs.FileBytes.{file_byte}
 use Rattle.coffee_layout.specs.declared.file.FileAt.{FileAt}
 use Rattle.afl_base.specs.Image.{page_bytes}
-use Rattle.coffee_merge.specs.Holding.{Commits, Entries, Holds, IsIn, extent_of}
+use Rattle.coffee_merge.specs.Holding.{CommitsExtent, Entries, HoldsTable, IsIn, extent_of}
 use Rattle.coffee_merge.specs.Outcomes.{BeginsFile, CopiesFile, MovesFile}
 use Rattle.coffee_merge.specs.Takes.{KeepsFree, KeepsPagesBut}
 use Rattle.coffee_merge.proofs.FreeUnits.{frees_free, takes_free}
@@ -17,13 +17,13 @@ moved_to file page pages = record file { page = page; pages = pages; log = None;
 
 -- what a new extent, the copy of the file into it and its commit give together
 pub moves_file : (old begun copied new : List ℕ) (file : FileAt) (page : PageId) (pages : ℕ) → file.size + 32 ≤ 256 * pages
-    → ((table : Entries) (size : ℕ) → Holds old table None → size + 32 ≤ 256 * pages → BeginsFile old begun table (extent_of file.name file.kind page.0 pages size))
-    → ((table : Entries) (d : FileAt) (i : ℕ) → Holds begun table (Some d) → d.page ≡ page → d.pages ≡ pages → d.size ≡ file.size → IsIn table i file → ((p : ℕ) → p + 32 < 256 * pages → file_byte begun page.0 None p ≡ 0) → CopiesFile begun copied table d file)
+    → ((table : Entries) (size : ℕ) → HoldsTable old table None → size + 32 ≤ 256 * pages → BeginsFile old begun table (extent_of file.name file.kind page.0 pages size))
+    → ((table : Entries) (d : FileAt) (i : ℕ) → HoldsTable begun table (Some d) → d.page ≡ page → d.pages ≡ pages → d.size ≡ file.size → IsIn table i file → ((p : ℕ) → p + 32 < 256 * pages → file_byte begun page.0 None p ≡ 0) → CopiesFile begun copied table d file)
     → KeepsPagesBut begun copied page.0 pages None
-    → ((table : Entries) (d : FileAt) (i : ℕ) → Holds copied table (Some d) → d.page ≡ page → IsIn table i file → file.name ≡ d.name → (1 ≤ d.size → file_byte copied page.0 None (d.size - 1) ≢ 0) → Commits copied new table i d)
-    → ((table : Entries) (d : FileAt) (i : ℕ) → Holds copied table (Some d) → d.page ≡ page → IsIn table i file → KeepsFree copied new)
+    → ((table : Entries) (d : FileAt) (i : ℕ) → HoldsTable copied table (Some d) → d.page ≡ page → IsIn table i file → file.name ≡ d.name → (1 ≤ d.size → file_byte copied page.0 None (d.size - 1) ≢ 0) → CommitsExtent copied new table i d)
+    → ((table : Entries) (d : FileAt) (i : ℕ) → HoldsTable copied table (Some d) → d.page ≡ page → IsIn table i file → KeepsFree copied new)
     → ((p : ℕ) → p ≢ page.0 → p ≢ file.page.0 → ((l : PageId) → file.log ≡ Some l → p ≢ l.0) → page_bytes new p ≡ page_bytes copied p)
-    → (table : Entries) (i : ℕ) → Holds old table None → IsIn table i file → MovesFile old new table i file (moved_to file page pages)
+    → (table : Entries) (i : ℕ) → HoldsTable old table None → IsIn table i file → MovesFile old new table i file (moved_to file page pages)
 moves_file old begun copied new file page pages fits begins copies keeps commits commit_free others table i h is =
     let stored = h.stored i file is in
     let room = stored.fits.size in

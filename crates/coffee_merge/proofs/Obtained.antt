@@ -16,7 +16,7 @@ use Rattle.coffee_layout.proofs.KeptFiles.{AreActive, KeepsActive, kept_file}
 use Rattle.coffee_layout.proofs.Tilings.{unbroken_tiled}
 use Rattle.coffee_space.specs.Collection.{IsCollected, active_extents, KeepsActive as LeavesActive}
 use Rattle.coffee_merge.specs.Begun.{active_at}
-use Rattle.coffee_merge.specs.Holding.{Entries, Holds, IsIn, Stays, TakesOnly, file_header, log_header}
+use Rattle.coffee_merge.specs.Holding.{Entries, HoldsTable, IsIn, Stays, TakesOnly, file_header, log_header}
 use Rattle.coffee_merge.specs.Outcomes.{IsObtained, LeavesAll}
 use Rattle.coffee_merge.specs.Takes.{LooksIn}
 use Rattle.coffee_merge.proofs.Begun.{active_begun, active_same, begun_marks, have_pages}
@@ -31,12 +31,12 @@ active_marks us page h is =
     λ q low high. begun_marks is_active us page (Extent h) q begun.0 low high ∙ begun.1
 
 -- so a file of the table keeps its bytes
-pub file_kept : (old new : List ℕ) (table : Entries) (draft : Option FileAt) (i : ℕ) (e : FileAt) → Holds old table draft → KeepsActive old new (active_pages (units_of old)) → IsIn table i e → KeepsFile old new e.page.0 e.pages e.log
+pub file_kept : (old new : List ℕ) (table : Entries) (draft : Option FileAt) (i : ℕ) (e : FileAt) → HoldsTable old table draft → KeepsActive old new (active_pages (units_of old)) → IsIn table i e → KeepsFile old new e.page.0 e.pages e.log
 file_kept old new table draft i e h keeps is =
     kept_file old new (active_pages (units_of old)) e.page.0 e.pages e.log keeps (active_marks (units_of old) e.page.0 (file_header e) (h.files i e is))
     (λ l log. active_marks (units_of old) l.0 (log_header e.name) (h.logs i e l is log))
 
-pub obtained : (old new : List ℕ) (table : Entries) → Holds old table None → length new ≡ length old → IsTiled nowhere new (units_of new) → active_extents (units_of new) ≡ active_extents (units_of old)
+pub obtained : (old new : List ℕ) (table : Entries) → HoldsTable old table None → length new ≡ length old → IsTiled nowhere new (units_of new) → active_extents (units_of new) ≡ active_extents (units_of old)
     → KeepsActive old new (active_pages (units_of old)) → Stays old new table
 obtained old new table h long tiled same keeps =
     let bodies : KeepsBodies old new table = λ i e is. body_kept old new e.page.0 e.pages e.log (file_kept old new table None i e h keeps is) in
@@ -60,14 +60,14 @@ obtains_by old new pages (Err (Space need)) kept untouched collected = λ buildi
 obtains_by old new pages (Err Failed) kept untouched collected = tt
 
 -- the same of tables
-stays_by : (old new : List ℕ) (table : Entries) (pages : ℕ) → Holds old table None → length new ≡ length old → Obtains old new pages → Stays old new table × TakesOnly old new 0 0 × LooksIn old new pages
+stays_by : (old new : List ℕ) (table : Entries) (pages : ℕ) → HoldsTable old table None → length new ≡ length old → Obtains old new pages → Stays old new table × TakesOnly old new 0 0 × LooksIn old new pages
 stays_by old new table pages h long o =
     let found = o nowhere (units_of old) (holds_tiled old table None h) in
     (obtained old new table h long found.0.tiled found.0.extents found.0.active, obtain_takes nowhere old new pages found.1 found.2, record { same = found.1; collected = found.2 })
 
 pub found_by : {T : Type 0} (old new : List ℕ) (pages : ℕ) (r : Result T FileError) (place : T → ℕ) → length new ≡ length old → UnlessFailed r (Obtains old new pages)
     → IfOk r (λ x. (building : ℕ → Bool) (us : List Unit) → IsTiled building old us → IsLowestRun (free_pages (units_of new)) pages (place x))
-    → IfOk r (λ x. (table : Entries) → Holds old table None → IsObtained old new table pages (place x))
+    → IfOk r (λ x. (table : Entries) → HoldsTable old table None → IsObtained old new table pages (place x))
 found_by old new pages (Ok x) place long o run = λ table h.
     let s = stays_by old new table pages h long o in
     record { stays = s.0; untaken = s.1; looked = s.2; run = run nowhere (units_of old) (holds_tiled old table None h) }
@@ -76,7 +76,7 @@ found_by old new pages (Err e) place long o run = run
 pub left_by : {T : Type 0} (old new : List ℕ) (pages : ℕ) (r : Result T FileError) → length new ≡ length old → UnlessFailed r (Obtains old new pages)
     → OnSpace r (λ need. (building : ℕ → Bool) (us : List Unit) → IsTiled building old us → IsCramped (units_of new) need)
     → OnSpace r (λ need. need ≡ pages)
-    → OnSpace r (λ need. (table : Entries) → Holds old table None → LeavesAll old new table need)
+    → OnSpace r (λ need. (table : Entries) → HoldsTable old table None → LeavesAll old new table need)
 left_by old new pages (Ok x) long o cramped asked = tt
 left_by old new pages (Err (Space need)) long o cramped asked = λ table h.
     let s = stays_by old new table pages h long o in

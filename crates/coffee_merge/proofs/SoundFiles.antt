@@ -4,7 +4,7 @@ use Rattle.std.specs.List.{Contains}
 use Rattle.coffee_layout.specs.Files.{NamedFile, Placed, files_in, files_of, named_file}
 use Rattle.coffee_layout.specs.Tiling.{units_of}
 use Rattle.coffee_layout.specs.declared.file.FileAt.{FileAt}
-use Rattle.coffee_merge.specs.Holding.{Entries, Holds, IsIn}
+use Rattle.coffee_merge.specs.Holding.{Entries, HoldsTable, IsIn}
 use Rattle.coffee_merge.specs.TableFiles.{file_of}
 use Rattle.coffee_merge.proofs.SoundEntries.{IsAt, among_at}
 use Rattle.coffee_merge.proofs.SoundHolders.{entry_among, file_holder, named_is, placed}
@@ -21,14 +21,14 @@ contains_among make (x ∷ xs) zero n l e = (x, inl refl, sym e)
 contains_among make (x ∷ xs) (suc i) n l e = let r = contains_among make xs i n (omega arith) e in let a : Among (r.0) (x ∷ xs) = inr r.1 in (r.0, a, r.2)
 
 -- the file of each entry
-pub entry_file : (image : List ℕ) (table : Entries) (i : ℕ) (e : FileAt) → Holds image table None → IsIn table i e → Contains (files_of image) (file_of image e)
+pub entry_file : (image : List ℕ) (table : Entries) (i : ℕ) (e : FileAt) → HoldsTable image table None → IsIn table i e → Contains (files_of image) (file_of image e)
 entry_file image table i e holds is =
     let at = among_at (files_in (units_of image)) (placed e) (entry_among image table i e holds is) in
     let r = at_contains (named_file image) (files_in (units_of image)) at.0 (placed e) (file_of image e) at.1 in
     (at.0, r.0, r.1 ∙ named_is image e (holds.stored i e is))
 
 -- and no other
-pub file_entry : (image : List ℕ) (table : Entries) (f : NamedFile) → Holds image table None → Contains (files_of image) f → (i : ℕ) × (e : FileAt) × IsIn table i e × (f ≡ file_of image e)
+pub file_entry : (image : List ℕ) (table : Entries) (f : NamedFile) → HoldsTable image table None → Contains (files_of image) f → (i : ℕ) × (e : FileAt) × IsIn table i e × (f ≡ file_of image e)
 file_entry image table f holds has =
     let r = contains_among (named_file image) (files_in (units_of image)) has.0 f has.1 has.2 in
     let by = file_holder image table r.0 holds r.1 in

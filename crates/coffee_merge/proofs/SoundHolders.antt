@@ -17,7 +17,7 @@ use Rattle.coffee_layout.proofs.Sizes.{size_is}
 use Rattle.coffee_layout.proofs.Tests.{eq_false, eq_true, true_eq, true_or_false}
 use Rattle.coffee_log.specs.Logs.{IsLog}
 use Rattle.coffee_merge.specs.Begun.{active_at}
-use Rattle.coffee_merge.specs.Holding.{Entries, Holds, IsIn, IsStored, file_flags, file_header, has_extent_at, has_shape, kind_number, log_header, log_number}
+use Rattle.coffee_merge.specs.Holding.{Entries, HoldsTable, IsIn, IsStored, file_flags, file_header, has_extent_at, has_shape, kind_number, log_header, log_number}
 use Rattle.coffee_merge.specs.TableFiles.{file_of}
 use Rattle.coffee_merge.proofs.Holdings.{HeldBy, LogAt, extent_read, file_unit, held_by, holds_tiled, in_table, log_unit}
 use Rattle.coffee_merge.proofs.SoundLogs.{used_is}
@@ -102,7 +102,7 @@ placed_at page h = record { page = page; header = h }
 placed_same : (p q : ℕ) (g k : Header) → p ≡ q → g ≡ k → placed_at p g ≡ placed_at q k
 placed_same p q g k a b = cc
 
-holder : (image : List ℕ) (table : Entries) (page : ℕ) (h : Header) → Holds image table None → active_at (units_of image) page ≡ Some h → IsFileOf table (record { page = page; header = h }) ⊎ IsLogOf table (record { page = page; header = h })
+holder : (image : List ℕ) (table : Entries) (page : ℕ) (h : Header) → HoldsTable image table None → active_at (units_of image) page ≡ Some h → IsFileOf table (record { page = page; header = h }) ⊎ IsLogOf table (record { page = page; header = h })
 unfolding placed_at
 holder image table page h holds active = ⊎_elim
     (λ (by : HeldBy table page). ⊎_elim
@@ -125,7 +125,7 @@ file_is None = refl
 file_is (Some l) = refl
 
 -- each active file is one of the table
-pub file_holder : (image : List ℕ) (table : Entries) (f : Placed) → Holds image table None → Among f (files_in (units_of image)) → IsFileOf table f
+pub file_holder : (image : List ℕ) (table : Entries) (f : Placed) → HoldsTable image table None → Among f (files_in (units_of image)) → IsFileOf table f
 file_holder image table f holds a =
     let b = filter_among is_file f (extents 0 (units_of image)) a in
     ⊎_elim
@@ -134,7 +134,7 @@ file_holder image table f holds a =
     (holder image table f.page f.header holds (extent_active nowhere image (units_of image) f (holds_tiled image table None holds) b.0 (file_active f b.1)))
 
 -- and each active log one of a file's
-pub log_holder : (image : List ℕ) (table : Entries) (g : Placed) → Holds image table None → Among g (logs_in (units_of image)) → IsLogOf table g
+pub log_holder : (image : List ℕ) (table : Entries) (g : Placed) → HoldsTable image table None → Among g (logs_in (units_of image)) → IsLogOf table g
 log_holder image table g holds a =
     let b = filter_among is_log g (extents 0 (units_of image)) a in
     ⊎_elim
@@ -143,11 +143,11 @@ log_holder image table g holds a =
     (holder image table g.page g.header holds (extent_active nowhere image (units_of image) g (holds_tiled image table None holds) b.0 (log_active g b.1)))
 
 -- each entry of the table is an active file, and its log an active log
-pub entry_among : (image : List ℕ) (table : Entries) (i : ℕ) (e : FileAt) → Holds image table None → IsIn table i e → Among (placed e) (files_in (units_of image))
+pub entry_among : (image : List ℕ) (table : Entries) (i : ℕ) (e : FileAt) → HoldsTable image table None → IsIn table i e → Among (placed e) (files_in (units_of image))
 entry_among image table i e holds is =
     among_filter is_file (placed e) (extents 0 (units_of image)) (begun_extent (units_of image) 0 e.page.0 (file_header e) (file_unit image table None i e holds is)) (file_is e.log)
 
-pub log_among : (image : List ℕ) (table : Entries) (i : ℕ) (e : FileAt) (l : PageId) → Holds image table None → IsIn table i e → e.log ≡ Some l → Among (placed_log e l) (logs_in (units_of image))
+pub log_among : (image : List ℕ) (table : Entries) (i : ℕ) (e : FileAt) (l : PageId) → HoldsTable image table None → IsIn table i e → e.log ≡ Some l → Among (placed_log e l) (logs_in (units_of image))
 log_among image table i e l holds is log =
     among_filter is_log (placed_log e l) (extents 0 (units_of image)) (begun_extent (units_of image) 0 l.0 (log_header e.name) (log_unit image table None i e l holds is log)) refl
 
@@ -191,15 +191,15 @@ count (o ∷ os) fs r some held =
     or_second (begins g.page o) (list_any (begins g.page) os) (each_pick (λ f. list_any (begins f.page) (o ∷ os) ≡ true) g fs held b.0) (not-true (begins g.page o) b.1))) in
     omega arith
 
-pub files_rising : (image : List ℕ) (table : Entries) → Holds image table None → Rising (files_in (units_of image))
+pub files_rising : (image : List ℕ) (table : Entries) → HoldsTable image table None → Rising (files_in (units_of image))
 files_rising image table holds = rising_filter is_file (extents 0 (units_of image)) (extents_rising nowhere image (units_of image) 0 false (holds_tiled image table None holds).keep)
 
-pub files_some : (image : List ℕ) (table : Entries) → Holds image table None → Each (λ f. 1 ≤ f.header.max_pages) (files_in (units_of image))
+pub files_some : (image : List ℕ) (table : Entries) → HoldsTable image table None → Each (λ f. 1 ≤ f.header.max_pages) (files_in (units_of image))
 files_some image table holds = each_all (λ f. 1 ≤ f.header.max_pages) (files_in (units_of image))
     (λ f a. (extent_in nowhere image (units_of image) f (holds_tiled image table None holds) (filter_among is_file f (extents 0 (units_of image)) a).0).some)
 
 -- there are no more active files than places of the table
-pub files_few : (image : List ℕ) (table : Entries) → Holds image table None → length (files_in (units_of image)) ≤ length table
+pub files_few : (image : List ℕ) (table : Entries) → HoldsTable image table None → length (files_in (units_of image)) ≤ length table
 unfolding begins
 files_few image table holds =
     count table (files_in (units_of image)) (files_rising image table holds) (files_some image table holds)

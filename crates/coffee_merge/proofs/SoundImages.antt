@@ -15,7 +15,7 @@ use Rattle.coffee_layout.specs.Walks.{has_few}
 use Rattle.coffee_layout.specs.declared.file.FileAt.{FileAt}
 use Rattle.coffee_layout.proofs.Measures.{few_same}
 use Rattle.coffee_layout.proofs.Tests.{eq_true, true_eq, true_or_false}
-use Rattle.coffee_merge.specs.Holding.{Entries, Holds, IsIn, IsStored, has_shape, kind_number, log_number}
+use Rattle.coffee_merge.specs.Holding.{Entries, HoldsTable, IsIn, IsStored, has_shape, kind_number, log_number}
 use Rattle.coffee_merge.proofs.Holdings.{holds_tiled}
 use Rattle.coffee_merge.proofs.SoundEntries.{none_repeated, same_named}
 use Rattle.coffee_merge.proofs.SoundHolders.{entry_among, entry_is, file_holder, files_few, files_rising, files_some, log_among, log_holder, placed, placed_log}
@@ -33,7 +33,7 @@ shape_fields (Fixed n) pages e =
     let same = true_eq n pages b.0 in
     subst (λ p. nat_le 1 p && nat_le p 15 ≡ true) same (and_from (nat_le 1 n) (nat_le n 15) b.1 a.1)
 
-extent_fields : (image : List ℕ) (table : Entries) (e : Placed) → Holds image table None → Among e (extents 0 (units_of image)) → has_fields e ≡ true
+extent_fields : (image : List ℕ) (table : Entries) (e : Placed) → HoldsTable image table None → Among e (extents 0 (units_of image)) → has_fields e ≡ true
 extent_fields image table e holds a = ⊎_elim
     (λ (t : is_file e ≡ true).
     let by = file_holder image table e holds (among_filter is_file e (extents 0 (units_of image)) a t) in
@@ -49,7 +49,7 @@ extent_fields image table e holds a = ⊎_elim
 
 -- LOGS
 
-named_turn : (image : List ℕ) (table : Entries) (i : ℕ) (e : FileAt) (log : Option PageId) → Holds image table None → IsIn table i e → e.log ≡ log → names_its_log (logs_in (units_of image)) (placed e) ≡ true
+named_turn : (image : List ℕ) (table : Entries) (i : ℕ) (e : FileAt) (log : Option PageId) → HoldsTable image table None → IsIn table i e → e.log ≡ log → names_its_log (logs_in (units_of image)) (placed e) ≡ true
 named_turn image table i e None holds is log = rw log refl
 named_turn image table i e (Some l) holds is log =
     let named : is_log_of (placed e) (placed_log e l) ≡ true =
@@ -57,12 +57,12 @@ named_turn image table i e (Some l) holds is log =
     let any = among_any (is_log_of (placed e)) (placed_log e l) (logs_in (units_of image)) (log_among image table i e l holds is log) named in
     rw log (rw log at any)
 
-file_named : (image : List ℕ) (table : Entries) (f : Placed) → Holds image table None → Among f (files_in (units_of image)) → names_its_log (logs_in (units_of image)) f ≡ true
+file_named : (image : List ℕ) (table : Entries) (f : Placed) → HoldsTable image table None → Among f (files_in (units_of image)) → names_its_log (logs_in (units_of image)) f ≡ true
 file_named image table f holds a =
     let by = file_holder image table f holds a in
     subst (λ g. names_its_log (logs_in (units_of image)) g ≡ true) (sym by.is) (named_turn image table by.place by.entry by.entry.log holds by.is_in refl)
 
-log_named : (image : List ℕ) (table : Entries) (g : Placed) → Holds image table None → Among g (logs_in (units_of image)) → list_any (names_log g.page) (files_in (units_of image)) ≡ true
+log_named : (image : List ℕ) (table : Entries) (g : Placed) → HoldsTable image table None → Among g (logs_in (units_of image)) → list_any (names_log g.page) (files_in (units_of image)) ≡ true
 log_named image table g holds a =
     let by = log_holder image table g holds a in
     let page : by.log.0 ≡ g.page = sym (ap (λ (l : Placed). l.page) by.is) in
@@ -89,7 +89,7 @@ fits_turn image (f ∷ fs) page each = ⊎_elim
     (λ (t : names_log page f ≡ false). rw t (fits_turn image fs page (λ g a n. each g (inr a) n)))
     (true_or_false (names_log page f))
 
-log_inside : (image : List ℕ) (table : Entries) (page : ℕ) → Holds image table None → fits_its_file image (files_in (units_of image)) page ≡ true
+log_inside : (image : List ℕ) (table : Entries) (page : ℕ) → HoldsTable image table None → fits_its_file image (files_in (units_of image)) page ≡ true
 log_inside image table page holds = fits_turn image (files_in (units_of image)) page
     (λ f a named.
     let by = file_holder image table f holds a in
@@ -104,7 +104,7 @@ one_entry table i j e d is other same = some_same (sym is ∙ ap (λ k. get_or t
     some_same : {a b : FileAt} → Some a ≡ Some b → a ≡ b
     some_same e = cc
 
-file_named_once : (image : List ℕ) (table : Entries) (f g : Placed) → Holds image table None → Among f (files_in (units_of image)) → Among g (files_in (units_of image)) → f.header.name ≡ g.header.name → f.page ≡ g.page
+file_named_once : (image : List ℕ) (table : Entries) (f g : Placed) → HoldsTable image table None → Among f (files_in (units_of image)) → Among g (files_in (units_of image)) → f.header.name ≡ g.header.name → f.page ≡ g.page
 file_named_once image table f g holds a b same =
     let first = file_holder image table f holds a in
     let second = file_holder image table g holds b in
@@ -113,7 +113,7 @@ file_named_once image table f g holds a b same =
     let entry = one_entry table first.place second.place first.entry second.entry first.is_in second.is_in place in
     ap (λ (x : Placed). x.page) first.is ∙ ap (λ (e : FileAt). e.page.0) entry ∙ sym (ap (λ (x : Placed). x.page) second.is)
 
-pub holds_rules : (image : List ℕ) (table : Entries) → Holds image table None → length table ≤ 32 → KeepsRules image (units_of image)
+pub holds_rules : (image : List ℕ) (table : Entries) → HoldsTable image table None → length table ≤ 32 → KeepsRules image (units_of image)
 holds_rules image table holds few = record {
   tiled = holds_tiled image table None holds;
   few = omega (arith, files_few image table holds);
@@ -131,7 +131,7 @@ holds_rules image table holds few = record {
 }
 
 -- where the entries have few pages, no rule is broken
-pub held_sound : (image : List ℕ) (table : Entries) → Holds image table None → length table ≤ 32 → ((i : ℕ) (e : FileAt) → IsIn table i e → has_few e ≡ true) → broken_image image ≡ None
+pub held_sound : (image : List ℕ) (table : Entries) → HoldsTable image table None → length table ≤ 32 → ((i : ℕ) (e : FileAt) → IsIn table i e → has_few e ≡ true) → broken_image image ≡ None
 held_sound image table holds few sparing =
     let thirteen : first_failing (has_few_pages image) (files_in (units_of image)) ≡ None = failing_none (has_few_pages image) (files_in (units_of image))
     (λ f a.
@@ -144,5 +144,5 @@ place_rule None = tt
 place_rule (Some p) = refl
 
 -- and else rule 13 is
-pub held_rule : (image : List ℕ) (table : Entries) → Holds image table None → length table ≤ 32 → IfSome (broken_image image) (λ bad. bad.rule ≡ 13)
+pub held_rule : (image : List ℕ) (table : Entries) → HoldsTable image table None → length table ≤ 32 → IfSome (broken_image image) (λ bad. bad.rule ≡ 13)
 held_rule image table holds few = subst (λ o. IfSome o (λ bad. bad.rule ≡ 13)) (sym (rules_sound image holds.tiled (holds_rules image table holds few))) (place_rule (first_failing (has_few_pages image) (files_in (units_of image))))

@@ -25,7 +25,7 @@ use Rattle.coffee_layout.proofs.Tilings.{unbroken_tiled}
 use Rattle.coffee_log.specs.FileChanges.{Apart, BeginsBelow}
 use Rattle.coffee_log.specs.Logs.{IsLog}
 use Rattle.coffee_merge.specs.Begun.{active_at}
-use Rattle.coffee_merge.specs.Holding.{Holds, IsIn, IsStored, file_header, has_shape, is_held, log_header}
+use Rattle.coffee_merge.specs.Holding.{HoldsTable, IsIn, IsStored, file_header, has_shape, is_held, log_header}
 use Rattle.coffee_merge.proofs.Begun.{active_begun}
 use Rattle.coffee_merge.proofs.Holdings.{extent_here, held_in}
 use Rattle.coffee_merge.proofs.SoundEntries.{among_at, at_among, at_entry, entry_at, one_place, table_by}
@@ -164,7 +164,7 @@ held image us n page h r e =
 no_draft : (d : FileAt) → None ≡ Some d → ⊥
 no_draft d e = cc
 
-pub table_holds : (image : List ℕ) (n : ℕ) → 256 * pages_of image ≡ length image → KeepsRules image (units_of image) → Holds image (table_by (entry_of image) (files_in (units_of image)) n) None
+pub table_holds : (image : List ℕ) (n : ℕ) → 256 * pages_of image ≡ length image → KeepsRules image (units_of image) → HoldsTable image (table_by (entry_of image) (files_in (units_of image)) n) None
 table_holds image n whole r =
     record {
       whole = whole;
@@ -195,7 +195,7 @@ table_holds image n whole r =
       drafted = λ d e. absurd (no_draft d e);
     }
 
-pub sound_held : (image : List ℕ) (n : ℕ) → broken_image image ≡ None → 256 * pages_of image ≡ length image → Holds image (table_by (entry_of image) (files_in (units_of image)) n) None
+pub sound_held : (image : List ℕ) (n : ℕ) → broken_image image ≡ None → 256 * pages_of image ≡ length image → HoldsTable image (table_by (entry_of image) (files_in (units_of image)) n) None
 sound_held image n e whole = table_holds image n whole (sound_rules image whole e).0
 
 pub sound_few : (image : List ℕ) → broken_image image ≡ None → 256 * pages_of image ≡ length image → length (listed image) ≤ 32

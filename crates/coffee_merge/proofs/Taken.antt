@@ -21,7 +21,7 @@ use Rattle.coffee_space.proofs.MarksLeft.{length-pages_by, mark_left, marks_left
 use Rattle.coffee_space.proofs.Walks.{marks_behind, marks_front}
 use Rattle.coffee_merge.specs.Begun.{unit_begun}
 use Rattle.coffee_merge.specs.Flags.{flagged, obsoleted}
-use Rattle.coffee_merge.specs.Holding.{Entries, Holds, IsIn, TakesOnly, draft_header, extent_of, file_header, is_free_at, log_header}
+use Rattle.coffee_merge.specs.Holding.{Entries, HoldsTable, IsIn, TakesOnly, draft_header, extent_of, file_header, is_free_at, log_header}
 use Rattle.coffee_merge.proofs.Beginning.{IsBegun}
 use Rattle.coffee_merge.proofs.Begun.{HavePages, begun_marks, have_pages}
 use Rattle.coffee_merge.proofs.Commits.{replaced_file, replaced_log, replaced_retires, valid}
@@ -59,29 +59,29 @@ retires_takes old new e pages is logged r =
 
 -- CALLS
 
-pub draft_takes : (old new : List ℕ) (table : Entries) (name : List ℕ) (kind : Kind) (page pages : ℕ) → Holds old table None → IsLowestRun (free_pages (units_of old)) pages page → 1 ≤ pages → pages < 65536 → is_file_name name ≡ true
+pub draft_takes : (old new : List ℕ) (table : Entries) (name : List ℕ) (kind : Kind) (page pages : ℕ) → HoldsTable old table None → IsLowestRun (free_pages (units_of old)) pages page → 1 ≤ pages → pages < 65536 → is_file_name name ≡ true
     → new ≡ or_at old (256 * page) (header_bytes (draft_header (extent_of name kind page pages 0))) → TakesOnly old new page pages
 draft_takes old new table name kind page pages h low some small good is = begun_takes _ old new page (draft_header (extent_of name kind page pages 0)) (holds_pages old table None h) (draft_begun old new table name kind page pages 0 h low some small good is)
 
-pub commit_takes : (old : List ℕ) (table : Entries) (d : FileAt) (page : PageId) → Holds old table (Some d) → d.page ≡ page → TakesOnly old (flagged old page.0 1) 0 0
+pub commit_takes : (old : List ℕ) (table : Entries) (d : FileAt) (page : PageId) → HoldsTable old table (Some d) → d.page ≡ page → TakesOnly old (flagged old page.0 1) 0 0
 commit_takes old table d page h place =
     subst (λ (p : PageId). TakesOnly old (flagged old p.0 1) 0 0) place
     (reflags_takes _ old (flagged old d.page.0 1) d.page.0 (draft_header d) _ (holds_pages old table (Some d) h) (draft_unit old table d h) (valid old table d h))
 
-pub retire_takes : (old : List ℕ) (table : Entries) (i : ℕ) (e : FileAt) → Holds old table None → IsIn table i e → TakesOnly old (obsoleted old e.page.0 e.log) 0 0
+pub retire_takes : (old : List ℕ) (table : Entries) (i : ℕ) (e : FileAt) → HoldsTable old table None → IsIn table i e → TakesOnly old (obsoleted old e.page.0 e.log) 0 0
 retire_takes old table i e h is =
     let unit = file_unit old table None i e h is in
     let logs : (l : PageId) → e.log ≡ Some l → unit_begun (units_of old) 0 l.0 ≡ Some (Extent (log_header e.name)) = λ l log. log_unit old table None i e l h is log in
     retires_takes old (obsoleted old e.page.0 e.log) e (holds_pages old table None h) unit logs (retires old e (holds_tiled old table None h) unit logs)
 
-pub replace_takes : (old : List ℕ) (table : Entries) (d e : FileAt) (i : ℕ) (page : PageId) → Holds old table (Some d) → d.page ≡ page → IsIn table i e → TakesOnly old (obsoleted (flagged old page.0 1) e.page.0 e.log) 0 0
+pub replace_takes : (old : List ℕ) (table : Entries) (d e : FileAt) (i : ℕ) (page : PageId) → HoldsTable old table (Some d) → d.page ≡ page → IsIn table i e → TakesOnly old (obsoleted (flagged old page.0 1) e.page.0 e.log) 0 0
 replace_takes old table d e i page h place is =
     subst (λ (p : PageId). TakesOnly old (obsoleted (flagged old p.0 1) e.page.0 e.log) 0 0) place
     (takes_then old (flagged old d.page.0 1) (obsoleted (flagged old d.page.0 1) e.page.0 e.log) 0 0 (commit_takes old table d d.page h refl)
     (retires_takes (flagged old d.page.0 1) (obsoleted (flagged old d.page.0 1) e.page.0 e.log) e (have_pages nowhere (flagged old d.page.0 1) (units_of (flagged old d.page.0 1)) (valid old table d h).tiled)
     (replaced_file old table d e i h is) (λ l log. replaced_log old table d e i l h is log) (replaced_retires old table d e i h is)))
 
-pub log_takes : (old new : List ℕ) (table : Entries) (i : ℕ) (e : FileAt) (log : PageId) → Holds old table None → IsIn table i e → HasLog old new (units_of old) e log → TakesOnly old new log.0 16
+pub log_takes : (old new : List ℕ) (table : Entries) (i : ℕ) (e : FileAt) (log : PageId) → HoldsTable old table None → IsIn table i e → HasLog old new (units_of old) e log → TakesOnly old new log.0 16
 log_takes old new table i e log h is has =
     takes_by old new log.0 16 (holds_pages old table None h)
     (λ p free out. has.units p (λ same. free_or_extent (file_header e) (unit_begun (units_of old) 0 p) free (ap (unit_begun (units_of old) 0) same ∙ file_unit old table None i e h is)) out ∙ free)

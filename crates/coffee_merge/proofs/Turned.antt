@@ -11,7 +11,7 @@ use Rattle.coffee_layout.proofs.Tests.{true_or_false}
 use Rattle.coffee_layout.proofs.Tilings.{unbroken_tiled}
 use Rattle.coffee_log.specs.FileChanges.{IsFile}
 use Rattle.coffee_merge.specs.Begun.{active_at}
-use Rattle.coffee_merge.specs.Holding.{Entries, Holds, IsDrafted, IsIn, IsStored, Sets, draft_header, file_flags, file_header, has_extent_at, is_held, log_header}
+use Rattle.coffee_merge.specs.Holding.{Entries, HoldsTable, IsDrafted, IsIn, IsStored, Sets, draft_header, file_flags, file_header, has_extent_at, is_held, log_header}
 use Rattle.coffee_merge.proofs.Holdings.{LogAt, draft_unit, extent_here, extent_read, file_unit, held_draft, held_in, held_set, holds_pages, is_in_set, log_here, log_unit}
 use Rattle.coffee_merge.proofs.Kept.{KeepsBody, body_byte, body_content, body_drafted, body_stored}
 use Rattle.coffee_merge.proofs.Retired.{OnlyFlags, body_flags}
@@ -45,7 +45,7 @@ file_done : (log : Option PageId) → file_flags log ≡ 2 → ⊥
 file_done None e = absurd (omega arith)
 file_done (Some l) e = absurd (omega arith)
 
-held_header : (image : List ℕ) (table : Entries) (draft : Option FileAt) (i : ℕ) (e : FileAt) (q : ℕ) → Holds image table draft → IsIn table i e → has_extent_at q (Some e) ≡ true → HeldHeader image e q
+held_header : (image : List ℕ) (table : Entries) (draft : Option FileAt) (i : ℕ) (e : FileAt) (q : ℕ) → HoldsTable image table draft → IsIn table i e → has_extent_at q (Some e) ≡ true → HeldHeader image e q
 held_header image table draft i e q h is t =
     ⊎_elim
     (λ (a : e.page.0 ≡ q). record { header = file_header e; active = ap (active_at (units_of image)) (sym a) ∙ h.files i e is; name = refl; done = file_done e.log })
@@ -56,7 +56,7 @@ one_header : (g k : Header) (o : Option Header) → o ≡ Some g → o ≡ Some 
 one_header g k o e f = let both : Some g ≡ Some k = sym e ∙ f in cc
 
 -- files of two places begin no extent at one page
-two_places : (image : List ℕ) (table : Entries) (draft : Option FileAt) (i j : ℕ) (e d : FileAt) (q : ℕ) → Holds image table draft → IsIn table i e → IsIn table j d → j ≢ i → has_extent_at q (Some e) ≡ true → has_extent_at q (Some d) ≡ true → ⊥
+two_places : (image : List ℕ) (table : Entries) (draft : Option FileAt) (i j : ℕ) (e d : FileAt) (q : ℕ) → HoldsTable image table draft → IsIn table i e → IsIn table j d → j ≢ i → has_extent_at q (Some e) ≡ true → has_extent_at q (Some d) ≡ true → ⊥
 two_places image table draft i j e d q h is other differ t s =
     let a = held_header image table draft i e q h is t in
     let b = held_header image table draft j d q h other s in
@@ -64,7 +64,7 @@ two_places image table draft i j e d q h is other differ t s =
     differ (h.names j i d e other is (sym b.name ∙ ap (λ (g : Header). g.name) same ∙ a.name))
 
 -- nor do a file and the draft
-pub file_and_draft : (image : List ℕ) (table : Entries) (draft : Option FileAt) (i : ℕ) (e : FileAt) (q : ℕ) → Holds image table draft → IsIn table i e → has_extent_at q (Some e) ≡ true → has_extent_at q draft ≡ true → ⊥
+pub file_and_draft : (image : List ℕ) (table : Entries) (draft : Option FileAt) (i : ℕ) (e : FileAt) (q : ℕ) → HoldsTable image table draft → IsIn table i e → has_extent_at q (Some e) ≡ true → has_extent_at q draft ≡ true → ⊥
 file_and_draft image table None i e q h is t s = cc
 file_and_draft image table (Some d) i e q h is t s =
     let a = held_header image table (Some d) i e q h is t in
@@ -78,16 +78,16 @@ file_and_draft image table (Some d) i e q h is t s =
 -- BYTES
 
 -- the files and the draft keep the bytes behind their headers
-pub file_body : (old new : List ℕ) (table : Entries) (draft : Option FileAt) (k : ℕ) (e : FileAt) → Holds old table draft → OnlyFlags old new (units_of old) → IsIn table k e → KeepsBody old new e.page.0 e.pages e.log
+pub file_body : (old new : List ℕ) (table : Entries) (draft : Option FileAt) (k : ℕ) (e : FileAt) → HoldsTable old table draft → OnlyFlags old new (units_of old) → IsIn table k e → KeepsBody old new e.page.0 e.pages e.log
 file_body old new table draft k e h only is =
     body_flags old new (units_of old) e.page.0 (file_header e) (log_header e.name) e.log (holds_pages old table draft h) only (file_unit old table draft k e h is) (λ l log. log_unit old table draft k e l h is log) refl
 
-pub draft_body : (old new : List ℕ) (table : Entries) (d : FileAt) → Holds old table (Some d) → OnlyFlags old new (units_of old) → KeepsBody old new d.page.0 d.pages None
+pub draft_body : (old new : List ℕ) (table : Entries) (d : FileAt) → HoldsTable old table (Some d) → OnlyFlags old new (units_of old) → KeepsBody old new d.page.0 d.pages None
 draft_body old new table d h only =
     body_flags old new (units_of old) d.page.0 (draft_header d) (log_header d.name) None (holds_pages old table (Some d) h) only (draft_unit old table d h) (λ l log. cc) refl
 
 -- a draft whose last byte is not zero is stored as a file
-drafted_stored : (old new : List ℕ) (table : Entries) (d : FileAt) → Holds old table (Some d) → length new ≡ length old → OnlyFlags old new (units_of old) → (1 ≤ d.size → file_byte new d.page.0 None (d.size - 1) ≢ 0) → IsStored new (record d { used = 0 })
+drafted_stored : (old new : List ℕ) (table : Entries) (d : FileAt) → HoldsTable old table (Some d) → length new ≡ length old → OnlyFlags old new (units_of old) → (1 ≤ d.size → file_byte new d.page.0 None (d.size - 1) ≢ 0) → IsStored new (record d { used = 0 })
 drafted_stored old new table d h long only last =
     let s : IsDrafted new d = body_drafted old new d long (draft_body old new table d h only) (h.drafted d refl) in
     let fits = s.fits in
@@ -110,7 +110,7 @@ committed_extent None q t = t
 committed_extent (Some d) q t = t
 
 -- what is active afterwards is held
-turned_held : (old new : List ℕ) (table : Entries) (draft : Option FileAt) (i : ℕ) (page : ℕ) (g : Header) → Holds old table draft → Turned old new table draft i → active_at (units_of new) page ≡ Some g → is_held table draft page ≡ true
+turned_held : (old new : List ℕ) (table : Entries) (draft : Option FileAt) (i : ℕ) (page : ℕ) (g : Header) → HoldsTable old table draft → Turned old new table draft i → active_at (units_of new) page ≡ Some g → is_held table draft page ≡ true
 turned_held old new table draft i page g h t is =
     ⊎_elim
     (λ (held : is_held table draft page ≡ true). held)
@@ -134,7 +134,7 @@ turned_gone old new table draft i page g e t is in_place here =
     (extent_read page e here)
 
 -- at those of the files in other places nothing changes
-turned_same : (old new : List ℕ) (table : Entries) (draft : Option FileAt) (i k : ℕ) (e : FileAt) (q : ℕ) → Holds old table draft → Turned old new table draft i → k ≢ i → IsIn table k e → has_extent_at q (Some e) ≡ true → active_at (units_of new) q ≡ active_at (units_of old) q
+turned_same : (old new : List ℕ) (table : Entries) (draft : Option FileAt) (i k : ℕ) (e : FileAt) (q : ℕ) → HoldsTable old table draft → Turned old new table draft i → k ≢ i → IsIn table k e → has_extent_at q (Some e) ≡ true → active_at (units_of new) q ≡ active_at (units_of old) q
 turned_same old new table draft i k e q h t differ is here =
     t.others q (λ f in_place there. two_places old table draft i k f e q h in_place is differ there here) (λ there. file_and_draft old table draft k e q h is here there)
 
@@ -146,7 +146,7 @@ IsNewTo table i draft = (k : ℕ) (e d : FileAt) → k ≢ i → IsIn table k e 
 abbrev pub EndsWith : List ℕ → Option FileAt → Type 0
 EndsWith image draft = (d : FileAt) → draft ≡ Some d → 1 ≤ d.size → file_byte image d.page.0 None (d.size - 1) ≢ 0
 
-turned_names : (old : List ℕ) (table : Entries) (draft : Option FileAt) (i j k : ℕ) (e f : FileAt) → Holds old table draft → IsNewTo table i draft → IsIn (set table i (committed draft)) j e → IsIn (set table i (committed draft)) k f → e.name ≡ f.name → j ≡ k
+turned_names : (old : List ℕ) (table : Entries) (draft : Option FileAt) (i j k : ℕ) (e f : FileAt) → HoldsTable old table draft → IsNewTo table i draft → IsIn (set table i (committed draft)) j e → IsIn (set table i (committed draft)) k f → e.name ≡ f.name → j ≡ k
 turned_names old table draft i j k e f h fresh is other same =
     ⊎_elim
     (λ (a : (j ≡ i) × (committed draft ≡ Some e)). ⊎_elim
@@ -159,25 +159,25 @@ turned_names old table draft i j k e f h fresh is other same =
     (is_in_set table i (committed draft) k f other))
     (is_in_set table i (committed draft) j e is)
 
-turned_stored : (old new : List ℕ) (table : Entries) (draft : Option FileAt) (i k : ℕ) (e : FileAt) → Holds old table draft → Turned old new table draft i → EndsWith old draft → IsIn (set table i (committed draft)) k e → IsStored new e
+turned_stored : (old new : List ℕ) (table : Entries) (draft : Option FileAt) (i k : ℕ) (e : FileAt) → HoldsTable old table draft → Turned old new table draft i → EndsWith old draft → IsIn (set table i (committed draft)) k e → IsStored new e
 turned_stored old new table draft i k e h t ends is =
     ⊎_elim
     (λ (a : (k ≡ i) × (committed draft ≡ Some e)). committed_is draft e (IsStored new) a.1 (λ d drafted.
-    let hd : Holds old table (Some d) = subst (λ o. Holds old table o) drafted h in
+    let hd : HoldsTable old table (Some d) = subst (λ o. HoldsTable old table o) drafted h in
     let room = (hd.drafted d refl).fits.size in
     drafted_stored old new table d hd t.long t.bytes
     (λ some none. ends d drafted some (sym (body_byte old new d.page.0 d.pages None (d.size - 1) t.long (draft_body old new table d hd t.bytes) (omega arith)) ∙ none))))
     (λ (a : (k ≢ i) × IsIn table k e). body_stored old new e t.long (file_body old new table draft k e h t.bytes a.1) (h.stored k e a.1))
     (is_in_set table i (committed draft) k e is)
 
-turned_files : (old new : List ℕ) (table : Entries) (draft : Option FileAt) (i k : ℕ) (e : FileAt) → Holds old table draft → Turned old new table draft i → IsIn (set table i (committed draft)) k e → active_at (units_of new) e.page.0 ≡ Some (file_header e)
+turned_files : (old new : List ℕ) (table : Entries) (draft : Option FileAt) (i k : ℕ) (e : FileAt) → HoldsTable old table draft → Turned old new table draft i → IsIn (set table i (committed draft)) k e → active_at (units_of new) e.page.0 ≡ Some (file_header e)
 turned_files old new table draft i k e h t is =
     ⊎_elim
     (λ (a : (k ≡ i) × (committed draft ≡ Some e)). committed_is draft e (λ (x : FileAt). active_at (units_of new) x.page.0 ≡ Some (file_header x)) a.1 t.drafted)
     (λ (a : (k ≢ i) × IsIn table k e). turned_same old new table draft i k e e.page.0 h t a.0 a.1 (extent_here e.page.0 e refl) ∙ h.files k e a.1)
     (is_in_set table i (committed draft) k e is)
 
-turned_logs : (old new : List ℕ) (table : Entries) (draft : Option FileAt) (i k : ℕ) (e : FileAt) (l : PageId) → Holds old table draft → Turned old new table draft i → IsIn (set table i (committed draft)) k e → e.log ≡ Some l → active_at (units_of new) l.0 ≡ Some (log_header e.name)
+turned_logs : (old new : List ℕ) (table : Entries) (draft : Option FileAt) (i k : ℕ) (e : FileAt) (l : PageId) → HoldsTable old table draft → Turned old new table draft i → IsIn (set table i (committed draft)) k e → e.log ≡ Some l → active_at (units_of new) l.0 ≡ Some (log_header e.name)
 turned_logs old new table draft i k e l h t is log =
     ⊎_elim
     (λ (a : (k ≡ i) × (committed draft ≡ Some e)).
@@ -186,7 +186,7 @@ turned_logs old new table draft i k e l h t is log =
     (is_in_set table i (committed draft) k e is)
 
 -- the table after the change is held, and all other files have their content
-pub turned_sets : (old new : List ℕ) (table : Entries) (draft : Option FileAt) (i : ℕ) → Holds old table draft → i < length table → Turned old new table draft i → IsNewTo table i draft → EndsWith old draft → Sets old new table i (committed draft)
+pub turned_sets : (old new : List ℕ) (table : Entries) (draft : Option FileAt) (i : ℕ) → HoldsTable old table draft → i < length table → Turned old new table draft i → IsNewTo table i draft → EndsWith old draft → Sets old new table i (committed draft)
 turned_sets old new table draft i h inside t fresh ends =
     let whole = h.whole in
     let long = t.long in

@@ -1,4 +1,4 @@
--- Holds: a table of files, in any order, and a draft say just which extents of an image are active,
+-- HoldsTable: a table of files, in any order, and a draft say just which extents of an image are active,
 -- and what these hold.
 use Rattle.std.specs.Prelude.{◌≡◌, ◌≢◌, ℕ, ◌+◌, ◌-◌, ◌*◌, ◌<◌, ◌≤◌, Bool, true, false, ◌&&◌, ◌||◌, ◌==◌, nat_le, List, length, get_or, set, slice_index_or, Option, Some, None}
 use Rattle.std.specs.List.{list_any}
@@ -103,7 +103,7 @@ pub record IsDrafted (image : List ℕ) (d : FileAt) : Type 0 where
   pub no_log : d.log ≡ None
 
 -- the active extents of an image are those of the files in the table, of their logs, and of the draft
-pub record Holds (image : List ℕ) (table : Entries) (draft : Option FileAt) : Type 0 where
+pub record HoldsTable (image : List ℕ) (table : Entries) (draft : Option FileAt) : Type 0 where
   pub whole : 256 * pages_of image ≡ length image
   pub tiled : broken_tiling (building_of draft) image ≡ None
   pub files : (i : ℕ) (e : FileAt) → IsIn table i e → active_at (units_of image) e.page.0 ≡ Some (file_header e)
@@ -125,8 +125,8 @@ abbrev pub KeepsContent : (old new : List ℕ) → FileAt → Type 0
 KeepsContent old new e = (p : ℕ) → p + 32 < 256 * e.pages → file_byte new e.page.0 e.log p ≡ file_byte old e.page.0 e.log p
 
 -- and so has each file of the table
-abbrev pub KeepsAll : (old new : List ℕ) → Entries → Type 0
-KeepsAll old new table = (i : ℕ) (e : FileAt) → IsIn table i e → KeepsContent old new e
+abbrev pub KeepsContents : (old new : List ℕ) → Entries → Type 0
+KeepsContents old new table = (i : ℕ) (e : FileAt) → IsIn table i e → KeepsContent old new e
 
 -- and each but that in a place
 abbrev pub KeepsOthers : (old new : List ℕ) → Entries → ℕ → Type 0
@@ -134,31 +134,31 @@ KeepsOthers old new table i = (k : ℕ) (e : FileAt) → k ≢ i → IsIn table 
 
 -- the files are held as they were, and have their content
 pub record Stays (old new : List ℕ) (table : Entries) : Type 0 where
-  pub holds : Holds new table None
-  pub kept : KeepsAll old new table
+  pub holds : HoldsTable new table None
+  pub kept : KeepsContents old new table
 
 -- a file is under construction, and has no byte but 0 yet; all files have their content
-pub record Begins (old new : List ℕ) (table : Entries) (d : FileAt) : Type 0 where
-  pub holds : Holds new table (Some d)
+pub record BeginsExtent (old new : List ℕ) (table : Entries) (d : FileAt) : Type 0 where
+  pub holds : HoldsTable new table (Some d)
   pub zeros : (p : ℕ) → p + 32 < 256 * d.pages → file_byte new d.page.0 None p ≡ 0
-  pub kept : KeepsAll old new table
+  pub kept : KeepsContents old new table
 
 -- the file under construction has bytes from a place on; all files have their content
 pub record Writes (old new : List ℕ) (table : Entries) (d : FileAt) (at : ℕ) (bytes : List ℕ) : Type 0 where
-  pub holds : Holds new table (Some d)
+  pub holds : HoldsTable new table (Some d)
   pub put : Puts (file_byte old d.page.0 None) (file_byte new d.page.0 None) (256 * d.pages - 32) at bytes
-  pub kept : KeepsAll old new table
+  pub kept : KeepsContents old new table
 
 -- the file under construction has the first n bytes of a file; all files have their content
 pub record Copies (old new : List ℕ) (table : Entries) (d from : FileAt) (n : ℕ) : Type 0 where
-  pub holds : Holds new table (Some d)
+  pub holds : HoldsTable new table (Some d)
   pub same : (p : ℕ) → p < n → file_byte new d.page.0 None p ≡ file_byte old from.page.0 from.log p
   pub zeros : (p : ℕ) → n ≤ p → p + 32 < 256 * d.pages → file_byte new d.page.0 None p ≡ 0
-  pub kept : KeepsAll old new table
+  pub kept : KeepsContents old new table
 
 -- a place of the table has an entry, or none, in place of what it had; all other files have their content
 pub record Sets (old new : List ℕ) (table : Entries) (i : ℕ) (now : Option FileAt) : Type 0 where
-  pub holds : Holds new (set table i now) None
+  pub holds : HoldsTable new (set table i now) None
   pub others : KeepsOthers old new table i
 
 -- a file has moved into another extent, with its bytes
@@ -168,17 +168,17 @@ pub record Moves (old new : List ℕ) (table : Entries) (i : ℕ) (from to : Fil
 
 -- a file under construction has n more bytes of a file, from a place on; all files have their content
 pub record CopiesPart (old new : List ℕ) (table : Entries) (d from : FileAt) (at n : ℕ) : Type 0 where
-  pub holds : Holds new table (Some d)
+  pub holds : HoldsTable new table (Some d)
   pub same : (p : ℕ) → at ≤ p → p < at + n → file_byte new d.page.0 None p ≡ file_byte old from.page.0 from.log p
   pub others : (p : ℕ) → p + 32 < 256 * d.pages → Outside at n p → file_byte new d.page.0 None p ≡ file_byte old d.page.0 None p
-  pub kept : KeepsAll old new table
+  pub kept : KeepsContents old new table
 
 -- no file of the table has the name
 abbrev pub IsNewName : Entries → List ℕ → Type 0
 IsNewName table name = (k : ℕ) (e : FileAt) → IsIn table k e → e.name ≢ name
 
 -- the file under construction is the file of a place, with its content; all other files have theirs
-pub record Commits (old new : List ℕ) (table : Entries) (i : ℕ) (d : FileAt) : Type 0 where
+pub record CommitsExtent (old new : List ℕ) (table : Entries) (i : ℕ) (d : FileAt) : Type 0 where
   pub sets : Sets old new table i (Some (record d { used = 0 }))
   pub content : (p : ℕ) → p + 32 < 256 * d.pages → file_byte new d.page.0 None p ≡ file_byte old d.page.0 None p
 

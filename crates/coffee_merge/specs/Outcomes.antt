@@ -4,7 +4,7 @@ use Rattle.afl_base.specs.declared.ids.PageId.{PageId}
 use Rattle.coffee_layout.specs.Marks.{IsCramped, IsLowestRun, free_pages}
 use Rattle.coffee_layout.specs.Tiling.{units_of}
 use Rattle.coffee_layout.specs.declared.file.FileAt.{FileAt}
-use Rattle.coffee_merge.specs.Holding.{Begins, Copies, Entries, Logs, Moves, Stays, TakesOnly}
+use Rattle.coffee_merge.specs.Holding.{BeginsExtent, Copies, Entries, Logs, Moves, Stays, TakesOnly}
 use Rattle.coffee_merge.specs.Takes.{KeepsFree, LooksIn, Takes}
 
 -- no space for so many pages was found, and all is left: the files are held as they were, no free page
@@ -25,7 +25,7 @@ pub record IsObtained (old new : List ℕ) (table : Entries) (pages page : ℕ) 
 
 -- a file is under construction in the lowest run of free pages, and takes no others
 pub record BeginsFile (old new : List ℕ) (table : Entries) (d : FileAt) : Type 0 where
-  pub begins : Begins old new table d
+  pub begins : BeginsExtent old new table d
   pub taken : TakesOnly old new d.page.0 d.pages
   pub lowest : Takes old new d.page.0 d.pages None
 

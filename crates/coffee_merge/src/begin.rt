@@ -6,7 +6,7 @@ ghost use Rattle.afl_base.specs.Image.{or_at, page_bytes};
 ghost use Rattle.afl_base.specs.Names.{is_file_name};
 ghost use Rattle.coffee_header.specs.Headers.{header_bytes, is_flags, is_kind};
 ghost use Rattle.coffee_layout.specs.Units.{pages_of};
-ghost use Rattle.coffee_merge.specs.Holding.{Entries, Holds, draft_header, extent_of, has_shape};
+ghost use Rattle.coffee_merge.specs.Holding.{Entries, HoldsTable, draft_header, extent_of, has_shape};
 ghost use Rattle.coffee_merge.specs.Outcomes.{BeginsFile, IsObtained, LeavesAll};
 
 use afl_base::{Failed, FileError, Flash, Kind, Name, PageId};
@@ -25,10 +25,10 @@ pub fn begin_extent<F: Flash>(
     requires some { 1 ≤ pages }
     requires shape { has_shape kind pages ≡ true }
     ensures begun { IsTrue F.tells → IfOk result
-        (λ page. (table : Entries) (size : ℕ) → Holds (F.image flash.old) table None → size + 32 ≤ 256 * pages
+        (λ page. (table : Entries) (size : ℕ) → HoldsTable (F.image flash.old) table None → size + 32 ≤ 256 * pages
         → BeginsFile (F.image flash.old) (F.image flash.new) table (extent_of name.now kind page.0 pages size)) }
     ensures left { IsTrue F.tells → OnSpace result
-        (λ need. (table : Entries) → Holds (F.image flash.old) table None
+        (λ need. (table : Entries) → HoldsTable (F.image flash.old) table None
         → LeavesAll (F.image flash.old) (F.image flash.new) table need) }
     ensures need { OnSpace result (λ need. need ≡ pages) }
     ensures inside { IfOk result (λ page. page.0 + pages ≤ pages_of (F.image flash.new)) }
@@ -43,10 +43,10 @@ pub fn begin_extent<F: Flash>(
 pub(crate) fn obtain_pages<F: Flash>(flash: &mut F, pages: u16) -> Result<PageId, FileError>
     requires some { 1 ≤ pages }
     ensures run { IsTrue F.tells → IfOk result
-        (λ page. (table : Entries) → Holds (F.image flash.old) table None
+        (λ page. (table : Entries) → HoldsTable (F.image flash.old) table None
         → IsObtained (F.image flash.old) (F.image flash.new) table pages page.0) }
     ensures left { IsTrue F.tells → OnSpace result
-        (λ need. (table : Entries) → Holds (F.image flash.old) table None
+        (λ need. (table : Entries) → HoldsTable (F.image flash.old) table None
         → LeavesAll (F.image flash.old) (F.image flash.new) table need) }
     ensures need { OnSpace result (λ need. need ≡ pages) }
     ensures inside { IfOk result (λ page. 256 * (page.0 + pages) ≤ length (F.image flash.new)) }

@@ -7,7 +7,7 @@ ghost use Rattle.coffee_layout.specs.Units.{pages_of};
 ghost use Rattle.coffee_layout.specs.declared.file.FileAt.{FileAt};
 ghost use Rattle.coffee_merge.specs.CutMarks.{IsCutObsolete, IsCutReplace, IsOneOf};
 ghost use Rattle.coffee_merge.specs.Flags.{flagged, obsoleted};
-ghost use Rattle.coffee_merge.specs.Holding.{Commits, Entries, Holds, IsIn, IsNewName, Sets, TakesOnly};
+ghost use Rattle.coffee_merge.specs.Holding.{CommitsExtent, Entries, HoldsTable, IsIn, IsNewName, Sets, TakesOnly};
 ghost use Rattle.coffee_merge.specs.Takes.{KeepsFree};
 
 use afl_base::{Failed, Flash, PageId};
@@ -18,12 +18,12 @@ use coffee_layout::FileAt;
 pub fn commit_extent<F: Flash>(flash: &mut F, page: PageId) -> Result<(), Failed>
     requires page { 256 * page.0 + 256 ≤ length (F.image flash.old) }
     ensures committed { IsTrue F.tells → OnOk result
-        ((table : Entries) (d : FileAt) (i : ℕ) → Holds (F.image flash.old) table (Some d)
+        ((table : Entries) (d : FileAt) (i : ℕ) → HoldsTable (F.image flash.old) table (Some d)
         → d.page ≡ page → i < length table → get_or table i None ≡ None → IsNewName table d.name
         → (1 ≤ d.size → file_byte (F.image flash.old) page.0 None (d.size - 1) ≢ 0)
-        → Commits (F.image flash.old) (F.image flash.new) table i d) }
+        → CommitsExtent (F.image flash.old) (F.image flash.new) table i d) }
     ensures free { IsTrue F.tells → OnOk result
-        ((table : Entries) (d : FileAt) → Holds (F.image flash.old) table (Some d) → d.page ≡ page
+        ((table : Entries) (d : FileAt) → HoldsTable (F.image flash.old) table (Some d) → d.page ≡ page
         → KeepsFree (F.image flash.old) (F.image flash.new)) }
     ensures other_pages { IsTrue F.tells → (p : ℕ) → p ≢ page.0
         → page_bytes (F.image flash.new) p ≡ page_bytes (F.image flash.old) p }
@@ -41,12 +41,12 @@ pub fn replace_file<F: Flash>(flash: &mut F, page: PageId, old: &FileAt) -> Resu
     requires page { 256 * page.0 + 256 ≤ length (F.image flash.old) }
     requires fits { FitsIn (pages_of (F.image flash.old)) old.now }
     ensures replaced { IsTrue F.tells → OnOk result
-        ((table : Entries) (d : FileAt) (i : ℕ) → Holds (F.image flash.old) table (Some d)
+        ((table : Entries) (d : FileAt) (i : ℕ) → HoldsTable (F.image flash.old) table (Some d)
         → d.page ≡ page → IsIn table i old.now → old.now.name ≡ d.name
         → (1 ≤ d.size → file_byte (F.image flash.old) page.0 None (d.size - 1) ≢ 0)
-        → Commits (F.image flash.old) (F.image flash.new) table i d) }
+        → CommitsExtent (F.image flash.old) (F.image flash.new) table i d) }
     ensures free { IsTrue F.tells → OnOk result
-        ((table : Entries) (d : FileAt) (i : ℕ) → Holds (F.image flash.old) table (Some d)
+        ((table : Entries) (d : FileAt) (i : ℕ) → HoldsTable (F.image flash.old) table (Some d)
         → d.page ≡ page → IsIn table i old.now → KeepsFree (F.image flash.old) (F.image flash.new)) }
     ensures other_pages { IsTrue F.tells → (p : ℕ) → p ≢ page.0 → p ≢ old.now.page.0
         → ((l : PageId) → old.now.log ≡ Some l → p ≢ l.0)
@@ -67,10 +67,10 @@ pub fn replace_file<F: Flash>(flash: &mut F, page: PageId, old: &FileAt) -> Resu
 pub fn retire_file<F: Flash>(flash: &mut F, file: &FileAt) -> Result<(), Failed>
     requires fits { FitsIn (pages_of (F.image flash.old)) file.now }
     ensures retired { IsTrue F.tells → OnOk result
-        ((table : Entries) (i : ℕ) → Holds (F.image flash.old) table None → IsIn table i file.now
+        ((table : Entries) (i : ℕ) → HoldsTable (F.image flash.old) table None → IsIn table i file.now
         → Sets (F.image flash.old) (F.image flash.new) table i None) }
     ensures taken { IsTrue F.tells → OnOk result
-        ((table : Entries) (i : ℕ) → Holds (F.image flash.old) table None → IsIn table i file.now
+        ((table : Entries) (i : ℕ) → HoldsTable (F.image flash.old) table None → IsIn table i file.now
         → TakesOnly (F.image flash.old) (F.image flash.new) 0 0) }
     ensures other_pages { IsTrue F.tells → (p : ℕ) → p ≢ file.now.page.0
         → ((l : PageId) → file.now.log ≡ Some l → p ≢ l.0)

@@ -5,7 +5,7 @@ ghost use Rattle.coffee_layout.specs.Files.{FitsIn};
 ghost use Rattle.coffee_layout.specs.Units.{pages_of};
 ghost use Rattle.coffee_layout.specs.declared.file.FileAt.{FileAt};
 ghost use Rattle.coffee_merge.specs.CutMarks.{KeepsHead};
-ghost use Rattle.coffee_merge.specs.Holding.{CopiesPart, Entries, Holds, IsIn, Writes};
+ghost use Rattle.coffee_merge.specs.Holding.{CopiesPart, Entries, HoldsTable, IsIn, Writes};
 ghost use Rattle.coffee_merge.specs.Outcomes.{CopiesFile};
 ghost use Rattle.coffee_merge.specs.Takes.{KeepsFree, KeepsPagesBut};
 
@@ -26,12 +26,12 @@ pub fn write_extent<F: Flash>(
     requires placed { page.0 + pages ≤ pages_of (F.image flash.old) }
     requires fits { at + length bytes.now + 32 ≤ 256 * pages }
     ensures written { IsTrue F.tells → OnOk result
-        ((table : Entries) (d : FileAt) → Holds (F.image flash.old) table (Some d) → d.page ≡ page
+        ((table : Entries) (d : FileAt) → HoldsTable (F.image flash.old) table (Some d) → d.page ≡ page
         → d.pages ≡ pages → at + length bytes.now ≤ d.size
         → ((k : ℕ) → k < length bytes.now → file_byte (F.image flash.old) page.0 None (at + k) ≡ 0)
         → Writes (F.image flash.old) (F.image flash.new) table d at bytes.now) }
     ensures free { IsTrue F.tells → OnOk result
-        ((table : Entries) (d : FileAt) → Holds (F.image flash.old) table (Some d) → d.page ≡ page
+        ((table : Entries) (d : FileAt) → HoldsTable (F.image flash.old) table (Some d) → d.page ≡ page
         → d.pages ≡ pages → KeepsFree (F.image flash.old) (F.image flash.new)) }
     ensures other_pages { IsTrue F.tells
         → KeepsPagesBut (F.image flash.old) (F.image flash.new) page.0 pages None }
@@ -54,7 +54,7 @@ pub fn copy_file<F: Flash>(
     requires placed { page.0 + pages ≤ pages_of (F.image flash.old) }
     requires fits { from.now.size + 32 ≤ 256 * pages }
     ensures copied { IsTrue F.tells → OnOk result
-        ((table : Entries) (d : FileAt) (i : ℕ) → Holds (F.image flash.old) table (Some d)
+        ((table : Entries) (d : FileAt) (i : ℕ) → HoldsTable (F.image flash.old) table (Some d)
         → d.page ≡ page → d.pages ≡ pages → d.size ≡ from.now.size → IsIn table i from.now
         → ((p : ℕ) → p + 32 < 256 * pages → file_byte (F.image flash.old) page.0 None p ≡ 0)
         → CopiesFile (F.image flash.old) (F.image flash.new) table d from.now) }
@@ -88,12 +88,12 @@ fn copy_part<F: Flash>(
     requires placed { page.0 + pages ≤ pages_of (F.image flash.old) }
     requires fits { from.now.size + 32 ≤ 256 * pages }
     ensures copied { IsTrue F.tells → OnOk result
-        ((table : Entries) (d : FileAt) (i : ℕ) → Holds (F.image flash.old) table (Some d)
+        ((table : Entries) (d : FileAt) (i : ℕ) → HoldsTable (F.image flash.old) table (Some d)
         → d.page ≡ page → d.pages ≡ pages → d.size ≡ from.now.size → IsIn table i from.now
         → ((p : ℕ) → at ≤ p → p + 32 < 256 * pages → file_byte (F.image flash.old) page.0 None p ≡ 0)
         → CopiesPart (F.image flash.old) (F.image flash.new) table d from.now at n) }
     ensures free { IsTrue F.tells → OnOk result
-        ((table : Entries) (d : FileAt) → Holds (F.image flash.old) table (Some d) → d.page ≡ page
+        ((table : Entries) (d : FileAt) → HoldsTable (F.image flash.old) table (Some d) → d.page ≡ page
         → d.pages ≡ pages → KeepsFree (F.image flash.old) (F.image flash.new)) }
     ensures other_pages { IsTrue F.tells
         → KeepsPagesBut (F.image flash.old) (F.image flash.new) page.0 pages None }

@@ -9,7 +9,7 @@ ghost use Rattle.coffee_layout.specs.Files.{FitsIn};
 ghost use Rattle.coffee_layout.specs.Units.{pages_of};
 ghost use Rattle.coffee_merge.specs.CutMarks.{IsCutNaming};
 ghost use Rattle.coffee_merge.specs.Flags.{flagged};
-ghost use Rattle.coffee_merge.specs.Holding.{Entries, Holds, IsIn, log_header};
+ghost use Rattle.coffee_merge.specs.Holding.{Entries, HoldsTable, IsIn, log_header};
 ghost use Rattle.coffee_merge.specs.Outcomes.{LeavesAll, LogsFile};
 
 use crate::begin::{obtain_pages, put_header};
@@ -23,11 +23,11 @@ use coffee_layout::FileAt;
 pub fn add_log<F: Flash>(flash: &mut F, file: &FileAt) -> Result<PageId, FileError>
     requires fits { FitsIn (pages_of (F.image flash.old)) file.now }
     ensures logged { IsTrue F.tells → IfOk result
-        (λ log. (table : Entries) (i : ℕ) → Holds (F.image flash.old) table None
+        (λ log. (table : Entries) (i : ℕ) → HoldsTable (F.image flash.old) table None
         → IsIn table i file.now → file.now.log ≡ None
         → LogsFile (F.image flash.old) (F.image flash.new) table i file.now log) }
     ensures left { IsTrue F.tells → OnSpace result
-        (λ need. (table : Entries) → Holds (F.image flash.old) table None
+        (λ need. (table : Entries) → HoldsTable (F.image flash.old) table None
         → LeavesAll (F.image flash.old) (F.image flash.new) table need) }
     ensures need { OnSpace result (λ need. need ≡ 16) }
     ensures inside { IfOk result (λ log. log.0 + 16 ≤ pages_of (F.image flash.new)) }

@@ -3,7 +3,7 @@ ghost use Rattle.afl_base.specs.FileErrors.{OnSpace};
 ghost use Rattle.afl_base.specs.Keeping.{ChangesFlashOrLacks};
 ghost use Rattle.coffee_layout.specs.Files.{FitsIn};
 ghost use Rattle.coffee_layout.specs.Units.{pages_of};
-ghost use Rattle.coffee_merge.specs.Holding.{Entries, Holds, IsIn, has_shape};
+ghost use Rattle.coffee_merge.specs.Holding.{Entries, HoldsTable, IsIn, has_shape};
 ghost use Rattle.coffee_merge.specs.Outcomes.{LeavesAll, MovesFile};
 
 use crate::begin::begin_extent;
@@ -20,11 +20,11 @@ pub fn merge<F: Flash>(flash: &mut F, file: &FileAt) -> Result<FileAt, FileError
     requires fits { FitsIn (pages_of (F.image flash.old)) file.now }
     requires shape { has_shape file.now.kind file.now.pages ≡ true }
     ensures moved { IsTrue F.tells → IfOk result
-        (λ to. (table : Entries) (i : ℕ) → Holds (F.image flash.old) table None → IsIn table i file.now
+        (λ to. (table : Entries) (i : ℕ) → HoldsTable (F.image flash.old) table None → IsIn table i file.now
         → MovesFile (F.image flash.old) (F.image flash.new) table i file.now to) }
     ensures entry { IfOk result (λ to. to ≡ record file.now { page = to.page; log = None; used = 0 }) }
     ensures left { IsTrue F.tells → OnSpace result
-        (λ need. (table : Entries) → Holds (F.image flash.old) table None
+        (λ need. (table : Entries) → HoldsTable (F.image flash.old) table None
         → LeavesAll (F.image flash.old) (F.image flash.new) table need) }
     ensures need { OnSpace result (λ need. need ≡ file.now.pages) }
     ensures inside { IfOk result (λ to. FitsIn (pages_of (F.image flash.new)) to) }
@@ -42,12 +42,12 @@ pub fn grow<F: Flash>(flash: &mut F, file: &FileAt) -> Result<FileAt, FileError>
     requires doubling { file.now.kind ≡ Kind.Doubling }
     requires few { file.now.pages ≤ 16384 }
     ensures moved { IsTrue F.tells → IfOk result
-        (λ to. (table : Entries) (i : ℕ) → Holds (F.image flash.old) table None → IsIn table i file.now
+        (λ to. (table : Entries) (i : ℕ) → HoldsTable (F.image flash.old) table None → IsIn table i file.now
         → MovesFile (F.image flash.old) (F.image flash.new) table i file.now to) }
     ensures entry { IfOk result
         (λ to. to ≡ record file.now { page = to.page; pages = 2 * file.now.pages; log = None; used = 0 }) }
     ensures left { IsTrue F.tells → OnSpace result
-        (λ need. (table : Entries) → Holds (F.image flash.old) table None
+        (λ need. (table : Entries) → HoldsTable (F.image flash.old) table None
         → LeavesAll (F.image flash.old) (F.image flash.new) table need) }
     ensures need { OnSpace result (λ need. need ≡ 2 * file.now.pages) }
     ensures inside { IfOk result (λ to. FitsIn (pages_of (F.image flash.new)) to) }
@@ -62,12 +62,12 @@ fn rewrite<F: Flash>(flash: &mut F, file: &FileAt, pages: u16) -> Result<FileAt,
     requires shape { has_shape file.now.kind pages ≡ true }
     requires holds { file.now.size + 32 ≤ 256 * pages }
     ensures moved { IsTrue F.tells → IfOk result
-        (λ to. (table : Entries) (i : ℕ) → Holds (F.image flash.old) table None → IsIn table i file.now
+        (λ to. (table : Entries) (i : ℕ) → HoldsTable (F.image flash.old) table None → IsIn table i file.now
         → MovesFile (F.image flash.old) (F.image flash.new) table i file.now to) }
     ensures entry { IfOk result
         (λ to. to ≡ record file.now { page = to.page; pages = pages; log = None; used = 0 }) }
     ensures left { IsTrue F.tells → OnSpace result
-        (λ need. (table : Entries) → Holds (F.image flash.old) table None
+        (λ need. (table : Entries) → HoldsTable (F.image flash.old) table None
         → LeavesAll (F.image flash.old) (F.image flash.new) table need) }
     ensures need { OnSpace result (λ need. need ≡ pages) }
     ensures inside { IfOk result (λ to. FitsIn (pages_of (F.image flash.new)) to) }

@@ -9,7 +9,7 @@ use Rattle.coffee_layout.specs.Units.{pages_of, size_of}
 use Rattle.coffee_layout.specs.declared.unit.Unit.{Unit}
 use Rattle.coffee_layout.proofs.Searches.{IsRead}
 use Rattle.coffee_space.specs.Collection.{touches}
-use Rattle.coffee_space.specs.Steps.{IsolatesPage, IsolatesPages, IsolatesSome, IsolatesSomePages, StaysOrIsolated, first_pages, is_chosen, is_part}
+use Rattle.coffee_space.specs.Steps.{IsolatesPage, IsolatesPages, IsolatesSome, IsolatesSomePages, StaysOrIsolated, unit_starts, is_chosen, is_part}
 use Rattle.coffee_space.specs.declared.part.Part.{Part}
 use Rattle.coffee_space.proofs.Isolating.{Isolating, isolating_reads}
 
@@ -78,9 +78,9 @@ isolating_some taken building part old now new us page u long inside i is pages 
     (λ (here : q < page + size_of u).
     let e : page + (q - page) ≡ q = omega arith in
     let within : q - page < size_of u = omega arith in
-    let first : get_or (first_pages us) q false ≡ (q - page == 0) = ap (λ k. get_or (first_pages us) k false) (sym e) ∙ s.firsts (q - page) within in
+    let first : get_or (unit_starts us) q false ≡ (q - page == 0) = ap (λ k. get_or (unit_starts us) k false) (sym e) ∙ s.firsts (q - page) within in
     let chosen : is_chosen taken part us q ≡ (touches taken page (size_of u) && is_part part (q - page == 0)) && not (taken (q / 16)) =
-    ap (λ c. (c && is_part part (get_or (first_pages us) q false)) && not (taken (q / 16))) (s.cuts taken q from here) ∙ ap (λ b. (touches taken page (size_of u) && is_part part b) && not (taken (q / 16))) first in
+    ap (λ c. (c && is_part part (get_or (unit_starts us) q false)) && not (taken (q / 16))) (s.cuts taken q from here) ∙ ap (λ b. (touches taken page (size_of u) && is_part part b) && not (taken (q / 16))) first in
     subst (λ c. StaysOrIsolated c old new q) (sym chosen)
     (stays_from ((touches taken page (size_of u) && is_part part (q - page == 0)) && not (taken (q / 16))) old now new q (i.same q from)
     (subst (λ p. StaysOrIsolated ((touches taken page (size_of u) && is_part part (q - page == 0)) && not (taken (p / 16))) now new p) e (pages.here (q - page) within))))

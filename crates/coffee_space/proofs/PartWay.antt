@@ -13,7 +13,7 @@ use Rattle.coffee_layout.proofs.Tests.{eq_false, false_eq, false_lt, lt_false, t
 use Rattle.coffee_space.specs.Collection.{KeepsActive, cut_pages, touches}
 use Rattle.coffee_space.proofs.ActiveExtents.{keeps_active}
 use Rattle.coffee_space.specs.Cutting.{IsCutOff, IsLoose, begun_pages}
-use Rattle.coffee_space.specs.Steps.{Erases, ErasesFrom, ErasesSome, Isolates, IsolatesSome, StaysOrIsolated, first_pages, is_chosen}
+use Rattle.coffee_space.specs.Steps.{Erases, ErasesFrom, ErasesSome, Isolates, IsolatesSome, StaysOrIsolated, unit_starts, is_chosen}
 use Rattle.coffee_space.specs.declared.part.Part.TheVariants.{Behind, Header}
 use Rattle.coffee_space.proofs.Beginning.{begins, heads_same, is_head, tiled_beginning}
 use Rattle.coffee_space.proofs.Collected.{chosen_parts}
@@ -35,7 +35,7 @@ pub record Here (us : List Unit) (page i : ℕ) : Type 0 where
   pub high : page + i < first + size_of unit
   pub cuts : (taken : ℕ → Bool) → get_or (cut_pages taken page us) i false ≡ touches taken first (size_of unit)
   pub given : (gives : ℕ → ℕ → Bool) → get_or (given_pages gives page us) i false ≡ gives first (size_of unit)
-  pub firsts : get_or (first_pages us) i false ≡ (page + i - first == 0)
+  pub firsts : get_or (unit_starts us) i false ≡ (page + i - first == 0)
 
 pub here_at : (us : List Unit) (page i : ℕ) → i < total us → Here us page i
 here_at [] page i h = absurd (omega arith)
@@ -49,7 +49,7 @@ here_at (u ∷ us) page i h = ⊎_elim
       high = omega arith;
       cuts = λ taken. marks_front (touches taken page (size_of u)) (cut_pages taken (page + size_of u) us) (size_of u) i here;
       given = λ gives. marks_front (gives page (size_of u)) (given_pages gives (page + size_of u) us) (size_of u) i here;
-      firsts = firsts_front (first_pages us) (size_of u) i here ∙ ap (λ k. k == 0) (sym e);
+      firsts = firsts_front (unit_starts us) (size_of u) i here ∙ ap (λ k. k == 0) (sym e);
     })
     (λ (past : size_of u ≤ i).
     let e : size_of u + (i - size_of u) ≡ i = omega arith in
@@ -62,7 +62,7 @@ here_at (u ∷ us) page i h = ⊎_elim
       high = omega (arith, there.high);
       cuts = λ taken. ap (λ k. get_or (cut_pages taken page (u ∷ us)) k false) (sym e) ∙ marks_behind (touches taken page (size_of u)) (cut_pages taken (page + size_of u) us) (size_of u) (i - size_of u) ∙ there.cuts taken;
       given = λ gives. ap (λ k. get_or (given_pages gives page (u ∷ us)) k false) (sym e) ∙ marks_behind (gives page (size_of u)) (given_pages gives (page + size_of u) us) (size_of u) (i - size_of u) ∙ there.given gives;
-      firsts = ap (λ k. get_or (first_pages (u ∷ us)) k false) (sym e) ∙ firsts_behind (first_pages us) (size_of u) (i - size_of u) ∙ there.firsts ∙ ap (λ k. k - there.first == 0) f;
+      firsts = ap (λ k. get_or (unit_starts (u ∷ us)) k false) (sym e) ∙ firsts_behind (unit_starts us) (size_of u) (i - size_of u) ∙ there.firsts ∙ ap (λ k. k - there.first == 0) f;
     })
     (cases_lt i (size_of u))
 
@@ -76,9 +76,9 @@ pub record PartWay (taken gone test : ℕ → Bool) (old new : List ℕ) (us : L
   pub begun : (p : ℕ) → gone (p / 16) ≡ true → test p ≡ true
   pub upward : (p q : ℕ) → test p ≡ true → p ≤ q → taken (q / 16) ≡ true → gone (q / 16) ≡ true
   pub erased : (q : ℕ) → q < pages_of old → gone (q / 16) ≡ true → page_bytes new q ≡ replicate 256 0
-  pub behind : (q : ℕ) → taken (q / 16) ≡ false → get_or (cut_pages taken 0 us) q false ≡ true → get_or (first_pages us) q false ≡ false → page_bytes new q ≡ or_at (page_bytes old q) 9 (34 ∷ [])
-  pub head : (q : ℕ) → taken (q / 16) ≡ false → get_or (cut_pages taken 0 us) q false ≡ true → get_or (first_pages us) q false ≡ true → test q ≡ true → page_bytes new q ≡ or_at (page_bytes old q) 9 (34 ∷ [])
-  pub stays : (q : ℕ) → gone (q / 16) ≡ false → get_or (first_pages us) q false ≡ true → get_or (cut_pages taken 0 us) q false && test q ≡ false → page_bytes new q ≡ page_bytes old q
+  pub behind : (q : ℕ) → taken (q / 16) ≡ false → get_or (cut_pages taken 0 us) q false ≡ true → get_or (unit_starts us) q false ≡ false → page_bytes new q ≡ or_at (page_bytes old q) 9 (34 ∷ [])
+  pub head : (q : ℕ) → taken (q / 16) ≡ false → get_or (cut_pages taken 0 us) q false ≡ true → get_or (unit_starts us) q false ≡ true → test q ≡ true → page_bytes new q ≡ or_at (page_bytes old q) 9 (34 ∷ [])
+  pub stays : (q : ℕ) → gone (q / 16) ≡ false → get_or (unit_starts us) q false ≡ true → get_or (cut_pages taken 0 us) q false && test q ≡ false → page_bytes new q ≡ page_bytes old q
   pub others : (q : ℕ) → taken (q / 16) ≡ false → get_or (cut_pages taken 0 us) q false ≡ false → page_bytes new q ≡ page_bytes old q
 
 giving_part : (taken gone test : ℕ → Bool) (old new : List ℕ) (us : List Unit) → PartWay taken gone test old new us → Giving (part_way taken test) gone
@@ -94,7 +94,7 @@ giving_part taken gone test old new us w = record {
       w.upward page page parts.1 (omega arith) (touches_single taken page parts.0);
 }
 
-first_is : (us : List Unit) (i : ℕ) (h : Here us 0 i) → get_or (first_pages us) i false ≡ true → h.first ≡ i
+first_is : (us : List Unit) (i : ℕ) (h : Here us 0 i) → get_or (unit_starts us) i false ≡ true → h.first ≡ i
 first_is us i h f =
     let low = h.low in
     let e = true_eq (0 + i - h.first) 0 (sym h.firsts ∙ f) in
@@ -116,9 +116,9 @@ left_part taken gone test old new us w = record {
       (true_or_false (taken (i / 16))) in
       subst (λ q. page_bytes new q ≡ or_at (page_bytes old q) 9 (34 ∷ [])) e
       (⊎_elim
-      (λ (f : get_or (first_pages us) i false ≡ true). w.head i apart cut f (ap test (sym (first_is us i h f)) ∙ parts.1))
-      (λ (f : get_or (first_pages us) i false ≡ false). w.behind i apart cut f)
-      (true_or_false (get_or (first_pages us) i false)));
+      (λ (f : get_or (unit_starts us) i false ≡ true). w.head i apart cut f (ap test (sym (first_is us i h f)) ∙ parts.1))
+      (λ (f : get_or (unit_starts us) i false ≡ false). w.behind i apart cut f)
+      (true_or_false (get_or (unit_starts us) i false)));
   kept = λ i inside out g f.
       let e : i ≡ 0 + i = omega arith in
       let h = here_at us 0 i inside in
@@ -165,12 +165,12 @@ keeps_behind taken building old new us same long tiled i =
       isolated = λ k inside out g. absurd (true_false (get_or (given_pages (λ p n. false) 0 us) k false) g ((here_at us 0 k inside).given (λ p n. false)));
       kept = λ k inside out g f.
           let e : k ≡ 0 + k = omega arith in
-          subst (λ q. page_bytes new q ≡ page_bytes old q) e (stays k (first_unchosen (get_or (cut_pages taken 0 us) k false) (get_or (first_pages us) k false) (not (taken (k / 16))) f));
+          subst (λ q. page_bytes new q ≡ page_bytes old q) e (stays k (first_unchosen (get_or (cut_pages taken 0 us) k false) (get_or (unit_starts us) k false) (not (taken (k / 16))) f));
     } in
     keeps_active building old new us us
     (subst (λ vs. IsTiled building new vs) (after_none us 0) (tiled_after (λ p n. false) (λ s. false) building old new us (record { stays = λ page n some none. refl; single = λ page (g : false ≡ true). cc }) long tiled left))
     refl
-    (λ page a. stays page (whole_unchosen (get_or (cut_pages taken 0 us) page false) (not (get_or (first_pages us) page false)) (not (taken (page / 16))) (active_whole taken us same page a).1))
+    (λ page a. stays page (whole_unchosen (get_or (cut_pages taken 0 us) page false) (not (get_or (unit_starts us) page false)) (not (taken (page / 16))) (active_whole taken us same page a).1))
 
 -- STEP 2: SECTORS ARE ERASED FROM THE LAST ON
 
@@ -201,11 +201,11 @@ erasing_part taken old mid new us sector long i e =
           let from : sector ≤ p / 16 = gone_low taken sector (p / 16) g in
           gone_is taken sector (q / 16) t (omega arith);
       erased = λ q inside g. e.erased q (omega arith) (gone_low taken sector (q / 16) g) (both_parts (taken (q / 16)) (not (nat_lt (q / 16) sector)) g).0;
-      behind = λ q t c f. untaken q t ∙ (i q).isolated (behind_chosen (get_or (cut_pages taken 0 us) q false) (get_or (first_pages us) q false) (taken (q / 16)) c f t);
+      behind = λ q t c f. untaken q t ∙ (i q).isolated (behind_chosen (get_or (cut_pages taken 0 us) q false) (get_or (unit_starts us) q false) (taken (q / 16)) c f t);
       head = λ q t c f g. absurd (true_false (taken (q / 16)) (both_parts (taken (q / 16)) (not (nat_lt (q / 16) sector)) g).0 t);
       stays = λ q g f none. e.kept q (λ low u. absurd (true_false (gone_from taken sector (q / 16)) (gone_is taken sector (q / 16) u low) g))
-          ∙ unchosen q (first_unchosen (get_or (cut_pages taken 0 us) q false) (get_or (first_pages us) q false) (not (taken (q / 16))) f);
-      others = λ q t c. untaken q t ∙ unchosen q (whole_unchosen (get_or (cut_pages taken 0 us) q false) (not (get_or (first_pages us) q false)) (not (taken (q / 16))) c);
+          ∙ unchosen q (first_unchosen (get_or (cut_pages taken 0 us) q false) (get_or (unit_starts us) q false) (not (taken (q / 16))) f);
+      others = λ q t c. untaken q t ∙ unchosen q (whole_unchosen (get_or (cut_pages taken 0 us) q false) (not (get_or (unit_starts us) q false)) (not (taken (q / 16))) c);
     }
 
 -- an erase that broke off leaves the other sectors as they were
@@ -271,7 +271,7 @@ loose_behind taken building old mid new us long tiled i e q inside high g =
     (λ (t : taken (q / 16) ≡ true). inl (still ∙ e.from.erased q (omega arith) (omega arith) t))
     (λ (t : taken (q / 16) ≡ false).
     let exists : 256 * q + 256 ≤ length old = omega arith in
-    let is = still ∙ e.from.kept q (λ a u. absurd (true_false (taken (q / 16)) u t)) ∙ (i q).isolated (behind_chosen (get_or (cut_pages taken 0 us) q false) (get_or (first_pages us) q false) (taken (q / 16)) cut first t) in
+    let is = still ∙ e.from.kept q (λ a u. absurd (true_false (taken (q / 16)) u t)) ∙ (i q).isolated (behind_chosen (get_or (cut_pages taken 0 us) q false) (get_or (unit_starts us) q false) (taken (q / 16)) cut first t) in
     inr (ap (λ bytes. unit_of (take 32 bytes)) is ∙ isolated_unit (page_bytes old q) (length_range old (256 * q) (256 * q + 256) exists ∙ omega arith)))
     (true_or_false (taken (q / 16)))
 
@@ -328,14 +328,14 @@ headless_part taken old mid late new us long i e h =
     let vs = units_after (begins taken) taken 0 us in
     let heads : (q : ℕ) → taken (q / 16) ≡ false → is_head taken 0 vs q ≡ is_head taken 0 us q = λ q out.
     let f : q ≡ 0 + q = omega arith in heads_same taken us 0 q (ap (λ p. taken (p / 16)) (sym f) ∙ out) in
-    let chosen : (q : ℕ) (c f : Bool) → taken (q / 16) ≡ false → get_or (cut_pages taken 0 us) q false ≡ c → get_or (first_pages us) q false ≡ f → (is_chosen taken Behind us q ≡ c && not f) × (is_chosen taken Header vs q ≡ c && f) =
+    let chosen : (q : ℕ) (c f : Bool) → taken (q / 16) ≡ false → get_or (cut_pages taken 0 us) q false ≡ c → get_or (unit_starts us) q false ≡ f → (is_chosen taken Behind us q ≡ c && not f) × (is_chosen taken Header vs q ≡ c && f) =
     λ q c f out ce fe. chosen_parts taken us vs q c f out ce fe (heads q out) in
     let kept : (q : ℕ) → is_chosen taken Header vs q ≡ false → page_bytes new q ≡ page_bytes late q = λ q none. unchosen_stays (is_chosen taken Header vs q) late new q none (h q) in
     record {
       within = λ s t. t;
       begun = λ p t. or_taken (taken (p / 16)) (side (h p)) t;
       upward = λ p q t low u. u;
-      erased = λ q inside t. kept q (taken_unchosen (get_or (cut_pages taken 0 vs) q false && get_or (first_pages vs) q false) (taken (q / 16)) t) ∙ e.erased q (omega arith) t;
+      erased = λ q inside t. kept q (taken_unchosen (get_or (cut_pages taken 0 vs) q false && get_or (unit_starts vs) q false) (taken (q / 16)) t) ∙ e.erased q (omega arith) t;
       behind = λ q t c f. let p = chosen q true false t c f in kept q p.1 ∙ e.kept q t ∙ (i q).isolated p.0;
       head = λ q t c f test.
           let p = chosen q true true t c f in
@@ -349,7 +349,7 @@ headless_part taken old mid late new us long i e h =
           kept q p.1 ∙ e.kept q t ∙ (i q).kept p.0)
           (true_or_false (get_or (cut_pages taken 0 us) q false));
       others = λ q t c.
-          let p = chosen q false (get_or (first_pages us) q false) t c refl in
+          let p = chosen q false (get_or (unit_starts us) q false) t c refl in
           kept q p.1 ∙ e.kept q t ∙ (i q).kept p.0;
     }
   where

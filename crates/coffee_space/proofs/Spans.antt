@@ -13,7 +13,7 @@ use Rattle.coffee_layout.proofs.Searches.{IsRead}
 use Rattle.coffee_layout.proofs.Tests.{true_or_false}
 use Rattle.coffee_space.specs.Collection.{cut_pages, touches}
 use Rattle.coffee_space.specs.Sectors.{Marks, is_marked}
-use Rattle.coffee_space.specs.Steps.{IsolatesPages, first_pages, is_chosen, is_part}
+use Rattle.coffee_space.specs.Steps.{IsolatesPages, unit_starts, is_chosen, is_part}
 use Rattle.coffee_space.specs.declared.part.Part.{Part}
 use Rattle.coffee_space.proofs.FreeRuns.{Walked, walked_used}
 use Rattle.coffee_space.proofs.Isolating.{Isolating, isolating_next, isolating_reads, page_on}
@@ -49,9 +49,9 @@ cuts_past taken (suc n) page us i =
     let f : page + 1 + n ≡ page + suc n = omega arith in
     ap (λ k. get_or (cut_pages taken page (replicate (suc n) Free ++ us)) k false) e ∙ cuts_past taken n (page + 1) us i ∙ ap (λ p. get_or (cut_pages taken p us) i false) f
 
-firsts_past : (n : ℕ) (us : List Unit) (i : ℕ) → get_or (first_pages (replicate n Free ++ us)) (n + i) false ≡ get_or (first_pages us) i false
-firsts_past zero us i = let e : 0 + i ≡ i = omega arith in ap (λ k. get_or (first_pages us) k false) e
-firsts_past (suc n) us i = let e : suc n + i ≡ suc (n + i) = omega arith in ap (λ k. get_or (first_pages (replicate (suc n) Free ++ us)) k false) e ∙ firsts_past n us i
+firsts_past : (n : ℕ) (us : List Unit) (i : ℕ) → get_or (unit_starts (replicate n Free ++ us)) (n + i) false ≡ get_or (unit_starts us) i false
+firsts_past zero us i = let e : 0 + i ≡ i = omega arith in ap (λ k. get_or (unit_starts us) k false) e
+firsts_past (suc n) us i = let e : suc n + i ≡ suc (n + i) = omega arith in ap (λ k. get_or (unit_starts (replicate (suc n) Free ++ us)) k false) e ∙ firsts_past n us i
 
 -- n free pages stand at a page, and what is ahead behind them
 pub record Span (building : ℕ → Bool) (image : List ℕ) (us : List Unit) (page n : ℕ) : Type 0 where
@@ -63,7 +63,7 @@ span_at : (building : ℕ → Bool) (image : List ℕ) (us : List Unit) (page n 
     → KeepRules building image (page + n) true rest → page + n + total rest ≡ pages_of image
     → ((test : Unit → Bool) (i : ℕ) → get_or (pages_by test us) (page + i) false ≡ get_or (pages_by test units) i false)
     → ((taken : ℕ → Bool) (i : ℕ) → get_or (cut_pages taken 0 us) (page + i) false ≡ get_or (cut_pages taken page units) i false)
-    → ((i : ℕ) → get_or (first_pages us) (page + i) false ≡ get_or (first_pages units) i false)
+    → ((i : ℕ) → get_or (unit_starts us) (page + i) false ≡ get_or (unit_starts units) i false)
     → Span building image us page n
 span_at building image us page n units rest front keep whole marks cuts firsts = record {
   next = record {
@@ -80,7 +80,7 @@ span_at building image us page n units rest front keep whole marks cuts firsts =
         ap (λ k. get_or (cut_pages taken 0 us) k false) e ∙ cuts taken (n + i) ∙ ap (λ vs. get_or (cut_pages taken page vs) (n + i) false) front ∙ cuts_past taken n page rest i;
     firsts = λ i.
         let e : page + n + i ≡ page + (n + i) = omega arith in
-        ap (λ k. get_or (first_pages us) k false) e ∙ firsts (n + i) ∙ ap (λ vs. get_or (first_pages vs) (n + i) false) front ∙ firsts_past n rest i;
+        ap (λ k. get_or (unit_starts us) k false) e ∙ firsts (n + i) ∙ ap (λ vs. get_or (unit_starts vs) (n + i) false) front ∙ firsts_past n rest i;
   };
   marks = λ test q low high.
       let e : q ≡ page + (q - page) = omega arith in
@@ -96,7 +96,7 @@ span_read : (building : ℕ → Bool) (image : List ℕ) (us : List Unit) (secto
     → KeepRules building image page after_free rest → page + total rest ≡ pages_of image
     → ((test : Unit → Bool) (i : ℕ) → get_or (pages_by test us) (page + i) false ≡ get_or (pages_by test rest) i false)
     → ((taken : ℕ → Bool) (i : ℕ) → get_or (cut_pages taken 0 us) (page + i) false ≡ get_or (cut_pages taken page rest) i false)
-    → ((i : ℕ) → get_or (first_pages us) (page + i) false ≡ get_or (first_pages rest) i false)
+    → ((i : ℕ) → get_or (unit_starts us) (page + i) false ≡ get_or (unit_starts rest) i false)
     → Span building image us page (16 - page % 16)
 span_read building image us sectors page after_free [] all before is keep whole marks cuts firsts = absurd (omega arith)
 span_read building image us sectors page after_free (v ∷ rest) all before is keep whole marks cuts firsts =
@@ -194,7 +194,7 @@ isolating_span taken building part old now new us page n s i some pages =
       done = λ q h. ⊎_elim
           (λ (before : q < page). page_on (is_chosen taken part us q) old now new q (pages.others q (λ a b. absurd (omega arith))) (i.done q before))
           (λ (here : page ≤ q).
-          let none : is_chosen taken part us q ≡ false = ap (λ c. (c && is_part part (get_or (first_pages us) q false)) && not (taken (q / 16))) (s.cuts taken q here h) ∙ and_part (taken (q / 16)) (is_part part (get_or (first_pages us) q false)) in
+          let none : is_chosen taken part us q ≡ false = ap (λ c. (c && is_part part (get_or (unit_starts us) q false)) && not (taken (q / 16))) (s.cuts taken q here h) ∙ and_part (taken (q / 16)) (is_part part (get_or (unit_starts us) q false)) in
           record { isolated = λ w. absurd (true_false (is_chosen taken part us q) w none); kept = λ w. stays q here ∙ i.same q here })
           (cases_lt q page);
       same = λ q h. stays q (omega arith) ∙ i.same q (omega arith);

@@ -14,9 +14,9 @@ first_marks zero = []
 first_marks (suc n) = true ∷ replicate n false
 
 -- for each page whether it is the first of its unit
-abbrev pub first_pages : List Unit → List Bool
-first_pages [] = []
-first_pages (u ∷ us) = first_marks (size_of u) ++ first_pages us
+abbrev pub unit_starts : List Unit → List Bool
+unit_starts [] = []
+unit_starts (u ∷ us) = first_marks (size_of u) ++ unit_starts us
 
 -- a part of a unit: its first page, which has the header, or the pages behind
 abbrev pub is_part : Part → (first : Bool) → Bool
@@ -40,7 +40,7 @@ IsolatesUnit taken part old new page pages = IsolatesPages taken part (touches t
 
 -- a page is chosen: it is of that part of a unit that has a page in a taken sector, and lies outside
 abbrev pub is_chosen : (taken : ℕ → Bool) → Part → List Unit → ℕ → Bool
-is_chosen taken part us page = (slice_index_or (cut_pages taken 0 us) page false && is_part part (slice_index_or (first_pages us) page false)) && not (taken (page / 16))
+is_chosen taken part us page = (slice_index_or (cut_pages taken 0 us) page false && is_part part (slice_index_or (unit_starts us) page false)) && not (taken (page / 16))
 
 -- each chosen page is isolated, all other pages stay
 abbrev pub Isolates : (taken : ℕ → Bool) → Part → (old new : List ℕ) → List Unit → Type 0

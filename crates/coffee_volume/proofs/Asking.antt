@@ -6,7 +6,7 @@ use Rattle.afl_base.specs.Files.{IsLive, file_at, no_file}
 use Rattle.coffee_layout.specs.Files.{Placed, entry_of, files_in, listed}
 use Rattle.coffee_layout.specs.Tiling.{units_of}
 use Rattle.coffee_layout.specs.declared.file.FileAt.{FileAt}
-use Rattle.coffee_merge.specs.Holding.{Holds, IsIn, Entries}
+use Rattle.coffee_merge.specs.Holding.{HoldsTable, IsIn, Entries}
 use Rattle.coffee_merge.proofs.SoundEntries.{IsAt, among_at}
 use Rattle.coffee_merge.proofs.SoundHolders.{entry_among, entry_is, placed}
 use Rattle.coffee_volume.specs.Asking.{AsksOf}
@@ -19,13 +19,13 @@ at_listed make (x ∷ xs) zero f e a = (omega arith, ap make a)
 at_listed make (x ∷ xs) (suc i) f e a = let r = at_listed make xs i f e a in let less = r.0 in (omega (arith, less), r.1)
 
 -- each entry of a table that is held is listed
-pub entry_listed : (image : List ℕ) (table : Entries) (i : ℕ) (e : FileAt) → Holds image table None → IsIn table i e → Contains (listed image) e
+pub entry_listed : (image : List ℕ) (table : Entries) (i : ℕ) (e : FileAt) → HoldsTable image table None → IsIn table i e → Contains (listed image) e
 entry_listed image table i e holds is =
     let at = among_at (files_in (units_of image)) (placed e) (entry_among image table i e holds is) in
     let r = at_listed (entry_of image) (files_in (units_of image)) at.0 (placed e) e at.1 in
     (at.0, r.0, r.1 ∙ entry_is image e (holds.stored i e is))
 
-pub asked_of : (tells : Bool) (image : List ℕ) (table : EntryTable) (id overwrites bytes need : ℕ) → Holds image (places table) None → IsLive (files_seen tells image table) id → Asks table id overwrites bytes need
+pub asked_of : (tells : Bool) (image : List ℕ) (table : EntryTable) (id overwrites bytes need : ℕ) → HoldsTable image (places table) None → IsLive (files_seen tells image table) id → Asks table id overwrites bytes need
     → AsksOf image (file_at (files_seen tells image table) id).name overwrites bytes need
 asked_of tells image table id overwrites bytes need holds live asks =
     let r = entry_seen tells image table id live in

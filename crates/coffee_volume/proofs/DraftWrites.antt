@@ -4,7 +4,7 @@ use Rattle.afl_base.specs.Fields.{put_at}
 use Rattle.afl_base.specs.Files.{Drafts, draft_in}
 use Rattle.coffee_layout.specs.FileBytes.{file_byte}
 use Rattle.coffee_layout.specs.declared.file.FileAt.{FileAt}
-use Rattle.coffee_merge.specs.Holding.{Holds, Entries, Writes}
+use Rattle.coffee_merge.specs.Holding.{HoldsTable, Entries, Writes}
 use Rattle.coffee_volume.specs.Volumes.{EntryTable, drafted_bytes, places, state_seen}
 use Rattle.coffee_volume.proofs.Standing.{Stands, stands_kept, tells_by, where_told}
 use Rattle.coffee_volume.proofs.States.{last_drafted, length_drafted, seen_writes, zeros_there}
@@ -24,7 +24,7 @@ pub record WritesDraft (tells failed : Bool) (old new : List ℕ) (table : Entry
   pub range : at + length bytes ≤ length (draft_in (state_seen (tells && not failed) old table draft)).bytes
   pub zeros : IsTrue (tells && not failed) → slice_range (draft_in (state_seen (tells && not failed) old table draft)).bytes at (at + length bytes) ≡ replicate (length bytes) 0
   pub size : length new ≡ length old
-  pub written : IsTrue tells → (t : Entries) (e : FileAt) → Holds old t (Some e) → e.page ≡ d.page → e.pages ≡ d.pages → at + length bytes ≤ e.size → ((k : ℕ) → k < length bytes → file_byte old d.page.0 None (at + k) ≡ 0) → Writes old new t e at bytes
+  pub written : IsTrue tells → (t : Entries) (e : FileAt) → HoldsTable old t (Some e) → e.page ≡ d.page → e.pages ≡ d.pages → at + length bytes ≤ e.size → ((k : ℕ) → k < length bytes → file_byte old d.page.0 None (at + k) ≡ 0) → Writes old new t e at bytes
 
 draft_writes : (tells failed : Bool) (old new : List ℕ) (table : EntryTable) (draft : Option FileAt) (d : FileAt) (at : ℕ) (bytes : List ℕ) → WritesDraft tells failed old new table draft d at bytes → IsTrue tells → failed ≡ false → Writes old new (places table) d at bytes
 draft_writes tells failed old new table draft d at bytes w told fine =
@@ -32,13 +32,13 @@ draft_writes tells failed old new table draft d at bytes w told fine =
     let range : at + length bytes ≤ length (drafted_bytes (tells && not failed) old d) = subst (λ (o : Option FileAt). at + length bytes ≤ length (draft_in (state_seen (tells && not failed) old table o)).bytes) w.is w.range in
     let zeros : slice_range (drafted_bytes (tells && not failed) old d) at (at + length bytes) ≡ replicate (length bytes) 0 =
     subst (λ (o : Option FileAt). slice_range (draft_in (state_seen (tells && not failed) old table o)).bytes at (at + length bytes) ≡ replicate (length bytes) 0) w.is (w.zeros t) in
-    w.written told (places table) d (subst (Holds old (places table)) w.is (w.stands.told told fine)) refl refl (inside_draft (tells && not failed) old table draft d at (length bytes) w.is w.range)
+    w.written told (places table) d (subst (HoldsTable old (places table)) w.is (w.stands.told told fine)) refl refl (inside_draft (tells && not failed) old table draft d at (length bytes) w.is w.range)
     (zeros_there (tells && not failed) old d at (length bytes) t range zeros)
 
 pub stands_written : (tells failed : Bool) (old new : List ℕ) (table : EntryTable) (draft : Option FileAt) (d : FileAt) (at : ℕ) (bytes : List ℕ) → WritesDraft tells failed old new table draft d at bytes → Stands tells failed new table draft
 stands_written tells failed old new table draft d at bytes w =
     stands_kept tells failed old new table draft w.stands w.size
-    (λ told fine. subst (Holds new (places table)) (sym w.is) (draft_writes tells failed old new table draft d at bytes w told fine).holds)
+    (λ told fine. subst (HoldsTable new (places table)) (sym w.is) (draft_writes tells failed old new table draft d at bytes w told fine).holds)
 
 pub seen_written : (tells failed : Bool) (old new : List ℕ) (table : EntryTable) (draft : Option FileAt) (d : FileAt) (at : ℕ) (bytes : List ℕ) → WritesDraft tells failed old new table draft d at bytes
     → Drafts (state_seen (tells && not failed) old table draft) (state_seen (tells && not failed) new table draft) (draft_in (state_seen (tells && not failed) old table draft)).name (length (draft_in (state_seen (tells && not failed) old table draft)).bytes)

@@ -13,7 +13,7 @@ use Rattle.coffee_layout.specs.Files.{FitsIn}
 use Rattle.coffee_layout.specs.Rules.{is_doubling}
 use Rattle.coffee_layout.specs.Walks.{has_few_of}
 use Rattle.coffee_layout.specs.declared.file.FileAt.{FileAt}
-use Rattle.coffee_merge.specs.Holding.{Begins, Commits, Holds, Sets, Entries, extent_of, has_shape}
+use Rattle.coffee_merge.specs.Holding.{BeginsExtent, CommitsExtent, HoldsTable, Sets, Entries, extent_of, has_shape}
 use Rattle.coffee_volume.specs.Volumes.{EntryTable, IsPending, IsRegular, places, roomless}
 use Rattle.coffee_volume.specs.declared.entry.Entry.{Entry}
 use Rattle.coffee_volume.proofs.Standing.{set_stored}
@@ -91,7 +91,7 @@ begun_pending pages page name size few placed =
     record { fits = new_fits pages page name Doubling (fit size) size (omega arith) placed holds; shape = fit_shape size; few = own_few (fit size); kind = refl; log = refl; used = refl }
 
 -- two steps of the flash: an extent begins, and becomes a file
-pub begun_sets : (old mid new : List ℕ) (table : Entries) (i : ℕ) (name : List ℕ) (kind : Kind) (page pages : ℕ) → Begins old mid table (extent_of name kind page pages 0) → Commits mid new table i (extent_of name kind page pages 0)
+pub begun_sets : (old mid new : List ℕ) (table : Entries) (i : ℕ) (name : List ℕ) (kind : Kind) (page pages : ℕ) → BeginsExtent old mid table (extent_of name kind page pages 0) → CommitsExtent mid new table i (extent_of name kind page pages 0)
     → Sets old new table i (Some (extent_of name kind page pages 0))
 begun_sets old mid new table i name kind page pages begins commits = record {
   holds = commits.sets.holds;
@@ -106,10 +106,10 @@ pending_regular pages d is = record { fits = is.fits; shape = is.shape; few = is
 same_used : (d : FileAt) → d.used ≡ 0 → record d { used = 0 } ≡ d
 same_used d none = ap (λ (n : ℕ). let f : FileAt = record d { used = n } in f) (sym none)
 
-pub commit_holds : (old new : List ℕ) (table : Entries) (i : ℕ) (d : FileAt) → d.used ≡ 0 → Commits old new table i d → Holds new (set table i (Some d)) None
-commit_holds old new table i d none commits = subst (λ (f : FileAt). Holds new (set table i (Some f)) None) (same_used d none) commits.sets.holds
+pub commit_holds : (old new : List ℕ) (table : Entries) (i : ℕ) (d : FileAt) → d.used ≡ 0 → CommitsExtent old new table i d → HoldsTable new (set table i (Some d)) None
+commit_holds old new table i d none commits = subst (λ (f : FileAt). HoldsTable new (set table i (Some f)) None) (same_used d none) commits.sets.holds
 
-pub commit_turns : (old new : List ℕ) (table : EntryTable) (i : ℕ) (d : FileAt) → i < length table → d.used ≡ 0 → Holds old (places table) (Some d) → (1 ≤ d.size → file_byte old d.page.0 None (d.size - 1) ≢ 0) → Commits old new (places table) i d → Turns old new d
+pub commit_turns : (old new : List ℕ) (table : EntryTable) (i : ℕ) (d : FileAt) → i < length table → d.used ≡ 0 → HoldsTable old (places table) (Some d) → (1 ≤ d.size → file_byte old d.page.0 None (d.size - 1) ≢ 0) → CommitsExtent old new (places table) i d → Turns old new d
 commit_turns old new table i d inside none holds last commits = record {
   drafted = holds.drafted d refl;
   stored = set_stored new table None i d inside (commit_holds old new (places table) i d none commits);

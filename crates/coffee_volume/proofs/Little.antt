@@ -8,7 +8,7 @@ use Rattle.afl_base.specs.declared.kind.Kind.{Kind}
 use Rattle.afl_base.specs.declared.kind.Kind.TheVariants.{Doubling, Fixed}
 use Rattle.coffee_layout.specs.Walks.{has_few_of}
 use Rattle.coffee_layout.proofs.Tests.{true_le, true_lt}
-use Rattle.coffee_merge.specs.Holding.{Holds, has_shape}
+use Rattle.coffee_merge.specs.Holding.{HoldsTable, has_shape}
 use Rattle.coffee_layout.specs.declared.file.FileAt.{FileAt}
 use Rattle.coffee_volume.specs.Rooms.{has_too_few, lacks_log, pages_asked, records_needed}
 use Rattle.coffee_volume.specs.Volumes.{AreRegular, Asks, EntryTable, IsEntry, files_seen, places}
@@ -47,7 +47,7 @@ six_pages (Fixed n) pages is shape = let s = fixed_shape n pages shape in let sa
 
 -- FILES BY THEIR IDS
 
-pub growing_little : (tells : Bool) (image : List ℕ) (pages : ℕ) (table : EntryTable) (draft : Option FileAt) (id overwrites bytes need : ℕ) → AreRegular pages table → (IsTrue tells → Holds image (places table) draft)
+pub growing_little : (tells : Bool) (image : List ℕ) (pages : ℕ) (table : EntryTable) (draft : Option FileAt) (id overwrites bytes need : ℕ) → AreRegular pages table → (IsTrue tells → HoldsTable image (places table) draft)
     → IsLive (files_seen tells image table) id → (file_at (files_seen tells image table) id).kind ≡ Doubling → bytes ≤ 4096 → size_at (files_seen tells image table) id ≤ 4194304
     → Asks table id overwrites bytes need → need ≤ max 16 (2 * fit (size_at (files_seen tells image table) id))
 growing_little tells image pages table draft id overwrites bytes need regular holds live kind less most asks =

@@ -9,13 +9,13 @@ use Rattle.coffee_layout.specs.Rules.{broken_image}
 use Rattle.coffee_layout.specs.Units.{pages_of}
 use Rattle.coffee_layout.specs.Walks.{has_few}
 use Rattle.coffee_layout.specs.declared.file.FileAt.{FileAt}
-use Rattle.coffee_merge.specs.Holding.{Holds, IsIn, Entries}
+use Rattle.coffee_merge.specs.Holding.{HoldsTable, IsIn, Entries}
 use Rattle.coffee_merge.specs.TableFiles.{file_of}
 use Rattle.coffee_merge.proofs.SoundFiles.{entry_file, file_entry}
 use Rattle.coffee_merge.proofs.SoundImages.{held_sound}
 use Rattle.coffee_merge.proofs.SoundTables.{sound_held, sound_sparing}
-use Rattle.coffee_volume.specs.Mounting.{KeepFileRules, MayFollow, mounted_table, named}
-use Rattle.coffee_volume.specs.Rooms.{HasRoom}
+use Rattle.coffee_volume.specs.Mounting.{KeepFileRules, MayBeListed, mounted_table, roomless_file}
+use Rattle.coffee_volume.specs.Rooms.{HasEntryRoom}
 use Rattle.coffee_volume.specs.Volumes.{AreRegular, EntryTable, draft_seen, file_seen, files_seen, places, roomless}
 use Rattle.coffee_volume.specs.declared.entry.Entry.{Entry}
 use Rattle.coffee_volume.proofs.Tables.{entry_of_place, entry_seen, file_of as file_of_entry, in_places, length_places, regular_new, seen_is, seen_live, told_by}
@@ -103,7 +103,7 @@ place_in : (files : List FileAt) (k : ℕ) (at : FileAt) → k < length files �
 place_in files k at low is = in_places (mounted_table files) k (roomless at) (in_entry files (32 - length files) k at low ∙ ap (λ (f : FileAt). Some (roomless f)) is)
 
 -- each file of a table that keeps the rules may follow those before it
-pub may_follow : (files : List FileAt) (i : ℕ) (at : FileAt) → KeepFileRules (places (mounted_table files)) → i < length files → get_or files i at ≡ at → MayFollow (mounted_table (take i files)) at
+pub may_follow : (files : List FileAt) (i : ℕ) (at : FileAt) → KeepFileRules (places (mounted_table files)) → i < length files → get_or files i at ≡ at → MayBeListed (mounted_table (take i files)) at
 may_follow files i at keep low is = record {
   name = λ k same.
       let e = named_entry (get_or (mounted_table (take i files)) k None) at.name same in
@@ -118,7 +118,7 @@ may_follow files i at keep low is = record {
   few = keep.few i at (place_in files i at low is);
 }
 
-no_room : (pages : ℕ) (at : FileAt) → FitsIn pages at → HasRoom (roomless at)
+no_room : (pages : ℕ) (at : FileAt) → FitsIn pages at → HasEntryRoom (roomless at)
 no_room pages at fits = record {
   no_log = λ none. refl;
   free = omega (arith, fits.used);
@@ -130,7 +130,7 @@ no_room pages at fits = record {
 pub regular_none : (pages n : ℕ) → AreRegular pages (replicate n None)
 regular_none pages n = record { each = λ i e is. absurd (no_entry n i e is); names = λ i j e d is other same. absurd (no_entry n i e is) }
 
-pub regular_more : (pages : ℕ) (table : EntryTable) (i : ℕ) (at : FileAt) → AreRegular pages table → i < length table → MayFollow table at → FitsIn pages at → AreRegular pages (set table i (Some (roomless at)))
+pub regular_more : (pages : ℕ) (table : EntryTable) (i : ℕ) (at : FileAt) → AreRegular pages table → i < length table → MayBeListed table at → FitsIn pages at → AreRegular pages (set table i (Some (roomless at)))
 regular_more pages table i at regular inside is fits =
     regular_new pages table i (roomless at) regular inside
     (λ k d stands same. is.name k (ap (option_map (λ (e : Entry). e.at.name)) stands ∙ ap (λ n. Some n) same))
@@ -139,10 +139,10 @@ regular_more pages table i at regular inside is fits =
 -- A SOUND IMAGE
 
 -- its files in page order hold it
-pub mounted_holds : (image : List ℕ) (files : List FileAt) → files ≡ listed image → broken_image image ≡ None → 256 * pages_of image ≡ length image → Holds image (places (mounted_table files)) None
+pub mounted_holds : (image : List ℕ) (files : List FileAt) → files ≡ listed image → broken_image image ≡ None → 256 * pages_of image ≡ length image → HoldsTable image (places (mounted_table files)) None
 mounted_holds image files are sound whole =
-    subst (λ fs. Holds image (places (mounted_table fs)) None) (sym are)
-    (subst (λ t. Holds image t None) (sym (mounted_places (listed image))) (sound_held image (32 - length (listed image)) sound whole))
+    subst (λ fs. HoldsTable image (places (mounted_table fs)) None) (sym are)
+    (subst (λ t. HoldsTable image t None) (sym (mounted_places (listed image))) (sound_held image (32 - length (listed image)) sound whole))
 
 -- and keep the rules 6, 7 and 13
 pub mounted_keep : (image : List ℕ) (files : List FileAt) → files ≡ listed image → broken_image image ≡ None → 256 * pages_of image ≡ length image → KeepFileRules (places (mounted_table files))
@@ -162,27 +162,27 @@ no_draft tells image None none = refl
 no_draft tells image (Some d) none = cc
 
 -- the table holds the image where no call failed and no draft is begun
-pub idle_holds : (tells failed : Bool) (image : List ℕ) (table : EntryTable) (draft : Option FileAt) → (IsTrue tells → failed ≡ false → Holds image (places table) draft)
-    → IsTrue (tells && not failed) → option_map (draft_seen (tells && not failed) image) draft ≡ None → Holds image (places table) None
+pub idle_holds : (tells failed : Bool) (image : List ℕ) (table : EntryTable) (draft : Option FileAt) → (IsTrue tells → failed ≡ false → HoldsTable image (places table) draft)
+    → IsTrue (tells && not failed) → option_map (draft_seen (tells && not failed) image) draft ≡ None → HoldsTable image (places table) None
 idle_holds tells failed image table draft holds told none =
     let known = told_by tells failed told in
-    subst (λ d. Holds image (places table) d) (no_draft (tells && not failed) image draft none) (holds known.0 known.1)
+    subst (λ d. HoldsTable image (places table) d) (no_draft (tells && not failed) image draft none) (holds known.0 known.1)
 
-pub image_sound : (image : List ℕ) (pages : ℕ) (table : EntryTable) → Holds image (places table) None → AreRegular pages table → length table ≡ 32 → broken_image image ≡ None
+pub image_sound : (image : List ℕ) (pages : ℕ) (table : EntryTable) → HoldsTable image (places table) None → AreRegular pages table → length table ≡ 32 → broken_image image ≡ None
 image_sound image pages table holds regular long =
     held_sound image (places table) holds (omega (arith, length_places table))
     (λ i e is. let d = entry_of_place table i e is in ap has_few (sym d.2) ∙ (regular.each i d.0 d.1).few)
 
-pub image_each : (tells : Bool) (image : List ℕ) (table : EntryTable) (id : ℕ) → IsTrue tells → Holds image (places table) None → IsLive (files_seen tells image table) id → Contains (files_of image) (named (file_at (files_seen tells image table) id))
+pub image_each : (tells : Bool) (image : List ℕ) (table : EntryTable) (id : ℕ) → IsTrue tells → HoldsTable image (places table) None → IsLive (files_seen tells image table) id → Contains (files_of image) (roomless_file (file_at (files_seen tells image table) id))
 image_each false image table id told holds live = absurd (cc)
 image_each true image table id told holds live =
     let e = entry_seen true image table id live in
-    subst (λ (f : File). Contains (files_of image) (named f)) (sym (file_of_entry true image table id e.0 e.1)) (entry_file image (places table) id e.0.at holds (in_places table id e.0 e.1))
+    subst (λ (f : File). Contains (files_of image) (roomless_file f)) (sym (file_of_entry true image table id e.0 e.1)) (entry_file image (places table) id e.0.at holds (in_places table id e.0 e.1))
 
-pub image_only : (tells : Bool) (image : List ℕ) (table : EntryTable) (n : NamedFile) → IsTrue tells → Holds image (places table) None → Contains (files_of image) n
-    → (id : ℕ) × IsLive (files_seen tells image table) id × (named (file_at (files_seen tells image table) id) ≡ n)
+pub image_only : (tells : Bool) (image : List ℕ) (table : EntryTable) (n : NamedFile) → IsTrue tells → HoldsTable image (places table) None → Contains (files_of image) n
+    → (id : ℕ) × IsLive (files_seen tells image table) id × (roomless_file (file_at (files_seen tells image table) id) ≡ n)
 image_only false image table n told holds has = absurd (cc)
 image_only true image table n told holds has =
     let e = file_entry image (places table) n holds has in
     let d = entry_of_place table e.0 e.1 e.2 in
-    (e.0, seen_live true image table e.0 d.0 d.1, ap named (file_of_entry true image table e.0 d.0 d.1) ∙ ap (file_of image) d.2 ∙ sym e.3)
+    (e.0, seen_live true image table e.0 d.0 d.1, ap roomless_file (file_of_entry true image table e.0 d.0 d.1) ∙ ap (file_of image) d.2 ∙ sym e.3)

@@ -6,7 +6,7 @@ use Rattle.afl_base.specs.Files.{Becomes, File, IsLive, IsUnnamed, State, bytes_
 use Rattle.coffee_layout.specs.FileBytes.{file_byte, file_bytes}
 use Rattle.coffee_layout.specs.declared.file.FileAt.{FileAt}
 use Rattle.coffee_layout.proofs.Spelling.{spells_file, spelt_file}
-use Rattle.coffee_merge.specs.Holding.{Holds, IsIn, IsStored, KeepsAll, Moves, Entries}
+use Rattle.coffee_merge.specs.Holding.{HoldsTable, IsIn, IsStored, KeepsContents, Moves, Entries}
 use Rattle.coffee_volume.specs.Rooms.{pages_asked}
 use Rattle.coffee_volume.specs.Volumes.{Asks, EntryTable, IsEntry, bytes_seen, draft_seen, files_seen, places, roomless, state_seen}
 use Rattle.coffee_volume.specs.declared.entry.Entry.{Entry}
@@ -36,7 +36,7 @@ no_drafts tells old new (Some d) idle = absurd (cc)
 
 -- a file has moved
 pub moved_becomes : (tells : Bool) (old new : List ℕ) (table : EntryTable) (draft : Option FileAt) (i : ℕ) (e : Entry) (to : FileAt) → i < length table → draft ≡ None → IsEntry table i e → IsSame e.at to
-    → (IsTrue tells → Holds old (places table) None) → (IsTrue tells → Moves old new (places table) i e.at to)
+    → (IsTrue tells → HoldsTable old (places table) None) → (IsTrue tells → Moves old new (places table) i e.at to)
     → Becomes (state_seen tells old table draft) (state_seen tells new (set table i (Some (roomless to))) draft) i (size_at (files_seen tells old table) i) (bytes_at (files_seen tells old table) i)
 moved_becomes tells old new table draft i e to inside idle is same holds moves =
     let was : IsTrue tells → IsStored old e.at = λ told. (holds told).stored i e.at (in_places table i e is) in
@@ -61,7 +61,7 @@ same_becomes old new id live files draft tells = record {
   tells = tells;
 }
 
-pub kept_becomes : (tells : Bool) (old new : List ℕ) (table : EntryTable) (draft : Option FileAt) (i : ℕ) (e : Entry) → draft ≡ None → IsEntry table i e → (IsTrue tells → KeepsAll old new (places table))
+pub kept_becomes : (tells : Bool) (old new : List ℕ) (table : EntryTable) (draft : Option FileAt) (i : ℕ) (e : Entry) → draft ≡ None → IsEntry table i e → (IsTrue tells → KeepsContents old new (places table))
     → Becomes (state_seen tells old table draft) (state_seen tells new table draft) i (size_at (files_seen tells old table) i) (bytes_at (files_seen tells old table) i)
 kept_becomes tells old new table draft i e idle is kept =
     same_becomes (state_seen tells old table draft) (state_seen tells new table draft) i (seen_live tells old table i e is) (seen_kept tells old new table kept) (no_drafts tells old new draft idle) refl

@@ -2,7 +2,7 @@
 use Rattle.std.proofs.Common.{◌≡◌, ℕ, ◌+◌, ◌-◌, ◌*◌, ◌^◌, ◌<◌, ◌≤◌, true, Option, Some, None, refl, ◌∙◌, arith}
 use Rattle.std.specs.Prelude.{nat_le, min}
 use Rattle.std.proofs.lemmas.Bool.Decides.{nat_tests}
-use Rattle.afl_base.specs.Fit.{Holds, fit}
+use Rattle.afl_base.specs.Fit.{HoldsSize, fit}
 use Rattle.afl_base.specs.declared.ids.PageId.{PageId}
 use Rattle.afl_base.specs.declared.kind.Kind.{Kind}
 use Rattle.afl_base.specs.declared.kind.Kind.TheVariants.{Doubling, Fixed}
@@ -18,7 +18,7 @@ fit_rises size more less room =
     let b = is_fit more room in
     let j : ℕ = b.doubled.0 in
     let is : fit more ≡ 16 * 2 ^ j = b.doubled.1 in
-    let enough : Holds (16 * 2 ^ j) size = omega (arith, b.holds) in
+    let enough : HoldsSize (16 * 2 ^ j) size = omega (arith, b.holds) in
     omega (arith, a.least j enough)
 
 -- so a file that grows in its extent keeps rule 13

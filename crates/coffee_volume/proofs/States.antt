@@ -18,7 +18,7 @@ use Rattle.coffee_layout.specs.declared.file.FileAt.{FileAt}
 use Rattle.coffee_layout.proofs.Spelling.{spelt_file}
 use Rattle.coffee_log.specs.FileChanges.{Puts}
 use Rattle.coffee_log.proofs.ContentLaws.{put_at_here, put_at_outside}
-use Rattle.coffee_merge.specs.Holding.{IsDrafted, IsStored, KeepsAll, KeepsOthers, extent_of}
+use Rattle.coffee_merge.specs.Holding.{IsDrafted, IsStored, KeepsContents, KeepsOthers, extent_of}
 use Rattle.coffee_volume.specs.Volumes.{AreRegular, EntryTable, IsEntry, bytes_seen, draft_seen, drafted_bytes, file_seen, files_seen, places, roomless, state_seen}
 use Rattle.coffee_volume.specs.declared.entry.Entry.{Entry}
 use Rattle.coffee_volume.proofs.Tables.{entry_of_name, length_seen, name_seen, only_named, seen_here, seen_kept, seen_named, seen_none, seen_others, seen_set, size_seen, taken_live}
@@ -84,7 +84,7 @@ seen_removes tells old new pages table i e inside is regular kept =
     (only_named tells old pages table i e regular is) (seen_others tells old new table i None inside kept) refl refl
 
 -- all files keep their bytes
-pub seen_keeps : (tells : Bool) (old new : List ℕ) (table : EntryTable) → (IsTrue tells → KeepsAll old new (places table)) → Keeps (state_seen tells old table None) (state_seen tells new table None)
+pub seen_keeps : (tells : Bool) (old new : List ℕ) (table : EntryTable) → (IsTrue tells → KeepsContents old new (places table)) → Keeps (state_seen tells old table None) (state_seen tells new table None)
 seen_keeps tells old new table kept = record { files = seen_kept tells old new table kept; draft = refl; tells = refl }
 
 -- CHANGES OF THE DRAFT
@@ -95,7 +95,7 @@ zero_drafted true image d told zeros =
     (λ p low. let below : p < d.size = omega (arith, length_drafted true image d) in drafted_at image d p below ∙ zeros p below ∙ sym (get_or-replicate d.size p 0 0 below))
 zero_drafted false image d told zeros = refl
 
-pub seen_begins : (tells : Bool) (old new : List ℕ) (table : EntryTable) (d : FileAt) → (IsTrue tells → KeepsAll old new (places table)) → (IsTrue tells → (p : ℕ) → p < d.size → file_byte new d.page.0 None p ≡ 0)
+pub seen_begins : (tells : Bool) (old new : List ℕ) (table : EntryTable) (d : FileAt) → (IsTrue tells → KeepsContents old new (places table)) → (IsTrue tells → (p : ℕ) → p < d.size → file_byte new d.page.0 None p ≡ 0)
     → Drafts (state_seen tells old table None) (state_seen tells new table (Some d)) d.name d.size (replicate d.size 0)
 seen_begins tells old new table d kept zeros = record {
   begun = refl;
@@ -127,7 +127,7 @@ put_drafted true old new d at bytes told fits within put =
 put_drafted false old new d at bytes told fits within put = absurd (cc)
 
 pub seen_writes : (tells : Bool) (old new : List ℕ) (table : EntryTable) (d : FileAt) (at : ℕ) (bytes : List ℕ) → d.size + 32 ≤ 256 * d.pages → at + length bytes ≤ d.size
-    → (IsTrue tells → KeepsAll old new (places table)) → (IsTrue tells → Puts (file_byte old d.page.0 None) (file_byte new d.page.0 None) (256 * d.pages - 32) at bytes)
+    → (IsTrue tells → KeepsContents old new (places table)) → (IsTrue tells → Puts (file_byte old d.page.0 None) (file_byte new d.page.0 None) (256 * d.pages - 32) at bytes)
     → Drafts (state_seen tells old table (Some d)) (state_seen tells new table (Some d)) d.name (length (drafted_bytes tells old d)) (put_at (drafted_bytes tells old d) at bytes)
 seen_writes tells old new table d at bytes fits within kept put = record {
   begun = refl;

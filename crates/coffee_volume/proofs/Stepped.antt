@@ -16,7 +16,7 @@ use Rattle.coffee_layout.specs.Walks.{has_few_of}
 use Rattle.coffee_layout.specs.declared.file.FileAt.{FileAt}
 use Rattle.coffee_layout.proofs.Tests.{true_eq}
 use Rattle.coffee_merge.specs.Holding.{has_shape}
-use Rattle.coffee_volume.specs.Rooms.{HasRoom, has_too_few, lacks_log, pages_asked, records_needed}
+use Rattle.coffee_volume.specs.Rooms.{HasEntryRoom, has_too_few, lacks_log, pages_asked, records_needed}
 use Rattle.coffee_volume.specs.Steps.{IsAfter, MayTake, NeedsFew, need_of, step_for}
 use Rattle.coffee_volume.specs.Volumes.{IsRegular, roomless}
 use Rattle.coffee_volume.specs.declared.entry.Entry.{Entry}
@@ -122,7 +122,7 @@ after_few pages Merge e to r may is = same_few e.at to (after_same Merge e.at to
 after_few pages Log e to r may is = same_few e.at to (after_same Log e.at to is) (ap (λ (f : FileAt). f.pages) is.0) r.few
 
 -- an entry without room
-pub roomless_room : (pages : ℕ) (e : FileAt) → FitsIn pages e → HasRoom (roomless e)
+pub roomless_room : (pages : ℕ) (e : FileAt) → FitsIn pages e → HasEntryRoom (roomless e)
 roomless_room pages e fits =
     let used = fits.used in
     let size = fits.size in

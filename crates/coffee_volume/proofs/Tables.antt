@@ -18,7 +18,7 @@ use Rattle.coffee_layout.specs.declared.file.FileAt.{FileAt}
 use Rattle.coffee_layout.proofs.Sizes.{end_spelt}
 use Rattle.coffee_layout.proofs.Spelling.{spells_file, spelt_file}
 use Rattle.coffee_log.proofs.ContentLaws.{read_bytes}
-use Rattle.coffee_merge.specs.Holding.{Holds, IsIn, IsNewName, IsStored, KeepsAll, KeepsContent, KeepsOthers}
+use Rattle.coffee_merge.specs.Holding.{HoldsTable, IsIn, IsNewName, IsStored, KeepsContents, KeepsContent, KeepsOthers}
 use Rattle.coffee_volume.specs.Volumes.{AreRegular, EntryTable, IsEntry, IsRegular, bytes_seen, entry_name, file_seen, files_seen, places}
 use Rattle.coffee_volume.specs.declared.entry.Entry.{Entry}
 
@@ -182,7 +182,7 @@ stored_size image e is =
     end_spelt (file_byte image e.page.0 e.log) (256 * e.pages - 32) e.size
     (record { within = omega (arith, is.fits.size); zeros = is.file.zeros; last = is.last })
 
-pub stored_here : (image : List ℕ) (table : EntryTable) (draft : Option FileAt) (i : ℕ) (e : Entry) → Holds image (places table) draft → IsEntry table i e → IsStored image e.at
+pub stored_here : (image : List ℕ) (table : EntryTable) (draft : Option FileAt) (i : ℕ) (e : Entry) → HoldsTable image (places table) draft → IsEntry table i e → IsStored image e.at
 stored_here image table draft i e holds is = holds.stored i e.at (in_places table i e is)
 
 pub size_seen : (tells : Bool) (image : List ℕ) (e : FileAt) → (IsTrue tells → IsStored image e) → length (bytes_seen tells image e) ≡ e.size
@@ -212,7 +212,7 @@ same_seen tells old new None kept = refl
 same_seen tells old new (Some e) kept = ap (λ (f : File). Some f) (kept_seen tells old new e (kept e refl))
 
 -- where all files of the table kept their content, callers see the same
-pub seen_kept : (tells : Bool) (old new : List ℕ) (table : EntryTable) → (IsTrue tells → KeepsAll old new (places table)) → files_seen tells new table ≡ files_seen tells old table
+pub seen_kept : (tells : Bool) (old new : List ℕ) (table : EntryTable) → (IsTrue tells → KeepsContents old new (places table)) → files_seen tells new table ≡ files_seen tells old table
 seen_kept tells old new table kept =
     ext_get_or None (files_seen tells new table) (files_seen tells old table) (length_seen tells new table ∙ sym (length_seen tells old table))
     (λ k low. seen_is tells new table k ∙ same_seen tells old new (get_or table k None) (λ e is told. kept told k e.at (in_places table k e is)) ∙ sym (seen_is tells old table k))

@@ -13,7 +13,7 @@ use Rattle.afl_base.specs.declared.kind.Kind.TheVariants.{Doubling}
 use Rattle.coffee_layout.specs.FileBytes.{file_byte}
 use Rattle.coffee_layout.specs.declared.file.FileAt.{FileAt}
 use Rattle.coffee_layout.proofs.Tests.{true_or_false}
-use Rattle.coffee_merge.specs.Holding.{Holds, IsIn, Entries, TakesOnly, extent_of, is_free_at}
+use Rattle.coffee_merge.specs.Holding.{HoldsTable, IsIn, Entries, TakesOnly, extent_of, is_free_at}
 use Rattle.coffee_merge.specs.Outcomes.{LogsFile, MovesFile}
 use Rattle.coffee_merge.specs.Takes.{KeepsFree}
 use Rattle.coffee_merge.proofs.FreeUnits.{frees_free, takes_free}
@@ -62,12 +62,12 @@ pub nothing_taken : (old new : List ℕ) (e : FileAt) → TakesNone old new → 
 nothing_taken old new e takes = λ p free taken. free_not (is_free_at new p) (takes p free) taken
 
 -- a file of the table takes pages
-pub file_taken : (old new : List ℕ) (table : Entries) (draft : Option FileAt) (i : ℕ) (e : FileAt) → Holds new table draft → IsIn table i e → TakesWithin e old new → TakesForFile e.name old new
+pub file_taken : (old new : List ℕ) (table : Entries) (draft : Option FileAt) (i : ℕ) (e : FileAt) → HoldsTable new table draft → IsIn table i e → TakesWithin e old new → TakesForFile e.name old new
 file_taken old new table draft i e h is takes = λ p free taken.
     (e, record { name = refl; active = h.files i e is; logged = λ l log. h.logs i e l is log; stored = h.stored i e is }, takes p free taken)
 
 -- a draft does
-pub draft_taken : (old new : List ℕ) (table : Entries) (d : FileAt) → Holds new table (Some d) → TakesWithin d old new → TakesForDraft d.name old new
+pub draft_taken : (old new : List ℕ) (table : Entries) (d : FileAt) → HoldsTable new table (Some d) → TakesWithin d old new → TakesForDraft d.name old new
 draft_taken old new table d h takes = λ p free taken.
     (d, record { name = refl; begun = h.begun d refl; no_log = (h.drafted d refl).no_log }, takes p free taken)
 
@@ -137,7 +137,7 @@ pub merge_takes : (old new : List ℕ) (table : Entries) (i : ℕ) (from to : Fi
 merge_takes old new table i from to m = record { moves = m.moves; taken = extent_taken old new to m.taken; lowest = m.lowest }
 
 -- and one that got a log has stayed where it was
-pub log_takes : (old new : List ℕ) (table : Entries) (i : ℕ) (e : FileAt) (l : PageId) → Holds old table None → IsIn table i e → e.log ≡ None → LogsFile old new table i e l → TakesStep Log old new table i e (record e { log = Some l })
+pub log_takes : (old new : List ℕ) (table : Entries) (i : ℕ) (e : FileAt) (l : PageId) → HoldsTable old table None → IsIn table i e → e.log ≡ None → LogsFile old new table i e l → TakesStep Log old new table i e (record e { log = Some l })
 log_takes old new table i e l h is none has =
     let to : FileAt = record e { log = Some l } in
     let room = (h.stored i e is).fits.size in
@@ -170,7 +170,7 @@ both_taken old mid new e d first more second = λ p free taken. ⊎_elim
 pub record Steps (tells before between failed : Bool) (old mid new : List ℕ) (table turned now : EntryTable) (draft begun left : Option FileAt) (i : ℕ) : Type 0 where
   pub first : Becomes (state_seen (tells && not before) old table draft) (state_seen (tells && not between) mid turned begun) i (size_at (files_seen (tells && not before) old table) i) (bytes_at (files_seen (tells && not before) old table) i)
   pub second : Becomes (state_seen (tells && not between) mid turned begun) (state_seen (tells && not failed) new now left) i (size_at (files_seen (tells && not between) mid turned) i) (bytes_at (files_seen (tells && not between) mid turned) i)
-  pub told : IsTrue tells → failed ≡ false → Holds new (places now) left
+  pub told : IsTrue tells → failed ≡ false → HoldsTable new (places now) left
   pub taken : IsTrue (tells && not before) → (e : Entry) → IsEntry turned i e → TakesWithin e.at old mid
   pub more : (e d : Entry) → IsEntry turned i e → IsEntry now i d → (p : ℕ) → LiesIn e.at p → LiesIn d.at p
   pub then_taken : IsTrue (tells && not between) → (d : Entry) → IsEntry now i d → TakesWithin d.at mid new
@@ -191,15 +191,15 @@ steps_taken tells before between failed old mid new table turned now draft begun
 -- what `prepare` has done with a file after its steps
 pub record Turns (tells before between failed : Bool) (old mid new : List ℕ) (table turned now : EntryTable) (draft begun left : Option FileAt) (i overwrites bytes : ℕ) : Type 0 where
   pub live : IsLive (files_seen (tells && not before) old table) i
-  pub held : IsTrue tells → before ≡ false → Holds old (places table) draft
+  pub held : IsTrue tells → before ≡ false → HoldsTable old (places table) draft
   pub first : Becomes (state_seen (tells && not before) old table draft) (state_seen (tells && not between) mid turned begun) i (size_at (files_seen (tells && not before) old table) i) (bytes_at (files_seen (tells && not before) old table) i)
   pub second : Becomes (state_seen (tells && not between) mid turned begun) (state_seen (tells && not failed) new now left) i (size_at (files_seen (tells && not between) mid turned) i) (bytes_at (files_seen (tells && not between) mid turned) i)
-  pub between_held : IsTrue tells → between ≡ false → Holds mid (places turned) begun
-  pub told : IsTrue tells → failed ≡ false → Holds new (places now) left
+  pub between_held : IsTrue tells → between ≡ false → HoldsTable mid (places turned) begun
+  pub told : IsTrue tells → failed ≡ false → HoldsTable new (places now) left
   pub lowest : IsTrue (tells && not before) → FromTo table turned i (λ e. StepsTo (step_for e overwrites bytes) old mid e)
   pub then_lowest : IsTrue (tells && not between) → FromTo turned now i (λ e. StepsTo (log_for e overwrites bytes) mid new e)
 
-file_of_held : (image : List ℕ) (table : Entries) (draft : Option FileAt) (i : ℕ) (e : FileAt) (n : List ℕ) → Holds image table draft → IsIn table i e → e.name ≡ n → IsFileOf image n e
+file_of_held : (image : List ℕ) (table : Entries) (draft : Option FileAt) (i : ℕ) (e : FileAt) (n : List ℕ) → HoldsTable image table draft → IsIn table i e → e.name ≡ n → IsFileOf image n e
 file_of_held image table draft i e n h is name = record { name = name; active = h.files i e is; logged = λ l log. h.logs i e l is log; stored = h.stored i e is }
 
 pub turns_lowest : (tells before between failed : Bool) (old mid new : List ℕ) (table turned now : EntryTable) (draft begun left : Option FileAt) (i overwrites bytes : ℕ) → Turns tells before between failed old mid new table turned now draft begun left i overwrites bytes
@@ -230,7 +230,7 @@ turns_lowest tells before between failed old mid new table turned now draft begu
     }
 
 -- the first step could not be taken
-pub stops_first : (tells failed : Bool) (old new : List ℕ) (table : EntryTable) (draft : Option FileAt) (i overwrites bytes need : ℕ) → IsLive (files_seen (tells && not failed) old table) i → (IsTrue tells → failed ≡ false → Holds old (places table) draft)
+pub stops_first : (tells failed : Bool) (old new : List ℕ) (table : EntryTable) (draft : Option FileAt) (i overwrites bytes need : ℕ) → IsLive (files_seen (tells && not failed) old table) i → (IsTrue tells → failed ≡ false → HoldsTable old (places table) draft)
     → (IsTrue (tells && not failed) → AtEntry table i (λ e. LooksFor (step_for e overwrites bytes) e need old new))
     → IsTrue (tells && not failed) → Stops (file_at (files_seen (tells && not failed) old table) i).name overwrites bytes need old new
 stops_first tells failed old new table draft i overwrites bytes need live says looks told =
@@ -246,9 +246,9 @@ stops_first tells failed old new table draft i overwrites bytes need live says l
 -- what is known where the log could not be had
 pub record Halts (tells before between : Bool) (old mid new : List ℕ) (table turned : EntryTable) (draft begun : Option FileAt) (i overwrites bytes need : ℕ) : Type 0 where
   pub live : IsLive (files_seen (tells && not before) old table) i
-  pub held : IsTrue tells → before ≡ false → Holds old (places table) draft
+  pub held : IsTrue tells → before ≡ false → HoldsTable old (places table) draft
   pub first : Becomes (state_seen (tells && not before) old table draft) (state_seen (tells && not between) mid turned begun) i (size_at (files_seen (tells && not before) old table) i) (bytes_at (files_seen (tells && not before) old table) i)
-  pub between_held : IsTrue tells → between ≡ false → Holds mid (places turned) begun
+  pub between_held : IsTrue tells → between ≡ false → HoldsTable mid (places turned) begun
   pub lowest : IsTrue (tells && not before) → FromTo table turned i (λ e. StepsTo (step_for e overwrites bytes) old mid e)
   pub looks : IsTrue (tells && not between) → AtEntry turned i (λ e. LooksFor (log_for e overwrites bytes) e need mid new)
 

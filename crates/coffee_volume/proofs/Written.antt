@@ -9,7 +9,7 @@ use Rattle.coffee_layout.specs.FileBytes.{file_byte}
 use Rattle.coffee_layout.specs.declared.file.FileAt.{FileAt}
 use Rattle.coffee_log.specs.FileChanges.{FileBecomes, IsFile}
 use Rattle.coffee_log.proofs.ContentLaws.{appended_bytes, overwritten_bytes}
-use Rattle.coffee_merge.specs.Holding.{Holds, IsStored, KeepsContent}
+use Rattle.coffee_merge.specs.Holding.{HoldsTable, IsStored, KeepsContent}
 use Rattle.coffee_merge.proofs.Contents.{SetsBytes, holds_written_with}
 use Rattle.coffee_volume.specs.Volumes.{EntryTable, IsEntry, IsPending, bytes_seen, files_seen, places, state_seen}
 use Rattle.coffee_volume.specs.declared.entry.Entry.{Entry}
@@ -56,7 +56,7 @@ overwrites_file old new e l used at bytes s log within overwrites =
     subst (λ (k : Option PageId). FileBecomes old new e.page.0 e.pages k used e.size at bytes) (sym log)
     (overwrites e.size (subst (λ (k : Option PageId). IsFile old e.page.0 e.pages k e.used e.size) log s.file) within s.fits.size)
 
-pub overwrite_sets : (old new : List ℕ) (table : EntryTable) (draft : Option FileAt) (i : ℕ) (e : Entry) (l : PageId) (used at : ℕ) (bytes : List ℕ) → Holds old (places table) draft → IsEntry table i e → length new ≡ length old → e.at.log ≡ Some l → 1 ≤ length bytes → at + length bytes ≤ e.at.size
+pub overwrite_sets : (old new : List ℕ) (table : EntryTable) (draft : Option FileAt) (i : ℕ) (e : Entry) (l : PageId) (used at : ℕ) (bytes : List ℕ) → HoldsTable old (places table) draft → IsEntry table i e → length new ≡ length old → e.at.log ≡ Some l → 1 ≤ length bytes → at + length bytes ≤ e.at.size
     → (at + length bytes ≡ e.at.size → get_or bytes (length bytes - 1) 0 ≢ 0) → Overwrites old new e.at l used at bytes → SetsBytes old new (places table) draft i (record e.at { used = used })
 overwrite_sets old new table draft i e l used at bytes holds is long log many within last overwrites =
     let s = holds.stored i e.at (in_places table i e is) in
@@ -71,7 +71,7 @@ overwritten_seen true old new e l used at bytes told s log within last overwrite
 overwritten_seen false old new e l used at bytes told s log within last overwrites = absurd (cc)
 
 pub overwrite_becomes : (tells : Bool) (old new : List ℕ) (pages : ℕ) (table : EntryTable) (draft : Option FileAt) (i : ℕ) (e : Entry) (l : PageId) (used records at : ℕ) (bytes : List ℕ) → i < length table → IsEntry table i e → ((d : FileAt) → draft ≡ Some d → IsPending pages d)
-    → (IsTrue tells → Holds old (places table) draft) → length new ≡ length old → e.at.log ≡ Some l → 1 ≤ length bytes → at + length bytes ≤ e.at.size → (at + length bytes ≡ e.at.size → get_or bytes (length bytes - 1) 0 ≢ 0)
+    → (IsTrue tells → HoldsTable old (places table) draft) → length new ≡ length old → e.at.log ≡ Some l → 1 ≤ length bytes → at + length bytes ≤ e.at.size → (at + length bytes ≡ e.at.size → get_or bytes (length bytes - 1) 0 ≢ 0)
     → (IsTrue tells → Overwrites old new e.at l used at bytes)
     → Becomes (state_seen tells old table draft) (state_seen tells new (set table i (Some (record { at = record e.at { used = used }; records = records; room = e.room }))) draft) i (size_at (files_seen tells old table) i) (put_at (bytes_at (files_seen tells old table) i) at bytes)
 overwrite_becomes tells old new pages table draft i e l used records at bytes inside is pending holds long log many within last overwrites =
@@ -94,7 +94,7 @@ last_added old new e used total bytes becomes is many last zero =
     let place : e.size + (length bytes - 1) ≡ total - 1 = omega arith in
     last (sym (becomes.put.here (length bytes - 1) (omega arith)) ∙ ap (file_byte new e.page.0 e.log) place ∙ zero)
 
-pub append_sets : (old new : List ℕ) (table : EntryTable) (draft : Option FileAt) (i : ℕ) (e : Entry) (used : ℕ) (bytes : List ℕ) → Holds old (places table) draft → IsEntry table i e → length new ≡ length old → 1 ≤ length bytes → e.at.size + length bytes + 32 ≤ 256 * e.at.pages
+pub append_sets : (old new : List ℕ) (table : EntryTable) (draft : Option FileAt) (i : ℕ) (e : Entry) (used : ℕ) (bytes : List ℕ) → HoldsTable old (places table) draft → IsEntry table i e → length new ≡ length old → 1 ≤ length bytes → e.at.size + length bytes + 32 ≤ 256 * e.at.pages
     → get_or bytes (length bytes - 1) 0 ≢ 0 → (e.at.log ≡ None → used ≡ 0) → Appends old new e.at used bytes → SetsBytes old new (places table) draft i (record e.at { used = used; size = e.at.size + length bytes })
 append_sets old new table draft i e used bytes holds is long many fits last unused appends =
     let s = holds.stored i e.at (in_places table i e is) in
@@ -108,7 +108,7 @@ appended_seen true old new e used size bytes told s fits last appends = appended
 appended_seen false old new e used size bytes told s fits last appends = absurd (cc)
 
 pub append_becomes : (tells : Bool) (old new : List ℕ) (pages : ℕ) (table : EntryTable) (draft : Option FileAt) (i : ℕ) (e : Entry) (used : ℕ) (bytes : List ℕ) → i < length table → IsEntry table i e → ((d : FileAt) → draft ≡ Some d → IsPending pages d)
-    → (IsTrue tells → Holds old (places table) draft) → length new ≡ length old → 1 ≤ length bytes → e.at.size + length bytes + 32 ≤ 256 * e.at.pages → get_or bytes (length bytes - 1) 0 ≢ 0 → (e.at.log ≡ None → used ≡ 0)
+    → (IsTrue tells → HoldsTable old (places table) draft) → length new ≡ length old → 1 ≤ length bytes → e.at.size + length bytes + 32 ≤ 256 * e.at.pages → get_or bytes (length bytes - 1) 0 ≢ 0 → (e.at.log ≡ None → used ≡ 0)
     → (IsTrue tells → Appends old new e.at used bytes)
     → Becomes (state_seen tells old table draft) (state_seen tells new (set table i (Some (record { at = record e.at { size = e.at.size + length bytes; used = used }; records = e.records; room = 0 }))) draft) i (size_at (files_seen tells old table) i + length bytes) (bytes_at (files_seen tells old table) i ++ bytes)
 append_becomes tells old new pages table draft i e used bytes inside is pending holds long many fits last unused appends =

@@ -24,7 +24,7 @@ mounted_state image = state_seen true image (mounted_table (listed image)) None
 
 -- a file may follow those of a table by the rules 6, 7 and 13: none has its name, its pages are those
 -- of its kind, and it has few pages
-pub record MayFollow (table : EntryTable) (at : FileAt) : Type 0 where
+pub record MayBeListed (table : EntryTable) (at : FileAt) : Type 0 where
   pub name : (k : ℕ) → entry_name table k ≢ Some at.name
   pub shape : has_shape at.kind at.pages ≡ true
   pub few : has_few at ≡ true
@@ -36,8 +36,8 @@ pub record KeepFileRules (table : Entries) : Type 0 where
   pub few : (i : ℕ) (e : FileAt) → IsIn table i e → has_few e ≡ true
 
 -- a file as it is seen in an image: without its room
-abbrev pub named : File → NamedFile
-named f = record { name = f.name; kind = f.kind; bytes = f.bytes }
+abbrev pub roomless_file : File → NamedFile
+roomless_file f = record { name = f.name; kind = f.kind; bytes = f.bytes }
 
 -- no file has any room
 abbrev pub HaveNoRoom : Table → Type 0
@@ -51,12 +51,12 @@ WhereIdle state P = IsTrue state.tells → state.draft ≡ None → P
 
 -- each live file is one of the image, with its name, kind and bytes
 abbrev pub HasEach : State → (image : List ℕ) → Type 0
-HasEach state image = (id : ℕ) → IsLive state.files id → Contains (files_of image) (named (file_at state.files id))
+HasEach state image = (id : ℕ) → IsLive state.files id → Contains (files_of image) (roomless_file (file_at state.files id))
 
 -- and each file of the image is a live one
 abbrev pub HasOnly : State → (image : List ℕ) → Type 0
 HasOnly state image =
-    (n : NamedFile) → Contains (files_of image) n → (id : ℕ) × IsLive state.files id × (named (file_at state.files id) ≡ n)
+    (n : NamedFile) → Contains (files_of image) n → (id : ℕ) × IsLive state.files id × (roomless_file (file_at state.files id) ≡ n)
 
 -- THE ERROR
 
@@ -66,9 +66,9 @@ flash_of (Bad bad flash) = flash
 flash_of (Failed flash) = flash
 
 -- P of the broken rule, where that is the error
-abbrev pub OnBad : {F : Type 0} → MountError F → (BadImage → Type 0) → Type 0
-OnBad (Bad bad flash) P = P bad
-OnBad (Failed flash) P = ⊤
+abbrev pub OnBadImage : {F : Type 0} → MountError F → (BadImage → Type 0) → Type 0
+OnBadImage (Bad bad flash) P = P bad
+OnBadImage (Failed flash) P = ⊤
 
 -- P, where the error is that the flash failed
 abbrev pub OnFailed : {F : Type 0} → MountError F → Type 0 → Type 0

@@ -7,7 +7,7 @@ use Rattle.coffee_volume.specs.declared.entry.Entry.{Entry}
 -- The room of a file can be used without asking for space: each record is free in its log, and so is
 -- one more for an append; all bytes lie in the extent, and the regions that are written have numbers
 -- of 16 bits.
-pub record HasRoom (e : Entry) : Type 0 where
+pub record HasEntryRoom (e : Entry) : Type 0 where
   pub no_log : e.at.log ≡ None → e.records ≡ 0
   pub free : e.at.used + e.records ≤ 30
   pub spare : (l : PageId) → e.at.log ≡ Some l → 1 ≤ e.room → e.at.used + e.records < 30

@@ -3,7 +3,7 @@ use Rattle.std.specs.Prelude.{◌≡◌, ◌≢◌, ⊤, ℕ, ◌+◌, ◌*◌, 
 use Rattle.afl_base.specs.Fit.{fit}
 use Rattle.afl_base.specs.declared.kind.Kind.TheVariants.{Doubling, Fixed}
 use Rattle.coffee_layout.specs.declared.file.FileAt.{FileAt}
-use Rattle.coffee_merge.specs.Holding.{Entries, Holds, IsIn}
+use Rattle.coffee_merge.specs.Holding.{Entries, HoldsTable, IsIn}
 use Rattle.coffee_volume.specs.Rooms.{has_too_few, records_needed}
 use Rattle.coffee_volume.specs.declared.step.Step.{Step}
 use Rattle.coffee_volume.specs.declared.step.Step.TheVariants.{Grow, Merge, Log}
@@ -39,8 +39,8 @@ IsAfter Log from to = (to ≡ record from { log = to.log }) × (to.log ≢ None)
 
 -- P of each table of files that an image holds, with no draft
 abbrev pub WhereHeld : List ℕ → (Entries → Type 0) → Type 0
-WhereHeld image P = (table : Entries) → Holds image table None → P table
+WhereHeld image P = (table : Entries) → HoldsTable image table None → P table
 
 -- P of each such table, and of the place of a file in it
 abbrev pub WhereStands : List ℕ → FileAt → (Entries → ℕ → Type 0) → Type 0
-WhereStands image file P = (table : Entries) (i : ℕ) → Holds image table None → IsIn table i file → P table i
+WhereStands image file P = (table : Entries) (i : ℕ) → HoldsTable image table None → IsIn table i file → P table i

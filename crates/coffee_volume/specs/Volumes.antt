@@ -10,7 +10,7 @@ use Rattle.coffee_layout.specs.Tiling.{units_of}
 use Rattle.coffee_layout.specs.Walks.{has_few}
 use Rattle.coffee_layout.specs.declared.file.FileAt.{FileAt}
 use Rattle.coffee_merge.specs.Holding.{has_shape}
-use Rattle.coffee_volume.specs.Rooms.{HasRoom, pages_asked}
+use Rattle.coffee_volume.specs.Rooms.{HasEntryRoom, pages_asked}
 use Rattle.coffee_volume.specs.declared.entry.Entry.{Entry}
 
 -- THE TABLE
@@ -48,7 +48,7 @@ pub record IsRegular (pages : ℕ) (e : Entry) : Type 0 where
   pub fits : FitsIn pages e.at
   pub shape : has_shape e.at.kind e.at.pages ≡ true
   pub few : has_few e.at ≡ true
-  pub room : HasRoom e
+  pub room : HasEntryRoom e
 
 -- all entries are, and no two have one name
 pub record AreRegular (pages : ℕ) (table : EntryTable) : Type 0 where

@@ -8,7 +8,7 @@ ghost use Rattle.coffee_layout.specs.Tiling.{units_of};
 ghost use Rattle.coffee_layout.specs.Units.{pages_of};
 ghost use Rattle.coffee_merge.specs.Holding.{has_shape};
 ghost use Rattle.coffee_volume.specs.Asking.{AsksOf};
-ghost use Rattle.coffee_volume.specs.Mounting.{HasEach, HasMountCause, HasOnly, HaveNoRoom, KeepFileRules, MayFollow, OnBad, WhereIdle, flash_of, mounted_state, mounted_table};
+ghost use Rattle.coffee_volume.specs.Mounting.{HasEach, HasMountCause, HasOnly, HaveNoRoom, KeepFileRules, MayBeListed, OnBadImage, WhereIdle, flash_of, mounted_state, mounted_table};
 ghost use Rattle.coffee_volume.specs.Volumes.{AreRegular, places};
 
 use crate::entry::EntryTable;
@@ -32,7 +32,7 @@ impl<F: Flash> Volume<F> {
         ensures files { IsTrue F.tells → IfOk result (λ v.
             ⟦<Self as Files>⟧.state v ≡ mounted_state (F.image flash)) }
         ensures bad { IsTrue F.tells
-            → IfErr result (λ error. OnBad error (λ bad. broken_image (F.image flash) ≡ Some bad)) }
+            → IfErr result (λ error. OnBadImage error (λ bad. broken_image (F.image flash) ≡ Some bad)) }
         ensures tells { IfOk result (λ v. (⟦<Self as Files>⟧.state v).tells ≡ F.tells) }
         ensures idle { IfOk result (λ v. (⟦<Self as Files>⟧.state v).draft ≡ None) }
         ensures rooms { IfOk result (λ v. HaveNoRoom (⟦<Self as Files>⟧.state v).files) }
@@ -124,7 +124,7 @@ fn table_of(listed: &[FileAt]) -> Result<EntryTable, BadImage>
 
 // The first of the rules 6, 7 and 13 that a further file breaks.
 fn broken_by(table: &EntryTable, at: &FileAt) -> Option<u8>
-    ensures { MatchOption result (MayFollow table.now at.now) (λ _. MayFollow table.now at.now → ⊥) }
+    ensures { MatchOption result (MayBeListed table.now at.now) (λ _. MayBeListed table.now at.now → ⊥) }
 {
     if find_in(table, &at.name).is_some() {
         return Some(6);

@@ -3,7 +3,7 @@ ghost use Rattle.afl_base.specs.Files.{IsLive, IsNamed, IsUnnamed, file_at, size
 ghost use Rattle.afl_base.specs.Fit.{fit};
 ghost use Rattle.coffee_layout.specs.Units.{pages_of};
 ghost use Rattle.coffee_layout.specs.declared.file.FileAt.{FileAt};
-ghost use Rattle.coffee_merge.specs.Holding.{Holds, IsStored};
+ghost use Rattle.coffee_merge.specs.Holding.{HoldsTable, IsStored};
 ghost use Rattle.coffee_volume.specs.Volumes.{AreRegular, IsEntry, IsPending, IsRegular, file_seen, files_seen, places, roomless};
 
 use crate::entry::{Entry, EntryTable};
@@ -27,7 +27,7 @@ pub struct Volume<F: Flash> {
     ghost pending: { (d : FileAt) → draft ≡ Some d → IsPending (pages_of (F.image flash)) d },
     ghost space: { (d : FileAt) → draft ≡ Some d → IsUnnamed (files_seen false (F.image flash) table) d.name
         → used (files_seen false (F.image flash) table) < 32 },
-    ghost told: { IsTrue F.tells → failed ≡ false → Holds (F.image flash) (places table) draft },
+    ghost told: { IsTrue F.tells → failed ≡ false → HoldsTable (F.image flash) (places table) draft },
 }
 
 impl<F: Flash> Volume<F> {

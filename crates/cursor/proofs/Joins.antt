@@ -18,7 +18,7 @@ use Rattle.index_set.specs.Walks.{Fits, ahead, cost_ahead}
 use Rattle.tuple_file.specs.Tuples.{row, rows, slots}
 use Rattle.cursor.specs.declared.join.JoinCursor.{JoinCursor}
 use Rattle.cursor.specs.declared.partner.Partnered.{Partnered}
-use Rattle.cursor.specs.Pairs.{FitsPairs, HasAnswered, MayReadPairs, at_next_left, behind_pair, belongs, inner_cost, join_cost_ahead, join_cost_behind, lefts_of, matching, pairs_left, right_cost, right_costs, rights_of}
+use Rattle.cursor.specs.Pairs.{FitsPairs, HasAnswered, MayReadPairs, at_next_left, behind_pair, belongs, inner_cost, join_cost_ahead, join_cost_behind, lefts_of, matching, pairs_left, right_side_cost, right_side_costs, rights_of}
 use Rattle.cursor.specs.Remaining.{passing, tuples_at}
 use Rattle.cursor.proofs.Lists.{at_front, live_at}
 use Rattle.cursor.proofs.Suited.{count_rows}
@@ -50,11 +50,11 @@ sum_append : (f : List Value → ℕ) (xs ys : List (List Value)) → sum (map f
 sum_append f [] ys = omega arith
 sum_append f (x ∷ xs) ys = omega (arith, sum_append f xs ys)
 
-first_costs : (c : JoinCursor) (rights xs : List Row) → right_costs c rights xs ≡ right_costs c rights (take 1 xs) + right_costs c rights (drop 1 xs)
+first_costs : (c : JoinCursor) (rights xs : List Row) → right_side_costs c rights xs ≡ right_side_costs c rights (take 1 xs) + right_side_costs c rights (drop 1 xs)
 first_costs c rights xs =
-    ap (right_costs c rights) (sym (take-append-drop 1 xs))
-    ∙ ap (λ (l : List (List Value)). sum (map (λ left. right_cost c.right_indexes c.right_on (slice_get left c.left_on) rights) l)) (live_append (take 1 xs) (drop 1 xs))
-    ∙ sum_append (λ left. right_cost c.right_indexes c.right_on (slice_get left c.left_on) rights) (live_tuples (take 1 xs)) (live_tuples (drop 1 xs))
+    ap (right_side_costs c rights) (sym (take-append-drop 1 xs))
+    ∙ ap (λ (l : List (List Value)). sum (map (λ left. right_side_cost c.right_indexes c.right_on (slice_get left c.left_on) rights) l)) (live_append (take 1 xs) (drop 1 xs))
+    ∙ sum_append (λ left. right_side_cost c.right_indexes c.right_on (slice_get left c.left_on) rights) (live_tuples (take 1 xs)) (live_tuples (drop 1 xs))
 
 -- ---- the right rows of a left tuple
 
@@ -142,33 +142,33 @@ module _ (c : JoinCursor) (lefts rights : List Row) where
         ∙ ap (λ (r : Row). (t, r.tuple) ∷ (map (λ (y : List Value). (t, y)) (tuples_at rest rights) ++ behind)) is
         ∙ ap (λ (l : List (List Value × List Value)). (t, right) ∷ (l ++ behind)) (sym next)
 
-    pub one_cost : right_costs c rights (take 1 (drop c.at (lefts_of c lefts))) ≡ right_cost c.right_indexes c.right_on (slice_get t c.left_on) rights
+    pub one_cost : right_side_costs c rights (take 1 (drop c.at (lefts_of c lefts))) ≡ right_side_cost c.right_indexes c.right_on (slice_get t c.left_on) rights
     one_cost =
-        let whole : right_cost c.right_indexes c.right_on (slice_get t c.left_on) rights + 0 ≡ right_cost c.right_indexes c.right_on (slice_get t c.left_on) rights = omega arith in
-        ap (λ (l : List (List Value)). sum (map (λ left. right_cost c.right_indexes c.right_on (slice_get left c.left_on) rights) l)) live ∙ whole
+        let whole : right_side_cost c.right_indexes c.right_on (slice_get t c.left_on) rights + 0 ≡ right_side_cost c.right_indexes c.right_on (slice_get t c.left_on) rights = omega arith in
+        ap (λ (l : List (List Value)). sum (map (λ left. right_side_cost c.right_indexes c.right_on (slice_get left c.left_on) rights) l)) live ∙ whole
 
   -- ---- what the step costs: the left row, and what the right side was to cost
 
   module _ (r0 r1 : ℕ) (inside : c.at < c.left_slots) where
     pub left_cost : pairs_left c lefts rights ≡ pairs_left (at_next_left c) lefts rights
-        → r1 ≤ r0 + 6 + inner_cost c.inner (right_costs c rights (take 1 (drop c.at (lefts_of c lefts)))) rights
+        → r1 ≤ r0 + 6 + inner_cost c.inner (right_side_costs c rights (take 1 (drop c.at (lefts_of c lefts)))) rights
         → r1 + join_cost_ahead (at_next_left c) lefts rights ≤ r0 + join_cost_ahead c lefts rights
     left_cost same paid =
         let long : length (pairs_left c lefts rights) ≡ length (pairs_left (at_next_left c) lefts rights) = ap length same in
-        let behind : right_costs c rights (drop (c.at + 1) (lefts_of c lefts))
-        ≡ right_costs c rights (take 1 (drop (c.at + 1) (lefts_of c lefts))) + right_costs c rights (drop (c.at + 1 + 1) (lefts_of c lefts)) =
+        let behind : right_side_costs c rights (drop (c.at + 1) (lefts_of c lefts))
+        ≡ right_side_costs c rights (take 1 (drop (c.at + 1) (lefts_of c lefts))) + right_side_costs c rights (drop (c.at + 1 + 1) (lefts_of c lefts)) =
         first_costs c rights (drop (c.at + 1) (lefts_of c lefts))
-        ∙ ap (λ (l : List Row). right_costs c rights (take 1 (drop (c.at + 1) (lefts_of c lefts))) + right_costs c rights l) (drop-drop 1 (c.at + 1) (lefts_of c lefts)) in
+        ∙ ap (λ (l : List Row). right_side_costs c rights (take 1 (drop (c.at + 1) (lefts_of c lefts))) + right_side_costs c rights l) (drop-drop 1 (c.at + 1) (lefts_of c lefts)) in
         omega (arith, long, behind, paid)
 
     pub pair_cost : (pair : List Value × List Value) (slot : ℕ) (inner : Candidates) → pairs_left c lefts rights ≡ pair ∷ pairs_left (behind_pair c slot inner) lefts rights
-        → r1 + cost_ahead inner rights ≤ r0 + 6 + inner_cost c.inner (right_costs c rights (take 1 (drop c.at (lefts_of c lefts)))) rights
+        → r1 + cost_ahead inner rights ≤ r0 + 6 + inner_cost c.inner (right_side_costs c rights (take 1 (drop c.at (lefts_of c lefts)))) rights
         → r1 + join_cost_ahead (behind_pair c slot inner) lefts rights ≤ r0 + join_cost_ahead c lefts rights
     pair_cost pair slot inner same paid =
         let long : length (pairs_left c lefts rights) ≡ length (pairs_left (behind_pair c slot inner) lefts rights) + 1 = ap length same ∙ omega arith in
         omega (arith, long, paid)
 
-    pub fault_cost : r1 ≤ r0 + 6 + inner_cost c.inner (right_costs c rights (take 1 (drop c.at (lefts_of c lefts)))) rights → r1 + join_cost_behind c lefts rights ≤ r0 + join_cost_ahead c lefts rights
+    pub fault_cost : r1 ≤ r0 + 6 + inner_cost c.inner (right_side_costs c rights (take 1 (drop c.at (lefts_of c lefts)))) rights → r1 + join_cost_behind c lefts rights ≤ r0 + join_cost_ahead c lefts rights
     fault_cost paid = omega (arith, paid)
 
 -- ---- walks over the left rows
@@ -216,11 +216,11 @@ pairs_begin c lefts rights at from ln rn =
     e ∙ sym (first_matching c.left_on c.right_on lefts rights)
 
 pub cost_begin : (c : JoinCursor) (lefts rights : List Row) → c.at ≡ 0 → c.from ≡ 0 → c.left_slots ≡ length lefts → c.right_slots ≡ length rights → c.inner ≡ None
-    → join_cost_ahead c lefts rights ≡ 6 * (length lefts + length (matching c.left_on c.right_on lefts rights)) + right_costs c rights lefts
+    → join_cost_ahead c lefts rights ≡ 6 * (length lefts + length (matching c.left_on c.right_on lefts rights)) + right_side_costs c rights lefts
 cost_begin c lefts rights at from ln rn none =
     let l : lefts_of c lefts ≡ lefts = ap (λ (n : ℕ). take n lefts) ln ∙ take_all (length lefts) lefts (omega arith) in
-    let e : join_cost_ahead c lefts rights ≡ 6 * (c.left_slots - c.at + length (pairs_left c lefts rights)) + right_costs c rights (take 1 lefts) + right_costs c rights (drop 1 lefts) =
-    λ i. 6 * (c.left_slots - c.at + length (pairs_left c lefts rights)) + inner_cost (none i) (right_costs c rights (take 1 (drop (at i) (l i)))) rights + right_costs c rights (drop (at i + 1) (l i)) in
+    let e : join_cost_ahead c lefts rights ≡ 6 * (c.left_slots - c.at + length (pairs_left c lefts rights)) + right_side_costs c rights (take 1 lefts) + right_side_costs c rights (drop 1 lefts) =
+    λ i. 6 * (c.left_slots - c.at + length (pairs_left c lefts rights)) + inner_cost (none i) (right_side_costs c rights (take 1 (drop (at i) (l i)))) rights + right_side_costs c rights (drop (at i + 1) (l i)) in
     omega (arith, e, ap length (pairs_begin c lefts rights at from ln rn), first_costs c rights lefts)
 
 -- ---- what the left row and the right side give
@@ -264,22 +264,22 @@ module _ (c : JoinCursor) (lefts rights : List Row) (t : List Value) (live : liv
 
   pub partner_costs : (found : Option Partnered) (right : List Value) (r0 rr r1 : ℕ) → c.at < c.left_slots → rr ≤ r0 + 6
       → MatchOption found (pairs_left c lefts rights ≡ pairs_left (at_next_left c) lefts rights) (λ p. pairs_left c lefts rights ≡ (t, right) ∷ pairs_left (behind_pair c p.slot p.inner) lefts rights)
-      → MatchOption found (r1 ≤ rr + inner_cost c.inner (right_cost c.right_indexes c.right_on (slice_get t c.left_on) rights) rights)
-      (λ p. r1 + cost_ahead p.inner rights ≤ rr + inner_cost c.inner (right_cost c.right_indexes c.right_on (slice_get t c.left_on) rights) rights)
+      → MatchOption found (r1 ≤ rr + inner_cost c.inner (right_side_cost c.right_indexes c.right_on (slice_get t c.left_on) rights) rights)
+      (λ p. r1 + cost_ahead p.inner rights ≤ rr + inner_cost c.inner (right_side_cost c.right_indexes c.right_on (slice_get t c.left_on) rights) rights)
       → MatchOption found (r1 + join_cost_ahead (at_next_left c) lefts rights ≤ r0 + join_cost_ahead c lefts rights) (λ p. r1 + join_cost_ahead (behind_pair c p.slot p.inner) lefts rights ≤ r0 + join_cost_ahead c lefts rights)
   partner_costs None right r0 rr r1 inside read same paid =
-      let e : inner_cost c.inner (right_costs c rights (take 1 (drop c.at (lefts_of c lefts)))) rights ≡ inner_cost c.inner (right_cost c.right_indexes c.right_on (slice_get t c.left_on) rights) rights =
+      let e : inner_cost c.inner (right_side_costs c rights (take 1 (drop c.at (lefts_of c lefts)))) rights ≡ inner_cost c.inner (right_side_cost c.right_indexes c.right_on (slice_get t c.left_on) rights) rights =
       ap (λ (n : ℕ). inner_cost c.inner n rights) (one_cost c lefts rights t live order few) in
       left_cost c lefts rights r0 r1 inside same (omega (arith, read, paid, e))
   partner_costs (Some p) right r0 rr r1 inside read same paid =
-      let e : inner_cost c.inner (right_costs c rights (take 1 (drop c.at (lefts_of c lefts)))) rights ≡ inner_cost c.inner (right_cost c.right_indexes c.right_on (slice_get t c.left_on) rights) rights =
+      let e : inner_cost c.inner (right_side_costs c rights (take 1 (drop c.at (lefts_of c lefts)))) rights ≡ inner_cost c.inner (right_side_cost c.right_indexes c.right_on (slice_get t c.left_on) rights) rights =
       ap (λ (n : ℕ). inner_cost c.inner n rights) (one_cost c lefts rights t live order few) in
       pair_cost c lefts rights r0 r1 inside (t, right) p.slot p.inner same (omega (arith, read, paid, e))
 
-  pub partner_fault : (r0 rr r1 : ℕ) → c.at < c.left_slots → rr ≤ r0 + 6 → r1 ≤ rr + inner_cost c.inner (right_cost c.right_indexes c.right_on (slice_get t c.left_on) rights) rights
+  pub partner_fault : (r0 rr r1 : ℕ) → c.at < c.left_slots → rr ≤ r0 + 6 → r1 ≤ rr + inner_cost c.inner (right_side_cost c.right_indexes c.right_on (slice_get t c.left_on) rights) rights
       → r1 + join_cost_behind c lefts rights ≤ r0 + join_cost_ahead c lefts rights
   partner_fault r0 rr r1 inside read paid =
-      let e : inner_cost c.inner (right_costs c rights (take 1 (drop c.at (lefts_of c lefts)))) rights ≡ inner_cost c.inner (right_cost c.right_indexes c.right_on (slice_get t c.left_on) rights) rights =
+      let e : inner_cost c.inner (right_side_costs c rights (take 1 (drop c.at (lefts_of c lefts)))) rights ≡ inner_cost c.inner (right_side_cost c.right_indexes c.right_on (slice_get t c.left_on) rights) rights =
       ap (λ (n : ℕ). inner_cost c.inner n rights) (one_cost c lefts rights t live order few) in
       fault_cost c lefts rights r0 r1 inside (omega (arith, read, paid, e))
 

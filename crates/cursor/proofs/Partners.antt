@@ -27,9 +27,9 @@ use Rattle.index_set.specs.declared.candidates.Search.{Search}
 use Rattle.index_set.specs.declared.candidates.Search.TheVariants as by
 use Rattle.index_set.specs.declared.info.IndexInfo.{IndexInfo}
 use Rattle.index_maxheap.specs.declared.places.Place.{Place}
-use Rattle.index_set.specs.Complete.{key_in}
+use Rattle.index_set.specs.Complete.{key_at_place}
 use Rattle.index_set.specs.Plans.{is_passed, kinds, slots_passed}
-use Rattle.index_set.specs.Walks.{ahead, cost_ahead, reads_by, slots_in, takes}
+use Rattle.index_set.specs.Walks.{ahead, cost_ahead, reads_by, slots_searched, search_takes}
 use Rattle.tuple_file.specs.declared.tuples.Tuples.{Tuples}
 use Rattle.tuple_file.specs.Tuples.{HoldsRows, rows, slots}
 use Rattle.cursor.specs.Pairs.{belongs}
@@ -72,10 +72,10 @@ slots_from from a (suc k) n e = from_step from a k n e (slots_from from (a + 1) 
 module _ (old new : Candidates) (from : ℕ) (all : List Row) (moved : new.from ≡ max old.from from) (slots : new.slots ≡ old.slots) (search : new.search ≡ old.search) where
   pub skipped : ahead new all ≡ filter (λ s. nat_le from s) (ahead old all)
   skipped =
-      let e : ahead new all ≡ slots_in old.search all (max old.from from) old.slots = λ i. slots_in (search i) all (moved i) (slots i) in
+      let e : ahead new all ≡ slots_searched old.search all (max old.from from) old.slots = λ i. slots_searched (search i) all (moved i) (slots i) in
       e
-      ∙ ap (filter (λ slot. takes old.search (get_or all slot no_row))) (sym (slots_from from old.from (old.slots - old.from) old.slots refl))
-      ∙ filter_swap (λ slot. takes old.search (get_or all slot no_row)) (λ s. nat_le from s) (range_with_len old.from (old.slots - old.from))
+      ∙ ap (filter (λ slot. search_takes old.search (get_or all slot no_row))) (sym (slots_from from old.from (old.slots - old.from) old.slots refl))
+      ∙ filter_swap (λ slot. search_takes old.search (get_or all slot no_row)) (λ s. nat_le from s) (range_with_len old.from (old.slots - old.from))
 
 fewer : (p : ℕ → Bool) (xs : List ℕ) → length (filter p xs) ≤ length xs
 fewer p xs = omega (arith, length-filter_both p (λ x. not (p x)) (λ x. refl) xs)
@@ -134,7 +134,7 @@ module _ (state : State) (t : Tuples) (told : IsTrue state.tells) (holds : Holds
   passed = at_slots (belongs value on) (λ r. is_passed (kinds infos) (ranges_at on value) r ≡ true) (rows state.files t)
       (λ slot below live.
       let r = get_or (rows state.files t) slot no_row in
-      plan_passes (ranges_at on value) (λ place. key_in place r) (kinds infos)
+      plan_passes (ranges_at on value) (λ place. key_at_place place r) (kinds infos)
       (all_lie t.schema.attributes r.tuple (rows_suit state t told holds slot (omega (arith, below, count_rows state t))) value on ((both r.live (belongs value on r.tuple) live).1) infos places))
 
   -- all that belongs to the value, from a slot on, is ahead

@@ -7,12 +7,12 @@ use Rattle.std.proofs.lemmas.List.Concat.{flat_map-cons}
 use Rattle.db_model.specs.declared.values.Value.{Value}
 use Rattle.db_model.specs.Answers.{live_tuples, same_value}
 use Rattle.db_model.specs.Row.{Row, no_row}
-use Rattle.index_set.specs.Walks.{RowsGrow, Waits, takes}
+use Rattle.index_set.specs.Walks.{RowsGrow, Waits, search_takes}
 use Rattle.index_set.proofs.Grown.{tests_same}
 use Rattle.cursor.specs.declared.join.JoinCursor.{JoinCursor}
 use Rattle.cursor.specs.declared.select.SelectCursor.{SelectCursor}
 use Rattle.cursor.specs.Pairs.{lefts_of, matching, pairs_left, rights_of}
-use Rattle.cursor.specs.Remaining.{is_live_and, passes, remaining, slots_left}
+use Rattle.cursor.specs.Remaining.{is_live_and, passes_code, remaining, slots_to_answer}
 use Rattle.cursor.proofs.Joins.{all_passed}
 
 -- ---- one relation
@@ -39,24 +39,24 @@ reads_same p f h a (suc n) m few same = reads_step f h (p a) a (filter p (range_
 
 -- a slot that is left
 picks : SelectCursor → List Row → ℕ → Bool
-picks c all slot = takes c.candidates.search (get_or all slot no_row) && is_live_and (passes c.code) (get_or all slot no_row)
+picks c all slot = search_takes c.candidates.search (get_or all slot no_row) && is_live_and (passes_code c.code) (get_or all slot no_row)
 
-picked : (c : SelectCursor) (all : List Row) → slots_left c all ≡ filter (picks c all) (range_with_len c.candidates.from (c.candidates.slots - c.candidates.from))
+picked : (c : SelectCursor) (all : List Row) → slots_to_answer c all ≡ filter (picks c all) (range_with_len c.candidates.from (c.candidates.slots - c.candidates.from))
 unfolding picks
 picked c all =
-    filter_both (λ slot. is_live_and (passes c.code) (get_or all slot no_row)) (λ slot. takes c.candidates.search (get_or all slot no_row))
+    filter_both (λ slot. is_live_and (passes_code c.code) (get_or all slot no_row)) (λ slot. search_takes c.candidates.search (get_or all slot no_row))
     (range_with_len c.candidates.from (c.candidates.slots - c.candidates.from))
 
 module _ (c : SelectCursor) (old new : List Row) (grow : RowsGrow old new) (w : Waits c.candidates old) where
   few : c.candidates.from + (c.candidates.slots - c.candidates.from) ≤ length old
   few = omega (arith, w.few, c.candidates.order, c.candidates.within)
 
-  pub slots_kept : slots_left c new ≡ slots_left c old
+  pub slots_kept : slots_to_answer c new ≡ slots_to_answer c old
   unfolding picks
   slots_kept =
       picked c new
       ∙ tests_same (picks c new) (picks c old) c.candidates.from (c.candidates.slots - c.candidates.from) (length old) few
-      (λ i below. ap (λ (r : Row). takes c.candidates.search r && is_live_and (passes c.code) r) (grow.same i below))
+      (λ i below. ap (λ (r : Row). search_takes c.candidates.search r && is_live_and (passes_code c.code) r) (grow.same i below))
       ∙ sym (picked c old)
 
   pub remaining_kept : remaining c new ≡ remaining c old

@@ -6,20 +6,20 @@ use Rattle.afl_base.specs.Files.{State}
 use Rattle.db_model.specs.declared.schemas.Attribute.{Attribute}
 use Rattle.db_model.specs.declared.values.Value.{Value}
 use Rattle.db_model.specs.Cost.{passed}
-use Rattle.db_model.specs.Row.{Row, no_row, row_at, rows_of, slots_in}
+use Rattle.db_model.specs.Row.{Row, no_row, row_at, rows_of, slots_in_bytes}
 use Rattle.index_set.specs.declared.candidates.Candidates.{Candidates}
 use Rattle.index_set.specs.declared.candidates.Search.{Search}
 use Rattle.index_set.specs.declared.candidates.Search.TheVariants as by
 use Rattle.index_set.specs.Tables.{Tables}
 use Rattle.index_set.specs.Walks.{Advances, Fits, ahead, cost_ahead, reads_ahead, reads_by, reads_next}
-use Rattle.cursor.specs.Remaining.{cost_of, is_live_and, passed_until, passing}
+use Rattle.cursor.specs.Remaining.{cost_of_slots, is_live_and, passed_until, passing}
 use Rattle.cursor.proofs.Lists.{kept, passed_over}
 
 -- the row of a slot is in its place
-pub row_there : (attributes : List Attribute) (bytes : List ℕ) (slot : ℕ) → slot < slots_in attributes bytes → get_or (rows_of attributes bytes) slot no_row ≡ row_at attributes bytes slot
+pub row_there : (attributes : List Attribute) (bytes : List ℕ) (slot : ℕ) → slot < slots_in_bytes attributes bytes → get_or (rows_of attributes bytes) slot no_row ≡ row_at attributes bytes slot
 row_there attributes bytes slot below =
     let e : 0 + slot ≡ slot = omega arith in
-    get_or-map-range_with_len (row_at attributes bytes) 0 (slots_in attributes bytes) slot slot no_row below e
+    get_or-map-range_with_len (row_at attributes bytes) 0 (slots_in_bytes attributes bytes) slot slot no_row below e
 
 -- a row was read, and its tuple passes a test or not
 pub is_answer : (test : List Value → Bool) (r there : Row) (tuple : List Value) (live : Bool) → r ≡ there → there ≡ record { tuple = tuple; live = live } → live && test tuple ≡ is_live_and test r
@@ -128,7 +128,7 @@ row_fails (by.Tree attribute file key) c a all p nb na reads r1 e few = omega (a
 row_fails (by.Table attribute number key) c a all p nb na reads r1 e few = omega (arith, e, few)
 
 module _ (state : State) (tables : Tables) (all : List Row) (test : List Value → Bool) (before now : Candidates) (reads r1 r2 : ℕ) (w : Walking state tables all test before now reads r1) (search : now.search ≡ before.search) where
-  pub walk_fails : r2 ≤ r1 + reads_next now all → r2 ≤ reads + cost_of before all (length (passed_until test all (ahead before all)))
+  pub walk_fails : r2 ≤ r1 + reads_next now all → r2 ≤ reads + cost_of_slots before all (length (passed_until test all (ahead before all)))
   walk_fails h =
       let is : cost_ahead now all ≡ 6 * length (ahead now all) + reads_by before.search now.place all (length (ahead now all)) =
       ap (λ (s : Search). 6 * length (ahead now all) + reads_by s now.place all (length (ahead now all))) search in
@@ -159,7 +159,7 @@ module _ (state : State) (tables : Tables) (all : List Row) (test : List Value �
   }
 
   -- a row that could not be read
-  pub walk_stops : after.search ≡ before.search → r3 ≤ reads + cost_of before all (length (passed_until test all (ahead before all)))
+  pub walk_stops : after.search ≡ before.search → r3 ≤ reads + cost_of_slots before all (length (passed_until test all (ahead before all)))
   walk_stops search =
       let long : length (ahead now all) ≡ length (ahead after all) + 1 = ap length here ∙ omega arith in
       let some : 1 ≤ length (passed_until test all (ahead now all)) = subst (λ (l : List ℕ). 1 ≤ length (passed_until test all l)) (sym here) (some_passed test all slot (ahead after all)) in

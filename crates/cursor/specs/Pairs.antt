@@ -4,7 +4,7 @@ use Rattle.std.specs.List.{range_with_len}
 use Rattle.afl_base.specs.Files.{State}
 use Rattle.db_model.specs.declared.values.Value.{Value}
 use Rattle.db_model.specs.Answers.{live_tuples, pairs, same_value}
-use Rattle.db_model.specs.Cost.{chosen_cost, ranges_at, right_costs as costs_of_right}
+use Rattle.db_model.specs.Cost.{chosen_cost, ranges_at, right_side_costs as costs_of_right}
 use Rattle.db_model.specs.Row.{Row, no_row}
 use Rattle.index_set.specs.declared.candidates.Candidates.{Candidates}
 use Rattle.index_set.specs.declared.info.IndexInfo.{IndexInfo}
@@ -100,12 +100,12 @@ pub record FitsPairs (c : JoinCursor) (state : State) (tables : Tables) : Type 0
 -- ---- what is still read
 
 -- the right side for a value
-abbrev pub right_cost : List IndexInfo → ℕ → Option Value → List Row → ℕ
-right_cost infos on value rights = chosen_cost (kinds infos) (ranges_at on value) rights
+abbrev pub right_side_cost : List IndexInfo → ℕ → Option Value → List Row → ℕ
+right_side_cost infos on value rights = chosen_cost (kinds infos) (ranges_at on value) rights
 
 -- for each live one of some left rows
-abbrev pub right_costs : JoinCursor → List Row → List Row → ℕ
-right_costs c rights lefts = costs_of_right (kinds c.right_indexes) (c.left_on, c.right_on) rights lefts
+abbrev pub right_side_costs : JoinCursor → List Row → List Row → ℕ
+right_side_costs c rights lefts = costs_of_right (kinds c.right_indexes) (c.left_on, c.right_on) rights lefts
 
 -- a right side that has begun has paid for its beginning
 abbrev pub inner_cost : Option Candidates → ℕ → List Row → ℕ
@@ -116,10 +116,10 @@ inner_cost (Some inner) cost rights = cost_ahead inner rights
 abbrev pub join_cost_ahead : JoinCursor → List Row → List Row → ℕ
 join_cost_ahead c lefts rights =
     6 * (c.left_slots - c.at + length (pairs_left c lefts rights))
-    + inner_cost c.inner (right_costs c rights (take 1 (drop c.at (lefts_of c lefts)))) rights
-    + right_costs c rights (drop (c.at + 1) (lefts_of c lefts))
+    + inner_cost c.inner (right_side_costs c rights (take 1 (drop c.at (lefts_of c lefts)))) rights
+    + right_side_costs c rights (drop (c.at + 1) (lefts_of c lefts))
 
 -- the same where the left row at which it stands has been paid for, and all pairs are still to come
 abbrev pub join_cost_behind : JoinCursor → List Row → List Row → ℕ
 join_cost_behind c lefts rights =
-    6 * (c.left_slots - (c.at + 1) + length (pairs_left c lefts rights)) + right_costs c rights (drop (c.at + 1) (lefts_of c lefts))
+    6 * (c.left_slots - (c.at + 1) + length (pairs_left c lefts rights)) + right_side_costs c rights (drop (c.at + 1) (lefts_of c lefts))

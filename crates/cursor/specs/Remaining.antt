@@ -22,7 +22,7 @@ use Rattle.tuple_file.specs.Column.{IsNumber}
 use Rattle.tuple_file.specs.Tuples.{HoldsRows, slots}
 use Rattle.cursor.specs.declared.select.SelectCursor.{SelectCursor}
 
--- a row is live, and its tuple passes a test
+-- a row is live, and its tuple passes_code a test
 abbrev pub is_live_and : (List Value → Bool) → Row → Bool
 is_live_and test row = row.live && test row.tuple
 
@@ -35,8 +35,8 @@ abbrev pub passed_until : (List Value → Bool) → List Row → List ℕ → Li
 passed_until test all slots = passed (slice_get (passing test all slots) 0) slots
 
 -- what is read for so many of the slots ahead
-abbrev pub cost_of : Candidates → List Row → ℕ → ℕ
-cost_of c all k = 6 * k + reads_by c.search c.place all k
+abbrev pub cost_of_slots : Candidates → List Row → ℕ → ℕ
+cost_of_slots c all k = 6 * k + reads_by c.search c.place all k
 
 abbrev pub tuples_at : List ℕ → List Row → List (List Value)
 tuples_at slots all = map (λ slot. (get_or all slot no_row).tuple) slots
@@ -44,20 +44,20 @@ tuples_at slots all = map (λ slot. (get_or all slot no_row).tuple) slots
 -- ---- cursors
 
 -- whether a compiled condition selects a tuple
-abbrev pub passes : List Instruction → List Value → Bool
-passes code tuple = verdict (evaluated code tuple [])
+abbrev pub passes_code : List Instruction → List Value → Bool
+passes_code code tuple = verdict (evaluated code tuple [])
 
 -- the slots that a cursor has still to answer: of those ahead the live ones that the condition selects
-abbrev pub slots_left : SelectCursor → List Row → List ℕ
-slots_left c all = passing (passes c.code) all (ahead c.candidates all)
+abbrev pub slots_to_answer : SelectCursor → List Row → List ℕ
+slots_to_answer c all = passing (passes_code c.code) all (ahead c.candidates all)
 
 -- and their tuples
 abbrev pub remaining : SelectCursor → List Row → List (List Value)
-remaining c all = tuples_at (slots_left c all) all
+remaining c all = tuples_at (slots_to_answer c all) all
 
 -- what is read until the next is answered
 abbrev pub next_cost : SelectCursor → List Row → ℕ
-next_cost c all = cost_of c.candidates all (length (passed_until (passes c.code) all (ahead c.candidates all)))
+next_cost c all = cost_of_slots c.candidates all (length (passed_until (passes_code c.code) all (ahead c.candidates all)))
 
 -- the slots of the live rows that a condition selects
 abbrev pub selected_slots : List Attribute → Option Cond → List Row → List ℕ
@@ -68,7 +68,7 @@ selected_slots attributes condition all = passing (selects attributes condition)
 -- by a condition over the rows of a relation: what remains is what the condition selects, and the plan's cost is enough
 pub record BeginsBy (c : SelectCursor) (attributes : List Attribute) (condition : Option Cond) (infos : List IndexInfo) (all : List Row) : Type 0 where
   pub remaining : remaining c all ≡ selected attributes condition all
-  pub slots_left : slots_left c all ≡ selected_slots attributes condition all
+  pub slots_left : slots_to_answer c all ≡ selected_slots attributes condition all
   pub ahead : ahead c.candidates all ≡ slots_passed (kinds infos) (ranges_of attributes condition) (length all) all
   pub cost : begin_cost (length all) (plan (kinds infos) (ranges_of attributes condition)) + cost_ahead c.candidates all
       ≤ chosen_cost (kinds infos) (ranges_of attributes condition) all
@@ -81,7 +81,7 @@ pub record IsBegun (c : SelectCursor) (relation : Tuples) (condition : List Inst
   pub rests : c.candidates.place ≡ None
   pub chosen : IsChosen c.candidates.search infos
 
--- over these rows, a step of candidates to the next row that is live and passes a test: what is ahead pays for what was read
+-- over these rows, a step of candidates to the next row that is live and passes_code a test: what is ahead pays for what was read
 pub record StepsTo (found : Option ℕ) (test : List Value → Bool) (old new : Candidates) (state : State) (tables : Tables) (all : List Row) (before after : ℕ) : Type 0 where
   pub first : MatchOption found (passing test all (ahead old all) ≡ [])
       (λ slot. passing test all (ahead old all) ≡ slot ∷ passing test all (ahead new all))
@@ -92,7 +92,7 @@ pub record StepsTo (found : Option ℕ) (test : List Value → Bool) (old new : 
 -- over these rows, a cursor has answered the first tuple that remained, or there was none
 pub record Yields (found : Option ℕ) (tuple : List Value) (old new : SelectCursor) (state : State) (tables : Tables) (all : List Row) (before after : ℕ) : Type 0 where
   pub next : MatchOption found (remaining old all ≡ []) (λ _. remaining old all ≡ tuple ∷ remaining new all)
-  pub slot : MatchOption found (slots_left old all ≡ []) (λ slot. slots_left old all ≡ slot ∷ slots_left new all)
+  pub slot : MatchOption found (slots_to_answer old all ≡ []) (λ slot. slots_to_answer old all ≡ slot ∷ slots_to_answer new all)
   pub over : IfNone found (remaining new all ≡ [])
   pub fits : Fits new.candidates state tables all
   pub reads : after + cost_ahead new.candidates all ≤ before + cost_ahead old.candidates all

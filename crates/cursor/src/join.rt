@@ -7,7 +7,7 @@ ghost use Rattle.afl_base.specs.Keeping.{OnlyReads};
 ghost use Rattle.db_model.specs.Row.{Row, no_row};
 ghost use Rattle.index_set.specs.Complete.{AreReadable};
 ghost use Rattle.tuple_file.specs.Tuples.{HoldsRows, rows, slots};
-ghost use Rattle.cursor.specs.Pairs.{FitsPairs, HasAnswered, MayReadPairs, at_next_left, behind_pair, join_cost_ahead, join_cost_behind, matching, pairs_left, right_costs};
+ghost use Rattle.cursor.specs.Pairs.{FitsPairs, HasAnswered, MayReadPairs, at_next_left, behind_pair, join_cost_ahead, join_cost_behind, matching, pairs_left, right_side_costs};
 
 use crate::partner::{Partner, Partnered, next_partner, value_at};
 use afl_base::{Failed, Files, SlotNo};
@@ -53,7 +53,7 @@ impl JoinCursor {
             let rights = rows (V.state files.now).files right in
             join_cost_ahead result lefts rights
             ≡ 6 * (length lefts + length (matching left_on right_on lefts rights))
-            + right_costs result rights lefts }
+            + right_side_costs result rights lefts }
         ensures left { result.left ≡ left }
         ensures right { result.right ≡ right }
         ensures indexes { result.right_indexes ≡ right_indexes }

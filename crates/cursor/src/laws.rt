@@ -8,7 +8,7 @@ ghost use Rattle.index_set.specs.Walks.{RowsGrow, Waits};
 ghost use Rattle.cursor.specs.declared.join.JoinCursor.{JoinCursor as AnyJoin};
 ghost use Rattle.cursor.specs.declared.select.SelectCursor.{SelectCursor as AnySelect};
 ghost use Rattle.cursor.specs.Pairs.{pairs_left};
-ghost use Rattle.cursor.specs.Remaining.{remaining, slots_left};
+ghost use Rattle.cursor.specs.Remaining.{remaining, slots_to_answer};
 
 /// What remains of a cursor's answer is the same whatever rows come behind the others.
 #[tactic(auto, using(crate::proofs::Waiting::remaining_kept, crate::proofs::Waiting::slots_kept))]
@@ -16,7 +16,7 @@ pub fn rows_that_come_change_no_answer()
     ensures remaining { (c : AnySelect) (old new : List Row) → RowsGrow old new
         → Waits c.candidates old → remaining c new ≡ remaining c old }
     ensures slots_left { (c : AnySelect) (old new : List Row) → RowsGrow old new
-        → Waits c.candidates old → slots_left c new ≡ slots_left c old }
+        → Waits c.candidates old → slots_to_answer c new ≡ slots_to_answer c old }
 {}
 
 /// The pairs that are left are the same whatever rows come behind the others on either side.

@@ -13,7 +13,7 @@ ghost use Rattle.index_set.specs.Complete.{AreIndexesOf, AreReadable};
 ghost use Rattle.db_model.specs.Row.{no_row};
 ghost use Rattle.index_set.specs.Walks.{Fits, IsSafeBy, ahead, cost_ahead};
 ghost use Rattle.tuple_file.specs.Tuples.{HoldsRows, rows, slots as slots_of};
-ghost use Rattle.cursor.specs.Pairs.{FitsInner, HasAhead, HasSlots, IsSafeInner, belongs, inner_cost, right_cost};
+ghost use Rattle.cursor.specs.Pairs.{FitsInner, HasAhead, HasSlots, IsSafeInner, belongs, inner_cost, right_side_cost};
 ghost use Rattle.cursor.specs.Remaining.{passing};
 
 use crate::walk::{Test, next_row};
@@ -131,11 +131,11 @@ fn right_side<V: Files>(
         → HasAhead inner.now test all from slots
         → passing test all (ahead c all) ≡ passing test all (range_with_len from (slots - from))) }
     ensures reads { let state = V.state files.old in let all = rows state.files right.now in
-        let cost = right_cost indexes.now partner.now.on partner.now.value all in
+        let cost = right_side_cost indexes.now partner.now.on partner.now.value all in
         IsTrue state.tells → IfOk result (λ c. AreIndexesOf state tables.now all indexes.now
         → V.reads files.new + cost_ahead c all ≤ V.reads files.old + inner_cost inner.now cost all) }
     ensures reads_err { let state = V.state files.old in let all = rows state.files right.now in
-        let cost = right_cost indexes.now partner.now.on partner.now.value all in
+        let cost = right_side_cost indexes.now partner.now.on partner.now.value all in
         OnErr result (V.reads files.new ≤ V.reads files.old + inner_cost inner.now cost all) }
     ensures frame { OnlyReads V.state V.lent V.reads V.faults files.old files.new result }
 {
@@ -198,14 +198,14 @@ pub(crate) fn next_partner<V: Files>(
     ensures safe { IfOk result (λ found. IfSome found (λ p.
         IsSafeBy p.inner.search (V.state files.old))) }
     ensures reads { let state = V.state files.old in let all = rows state.files right.now in
-        let cost = right_cost indexes.now partner.now.on partner.now.value all in
+        let cost = right_side_cost indexes.now partner.now.on partner.now.value all in
         IsTrue state.tells → IfOk result (λ found. AreIndexesOf state tables.now all indexes.now
         → FitsInner inner.now state tables.now all
         → MatchOption found (V.reads files.new ≤ V.reads files.old + inner_cost inner.now cost all) (λ p.
         V.reads files.new + cost_ahead p.inner all
         ≤ V.reads files.old + inner_cost inner.now cost all)) }
     ensures reads_err { let state = V.state files.old in let all = rows state.files right.now in
-        let cost = right_cost indexes.now partner.now.on partner.now.value all in
+        let cost = right_side_cost indexes.now partner.now.on partner.now.value all in
         IsTrue state.tells → OnErr result (AreIndexesOf state tables.now all indexes.now
         → FitsInner inner.now state tables.now all
         → V.reads files.new ≤ V.reads files.old + inner_cost inner.now cost all) }

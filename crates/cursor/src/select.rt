@@ -16,7 +16,7 @@ ghost use Rattle.index_set.specs.Plans.{kinds};
 ghost use Rattle.index_set.specs.Walks.{Advances, Fits, Waits, cost_ahead, walk_of};
 ghost use Rattle.lvm.specs.Code.{IsCodeOf};
 ghost use Rattle.tuple_file.specs.Tuples.{HoldsRows, rows, slots};
-ghost use Rattle.cursor.specs.Remaining.{AreOnNumbers, BeginsBy, IsBegun, MayRead, Yields, next_cost, remaining, slots_left};
+ghost use Rattle.cursor.specs.Remaining.{AreOnNumbers, BeginsBy, IsBegun, MayRead, Yields, next_cost, remaining, slots_to_answer};
 
 use crate::walk::{Test, next_row};
 use afl_base::{Failed, Files, SlotNo};
@@ -34,9 +34,9 @@ pub struct SelectCursor {
 }
 
 impl Test for Code {
-    ghost use Rattle.cursor.specs.Remaining.{passes};
+    ghost use Rattle.cursor.specs.Remaining.{passes_code};
 
-    ghost passes = { passes };
+    ghost passes = { passes_code };
 
     fn holds(&self, tuple: &Tuple) -> bool {
         self.eval(tuple)
@@ -112,7 +112,7 @@ impl SelectCursor {
         ensures rests { self.new
             ≡ record self.old { candidates = record self.old.candidates { place = None } } }
         ensures remaining { (all : List Row) → remaining self.new all ≡ remaining self.old all }
-        ensures slots_left { (all : List Row) → slots_left self.new all ≡ slots_left self.old all }
+        ensures slots_left { (all : List Row) → slots_to_answer self.new all ≡ slots_to_answer self.old all }
         ensures waits { (all : List Row) → Waits self.old.candidates all
             → Waits self.new.candidates all }
     {

@@ -7,7 +7,7 @@ ghost use Rattle.afl_base.specs.Keeping.{OnlyReads};
 ghost use Rattle.db_model.specs.Row.{AllSuit, Row, no_row};
 ghost use Rattle.index_set.specs.Walks.{Advances, Fits, ahead, cost_ahead};
 ghost use Rattle.tuple_file.specs.Tuples.{HoldsRows, row, rows, slots};
-ghost use Rattle.cursor.specs.Remaining.{MayRead, StepsTo, cost_of, is_live_and, passed_until};
+ghost use Rattle.cursor.specs.Remaining.{MayRead, StepsTo, cost_of_slots, is_live_and, passed_until};
 
 use afl_base::{Failed, Files, SlotNo};
 use db_model::Tuple;
@@ -80,7 +80,7 @@ pub(crate) fn next_row<V: Files, T: Test>(
     ensures reads_failed { let state = V.state files.old in let all = rows state.files tuples.now in
         let slots = passed_until (T.passes test.now) all (ahead candidates.old all) in
         IsTrue state.tells → OnErr result (Fits candidates.old state tables.now all
-        → V.reads files.new ≤ V.reads files.old + cost_of candidates.old all (length slots)) }
+        → V.reads files.new ≤ V.reads files.old + cost_of_slots candidates.old all (length slots)) }
     ensures frame { OnlyReads V.state V.lent V.reads V.faults files.old files.new result }
 {
     'slots: loop {

@@ -5,7 +5,7 @@ use Rattle.std.specs.List.{list_any, AllByRecursion}
 use Rattle.std.specs.Str.{bytes_eq}
 use Rattle.std.proofs.lemmas.Slice.Eq.{bytes_eq-Decides}
 use Rattle.db_model.specs.Catalog.{Index}
-use Rattle.db_model.specs.Database.{Relation, Cursor, used, free_from, relation_from, index_from, is_on, is_among, reader_from}
+use Rattle.db_model.specs.Database.{Relation, Cursor, used_things, free_from, relation_from, index_from, is_on, is_among, reader_from}
 use Rattle.db_model.specs.Sound.{StandsIn}
 
 pub false_true : false ≡ true → ⊥
@@ -76,7 +76,7 @@ abbrev pub one : Bool → ℕ
 one true = 1
 one false = 0
 
-pub none_of : {A : Type 0} (test : A → Bool) (slots : List (Option A)) (k : ℕ) (x : A) → length (filter test (used slots)) ≡ 0 → StandsIn slots k x → test x ≡ false
+pub none_of : {A : Type 0} (test : A → Bool) (slots : List (Option A)) (k : ℕ) (x : A) → length (filter test (used_things slots)) ≡ 0 → StandsIn slots k x → test x ≡ false
 none_of test [] k x none e = absurd (none_some e)
 none_of test (None ∷ slots) zero x none e = absurd (none_some e)
 none_of test (None ∷ slots) (suc k) x none e = none_of test slots k x none e
@@ -86,26 +86,26 @@ none_of test (Some y ∷ slots) k x none e = by_test (test y) refl none (λ many
     here zero f e rest = let same : y ≡ x = some_same e in ap test (sym same) ∙ f
     here (suc k) f e rest = rest k e
 
-    by_test : (t : Bool) → test y ≡ t → length (cond t (y ∷ filter test (used slots)) (filter test (used slots))) ≡ 0
-        → (length (filter test (used slots)) ≡ 0 → (j : ℕ) → StandsIn slots j x → test x ≡ false) → test x ≡ false
+    by_test : (t : Bool) → test y ≡ t → length (cond t (y ∷ filter test (used_things slots)) (filter test (used_things slots))) ≡ 0
+        → (length (filter test (used_things slots)) ≡ 0 → (j : ℕ) → StandsIn slots j x → test x ≡ false) → test x ≡ false
     by_test true f many rest = absurd (omega (arith, many))
     by_test false f many rest = here k f e (rest many)
 
-pub any_of : {A : Type 0} (test among : A → Bool) (slots : List (Option A)) (k : ℕ) (x : A) → StandsIn slots k x → among x ≡ true → test x ≡ true → list_any test (filter among (used slots)) ≡ true
+pub any_of : {A : Type 0} (test among : A → Bool) (slots : List (Option A)) (k : ℕ) (x : A) → StandsIn slots k x → among x ≡ true → test x ≡ true → list_any test (filter among (used_things slots)) ≡ true
 any_of test among [] k x e a t = absurd (none_some e)
 any_of test among (None ∷ slots) zero x e a t = absurd (none_some e)
 any_of test among (None ∷ slots) (suc k) x e a t = any_of test among slots k x e a t
 any_of test among (Some y ∷ slots) zero x e a t =
     let same : y ≡ x = some_same e in
-    ap (λ b. list_any test (cond b (y ∷ filter among (used slots)) (filter among (used slots)))) (ap among same ∙ a)
-    ∙ ap (λ b. b || list_any test (filter among (used slots))) (ap test same ∙ t)
+    ap (λ b. list_any test (cond b (y ∷ filter among (used_things slots)) (filter among (used_things slots)))) (ap among same ∙ a)
+    ∙ ap (λ b. b || list_any test (filter among (used_things slots))) (ap test same ∙ t)
 any_of test among (Some y ∷ slots) (suc k) x e a t = by_test (among y) (test y) (any_of test among slots k x e a t)
   where
-    by_test : (b c : Bool) → list_any test (filter among (used slots)) ≡ true → list_any test (cond b (y ∷ filter among (used slots)) (filter among (used slots))) ≡ true
+    by_test : (b c : Bool) → list_any test (filter among (used_things slots)) ≡ true → list_any test (cond b (y ∷ filter among (used_things slots)) (filter among (used_things slots))) ≡ true
     by_test false c h = h
     by_test true c h = either (test y)
       where
-        either : (c : Bool) → (c || list_any test (filter among (used slots))) ≡ true
+        either : (c : Bool) → (c || list_any test (filter among (used_things slots))) ≡ true
         either true = refl
         either false = h
 
@@ -114,30 +114,30 @@ count_both true y xs ys n h = omega (arith, h)
 count_both false y xs ys n h = h
 
 -- one more at most, where something is put into an unused slot
-pub count_put : {A : Type 0} (test : A → Bool) (slots : List (Option A)) (k : ℕ) (x : A) → get_or slots k None ≡ None → length (filter test (used (set slots k (Some x)))) ≤ one (test x) + length (filter test (used slots))
+pub count_put : {A : Type 0} (test : A → Bool) (slots : List (Option A)) (k : ℕ) (x : A) → get_or slots k None ≡ None → length (filter test (used_things (set slots k (Some x)))) ≤ one (test x) + length (filter test (used_things slots))
 count_put test [] k x e = omega arith
 count_put test (None ∷ slots) zero x e = by_test (test x)
   where
-    by_test : (b : Bool) → length (cond b (x ∷ filter test (used slots)) (filter test (used slots))) ≤ one b + length (filter test (used slots))
+    by_test : (b : Bool) → length (cond b (x ∷ filter test (used_things slots)) (filter test (used_things slots))) ≤ one b + length (filter test (used_things slots))
     by_test true = omega arith
     by_test false = omega arith
 count_put test (Some y ∷ slots) zero x e = absurd (none_some (sym e))
 count_put test (None ∷ slots) (suc k) x e = count_put test slots k x e
 count_put test (Some y ∷ slots) (suc k) x e =
-    count_both (test y) y (filter test (used (set slots k (Some x)))) (filter test (used slots)) (one (test x)) (count_put test slots k x e)
+    count_both (test y) y (filter test (used_things (set slots k (Some x)))) (filter test (used_things slots)) (one (test x)) (count_put test slots k x e)
 
-pub count_out : {A : Type 0} (test : A → Bool) (slots : List (Option A)) (k : ℕ) → length (filter test (used (set slots k None))) ≤ length (filter test (used slots))
+pub count_out : {A : Type 0} (test : A → Bool) (slots : List (Option A)) (k : ℕ) → length (filter test (used_things (set slots k None))) ≤ length (filter test (used_things slots))
 count_out test [] k = omega arith
 count_out test (None ∷ slots) zero = omega arith
 count_out test (Some y ∷ slots) zero = by_test (test y)
   where
-    by_test : (b : Bool) → length (filter test (used slots)) ≤ length (cond b (y ∷ filter test (used slots)) (filter test (used slots)))
+    by_test : (b : Bool) → length (filter test (used_things slots)) ≤ length (cond b (y ∷ filter test (used_things slots)) (filter test (used_things slots)))
     by_test true = omega arith
     by_test false = omega arith
 count_out test (None ∷ slots) (suc k) = count_out test slots k
 count_out test (Some y ∷ slots) (suc k) =
     let h = count_out test slots k in
-    let e = count_both (test y) y (filter test (used (set slots k None))) (filter test (used slots)) 0 (omega (arith, h)) in
+    let e = count_both (test y) y (filter test (used_things (set slots k None))) (filter test (used_things slots)) 0 (omega (arith, h)) in
     omega (arith, e)
 
 -- ---- relations by name

@@ -42,11 +42,11 @@ free_from n [] = None
 free_from n (None ∷ slots) = Some n
 free_from n (Some x ∷ slots) = free_from (n + 1) slots
 
--- what the used slots hold
-abbrev pub used : {A : Type 0} → List (Option A) → List A
-used [] = []
-used (None ∷ slots) = used slots
-used (Some x ∷ slots) = x ∷ used slots
+-- what the used_things slots hold
+abbrev pub used_things : {A : Type 0} → List (Option A) → List A
+used_things [] = []
+used_things (None ∷ slots) = used_things slots
+used_things (Some x ∷ slots) = x ∷ used_things slots
 
 -- ---- relations
 
@@ -86,7 +86,7 @@ index_slot db relation attribute = index_from relation attribute 0 db.indexes
 
 -- the indexes of the relation in a slot
 abbrev pub indexes_of : Database → ℕ → List Index
-indexes_of db relation = filter (λ index. index.relation == relation) (used db.indexes)
+indexes_of db relation = filter (λ index. index.relation == relation) (used_things db.indexes)
 
 abbrev pub is_inline : Index → Bool
 is_inline index = elim index.kind [ Inline ↦ true | MaxHeap ↦ false | MemHash ↦ false ]

@@ -117,9 +117,9 @@ row_of attributes bytes = record { tuple = tuple_of attributes bytes; live = sli
 abbrev pub row_at : List Attribute → List ℕ → ℕ → Row
 row_at attributes bytes k = row_of attributes (slice_range bytes (row_length attributes * k) (row_length attributes * k + row_length attributes))
 
-abbrev pub slots_in : List Attribute → List ℕ → ℕ
-slots_in attributes bytes = length bytes / row_length attributes
+abbrev pub slots_in_bytes : List Attribute → List ℕ → ℕ
+slots_in_bytes attributes bytes = length bytes / row_length attributes
 
 -- the rows that a file's bytes hold, slot by slot
 abbrev pub rows_of : List Attribute → List ℕ → List Row
-rows_of attributes bytes = map (row_at attributes bytes) (range_with_len 0 (slots_in attributes bytes))
+rows_of attributes bytes = map (row_at attributes bytes) (range_with_len 0 (slots_in_bytes attributes bytes))

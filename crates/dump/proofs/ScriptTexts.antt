@@ -8,7 +8,7 @@ use Rattle.db_model.specs.declared.commands.Command.TheVariants.{CreateRelation}
 use Rattle.db_model.specs.declared.schemas.Schema.{Schema}
 use Rattle.db_model.specs.Answers.{live_tuples}
 use Rattle.db_model.specs.Catalog.{Index}
-use Rattle.db_model.specs.Database.{Relation, Database, used}
+use Rattle.db_model.specs.Database.{Relation, Database, used_things}
 use Rattle.db_model.specs.Row.{Row}
 use Rattle.antelope_engine.specs.Reading.{relation_in_slot, schema_at}
 use Rattle.space_model.specs.Enough.{rows_in}
@@ -38,28 +38,28 @@ one_relation r =
     ∙ ap (λ t. attribute_lines name r.schema.attributes ++ t) (live_lines name r.rows))
     ∙ sym (append_assoc (command_line (CreateRelation name)) (attribute_lines name r.schema.attributes) (flat_map (row_lines name) r.rows))
 
-all_relations : (slots : List (Option Relation)) → flat_map command_line (flat_map relation_commands (used slots)) ≡ flat_map relation_lines slots
+all_relations : (slots : List (Option Relation)) → flat_map command_line (flat_map relation_commands (used_things slots)) ≡ flat_map relation_lines slots
 all_relations [] = refl
 all_relations (None ∷ slots) = all_relations slots ∙ sym (flat_map-cons relation_lines None slots)
 all_relations (Some r ∷ slots) =
-    ap (flat_map command_line) (flat_map-cons relation_commands r (used slots))
-    ∙ flat_map-append command_line (relation_commands r) (flat_map relation_commands (used slots))
-    ∙ ap (λ t. t ++ flat_map command_line (flat_map relation_commands (used slots))) (one_relation r)
+    ap (flat_map command_line) (flat_map-cons relation_commands r (used_things slots))
+    ∙ flat_map-append command_line (relation_commands r) (flat_map relation_commands (used_things slots))
+    ∙ ap (λ t. t ++ flat_map command_line (flat_map relation_commands (used_things slots))) (one_relation r)
     ∙ ap (λ t. relation_lines (Some r) ++ t) (all_relations slots)
     ∙ sym (flat_map-cons relation_lines (Some r) slots)
 
-all_indexes : (relations : List (Option Relation)) (slots : List (Option Index)) → flat_map command_line (map (index_command relations) (used slots)) ≡ flat_map (index_lines relations) slots
+all_indexes : (relations : List (Option Relation)) (slots : List (Option Index)) → flat_map command_line (map (index_command relations) (used_things slots)) ≡ flat_map (index_lines relations) slots
 all_indexes relations [] = refl
 all_indexes relations (None ∷ slots) = all_indexes relations slots ∙ sym (flat_map-cons (index_lines relations) None slots)
 all_indexes relations (Some index ∷ slots) =
-    flat_map-cons command_line (index_command relations index) (map (index_command relations) (used slots))
+    flat_map-cons command_line (index_command relations index) (map (index_command relations) (used_things slots))
     ∙ ap (λ t. command_line (index_command relations index) ++ t) (all_indexes relations slots)
     ∙ sym (flat_map-cons (index_lines relations) (Some index) slots)
 
 pub script_parts : (db : Database) → script db ≡ flat_map relation_lines db.relations ++ flat_map (index_lines db.relations) db.indexes
 script_parts db =
-    flat_map-append command_line (flat_map relation_commands (used db.relations)) (map (index_command db.relations) (used db.indexes))
-    ∙ ap (λ t. t ++ flat_map command_line (map (index_command db.relations) (used db.indexes))) (all_relations db.relations)
+    flat_map-append command_line (flat_map relation_commands (used_things db.relations)) (map (index_command db.relations) (used_things db.indexes))
+    ∙ ap (λ t. t ++ flat_map command_line (map (index_command db.relations) (used_things db.indexes))) (all_relations db.relations)
     ∙ ap (λ t. flat_map relation_lines db.relations ++ t) (all_indexes db.relations db.indexes)
 
 -- ---- slots

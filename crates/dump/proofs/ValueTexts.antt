@@ -4,7 +4,7 @@ use Rattle.std.proofs.lemmas.List.{take-append-drop, take_more}
 use Rattle.std.specs.Io.KnownBytes.{append_known}
 use Rattle.db_model.specs.declared.values.Value.{Value}
 use Rattle.db_model.specs.ReplyText.{value_text}
-use Rattle.dump.specs.Parts.{comma_before}
+use Rattle.dump.specs.Parts.{comma_and_space}
 use Rattle.dump_model.specs.Script.{values_text}
 use Rattle.reply_text.proofs.Pieces.{less_front, less_behind}
 use Rattle.reply_text.specs.WroteLess.{WroteLess}
@@ -26,22 +26,22 @@ values-append (v ∷ w ∷ vs) us =
     same [] = refl
     same (u ∷ us) = refl
 
-one_rest : (vs : List Value) (v : Value) → rest_of vs (v ∷ []) ≡ comma_before (length vs) ++ value_text v
+one_rest : (vs : List Value) (v : Value) → rest_of vs (v ∷ []) ≡ comma_and_space (length vs) ++ value_text v
 one_rest [] v = refl
 one_rest (w ∷ vs) v = refl
 
 -- one value more
-pub values_more : (xs : List Value) (i : ℕ) (d : Value) → i < length xs → values_text (take (i + 1) xs) ≡ values_text (take i xs) ++ (comma_before i ++ value_text (get_or xs i d))
+pub values_more : (xs : List Value) (i : ℕ) (d : Value) → i < length xs → values_text (take (i + 1) xs) ≡ values_text (take i xs) ++ (comma_and_space i ++ value_text (get_or xs i d))
 values_more xs i d h =
     let v = get_or xs i d in
     let many : length (take i xs) ≡ i = length-take-le i xs (omega (arith, h)) in
-    ap values_text (take_more xs i d h) ∙ values-append (take i xs) (v ∷ []) ∙ ap (λ t. values_text (take i xs) ++ t) (one_rest (take i xs) v) ∙ ap (λ n. values_text (take i xs) ++ (comma_before n ++ value_text v)) many
+    ap values_text (take_more xs i d h) ∙ values-append (take i xs) (v ∷ []) ∙ ap (λ t. values_text (take i xs) ++ t) (one_rest (take i xs) v) ∙ ap (λ n. values_text (take i xs) ++ (comma_and_space n ++ value_text v)) many
 
 -- a value was not wholly written
-pub less_value : (xs : List Value) (i : ℕ) (d : Value) (h0 h1 h2 : Option (List ℕ)) → i < length xs → h1 ≡ append_known h0 (values_text (take i xs)) → WroteLess h1 h2 (comma_before i ++ value_text (get_or xs i d)) → WroteLess h0 h2 (values_text xs)
+pub less_value : (xs : List Value) (i : ℕ) (d : Value) (h0 h1 h2 : Option (List ℕ)) → i < length xs → h1 ≡ append_known h0 (values_text (take i xs)) → WroteLess h1 h2 (comma_and_space i ++ value_text (get_or xs i d)) → WroteLess h0 h2 (values_text xs)
 less_value xs i d h0 h1 h2 h e w =
     let front = values_text (take i xs) in
-    let item = comma_before i ++ value_text (get_or xs i d) in
+    let item = comma_and_space i ++ value_text (get_or xs i d) in
     let rest = rest_of (take (i + 1) xs) (drop (i + 1) xs) in
     let whole : values_text xs ≡ (front ++ item) ++ rest = ap values_text (sym (take-append-drop (i + 1) xs)) ∙ values-append (take (i + 1) xs) (drop (i + 1) xs) ∙ ap (λ f. f ++ rest) (values_more xs i d h) in
     subst (λ all. WroteLess h0 h2 all) (sym whole) (less_front h0 h2 (front ++ item) rest (less_behind h0 h1 h2 front item e w))

@@ -9,9 +9,9 @@ use Rattle.db_model.specs.Row.{Row}
 use Rattle.dump_model.specs.Script.{attribute_command, command_line, index_command, row_command}
 
 -- a comma and a space, unless the place in the list is the first
-abbrev pub comma_before : ℕ → List ℕ
-comma_before zero = []
-comma_before (suc n) = 44 ∷ 32 ∷ []
+abbrev pub comma_and_space : ℕ → List ℕ
+comma_and_space zero = []
+comma_and_space (suc n) = 44 ∷ 32 ∷ []
 
 abbrev pub attribute_line : List ℕ → Attribute → List ℕ
 attribute_line relation a = command_line (attribute_command relation a)

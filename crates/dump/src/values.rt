@@ -6,7 +6,7 @@ ghost use Rattle.std.specs.Prelude.{◌≡◌, ◌++◌, OnErr, OnOk};
 ghost use Rattle.afl_base.specs.Keeping.{Sends};
 ghost use Rattle.std.specs.Io.KnownBytes.{append_known};
 ghost use Rattle.db_model.specs.ReplyText.{value_text};
-ghost use Rattle.dump.specs.Parts.{comma_before};
+ghost use Rattle.dump.specs.Parts.{comma_and_space};
 ghost use Rattle.dump_model.specs.Script.{values_text};
 ghost use Rattle.reply_text.specs.WroteLess.{WroteLess};
 
@@ -31,9 +31,9 @@ pub fn write_values<K: Sink>(out: &mut K, tuple: &Tuple) -> Result<(), Failed>
 
 // Appends the value at a place, with `, ` before it, unless it is the first.
 fn write_value<K: Sink>(out: &mut K, at: usize, value: &Value) -> Result<(), Failed>
-    ensures written { let all = comma_before at ++ value_text value.now in
+    ensures written { let all = comma_and_space at ++ value_text value.now in
         OnOk result (K.held out.new ≡ append_known (K.held out.old) all) }
-    ensures failed { let all = comma_before at ++ value_text value.now in
+    ensures failed { let all = comma_and_space at ++ value_text value.now in
         OnErr result (WroteLess (K.held out.old) (K.held out.new) all) }
     ensures frame { Sends K.lent K.faults out.old out.new result }
 {
@@ -46,8 +46,8 @@ fn write_value<K: Sink>(out: &mut K, at: usize, value: &Value) -> Result<(), Fai
 
 fn write_comma<K: Sink>(out: &mut K, at: usize) -> Result<(), Failed>
     ensures written { OnOk result
-        (K.held out.new ≡ append_known (K.held out.old) (comma_before at)) }
-    ensures failed { OnErr result (WroteLess (K.held out.old) (K.held out.new) (comma_before at)) }
+        (K.held out.new ≡ append_known (K.held out.old) (comma_and_space at)) }
+    ensures failed { OnErr result (WroteLess (K.held out.old) (K.held out.new) (comma_and_space at)) }
     ensures frame { Sends K.lent K.faults out.old out.new result }
 {
     if at == 0 {

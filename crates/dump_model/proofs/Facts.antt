@@ -1,4 +1,4 @@
--- What a sound database is, in lists: each used slot with those before it.
+-- What a sound database is, in lists: each used_things slot with those before it.
 use Rattle.std.proofs.Common.{◌≡◌, refl, sym, ap, subst, ◌∙◌, ℕ, ◌+◌, ◌<◌, ◌≤◌, ◌⊎◌, inl, inr, Bool, true, false, List, [], ◌∷◌, ◌++◌, length, map, get_or, append_assoc, arith, cond, Option, Some, None, suc}
 use Rattle.std.specs.Prelude.{IsTrue, not, ◌&&◌, ◌||◌, ◌==◌, filter, slice_get, ⊤}
 use Rattle.std.specs.List.{list_any, AllByRecursion}
@@ -10,7 +10,7 @@ use Rattle.db_model.specs.declared.schemas.Attribute.{Attribute}
 use Rattle.db_model.specs.declared.schemas.IndexKind.{IndexKind}
 use Rattle.db_model.specs.declared.schemas.IndexKind.TheVariants.{Inline, MaxHeap, MemHash}
 use Rattle.db_model.specs.Catalog.{Index, IsAttribute}
-use Rattle.db_model.specs.Database.{Relation, Database, used, is_among, is_on, is_hash_table}
+use Rattle.db_model.specs.Database.{Relation, Database, used_things, is_among, is_on, is_hash_table}
 use Rattle.db_model.specs.Names.{is_name}
 use Rattle.db_model.specs.Row.{Row, AllRowsSuit, row_length}
 use Rattle.db_model.specs.Sound.{IsSoundAttribute, IsSoundDatabase, IsSoundIndex, IsSoundRelation, StandsIn, SuitKind, are_distinct, attribute_names}
@@ -52,9 +52,9 @@ AllIndexFacts relations before (index ∷ indexes) = IndexFacts relations before
 pub record DatabaseFacts (db : Database) : Type 0 where
   pub eight_relations : length db.relations ≡ 8
   pub eight_indexes : length db.indexes ≡ 8
-  pub relations : AllByRecursion RelationFacts (used db.relations)
-  pub distinct : IsTrue (are_distinct (relation_names (used db.relations)))
-  pub indexes : AllIndexFacts db.relations [] (used db.indexes)
+  pub relations : AllByRecursion RelationFacts (used_things db.relations)
+  pub distinct : IsTrue (are_distinct (relation_names (used_things db.relations)))
+  pub indexes : AllIndexFacts db.relations [] (used_things db.indexes)
 
 suc_same : {j k : ℕ} → suc j ≡ suc k → j ≡ k
 suc_same e = omega (arith, e)
@@ -88,8 +88,8 @@ relation_facts version r known is = record {
   filled = some_attribute r.schema.attributes r.rows is.filled;
 }
 
--- what holds of each slot that is used holds of all that is in them
-all_used : {A : Type 0} (P : A → Type 0) (slots : List (Option A)) → ((k : ℕ) (x : A) → StandsIn slots k x → P x) → AllByRecursion P (used slots)
+-- what holds of each slot that is used_things holds of all that is in them
+all_used : {A : Type 0} (P : A → Type 0) (slots : List (Option A)) → ((k : ℕ) (x : A) → StandsIn slots k x → P x) → AllByRecursion P (used_things slots)
 all_used P [] each = tt
 all_used P (None ∷ slots) each = all_used P slots (λ k x h. each (suc k) x h)
 all_used P (Some x ∷ slots) each = (each 0 x refl, all_used P slots (λ k y h. each (suc k) y h))
@@ -98,13 +98,13 @@ all_used P (Some x ∷ slots) each = (each 0 x refl, all_used P slots (λ k y h.
 abbrev AreApart : List (Option Relation) → Type 0
 AreApart slots = (j k : ℕ) (q r : Relation) → StandsIn slots j q → StandsIn slots k r → q.schema.name ≡ r.schema.name → j ≡ k
 
--- a name that none of the used slots has
-not_among : (name : List ℕ) (slots : List (Option Relation)) → ((k : ℕ) (r : Relation) → StandsIn slots k r → name ≡ r.schema.name → ⊥) → is_among name (relation_names (used slots)) ≡ false
+-- a name that none of the used_things slots has
+not_among : (name : List ℕ) (slots : List (Option Relation)) → ((k : ℕ) (r : Relation) → StandsIn slots k r → name ≡ r.schema.name → ⊥) → is_among name (relation_names (used_things slots)) ≡ false
 not_among name [] other = refl
 not_among name (None ∷ slots) other = not_among name slots (λ k r h. other (suc k) r h)
 not_among name (Some q ∷ slots) other = by_test (bytes_eq q.schema.name name) refl (not_among name slots (λ k r h. other (suc k) r h))
   where
-    by_test : (t : Bool) → bytes_eq q.schema.name name ≡ t → is_among name (relation_names (used slots)) ≡ false → (t || is_among name (relation_names (used slots))) ≡ false
+    by_test : (t : Bool) → bytes_eq q.schema.name name ≡ t → is_among name (relation_names (used_things slots)) ≡ false → (t || is_among name (relation_names (used_things slots))) ≡ false
     by_test true e rest = absurd (other 0 q refl (sym ((bytes_eq-Decides q.schema.name name).0 e)))
     by_test false e rest = rest
 
@@ -114,7 +114,7 @@ and_both {a} {b} e f = ap (λ t. t && b) e ∙ f
 not_false : {a : Bool} → a ≡ false → not a ≡ true
 not_false e = ap not e
 
-names_apart : (slots : List (Option Relation)) → AreApart slots → IsTrue (are_distinct (relation_names (used slots)))
+names_apart : (slots : List (Option Relation)) → AreApart slots → IsTrue (are_distinct (relation_names (used_things slots)))
 names_apart [] apart = refl
 names_apart (None ∷ slots) apart = names_apart slots (λ j k q r h i e. suc_same (apart (suc j) (suc k) q r h i e))
 names_apart (Some p ∷ slots) apart =
@@ -128,7 +128,7 @@ names_apart (Some p ∷ slots) apart =
 abbrev ArePlaced : List (Option Index) → Type 0
 ArePlaced slots = (j k : ℕ) (a b : Index) → StandsIn slots j a → StandsIn slots k b → a.relation ≡ b.relation → a.attribute ≡ b.attribute → j ≡ k
 
--- none of some indexes is on the place of one in a used slot
+-- none of some indexes is on the place of one in a used_things slot
 abbrev AreElsewhere : List Index → List (Option Index) → Type 0
 AreElsewhere before slots = (k : ℕ) (index : Index) → StandsIn slots k index → list_any (is_on index.relation index.attribute) before ≡ false
 
@@ -191,15 +191,15 @@ index_facts relations before rest index few alone is = record {
 
 all_index_facts : (relations : List (Option Relation)) (before : List Index) (slots : List (Option Index))
     → ((k : ℕ) (index : Index) → StandsIn slots k index → IsSoundIndex relations index) → ArePlaced slots → AreElsewhere before slots
-    → length (filter is_hash_table (before ++ used slots)) ≤ 2 → AllIndexFacts relations before (used slots)
+    → length (filter is_hash_table (before ++ used_things slots)) ≤ 2 → AllIndexFacts relations before (used_things slots)
 all_index_facts relations before [] each placed elsewhere few = tt
 all_index_facts relations before (None ∷ slots) each placed elsewhere few =
     all_index_facts relations before slots (λ k index h. each (suc k) index h) (λ j k a b h i e f. suc_same (placed (suc j) (suc k) a b h i e f)) (λ k index h. elsewhere (suc k) index h) few
 all_index_facts relations before (Some index ∷ slots) each placed elsewhere few = (
-  index_facts relations before (used slots) index few (elsewhere 0 index refl) (each 0 index refl),
+  index_facts relations before (used_things slots) index few (elsewhere 0 index refl) (each 0 index refl),
   all_index_facts relations (before ++ index ∷ []) slots (λ k other h. each (suc k) other h) (λ j k a b h i e f. suc_same (placed (suc j) (suc k) a b h i e f))
       (elsewhere_more before index slots placed elsewhere)
-      (subst (λ xs. length (filter is_hash_table xs) ≤ 2) (sym (append_assoc before (index ∷ []) (used slots))) few),
+      (subst (λ xs. length (filter is_hash_table xs) ≤ 2) (sym (append_assoc before (index ∷ []) (used_things slots))) few),
 )
 
 -- ---- databases

@@ -14,7 +14,7 @@ use Rattle.db_model.specs.declared.values.Value.{Value}
 use Rattle.db_model.specs.declared.values.Value.TheVariants as value
 use Rattle.db_model.specs.Answers.{live_tuples}
 use Rattle.db_model.specs.Catalog.{Index, IsAttribute, IsDomain}
-use Rattle.db_model.specs.Database.{Relation, Database, used, empty_database}
+use Rattle.db_model.specs.Database.{Relation, Database, used_things, empty_database}
 use Rattle.db_model.specs.Names.{is_name, is_text}
 use Rattle.db_model.specs.Reading.{IsReader, IsReading}
 use Rattle.db_model.specs.Row.{Row, suits, is_between, AllSuit, AllRowsSuit}
@@ -41,31 +41,31 @@ all-append P (x ∷ xs) ys h i = (h.0, all-append P xs ys h.1 i)
 
 -- ---- all commands are carried out
 
-sound_at : (slots : List (Option Relation)) (k : ℕ) (r : Relation) → AllByRecursion RelationFacts (used slots) → get_or slots k None ≡ Some r → RelationFacts r
+sound_at : (slots : List (Option Relation)) (k : ℕ) (r : Relation) → AllByRecursion RelationFacts (used_things slots) → get_or slots k None ≡ Some r → RelationFacts r
 sound_at [] k r all h = cc
 sound_at (None ∷ slots) zero r all h = cc
 sound_at (None ∷ slots) (suc k) r all h = sound_at slots k r all h
 sound_at (Some q ∷ slots) zero r all h = subst RelationFacts (some_same h) all.0
 sound_at (Some q ∷ slots) (suc k) r all h = sound_at slots k r all.1 h
 
-makes_indexes : (slots : List (Option Relation)) (before rest : List Index) → AllByRecursion RelationFacts (used slots) → IsTrue (are_distinct (relation_names (used slots))) → length (before ++ rest) ≤ 8 → AreUsed slots before → AllIndexFacts slots before rest
-    → Makes (with_indexes (map packed_relation (used slots)) (map (moved_index slots) before)) (map (index_command slots) rest) (with_indexes (map packed_relation (used slots)) (map (moved_index slots) (before ++ rest)))
-makes_indexes slots before [] relations distinct few used_before are = ap (λ xs. with_indexes (map packed_relation (used slots)) (map (moved_index slots) xs)) (sym (append-nil before))
+makes_indexes : (slots : List (Option Relation)) (before rest : List Index) → AllByRecursion RelationFacts (used_things slots) → IsTrue (are_distinct (relation_names (used_things slots))) → length (before ++ rest) ≤ 8 → AreUsed slots before → AllIndexFacts slots before rest
+    → Makes (with_indexes (map packed_relation (used_things slots)) (map (moved_index slots) before)) (map (index_command slots) rest) (with_indexes (map packed_relation (used_things slots)) (map (moved_index slots) (before ++ rest)))
+makes_indexes slots before [] relations distinct few used_before are = ap (λ xs. with_indexes (map packed_relation (used_things slots)) (map (moved_index slots) xs)) (sym (append-nil before))
 makes_indexes slots before (index ∷ rest) relations distinct few used_before are =
     let same = append_assoc before (index ∷ []) rest in
     let many = length-append before (index ∷ rest) in
-    let state : List Index → Database = λ xs. with_indexes (map packed_relation (used slots)) (map (moved_index slots) xs) in
+    let state : List Index → Database = λ xs. with_indexes (map packed_relation (used_things slots)) (map (moved_index slots) xs) in
     let one = makes_index slots before index distinct (omega (arith, many, few)) used_before are.0 (sound_at slots index.relation are.0.relation relations are.0.used).distinct in
     let others = makes_indexes slots (before ++ index ∷ []) rest relations distinct (rw same few) (all-append _ before (index ∷ []) used_before ((are.0.relation, are.0.used), tt)) are.1 in
     (state (before ++ index ∷ []), one, subst (λ xs. Makes (state (before ++ index ∷ [])) (map (index_command slots) rest) (state xs)) same others)
 
 pub makes_packed : (db : Database) → DatabaseFacts db → Makes empty_database (script_commands db) (packed db)
 makes_packed db is =
-    let few : length (used db.relations) ≤ 8 = let e = used_few db.relations in let n = is.eight_relations in omega (arith, e, n) in
-    let few_indexes : length (used db.indexes) ≤ 8 = let e = used_few db.indexes in let n = is.eight_indexes in omega (arith, e, n) in
-    makes-append empty_database (with_relations (map packed_relation (used db.relations))) (packed db) (flat_map relation_commands (used db.relations)) (map (index_command db.relations) (used db.indexes))
-    (relations_made (used db.relations) few is.relations is.distinct)
-    (makes_indexes db.relations [] (used db.indexes) is.relations is.distinct few_indexes tt is.indexes)
+    let few : length (used_things db.relations) ≤ 8 = let e = used_few db.relations in let n = is.eight_relations in omega (arith, e, n) in
+    let few_indexes : length (used_things db.indexes) ≤ 8 = let e = used_few db.indexes in let n = is.eight_indexes in omega (arith, e, n) in
+    makes-append empty_database (with_relations (map packed_relation (used_things db.relations))) (packed db) (flat_map relation_commands (used_things db.relations)) (map (index_command db.relations) (used_things db.indexes))
+    (relations_made (used_things db.relations) few is.relations is.distinct)
+    (makes_indexes db.relations [] (used_things db.indexes) is.relations is.distinct few_indexes tt is.indexes)
 
 -- ---- all commands are printed
 
@@ -143,7 +143,7 @@ name_printed [] p a all h = cc
 name_printed (b ∷ attributes) zero a all h = subst (λ c. IsTrue (is_name c.name)) (some_same h) all.0.0
 name_printed (b ∷ attributes) (suc p) a all h = name_printed attributes p a all.1 h
 
-printed_index : (slots : List (Option Relation)) (before : List Index) (index : Index) → AllByRecursion RelationFacts (used slots) → IndexFacts slots before index → IsPrinted (index_command slots index)
+printed_index : (slots : List (Option Relation)) (before : List Index) (index : Index) → AllByRecursion RelationFacts (used_things slots) → IndexFacts slots before index → IsPrinted (index_command slots index)
 printed_index slots before index relations is =
     let sound = sound_at slots index.relation is.relation relations is.used in
     let wanted : CreateIndex is.relation.schema.name is.attribute.name index.kind ≡ index_command slots index =
@@ -151,15 +151,15 @@ printed_index slots before index relations is =
     ∙ ap (λ found. elim found [ None ↦ CreateIndex [] [] index.kind | Some r ↦ CreateIndex r.schema.name (attribute_name r.schema.attributes index.attribute) index.kind ]) (sym is.used) in
     subst IsPrinted wanted (sound.name, name_printed is.relation.schema.attributes index.attribute is.attribute sound.attributes is.placed)
 
-printed_indexes : (slots : List (Option Relation)) (before rest : List Index) → AllByRecursion RelationFacts (used slots) → AllIndexFacts slots before rest → AllByRecursion IsPrinted (map (index_command slots) rest)
+printed_indexes : (slots : List (Option Relation)) (before rest : List Index) → AllByRecursion RelationFacts (used_things slots) → AllIndexFacts slots before rest → AllByRecursion IsPrinted (map (index_command slots) rest)
 printed_indexes slots before [] relations are = tt
 printed_indexes slots before (index ∷ rest) relations are = (printed_index slots before index relations are.0, printed_indexes slots (before ++ index ∷ []) rest relations are.1)
 
 pub printed : (db : Database) → DatabaseFacts db → AllByRecursion IsPrinted (script_commands db)
 printed db is =
-    all-append IsPrinted (flat_map relation_commands (used db.relations)) (map (index_command db.relations) (used db.indexes))
-    (printed_relations (used db.relations) is.relations)
-    (printed_indexes db.relations [] (used db.indexes) is.relations is.indexes)
+    all-append IsPrinted (flat_map relation_commands (used_things db.relations)) (map (index_command db.relations) (used_things db.indexes))
+    (printed_relations (used_things db.relations) is.relations)
+    (printed_indexes db.relations [] (used_things db.indexes) is.relations is.indexes)
 
 -- ---- the script is carried out
 

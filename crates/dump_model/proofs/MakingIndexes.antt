@@ -14,7 +14,7 @@ use Rattle.db_model.specs.declared.schemas.Attribute.{Attribute}
 use Rattle.db_model.specs.declared.schemas.IndexKind.{IndexKind}
 use Rattle.db_model.specs.declared.schemas.IndexKind.TheVariants.{Inline, MaxHeap, MemHash}
 use Rattle.db_model.specs.Catalog.{Index}
-use Rattle.db_model.specs.Database.{Relation, Database, used, free_from, is_among, is_on, is_hash_table, relation_from, index_from, index_slot}
+use Rattle.db_model.specs.Database.{Relation, Database, used_things, free_from, is_among, is_on, is_hash_table, relation_from, index_from, index_slot}
 use Rattle.db_model.specs.Item.{place_from, place_of}
 use Rattle.db_model.specs.Refusing.{◌>>=◌, ◌>>◌, refuse_if, refuse_found, found_or}
 use Rattle.db_model.specs.Row.{Row}
@@ -55,36 +55,36 @@ placed_from (b ∷ attributes) n (suc p) a distinct h =
 
 -- ---- a relation at its new slot
 
-among_relations : (slots : List (Option Relation)) (k : ℕ) (r : Relation) → get_or slots k None ≡ Some r → is_among r.schema.name (relation_names (used slots)) ≡ true
+among_relations : (slots : List (Option Relation)) (k : ℕ) (r : Relation) → get_or slots k None ≡ Some r → is_among r.schema.name (relation_names (used_things slots)) ≡ true
 among_relations [] k r h = cc
 among_relations (None ∷ slots) zero r h = cc
 among_relations (None ∷ slots) (suc k) r h = among_relations slots k r h
 among_relations (Some q ∷ slots) zero r h =
     let same : q ≡ r = some_same h in
-    ap (λ c. bytes_eq c.schema.name r.schema.name || is_among r.schema.name (relation_names (used slots))) same ∙ ap (λ t. t || is_among r.schema.name (relation_names (used slots))) (same_name r.schema.name)
+    ap (λ c. bytes_eq c.schema.name r.schema.name || is_among r.schema.name (relation_names (used_things slots))) same ∙ ap (λ t. t || is_among r.schema.name (relation_names (used_things slots))) (same_name r.schema.name)
 among_relations (Some q ∷ slots) (suc k) r h = or_true (bytes_eq q.schema.name r.schema.name) (among_relations slots k r h)
 
-moved_from : (slots : List (Option Relation)) (n k : ℕ) (r : Relation) (behind : List (Option Relation)) → IsTrue (are_distinct (relation_names (used slots))) → get_or slots k None ≡ Some r
-    → relation_from r.schema.name n (map (λ x. Some x) (map packed_relation (used slots)) ++ behind) ≡ Some (n + new_slot slots k, packed_relation r)
+moved_from : (slots : List (Option Relation)) (n k : ℕ) (r : Relation) (behind : List (Option Relation)) → IsTrue (are_distinct (relation_names (used_things slots))) → get_or slots k None ≡ Some r
+    → relation_from r.schema.name n (map (λ x. Some x) (map packed_relation (used_things slots)) ++ behind) ≡ Some (n + new_slot slots k, packed_relation r)
 moved_from [] n k r behind distinct h = cc
 moved_from (None ∷ slots) n zero r behind distinct h = cc
 moved_from (None ∷ slots) n (suc k) r behind distinct h = moved_from slots n k r behind distinct h
 moved_from (Some q ∷ slots) n zero r behind distinct h =
     let same : q ≡ r = some_same h in
     let e : n ≡ n + 0 = omega arith in
-    let rest = relation_from r.schema.name (n + 1) (map (λ x. Some x) (map packed_relation (used slots)) ++ behind) in
+    let rest = relation_from r.schema.name (n + 1) (map (λ x. Some x) (map packed_relation (used_things slots)) ++ behind) in
     ap (λ c. cond (bytes_eq c.schema.name r.schema.name) (Some (n, packed_relation c)) rest) same
     ∙ ap (λ t. cond t (Some (n, packed_relation r)) rest) (same_name r.schema.name)
     ∙ ap (λ j. Some (j, packed_relation r)) e
 moved_from (Some q ∷ slots) n (suc k) r behind distinct h =
-    let apart = not_true (is_among q.schema.name (relation_names (used slots))) (and_left (not (is_among q.schema.name (relation_names (used slots)))) (are_distinct (relation_names (used slots))) distinct) in
-    let other = not_first q.schema.name r.schema.name (relation_names (used slots)) apart (among_relations slots k r h) in
+    let apart = not_true (is_among q.schema.name (relation_names (used_things slots))) (and_left (not (is_among q.schema.name (relation_names (used_things slots)))) (are_distinct (relation_names (used_things slots))) distinct) in
+    let other = not_first q.schema.name r.schema.name (relation_names (used_things slots)) apart (among_relations slots k r h) in
     let e : (n + 1) + new_slot slots k ≡ n + suc (new_slot slots k) = omega arith in
-    ap (λ t. cond t (Some (n, packed_relation q)) (relation_from r.schema.name (n + 1) (map (λ x. Some x) (map packed_relation (used slots)) ++ behind))) other
-    ∙ moved_from slots (n + 1) k r behind (and_right (not (is_among q.schema.name (relation_names (used slots)))) (are_distinct (relation_names (used slots))) distinct) h
+    ap (λ t. cond t (Some (n, packed_relation q)) (relation_from r.schema.name (n + 1) (map (λ x. Some x) (map packed_relation (used_things slots)) ++ behind))) other
+    ∙ moved_from slots (n + 1) k r behind (and_right (not (is_among q.schema.name (relation_names (used_things slots)))) (are_distinct (relation_names (used_things slots))) distinct) h
     ∙ ap (λ j. Some (j, packed_relation r)) e
 
--- used slots keep apart
+-- used_things slots keep apart
 slots_apart : (slots : List (Option Relation)) (j k : ℕ) (q r : Relation) → get_or slots j None ≡ Some q → get_or slots k None ≡ Some r → new_slot slots j ≡ new_slot slots k → j ≡ k
 slots_apart [] j k q r h i e = cc
 slots_apart (None ∷ slots) zero k q r h i e = cc
@@ -171,7 +171,7 @@ filter_few p (x ∷ xs) = by_test (p x) (filter_few p xs)
 abbrev pub with_indexes : List Relation → List Index → Database
 with_indexes rs indexes = record { version = 2; relations = slots_for 8 rs; indexes = slots_for 8 indexes; cursors = replicate 4 None }
 
--- the relation of each of them is in a used slot
+-- the relation of each of them is in a used_things slot
 abbrev pub AreUsed : List (Option Relation) → List Index → Type 0
 AreUsed slots indexes = AllByRecursion (λ index. (r : Relation) × (get_or slots index.relation None ≡ Some r)) indexes
 
@@ -188,10 +188,10 @@ tables_moved slots (index ∷ indexes) = by_test (is_hash_table index) (tables_m
 -- no index stands on the attribute yet
 absent_index : (slots : List (Option Relation)) (k place n m : ℕ) (r : Relation) (indexes : List Index) → get_or slots k None ≡ Some r → AreUsed slots indexes → list_any (is_on k place) indexes ≡ false
     → index_from (new_slot slots k) place n (map (λ x. Some x) (map (moved_index slots) indexes) ++ replicate m None) ≡ None
-absent_index slots k place n zero r [] is used alone = refl
-absent_index slots k place n (suc m) r [] is used alone = absent_index slots k place (n + 1) m r [] is used alone
-absent_index slots k place n m r (index ∷ indexes) is used alone =
-    let rest = absent_index slots k place (n + 1) m r indexes is used.1 (or_right (is_on k place index) (list_any (is_on k place) indexes) alone) in
+absent_index slots k place n zero r [] is used_things alone = refl
+absent_index slots k place n (suc m) r [] is used_things alone = absent_index slots k place (n + 1) m r [] is used_things alone
+absent_index slots k place n m r (index ∷ indexes) is used_things alone =
+    let rest = absent_index slots k place (n + 1) m r indexes is used_things.1 (or_right (is_on k place index) (list_any (is_on k place) indexes) alone) in
     ap (λ t. cond t (Some n) (index_from (new_slot slots k) place (n + 1) (map (λ x. Some x) (map (moved_index slots) indexes) ++ replicate m None)))
     (by_test (new_slot slots index.relation == new_slot slots k) (index.attribute == place) refl refl (or_left (is_on k place index) (list_any (is_on k place) indexes) alone))
     ∙ rest
@@ -200,7 +200,7 @@ absent_index slots k place n m r (index ∷ indexes) is used alone =
     by_test false t e f h = refl
     by_test true false e f h = refl
     by_test true true e f h =
-        let same : index.relation ≡ k = slots_apart slots index.relation k used.0.0 r used.0.1 is ((Decides-eqb (new_slot slots index.relation) (new_slot slots k)).0 e) in
+        let same : index.relation ≡ k = slots_apart slots index.relation k used_things.0.0 r used_things.0.1 is ((Decides-eqb (new_slot slots index.relation) (new_slot slots k)).0 e) in
         absurd (false_true (sym h ∙ ap (λ t. (index.relation == k) && t) f ∙ ap (λ t. t && true) ((Decides-eqb index.relation k).1 same)))
 
 not_refused : (kind : IndexKind) (slots : List (Option Relation)) (before : List Index) (place : ℕ) (rows : List Row) (rs : List Relation) → SuitsKind kind before place rows
@@ -209,9 +209,9 @@ not_refused Inline slots before place rows rs h = ap (λ fall. refuse_found fall
 not_refused MaxHeap slots before place rows rs h = refl
 not_refused MemHash slots before place rows rs h =
     let moved : List Index = map (moved_index slots) before in
-    let same : length (filter is_hash_table (used (slots_for 8 moved))) ≡ length (filter is_hash_table before) =
+    let same : length (filter is_hash_table (used_things (slots_for 8 moved))) ≡ length (filter is_hash_table before) =
     ap (λ xs. length (filter is_hash_table xs)) (used_front moved (8 - length moved)) ∙ ap length (tables_moved slots before) ∙ length-map (filter is_hash_table before) (moved_index slots) in
-    let few : nat_le 2 (length (filter is_hash_table (used (slots_for 8 moved)))) ≡ false = let e = h.0 in grind (arith, nat_tests) in
+    let few : nat_le 2 (length (filter is_hash_table (used_things (slots_for 8 moved)))) ≡ false = let e = h.0 in grind (arith, nat_tests) in
     let many = length-map (kept_rows rows) (λ row. key_of (slice_get row.tuple place)) in
     let less = filter_few (λ row. row.live) rows in
     let room : nat_lt 2048 (length (keys place (kept_rows rows))) ≡ false = let e = h.1 in grind (arith, nat_tests) in
@@ -220,12 +220,12 @@ not_refused MemHash slots before place rows rs h =
 
 -- ---- CREATE INDEX
 
-pub makes_index : (slots : List (Option Relation)) (before : List Index) (index : Index) → IsTrue (are_distinct (relation_names (used slots))) → length before < 8 → AreUsed slots before
+pub makes_index : (slots : List (Option Relation)) (before : List Index) (index : Index) → IsTrue (are_distinct (relation_names (used_things slots))) → length before < 8 → AreUsed slots before
     → (is : IndexFacts slots before index) → IsTrue (are_distinct (attribute_names is.relation.schema.attributes))
-    → outcome (with_indexes (map packed_relation (used slots)) (map (moved_index slots) before)) (index_command slots index)
-    ≡ Ok (with_indexes (map packed_relation (used slots)) (map (moved_index slots) (before ++ index ∷ [])), Fine)
+    → outcome (with_indexes (map packed_relation (used_things slots)) (map (moved_index slots) before)) (index_command slots index)
+    ≡ Ok (with_indexes (map packed_relation (used_things slots)) (map (moved_index slots) (before ++ index ∷ [])), Fine)
 makes_index slots before index distinct few used_before is apart =
-    let rs : List Relation = map packed_relation (used slots) in
+    let rs : List Relation = map packed_relation (used_things slots) in
     let r : Relation = is.relation in
     let place : ℕ = index.attribute in
     let attributes : List Attribute = r.schema.attributes in

@@ -6,7 +6,7 @@ use Rattle.db_model.specs.declared.commands.Command.{Command}
 use Rattle.db_model.specs.declared.commands.Command.TheVariants.{CreateRelation, CreateAttribute, CreateIndex, Insert}
 use Rattle.db_model.specs.Answers.{live_tuples}
 use Rattle.db_model.specs.Catalog.{Index}
-use Rattle.db_model.specs.Database.{Relation, Database, used, empty_database}
+use Rattle.db_model.specs.Database.{Relation, Database, used_things, empty_database}
 use Rattle.db_model.specs.Row.{Row}
 use Rattle.db_model.specs.Sound.{BringsNames, IsSoundDatabase}
 use Rattle.db_model.specs.Step.{replied, step}
@@ -73,18 +73,18 @@ all_commands (r ∷ rs) =
 
 -- ---- its indexes
 
--- the relation in the new slot of a used one
+-- the relation in the new slot of a used_things one
 moved_there : (slots : List (Option Relation)) (k : ℕ) (r : Relation) (behind : List (Option Relation)) → get_or slots k None ≡ Some r
-    → get_or (map (λ x. Some x) (map packed_relation (used slots)) ++ behind) (new_slot slots k) None ≡ Some (packed_relation r)
+    → get_or (map (λ x. Some x) (map packed_relation (used_things slots)) ++ behind) (new_slot slots k) None ≡ Some (packed_relation r)
 moved_there [] k r behind h = cc
 moved_there (None ∷ slots) zero r behind h = cc
 moved_there (None ∷ slots) (suc k) r behind h = moved_there slots k r behind h
 moved_there (Some q ∷ slots) zero r behind h = ap (λ x. Some (packed_relation x)) (some_same h)
 moved_there (Some q ∷ slots) (suc k) r behind h = moved_there slots k r behind h
 
--- the new slot of a slot that is used already is the same
+-- the new slot of a slot that is used_things already is the same
 new_there : (slots : List (Option Relation)) (k : ℕ) (r : Relation) (behind : List (Option Relation)) → get_or slots k None ≡ Some r
-    → new_slot (map (λ x. Some x) (map packed_relation (used slots)) ++ behind) (new_slot slots k) ≡ new_slot slots k
+    → new_slot (map (λ x. Some x) (map packed_relation (used_things slots)) ++ behind) (new_slot slots k) ≡ new_slot slots k
 new_there [] k r behind h = cc
 new_there (None ∷ slots) zero r behind h = cc
 new_there (None ∷ slots) (suc k) r behind h = new_there slots k r behind h
@@ -93,12 +93,12 @@ new_there (Some q ∷ slots) (suc k) r behind h = ap (λ n. suc n) (new_there sl
 
 module _ (slots : List (Option Relation)) (n : ℕ) where
   abbrev closed_up : List (Option Relation)
-  closed_up = slots_for n (map packed_relation (used slots))
+  closed_up = slots_for n (map packed_relation (used_things slots))
 
   same_index : (index : Index) (r : Relation) → get_or slots index.relation None ≡ Some r → index_command closed_up (moved_index slots index) ≡ index_command slots index
   same_index index r h =
       let command : Option Relation → Command = λ slot. elim slot [ None ↦ CreateIndex [] [] index.kind | Some q ↦ CreateIndex q.schema.name (attribute_name q.schema.attributes index.attribute) index.kind ] in
-      ap command (moved_there slots index.relation r (replicate (n - length (map packed_relation (used slots))) None) h) ∙ sym (ap command h)
+      ap command (moved_there slots index.relation r (replicate (n - length (map packed_relation (used_things slots))) None) h) ∙ sym (ap command h)
 
   same_indexes : (before rest : List Index) → AllIndexFacts slots before rest → map (index_command closed_up) (map (moved_index slots) rest) ≡ map (index_command slots) rest
   same_indexes before [] h = refl
@@ -110,32 +110,32 @@ module _ (slots : List (Option Relation)) (n : ℕ) where
   moved_twice before [] h = refl
   moved_twice before (index ∷ rest) h =
       ap (λ k. record { kind = index.kind; relation = k; attribute = index.attribute } ∷ map (moved_index closed_up) (map (moved_index slots) rest))
-      (new_there slots index.relation h.0.relation (replicate (n - length (map packed_relation (used slots))) None) h.0.used)
+      (new_there slots index.relation h.0.relation (replicate (n - length (map packed_relation (used_things slots))) None) h.0.used)
       ∙ ap (λ xs. moved_index slots index ∷ xs) (moved_twice (before ++ index ∷ []) rest h.1)
 
 -- ---- databases
 
-in_slots : {A : Type 0} (n : ℕ) (xs : List A) → used (slots_for n xs) ≡ xs
+in_slots : {A : Type 0} (n : ℕ) (xs : List A) → used_things (slots_for n xs) ≡ xs
 in_slots n xs = used_front xs (n - length xs)
 
 pub same_script : (db : Database) → IsSoundDatabase db → script (packed db) ≡ script db
 same_script db is =
     let facts = database_facts db is in
-    let rs = map packed_relation (used db.relations) in
-    let xs = map (moved_index db.relations) (used db.indexes) in
+    let rs = map packed_relation (used_things db.relations) in
+    let xs = map (moved_index db.relations) (used_things db.indexes) in
     ap (flat_map command_line)
-    (ap (λ qs. flat_map relation_commands qs ++ map (index_command (slots_for 8 rs)) (used (slots_for 8 xs))) (in_slots 8 rs)
+    (ap (λ qs. flat_map relation_commands qs ++ map (index_command (slots_for 8 rs)) (used_things (slots_for 8 xs))) (in_slots 8 rs)
     ∙ ap (λ ys. flat_map relation_commands rs ++ map (index_command (slots_for 8 rs)) ys) (in_slots 8 xs)
-    ∙ ap (λ cs. cs ++ map (index_command (slots_for 8 rs)) xs) (all_commands (used db.relations))
-    ∙ ap (λ cs. flat_map relation_commands (used db.relations) ++ cs) (same_indexes db.relations 8 [] (used db.indexes) facts.indexes))
+    ∙ ap (λ cs. cs ++ map (index_command (slots_for 8 rs)) xs) (all_commands (used_things db.relations))
+    ∙ ap (λ cs. flat_map relation_commands (used_things db.relations) ++ cs) (same_indexes db.relations 8 [] (used_things db.indexes) facts.indexes))
 
 pub packed_twice : (db : Database) → IsSoundDatabase db → packed (packed db) ≡ packed db
 packed_twice db is =
     let facts = database_facts db is in
-    let rs = map packed_relation (used db.relations) in
-    let xs = map (moved_index db.relations) (used db.indexes) in
+    let rs = map packed_relation (used_things db.relations) in
+    let xs = map (moved_index db.relations) (used_things db.indexes) in
     let made : List Relation → List Index → Database = λ qs ys. record { version = 2; relations = slots_for 8 qs; indexes = slots_for 8 ys; cursors = replicate 4 None } in
-    ap (λ qs. made (map packed_relation qs) (map (moved_index (slots_for 8 rs)) (used (slots_for 8 xs)))) (in_slots 8 rs)
-    ∙ ap (λ qs. made qs (map (moved_index (slots_for 8 rs)) (used (slots_for 8 xs)))) (packed_relations (used db.relations))
+    ap (λ qs. made (map packed_relation qs) (map (moved_index (slots_for 8 rs)) (used_things (slots_for 8 xs)))) (in_slots 8 rs)
+    ∙ ap (λ qs. made qs (map (moved_index (slots_for 8 rs)) (used_things (slots_for 8 xs)))) (packed_relations (used_things db.relations))
     ∙ ap (λ ys. made rs (map (moved_index (slots_for 8 rs)) ys)) (in_slots 8 xs)
-    ∙ ap (made rs) (moved_twice db.relations 8 [] (used db.indexes) facts.indexes)
+    ∙ ap (made rs) (moved_twice db.relations 8 [] (used_things db.indexes) facts.indexes)

@@ -5,7 +5,7 @@ use Rattle.std.specs.Str.{bytes_eq}
 use Rattle.std.proofs.Math.Seq.{set-append_seam}
 use Rattle.std.proofs.lemmas.List.{length-map, map-append}
 use Rattle.std.proofs.lemmas.Slice.Eq.{bytes_eq-Decides}
-use Rattle.db_model.specs.Database.{Relation, used, free_from, is_among, relation_from}
+use Rattle.db_model.specs.Database.{Relation, used_things, free_from, is_among, relation_from}
 use Rattle.dump_model.specs.Packed.{slots_for}
 use Rattle.db_model.specs.Sound.{are_distinct}
 use Rattle.dump_model.proofs.Facts.{relation_names}
@@ -66,13 +66,13 @@ among_front name (x ∷ xs) ys h =
 
 -- ---- slots filled from the front
 
--- what is in the used slots
-pub used_front : {A : Type 0} (xs : List A) (m : ℕ) → used (map (λ x. Some x) xs ++ replicate m None) ≡ xs
+-- what is in the used_things slots
+pub used_front : {A : Type 0} (xs : List A) (m : ℕ) → used_things (map (λ x. Some x) xs ++ replicate m None) ≡ xs
 used_front [] zero = refl
 used_front [] (suc m) = used_front [] m
 used_front (x ∷ xs) m = ap (λ ys. x ∷ ys) (used_front xs m)
 
-pub used_few : {A : Type 0} (slots : List (Option A)) → length (used slots) ≤ length slots
+pub used_few : {A : Type 0} (slots : List (Option A)) → length (used_things slots) ≤ length slots
 used_few [] = omega arith
 used_few (None ∷ slots) = let e = used_few slots in omega (arith, e)
 used_few (Some x ∷ slots) = let e = used_few slots in omega (arith, e)

@@ -1,7 +1,7 @@
 -- A database without what is removed.
 use Rattle.std.specs.Prelude.{ℕ, ◌-◌, List, ◌++◌, map, length, filter, replicate, take, Option, Some, None}
 use Rattle.db_model.specs.Catalog.{Index}
-use Rattle.db_model.specs.Database.{Relation, Database, used}
+use Rattle.db_model.specs.Database.{Relation, Database, used_things}
 use Rattle.db_model.specs.Row.{Row}
 
 abbrev pub kept_rows : List Row → List Row
@@ -15,9 +15,9 @@ packed_relation r = record r { rows = kept_rows r.rows }
 abbrev pub slots_for : {A : Type 0} → ℕ → List A → List (Option A)
 slots_for n xs = map (λ x. Some x) xs ++ replicate (n - length xs) None
 
--- the slot that a used slot gets: so many are used before it
+-- the slot that a used_things slot gets: so many are used_things before it
 abbrev pub new_slot : {A : Type 0} → List (Option A) → ℕ → ℕ
-new_slot slots k = length (used (take k slots))
+new_slot slots k = length (used_things (take k slots))
 
 -- an index, on the relation in its new slot
 abbrev pub moved_index : List (Option Relation) → Index → Index
@@ -27,7 +27,7 @@ moved_index relations index = record index { relation = new_slot relations index
 abbrev pub packed : Database → Database
 packed db = record {
   version = 2;
-  relations = slots_for 8 (map packed_relation (used db.relations));
-  indexes = slots_for 8 (map (moved_index db.relations) (used db.indexes));
+  relations = slots_for 8 (map packed_relation (used_things db.relations));
+  indexes = slots_for 8 (map (moved_index db.relations) (used_things db.indexes));
   cursors = replicate 4 None;
 }

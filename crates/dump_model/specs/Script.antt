@@ -12,7 +12,7 @@ use Rattle.db_model.specs.declared.schemas.DomainAsked.TheVariants as asked
 use Rattle.db_model.specs.declared.values.Value.{Value}
 use Rattle.db_model.specs.Answers.{live_tuples}
 use Rattle.db_model.specs.Catalog.{Index}
-use Rattle.db_model.specs.Database.{Relation, Database, used}
+use Rattle.db_model.specs.Database.{Relation, Database, used_things}
 use Rattle.db_model.specs.Grammar.{kind_word}
 use Rattle.db_model.specs.Keywords.{keyword_text}
 use Rattle.db_model.specs.ReplyText.{value_text}
@@ -52,7 +52,7 @@ index_command relations index =
 -- all relations in slot order, then all indexes in slot order
 abbrev pub script_commands : Database → List Command
 script_commands db =
-    flat_map relation_commands (used db.relations) ++ map (index_command db.relations) (used db.indexes)
+    flat_map relation_commands (used_things db.relations) ++ map (index_command db.relations) (used_things db.indexes)
 
 -- ---- their text
 

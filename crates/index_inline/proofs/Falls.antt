@@ -10,7 +10,7 @@ use Rattle.db_model.specs.declared.schemas.Range.{Range}
 use Rattle.db_model.specs.declared.schemas.Range.TheVariants.{Empty, Between}
 use Rattle.db_model.specs.Plan.{lies_in}
 use Rattle.db_model.specs.Step.{first_fall}
-use Rattle.index_inline.specs.Span.{IsFront, IsSpan, Rises, passes, is_below, is_above}
+use Rattle.index_inline.specs.Span.{IsPassedFront, IsSpan, KeysRise, passes_end, is_below, is_above}
 
 -- ---- lists
 
@@ -38,7 +38,7 @@ list_rises (a ∷ zs) e (suc i) zero h k = absurd (omega arith)
 list_rises (a ∷ []) e (suc i) (suc j) h k = absurd (omega arith)
 list_rises (a ∷ b ∷ zs) e (suc i) (suc j) h k = list_rises (b ∷ zs) (none_behind (int_lt b a) a (first_fall (b ∷ zs)) e) i j (omega arith) (omega arith)
 
-pub rises : (key : ℕ → ℤ) (slots : ℕ) → first_fall (map key (range_with_len 0 slots)) ≡ None → Rises key slots
+pub rises : (key : ℕ → ℤ) (slots : ℕ) → first_fall (map key (range_with_len 0 slots)) ≡ None → KeysRise key slots
 rises key slots e i j h k =
     let first : get_or (map key (range_with_len 0 slots)) i (pos 0) ≡ key i = get_or-map-range_with_len key 0 slots i i (pos 0) (omega arith) (omega arith) in
     let second : get_or (map key (range_with_len 0 slots)) j (pos 0) ≡ key j = get_or-map-range_with_len key 0 slots j j (pos 0) (omega arith) (omega arith) in
@@ -48,17 +48,17 @@ rises key slots e i j h k =
 
 -- ---- halving
 
-passes_below : (upper : Bool) (within : Range) (a b : ℤ) → int_le a b ≡ true → passes upper within b ≡ true → passes upper within a ≡ true
+passes_below : (upper : Bool) (within : Range) (a b : ℤ) → int_le a b ≡ true → passes_end upper within b ≡ true → passes_end upper within a ≡ true
 passes_below upper Empty a b h k = k
 passes_below true (Between lo hi) a b h k = grind (arith, ints)
 passes_below false (Between lo hi) a b h k = grind (arith, ints)
 
-pub passes_up_to : (key : ℕ → ℤ) (slots middle : ℕ) (upper : Bool) (within : Range) → Rises key slots → middle < slots → passes upper within (key middle) ≡ true → (slot : ℕ) → slot < middle + 1 → passes upper within (key slot) ≡ true
+pub passes_up_to : (key : ℕ → ℤ) (slots middle : ℕ) (upper : Bool) (within : Range) → KeysRise key slots → middle < slots → passes_end upper within (key middle) ≡ true → (slot : ℕ) → slot < middle + 1 → passes_end upper within (key slot) ≡ true
 passes_up_to key slots middle upper within rises below passed slot h = passes_below upper within (key slot) (key middle) (rises slot middle (omega arith) below) passed
 
-pub fails_from : (key : ℕ → ℤ) (slots middle : ℕ) (upper : Bool) (within : Range) → Rises key slots → passes upper within (key middle) ≡ false → (slot : ℕ) → middle ≤ slot → slot < slots → passes upper within (key slot) ≡ false
+pub fails_from : (key : ℕ → ℤ) (slots middle : ℕ) (upper : Bool) (within : Range) → KeysRise key slots → passes_end upper within (key middle) ≡ false → (slot : ℕ) → middle ≤ slot → slot < slots → passes_end upper within (key slot) ≡ false
 fails_from key slots middle upper within rises failed slot h below =
-    elim (passes upper within (key slot)) as (λ b. passes upper within (key slot) ≡ b → b ≡ false) [ true ↦ (λ e. let up = passes_below upper within (key middle) (key slot) (rises middle slot h below) e in cc) | false ↦ (λ e. refl) ] refl
+    elim (passes_end upper within (key slot)) as (λ b. passes_end upper within (key slot) ≡ b → b ≡ false) [ true ↦ (λ e. let up = passes_below upper within (key middle) (key slot) (rises middle slot h below) e in cc) | false ↦ (λ e. refl) ] refl
 
 -- ---- keys read one by one
 
@@ -132,19 +132,19 @@ rises_at key at k last level before is test = rises_next key at level (λ some. 
 
 -- ---- both ends of a range
 
-is_before : (within : Range) (k : ℤ) → passes false within k ≡ true → is_below within k ≡ true
+is_before : (within : Range) (k : ℤ) → passes_end false within k ≡ true → is_below within k ≡ true
 is_before Empty k e = e
 is_before (Between lo hi) k e = e
 
-is_between : (within : Range) (k : ℤ) → passes false within k ≡ false → passes true within k ≡ true → lies_in within k ≡ true
+is_between : (within : Range) (k : ℤ) → passes_end false within k ≡ false → passes_end true within k ≡ true → lies_in within k ≡ true
 is_between Empty k from to = to
 is_between (Between lo hi) k from to = rw to (grind (arith, ints))
 
-is_behind : (within : Range) (k : ℤ) → passes true within k ≡ false → is_above within k ≡ true
+is_behind : (within : Range) (k : ℤ) → passes_end true within k ≡ false → is_above within k ≡ true
 is_behind Empty k e = refl
 is_behind (Between lo hi) k e = grind (arith, ints)
 
-pub span_found : (within : Range) (key : ℕ → ℤ) (slots from to most : ℕ) → IsFront (λ slot. passes false within (key slot)) slots from → IsFront (λ slot. passes true within (key slot)) slots to → most ≡ max to from → IsSpan within key slots from most
+pub span_found : (within : Range) (key : ℕ → ℤ) (slots from to most : ℕ) → IsPassedFront (λ slot. passes_end false within (key slot)) slots from → IsPassedFront (λ slot. passes_end true within (key slot)) slots to → most ≡ max to from → IsSpan within key slots from most
 span_found within key slots from to most first second is =
     let a = first.within in
     let b = second.within in

@@ -25,17 +25,17 @@ pub record IsSpan (within : Range) (key : ℕ → ℤ) (slots from to : ℕ) : T
 -- ---- the search for one end
 
 -- whether a key comes before an end of a range: it is less than the lower bound, or at most the upper one
-abbrev pub passes : Bool → Range → ℤ → Bool
-passes upper Empty key = false
-passes false (Between lo hi) key = int_lt key lo
-passes true (Between lo hi) key = int_le key hi
+abbrev pub passes_end : Bool → Range → ℤ → Bool
+passes_end upper Empty key = false
+passes_end false (Between lo hi) key = int_lt key lo
+passes_end true (Between lo hi) key = int_le key hi
 
 -- of two slots the later has no lesser key
-abbrev pub Rises : (ℕ → ℤ) → ℕ → Type 0
-Rises key slots = (i j : ℕ) → i ≤ j → j < slots → int_le (key i) (key j) ≡ true
+abbrev pub KeysRise : (ℕ → ℤ) → ℕ → Type 0
+KeysRise key slots = (i j : ℕ) → i ≤ j → j < slots → int_le (key i) (key j) ≡ true
 
 -- a test is passed in the first slots, and in none behind them
-pub record IsFront (test : ℕ → Bool) (slots front : ℕ) : Type 0 where
+pub record IsPassedFront (test : ℕ → Bool) (slots front : ℕ) : Type 0 where
   pub within : front ≤ slots
   pub passed : (slot : ℕ) → slot < front → test slot ≡ true
   pub failed : (slot : ℕ) → front ≤ slot → slot < slots → test slot ≡ false

@@ -2,7 +2,7 @@ ghost use Rattle.std.specs.Prelude.{◌≡◌, ◌+◌, ◌*◌, ◌<◌, ◌≤
 ghost use Rattle.afl_base.specs.Keeping.{OnlyReads};
 ghost use Rattle.afl_base.specs.KeyColumn.{HasField, IsWidth, key_of};
 ghost use Rattle.db_model.specs.Cost.{bits};
-ghost use Rattle.index_inline.specs.Span.{IsFront, Rises, passes};
+ghost use Rattle.index_inline.specs.Span.{IsPassedFront, KeysRise, passes_end};
 
 use afl_base::{Failed, Files, KeyColumn, SlotNo};
 use db_model::Range;
@@ -20,8 +20,8 @@ pub(crate) fn count_before<V: Files>(
     requires width { IsWidth column.now.width }
     requires fields { (slot : ℕ) → slot < slots → HasField (V.state files.old) column.now slot }
     ensures within { IfOk result (λ front. front ≤ slots) }
-    ensures front { IsTrue (V.state files.old).tells → Rises (key_of (V.state files.old) column.now) slots
-        → IfOk result (λ front. IsFront (λ slot. passes upper within.now (key_of (V.state files.old) column.now slot)) slots front) }
+    ensures front { IsTrue (V.state files.old).tells → KeysRise (key_of (V.state files.old) column.now) slots
+        → IfOk result (λ front. IsPassedFront (λ slot. passes_end upper within.now (key_of (V.state files.old) column.now slot)) slots front) }
     ensures reads { V.reads files.new ≤ V.reads files.old + 6 * bits slots }
     ensures frame { OnlyReads V.state V.lent V.reads V.faults files.old files.new result }
 {
@@ -50,7 +50,7 @@ fn comes_before<V: Files>(
     requires width { IsWidth column.now.width }
     requires field { HasField (V.state files.old) column.now slot }
     ensures test { IsTrue (V.state files.old).tells → IfOk result
-        (λ before. before ≡ passes upper within.now (key_of (V.state files.old) column.now slot)) }
+        (λ before. before ≡ passes_end upper within.now (key_of (V.state files.old) column.now slot)) }
     ensures reads { V.reads files.new ≤ V.reads files.old + 6 }
     ensures frame { OnlyReads V.state V.lent V.reads V.faults files.old files.new result }
 {

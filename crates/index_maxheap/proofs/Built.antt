@@ -6,19 +6,19 @@ use Rattle.std.proofs.lemmas.List.{ext_get_or, get_or-append-add, get_or-drop, g
 use Rattle.std.proofs.lemmas.List.FromFn.{length-map-range_with_len}
 use Rattle.afl_base.specs.Fields.{put_at, u16_at}
 use Rattle.afl_base.specs.Files.{Drafts, State, Table, bytes_at, draft_in}
-use Rattle.afl_base.specs.KeyColumn.{key_of, key_place, number_at}
+use Rattle.afl_base.specs.KeyColumn.{key_of, key_place, number_of_width}
 use Rattle.afl_base.specs.declared.key_column.KeyColumn.{KeyColumn}
 use Rattle.padded.specs.Padded.{padded}
 use Rattle.afl_base.proofs.FieldLaws.{length-put_at}
 use Rattle.afl_base.proofs.PaddedLaws.{padded_all, put_behind, put_in_front}
 use Rattle.db_model.specs.HashTree.{buckets, node}
 use Rattle.index_tree.specs.Buckets.{IsFirstBucket, IsPairBytes}
-use Rattle.index_maxheap.specs.Builds.{AreLast, Builds, IsBlank, OnlyDraftChanges}
-use Rattle.index_tree.specs.Ends.{IsEnd, spot_of}
-use Rattle.index_tree.specs.Loads.{Counts, IsLevel, load_of, opened}
-use Rattle.index_tree.specs.Pairs.{Pair, goes, keys_of, pair_of, pairs_of, reach}
-use Rattle.index_tree.specs.Places.{Rises}
-use Rattle.index_tree.specs.TreeFile.{IsTree, behind, bucket_place, number_of, place_of}
+use Rattle.index_maxheap.specs.Builds.{AreLast, Builds, IsBlank, HasOtherDraft}
+use Rattle.index_tree.specs.Ends.{IsPathEnd, spot_of}
+use Rattle.index_tree.specs.Loads.{Counts, IsLevel, load_of, opened_bucket}
+use Rattle.index_tree.specs.Pairs.{Pair, goes, pair_keys, pair_of, pairs_of, reaching}
+use Rattle.index_tree.specs.Places.{SlotsRise}
+use Rattle.index_tree.specs.TreeFile.{IsTree, next_number, bucket_place, number_of, place_of}
 use Rattle.index_tree.proofs.Added.{same_bucket, same_or, zero_or, passes_all}
 use Rattle.index_tree.proofs.Counted.{buckets_more, chain}
 use Rattle.index_tree.proofs.Filters.{rises_map}
@@ -59,12 +59,12 @@ two_zeros xs p z i h = pick i h
 
 -- ---- the last bucket of a node
 
-pub chain_length : (key : ℤ) (ps : List Pair) (j : ℕ) → length (reach (goes key) (chain j) ps) ≡ length (reach (goes key) 4 ps) - 32 * j
+pub chain_length : (key : ℤ) (ps : List Pair) (j : ℕ) → length (reaching (goes key) (chain j) ps) ≡ length (reaching (goes key) 4 ps) - 32 * j
 chain_length key ps zero = omega arith
 chain_length key ps (suc j) =
     let before = chain_length key ps j in
-    let cut = length-drop 32 (reach (goes key) (chain j) ps) in
-    let next : length (reach (goes key) (chain (suc j)) ps) ≡ length (drop 32 (reach (goes key) (chain j) ps)) = ap length (all_stay (drop 32 (reach (goes key) (chain j) ps))) in
+    let cut = length-drop 32 (reaching (goes key) (chain j) ps) in
+    let next : length (reaching (goes key) (chain (suc j)) ps) ≡ length (drop 32 (reaching (goes key) (chain j) ps)) = ap length (all_stay (drop 32 (reaching (goes key) (chain j) ps))) in
     omega (arith, before, cut, next)
   where
     all_stay : (qs : List Pair) → filter (λ (p : Pair). true) qs ≡ qs
@@ -75,19 +75,19 @@ abbrev last_hop : List ℕ → ℤ → ℕ → ℕ
 last_hop loads key level = level + (get_or loads (node key level) 0 - 1) / 32
 
 -- that bucket has pairs
-last_some : (loads : List ℕ) (ps : List Pair) (key : ℤ) (level : ℕ) → Counts loads ps → level ≤ 4 → 0 < get_or loads (node key level) 0 → 0 < length (reach (goes key) (last_hop loads key level) ps)
+last_some : (loads : List ℕ) (ps : List Pair) (key : ℤ) (level : ℕ) → Counts loads ps → level ≤ 4 → 0 < get_or loads (node key level) 0 → 0 < length (reaching (goes key) (last_hop loads key level) ps)
 last_some loads ps key level counts low some =
-    let each : get_or loads (node key level) 0 ≡ load_of level (length (reach (goes key) level ps)) = counts.each key level low in
+    let each : get_or loads (node key level) 0 ≡ load_of level (length (reaching (goes key) level ps)) = counts.each key level low in
     ⊎_elim
     (λ (lowest : 4 ≤ level).
     let at : level ≡ 4 = omega arith in
     let j : ℕ = (get_or loads (node key level) 0 - 1) / 32 in
-    let load : get_or loads (node key level) 0 ≡ length (reach (goes key) 4 ps) = each ∙ subst (λ (l : ℕ). load_of l (length (reach (goes key) l ps)) ≡ length (reach (goes key) 4 ps)) (sym at) refl in
+    let load : get_or loads (node key level) 0 ≡ length (reaching (goes key) 4 ps) = each ∙ subst (λ (l : ℕ). load_of l (length (reaching (goes key) l ps)) ≡ length (reaching (goes key) 4 ps)) (sym at) refl in
     let long = chain_length key ps j in
     let hop : last_hop loads key level ≡ chain j = omega (arith, at) in
     rw hop (omega (arith, long, load, some)))
     (λ (upper : level < 4).
-    let load = load_low level (length (reach (goes key) level ps)) upper in
+    let load = load_low level (length (reaching (goes key) level ps)) upper in
     let hop : last_hop loads key level ≡ level = omega (arith, each, load) in
     rw hop (omega (arith, each, load, some)))
     (order 4 level)
@@ -99,35 +99,35 @@ last_some loads ps key level counts low some =
     load_low (suc (suc (suc zero))) n h = (omega arith, λ k. omega arith)
     load_low (suc (suc (suc (suc l)))) n h = absurd (omega arith)
 
-number_some : (tree : List ℕ) (ps : List Pair) (key : ℤ) (hop : ℕ) → IsTree tree ps → 0 < length (reach (goes key) hop ps) → number_of tree key hop ≢ 0
-number_some tree ps key hop is some = λ z. let none : length (reach (goes key) hop ps) ≡ 0 = ap length ((is.each key hop).none z) in omega (arith, none, some)
+number_some : (tree : List ℕ) (ps : List Pair) (key : ℤ) (hop : ℕ) → IsTree tree ps → 0 < length (reaching (goes key) hop ps) → number_of tree key hop ≢ 0
+number_some tree ps key hop is some = λ z. let none : length (reaching (goes key) hop ps) ≡ 0 = ap length ((is.each key hop).none z) in omega (arith, none, some)
 
 -- what reaches a bucket never gets less
-grown_length : (key : ℤ) (ps : List Pair) (q : Pair) (h : ℕ) → length (reach (goes key) h ps) ≤ length (reach (goes key) h (ps ++ q ∷ []))
+grown_length : (key : ℤ) (ps : List Pair) (q : Pair) (h : ℕ) → length (reaching (goes key) h ps) ≤ length (reaching (goes key) h (ps ++ q ∷ []))
 grown_length key ps q h = ⊎_elim
-    (λ (same : reach (goes key) h (ps ++ q ∷ []) ≡ reach (goes key) h ps). let e = ap length same in omega (arith, e))
-    (λ (grown : Full key ps h × (reach (goes key) h (ps ++ q ∷ []) ≡ reach (goes key) h ps ++ q ∷ []) × ((i : ℕ) → i < h → Same key q.key i)).
-    let sum : length (reach (goes key) h ps ++ q ∷ []) ≡ length (reach (goes key) h ps) + 1 = length-append (reach (goes key) h ps) (q ∷ []) in
+    (λ (same : reaching (goes key) h (ps ++ q ∷ []) ≡ reaching (goes key) h ps). let e = ap length same in omega (arith, e))
+    (λ (grown : Full key ps h × (reaching (goes key) h (ps ++ q ∷ []) ≡ reaching (goes key) h ps ++ q ∷ []) × ((i : ℕ) → i < h → Same key q.key i)).
+    let sum : length (reaching (goes key) h ps ++ q ∷ []) ≡ length (reaching (goes key) h ps) + 1 = length-append (reaching (goes key) h ps) (q ∷ []) in
     let e = ap length grown.1 in omega (arith, e, sum))
     (grows key ps q h)
 
 -- at the end itself it gets one more
-end_length : (key : ℤ) (ps : List Pair) (q : Pair) (h : ℕ) → Full q.key ps h → Way key q.key h → length (reach (goes key) h (ps ++ q ∷ [])) ≡ length (reach (goes q.key) h ps) + 1
+end_length : (key : ℤ) (ps : List Pair) (q : Pair) (h : ℕ) → Full q.key ps h → Way key q.key h → length (reaching (goes key) h (ps ++ q ∷ [])) ≡ length (reaching (goes q.key) h ps) + 1
 end_length key ps q h full way =
     let full_ : Full key ps h = λ i k. subst (λ (xs : List Pair). 32 ≤ length xs) (sym (reach_same key q.key ps i (λ j l. way j (omega arith)))) (full i k) in
-    let grown : reach (goes key) h (ps ++ q ∷ []) ≡ reach (goes key) h ps ++ q ∷ [] = reach-append (goes key) ps (q ∷ []) h full_ ∙ ap (λ xs. reach (goes key) h ps ++ xs) (passes_all key h q (λ i k. way i k q ∙ goes_self q.key i q refl)) in
-    let sum : length (reach (goes key) h ps ++ q ∷ []) ≡ length (reach (goes key) h ps) + 1 = length-append (reach (goes key) h ps) (q ∷ []) in
+    let grown : reaching (goes key) h (ps ++ q ∷ []) ≡ reaching (goes key) h ps ++ q ∷ [] = reach-append (goes key) ps (q ∷ []) h full_ ∙ ap (λ xs. reaching (goes key) h ps ++ xs) (passes_all key h q (λ i k. way i k q ∙ goes_self q.key i q refl)) in
+    let sum : length (reaching (goes key) h ps ++ q ∷ []) ≡ length (reaching (goes key) h ps) + 1 = length-append (reaching (goes key) h ps) (q ∷ []) in
     let same = ap length (reach_same key q.key ps h way) in
     ap length grown ∙ omega (arith, sum, same)
 
 -- ---- blanks stay
 
-blank_pair : (tree w : List ℕ) (ps : List Pair) (q : Pair) (hop : ℕ) → IsTree tree ps → Rises ps → IsBlank tree ps → IsEnd ps q.key hop → number_of tree q.key hop ≢ 0 → IsPairBytes w q →
-    IsBlank (put_at tree (place_of (number_of tree q.key hop) + 6 * length (reach (goes q.key) hop ps)) w) (ps ++ q ∷ [])
+blank_pair : (tree w : List ℕ) (ps : List Pair) (q : Pair) (hop : ℕ) → IsTree tree ps → SlotsRise ps → IsBlank tree ps → IsPathEnd ps q.key hop → number_of tree q.key hop ≢ 0 → IsPairBytes w q →
+    IsBlank (put_at tree (place_of (number_of tree q.key hop) + 6 * length (reaching (goes q.key) hop ps)) w) (ps ++ q ∷ [])
 blank_pair tree w ps q hop is rises blank end some pair key h now x up down =
     let adds = adds_pair tree w ps q hop is end some pair in
     let m : ℕ = number_of tree q.key hop in
-    let at : ℕ = place_of m + 6 * length (reach (goes q.key) hop ps) in
+    let at : ℕ = place_of m + 6 * length (reaching (goes q.key) hop ps) in
     let long : length w ≡ 6 = pair.long in
     let room = end.room in
     let fits : bucket_place m ≤ length tree = (is.each q.key hop).within some in
@@ -139,7 +139,7 @@ blank_pair tree w ps q hop is rises blank end some pair key h now x up down =
     (λ (e : number_of tree key h ≡ m).
     let both = same_bucket tree ps is.each rises key q.key h hop there e in
     let len = end_length key ps q h (subst (λ (g : ℕ). Full q.key ps g) (sym both.0) end.full) both.1 in
-    let len_ = ap (λ (g : ℕ). length (reach (goes q.key) g ps)) both.0 in
+    let len_ = ap (λ (g : ℕ). length (reaching (goes q.key) g ps)) both.0 in
     byte_stays tree w at (place_of (number_of tree key h) + x) (omega (arith, long, fits, room)) (inr (omega (arith, long, e, up, len, len_))) ∙ old)
     (λ (d : number_of tree key h ≢ m). (adds.others (number_of tree key h) there d).rest x down ∙ old)
     (same_or (number_of tree key h) m))
@@ -227,7 +227,7 @@ draft_front draft tree i is h = ap (λ (xs : List ℕ). get_or xs i 0) is ∙ ge
 draft_back : (draft tree : List ℕ) (i : ℕ) → draft ≡ padded (length draft) tree → length tree + i < length draft → get_or draft (length tree + i) 0 ≡ 0
 draft_back draft tree i is h = ap (λ (xs : List ℕ). get_or xs (length tree + i) 0) is ∙ get_or-append-add tree (replicate (length draft - length tree) 0) i 0 ∙ get_or-replicate (length draft - length tree) i 0 0 (omega (arith, h))
 
--- a write behind leaves what stands before
+-- a write next_number leaves what stands before
 pub zeros_again : (old mid w : List ℕ) (at place_ n : ℕ) → mid ≡ put_at old place_ w → at + 2 ≤ place_ → place_ + length w ≤ length old → slice_range old at (at + 2) ≡ replicate 2 0 → n ≡ 2 → slice_range mid at (at + n) ≡ replicate n 0
 zeros_again old mid w at place_ n is before fits zeros two =
     let long : length mid ≡ length old = ap length is ∙ length-put_at old w place_ fits in
@@ -252,7 +252,7 @@ module _ (loads places : List ℕ) (opens : ℕ) (draft : List ℕ) (ps : List P
   abbrev pub place : ℕ
   place = get_or places (node key level) 0
 
-  end_ : (hop : ℕ) × IsEnd ps key hop × (hop ≡ level + load / 32) × (length (reach (goes key) hop ps) ≡ load % 32)
+  end_ : (hop : ℕ) × IsPathEnd ps key hop × (hop ≡ level + load / 32) × (length (reaching (goes key) hop ps) ≡ load % 32)
   end_ = end_level loads ps key level b.counts lev
 
   hop : ℕ
@@ -300,7 +300,7 @@ module _ (loads places : List ℕ) (opens : ℕ) (draft : List ℕ) (ps : List P
       let size = tree_size in
       slice_zeros draft (bucket_place opens) 195 (omega (arith, room)) (λ i h. rw (sym size) (draft_back draft b.tree i b.padding (omega (arith, size, room, h))))
 
-  -- the path ends where a bucket is to be opened
+  -- the path ends where a bucket is to be opened_bucket
   new_bucket : load % 32 ≡ 0 → number_of b.tree key hop ≡ 0
   unfolding hop end_
   new_bucket whole = ⊎_elim
@@ -360,7 +360,7 @@ module _ (loads places : List ℕ) (opens : ℕ) (draft : List ℕ) (ps : List P
       slice_zeros draft at 2 (omega (arith, fits, size, room)) (λ i h. draft_front draft b.tree (at + i) b.padding (omega (arith, fits, size, h)) ∙ two_zeros b.tree at zero_at i h)
 
   -- one pair more in a bucket
-  pub builds_pair : (slot : ℕ) (w : List ℕ) (new : List ℕ) → load % 32 ≢ 0 → length ps ≡ slot → slot < 32768 → Rises (ps ++ record { key = key; slot = slot } ∷ []) → IsPairBytes w (record { key = key; slot = slot }) → new ≡ put_at draft (place + 6 * (load % 32)) w →
+  pub builds_pair : (slot : ℕ) (w : List ℕ) (new : List ℕ) → load % 32 ≢ 0 → length ps ≡ slot → slot < 32768 → SlotsRise (ps ++ record { key = key; slot = slot } ∷ []) → IsPairBytes w (record { key = key; slot = slot }) → new ≡ put_at draft (place + 6 * (load % 32)) w →
       Builds (set loads (node key level) (load + 1)) places opens new (ps ++ record { key = key; slot = slot } ∷ [])
   unfolding hop end_
   builds_pair slot w new partial many few rises_more pair new_is =
@@ -369,7 +369,7 @@ module _ (loads places : List ℕ) (opens : ℕ) (draft : List ℕ) (ps : List P
       let some = open_.0 in
       let n : ℕ = number_of b.tree key hop in
       let len = end_.3 in
-      let at : ℕ = place_of n + 6 * length (reach (goes key) hop ps) in
+      let at : ℕ = place_of n + 6 * length (reaching (goes key) hop ps) in
       let tree_ : List ℕ = put_at b.tree at w in
       let within : bucket_place n ≤ length b.tree = (b.is.each key hop).within some in
       let long : length w ≡ 6 = pair.long in
@@ -388,18 +388,18 @@ module _ (loads places : List ℕ) (opens : ℕ) (draft : List ℕ) (ps : List P
         counts = counts_more loads ps q level b.counts lev;
         long = b.long;
         ends = ends_pair loads places b.tree tree_ ps q level b.is b.counts b.ends lev partial grown.keeps;
-        count = b.count ∙ sym (buckets_more ps q hop end_.1 ∙ none_opened (buckets (keys_of ps)) (length (reach (goes key) hop ps)) (load % 32) len partial);
+        count = b.count ∙ sym (buckets_more ps q hop end_.1 ∙ none_opened (buckets (pair_keys ps)) (length (reaching (goes key) hop ps)) (load % 32) len partial);
         fits = omega (arith, size, all, fits);
         padding = rw all whole;
       }
     where
-      none_opened : (m l o : ℕ) → l ≡ o → o ≢ 0 → m + opened l ≡ m
+      none_opened : (m l o : ℕ) → l ≡ o → o ≢ 0 → m + opened_bucket l ≡ m
       none_opened m zero o e s = absurd (s (sym e))
       none_opened m (suc l) o e s = omega arith
 
   -- one bucket more
   pub builds_bucket : (slot at : ℕ) (w two_ : List ℕ) (new : List ℕ) → load % 32 ≡ 0 → (load ≡ 0 → at ≡ 2 * node key level) → (load ≢ 0 → at ≡ place + 192) → at + 3 ≤ bucket_place opens → length ps ≡ slot → slot < 32768 → bucket_place (opens + 1) ≤ length draft →
-      Rises (ps ++ record { key = key; slot = slot } ∷ []) → IsFirstBucket w (record { key = key; slot = slot }) → length two_ ≡ 2 → u16_at two_ 0 ≡ opens + 1 → new ≡ put_at (put_at draft (bucket_place opens) w) at two_ →
+      SlotsRise (ps ++ record { key = key; slot = slot } ∷ []) → IsFirstBucket w (record { key = key; slot = slot }) → length two_ ≡ 2 → u16_at two_ 0 ≡ opens + 1 → new ≡ put_at (put_at draft (bucket_place opens) w) at two_ →
       Builds (set loads (node key level) (load + 1)) (set places (node key level) (bucket_place opens)) (opens + 1) new (ps ++ record { key = key; slot = slot } ∷ [])
   unfolding hop end_
   builds_bucket slot at w two_ new whole first next low many few room rises_more is_first two_long number new_is =
@@ -429,7 +429,7 @@ module _ (loads places : List ℕ) (opens : ℕ) (draft : List ℕ) (ps : List P
         counts = counts_more loads ps q level b.counts lev;
         long = length-set places (node key level) (bucket_place opens) ∙ b.long;
         ends = subst (λ (p : ℕ). AreLast (set loads (node key level) (load + 1)) (set places (node key level) p) tree_) (place_is ∙ size) (ends_bucket loads places b.tree tree_ ps q level hop (opens + 1) b.is b.counts b.long b.ends lev end_.2 a);
-        count = ap (λ (n : ℕ). n + 1) b.count ∙ sym (buckets_more ps q hop end_.1 ∙ one_opened (buckets (keys_of ps)) (length (reach (goes key) hop ps)) (len ∙ whole));
+        count = ap (λ (n : ℕ). n + 1) b.count ∙ sym (buckets_more ps q hop end_.1 ∙ one_opened (buckets (pair_keys ps)) (length (reaching (goes key) hop ps)) (len ∙ whole));
         fits = omega (arith, longer, size, room, all);
         padding = rw all both;
       }
@@ -437,16 +437,16 @@ module _ (loads places : List ℕ) (opens : ℕ) (draft : List ℕ) (ps : List P
       one_less : (n : ℕ) → n + 1 - 1 ≡ n
       one_less n = omega arith
 
-      one_opened : (m l : ℕ) → l ≡ 0 → m + opened l ≡ m + 1
+      one_opened : (m l : ℕ) → l ≡ 0 → m + opened_bucket l ≡ m + 1
       one_opened m zero e = refl
       one_opened m (suc l) e = absurd (omega (arith, e))
 
   -- there is one bucket more to come
-  pub one_more : (slot : ℕ) → load % 32 ≡ 0 → buckets (keys_of (ps ++ record { key = key; slot = slot } ∷ [])) ≡ opens + 1
+  pub one_more : (slot : ℕ) → load % 32 ≡ 0 → buckets (pair_keys (ps ++ record { key = key; slot = slot } ∷ [])) ≡ opens + 1
   unfolding hop end_
-  one_more slot whole = buckets_more ps (record { key = key; slot = slot }) hop end_.1 ∙ one_opened_ (buckets (keys_of ps)) (length (reach (goes key) hop ps)) (end_.3 ∙ whole) ∙ ap (λ (n : ℕ). n + 1) (sym b.count)
+  one_more slot whole = buckets_more ps (record { key = key; slot = slot }) hop end_.1 ∙ one_opened_ (buckets (pair_keys ps)) (length (reaching (goes key) hop ps)) (end_.3 ∙ whole) ∙ ap (λ (n : ℕ). n + 1) (sym b.count)
     where
-      one_opened_ : (m l : ℕ) → l ≡ 0 → m + opened l ≡ m + 1
+      one_opened_ : (m l : ℕ) → l ≡ 0 → m + opened_bucket l ≡ m + 1
       one_opened_ m zero e = refl
       one_opened_ m (suc l) e = absurd (omega (arith, e))
 
@@ -465,9 +465,9 @@ empty_number key (suc zero) = let s = node_small key 1 (omega arith) in empty_he
 empty_number key (suc (suc zero)) = let s = node_small key 2 (omega arith) in empty_head (2 * node key 2) (omega (arith, s))
 empty_number key (suc (suc (suc zero))) = let s = node_small key 3 (omega arith) in empty_head (2 * node key 3) (omega (arith, s))
 empty_number key (suc (suc (suc (suc zero)))) = let s = node_small key 4 (omega arith) in empty_head (2 * node key 4) (omega (arith, s))
-empty_number key (suc (suc (suc (suc (suc h))))) = ap (behind empty_tree key (suc (suc (suc (suc h))))) (empty_number key (suc (suc (suc (suc h)))))
+empty_number key (suc (suc (suc (suc (suc h))))) = ap (next_number empty_tree key (suc (suc (suc (suc h))))) (empty_number key (suc (suc (suc (suc h)))))
 
-nothing : (key : ℤ) (l : ℕ) → reach (goes key) l [] ≡ []
+nothing : (key : ℤ) (l : ℕ) → reaching (goes key) l [] ≡ []
 nothing key zero = refl
 nothing key (suc l) = rw (nothing key l) refl
 
@@ -516,7 +516,7 @@ builds_none new old n is room put =
     front m h = put_in_front m 682 (replicate 683 0) (1 ∷ []) (omega arith) ∙ ap (padded m) empty_is_put
 
 -- buckets never get fewer
-pub buckets_rise : (f : ℕ → ℤ) (m d : ℕ) → buckets (keys_of (pairs_of f m)) ≤ buckets (keys_of (pairs_of f (m + d)))
+pub buckets_rise : (f : ℕ → ℤ) (m d : ℕ) → buckets (pair_keys (pairs_of f m)) ≤ buckets (pair_keys (pairs_of f (m + d)))
 buckets_rise f m zero = let e : m + 0 ≡ m = omega arith in rw e (omega arith)
 buckets_rise f m (suc d) =
     let before = buckets_rise f m d in
@@ -528,24 +528,24 @@ buckets_rise f m (suc d) =
 -- ---- slots in a loop
 
 pub key_same : (old now : State) (column : KeyColumn) (slot : ℕ) → now.files ≡ old.files → key_of now column slot ≡ key_of old column slot
-key_same old now column slot e = ap (λ (files : Table). number_at (bytes_at files column.file) (key_place column slot) column.width) e
+key_same old now column slot e = ap (λ (files : Table). number_of_width (bytes_at files column.file) (key_place column slot) column.width) e
 
 pub pairs_next : (f : ℕ → ℤ) (slot s : ℕ) (k : ℤ) → k ≡ f slot → s ≡ slot → pairs_of f slot ++ record { key = k; slot = s } ∷ [] ≡ pairs_of f (slot + 1)
 pairs_next f slot s k is e = ap (λ (p : Pair). pairs_of f slot ++ p ∷ []) (ap (λ (z : ℤ). record { key = z; slot = s }) is ∙ ap (λ (n : ℕ). record { key = f slot; slot = n }) e) ∙ sym (pairs_more f slot)
 
-pub next_fits : (f : ℕ → ℤ) (slot s slots most : ℕ) (k : ℤ) → k ≡ f slot → s ≡ slot → slot < slots → most ≡ buckets (keys_of (pairs_of f slots)) → buckets (keys_of (pairs_of f slot ++ record { key = k; slot = s } ∷ [])) ≤ most
+pub next_fits : (f : ℕ → ℤ) (slot s slots most : ℕ) (k : ℤ) → k ≡ f slot → s ≡ slot → slot < slots → most ≡ buckets (pair_keys (pairs_of f slots)) → buckets (pair_keys (pairs_of f slot ++ record { key = k; slot = s } ∷ [])) ≤ most
 next_fits f slot s slots most k is e h all =
     let up = buckets_rise f (slot + 1) (slots - (slot + 1)) in
     let last : slot + 1 + (slots - (slot + 1)) ≡ slots = omega (arith, h) in
     rw (pairs_next f slot s k is e, all) (rw last at up)
 
-pub rises_next : (f : ℕ → ℤ) (slot s : ℕ) (k : ℤ) → k ≡ f slot → s ≡ slot → Rises (pairs_of f slot ++ record { key = k; slot = s } ∷ [])
+pub rises_next : (f : ℕ → ℤ) (slot s : ℕ) (k : ℤ) → k ≡ f slot → s ≡ slot → SlotsRise (pairs_of f slot ++ record { key = k; slot = s } ∷ [])
 rises_next f slot s k is e = rw (pairs_next f slot s k is e) (rises_map (pair_of f) 0 (slot + 1) (λ i j a b c. b))
 
 pub length_pairs : (f : ℕ → ℤ) (slot : ℕ) → length (pairs_of f slot) ≡ slot
 length_pairs f slot = length-map-range_with_len (pair_of f) 0 slot
 
-pub only_then : (a b c : State) → OnlyDraftChanges a b → OnlyDraftChanges b c → OnlyDraftChanges a c
+pub only_then : (a b c : State) → HasOtherDraft a b → HasOtherDraft b c → HasOtherDraft a c
 only_then a b c x y = (
   y.0,
   record {
@@ -558,8 +558,8 @@ only_then a b c x y = (
   },
 )
 
--- a tree with no room behind it is the whole draft
-pub builds_all : (loads places : List ℕ) (opens : ℕ) (draft : List ℕ) (ps : List Pair) (most : ℕ) → Builds loads places opens draft ps → most ≡ buckets (keys_of ps) → length draft ≡ bucket_place most → IsTree draft ps
+-- a tree with no room next_number it is the whole draft
+pub builds_all : (loads places : List ℕ) (opens : ℕ) (draft : List ℕ) (ps : List Pair) (most : ℕ) → Builds loads places opens draft ps → most ≡ buckets (pair_keys ps) → length draft ≡ bucket_place most → IsTree draft ps
 builds_all loads places opens draft ps most b is long =
     let same : length b.tree ≡ length draft = b.is.size ∙ ap bucket_place (sym is) ∙ sym long in
     subst (λ (xs : List ℕ). IsTree xs ps) (sym (b.padding ∙ padded_all (length draft) b.tree same)) b.is

@@ -1,7 +1,7 @@
 -- What is counted is the buckets of some tree, also where no bytes are told.
 use Rattle.std.proofs.Common.{◌≡◌, ◌≤◌, ◌+◌, ℕ, ℤ, List, [], ◌∷◌, ◌++◌, length, replicate, refl, arith, ap, ◌∙◌, sym, length-append}
 use Rattle.index_tree.specs.Loads.{Loads}
-use Rattle.index_tree.specs.Pairs.{Pair, keys_of}
+use Rattle.index_tree.specs.Pairs.{Pair, pair_keys}
 use Rattle.index_tree.proofs.Counted.{buckets_few, length-keys}
 use Rattle.index_tree.proofs.Loaded.{counts_none}
 use Rattle.index_maxheap.specs.Builds.{AreLoads}
@@ -18,8 +18,8 @@ loads_one old new slots n opens key loads kept =
 pub loads_few : (loads : List ℕ) (slots n : ℕ) → AreLoads loads slots n → slots ≤ 32768 → n ≤ 1365
 loads_few loads slots n kept few =
     let ps : List Pair = kept.0 in
-    let long : length (keys_of ps) ≡ length ps = length-keys ps in
-    let most = buckets_few (keys_of ps) in
+    let long : length (pair_keys ps) ≡ length ps = length-keys ps in
+    let most = buckets_few (pair_keys ps) in
     let count = kept.1 in
     let is = kept.3 in
     omega (arith, long, most, count, is, few)

@@ -2,7 +2,7 @@
 use Rattle.std.proofs.Common.{◌≢◌, ◌≤◌, ◌+◌, ℕ, ℤ, List, ◌++◌, length, drop, ap, ◌∙◌, sym, subst}
 use Rattle.std.specs.Prelude.{None, Option, Some}
 use Rattle.std.specs.List.{filter}
-use Rattle.index_tree.specs.Pairs.{Pair, goes, reach}
+use Rattle.index_tree.specs.Pairs.{Pair, goes, reaching}
 use Rattle.index_tree.specs.Places.{IsPlaceAt, KeepsNumbers, is_wanted}
 use Rattle.index_tree.specs.Trees.{numbered}
 use Rattle.index_tree.proofs.Numbered.{numbered-append}
@@ -25,7 +25,7 @@ pub good_later : (bytes : List ℕ) (keys : List ℤ) (key : ℤ) (from to : ℕ
 good_later bytes keys key from to None h at = tt
 good_later bytes keys key from to (Some place) h at =
     let ps : List Pair = numbered 0 keys in
-    let rest : List Pair = drop place.pair (reach (goes key) place.hop ps) in
+    let rest : List Pair = drop place.pair (reaching (goes key) place.hop ps) in
     record {
       there = at.there;
       some = at.some;

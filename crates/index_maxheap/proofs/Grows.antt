@@ -3,7 +3,7 @@ use Rattle.std.proofs.Common.{◌≡◌, ◌≤◌, ◌<◌, ◌+◌, ℕ, ℤ, 
 use Rattle.std.specs.Prelude.{IsTrue}
 use Rattle.afl_base.specs.Fields.{put_at}
 use Rattle.afl_base.specs.Files.{State, Becomes, IsLive, KeepsBytes, bytes_at, size_at}
-use Rattle.index_tree.specs.Pairs.{Pair, goes, reach}
+use Rattle.index_tree.specs.Pairs.{Pair, goes, reaching}
 use Rattle.index_tree.specs.Places.{IsGrown}
 use Rattle.index_tree.specs.Trees.{IsTreeOf, numbered}
 use Rattle.index_tree.specs.TreeFile.{IsTree, number_of}
@@ -21,7 +21,7 @@ grown_pair old new index at slot keys key told tree many few found puts =
     let bytes : List ℕ = bytes_at old.files index in
     let hop : ℕ = found.0 in
     let long = numbered_length 0 keys in
-    by_pair old new index ps (record { key = key; slot = slot }) hop (number_of bytes key hop) (length (reach (goes key) hop ps)) told tree (rises_numbered 0 keys) (omega (arith, many, few, long)) found.1 refl refl found.2
+    by_pair old new index ps (record { key = key; slot = slot }) hop (number_of bytes key hop) (length (reaching (goes key) hop ps)) told tree (rises_numbered 0 keys) (omega (arith, many, few, long)) found.1 refl refl found.2
     (puts.0, puts.1, subst (λ (n : ℕ). Becomes old new index (size_at old.files index) (put_at bytes n puts.0)) found.3 puts.2)
 
 pub grown_bucket : (old new : State) (index at slot : ℕ) (keys : List ℤ) (key : ℤ) → IsTrue old.tells → IsTreeOf (bytes_at old.files index) keys → length keys ≡ slot → slot < 32768 → at + 3 ≤ size_at old.files index →

@@ -7,8 +7,8 @@ use Rattle.std.proofs.lemmas.Int.{of_z-to_z}
 use Rattle.afl_base.specs.Fields.{u16_at}
 use Rattle.db_model.specs.HashTree.{digit, mixed, node}
 use Rattle.index_tree.specs.Loads.{load_of}
-use Rattle.index_tree.specs.Pairs.{Pair, goes, reach}
-use Rattle.index_tree.specs.TreeFile.{Holds, IsTree, next_at, number_of, place_of}
+use Rattle.index_tree.specs.Pairs.{Pair, goes, reaching}
+use Rattle.index_tree.specs.TreeFile.{HoldsPairs, IsTree, next_at, number_of, place_of}
 use Rattle.index_maxheap.specs.Verify.{AreHeads, IsDone, IsTail, Verifies, hop_of}
 use Rattle.index_maxheap.proofs.Built.{chain_length}
 use Rattle.index_tree.proofs.Counted.{chain}
@@ -73,7 +73,7 @@ node_key n small = ⊎_elim
 
 -- ---- what a tree's nodes have
 
-fill_is : (bytes : List ℕ) (number place next fill level : ℕ) (rest : List Pair) → IsTail bytes number place next fill level → Holds bytes (place_of number) rest → length rest ≤ 32 → fill ≡ length rest
+fill_is : (bytes : List ℕ) (number place next fill level : ℕ) (rest : List Pair) → IsTail bytes number place next fill level → HoldsPairs bytes (place_of number) rest → length rest ≤ 32 → fill ≡ length rest
 fill_is bytes number place next fill level rest tail holds few =
     let most = tail.few in
     ⊎_elim
@@ -84,7 +84,7 @@ fill_is bytes number place next fill level rest tail holds few =
     (λ (past : length rest < fill). absurd (tail.some (length rest) past (holds.empty (length rest) (omega (arith, past, most)) (omega arith))))
     (order fill (length rest))
 
-fill_min : (bytes : List ℕ) (number place next fill level : ℕ) (rest : List Pair) → IsTail bytes number place next fill level → Holds bytes (place_of number) rest → fill ≡ min 32 (length rest)
+fill_min : (bytes : List ℕ) (number place next fill level : ℕ) (rest : List Pair) → IsTail bytes number place next fill level → HoldsPairs bytes (place_of number) rest → fill ≡ min 32 (length rest)
 fill_min bytes number place next fill level rest tail holds =
     let most = tail.few in
     ⊎_elim
@@ -110,7 +110,7 @@ tree_done bytes loads places nexts fills ps tree v n small =
         ⊎_elim
         (λ (none : get_or loads (node key level) 0 ≤ 0).
         let z : get_or loads (node key level) 0 ≡ 0 = omega (arith, none) in
-        let empty : length (reach (goes key) level ps) ≡ 0 = zero_of level (length (reach (goes key) level ps)) (sym each ∙ z) in
+        let empty : length (reaching (goes key) level ps) ≡ 0 = zero_of level (length (reaching (goes key) level ps)) (sym each ∙ z) in
         inl (z, sym (number_node bytes key level low) ∙ zero_number key level empty))
         (λ (some : 0 < get_or loads (node key level) 0).
         let tail = v.tails key level low some in
@@ -118,22 +118,22 @@ tree_done bytes loads places nexts fills ps tree v n small =
         ⊎_elim
         (λ (deep : 4 ≤ level).
         let at : level ≡ 4 = omega (arith, low, deep) in
-        let load : get_or loads (node key level) 0 ≡ length (reach (goes key) 4 ps) = each ∙ subst (λ (l : ℕ). load_of l (length (reach (goes key) l ps)) ≡ length (reach (goes key) 4 ps)) (sym at) refl in
+        let load : get_or loads (node key level) 0 ≡ length (reaching (goes key) 4 ps) = each ∙ subst (λ (l : ℕ). load_of l (length (reaching (goes key) l ps)) ≡ length (reaching (goes key) 4 ps)) (sym at) refl in
         let j : ℕ = (get_or loads (node key level) 0 - 1) / 32 in
         let is : hop ≡ chain j = omega (arith, at) in
-        let long : length (reach (goes key) hop ps) ≡ length (reach (goes key) 4 ps) - 32 * j = ap (λ (h : ℕ). length (reach (goes key) h ps)) is ∙ chain_length key ps j in
+        let long : length (reaching (goes key) hop ps) ≡ length (reaching (goes key) 4 ps) - 32 * j = ap (λ (h : ℕ). length (reaching (goes key) h ps)) is ∙ chain_length key ps j in
         let next_is : suc hop ≡ chain (suc j) = omega (arith, at) in
-        let after : length (reach (goes key) (suc hop) ps) ≡ length (reach (goes key) 4 ps) - 32 * suc j = ap (λ (h : ℕ). length (reach (goes key) h ps)) next_is ∙ chain_length key ps (suc j) in
-        let there : 0 < length (reach (goes key) hop ps) = omega (arith, long, load, some) in
+        let after : length (reaching (goes key) (suc hop) ps) ≡ length (reaching (goes key) 4 ps) - 32 * suc j = ap (λ (h : ℕ). length (reaching (goes key) h ps)) next_is ∙ chain_length key ps (suc j) in
+        let there : 0 < length (reaching (goes key) hop ps) = omega (arith, long, load, some) in
         let number = some_number key hop there in
-        let fill = fill_is bytes (number_of bytes key hop) (get_or places (node key level) 0) (get_or nexts (node key level) 0) (get_or fills (node key level) 0) level (reach (goes key) hop ps) tail ((tree.each key hop).holds number) (omega (arith, long, load, some)) in
+        let fill = fill_is bytes (number_of bytes key hop) (get_or places (node key level) 0) (get_or nexts (node key level) 0) (get_or fills (node key level) 0) level (reaching (goes key) hop ps) tail ((tree.each key hop).holds number) (omega (arith, long, load, some)) in
         let onward : number_of bytes key (suc hop) ≡ next_at bytes (place_of (number_of bytes key hop)) = behind_chain bytes key hop (number_of bytes key hop) number (omega (arith, is)) in
         inr (some, fill ∙ omega (arith, long, load, some), tail.onward ∙ sym onward ∙ zero_number key (suc hop) (omega (arith, after, load, some))))
         (λ (upper : level < 4).
-        let load = load_upper level (length (reach (goes key) level ps)) upper in
+        let load = load_upper level (length (reaching (goes key) level ps)) upper in
         let is : hop ≡ level = omega (arith, each, load) in
-        let same : length (reach (goes key) hop ps) ≡ length (reach (goes key) level ps) = ap (λ (h : ℕ). length (reach (goes key) h ps)) is in
-        let there : 0 < length (reach (goes key) hop ps) = omega (arith, same, each, load, some) in
+        let same : length (reaching (goes key) hop ps) ≡ length (reaching (goes key) level ps) = ap (λ (h : ℕ). length (reaching (goes key) h ps)) is in
+        let there : 0 < length (reaching (goes key) hop ps) = omega (arith, same, each, load, some) in
         let number = some_number key hop there in
         inr (some, upper_fill key level hop (get_or loads (node key level) 0) tail ((tree.each key hop).holds number) same each load there, tail.upper upper))
         (order 4 level))
@@ -146,15 +146,15 @@ tree_done bytes loads places nexts fills ps tree v n small =
         zero_of (suc (suc (suc zero))) m e = omega (arith, e)
         zero_of (suc (suc (suc (suc l)))) m e = e
 
-        zero_number : (k : ℤ) (h : ℕ) → length (reach (goes k) h ps) ≡ 0 → number_of bytes k h ≡ 0
+        zero_number : (k : ℤ) (h : ℕ) → length (reaching (goes k) h ps) ≡ 0 → number_of bytes k h ≡ 0
         zero_number k h z = ⊎_elim (λ (y : number_of bytes k h ≤ 0). omega (arith, y)) (λ (y : 0 < number_of bytes k h). let s = (tree.each k h).some (λ e. omega (arith, e, y)) in absurd (omega (arith, s, z))) (order (number_of bytes k h) 0)
 
-        some_number : (k : ℤ) (h : ℕ) → 0 < length (reach (goes k) h ps) → number_of bytes k h ≢ 0
-        some_number k h s = λ z. let e : length (reach (goes k) h ps) ≡ 0 = ap length ((tree.each k h).none z) in omega (arith, e, s)
+        some_number : (k : ℤ) (h : ℕ) → 0 < length (reaching (goes k) h ps) → number_of bytes k h ≢ 0
+        some_number k h s = λ z. let e : length (reaching (goes k) h ps) ≡ 0 = ap length ((tree.each k h).none z) in omega (arith, e, s)
 
-        upper_fill : (k : ℤ) (l h load : ℕ) → IsTail bytes (number_of bytes k h) (get_or places (node k l) 0) (get_or nexts (node k l) 0) (get_or fills (node k l) 0) l → Holds bytes (place_of (number_of bytes k h)) (reach (goes k) h ps) →
-            length (reach (goes k) h ps) ≡ length (reach (goes k) l ps) → load ≡ load_of l (length (reach (goes k) l ps)) → load_of l (length (reach (goes k) l ps)) ≡ min 32 (length (reach (goes k) l ps)) → 0 < length (reach (goes k) h ps) → get_or fills (node k l) 0 ≡ (load - 1) % 32 + 1
-        upper_fill k l h load tail holds same each min_is there = let fill = fill_min bytes (number_of bytes k h) (get_or places (node k l) 0) (get_or nexts (node k l) 0) (get_or fills (node k l) 0) l (reach (goes k) h ps) tail holds in omega (arith, fill, same, each, min_is, there)
+        upper_fill : (k : ℤ) (l h load : ℕ) → IsTail bytes (number_of bytes k h) (get_or places (node k l) 0) (get_or nexts (node k l) 0) (get_or fills (node k l) 0) l → HoldsPairs bytes (place_of (number_of bytes k h)) (reaching (goes k) h ps) →
+            length (reaching (goes k) h ps) ≡ length (reaching (goes k) l ps) → load ≡ load_of l (length (reaching (goes k) l ps)) → load_of l (length (reaching (goes k) l ps)) ≡ min 32 (length (reaching (goes k) l ps)) → 0 < length (reaching (goes k) h ps) → get_or fills (node k l) 0 ≡ (load - 1) % 32 + 1
+        upper_fill k l h load tail holds same each min_is there = let fill = fill_min bytes (number_of bytes k h) (get_or places (node k l) 0) (get_or nexts (node k l) 0) (get_or fills (node k l) 0) l (reaching (goes k) h ps) tail holds in omega (arith, fill, same, each, min_is, there)
 
 -- ---- the heads
 

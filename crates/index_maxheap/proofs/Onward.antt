@@ -5,9 +5,9 @@ use Rattle.std.specs.List.{filter}
 use Rattle.afl_base.specs.Fields.{u16_at}
 use Rattle.db_model.specs.Cost.{keys_beside}
 use Rattle.db_model.specs.HashTree.{node}
-use Rattle.index_tree.specs.Pairs.{Pair, goes, reach}
+use Rattle.index_tree.specs.Pairs.{Pair, goes, reaching}
 use Rattle.index_tree.specs.Places.{IsOnPath, is_wanted, to_come}
-use Rattle.index_tree.specs.TreeFile.{Holds, behind, bucket_place, number_of, place_of}
+use Rattle.index_tree.specs.TreeFile.{HoldsPairs, next_number, bucket_place, number_of, place_of}
 use Rattle.index_tree.specs.Trees.{IsTreeOf, numbered}
 use Rattle.index_tree.proofs.Beside.{path_short}
 use Rattle.index_tree.proofs.Numbered.{numbered_length}
@@ -29,27 +29,27 @@ onward_node bytes key hop low = rw add-one (behind_node bytes key hop (number_of
 
 pub onward_chain : (bytes part : List ℕ) (key : ℤ) (number hop : ℕ) → number ≡ number_of bytes key hop → number ≢ 0 → 4 ≤ hop → part ≡ slice_range bytes (bucket_place (number - 1)) (bucket_place (number - 1) + 195) → u16_at part 192 ≡ number_of bytes key (hop + 1)
 onward_chain bytes part key number hop there some far is =
-    next_part bytes part (bucket_place (number - 1)) is ∙ sym (rw add-one (ap (behind bytes key hop) (sym there) ∙ behind_chain bytes key hop number some far))
+    next_part bytes part (bucket_place (number - 1)) is ∙ sym (rw add-one (ap (next_number bytes key hop) (sym there) ∙ behind_chain bytes key hop number some far))
 
 -- ---- the bucket of a place
 
 -- the bytes that were read are those of the place's bucket
 pub held : (bytes part : List ℕ) (keys : List ℤ) (key : ℤ) (from : ℕ) (place : Place) → IsTreeOf bytes keys → IsPlaceOf bytes keys key from (Some place) →
-    part ≡ slice_range bytes (bucket_place (place.bucket - 1)) (bucket_place (place.bucket - 1) + 195) → Holds part 0 (reach (goes key) place.hop (numbered 0 keys))
+    part ≡ slice_range bytes (bucket_place (place.bucket - 1)) (bucket_place (place.bucket - 1) + 195) → HoldsPairs part 0 (reaching (goes key) place.hop (numbered 0 keys))
 held bytes part keys key from place tree at is =
-    let rest : List Pair = reach (goes key) place.hop (numbered 0 keys) in
+    let rest : List Pair = reaching (goes key) place.hop (numbered 0 keys) in
     let holds = (tree.each key place.hop).holds (subst (λ (n : ℕ). n ≢ 0) at.there at.some) in
-    holds_part bytes part (place_of place.bucket) rest is (subst (λ (n : ℕ). Holds bytes (place_of n) rest) (sym at.there) holds)
+    holds_part bytes part (place_of place.bucket) rest is (subst (λ (n : ℕ). HoldsPairs bytes (place_of n) rest) (sym at.there) holds)
 
--- behind a full bucket what is wanted comes in the next
+-- next_number a full bucket what is wanted comes in the next
 onward : (ps : List Pair) (key : ℤ) (from hop : ℕ) → to_come ps key from hop 32 ≡ to_come ps key from (hop + 1) 0
 onward ps key from hop = ahead_hop (is_wanted key from) (goes key) (goes_wanted key from) ps hop
 
-pub found_step : (bytes : List ℕ) (keys : List ℤ) (key : ℤ) (from : ℕ) (place : Place) (pair slot : ℕ) → from ≤ slot → IsPlaceOf bytes keys key from (Some place) → Scans (scanned.Found pair slot) key from (reach (goes key) place.hop (numbered 0 keys)) place.pair →
+pub found_step : (bytes : List ℕ) (keys : List ℤ) (key : ℤ) (from : ℕ) (place : Place) (pair slot : ℕ) → from ≤ slot → IsPlaceOf bytes keys key from (Some place) → Scans (scanned.Found pair slot) key from (reaching (goes key) place.hop (numbered 0 keys)) place.pair →
     Steps (step.Found slot (record { bucket = place.bucket; pair = pair + 1; hop = place.hop })) bytes keys key from
 found_step bytes keys key from place pair slot order at scans =
     let ps : List Pair = numbered 0 keys in
-    let rest : List Pair = reach (goes key) place.hop ps in
+    let rest : List Pair = reaching (goes key) place.hop ps in
     let first : filter (is_wanted key from) ps ≡ record { key = key; slot = slot } ∷ filter (is_wanted key from) (drop (pair + 1) rest) = sym at.rest ∙ scans.2 in
     let short = scans.0 in
     let within = scans.1 in (
@@ -63,20 +63,20 @@ found_step bytes keys key from place pair slot order at scans =
     )
 
 -- a found slot is one of the tree
-pub found_small : {X : Type 0} (bytes : List ℕ) (keys : List ℤ) (key : ℤ) (from : ℕ) (place : Place) (pair slot : ℕ) → IsTreeOf bytes keys → IsPlaceOf bytes keys key from (Some place) → Scans (scanned.Found pair slot) key from (reach (goes key) place.hop (numbered 0 keys)) place.pair → 32768 ≤ slot → X
+pub found_small : {X : Type 0} (bytes : List ℕ) (keys : List ℤ) (key : ℤ) (from : ℕ) (place : Place) (pair slot : ℕ) → IsTreeOf bytes keys → IsPlaceOf bytes keys key from (Some place) → Scans (scanned.Found pair slot) key from (reaching (goes key) place.hop (numbered 0 keys)) place.pair → 32768 ≤ slot → X
 found_small bytes keys key from place pair slot tree at scans large =
-    let first = is_first key from slot keys (filter (is_wanted key from) (drop (pair + 1) (reach (goes key) place.hop (numbered 0 keys)))) (sym at.rest ∙ scans.2) in
+    let first = is_first key from slot keys (filter (is_wanted key from) (drop (pair + 1) (reaching (goes key) place.hop (numbered 0 keys)))) (sym at.rest ∙ scans.2) in
     let within = first.within in
     let few = tree.few in
     let long = numbered_length 0 keys in
     absurd (omega (arith, within, few, long, large))
 
-pub none_step : (bytes : List ℕ) (keys : List ℤ) (key : ℤ) (from : ℕ) (place : Place) → IsTreeOf bytes keys → IsPlaceOf bytes keys key from (Some place) → Scans scanned.Passed key from (reach (goes key) place.hop (numbered 0 keys)) place.pair →
+pub none_step : (bytes : List ℕ) (keys : List ℤ) (key : ℤ) (from : ℕ) (place : Place) → IsTreeOf bytes keys → IsPlaceOf bytes keys key from (Some place) → Scans scanned.Passed key from (reaching (goes key) place.hop (numbered 0 keys)) place.pair →
     number_of bytes key (place.hop + 1) ≡ 0 → filter (is_wanted key from) (numbered 0 keys) ≡ []
 none_step bytes keys key from place tree at scans none =
     sym at.rest ∙ scans.1 ∙ onward (numbered 0 keys) key from place.hop ∙ ap (filter (is_wanted key from)) ((tree.each key (place.hop + 1)).none none)
 
-pub onward_step : (bytes : List ℕ) (keys : List ℤ) (key : ℤ) (from : ℕ) (place : Place) (number : ℕ) → IsPlaceOf bytes keys key from (Some place) → Scans scanned.Passed key from (reach (goes key) place.hop (numbered 0 keys)) place.pair →
+pub onward_step : (bytes : List ℕ) (keys : List ℤ) (key : ℤ) (from : ℕ) (place : Place) (number : ℕ) → IsPlaceOf bytes keys key from (Some place) → Scans scanned.Passed key from (reaching (goes key) place.hop (numbered 0 keys)) place.pair →
     number ≡ number_of bytes key (place.hop + 1) → number ≢ 0 → IsPlaceOf bytes keys key from (Some (record { bucket = number; pair = 0; hop = place.hop + 1 }))
 onward_step bytes keys key from place number at scans is some = record {
   there = is;
@@ -110,8 +110,8 @@ place_far bytes keys key from place tree at far =
 pub look_paid : (now was start e left : ℕ) (place : Place) → place.hop ≤ 4 + e / 32 → now + 3 * min place.hop 4 ≤ was + 9 + 3 * min (place.hop + 1) 4 → was + walk_left e (Some place) ≤ start + left → now ≤ start + left
 look_paid now was start e left place near cost paid = omega (arith, near, cost, paid)
 
-pub found_paid : (now was start e left : ℕ) (place behind : Place) → behind.hop ≡ place.hop → now + 3 * min place.hop 4 ≤ was + 9 + 3 * min place.hop 4 → was + walk_left e (Some place) ≤ start + left → now + walk_left e (Some behind) ≤ start + left + 9
-found_paid now was start e left place behind same cost paid = rw same (omega (arith, cost, paid))
+pub found_paid : (now was start e left : ℕ) (place next_number : Place) → next_number.hop ≡ place.hop → now + 3 * min place.hop 4 ≤ was + 9 + 3 * min place.hop 4 → was + walk_left e (Some place) ≤ start + left → now + walk_left e (Some next_number) ≤ start + left + 9
+found_paid now was start e left place next_number same cost paid = rw same (omega (arith, cost, paid))
 
 pub onward_paid : (now was start e left : ℕ) (place next : Place) → place.hop ≤ 4 + e / 32 → next.hop ≡ place.hop + 1 → now + 3 * min place.hop 4 ≤ was + 9 + 3 * min (place.hop + 1) 4 → was + walk_left e (Some place) ≤ start + left → now + walk_left e (Some next) ≤ start + left
 onward_paid now was start e left place next near same cost paid = rw same (omega (arith, near, cost, paid))

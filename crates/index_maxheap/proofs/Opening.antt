@@ -6,7 +6,7 @@ use Rattle.std.proofs.lemmas.Bool.Decides.{Decides-int_eq}
 use Rattle.afl_base.specs.Fields.{i32_at, u16_at}
 use Rattle.index_tree.specs.Buckets.{IsFilled}
 use Rattle.index_tree.specs.Pairs.{Pair}
-use Rattle.index_tree.specs.TreeFile.{Holds, bucket_place, key_at, next_at, place_of, slot_at}
+use Rattle.index_tree.specs.TreeFile.{HoldsPairs, bucket_place, key_at, next_at, place_of, slot_at}
 use Rattle.index_tree.specs.Buckets.{HasPair}
 use Rattle.index_maxheap.specs.Verify.{IsTail}
 use Rattle.index_tree.proofs.Frames.{part_same, u16_same}
@@ -28,7 +28,7 @@ module _ (file part : List ℕ) (number level : ℕ) (q : Pair) (is : part ≡ s
   pub wrong_key : i32_at part 0 ≢ q.key → HasPair file number 0 q → ⊥
   wrong_key wrong has = wrong (key_part file part (place_of number) 0 is (omega arith) ∙ has.key)
 
-  pub wrong_blank : (rest : List Pair) (fill i : ℕ) → Holds file (place_of number) rest → IsFilled part fill → fill ≤ i → i < 32 → (slot_at part 0 i ≢ 0) ⊎ (key_at part 0 i ≢ pos 0) → ⊥
+  pub wrong_blank : (rest : List Pair) (fill i : ℕ) → HoldsPairs file (place_of number) rest → IsFilled part fill → fill ≤ i → i < 32 → (slot_at part 0 i ≢ 0) ⊎ (key_at part 0 i ≢ pos 0) → ⊥
   wrong_blank rest fill i holds filled up short wrong =
       let here = holds_part file part (place_of number) rest is holds in
       let many = filled_is part rest fill here filled in

@@ -8,12 +8,12 @@ use Rattle.std.proofs.lemmas.List.{drop_all, drop_more}
 use Rattle.padded.proofs.Facts.{first_part}
 use Rattle.index_tree.specs.Pairs.{Pair, no_pair}
 use Rattle.index_tree.specs.Places.{is_wanted}
-use Rattle.index_tree.specs.TreeFile.{Holds, key_at, slot_at}
+use Rattle.index_tree.specs.TreeFile.{HoldsPairs, key_at, slot_at}
 use Rattle.index_tree.proofs.Added.{same_pair}
 use Rattle.index_tree.proofs.Shared.{order}
 use Rattle.index_tree.proofs.Stays.{eq_true}
 
-pub is_there : (bytes : List ℕ) (rest : List Pair) (pair : ℕ) → Holds bytes 0 rest → pair < 32 → slot_at bytes 0 pair ≢ 0 → pair < length rest
+pub is_there : (bytes : List ℕ) (rest : List Pair) (pair : ℕ) → HoldsPairs bytes 0 rest → pair < 32 → slot_at bytes 0 pair ≢ 0 → pair < length rest
 is_there bytes rest pair holds short some = let empty : length rest ≤ pair → slot_at bytes 0 pair ≡ 0 = holds.empty pair short in grind arith
 
 take_first : (mine : Pair → Bool) (p q : Pair) (ps : List Pair) → mine p ≡ true → p ≡ q → filter mine (p ∷ ps) ≡ q ∷ filter mine ps
@@ -32,12 +32,12 @@ below_next from n slot e = ⊎_elim
     (λ (high : slot < from). let a : nat_lt from n ≡ false = grind (arith, nat_tests) in let b : nat_le from slot ≡ false = grind (arith, nat_tests) in a ∙ sym b)
     (order from slot)
 
-wants_is : (bytes : List ℕ) (rest : List Pair) (pair : ℕ) (key : ℤ) (from : ℕ) → Holds bytes 0 rest → pair < 32 → pair < length rest → wants_at bytes key from pair ≡ is_wanted key from (get_or rest pair no_pair)
+wants_is : (bytes : List ℕ) (rest : List Pair) (pair : ℕ) (key : ℤ) (from : ℕ) → HoldsPairs bytes 0 rest → pair < 32 → pair < length rest → wants_at bytes key from pair ≡ is_wanted key from (get_or rest pair no_pair)
 wants_is bytes rest pair key from holds short within =
     ap (λ (k : ℤ). int_eq k key && nat_lt from (slot_at bytes 0 pair)) (holds.key pair short within)
     ∙ ap (λ (b : Bool). int_eq (get_or rest pair no_pair).key key && b) (below_next from (slot_at bytes 0 pair) (get_or rest pair no_pair).slot (holds.slot pair short within))
 
-pub found : (bytes : List ℕ) (rest : List Pair) (pair : ℕ) (key : ℤ) (from : ℕ) → Holds bytes 0 rest → pair < 32 → pair < length rest → wants_at bytes key from pair ≡ true →
+pub found : (bytes : List ℕ) (rest : List Pair) (pair : ℕ) (key : ℤ) (from : ℕ) → HoldsPairs bytes 0 rest → pair < 32 → pair < length rest → wants_at bytes key from pair ≡ true →
     filter (is_wanted key from) (drop pair rest) ≡ record { key = key; slot = slot_at bytes 0 pair - 1 } ∷ filter (is_wanted key from) (drop (pair + 1) rest)
 found bytes rest pair key from holds short within same =
     let p : Pair = get_or rest pair no_pair in
@@ -50,14 +50,14 @@ found bytes rest pair key from holds short within same =
     ∙ take_first (is_wanted key from) p (record { key = key; slot = slot_at bytes 0 pair - 1 }) (drop (pair + 1) rest) mine
     (same_pair p (record { key = key; slot = slot_at bytes 0 pair - 1 }) its slot)
 
-pub passed : (bytes : List ℕ) (rest : List Pair) (pair : ℕ) (key : ℤ) (from : ℕ) → Holds bytes 0 rest → pair < 32 → pair < length rest → wants_at bytes key from pair ≡ false →
+pub passed : (bytes : List ℕ) (rest : List Pair) (pair : ℕ) (key : ℤ) (from : ℕ) → HoldsPairs bytes 0 rest → pair < 32 → pair < length rest → wants_at bytes key from pair ≡ false →
     filter (is_wanted key from) (drop pair rest) ≡ filter (is_wanted key from) (drop (pair + 1) rest)
 passed bytes rest pair key from holds short within other =
     ap (filter (is_wanted key from)) (drop_more rest pair no_pair within)
     ∙ skip_first (is_wanted key from) (get_or rest pair no_pair) (drop (pair + 1) rest) (sym (wants_is bytes rest pair key from holds short within) ∙ other)
 
 -- nothing comes from an empty pair on
-pub past : (bytes : List ℕ) (rest : List Pair) (pair : ℕ) (key : ℤ) (from : ℕ) → Holds bytes 0 rest → pair < 32 → slot_at bytes 0 pair ≡ 0 → filter (is_wanted key from) (drop pair rest) ≡ []
+pub past : (bytes : List ℕ) (rest : List Pair) (pair : ℕ) (key : ℤ) (from : ℕ) → HoldsPairs bytes 0 rest → pair < 32 → slot_at bytes 0 pair ≡ 0 → filter (is_wanted key from) (drop pair rest) ≡ []
 past bytes rest pair key from holds short none = ap (filter (is_wanted key from)) (drop_all pair rest (not_in (slot_at bytes 0 pair) (length rest) pair (λ h. holds.slot pair short h) none))
   where
     not_in : (n l p : ℕ) → (p < l → n ≡ (get_or rest p no_pair).slot + 1) → n ≡ 0 → l ≤ p

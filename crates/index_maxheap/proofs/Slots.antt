@@ -4,9 +4,9 @@ use Rattle.std.specs.Prelude.{None, slice_range}
 use Rattle.std.proofs.lemmas.List.{length-set}
 use Rattle.afl_base.specs.Fields.{i32_at, u16_at}
 use Rattle.db_model.specs.HashTree.{buckets, node}
-use Rattle.index_tree.specs.Ends.{IsEnd}
-use Rattle.index_tree.specs.Loads.{Counts, IsLevel, opened}
-use Rattle.index_tree.specs.Pairs.{Pair, goes, keys_of, pair_of, pairs_of, reach}
+use Rattle.index_tree.specs.Ends.{IsPathEnd}
+use Rattle.index_tree.specs.Loads.{Counts, IsLevel, opened_bucket}
+use Rattle.index_tree.specs.Pairs.{Pair, goes, pair_keys, pair_of, pairs_of, reaching}
 use Rattle.index_tree.specs.TreeFile.{IsTree, number_of, place_of}
 use Rattle.index_tree.specs.Buckets.{HasPair}
 use Rattle.index_maxheap.specs.Verify.{AreHeads, IsTail, Opens, Verifies, hop_of}
@@ -28,7 +28,7 @@ module _ (bytes loads places nexts fills : List ℕ) (f : ℕ → ℤ) (slot lev
   abbrev pub load : ℕ
   load = get_or loads (node (f slot) level) 0
 
-  pub end_ : (hop : ℕ) × IsEnd (pairs_of f slot) (f slot) hop × (hop ≡ level + load / 32) × (length (reach (goes (f slot)) hop (pairs_of f slot)) ≡ load % 32)
+  pub end_ : (hop : ℕ) × IsPathEnd (pairs_of f slot) (f slot) hop × (hop ≡ level + load / 32) × (length (reaching (goes (f slot)) hop (pairs_of f slot)) ≡ load % 32)
   end_ = end_level loads (pairs_of f slot) (f slot) level v.counts lev
 
   pub hop : ℕ
@@ -37,8 +37,8 @@ module _ (bytes loads places nexts fills : List ℕ) (f : ℕ → ℤ) (slot lev
   counts : (next : List Pair) → next ≡ pairs_of f (slot + 1) → Counts (set loads n (load + 1)) next
   counts next is = rw (is, pairs_more f slot) (counts_more loads (pairs_of f slot) (pair_of f slot) level v.counts lev)
 
-  pub buckets_one : (m : ℕ) → m ≡ opened (load % 32) → buckets (keys_of (pairs_of f (slot + 1))) ≡ buckets (keys_of (pairs_of f slot)) + m
-  buckets_one m is = ap (λ (xs : List Pair). buckets (keys_of xs)) (pairs_more f slot) ∙ (loaded loads (f slot) level lev).buckets (pairs_of f slot) slot v.counts ∙ ap (λ (k : ℕ). buckets (keys_of (pairs_of f slot)) + k) (sym is)
+  pub buckets_one : (m : ℕ) → m ≡ opened_bucket (load % 32) → buckets (pair_keys (pairs_of f (slot + 1))) ≡ buckets (pair_keys (pairs_of f slot)) + m
+  buckets_one m is = ap (λ (xs : List Pair). buckets (pair_keys xs)) (pairs_more f slot) ∙ (loaded loads (f slot) level lev).buckets (pairs_of f slot) slot v.counts ∙ ap (λ (k : ℕ). buckets (pair_keys (pairs_of f slot)) + k) (sym is)
 
   -- ---- a pair in a bucket that is open
 
@@ -61,9 +61,9 @@ module _ (bytes loads places nexts fills : List ℕ) (f : ℕ → ℤ) (slot lev
       let tail = open_tail partial in
       let len = end_.3 in
       let place = tail.at in
-      let some : 0 < length (reach (goes (f slot)) end_.0 (pairs_of f slot)) = positive (load % 32) (length (reach (goes (f slot)) end_.0 (pairs_of f slot))) len partial in
+      let some : 0 < length (reaching (goes (f slot)) end_.0 (pairs_of f slot)) = positive (load % 32) (length (reaching (goes (f slot)) end_.0 (pairs_of f slot))) len partial in
       let has = v.seen (f slot) end_.0 some in
-      let one : HasPair bytes (number_of bytes (f slot) end_.0) (length (reach (goes (f slot)) end_.0 (pairs_of f slot))) (pair_of f slot) = record {
+      let one : HasPair bytes (number_of bytes (f slot) end_.0) (length (reaching (goes (f slot)) end_.0 (pairs_of f slot))) (pair_of f slot) = record {
         some = has.some;
         within = has.within;
         slot = rw (len, sym place) slot_is;
@@ -106,7 +106,7 @@ module _ (bytes loads places nexts fills : List ℕ) (f : ℕ → ℤ) (slot lev
       let some : 0 < load = positive load s in
       let last : ℕ = hop_of level load in
       let e : end_.0 ≡ suc last = omega (arith, is, whole, some) in
-      let before : 32 ≤ length (reach (goes (f slot)) last (pairs_of f slot)) = end_.1.full last (omega (arith, e)) in
+      let before : 32 ≤ length (reaching (goes (f slot)) last (pairs_of f slot)) = end_.1.full last (omega (arith, e)) in
       let there = (v.seen (f slot) last (omega (arith, before))).some in
       later s ∙ (v.tails (f slot) level low some).onward ∙ sym (behind_chain bytes (f slot) last (number_of bytes (f slot) last) there (omega (arith, deep))) ∙ ap (number_of bytes (f slot)) (sym e))
       (zero_or load)
@@ -119,8 +119,8 @@ module _ (bytes loads places nexts fills : List ℕ) (f : ℕ → ℤ) (slot lev
       Verifies bytes (set loads n (load + 1)) (set places n place) (set nexts n next) (set fills n fill) (pairs_of f (slot + 1))
   unfolding hop end_
   bucket_seen number next fill place whole is at one tail =
-      let len : length (reach (goes (f slot)) end_.0 (pairs_of f slot)) ≡ 0 = end_.3 ∙ whole in
-      let here : HasPair bytes (number_of bytes (f slot) end_.0) (length (reach (goes (f slot)) end_.0 (pairs_of f slot))) (pair_of f slot) = rw (sym is, len) one in
+      let len : length (reaching (goes (f slot)) end_.0 (pairs_of f slot)) ≡ 0 = end_.3 ∙ whole in
+      let here : HasPair bytes (number_of bytes (f slot) end_.0) (length (reaching (goes (f slot)) end_.0 (pairs_of f slot))) (pair_of f slot) = rw (sym is, len) one in
       record {
         counts = counts (pairs_of f (slot + 1)) refl;
         three = (length-set places n place ∙ v.three.0, length-set nexts n next ∙ v.three.1, length-set fills n fill ∙ v.three.2);
@@ -131,11 +131,11 @@ module _ (bytes loads places nexts fills : List ℕ) (f : ℕ → ℤ) (slot lev
   pub bucket_wrong : (number : ℕ) → load % 32 ≡ 0 → number ≡ number_of bytes (f slot) hop → Opens None bytes number level (pair_of f slot) → (slots : ℕ) → slot < slots → IsTree bytes (pairs_of f slots) → ⊥
   unfolding hop end_
   bucket_wrong number whole is wrong slots small tree =
-      let len : length (reach (goes (f slot)) end_.0 (pairs_of f slot)) ≡ 0 = end_.3 ∙ whole in
+      let len : length (reaching (goes (f slot)) end_.0 (pairs_of f slot)) ≡ 0 = end_.3 ∙ whole in
       let has = expected bytes f slots slot end_.0 tree small end_.1 in
       let here : HasPair bytes number 0 (pair_of f slot) = rw (sym is, len) at has in
       let bucket = tree.each (f slot) end_.0 in
-      wrong (reach (goes (f slot)) end_.0 (pairs_of f slots)) here (rw (sym is) at (bucket.holds (rw is at here.some)))
+      wrong (reaching (goes (f slot)) end_.0 (pairs_of f slots)) here (rw (sym is) at (bucket.holds (rw is at here.some)))
       (λ low.
       let room = lev.room low in
       let e : end_.0 ≡ level = let h = end_.2 in omega (arith, h, room) in

@@ -4,10 +4,10 @@ use Rattle.std.specs.Prelude.{min, slice_index}
 use Rattle.std.proofs.lemmas.List.{get_or-set_other, get_or-set_same, get_or_append_left}
 use Rattle.std.proofs.Math.Seq.{get_or-append_seam}
 use Rattle.db_model.specs.HashTree.{buckets, node}
-use Rattle.index_tree.specs.Ends.{IsEnd}
+use Rattle.index_tree.specs.Ends.{IsPathEnd}
 use Rattle.index_tree.specs.Loads.{Counts, IsLevel, load_of}
-use Rattle.index_tree.specs.Pairs.{Pair, goes, keys_of, no_pair, reach}
-use Rattle.index_tree.specs.TreeFile.{Holds, IsTree, behind, bucket_place, key_at, next_at, number_at, number_of, place_of, slot_at}
+use Rattle.index_tree.specs.Pairs.{Pair, goes, pair_keys, no_pair, reaching}
+use Rattle.index_tree.specs.TreeFile.{HoldsPairs, IsTree, next_number, bucket_place, key_at, next_at, bucket_number, number_of, place_of, slot_at}
 use Rattle.index_maxheap.specs.Verify.{AreSeen, AreTails, Has, IsDone, IsTail, hop_of}
 use Rattle.index_tree.specs.Buckets.{HasPair}
 use Rattle.index_tree.proofs.Added.{number_same, only_end, same_or}
@@ -27,34 +27,34 @@ load_upper (suc (suc (suc zero))) n h = refl
 load_upper (suc (suc (suc (suc more)))) n h = absurd (omega arith)
 
 -- a bucket of an upper node is its last
-upper_hop : (loads : List ℕ) (ps : List Pair) (key : ℤ) (hop : ℕ) → Counts loads ps → hop < 4 → 0 < length (reach (goes key) hop ps) → (0 < get_or loads (node key hop) 0) × (hop_of hop (get_or loads (node key hop) 0) ≡ hop) × (length (reach (goes key) hop ps) ≤ 32 → (get_or loads (node key hop) 0 - 1) % 32 + 1 ≡ length (reach (goes key) hop ps))
+upper_hop : (loads : List ℕ) (ps : List Pair) (key : ℤ) (hop : ℕ) → Counts loads ps → hop < 4 → 0 < length (reaching (goes key) hop ps) → (0 < get_or loads (node key hop) 0) × (hop_of hop (get_or loads (node key hop) 0) ≡ hop) × (length (reaching (goes key) hop ps) ≤ 32 → (get_or loads (node key hop) 0 - 1) % 32 + 1 ≡ length (reaching (goes key) hop ps))
 upper_hop loads ps key hop counts low some =
     let each = counts.each key hop (omega (arith, low)) in
-    let load = load_upper hop (length (reach (goes key) hop ps)) low in
+    let load = load_upper hop (length (reaching (goes key) hop ps)) low in
     (omega (arith, each, load, some), omega (arith, each, load, some), λ few. omega (arith, each, load, some, few))
 
 -- a bucket of a chain with at most 32 pairs to come is the last
-chain_hop : (loads : List ℕ) (ps : List Pair) (key : ℤ) (hop : ℕ) → Counts loads ps → 4 ≤ hop → 0 < length (reach (goes key) hop ps) → length (reach (goes key) hop ps) ≤ 32 →
-    (0 < get_or loads (node key 4) 0) × (hop_of 4 (get_or loads (node key 4) 0) ≡ hop) × ((get_or loads (node key 4) 0 - 1) % 32 + 1 ≡ length (reach (goes key) hop ps))
+chain_hop : (loads : List ℕ) (ps : List Pair) (key : ℤ) (hop : ℕ) → Counts loads ps → 4 ≤ hop → 0 < length (reaching (goes key) hop ps) → length (reaching (goes key) hop ps) ≤ 32 →
+    (0 < get_or loads (node key 4) 0) × (hop_of 4 (get_or loads (node key 4) 0) ≡ hop) × ((get_or loads (node key 4) 0 - 1) % 32 + 1 ≡ length (reaching (goes key) hop ps))
 chain_hop loads ps key hop counts deep some few =
-    let each : get_or loads (node key 4) 0 ≡ length (reach (goes key) 4 ps) = counts.each key 4 (omega arith) in
+    let each : get_or loads (node key 4) 0 ≡ length (reaching (goes key) 4 ps) = counts.each key 4 (omega arith) in
     let e : hop ≡ chain (hop - 4) = omega (arith, deep) in
-    let long : length (reach (goes key) hop ps) ≡ length (reach (goes key) 4 ps) - 32 * (hop - 4) = ap (λ (h : ℕ). length (reach (goes key) h ps)) e ∙ chain_length key ps (hop - 4) in
+    let long : length (reaching (goes key) hop ps) ≡ length (reaching (goes key) 4 ps) - 32 * (hop - 4) = ap (λ (h : ℕ). length (reaching (goes key) h ps)) e ∙ chain_length key ps (hop - 4) in
     (omega (arith, each, long, some), omega (arith, each, long, some, few, deep), omega (arith, each, long, some, few, deep))
 
-pub number_node : (bytes : List ℕ) (key : ℤ) (hop : ℕ) → hop ≤ 4 → number_of bytes key hop ≡ number_at bytes (node key hop)
+pub number_node : (bytes : List ℕ) (key : ℤ) (hop : ℕ) → hop ≤ 4 → number_of bytes key hop ≡ bucket_number bytes (node key hop)
 number_node bytes key zero h = refl
 number_node bytes key (suc hop) h = behind_node bytes key hop (number_of bytes key hop) (omega (arith, h))
 
 module _ (bytes loads places nexts fills : List ℕ) (ps : List Pair) (counts : Counts loads ps) (seen : AreSeen bytes ps) (tails : AreTails bytes loads places nexts fills)
     (done : (n : ℕ) → n < 341 → IsDone bytes n (get_or loads n 0) (get_or nexts n 0) (get_or fills n 0)) where
-  at_node : (key : ℤ) (hop : ℕ) → hop ≤ 4 → length (reach (goes key) hop ps) ≡ 0 → number_of bytes key hop ≡ 0
+  at_node : (key : ℤ) (hop : ℕ) → hop ≤ 4 → length (reaching (goes key) hop ps) ≡ 0 → number_of bytes key hop ≡ 0
   at_node key hop low none =
       let small = node_small key hop low in
       let each = counts.each key hop low in
       let zero_load : get_or loads (node key hop) 0 ≡ 0 = each ∙ ap (load_of hop) none ∙ load_zero hop in
       ⊎_elim
-      (λ (x : (get_or loads (node key hop) 0 ≡ 0) × (number_at bytes (node key hop) ≡ 0)). number_node bytes key hop low ∙ x.1)
+      (λ (x : (get_or loads (node key hop) 0 ≡ 0) × (bucket_number bytes (node key hop) ≡ 0)). number_node bytes key hop low ∙ x.1)
       (λ (x : (0 < get_or loads (node key hop) 0) × (get_or fills (node key hop) 0 ≡ (get_or loads (node key hop) 0 - 1) % 32 + 1) × (get_or nexts (node key hop) 0 ≡ 0)). let s = x.0 in absurd (omega (arith, s, zero_load)))
       (done (node key hop) (omega (arith, small)))
     where
@@ -70,37 +70,37 @@ module _ (bytes loads places nexts fills : List ℕ) (ps : List Pair) (counts : 
       let small = node_small key level low in
       let tail = tails key level low some in
       ⊎_elim
-      (λ (x : (get_or loads (node key level) 0 ≡ 0) × (number_at bytes (node key level) ≡ 0)). let z = x.0 in absurd (omega (arith, some, z)))
+      (λ (x : (get_or loads (node key level) 0 ≡ 0) × (bucket_number bytes (node key level) ≡ 0)). let z = x.0 in absurd (omega (arith, some, z)))
       (λ (x : (0 < get_or loads (node key level) 0) × (get_or fills (node key level) 0 ≡ (get_or loads (node key level) 0 - 1) % 32 + 1) × (get_or nexts (node key level) 0 ≡ 0)).
       (subst (λ (h : ℕ). next_at bytes (place_of (number_of bytes key h)) ≡ 0) is (sym tail.onward ∙ x.2), x.1))
       (done (node key level) (omega (arith, small)))
 
   -- a path has no bucket where nothing comes
-  nothing_there : (key : ℤ) (hop : ℕ) → length (reach (goes key) hop ps) ≡ 0 → number_of bytes key hop ≡ 0
+  nothing_there : (key : ℤ) (hop : ℕ) → length (reaching (goes key) hop ps) ≡ 0 → number_of bytes key hop ≡ 0
   nothing_there key zero none = at_node key 0 (omega arith) none
   nothing_there key (suc hop) none = ⊎_elim
       (λ (deep : 4 ≤ hop). ⊎_elim
-      (λ (empty : length (reach (goes key) hop ps) ≤ 0). ap (behind bytes key hop) (nothing_there key hop (omega (arith, empty))) ∙ behind_none bytes key hop deep)
-      (λ (some : 0 < length (reach (goes key) hop ps)).
-      let few : length (reach (goes key) hop ps) ≤ 32 = chain_few key hop deep none in
+      (λ (empty : length (reaching (goes key) hop ps) ≤ 0). ap (next_number bytes key hop) (nothing_there key hop (omega (arith, empty))) ∙ behind_none bytes key hop deep)
+      (λ (some : 0 < length (reaching (goes key) hop ps)).
+      let few : length (reaching (goes key) hop ps) ≤ 32 = chain_few key hop deep none in
       let last = chain_hop loads ps key hop counts deep some few in
       behind_chain bytes key hop (number_of bytes key hop) (seen key hop some).some deep ∙ (end_next key 4 hop (omega arith) last.0 last.1).0)
-      (order (length (reach (goes key) hop ps)) 0))
+      (order (length (reaching (goes key) hop ps)) 0))
       (λ (low : hop < 4). at_node key (suc hop) (omega (arith, low)) none)
       (order 4 hop)
     where
-      chain_few : (k : ℤ) (h : ℕ) → 4 ≤ h → length (reach (goes k) (suc h) ps) ≡ 0 → length (reach (goes k) h ps) ≤ 32
+      chain_few : (k : ℤ) (h : ℕ) → 4 ≤ h → length (reaching (goes k) (suc h) ps) ≡ 0 → length (reaching (goes k) h ps) ≤ 32
       chain_few k h deep z =
           let e : h ≡ chain (h - 4) = omega (arith, deep) in
           let f : suc h ≡ chain (suc (h - 4)) = omega (arith, deep) in
-          let a = ap (λ (x : ℕ). length (reach (goes k) x ps)) e ∙ chain_length k ps (h - 4) in
-          let b = ap (λ (x : ℕ). length (reach (goes k) x ps)) f ∙ chain_length k ps (suc (h - 4)) in
+          let a = ap (λ (x : ℕ). length (reaching (goes k) x ps)) e ∙ chain_length k ps (h - 4) in
+          let b = ap (λ (x : ℕ). length (reaching (goes k) x ps)) f ∙ chain_length k ps (suc (h - 4)) in
           omega (arith, a, b, z)
 
-  holds_all : (key : ℤ) (hop : ℕ) → 0 < length (reach (goes key) hop ps) → Holds bytes (place_of (number_of bytes key hop)) (reach (goes key) hop ps)
+  holds_all : (key : ℤ) (hop : ℕ) → 0 < length (reaching (goes key) hop ps) → HoldsPairs bytes (place_of (number_of bytes key hop)) (reaching (goes key) hop ps)
   holds_all key hop some =
       let has = seen key hop some in
-      let tail : length (reach (goes key) hop ps) < 32 → (l : ℕ) × (l ≤ 4) × (0 < get_or loads (node key l) 0) × (hop_of l (get_or loads (node key l) 0) ≡ hop) × ((get_or loads (node key l) 0 - 1) % 32 + 1 ≡ length (reach (goes key) hop ps)) = λ few. ⊎_elim
+      let tail : length (reaching (goes key) hop ps) < 32 → (l : ℕ) × (l ≤ 4) × (0 < get_or loads (node key l) 0) × (hop_of l (get_or loads (node key l) 0) ≡ hop) × ((get_or loads (node key l) 0 - 1) % 32 + 1 ≡ length (reaching (goes key) hop ps)) = λ few. ⊎_elim
       (λ (deep : 4 ≤ hop). let last = chain_hop loads ps key hop counts deep some (omega (arith, few)) in (4, omega arith, last.0, last.1, last.2))
       (λ (low : hop < 4). let last = upper_hop loads ps key hop counts low some in (hop, omega (arith, low), last.0, last.1, last.2 (omega (arith, few))))
       (order 4 hop) in
@@ -120,14 +120,14 @@ module _ (bytes loads places nexts fills : List ℕ) (ps : List Pair) (counts : 
         last = has.last;
       }
 
-  pub seen_tree : length ps ≤ 32768 → length bytes ≡ bucket_place (buckets (keys_of ps)) → slice_index bytes 682 ≡ 1 → IsTree bytes ps
+  pub seen_tree : length ps ≤ 32768 → length bytes ≡ bucket_place (buckets (pair_keys ps)) → slice_index bytes 682 ≡ 1 → IsTree bytes ps
   seen_tree few size mark = record {
     few = few;
     size = size;
     mark = mark;
     each = λ key hop. record {
-      none = λ z. none_of (reach (goes key) hop ps) (λ some. (seen key hop some).some z);
-      some = λ s. ⊎_elim (λ (z : length (reach (goes key) hop ps) ≤ 0). absurd (s (nothing_there key hop (omega (arith, z))))) (λ (x : 0 < length (reach (goes key) hop ps)). x) (order (length (reach (goes key) hop ps)) 0);
+      none = λ z. none_of (reaching (goes key) hop ps) (λ some. (seen key hop some).some z);
+      some = λ s. ⊎_elim (λ (z : length (reaching (goes key) hop ps) ≤ 0). absurd (s (nothing_there key hop (omega (arith, z))))) (λ (x : 0 < length (reaching (goes key) hop ps)). x) (order (length (reaching (goes key) hop ps)) 0);
       within = λ s. (seen key hop (there key hop s)).within;
       holds = λ s. holds_all key hop (there key hop s);
     };
@@ -140,8 +140,8 @@ module _ (bytes loads places nexts fills : List ℕ) (ps : List Pair) (counts : 
       none_of [] h = refl
       none_of (x ∷ xs) h = absurd (h (omega arith))
 
-      there : (k : ℤ) (h : ℕ) → number_of bytes k h ≢ 0 → 0 < length (reach (goes k) h ps)
-      there k h s = ⊎_elim (λ (z : length (reach (goes k) h ps) ≤ 0). absurd (s (nothing_there k h (omega (arith, z))))) (λ (x : 0 < length (reach (goes k) h ps)). x) (order (length (reach (goes k) h ps)) 0)
+      there : (k : ℤ) (h : ℕ) → number_of bytes k h ≢ 0 → 0 < length (reaching (goes k) h ps)
+      there k h s = ⊎_elim (λ (z : length (reaching (goes k) h ps) ≤ 0). absurd (s (nothing_there k h (omega (arith, z))))) (λ (x : 0 < length (reaching (goes k) h ps)). x) (order (length (reaching (goes k) h ps)) 0)
 
 -- ---- one pair more
 
@@ -173,19 +173,19 @@ has_one bytes number rest q one before =
       last = one.last;
     }
 
-pub seen_more : (bytes : List ℕ) (ps : List Pair) (q : Pair) (hop : ℕ) → AreSeen bytes ps → IsEnd ps q.key hop → HasPair bytes (number_of bytes q.key hop) (length (reach (goes q.key) hop ps)) q → AreSeen bytes (ps ++ q ∷ [])
+pub seen_more : (bytes : List ℕ) (ps : List Pair) (q : Pair) (hop : ℕ) → AreSeen bytes ps → IsPathEnd ps q.key hop → HasPair bytes (number_of bytes q.key hop) (length (reaching (goes q.key) hop ps)) q → AreSeen bytes (ps ++ q ∷ [])
 seen_more bytes ps q hop seen end one key h some = ⊎_elim
-    (λ (same : reach (goes key) h (ps ++ q ∷ []) ≡ reach (goes key) h ps). subst (λ (xs : List Pair). Has bytes (number_of bytes key h) xs) (sym same) (seen key h (subst (λ (xs : List Pair). 0 < length xs) same some)))
-    (λ (grown : Full key ps h × (reach (goes key) h (ps ++ q ∷ []) ≡ reach (goes key) h ps ++ q ∷ []) × ((i : ℕ) → i < h → Same key q.key i)).
+    (λ (same : reaching (goes key) h (ps ++ q ∷ []) ≡ reaching (goes key) h ps). subst (λ (xs : List Pair). Has bytes (number_of bytes key h) xs) (sym same) (seen key h (subst (λ (xs : List Pair). 0 < length xs) same some)))
+    (λ (grown : Full key ps h × (reaching (goes key) h (ps ++ q ∷ []) ≡ reaching (goes key) h ps ++ q ∷ []) × ((i : ℕ) → i < h → Same key q.key i)).
     subst (λ (xs : List Pair). Has bytes (number_of bytes key h) xs) (sym grown.1)
     (⊎_elim
-    (λ (full : 32 ≤ length (reach (goes key) h ps)). has_more bytes (number_of bytes key h) (reach (goes key) h ps) q full (seen key h (omega (arith, full))))
-    (λ (room : length (reach (goes key) h ps) < 32).
+    (λ (full : 32 ≤ length (reaching (goes key) h ps)). has_more bytes (number_of bytes key h) (reaching (goes key) h ps) q full (seen key h (omega (arith, full))))
+    (λ (room : length (reaching (goes key) h ps) < 32).
     let here : h ≡ hop = only_end ps q hop end.full end.room key h grown.0 grown.2 room in
     let number : number_of bytes key h ≡ number_of bytes q.key hop = number_same bytes key q.key h grown.2 ∙ ap (number_of bytes q.key) here in
-    let len : reach (goes key) h ps ≡ reach (goes q.key) hop ps = reach_same key q.key ps h grown.2 ∙ ap (λ (g : ℕ). reach (goes q.key) g ps) here in
-    has_one bytes (number_of bytes key h) (reach (goes key) h ps) q (rw (number, len) one) (λ s. seen key h s))
-    (order 32 (length (reach (goes key) h ps)))))
+    let len : reaching (goes key) h ps ≡ reaching (goes q.key) hop ps = reach_same key q.key ps h grown.2 ∙ ap (λ (g : ℕ). reaching (goes q.key) g ps) here in
+    has_one bytes (number_of bytes key h) (reaching (goes key) h ps) q (rw (number, len) one) (λ s. seen key h s))
+    (order 32 (length (reaching (goes key) h ps)))))
     (grows key ps q h)
 
 -- ---- the tails after it

@@ -9,8 +9,8 @@ use Rattle.index_tree.specs.Trees.{IsTreeOf, numbered}
 use Rattle.index_tree.proofs.Added.{zero_or}
 use Rattle.index_tree.proofs.Beside.{path_short}
 use Rattle.index_maxheap.specs.Walks.{Walks, reads_from}
-use Rattle.index_tree.specs.Pairs.{Pair, goes, reach}
-use Rattle.index_tree.specs.TreeFile.{Holds, IsBucket, IsTree, behind, key_at, last_at, number_of, place_of, slot_at}
+use Rattle.index_tree.specs.Pairs.{Pair, goes, reaching}
+use Rattle.index_tree.specs.TreeFile.{HoldsPairs, IsBucket, IsTree, next_number, key_at, last_at, number_of, place_of, slot_at}
 use Rattle.index_tree.proofs.Frames.{SameBytes, i32_same, part_same, u16_same}
 use Rattle.index_tree.proofs.Shared.{order}
 use Rattle.index_tree.proofs.Reach.{deep}
@@ -29,7 +29,7 @@ key_part file part place pair is short = i32_same part file (0 + 6 * pair) (plac
 pub last_part : (file part : List ℕ) (place : ℕ) → part ≡ slice_range file place (place + 195) → last_at part 0 ≡ last_at file place
 last_part file part place is = part_at file part place 194 (place + 194) 1 is (omega arith) (omega arith) 0 (omega arith) ∙ (let e : place + 194 + 0 ≡ place + 194 = omega arith in ap (λ (j : ℕ). get_or file j 0) e)
 
-pub holds_part : (file part : List ℕ) (place : ℕ) (rest : List Pair) → part ≡ slice_range file place (place + 195) → Holds file place rest → Holds part 0 rest
+pub holds_part : (file part : List ℕ) (place : ℕ) (rest : List Pair) → part ≡ slice_range file place (place + 195) → HoldsPairs file place rest → HoldsPairs part 0 rest
 holds_part file part place rest is holds = record {
   slot = λ i h k. slot_part file part place i is h ∙ holds.slot i h k;
   key = λ i h k. key_part file part place i is h ∙ holds.key i h k;
@@ -38,7 +38,7 @@ holds_part file part place rest is holds = record {
   last = last_part file part place is ∙ holds.last;
 }
 
-pub filled_is : (bytes : List ℕ) (rest : List Pair) (n : ℕ) → Holds bytes 0 rest → IsFilled bytes n → n ≡ min 32 (length rest)
+pub filled_is : (bytes : List ℕ) (rest : List Pair) (n : ℕ) → HoldsPairs bytes 0 rest → IsFilled bytes n → n ≡ min 32 (length rest)
 filled_is bytes rest n holds is =
     let most = is.most in
     ⊎_elim
@@ -65,7 +65,7 @@ spot_level key (suc (suc zero)) n = refl
 spot_level key (suc (suc (suc zero))) n = refl
 spot_level key (suc (suc (suc (suc hop)))) n = let e : min (suc (suc (suc (suc hop)))) 4 ≡ 4 = omega arith in rw e refl
 
-behind_spot : (bytes : List ℕ) (key : ℤ) (hop n : ℕ) → n ≢ 0 → behind bytes key hop n ≡ u16_at bytes (spot_behind key hop n)
+behind_spot : (bytes : List ℕ) (key : ℤ) (hop n : ℕ) → n ≢ 0 → next_number bytes key hop n ≡ u16_at bytes (spot_behind key hop n)
 behind_spot bytes key zero n some = refl
 behind_spot bytes key (suc zero) n some = refl
 behind_spot bytes key (suc (suc zero)) n some = refl
@@ -76,10 +76,10 @@ behind_spot bytes key (suc (suc (suc (suc hop)))) (suc b) some = let e : suc b -
 pub number_spot : (bytes : List ℕ) (key : ℤ) (hop : ℕ) → number_of bytes key hop ≢ 0 → number_of bytes key (suc hop) ≡ u16_at bytes (spot_of bytes key (suc hop))
 number_spot bytes key hop some = behind_spot bytes key hop (number_of bytes key hop) some
 
-pub full_more : (key : ℤ) (ps : List Pair) (hop : ℕ) → ((i : ℕ) → i < hop → 32 ≤ length (reach (goes key) i ps)) → 32 ≤ length (reach (goes key) hop ps) → (i : ℕ) → i < hop + 1 → 32 ≤ length (reach (goes key) i ps)
+pub full_more : (key : ℤ) (ps : List Pair) (hop : ℕ) → ((i : ℕ) → i < hop → 32 ≤ length (reaching (goes key) i ps)) → 32 ≤ length (reaching (goes key) hop ps) → (i : ℕ) → i < hop + 1 → 32 ≤ length (reaching (goes key) i ps)
 full_more key ps hop full now i h = ⊎_elim (λ (k : hop ≤ i). let e : i ≡ hop = omega arith in rw e now) (λ (k : i < hop). full i k) (order hop i)
 
-pub walks_more : (bytes : List ℕ) (ps : List Pair) (key : ℤ) (hop at level n spot : ℕ) → Walks bytes ps key hop at level → n ≡ u16_at bytes at → n ≢ 0 → 32 ≤ length (reach (goes key) hop ps) → spot ≡ spot_behind key level n →
+pub walks_more : (bytes : List ℕ) (ps : List Pair) (key : ℤ) (hop at level n spot : ℕ) → Walks bytes ps key hop at level → n ≡ u16_at bytes at → n ≢ 0 → 32 ≤ length (reaching (goes key) hop ps) → spot ≡ spot_behind key level n →
     Walks bytes ps key (hop + 1) spot (min (level + 1) 4)
 walks_more bytes ps key hop at level n spot walks number some full is =
     let here : number_of bytes key hop ≡ n = walks.number ∙ sym number in
@@ -101,7 +101,7 @@ pub walk_near : (bytes : List ℕ) (keys : List ℤ) (key : ℤ) (hop at level n
 walk_near bytes keys key hop at level number tree walks is some =
     path_short key keys hop (record { full = walks.full; some = (tree.each key hop).some (λ z. some (is ∙ sym walks.number ∙ z)) })
 
--- the reads that are left pay for a look, and for the number behind
+-- the reads that are left pay for a look, and for the number next_number
 pub look_paid_by : (now was start e hop number : ℕ) → (number ≢ 0 → hop ≤ 4 + e / 32) → (number ≡ 0 → now ≤ was) → now ≤ was + 9 → was + reads_from e hop ≤ start → now ≤ start
 look_paid_by now was start e hop number near none cost paid =
     ⊎_elim
@@ -115,6 +115,6 @@ behind_paid now mid was start e hop level near depth look cost paid = omega (ari
 -- no path is longer
 pub walk_ends : {X : Type 0} (bytes : List ℕ) (ps : List Pair) (key : ℤ) (hop at level : ℕ) → IsTree bytes ps → Walks bytes ps key hop at level → 1026 ≤ hop → X
 walk_ends bytes ps key hop at level tree walks far =
-    let long : 32 * hop + length (reach (goes key) hop ps) ≤ length ps = deep (goes key) ps hop walks.full in
+    let long : 32 * hop + length (reaching (goes key) hop ps) ≤ length ps = deep (goes key) ps hop walks.full in
     let few : length ps ≤ 32768 = tree.few in
     absurd (omega arith)

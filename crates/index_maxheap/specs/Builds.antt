@@ -6,20 +6,20 @@ use Rattle.padded.specs.Padded.{padded}
 use Rattle.db_model.specs.HashTree.{buckets, node}
 use Rattle.index_tree.specs.Buckets.{IsFirstBucket, IsPairBytes}
 use Rattle.index_tree.specs.Loads.{Counts}
-use Rattle.index_tree.specs.Pairs.{Pair, goes, keys_of, reach}
-use Rattle.index_tree.specs.Places.{Rises}
+use Rattle.index_tree.specs.Pairs.{Pair, goes, pair_keys, reaching}
+use Rattle.index_tree.specs.Places.{SlotsRise}
 use Rattle.index_tree.specs.TreeFile.{IsTree, bucket_place, number_of, place_of}
 
 -- behind a bucket's pairs are zeros
 abbrev pub IsBlank : List ℕ → List Pair → Type 0
 IsBlank bytes ps = (key : ℤ) (hop : ℕ) → number_of bytes key hop ≢ 0 → (x : ℕ)
-    → 6 * length (reach (goes key) hop ps) ≤ x → x < 192
+    → 6 * length (reaching (goes key) hop ps) ≤ x → x < 192
     → get_or bytes (place_of (number_of bytes key hop) + x) 0 ≡ 0
 
 -- the loads, and the number of buckets, are those of the tree of so many keys
 abbrev pub AreLoads : List ℕ → (slots opened : ℕ) → Type 0
 AreLoads loads slots opened = (ps : List Pair) × (length ps ≡ slots) × Counts loads ps
-    × (opened ≡ buckets (keys_of ps))
+    × (opened ≡ buckets (pair_keys ps))
 
 -- the place of the last bucket of each node that has one
 abbrev pub AreLast : List ℕ → List ℕ → List ℕ → Type 0
@@ -31,12 +31,12 @@ AreLast loads places tree = (key : ℤ) (level : ℕ) → level ≤ 4
 pub record Builds (loads places : List ℕ) (opened : ℕ) (draft : List ℕ) (ps : List Pair) : Type 0 where
   pub tree : List ℕ
   pub is : IsTree tree ps
-  pub rises : Rises ps
+  pub rises : SlotsRise ps
   pub blank : IsBlank tree ps
   pub counts : Counts loads ps
   pub long : length places ≡ 341
   pub ends : AreLast loads places tree
-  pub count : opened ≡ buckets (keys_of ps)
+  pub count : opened ≡ buckets (pair_keys ps)
   pub fits : length tree ≤ length draft
   pub padding : draft ≡ padded (length draft) tree
 
@@ -47,8 +47,8 @@ pub record IsSafeBuild (loads places : List ℕ) (opened most slot : ℕ) : Type
   pub under : opened ≤ most
 
 -- the draft has other bytes
-abbrev pub OnlyDraftChanges : State → State → Type 0
-OnlyDraftChanges old new = (bytes : List ℕ)
+abbrev pub HasOtherDraft : State → State → Type 0
+HasOtherDraft old new = (bytes : List ℕ)
     × Drafts old new (draft_in old).name (length (draft_in old).bytes) bytes
 
 -- one pair more

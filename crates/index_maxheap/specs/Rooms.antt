@@ -5,7 +5,7 @@ use Rattle.afl_base.specs.Fields.{put_at, u16_at}
 use Rattle.afl_base.specs.Regions.{regions}
 use Rattle.index_tree.specs.Buckets.{IsFirstBucket, IsPairBytes}
 use Rattle.index_tree.specs.Pairs.{Pair}
-use Rattle.index_tree.specs.Ends.{end_of, filled_of, spot_of}
+use Rattle.index_tree.specs.Ends.{path_end, filled_of, spot_of}
 use Rattle.index_tree.specs.TreeFile.{number_of, place_of}
 use Rattle.index_maxheap.specs.declared.rooms.End.{End}
 use Rattle.index_maxheap.specs.declared.rooms.End.TheVariants as end
@@ -29,7 +29,7 @@ room_for end.Nowhere = record { overwrites = 0; bytes = 0; end = end.Nowhere }
 
 -- what an insert of a key into the tree of a file needs
 unfoldable pub room_of : List ℕ → ℤ → Room
-room_of bytes key = room_for (end_at bytes key (end_of bytes key))
+room_of bytes key = room_for (end_at bytes key (path_end bytes key))
 
 -- ---- what holds also where bytes are not told
 

@@ -4,9 +4,9 @@ use Rattle.db_model.specs.HashTree.{buckets, node}
 use Rattle.afl_base.specs.Fields.{u16_at}
 use Rattle.index_tree.specs.Buckets.{HasPair}
 use Rattle.index_tree.specs.Loads.{Counts}
-use Rattle.index_tree.specs.Pairs.{Pair, goes, keys_of, no_pair, pairs_of, reach}
+use Rattle.index_tree.specs.Pairs.{Pair, goes, pair_keys, no_pair, pairs_of, reaching}
 use Rattle.index_maxheap.specs.declared.verifying.Tail.{Tail}
-use Rattle.index_tree.specs.TreeFile.{Holds, IsTree, bucket_place, key_at, last_at, next_at, number_at, number_of, place_of, slot_at}
+use Rattle.index_tree.specs.TreeFile.{HoldsPairs, IsTree, bucket_place, key_at, last_at, next_at, bucket_number, number_of, place_of, slot_at}
 
 -- a bucket has these pairs in front
 pub record Has (bytes : List ℕ) (number : ℕ) (rest : List Pair) : Type 0 where
@@ -20,8 +20,8 @@ pub record Has (bytes : List ℕ) (number : ℕ) (rest : List Pair) : Type 0 whe
 
 -- each pair is where it should be
 abbrev pub AreSeen : List ℕ → List Pair → Type 0
-AreSeen bytes ps = (key : ℤ) (hop : ℕ) → 0 < length (reach (goes key) hop ps)
-    → Has bytes (number_of bytes key hop) (reach (goes key) hop ps)
+AreSeen bytes ps = (key : ℤ) (hop : ℕ) → 0 < length (reaching (goes key) hop ps)
+    → Has bytes (number_of bytes key hop) (reaching (goes key) hop ps)
 
 -- the hop of the last bucket of a node with a load
 abbrev pub hop_of : ℕ → ℕ → ℕ
@@ -40,7 +40,7 @@ pub record IsTail (bytes : List ℕ) (number place next filled level : ℕ) : Ty
 -- a bucket that a pair opens: its tail, or it is in no tree that has the pair there
 abbrev pub Opens : Option Tail → List ℕ → ℕ → ℕ → Pair → Type 0
 Opens None bytes number level q = (rest : List Pair) → HasPair bytes number 0 q
-    → Holds bytes (place_of number) rest → (level < 4 → next_at bytes (place_of number) ≡ 0) → ⊥
+    → HoldsPairs bytes (place_of number) rest → (level < 4 → next_at bytes (place_of number) ≡ 0) → ⊥
 Opens (Some tail) bytes number level q = HasPair bytes number 0 q
     × IsTail bytes number (place_of number) tail.next tail.fill level
 
@@ -52,7 +52,7 @@ AreTails bytes loads places nexts fills = (key : ℤ) (level : ℕ) → level �
 
 -- a node has no number, or a last bucket with no pair behind those that were seen
 abbrev pub IsDone : List ℕ → ℕ → ℕ → ℕ → ℕ → Type 0
-IsDone bytes node load next filled = ((load ≡ 0) × (number_at bytes node ≡ 0))
+IsDone bytes node load next filled = ((load ≡ 0) × (bucket_number bytes node ≡ 0))
     ⊎ ((0 < load) × (filled ≡ (load - 1) % 32 + 1) × (next ≡ 0))
 
 -- what is kept while the slots are gone through
@@ -64,10 +64,10 @@ pub record Verifies (bytes loads places nexts fills : List ℕ) (ps : List Pair)
 
 -- the numbers of the nodes, read alone
 abbrev pub AreHeads : List ℕ → List ℕ → Type 0
-AreHeads heads bytes = (node : ℕ) → node ≤ 340 → u16_at heads (2 * node) ≡ number_at bytes node
+AreHeads heads bytes = (node : ℕ) → node ≤ 340 → u16_at heads (2 * node) ≡ bucket_number bytes node
 
 -- the next slot's pair is in its place, or the file is no tree of so many slots
 abbrev pub Goes : Option ℕ → List ℕ → (ℕ → ℤ) → ℕ → (ℕ → Type 0) → Type 0
 Goes None bytes f slot P = (slots : ℕ) → slot < slots → IsTree bytes (pairs_of f slots) → ⊥
 Goes (Some opens) bytes f slot P = P opens
-    × (buckets (keys_of (pairs_of f (slot + 1))) ≡ buckets (keys_of (pairs_of f slot)) + opens)
+    × (buckets (pair_keys (pairs_of f (slot + 1))) ≡ buckets (pair_keys (pairs_of f slot)) + opens)

@@ -1,8 +1,8 @@
 -- Walks to the end of a path.
 use Rattle.std.specs.Prelude.{ℕ, ℤ, ⊤, ◌≡◌, ◌≢◌, ◌+◌, ◌*◌, ◌-◌, ◌/◌, ◌<◌, ◌≤◌, min, List, length}
 use Rattle.afl_base.specs.Fields.{u16_at}
-use Rattle.index_tree.specs.Ends.{IsEnd, spot_of}
-use Rattle.index_tree.specs.Pairs.{Pair, goes, reach}
+use Rattle.index_tree.specs.Ends.{IsPathEnd, spot_of}
+use Rattle.index_tree.specs.Pairs.{Pair, goes, reaching}
 use Rattle.index_tree.specs.TreeFile.{bucket_place, next_at, number_of, place_of}
 use Rattle.index_maxheap.specs.declared.ends.Look.{Look}
 use Rattle.index_maxheap.specs.declared.ends.Look.TheVariants as look
@@ -10,10 +10,10 @@ use Rattle.index_maxheap.specs.declared.rooms.End.{End}
 use Rattle.index_maxheap.specs.declared.rooms.End.TheVariants as end
 
 -- what a look at the bucket of a number finds
-abbrev pub Looks : Look → ℕ → List Pair → Type 0
-Looks look.None number rest = number ≡ 0
-Looks (look.Room pair) number rest = (number ≢ 0) × (length rest ≡ pair) × (pair < 32)
-Looks (look.Full next) number rest = (number ≢ 0) × (32 ≤ length rest)
+abbrev pub FindsInBucket : Look → ℕ → List Pair → Type 0
+FindsInBucket look.None number rest = number ≡ 0
+FindsInBucket (look.Room pair) number rest = (number ≢ 0) × (length rest ≡ pair) × (pair < 32)
+FindsInBucket (look.Full next) number rest = (number ≢ 0) × (32 ≤ length rest)
 
 -- a full bucket tells the number of the next bucket of its chain
 abbrev pub LeadsOn : Look → List ℕ → ℕ → Type 0
@@ -33,15 +33,15 @@ reads_from e hop = 3 * (4 - min hop 4) + 9 * (6 + e / 32 - hop)
 
 -- a walk has come to the spot of the number of the bucket at a hop
 pub record Walks (bytes : List ℕ) (ps : List Pair) (key : ℤ) (hop at level : ℕ) : Type 0 where
-  pub full : (i : ℕ) → i < hop → 32 ≤ length (reach (goes key) i ps)
+  pub full : (i : ℕ) → i < hop → 32 ≤ length (reaching (goes key) i ps)
   pub spot : at ≡ spot_of bytes key hop
   pub number : number_of bytes key hop ≡ u16_at bytes at
   pub depth : level ≡ min hop 4
 
 -- the end of the path of a key: behind the pairs of a bucket, or a spot without a number
 abbrev pub Finds : End → List ℕ → List Pair → ℤ → Type 0
-Finds (end.Pair at) bytes ps key = (hop : ℕ) × IsEnd ps key hop × (number_of bytes key hop ≢ 0)
-    × (at ≡ place_of (number_of bytes key hop) + 6 * length (reach (goes key) hop ps))
-Finds (end.Bucket at) bytes ps key = (hop : ℕ) × IsEnd ps key hop × (number_of bytes key hop ≡ 0)
+Finds (end.Pair at) bytes ps key = (hop : ℕ) × IsPathEnd ps key hop × (number_of bytes key hop ≢ 0)
+    × (at ≡ place_of (number_of bytes key hop) + 6 * length (reaching (goes key) hop ps))
+Finds (end.Bucket at) bytes ps key = (hop : ℕ) × IsPathEnd ps key hop × (number_of bytes key hop ≡ 0)
     × (at ≡ spot_of bytes key hop)
 Finds end.Nowhere bytes ps key = ⊥

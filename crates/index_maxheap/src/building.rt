@@ -7,9 +7,9 @@ ghost use Rattle.afl_base.specs.Keeping.{Changes};
 ghost use Rattle.afl_base.specs.Files.{draft_in};
 ghost use Rattle.afl_base.specs.KeyColumn.{HasField, IsWidth, key_of};
 ghost use Rattle.db_model.specs.HashTree.{buckets};
-ghost use Rattle.index_maxheap.specs.Builds.{Builds, DraftsBucket, DraftsPair, HasZeros, IsSafeBuild, OnlyDraftChanges, with_pair};
-ghost use Rattle.index_tree.specs.Pairs.{Pair, keys_of};
-ghost use Rattle.index_tree.specs.Places.{Rises};
+ghost use Rattle.index_maxheap.specs.Builds.{Builds, DraftsBucket, DraftsPair, HasZeros, IsSafeBuild, HasOtherDraft, with_pair};
+ghost use Rattle.index_tree.specs.Pairs.{Pair, pair_keys};
+ghost use Rattle.index_tree.specs.Places.{SlotsRise};
 ghost use Rattle.afl_base.specs.Keys.{first_keys};
 ghost use Rattle.index_tree.specs.Trees.{IsTreeOf};
 ghost use Rattle.index_tree.specs.TreeFile.{bucket_place};
@@ -92,14 +92,14 @@ fn build_slot<V: Files>(
     requires few { most < 65535 }
     requires told { IsTrue (V.state files.old).tells → (ps : List Pair)
         × Builds loads.old places.old opened (draft_in (V.state files.old)).bytes ps
-        × (length ps ≡ slot) × (buckets (keys_of (with_pair ps key.now slot)) ≤ most) }
+        × (length ps ≡ slot) × (buckets (pair_keys (with_pair ps key.now slot)) ≤ most) }
     ensures built { IsTrue (V.state files.old).tells → (ps : List Pair)
         → Builds loads.old places.old opened (draft_in (V.state files.old)).bytes ps
-        → length ps ≡ slot → Rises (with_pair ps key.now slot)
-        → buckets (keys_of (with_pair ps key.now slot)) ≤ most →
+        → length ps ≡ slot → SlotsRise (with_pair ps key.now slot)
+        → buckets (pair_keys (with_pair ps key.now slot)) ≤ most →
         IfOk result (λ opens. Builds loads.new places.new (opened + opens) (draft_in (V.state files.new)).bytes (with_pair ps key.now slot)) }
     ensures safe { IfOk result (λ opens. IsSafeBuild loads.new places.new (opened + opens) most (slot + 1)) }
-    ensures only { OnOk result (OnlyDraftChanges (V.state files.old) (V.state files.new)) }
+    ensures only { OnOk result (HasOtherDraft (V.state files.old) (V.state files.new)) }
     ensures frame { Changes V.state V.lent V.reads V.faults files.old files.new result }
 {
     let level = level_with_room(loads, key);
@@ -142,7 +142,7 @@ pub fn build<V: Files>(
         → most ≡ buckets (first_keys (key_of (V.state files.old) column) slots) }
     ensures tree { IsTrue (V.state files.old).tells
         → OnOk result (IsTreeOf (draft_in (V.state files.new)).bytes (first_keys (key_of (V.state files.old) column) slots)) }
-    ensures only { OnOk result (OnlyDraftChanges (V.state files.old) (V.state files.new)) }
+    ensures only { OnOk result (HasOtherDraft (V.state files.old) (V.state files.new)) }
     ensures frame { Changes V.state V.lent V.reads V.faults files.old files.new result }
 {
     files.draft_write(HEAD_SIZE as u32 - 1, &[1])?;

@@ -13,7 +13,7 @@ ghost use Rattle.index_tree.specs.TreeFile.{IsBucket, IsTree, bucket_place};
 ghost use Rattle.index_tree.specs.Trees.{IsTreeOf};
 ghost use Rattle.index_maxheap.specs.Rooms.{IsWithin};
 ghost use Rattle.index_maxheap.specs.Searches.{walk_left};
-ghost use Rattle.index_maxheap.specs.Walks.{Finds, IsSafeLook, LeadsOn, Looks};
+ghost use Rattle.index_maxheap.specs.Walks.{Finds, IsSafeLook, LeadsOn, FindsInBucket};
 
 use crate::path::node;
 use crate::rooms::End;
@@ -33,7 +33,7 @@ fn look_at<V: Files>(files: &mut V, index: FileId, number: u16) -> Result<Look, 
     requires live { IsLive (V.state files.old).files index }
     ensures looks { IsTrue (V.state files.old).tells → (rest : List Pair)
         → IsBucket (bytes_at (V.state files.old).files index) number rest
-        → IfOk result (λ found. Looks found number rest) }
+        → IfOk result (λ found. FindsInBucket found number rest) }
     ensures onward { IsTrue (V.state files.old).tells
         → IfOk result (λ found. LeadsOn found (bytes_at (V.state files.old).files index) number) }
     ensures safe { IfOk result (λ found. IsSafeLook found number (size_at (V.state files.old).files index)) }

@@ -9,7 +9,7 @@ ghost use Rattle.afl_base.specs.Files.{IsLive, bytes_at, size_at};
 ghost use Rattle.db_model.specs.Cost.{keys_beside};
 ghost use Rattle.afl_base.specs.Keys.{HasNone, IsFirstOf};
 ghost use Rattle.index_tree.specs.Pairs.{Pair};
-ghost use Rattle.index_tree.specs.TreeFile.{Holds, bucket_place, key_at, number_of, slot_at};
+ghost use Rattle.index_tree.specs.TreeFile.{HoldsPairs, bucket_place, key_at, number_of, slot_at};
 ghost use Rattle.index_tree.specs.Trees.{IsTreeOf};
 ghost use Rattle.index_maxheap.specs.Searches.{IsPlaceOf, IsSafe, IsSafeStep, IsShort, IsStart, Scans, Steps, hop_after, walk_left};
 
@@ -60,7 +60,7 @@ fn is_wanted(bytes: &[u8; BUCKET_SIZE], pair: u8, key: &i32, from: u16) -> bool
 fn scan(bytes: &[u8; BUCKET_SIZE], start: u8, key: &i32, from: u16) -> Scanned
     requires { start ≤ 32 }
     ensures short { IsShort result from }
-    ensures scans { (rest : List Pair) → Holds bytes.now 0 rest → start ≤ length rest
+    ensures scans { (rest : List Pair) → HoldsPairs bytes.now 0 rest → start ≤ length rest
         → Scans result key.now from rest start }
 {
     for pair in start..32 {

@@ -11,10 +11,10 @@ use Rattle.index_set.specs.declared.choices.Plan.TheVariants as chosen
 use Rattle.index_set.specs.declared.info.Access.{Access}
 use Rattle.index_set.specs.declared.info.Access.TheVariants.{Order, Tree, Table as InTable}
 use Rattle.index_set.specs.declared.info.IndexInfo.{IndexInfo}
-use Rattle.index_set.specs.Plans.{HasAccess, IsBy, IsOf, kind_of, kinds, plan_in}
+use Rattle.index_set.specs.Plans.{HasAccess, IsBy, IsOf, access_kind, kinds, plan_in}
 
 abbrev pub kind_at : IndexInfo → IndexKind × ℕ
-kind_at info = (kind_of info.access, info.attribute)
+kind_at info = (access_kind info.access, info.attribute)
 
 -- the rest of a list of indexes begins with the one at its place
 pub rest_of : (xs : List IndexInfo) (n : ℕ) (y : IndexInfo) → n < length xs → y ≡ get_or xs n y → drop n (kinds xs) ≡ kind_at y ∷ drop (n + 1) (kinds xs)

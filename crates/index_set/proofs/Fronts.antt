@@ -9,9 +9,9 @@ use Rattle.db_model.specs.Row.{Row, no_row}
 use Rattle.db_model.specs.Step.{first_fall, keys}
 use Rattle.index_inline.specs.Keys.{keys_of}
 use Rattle.index_set.specs.declared.info.IndexInfo.{IndexInfo}
-use Rattle.index_set.specs.Complete.{HasKeys, key_in}
+use Rattle.index_set.specs.Complete.{HasKeys, key_at_place}
 
-key_at_slot : (attribute : ℕ) (all : List Row) (slot : ℕ) → get_or (keys attribute all) slot (pos 0) ≡ key_in attribute (get_or all slot no_row)
+key_at_slot : (attribute : ℕ) (all : List Row) (slot : ℕ) → get_or (keys attribute all) slot (pos 0) ≡ key_at_place attribute (get_or all slot no_row)
 key_at_slot attribute [] slot = refl
 key_at_slot attribute (row ∷ all) zero = refl
 key_at_slot attribute (row ∷ all) (suc slot) = key_at_slot attribute all slot

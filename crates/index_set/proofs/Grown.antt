@@ -16,12 +16,12 @@ use Rattle.index_set.specs.declared.info.Access.{Access}
 use Rattle.index_set.specs.declared.info.Access.TheVariants.{Tree, Table as InTable}
 use Rattle.index_set.specs.declared.info.IndexInfo.{IndexInfo}
 use Rattle.index_set.specs.declared.info.TableId.{TableId}
-use Rattle.index_set.specs.Complete.{AreComplete, IsComplete, key_in}
+use Rattle.index_set.specs.Complete.{AreComplete, IsComplete, key_at_place}
 use Rattle.index_set.specs.Inserts.{AllKeepBuckets, KeepsBuckets, SomeOf}
 use Rattle.index_set.specs.Tables.{Tables, entries}
 use Rattle.index_tree.specs.Places.{KeepsNumbers}
 use Rattle.index_tree.specs.Trees.{IsTreeOf}
-use Rattle.index_set.specs.Walks.{Fits, HasGrown, HasIndex, IsChosen, KnowsRows, RowsGrow, Waits, ahead, takes}
+use Rattle.index_set.specs.Walks.{Fits, HasGrown, HasIndex, IsChosen, KnowsRows, RowsGrow, Waits, ahead, search_takes}
 
 step : (b c : Bool) → b ≡ c → (a : ℕ) (xs ys : List ℕ) → xs ≡ ys → cond b (a ∷ xs) xs ≡ cond c (a ∷ ys) ys
 step true true e a xs ys same = ap (λ (zs : List ℕ). a ∷ zs) same
@@ -38,14 +38,14 @@ tests_same f g a (suc n) m h same =
 
 pub ahead_kept : (c : Candidates) (old new : List Row) → RowsGrow old new → Waits c old → ahead c new ≡ ahead c old
 ahead_kept c old new grow w =
-    tests_same (λ slot. takes c.search (get_or new slot no_row)) (λ slot. takes c.search (get_or old slot no_row))
+    tests_same (λ slot. search_takes c.search (get_or new slot no_row)) (λ slot. search_takes c.search (get_or old slot no_row))
     c.from (c.slots - c.from) (length old) (omega (arith, w.few, c.order, c.within))
-    (λ i below. ap (takes c.search) (grow.same i below))
+    (λ i below. ap (search_takes c.search) (grow.same i below))
 
 knows_kept : (s : Search) (old new : List Row) (from end slots : ℕ) → RowsGrow old new → end ≤ slots → slots ≤ length old → KnowsRows s old from end slots → KnowsRows s new from end slots
 knows_kept (by.Order attribute range) old new from end slots grow within few k = (
-  λ i a b. ap (λ (r : Row). lies_in range (key_in attribute r)) (grow.same i (omega arith)) ∙ k.0 i a b,
-  λ i a b. ap (λ (r : Row). lies_in range (key_in attribute r)) (grow.same i (omega arith)) ∙ k.1 i a b,
+  λ i a b. ap (λ (r : Row). lies_in range (key_at_place attribute r)) (grow.same i (omega arith)) ∙ k.0 i a b,
+  λ i a b. ap (λ (r : Row). lies_in range (key_at_place attribute r)) (grow.same i (omega arith)) ∙ k.1 i a b,
 )
 knows_kept by.Nothing old new from end slots grow within few k = k
 knows_kept by.Scan old new from end slots grow within few k = k
@@ -62,7 +62,7 @@ waits_kept c old new grow w = record {
 
 keys_joined : (attribute : ℕ) (xs ys : List Row) → keys attribute (xs ++ ys) ≡ keys attribute xs ++ keys attribute ys
 keys_joined attribute [] ys = refl
-keys_joined attribute (row ∷ xs) ys = ap (λ (ks : List ℤ). key_in attribute row ∷ ks) (keys_joined attribute xs ys)
+keys_joined attribute (row ∷ xs) ys = ap (λ (ks : List ℤ). key_at_place attribute row ∷ ks) (keys_joined attribute xs ys)
 
 -- rows that have come stand behind the others
 rows_behind : (old new : List Row) → RowsGrow old new → new ≡ old ++ drop (length old) new

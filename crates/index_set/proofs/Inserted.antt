@@ -3,7 +3,7 @@ use Rattle.std.proofs.Common.{◌≡◌, ℕ, ℤ, zero, suc, ◌+◌, ◌<◌, 
 use Rattle.std.specs.Prelude.{⊤, slice_get}
 use Rattle.std.specs.List.{AllByRecursion}
 use Rattle.afl_base.specs.Files.{File, State, bytes_at, no_file}
-use Rattle.afl_base.specs.Frames.{Spares}
+use Rattle.afl_base.specs.Frames.{SparesOthers}
 use Rattle.afl_base.proofs.FrameLaws.{live_by_name, spares_then}
 use Rattle.db_model.specs.declared.values.Value.{Value}
 use Rattle.db_model.specs.Row.{Row}
@@ -55,7 +55,7 @@ no_table Second (InTable First) e = tt
 no_table Second (InTable Second) e = e
 
 -- what is so of its file's place and of its entries stays so
-module _ (a b : State) (s t : Tables) (stays : ℕ → Type 0) (f : Spares a b stays) where
+module _ (a b : State) (s t : Tables) (stays : ℕ → Type 0) (f : SparesOthers a b stays) where
   abbrev pub Stays : Access → Type 0
   Stays Order = ⊤
   Stays (Tree file) = stays file
@@ -95,7 +95,7 @@ module _ (a b : State) (s t : Tables) (stays : ℕ → Type 0) (f : Spares a b s
   kept_from z (InTable number) stay h = h
 
 -- the index at a place, while those before it are filled
-pub later_stays : (a b : State) (s t : Tables) (xs : List IndexInfo) (f : Spares a b (IsNoTree xs)) (access : Access)
+pub later_stays : (a b : State) (s t : Tables) (xs : List IndexInfo) (f : SparesOthers a b (IsNoTree xs)) (access : Access)
     → ((number : TableId) → AllByRecursion (λ x. IsNoTable number x.access) xs → entries t number ≡ entries s number)
     → AllByRecursion (λ x. IsElsewhere x.access access) xs → Stays a b s t (IsNoTree xs) f access
 later_stays a b s t xs f Order keeps h = tt
@@ -103,13 +103,13 @@ later_stays a b s t xs f (Tree file) keeps h = away_tree file xs h
 later_stays a b s t xs f (InTable number) keeps h = keeps number (away_table number xs h)
 
 -- those that are filled, while one behind them is
-pub earlier_stays : (a b : State) (s t : Tables) (access : Access) (f : Spares a b (λ k. IsApart k access)) (other : Access)
+pub earlier_stays : (a b : State) (s t : Tables) (access : Access) (f : SparesOthers a b (λ k. IsApart k access)) (other : Access)
     → ((number : TableId) → IsNoTable number access → entries t number ≡ entries s number) → IsElsewhere other access → Stays a b s t (λ k. IsApart k access) f other
 earlier_stays a b s t access f Order keeps h = tt
 earlier_stays a b s t access f (Tree file) keeps h = h
 earlier_stays a b s t access f (InTable number) keeps h = keeps number (no_table number access h)
 
-module _ (a b : State) (s t : Tables) (access : Access) (f : Spares a b (λ k. IsApart k access)) (keeps : (number : TableId) → IsNoTable number access → entries t number ≡ entries s number) where
+module _ (a b : State) (s t : Tables) (access : Access) (f : SparesOthers a b (λ k. IsApart k access)) (keeps : (number : TableId) → IsNoTable number access → entries t number ≡ entries s number) where
   pub held_before : (n : ℕ) (xs : List IndexInfo) → AllByRecursion (λ x. IsElsewhere x.access access) xs → AreHeld a s n xs → AreHeld b t n xs
   held_before n [] away h = tt
   held_before n (x ∷ xs) away h = (held_on a b s t (λ k. IsApart k access) f n x.access (earlier_stays a b s t access f x.access keeps away.0) h.0, held_before n xs away.1 h.1)
@@ -162,7 +162,7 @@ keys_count attribute (r ∷ rows) = ap suc (keys_count attribute rows)
 -- ---- one index more
 
 module _ (xs : List IndexInfo) (n : ℕ) (y : IndexInfo) (h : n < length xs) (e : y ≡ get_or xs n y) (apart : AreApart xs) (a b c : State) (t0 t1 t2 : Tables)
-    (f : Spares a b (IsNoTree (take n xs))) (k1 : KeepsTables t0 t1 (take n xs)) where
+    (f : SparesOthers a b (IsNoTree (take n xs))) (k1 : KeepsTables t0 t1 (take n xs)) where
   stays : Stays a b t0 t1 (IsNoTree (take n xs)) f y.access
   stays = later_stays a b t0 t1 (take n xs) f y.access k1 (before_it xs n y h e apart)
 
@@ -196,8 +196,8 @@ module _ (xs : List IndexInfo) (n : ℕ) (y : IndexInfo) (h : n < length xs) (e 
       subst P (is has) put whole room_for
   kept_by (InTable number) value key ks room has is put whole room_for = tt
 
-  module _ (g : Spares b c (λ k. IsApart k y.access)) (k2 : (number : TableId) → IsNoTable number y.access → entries t2 number ≡ entries t1 number) where
-    pub spares_next : Spares a c (IsNoTree (take (n + 1) xs))
+  module _ (g : SparesOthers b c (λ k. IsApart k y.access)) (k2 : (number : TableId) → IsNoTable number y.access → entries t2 number ≡ entries t1 number) where
+    pub spares_next : SparesOthers a c (IsNoTree (take (n + 1) xs))
     spares_next = spares_then a b c (IsNoTree (take n xs)) (λ k. IsApart k y.access) (IsNoTree (take (n + 1) xs)) f g
         (λ k all. no_tree_more (take n xs) y k (let P : List IndexInfo → Type 0 = λ ys. IsNoTree ys k in subst P (taken xs n y h e) all))
 

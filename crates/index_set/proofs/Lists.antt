@@ -6,7 +6,7 @@ use Rattle.afl_base.specs.declared.kind.FileError.{FileError}
 use Rattle.afl_base.specs.declared.kind.FileError.TheVariants.{Space, Failed}
 use Rattle.afl_base.specs.FileErrors.{OnSpace, UnlessFailed}
 use Rattle.afl_base.specs.Files.{File, IsLive, State, bytes_at, file_at, no_file, place, size_at}
-use Rattle.afl_base.specs.Frames.{Prepares, Spares}
+use Rattle.afl_base.specs.Frames.{Prepares, SparesOthers}
 use Rattle.afl_base.proofs.FrameLaws.{becomes_spares, live_by_name, prepares_then}
 use Rattle.db_model.specs.declared.values.Value.{Value}
 use Rattle.db_model.specs.Step.{key_of}
@@ -48,7 +48,7 @@ nothing_needed a file room within none =
     let bytes : room.bytes ≡ 0 = nothing_by room.end room.overwrites room.bytes (ap (λ (r : Room). r.overwrites) within.whole) (ap (λ (r : Room). r.bytes) within.whole) none in
     record { place = within; records = omega (arith, none); bytes = omega (arith, bytes) }
 
-pub only_spares : (old new : State) (file : ℕ) → IsLive old.files file → OnlyIndexChanges old new file → Spares old new (λ k. k ≢ file)
+pub only_spares : (old new : State) (file : ℕ) → IsLive old.files file → OnlyIndexChanges old new file → SparesOthers old new (λ k. k ≢ file)
 only_spares old new file live only = becomes_spares old new file only.0 only.1 live only.2
 
 -- ---- lists of indexes
@@ -97,7 +97,7 @@ exact_more s tuple (r ∷ rooms) [] room y e all here = absurd (omega (arith, e)
 exact_more s tuple (r ∷ rooms) (x ∷ xs) room y e all here = (all.0, exact_more s tuple rooms xs room y (omega (arith, e)) all.1 here)
 
 -- the room of the others is as it was
-pub rooms_stay : (a b : State) (access : Access) (rooms : List Room) (xs : List IndexInfo) → Spares a b (λ k. IsApart k access) → AllByRecursion (λ x. IsElsewhere x.access access) xs → HaveRoom a rooms xs → HaveRoom b rooms xs
+pub rooms_stay : (a b : State) (access : Access) (rooms : List Room) (xs : List IndexInfo) → SparesOthers a b (λ k. IsApart k access) → AllByRecursion (λ x. IsElsewhere x.access access) xs → HaveRoom a rooms xs → HaveRoom b rooms xs
 rooms_stay a b access rooms [] f away h = h
 rooms_stay a b access [] (x ∷ xs) f away h = h
 rooms_stay a b access (room ∷ rooms) (x ∷ xs) f away h = (one x.access away.0 h.0, rooms_stay a b access rooms xs f away.1 h.1)
@@ -108,7 +108,7 @@ rooms_stay a b access (room ∷ rooms) (x ∷ xs) f away h = (one x.access away.
     one (InTable number) apart h = h
 
 -- a tree's file stays there
-pub tree_live : (a b : State) (P : ℕ → Type 0) (tables : Tables) (n : ℕ) (access : Access) → Spares a b P → IsHeld a tables n access → IsDoublingTree b access
+pub tree_live : (a b : State) (P : ℕ → Type 0) (tables : Tables) (n : ℕ) (access : Access) → SparesOthers a b P → IsHeld a tables n access → IsDoublingTree b access
 tree_live a b P tables n Order f h = tt
 tree_live a b P tables n (Tree file) f h = (live_by_name a.files b.files f.named file h.0, f.kind file h.0 ∙ h.1)
 tree_live a b P tables n (InTable number) f h = tt

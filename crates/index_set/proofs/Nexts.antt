@@ -13,11 +13,11 @@ use Rattle.index_set.specs.declared.candidates.Candidates.{Candidates}
 use Rattle.index_set.specs.declared.candidates.Search.{Search}
 use Rattle.index_set.specs.declared.candidates.Search.TheVariants as by
 use Rattle.index_set.specs.declared.info.TableId.{TableId}
-use Rattle.index_set.specs.Complete.{key_in}
+use Rattle.index_set.specs.Complete.{key_at_place}
 use Rattle.index_set.specs.Tables.{Tables, entries}
 use Rattle.index_maxheap.specs.Searches.{walk_left}
 use Rattle.afl_base.specs.Keys.{IsFirstOf}
-use Rattle.index_set.specs.Walks.{Advances, Finds, Fits, LacksKey, HasIndex, HasPlace, IsMoved, IsMovedBy, KnowsRows, Waits, ahead, reads_ahead, reads_by, slots_in, takes}
+use Rattle.index_set.specs.Walks.{Advances, Finds, Fits, LacksKey, HasIndex, HasPlace, IsMoved, IsMovedBy, KnowsRows, Waits, ahead, reads_ahead, reads_by, slots_searched, search_takes}
 use Rattle.index_set.proofs.Seeks.{key_of_slot}
 use Rattle.index_set.proofs.Slots.{between_first, between_none}
 
@@ -32,20 +32,20 @@ length_keys attribute (row ∷ rows) = ap suc (length_keys attribute rows)
 
 -- ---- what is ahead
 
-pub ahead_by : (new old : Candidates) (rows : List Row) (from : ℕ) → new.search ≡ old.search → new.slots ≡ old.slots → new.from ≡ from → ahead new rows ≡ slots_in old.search rows from old.slots
+pub ahead_by : (new old : Candidates) (rows : List Row) (from : ℕ) → new.search ≡ old.search → new.slots ≡ old.slots → new.from ≡ from → ahead new rows ≡ slots_searched old.search rows from old.slots
 ahead_by new old rows from a b e = rw (a, b, e) refl
 
-pub ahead_none : (c : Candidates) (rows : List Row) → ((i : ℕ) → c.from ≤ i → i < c.slots → takes c.search (get_or rows i no_row) ≡ false) → ahead c rows ≡ []
-ahead_none c rows fails = between_none (λ slot. takes c.search (get_or rows slot no_row)) c.from c.slots fails
+pub ahead_none : (c : Candidates) (rows : List Row) → ((i : ℕ) → c.from ≤ i → i < c.slots → search_takes c.search (get_or rows i no_row) ≡ false) → ahead c rows ≡ []
+ahead_none c rows fails = between_none (λ slot. search_takes c.search (get_or rows slot no_row)) c.from c.slots fails
 
 pub ahead_first : (new old : Candidates) (rows : List Row) (slot : ℕ) → new.search ≡ old.search → new.slots ≡ old.slots → new.from ≡ slot + 1 → old.from ≤ slot → slot < old.slots
-    → takes old.search (get_or rows slot no_row) ≡ true → ((i : ℕ) → old.from ≤ i → i < slot → takes old.search (get_or rows i no_row) ≡ false) → ahead old rows ≡ slot ∷ ahead new rows
+    → search_takes old.search (get_or rows slot no_row) ≡ true → ((i : ℕ) → old.from ≤ i → i < slot → search_takes old.search (get_or rows i no_row) ≡ false) → ahead old rows ≡ slot ∷ ahead new rows
 ahead_first new old rows slot a b e order below here before =
-    between_first (λ i. takes old.search (get_or rows i no_row)) old.from slot old.slots order below here before
+    between_first (λ i. search_takes old.search (get_or rows i no_row)) old.from slot old.slots order below here before
     ∙ ap (λ (xs : List ℕ). slot ∷ xs) (sym (ahead_by new old rows (slot + 1) a b e))
 
 pub nothing_ahead : (c : Candidates) (rows : List Row) → c.search ≡ by.Nothing → ahead c rows ≡ []
-nothing_ahead c rows e = ahead_none c rows (λ i a b. ap (λ (s : Search). takes s (get_or rows i no_row)) e)
+nothing_ahead c rows e = ahead_none c rows (λ i a b. ap (λ (s : Search). search_takes s (get_or rows i no_row)) e)
 
 -- ---- in order
 
@@ -55,7 +55,7 @@ pub order_next : (old new : Candidates) (state : State) (tables : Tables) (rows 
 order_next old new state tables rows attribute range None is fits found moved end =
     let K : Search → Type 0 = λ s. KnowsRows s rows old.from old.end old.slots in
     let knows = subst K is fits.waits.knows in
-    ahead_none old rows (λ i a b. ap (λ (s : Search). takes s (get_or rows i no_row)) is ∙ knows.1 i (omega (arith, found, a)) b)
+    ahead_none old rows (λ i a b. ap (λ (s : Search). search_takes s (get_or rows i no_row)) is ∙ knows.1 i (omega (arith, found, a)) b)
 order_next old new state tables rows attribute range (Some slot) is fits found moved end =
     let K : Search → Type 0 = λ s. KnowsRows s rows old.from old.end old.slots in
     let knows = subst K is fits.waits.knows in
@@ -69,7 +69,7 @@ order_next old new state tables rows attribute range (Some slot) is fits found m
     let N : Search → Type 0 = λ s. KnowsRows s rows new.from new.end new.slots in
     let I : Search → Type 0 = λ s. HasIndex s new.place state tables rows new.from in (
       ahead_first new old rows slot moved.2 slots from (omega (arith, at)) (omega (arith, below, within))
-          (ap (λ (s : Search). takes s (get_or rows slot no_row)) is ∙ knows.0 slot (omega (arith, at)) below) (λ i a b. absurd (omega (arith, at, a, b))),
+          (ap (λ (s : Search). search_takes s (get_or rows slot no_row)) is ∙ knows.0 slot (omega (arith, at)) below) (λ i a b. absurd (omega (arith, at, a, b))),
       record {
         waits = record {
           few = omega (arith, few, slots);
@@ -82,7 +82,7 @@ order_next old new state tables rows attribute range (Some slot) is fits found m
 -- ---- by a key
 
 -- what a search for a key has found, over rows
-module _ (old new : Candidates) (rows : List Row) (attribute : ℕ) (key : ℤ) (same : (i : ℕ) → takes old.search (get_or rows i no_row) ≡ int_eq (key_in attribute (get_or rows i no_row)) key) where
+module _ (old new : Candidates) (rows : List Row) (attribute : ℕ) (key : ℤ) (same : (i : ℕ) → search_takes old.search (get_or rows i no_row) ≡ int_eq (key_at_place attribute (get_or rows i no_row)) key) where
   pub lacks_ahead : LacksKey key (keys attribute rows) old.from old.slots → ahead old rows ≡ []
   lacks_ahead lacks = ahead_none old rows (λ i a b. same i ∙ sym (key_of_slot attribute key rows i) ∙ lacks i a b)
 
@@ -98,8 +98,8 @@ pub no_slots : (c : Candidates) (rows : List Row) → c.slots ≤ c.from → ahe
 no_slots c rows none = ahead_none c rows (λ i a b. absurd (omega (arith, none, a, b)))
 
 module _ (old new : Candidates) (state : State) (tables : Tables) (rows : List Row) (attribute file : ℕ) (key : ℤ) (is : old.search ≡ by.Tree attribute file key) (fits : Fits old state tables rows) where
-  tests : (i : ℕ) → takes old.search (get_or rows i no_row) ≡ int_eq (key_in attribute (get_or rows i no_row)) key
-  tests i = ap (λ (s : Search). takes s (get_or rows i no_row)) is
+  tests : (i : ℕ) → search_takes old.search (get_or rows i no_row) ≡ int_eq (key_at_place attribute (get_or rows i no_row)) key
+  tests i = ap (λ (s : Search). search_takes s (get_or rows i no_row)) is
 
   placed : old.from < old.slots → HasPlace state file key (keys attribute rows) old
   placed some = let I : Search → Type 0 = λ s. HasIndex s old.place state tables rows old.from in subst I is (fits.index some)
@@ -165,8 +165,8 @@ module _ (old new : Candidates) (state : State) (tables : Tables) (rows : List R
 -- ---- by a table
 
 module _ (old new : Candidates) (state : State) (tables : Tables) (rows : List Row) (attribute : ℕ) (number : TableId) (key : ℤ) (is : old.search ≡ by.Table attribute number key) (fits : Fits old state tables rows) where
-  trials : (i : ℕ) → takes old.search (get_or rows i no_row) ≡ int_eq (key_in attribute (get_or rows i no_row)) key
-  trials i = ap (λ (s : Search). takes s (get_or rows i no_row)) is
+  trials : (i : ℕ) → search_takes old.search (get_or rows i no_row) ≡ int_eq (key_at_place attribute (get_or rows i no_row)) key
+  trials i = ap (λ (s : Search). search_takes s (get_or rows i no_row)) is
 
   entered : old.from < old.slots → entries tables number ≡ keys attribute rows
   entered some = let I : Search → Type 0 = λ s. HasIndex s old.place state tables rows old.from in subst I is (fits.index some)

@@ -10,7 +10,7 @@ use Rattle.afl_base.specs.Keys.{is_key_at}
 use Rattle.index_tree.specs.Trees.{IsTreeOf}
 use Rattle.index_tree.proofs.Numbered.{numbered_length}
 use Rattle.index_tree.proofs.Reach.{filter_shorter}
-use Rattle.index_set.specs.Complete.{key_in}
+use Rattle.index_set.specs.Complete.{key_at_place}
 use Rattle.index_maxheap.specs.Searches.{walk_left}
 
 -- a walk that is over reads nothing more
@@ -25,7 +25,7 @@ walk_over bytes ks key tree =
     over e h = omega arith
 
 -- the key of a slot is that of its row
-pub key_of_slot : (attribute : ℕ) (key : ℤ) (rows : List Row) (slot : ℕ) → is_key_at key (keys attribute rows) slot ≡ int_eq (key_in attribute (get_or rows slot no_row)) key
+pub key_of_slot : (attribute : ℕ) (key : ℤ) (rows : List Row) (slot : ℕ) → is_key_at key (keys attribute rows) slot ≡ int_eq (key_at_place attribute (get_or rows slot no_row)) key
 key_of_slot attribute key [] slot = refl
 key_of_slot attribute key (row ∷ rows) zero = refl
 key_of_slot attribute key (row ∷ rows) (suc slot) = key_of_slot attribute key rows slot

@@ -21,16 +21,16 @@ IsComplete state tables (Tree file) keys = IsTreeOf (bytes_at state.files file) 
 IsComplete state tables (Table number) keys = entries tables number ≡ keys
 
 -- the key of a row at an attribute's place
-abbrev pub key_in : ℕ → Row → ℤ
-key_in place row = key_of_value (slice_get row.tuple place)
+abbrev pub key_at_place : ℕ → Row → ℤ
+key_at_place place row = key_of_value (slice_get row.tuple place)
 
 -- the column has the keys of these rows
 abbrev pub HasKeys : State → List Row → IndexInfo → Type 0
 HasKeys state all info =
-    (slot : ℕ) → slot < length all → key_of state info.column slot ≡ key_in info.attribute (get_or all slot no_row)
+    (slot : ℕ) → slot < length all → key_of state info.column slot ≡ key_at_place info.attribute (get_or all slot no_row)
 
 -- an index of these rows: its column has their keys, and it is complete
-pub record IsIndexOf (state : State) (tables : Tables) (all : List Row) (info : IndexInfo) : Type 0 where
+pub record IsInfoOf (state : State) (tables : Tables) (all : List Row) (info : IndexInfo) : Type 0 where
   pub column : HasKeys state all info
   pub complete : IsComplete state tables info.access (keys info.attribute all)
 
@@ -68,7 +68,7 @@ abbrev pub AreReadable : State → ℕ → List IndexInfo → Type 0
 AreReadable state slots infos = AllByRecursion (IsReadable state slots) infos
 
 abbrev pub AreIndexesOf : State → Tables → List Row → List IndexInfo → Type 0
-AreIndexesOf state tables all infos = AllByRecursion (IsIndexOf state tables all) infos
+AreIndexesOf state tables all infos = AllByRecursion (IsInfoOf state tables all) infos
 
 abbrev pub HaveKeysOf : State → List Row → List IndexInfo → Type 0
 HaveKeysOf state all infos = AllByRecursion (HasKeys state all) infos

@@ -12,15 +12,15 @@ use Rattle.index_set.specs.declared.choices.Plan.TheVariants as chosen
 use Rattle.index_set.specs.declared.info.Access.{Access}
 use Rattle.index_set.specs.declared.info.Access.TheVariants.{Order, Tree, Table}
 use Rattle.index_set.specs.declared.info.IndexInfo.{IndexInfo}
-use Rattle.index_set.specs.Complete.{key_in}
+use Rattle.index_set.specs.Complete.{key_at_place}
 
-abbrev pub kind_of : Access → IndexKind
-kind_of Order = Inline
-kind_of (Tree file) = MaxHeap
-kind_of (Table number) = MemHash
+abbrev pub access_kind : Access → IndexKind
+access_kind Order = Inline
+access_kind (Tree file) = MaxHeap
+access_kind (Table number) = MemHash
 
 abbrev pub kinds : List IndexInfo → Kinds
-kinds infos = map (λ info. (kind_of info.access, info.attribute)) infos
+kinds infos = map (λ info. (access_kind info.access, info.attribute)) infos
 
 abbrev pub plan_in : Plan → model.Plan
 plan_in chosen.Nothing = Nothing
@@ -60,7 +60,7 @@ IsBy (chosen.Table n table key) nth access = (n ≡ nth) × (access ≡ Table ta
 
 -- whether the plan that the ranges give passes a row
 abbrev pub is_passed : Kinds → List Range → Row → Bool
-is_passed indexes ranges row = passes indexes ranges (plan indexes ranges) (λ place. key_in place row)
+is_passed indexes ranges row = passes indexes ranges (plan indexes ranges) (λ place. key_at_place place row)
 
 -- the slots below a number whose rows it passes
 abbrev pub slots_passed : Kinds → List Range → ℕ → List Row → List ℕ

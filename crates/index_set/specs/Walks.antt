@@ -14,7 +14,7 @@ use Rattle.index_set.specs.declared.candidates.Search.TheVariants as by
 use Rattle.index_set.specs.declared.info.Access.TheVariants.{Tree, Table}
 use Rattle.index_set.specs.declared.info.IndexInfo.{IndexInfo}
 use Rattle.index_maxheap.specs.declared.places.Place.{Place}
-use Rattle.index_set.specs.Complete.{key_in}
+use Rattle.index_set.specs.Complete.{key_at_place}
 use Rattle.index_set.specs.Inserts.{SomeOf}
 use Rattle.index_set.specs.Plans.{kinds, slots_passed}
 use Rattle.index_set.specs.Tables.{Tables, entries}
@@ -24,20 +24,20 @@ use Rattle.index_tree.specs.Places.{KeepsNumbers}
 use Rattle.index_tree.specs.Trees.{IsTreeOf}
 
 -- which rows a search answers
-abbrev pub takes : Search → Row → Bool
-takes by.Nothing row = false
-takes by.Scan row = true
-takes (by.Order attribute range) row = lies_in range (key_in attribute row)
-takes (by.Tree attribute file key) row = int_eq (key_in attribute row) key
-takes (by.Table attribute number key) row = int_eq (key_in attribute row) key
+abbrev pub search_takes : Search → Row → Bool
+search_takes by.Nothing row = false
+search_takes by.Scan row = true
+search_takes (by.Order attribute range) row = lies_in range (key_at_place attribute row)
+search_takes (by.Tree attribute file key) row = int_eq (key_at_place attribute row) key
+search_takes (by.Table attribute number key) row = int_eq (key_at_place attribute row) key
 
 -- their slots, from one up to another
-abbrev pub slots_in : Search → List Row → ℕ → ℕ → List ℕ
-slots_in search all from end = filter (λ slot. takes search (get_or all slot no_row)) (range_with_len from (end - from))
+abbrev pub slots_searched : Search → List Row → ℕ → ℕ → List ℕ
+slots_searched search all from end = filter (λ slot. search_takes search (get_or all slot no_row)) (range_with_len from (end - from))
 
 -- the slots still to come
 abbrev pub ahead : Candidates → List Row → List ℕ
-ahead c all = slots_in c.search all c.from c.slots
+ahead c all = slots_searched c.search all c.from c.slots
 
 -- rows may have come behind the others, which are the same
 pub record RowsGrow (old new : List Row) : Type 0 where
@@ -49,8 +49,8 @@ pub record RowsGrow (old new : List Row) : Type 0 where
 -- all rows from one up to another are in the range, and none from there on
 abbrev pub KnowsRows : Search → List Row → ℕ → ℕ → ℕ → Type 0
 KnowsRows (by.Order attribute range) all from end slots =
-    ((i : ℕ) → from ≤ i → i < end → lies_in range (key_in attribute (get_or all i no_row)) ≡ true)
-    × ((i : ℕ) → end ≤ i → i < slots → lies_in range (key_in attribute (get_or all i no_row)) ≡ false)
+    ((i : ℕ) → from ≤ i → i < end → lies_in range (key_at_place attribute (get_or all i no_row)) ≡ true)
+    × ((i : ℕ) → end ≤ i → i < slots → lies_in range (key_at_place attribute (get_or all i no_row)) ≡ false)
 KnowsRows _ all from end slots = ⊤
 
 pub record Waits (c : Candidates) (all : List Row) : Type 0 where

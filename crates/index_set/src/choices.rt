@@ -17,7 +17,7 @@ ghost use Rattle.index_set.specs.declared.info.TableId.{TableId as AnyTable};
 ghost use Rattle.index_set.specs.Complete.{AreComplete, AreHeld, AreReadable, HaveKeysOf, IsComplete, IsFirstIncomplete, IsHeld, IsReadable, most_reads, most_reads_of_all};
 ghost use Rattle.index_set.specs.Inserts.{AreApart, AreDoublingTrees, IsDoublingTree, IsNoTable, KeepsTables};
 ghost use Rattle.index_set.specs.Tables.{entries};
-ghost use Rattle.index_set.specs.Plans.{IsBy, IsOf, by_kind, kind_of, kinds, plan_in};
+ghost use Rattle.index_set.specs.Plans.{IsBy, IsOf, by_kind, access_kind, kinds, plan_in};
 
 use crate::info::{Access, IndexInfo, Indexes, TableId};
 use crate::tables::HashTables;
@@ -91,7 +91,7 @@ fn first_of(indexes: &Indexes, ranges: &[Range; 8], kind: IndexKind) -> Option<P
 // The plan that an index gives, if it is of a kind and usable.
 fn usable(access: Access, range: &Range, kind: IndexKind, nth: u8) -> Option<Plan>
     ensures plan { (ranges : List AnyRange) (place : ℕ) → range_at ranges place ≡ range.now
-        → option_map plan_in result ≡ by_kind kind ranges nth (kind_of access, place) }
+        → option_map plan_in result ≡ by_kind kind ranges nth (access_kind access, place) }
     ensures index { IfSome result (λ plan. IsBy plan nth access) }
 {
     match kind {
@@ -103,7 +103,7 @@ fn usable(access: Access, range: &Range, kind: IndexKind, nth: u8) -> Option<Pla
 
 fn by_order(access: Access, range: &Range, nth: u8) -> Option<Plan>
     ensures plan { (ranges : List AnyRange) (place : ℕ) → range_at ranges place ≡ range.now
-        → option_map plan_in result ≡ model.by_order ranges nth (kind_of access, place) }
+        → option_map plan_in result ≡ model.by_order ranges nth (access_kind access, place) }
     ensures index { IfSome result (λ plan. IsBy plan nth access) }
 {
     match access {
@@ -120,7 +120,7 @@ fn by_order(access: Access, range: &Range, nth: u8) -> Option<Plan>
 
 fn by_tree(access: Access, range: &Range, nth: u8) -> Option<Plan>
     ensures plan { (ranges : List AnyRange) (place : ℕ) → range_at ranges place ≡ range.now
-        → option_map plan_in result ≡ model.by_tree ranges nth (kind_of access, place) }
+        → option_map plan_in result ≡ model.by_tree ranges nth (access_kind access, place) }
     ensures index { IfSome result (λ plan. IsBy plan nth access) }
 {
     match access {
@@ -135,7 +135,7 @@ fn by_tree(access: Access, range: &Range, nth: u8) -> Option<Plan>
 
 fn by_table(access: Access, range: &Range, nth: u8) -> Option<Plan>
     ensures plan { (ranges : List AnyRange) (place : ℕ) → range_at ranges place ≡ range.now
-        → option_map plan_in result ≡ model.by_table ranges nth (kind_of access, place) }
+        → option_map plan_in result ≡ model.by_table ranges nth (access_kind access, place) }
     ensures index { IfSome result (λ plan. IsBy plan nth access) }
 {
     match access {

@@ -8,7 +8,7 @@ ghost use Rattle.afl_base.specs.declared.kind.Kind.TheVariants as Kind;
 ghost use Rattle.afl_base.specs.Asked.{asks_few};
 ghost use Rattle.afl_base.specs.FileErrors.{OnSpace, UnlessFailed};
 ghost use Rattle.afl_base.specs.Files.{IsLive, bytes_at, file_at};
-ghost use Rattle.afl_base.specs.Frames.{Prepares, Spares};
+ghost use Rattle.afl_base.specs.Frames.{Prepares, SparesOthers};
 ghost use Rattle.db_model.specs.Row.{Row, is_between};
 ghost use Rattle.db_model.specs.Step.{key_of};
 ghost use Rattle.index_maxheap.specs.Rooms.{HasRoomFor, room_of};
@@ -153,7 +153,7 @@ pub fn insert_all<V: Files>(
         → AllKeepBuckets state (V.state files.new) indexes.now) }
     ensures held { OnOk result (AreHeld (V.state files.new) tables.new (slot + 1) indexes.now) }
     ensures others { OnOk result
-        (Spares (V.state files.old) (V.state files.new) (IsNoTree indexes.now)) }
+        (SparesOthers (V.state files.old) (V.state files.new) (IsNoTree indexes.now)) }
     ensures tables { OnOk result (KeepsTables tables.old tables.new indexes.now) }
     ensures frame { Changes V.state V.lent V.reads V.faults files.old files.new result }
 {
@@ -188,7 +188,7 @@ fn insert_one<V: Files>(
         ((keys : List ℤ) → length keys ≡ slot → IsComplete state tables.old access keys
         → IsRoomFor state key.now room.now access → KeepsBuckets state (V.state files.new) access) }
     ensures held { OnOk result (IsHeld (V.state files.new) tables.new (slot + 1) access) }
-    ensures others { OnOk result (Spares (V.state files.old) (V.state files.new) (λ id. IsApart id access)) }
+    ensures others { OnOk result (SparesOthers (V.state files.old) (V.state files.new) (λ id. IsApart id access)) }
     ensures tables { OnOk result ((number : AnyTable) → IsNoTable number access → entries tables.new number ≡ entries tables.old number) }
     ensures frame { Changes V.state V.lent V.reads V.faults files.old files.new result }
 {

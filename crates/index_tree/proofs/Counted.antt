@@ -5,35 +5,35 @@ use Rattle.std.specs.List.{filter}
 use Rattle.std.proofs.lemmas.List.{append-nil, drop-append-le, drop_all, length-drop, map-append, length-map}
 use Rattle.std.proofs.lemmas.List.Elements.{filter-append}
 use Rattle.db_model.specs.HashTree.{buckets, buckets_at, digit, onward}
-use Rattle.index_tree.specs.Ends.{IsEnd}
-use Rattle.index_tree.specs.Loads.{opened}
-use Rattle.index_tree.specs.Pairs.{Pair, goes, keys_of, reach}
+use Rattle.index_tree.specs.Ends.{IsPathEnd}
+use Rattle.index_tree.specs.Loads.{opened_bucket}
+use Rattle.index_tree.specs.Pairs.{Pair, goes, pair_keys, reaching}
 use Rattle.index_tree.proofs.Shared.{Full, order}
 
 -- ---- keys and pairs
 
-keys_step : (b : Bool) (p : Pair) (ps : List Pair) (ks : List ℤ) → keys_of ps ≡ ks → keys_of (cond b (p ∷ ps) ps) ≡ cond b (p.key ∷ ks) ks
+keys_step : (b : Bool) (p : Pair) (ps : List Pair) (ks : List ℤ) → pair_keys ps ≡ ks → pair_keys (cond b (p ∷ ps) ps) ≡ cond b (p.key ∷ ks) ks
 keys_step true p ps ks e = ap (λ (xs : List ℤ). p.key ∷ xs) e
 keys_step false p ps ks e = e
 
-keys-filter : (test : ℤ → Bool) (ps : List Pair) → keys_of (filter (λ (p : Pair). test p.key) ps) ≡ filter test (keys_of ps)
+keys-filter : (test : ℤ → Bool) (ps : List Pair) → pair_keys (filter (λ (p : Pair). test p.key) ps) ≡ filter test (pair_keys ps)
 keys-filter test [] = refl
-keys-filter test (p ∷ ps) = keys_step (test p.key) p (filter (λ (q : Pair). test q.key) ps) (filter test (keys_of ps)) (keys-filter test ps)
+keys-filter test (p ∷ ps) = keys_step (test p.key) p (filter (λ (q : Pair). test q.key) ps) (filter test (pair_keys ps)) (keys-filter test ps)
 
-keys-drop : (n : ℕ) (ps : List Pair) → keys_of (drop n ps) ≡ drop n (keys_of ps)
+keys-drop : (n : ℕ) (ps : List Pair) → pair_keys (drop n ps) ≡ drop n (pair_keys ps)
 keys-drop zero ps = refl
 keys-drop (suc n) [] = refl
 keys-drop (suc n) (p ∷ ps) = keys-drop n ps
 
-pub length-keys : (ps : List Pair) → length (keys_of ps) ≡ length ps
+pub length-keys : (ps : List Pair) → length (pair_keys ps) ≡ length ps
 length-keys ps = length-map ps (λ (p : Pair). p.key)
 
 -- the keys that go on are those of the pairs
-keys_onward : (key : ℤ) (level : ℕ) (ps : List Pair) → level < 4 → keys_of (reach (goes key) (suc level) ps) ≡ onward level (digit key level) (keys_of (reach (goes key) level ps))
-keys_onward key zero ps h = keys-filter (λ k. digit k 0 == digit key 0) (drop 32 (reach (goes key) 0 ps)) ∙ ap (filter (λ k. digit k 0 == digit key 0)) (keys-drop 32 (reach (goes key) 0 ps))
-keys_onward key (suc zero) ps h = keys-filter (λ k. digit k 1 == digit key 1) (drop 32 (reach (goes key) 1 ps)) ∙ ap (filter (λ k. digit k 1 == digit key 1)) (keys-drop 32 (reach (goes key) 1 ps))
-keys_onward key (suc (suc zero)) ps h = keys-filter (λ k. digit k 2 == digit key 2) (drop 32 (reach (goes key) 2 ps)) ∙ ap (filter (λ k. digit k 2 == digit key 2)) (keys-drop 32 (reach (goes key) 2 ps))
-keys_onward key (suc (suc (suc zero))) ps h = keys-filter (λ k. digit k 3 == digit key 3) (drop 32 (reach (goes key) 3 ps)) ∙ ap (filter (λ k. digit k 3 == digit key 3)) (keys-drop 32 (reach (goes key) 3 ps))
+keys_onward : (key : ℤ) (level : ℕ) (ps : List Pair) → level < 4 → pair_keys (reaching (goes key) (suc level) ps) ≡ onward level (digit key level) (pair_keys (reaching (goes key) level ps))
+keys_onward key zero ps h = keys-filter (λ k. digit k 0 == digit key 0) (drop 32 (reaching (goes key) 0 ps)) ∙ ap (filter (λ k. digit k 0 == digit key 0)) (keys-drop 32 (reaching (goes key) 0 ps))
+keys_onward key (suc zero) ps h = keys-filter (λ k. digit k 1 == digit key 1) (drop 32 (reaching (goes key) 1 ps)) ∙ ap (filter (λ k. digit k 1 == digit key 1)) (keys-drop 32 (reaching (goes key) 1 ps))
+keys_onward key (suc (suc zero)) ps h = keys-filter (λ k. digit k 2 == digit key 2) (drop 32 (reaching (goes key) 2 ps)) ∙ ap (filter (λ k. digit k 2 == digit key 2)) (keys-drop 32 (reaching (goes key) 2 ps))
+keys_onward key (suc (suc (suc zero))) ps h = keys-filter (λ k. digit k 3 == digit key 3) (drop 32 (reaching (goes key) 3 ps)) ∙ ap (filter (λ k. digit k 3 == digit key 3)) (keys-drop 32 (reaching (goes key) 3 ps))
 keys_onward key (suc (suc (suc (suc more)))) ps h = absurd (omega arith)
 
 -- ---- the four ways
@@ -107,11 +107,11 @@ passes above level keys k full =
 
 -- ---- one key more
 
-opened_some : (n : ℕ) → 0 < n → opened n ≡ 0
+opened_some : (n : ℕ) → 0 < n → opened_bucket n ≡ 0
 opened_some zero h = absurd (omega arith)
 opened_some (suc n) h = refl
 
-ceil_more : (n : ℕ) → (n + 1 + 31) / 32 ≡ (n + 31) / 32 + opened (n % 32)
+ceil_more : (n : ℕ) → (n + 1 + 31) / 32 ≡ (n + 31) / 32 + opened_bucket (n % 32)
 ceil_more n = ⊎_elim
     (λ (some : 1 ≤ n % 32). rw (opened_some (n % 32) some) (omega arith))
     (λ (none : n % 32 < 1). let z : n % 32 ≡ 0 = omega arith in rw z (omega (arith, z)))
@@ -125,37 +125,37 @@ all_stay (p ∷ ps) = ap (λ xs. p ∷ xs) (all_stay ps)
 abbrev pub chain : ℕ → ℕ
 chain j = suc (suc (suc (suc j)))
 
-pub reach_chain : (key : ℤ) (ps : List Pair) (j : ℕ) → Full key ps (chain j) → length (reach (goes key) 4 ps) ≡ 32 * j + length (reach (goes key) (chain j) ps)
+pub reach_chain : (key : ℤ) (ps : List Pair) (j : ℕ) → Full key ps (chain j) → length (reaching (goes key) 4 ps) ≡ 32 * j + length (reaching (goes key) (chain j) ps)
 reach_chain key ps zero full = omega arith
 reach_chain key ps (suc j) full =
     let before = reach_chain key ps j (λ i h. full i (omega arith)) in
-    let enough : 32 ≤ length (reach (goes key) (chain j) ps) = full (chain j) (omega arith) in
-    let next : length (reach (goes key) (chain (suc j)) ps) ≡ length (drop 32 (reach (goes key) (chain j) ps)) = ap length (all_stay (drop 32 (reach (goes key) (chain j) ps))) in
-    let cut = length-drop 32 (reach (goes key) (chain j) ps) in
+    let enough : 32 ≤ length (reaching (goes key) (chain j) ps) = full (chain j) (omega arith) in
+    let next : length (reaching (goes key) (chain (suc j)) ps) ≡ length (drop 32 (reaching (goes key) (chain j) ps)) = ap length (all_stay (drop 32 (reaching (goes key) (chain j) ps))) in
+    let cut = length-drop 32 (reaching (goes key) (chain j) ps) in
     omega (arith, before, enough, next, cut)
 
 length_one : (ks : List ℤ) (k : ℤ) → length (ks ++ k ∷ []) ≡ length ks + 1
 length_one ks k = length-append ks (k ∷ [])
 
-counts : (above level : ℕ) (ps : List Pair) (key : ℤ) (hop : ℕ) → above + level ≡ 4 → level ≤ hop → Full key ps hop → length (reach (goes key) hop ps) < 32 →
-    buckets_at above level (keys_of (reach (goes key) level ps) ++ key ∷ []) ≡ buckets_at above level (keys_of (reach (goes key) level ps)) + opened (length (reach (goes key) hop ps))
+counts : (above level : ℕ) (ps : List Pair) (key : ℤ) (hop : ℕ) → above + level ≡ 4 → level ≤ hop → Full key ps hop → length (reaching (goes key) hop ps) < 32 →
+    buckets_at above level (pair_keys (reaching (goes key) level ps) ++ key ∷ []) ≡ buckets_at above level (pair_keys (reaching (goes key) level ps)) + opened_bucket (length (reaching (goes key) hop ps))
 counts zero level ps key hop deep on full room =
     let at : level ≡ 4 = omega arith in
-    let ks : List ℤ = keys_of (reach (goes key) level ps) in
+    let ks : List ℤ = pair_keys (reaching (goes key) level ps) in
     let one : length (ks ++ key ∷ []) ≡ length ks + 1 = length_one ks key in
     let far : hop ≡ chain (hop - 4) = omega arith in
     let long = reach_chain key ps (hop - 4) (subst (λ (h : ℕ). Full key ps h) far full) in
-    let here : length ks ≡ 32 * (hop - 4) + length (reach (goes key) hop ps) = length-keys (reach (goes key) level ps) ∙ rw (at) (subst (λ (h : ℕ). length (reach (goes key) 4 ps) ≡ 32 * (hop - 4) + length (reach (goes key) h ps)) (sym far) long) in
-    let left : length (reach (goes key) hop ps) ≡ length ks % 32 = omega (arith, here, room) in
+    let here : length ks ≡ 32 * (hop - 4) + length (reaching (goes key) hop ps) = length-keys (reaching (goes key) level ps) ∙ rw (at) (subst (λ (h : ℕ). length (reaching (goes key) 4 ps) ≡ 32 * (hop - 4) + length (reaching (goes key) h ps)) (sym far) long) in
+    let left : length (reaching (goes key) hop ps) ≡ length ks % 32 = omega (arith, here, room) in
     rw (one, left) (ceil_more (length ks))
 counts (suc above) level ps key hop deep on full room =
-    let ks : List ℤ = keys_of (reach (goes key) level ps) in
-    let len : length ks ≡ length (reach (goes key) level ps) = length-keys (reach (goes key) level ps) in
+    let ks : List ℤ = pair_keys (reaching (goes key) level ps) in
+    let len : length ks ≡ length (reaching (goes key) level ps) = length-keys (reaching (goes key) level ps) in
     let one : length (ks ++ key ∷ []) ≡ length ks + 1 = length_one ks key in
     ⊎_elim
     (λ (here : hop ≤ level).
     let at : hop ≡ level = omega arith in
-    let few : length ks < 32 = rw len (subst (λ (h : ℕ). length (reach (goes key) h ps) < 32) at room) in
+    let few : length ks < 32 = rw len (subst (λ (h : ℕ). length (reaching (goes key) h ps) < 32) at room) in
     let after : buckets_at (suc above) level (ks ++ key ∷ []) ≡ 1 = bucket_alone above level (ks ++ key ∷ []) (omega arith) (omega arith) in
     rw (after, at, sym len)
     (⊎_elim
@@ -177,7 +177,7 @@ counts (suc above) level ps key hop deep on full room =
     empty_of (x ∷ xs) h = absurd (omega arith)
 
 -- an insert opens a bucket exactly where nothing reaches the end of its path
-pub buckets_more : (ps : List Pair) (q : Pair) (hop : ℕ) → IsEnd ps q.key hop → buckets (keys_of (ps ++ q ∷ [])) ≡ buckets (keys_of ps) + opened (length (reach (goes q.key) hop ps))
+pub buckets_more : (ps : List Pair) (q : Pair) (hop : ℕ) → IsPathEnd ps q.key hop → buckets (pair_keys (ps ++ q ∷ [])) ≡ buckets (pair_keys ps) + opened_bucket (length (reaching (goes q.key) hop ps))
 buckets_more ps q hop end = ap buckets (map-append (λ (p : Pair). p.key) ps (q ∷ [])) ∙ counts 4 0 ps q.key hop (omega arith) (omega arith) end.full end.room
 
 -- ---- how many buckets there may be

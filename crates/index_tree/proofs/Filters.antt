@@ -3,7 +3,7 @@ use Rattle.std.proofs.Common.{◌≡◌, ◌≤◌, ◌<◌, ◌+◌, ℕ, zero,
 use Rattle.std.specs.List.{filter, range_with_len}
 use Rattle.std.proofs.lemmas.List.{append-nil, drop_all, drop_at}
 use Rattle.index_tree.specs.Pairs.{Pair}
-use Rattle.index_tree.specs.Places.{Above, Rises}
+use Rattle.index_tree.specs.Places.{Above, SlotsRise}
 
 abbrev pub In : Pair → List Pair → Type 0
 In p [] = ⊥
@@ -67,7 +67,7 @@ head_same x y xs ys a b (inl e) j = e
 head_same x y xs ys a b (inr i) (inl e) = sym e
 head_same x y xs ys a b (inr i) (inr j) = let up : y.slot < x.slot = above_in y.slot x ys b i in let down : x.slot < y.slot = above_in x.slot y xs a j in absurd (omega (arith, up, down))
 
-pub rises_same : (xs ys : List Pair) → Rises xs → Rises ys → ((p : Pair) → In p xs → In p ys) → ((p : Pair) → In p ys → In p xs) → xs ≡ ys
+pub rises_same : (xs ys : List Pair) → SlotsRise xs → SlotsRise ys → ((p : Pair) → In p xs → In p ys) → ((p : Pair) → In p ys → In p xs) → xs ≡ ys
 rises_same [] [] a b f g = refl
 rises_same [] (y ∷ ys) a b f g = absurd (g y (inl refl))
 rises_same (x ∷ xs) [] a b f g = absurd (f x (inl refl))
@@ -80,7 +80,7 @@ rises_same (x ∷ xs) (y ∷ ys) a b f g =
 abbrev pub Parts : (Pair → Bool) → (Pair → Bool) → (Pair → Bool) → Pair → Type 0
 Parts h f g p = ((h p ≡ true) × (f p ≡ true) × (g p ≡ false)) ⊎ (((h p ≡ true) × (f p ≡ false) × (g p ≡ true)) ⊎ ((h p ≡ false) × (f p ≡ false) × (g p ≡ false)))
 
-pub split_parts : (h f g : Pair → Bool) (ps : List Pair) → Rises ps → ((p : Pair) → Parts h f g p) → ((p q : Pair) → In p ps → In q ps → f p ≡ true → g q ≡ true → p.slot < q.slot) → filter h ps ≡ filter f ps ++ filter g ps
+pub split_parts : (h f g : Pair → Bool) (ps : List Pair) → SlotsRise ps → ((p : Pair) → Parts h f g p) → ((p q : Pair) → In p ps → In q ps → f p ≡ true → g q ≡ true → p.slot < q.slot) → filter h ps ≡ filter f ps ++ filter g ps
 split_parts h f g [] rises parts order = refl
 split_parts h f g (p ∷ ps) rises parts order =
     let deep : filter h ps ≡ filter f ps ++ filter g ps = split_parts h f g ps rises.1 parts (λ a b i j. order a b (inr i) (inr j)) in
@@ -131,6 +131,6 @@ above_map : (f : ℕ → Pair) (slot from n : ℕ) → ((i : ℕ) → from ≤ i
 above_map f slot from zero up = tt
 above_map f slot from (suc n) up = (up from (omega arith) (omega arith), above_map f slot (from + 1) n (λ i a b. up i (omega arith) (omega arith)))
 
-pub rises_map : (f : ℕ → Pair) (from n : ℕ) → ((i j : ℕ) → from ≤ i → i < j → j < from + n → (f i).slot < (f j).slot) → Rises (map f (range_with_len from n))
+pub rises_map : (f : ℕ → Pair) (from n : ℕ) → ((i j : ℕ) → from ≤ i → i < j → j < from + n → (f i).slot < (f j).slot) → SlotsRise (map f (range_with_len from n))
 rises_map f from zero up = tt
 rises_map f from (suc n) up = (above_map f (f from).slot (from + 1) n (λ i a b. up from i (omega arith) (omega arith) (omega arith)), rises_map f (from + 1) n (λ i j a b c. up i j (omega arith) b (omega arith)))

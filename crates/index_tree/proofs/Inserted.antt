@@ -9,9 +9,9 @@ use Rattle.afl_base.specs.Files.{Becomes, State, bytes_at, size_at}
 use Rattle.afl_base.proofs.FieldLaws.{i32_at-put_at, length-put_at, u16_at-put_at}
 use Rattle.db_model.specs.HashTree.{buckets}
 use Rattle.index_tree.specs.Buckets.{IsFirstBucket, IsPairBytes}
-use Rattle.index_tree.specs.Ends.{IsEnd, spot_of}
-use Rattle.index_tree.specs.Pairs.{Pair, goes, keys_of, reach}
-use Rattle.index_tree.specs.Places.{IsGrown, Rises}
+use Rattle.index_tree.specs.Ends.{IsPathEnd, spot_of}
+use Rattle.index_tree.specs.Pairs.{Pair, goes, pair_keys, reaching}
+use Rattle.index_tree.specs.Places.{IsGrown, SlotsRise}
 use Rattle.index_tree.specs.TreeFile.{IsTree, bucket_place, number_of, place_of}
 use Rattle.index_tree.proofs.Counted.{buckets_few, length-keys}
 use Rattle.index_tree.proofs.Frames.{SameBytes, i32_same, u16_same}
@@ -22,7 +22,7 @@ use Rattle.index_tree.proofs.Spots.{byte_stays, i32_stays, u16_stays}
 
 -- a path has one end
 
-pub one_end : (ps : List Pair) (key : ℤ) (h k : ℕ) → IsEnd ps key h → IsEnd ps key k → h ≡ k
+pub one_end : (ps : List Pair) (key : ℤ) (h k : ℕ) → IsPathEnd ps key h → IsPathEnd ps key k → h ≡ k
 one_end ps key h k a b = ⊎_elim
     (λ (up : h ≤ k). ⊎_elim (λ (down : k ≤ h). omega arith) (λ (less : h < k). let much = b.full h less in let few = a.room in absurd (omega (arith, much, few))) (order k h))
     (λ (less : k < h). let much = a.full k less in let few = b.room in absurd (omega (arith, much, few)))
@@ -30,18 +30,18 @@ one_end ps key h k a b = ⊎_elim
 
 -- ---- what is inserted
 
-pub grown_here : (old new w : List ℕ) (ps : List Pair) (q : Pair) (hop n pair : ℕ) → IsTree old ps → Rises ps → length ps < 32768 → IsEnd ps q.key hop → number_of old q.key hop ≡ n → length (reach (goes q.key) hop ps) ≡ pair → n ≢ 0 → IsPairBytes w q →
+pub grown_here : (old new w : List ℕ) (ps : List Pair) (q : Pair) (hop n pair : ℕ) → IsTree old ps → SlotsRise ps → length ps < 32768 → IsPathEnd ps q.key hop → number_of old q.key hop ≡ n → length (reaching (goes q.key) hop ps) ≡ pair → n ≢ 0 → IsPairBytes w q →
     new ≡ put_at old (bucket_place (n - 1) + 6 * pair) w → IsGrown old new ps (q ∷ [])
 grown_here old new w ps q hop n pair tree rises few end is many some pair_is new_is =
     rw (new_is, sym is, sym many) (pair_put old w ps q hop tree rises few end (rw is some) pair_is)
 
-pub grown_new : (old new w two_ : List ℕ) (ps : List Pair) (q : Pair) (hop at : ℕ) → IsTree old ps → Rises ps → length ps < 32768 → IsEnd ps q.key hop → number_of old q.key hop ≡ 0 → at ≡ spot_of old q.key hop → at + 3 ≤ length old → IsFirstBucket w q →
+pub grown_new : (old new w two_ : List ℕ) (ps : List Pair) (q : Pair) (hop at : ℕ) → IsTree old ps → SlotsRise ps → length ps < 32768 → IsPathEnd ps q.key hop → number_of old q.key hop ≡ 0 → at ≡ spot_of old q.key hop → at + 3 ≤ length old → IsFirstBucket w q →
     length two_ ≡ 2 → u16_at two_ 0 ≡ (length old - 683) / 195 + 1 → new ≡ put_at (old ++ w) at two_ → IsGrown old new ps (q ∷ [])
 grown_new old new w two_ ps q hop at tree rises few end none spot fits first long number new_is =
-    let size : length old ≡ bucket_place (buckets (keys_of ps)) = tree.size in
+    let size : length old ≡ bucket_place (buckets (pair_keys ps)) = tree.size in
     let n : ℕ = (length old - 683) / 195 + 1 in
     rw (new_is, spot) (bucket_put old (put_at (old ++ w) (spot_of old q.key hop) two_) ps q hop n
-    (appends old w two_ ps q hop n tree rises end none first (rw (sym spot) fits) long number (λ z. omega arith) (place_is (length old) (buckets (keys_of ps)) size)) few end)
+    (appends old w two_ ps q hop n tree rises end none first (rw (sym spot) fits) long number (λ z. omega arith) (place_is (length old) (buckets (pair_keys ps)) size)) few end)
   where
     place_is : (len b : ℕ) → len ≡ bucket_place b → place_of ((len - 683) / 195 + 1) ≡ len
     place_is len b e = omega arith
@@ -49,8 +49,8 @@ grown_new old new w two_ ps q hop at tree rises few end none spot fits first lon
 -- a tree is small
 pub tree_small : (bytes : List ℕ) (ps : List Pair) → IsTree bytes ps → length bytes ≤ 268000
 tree_small bytes ps tree =
-    let size : length bytes ≡ bucket_place (buckets (keys_of ps)) = tree.size in
-    let many = buckets_few (keys_of ps) in
+    let size : length bytes ≡ bucket_place (buckets (pair_keys ps)) = tree.size in
+    let many = buckets_few (pair_keys ps) in
     let same = length-keys ps in
     let few = tree.few in
     omega (arith, size, many, same, few)
@@ -172,14 +172,14 @@ on_ok (Ok x) f p = f p
 on_ok (Err e) f p = p
 
 -- the file after a pair was put into a bucket
-pub by_pair : (old new : State) (index : ℕ) (ps : List Pair) (q : Pair) (hop n pair : ℕ) → IsTrue old.tells → IsTree (bytes_at old.files index) ps → Rises ps → length ps < 32768 → IsEnd ps q.key hop → number_of (bytes_at old.files index) q.key hop ≡ n →
-    length (reach (goes q.key) hop ps) ≡ pair → n ≢ 0 →
+pub by_pair : (old new : State) (index : ℕ) (ps : List Pair) (q : Pair) (hop n pair : ℕ) → IsTrue old.tells → IsTree (bytes_at old.files index) ps → SlotsRise ps → length ps < 32768 → IsPathEnd ps q.key hop → number_of (bytes_at old.files index) q.key hop ≡ n →
+    length (reaching (goes q.key) hop ps) ≡ pair → n ≢ 0 →
     ((w : List ℕ) × IsPairBytes w q × Becomes old new index (size_at old.files index) (put_at (bytes_at old.files index) (bucket_place (n - 1) + 6 * pair) w)) → IsGrown (bytes_at old.files index) (bytes_at new.files index) ps (q ∷ [])
 by_pair old new index ps q hop n pair told tree rises few end is many some put =
     grown_here (bytes_at old.files index) (bytes_at new.files index) put.0 ps q hop n pair tree rises few end is many some put.1 (put.2.bytes told)
 
 -- the file after a bucket was put at the end of a path
-pub by_bucket : (old new : State) (index : ℕ) (ps : List Pair) (q : Pair) (hop at : ℕ) → IsTrue old.tells → IsTree (bytes_at old.files index) ps → Rises ps → length ps < 32768 → IsEnd ps q.key hop → number_of (bytes_at old.files index) q.key hop ≡ 0 →
+pub by_bucket : (old new : State) (index : ℕ) (ps : List Pair) (q : Pair) (hop at : ℕ) → IsTrue old.tells → IsTree (bytes_at old.files index) ps → SlotsRise ps → length ps < 32768 → IsPathEnd ps q.key hop → number_of (bytes_at old.files index) q.key hop ≡ 0 →
     at ≡ spot_of (bytes_at old.files index) q.key hop → at + 3 ≤ size_at old.files index →
     ((w two_ : List ℕ) × IsFirstBucket w q × (length two_ ≡ 2) × (u16_at two_ 0 ≡ (size_at old.files index - 683) / 195 + 1) × Becomes old new index (size_at old.files index + 195) (put_at (bytes_at old.files index ++ w) at two_)) →
     IsGrown (bytes_at old.files index) (bytes_at new.files index) ps (q ∷ [])

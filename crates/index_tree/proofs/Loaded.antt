@@ -4,9 +4,9 @@ use Rattle.std.specs.Prelude.{min}
 use Rattle.std.proofs.lemmas.List.{get_or_past, get_or-replicate, get_or-set_other, get_or-set_same, length-set}
 use Rattle.std.proofs.lemmas.List.FromFn.{map-range_with_len_more}
 use Rattle.db_model.specs.HashTree.{buckets, digit, node}
-use Rattle.index_tree.specs.Ends.{IsEnd}
-use Rattle.index_tree.specs.Loads.{Counts, IsLevel, Loads, load_of, opened}
-use Rattle.index_tree.specs.Pairs.{Pair, goes, keys_of, pair_of, pairs_of, reach}
+use Rattle.index_tree.specs.Ends.{IsPathEnd}
+use Rattle.index_tree.specs.Loads.{Counts, IsLevel, Loads, load_of, opened_bucket}
+use Rattle.index_tree.specs.Pairs.{Pair, goes, pair_keys, pair_of, pairs_of, reaching}
 use Rattle.index_tree.proofs.Added.{passes_all, same_node, same_or}
 use Rattle.index_tree.proofs.Counted.{buckets_more, chain, reach_chain}
 use Rattle.index_tree.proofs.Reach.{deep, reach-append}
@@ -38,19 +38,19 @@ full_level loads ps key level counts is i h =
     let low = is.low in
     let much = is.full i h in
     let each = counts.each key i (omega arith) in
-    let load = load_upper i (length (reach (goes key) i ps)) (omega arith) in
+    let load = load_upper i (length (reaching (goes key) i ps)) (omega arith) in
     omega (arith, much, each, load)
 
 -- some end is there
-pub end_there : (key : ℤ) (ps : List Pair) → (hop : ℕ) × IsEnd ps key hop
+pub end_there : (key : ℤ) (ps : List Pair) → (hop : ℕ) × IsPathEnd ps key hop
 end_there key ps = ⊎_elim
     (λ (full : Full key ps (length ps + 1)). let long = deep (goes key) ps (length ps + 1) full in absurd (omega (arith, long)))
-    (λ (found : (i : ℕ) × (i < length ps + 1) × Full key ps i × (length (reach (goes key) i ps) < 32)). (found.0, record { full = found.2; room = found.3 }))
+    (λ (found : (i : ℕ) × (i < length ps + 1) × Full key ps i × (length (reaching (goes key) i ps) < 32)). (found.0, record { full = found.2; room = found.3 }))
     (full_or_room key ps (length ps + 1))
 
 -- the end of a path is at the level, or in the chain of the lowest node
 pub end_level : (loads : List ℕ) (ps : List Pair) (key : ℤ) (level : ℕ) → Counts loads ps → IsLevel loads key level →
-    (hop : ℕ) × IsEnd ps key hop × (hop ≡ level + get_or loads (node key level) 0 / 32) × (length (reach (goes key) hop ps) ≡ get_or loads (node key level) 0 % 32)
+    (hop : ℕ) × IsPathEnd ps key hop × (hop ≡ level + get_or loads (node key level) 0 / 32) × (length (reaching (goes key) hop ps) ≡ get_or loads (node key level) 0 % 32)
 end_level loads ps key level counts is =
     let low : level ≤ 4 = is.low in
     let full = full_level loads ps key level counts is in
@@ -59,17 +59,17 @@ end_level loads ps key level counts is =
     ⊎_elim
     (λ (upper : level < 4).
     let room = is.room upper in
-    let load = load_upper level (length (reach (goes key) level ps)) upper in
+    let load = load_upper level (length (reaching (goes key) level ps)) upper in
     (level, record { full = full; room = omega (arith, room, each, load) }, omega (arith, room), omega (arith, room, each, load)))
     (λ (lowest : 4 ≤ level).
     let at : level ≡ 4 = omega (arith, low, lowest) in
-    let load = load_lowest level (length (reach (goes key) level ps)) lowest in
+    let load = load_lowest level (length (reaching (goes key) level ps)) lowest in
     let hop : ℕ = end.0 in
     let far : 4 ≤ hop = ⊎_elim (λ (x : 4 ≤ hop). x) (λ (x : hop < 4). let much = full hop (omega (arith, at, x)) in let few = end.1.room in absurd (omega (arith, much, few))) (order 4 hop) in
     let is_chain : hop ≡ chain (hop - 4) = omega (arith, far) in
     let long = reach_chain key ps (hop - 4) (subst (λ (h : ℕ). Full key ps h) is_chain end.1.full) in
-    let here : length (reach (goes key) 4 ps) ≡ 32 * (hop - 4) + length (reach (goes key) hop ps) = subst (λ (h : ℕ). length (reach (goes key) 4 ps) ≡ 32 * (hop - 4) + length (reach (goes key) h ps)) (sym is_chain) long in
-    let same : length (reach (goes key) level ps) ≡ length (reach (goes key) 4 ps) = ap (λ (l : ℕ). length (reach (goes key) l ps)) at in
+    let here : length (reaching (goes key) 4 ps) ≡ 32 * (hop - 4) + length (reaching (goes key) hop ps) = subst (λ (h : ℕ). length (reaching (goes key) 4 ps) ≡ 32 * (hop - 4) + length (reaching (goes key) h ps)) (sym is_chain) long in
+    let same : length (reaching (goes key) level ps) ≡ length (reaching (goes key) 4 ps) = ap (λ (l : ℕ). length (reaching (goes key) l ps)) at in
     let room = end.1.room in
     (hop, end.1, omega (arith, at, each, load, here, same, room, far), omega (arith, each, load, here, same, room, far)))
     (low_or level 4)
@@ -93,48 +93,48 @@ load_same level n m upper much is = rw (load_upper level m upper, load_upper lev
 
 -- at the node itself one more
 here_more : (loads : List ℕ) (ps : List Pair) (q : Pair) (level : ℕ) (key : ℤ) → Counts loads ps → IsLevel loads q.key level → ((i : ℕ) → i < level → Same key q.key i) →
-    load_of level (length (reach (goes key) level (ps ++ q ∷ []))) ≡ load_of level (length (reach (goes key) level ps)) + 1
+    load_of level (length (reaching (goes key) level (ps ++ q ∷ []))) ≡ load_of level (length (reaching (goes key) level ps)) + 1
 here_more loads ps q level key counts is way =
     let low = is.low in
-    let same : reach (goes key) level ps ≡ reach (goes q.key) level ps = reach_same key q.key ps level way in
+    let same : reaching (goes key) level ps ≡ reaching (goes q.key) level ps = reach_same key q.key ps level way in
     let full : Full key ps level = λ i h. subst (λ (xs : List Pair). 32 ≤ length xs) (sym (reach_same key q.key ps i (λ j l. way j (omega arith)))) (full_level loads ps q.key level counts is i h) in
-    let grown : reach (goes key) level (ps ++ q ∷ []) ≡ reach (goes key) level ps ++ q ∷ [] = reach-append (goes key) ps (q ∷ []) level full ∙ ap (λ xs. reach (goes key) level ps ++ xs) (passes_all key level q (λ i k. way i k q ∙ goes_self q.key i q refl)) in
-    let sum : length (reach (goes key) level ps ++ q ∷ []) ≡ length (reach (goes key) level ps) + 1 = length-append (reach (goes key) level ps) (q ∷ []) in
-    let more : length (reach (goes key) level (ps ++ q ∷ [])) ≡ length (reach (goes key) level ps) + 1 = ap length grown ∙ sum in
+    let grown : reaching (goes key) level (ps ++ q ∷ []) ≡ reaching (goes key) level ps ++ q ∷ [] = reach-append (goes key) ps (q ∷ []) level full ∙ ap (λ xs. reaching (goes key) level ps ++ xs) (passes_all key level q (λ i k. way i k q ∙ goes_self q.key i q refl)) in
+    let sum : length (reaching (goes key) level ps ++ q ∷ []) ≡ length (reaching (goes key) level ps) + 1 = length-append (reaching (goes key) level ps) (q ∷ []) in
+    let more : length (reaching (goes key) level (ps ++ q ∷ [])) ≡ length (reaching (goes key) level ps) + 1 = ap length grown ∙ sum in
     ⊎_elim
     (λ (upper : level < 4).
     let room = is.room upper in
     let each = counts.each q.key level low in
-    let load = load_upper level (length (reach (goes q.key) level ps)) upper in
+    let load = load_upper level (length (reaching (goes q.key) level ps)) upper in
     let len = ap length same in
-    load_more level (length (reach (goes key) level ps)) (length (reach (goes key) level (ps ++ q ∷ []))) upper (omega (arith, room, each, load, len)) more)
-    (λ (lowest : 4 ≤ level). load_lowest level (length (reach (goes key) level (ps ++ q ∷ []))) lowest ∙ more ∙ ap (λ (n : ℕ). n + 1) (sym (load_lowest level (length (reach (goes key) level ps)) lowest)))
+    load_more level (length (reaching (goes key) level ps)) (length (reaching (goes key) level (ps ++ q ∷ []))) upper (omega (arith, room, each, load, len)) more)
+    (λ (lowest : 4 ≤ level). load_lowest level (length (reaching (goes key) level (ps ++ q ∷ []))) lowest ∙ more ∙ ap (λ (n : ℕ). n + 1) (sym (load_lowest level (length (reaching (goes key) level ps)) lowest)))
     (low_or level 4)
 
 -- at all others the same
 other_same : (loads : List ℕ) (ps : List Pair) (q : Pair) (level : ℕ) (key : ℤ) (l : ℕ) → Counts loads ps → IsLevel loads q.key level → l ≤ 4 → node key l ≢ node q.key level →
-    load_of l (length (reach (goes key) l (ps ++ q ∷ []))) ≡ load_of l (length (reach (goes key) l ps))
+    load_of l (length (reaching (goes key) l (ps ++ q ∷ []))) ≡ load_of l (length (reaching (goes key) l ps))
 other_same loads ps q level key l counts is small other = ⊎_elim
-    (λ (same : reach (goes key) l (ps ++ q ∷ []) ≡ reach (goes key) l ps). ap (λ (xs : List Pair). load_of l (length xs)) same)
-    (λ (grown : Full key ps l × (reach (goes key) l (ps ++ q ∷ []) ≡ reach (goes key) l ps ++ q ∷ []) × ((i : ℕ) → i < l → Same key q.key i)).
+    (λ (same : reaching (goes key) l (ps ++ q ∷ []) ≡ reaching (goes key) l ps). ap (λ (xs : List Pair). load_of l (length xs)) same)
+    (λ (grown : Full key ps l × (reaching (goes key) l (ps ++ q ∷ []) ≡ reaching (goes key) l ps ++ q ∷ []) × ((i : ℕ) → i < l → Same key q.key i)).
     let low = is.low in
-    let sum : length (reach (goes key) l ps ++ q ∷ []) ≡ length (reach (goes key) l ps) + 1 = length-append (reach (goes key) l ps) (q ∷ []) in
-    let more : length (reach (goes key) l (ps ++ q ∷ [])) ≡ length (reach (goes key) l ps) + 1 = ap length grown.1 ∙ sum in
-    let shared : reach (goes key) l ps ≡ reach (goes q.key) l ps = reach_same key q.key ps l grown.2 in
+    let sum : length (reaching (goes key) l ps ++ q ∷ []) ≡ length (reaching (goes key) l ps) + 1 = length-append (reaching (goes key) l ps) (q ∷ []) in
+    let more : length (reaching (goes key) l (ps ++ q ∷ [])) ≡ length (reaching (goes key) l ps) + 1 = ap length grown.1 ∙ sum in
+    let shared : reaching (goes key) l ps ≡ reaching (goes q.key) l ps = reach_same key q.key ps l grown.2 in
     ⊎_elim
     (λ (up : l ≤ level). ⊎_elim
     (λ (down : level ≤ l). let e : l ≡ level = omega (arith, up, down) in absurd (other (same_way_node key q.key l grown.2 small ∙ ap (node q.key) e)))
     (λ (less : l < level).
     let much = full_level loads ps q.key level counts is l less in
     let len = ap length shared in
-    load_same l (length (reach (goes key) l ps)) (length (reach (goes key) l (ps ++ q ∷ []))) (omega (arith, low, less)) (omega (arith, much, len)) more)
+    load_same l (length (reaching (goes key) l ps)) (length (reaching (goes key) l (ps ++ q ∷ []))) (omega (arith, low, less)) (omega (arith, much, len)) more)
     (order level l))
     (λ (deeper : level < l).
     let much = grown.0 level deeper in
     let len = ap length (reach_same key q.key ps level (λ i h. grown.2 i (omega (arith, h, deeper)))) in
     let room = is.room (omega (arith, deeper, small)) in
     let each = counts.each q.key level low in
-    let load = load_upper level (length (reach (goes q.key) level ps)) (omega (arith, deeper, small)) in
+    let load = load_upper level (length (reaching (goes q.key) level ps)) (omega (arith, deeper, small)) in
     absurd (omega (arith, much, len, room, each, load)))
     (order l level))
     (grows key ps q l)
@@ -157,20 +157,20 @@ counts_more loads ps q level counts is =
           let way : (i : ℕ) → i < l → Same key q.key i = λ i k. digit_same key q.key i (both.1 i k) in
           ap (λ (j : ℕ). get_or (set loads n v) j 0) e ∙ get_or-set_same loads n v 0 (omega (arith, small, long))
           ∙ ap (λ (x : ℕ). x + 1) (ap (λ (j : ℕ). get_or loads j 0) (sym e) ∙ counts.each key l h)
-          ∙ sym (subst (λ (x : ℕ). load_of x (length (reach (goes key) x (ps ++ q ∷ []))) ≡ load_of x (length (reach (goes key) x ps)) + 1) (sym at) (here_more loads ps q level key counts is (λ i k. way i (omega (arith, at, k))))))
+          ∙ sym (subst (λ (x : ℕ). load_of x (length (reaching (goes key) x (ps ++ q ∷ []))) ≡ load_of x (length (reaching (goes key) x ps)) + 1) (sym at) (here_more loads ps q level key counts is (λ i k. way i (omega (arith, at, k))))))
           (λ (d : node key l ≢ n). get_or-set_other loads n (node key l) v 0 d ∙ counts.each key l h ∙ sym (other_same loads ps q level key l counts is h d))
           (same_or (node key l) n);
     }
 
-pub loaded : (loads : List ℕ) (key : ℤ) (level : ℕ) → IsLevel loads key level → Loads loads (set loads (node key level) (get_or loads (node key level) 0 + 1)) key (opened (get_or loads (node key level) 0 % 32))
+pub loaded : (loads : List ℕ) (key : ℤ) (level : ℕ) → IsLevel loads key level → Loads loads (set loads (node key level) (get_or loads (node key level) 0 + 1)) key (opened_bucket (get_or loads (node key level) 0 % 32))
 loaded loads key level is = record {
   counts = λ ps slot counts. counts_more loads ps (record { key = key; slot = slot }) level counts is;
   buckets = λ ps slot counts.
       let end = end_level loads ps key level counts is in
-      buckets_more ps (record { key = key; slot = slot }) end.0 end.1 ∙ ap (λ (n : ℕ). buckets (keys_of ps) + opened n) end.3;
+      buckets_more ps (record { key = key; slot = slot }) end.0 end.1 ∙ ap (λ (n : ℕ). buckets (pair_keys ps) + opened_bucket n) end.3;
 }
 
-pub reach_none : (key : ℤ) (l : ℕ) → reach (goes key) l [] ≡ []
+pub reach_none : (key : ℤ) (l : ℕ) → reaching (goes key) l [] ≡ []
 reach_none key zero = refl
 reach_none key (suc l) = rw (reach_none key l) refl
 
@@ -187,16 +187,16 @@ counts_none = record {
     load_zero (suc (suc (suc zero))) = refl
     load_zero (suc (suc (suc (suc l)))) = refl
 
-pub loads_some : (old : List ℕ) (key : ℤ) (level n v opens : ℕ) → IsLevel old key level → n ≡ node key level → v ≡ get_or old n 0 + 1 → opens ≡ opened (get_or old n 0 % 32) → Loads old (set old n v) key opens
+pub loads_some : (old : List ℕ) (key : ℤ) (level n v opens : ℕ) → IsLevel old key level → n ≡ node key level → v ≡ get_or old n 0 + 1 → opens ≡ opened_bucket (get_or old n 0 % 32) → Loads old (set old n v) key opens
 loads_some old key level n v opens is at value opens_is = rw (opens_is, value, at) (loaded old key level is)
 
 pub pairs_more : (key : ℕ → ℤ) (slot : ℕ) → pairs_of key (slot + 1) ≡ pairs_of key slot ++ record { key = key slot; slot = slot } ∷ []
 pairs_more key slot = map-range_with_len_more (pair_of key) 0 slot slot (omega arith)
 
-pub opened_none : (n : ℕ) → n ≡ 0 → 1 ≡ opened n
+pub opened_none : (n : ℕ) → n ≡ 0 → 1 ≡ opened_bucket n
 opened_none n e = rw e refl
 
-pub opened_some : (n : ℕ) → n ≢ 0 → 0 ≡ opened n
+pub opened_some : (n : ℕ) → n ≢ 0 → 0 ≡ opened_bucket n
 opened_some zero s = absurd (s refl)
 opened_some (suc n) s = refl
 
@@ -207,8 +207,8 @@ zeros_few i n = ⊎_elim
     (low_or i 341)
 
 -- one slot more
-pub loads_more : (old new : List ℕ) (f : ℕ → ℤ) (slot n opens : ℕ) (key : ℤ) → Loads old new key opens → key ≡ f slot → Counts old (pairs_of f slot) × (n ≡ buckets (keys_of (pairs_of f slot))) →
-    Counts new (pairs_of f (slot + 1)) × (n + opens ≡ buckets (keys_of (pairs_of f (slot + 1))))
+pub loads_more : (old new : List ℕ) (f : ℕ → ℤ) (slot n opens : ℕ) (key : ℤ) → Loads old new key opens → key ≡ f slot → Counts old (pairs_of f slot) × (n ≡ buckets (pair_keys (pairs_of f slot))) →
+    Counts new (pairs_of f (slot + 1)) × (n + opens ≡ buckets (pair_keys (pairs_of f (slot + 1))))
 loads_more old new f slot n opens key loads is before =
     let one : record { key = key; slot = slot } ≡ pair_of f slot = ap (λ (z : ℤ). record { key = z; slot = slot }) is in
     let all : pairs_of f (slot + 1) ≡ pairs_of f slot ++ record { key = key; slot = slot } ∷ [] = pairs_more f slot ∙ ap (λ (p : Pair). pairs_of f slot ++ p ∷ []) (sym one) in

@@ -2,8 +2,8 @@
 use Rattle.std.proofs.Common.{◌≡◌, ◌<◌, ◌+◌, ℕ, ℤ, zero, suc, List, [], ◌∷◌, ◌++◌, length, map, refl, arith, ap, ◌∙◌, sym, subst}
 use Rattle.std.specs.List.{range_with_len}
 use Rattle.afl_base.specs.Keys.{first_keys, key_in}
-use Rattle.index_tree.specs.Pairs.{Pair, keys_of, pair_of, pairs_of}
-use Rattle.index_tree.specs.Places.{Above, Rises}
+use Rattle.index_tree.specs.Pairs.{Pair, pair_keys, pair_of, pairs_of}
+use Rattle.index_tree.specs.Places.{Above, SlotsRise}
 use Rattle.index_tree.specs.Trees.{IsTreeOf, numbered}
 use Rattle.index_tree.specs.TreeFile.{IsTree}
 
@@ -17,7 +17,7 @@ numbered-append n (x ∷ xs) ys =
     let e : n + 1 + length xs ≡ n + suc (length xs) = omega arith in
     ap (λ (ps : List Pair). record { key = x; slot = n } ∷ ps) (numbered-append (n + 1) xs ys ∙ ap (λ (m : ℕ). numbered (n + 1) xs ++ numbered m ys) e)
 
-pub keys_numbered : (n : ℕ) (ks : List ℤ) → keys_of (numbered n ks) ≡ ks
+pub keys_numbered : (n : ℕ) (ks : List ℤ) → pair_keys (numbered n ks) ≡ ks
 keys_numbered n [] = refl
 keys_numbered n (k ∷ ks) = ap (λ (xs : List ℤ). k ∷ xs) (keys_numbered (n + 1) ks)
 
@@ -25,7 +25,7 @@ above_numbered : (m n : ℕ) (ks : List ℤ) → m < n → Above m (numbered n k
 above_numbered m n [] h = tt
 above_numbered m n (k ∷ ks) h = (h, above_numbered m (n + 1) ks (omega (arith, h)))
 
-pub rises_numbered : (n : ℕ) (ks : List ℤ) → Rises (numbered n ks)
+pub rises_numbered : (n : ℕ) (ks : List ℤ) → SlotsRise (numbered n ks)
 rises_numbered n [] = tt
 rises_numbered n (k ∷ ks) = (above_numbered n (n + 1) ks (omega arith), rises_numbered (n + 1) ks)
 
@@ -56,5 +56,5 @@ keys_first (k ∷ ks) = ap (λ (xs : List ℤ). k ∷ xs) (shifted (key_in (k �
 pub numbered_one : (keys : List ℤ) (key : ℤ) (slot : ℕ) → length keys ≡ slot → numbered 0 (keys ++ key ∷ []) ≡ numbered 0 keys ++ record { key = key; slot = slot } ∷ []
 numbered_one keys key slot e = numbered-append 0 keys (key ∷ []) ∙ ap (λ (n : ℕ). numbered 0 keys ++ record { key = key; slot = n } ∷ []) (let z : 0 + length keys ≡ length keys = omega arith in z ∙ e)
 
-pub keys_pairs : (f : ℕ → ℤ) (slots : ℕ) → keys_of (pairs_of f slots) ≡ first_keys f slots
-keys_pairs f slots = sym (ap (λ (ps : List Pair). keys_of ps) (numbered_pairs f slots)) ∙ keys_numbered 0 (first_keys f slots)
+pub keys_pairs : (f : ℕ → ℤ) (slots : ℕ) → pair_keys (pairs_of f slots) ≡ first_keys f slots
+keys_pairs f slots = sym (ap (λ (ps : List Pair). pair_keys ps) (numbered_pairs f slots)) ∙ keys_numbered 0 (first_keys f slots)

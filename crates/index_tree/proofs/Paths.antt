@@ -7,7 +7,7 @@ use Rattle.std.proofs.lemmas.List.{append-nil, take-append-drop}
 use Rattle.std.proofs.lemmas.List.Elements.{filter-append}
 use Rattle.index_tree.specs.Ends.{filled_of}
 use Rattle.afl_base.specs.Keys.{is_key_at}
-use Rattle.index_tree.specs.Pairs.{Pair, goes, has_key, no_pair, reach, slots_of}
+use Rattle.index_tree.specs.Pairs.{Pair, goes, has_key, no_pair, reaching, slots_of}
 use Rattle.index_tree.specs.Trees.{IsTreeOf, numbered, pair_in, pairs_along, pairs_in}
 use Rattle.index_tree.specs.TreeFile.{IsBucket, IsTree, number_of, place_of, slot_at}
 use Rattle.index_tree.proofs.Added.{same_pair, zero_or}
@@ -49,33 +49,33 @@ bucket_pairs bytes number rest bucket =
 
 -- ---- a path
 
--- those of a key in the buckets before a hop, and those that reach it, are all
-split_at : (bytes : List ℕ) (ps : List Pair) (key : ℤ) (hop : ℕ) → IsTree bytes ps → filter (has_key key) (pairs_along bytes key hop) ++ filter (has_key key) (reach (goes key) hop ps) ≡ filter (has_key key) ps
+-- those of a key in the buckets before a hop, and those that reaching it, are all
+split_at : (bytes : List ℕ) (ps : List Pair) (key : ℤ) (hop : ℕ) → IsTree bytes ps → filter (has_key key) (pairs_along bytes key hop) ++ filter (has_key key) (reaching (goes key) hop ps) ≡ filter (has_key key) ps
 split_at bytes ps key zero tree = refl
 split_at bytes ps key (suc hop) tree =
     let mine : Pair → Bool = has_key key in
     let before : List Pair = pairs_along bytes key hop in
-    let rest : List Pair = reach (goes key) hop ps in
+    let rest : List Pair = reaching (goes key) hop ps in
     let here : pairs_in bytes (number_of bytes key hop) ≡ take 32 rest = bucket_pairs bytes (number_of bytes key hop) rest (tree.each key hop) in
     let left : filter mine (pairs_along bytes key (suc hop)) ≡ filter mine before ++ filter mine (take 32 rest) = ap (λ (xs : List Pair). filter mine (before ++ xs)) here ∙ filter-append mine before (take 32 rest) in
-    let right : filter mine (reach (goes key) (suc hop) ps) ≡ filter mine (drop 32 rest) = filter_weaker mine (goes key hop) (goes_mine key hop) (drop 32 rest) in
+    let right : filter mine (reaching (goes key) (suc hop) ps) ≡ filter mine (drop 32 rest) = filter_weaker mine (goes key hop) (goes_mine key hop) (drop 32 rest) in
     let whole : filter mine (take 32 rest) ++ filter mine (drop 32 rest) ≡ filter mine rest = sym (filter-append mine (take 32 rest) (drop 32 rest)) ∙ ap (filter mine) (take-append-drop 32 rest) in
-    ap (λ (xs : List Pair). xs ++ filter mine (reach (goes key) (suc hop) ps)) left
+    ap (λ (xs : List Pair). xs ++ filter mine (reaching (goes key) (suc hop) ps)) left
     ∙ ap (λ (xs : List Pair). (filter mine before ++ filter mine (take 32 rest)) ++ xs) right
     ∙ append_assoc (filter mine before) (filter mine (take 32 rest)) (filter mine (drop 32 rest))
     ∙ ap (λ (xs : List Pair). filter mine before ++ xs) whole
     ∙ split_at bytes ps key hop tree
 
 -- nothing reaches so far
-none_there : (key : ℤ) (ps : List Pair) (hop : ℕ) → length ps ≤ 32768 → 1024 ≤ hop → reach (goes key) hop ps ≡ []
+none_there : (key : ℤ) (ps : List Pair) (hop : ℕ) → length ps ≤ 32768 → 1024 ≤ hop → reaching (goes key) hop ps ≡ []
 none_there key ps hop few far =
     let end = end_there key ps in
     let room = end.1.room in
     let long = deep (goes key) ps end.0 end.1.full in
     ⊎_elim
-    (λ (here : hop ≤ end.0). let empty : length (reach (goes key) end.0 ps) ≡ 0 = omega (arith, few, far, here, long) in
+    (λ (here : hop ≤ end.0). let empty : length (reaching (goes key) end.0 ps) ≡ 0 = omega (arith, few, far, here, long) in
     let same : hop ≡ end.0 = omega (arith, few, far, here, long) in
-    subst (λ (h : ℕ). reach (goes key) h ps ≡ []) (sym same) (no_length (reach (goes key) end.0 ps) empty))
+    subst (λ (h : ℕ). reaching (goes key) h ps ≡ []) (sym same) (no_length (reaching (goes key) end.0 ps) empty))
     (λ (behind : end.0 < hop). empty_on (goes key) ps (suc end.0) hop (empty_next (goes key) ps end.0 (omega (arith, room))) (omega (arith, behind)))
     (order hop end.0)
   where
@@ -101,7 +101,7 @@ pub slots_along : (bytes : List ℕ) (keys : List ℤ) (key : ℤ) (hops : ℕ) 
     slots_of (filter (has_key key) (pairs_along bytes key hops)) ≡ filter (is_key_at key keys) (range_with_len 0 (length keys))
 slots_along bytes keys key hops tree far =
     let ps : List Pair = numbered 0 keys in
-    let none : reach (goes key) hops ps ≡ [] = none_there key ps hops tree.few far in
+    let none : reaching (goes key) hops ps ≡ [] = none_there key ps hops tree.few far in
     let all : filter (has_key key) (pairs_along bytes key hops) ≡ filter (has_key key) ps =
     sym (append-nil (filter (has_key key) (pairs_along bytes key hops))) ∙ sym (ap (λ (xs : List Pair). filter (has_key key) (pairs_along bytes key hops) ++ filter (has_key key) xs) none) ∙ split_at bytes ps key hops tree in
     ap slots_of all ∙ slots_from key (is_key_at key keys) 0 keys (λ i h. let e : 0 + i ≡ i = omega arith in rw e refl)

@@ -5,10 +5,10 @@ use Rattle.afl_base.specs.Fields.{put_at, u16_at}
 use Rattle.afl_base.proofs.FieldLaws.{length-put_at}
 use Rattle.db_model.specs.HashTree.{buckets, digit, node}
 use Rattle.index_tree.specs.Buckets.{IsFirstBucket}
-use Rattle.index_tree.specs.Ends.{IsEnd, spot_of}
-use Rattle.index_tree.specs.Pairs.{Pair, goes, keys_of, reach}
-use Rattle.index_tree.specs.Places.{IsGrown, Rises}
-use Rattle.index_tree.specs.TreeFile.{Holds, IsTree, behind, bucket_place, next_at, number_at, number_of, place_of}
+use Rattle.index_tree.specs.Ends.{IsPathEnd, spot_of}
+use Rattle.index_tree.specs.Pairs.{Pair, goes, pair_keys, reaching}
+use Rattle.index_tree.specs.Places.{IsGrown, SlotsRise}
+use Rattle.index_tree.specs.TreeFile.{HoldsPairs, IsTree, next_number, bucket_place, next_at, bucket_number, number_of, place_of}
 use Rattle.index_tree.proofs.Added.{KeepsBucket, number_same, same_bucket, same_digit, same_node, same_or, zero_or}
 use Rattle.index_tree.proofs.Counted.{buckets_more}
 use Rattle.index_tree.proofs.Frames.{SameBytes, append_before, append_here, i32_same, put_here, put_outside, trans_same, u16_same}
@@ -52,14 +52,14 @@ new_or key q hop h = ⊎_elim
 
 -- ---- spots
 
-pub behind_node : (bytes : List ℕ) (key : ℤ) (h n : ℕ) → h < 4 → behind bytes key h n ≡ number_at bytes (node key (suc h))
+pub behind_node : (bytes : List ℕ) (key : ℤ) (h n : ℕ) → h < 4 → next_number bytes key h n ≡ bucket_number bytes (node key (suc h))
 behind_node bytes key zero n below = refl
 behind_node bytes key (suc zero) n below = refl
 behind_node bytes key (suc (suc zero)) n below = refl
 behind_node bytes key (suc (suc (suc zero))) n below = refl
 behind_node bytes key (suc (suc (suc (suc h)))) n below = absurd (omega arith)
 
-pub behind_chain : (bytes : List ℕ) (key : ℤ) (h n : ℕ) → n ≢ 0 → 4 ≤ h → behind bytes key h n ≡ next_at bytes (place_of n)
+pub behind_chain : (bytes : List ℕ) (key : ℤ) (h n : ℕ) → n ≢ 0 → 4 ≤ h → next_number bytes key h n ≡ next_at bytes (place_of n)
 behind_chain bytes key zero n some above = absurd (omega arith)
 behind_chain bytes key (suc zero) n some above = absurd (omega arith)
 behind_chain bytes key (suc (suc zero)) n some above = absurd (omega arith)
@@ -67,7 +67,7 @@ behind_chain bytes key (suc (suc (suc zero))) n some above = absurd (omega arith
 behind_chain bytes key (suc (suc (suc (suc h)))) zero some above = absurd (some refl)
 behind_chain bytes key (suc (suc (suc (suc h)))) (suc b) some above = let e : suc b - 1 ≡ b = omega arith in rw e refl
 
-pub behind_none : (bytes : List ℕ) (key : ℤ) (h : ℕ) → 4 ≤ h → behind bytes key h 0 ≡ 0
+pub behind_none : (bytes : List ℕ) (key : ℤ) (h : ℕ) → 4 ≤ h → next_number bytes key h 0 ≡ 0
 behind_none bytes key zero above = absurd (omega arith)
 behind_none bytes key (suc zero) above = absurd (omega arith)
 behind_none bytes key (suc (suc zero)) above = absurd (omega arith)
@@ -92,7 +92,7 @@ spot_is bytes key (suc (suc (suc (suc (suc k))))) = inr (suc (suc (suc (suc k)))
 -- ---- all that is known of a file to which a bucket was added at the end of a path
 pub record Appends (old new : List ℕ) (ps : List Pair) (q : Pair) (hop number : ℕ) : Type 0 where
   pub tree : IsTree old ps
-  pub rises : Rises ps
+  pub rises : SlotsRise ps
   pub full : Full q.key ps hop
   pub none : number_of old q.key hop ≡ 0
   pub some : number ≢ 0
@@ -101,7 +101,7 @@ pub record Appends (old new : List ℕ) (ps : List Pair) (q : Pair) (hop number 
   pub named : u16_at new (spot_of old q.key hop) ≡ number
   pub place : place_of number ≡ length old
   pub longer : length new ≡ length old + 195
-  pub first : Holds new (place_of number) (q ∷ [])
+  pub first : HoldsPairs new (place_of number) (q ∷ [])
   pub next : next_at new (place_of number) ≡ 0
   pub zeros : (x : ℕ) → 6 ≤ x → x < 192 → get_or new (place_of number + x) 0 ≡ 0
 
@@ -111,8 +111,8 @@ u16_kept old new ps q hop number p a fits apart = u16_same new old p p (a.stays 
 -- the bucket before the end of a path is full, so there is one
 before_some : (old new : List ℕ) (ps : List Pair) (q : Pair) (hop number k : ℕ) → Appends old new ps q hop number → k < hop → number_of old q.key k ≢ 0
 before_some old new ps q hop number k a h = λ z.
-    let full : 32 ≤ length (reach (goes q.key) k ps) = a.full k h in
-    let empty : length (reach (goes q.key) k ps) ≡ 0 = ap length ((a.tree.each q.key k).none z) in
+    let full : 32 ≤ length (reaching (goes q.key) k ps) = a.full k h in
+    let empty : length (reaching (goes q.key) k ps) ≡ 0 = ap length ((a.tree.each q.key k).none z) in
     omega (arith, full, empty)
 
 -- next of a bucket that the path of a key comes to by old numbers stays, but for the last bucket of the path
@@ -145,11 +145,11 @@ next_kept old new ps q hop number a key h some other =
     (spot_is old q.key hop))
 
 -- a number of a node stays, but for that which names the new bucket
-node_kept : (old new : List ℕ) (ps : List Pair) (q : Pair) (hop number : ℕ) → Appends old new ps q hop number → (key : ℤ) (h : ℕ) → h ≤ 4 → (IsNew key q hop h → ⊥) → number_at new (node key h) ≡ number_at old (node key h)
+node_kept : (old new : List ℕ) (ps : List Pair) (q : Pair) (hop number : ℕ) → Appends old new ps q hop number → (key : ℤ) (h : ℕ) → h ≤ 4 → (IsNew key q hop h → ⊥) → bucket_number new (node key h) ≡ bucket_number old (node key h)
 node_kept old new ps q hop number a key h low other =
     let spot : ℕ = spot_of old q.key hop in
     let small : node key h ≤ 340 = node_small key h low in
-    let size : length old ≡ bucket_place (buckets (keys_of ps)) = a.tree.size in
+    let size : length old ≡ bucket_place (buckets (pair_keys ps)) = a.tree.size in
     u16_kept old new ps q hop number (2 * node key h) a (omega (arith, small, size))
     (⊎_elim
     (λ (at : IsNodeSpot spot q.key hop).
@@ -168,9 +168,9 @@ node_kept old new ps q hop number a key h low other =
 step_kept : (old new : List ℕ) (ps : List Pair) (q : Pair) (hop number : ℕ) → Appends old new ps q hop number → (key : ℤ) (h : ℕ) → (4 ≤ h → number_of new key h ≡ number_of old key h) → (IsNew key q hop (suc h) → ⊥) → number_of new key (suc h) ≡ number_of old key (suc h)
 step_kept old new ps q hop number a key h before other = ⊎_elim
     (λ (deep : 4 ≤ h). ⊎_elim
-    (λ (z : number_of old key h ≡ 0). ap (behind new key h) (before deep ∙ z) ∙ behind_none new key h deep ∙ sym (ap (behind old key h) z ∙ behind_none old key h deep))
+    (λ (z : number_of old key h ≡ 0). ap (next_number new key h) (before deep ∙ z) ∙ behind_none new key h deep ∙ sym (ap (next_number old key h) z ∙ behind_none old key h deep))
     (λ (some : number_of old key h ≢ 0).
-    ap (behind new key h) (before deep) ∙ behind_chain new key h (number_of old key h) some deep
+    ap (next_number new key h) (before deep) ∙ behind_chain new key h (number_of old key h) some deep
     ∙ next_kept old new ps q hop number a key h some (λ d. other)
     ∙ sym (behind_chain old key h (number_of old key h) some deep))
     (zero_or (number_of old key h)))
@@ -195,10 +195,10 @@ named_at old new ps q hop number a key (suc h) is =
     (λ (deep : 4 ≤ h).
     let same : number_of old key h ≡ number_of old q.key h = number_same old key q.key h (λ i k. is.1 i (omega arith)) in
     let some : number_of old q.key h ≢ 0 = before_some old new ps q hop number h a (omega arith) in
-    ap (behind new key h) (early old new ps q hop number a key h (omega arith) ∙ same) ∙ behind_chain new key h (number_of old q.key h) some deep
+    ap (next_number new key h) (early old new ps q hop number a key h (omega arith) ∙ same) ∙ behind_chain new key h (number_of old q.key h) some deep
     ∙ subst (λ (x : ℕ). u16_at new x ≡ number) (spot_chain old q.key h deep) named)
     (λ (low : h < 4).
-    behind_node new key h (number_of new key h) low ∙ ap (number_at new) (same_node key q.key (suc h) (omega arith) is.1)
+    behind_node new key h (number_of new key h) low ∙ ap (bucket_number new) (same_node key q.key (suc h) (omega arith) is.1)
     ∙ subst (λ (x : ℕ). u16_at new x ≡ number) (spot_node old q.key h low) named)
     (order 4 h)
   where
@@ -224,7 +224,7 @@ kept old new ps q hop number a key (suc h) other = ⊎_elim
     (λ (deep : 4 ≤ h).
     let named : number_of new key h ≡ number = named_at old new ps q hop number a key h is in
     let none : number_of old key h ≡ 0 = number_same old key q.key h is.1 ∙ ap (number_of old q.key) is.0 ∙ a.none in
-    ap (behind new key h) named ∙ behind_chain new key h number a.some deep ∙ a.next ∙ sym (ap (behind old key h) none ∙ behind_none old key h deep))
+    ap (next_number new key h) named ∙ behind_chain new key h number a.some deep ∙ a.next ∙ sym (ap (next_number old key h) none ∙ behind_none old key h deep))
     (λ (low : h < 4). step_kept old new ps q hop number a key h (λ deep. absurd (omega arith)) other)
     (order 4 h))
     (λ (n : IsNew key q hop h → ⊥). step_kept old new ps q hop number a key h (λ d. kept old new ps q hop number a key h n) other)
@@ -285,14 +285,14 @@ adds_bucket old new ps q hop number a =
     one_more : (n len : ℕ) → n ≢ 0 → place_of n ≡ len → (all : ℕ) → all ≡ len + 195 → bucket_place n ≤ all
     one_more n len some e all is = omega arith
 
-pub bucket_put : (old new : List ℕ) (ps : List Pair) (q : Pair) (hop number : ℕ) → Appends old new ps q hop number → length ps < 32768 → IsEnd ps q.key hop → IsGrown old new ps (q ∷ [])
+pub bucket_put : (old new : List ℕ) (ps : List Pair) (q : Pair) (hop number : ℕ) → Appends old new ps q hop number → length ps < 32768 → IsPathEnd ps q.key hop → IsGrown old new ps (q ∷ [])
 bucket_put old new ps q hop number a few end =
     let adds = adds_bucket old new ps q hop number a in
-    let size : length old ≡ bucket_place (buckets (keys_of ps)) = a.tree.size in
+    let size : length old ≡ bucket_place (buckets (pair_keys ps)) = a.tree.size in
     let longer : length new ≡ length old + 195 = a.longer in
     let sum : length (ps ++ q ∷ []) ≡ length ps + length (q ∷ []) = length-append ps (q ∷ []) in
-    let nothing : reach (goes q.key) hop ps ≡ [] = (a.tree.each q.key hop).none a.none in
-    let count : buckets (keys_of (ps ++ q ∷ [])) ≡ buckets (keys_of ps) + 1 = buckets_more ps q hop end ∙ rw nothing refl in
+    let nothing : reaching (goes q.key) hop ps ≡ [] = (a.tree.each q.key hop).none a.none in
+    let count : buckets (pair_keys (ps ++ q ∷ [])) ≡ buckets (pair_keys ps) + 1 = buckets_more ps q hop end ∙ rw nothing refl in
     let spot : ℕ = spot_of old q.key hop in
     record {
       tree = record {
@@ -316,12 +316,12 @@ bucket_put old new ps q hop number a few end =
         (λ (at : IsNodeSpot (spot_of old q.key hop) q.key hop). let small : node q.key hop ≤ 340 = node_small q.key hop at.0 in let is : spot_of old q.key hop ≡ 2 * node q.key hop = at.1 in inr (omega (arith, small, is)))
         (λ (at : IsChainSpot (spot_of old q.key hop) old q.key hop). let is : spot_of old q.key hop ≡ place_of (number_of old q.key at.0) + 192 = at.3 in inl (omega (arith, is)))
         (spot_is old q.key hop) in
-        let size : length old ≡ bucket_place (buckets (keys_of ps)) = a.tree.size in
+        let size : length old ≡ bucket_place (buckets (pair_keys ps)) = a.tree.size in
         a.stays 682 1 (omega (arith, size)) at_mark 0 (omega arith) ∙ a.tree.mark
 
 -- ---- bytes
 
-pub appends : (old w two_ : List ℕ) (ps : List Pair) (q : Pair) (hop number : ℕ) → IsTree old ps → Rises ps → IsEnd ps q.key hop → number_of old q.key hop ≡ 0 → IsFirstBucket w q → spot_of old q.key hop + 3 ≤ length old →
+pub appends : (old w two_ : List ℕ) (ps : List Pair) (q : Pair) (hop number : ℕ) → IsTree old ps → SlotsRise ps → IsPathEnd ps q.key hop → number_of old q.key hop ≡ 0 → IsFirstBucket w q → spot_of old q.key hop + 3 ≤ length old →
     length two_ ≡ 2 → u16_at two_ 0 ≡ number → number ≢ 0 → place_of number ≡ length old → Appends old (put_at (old ++ w) (spot_of old q.key hop) two_) ps q hop number
 appends old w two_ ps q hop number tree rises end none is fits long two_is some place =
     let spot : ℕ = spot_of old q.key hop in

@@ -6,11 +6,11 @@ use Rattle.afl_base.specs.Fields.{i32_at, put_at, u16_at}
 use Rattle.afl_base.proofs.FieldLaws.{length-put_at}
 use Rattle.db_model.specs.HashTree.{buckets}
 use Rattle.index_tree.specs.Buckets.{IsPairBytes}
-use Rattle.index_tree.specs.Ends.{IsEnd}
-use Rattle.index_tree.specs.Loads.{opened}
-use Rattle.index_tree.specs.Pairs.{Pair, goes, keys_of, no_pair, reach}
-use Rattle.index_tree.specs.Places.{IsGrown, Rises}
-use Rattle.index_tree.specs.TreeFile.{Holds, IsTree, bucket_place, key_at, next_at, number_of, place_of, slot_at}
+use Rattle.index_tree.specs.Ends.{IsPathEnd}
+use Rattle.index_tree.specs.Loads.{opened_bucket}
+use Rattle.index_tree.specs.Pairs.{Pair, goes, pair_keys, no_pair, reaching}
+use Rattle.index_tree.specs.Places.{IsGrown, SlotsRise}
+use Rattle.index_tree.specs.TreeFile.{HoldsPairs, IsTree, bucket_place, key_at, next_at, number_of, place_of, slot_at}
 use Rattle.index_tree.proofs.Added.{AddsPair, KeepsBucket, pair_added}
 use Rattle.index_tree.proofs.Counted.{buckets_more}
 use Rattle.index_tree.proofs.Frames.{i32_same, put_here, u16_same}
@@ -39,7 +39,7 @@ key_here : (xs w : List ℕ) (at : ℕ) → length w ≡ 6 → at + 6 ≤ length
 key_here xs w at long fits = let e : at + 0 ≡ at = omega arith in subst (λ (p : ℕ). i32_at (put_at xs at w) p ≡ i32_at w 0) e (i32_same (put_at xs at w) w (at + 0) 0 (put_here xs w at 0 4 (omega arith) (omega arith)))
 
 -- the bucket holds one pair more
-pub holds_put : (old w : List ℕ) (place : ℕ) (rest : List Pair) (q : Pair) → Holds old place rest → length rest < 32 → IsPairBytes w q → place + 195 ≤ length old → Holds (put_at old (place + 6 * length rest) w) place (rest ++ q ∷ [])
+pub holds_put : (old w : List ℕ) (place : ℕ) (rest : List Pair) (q : Pair) → HoldsPairs old place rest → length rest < 32 → IsPairBytes w q → place + 195 ≤ length old → HoldsPairs (put_at old (place + 6 * length rest) w) place (rest ++ q ∷ [])
 holds_put old w place rest q holds room is fits =
     let new : List ℕ = put_at old (place + 6 * length rest) w in
     let long : length w ≡ 6 = is.long in
@@ -77,11 +77,11 @@ next_stays old w n m pair some more long short fits =
     u16_stays old w (place_of m + 6 * pair) (place_of n + 192) (omega arith)
     (⊎_elim (λ (up : n ≤ m). ⊎_elim (λ (down : m ≤ n). inr (omega arith)) (λ (less : n < m). inl (omega arith)) (order m n)) (λ (less : m < n). inr (omega arith)) (order n m))
 
-pub adds_pair : (old w : List ℕ) (ps : List Pair) (q : Pair) (hop : ℕ) → IsTree old ps → IsEnd ps q.key hop → number_of old q.key hop ≢ 0 → IsPairBytes w q →
-    AddsPair old (put_at old (place_of (number_of old q.key hop) + 6 * length (reach (goes q.key) hop ps)) w) ps q hop
+pub adds_pair : (old w : List ℕ) (ps : List Pair) (q : Pair) (hop : ℕ) → IsTree old ps → IsPathEnd ps q.key hop → number_of old q.key hop ≢ 0 → IsPairBytes w q →
+    AddsPair old (put_at old (place_of (number_of old q.key hop) + 6 * length (reaching (goes q.key) hop ps)) w) ps q hop
 adds_pair old w ps q hop tree end some is =
     let m : ℕ = number_of old q.key hop in
-    let rest : List Pair = reach (goes q.key) hop ps in
+    let rest : List Pair = reaching (goes q.key) hop ps in
     let long : length w ≡ 6 = is.long in
     let short : length rest < 32 = end.room in
     let fits : bucket_place m ≤ length old = (tree.each q.key hop).within some in
@@ -97,15 +97,15 @@ adds_pair old w ps q hop tree end some is =
       here = holds_put old w (place_of m) rest q ((tree.each q.key hop).holds some) short is (omega arith);
     }
 
-opened_none : (n : ℕ) → 0 < n → opened n ≡ 0
+opened_none : (n : ℕ) → 0 < n → opened_bucket n ≡ 0
 opened_none zero h = absurd (omega arith)
 opened_none (suc n) h = refl
 
-pub pair_put : (old w : List ℕ) (ps : List Pair) (q : Pair) (hop : ℕ) → IsTree old ps → Rises ps → length ps < 32768 → IsEnd ps q.key hop → number_of old q.key hop ≢ 0 → IsPairBytes w q →
-    IsGrown old (put_at old (place_of (number_of old q.key hop) + 6 * length (reach (goes q.key) hop ps)) w) ps (q ∷ [])
+pub pair_put : (old w : List ℕ) (ps : List Pair) (q : Pair) (hop : ℕ) → IsTree old ps → SlotsRise ps → length ps < 32768 → IsPathEnd ps q.key hop → number_of old q.key hop ≢ 0 → IsPairBytes w q →
+    IsGrown old (put_at old (place_of (number_of old q.key hop) + 6 * length (reaching (goes q.key) hop ps)) w) ps (q ∷ [])
 pair_put old w ps q hop tree rises few end some is =
     let m : ℕ = number_of old q.key hop in
-    let rest : List Pair = reach (goes q.key) hop ps in
+    let rest : List Pair = reaching (goes q.key) hop ps in
     let at : ℕ = place_of m + 6 * length rest in
     let new : List ℕ = put_at old at w in
     let long : length w ≡ 6 = is.long in
@@ -113,7 +113,7 @@ pair_put old w ps q hop tree rises few end some is =
     let fits : bucket_place m ≤ length old = (tree.each q.key hop).within some in
     let adds = adds_pair old w ps q hop tree end some is in
     let sum : length (ps ++ q ∷ []) ≡ length ps + length (q ∷ []) = length-append ps (q ∷ []) in
-    let count : buckets (keys_of (ps ++ q ∷ [])) ≡ buckets (keys_of ps) = buckets_more ps q hop end ∙ rw (opened_none (length rest) ((tree.each q.key hop).some some)) (omega arith) in
+    let count : buckets (pair_keys (ps ++ q ∷ [])) ≡ buckets (pair_keys ps) = buckets_more ps q hop end ∙ rw (opened_none (length rest) ((tree.each q.key hop).some some)) (omega arith) in
     record {
       tree = record {
         few = omega (arith, sum);

@@ -2,8 +2,8 @@ use Rattle.std.proofs.Common.{◌≡◌, ◌≤◌, ◌<◌, ◌+◌, ◌-◌, �
 use Rattle.std.specs.List.{filter}
 use Rattle.std.proofs.lemmas.List.{drop-append-le, drop_all, drop_more, length-drop}
 use Rattle.std.proofs.lemmas.List.Elements.{filter-append}
-use Rattle.index_tree.specs.Pairs.{reach, sifted}
-use Rattle.index_tree.specs.Places.{IsPlace, ahead}
+use Rattle.index_tree.specs.Pairs.{reaching, sifted}
+use Rattle.index_tree.specs.Places.{IsPlace, ahead_of_place}
 
 no_truth : false ≡ true → ⊥
 no_truth e = cc
@@ -21,31 +21,31 @@ filter_weaker mine test weaker (p ∷ ps) =
     weaker_step mine test p (filter test ps) (filter mine ps) (mine p) (test p) (filter_weaker mine test weaker ps) refl refl (weaker p)
 
 -- a place at the end of a full bucket is one at the start of the next
-pub ahead_hop : {P : Type 0} (mine : P → Bool) (test : ℕ → P → Bool) → ((hop : ℕ) (p : P) → mine p ≡ true → test hop p ≡ true) → (ps : List P) (hop : ℕ) → ahead mine test ps hop 32 ≡ ahead mine test ps (hop + 1) 0
-ahead_hop mine test goes ps hop = rw add-one (sym (filter_weaker mine (test hop) (goes hop) (drop 32 (reach test hop ps))))
+pub ahead_hop : {P : Type 0} (mine : P → Bool) (test : ℕ → P → Bool) → ((hop : ℕ) (p : P) → mine p ≡ true → test hop p ≡ true) → (ps : List P) (hop : ℕ) → ahead_of_place mine test ps hop 32 ≡ ahead_of_place mine test ps (hop + 1) 0
+ahead_hop mine test goes ps hop = rw add-one (sym (filter_weaker mine (test hop) (goes hop) (drop 32 (reaching test hop ps))))
 
 pub sifted-mine : {P : Type 0} (mine : P → Bool) (test : ℕ → P → Bool) → ((hop : ℕ) (p : P) → mine p ≡ true → test hop p ≡ true) → (hop : ℕ) (ps : List P) → filter mine (sifted test hop ps) ≡ filter mine ps
 sifted-mine mine test goes zero ps = refl
 sifted-mine mine test goes (suc hop) ps = filter_weaker mine (test hop) (goes hop) (sifted test hop ps) ∙ sifted-mine mine test goes hop ps
 
 -- later pairs go behind all that reaches a bucket
-pub reach-append : {P : Type 0} (test : ℕ → P → Bool) (ps qs : List P) (hop : ℕ) → ((i : ℕ) → i < hop → 32 ≤ length (reach test i ps)) → reach test hop (ps ++ qs) ≡ reach test hop ps ++ sifted test hop qs
+pub reach-append : {P : Type 0} (test : ℕ → P → Bool) (ps qs : List P) (hop : ℕ) → ((i : ℕ) → i < hop → 32 ≤ length (reaching test i ps)) → reaching test hop (ps ++ qs) ≡ reaching test hop ps ++ sifted test hop qs
 reach-append test ps qs zero full = refl
 reach-append test ps qs (suc hop) full =
     ap (λ xs. filter (test hop) (drop 32 xs)) (reach-append test ps qs hop (λ i h. full i (omega arith)))
-    ∙ ap (filter (test hop)) (drop-append-le 32 (reach test hop ps) (sifted test hop qs) (full hop (omega arith)))
-    ∙ filter-append (test hop) (drop 32 (reach test hop ps)) (sifted test hop qs)
+    ∙ ap (filter (test hop)) (drop-append-le 32 (reaching test hop ps) (sifted test hop qs) (full hop (omega arith)))
+    ∙ filter-append (test hop) (drop 32 (reaching test hop ps)) (sifted test hop qs)
 
--- later pairs of the key come behind those that were ahead
-pub ahead-append : {P : Type 0} (mine : P → Bool) (test : ℕ → P → Bool) → ((hop : ℕ) (p : P) → mine p ≡ true → test hop p ≡ true) → (ps qs : List P) (hop pair : ℕ) → IsPlace test ps hop pair → ahead mine test (ps ++ qs) hop pair ≡ ahead mine test ps hop pair ++ filter mine qs
+-- later pairs of the key come behind those that were ahead_of_place
+pub ahead-append : {P : Type 0} (mine : P → Bool) (test : ℕ → P → Bool) → ((hop : ℕ) (p : P) → mine p ≡ true → test hop p ≡ true) → (ps qs : List P) (hop pair : ℕ) → IsPlace test ps hop pair → ahead_of_place mine test (ps ++ qs) hop pair ≡ ahead_of_place mine test ps hop pair ++ filter mine qs
 ahead-append mine test goes ps qs hop pair place =
     ap (λ xs. filter mine (drop pair xs)) (reach-append test ps qs hop place.full)
-    ∙ ap (filter mine) (drop-append-le pair (reach test hop ps) (sifted test hop qs) place.within)
-    ∙ filter-append mine (drop pair (reach test hop ps)) (sifted test hop qs)
-    ∙ ap (λ xs. filter mine (drop pair (reach test hop ps)) ++ xs) (sifted-mine mine test goes hop qs)
+    ∙ ap (filter mine) (drop-append-le pair (reaching test hop ps) (sifted test hop qs) place.within)
+    ∙ filter-append mine (drop pair (reaching test hop ps)) (sifted test hop qs)
+    ∙ ap (λ xs. filter mine (drop pair (reaching test hop ps)) ++ xs) (sifted-mine mine test goes hop qs)
 
-pub reach-longer : {P : Type 0} (test : ℕ → P → Bool) (ps qs : List P) (hop : ℕ) → ((i : ℕ) → i < hop → 32 ≤ length (reach test i ps)) → length (reach test hop ps) ≤ length (reach test hop (ps ++ qs))
-reach-longer test ps qs hop full = rw (reach-append test ps qs hop full) (rw (length-append (reach test hop ps) (sifted test hop qs)) (omega arith))
+pub reach-longer : {P : Type 0} (test : ℕ → P → Bool) (ps qs : List P) (hop : ℕ) → ((i : ℕ) → i < hop → 32 ≤ length (reaching test i ps)) → length (reaching test hop ps) ≤ length (reaching test hop (ps ++ qs))
+reach-longer test ps qs hop full = rw (reach-append test ps qs hop full) (rw (length-append (reaching test hop ps) (sifted test hop qs)) (omega arith))
 
 -- a place stays good through later inserts
 pub place-append : {P : Type 0} (test : ℕ → P → Bool) (ps qs : List P) (hop pair : ℕ) → IsPlace test ps hop pair → IsPlace test (ps ++ qs) hop pair
@@ -56,16 +56,16 @@ place-append test ps qs hop pair place = record {
 }
 
 -- one pair of a bucket is passed
-pub ahead_pair : {P : Type 0} (mine : P → Bool) (test : ℕ → P → Bool) (ps : List P) (hop pair : ℕ) (d : P) → pair < length (reach test hop ps) →
-    ahead mine test ps hop pair ≡ cond (mine (get_or (reach test hop ps) pair d)) (get_or (reach test hop ps) pair d ∷ ahead mine test ps hop (pair + 1)) (ahead mine test ps hop (pair + 1))
-ahead_pair mine test ps hop pair d h = ap (filter mine) (drop_more (reach test hop ps) pair d h)
+pub ahead_pair : {P : Type 0} (mine : P → Bool) (test : ℕ → P → Bool) (ps : List P) (hop pair : ℕ) (d : P) → pair < length (reaching test hop ps) →
+    ahead_of_place mine test ps hop pair ≡ cond (mine (get_or (reaching test hop ps) pair d)) (get_or (reaching test hop ps) pair d ∷ ahead_of_place mine test ps hop (pair + 1)) (ahead_of_place mine test ps hop (pair + 1))
+ahead_pair mine test ps hop pair d h = ap (filter mine) (drop_more (reaching test hop ps) pair d h)
 
--- nothing is ahead at the end of a bucket that is not full
-pub ahead_end : {P : Type 0} (mine : P → Bool) (test : ℕ → P → Bool) (ps : List P) (hop pair : ℕ) → length (reach test hop ps) ≤ pair → ahead mine test ps hop pair ≡ []
-ahead_end mine test ps hop pair h = ap (filter mine) (drop_all pair (reach test hop ps) h)
+-- nothing is ahead_of_place at the end of a bucket that is not full
+pub ahead_end : {P : Type 0} (mine : P → Bool) (test : ℕ → P → Bool) (ps : List P) (hop pair : ℕ) → length (reaching test hop ps) ≤ pair → ahead_of_place mine test ps hop pair ≡ []
+ahead_end mine test ps hop pair h = ap (filter mine) (drop_all pair (reaching test hop ps) h)
 
--- the first place has all pairs of the key ahead: the pairs of a key along its path are all its pairs, in order
-pub ahead_first : {P : Type 0} (mine : P → Bool) (test : ℕ → P → Bool) (ps : List P) → ahead mine test ps 0 0 ≡ filter mine ps
+-- the first place has all pairs of the key ahead_of_place: the pairs of a key along its path are all its pairs, in order
+pub ahead_first : {P : Type 0} (mine : P → Bool) (test : ℕ → P → Bool) (ps : List P) → ahead_of_place mine test ps 0 0 ≡ filter mine ps
 ahead_first mine test ps = refl
 
 pub filter_shorter : {P : Type 0} (test : P → Bool) (ps : List P) → length (filter test ps) ≤ length ps
@@ -73,11 +73,11 @@ filter_shorter test [] = omega arith
 filter_shorter test (p ∷ ps) = elim (test p) as (λ b. length (cond b (p ∷ filter test ps) (filter test ps)) ≤ length (p ∷ ps)) [ true ↦ (let less = filter_shorter test ps in omega arith) | false ↦ (let less = filter_shorter test ps in omega arith) ]
 
 -- each full bucket takes 32 pairs from those that go on
-pub deep : {P : Type 0} (test : ℕ → P → Bool) (ps : List P) (hop : ℕ) → ((i : ℕ) → i < hop → 32 ≤ length (reach test i ps)) → 32 * hop + length (reach test hop ps) ≤ length ps
+pub deep : {P : Type 0} (test : ℕ → P → Bool) (ps : List P) (hop : ℕ) → ((i : ℕ) → i < hop → 32 ≤ length (reaching test i ps)) → 32 * hop + length (reaching test hop ps) ≤ length ps
 deep test ps zero full = omega arith
 deep test ps (suc hop) full =
-    let before : 32 * hop + length (reach test hop ps) ≤ length ps = deep test ps hop (λ i h. full i (omega arith)) in
-    let enough : 32 ≤ length (reach test hop ps) = full hop (omega arith) in
-    let less : length (filter (test hop) (drop 32 (reach test hop ps))) ≤ length (drop 32 (reach test hop ps)) = filter_shorter (test hop) (drop 32 (reach test hop ps)) in
-    let cut : length (drop 32 (reach test hop ps)) ≡ length (reach test hop ps) - 32 = length-drop 32 (reach test hop ps) in
+    let before : 32 * hop + length (reaching test hop ps) ≤ length ps = deep test ps hop (λ i h. full i (omega arith)) in
+    let enough : 32 ≤ length (reaching test hop ps) = full hop (omega arith) in
+    let less : length (filter (test hop) (drop 32 (reaching test hop ps))) ≤ length (drop 32 (reaching test hop ps)) = filter_shorter (test hop) (drop 32 (reaching test hop ps)) in
+    let cut : length (drop 32 (reaching test hop ps)) ≡ length (reaching test hop ps) - 32 = length-drop 32 (reaching test hop ps) in
     omega arith

@@ -6,10 +6,10 @@ use Rattle.std.proofs.lemmas.Bool.Decides.{nat_tests}
 use Rattle.std.proofs.lemmas.List.{get_or_append_left}
 use Rattle.std.proofs.lemmas.List.FromFn.{get_or-map-range_with_len, length-map-range_with_len}
 use Rattle.db_model.specs.HashTree.{node}
-use Rattle.index_tree.specs.Pairs.{Pair, goes, no_pair, pair_of, pairs_of, reach, sifted}
-use Rattle.index_tree.specs.Places.{Rises}
+use Rattle.index_tree.specs.Pairs.{Pair, goes, no_pair, pair_of, pairs_of, reaching, sifted}
+use Rattle.index_tree.specs.Places.{SlotsRise}
 use Rattle.index_tree.specs.Rules.{MeetsRules, bucket_count, slot_on}
-use Rattle.index_tree.specs.TreeFile.{Holds, IsBucket, number_of, place_of, slot_at}
+use Rattle.index_tree.specs.TreeFile.{HoldsPairs, IsBucket, number_of, place_of, slot_at}
 use Rattle.index_tree.proofs.Added.{number_same, zero_or}
 use Rattle.index_tree.proofs.Filters.{In, Parts, drop_first, filter_commutes, filter_in, in_filter, in_pairs, in_some, pairs_in, rises_map, rises_same, some_in, split_parts}
 use Rattle.index_tree.proofs.Shared.{Same, goes_self, order, rises_filter, same_way}
@@ -17,7 +17,7 @@ use Rattle.index_tree.proofs.Spots.{chain_same, digit_same, node_same}
 
 -- ---- pairs that go a way
 
-rises_sifted : (test : ℕ → Pair → Bool) (hop : ℕ) (ps : List Pair) → Rises ps → Rises (sifted test hop ps)
+rises_sifted : (test : ℕ → Pair → Bool) (hop : ℕ) (ps : List Pair) → SlotsRise ps → SlotsRise (sifted test hop ps)
 rises_sifted test zero ps h = h
 rises_sifted test (suc hop) ps h = rises_filter (test hop) (sifted test hop ps) (rises_sifted test hop ps h)
 
@@ -153,7 +153,7 @@ module _ (bytes : List ℕ) (key : ℕ → ℤ) (slots : ℕ) (r : MeetsRules by
   ps_in : (s : ℕ) → s < slots → In (pair_of key s) ps
   ps_in s h = pairs_in (pair_of key) 0 slots s (omega arith) (omega arith)
 
-  rises_ps : Rises ps
+  rises_ps : SlotsRise ps
   rises_ps = rises_map (pair_of key) 0 slots (λ i j a b c. b)
 
   -- the pairs that go the way of a key to a hop
@@ -312,7 +312,7 @@ module _ (bytes : List ℕ) (key : ℕ → ℤ) (slots : ℕ) (r : MeetsRules by
       (order (length (filter (A h) (S k h))) 0)
 
   -- what reaches a bucket are the pairs of this way that lie there or deeper
-  reached : (k : ℤ) (h : ℕ) → reach (goes k) h ps ≡ filter (D h) (S k h)
+  reached : (k : ℤ) (h : ℕ) → reaching (goes k) h ps ≡ filter (D h) (S k h)
   unfolding A D S
   reached k zero = sym (from_zero r.hop ps)
   reached k (suc h) =
@@ -322,7 +322,7 @@ module _ (bytes : List ℕ) (key : ℕ → ℤ) (slots : ℕ) (r : MeetsRules by
 
   -- ---- each bucket
 
-  holds : (k : ℤ) (h : ℕ) → number_of bytes k h ≢ 0 → Holds bytes (place_of (number_of bytes k h)) (reach (goes k) h ps)
+  holds : (k : ℤ) (h : ℕ) → number_of bytes k h ≢ 0 → HoldsPairs bytes (place_of (number_of bytes k h)) (reaching (goes k) h ps)
   unfolding held entry
   holds k h some =
       let front = filled k h some in
@@ -330,17 +330,17 @@ module _ (bytes : List ℕ) (key : ℕ → ℤ) (slots : ℕ) (r : MeetsRules by
       let b : ℕ = number_of bytes k h - 1 in
       let most : m ≤ 32 = front.1.most in
       let deep : List Pair = filter (D (suc h)) (S k h) in
-      let is : reach (goes k) h ps ≡ held k h m ++ deep = reached k h ∙ parts k h ∙ ap (λ (zs : List Pair). zs ++ deep) (held_is k h m some front.1) in
+      let is : reaching (goes k) h ps ≡ held k h m ++ deep = reached k h ∙ parts k h ∙ ap (λ (zs : List Pair). zs ++ deep) (held_is k h m some front.1) in
       let long : length (held k h m) ≡ m = length-map-range_with_len (entry k h) 0 m in
       let sum : length (held k h m ++ deep) ≡ length (held k h m) + length deep = length-append (held k h m) deep in
-      let total : length (reach (goes k) h ps) ≡ m + length deep = ap length is ∙ omega (arith, sum, long) in
-      let inside : (i : ℕ) → i < 32 → i < length (reach (goes k) h ps) → i < m = λ i a c. ⊎_elim
+      let total : length (reaching (goes k) h ps) ≡ m + length deep = ap length is ∙ omega (arith, sum, long) in
+      let inside : (i : ℕ) → i < 32 → i < length (reaching (goes k) h ps) → i < m = λ i a c. ⊎_elim
       (λ (out : m ≤ i).
       let more : 0 < length deep = omega (arith, total, c, out) in
       let full : m ≡ 32 = sym long ∙ ap length (sym (held_is k h m some front.1)) ∙ at_full k h more in
       absurd (omega (arith, full, out, a)))
       (λ (in_ : i < m). in_) (order m i) in
-      let there : (i : ℕ) → i < m → get_or (reach (goes k) h ps) i no_pair ≡ entry k h i = λ i a.
+      let there : (i : ℕ) → i < m → get_or (reaching (goes k) h ps) i no_pair ≡ entry k h i = λ i a.
       ap (λ (zs : List Pair). get_or zs i no_pair) is ∙ get_or_append_left (held k h m) deep no_pair i (omega (arith, long, a)) ∙ get_or-map-range_with_len (entry k h) 0 m i i no_pair a (omega arith) in
       record {
         slot = λ i a c.
@@ -359,10 +359,10 @@ module _ (bytes : List ℕ) (key : ℕ → ℤ) (slots : ℕ) (r : MeetsRules by
       one_less : (n : ℕ) → n ≢ 0 → n ≡ n - 1 + 1
       one_less n s = omega arith
 
-  pub each : (k : ℤ) (h : ℕ) → IsBucket bytes (number_of bytes k h) (reach (goes k) h ps)
+  pub each : (k : ℤ) (h : ℕ) → IsBucket bytes (number_of bytes k h) (reaching (goes k) h ps)
   unfolding D A
   each k h = record {
-    none = λ z. empty_of (reach (goes k) h ps) (λ some.
+    none = λ z. empty_of (reaching (goes k) h ps) (λ some.
         let p = some_in (filter (D h) (S k h)) (subst (λ (zs : List Pair). 0 < length zs) (reached k h) some) in
         let both = filter_in (D h) p.0 (S k h) p.1 in
         let small = (in_ps p.0 (in_S k h p.0 both.1)).0 in

@@ -3,7 +3,7 @@ use Rattle.std.proofs.Common.{◌≡◌, ◌≢◌, ◌≤◌, ◌<◌, ◌+◌,
 use Rattle.std.specs.Prelude.{slice_index}
 use Rattle.afl_base.specs.Fields.{i32_at, put_at, u16_at}
 use Rattle.db_model.specs.HashTree.{digit, node}
-use Rattle.index_tree.specs.TreeFile.{behind, next_at, number_of, place_of}
+use Rattle.index_tree.specs.TreeFile.{next_number, next_at, number_of, place_of}
 use Rattle.index_tree.proofs.Counted.{digit_small}
 use Rattle.index_tree.proofs.Frames.{i32_same, put_outside, u16_same}
 use Rattle.index_tree.proofs.Shared.{Same, order}
@@ -67,8 +67,8 @@ byte_stays xs w at p fits apart = let e : p ≡ p + 0 = omega arith in subst (λ
 
 -- ---- numbers
 
--- the numbers behind a bucket stay
-pub behind_stays : (old new : List ℕ) (key : ℤ) (h n : ℕ) → ((p : ℕ) → p + 2 ≤ 682 → u16_at new p ≡ u16_at old p) → (n ≢ 0 → next_at new (place_of n) ≡ next_at old (place_of n)) → behind new key h n ≡ behind old key h n
+-- the numbers next_number a bucket stay
+pub behind_stays : (old new : List ℕ) (key : ℤ) (h n : ℕ) → ((p : ℕ) → p + 2 ≤ 682 → u16_at new p ≡ u16_at old p) → (n ≢ 0 → next_at new (place_of n) ≡ next_at old (place_of n)) → next_number new key h n ≡ next_number old key h n
 behind_stays old new key zero n heads next = let small = node_small key 1 (omega arith) in heads (2 * node key 1) (omega arith)
 behind_stays old new key (suc zero) n heads next = let small = node_small key 2 (omega arith) in heads (2 * node key 2) (omega arith)
 behind_stays old new key (suc (suc zero)) n heads next = let small = node_small key 3 (omega arith) in heads (2 * node key 3) (omega arith)
@@ -78,4 +78,4 @@ behind_stays old new key (suc (suc (suc (suc h)))) (suc b) heads next = let e : 
 
 pub numbers_stay : (old new : List ℕ) → ((p : ℕ) → p + 2 ≤ 682 → u16_at new p ≡ u16_at old p) → ((n : ℕ) → n ≢ 0 → next_at new (place_of n) ≡ next_at old (place_of n)) → (key : ℤ) (h : ℕ) → number_of new key h ≡ number_of old key h
 numbers_stay old new heads next key zero = heads 0 (omega arith)
-numbers_stay old new heads next key (suc h) = ap (behind new key h) (numbers_stay old new heads next key h) ∙ behind_stays old new key h (number_of old key h) heads (next (number_of old key h))
+numbers_stay old new heads next key (suc h) = ap (next_number new key h) (numbers_stay old new heads next key h) ∙ behind_stays old new key h (number_of old key h) heads (next (number_of old key h))

@@ -2,7 +2,7 @@
 use Rattle.std.specs.Prelude.{ℕ, ◌≡◌, ◌≢◌, ◌+◌, ◌<◌, ◌≤◌, List, [], ◌∷◌, get_or, length}
 use Rattle.afl_base.specs.Fields.{i32_at, u16_at}
 use Rattle.index_tree.specs.Pairs.{Pair}
-use Rattle.index_tree.specs.TreeFile.{Holds, bucket_place, key_at, last_at, next_at, place_of, slot_at}
+use Rattle.index_tree.specs.TreeFile.{HoldsPairs, bucket_place, key_at, last_at, next_at, place_of, slot_at}
 
 -- so many pairs of a bucket's bytes stand before the first empty one
 pub record IsFilled (bytes : List ℕ) (pairs : ℕ) : Type 0 where
@@ -19,7 +19,7 @@ pub record IsPairBytes (bytes : List ℕ) (q : Pair) : Type 0 where
 -- the bytes of a bucket that holds one pair
 pub record IsFirstBucket (bytes : List ℕ) (q : Pair) : Type 0 where
   pub long : length bytes ≡ 195
-  pub holds : Holds bytes 0 (q ∷ [])
+  pub holds : HoldsPairs bytes 0 (q ∷ [])
   pub next : next_at bytes 0 ≡ 0
   pub zeros : (x : ℕ) → 6 ≤ x → x < 192 → get_or bytes x 0 ≡ 0
 

@@ -1,13 +1,13 @@
 -- Where the path of a key ends, read off the pairs and off the bytes.
 use Rattle.std.specs.Prelude.{ℕ, zero, suc, ℤ, ◌+◌, ◌*◌, ◌<◌, ◌≤◌, ◌==◌, List, length, nat_lt, if◌then◌else◌}
 use Rattle.db_model.specs.HashTree.{node}
-use Rattle.index_tree.specs.Pairs.{Pair, goes, reach}
+use Rattle.index_tree.specs.Pairs.{Pair, goes, reaching}
 use Rattle.index_tree.specs.TreeFile.{number_of, place_of, slot_at}
 
 -- the first bucket with room on the path of a key, which is one to come where nothing reaches it
-pub record IsEnd (ps : List Pair) (key : ℤ) (hop : ℕ) : Type 0 where
-  pub full : (i : ℕ) → i < hop → 32 ≤ length (reach (goes key) i ps)
-  pub room : length (reach (goes key) hop ps) < 32
+pub record IsPathEnd (ps : List Pair) (key : ℤ) (hop : ℕ) : Type 0 where
+  pub full : (i : ℕ) → i < hop → 32 ≤ length (reaching (goes key) i ps)
+  pub room : length (reaching (goes key) hop ps) < 32
 
 -- ---- where numbers of buckets stand
 
@@ -41,5 +41,5 @@ end_from zero bytes key hop = hop
 end_from (suc turns) bytes key hop = if nat_lt (filled_of bytes (number_of bytes key hop)) 32 then hop else end_from turns bytes key (hop + 1)
 
 -- the hop at which the path of a key ends: no path has more than 1,024 buckets, so two turns are spare
-unfoldable pub end_of : List ℕ → ℤ → ℕ
-end_of bytes key = end_from 1026 bytes key 0
+unfoldable pub path_end : List ℕ → ℤ → ℕ
+path_end bytes key = end_from 1026 bytes key 0

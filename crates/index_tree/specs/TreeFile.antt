@@ -2,13 +2,13 @@
 use Rattle.std.specs.Prelude.{ℕ, zero, suc, ℤ, pos, ◌≡◌, ◌≢◌, ◌+◌, ◌-◌, ◌*◌, ◌<◌, ◌≤◌, List, [], length, get_or, slice_index}
 use Rattle.afl_base.specs.Fields.{i32_at, u16_at}
 use Rattle.db_model.specs.HashTree.{buckets, node}
-use Rattle.index_tree.specs.Pairs.{Pair, goes, keys_of, no_pair, reach}
+use Rattle.index_tree.specs.Pairs.{Pair, goes, pair_keys, no_pair, reaching}
 
 -- ---- fields
 
 -- bucket + 1 of a node, 0 for none
-abbrev pub number_at : List ℕ → ℕ → ℕ
-number_at bytes node = u16_at bytes (2 * node)
+abbrev pub bucket_number : List ℕ → ℕ → ℕ
+bucket_number bytes node = u16_at bytes (2 * node)
 
 abbrev pub bucket_place : ℕ → ℕ
 bucket_place bucket = 683 + 195 * bucket
@@ -34,24 +34,24 @@ last_at bytes place = slice_index bytes (place + 194)
 
 -- ---- paths
 
--- the number behind that of a bucket at a hop of a key's path: the next node's, and in a chain next
-abbrev pub behind : List ℕ → ℤ → ℕ → ℕ → ℕ
-behind bytes key zero number = number_at bytes (node key 1)
-behind bytes key (suc zero) number = number_at bytes (node key 2)
-behind bytes key (suc (suc zero)) number = number_at bytes (node key 3)
-behind bytes key (suc (suc (suc zero))) number = number_at bytes (node key 4)
-behind bytes key (suc (suc (suc (suc chain)))) zero = 0
-behind bytes key (suc (suc (suc (suc chain)))) (suc bucket) = next_at bytes (bucket_place bucket)
+-- the number next_number that of a bucket at a hop of a key's path: the next node's, and in a chain next
+abbrev pub next_number : List ℕ → ℤ → ℕ → ℕ → ℕ
+next_number bytes key zero number = bucket_number bytes (node key 1)
+next_number bytes key (suc zero) number = bucket_number bytes (node key 2)
+next_number bytes key (suc (suc zero)) number = bucket_number bytes (node key 3)
+next_number bytes key (suc (suc (suc zero))) number = bucket_number bytes (node key 4)
+next_number bytes key (suc (suc (suc (suc chain)))) zero = 0
+next_number bytes key (suc (suc (suc (suc chain)))) (suc bucket) = next_at bytes (bucket_place bucket)
 
 -- bucket + 1 of the bucket at a hop of a key's path, 0 for none
 abbrev pub number_of : List ℕ → ℤ → ℕ → ℕ
-number_of bytes key zero = number_at bytes 0
-number_of bytes key (suc hop) = behind bytes key hop (number_of bytes key hop)
+number_of bytes key zero = bucket_number bytes 0
+number_of bytes key (suc hop) = next_number bytes key hop (number_of bytes key hop)
 
 -- ---- the tree of pairs
 
 -- the bucket at a place holds the first 32 of these pairs, and nothing else
-pub record Holds (bytes : List ℕ) (place : ℕ) (rest : List Pair) : Type 0 where
+pub record HoldsPairs (bytes : List ℕ) (place : ℕ) (rest : List Pair) : Type 0 where
   pub slot : (pair : ℕ) → pair < 32 → pair < length rest
       → slot_at bytes place pair ≡ (get_or rest pair no_pair).slot + 1
   pub key : (pair : ℕ) → pair < 32 → pair < length rest
@@ -65,14 +65,14 @@ pub record IsBucket (bytes : List ℕ) (number : ℕ) (rest : List Pair) : Type 
   pub none : number ≡ 0 → rest ≡ []
   pub some : number ≢ 0 → 0 < length rest
   pub within : number ≢ 0 → bucket_place number ≤ length bytes
-  pub holds : number ≢ 0 → Holds bytes (place_of number) rest
+  pub holds : number ≢ 0 → HoldsPairs bytes (place_of number) rest
 
 -- the file is the hash tree of these pairs
 pub record IsTree (bytes : List ℕ) (ps : List Pair) : Type 0 where
   pub few : length ps ≤ 32768
-  pub size : length bytes ≡ bucket_place (buckets (keys_of ps))
+  pub size : length bytes ≡ bucket_place (buckets (pair_keys ps))
   pub mark : slice_index bytes 682 ≡ 1
   pub each : (key : ℤ) (hop : ℕ)
-      → IsBucket bytes (number_of bytes key hop) (reach (goes key) hop ps)
+      → IsBucket bytes (number_of bytes key hop) (reaching (goes key) hop ps)
   pub upper : (key : ℤ) (hop : ℕ) → hop < 4 → number_of bytes key hop ≢ 0
       → next_at bytes (place_of (number_of bytes key hop)) ≡ 0

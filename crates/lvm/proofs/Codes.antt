@@ -10,11 +10,11 @@ use Rattle.db_model.specs.Item.{selects}
 use Rattle.db_model.specs.Ranges.{range_of}
 use Rattle.db_model.specs.Typing.{first_false, is_attribute, names_of, typings_of}
 use Rattle.lvm.specs.declared.instruction.Instruction.{Instruction}
-use Rattle.lvm.specs.Code.{IsSpelt, IsCodeOf, missing_name, ill_typed, first_refusal, refusal}
+use Rattle.lvm.specs.Code.{IsPostfixOf, IsCodeOf, first_missing_name, first_ill_typed, first_refusal, refusal}
 use Rattle.lvm.specs.Evaluate.{evaluated, verdict}
 use Rattle.lvm.specs.Instruction.{instructions_for, names_among}
-use Rattle.lvm.specs.Kind.{typings}
-use Rattle.lvm.specs.Side.{derived, range_at}
+use Rattle.lvm.specs.Kind.{step_typings}
+use Rattle.lvm.specs.Side.{derived, range_on_top}
 use Rattle.lvm.proofs.Derived.{derived-nodes}
 use Rattle.lvm.proofs.Evaluation.{evaluated-nodes}
 use Rattle.lvm.proofs.Joining.{some_same}
@@ -23,18 +23,18 @@ use Rattle.lvm.proofs.Typed.{typings-nodes}
 
 -- ---- the nodes of a condition
 
-spelt-trees : (nodes : List Node) (o : Option (List Tree)) → joined_all nodes [] ≡ o → IsSome (option_and_then sole_condition o) → IsSpelt nodes (option_and_then sole_condition o)
+spelt-trees : (nodes : List Node) (o : Option (List Tree)) → joined_all nodes [] ≡ o → IsSome (option_and_then sole_condition o) → IsPostfixOf nodes (option_and_then sole_condition o)
 spelt-trees nodes None e h = cc
 spelt-trees nodes (Some []) e h = cc
 spelt-trees nodes (Some (OfExpr x ∷ ts)) e h = cc
 spelt-trees nodes (Some (OfCond c ∷ [])) e h = e
 spelt-trees nodes (Some (OfCond c ∷ t ∷ ts)) e h = cc
 
-pub spelt : (nodes : List Node) → IsCondition nodes → IsSpelt nodes (condition_of nodes)
+pub spelt : (nodes : List Node) → IsCondition nodes → IsPostfixOf nodes (condition_of nodes)
 spelt [] h = refl
 spelt (n ∷ ns) h = spelt-trees (n ∷ ns) (joined_all (n ∷ ns) []) refl h
 
-names-spelt : (nodes : List Node) (condition : Option Cond) → IsSpelt nodes condition → names_among nodes ≡ names_of condition
+names-spelt : (nodes : List Node) (condition : Option Cond) → IsPostfixOf nodes condition → names_among nodes ≡ names_of condition
 names-spelt nodes None s = ap names_among s
 names-spelt nodes (Some c) s = sym (names-nodes nodes [] (OfCond c ∷ []) s)
 
@@ -50,29 +50,29 @@ verdict-code attributes values None code k = subst (λ is. verdict (evaluated is
 verdict-code attributes values (Some c) code k = ap verdict (evaluated-nodes attributes values k.nodes code [] (OfCond c ∷ []) k.spelt k.code_is)
 
 pub range-code : (attributes : List Attribute) (place : ℕ) (condition : Option Cond) (code : List Instruction) → IsCodeOf attributes condition code
-    → range_at (derived place code []) ≡ range_of attributes place condition
-range-code attributes place None code k = subst (λ is. range_at (derived place is []) ≡ range_of attributes place None) (empty-code attributes k.nodes code k.spelt k.code_is) refl
-range-code attributes place (Some c) code k = ap range_at (derived-nodes attributes place k.nodes code [] (OfCond c ∷ []) k.spelt k.code_is)
+    → range_on_top (derived place code []) ≡ range_of attributes place condition
+range-code attributes place None code k = subst (λ is. range_on_top (derived place is []) ≡ range_of attributes place None) (empty-code attributes k.nodes code k.spelt k.code_is) refl
+range-code attributes place (Some c) code k = ap range_on_top (derived-nodes attributes place k.nodes code [] (OfCond c ∷ []) k.spelt k.code_is)
 
 typings-code : (attributes : List Attribute) (condition : Option Cond) (code : List Instruction) → IsCodeOf attributes condition code
-    → typings attributes code [] ≡ typings_of attributes condition
-typings-code attributes None code k = subst (λ is. typings attributes is [] ≡ []) (empty-code attributes k.nodes code k.spelt k.code_is) refl
+    → step_typings attributes code [] ≡ typings_of attributes condition
+typings-code attributes None code k = subst (λ is. step_typings attributes is [] ≡ []) (empty-code attributes k.nodes code k.spelt k.code_is) refl
 typings-code attributes (Some c) code k = sym (typings-nodes attributes k.nodes code [] (OfCond c ∷ []) k.spelt k.code_is)
 
 -- ---- refusals
 
-missing-spelt : (n : ℕ) (attributes : List Attribute) (nodes : List Node) (condition : Option Cond) (o : Option ℕ) → IsSpelt nodes condition
-    → first_false n (map (is_attribute attributes) (names_among nodes)) ≡ o → missing_name n attributes condition ≡ o
+missing-spelt : (n : ℕ) (attributes : List Attribute) (nodes : List Node) (condition : Option Cond) (o : Option ℕ) → IsPostfixOf nodes condition
+    → first_false n (map (is_attribute attributes) (names_among nodes)) ≡ o → first_missing_name n attributes condition ≡ o
 missing-spelt n attributes nodes condition o s e = ap (λ names. first_false n (map (is_attribute attributes) names)) (sym (names-spelt nodes condition s)) ∙ e
 
-pub refused-missing : (n : ℕ) (attributes : List Attribute) (nodes : List Node) (condition : Option Cond) (nth : ℕ) → IsSpelt nodes condition
+pub refused-missing : (n : ℕ) (attributes : List Attribute) (nodes : List Node) (condition : Option Cond) (nth : ℕ) → IsPostfixOf nodes condition
     → first_false n (map (is_attribute attributes) (names_among nodes)) ≡ Some nth → refusal n attributes condition ≡ Some (no.NoAttribute nth)
-refused-missing n attributes nodes condition nth s e = ap (λ o. first_refusal o (ill_typed n attributes condition)) (missing-spelt n attributes nodes condition (Some nth) s e)
+refused-missing n attributes nodes condition nth s e = ap (λ o. first_refusal o (first_ill_typed n attributes condition)) (missing-spelt n attributes nodes condition (Some nth) s e)
 
-pub refused-typed : (n : ℕ) (attributes : List Attribute) (nodes : List Node) (condition : Option Cond) (code : List Instruction) (o : Option ℕ) → IsSpelt nodes condition
+pub refused-typed : (n : ℕ) (attributes : List Attribute) (nodes : List Node) (condition : Option Cond) (code : List Instruction) (o : Option ℕ) → IsPostfixOf nodes condition
     → instructions_for attributes nodes ≡ Some code → first_false n (map (is_attribute attributes) (names_among nodes)) ≡ None
-    → first_false n (typings attributes code []) ≡ o → refusal n attributes condition ≡ first_refusal None o
+    → first_false n (step_typings attributes code []) ≡ o → refusal n attributes condition ≡ first_refusal None o
 refused-typed n attributes nodes condition code o s c e f =
     let k : IsCodeOf attributes condition code = record { nodes = nodes; spelt = s; code_is = c } in
-    let g : ill_typed n attributes condition ≡ o = ap (first_false n) (sym (typings-code attributes condition code k)) ∙ f in
-    ap (λ m. first_refusal m (ill_typed n attributes condition)) (missing-spelt n attributes nodes condition None s e) ∙ ap (first_refusal None) g
+    let g : first_ill_typed n attributes condition ≡ o = ap (first_false n) (sym (typings-code attributes condition code k)) ∙ f in
+    ap (λ m. first_refusal m (first_ill_typed n attributes condition)) (missing-spelt n attributes nodes condition None s e) ∙ ap (first_refusal None) g

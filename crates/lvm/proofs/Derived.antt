@@ -12,7 +12,7 @@ use Rattle.lvm.specs.declared.instruction.Instruction.TheVariants as step
 use Rattle.lvm.specs.declared.side.Side.{Side}
 use Rattle.lvm.specs.declared.side.Side.TheVariants as side
 use Rattle.lvm.specs.Instruction.{instruction_for, instructions_for}
-use Rattle.lvm.specs.Side.{compared, stepped, derived}
+use Rattle.lvm.specs.Side.{compared_range, stepped, derived}
 use Rattle.lvm.proofs.Joining.{by_join, keeps_pace}
 
 -- the side of an attribute
@@ -30,29 +30,29 @@ abbrev pub side_of : List Attribute → ℕ → Tree → Side
 side_of attributes place (OfExpr e) = side_in attributes e
 side_of attributes place (OfCond c) = side.Condition (range attributes place c)
 
-name-number : (how : Compare) (o : Option ℕ) (c : ℤ) (place : ℕ) → compared how (named o) (side.Number c) place ≡ (if is_at o place then compared_to how c else everything)
+name-number : (how : Compare) (o : Option ℕ) (c : ℤ) (place : ℕ) → compared_range how (named o) (side.Number c) place ≡ (if is_at o place then compared_to how c else everything)
 name-number how None c place = refl
 name-number how (Some k) c place = refl
 
-number-name : (how : Compare) (c : ℤ) (o : Option ℕ) (place : ℕ) → compared how (side.Number c) (named o) place ≡ (if is_at o place then compared_to (mirrored how) c else everything)
+number-name : (how : Compare) (c : ℤ) (o : Option ℕ) (place : ℕ) → compared_range how (side.Number c) (named o) place ≡ (if is_at o place then compared_to (mirrored how) c else everything)
 number-name how c None place = refl
 number-name how c (Some k) place = refl
 
-name-other : (how : Compare) (o : Option ℕ) (place : ℕ) → compared how (named o) side.Other place ≡ everything
+name-other : (how : Compare) (o : Option ℕ) (place : ℕ) → compared_range how (named o) side.Other place ≡ everything
 name-other how None place = refl
 name-other how (Some k) place = refl
 
-other-name : (how : Compare) (o : Option ℕ) (place : ℕ) → compared how side.Other (named o) place ≡ everything
+other-name : (how : Compare) (o : Option ℕ) (place : ℕ) → compared_range how side.Other (named o) place ≡ everything
 other-name how None place = refl
 other-name how (Some k) place = refl
 
-name-name : (how : Compare) (o p : Option ℕ) (place : ℕ) → compared how (named o) (named p) place ≡ everything
+name-name : (how : Compare) (o p : Option ℕ) (place : ℕ) → compared_range how (named o) (named p) place ≡ everything
 name-name how None None place = refl
 name-name how None (Some k) place = refl
 name-name how (Some k) None place = refl
 name-name how (Some k) (Some l) place = refl
 
-compared-sides : (attributes : List Attribute) (place : ℕ) (how : Compare) (a b : Expr) → compared how (side_in attributes a) (side_in attributes b) place ≡ range attributes place (Comparison how a b)
+compared-sides : (attributes : List Attribute) (place : ℕ) (how : Compare) (a b : Expr) → compared_range how (side_in attributes a) (side_in attributes b) place ≡ range attributes place (Comparison how a b)
 compared-sides attributes place how (Tip (Number x)) (Tip (Number y)) = refl
 compared-sides attributes place how (Tip (Number x)) (Tip (Text y)) = refl
 compared-sides attributes place how (Tip (Number x)) (Tip (Name y)) = number-name how x (place_of y attributes) place

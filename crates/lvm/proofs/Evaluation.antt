@@ -15,7 +15,7 @@ use Rattle.lvm.specs.declared.instruction.Arithmetic as signs
 use Rattle.lvm.specs.declared.instruction.Instruction.{Instruction}
 use Rattle.lvm.specs.declared.instruction.Instruction.TheVariants as step
 use Rattle.lvm.specs.Instruction.{instruction_for, instructions_for, arithmetic}
-use Rattle.lvm.specs.Evaluate.{item_of, calculation, comparison, stepped, evaluated}
+use Rattle.lvm.specs.Evaluate.{item_of_value, calculation, item_comparison, stepped, evaluated}
 use Rattle.lvm.proofs.Joining.{by_join, keeps_pace}
 
 -- an item of the definitions as one of the stack
@@ -27,7 +27,7 @@ abbrev pub meaning : List Attribute → List Value → Tree → Item
 meaning attributes values (OfExpr e) = stacked (db.item attributes values e)
 meaning attributes values (OfCond c) = item.Truth (db.holds attributes values c)
 
-stacked-value : (v : Option Value) → item_of v ≡ stacked (db.item_of v)
+stacked-value : (v : Option Value) → item_of_value v ≡ stacked (db.item_of v)
 stacked-value None = refl
 stacked-value (Some (value.Number z)) = refl
 stacked-value (Some (value.Text bytes)) = refl
@@ -39,7 +39,7 @@ stacked-calculation s (db.OfNumber (Some x)) (db.OfText bytes) = refl
 stacked-calculation s (db.OfNumber None) y = refl
 stacked-calculation s (db.OfText bytes) y = refl
 
-stacked-comparison : (how : Compare) (x y : db.Item) → comparison how (stacked x) (stacked y) ≡ db.compared how x y
+stacked-comparison : (how : Compare) (x y : db.Item) → item_comparison how (stacked x) (stacked y) ≡ db.compared how x y
 stacked-comparison how (db.OfNumber (Some x)) (db.OfNumber (Some y)) = refl
 stacked-comparison how (db.OfNumber (Some x)) (db.OfNumber None) = refl
 stacked-comparison how (db.OfNumber (Some x)) (db.OfText bytes) = refl

@@ -3,7 +3,7 @@ use Rattle.std.proofs.Common.{◌≡◌, ℕ, List, [], ◌∷◌, ◌++◌, Som
 use Rattle.db_model.specs.declared.commands.Node.{Node}
 use Rattle.db_model.specs.Cond.{Leaf, Number, Text, Attribute as Name, Arithmetic, Plus, Minus, Times, Over, Expr, Tip, Arith, Tree, OfExpr, OfCond, leaf_node, arithmetic_node, joined, joined_all}
 use Rattle.db_model.specs.Typing.{names_in, names}
-use Rattle.lvm.specs.Instruction.{name_in, names_among}
+use Rattle.lvm.specs.Instruction.{names_of_node, names_among}
 use Rattle.lvm.proofs.Joining.{some_same, by_join, Between, between}
 
 abbrev pub names_of_tree : Tree → List (List ℕ)
@@ -16,7 +16,7 @@ all_names [] = []
 all_names (t ∷ ts) = all_names ts ++ names_of_tree t
 
 abbrev Adds : Node → List Tree → List Tree → Type 0
-Adds n ts us = all_names us ≡ all_names ts ++ name_in n
+Adds n ts us = all_names us ≡ all_names ts ++ names_of_node n
 
 leaf-adds : (leaf : Leaf) (ts : List Tree) → Adds (leaf_node leaf) ts (OfExpr (Tip leaf) ∷ ts)
 leaf-adds (Number z) ts = refl
@@ -45,4 +45,4 @@ names-nodes (n ∷ ns) ts us j =
     let b : Between n ns ts us = between n ns ts us j in
     names-nodes ns b.trees us b.others
     ∙ ap (λ xs. xs ++ names_among ns) (node-adds n ts b.trees b.first)
-    ∙ append_assoc (all_names ts) (name_in n) (names_among ns)
+    ∙ append_assoc (all_names ts) (names_of_node n) (names_among ns)

@@ -34,18 +34,18 @@ kind-domain domain.Long = refl
 kind-domain domain.Time = refl
 kind-domain (domain.Str n) = refl
 
-kind-attribute : (o : Option Attribute) → spec.kind_of o ≡ kind_of_sort (option_map db.sort_of (option_map (λ a. a.domain) o))
+kind-attribute : (o : Option Attribute) → spec.attribute_kind o ≡ kind_of_sort (option_map db.sort_of (option_map (λ a. a.domain) o))
 kind-attribute None = refl
 kind-attribute (Some a) = kind-domain a.domain
 
-kind-joined : (a b : Option db.Sort) → spec.joined (kind_of_sort a) (kind_of_sort b) ≡ kind_of_sort (db.joined_sorts a b)
+kind-joined : (a b : Option db.Sort) → spec.joined_kind (kind_of_sort a) (kind_of_sort b) ≡ kind_of_sort (db.joined_sorts a b)
 kind-joined None b = refl
 kind-joined (Some db.Numbers) None = refl
 kind-joined (Some db.Numbers) (Some db.Numbers) = refl
 kind-joined (Some db.Numbers) (Some db.Texts) = refl
 kind-joined (Some db.Texts) b = refl
 
-kind-alike : (a b : Option db.Sort) → spec.are_alike (kind_of_sort a) (kind_of_sort b) ≡ db.are_alike a b
+kind-alike : (a b : Option db.Sort) → spec.are_kinds_alike (kind_of_sort a) (kind_of_sort b) ≡ db.are_alike a b
 kind-alike None None = refl
 kind-alike None (Some b) = refl
 kind-alike (Some db.Numbers) None = refl
@@ -127,9 +127,9 @@ node-adds attributes = by_join (Adds attributes) (leaf-adds attributes) (sign-ad
 -- the typings that the steps of some nodes find are those of the trees
 pub typings-nodes : (attributes : List Attribute) (nodes : List Node) (code : List Instruction) (ts us : List Tree)
     → joined_all nodes ts ≡ Some us → instructions_for attributes nodes ≡ Some code
-    → all_typings attributes us ≡ all_typings attributes ts ++ spec.typings attributes code (map (kind_of_tree attributes) ts)
+    → all_typings attributes us ≡ all_typings attributes ts ++ spec.step_typings attributes code (map (kind_of_tree attributes) ts)
 typings-nodes attributes [] code ts us j c =
-    subst (λ is. all_typings attributes us ≡ all_typings attributes ts ++ spec.typings attributes is (map (kind_of_tree attributes) ts)) (some_same [] code c)
+    subst (λ is. all_typings attributes us ≡ all_typings attributes ts ++ spec.step_typings attributes is (map (kind_of_tree attributes) ts)) (some_same [] code c)
     (ap (all_typings attributes) (sym (some_same ts us j)) ∙ sym (append-nil (all_typings attributes ts)))
 typings-nodes attributes (n ∷ ns) code ts us j c =
     let b : Between n ns ts us = between n ns ts us j in
@@ -139,8 +139,8 @@ typings-nodes attributes (n ∷ ns) code ts us j c =
     at_step (λ i. spec.stepped attributes i kinds ≡ map (kind_of_tree attributes) b.trees) (instruction_for attributes n) k.step k.first (node-step attributes n ts b.trees b.first) in
     let f : all_typings attributes b.trees ≡ all_typings attributes ts ++ spec.typing k.step kinds =
     at_step (λ i. all_typings attributes b.trees ≡ all_typings attributes ts ++ spec.typing i kinds) (instruction_for attributes n) k.step k.first (node-adds attributes n ts b.trees b.first) in
-    let r : all_typings attributes us ≡ all_typings attributes b.trees ++ spec.typings attributes k.rest (map (kind_of_tree attributes) b.trees) = typings-nodes attributes ns k.rest b.trees us b.others k.others in
-    subst (λ is. all_typings attributes us ≡ all_typings attributes ts ++ spec.typings attributes is kinds) k.both
-    (r ∙ ap (λ bs. bs ++ spec.typings attributes k.rest (map (kind_of_tree attributes) b.trees)) f
-    ∙ ap (λ ks. (all_typings attributes ts ++ spec.typing k.step kinds) ++ spec.typings attributes k.rest ks) (sym e)
-    ∙ append_assoc (all_typings attributes ts) (spec.typing k.step kinds) (spec.typings attributes k.rest (spec.stepped attributes k.step kinds)))
+    let r : all_typings attributes us ≡ all_typings attributes b.trees ++ spec.step_typings attributes k.rest (map (kind_of_tree attributes) b.trees) = typings-nodes attributes ns k.rest b.trees us b.others k.others in
+    subst (λ is. all_typings attributes us ≡ all_typings attributes ts ++ spec.step_typings attributes is kinds) k.both
+    (r ∙ ap (λ bs. bs ++ spec.step_typings attributes k.rest (map (kind_of_tree attributes) b.trees)) f
+    ∙ ap (λ ks. (all_typings attributes ts ++ spec.typing k.step kinds) ++ spec.step_typings attributes k.rest ks) (sym e)
+    ∙ append_assoc (all_typings attributes ts) (spec.typing k.step kinds) (spec.step_typings attributes k.rest (spec.stepped attributes k.step kinds)))

@@ -10,23 +10,23 @@ use Rattle.lvm.specs.declared.instruction.Instruction.{Instruction}
 use Rattle.lvm.specs.Instruction.{instructions_for}
 
 -- the nodes are those of a condition, and none where there is none
-abbrev pub IsSpelt : List Node → Option Cond → Type 0
-IsSpelt nodes None = nodes ≡ []
-IsSpelt nodes (Some c) = joined_all nodes [] ≡ Some (OfCond c ∷ [])
+abbrev pub IsPostfixOf : List Node → Option Cond → Type 0
+IsPostfixOf nodes None = nodes ≡ []
+IsPostfixOf nodes (Some c) = joined_all nodes [] ≡ Some (OfCond c ∷ [])
 
 -- the code of a condition over some attributes: the steps of its nodes
 pub record IsCodeOf (attributes : List Attribute) (condition : Option Cond) (code : List Instruction) : Type 0 where
   pub nodes : List Node
-  pub spelt : IsSpelt nodes condition
+  pub spelt : IsPostfixOf nodes condition
   pub code_is : instructions_for attributes nodes ≡ Some code
 
 -- the number of the first name of a condition that is no attribute, where n names come before it
-abbrev pub missing_name : ℕ → List Attribute → Option Cond → Option ℕ
-missing_name n attributes condition = first_false n (map (is_attribute attributes) (names_of condition))
+abbrev pub first_missing_name : ℕ → List Attribute → Option Cond → Option ℕ
+first_missing_name n attributes condition = first_false n (map (is_attribute attributes) (names_of condition))
 
 -- the number of the first comparison that is ill typed, where n parts come before it
-abbrev pub ill_typed : ℕ → List Attribute → Option Cond → Option ℕ
-ill_typed n attributes condition = first_false n (typings_of attributes condition)
+abbrev pub first_ill_typed : ℕ → List Attribute → Option Cond → Option ℕ
+first_ill_typed n attributes condition = first_false n (typings_of attributes condition)
 
 -- a missing name comes before an ill typed comparison
 abbrev pub first_refusal : Option ℕ → Option ℕ → Option Refusal
@@ -36,4 +36,4 @@ first_refusal None None = None
 
 -- how a condition is refused, where n names and parts come before it
 abbrev pub refusal : ℕ → List Attribute → Option Cond → Option Refusal
-refusal n attributes condition = first_refusal (missing_name n attributes condition) (ill_typed n attributes condition)
+refusal n attributes condition = first_refusal (first_missing_name n attributes condition) (first_ill_typed n attributes condition)

@@ -14,19 +14,19 @@ use Rattle.lvm.specs.declared.instruction.Instruction.TheVariants as step
 use Rattle.lvm.specs.Instruction.{arithmetic}
 use Rattle.lvm.specs.Stack.{rest, top_or}
 
-abbrev pub item_of : Option Value → Item
-item_of (Some (value.Number z)) = Number (Some z)
-item_of (Some (value.Text bytes)) = Text bytes
-item_of None = Number None
+abbrev pub item_of_value : Option Value → Item
+item_of_value (Some (value.Number z)) = Number (Some z)
+item_of_value (Some (value.Text bytes)) = Text bytes
+item_of_value None = Number None
 
 abbrev pub calculation : Arithmetic → Item → Item → Item
 calculation sign (Number (Some x)) (Number (Some y)) = Number (calculated (arithmetic sign) x y)
 calculation sign _ _ = Number None
 
-abbrev pub comparison : Compare → Item → Item → Bool
-comparison how (Number (Some x)) (Number (Some y)) = satisfies how (int_cmp x y)
-comparison how (Text x) (Text y) = satisfies how (slice_cmp nat_cmp x y)
-comparison how _ _ = false
+abbrev pub item_comparison : Compare → Item → Item → Bool
+item_comparison how (Number (Some x)) (Number (Some y)) = satisfies how (int_cmp x y)
+item_comparison how (Text x) (Text y) = satisfies how (slice_cmp nat_cmp x y)
+item_comparison how _ _ = false
 
 abbrev pub is_true : Item → Bool
 is_true (Truth b) = b
@@ -41,9 +41,9 @@ top s = top_or (Number None) s
 abbrev pub result_of : Instruction → List Value → List Item → Item
 result_of (step.Number z) values s = Number (Some z)
 result_of (step.Text bytes) values s = Text bytes
-result_of (step.Attribute k) values s = item_of (slice_get values k)
+result_of (step.Attribute k) values s = item_of_value (slice_get values k)
 result_of (step.Calculate sign) values s = calculation sign (top (rest s)) (top s)
-result_of (step.Compare how) values s = Truth (comparison how (top (rest s)) (top s))
+result_of (step.Compare how) values s = Truth (item_comparison how (top (rest s)) (top s))
 result_of step.Not values s = Truth (not (is_true (top s)))
 result_of step.And values s = Truth (is_true (top (rest s)) && is_true (top s))
 result_of step.Or values s = Truth (is_true (top (rest s)) || is_true (top s))

@@ -36,10 +36,10 @@ arithmetic sign.Mul = cond.Times
 arithmetic sign.Div = cond.Over
 
 -- the names among some nodes, from the left
-abbrev pub name_in : Node → List (List ℕ)
-name_in (node.Attribute name) = name ∷ []
-name_in _ = []
+abbrev pub names_of_node : Node → List (List ℕ)
+names_of_node (node.Attribute name) = name ∷ []
+names_of_node _ = []
 
 abbrev pub names_among : List Node → List (List ℕ)
 names_among [] = []
-names_among (n ∷ ns) = name_in n ++ names_among ns
+names_among (n ∷ ns) = names_of_node n ++ names_among ns

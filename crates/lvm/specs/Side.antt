@@ -10,17 +10,17 @@ use Rattle.lvm.specs.declared.side.Side.TheVariants.{Attribute, Number, Conditio
 use Rattle.lvm.specs.Stack.{rest, top_or}
 
 -- the range of a condition, everything for another side
-abbrev pub range_of : Side → Range
-range_of (Condition range) = range
-range_of (Attribute k) = everything
-range_of (Number z) = everything
-range_of Other = everything
+abbrev pub side_range : Side → Range
+side_range (Condition range) = range
+side_range (Attribute k) = everything
+side_range (Number z) = everything
+side_range Other = everything
 
 -- the range of a comparison for the attribute at a place
-abbrev pub compared : Compare → Side → Side → ℕ → Range
-compared how (Attribute k) (Number c) place = if nat_eq k place then compared_to how c else everything
-compared how (Number c) (Attribute k) place = if nat_eq k place then compared_to (mirrored how) c else everything
-compared how _ _ place = everything
+abbrev pub compared_range : Compare → Side → Side → ℕ → Range
+compared_range how (Attribute k) (Number c) place = if nat_eq k place then compared_to how c else everything
+compared_range how (Number c) (Attribute k) place = if nat_eq k place then compared_to (mirrored how) c else everything
+compared_range how _ _ place = everything
 
 -- the side on the top of a stack
 abbrev pub top : List Side → Side
@@ -31,10 +31,10 @@ stepped place (step.Number z) s = Number z ∷ s
 stepped place (step.Text bytes) s = Other ∷ s
 stepped place (step.Attribute k) s = Attribute k ∷ s
 stepped place (step.Calculate sign) s = Other ∷ rest (rest s)
-stepped place (step.Compare how) s = Condition (compared how (top (rest s)) (top s) place) ∷ rest (rest s)
+stepped place (step.Compare how) s = Condition (compared_range how (top (rest s)) (top s) place) ∷ rest (rest s)
 stepped place step.Not s = Condition everything ∷ rest s
-stepped place step.And s = Condition (common (range_of (top (rest s))) (range_of (top s))) ∷ rest (rest s)
-stepped place step.Or s = Condition (spanned (range_of (top (rest s))) (range_of (top s))) ∷ rest (rest s)
+stepped place step.And s = Condition (common (side_range (top (rest s))) (side_range (top s))) ∷ rest (rest s)
+stepped place step.Or s = Condition (spanned (side_range (top (rest s))) (side_range (top s))) ∷ rest (rest s)
 
 -- the stack after some steps
 abbrev pub derived : ℕ → List Instruction → List Side → List Side
@@ -42,5 +42,5 @@ derived place [] s = s
 derived place (i ∷ is) s = derived place is (stepped place i s)
 
 -- everything where there was no step
-abbrev pub range_at : List Side → Range
-range_at s = range_of (top s)
+abbrev pub range_on_top : List Side → Range
+range_on_top s = side_range (top s)

@@ -9,12 +9,12 @@ use Rattle.db_model.specs.Cond.{Cond}
 use Rattle.db_model.specs.Item.{selects}
 use Rattle.db_model.specs.Ranges.{lowest, highest}
 
-abbrev pub IsWithin : Range → ℤ → Type 0
-IsWithin Empty z = ⊥
-IsWithin (Between lo hi) z = (lo ≤ℤ z) × (z ≤ℤ hi)
+abbrev pub IsInRange : Range → ℤ → Type 0
+IsInRange Empty z = ⊥
+IsInRange (Between lo hi) z = (lo ≤ℤ z) × (z ≤ℤ hi)
 
 -- Each tuple that satisfies the condition, and has a number of 64 bits at the place, has it in the range.
 abbrev pub HoldsWithin : List Attribute → Option Cond → ℕ → Range → Type 0
 HoldsWithin attributes condition place range =
     (tuple : List Value) (z : ℤ) → IsTrue (selects attributes condition tuple) → slice_get tuple place ≡ Some (Number z)
-    → lowest ≤ℤ z → z ≤ℤ highest → IsWithin range z
+    → lowest ≤ℤ z → z ≤ℤ highest → IsInRange range z

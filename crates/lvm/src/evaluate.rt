@@ -77,7 +77,7 @@ fn step(instruction: &Instruction, tuple: &Tuple, stack: &mut Stack<Item, 32>)
 
 // The value of the attribute at a place, an undefined number where there is none.
 fn item_at(tuple: &Tuple, at: u8) -> Item
-    ensures { result ≡ spec.item_of (slice_get tuple.now at) }
+    ensures { result ≡ spec.item_of_value (slice_get tuple.now at) }
 {
     if usize::from(at) >= tuple.len() {
         return Item::Number(None);
@@ -98,7 +98,7 @@ fn calculation(sign: Arithmetic, a: &Item, b: &Item) -> Item
 }
 
 fn comparison(how: Compare, a: &Item, b: &Item) -> bool
-    ensures { result ≡ spec.comparison how a.now b.now }
+    ensures { result ≡ spec.item_comparison how a.now b.now }
 {
     match (a, b) {
         (Item::Number(Some(x)), Item::Number(Some(y))) => satisfies(how, x.cmp(y)),

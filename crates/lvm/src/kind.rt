@@ -26,7 +26,7 @@ pub enum Kind {
 pub fn ill_typed(instructions: &[Instruction], attributes: &[Attribute], before: u8) -> Option<u8>
     requires room { length instructions.now ≤ 32 }
     requires few { before ≤ 8 }
-    ensures { result ≡ first_false before (spec.typings attributes.now instructions.now []) }
+    ensures { result ≡ first_false before (spec.step_typings attributes.now instructions.now []) }
 {
     let mut stack = Stack::new();
     let mut parts = before;
@@ -81,7 +81,7 @@ fn is_comparison(instruction: &Instruction) -> bool
 
 // The kind of the attribute at a place.
 fn kind_at(attributes: &[Attribute], at: u8) -> Kind
-    ensures { result ≡ spec.kind_of (slice_get attributes.now at) }
+    ensures { result ≡ spec.attribute_kind (slice_get attributes.now at) }
 {
     if usize::from(at) >= attributes.len() {
         return Kind::Mixed;
@@ -94,7 +94,7 @@ fn kind_at(attributes: &[Attribute], at: u8) -> Kind
 
 // The kind of two expressions under arithmetic.
 fn joined(a: Kind, b: Kind) -> Kind
-    ensures { result ≡ spec.joined a b }
+    ensures { result ≡ spec.joined_kind a b }
 {
     match (a, b) {
         (Kind::Numbers, Kind::Numbers) => Kind::Numbers,
@@ -104,7 +104,7 @@ fn joined(a: Kind, b: Kind) -> Kind
 
 // Whether two expressions may be compared.
 fn are_alike(a: Kind, b: Kind) -> bool
-    ensures { result ≡ spec.are_alike a b }
+    ensures { result ≡ spec.are_kinds_alike a b }
 {
     matches!(
         (a, b),

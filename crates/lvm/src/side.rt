@@ -29,7 +29,7 @@ const EVERYTHING: Range = Range::Between {
 /// The range for the attribute at a place: everything where there is no step.
 pub fn derived(instructions: &[Instruction], place: u8) -> Range
     requires { length instructions.now ≤ 32 }
-    ensures { result ≡ spec.range_at (spec.derived place instructions.now []) }
+    ensures { result ≡ spec.range_on_top (spec.derived place instructions.now []) }
 {
     let mut stack = Stack::new();
     for instruction in instructions {
@@ -74,7 +74,7 @@ fn step(instruction: &Instruction, place: u8, stack: &mut Stack<Side, 32>)
 
 // The range of a condition, everything for another side.
 fn range_of(side: Side) -> Range
-    ensures { result ≡ spec.range_of side }
+    ensures { result ≡ spec.side_range side }
 {
     match side {
         Side::Condition(range) => range,
@@ -84,7 +84,7 @@ fn range_of(side: Side) -> Range
 
 // The range of a comparison for the attribute at a place.
 fn compared(how: Compare, a: Side, b: Side, place: u8) -> Range
-    ensures { result ≡ spec.compared how a b place }
+    ensures { result ≡ spec.compared_range how a b place }
 {
     match (a, b) {
         (Side::Attribute(at), Side::Number(number)) if at == place => compared_to(how, number),

@@ -15,7 +15,7 @@ use Rattle.index_set.specs.Plans.{is_passed, kinds, slots_passed}
 use Rattle.index_set.specs.Walks.{ahead, walk_of}
 use Rattle.cursor.specs.declared.join.JoinCursor.{JoinCursor}
 use Rattle.cursor.specs.Pairs.{lefts_of, matching, rights_of}
-use Rattle.cursor.specs.Remaining.{is_live_and, selected_slots, slots_left}
+use Rattle.cursor.specs.Remaining.{is_live_and, selected_slots, slots_to_answer}
 use Rattle.tuple_file.specs.declared.tuples.Tuples.{Tuples}
 use Rattle.tuple_file.specs.Tuples.{rows}
 use Rattle.session_model.specs.declared.held.Held.{Held}
@@ -42,7 +42,7 @@ kinds_held files held opens k t = ap kinds_of (indexes_seen k t held.indexes) �
 pub select_begun : (files : Table) (o : OpenSelect) (t : Tuples) (infos : List IndexInfo) (condition : Option Cond) → o.cursor.tuples ≡ t
     → walk_of o.cursor.candidates.search ≡ model.walk_of (kinds infos) (plan (kinds infos) (ranges_of t.schema.attributes condition))
     → ahead o.cursor.candidates (rows files t) ≡ slots_passed (kinds infos) (ranges_of t.schema.attributes condition) (length (rows files t)) (rows files t)
-    → slots_left o.cursor (rows files t) ≡ selected_slots t.schema.attributes condition (rows files t)
+    → slots_to_answer o.cursor (rows files t) ≡ selected_slots t.schema.attributes condition (rows files t)
     → ahead_of_select files o ≡ model.select_ahead t.schema.name (kinds infos) (ranges_of t.schema.attributes condition) (relation_of_rows files t) condition
 select_begun files o t infos condition tuples walk slots stops =
     let all : List Row = rows files t in
@@ -50,8 +50,8 @@ select_begun files o t infos condition tuples walk slots stops =
     let ss : ahead o.cursor.candidates (rows files o.cursor.tuples) ≡ model.slots_in (model.takes (kinds infos) (ranges_of t.schema.attributes condition) (plan (kinds infos) (ranges_of t.schema.attributes condition))) all 0 (length all) =
     ap (λ (z : Tuples). ahead o.cursor.candidates (rows files z)) tuples ∙ slots
     ∙ ap (λ (n : ℕ). filter (λ slot. is_passed (kinds infos) (ranges_of t.schema.attributes condition) (get_or all slot no_row)) (range_with_len 0 n)) whole in
-    let ts : slots_left o.cursor (rows files o.cursor.tuples) ≡ model.slots_in (λ row. is_live_and (selects t.schema.attributes condition) row) all 0 (length all) =
-    ap (λ (z : Tuples). slots_left o.cursor (rows files z)) tuples ∙ stops
+    let ts : slots_to_answer o.cursor (rows files o.cursor.tuples) ≡ model.slots_in (λ row. is_live_and (selects t.schema.attributes condition) row) all 0 (length all) =
+    ap (λ (z : Tuples). slots_to_answer o.cursor (rows files z)) tuples ∙ stops
     ∙ ap (λ (n : ℕ). filter (λ slot. is_live_and (selects t.schema.attributes condition) (get_or all slot no_row)) (range_with_len 0 n)) whole in
     λ i. record { source = OfSelect (tuples i).schema.name (walk i); slots = ss i; stops = ts i }
 

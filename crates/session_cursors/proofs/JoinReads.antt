@@ -16,7 +16,7 @@ use Rattle.db_model.specs.Row.{Row, no_row}
 use Rattle.index_set.specs.declared.candidates.Candidates.{Candidates}
 use Rattle.index_set.specs.Plans.{kinds}
 use Rattle.cursor.specs.declared.join.JoinCursor.{JoinCursor}
-use Rattle.cursor.specs.Pairs.{inner_cost, join_cost_ahead, join_cost_behind, lefts_of, pairs_left, right_cost, right_costs}
+use Rattle.cursor.specs.Pairs.{inner_cost, join_cost_ahead, join_cost_behind, lefts_of, pairs_left, right_side_cost, right_side_costs}
 use Rattle.tuple_file.specs.Tuples.{rows}
 use Rattle.session_model.specs.declared.held.OpenJoin.{OpenJoin}
 use Rattle.session_model.specs.Aheads.{ahead_of_join, join_stops}
@@ -105,12 +105,12 @@ costs_append f (x ∷ xs) ys = live_costs f x.live x.tuple (live_tuples xs) (liv
 
 module _ (c : JoinCursor) (lefts rights : List Row) where
   abbrev costs : List Row → ℕ
-  costs = right_costs c rights
+  costs = right_side_costs c rights
 
   split : (m : ℕ) (xs : List Row) → costs xs ≡ costs (take m xs) + costs (drop m xs)
   split m xs =
       ap costs (sym (take-append-drop m xs))
-      ∙ costs_append (λ left. right_cost c.right_indexes c.right_on (slice_get left c.left_on) rights) (take m xs) (drop m xs)
+      ∙ costs_append (λ left. right_side_cost c.right_indexes c.right_on (slice_get left c.left_on) rights) (take m xs) (drop m xs)
 
   -- the cost of all left rows from the one at which it stands
   whole_cost : c.inner ≡ None → join_cost_ahead c lefts rights ≡ 6 * (c.left_slots - c.at + length (pairs_left c lefts rights)) + costs (drop c.at (lefts_of c lefts))

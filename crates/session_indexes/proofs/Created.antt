@@ -19,7 +19,7 @@ use Rattle.index_set.specs.declared.info.Access.{Access}
 use Rattle.index_set.specs.declared.info.Access.TheVariants.{Table as InTable}
 use Rattle.index_set.specs.declared.info.TableId.{TableId}
 use Rattle.index_set.specs.Inserts.{IsElsewhere}
-use Rattle.index_set.specs.Plans.{kind_of}
+use Rattle.index_set.specs.Plans.{access_kind}
 use Rattle.index_set.specs.Tables.{Tables}
 use Rattle.space_model.specs.Enough.{keys_named}
 use Rattle.space_model.specs.FileNames.{asks_in, catalog_file, rows_file, size_in}
@@ -144,7 +144,7 @@ module _ (s0 : State) (before : Tables) (held : Held) (opens : List (Option Open
 
   -- ---- it is made
 
-  module _ (s1 : State) (after : Tables) (access : Access) (made : IsMade s0 s1 before after held.indexes cat t site access) (of_kind : kind_of access ≡ kind) where
+  module _ (s1 : State) (after : Tables) (access : Access) (made : IsMade s0 s1 before after held.indexes cat t site access) (of_kind : access_kind access ≡ kind) where
     new_index : Indexed
     new_index = indexed_for site access
 

@@ -4,13 +4,13 @@ use Rattle.std.specs.Prelude.{nat_le, not, option_map}
 use Rattle.std.proofs.Math.Logic.{⊎_elim}
 use Rattle.std.proofs.lemmas.Bool.Decides.{nat_tests}
 use Rattle.db_model.specs.Catalog.{Index}
-use Rattle.db_model.specs.Database.{is_hash_table, used}
+use Rattle.db_model.specs.Database.{is_hash_table, used_things}
 use Rattle.index_set.specs.declared.info.Access.{Access}
 use Rattle.index_set.specs.declared.info.Access.TheVariants.{Order, Tree, Table}
 use Rattle.index_set.specs.declared.info.TableId.{TableId}
 use Rattle.index_set.specs.declared.info.TableId.TheVariants.{First, Second}
 use Rattle.index_set.specs.Inserts.{IsElsewhere}
-use Rattle.index_set.specs.Plans.{kind_of}
+use Rattle.index_set.specs.Plans.{access_kind}
 use Rattle.session_model.specs.declared.held.Indexed.{Indexed}
 use Rattle.session_model.specs.Indexed.{index_known}
 use Rattle.session_indexes.specs.Made.{IsNobodys}
@@ -28,10 +28,10 @@ count number (None ∷ xs) = count number xs
 count number (Some x ∷ xs) = one number x.access + count number xs
 
 tables_in : List (Option Indexed) → ℕ
-tables_in xs = length (filter is_hash_table (used (map (option_map index_known) xs)))
+tables_in xs = length (filter is_hash_table (used_things (map (option_map index_known) xs)))
 
 sum_at : (access : Access) (r a : ℕ) (rest : List Index)
-    → length (filter is_hash_table (record { kind = kind_of access; relation = r; attribute = a } ∷ rest)) ≡ (one First access + one Second access) + length (filter is_hash_table rest)
+    → length (filter is_hash_table (record { kind = access_kind access; relation = r; attribute = a } ∷ rest)) ≡ (one First access + one Second access) + length (filter is_hash_table rest)
 unfolding one
 sum_at Order r a rest = omega arith
 sum_at (Tree file) r a rest = omega arith
@@ -42,7 +42,7 @@ sum : (xs : List (Option Indexed)) → tables_in xs ≡ count First xs + count S
 unfolding tables_in count
 sum [] = refl
 sum (None ∷ xs) = sum xs
-sum (Some x ∷ xs) = let head = sum_at x.access x.relation x.attribute (used (map (option_map index_known) xs)) in let rest = sum xs in omega (arith, head, rest)
+sum (Some x ∷ xs) = let head = sum_at x.access x.relation x.attribute (used_things (map (option_map index_known) xs)) in let rest = sum xs in omega (arith, head, rest)
 
 -- ---- one table
 
@@ -197,11 +197,11 @@ less_one First xs e h = let a = none_counted First xs e in let b = one_counted S
 less_one Second xs e h = let a = one_counted First xs h in let b = none_counted Second xs e in omega (arith, a, b)
 
 pub tables_few : (xs : List (Option Indexed)) (n : TableId) → free_table xs ≡ Some n → ((i j : ℕ) (x y : Indexed) → i ≢ j → get_or xs i None ≡ Some x → get_or xs j None ≡ Some y → IsElsewhere x.access y.access)
-    → nat_le 2 (length (filter is_hash_table (used (map (option_map index_known) xs)))) ≡ false
+    → nat_le 2 (length (filter is_hash_table (used_things (map (option_map index_known) xs)))) ≡ false
 unfolding tables_in
 tables_few xs n e h = let all = sum xs in let less = less_one n xs (free_is xs n e) h in few_of _ (omega (arith, all, less))
 
-pub tables_full : (xs : List (Option Indexed)) → free_table xs ≡ None → nat_le 2 (length (filter is_hash_table (used (map (option_map index_known) xs)))) ≡ true
+pub tables_full : (xs : List (Option Indexed)) → free_table xs ≡ None → nat_le 2 (length (filter is_hash_table (used_things (map (option_map index_known) xs)))) ≡ true
 unfolding tables_in
 tables_full xs e =
     let both = none_by (is_table_taken First xs) (is_table_taken Second xs) e in

@@ -9,10 +9,10 @@ use Rattle.afl_base.specs.Keys.{first_keys}
 use Rattle.db_model.specs.HashTree.{buckets}
 use Rattle.db_model.specs.Row.{Row, no_row, row_at}
 use Rattle.db_model.specs.Step.{keys}
-use Rattle.index_maxheap.specs.Builds.{OnlyDraftChanges}
+use Rattle.index_maxheap.specs.Builds.{HasOtherDraft}
 use Rattle.index_set.specs.declared.info.Access.TheVariants.{Order}
 use Rattle.index_set.specs.declared.info.IndexInfo.{IndexInfo}
-use Rattle.index_set.specs.Complete.{key_in}
+use Rattle.index_set.specs.Complete.{key_at_place}
 use Rattle.index_set.proofs.Fronts.{keys_whole}
 use Rattle.index_tree.specs.Trees.{IsTreeOf}
 use Rattle.space_model.specs.Enough.{tree_size}
@@ -31,7 +31,7 @@ module _ (state : State) (t : Tuples) (p : ℕ) (number : IsNumber t.schema.attr
       (λ slot below.
       let inside : slot < slots state.files t = omega (arith, count_rows state.files t) in
       column_key state t p slot number holds told inside
-      ∙ ap (λ (z : Row). key_in p z) (sym (get_or-map-range_with_len (row_at t.schema.attributes (bytes_at state.files t.file)) 0 (slots state.files t) slot slot no_row inside (omega arith))))
+      ∙ ap (λ (z : Row). key_at_place p z) (sym (get_or-map-range_with_len (row_at t.schema.attributes (bytes_at state.files t.file)) 0 (slots state.files t) slot slot no_row inside (omega arith))))
 
   pub keys_by : (column : KeyColumn) (n : ℕ) → column ≡ column_of t p → n ≡ slots state.files t → first_keys (key_of state column) n ≡ keys p (rows state.files t)
   keys_by column n is many = ap (λ (c : KeyColumn). first_keys (key_of state c) n) is ∙ ap (λ (m : ℕ). first_keys (key_of state (column_of t p)) m) many ∙ column_keys
@@ -44,7 +44,7 @@ tree_sized ks ls b size need same is sum asked =
 key_same : (a b : State) (column : KeyColumn) (n : ℕ) → b.files ≡ a.files → first_keys (key_of b column) n ≡ first_keys (key_of a column) n
 key_same a b column n same = ap (λ (files : Table). first_keys (key_of (record { tells = true; files = files; draft = None; store = [] }) column) n) same
 
-pub drafted : (s0 s1 s2 s3 : State) (name : List ℕ) (size : ℕ) (zeros : List ℕ) (column : KeyColumn) (n : ℕ) (ks : List ℤ) → s1 ≡ s0 → Drafts s1 s2 name size zeros → OnlyDraftChanges s2 s3
+pub drafted : (s0 s1 s2 s3 : State) (name : List ℕ) (size : ℕ) (zeros : List ℕ) (column : KeyColumn) (n : ℕ) (ks : List ℤ) → s1 ≡ s0 → Drafts s1 s2 name size zeros → HasOtherDraft s2 s3
     → (IsTrue s2.tells → IsTreeOf (draft_in s3).bytes (first_keys (key_of s2 column) n)) → (IsTrue s0.tells → first_keys (key_of s0 column) n ≡ ks) → DraftsTree s0 s3 name ks
 drafted s0 s1 s2 s3 name size zeros column n ks same d only tree is =
     let e = only.1 in

@@ -12,7 +12,7 @@ use Rattle.db_model.specs.declared.refusals.Pool.TheVariants as pool
 use Rattle.db_model.specs.declared.refusals.Refusal.TheVariants as no
 use Rattle.db_model.specs.declared.schemas.IndexKind.TheVariants.{MemHash}
 use Rattle.db_model.specs.Catalog.{Index}
-use Rattle.db_model.specs.Database.{is_hash_table, used}
+use Rattle.db_model.specs.Database.{is_hash_table, used_things}
 use Rattle.db_model.specs.Row.{Row}
 use Rattle.db_model.specs.Step.{key_of}
 use Rattle.index_set.specs.declared.info.TableId.{TableId}
@@ -34,7 +34,7 @@ short_keys : (n : ℕ) → n ≤ 2048 → nat_lt 2048 n ≡ false
 short_keys n h = grind (arith, nat_tests)
 
 abbrev tables_in : List (Option Index) → ℕ
-tables_in indexes = length (filter is_hash_table (used indexes))
+tables_in indexes = length (filter is_hash_table (used_things indexes))
 
 module _ (xs : List (Option Indexed)) (ks : List ℤ) where
   pub tried_full : free_table xs ≡ None → IsTried MemHash xs ks (Err (no.Full pool.HashTables 2))

@@ -14,7 +14,7 @@ use Rattle.index_set.specs.declared.info.Access.TheVariants.{Table}
 use Rattle.index_set.specs.declared.info.TableId.{TableId}
 use Rattle.index_set.specs.Complete.{IsComplete, IsHeld}
 use Rattle.index_set.specs.Inserts.{IsElsewhere}
-use Rattle.index_set.specs.Plans.{kind_of}
+use Rattle.index_set.specs.Plans.{access_kind}
 use Rattle.index_set.specs.Tables.{Tables, entries}
 use Rattle.space_model.specs.Enough.{tree_size}
 use Rattle.space_model.specs.FileNames.{rows_file, tree_file}
@@ -66,7 +66,7 @@ IsNobodys number xs = (j : ℕ) (y : Indexed) → get_or xs j None ≡ Some y �
 -- the index stands in its slot of the catalog, and is complete
 pub record IsMade (old new : State) (before after : Tables) (xs : List (Option Indexed)) (cat : ℕ) (t : Tuples) (site : Site) (access : Access) : Type 0 where
   pub leaves : LeavesOthers old new (tree_file site.slot)
-  pub bytes : HasBytes old new cat (bytes_for old cat site (kind_of access))
+  pub bytes : HasBytes old new cat (bytes_for old cat site (access_kind access))
   pub idle : new.draft ≡ None
   pub file : HasFile new.files site.slot access
   pub held : IsHeld new after (slots new.files t) access

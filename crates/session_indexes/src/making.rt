@@ -9,7 +9,7 @@ ghost use Rattle.afl_base.specs.FileErrors.{HasFileCause, OnSpace, UnlessFailed}
 ghost use Rattle.afl_base.specs.Files.{KeepsBytes};
 ghost use Rattle.db_model.specs.Step.{first_fall, keys};
 ghost use Rattle.db_model.specs.declared.schemas.IndexKind.TheVariants.{Inline, MaxHeap, MemHash};
-ghost use Rattle.index_set.specs.Plans.{kind_of};
+ghost use Rattle.index_set.specs.Plans.{access_kind};
 ghost use Rattle.index_set.specs.Tables.{Tables as AnyTables};
 ghost use Rattle.session_model.specs.Indexed.{IsAllowedAt};
 ghost use Rattle.session_model.specs.declared.held.Indexed.{Indexed as AnyIndexed};
@@ -55,7 +55,7 @@ fn make_order<V: Files>(
     ensures made { let old = V.state files.old in let new = V.state files.new in
         IfOk result (λ r. IfOk r (λ access. (tables : AnyTables) (xs : List (Option AnyIndexed))
         → IsMade old new tables tables xs cat tuples.now site.now access)) }
-    ensures kind { IfOk result (λ r. IfOk r (λ access. kind_of access ≡ Inline)) }
+    ensures kind { IfOk result (λ r. IfOk r (λ access. access_kind access ≡ Inline)) }
     ensures tried { let old = V.state files.old in let ks = keys_at old tuples.now site.now in
         IsTrue old.tells → IfOk result (λ r.
         (xs : List (Option AnyIndexed)) → IsTried Inline xs ks r) }
@@ -93,7 +93,7 @@ fn make_tree<V: Files>(
     ensures made { let old = V.state files.old in let new = V.state files.new in
         IfOk result (λ r. IfOk r (λ access. (tables : AnyTables) (xs : List (Option AnyIndexed))
         → IsMade old new tables tables xs cat tuples.now site.now access)) }
-    ensures kind { IfOk result (λ r. IfOk r (λ access. kind_of access ≡ MaxHeap)) }
+    ensures kind { IfOk result (λ r. IfOk r (λ access. access_kind access ≡ MaxHeap)) }
     ensures tried { let ks = keys_at (V.state files.old) tuples.now site.now in
         IfOk result (λ r. (xs : List (Option AnyIndexed)) → IsTried MaxHeap xs ks r) }
     ensures unrefused { let ks = keys_at (V.state files.old) tuples.now site.now in
@@ -128,7 +128,7 @@ fn make_table<V: Files>(
     ensures made { let old = V.state files.old in let new = V.state files.new in
         IfOk result (λ r. IfOk r (λ access.
         IsMade old new tables.old tables.new indexes.now cat tuples.now site.now access)) }
-    ensures kind { IfOk result (λ r. IfOk r (λ access. kind_of access ≡ MemHash)) }
+    ensures kind { IfOk result (λ r. IfOk r (λ access. access_kind access ≡ MemHash)) }
     ensures tried { let ks = keys_at (V.state files.old) tuples.now site.now in
         IfOk result (λ r. IsTried MemHash indexes.now ks r) }
     ensures unrefused { let ks = keys_at (V.state files.old) tuples.now site.now in
@@ -181,7 +181,7 @@ pub fn make_index<V: Files>(
     ensures made { let old = V.state files.old in let new = V.state files.new in
         IfOk result (λ r. IfOk r (λ access.
         IsMade old new tables.old tables.new held.now.indexes cat tuples.now site.now access)) }
-    ensures kind { IfOk result (λ r. IfOk r (λ access. kind_of access ≡ kind)) }
+    ensures kind { IfOk result (λ r. IfOk r (λ access. access_kind access ≡ kind)) }
     ensures tried { let old = V.state files.old in let ks = keys_at old tuples.now site.now in
         IsTrue old.tells → IfOk result (λ r. IsTried kind held.now.indexes ks r) }
     ensures unrefused { let old = V.state files.old in let ks = keys_at old tuples.now site.now in

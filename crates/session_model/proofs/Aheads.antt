@@ -12,7 +12,7 @@ use Rattle.index_set.proofs.Grown.{ahead_kept}
 use Rattle.session_model.proofs.Kept.{ahead_none, side_kept, slots_left_kept}
 use Rattle.cursor.specs.declared.join.JoinCursor.{JoinCursor}
 use Rattle.cursor.specs.Pairs.{matching}
-use Rattle.cursor.specs.Remaining.{is_live_and, passes, slots_left}
+use Rattle.cursor.specs.Remaining.{is_live_and, passes_code, slots_to_answer}
 use Rattle.space_model.specs.FileNames.{catalog_file, rows_file, tree_file}
 use Rattle.tuple_file.specs.declared.tuples.Tuples.{Tuples}
 use Rattle.tuple_file.specs.Tuples.{rows}
@@ -50,8 +50,8 @@ ahead_stays old new held (Select o) told h grow =
     let was = ahead_none o.cursor.candidates (rows old.files o.cursor.tuples) none in
     let is = ahead_none o.cursor.candidates (rows new.files o.cursor.tuples) none in
     made (is ∙ sym was)
-    (ap (filter (λ slot. is_live_and (passes o.cursor.code) (get_or (rows new.files o.cursor.tuples) slot no_row))) is
-    ∙ sym (ap (filter (λ slot. is_live_and (passes o.cursor.code) (get_or (rows old.files o.cursor.tuples) slot no_row))) was)))
+    (ap (filter (λ slot. is_live_and (passes_code o.cursor.code) (get_or (rows new.files o.cursor.tuples) slot no_row))) is
+    ∙ sym (ap (filter (λ slot. is_live_and (passes_code o.cursor.code) (get_or (rows old.files o.cursor.tuples) slot no_row))) was)))
     (λ some.
     let is = h.goes_on some in
     let g = grow is.slot o.cursor.tuples (some, refl) is.there in
@@ -60,7 +60,7 @@ ahead_stays old new held (Select o) told h grow =
     (none_or_some o.cursor.candidates.slots)
   where
     made : ahead o.cursor.candidates (rows new.files o.cursor.tuples) ≡ ahead o.cursor.candidates (rows old.files o.cursor.tuples)
-        → slots_left o.cursor (rows new.files o.cursor.tuples) ≡ slots_left o.cursor (rows old.files o.cursor.tuples)
+        → slots_to_answer o.cursor (rows new.files o.cursor.tuples) ≡ slots_to_answer o.cursor (rows old.files o.cursor.tuples)
         → ahead_in new.files (Select o) ≡ ahead_in old.files (Select o)
     made a b = λ i. record { source = OfSelect o.cursor.tuples.schema.name (walk_of o.cursor.candidates.search); slots = a i; stops = b i }
 ahead_stays old new held (Join o) told h grow =

@@ -2,7 +2,7 @@
 use Rattle.std.proofs.Common.{◌≡◌, ◌≢◌, ℕ, ◌*◌, ◌≤◌, List, [], ◌∷◌, ◌++◌, length, Option, unwrap_or, ap, sym, ◌∙◌, subst, IsTrue, ◌/◌, ℤ}
 use Rattle.std.proofs.lemmas.List.FromFn.{length-map-range_with_len}
 use Rattle.afl_base.specs.Files.{File, State, Table, bytes_at, no_file}
-use Rattle.afl_base.specs.Frames.{Prepares, Spares}
+use Rattle.afl_base.specs.Frames.{Prepares, SparesOthers}
 use Rattle.afl_base.proofs.FrameLaws.{live_by_name}
 use Rattle.db_model.specs.Step.{keys}
 use Rattle.db_model.specs.Row.{Row, row_length, row_at, rows_bytes, rows_of}
@@ -37,7 +37,7 @@ holds_prepared a b P t f h =
 
 -- ---- indexes
 
-pub held_spared : (a b : State) (P : ℕ → Type 0) (tables : Tables) (n : ℕ) (infos : List IndexInfo) → Spares a b P → AreHeld a tables n infos → AreHeld b tables n infos
+pub held_spared : (a b : State) (P : ℕ → Type 0) (tables : Tables) (n : ℕ) (infos : List IndexInfo) → SparesOthers a b P → AreHeld a tables n infos → AreHeld b tables n infos
 held_spared a b P tables n [] f h = h
 held_spared a b P tables n (info ∷ infos) f h = (one info.access h.0, held_spared a b P tables n infos f h.1)
   where
@@ -57,7 +57,7 @@ module _ (a b : State) (id : ℕ) (same : (k : ℕ) → k ≢ id → bytes_at b.
       one ks (Tree file) apart h = let P : List ℕ → Type 0 = λ bytes. IsTreeOf bytes ks in subst P (sym (same file (λ e. apart (sym e)))) h
       one ks (InTable number) apart h = h
 
-pub bytes_spared : (a b : State) (id : ℕ) → Spares a b (λ k. k ≢ id) → (k : ℕ) → k ≢ id → bytes_at b.files k ≡ bytes_at a.files k
+pub bytes_spared : (a b : State) (id : ℕ) → SparesOthers a b (λ k. k ≢ id) → (k : ℕ) → k ≢ id → bytes_at b.files k ≡ bytes_at a.files k
 bytes_spared a b id f k other = ap (λ (o : Option File). (unwrap_or o no_file).bytes) (f.others k other)
 
 pub count_rows : (files : Table) (t : Tuples) → length (rows files t) ≡ slots files t
@@ -65,7 +65,7 @@ count_rows files t = length-map-range_with_len (row_at t.schema.attributes (byte
 
 -- a row was put behind the others, and its keys into the indexes
 pub complete_added : (a b c : State) (tables after : Tables) (t : Tuples) (infos : List IndexInfo) (row : Row) → IsNoTree infos t.file
-    → Spares b c (IsNoTree infos) → rows b.files t ≡ rows a.files t ++ row ∷ []
+    → SparesOthers b c (IsNoTree infos) → rows b.files t ≡ rows a.files t ++ row ∷ []
     → AreComplete c after (rows a.files t ++ row ∷ []) infos → AreComplete c after (rows c.files t) infos
 complete_added a b c tables after t infos row away f added h =
     let same : rows c.files t ≡ rows b.files t = ap (λ (o : Option File). rows_of t.schema.attributes (unwrap_or o no_file).bytes) (f.others t.file away) in

@@ -7,7 +7,7 @@ use Rattle.db_model.specs.declared.schemas.IndexKind.{IndexKind}
 use Rattle.db_model.specs.Row.{Row, row_length, rows_bytes}
 use Rattle.db_model.specs.Step.{keys}
 use Rattle.index_set.specs.Complete.{IsComplete}
-use Rattle.index_set.specs.Plans.{kind_of}
+use Rattle.index_set.specs.Plans.{access_kind}
 use Rattle.index_set.specs.Tables.{Tables}
 use Rattle.space_model.specs.FileNames.{rows_file}
 use Rattle.tuple_file.specs.declared.tuples.Tuples.{Tuples}
@@ -92,8 +92,8 @@ module _ (old new : State) (tables : Tables) (held : Held) (opens : List (Option
       let R : List Row → Type 0 = λ all. IsComplete new tables y.access (keys y.attribute all) in
       record {
         place = d.place;
-        allowed = let P : List Attribute → Type 0 = λ attributes. IsAllowedAt attributes y.attribute (kind_of y.access) in
-            subst P (sym more) (allowed_more t.schema.attributes a y.attribute (kind_of y.access) d.allowed);
+        allowed = let P : List Attribute → Type 0 = λ attributes. IsAllowedAt attributes y.attribute (access_kind y.access) in
+            subst P (sym more) (allowed_more t.schema.attributes a y.attribute (access_kind y.access) d.allowed);
         held = kept_held old new tables tables held opens r (rows_file k) l j (slots old.files t) (slots new.files s) y.access (λ same. row_no_tree k j (sym same)) (λ number at. refl) d.file no d.held;
         file = kept_file old new tables tables held opens r (rows_file k) l j y.access (λ same. row_no_tree k j (sym same)) d.file;
         complete = λ told. subst R (was ∙ sym is)

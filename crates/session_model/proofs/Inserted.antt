@@ -2,7 +2,7 @@
 use Rattle.std.proofs.Common.{◌≡◌, ℕ, ◌+◌, ◌<◌, List, [], ◌∷◌, ◌++◌, length, get_or, Option, Some, None, refl, ap, sym, ◌∙◌, subst, arith, IsTrue, length-append}
 use Rattle.std.proofs.lemmas.List.{get_or_append_left}
 use Rattle.afl_base.specs.Files.{State}
-use Rattle.afl_base.specs.Frames.{Prepares, Spares}
+use Rattle.afl_base.specs.Frames.{Prepares, SparesOthers}
 use Rattle.db_model.specs.Row.{Row, no_row}
 use Rattle.db_model.specs.Step.{slots_limit}
 use Rattle.index_set.specs.declared.info.IndexInfo.{IndexInfo}
@@ -33,7 +33,7 @@ grows_same old new e = record { more = omega (arith, ap (λ (rs : List Row). len
 
 -- what an insert makes of the files and tables, for the session
 pub insert_made : (old new : State) (before after : Tables) (held : Held) (opens : List (Option Open)) (k : ℕ) (t : Tuples) (row : Row) → IsRunning old before held opens → get_or held.relations k None ≡ Some t
-    → slots old.files t < slots_limit held.version → Spares old new (StaysAt t.file (infos_of k t held.indexes)) → KeepsTables before after (infos_of k t held.indexes)
+    → slots old.files t < slots_limit held.version → SparesOthers old new (StaysAt t.file (infos_of k t held.indexes)) → KeepsTables before after (infos_of k t held.indexes)
     → HoldsRows new t → slots new.files t ≡ slots old.files t + 1 → (IsTrue old.tells → rows new.files t ≡ rows old.files t ++ row ∷ [])
     → AreHeld new after (slots new.files t) (infos_of k t held.indexes) → (IsTrue old.tells → AreComplete new after (rows new.files t) (infos_of k t held.indexes))
     → RowsCome old new before after held opens k t

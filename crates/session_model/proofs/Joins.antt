@@ -5,7 +5,7 @@ use Rattle.std.specs.List.{AllByRecursion}
 use Rattle.afl_base.specs.Files.{State}
 use Rattle.index_set.specs.declared.candidates.Candidates.{Candidates}
 use Rattle.index_set.specs.declared.info.IndexInfo.{IndexInfo}
-use Rattle.index_set.specs.Complete.{AreIndexesOf, AreReadable, IsIndexOf, IsReadable}
+use Rattle.index_set.specs.Complete.{AreIndexesOf, AreReadable, IsInfoOf, IsReadable}
 use Rattle.index_set.specs.Tables.{Tables}
 use Rattle.cursor.specs.declared.join.JoinCursor.{JoinCursor}
 use Rattle.cursor.specs.Pairs.{FitsInner, FitsPairs, HasAhead, HasSlots, IsSafeInner, MayReadPairs, belongs}
@@ -66,9 +66,9 @@ module _ (state : State) (tables : Tables) (held : Held) (opens : List (Option O
   readable k n there few [] h = tt
   readable k n there few (info ∷ infos) h = (one_readable k n there few info h.0, readable k n there few infos h.1)
 
-  one_index : (k : ℕ) → get_or held.relations k None ≡ Some c.right → IsTrue state.tells → (info : IndexInfo) → StandsAs held k c.right info → IsIndexOf state tables (rows state.files c.right) info
+  one_index : (k : ℕ) → get_or held.relations k None ≡ Some c.right → IsTrue state.tells → (info : IndexInfo) → StandsAs held k c.right info → IsInfoOf state tables (rows state.files c.right) info
   one_index k there told info s =
-      subst (IsIndexOf state tables (rows state.files c.right)) (sym s.is)
+      subst (IsInfoOf state tables (rows state.files c.right)) (sym s.is)
       (index_complete state tables s.slot s.index c.right (relation_there state tables held opens r k c.right there).holds told (on_relation state tables held opens r k c.right there s.slot s.index s.there s.relation))
 
   indexes_right : (k : ℕ) → get_or held.relations k None ≡ Some c.right → IsTrue state.tells → (infos : List IndexInfo) → AllByRecursion (StandsAs held k c.right) infos → AreIndexesOf state tables (rows state.files c.right) infos

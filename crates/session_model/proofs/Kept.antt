@@ -4,10 +4,10 @@ use Rattle.std.specs.List.{range_with_len}
 use Rattle.db_model.specs.declared.values.Value.{Value}
 use Rattle.db_model.specs.Row.{Row, no_row}
 use Rattle.index_set.specs.declared.candidates.Candidates.{Candidates}
-use Rattle.index_set.specs.Walks.{RowsGrow, Waits, ahead, takes}
+use Rattle.index_set.specs.Walks.{RowsGrow, Waits, ahead, search_takes}
 use Rattle.index_set.proofs.Grown.{ahead_kept}
 use Rattle.cursor.specs.Pairs.{matching, pairs_left}
-use Rattle.cursor.specs.Remaining.{is_live_and, passes, remaining, slots_left, tuples_at}
+use Rattle.cursor.specs.Remaining.{is_live_and, passes_code, remaining, slots_to_answer, tuples_at}
 use Rattle.cursor.specs.declared.join.JoinCursor.{JoinCursor}
 use Rattle.cursor.specs.declared.select.SelectCursor.{SelectCursor}
 
@@ -45,18 +45,18 @@ reads_same p q f g a (suc n) m h same =
 
 -- ---- cursors of one relation
 
-pub slots_left_kept : (c : SelectCursor) (old new : List Row) → RowsGrow old new → Waits c.candidates old → slots_left c new ≡ slots_left c old
+pub slots_left_kept : (c : SelectCursor) (old new : List Row) → RowsGrow old new → Waits c.candidates old → slots_to_answer c new ≡ slots_to_answer c old
 slots_left_kept c old new grow w =
-    ap (filter (λ slot. is_live_and (passes c.code) (get_or new slot no_row))) (ahead_kept c.candidates old new grow w)
-    ∙ filters_same (λ slot. takes c.candidates.search (get_or old slot no_row))
-    (λ slot. is_live_and (passes c.code) (get_or new slot no_row)) (λ slot. is_live_and (passes c.code) (get_or old slot no_row))
+    ap (filter (λ slot. is_live_and (passes_code c.code) (get_or new slot no_row))) (ahead_kept c.candidates old new grow w)
+    ∙ filters_same (λ slot. search_takes c.candidates.search (get_or old slot no_row))
+    (λ slot. is_live_and (passes_code c.code) (get_or new slot no_row)) (λ slot. is_live_and (passes_code c.code) (get_or old slot no_row))
     c.candidates.from (c.candidates.slots - c.candidates.from) (length old) (omega (arith, w.few, c.candidates.order, c.candidates.within))
-    (λ i below. ap (is_live_and (passes c.code)) (grow.same i below))
+    (λ i below. ap (is_live_and (passes_code c.code)) (grow.same i below))
 
 pub remaining_kept : (c : SelectCursor) (old new : List Row) → RowsGrow old new → Waits c.candidates old → remaining c new ≡ remaining c old
 remaining_kept c old new grow w =
     ap (λ (slots : List ℕ). tuples_at slots new) (slots_left_kept c old new grow w)
-    ∙ reads_same (λ slot. takes c.candidates.search (get_or old slot no_row)) (λ slot. is_live_and (passes c.code) (get_or old slot no_row))
+    ∙ reads_same (λ slot. search_takes c.candidates.search (get_or old slot no_row)) (λ slot. is_live_and (passes_code c.code) (get_or old slot no_row))
     (λ slot. (get_or new slot no_row).tuple) (λ slot. (get_or old slot no_row).tuple)
     c.candidates.from (c.candidates.slots - c.candidates.from) (length old) (omega (arith, w.few, c.candidates.order, c.candidates.within))
     (λ i below. ap (λ (row : Row). row.tuple) (grow.same i below))
@@ -64,11 +64,11 @@ remaining_kept c old new grow w =
 pub ahead_none : (c : Candidates) (all : List Row) → c.slots ≡ 0 → ahead c all ≡ []
 ahead_none c all e =
     let few : c.slots - c.from ≡ 0 = omega (arith, e) in
-    ap (λ (n : ℕ). filter (λ slot. takes c.search (get_or all slot no_row)) (range_with_len c.from n)) few
+    ap (λ (n : ℕ). filter (λ slot. search_takes c.search (get_or all slot no_row)) (range_with_len c.from n)) few
 
 pub remaining_none : (c : SelectCursor) (all : List Row) → c.candidates.slots ≡ 0 → remaining c all ≡ []
 remaining_none c all e =
-    ap (λ (slots : List ℕ). tuples_at (filter (λ slot. is_live_and (passes c.code) (get_or all slot no_row)) slots) all) (ahead_none c.candidates all e)
+    ap (λ (slots : List ℕ). tuples_at (filter (λ slot. is_live_and (passes_code c.code) (get_or all slot no_row)) slots) all) (ahead_none c.candidates all e)
 
 -- ---- cursors of two relations
 

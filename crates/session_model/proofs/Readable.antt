@@ -17,9 +17,9 @@ use Rattle.index_set.specs.declared.candidates.Search.TheVariants as by
 use Rattle.index_set.specs.declared.info.Access.{Access}
 use Rattle.index_set.specs.declared.info.Access.TheVariants.{Order, Tree, Table as InTable}
 use Rattle.index_set.specs.declared.info.IndexInfo.{IndexInfo}
-use Rattle.index_set.specs.Complete.{AreIndexesOf, AreReadable, HasTree, IsHeld, IsIndexOf, IsNarrowFor, IsReadable, key_in}
+use Rattle.index_set.specs.Complete.{AreIndexesOf, AreReadable, HasTree, IsHeld, IsInfoOf, IsNarrowFor, IsReadable, key_at_place}
 use Rattle.index_set.specs.Inserts.{SomeOf}
-use Rattle.index_set.specs.Plans.{kind_of}
+use Rattle.index_set.specs.Plans.{access_kind}
 use Rattle.index_set.specs.Tables.{Tables}
 use Rattle.index_set.specs.Walks.{IsChosen}
 use Rattle.cursor.specs.Remaining.{AreOnNumbers}
@@ -59,7 +59,7 @@ hash_narrow Long e = omega arith
 hash_narrow Time e = absurd (cc)
 hash_narrow (Str n) e = absurd (cc)
 
-narrow_at : (access : Access) (o : Option Attribute) → option_map_or (λ (a : Attribute). allows (kind_of access) a.domain) o false ≡ true → IsNarrowFor (option_map_or (λ (a : Attribute). width a.domain) o 0) access
+narrow_at : (access : Access) (o : Option Attribute) → option_map_or (λ (a : Attribute). allows (access_kind access) a.domain) o false ≡ true → IsNarrowFor (option_map_or (λ (a : Attribute). width a.domain) o 0) access
 narrow_at Order o e = tt
 narrow_at (Tree file) None e = absurd (cc)
 narrow_at (Tree file) (Some a) e = heap_narrow a.domain e
@@ -74,7 +74,7 @@ tree_there state tables n (Tree file) h = h.0
 tree_there state tables n (InTable number) h = tt
 
 pub index_number : (state : State) (tables : Tables) (i : ℕ) (x : Indexed) (t : Tuples) → IsIndexed state tables i x t → IsNumber t.schema.attributes x.attribute
-index_number state tables i x t d = number_at (kind_of x.access) (slice_get t.schema.attributes x.attribute) d.allowed
+index_number state tables i x t d = number_at (access_kind x.access) (slice_get t.schema.attributes x.attribute) d.allowed
 
 pub index_readable : (state : State) (tables : Tables) (i : ℕ) (x : Indexed) (t : Tuples) (n : ℕ) → n ≤ slots state.files t → HoldsRows state t → IsIndexed state tables i x t → IsReadable state n (info_of t x)
 index_readable state tables i x t n few holds d =
@@ -87,14 +87,14 @@ index_readable state tables i x t n few holds d =
       tree = tree_there state tables _ x.access d.held;
     }
 
-pub index_complete : (state : State) (tables : Tables) (i : ℕ) (x : Indexed) (t : Tuples) → HoldsRows state t → IsTrue state.tells → IsIndexed state tables i x t → IsIndexOf state tables (rows state.files t) (info_of t x)
+pub index_complete : (state : State) (tables : Tables) (i : ℕ) (x : Indexed) (t : Tuples) → HoldsRows state t → IsTrue state.tells → IsIndexed state tables i x t → IsInfoOf state tables (rows state.files t) (info_of t x)
 index_complete state tables i x t holds told d =
     let number = index_number state tables i x t d in
     record {
       column = λ slot below.
           let inside : slot < slots state.files t = omega (arith, count_rows state.files t) in
           column_key state t x.attribute slot number holds told inside
-          ∙ ap (λ (z : Row). key_in x.attribute z) (sym (get_or-map-range_with_len (row_at t.schema.attributes (bytes_at state.files t.file)) 0 (slots state.files t) slot slot no_row inside (omega arith)));
+          ∙ ap (λ (z : Row). key_at_place x.attribute z) (sym (get_or-map-range_with_len (row_at t.schema.attributes (bytes_at state.files t.file)) 0 (slots state.files t) slot slot no_row inside (omega arith)));
       complete = d.complete told;
     }
 
@@ -112,7 +112,7 @@ module _ (state : State) (tables : Tables) (held : Held) (opens : List (Option O
       (λ i x e rel. index_readable state tables i x t n few (relation_there state tables held opens r k t there).holds (on_relation state tables held opens r k t there i x e rel))
 
   pub are_indexes : IsTrue state.tells → AreIndexesOf state tables (rows state.files t) (infos_of k t held.indexes)
-  are_indexes told = all_of (IsIndexOf state tables (rows state.files t)) k t held.indexes
+  are_indexes told = all_of (IsInfoOf state tables (rows state.files t)) k t held.indexes
       (λ i x e rel. index_complete state tables i x t (relation_there state tables held opens r k t there).holds told (on_relation state tables held opens r k t there i x e rel))
 
 -- ---- the index with which a cursor begins stands in a slot

@@ -9,14 +9,14 @@ use Rattle.std.proofs.lemmas.Bool.Decides.{nat_tests}
 use Rattle.std.proofs.lemmas.Slice.Eq.{bytes_eq-Decides}
 use Rattle.afl_base.specs.Files.{File, Table, place}
 use Rattle.catalog.specs.CatalogFile.{IsCatalogSize}
-use Rattle.catalog.specs.Rules.{breaks_files, differ, first, has_form, has_name, how_many, is_attribute, is_behind, is_domain, is_index_form, is_named_among, is_of_database, is_relation_slot, is_row, is_same_place, is_schema, is_stranger, is_table, is_third_table, is_tree, stands_on}
+use Rattle.catalog.specs.Rules.{breaks_files, differ, first, has_form, has_name, how_many, is_attribute_slot, is_behind, is_domain, is_index_form, is_named_among, is_of_database, is_relation_slot, is_row, is_same_place, is_schema, is_stranger, is_table, is_third_table, is_tree, stands_on}
 use Rattle.catalog.proofs.Firsts.{first_more, first_none}
 use Rattle.db_model.specs.declared.schemas.Attribute.{Attribute}
 use Rattle.db_model.specs.declared.schemas.Domain.{Domain}
 use Rattle.db_model.specs.declared.schemas.Domain.TheVariants.{Int, Long, Time, Str}
 use Rattle.db_model.specs.declared.schemas.Schema.{Schema}
 use Rattle.db_model.specs.Catalog.{Index, IsDomain, index_slot_bytes, relation_slot_bytes, version_mark}
-use Rattle.db_model.specs.Database.{is_hash_table, used}
+use Rattle.db_model.specs.Database.{is_hash_table, used_things}
 use Rattle.db_model.specs.Names.{is_name}
 use Rattle.db_model.specs.Row.{row_length}
 use Rattle.db_model.specs.Sound.{IsSoundAttribute, IsSoundSchema, are_distinct, attribute_names}
@@ -89,17 +89,17 @@ domain_true version Long h t = refl
 domain_true version Time h t = eq_true version 2 (t refl)
 domain_true version (Str n) h t = both_true (nat_le 1 n) (nat_le n 32) (true_le 1 n h.0) (true_le n 32 h.1)
 
-attributes_true : (version : ℕ) (attributes : List Attribute) → AllByRecursion (IsSoundAttribute version) attributes → list_all (is_attribute version) attributes ≡ true
+attributes_true : (version : ℕ) (attributes : List Attribute) → AllByRecursion (IsSoundAttribute version) attributes → list_all (is_attribute_slot version) attributes ≡ true
 attributes_true version [] h = refl
 attributes_true version (a ∷ attributes) h =
-    both_true (is_attribute version a) (list_all (is_attribute version) attributes)
+    both_true (is_attribute_slot version a) (list_all (is_attribute_slot version) attributes)
     (both_true (is_name a.name) (is_domain version a.domain) h.0.name (domain_true version a.domain h.0.domain h.0.time))
     (attributes_true version attributes h.1)
 
 pub schema_true : (version : ℕ) (schema : Schema) → IsSoundSchema version schema → is_schema version schema ≡ true
 schema_true version schema s =
     let few : Bool = nat_le (length schema.attributes) 8 in
-    let each : Bool = list_all (is_attribute version) schema.attributes in
+    let each : Bool = list_all (is_attribute_slot version) schema.attributes in
     let short : Bool = nat_le (row_length schema.attributes) 128 in
     let apart : Bool = are_distinct (attribute_names schema.attributes) in
     both_true (is_name schema.name && (few && each)) (is_row schema.attributes)
@@ -119,7 +119,7 @@ relation_slot_true version slot before (Some s) e h =
 -- ---- rule 17
 
 -- the slots before one, and the one, are among all
-tables_counted : (xs : List (Option Index)) (k : ℕ) (x : Index) → get_or xs k None ≡ Some x → is_hash_table x ≡ true → how_many is_table (take k xs) + 1 ≤ length (filter is_hash_table (used xs))
+tables_counted : (xs : List (Option Index)) (k : ℕ) (x : Index) → get_or xs k None ≡ Some x → is_hash_table x ≡ true → how_many is_table (take k xs) + 1 ≤ length (filter is_hash_table (used_things xs))
 tables_counted [] k x e t = absurd (cc)
 tables_counted (None ∷ xs) zero x e t = absurd (cc)
 tables_counted (Some y ∷ xs) zero x e t =
@@ -127,13 +127,13 @@ tables_counted (Some y ∷ xs) zero x e t =
     let here : is_hash_table y ≡ true = ap is_hash_table same ∙ t in
     rw here (omega arith)
 tables_counted (None ∷ xs) (suc k) x e t = tables_counted xs k x e t
-tables_counted (Some y ∷ xs) (suc k) x e t = counted (is_hash_table y) (how_many is_table (take k xs)) (filter is_hash_table (used xs)) (tables_counted xs k x e t)
+tables_counted (Some y ∷ xs) (suc k) x e t = counted (is_hash_table y) (how_many is_table (take k xs)) (filter is_hash_table (used_things xs)) (tables_counted xs k x e t)
   where
     counted : (b : Bool) (n : ℕ) (rest : List Index) → n + 1 ≤ length rest → (if b then n + 1 else n) + 1 ≤ length (cond b (y ∷ rest) rest)
     counted true n rest h = omega (arith, h)
     counted false n rest h = h
 
-pub no_third_table : (xs : List (Option Index)) (k : ℕ) (x : Index) → get_or xs k None ≡ Some x → length (filter is_hash_table (used xs)) ≤ 2 → is_third_table (take k xs) x ≡ false
+pub no_third_table : (xs : List (Option Index)) (k : ℕ) (x : Index) → get_or xs k None ≡ Some x → length (filter is_hash_table (used_things xs)) ≤ 2 → is_third_table (take k xs) x ≡ false
 no_third_table xs k x e few = by_kind (is_hash_table x) refl
   where
     fewer : (n : ℕ) → n + 1 ≤ 2 → nat_le 2 n ≡ false

@@ -8,14 +8,14 @@ use Rattle.std.proofs.lemmas.Slice.Eq.{bytes_eq-Decides}
 use Rattle.std.proofs.lemmas.Bool.{cases_eq}
 use Rattle.std.proofs.lemmas.Bool.Decides.{nat_tests}
 use Rattle.afl_base.specs.Files.{AreDistinct, File, IsLive, IsNamed, IsUnnamed, State, Table, bytes_at, file_at, no_file, place}
-use Rattle.afl_base.specs.Frames.{Spares}
+use Rattle.afl_base.specs.Frames.{SparesOthers}
 use Rattle.afl_base.proofs.FrameLaws.{live_by_name, spares_fewer, unnamed_by_name}
 pub use Rattle.padded.proofs.Facts.{some_same}
 use Rattle.afl_base.proofs.FileLaws.{file_here, live_here, named_here, named_live, place_live}
 use Rattle.catalog.specs.CatalogFile.{IsCatalogSize}
 use Rattle.catalog.specs.Rules.{is_of_database}
 use Rattle.db_model.specs.Catalog.{Index, catalog_of}
-use Rattle.db_model.specs.Database.{is_among, reader_from, used}
+use Rattle.db_model.specs.Database.{is_among, reader_from, used_things}
 use Rattle.db_model.specs.Row.{Row, no_row, row_length, rows_bytes, rows_of}
 use Rattle.db_model.specs.Step.{keys, slots_limit}
 use Rattle.index_set.specs.declared.info.Access.{Access}
@@ -95,10 +95,10 @@ chosen_index : (k : ℕ) (t : Tuples) (x : Indexed) (indexes : List Index) (rest
 chosen_index k t x indexes rest true e h = let same : x.relation ≡ k = grind (arith, nat_tests) in λ i. index_of_info (same i) (info_of t x) ∷ h i
 chosen_index k t x indexes rest false e h = h
 
-pub indexes_seen : (k : ℕ) (t : Tuples) (xs : List (Option Indexed)) → filter (λ index. index.relation == k) (used (map (option_map index_known) xs)) ≡ map (index_of_info k) (infos_of k t xs)
+pub indexes_seen : (k : ℕ) (t : Tuples) (xs : List (Option Indexed)) → filter (λ index. index.relation == k) (used_things (map (option_map index_known) xs)) ≡ map (index_of_info k) (infos_of k t xs)
 indexes_seen k t [] = refl
 indexes_seen k t (None ∷ xs) = indexes_seen k t xs
-indexes_seen k t (Some x ∷ xs) = chosen_index k t x (filter (λ index. index.relation == k) (used (map (option_map index_known) xs))) (infos_of k t xs) (eqb x.relation k) refl (indexes_seen k t xs)
+indexes_seen k t (Some x ∷ xs) = chosen_index k t x (filter (λ index. index.relation == k) (used_things (map (option_map index_known) xs))) (infos_of k t xs) (eqb x.relation k) refl (indexes_seen k t xs)
 
 -- ---- names tell files apart
 
@@ -134,20 +134,20 @@ apart_from_tree files id i n (InTable number) named h has = tt
 
 -- ---- what stays where files are spared
 
-pub named_spared : (a b : State) (P : ℕ → Type 0) (id : ℕ) (n : List ℕ) → Spares a b P → IsNamed a.files id n → IsNamed b.files id n
+pub named_spared : (a b : State) (P : ℕ → Type 0) (id : ℕ) (n : List ℕ) → SparesOthers a b P → IsNamed a.files id n → IsNamed b.files id n
 named_spared a b P id n f h = f.named id ∙ h
 
-pub unnamed_spared : (a b : State) (P : ℕ → Type 0) (n : List ℕ) → Spares a b P → IsUnnamed a.files n → IsUnnamed b.files n
+pub unnamed_spared : (a b : State) (P : ℕ → Type 0) (n : List ℕ) → SparesOthers a b P → IsUnnamed a.files n → IsUnnamed b.files n
 unnamed_spared a b P n f h = unnamed_by_name a.files b.files f.named n h
 
-pub live_spared : (a b : State) (P : ℕ → Type 0) (id : ℕ) → Spares a b P → IsLive a.files id → IsLive b.files id
+pub live_spared : (a b : State) (P : ℕ → Type 0) (id : ℕ) → SparesOthers a b P → IsLive a.files id → IsLive b.files id
 live_spared a b P id f h = live_by_name a.files b.files f.named id h
 
-pub distinct_spared : (a b : State) (P : ℕ → Type 0) → Spares a b P → AreDistinct a.files → AreDistinct b.files
+pub distinct_spared : (a b : State) (P : ℕ → Type 0) → SparesOthers a b P → AreDistinct a.files → AreDistinct b.files
 distinct_spared a b P f d i j n x y = d i j n (sym (f.named i) ∙ x) (sym (f.named j) ∙ y)
 
 -- a file has the name and kind that it had
-pub known_spared : (a b : State) (P : ℕ → Type 0) → Spares a b P → AreOfDatabase a.files → AreOfDatabase b.files
+pub known_spared : (a b : State) (P : ℕ → Type 0) → SparesOthers a b P → AreOfDatabase a.files → AreOfDatabase b.files
 known_spared a b P f known id now is =
     let live : IsLive a.files id = live_by_name b.files a.files (λ k. sym (f.named k)) id (live_here b.files id now is) in
     let was : File = file_at a.files id in
@@ -159,7 +159,7 @@ known_spared a b P f known id now is =
     some_name : (x y : List ℕ) → Some x ≡ Some y → x ≡ y
     some_name x y e = cc
 
-pub file_spared : (a b : State) (P : ℕ → Type 0) (i : ℕ) (access : Access) → Spares a b P → HasFile a.files i access → HasFile b.files i access
+pub file_spared : (a b : State) (P : ℕ → Type 0) (i : ℕ) (access : Access) → SparesOthers a b P → HasFile a.files i access → HasFile b.files i access
 file_spared a b P i Order f h = unnamed_spared a b P (tree_file i) f h
 file_spared a b P i (Tree g) f h = named_spared a b P g (tree_file i) f h
 file_spared a b P i (InTable number) f h = unnamed_spared a b P (tree_file i) f h
@@ -276,7 +276,7 @@ module _ (state : State) (tables : Tables) (held : Held) (opens : List (Option O
 
 pub record RowsCome (old new : State) (before after : Tables) (held : Held) (opens : List (Option Open)) (k : ℕ) (t : Tuples) : Type 0 where
   pub there : get_or held.relations k None ≡ Some t
-  pub spared : Spares old new (StaysAt t.file (infos_of k t held.indexes))
+  pub spared : SparesOthers old new (StaysAt t.file (infos_of k t held.indexes))
   pub tables : KeepsTables before after (infos_of k t held.indexes)
   pub holds : HoldsRows new t
   pub few : slots new.files t ≤ slots_limit held.version
@@ -499,7 +499,7 @@ complete_rekeyed a b tables id before after (info ∷ infos) away bytes same h =
     one (InTable number) apart h = h
 
 pub rows_change : (old new : State) (tables : Tables) (held : Held) (opens : List (Option Open)) (k : ℕ) (t : Tuples) → (r : IsRunning old tables held opens) → get_or held.relations k None ≡ Some t
-    → Spares old new (λ j. j ≢ t.file) → HoldsRows new t → slots new.files t ≡ slots old.files t
+    → SparesOthers old new (λ j. j ≢ t.file) → HoldsRows new t → slots new.files t ≡ slots old.files t
     → reader_from t.schema.name 1 (map (option_map (cursor_in old.files)) opens) ≡ None
     → (IsTrue old.tells → (place : ℕ) → keys place (rows new.files t) ≡ keys place (rows old.files t))
     → RowsCome old new tables tables held opens k t

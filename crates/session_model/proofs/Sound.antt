@@ -23,11 +23,11 @@ use Rattle.db_model.specs.Step.{allows, keys}
 use Rattle.index_set.specs.declared.info.Access.{Access}
 use Rattle.index_set.specs.declared.info.Access.TheVariants.{Order, Tree, Table as InTable}
 use Rattle.index_set.specs.Complete.{IsComplete as IsKept}
-use Rattle.index_set.specs.Plans.{kind_of}
+use Rattle.index_set.specs.Plans.{access_kind}
 use Rattle.index_set.specs.Tables.{Tables}
 use Rattle.index_tree.specs.Trees.{IsTreeOf}
 use Rattle.space_model.specs.Enough.{rows_in}
-use Rattle.space_model.specs.FileNames.{bytes_named, bytes_of, catalog_file, is_there, rows_file, tree_file}
+use Rattle.space_model.specs.FileNames.{bytes_named, bytes_in_file, catalog_file, is_there, rows_file, tree_file}
 use Rattle.stored.specs.Base as stored
 use Rattle.stored.specs.Base.{base_of}
 use Rattle.stored.specs.Sound.{IsIndexComplete, IsSoundTable, KeepsIndex, KeepsRows, keys_stored}
@@ -85,7 +85,7 @@ module _ (state : State) (tables : Tables) (held : Held) (opens : List (Option O
   catalog_seen = by_cat held.cat r.catalog
     where
       by_cat : (o : Option ℕ) → HasCatalogFile state.files o → bytes_named catalog_file state.files ≡ bytes_of_catalog state.files o
-      by_cat None h = ap bytes_of (named_none state.files catalog_file h)
+      by_cat None h = ap bytes_in_file (named_none state.files catalog_file h)
       by_cat (Some cat) h = named_bytes cat catalog_file h.0
 
   abbrev slots_held : Slots
@@ -248,7 +248,7 @@ module _ (state : State) (tables : Tables) (held : Held) (opens : List (Option O
         by_slot None h = not_there (rows_file k) h
         by_slot (Some t) h = there_named t.file (rows_file k) h.named
 
-    tree_by : (i : ℕ) (x : Indexed) (access : Access) → x.access ≡ access → HasFile state.files i access → is_there (tree_file i) state.files ≡ is_tree (Some (record { kind = kind_of access; relation = x.relation; attribute = x.attribute }))
+    tree_by : (i : ℕ) (x : Indexed) (access : Access) → x.access ≡ access → HasFile state.files i access → is_there (tree_file i) state.files ≡ is_tree (Some (record { kind = access_kind access; relation = x.relation; attribute = x.attribute }))
     tree_by i x Order e h = not_there (tree_file i) h
     tree_by i x (Tree g) e h = there_named g (tree_file i) h
     tree_by i x (InTable number) e h = not_there (tree_file i) h
@@ -292,7 +292,7 @@ module _ (state : State) (tables : Tables) (held : Held) (opens : List (Option O
         no_items [] e = refl
         no_items (x ∷ xs) e = absurd (omega (arith, e))
 
-    kept_by : (i : ℕ) (x : Indexed) (access : Access) (ks : List ℤ) → HasFile state.files i access → IsKept state tables access ks → SuitKind (kind_of access) ks → IsIndexComplete (kind_of access) (bytes_named (tree_file i) state.files) ks
+    kept_by : (i : ℕ) (x : Indexed) (access : Access) (ks : List ℤ) → HasFile state.files i access → IsKept state tables access ks → SuitKind (access_kind access) ks → IsIndexComplete (access_kind access) (bytes_named (tree_file i) state.files) ks
     kept_by i x Order ks file h suits = h
     kept_by i x (Tree g) ks file h suits = let P : List ℕ → Type 0 = λ bytes. IsTreeOf bytes ks in subst P (sym (named_bytes g (tree_file i) file)) h
     kept_by i x (InTable number) ks file h suits = suits
@@ -308,9 +308,9 @@ module _ (state : State) (tables : Tables) (held : Held) (opens : List (Option O
         let all : rows_in (base_of state.files) x.relation ≡ rows state.files o.tuples =
         ap (λ (db : Database). rows_in db x.relation) base_is
         ∙ ap (λ (q : Option Relation). option_map_or (λ (z : Relation). z.rows) q []) (seen (relation_of_rows state.files) held.relations x.relation o.tuples o.is) in
-        let P : List Row → Type 0 = λ rs. IsIndexComplete (kind_of x.access) (bytes_named (tree_file i) state.files) (keys x.attribute rs) in
+        let P : List Row → Type 0 = λ rs. IsIndexComplete (access_kind x.access) (bytes_named (tree_file i) state.files) (keys x.attribute rs) in
         let Q : Index → Type 0 = λ z. IsIndexComplete z.kind (bytes_named (tree_file i) state.files) (keys_stored state.files z) in
-        let S : Relation → Type 0 = λ z. SuitKind (kind_of x.access) (keys x.attribute z.rows) in
+        let S : Relation → Type 0 = λ z. SuitKind (access_kind x.access) (keys x.attribute z.rows) in
         subst Q from.is (subst P (sym all)
         (kept_by i x x.access (keys x.attribute (rows state.files o.tuples)) o.indexed.file (o.indexed.complete told) (subst S is sound.suits.keys)))
 

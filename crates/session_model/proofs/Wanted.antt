@@ -15,9 +15,9 @@ use Rattle.index_set.specs.declared.info.Access.{Access}
 use Rattle.index_set.specs.declared.info.Access.TheVariants.{Order, Tree, Table as InTable}
 use Rattle.index_set.specs.Complete.{IsComplete}
 use Rattle.index_set.specs.Inserts.{AsksFor, tuple_key}
-use Rattle.index_set.specs.Plans.{kind_of}
+use Rattle.index_set.specs.Plans.{access_kind}
 use Rattle.index_set.specs.Tables.{Tables}
-use Rattle.space_model.specs.FileNames.{asks_in, bytes_named, bytes_of, catalog_file, file_named, rows_file, size_in, tree_file}
+use Rattle.space_model.specs.FileNames.{asks_in, bytes_named, bytes_in_file, catalog_file, file_named, rows_file, size_in, tree_file}
 use Rattle.space_model.specs.Wants.{WantsCatalog, WantsNewCatalog, WantsTree, room_for}
 use Rattle.tuple_file.specs.declared.tuples.Tuples.{Tuples}
 use Rattle.tuple_file.specs.Tuples.{rows}
@@ -54,7 +54,7 @@ module _ (state : State) (tables : Tables) (held : Held) (opens : List (Option O
   size_by_name id name named = ap (option_map (λ (f : File). length f.bytes)) (by_name id name named)
 
   pub bytes_by_name : (id : ℕ) (name : List ℕ) → IsNamed state.files id name → bytes_named name state.files ≡ bytes_at state.files id
-  bytes_by_name id name named = ap bytes_of (by_name id name named)
+  bytes_by_name id name named = ap bytes_in_file (by_name id name named)
 
   -- a change of the catalog
   pub wants_catalog : (cat at n need : ℕ) → held.cat ≡ Some cat → asks cat ((room_for (size_at state.files cat) at n).0) ((room_for (size_at state.files cat) at n).1) need
@@ -84,7 +84,7 @@ module _ (state : State) (tables : Tables) (held : Held) (opens : List (Option O
   wants_tree_by k t values need i x (Tree g) is rel file complete a =
       let asked = a (keys x.attribute (rows state.files t)) complete in
       let P : List ℕ → Type 0 = λ bytes. asks g ((room_of bytes (tuple_key values (info_of t x))).overwrites) ((room_of bytes (tuple_key values (info_of t x))).bytes) need in
-      (ap kind_of is, rel, (g, file, subst P (sym (bytes_by_name g (tree_file i) file)) asked))
+      (ap access_kind is, rel, (g, file, subst P (sym (bytes_by_name g (tree_file i) file)) asked))
 
   pub wants_row : (name : List ℕ) (k : ℕ) (t : Tuples) (values : List Value) (need : ℕ) → IsTrue state.tells → get_or held.relations k None ≡ Some t → cell_from name 0 held.relations ≡ Some (k, t)
       → WantsRow asks state t (infos_of k t held.indexes) values need → WantsOver asks state.files (view state.files held opens) (command.Insert values name) need

@@ -9,7 +9,7 @@ use Rattle.index_set.specs.Walks.{ahead}
 pub use Rattle.index_set.specs.Walks.{walk_of}
 use Rattle.cursor.specs.declared.join.JoinCursor.{JoinCursor}
 use Rattle.cursor.specs.Pairs.{lefts_of, matching, rights_of}
-use Rattle.cursor.specs.Remaining.{slots_left}
+use Rattle.cursor.specs.Remaining.{slots_to_answer}
 use Rattle.tuple_file.specs.Tuples.{rows}
 use Rattle.session_model.specs.declared.held.Open.{Open}
 use Rattle.session_model.specs.declared.held.Open.TheVariants.{Select, Join}
@@ -20,7 +20,7 @@ abbrev pub ahead_of_select : Table → OpenSelect → Ahead
 ahead_of_select files o = record {
   source = OfSelect o.cursor.tuples.schema.name (walk_of o.cursor.candidates.search);
   slots = ahead o.cursor.candidates (rows files o.cursor.tuples);
-  stops = slots_left o.cursor (rows files o.cursor.tuples);
+  stops = slots_to_answer o.cursor (rows files o.cursor.tuples);
 }
 
 -- a left slot, as often as its row has partners

@@ -7,17 +7,17 @@ use Rattle.db_model.specs.declared.schemas.IndexKind.{IndexKind}
 use Rattle.db_model.specs.Catalog.{Index}
 use Rattle.db_model.specs.Step.{allows}
 use Rattle.index_set.specs.declared.info.IndexInfo.{IndexInfo}
-use Rattle.index_set.specs.Plans.{kind_of}
+use Rattle.index_set.specs.Plans.{access_kind}
 use Rattle.tuple_file.specs.declared.tuples.Tuples.{Tuples}
 use Rattle.tuple_file.specs.Column.{IsNumber, column_of}
 use Rattle.session_model.specs.declared.held.Indexed.{Indexed}
 
 -- what the machine knows of an index
 abbrev pub index_known : Indexed → Index
-index_known x = record { kind = kind_of x.access; relation = x.relation; attribute = x.attribute }
+index_known x = record { kind = access_kind x.access; relation = x.relation; attribute = x.attribute }
 
 abbrev pub index_of_info : ℕ → IndexInfo → Index
-index_of_info relation info = record { kind = kind_of info.access; relation = relation; attribute = info.attribute }
+index_of_info relation info = record { kind = access_kind info.access; relation = relation; attribute = info.attribute }
 
 -- with the column of its relation's rows
 abbrev pub info_of : Tuples → Indexed → IndexInfo
@@ -35,7 +35,7 @@ abbrev pub IsAllowedAt : List Attribute → ℕ → IndexKind → Type 0
 IsAllowedAt attributes place kind = IsTrue (option_map_or (λ a. allows kind a.domain) (slice_get attributes place) false)
 
 abbrev pub IsAllowed : List Attribute → IndexInfo → Type 0
-IsAllowed attributes info = IsAllowedAt attributes info.attribute (kind_of info.access)
+IsAllowed attributes info = IsAllowedAt attributes info.attribute (access_kind info.access)
 
 abbrev pub AreAllowed : List Attribute → List IndexInfo → Type 0
 AreAllowed attributes infos = AllByRecursion (IsAllowed attributes) infos

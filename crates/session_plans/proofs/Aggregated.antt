@@ -21,7 +21,7 @@ use Rattle.db_model.specs.Refusing.{◌>>◌, refuse_found}
 use Rattle.db_model.specs.Step.{Numbers, Reply, aggregate_of}
 use Rattle.db_model.specs.Typing as db
 use Rattle.db_model.specs.Typing.{aggregates, first_false, is_aggregable, is_attribute}
-use Rattle.lvm.specs.Code.{first_refusal, ill_typed, missing_name, refusal}
+use Rattle.lvm.specs.Code.{first_refusal, first_ill_typed, first_missing_name, refusal}
 use Rattle.lvm.proofs.Counting.{ill_typed-behind, ill_typed-in_front, missing_name-behind, missing_name-in_front}
 use Rattle.session_model.specs.View.{value_at}
 use Rattle.session_plans.specs.Aggregates.{answers, column_values, medians, suits_fold}
@@ -101,17 +101,17 @@ module _ (list : List (Agg × List ℕ)) (condition : Option Cond) (r : Relation
       rw (missing_name-in_front r.schema.attributes (map (λ (item : Agg × List ℕ). item.1) list) condition nth (ap (first_false 0) (named_same r.schema.attributes list) ∙ e)) refl
 
   module _ (items : List (Agg × ℕ)) (i : items_of r.schema.attributes list ≡ Some items) (known : first_false 0 (map (is_named r.schema.attributes) list) ≡ None) where
-    missing_is : db.missing_name r.schema.attributes (map (λ (item : Agg × List ℕ). item.1) list) condition ≡ missing_name (length list) r.schema.attributes condition
+    missing_is : db.missing_name r.schema.attributes (map (λ (item : Agg × List ℕ). item.1) list) condition ≡ first_missing_name (length list) r.schema.attributes condition
     missing_is =
         missing_name-behind r.schema.attributes (map (λ (item : Agg × List ℕ). item.1) list) condition (ap (first_false 0) (named_same r.schema.attributes list) ∙ known)
-        ∙ ap (λ (n : ℕ). missing_name n r.schema.attributes condition) (length-map list (λ (item : Agg × List ℕ). item.1))
+        ∙ ap (λ (n : ℕ). first_missing_name n r.schema.attributes condition) (length-map list (λ (item : Agg × List ℕ). item.1))
 
     typed_is : (unsuited : Option ℕ) → first_false 0 (map (suits_fold r.schema.attributes) items) ≡ unsuited
-        → db.ill_typed r.schema.attributes (map (is_aggregable r.schema.attributes) list) condition ≡ all_typed unsuited (ill_typed (length list) r.schema.attributes condition)
+        → db.ill_typed r.schema.attributes (map (is_aggregable r.schema.attributes) list) condition ≡ all_typed unsuited (first_ill_typed (length list) r.schema.attributes condition)
     unfolding all_typed
     typed_is None e =
         ill_typed-behind r.schema.attributes (map (is_aggregable r.schema.attributes) list) condition (ap (first_false 0) (suited_same r.schema.attributes list items i) ∙ e)
-        ∙ ap (λ (n : ℕ). ill_typed n r.schema.attributes condition) (length-map list (is_aggregable r.schema.attributes))
+        ∙ ap (λ (n : ℕ). first_ill_typed n r.schema.attributes condition) (length-map list (is_aggregable r.schema.attributes))
     typed_is (Some n) e =
         ill_typed-in_front r.schema.attributes (map (is_aggregable r.schema.attributes) list) condition n (ap (first_false 0) (suited_same r.schema.attributes list items i) ∙ e)
 

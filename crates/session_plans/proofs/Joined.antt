@@ -12,7 +12,7 @@ use Rattle.db_model.specs.declared.values.Value.TheVariants.{Number}
 use Rattle.db_model.specs.Answers.{join, live_tuples, pairs, projected_pair, same_value}
 use Rattle.db_model.specs.Database.{Relation}
 use Rattle.db_model.specs.Item.{place_from, place_of}
-use Rattle.db_model.specs.Row.{Row, row_at, row_length, rows_of, tuple_of, slots_in, width}
+use Rattle.db_model.specs.Row.{Row, row_at, row_length, rows_of, tuple_of, slots_in_bytes, width}
 use Rattle.db_model.specs.Step.{join_of, joins}
 use Rattle.db_model.specs.Typing.{domain_of, first_false}
 use Rattle.cursor.specs.Pairs.{matching}
@@ -85,7 +85,7 @@ whole_at attributes bytes (slot ∷ slots) =
 
 -- the rows of a file are
 pub rows_whole : (attributes : List Attribute) (bytes : List ℕ) → AreWhole attributes (rows_of attributes bytes)
-rows_whole attributes bytes = whole_at attributes bytes (range_with_len 0 (slots_in attributes bytes))
+rows_whole attributes bytes = whole_at attributes bytes (range_with_len 0 (slots_in_bytes attributes bytes))
 
 -- ---- pairs of whole rows
 

@@ -11,7 +11,7 @@ use Rattle.db_model.specs.Refusing.{◌>>◌, refuse_found}
 use Rattle.db_model.specs.Step.{select_from}
 use Rattle.db_model.specs.Typing as db
 use Rattle.db_model.specs.Typing.{first_false, is_attribute}
-use Rattle.lvm.specs.Code.{first_refusal, ill_typed, missing_name, refusal}
+use Rattle.lvm.specs.Code.{first_refusal, first_ill_typed, first_missing_name, refusal}
 use Rattle.lvm.proofs.Counting.{ill_typed-behind, missing_name-behind, missing_name-in_front}
 use Rattle.session_model.specs.View.{project}
 use Rattle.session_plans.specs.Places.{places_named}
@@ -41,13 +41,13 @@ module _ (list : List (List ℕ)) (condition : Option Cond) (r : Relation) where
   pub select_unnamed : (nth : ℕ) → first_false 0 (map (is_attribute r.schema.attributes) list) ≡ Some nth → select_from list condition r ≡ Err (no.NoAttribute nth)
   select_unnamed nth e = rw (missing_name-in_front r.schema.attributes list condition nth e) refl
 
-  missing_is : first_false 0 (map (is_attribute r.schema.attributes) list) ≡ None → db.missing_name r.schema.attributes list condition ≡ missing_name (length list) r.schema.attributes condition
+  missing_is : first_false 0 (map (is_attribute r.schema.attributes) list) ≡ None → db.missing_name r.schema.attributes list condition ≡ first_missing_name (length list) r.schema.attributes condition
   missing_is e = missing_name-behind r.schema.attributes list condition e
 
-  typed_is : db.ill_typed r.schema.attributes (map (λ _. true) list) condition ≡ ill_typed (length list) r.schema.attributes condition
+  typed_is : db.ill_typed r.schema.attributes (map (λ _. true) list) condition ≡ first_ill_typed (length list) r.schema.attributes condition
   typed_is =
       ill_typed-behind r.schema.attributes (map (λ _. true) list) condition (all_true list 0)
-      ∙ ap (λ (n : ℕ). ill_typed n r.schema.attributes condition) (length-map list (λ _. true))
+      ∙ ap (λ (n : ℕ). first_ill_typed n r.schema.attributes condition) (length-map list (λ _. true))
 
   pub select_refused : (nope : Refusal) → first_false 0 (map (is_attribute r.schema.attributes) list) ≡ None → refusal (length list) r.schema.attributes condition ≡ Some nope → select_from list condition r ≡ Err nope
   select_refused nope e f = rw (missing_is e, typed_is) (refusing _ _ (Ok (select r.schema.attributes list condition r.rows)) nope f)

@@ -18,7 +18,7 @@ use Rattle.db_model.specs.Row.{Row}
 use Rattle.db_model.specs.Step.{join_of, joins, missing_in_join}
 use Rattle.db_model.specs.Typing.{domain_of}
 use Rattle.cursor.specs.declared.join.JoinCursor.{JoinCursor}
-use Rattle.cursor.specs.Pairs.{FitsPairs, HasAhead, FitsInner, belongs, join_cost_ahead, matching, pairs_left, right_costs as costs_right}
+use Rattle.cursor.specs.Pairs.{FitsPairs, HasAhead, FitsInner, belongs, join_cost_ahead, matching, pairs_left, right_side_costs as costs_right}
 use Rattle.index_set.specs.declared.candidates.Candidates.{Candidates}
 use Rattle.index_set.specs.declared.info.IndexInfo.{IndexInfo}
 use Rattle.index_set.specs.Complete.{AreIndexesOf}

@@ -19,7 +19,7 @@ use Rattle.db_model.specs.Database.{Database, indexes_of, relation_named}
 use Rattle.db_model.specs.Plan.{Kinds, kinds_of, ranges_of}
 use Rattle.index_set.specs.declared.info.IndexInfo.{IndexInfo}
 use Rattle.index_set.specs.Complete.{AreIndexesOf, AreReadable}
-use Rattle.index_set.specs.Plans.{kind_of, kinds}
+use Rattle.index_set.specs.Plans.{access_kind, kinds}
 use Rattle.index_set.specs.Tables.{Tables}
 use Rattle.cursor.specs.Remaining.{AreOnNumbers}
 use Rattle.tuple_file.specs.declared.tuples.Tuples.{Tuples}
@@ -45,7 +45,7 @@ relation_seen files held opens name found f =
 
 kinds_same : (k : ℕ) (infos : List IndexInfo) → kinds_of (map (index_of_info k) infos) ≡ kinds infos
 kinds_same k [] = refl
-kinds_same k (info ∷ infos) = ap (λ (l : Kinds). (kind_of info.access, info.attribute) ∷ l) (kinds_same k infos)
+kinds_same k (info ∷ infos) = ap (λ (l : Kinds). (access_kind info.access, info.attribute) ∷ l) (kinds_same k infos)
 
 pub kinds_seen : (files : Table) (held : Held) (opens : List (Option Open)) (name : List ℕ) (found : Found) → IsRelationFound held name found
     → kinds_of (indexes_of (view files held opens) found.slot) ≡ kinds found.indexes

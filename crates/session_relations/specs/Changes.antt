@@ -6,7 +6,7 @@ use Rattle.db_model.specs.declared.refusals.Refusal.{Refusal}
 use Rattle.db_model.specs.declared.schemas.Attribute.{Attribute}
 use Rattle.db_model.specs.declared.schemas.Schema.{Schema}
 use Rattle.db_model.specs.Catalog.{Index, IsAttribute, with_relation_slot}
-use Rattle.db_model.specs.Database.{Database, Relation, used, with_relation}
+use Rattle.db_model.specs.Database.{Database, Relation, used_things, with_relation}
 use Rattle.db_model.specs.Refusing.{◌>>◌}
 use Rattle.db_model.specs.Row.{row_length}
 use Rattle.db_model.specs.Step.{refuse_indexed, refuse_read}
@@ -66,7 +66,7 @@ is_index_on relation (Some x) = x.relation == relation
 
 -- the indexes of the relation in a slot
 abbrev pub indexes_on : ℕ → List (Option Indexed) → List Index
-indexes_on relation slots = filter (λ index. index.relation == relation) (used (map (option_map index_known) slots))
+indexes_on relation slots = filter (λ index. index.relation == relation) (used_things (map (option_map index_known) slots))
 
 -- a relation is taken away where no cursor reads it and no index stands on it
 abbrev pub refuse_removal : Database → List ℕ → ℕ → Result ⊤ Refusal

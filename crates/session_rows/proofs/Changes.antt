@@ -2,7 +2,7 @@
 use Rattle.std.proofs.Common.{◌≡◌, ◌≢◌, ℕ, ◌≤◌, List, [], ◌∷◌, ◌++◌, length, get_or, Option, Some, None, true, refl, ap, sym, subst, ◌∙◌, arith, IsTrue, length-append}
 use Rattle.std.proofs.lemmas.List.{get_or_append_left}
 use Rattle.afl_base.specs.Files.{Keeps, State, Table, bytes_at, file_at, name_at, size_at, used}
-use Rattle.afl_base.specs.Frames.{Prepares, Spares}
+use Rattle.afl_base.specs.Frames.{Prepares, SparesOthers}
 use Rattle.afl_base.proofs.FrameLaws.{spares_fewer}
 use Rattle.db_model.specs.declared.values.Value.{Value}
 use Rattle.db_model.specs.Database.{reader_of}
@@ -147,7 +147,7 @@ module _ (old new : State) (tables : Tables) (held : Held) (opens : List (Option
 -- ---- rows are dropped from a relation without indexes
 
 pub rows_dropped : (old new : State) (tables : Tables) (held : Held) (opens : List (Option Open)) (k : ℕ) (t : Tuples) → IsRunning old tables held opens → get_or held.relations k None ≡ Some t
-    → Spares old new (λ j. j ≢ t.file) → HoldsRows new t → slots new.files t ≤ slots old.files t → reader_of (view old.files held opens) t.schema.name ≡ None → infos_of k t held.indexes ≡ []
+    → SparesOthers old new (λ j. j ≢ t.file) → HoldsRows new t → slots new.files t ≤ slots old.files t → reader_of (view old.files held opens) t.schema.name ≡ None → infos_of k t held.indexes ≡ []
     → RunsOn old new tables held opens k
 rows_dropped old new tables held opens k t r there f holds fewer unread none =
     goes_on old new tables tables held opens k t r (record {

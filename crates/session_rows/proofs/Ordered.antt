@@ -23,7 +23,7 @@ use Rattle.index_set.specs.declared.info.Access.TheVariants.{Order, Tree, Table}
 use Rattle.index_set.specs.declared.info.IndexInfo.{IndexInfo}
 use Rattle.index_set.specs.Complete.{AreComplete, IsComplete}
 use Rattle.index_set.specs.Inserts.{AreOpenFor, HasKeyFor, HaveKeys, IsOpenFor, MayAllFollow, MayFollow, is_key, tuple_key}
-use Rattle.index_set.specs.Plans.{kind_of}
+use Rattle.index_set.specs.Plans.{access_kind}
 use Rattle.index_set.specs.Tables.{Tables}
 use Rattle.index_set.proofs.Inserted.{keys_more}
 use Rattle.tuple_file.specs.declared.tuples.Tuples.{Tuples}
@@ -40,12 +40,12 @@ by_test false f g = g refl
 
 -- ---- tests of indexes
 
-inline_of : (slot attribute : ℕ) (access : Access) → is_inline (record { kind = kind_of access; relation = slot; attribute = attribute }) ≡ is_order access
+inline_of : (slot attribute : ℕ) (access : Access) → is_inline (record { kind = access_kind access; relation = slot; attribute = attribute }) ≡ is_order access
 inline_of slot attribute Order = refl
 inline_of slot attribute (Tree file) = refl
 inline_of slot attribute (Table number) = refl
 
-table_of : (slot attribute : ℕ) (access : Access) → is_hash_table (record { kind = kind_of access; relation = slot; attribute = attribute }) ≡ is_memhash access
+table_of : (slot attribute : ℕ) (access : Access) → is_hash_table (record { kind = access_kind access; relation = slot; attribute = attribute }) ≡ is_memhash access
 table_of slot attribute Order = refl
 table_of slot attribute (Tree file) = refl
 table_of slot attribute (Table number) = refl
@@ -136,7 +136,7 @@ key_at f h (a ∷ attributes) (v ∷ values) zero suit allowed = h a.domain v al
 key_at f h (a ∷ attributes) (v ∷ values) (suc place) suit allowed = key_at f h attributes values place suit.1 allowed
 
 key_for : (attributes : List Attribute) (values : List Value) (place : ℕ) (access : Access) → AllSuit attributes values
-    → option_map_or (λ (a : Attribute). allows (kind_of access) a.domain) (slice_get attributes place) false ≡ true → HasKeyFor (slice_get values place) access
+    → option_map_or (λ (a : Attribute). allows (access_kind access) a.domain) (slice_get attributes place) false ≡ true → HasKeyFor (slice_get values place) access
 key_for attributes values place Order suit allowed = tt
 key_for attributes values place (Tree file) suit allowed = key_at (allows MaxHeap) number_suits attributes values place suit allowed
 key_for attributes values place (Table number) suit allowed = key_at (allows MemHash) number_suits_table attributes values place suit allowed
@@ -178,7 +178,7 @@ allowed_at kind (Some a) e = (a, refl, e)
 module _ (attributes : List Attribute) (all : List Row) (values : List Value) (suit : AllSuit attributes values) (rows_suit : AllRowsSuit attributes all) (test : ℕ → Bool)
     (in_order : (last : Row) → slice_get all (length all - 1) ≡ Some last → fallen_from test 0 last.tuple values ≡ None) where
   follows : (state : State) (tables : Tables) (info : IndexInfo) (access : Access) → (is_order access ≡ true → test info.attribute ≡ true)
-      → option_map_or (λ (a : Attribute). allows (kind_of access) a.domain) (slice_get attributes info.attribute) false ≡ true
+      → option_map_or (λ (a : Attribute). allows (access_kind access) a.domain) (slice_get attributes info.attribute) false ≡ true
       → IsComplete state tables access (keys info.attribute all) → MayFollow (keys info.attribute all) (tuple_key values info) access
   follows state tables info Order ordered allowed complete =
       let a = allowed_at Inline (slice_get attributes info.attribute) allowed in

@@ -12,7 +12,7 @@ use Rattle.db_model.specs.Refusing.{◌>>◌, refuse_found}
 use Rattle.db_model.specs.Row.{Row}
 use Rattle.db_model.specs.Step.{Reply, Removed, keys, remove_from, removed_row}
 use Rattle.db_model.proofs.SoundRows.{keys_removed}
-use Rattle.lvm.specs.Code.{first_refusal, ill_typed, missing_name, refusal}
+use Rattle.lvm.specs.Code.{first_refusal, first_ill_typed, first_missing_name, refusal}
 use Rattle.lvm.proofs.Counting.{ill_typed-behind, missing_name-behind}
 use Rattle.tuple_file.specs.declared.tuples.Tuples.{Tuples}
 use Rattle.tuple_file.specs.Tuples.{rows}
@@ -46,17 +46,17 @@ module _ (condition : Option Cond) (k : ℕ) (db : Database) (r : Relation) wher
   abbrev in_turn : Result (Relation × Reply) Refusal
   in_turn = ◌>>◌ (refuse_found (reader_of db r.schema.name) no.InUse) removed_all
 
-  by_turns : remove_from condition k db r ≡ tried (missing_name 0 r.schema.attributes condition) (ill_typed 0 r.schema.attributes condition) in_turn
+  by_turns : remove_from condition k db r ≡ tried (first_missing_name 0 r.schema.attributes condition) (first_ill_typed 0 r.schema.attributes condition) in_turn
   by_turns = λ i. tried (missing_name-behind r.schema.attributes [] condition refl i) (ill_typed-behind r.schema.attributes [] condition refl i) in_turn
 
   by_refusal : (n : Refusal) → refusal 0 r.schema.attributes condition ≡ Some n → remove_from condition k db r ≡ Err n
-  by_refusal n e = by_turns ∙ tried_some (missing_name 0 r.schema.attributes condition) (ill_typed 0 r.schema.attributes condition) in_turn n e
+  by_refusal n e = by_turns ∙ tried_some (first_missing_name 0 r.schema.attributes condition) (first_ill_typed 0 r.schema.attributes condition) in_turn n e
 
   by_reader : (n : ℕ) → refusal 0 r.schema.attributes condition ≡ None → reader_of db r.schema.name ≡ Some n → remove_from condition k db r ≡ Err (no.InUse n)
-  by_reader n e reads = by_turns ∙ tried_none (missing_name 0 r.schema.attributes condition) (ill_typed 0 r.schema.attributes condition) in_turn e ∙ ap (λ (o : Option ℕ). ◌>>◌ (refuse_found o no.InUse) removed_all) reads
+  by_reader n e reads = by_turns ∙ tried_none (first_missing_name 0 r.schema.attributes condition) (first_ill_typed 0 r.schema.attributes condition) in_turn e ∙ ap (λ (o : Option ℕ). ◌>>◌ (refuse_found o no.InUse) removed_all) reads
 
   by_none : refusal 0 r.schema.attributes condition ≡ None → reader_of db r.schema.name ≡ None → remove_from condition k db r ≡ removed_all
-  by_none e reads = by_turns ∙ tried_none (missing_name 0 r.schema.attributes condition) (ill_typed 0 r.schema.attributes condition) in_turn e ∙ ap (λ (o : Option ℕ). ◌>>◌ (refuse_found o no.InUse) removed_all) reads
+  by_none e reads = by_turns ∙ tried_none (first_missing_name 0 r.schema.attributes condition) (first_ill_typed 0 r.schema.attributes condition) in_turn e ∙ ap (λ (o : Option ℕ). ◌>>◌ (refuse_found o no.InUse) removed_all) reads
 
 -- ---- in a session
 

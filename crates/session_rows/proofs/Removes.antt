@@ -17,7 +17,7 @@ use Rattle.lvm.specs.Code.{IsCodeOf}
 use Rattle.tuple_file.specs.declared.tuples.Tuples.{Tuples}
 use Rattle.tuple_file.specs.Tuples.{rows}
 use Rattle.cursor.specs.declared.select.SelectCursor.{SelectCursor}
-use Rattle.cursor.specs.Remaining.{selected_slots, slots_left}
+use Rattle.cursor.specs.Remaining.{selected_slots, slots_to_answer}
 use Rattle.cursor.proofs.Selected.{tuples_selected}
 use Rattle.session_rows.specs.declared.selecting.Selected.{Selected}
 use Rattle.session_rows.specs.Marking.{IsSelected}
@@ -32,17 +32,17 @@ counted attributes condition all =
 -- a cursor over all slots of a relation began, and was gone over
 module _ (old mid : State) (tables : Tables) (t copy : Tuples) (infos : List IndexInfo) (code : List Instruction) (c : SelectCursor) (s : Selected) (copied : copy ≡ t) (same : mid ≡ old) (tuples : c.tuples ≡ copy) where
   pub is_selected : (IsTrue old.tells → (condition : Option Cond) → IsCodeOf copy.schema.attributes condition code → AreIndexesOf old tables (rows old.files copy) infos
-      → slots_left c (rows old.files copy) ≡ selected_slots copy.schema.attributes condition (rows old.files copy))
+      → slots_to_answer c (rows old.files copy) ≡ selected_slots copy.schema.attributes condition (rows old.files copy))
       → (IsTrue old.tells → AreIndexesOf old tables (rows old.files copy) infos → Fits c.candidates old tables (rows old.files copy))
-      → (IsTrue mid.tells → Fits c.candidates mid tables (rows mid.files c.tuples) → IsSelected s (slots_left c (rows mid.files c.tuples)))
+      → (IsTrue mid.tells → Fits c.candidates mid tables (rows mid.files c.tuples) → IsSelected s (slots_to_answer c (rows mid.files c.tuples)))
       → IsTrue old.tells → (condition : Option Cond) → IsCodeOf t.schema.attributes condition code → AreIndexesOf old tables (rows old.files t) infos
       → IsSelected s (selected_slots t.schema.attributes condition (rows old.files t))
   is_selected lefts fits selects told condition coded indexes =
       let Lefts : Tuples → Type 0 = λ z. (condition : Option Cond) → IsCodeOf z.schema.attributes condition code → AreIndexesOf old tables (rows old.files z) infos
-      → slots_left c (rows old.files z) ≡ selected_slots z.schema.attributes condition (rows old.files z) in
+      → slots_to_answer c (rows old.files z) ≡ selected_slots z.schema.attributes condition (rows old.files z) in
       let Places : Tuples → Type 0 = λ z. AreIndexesOf old tables (rows old.files z) infos → Fits c.candidates old tables (rows old.files z) in
-      let SelectsIn : State → Type 0 = λ z. IsTrue z.tells → Fits c.candidates z tables (rows z.files c.tuples) → IsSelected s (slots_left c (rows z.files c.tuples)) in
-      let SelectsOf : Tuples → Type 0 = λ z. Fits c.candidates old tables (rows old.files z) → IsSelected s (slots_left c (rows old.files z)) in
+      let SelectsIn : State → Type 0 = λ z. IsTrue z.tells → Fits c.candidates z tables (rows z.files c.tuples) → IsSelected s (slots_to_answer c (rows z.files c.tuples)) in
+      let SelectsOf : Tuples → Type 0 = λ z. Fits c.candidates old tables (rows old.files z) → IsSelected s (slots_to_answer c (rows old.files z)) in
       let left = subst Lefts copied (lefts told) condition coded indexes in
       let fit = subst Places copied (fits told) indexes in
       subst (λ (slots : List ℕ). IsSelected s slots) left (subst SelectsOf (tuples ∙ copied) (subst SelectsIn same selects told) fit)

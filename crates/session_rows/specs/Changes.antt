@@ -1,7 +1,7 @@
 -- What a change of the rows of one relation leaves of a session.
 use Rattle.std.specs.Prelude.{◌≡◌, ◌≢◌, ◌≤◌, ◌+◌, ◌++◌, ◌∷◌, [], ℕ, List, Option, Some, None, IsTrue, filter, get_or, true}
 use Rattle.afl_base.specs.Files.{State}
-use Rattle.afl_base.specs.Frames.{Spares}
+use Rattle.afl_base.specs.Frames.{SparesOthers}
 use Rattle.db_model.specs.declared.values.Value.{Value}
 use Rattle.db_model.specs.Database.{Relation}
 use Rattle.index_set.specs.declared.info.IndexInfo.{IndexInfo}
@@ -40,7 +40,7 @@ pub record RelationGrows (old new : State) (before after : Tables) (t : Tuples) 
   pub held : AreHeld new after (slots new.files t) infos
   pub complete : IsTrue old.tells → AreComplete old before (rows old.files t) infos
       → AreComplete new after (rows new.files t) infos
-  pub others : Spares old new (StaysAt t.file infos)
+  pub others : SparesOthers old new (StaysAt t.file infos)
   pub tables : KeepsTables before after infos
 
 -- a row of these values came behind, and its keys into each index
@@ -49,14 +49,14 @@ pub record AddsRow (old new : State) (before after : Tables) (t : Tuples) (infos
   pub count : slots new.files t ≡ slot + 1
   pub holds : HoldsRows new t
   pub held : AreHeld new after (slot + 1) infos
-  pub others : Spares old new (StaysAt t.file infos)
+  pub others : SparesOthers old new (StaysAt t.file infos)
   pub tables : KeepsTables before after infos
 
 -- its rows may be others, as many as before, and no other file has changed
 pub record ReplacesRows (old new : State) (t : Tuples) : Type 0 where
   pub holds : HoldsRows new t
   pub count : slots new.files t ≡ slots old.files t
-  pub others : Spares old new (λ id. id ≢ t.file)
+  pub others : SparesOthers old new (λ id. id ≢ t.file)
 
 -- none of its rows is removed
 abbrev pub HasOnlyLiveRows : Relation → Type 0

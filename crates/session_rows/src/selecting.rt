@@ -6,7 +6,7 @@ ghost use Rattle.std.specs.Prelude.{◌≡◌, ◌+◌, ◌<◌, ◌≤◌, ◌�
 ghost use Rattle.afl_base.specs.Keeping.{OnlyReads};
 ghost use Rattle.index_set.specs.Walks.{Fits};
 ghost use Rattle.tuple_file.specs.Tuples.{rows};
-ghost use Rattle.cursor.specs.Remaining.{MayRead, slots_left};
+ghost use Rattle.cursor.specs.Remaining.{MayRead, slots_to_answer};
 ghost use Rattle.session_rows.specs.Marking.{AreBelow, IsMarkedFront, IsSelected};
 
 use afl_base::{Failed, Files, SlotNo};
@@ -49,7 +49,7 @@ pub(crate) fn select_slots<V: Files>(
         let all = rows state.files cursor.old.tuples in
         IsTrue state.tells → IfOk result (λ selected.
         Fits cursor.old.candidates state tables.now all
-        → IsSelected selected (slots_left cursor.old all)) }
+        → IsSelected selected (slots_to_answer cursor.old all)) }
     ensures below { IfOk result (λ selected. AreBelow cursor.old.candidates.slots selected.first) }
     ensures few { IfOk result (λ selected. length selected.first ≤ selected.count) }
     ensures code { OnOk result (cursor.new.code ≡ cursor.old.code) }

@@ -12,7 +12,7 @@ use Rattle.afl_base.specs.Files.{State, Table}
 use Rattle.catalog.specs.Rules.{catalog_in}
 use Rattle.db_model.specs.Catalog.{Index}
 use Rattle.db_model.specs.Cost.{sum}
-use Rattle.db_model.specs.Database.{Database, Relation, used}
+use Rattle.db_model.specs.Database.{Database, Relation, used_things}
 use Rattle.db_model.specs.RunCost.{slots_opened}
 use Rattle.padded.proofs.Facts.{seen_at}
 use Rattle.stored.specs.Base.{base_of}
@@ -70,7 +70,7 @@ as_listed xs =
 -- ---- the slots of each relation, once for each of its indexes
 
 abbrev many : List (Option Indexed) → ℕ → ℕ
-many xs k = length (filter (λ (index : Index). index.relation == k) (used (map (option_map index_known) xs)))
+many xs k = length (filter (λ (index : Index). index.relation == k) (used_things (map (option_map index_known) xs)))
 
 module _ (files : Table) (relations : List (Option Tuples)) where
   abbrev slots_at : ℕ → ℕ
@@ -81,7 +81,7 @@ module _ (files : Table) (relations : List (Option Tuples)) where
   slots_of (Some x) = slots_at x.relation
 
   one_more : (x : Indexed) (xs : List (Option Indexed)) (k : ℕ) → slots_at k * (1 + many (Some x ∷ xs) k) ≡ slots_at k * (1 + many xs k) + only slots_at x.relation k
-  one_more x xs k = by_test (x.relation == k) (filter (λ (index : Index). index.relation == k) (used (map (option_map index_known) xs)))
+  one_more x xs k = by_test (x.relation == k) (filter (λ (index : Index). index.relation == k) (used_things (map (option_map index_known) xs)))
     where
       by_test : (b : Bool) (rest : List Index) → slots_at k * (1 + length (cond b (index_known x ∷ rest) rest)) ≡ slots_at k * (1 + length rest) + (if b then slots_at k else 0)
       by_test true rest = times_more (slots_at k) (length rest)

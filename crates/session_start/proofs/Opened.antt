@@ -15,11 +15,11 @@ use Rattle.db_model.specs.Row.{Row, rows_of}
 use Rattle.db_model.specs.Step.{keys}
 use Rattle.index_set.specs.declared.info.Access.{Access}
 use Rattle.index_set.specs.declared.info.Access.TheVariants.{Order, Tree, Table as InTable}
-use Rattle.index_set.specs.Plans.{kind_of}
+use Rattle.index_set.specs.Plans.{access_kind}
 use Rattle.index_set.specs.Tables.{Tables}
 use Rattle.padded.proofs.Facts.{none_there, seen_at, some_same}
 use Rattle.space_model.specs.Enough.{rows_in}
-use Rattle.space_model.specs.FileNames.{bytes_named, bytes_of, catalog_file, rows_file, tree_file}
+use Rattle.space_model.specs.FileNames.{bytes_named, bytes_in_file, catalog_file, rows_file, tree_file}
 use Rattle.space_model.proofs.NamedFiles.{named_found}
 use Rattle.stored.specs.Base as stored
 use Rattle.stored.specs.Base.{base_of}
@@ -51,13 +51,13 @@ no_some a e = cc
 
 module _ (state : State) (held : Held) (f : AreFilesFound state held) where
   named_bytes : (id : ℕ) (name : List ℕ) → IsNamed state.files id name → bytes_named name state.files ≡ bytes_at state.files id
-  named_bytes id name named = ap bytes_of (named_found state.files id name f.distinct named)
+  named_bytes id name named = ap bytes_in_file (named_found state.files id name f.distinct named)
 
   catalog_seen : catalog_bytes_in state.files ≡ bytes_of_catalog state.files held.cat
   catalog_seen = by_cat held.cat f.catalog
     where
       by_cat : (o : Option ℕ) → HasCatalogFile state.files o → bytes_named catalog_file state.files ≡ bytes_of_catalog state.files o
-      by_cat None h = ap bytes_of (named_none state.files catalog_file h)
+      by_cat None h = ap bytes_in_file (named_none state.files catalog_file h)
       by_cat (Some cat) h = named_bytes cat catalog_file h.0
 
   relation_bytes : (k : ℕ) (t : Tuples) → k < 8 → get_or held.relations k None ≡ Some t → bytes_named (rows_file k) state.files ≡ bytes_at state.files t.file
@@ -135,29 +135,29 @@ module _ (state : State) (held : Held) (f : AreFilesFound state held) where
     rows_seen : (k : ℕ) (t : Tuples) → get_or held.relations k None ≡ Some t → rows_in (view state.files held (replicate 4 None)) k ≡ rows state.files t
     rows_seen k t e = ap (λ (o : Option Relation). option_map_or (λ (r : Relation). r.rows) o []) (seen_at (relation_of_rows state.files) held.relations k ∙ ap (option_map (relation_of_rows state.files)) e)
 
-    to_complete : (i : ℕ) (access : Access) (ks : List ℤ) → HasFile state.files i access → IsKept state.files access ks → IsIndexComplete (kind_of access) (bytes_named (tree_file i) state.files) ks
+    to_complete : (i : ℕ) (access : Access) (ks : List ℤ) → HasFile state.files i access → IsKept state.files access ks → IsIndexComplete (access_kind access) (bytes_named (tree_file i) state.files) ks
     to_complete i Order ks file h = h
-    to_complete i (Tree file) ks named h = subst (λ (bytes : List ℕ). IsIndexComplete (kind_of (Tree file)) bytes ks) (sym (named_bytes file (tree_file i) named)) h
+    to_complete i (Tree file) ks named h = subst (λ (bytes : List ℕ). IsIndexComplete (access_kind (Tree file)) bytes ks) (sym (named_bytes file (tree_file i) named)) h
     to_complete i (InTable number) ks file h = h
 
-    from_complete : (i : ℕ) (access : Access) (ks : List ℤ) → HasFile state.files i access → IsIndexComplete (kind_of access) (bytes_named (tree_file i) state.files) ks → IsKept state.files access ks
+    from_complete : (i : ℕ) (access : Access) (ks : List ℤ) → HasFile state.files i access → IsIndexComplete (access_kind access) (bytes_named (tree_file i) state.files) ks → IsKept state.files access ks
     from_complete i Order ks file h = h
-    from_complete i (Tree file) ks named h = subst (λ (bytes : List ℕ). IsIndexComplete (kind_of (Tree file)) bytes ks) (named_bytes file (tree_file i) named) h
+    from_complete i (Tree file) ks named h = subst (λ (bytes : List ℕ). IsIndexComplete (access_kind (Tree file)) bytes ks) (named_bytes file (tree_file i) named) h
     from_complete i (InTable number) ks file h = h
 
     to_on : (i : ℕ) (x : Indexed) (o : Option Tuples) → get_or held.relations x.relation None ≡ o → IsPlacedOn state i x o → IsKeptOn state.files x o
-        → IsIndexComplete (kind_of x.access) (bytes_named (tree_file i) state.files) (keys x.attribute (rows_in (view state.files held (replicate 4 None)) x.relation))
+        → IsIndexComplete (access_kind x.access) (bytes_named (tree_file i) state.files) (keys x.attribute (rows_in (view state.files held (replicate 4 None)) x.relation))
     to_on i x None e p h = absurd p
     to_on i x (Some t) e p h =
-        subst (λ (all : List Row). IsIndexComplete (kind_of x.access) (bytes_named (tree_file i) state.files) (keys x.attribute all)) (sym (rows_seen x.relation t e))
+        subst (λ (all : List Row). IsIndexComplete (access_kind x.access) (bytes_named (tree_file i) state.files) (keys x.attribute all)) (sym (rows_seen x.relation t e))
         (to_complete i x.access (keys x.attribute (rows state.files t)) p.file h)
 
     from_on : (i : ℕ) (x : Indexed) (o : Option Tuples) → get_or held.relations x.relation None ≡ o → IsPlacedOn state i x o
-        → IsIndexComplete (kind_of x.access) (bytes_named (tree_file i) state.files) (keys x.attribute (rows_in (view state.files held (replicate 4 None)) x.relation)) → IsKeptOn state.files x o
+        → IsIndexComplete (access_kind x.access) (bytes_named (tree_file i) state.files) (keys x.attribute (rows_in (view state.files held (replicate 4 None)) x.relation)) → IsKeptOn state.files x o
     from_on i x None e p h = tt
     from_on i x (Some t) e p h =
         from_complete i x.access (keys x.attribute (rows state.files t)) p.file
-        (subst (λ (all : List Row). IsIndexComplete (kind_of x.access) (bytes_named (tree_file i) state.files) (keys x.attribute all)) (rows_seen x.relation t e) h)
+        (subst (λ (all : List Row). IsIndexComplete (access_kind x.access) (bytes_named (tree_file i) state.files) (keys x.attribute all)) (rows_seen x.relation t e) h)
 
     pub to_index : (i : ℕ) → i < 8 → KeepsSlot state.files held i → KeepsIndex state.files i
     to_index i below h =

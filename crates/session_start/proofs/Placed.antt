@@ -12,7 +12,7 @@ use Rattle.afl_base.specs.Files.{AreDistinct, File, IsNamed, IsUnnamed, State, T
 use Rattle.catalog.specs.declared.types.Catalog.{Catalog}
 use Rattle.catalog.specs.declared.types.IndexEntry.{IndexEntry}
 use Rattle.catalog.specs.CatalogFile.{index_in as index_of_entry, indexes_in}
-use Rattle.catalog.specs.Catalogs.{slots_of}
+use Rattle.catalog.specs.Catalogs.{catalog_slots}
 use Rattle.catalog.specs.Formed.{AreBehind, AreSchemas, HasCatalogSize, IsFormed, is_schema_slot}
 use Rattle.catalog.specs.Rules.{breaks_files, differ, first, how_many, is_behind, is_of_database, is_same_place, is_stranger, is_table, is_third_table, is_tree, stands_on}
 use Rattle.db_model.specs.declared.schemas.Attribute.{Attribute}
@@ -28,7 +28,7 @@ use Rattle.index_set.specs.declared.info.Access.TheVariants.{Order, Tree, Table 
 use Rattle.index_set.specs.declared.info.TableId.{TableId}
 use Rattle.index_set.specs.declared.info.TableId.TheVariants.{First, Second}
 use Rattle.index_set.specs.Inserts.{IsApart, IsDoublingTree, IsElsewhere, IsNoTable}
-use Rattle.index_set.specs.Plans.{kind_of}
+use Rattle.index_set.specs.Plans.{access_kind}
 use Rattle.padded.proofs.Facts.{both_parts, seen_at}
 use Rattle.space_model.specs.FileNames.{catalog_file, is_there, rows_file, tree_file}
 use Rattle.space_model.proofs.NamedFiles.{at_name, named_found}
@@ -133,7 +133,7 @@ inside_by kind (a ∷ attributes) zero e = omega arith
 inside_by kind (a ∷ attributes) (suc n) e = omega (arith, inside_by kind attributes n e)
 
 file_by : (files : Table) (before : List (Option Index)) (i : ℕ) (access : Access) → AreDistinct files
-    → is_there (tree_file i) files ≡ elim (kind_of access) [ Inline ↦ false | MaxHeap ↦ true | MemHash ↦ false ] → IsAccess files before i access → HasFile files i access
+    → is_there (tree_file i) files ≡ elim (access_kind access) [ Inline ↦ false | MaxHeap ↦ true | MemHash ↦ false ] → IsAccess files before i access → HasFile files i access
 file_by files before i Order d there h = unnamed_by files (tree_file i) d there
 file_by files before i (Tree file) d there h = h
 file_by files before i (InTable number) d there h = unnamed_by files (tree_file i) d there
@@ -150,11 +150,11 @@ placed_on state version i before x None o d known s stands there access h = absu
 placed_on state version i before x (Some schema) None d known s stands there access h = absurd h
 placed_on state version i before x (Some schema) (Some t) d known s stands there access h =
     let few = (sound_schema version schema s).few in
-    let within = inside_by (kind_of x.access) schema.attributes x.attribute stands in
+    let within = inside_by (access_kind x.access) schema.attributes x.attribute stands in
     record {
       place = omega (arith, few, within);
-      allowed = ap (λ (z : Schema). option_map_or (λ (a : Attribute). allows (kind_of x.access) a.domain) (slice_get z.attributes x.attribute) false) h.0
-          ∙ allowed_by (kind_of x.access) (slice_get schema.attributes x.attribute) stands;
+      allowed = ap (λ (z : Schema). option_map_or (λ (a : Attribute). allows (access_kind x.access) a.domain) (slice_get z.attributes x.attribute) false) h.0
+          ∙ allowed_by (access_kind x.access) (slice_get schema.attributes x.attribute) stands;
       file = file_by state.files before i x.access d there access;
       doubling = doubling_by state before i x.access known access;
     }
@@ -258,7 +258,7 @@ module _ (files : Table) (schemas : List (Option Schema)) (indexes : List (Optio
       let same : Bool = list_any (is_same_place (index_known y)) (take j indexes) in
       let third : Bool = is_third_table (take j indexes) (index_known y) in
       let no = (both_parts (stand && not same) (not third) now).1 in
-      of_table (is_hash_table (index_known y)) (nat_le 2 (how_many is_table (take j indexes))) (ap (λ (a : Access). is_table (Some (record (index_known y) { kind = kind_of a }))) table) no
+      of_table (is_hash_table (index_known y)) (nat_le 2 (how_many is_table (take j indexes))) (ap (λ (a : Access). is_table (Some (record (index_known y) { kind = access_kind a }))) table) no
     where
       of_table : (a b : Bool) → a ≡ true → not (a && b) ≡ true → b ≡ false
       of_table true true e f = absurd (cc)
@@ -266,7 +266,7 @@ module _ (files : Table) (schemas : List (Option Schema)) (indexes : List (Optio
       of_table false b e f = absurd (cc)
 
   is_table_at : (i : ℕ) (x : Indexed) (n : TableId) → get_or indexes i None ≡ Some (index_known x) → x.access ≡ InTable n → is_table (get_or indexes i None) ≡ true
-  is_table_at i x n is table = ap is_table is ∙ ap (λ (a : Access). is_table (Some (record (index_known x) { kind = kind_of a }))) table
+  is_table_at i x n is table = ap is_table is ∙ ap (λ (a : Access). is_table (Some (record (index_known x) { kind = access_kind a }))) table
 
   tables_apart : (i j : ℕ) (x y : Indexed) (n m : TableId) → i ≢ j → IsAt i x → IsAt j y → x.access ≡ InTable n → y.access ≡ InTable m → n ≡ m → ⊥
   tables_apart i j x y n m other a b e f same =
@@ -381,7 +381,7 @@ module _ (state : State) (catalog : Catalog) (held : Held) (version : held.versi
   seen_long f [] = refl
   seen_long f (x ∷ xs) = ap suc (seen_long f xs)
 
-  pub same_slots : slots_held held ≡ slots_of catalog
+  pub same_slots : slots_held held ≡ catalog_slots catalog
   same_slots =
       let relations : map (option_map schema_in) held.relations ≡ catalog.relations =
       ext_get_or None (map (option_map schema_in) held.relations) catalog.relations (seen_long (option_map schema_in) held.relations ∙ eight ∙ sym formed.eight_relations)

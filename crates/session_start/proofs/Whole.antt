@@ -12,7 +12,7 @@ use Rattle.index_set.specs.declared.info.Access.{Access}
 use Rattle.index_set.specs.declared.info.Access.TheVariants.{Order, Tree, Table as InTable}
 use Rattle.index_set.specs.declared.info.IndexInfo.{IndexInfo}
 use Rattle.index_set.specs.declared.info.TableId.{TableId}
-use Rattle.index_set.specs.Complete.{HasKeys, IsComplete, IsHeld, key_in}
+use Rattle.index_set.specs.Complete.{HasKeys, IsComplete, IsHeld, key_at_place}
 use Rattle.index_set.specs.Inserts.{IsDoublingTree, IsElsewhere, IsNoTable}
 use Rattle.index_set.specs.Tables.{Tables, entries}
 use Rattle.index_set.proofs.Fronts.{keys_whole}
@@ -53,12 +53,12 @@ held_alone state tables n Order a h = tt
 held_alone state tables n (Tree file) a h = h
 held_alone state tables n (InTable number) a h = absurd a
 
-module _ (state : State) (t : Tuples) (info : IndexInfo) (each : (slot : ℕ) → slot < slots state.files t → key_of state info.column slot ≡ key_in info.attribute (row state.files t slot)) where
+module _ (state : State) (t : Tuples) (info : IndexInfo) (each : (slot : ℕ) → slot < slots state.files t → key_of state info.column slot ≡ key_at_place info.attribute (row state.files t slot)) where
   pub has_keys : HasKeys state (rows state.files t) info
   has_keys slot below =
       let inside : slot < slots state.files t = omega (arith, below, count_rows state.files t) in
       each slot inside
-      ∙ ap (λ (z : Row). key_in info.attribute z) (sym (get_or-map-range_with_len (row_at t.schema.attributes (bytes_at state.files t.file)) 0 (slots state.files t) slot slot no_row inside (omega arith)))
+      ∙ ap (λ (z : Row). key_at_place info.attribute z) (sym (get_or-map-range_with_len (row_at t.schema.attributes (bytes_at state.files t.file)) 0 (slots state.files t) slot slot no_row inside (omega arith)))
 
   pub column_keys : map (key_of state info.column) (range_with_len 0 (slots state.files t)) ≡ keys info.attribute (rows state.files t)
   column_keys = keys_whole state info (rows state.files t) (slots state.files t) (count_rows state.files t) has_keys

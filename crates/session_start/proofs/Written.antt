@@ -5,7 +5,7 @@ use Rattle.std.specs.Str.{bytes_eq}
 use Rattle.std.proofs.lemmas.Bool.Decides.{nat_tests}
 use Rattle.std.proofs.lemmas.Slice.Eq.{bytes_eq-Decides}
 use Rattle.afl_base.specs.Files.{Table}
-use Rattle.catalog.specs.Rules.{breaks_index, breaks_relation, broken_at, broken_catalog, catalog_bytes_in, first, first_broken, first_slot, has_form, is_behind, is_index_form, is_named_among, is_relation_slot, is_schema, is_sound_index, is_sound_relation}
+use Rattle.catalog.specs.Rules.{breaks_index, breaks_relation, broken_slot, broken_catalog, catalog_bytes_in, first, first_broken, first_slot, has_form, is_behind, is_index_form, is_named_among, is_relation_slot, is_schema, is_sound_index, is_sound_relation}
 use Rattle.db_model.specs.declared.schemas.Schema.{Schema}
 use Rattle.db_model.specs.Catalog.{Index, catalog_of, index_at, index_slot_bytes, relation_at, relation_slot_bytes, version_mark, version_of}
 use Rattle.stored.proofs.FilesOf.{earliest_none, first_false, nothing_broken, unbroken}
@@ -59,7 +59,7 @@ unfolding broken_catalog
 formed bytes e =
     by_form (has_form bytes)
     (nothing_broken 15 (if has_form bytes then None else Some 0)
-    (earliest_none (broken_at 15 (if has_form bytes then None else Some 0)) (broken_at 16 (first_slot bytes (breaks_relation bytes)) ∷ broken_at 17 (first_slot bytes (breaks_index bytes)) ∷ []) e).0)
+    (earliest_none (broken_slot 15 (if has_form bytes then None else Some 0)) (broken_slot 16 (first_slot bytes (breaks_relation bytes)) ∷ broken_slot 17 (first_slot bytes (breaks_index bytes)) ∷ []) e).0)
   where
     by_form : (b : Bool) → ◌≡◌ {A = Option ℕ} (if b then None else Some 0) None → b ≡ true
     by_form true e = refl

@@ -78,8 +78,8 @@ BreaksHeld files held rule place =
     ⊎ ((rule ≡ 20) × AllEight (HasRows files held) × IsFirst (KeepsSlot files held) place)
 
 -- or none
-abbrev pub KeepsAll : Table → Held → Type 0
-KeepsAll files held = AllEight (HasRows files held) × AllEight (KeepsSlot files held)
+abbrev pub KeepsListing : Table → Held → Type 0
+KeepsListing files held = AllEight (HasRows files held) × AllEight (KeepsSlot files held)
 
 abbrev pub IsReadyAll : State → Tables → Held → Type 0
 IsReadyAll state tables held = AllEight (HoldsSlot state held) × AllEight (IsReadySlot state tables held)

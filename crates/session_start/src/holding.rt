@@ -5,11 +5,11 @@
 ghost use Rattle.std.specs.Prelude.{◌≡◌, ◌<◌, ℕ, true, None, get_or, is_some, length, option_map, take};
 ghost use Rattle.afl_base.specs.Files.{IsNamed};
 ghost use Rattle.catalog.specs.CatalogFile.{index_in as index_of_entry, indexes_in};
-ghost use Rattle.catalog.specs.Catalogs.{slots_of};
+ghost use Rattle.catalog.specs.Catalogs.{catalog_slots};
 ghost use Rattle.catalog.specs.Formed.{HasCatalogSize, IsFormed};
 ghost use Rattle.catalog.specs.Rules.{breaks_files, first, is_stranger, is_table, is_tree};
 ghost use Rattle.db_model.specs.declared.schemas.IndexKind.TheVariants.{MaxHeap as OfHeap};
-ghost use Rattle.index_set.specs.Plans.{kind_of};
+ghost use Rattle.index_set.specs.Plans.{access_kind};
 ghost use Rattle.space_model.specs.FileNames.{is_there, rows_file, tree_file};
 ghost use Rattle.session_start.specs.Found.{IsAccess, AreFilesFound, IsIndexHeld, IsRelationOf, slots_held, table_behind};
 
@@ -28,7 +28,7 @@ pub fn hold<V: Files>(files: &V, catalog: &Catalog) -> Held
     requires matched { first 16 (breaks_files (V.state files.now).files catalog.now.relations
         (indexes_in catalog.now.indexes)) ≡ None }
     ensures found { AreFilesFound (V.state files.now) result }
-    ensures catalog { slots_held result ≡ slots_of catalog.now }
+    ensures catalog { slots_held result ≡ catalog_slots catalog.now }
 {
     // A look at any place tells that there are 32, and that names are distinct.
     let _first_is_live = files.live(FileId::default());
@@ -117,7 +117,7 @@ fn access_of<V: Files>(
 ) -> Access
     requires slot { slot < 8 }
     requires tree { kind ≡ OfHeap → is_there (tree_file slot) (V.state files.now).files ≡ true }
-    ensures kind { kind_of result ≡ kind }
+    ensures kind { access_kind result ≡ kind }
     ensures access { IsAccess (V.state files.now).files (indexes_in before.now) slot result }
 {
     match kind {

@@ -12,7 +12,7 @@ ghost use Rattle.session_model.specs.View.{view};
 ghost use Rattle.stored.specs.Base.{base_of};
 ghost use Rattle.stored.specs.Sound.{BreaksFirst, IsSoundTable};
 ghost use Rattle.session_start.specs.Found.{AreFilesFound};
-ghost use Rattle.session_start.specs.Judged.{BreaksHeld, IsReadyAll, KeepsAll};
+ghost use Rattle.session_start.specs.Judged.{BreaksHeld, IsReadyAll, KeepsListing};
 ghost use Rattle.session_start.specs.Reads.{all_reads, all_slots};
 
 use crate::holding::hold;
@@ -73,7 +73,7 @@ fn first_broken_rule<V: Files>(
 ) -> Result<Option<BrokenRule>, Failed>
     requires found { AreFilesFound (V.state files.old) held.now }
     ensures judged { let files_old = (V.state files.old).files in IsTrue (V.state files.old).tells
-        → IfOk result (λ r. MatchOption r (KeepsAll files_old held.now) (λ broken.
+        → IfOk result (λ r. MatchOption r (KeepsListing files_old held.now) (λ broken.
         BreaksHeld files_old held.now broken.rule broken.place)) }
     ensures ready { IfOk result (λ r. IfNone r (IsReadyAll (V.state files.old) tables.new held.now)) }
     ensures reads { let files_old = (V.state files.old).files in V.reads files.new ≤ V.reads files.old

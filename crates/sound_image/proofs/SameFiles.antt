@@ -10,7 +10,7 @@ use Rattle.coffee_layout.specs.Units.{pages_of}
 use Rattle.coffee_layout.specs.declared.file.FileAt.{FileAt}
 use Rattle.coffee_merge.specs.Holding.{IsIn}
 use Rattle.coffee_merge.proofs.SoundTables.{sound_held}
-use Rattle.coffee_volume.specs.Mounting.{mounted_state, named}
+use Rattle.coffee_volume.specs.Mounting.{mounted_state, roomless_file}
 use Rattle.coffee_volume.specs.Volumes.{file_seen, files_seen, roomless}
 use Rattle.stored.specs.Same.{HasLike, HaveSameFiles}
 
@@ -22,7 +22,7 @@ module _ (image : List ℕ) where
 
   -- a file that is contained has its like in the table
   contained_like : (fs : List Placed) (n i : ℕ) (f : File) → i < length (map (named_file image) fs)
-      → get_or (map (named_file image) fs) i (named f) ≡ named f → HasLike (seen fs n) f
+      → get_or (map (named_file image) fs) i (roomless_file f) ≡ roomless_file f → HasLike (seen fs n) f
   contained_like [] n i f h e = absurd (omega (arith, h))
   contained_like (p ∷ ps) n zero f h e = record {
     id = 0;
@@ -41,11 +41,11 @@ module _ (image : List ℕ) where
   none_there (suc n) zero g e = cc
   none_there (suc n) (suc i) g e = none_there n i g e
 
-  there_contained : (fs : List Placed) (n i : ℕ) (g : File) → place (seen fs n) i ≡ Some g → Contains (map (named_file image) fs) (named g)
+  there_contained : (fs : List Placed) (n i : ℕ) (g : File) → place (seen fs n) i ≡ Some g → Contains (map (named_file image) fs) (roomless_file g)
   there_contained [] n i g e = absurd (none_there n i g e)
   there_contained (p ∷ ps) n zero g e =
       let same : file_seen true image (roomless (entry_of image p)) ≡ g = ap (λ o. unwrap_or o no_file) e in
-      (0, omega arith, ap named same)
+      (0, omega arith, ap roomless_file same)
   there_contained (p ∷ ps) n (suc i) g e =
       let c = there_contained ps n i g e in
       let less : c.0 < length (map (named_file image) ps) = c.1 in
@@ -63,17 +63,17 @@ place_live files id f e = (subst (λ o. IsTrue (is_some o)) (sym e) refl, ap (λ
 
 -- as a volume says it when it hands back its flash
 pub same_files : (files : Table) (image : List ℕ)
-    → ((id : ℕ) → IsLive files id → Contains (files_of image) (named (file_at files id)))
-    → ((n : NamedFile) → Contains (files_of image) n → (id : ℕ) × IsLive files id × (named (file_at files id) ≡ n))
+    → ((id : ℕ) → IsLive files id → Contains (files_of image) (roomless_file (file_at files id)))
+    → ((n : NamedFile) → Contains (files_of image) n → (id : ℕ) × IsLive files id × (roomless_file (file_at files id) ≡ n))
     → HaveSameFiles files (mounted_state image).files
 same_files files image each only = record {
   kept = λ id f e.
       let l = place_live files id f e in
-      let c : Contains (files_of image) (named f) = subst (λ x. Contains (files_of image) (named x)) l.1 (each id l.0) in
+      let c : Contains (files_of image) (roomless_file f) = subst (λ x. Contains (files_of image) (roomless_file x)) l.1 (each id l.0) in
       contained_like image (placed_in (units_of image)) (32 - length (listed image)) c.0 f c.1 c.2;
   only = λ id g e.
       let c = there_contained image (placed_in (units_of image)) (32 - length (listed image)) id g e in
-      let o = only (named g) c in
+      let o = only (roomless_file g) c in
       record {
         id = o.0;
         file = file_at files o.0;

@@ -17,14 +17,14 @@ use Rattle.db_model.specs.Step.{key_of}
 use Rattle.index_maxheap.specs.Rooms.{room_of}
 use Rattle.session_model.specs.Wanted.{room_in}
 use Rattle.space_model.specs.Enough.{keys_named}
-use Rattle.space_model.specs.FileNames.{bytes_of, catalog_file, file_named, rows_file, size_in, tree_file}
+use Rattle.space_model.specs.FileNames.{bytes_in_file, catalog_file, file_named, rows_file, size_in, tree_file}
 use Rattle.space_model.specs.Wants.{Wants, WantsCatalog, WantsIndex, WantsMarks, WantsTree, room_for}
 use Rattle.stored.proofs.SameBase.{bytes_same, there_same}
 use Rattle.stored.specs.Same.{HaveSameFiles}
 
 -- ---- sizes and rooms by name
 
-size_by : (o p : Option File) → is_some o ≡ is_some p → bytes_of o ≡ bytes_of p → option_map (λ (f : File). length f.bytes) o ≡ option_map (λ (f : File). length f.bytes) p
+size_by : (o p : Option File) → is_some o ≡ is_some p → bytes_in_file o ≡ bytes_in_file p → option_map (λ (f : File). length f.bytes) o ≡ option_map (λ (f : File). length f.bytes) p
 size_by None None there bytes = refl
 size_by None (Some g) there bytes = absurd (let n : ⊥ = cc in n)
 size_by (Some f) None there bytes = absurd (let n : ⊥ = cc in n)

@@ -15,7 +15,7 @@ use Rattle.db_model.specs.Catalog.{Index}
 use Rattle.db_model.specs.declared.values.Value.{Value}
 use Rattle.db_model.specs.Answers.{selected}
 use Rattle.db_model.specs.Cond.{condition_of}
-use Rattle.db_model.specs.Database.{Relation, Database, relation_from, relation_named, indexes_of, used, free_from, index_slot}
+use Rattle.db_model.specs.Database.{Relation, Database, relation_from, relation_named, indexes_of, used_things, free_from, index_slot}
 use Rattle.db_model.specs.Item.{place_of}
 use Rattle.db_model.specs.Row.{Row, row_length}
 use Rattle.db_model.proofs.Buckets.{buckets_bound}
@@ -59,7 +59,7 @@ largest-append (x ∷ xs) ys = let rest = largest-append xs ys in let more = le-
 
 -- the indexes of the relation in a slot, among some slots
 abbrev on : ℕ → List (Option Index) → List Index
-on relation slots = filter (λ index. index.relation == relation) (used slots)
+on relation slots = filter (λ index. index.relation == relation) (used_things slots)
 
 heap_sizes : (kind : IndexKind) (sizes : List ℕ) → kind ≡ MaxHeap → elim kind [ Inline ↦ [] | MaxHeap ↦ sizes | MemHash ↦ [] ] ≡ sizes
 heap_sizes Inline sizes e = cc

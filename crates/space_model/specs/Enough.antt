@@ -7,7 +7,7 @@ use Rattle.db_model.specs.declared.commands.Command.TheVariants as command
 use Rattle.db_model.specs.declared.schemas.IndexKind.TheVariants.{Inline, MaxHeap, MemHash}
 use Rattle.db_model.specs.Catalog.{Index}
 use Rattle.db_model.specs.Cost.{sum}
-use Rattle.db_model.specs.Database.{Relation, Database, relation_named, indexes_of, used}
+use Rattle.db_model.specs.Database.{Relation, Database, relation_named, indexes_of, used_things}
 use Rattle.db_model.specs.HashTree.{buckets}
 use Rattle.db_model.specs.Item.{place_of}
 use Rattle.db_model.specs.Row.{Row, row_length}
@@ -35,7 +35,7 @@ tree_sizes db (index ∷ indexes) = index_sizes db index ++ tree_sizes db indexe
 
 -- the files of rows and of hash trees
 abbrev pub file_sizes : Database → List ℕ
-file_sizes db = map rows_size (used db.relations) ++ tree_sizes db (used db.indexes)
+file_sizes db = map rows_size (used_things db.relations) ++ tree_sizes db (used_things db.indexes)
 
 -- ---- sectors
 

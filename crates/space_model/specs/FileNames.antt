@@ -25,13 +25,13 @@ file_named name (Some f ∷ files) = if bytes_eq f.name name then Some f else fi
 abbrev pub is_there : List ℕ → Table → Bool
 is_there name files = is_some (file_named name files)
 
-abbrev pub bytes_of : Option File → List ℕ
-bytes_of None = []
-bytes_of (Some f) = f.bytes
+abbrev pub bytes_in_file : Option File → List ℕ
+bytes_in_file None = []
+bytes_in_file (Some f) = f.bytes
 
 -- the bytes of the file of a name, none where it is absent
 abbrev pub bytes_named : List ℕ → Table → List ℕ
-bytes_named name files = bytes_of (file_named name files)
+bytes_named name files = bytes_in_file (file_named name files)
 
 -- how many bytes the file of a name has, None where there is none
 abbrev pub size_in : Table → List ℕ → Option ℕ

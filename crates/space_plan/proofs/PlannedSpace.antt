@@ -12,7 +12,7 @@ use Rattle.db_model.specs.declared.schemas.IndexKind.{IndexKind}
 use Rattle.db_model.specs.declared.schemas.IndexKind.TheVariants.{Inline, MaxHeap, MemHash}
 use Rattle.db_model.specs.declared.values.Value.{Value}
 use Rattle.db_model.specs.Catalog.{Index}
-use Rattle.db_model.specs.Database.{Relation, Database, indexes_of, relation_from, relation_named, used}
+use Rattle.db_model.specs.Database.{Relation, Database, indexes_of, relation_from, relation_named, used_things}
 use Rattle.db_model.specs.HashTree.{buckets}
 use Rattle.db_model.specs.Row.{Row, row_length}
 use Rattle.db_model.specs.Step.{after_all, key_of, keys}
@@ -39,14 +39,14 @@ module _ (n : ℕ) where
 
   -- the relations of some slots, and of others with more rows
   all_rows_few : (slots others : List (Option Relation)) → length others ≡ length slots → ((k : ℕ) → IsLongerIn (λ name. n) (get_or slots k None) (get_or others k None))
-      → AreWithin (map rows_size (used others)) (map (rows_planned n) (used slots))
+      → AreWithin (map rows_size (used_things others)) (map (rows_planned n) (used_things slots))
   all_rows_few [] [] same h = tt
   all_rows_few [] (p ∷ others) same h = absurd (omega (arith, same))
   all_rows_few (o ∷ slots) [] same h = absurd (omega (arith, same))
   all_rows_few (o ∷ slots) (p ∷ others) same h = first o p (h 0) (all_rows_few slots others (omega (arith, same)) (λ k. h (suc k)))
     where
-      first : (o p : Option Relation) → IsLongerIn (λ name. n) o p → AreWithin (map rows_size (used others)) (map (rows_planned n) (used slots))
-          → AreWithin (map rows_size (used (p ∷ others))) (map (rows_planned n) (used (o ∷ slots)))
+      first : (o p : Option Relation) → IsLongerIn (λ name. n) o p → AreWithin (map rows_size (used_things others)) (map (rows_planned n) (used_things slots))
+          → AreWithin (map rows_size (used_things (p ∷ others))) (map (rows_planned n) (used_things (o ∷ slots)))
       first None None g rest = rest
       first None (Some q) g rest = absurd g
       first (Some r) None g rest = absurd g
@@ -101,9 +101,9 @@ module _ (n : ℕ) where
 
   sizes_few : (db new : Database) → IsGrown (λ name. n) db new → AreWithin (file_sizes new) (sizes_planned n db)
   sizes_few db new h =
-      let trees : AreWithin (tree_sizes new (used new.indexes)) (trees_planned n db (used db.indexes)) =
-      subst (λ is. AreWithin (tree_sizes new (used is)) (trees_planned n db (used db.indexes))) (sym h.indexes) (trees_few db new (used db.indexes) h) in
-      within-append (map rows_size (used new.relations)) (map (rows_planned n) (used db.relations)) (tree_sizes new (used new.indexes)) (trees_planned n db (used db.indexes))
+      let trees : AreWithin (tree_sizes new (used_things new.indexes)) (trees_planned n db (used_things db.indexes)) =
+      subst (λ is. AreWithin (tree_sizes new (used_things is)) (trees_planned n db (used_things db.indexes))) (sym h.indexes) (trees_few db new (used_things db.indexes) h) in
+      within-append (map rows_size (used_things new.relations)) (map (rows_planned n) (used_things db.relations)) (tree_sizes new (used_things new.indexes)) (trees_planned n db (used_things db.indexes))
       (all_rows_few db.relations new.relations h.slots h.relations) trees
 
 -- ---- an INSERT asks for no more than twice the largest file
@@ -125,13 +125,13 @@ largest-filter db test (index ∷ indexes) = by_test (test index) (largest-filte
     by_test false h = let b = largest-append (index_sizes db index) (tree_sizes db indexes) in omega (arith, h, b)
 
 -- a relation that is found by its name is among those
-named_among : (name : List ℕ) (n : ℕ) (slots : List (Option Relation)) (s : ℕ × Relation) → relation_from name n slots ≡ Some s → fit (rows_size s.1) ≤ largest (map rows_size (used slots))
+named_among : (name : List ℕ) (n : ℕ) (slots : List (Option Relation)) (s : ℕ × Relation) → relation_from name n slots ≡ Some s → fit (rows_size s.1) ≤ largest (map rows_size (used_things slots))
 named_among name n [] s e = cc
 named_among name n (None ∷ slots) s e = named_among name (n + 1) slots s e
 named_among name n (Some r ∷ slots) s e = by_test (bytes_eq r.schema.name name) (λ f. named_among name (n + 1) slots s f) e
   where
-    by_test : (b : Bool) → (relation_from name (n + 1) slots ≡ Some s → fit (rows_size s.1) ≤ largest (map rows_size (used slots)))
-        → cond b (Some (n, r)) (relation_from name (n + 1) slots) ≡ Some s → fit (rows_size s.1) ≤ max (fit (rows_size r)) (largest (map rows_size (used slots)))
+    by_test : (b : Bool) → (relation_from name (n + 1) slots ≡ Some s → fit (rows_size s.1) ≤ largest (map rows_size (used_things slots)))
+        → cond b (Some (n, r)) (relation_from name (n + 1) slots) ≡ Some s → fit (rows_size s.1) ≤ max (fit (rows_size r)) (largest (map rows_size (used_things slots)))
     by_test true later e = let same : fit (rows_size r) ≡ fit (rows_size s.1) = ap (λ (o : Option (ℕ × Relation)). option_map_or (λ (x : ℕ × Relation). fit (rows_size x.1)) o 0) e in omega (arith, same)
     by_test false later e = let rest = later e in omega (arith, rest)
 
@@ -139,8 +139,8 @@ insert_among : (db : Database) (name : List ℕ) (o : Option (ℕ × Relation)) 
 insert_among db name None e = omega arith
 insert_among db name (Some s) e =
     let rows = named_among name 0 db.relations s e in
-    let trees = largest-filter db (λ index. index.relation == s.0) (used db.indexes) in
-    let both = largest-append (map rows_size (used db.relations)) (tree_sizes db (used db.indexes)) in
+    let trees = largest-filter db (λ index. index.relation == s.0) (used_things db.indexes) in
+    let both = largest-append (map rows_size (used_things db.relations)) (tree_sizes db (used_things db.indexes)) in
     omega (arith, rows, trees, both)
 
 -- ---- the law

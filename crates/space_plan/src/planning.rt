@@ -5,7 +5,7 @@
 ghost use Rattle.std.specs.Prelude.{◌≡◌, ◌+◌, ◌<◌, ◌≤◌, ◌++◌, [], false, IsTrue, length, map, option_map};
 ghost use Rattle.std.specs.Option.{option_to_list};
 ghost use Rattle.antelope_engine.specs.Reading.{index_in_slot, relation_in_slot};
-ghost use Rattle.db_model.specs.Database.{used};
+ghost use Rattle.db_model.specs.Database.{used_things};
 ghost use Rattle.db_model.specs.Sound.{IsSoundDatabase};
 ghost use Rattle.space_model.specs.Enough.{rows_in};
 ghost use Rattle.space_plan.specs.Planned.{planned, rows_planned, trees_planned};
@@ -73,7 +73,7 @@ fn push_rows<V: Files>(session: &Session<V>, rows: u16, sizes: &mut Few<u32, 16>
     requires empty { sizes.old ≡ [] }
     ensures few { length sizes.new ≤ 8 }
     ensures sizes { let relations = session.now.database.relations in
-        length relations ≤ 8 → sizes.new ≡ map (rows_planned rows) (used relations) }
+        length relations ≤ 8 → sizes.new ≡ map (rows_planned rows) (used_things relations) }
 {
     for relation in 0..8u16 {
         push(sizes, planned_rows(session, relation, rows));
@@ -87,7 +87,7 @@ fn push_trees<V: Files>(session: &Session<V>, rows: u16, sizes: &mut Few<u32, 16
     ensures few { length sizes.new ≤ 16 }
     ensures sizes { let indexes = session.now.database.indexes in
         IsTrue (V.state session.now.files).tells → length indexes ≤ 8
-        → sizes.new ≡ sizes.old ++ trees_planned rows session.now.database (used indexes) }
+        → sizes.new ≡ sizes.old ++ trees_planned rows session.now.database (used_things indexes) }
 {
     for index in 0..8u16 {
         push(sizes, planned_tree(session, index, rows));

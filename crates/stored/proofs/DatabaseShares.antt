@@ -6,7 +6,7 @@ use Rattle.db_model.specs.declared.schemas.IndexKind.{IndexKind}
 use Rattle.db_model.specs.declared.schemas.IndexKind.TheVariants.{Inline, MaxHeap, MemHash}
 use Rattle.db_model.specs.Catalog.{Index}
 use Rattle.db_model.specs.Cost.{sum}
-use Rattle.db_model.specs.Database.{Relation, Database, used}
+use Rattle.db_model.specs.Database.{Relation, Database, used_things}
 use Rattle.db_model.specs.Step.{keys}
 use Rattle.space_model.specs.Enough.{enough, file_sizes, index_sizes, rows_in, rows_size, touched, tree_size, tree_sizes}
 use Rattle.space_model.specs.FileNames.{catalog_file, rows_file, tree_file}
@@ -63,7 +63,7 @@ over_sized gap name (size ∷ sizes) files d =
     let rest = over_sized gap name sizes files d in
     omega (arith, sum, here, rest)
 
-over_rows : (gap n : ℕ) (slots : List (Option Relation)) (files : Table) → AreDistinct files → over (rows_parts gap n slots) files ≤ size_shares gap (map rows_size (used slots))
+over_rows : (gap n : ℕ) (slots : List (Option Relation)) (files : Table) → AreDistinct files → over (rows_parts gap n slots) files ≤ size_shares gap (map rows_size (used_things slots))
 over_rows gap n [] files d = let e = over_zero files in omega (arith, e)
 over_rows gap n (None ∷ slots) files d = over_rows gap (n + 1) slots files d
 over_rows gap n (Some r ∷ slots) files d =
@@ -72,14 +72,14 @@ over_rows gap n (Some r ∷ slots) files d =
     let rest = over_rows gap (n + 1) slots files d in
     omega (arith, sum, here, rest)
 
-over_trees : (gap : ℕ) (db : Database) (n : ℕ) (slots : List (Option Index)) (files : Table) → AreDistinct files → over (tree_parts gap db n slots) files ≤ size_shares gap (tree_sizes db (used slots))
+over_trees : (gap : ℕ) (db : Database) (n : ℕ) (slots : List (Option Index)) (files : Table) → AreDistinct files → over (tree_parts gap db n slots) files ≤ size_shares gap (tree_sizes db (used_things slots))
 over_trees gap db n [] files d = let e = over_zero files in omega (arith, e)
 over_trees gap db n (None ∷ slots) files d = over_trees gap db (n + 1) slots files d
 over_trees gap db n (Some index ∷ slots) files d =
     let sum = over_sum (sized_part gap (tree_file n) (index_sizes db index)) (tree_parts gap db (n + 1) slots) files in
     let here = over_sized gap (tree_file n) (index_sizes db index) files d in
     let rest = over_trees gap db (n + 1) slots files d in
-    let both = size_shares-append gap (index_sizes db index) (tree_sizes db (used slots)) in
+    let both = size_shares-append gap (index_sizes db index) (tree_sizes db (used_things slots)) in
     omega (arith, sum, here, rest, both)
 
 -- ---- each file has its part
@@ -161,7 +161,7 @@ shares_of gap db files h =
     let catalog = over_one catalog_file (4 + 2 * gap) files h.distinct in
     let rows = over_rows gap 0 db.relations files h.distinct in
     let trees = over_trees gap db 0 db.indexes files h.distinct in
-    let both = size_shares-append gap (map rows_size (used db.relations)) (tree_sizes db (used db.indexes)) in
+    let both = size_shares-append gap (map rows_size (used_things db.relations)) (tree_sizes db (used_things db.indexes)) in
     omega (arith, all, each, two, three, catalog, rows, trees, both)
 
 -- a flash of no more sectors than the files take with a gap beside each has fewer than are enough

@@ -18,7 +18,7 @@ use Rattle.db_model.specs.declared.schemas.IndexKind.TheVariants.{Inline, MaxHea
 use Rattle.db_model.specs.declared.schemas.Schema.{Schema}
 use Rattle.db_model.specs.Catalog.{Index}
 use Rattle.db_model.specs.Database.{Relation}
-use Rattle.db_model.specs.Row.{row_at, row_bytes, row_length, rows_of, slots_in}
+use Rattle.db_model.specs.Row.{row_at, row_bytes, row_length, rows_of, slots_in_bytes}
 use Rattle.db_model.proofs.Decoded.{length-row_read}
 use Rattle.space_model.specs.FileNames.{catalog_file, rows_file, tree_file}
 use Rattle.tuple_file.specs.Tuples.{AreRows}
@@ -27,8 +27,8 @@ use Rattle.space_model.specs.FileNames.{bytes_named}
 use Rattle.index_tree.proofs.Law.{sized}
 use Rattle.stored.specs.Base.{base_of, relation_stored}
 use Rattle.catalog.specs.Rules.{catalog_in}
-use Rattle.catalog.specs.Rules.{breaks_files, broken_at, broken_catalog, catalog_bytes_in, differ, earliest, first, first_broken, is_numbered, is_of_database, is_stranger, is_tree}
-use Rattle.space_model.specs.FileNames.{bytes_of, file_named, is_there}
+use Rattle.catalog.specs.Rules.{breaks_files, broken_slot, broken_catalog, catalog_bytes_in, differ, earliest, first, first_broken, is_numbered, is_of_database, is_stranger, is_tree}
+use Rattle.space_model.specs.FileNames.{bytes_in_file, file_named, is_there}
 use Rattle.space_model.proofs.NamedFiles.{named_here}
 use Rattle.stored.specs.Sizes.{HasFilesOf, IsRowsOf, IsTreeFileOf}
 
@@ -66,7 +66,7 @@ pub earliest_none : (o : Option (ℕ × ℕ)) (rest : List (Option (ℕ × ℕ))
 earliest_none None rest e = (refl, e)
 earliest_none (Some b) rest e = cc
 
-pub nothing_broken : (rule : ℕ) (o : Option ℕ) → broken_at rule o ≡ None → o ≡ None
+pub nothing_broken : (rule : ℕ) (o : Option ℕ) → broken_slot rule o ≡ None → o ≡ None
 nothing_broken rule None e = refl
 nothing_broken rule (Some k) e = cc
 
@@ -80,8 +80,8 @@ pub record Unbroken (files : Table) : Type 0 where
 pub unbroken : (files : Table) → first_broken files ≡ None → Unbroken files
 unfolding first_broken
 unbroken files e =
-    let fourteen : Option (ℕ × ℕ) = broken_at 14 (first 32 (is_stranger files)) in
-    let eighteen : Option (ℕ × ℕ) = broken_at 18 (first 16 (breaks_files files (catalog_in files).relations (catalog_in files).indexes)) in
+    let fourteen : Option (ℕ × ℕ) = broken_slot 14 (first 32 (is_stranger files)) in
+    let eighteen : Option (ℕ × ℕ) = broken_slot 18 (first 16 (breaks_files files (catalog_in files).relations (catalog_in files).indexes)) in
     let a = earliest_none fourteen (broken_catalog (catalog_bytes_in files) ∷ eighteen ∷ []) e in
     let b = earliest_none (broken_catalog (catalog_bytes_in files)) (eighteen ∷ []) a.1 in
     let c = earliest_none eighteen [] b.1 in
@@ -196,8 +196,8 @@ length-read attributes bytes (k ∷ slots) =
 
 pub whole_rows : (version : ℕ) (attributes : List Attribute) (bytes : List ℕ) → AreRows version attributes bytes → length bytes ≡ row_length attributes * length (rows_of attributes bytes)
 whole_rows version attributes bytes r =
-    let size = length-read attributes bytes (range_with_len 0 (slots_in attributes bytes)) in
-    let slots : length (rows_of attributes bytes) ≡ length (range_with_len 0 (slots_in attributes bytes)) = length-map (range_with_len 0 (slots_in attributes bytes)) (row_at attributes bytes) in
+    let size = length-read attributes bytes (range_with_len 0 (slots_in_bytes attributes bytes)) in
+    let slots : length (rows_of attributes bytes) ≡ length (range_with_len 0 (slots_in_bytes attributes bytes)) = length-map (range_with_len 0 (slots_in_bytes attributes bytes)) (row_at attributes bytes) in
     sym (ap length r.whole) ∙ size ∙ ap (λ n. row_length attributes * n) (sym slots)
 
 -- ---- all of it
@@ -210,16 +210,16 @@ rows_file_of files f d s found kind n =
     let kept = rows_wanted files (catalog_in files).relations (catalog_in files).indexes n.slot n.below (first_false (breaks_files files (catalog_in files).relations (catalog_in files).indexes) 16 n.slot (omega (arith, below)) (unbroken files s.catalog).files_there) in
     let used = some_there (get_or (catalog_in files).relations n.slot None) (wanted (is_there (rows_file n.slot) files) (is_some (get_or (catalog_in files).relations n.slot None)) kept (ap is_some here)) in
     let schema : Schema = used.0 in
-    let same : bytes_of (file_named (rows_file n.slot) files) ≡ f.bytes = ap bytes_of here in
-    let relation : Relation = record { schema = schema; rows = rows_of schema.attributes (bytes_of (file_named (rows_file n.slot) files)) } in
+    let same : bytes_in_file (file_named (rows_file n.slot) files) ≡ f.bytes = ap bytes_in_file here in
+    let relation : Relation = record { schema = schema; rows = rows_of schema.attributes (bytes_in_file (file_named (rows_file n.slot) files)) } in
     record {
       slot = n.slot;
       relation = relation;
       there = get_or-map-range_with_len (relation_stored files (catalog_in files).relations) 0 8 n.slot n.slot None n.below (omega arith)
-          ∙ ap (option_map (λ x. record { schema = x; rows = rows_of x.attributes (bytes_of (file_named (rows_file n.slot) files)) })) used.1;
+          ∙ ap (option_map (λ x. record { schema = x; rows = rows_of x.attributes (bytes_in_file (file_named (rows_file n.slot) files)) })) used.1;
       name = name;
       kind = kind;
-      size = ap length (sym same) ∙ whole_rows (catalog_in files).version schema.attributes (bytes_of (file_named (rows_file n.slot) files)) (s.rows n.slot n.below schema used.1);
+      size = ap length (sym same) ∙ whole_rows (catalog_in files).version schema.attributes (bytes_in_file (file_named (rows_file n.slot) files)) (s.rows n.slot n.below schema used.1);
     }
 
 tree_file_of : (files : Table) (f : File) → AreDistinct files → IsSoundTable files → file_named f.name files ≡ Some f → f.kind ≡ Doubling → IsNumbered 88 f.name → IsTreeFileOf (base_of files) f
@@ -229,7 +229,7 @@ tree_file_of files f d s found kind n =
     let below : n.slot < 8 = n.below in
     let kept = tree_wanted files (catalog_in files).relations (catalog_in files).indexes n.slot (first_false (breaks_files files (catalog_in files).relations (catalog_in files).indexes) 16 (8 + n.slot) (omega (arith, below)) (unbroken files s.catalog).files_there) in
     let used = tree_there (get_or (catalog_in files).indexes n.slot None) (wanted (is_there (tree_file n.slot) files) (is_tree (get_or (catalog_in files).indexes n.slot None)) kept (ap is_some here)) in
-    let same : bytes_of (file_named (tree_file n.slot) files) ≡ f.bytes = ap bytes_of here in
+    let same : bytes_in_file (file_named (tree_file n.slot) files) ≡ f.bytes = ap bytes_in_file here in
     record {
       slot = n.slot;
       index = used.0;

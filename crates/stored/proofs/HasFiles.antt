@@ -7,9 +7,9 @@ use Rattle.std.proofs.lemmas.Bool.Decides.{nat_tests}
 use Rattle.afl_base.specs.Files.{AreDistinct, File, IsLive, IsNamed, IsUnnamed, Table, file_at, no_file, place, used}
 use Rattle.afl_base.specs.declared.kind.Kind.TheVariants.{Doubling, Fixed}
 use Rattle.catalog.specs.CatalogFile.{IsCatalogSize}
-use Rattle.catalog.specs.Rules.{breaks_files, breaks_index, breaks_relation, broken_at, broken_catalog, catalog_bytes_in, catalog_in, differ, first_broken, first_slot, has_form, is_of_database, is_stranger, is_tree}
+use Rattle.catalog.specs.Rules.{breaks_files, breaks_index, breaks_relation, broken_slot, broken_catalog, catalog_bytes_in, catalog_in, differ, first_broken, first_slot, has_form, is_of_database, is_stranger, is_tree}
 use Rattle.db_model.specs.Catalog.{version_mark}
-use Rattle.space_model.specs.FileNames.{bytes_of, catalog_file, file_named, is_there, rows_file, tree_file}
+use Rattle.space_model.specs.FileNames.{bytes_in_file, catalog_file, file_named, is_there, rows_file, tree_file}
 use Rattle.space_model.specs.Wants.{IsGrowing, IsOfSixPages}
 use Rattle.space_model.proofs.NamedFiles.{named_found, named_place}
 use Rattle.stored.specs.Files.{HasCatalog, HasItsFiles, IsMatched}
@@ -85,9 +85,9 @@ true_eq m n h = grind (arith, nat_tests)
 formed : (bytes : List ℕ) → broken_catalog bytes ≡ None → has_form bytes ≡ true
 unfolding broken_catalog
 formed bytes e =
-    let fifteen : Option (ℕ × ℕ) = broken_at 15 (if has_form bytes then None else Some 0) in
-    let sixteen : Option (ℕ × ℕ) = broken_at 16 (first_slot bytes (breaks_relation bytes)) in
-    let seventeen : Option (ℕ × ℕ) = broken_at 17 (first_slot bytes (breaks_index bytes)) in
+    let fifteen : Option (ℕ × ℕ) = broken_slot 15 (if has_form bytes then None else Some 0) in
+    let sixteen : Option (ℕ × ℕ) = broken_slot 16 (first_slot bytes (breaks_relation bytes)) in
+    let seventeen : Option (ℕ × ℕ) = broken_slot 17 (first_slot bytes (breaks_index bytes)) in
     turned (has_form bytes) (nothing_broken 15 (if has_form bytes then None else Some 0) (earliest_none fifteen (sixteen ∷ seventeen ∷ []) e).0)
   where
     turned : (b : Bool) → ◌≡◌ {A = Option ℕ} (if b then None else Some 0) None → b ≡ true
@@ -113,7 +113,7 @@ catalog_there files d few u = by_file (file_named catalog_file files) refl
     by_file (Some f) e =
         let at = named_place files catalog_file f e in
         let here = file_here files at.0 f at.1 in
-        let same : catalog_bytes_in files ≡ f.bytes = ap bytes_of e in
+        let same : catalog_bytes_in files ≡ f.bytes = ap bytes_in_file e in
         let size : IsCatalogSize (length f.bytes) = subst (λ bytes. IsCatalogSize (length bytes)) same (form_size (catalog_bytes_in files) (formed (catalog_bytes_in files) u.inner)) in
         inl (record {
           id = at.0;

@@ -15,8 +15,8 @@ use Rattle.stored.specs.Sound.{IsIndexComplete, IsSoundTable}
 use Rattle.space_model.specs.FileNames.{bytes_named}
 use Rattle.stored.specs.Base.{base_of, relation_stored}
 use Rattle.catalog.specs.Rules.{catalog_in}
-use Rattle.catalog.specs.Rules.{breaks_files, broken_at, broken_catalog, catalog_bytes_in, earliest, first, first_broken, is_of_database, is_stranger}
-use Rattle.space_model.specs.FileNames.{bytes_of, file_named, is_there}
+use Rattle.catalog.specs.Rules.{breaks_files, broken_slot, broken_catalog, catalog_bytes_in, earliest, first, first_broken, is_of_database, is_stranger}
+use Rattle.space_model.specs.FileNames.{bytes_in_file, file_named, is_there}
 use Rattle.stored.specs.Same.{HaveSameFiles}
 use Rattle.space_model.proofs.NamedFiles.{named_here, named_place}
 use Rattle.stored.proofs.FilesOf.{AreInTable, first_false, unbroken}
@@ -27,10 +27,10 @@ no_name : (files : Table) (name : List ℕ) (f : File) (id : ℕ) → AreDistinc
 no_name files name f id d there e = ap (λ n. file_named n files) (sym e) ∙ named_here files id f d there
 
 -- the file of a name, in both
-pub bytes_same : (old new : Table) (name : List ℕ) → AreDistinct old → AreDistinct new → HaveSameFiles old new → bytes_of (file_named name old) ≡ bytes_of (file_named name new)
+pub bytes_same : (old new : Table) (name : List ℕ) → AreDistinct old → AreDistinct new → HaveSameFiles old new → bytes_in_file (file_named name old) ≡ bytes_in_file (file_named name new)
 bytes_same old new name d k s = by_old (file_named name old) refl
   where
-    by_new : (o : Option File) → file_named name new ≡ o → file_named name old ≡ None → [] ≡ bytes_of o
+    by_new : (o : Option File) → file_named name new ≡ o → file_named name old ≡ None → [] ≡ bytes_in_file o
     by_new None e none = refl
     by_new (Some g) e none =
         let at = named_place new name g e in
@@ -39,12 +39,12 @@ bytes_same old new name d k s = by_old (file_named name old) refl
         let no : None ≡ Some like.file = sym none ∙ found in
         absurd (let n : ⊥ = cc in n)
 
-    by_old : (o : Option File) → file_named name old ≡ o → bytes_of o ≡ bytes_of (file_named name new)
+    by_old : (o : Option File) → file_named name old ≡ o → bytes_in_file o ≡ bytes_in_file (file_named name new)
     by_old None e = by_new (file_named name new) refl e
     by_old (Some f) e =
         let at = named_place old name f e in
         let like = s.kept at.0 f at.1 in
-        sym (ap bytes_of (no_name new name like.file like.id k like.there (like.name ∙ at.2)) ∙ like.bytes)
+        sym (ap bytes_in_file (no_name new name like.file like.id k like.there (like.name ∙ at.2)) ∙ like.bytes)
 
 map_same : {X : Type 0} (f g : ℕ → X) → ((k : ℕ) → f k ≡ g k) → (ks : List ℕ) → map f ks ≡ map g ks
 map_same f g h [] = refl
@@ -126,7 +126,7 @@ known old new d k s few none id = by_place (place new id) refl
         let like = s.only id f e in
         ap (λ n. not (is_of_database n f.kind)) (sym like.name) ∙ ap (λ x. not (is_of_database like.file.name x)) (sym like.kind) ∙ of_old like.file like.id like.there
 
-none_broken : (rule : ℕ) (o : Option ℕ) → o ≡ None → broken_at rule o ≡ None
+none_broken : (rule : ℕ) (o : Option ℕ) → o ≡ None → broken_slot rule o ≡ None
 none_broken rule None e = refl
 none_broken rule (Some k) e = cc
 
@@ -147,13 +147,13 @@ sound_same old new d k s few t =
     let inner : broken_catalog (catalog_bytes_in new) ≡ None = subst (λ bytes. broken_catalog bytes ≡ None) catalog parts.inner in
     record {
       catalog =
-          none_earliest (broken_at 14 (first 32 (is_stranger new))) (broken_catalog (catalog_bytes_in new) ∷ broken_at 18 (first 16 (breaks_files new (catalog_in new).relations (catalog_in new).indexes)) ∷ [])
+          none_earliest (broken_slot 14 (first 32 (is_stranger new))) (broken_catalog (catalog_bytes_in new) ∷ broken_slot 18 (first 16 (breaks_files new (catalog_in new).relations (catalog_in new).indexes)) ∷ [])
           (none_broken 14 (first 32 (is_stranger new)) (first_nothing (is_stranger new) 32 (λ i less. known old new d k s few parts.strangers i)))
-          (none_earliest (broken_catalog (catalog_bytes_in new)) (broken_at 18 (first 16 (breaks_files new (catalog_in new).relations (catalog_in new).indexes)) ∷ []) inner
-          (none_earliest (broken_at 18 (first 16 (breaks_files new (catalog_in new).relations (catalog_in new).indexes))) [] (none_broken 18 (first 16 (breaks_files new (catalog_in new).relations (catalog_in new).indexes)) eighteen) refl));
+          (none_earliest (broken_catalog (catalog_bytes_in new)) (broken_slot 18 (first 16 (breaks_files new (catalog_in new).relations (catalog_in new).indexes)) ∷ []) inner
+          (none_earliest (broken_slot 18 (first 16 (breaks_files new (catalog_in new).relations (catalog_in new).indexes))) [] (none_broken 18 (first 16 (breaks_files new (catalog_in new).relations (catalog_in new).indexes)) eighteen) refl));
       rows = λ slot within schema e.
           subst (λ bytes. AreRows (catalog_in new).version schema.attributes bytes) (bytes_same old new (rows_file slot) d k s)
-          (subst (λ bytes. get_or (catalog_of bytes).relations slot None ≡ Some schema → AreRows (catalog_of bytes).version schema.attributes (bytes_of (file_named (rows_file slot) old))) catalog (t.rows slot within schema) e);
+          (subst (λ bytes. get_or (catalog_of bytes).relations slot None ≡ Some schema → AreRows (catalog_of bytes).version schema.attributes (bytes_in_file (file_named (rows_file slot) old))) catalog (t.rows slot within schema) e);
       indexes = λ slot within index e.
           subst (λ db. IsIndexComplete index.kind (bytes_named (tree_file slot) new) (keys index.attribute (rows_in db index.relation))) base
           (subst (λ bytes. IsIndexComplete index.kind bytes (keys index.attribute (rows_in (base_of old) index.relation))) (bytes_same old new (tree_file slot) d k s)

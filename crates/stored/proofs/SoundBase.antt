@@ -14,7 +14,7 @@ use Rattle.db_model.specs.declared.schemas.IndexKind.{IndexKind}
 use Rattle.db_model.specs.declared.schemas.IndexKind.TheVariants.{Inline, MaxHeap, MemHash}
 use Rattle.db_model.specs.declared.schemas.Schema.{Schema}
 use Rattle.db_model.specs.Catalog.{Index, catalog_of, index_at, relation_at, version_of}
-use Rattle.db_model.specs.Database.{Cursor, Relation, is_hash_table, used}
+use Rattle.db_model.specs.Database.{Cursor, Relation, is_hash_table, used_things}
 use Rattle.db_model.specs.Row.{Row, rows_of}
 use Rattle.db_model.specs.Sound.{IsIndexOf, IsSoundDatabase, IsSoundIndex, IsSoundRelation, StandsIn, SuitKind}
 use Rattle.db_model.specs.Step.{allows, keys}
@@ -149,13 +149,13 @@ module _ (files : Table) (s : IsSoundTable files) where
 
   -- ---- hash tables
 
-  tables_used : (slots : List (Option Index)) → length (filter is_hash_table (used slots)) ≡ how_many is_table slots
+  tables_used : (slots : List (Option Index)) → length (filter is_hash_table (used_things slots)) ≡ how_many is_table slots
   tables_used [] = refl
   tables_used (None ∷ slots) = tables_used slots
   tables_used (Some i ∷ slots) = by_test (is_hash_table i) (tables_used slots)
     where
-      by_test : (b : Bool) → length (filter is_hash_table (used slots)) ≡ how_many is_table slots
-          → length (if b then i ∷ filter is_hash_table (used slots) else filter is_hash_table (used slots)) ≡ (if b then how_many is_table slots + 1 else how_many is_table slots)
+      by_test : (b : Bool) → length (filter is_hash_table (used_things slots)) ≡ how_many is_table slots
+          → length (if b then i ∷ filter is_hash_table (used_things slots) else filter is_hash_table (used_things slots)) ≡ (if b then how_many is_table slots + 1 else how_many is_table slots)
       by_test true e = omega (arith, e)
       by_test false e = e
 
@@ -199,7 +199,7 @@ module _ (files : Table) (s : IsSoundTable files) where
   all_indexes : take 8 (catalog_of bytes).indexes ≡ (catalog_of bytes).indexes
   all_indexes = refl
 
-  few_tables : length (filter is_hash_table (used (base_of files).indexes)) ≤ 2
+  few_tables : length (filter is_hash_table (used_things (base_of files).indexes)) ≤ 2
   few_tables =
       let sum = tables_used (catalog_of bytes).indexes in
       let few = few_first 8 (omega arith) in

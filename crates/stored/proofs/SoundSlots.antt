@@ -7,7 +7,7 @@ use Rattle.std.proofs.lemmas.Bool.{cases_lt}
 use Rattle.std.proofs.lemmas.Bool.Decides.{nat_tests}
 use Rattle.std.proofs.lemmas.List.{get_or_past}
 use Rattle.std.proofs.lemmas.List.FromFn.{get_or-map-range_with_len, length-map-range_with_len}
-use Rattle.catalog.specs.Rules.{breaks_index, breaks_relation, broken_at, broken_catalog, first, first_slot, has_form, has_name, is_attribute, is_behind, is_domain, is_index_form, is_named_among, is_relation_slot, is_row, is_same_place, is_schema, is_sound_index, is_sound_relation, is_third_table, stands_on}
+use Rattle.catalog.specs.Rules.{breaks_index, breaks_relation, broken_slot, broken_catalog, first, first_slot, has_form, has_name, is_attribute_slot, is_behind, is_domain, is_index_form, is_named_among, is_relation_slot, is_row, is_same_place, is_schema, is_sound_index, is_sound_relation, is_third_table, stands_on}
 use Rattle.db_model.specs.declared.schemas.Attribute.{Attribute}
 use Rattle.db_model.specs.declared.schemas.Domain.{Domain}
 use Rattle.db_model.specs.declared.schemas.Domain.TheVariants.{Int, Long, Time, Str}
@@ -82,9 +82,9 @@ pub record IsUnbroken (bytes : List ℕ) : Type 0 where
 pub unbroken_slots : (bytes : List ℕ) → broken_catalog bytes ≡ None → IsUnbroken bytes
 unfolding broken_catalog
 unbroken_slots bytes e =
-    let fifteen : Option (ℕ × ℕ) = broken_at 15 (if has_form bytes then None else Some 0) in
-    let sixteen : Option (ℕ × ℕ) = broken_at 16 (first_slot bytes (breaks_relation bytes)) in
-    let seventeen : Option (ℕ × ℕ) = broken_at 17 (first_slot bytes (breaks_index bytes)) in
+    let fifteen : Option (ℕ × ℕ) = broken_slot 15 (if has_form bytes then None else Some 0) in
+    let sixteen : Option (ℕ × ℕ) = broken_slot 16 (first_slot bytes (breaks_relation bytes)) in
+    let seventeen : Option (ℕ × ℕ) = broken_slot 17 (first_slot bytes (breaks_index bytes)) in
     let a = earliest_none fifteen (sixteen ∷ seventeen ∷ []) e in
     let b = earliest_none sixteen (seventeen ∷ []) a.1 in
     let c = earliest_none seventeen [] b.1 in
@@ -142,10 +142,10 @@ sound_domain version Long e = (tt, λ t. absurd (let n : ⊥ = cc in n))
 sound_domain version Time e = (tt, λ t. true_eq version 2 e)
 sound_domain version (Str n) e = let parts = both (nat_le 1 n) (nat_le n 32) e in ((true_le 1 n parts.0, true_le n 32 parts.1), λ t. absurd (let m : ⊥ = cc in m))
 
-sound_attributes : (version : ℕ) (attributes : List Attribute) → list_all (is_attribute version) attributes ≡ true → AllByRecursion (IsSoundAttribute version) attributes
+sound_attributes : (version : ℕ) (attributes : List Attribute) → list_all (is_attribute_slot version) attributes ≡ true → AllByRecursion (IsSoundAttribute version) attributes
 sound_attributes version [] e = tt
 sound_attributes version (a ∷ attributes) e =
-    let parts = both (is_attribute version a) (list_all (is_attribute version) attributes) e in
+    let parts = both (is_attribute_slot version a) (list_all (is_attribute_slot version) attributes) e in
     let here = both (is_name a.name) (is_domain version a.domain) parts.0 in
     let domain = sound_domain version a.domain here.1 in
     (record { name = here.0; domain = domain.0; time = domain.1 }, sound_attributes version attributes parts.1)
@@ -153,7 +153,7 @@ sound_attributes version (a ∷ attributes) e =
 pub sound_schema : (version : ℕ) (schema : Schema) → is_schema version schema ≡ true → IsSoundSchema version schema
 sound_schema version schema e =
     let few : Bool = nat_le (length schema.attributes) 8 in
-    let each : Bool = list_all (is_attribute version) schema.attributes in
+    let each : Bool = list_all (is_attribute_slot version) schema.attributes in
     let row : Bool = is_row schema.attributes in
     let a = both (is_name schema.name && (few && each)) row e in
     let b = both (is_name schema.name) (few && each) a.0 in

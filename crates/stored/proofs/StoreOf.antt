@@ -12,7 +12,7 @@ use Rattle.db_model.specs.Row.{row_length, rows_of}
 use Rattle.db_model.specs.Step.{keys, slots_limit}
 use Rattle.index_tree.proofs.Law.{sized}
 use Rattle.space_model.specs.Enough.{rows_in, rows_size, tree_size}
-use Rattle.space_model.specs.FileNames.{bytes_named, bytes_of, rows_file, size_in, tree_file}
+use Rattle.space_model.specs.FileNames.{bytes_named, bytes_in_file, rows_file, size_in, tree_file}
 use Rattle.space_model.specs.Wants.{IsStoreOf}
 use Rattle.space_model.proofs.NamedFiles.{named_found, size_found}
 use Rattle.stored.specs.Base.{base_of}
@@ -36,7 +36,7 @@ module _ (files : Table) (size : length files ≡ 32) (d : AreDistinct files) (s
   sizes_of : (name : List ℕ) (n : ℕ) → HasGrowing files name → length (bytes_named name files) ≡ n → size_in files name ≡ Some n
   sizes_of name n h e =
       let found = named_found files h.id name d h.named in
-      let same : size_at files h.id ≡ length (bytes_named name files) = ap (λ (o : Option File). length (bytes_of o)) (sym found) in
+      let same : size_at files h.id ≡ length (bytes_named name files) = ap (λ (o : Option File). length (bytes_in_file o)) (sym found) in
       size_found files h.id name d h.named ∙ ap (λ (k : ℕ). Some k) (same ∙ e)
 
   rows_size_is : (slot : ℕ) (r : Relation) → get_or (base_of files).relations slot None ≡ Some r → size_in files (rows_file slot) ≡ Some (rows_size r)

@@ -9,7 +9,7 @@ use Rattle.db_model.specs.declared.schemas.Attribute.{Attribute}
 use Rattle.db_model.specs.declared.schemas.Domain.{Domain}
 use Rattle.db_model.specs.declared.schemas.Domain.TheVariants.{Int, Long, Time, Str}
 use Rattle.db_model.specs.Names.{is_text, is_text_byte}
-use Rattle.db_model.specs.Row.{AllRowsSuit, AllSuit, field_bytes, field_of, fields_bytes, mark, row_at, row_bytes, row_length, row_of, rows_of, slots_in, text_or_empty, tuple_of, up_to_zero, width}
+use Rattle.db_model.specs.Row.{AllRowsSuit, AllSuit, field_bytes, field_of, fields_bytes, mark, row_at, row_bytes, row_length, row_of, rows_of, slots_in_bytes, text_or_empty, tuple_of, up_to_zero, width}
 use Rattle.db_model.proofs.Decoded.{tuple_suits}
 use Rattle.tuple_file.specs.Tuples.{AreRows}
 use Rattle.tuple_file.proofs.Slots.{length-rows}
@@ -98,23 +98,23 @@ small_row attributes bytes = small_both (fields_bytes attributes (tuple_of attri
 
 -- rows that are written as they were read
 module _ (version : ℕ) (attributes : List Attribute) (bytes : List ℕ) (r : AreRows version attributes bytes) where
-  whole : length bytes ≡ row_length attributes * slots_in attributes bytes
+  whole : length bytes ≡ row_length attributes * slots_in_bytes attributes bytes
   whole = sym (ap length r.whole) ∙ length-written attributes bytes
 
-  suits_at : (k : ℕ) → k < slots_in attributes bytes → AllSuit attributes (row_at attributes bytes k).tuple
+  suits_at : (k : ℕ) → k < slots_in_bytes attributes bytes → AllSuit attributes (row_at attributes bytes k).tuple
   suits_at k below =
       let slot : List ℕ = slice_range bytes (row_length attributes * k) (row_length attributes * k + row_length attributes) in
       let one : row_bytes attributes (row_of attributes slot) ≡ slot =
-      written_each attributes bytes (slots_in attributes bytes) k whole below (written_first attributes bytes (slots_in attributes bytes) k whole (omega (arith, below)) r.whole) r.whole in
+      written_each attributes bytes (slots_in_bytes attributes bytes) k whole below (written_first attributes bytes (slots_in_bytes attributes bytes) k whole (omega (arith, below)) r.whole) r.whole in
       let small : AreSmall slot = subst AreSmall one (small_row attributes slot) in
       tuple_suits attributes slot (small_at slot small)
 
-  all_suit : (from n : ℕ) → from + n ≤ slots_in attributes bytes → AllRowsSuit attributes (map (row_at attributes bytes) (range_with_len from n))
+  all_suit : (from n : ℕ) → from + n ≤ slots_in_bytes attributes bytes → AllRowsSuit attributes (map (row_at attributes bytes) (range_with_len from n))
   all_suit from zero h = tt
   all_suit from (suc n) h = (suits_at from (omega (arith, h)), all_suit (from + 1) n (omega (arith, h)))
 
   pub rows_suit : AllRowsSuit attributes (rows_of attributes bytes)
-  rows_suit = all_suit 0 (slots_in attributes bytes) (omega arith)
+  rows_suit = all_suit 0 (slots_in_bytes attributes bytes) (omega arith)
 
-  pub rows_count : length (rows_of attributes bytes) ≡ slots_in attributes bytes
+  pub rows_count : length (rows_of attributes bytes) ≡ slots_in_bytes attributes bytes
   rows_count = length-rows attributes bytes

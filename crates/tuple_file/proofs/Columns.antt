@@ -6,7 +6,7 @@ use Rattle.std.specs.Int.{cast_signed}
 use Rattle.std.proofs.lemmas.List.{drop-append-le, length-append, length-drop, take-append-le}
 use Rattle.afl_base.specs.Fields.{i32_at, i64_at}
 use Rattle.afl_base.specs.Files.{State, Table, bytes_at}
-use Rattle.afl_base.specs.KeyColumn.{HasField, IsWidth, key_of as key_of_column, number_at}
+use Rattle.afl_base.specs.KeyColumn.{HasField, IsWidth, key_of as key_of_column, number_of_width}
 use Rattle.db_model.specs.declared.schemas.Attribute.{Attribute}
 use Rattle.db_model.specs.declared.schemas.Domain.{Domain}
 use Rattle.db_model.specs.declared.schemas.Domain.TheVariants.{Int, Long, Time, Str}
@@ -36,8 +36,8 @@ is_width (Str n) e = absurd (cc)
 
 -- the number of a field that is written as it was read
 number_of : (d : Domain) (bytes xs : List ℕ) (place : ℕ) → is_number d ≡ true → take (width d) xs ≡ take (width d) (drop place bytes) → take (width d) xs ≡ field_bytes d (field_of d xs)
-    → number_at bytes place (width d) ≡ key_of (Some (field_of d xs))
-unfolding number_at i32_at i64_at
+    → number_of_width bytes place (width d) ≡ key_of (Some (field_of d xs))
+unfolding number_of_width i32_at i64_at
 number_of Int bytes xs place is same written = ap (λ (n : ℕ). cast_signed w16 n) (number_front 2 (drop place bytes) xs (sym same))
 number_of Long bytes xs place is same written = ap (λ (n : ℕ). cast_signed w32 n) (number_front 4 (drop place bytes) xs (sym same))
 number_of Time bytes xs place is same written = ap (λ (n : ℕ). cast_signed w64 n) (number_front 8 (drop place bytes) xs (sym same)) ∙ time_written xs written
@@ -46,7 +46,7 @@ number_of (Str n) bytes xs place is same written = absurd (cc)
 -- the number of an attribute in a slot, where the slot's row is written as it was read
 pub key_in_slot : (attributes : List Attribute) (bytes : List ℕ) (slot place : ℕ) (a : Attribute) → slice_get attributes place ≡ Some a → is_number a.domain ≡ true
     → row_bytes attributes (row_at attributes bytes slot) ≡ slice_range bytes (row_length attributes * slot) (row_length attributes * slot + row_length attributes)
-    → number_at bytes (row_length attributes * slot + fields_length (take place attributes)) (width a.domain) ≡ key_of (slice_get (row_at attributes bytes slot).tuple place)
+    → number_of_width bytes (row_length attributes * slot + fields_length (take place attributes)) (width a.domain) ≡ key_of (slice_get (row_at attributes bytes slot).tuple place)
 key_in_slot attributes bytes slot place a is number one =
     let size = row_length attributes in
     let from = size * slot in
@@ -97,7 +97,7 @@ column_key state t place slot number holds told below =
     let found = attribute_at attributes place number in
     let all = holds.written told in
     let one = written_each attributes bytes (slots state.files t) slot holds.whole below (written_first attributes bytes (slots state.files t) slot holds.whole (omega (arith, below)) all) all in
-    ap (λ (n : ℕ). number_at bytes (row_length attributes * slot + fields_length (take place attributes)) n) (wide t place found.0 found.1)
+    ap (λ (n : ℕ). number_of_width bytes (row_length attributes * slot + fields_length (take place attributes)) n) (wide t place found.0 found.1)
     ∙ key_in_slot attributes bytes slot place found.0 found.1 found.2 one
 
 pub rows_counted : (files : Table) (t : Tuples) → length (rows files t) ≡ slots files t

@@ -3,7 +3,7 @@ use Rattle.std.proofs.Common.{◌≡◌, ◌≢◌, refl, sym, ap, subst, ◌∙
 use Rattle.std.specs.Prelude.{slice_index, slice_range}
 use Rattle.afl_base.specs.Fields.{put_at}
 use Rattle.db_model.specs.declared.schemas.Attribute.{Attribute}
-use Rattle.db_model.specs.Row.{Row, fields_bytes, fields_length, mark, row_at, row_bytes, row_length, row_of, rows_bytes, rows_of, slots_in}
+use Rattle.db_model.specs.Row.{Row, fields_bytes, fields_length, mark, row_at, row_bytes, row_length, row_of, rows_bytes, rows_of, slots_in_bytes}
 use Rattle.db_model.proofs.Decoded.{length-row_read, tuple_front}
 use Rattle.std.proofs.Math.Logic.{⊎_elim}
 use Rattle.std.proofs.lemmas.Bool.{cases_eq, cases_lt}
@@ -89,9 +89,9 @@ rows-mark attributes bytes n k long below =
     let new_rows = length-rows attributes new in
     let set_rows = length-set (rows_of attributes bytes) k marked in
     let old_at : (i : ℕ) (d : Row) → i < n → get_or (rows_of attributes bytes) i d ≡ row_at attributes bytes i =
-    λ i d few. get_or-map-range_with_len (row_at attributes bytes) 0 (slots_in attributes bytes) i i d (omega (arith, few, olds)) (omega arith) in
+    λ i d few. get_or-map-range_with_len (row_at attributes bytes) 0 (slots_in_bytes attributes bytes) i i d (omega (arith, few, olds)) (omega arith) in
     let new_at : (i : ℕ) (d : Row) → i < n → get_or (rows_of attributes new) i d ≡ row_at attributes new i =
-    λ i d few. get_or-map-range_with_len (row_at attributes new) 0 (slots_in attributes new) i i d (omega (arith, few, news)) (omega arith) in
+    λ i d few. get_or-map-range_with_len (row_at attributes new) 0 (slots_in_bytes attributes new) i i d (omega (arith, few, news)) (omega arith) in
     same_lists (rows_of attributes new) (set (rows_of attributes bytes) k marked) (omega (arith, new_rows, news, set_rows, old_rows, olds))
     (λ i d few. let less : i < n = omega (arith, few, new_rows, news) in ⊎_elim
     (λ (here : i ≡ k). new_at i d less ∙ ap (row_at attributes new) here ∙ row_at-mark attributes bytes n k long below ∙ sym (get_or-set_same (rows_of attributes bytes) k marked d (omega (arith, old_rows, olds, below))) ∙ ap (λ (j : ℕ). get_or (set (rows_of attributes bytes) k marked) j d) (sym here))

@@ -7,7 +7,7 @@ use Rattle.std.proofs.lemmas.List.Elements.{filter-append}
 use Rattle.std.proofs.lemmas.List.FromFn.{take-map-range_with_len}
 use Rattle.afl_base.specs.Fields.{put_at}
 use Rattle.db_model.specs.declared.schemas.Attribute.{Attribute}
-use Rattle.db_model.specs.Row.{AllRowsSuit, AllSuit, Row, row_at, row_bytes, row_length, rows_bytes, rows_of, slots_in}
+use Rattle.db_model.specs.Row.{AllRowsSuit, AllSuit, Row, row_at, row_bytes, row_length, rows_bytes, rows_of, slots_in_bytes}
 use Rattle.tuple_file.proofs.Drafted.{IsDrafted, drafted_all, drafted_more, drafted_none, drafted_zeros}
 use Rattle.tuple_file.proofs.Slots.{slot_inside}
 use Rattle.tuple_file.proofs.Written.{all_rows, first_rows, more_rows, no_rows}
@@ -46,11 +46,11 @@ bool_below true = omega arith
 bool_below false = omega arith
 
 -- the first rows are no more than all rows
-pub living_below : (attributes : List Attribute) (bytes : List ℕ) (k : ℕ) → k ≤ slots_in attributes bytes → length (living (first_rows attributes bytes k)) ≤ length (living (rows_of attributes bytes))
+pub living_below : (attributes : List Attribute) (bytes : List ℕ) (k : ℕ) → k ≤ slots_in_bytes attributes bytes → length (living (first_rows attributes bytes k)) ≤ length (living (rows_of attributes bytes))
 unfolding first_rows
 living_below attributes bytes k few =
     let rows : List Row = rows_of attributes bytes in
-    let before : take k rows ≡ first_rows attributes bytes k = take-map-range_with_len (row_at attributes bytes) 0 (slots_in attributes bytes) k few in
+    let before : take k rows ≡ first_rows attributes bytes k = take-map-range_with_len (row_at attributes bytes) 0 (slots_in_bytes attributes bytes) k few in
     let split : living rows ≡ living (first_rows attributes bytes k) ++ living (drop k rows) =
     ap living (sym (take-append-drop k rows) ∙ ap (λ (front : List Row). front ++ drop k rows) before) ∙ filter-append (λ (row : Row). row.live) (first_rows attributes bytes k) (drop k rows) in
     let long = ap (λ (xs : List Row). length xs) split ∙ length-append (living (first_rows attributes bytes k)) (living (drop k rows)) in
@@ -110,7 +110,7 @@ packed_removed : (attributes : List Attribute) (bytes : List ℕ) (room k writte
 packed_removed attributes bytes room k written draft is removed = grind (arith, common_steps, first_rows, living_more, living_one, append-nil, IsDrafted)
 
 -- where the draft has room for all live rows, the next slot takes its turn
-pub packed_more : (attributes : List Attribute) (bytes : List ℕ) (room k written now : ℕ) (draft after : List ℕ) → IsPacked attributes bytes room k written draft → room ≡ length (living (rows_of attributes bytes)) → k < slots_in attributes bytes
+pub packed_more : (attributes : List Attribute) (bytes : List ℕ) (room k written now : ℕ) (draft after : List ℕ) → IsPacked attributes bytes room k written draft → room ≡ length (living (rows_of attributes bytes)) → k < slots_in_bytes attributes bytes
     → (written < room → (row_at attributes bytes k).live ≡ true → (now ≡ written + 1) × AllSuit attributes (row_at attributes bytes k).tuple × (after ≡ put_at draft (row_length attributes * written) (row_bytes attributes (row_at attributes bytes k))))
     → ((row_at attributes bytes k).live ≡ false → (now ≡ written) × (after ≡ draft))
     → IsPacked attributes bytes room (k + 1) now after
@@ -129,6 +129,6 @@ packed_more attributes bytes room k written now draft after is all inside live r
         subst (λ (n : ℕ). IsPacked attributes bytes room (k + 1) n after) (sym done.0) (subst (λ (xs : List ℕ). IsPacked attributes bytes room (k + 1) written xs) (sym done.1) (packed_removed attributes bytes room k written draft is e))
 
 -- at the end the draft holds the live rows
-pub packed_all : (attributes : List Attribute) (bytes : List ℕ) (room written : ℕ) (draft : List ℕ) → IsPacked attributes bytes room (slots_in attributes bytes) written draft → room ≡ length (living (rows_of attributes bytes))
+pub packed_all : (attributes : List Attribute) (bytes : List ℕ) (room written : ℕ) (draft : List ℕ) → IsPacked attributes bytes room (slots_in_bytes attributes bytes) written draft → room ≡ length (living (rows_of attributes bytes))
     → AllRowsSuit attributes (living (rows_of attributes bytes)) × (draft ≡ rows_bytes attributes (living (rows_of attributes bytes)))
 packed_all attributes bytes room written draft is all = grind (arith, common_steps, IsDrafted, all_rows, drafted_all)

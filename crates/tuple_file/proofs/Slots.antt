@@ -6,16 +6,16 @@ use Rattle.std.proofs.Math.Nat.{mul-div_cancel_left}
 use Rattle.std.proofs.lemmas.List.FromFn.{length-map-range_with_len}
 use Rattle.afl_base.specs.Files.{Becomes, State}
 use Rattle.db_model.specs.declared.schemas.Attribute.{Attribute}
-use Rattle.db_model.specs.Row.{row_at, row_length, rows_bytes, rows_of, slots_in}
+use Rattle.db_model.specs.Row.{row_at, row_length, rows_bytes, rows_of, slots_in_bytes}
 use Rattle.tuple_file.specs.declared.tuples.Tuples.{Tuples}
 use Rattle.tuple_file.specs.Tuples.{HoldsRows}
 use Rattle.std.proofs.lemmas.Grind.{common_steps}
 
-pub length-rows : (attributes : List Attribute) (bytes : List ℕ) → length (rows_of attributes bytes) ≡ slots_in attributes bytes
-length-rows attributes bytes = length-map-range_with_len (row_at attributes bytes) 0 (slots_in attributes bytes)
+pub length-rows : (attributes : List Attribute) (bytes : List ℕ) → length (rows_of attributes bytes) ≡ slots_in_bytes attributes bytes
+length-rows attributes bytes = length-map-range_with_len (row_at attributes bytes) 0 (slots_in_bytes attributes bytes)
 
 -- whole rows have so many slots
-pub slots_of_whole : (attributes : List Attribute) (bytes : List ℕ) (n : ℕ) → length bytes ≡ row_length attributes * n → slots_in attributes bytes ≡ n
+pub slots_of_whole : (attributes : List Attribute) (bytes : List ℕ) (n : ℕ) → length bytes ≡ row_length attributes * n → slots_in_bytes attributes bytes ≡ n
 slots_of_whole attributes bytes n long = let some : 0 < row_length attributes = omega arith in rw long (mul-div_cancel_left n some)
 
 -- a slot ends inside the bytes

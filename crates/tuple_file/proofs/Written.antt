@@ -7,7 +7,7 @@ use Rattle.std.proofs.lemmas.List.{append-nil, drop-take, length-append, length-
 use Rattle.std.proofs.Math.Seq.{take-length}
 use Rattle.std.proofs.lemmas.List.FromFn.{length-range_with_len, get_or-map-range_with_len, length-map-range_with_len, map-range_with_len_more, take-map-range_with_len}
 use Rattle.db_model.specs.declared.schemas.Attribute.{Attribute}
-use Rattle.db_model.specs.Row.{AllSuit, Row, row_at, row_bytes, row_length, rows_bytes, rows_of, slots_in}
+use Rattle.db_model.specs.Row.{AllSuit, Row, row_at, row_bytes, row_length, rows_bytes, rows_of, slots_in_bytes}
 use Rattle.db_model.proofs.Decoded.{length-row_read}
 use Rattle.db_model.proofs.Rows.{rows_of-insert}
 use Rattle.tuple_file.proofs.Lists.{drop_item}
@@ -32,7 +32,7 @@ pub no_rows : (attributes : List Attribute) (bytes : List ℕ) → first_rows at
 unfolding first_rows
 no_rows attributes bytes = refl
 
-pub all_rows : (attributes : List Attribute) (bytes : List ℕ) → first_rows attributes bytes (slots_in attributes bytes) ≡ rows_of attributes bytes
+pub all_rows : (attributes : List Attribute) (bytes : List ℕ) → first_rows attributes bytes (slots_in_bytes attributes bytes) ≡ rows_of attributes bytes
 unfolding first_rows
 all_rows attributes bytes = refl
 
@@ -70,12 +70,12 @@ written_each attributes bytes n k long below front all =
     let inside = slot_inside size k n below in
     let rows : List Row = rows_of attributes bytes in
     let row : Row = row_at attributes bytes k in
-    let count : slots_in attributes bytes ≡ n = slots_of_whole attributes bytes n long in
-    let few : k < slots_in attributes bytes = omega (arith, below, count) in
-    let many : length rows ≡ slots_in attributes bytes = length-rows attributes bytes in
+    let count : slots_in_bytes attributes bytes ≡ n = slots_of_whole attributes bytes n long in
+    let few : k < slots_in_bytes attributes bytes = omega (arith, below, count) in
+    let many : length rows ≡ slots_in_bytes attributes bytes = length-rows attributes bytes in
     let rest = rows_bytes attributes (drop (k + 1) rows) in
-    let before : take k rows ≡ first_rows attributes bytes k = take-map-range_with_len (row_at attributes bytes) 0 (slots_in attributes bytes) k (omega (arith, few)) in
-    let at_k : row ≡ get_or rows k row = sym (get_or-map-range_with_len (row_at attributes bytes) 0 (slots_in attributes bytes) k k row few (omega arith)) in
+    let before : take k rows ≡ first_rows attributes bytes k = take-map-range_with_len (row_at attributes bytes) 0 (slots_in_bytes attributes bytes) k (omega (arith, few)) in
+    let at_k : row ≡ get_or rows k row = sym (get_or-map-range_with_len (row_at attributes bytes) 0 (slots_in_bytes attributes bytes) k k row few (omega arith)) in
     let behind : drop k rows ≡ row ∷ drop (k + 1) rows = drop_item rows k row (omega (arith, few, many)) at_k in
     let split : rows ≡ first_rows attributes bytes k ++ (row ∷ drop (k + 1) rows) = sym (take-append-drop k rows) ∙ ap (λ (xs : List Row). xs ++ drop k rows) before ∙ ap (λ (xs : List Row). first_rows attributes bytes k ++ xs) behind in
     let whole : bytes ≡ take at bytes ++ (row_bytes attributes row ++ rest) =
@@ -86,9 +86,9 @@ written_each attributes bytes n k long below front all =
     sym (ap (take (at + size - at)) left ∙ take_at (row_bytes attributes row) rest (at + size - at) (length-row_read attributes _ ∙ omega arith))
 
 -- as many bytes are written as the slots have
-pub length-written : (attributes : List Attribute) (bytes : List ℕ) → length (rows_bytes attributes (rows_of attributes bytes)) ≡ row_length attributes * slots_in attributes bytes
+pub length-written : (attributes : List Attribute) (bytes : List ℕ) → length (rows_bytes attributes (rows_of attributes bytes)) ≡ row_length attributes * slots_in_bytes attributes bytes
 length-written attributes bytes =
-    each (range_with_len 0 (slots_in attributes bytes)) ∙ ap (λ (m : ℕ). row_length attributes * m) (length-range_with_len 0 (slots_in attributes bytes))
+    each (range_with_len 0 (slots_in_bytes attributes bytes)) ∙ ap (λ (m : ℕ). row_length attributes * m) (length-range_with_len 0 (slots_in_bytes attributes bytes))
   where
     one : (k : ℕ) (ks : List ℕ) → length (rows_bytes attributes (map (row_at attributes bytes) ks)) ≡ row_length attributes * length ks
         → length (rows_bytes attributes (map (row_at attributes bytes) (k ∷ ks))) ≡ row_length attributes * length (k ∷ ks)

@@ -5,7 +5,7 @@ use Rattle.afl_base.specs.Fields.{put_at}
 use Rattle.afl_base.specs.Files.{Becomes, IsLive, State, Table, bytes_at, draft_in, file_at, size_at}
 use Rattle.db_model.specs.declared.schemas.Attribute.{Attribute}
 use Rattle.db_model.specs.declared.values.Value.{Value}
-use Rattle.db_model.specs.Row.{Row, fields_length, row_at, row_bytes, row_length, rows_bytes, rows_of, slots_in}
+use Rattle.db_model.specs.Row.{Row, fields_length, row_at, row_bytes, row_length, rows_bytes, rows_of, slots_in_bytes}
 use Rattle.db_model.specs.Step.{slots_limit}
 use Rattle.tuple_file.specs.declared.tuples.Tuples.{Tuples}
 
@@ -17,7 +17,7 @@ pub record IsRowFile (files : Table) (tuples : Tuples) : Type 0 where
 
 -- the slots of a relation's file
 abbrev pub slots : Table → Tuples → ℕ
-slots files tuples = slots_in tuples.schema.attributes (bytes_at files tuples.file)
+slots files tuples = slots_in_bytes tuples.schema.attributes (bytes_at files tuples.file)
 
 -- its rows, slot by slot
 abbrev pub rows : Table → Tuples → List Row
@@ -72,7 +72,7 @@ slot_bytes files tuples slot =
 -- the bytes are whole rows, at most as many as the version has slots, and none of a relation without attributes
 pub record AreRows (version : ℕ) (attributes : List Attribute) (bytes : List ℕ) : Type 0 where
   pub whole : rows_bytes attributes (rows_of attributes bytes) ≡ bytes
-  pub few : slots_in attributes bytes ≤ slots_limit version
+  pub few : slots_in_bytes attributes bytes ≤ slots_limit version
   pub some : attributes ≡ [] → bytes ≡ []
 
 -- a live row is removed with the same fields where the one answer about its tuple is true, and stays where it is false;

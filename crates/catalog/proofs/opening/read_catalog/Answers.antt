@@ -2,7 +2,7 @@ use Rattle.std.proofs.Common.{◌≡◌, List, [], Some, ap, refl, subst, sym, �
 use Rattle.std.specs.Prelude.{IfErr, IfOk, OnOk}
 use Rattle.db_model.specs.Catalog.{catalog_of}
 use Rattle.space_model.specs.FileNames.{catalog_file}
-use Rattle.catalog.specs.Catalogs.{slots_of}
+use Rattle.catalog.specs.Catalogs.{catalog_slots}
 use Rattle.catalog.specs.Rules.{broken_catalog}
 use Rattle.catalog.proofs.Breaks.{bytes_found, empty_breaks_none, no_bytes}
 use Rattle.catalog.proofs.Forming.{read_sizes}
@@ -13,7 +13,7 @@ pub returns-in-Some-clause-catalog : goal.returns-in-Some-clause-catalog
 returns-in-Some-clause-catalog g c = λ told.
     let files = (g.V.Files.state c.args.files.now).files in
     let e = bytes_found files c.in-Some.cat (named_found files c.in-Some.cat catalog_file (rw c.catalog_file.ensures at c.in-Some.ensures.found) (rw c.catalog_file.ensures at c.in-Some.ensures.only)) in
-    subst (λ (b : List ℕ). IfOk c.read_file.result (λ r. IfOk r (λ catalog. slots_of catalog ≡ catalog_of b))) (sym e) (c.read_file.ensures.catalog told)
+    subst (λ (b : List ℕ). IfOk c.read_file.result (λ r. IfOk r (λ catalog. catalog_slots catalog ≡ catalog_of b))) (sym e) (c.read_file.ensures.catalog told)
 
 pub returns-in-Some-clause-sound : goal.returns-in-Some-clause-sound
 returns-in-Some-clause-sound g c = λ told.

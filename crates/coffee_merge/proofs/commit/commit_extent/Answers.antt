@@ -1,6 +1,6 @@
 use Rattle.std.proofs.Common.{sym, subst, arith}
 use Rattle.std.proofs.lemmas.Result.{on_err_weaker, on_ok_weaker}
-use Rattle.coffee_merge.specs.Holding.{Commits}
+use Rattle.coffee_merge.specs.Holding.{CommitsExtent}
 use Rattle.coffee_merge.proofs.CutMarkLaws.{one_of}
 use Rattle.coffee_merge.proofs.Commits.{commits}
 use Rattle.coffee_merge.specs.Takes.{KeepsFree}
@@ -12,7 +12,7 @@ returns-clause-committed g c =
     λ told.
     on_ok_weaker c.program.result
     (λ is table d i holds place inside free fresh last.
-    subst (λ image. Commits (g.F.Flash.image c.args.flash.now) image table i d) (sym is) (commits (g.F.Flash.image c.args.flash.now) table d i c.args.page holds place inside free fresh last))
+    subst (λ image. CommitsExtent (g.F.Flash.image c.args.flash.now) image table i d) (sym is) (commits (g.F.Flash.image c.args.flash.now) table d i c.args.page holds place inside free fresh last))
     (c.program.ensures.programmed told)
 
 pub returns-clause-free : goal.returns-clause-free

@@ -2,7 +2,7 @@ use Rattle.std.proofs.Common.{inl, inr, ap, sym, subst, ◌∙◌, arith, ⊎_el
 use Rattle.std.proofs.lemmas.Result.{on_err_weaker, on_ok_weaker}
 use Rattle.padded.proofs.Facts.{on_err}
 use Rattle.coffee_merge.specs.Flags.{obsoleted}
-use Rattle.coffee_merge.specs.Holding.{Commits}
+use Rattle.coffee_merge.specs.Holding.{CommitsExtent}
 use Rattle.coffee_merge.specs.CutMarks.{IsCutObsolete}
 use Rattle.coffee_merge.proofs.CutMarkLaws.{one_of}
 use Rattle.coffee_merge.proofs.Commits.{replaces}
@@ -15,7 +15,7 @@ returns-clause-replaced g c =
     λ told.
     on_ok_weaker c.mark_obsolete.result
     (λ is table d i holds place in_table named last.
-    subst (λ image. Commits (g.F.Flash.image c.args.flash.now) image table i d)
+    subst (λ image. CommitsExtent (g.F.Flash.image c.args.flash.now) image table i d)
     (sym (is ∙ ap (λ image. obsoleted image c.args.old.now.page.0 c.args.old.now.log) (c.in_ok-program.ensures.programmed told)))
     (replaces (g.F.Flash.image c.args.flash.now) table d c.args.old.now i c.args.page holds place in_table named last))
     (c.mark_obsolete.ensures.obsolete told)

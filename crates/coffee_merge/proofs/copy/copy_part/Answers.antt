@@ -1,7 +1,7 @@
 use Rattle.std.proofs.Common.{None, Some, rules, subst, sym}
 use Rattle.std.proofs.lemmas.Result.{on_ok_weaker}
 use Rattle.coffee_merge.proofs.Contents.{copied_there}
-use Rattle.coffee_merge.specs.Holding.{Holds}
+use Rattle.coffee_merge.specs.Holding.{HoldsTable}
 use Rattle.coffee_merge.specs.CutMarks.{KeepsHead}
 use Rattle.coffee_merge.specs.Takes.{KeepsFree, KeepsPagesBut}
 use Rattle.coffee_merge.proofs.copy.copy_part.Goals as goal
@@ -17,7 +17,7 @@ pub returns-clause-free : goal.returns-clause-free
 returns-clause-free g c = λ told.
     on_ok_weaker c.write_extent.result
     (λ free table d holds page pages. subst (λ image. KeepsFree image (g.F.Flash.image c.write_extent.new.flash)) c.in_ok-read_file.ensures.frame.same
-    (free table d (subst (λ image. Holds image table (Some d)) (sym c.in_ok-read_file.ensures.frame.same) holds) page pages))
+    (free table d (subst (λ image. HoldsTable image table (Some d)) (sym c.in_ok-read_file.ensures.frame.same) holds) page pages))
     (c.write_extent.ensures.free told)
 
 pub returns-clause-other_pages : goal.returns-clause-other_pages

@@ -2,7 +2,7 @@ use Rattle.std.proofs.Common.{◌≡◌, ◌≤◌, ◌<◌, Some, length, set, 
 use Rattle.std.proofs.lemmas.List.{length-take}
 use Rattle.coffee_layout.specs.Files.{FitsIn}
 use Rattle.coffee_layout.specs.declared.file.FileAt.{FileAt}
-use Rattle.coffee_volume.specs.Mounting.{MayFollow}
+use Rattle.coffee_volume.specs.Mounting.{MayBeListed}
 use Rattle.coffee_volume.specs.Volumes.{AreRegular, roomless}
 use Rattle.coffee_volume.proofs.MountedTables.{may_follow, mounted_length, mounted_more, regular_more, regular_none}
 use Rattle.coffee_volume.proofs.mount.table_of.Goals as goal
@@ -14,7 +14,7 @@ pub returns-in-Some-clause-broken : goal.returns-in-Some-clause-broken
 returns-in-Some-clause-broken c = λ keep.
     let files = c.args.listed.now in
     let at = c.index-listed-i.result in
-    c.in-Some.ensures (subst (λ t. MayFollow t at) (sym c.loop-i.invariant.table) (may_follow files c.loop-i.i at keep c.loop-i-test.true (sym c.index-listed-i.is)))
+    c.in-Some.ensures (subst (λ t. MayBeListed t at) (sym c.loop-i.invariant.table) (may_follow files c.loop-i.i at keep c.loop-i-test.true (sym c.index-listed-i.is)))
 
 pub loop-i-preserved : goal.loop-i-preserved
 loop-i-preserved c =

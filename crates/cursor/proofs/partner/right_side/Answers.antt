@@ -5,7 +5,7 @@ use Rattle.db_model.specs.Plan.{plan}
 use Rattle.index_set.specs.Plans.{kinds}
 use Rattle.index_set.specs.Walks.{cost_ahead}
 use Rattle.tuple_file.specs.Tuples.{rows}
-use Rattle.cursor.specs.Pairs.{right_cost}
+use Rattle.cursor.specs.Pairs.{right_side_cost}
 use Rattle.cursor.proofs.Partners.{beginning, partners_ahead, skip_cost}
 use Rattle.cursor.proofs.Selected.{places_of}
 use Rattle.cursor.proofs.Suited.{count_rows}
@@ -22,7 +22,7 @@ returns-in_err-begun-in-None-clause-reads_err g c =
     let same : r ≡ ranges_at c.args.partner.now.on c.args.partner.now.value = c.ranges_for-ranges.ensures in
     let cost : begin_cost c.args.slots (plan ks r) ≤ chosen_cost ks r all = beginning ks r all c.args.slots (plan ks r) few in
     let most : g.V.Files.reads c.begin.new.files ≤ g.V.Files.reads c.args.files.now + chosen_cost ks r all = omega (arith, c.in_err-begun-in-None.ensures.reads, cost) in
-    let told : g.V.Files.reads c.begin.new.files ≤ g.V.Files.reads c.args.files.now + right_cost c.args.indexes.now c.args.partner.now.on c.args.partner.now.value all =
+    let told : g.V.Files.reads c.begin.new.files ≤ g.V.Files.reads c.args.files.now + right_side_cost c.args.indexes.now c.args.partner.now.on c.args.partner.now.value all =
     subst (λ (l : List Range). g.V.Files.reads c.begin.new.files ≤ g.V.Files.reads c.args.files.now + chosen_cost ks l all) same most in
     rw c.in-None.is (search (rules, told))
 
@@ -55,6 +55,6 @@ returns-in_ok-begun-in-None-clause-reads g c = λ told indexes.
     skip_cost c.in_ok-begun-in-None.begun c.skip.new.self c.args.from all c.skip.ensures.from c.skip.ensures.slots c.skip.ensures.search (c.skip.ensures.rests ∙ sym c.in_ok-begun-in-None.ensures.rests) in
     let cost : begin_cost c.args.slots (plan ks r) + cost_ahead c.in_ok-begun-in-None.begun all ≤ chosen_cost ks r all = (c.in_ok-begun-in-None.ensures.begins told all few indexes).cost in
     let most : g.V.Files.reads c.begin.new.files + cost_ahead c.skip.new.self all ≤ g.V.Files.reads c.args.files.now + chosen_cost ks r all = omega (arith, c.in_ok-begun-in-None.ensures.reads, cost, less) in
-    let met : g.V.Files.reads c.begin.new.files + cost_ahead c.skip.new.self all ≤ g.V.Files.reads c.args.files.now + right_cost c.args.indexes.now c.args.partner.now.on c.args.partner.now.value all =
+    let met : g.V.Files.reads c.begin.new.files + cost_ahead c.skip.new.self all ≤ g.V.Files.reads c.args.files.now + right_side_cost c.args.indexes.now c.args.partner.now.on c.args.partner.now.value all =
     subst (λ (l : List Range). g.V.Files.reads c.begin.new.files + cost_ahead c.skip.new.self all ≤ g.V.Files.reads c.args.files.now + chosen_cost ks l all) same most in
     rw c.in-None.is met

@@ -1,7 +1,7 @@
 use Rattle.std.proofs.Common.{rules, Some, ◌≤◌, ◌+◌, length, sym, ◌∙◌, arith}
 use Rattle.index_set.specs.Walks.{Fits, ahead}
 use Rattle.tuple_file.specs.Tuples.{rows}
-use Rattle.cursor.specs.Remaining.{cost_of, passed_until}
+use Rattle.cursor.specs.Remaining.{cost_of_slots, passed_until}
 use Rattle.cursor.proofs.Walking.{advances_then, passes_by, walk_more, walk_stops}
 use Rattle.cursor.proofs.walk.next_row.Goals as goal
 
@@ -13,7 +13,7 @@ returns-in_err-is_answer-in-Some-clause-reads_failed g c = λ told.
     let inv = c.slots.invariant in
     let h = c.in_ok-next.ensures in
     let most : Fits before state c.args.tables.now all
-    → g.V.Files.reads c.is_answer.new.files ≤ g.V.Files.reads c.args.files.now + cost_of before all (length (passed_until (g.T.Test.passes c.args.test.now) all (ahead before all))) =
+    → g.V.Files.reads c.is_answer.new.files ≤ g.V.Files.reads c.args.files.now + cost_of_slots before all (length (passed_until (g.T.Test.passes c.args.test.now) all (ahead before all))) =
     λ fits. let w = inv.told told fits in
     let step = (rw (inv.same, c.in-Some.is) at h.steps) told all w.fits in
     walk_stops state c.args.tables.now all (g.T.Test.passes c.args.test.now) before c.slots.candidates c.next.new.self (g.V.Files.reads c.args.files.now) (g.V.Files.reads c.slots.files)

@@ -1,6 +1,6 @@
 use Rattle.std.proofs.Common.{rules, ◌∙◌, ◌++◌, get_or, take}
 use Rattle.db_model.specs.ReplyText.{value_text}
-use Rattle.dump.specs.Parts.{comma_before}
+use Rattle.dump.specs.Parts.{comma_and_space}
 use Rattle.dump_model.specs.Script.{values_text}
 use Rattle.dump.proofs.ValueTexts.{less_value, values_more}
 use Rattle.reply_text.proofs.Pieces.{held_more}
@@ -11,7 +11,7 @@ loop-at-preserved g c =
     let xs = c.as_slice-value-items.result.now in
     let at = c.loop-at.at in
     record {
-      held = held_more (g.K.Sink.held c.args.out.now) (g.K.Sink.held c.loop-at.out) _ (values_text (take at xs)) (comma_before at ++ value_text (get_or xs at c.value-item.result)) _ c.loop-at.invariant.held (rw c.value-item.is at c.in_ok-write_value.ensures.written) (values_more xs at c.value-item.result c.loop-at-test.true);
+      held = held_more (g.K.Sink.held c.args.out.now) (g.K.Sink.held c.loop-at.out) _ (values_text (take at xs)) (comma_and_space at ++ value_text (get_or xs at c.value-item.result)) _ c.loop-at.invariant.held (rw c.value-item.is at c.in_ok-write_value.ensures.written) (values_more xs at c.value-item.result c.loop-at-test.true);
       lent = c.in_ok-write_value.ensures.frame.lent ∙ c.loop-at.invariant.lent;
       faults = search rules;
     }

@@ -2,7 +2,7 @@ use Rattle.std.proofs.Common.{◌≡◌, ◌≤◌, ◌<◌, ◌+◌, ◌-◌, �
 use Rattle.std.specs.Prelude.{IsTrue}
 use Rattle.afl_base.specs.KeyColumn.{key_of}
 use Rattle.db_model.specs.Cost.{bits}
-use Rattle.index_inline.specs.Span.{Rises, passes}
+use Rattle.index_inline.specs.Span.{KeysRise, passes_end}
 use Rattle.index_inline.proofs.halving.count_before.Given as goal
 
 abbrev pub invariant-halves : goal.invariant-halves
@@ -12,10 +12,10 @@ invariant-halves g l = record {
   same : g.V.Files.state l.files ≡ g.V.Files.state l.fn.files;
   lent : g.V.Files.lent l.files ≡ g.V.Files.lent l.fn.files;
   later : g.V.Files.faults l.fn.files ≤ g.V.Files.faults l.files;
-  passed : IsTrue (g.V.Files.state l.fn.files).tells → Rises (key_of (g.V.Files.state l.fn.files) l.column) l.slots
-      → (i : ℕ) → i < l.low → passes l.upper l.within (key_of (g.V.Files.state l.fn.files) l.column i) ≡ true;
-  failed : IsTrue (g.V.Files.state l.fn.files).tells → Rises (key_of (g.V.Files.state l.fn.files) l.column) l.slots
-      → (i : ℕ) → l.high ≤ i → i < l.slots → passes l.upper l.within (key_of (g.V.Files.state l.fn.files) l.column i) ≡ false;
+  passed : IsTrue (g.V.Files.state l.fn.files).tells → KeysRise (key_of (g.V.Files.state l.fn.files) l.column) l.slots
+      → (i : ℕ) → i < l.low → passes_end l.upper l.within (key_of (g.V.Files.state l.fn.files) l.column i) ≡ true;
+  failed : IsTrue (g.V.Files.state l.fn.files).tells → KeysRise (key_of (g.V.Files.state l.fn.files) l.column) l.slots
+      → (i : ℕ) → l.high ≤ i → i < l.slots → passes_end l.upper l.within (key_of (g.V.Files.state l.fn.files) l.column i) ≡ false;
   reads : g.V.Files.reads l.files + 6 * bits (l.high - l.low) ≤ g.V.Files.reads l.fn.files + 6 * bits l.slots;
   reads_later : g.V.Files.reads l.fn.files ≤ g.V.Files.reads l.files;
 }

@@ -2,7 +2,7 @@ use Rattle.std.proofs.Common.{◌≡◌, ◌≤◌, length}
 use Rattle.std.specs.Prelude.{IsSome, IsTrue}
 use Rattle.afl_base.specs.Files.{draft_in}
 use Rattle.afl_base.specs.KeyColumn.{key_of}
-use Rattle.index_maxheap.specs.Builds.{Builds, IsSafeBuild, OnlyDraftChanges}
+use Rattle.index_maxheap.specs.Builds.{Builds, IsSafeBuild, HasOtherDraft}
 use Rattle.index_tree.specs.Pairs.{pairs_of}
 use Rattle.index_tree.specs.TreeFile.{bucket_place}
 use Rattle.index_maxheap.proofs.building.build.Given as goal
@@ -16,7 +16,7 @@ invariant-loop-slot g l =
       tells : now.tells ≡ old.tells;
       begun : IsSome now.draft;
       size : length (draft_in now).bytes ≡ bucket_place l.fn.most;
-      only : OnlyDraftChanges old now;
+      only : HasOtherDraft old now;
       store : length now.store ≡ length old.store;
       lent : g.V.Files.lent l.files ≡ g.V.Files.lent l.fn.files;
       reads_later : g.V.Files.reads l.fn.files ≤ g.V.Files.reads l.files;

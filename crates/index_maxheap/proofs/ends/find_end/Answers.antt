@@ -3,7 +3,7 @@ use Rattle.std.specs.Prelude.{None}
 use Rattle.afl_base.specs.Files.{bytes_at}
 use Rattle.db_model.specs.Cost.{keys_beside}
 use Rattle.index_maxheap.specs.Searches.{walk_left}
-use Rattle.index_tree.specs.Pairs.{goes, reach}
+use Rattle.index_tree.specs.Pairs.{goes, reaching}
 use Rattle.index_tree.specs.Trees.{numbered}
 use Rattle.index_maxheap.proofs.Walked.{behind_paid, chain_spot, look_paid_by, walk_ends, walk_near, walks_more}
 use Rattle.index_maxheap.proofs.ends.find_end.Goals as goal
@@ -66,7 +66,7 @@ loop-hops-preserved g c =
       walks = λ told ps tree.
           let walks = inv.walks told ps tree in
           let bucket = rw (walks.number ∙ sym (inv.number told)) at (tree.each key c.loop-hops.hops) in
-          let seen = rw c.in-Full.is at ((rw inv.same at c.in_ok-look_at.ensures.looks) told (reach (goes key) c.loop-hops.hops ps) bucket) in
+          let seen = rw c.in-Full.is at ((rw inv.same at c.in_ok-look_at.ensures.looks) told (reaching (goes key) c.loop-hops.hops ps) bucket) in
           rw c.min-level.ensures (walks_more bytes ps key c.loop-hops.hops c.loop-hops.at c.loop-hops.level c.loop-hops.number c.spot_behind-at.result walks (inv.number told) seen.0 seen.1 c.spot_behind-at.ensures.spot);
     }
 

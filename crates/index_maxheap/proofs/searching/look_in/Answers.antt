@@ -1,6 +1,6 @@
 use Rattle.std.proofs.Common.{rules, ◌≡◌, ◌∙◌, sym}
 use Rattle.afl_base.specs.Files.{bytes_at}
-use Rattle.index_tree.specs.Pairs.{goes, reach}
+use Rattle.index_tree.specs.Pairs.{goes, reaching}
 use Rattle.index_tree.specs.Trees.{numbered}
 use Rattle.index_maxheap.proofs.Onward.{found_small, found_step, held, none_step, onward_step}
 use Rattle.index_maxheap.proofs.searching.look_in.Goals as goal
@@ -8,7 +8,7 @@ use Rattle.index_maxheap.proofs.searching.look_in.Goals as goal
 pub returns-in-None-clause-steps : goal.returns-in-None-clause-steps
 returns-in-None-clause-steps g c = λ told keys tree at.
     let bytes = bytes_at (g.V.Files.state c.args.files.now).files c.args.index in
-    let rest = reach (goes c.args.key.now) c.args.place.hop (numbered 0 keys) in
+    let rest = reaching (goes c.args.key.now) c.args.place.hop (numbered 0 keys) in
     let holds = held bytes c.read_bucket.new.into keys c.args.key.now c.args.from c.args.place tree at (c.in_ok-read_bucket.ensures.bytes told) in
     let scans = rw c.in-Found.is at (c.scan.ensures.scans rest holds at.good.within) in
     found_small bytes keys c.args.key.now c.args.from c.args.place c.in-Found.pair c.in-Found.slot tree at scans (search rules)
@@ -16,7 +16,7 @@ returns-in-None-clause-steps g c = λ told keys tree at.
 pub returns-in-Some-clause-steps : goal.returns-in-Some-clause-steps
 returns-in-Some-clause-steps g c = λ told keys tree at.
     let bytes = bytes_at (g.V.Files.state c.args.files.now).files c.args.index in
-    let rest = reach (goes c.args.key.now) c.args.place.hop (numbered 0 keys) in
+    let rest = reaching (goes c.args.key.now) c.args.place.hop (numbered 0 keys) in
     let holds = held bytes c.read_bucket.new.into keys c.args.key.now c.args.from c.args.place tree at (c.in_ok-read_bucket.ensures.bytes told) in
     let scans = rw c.in-Found.is at (c.scan.ensures.scans rest holds at.good.within) in
     let short = rw c.in-Found.is at c.scan.ensures.short in
@@ -26,14 +26,14 @@ returns-in-Some-clause-steps g c = λ told keys tree at.
 pub returns-in-End-clause-steps : goal.returns-in-End-clause-steps
 returns-in-End-clause-steps g c = λ told keys tree at.
     let bytes = bytes_at (g.V.Files.state c.args.files.now).files c.args.index in
-    let rest = reach (goes c.args.key.now) c.args.place.hop (numbered 0 keys) in
+    let rest = reaching (goes c.args.key.now) c.args.place.hop (numbered 0 keys) in
     let holds = held bytes c.read_bucket.new.into keys c.args.key.now c.args.from c.args.place tree at (c.in_ok-read_bucket.ensures.bytes told) in
     sym at.rest ∙ rw c.in-End.is at (c.scan.ensures.scans rest holds at.good.within)
 
 pub returns-then-number-eq0-clause-steps : goal.returns-then-number-eq0-clause-steps
 returns-then-number-eq0-clause-steps g c = λ told keys tree at.
     let bytes = bytes_at (g.V.Files.state c.args.files.now).files c.args.index in
-    let rest = reach (goes c.args.key.now) c.args.place.hop (numbered 0 keys) in
+    let rest = reaching (goes c.args.key.now) c.args.place.hop (numbered 0 keys) in
     let holds = held bytes c.read_bucket.new.into keys c.args.key.now c.args.from c.args.place tree at (c.in_ok-read_bucket.ensures.bytes told) in
     let scans = rw c.in-Passed.is at (c.scan.ensures.scans rest holds at.good.within) in
     let number = (rw c.in_ok-read_bucket.ensures.frame.same at c.in_ok-number-in-Passed.ensures.number) told at.there in
@@ -42,7 +42,7 @@ returns-then-number-eq0-clause-steps g c = λ told keys tree at.
 pub returns-else-number-eq0-clause-steps : goal.returns-else-number-eq0-clause-steps
 returns-else-number-eq0-clause-steps g c = λ told keys tree at.
     let bytes = bytes_at (g.V.Files.state c.args.files.now).files c.args.index in
-    let rest = reach (goes c.args.key.now) c.args.place.hop (numbered 0 keys) in
+    let rest = reaching (goes c.args.key.now) c.args.place.hop (numbered 0 keys) in
     let holds = held bytes c.read_bucket.new.into keys c.args.key.now c.args.from c.args.place tree at (c.in_ok-read_bucket.ensures.bytes told) in
     let scans = rw c.in-Passed.is at (c.scan.ensures.scans rest holds at.good.within) in
     let number = (rw c.in_ok-read_bucket.ensures.frame.same at c.in_ok-number-in-Passed.ensures.number) told at.there in

@@ -3,7 +3,7 @@ use Rattle.std.specs.Prelude.{IsTrue}
 use Rattle.afl_base.specs.Files.{bytes_at, size_at}
 use Rattle.afl_base.specs.KeyColumn.{key_of}
 use Rattle.db_model.specs.HashTree.{buckets}
-use Rattle.index_tree.specs.Pairs.{keys_of, pairs_of}
+use Rattle.index_tree.specs.Pairs.{pair_keys, pairs_of}
 use Rattle.index_maxheap.specs.Verify.{Verifies}
 use Rattle.index_maxheap.proofs.verifying.verify.Given as goal
 
@@ -21,5 +21,5 @@ invariant-loop-slot g l =
       inside : (i : ℕ) → get_or l.places i 0 + 195 ≤ size_at old.files l.index;
       low : (i : ℕ) → get_or l.places i 0 < 2 ^ 25;
       few : l.opened ≤ l.slot;
-      verifies : IsTrue old.tells → Verifies (bytes_at old.files l.index) l.loads l.places l.nexts l.fills ps × (l.opened ≡ buckets (keys_of ps));
+      verifies : IsTrue old.tells → Verifies (bytes_at old.files l.index) l.loads l.places l.nexts l.fills ps × (l.opened ≡ buckets (pair_keys ps));
     }

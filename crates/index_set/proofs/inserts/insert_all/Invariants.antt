@@ -1,7 +1,7 @@
 use Rattle.std.proofs.Common.{◌≡◌, ◌≤◌, ◌+◌, ◌++◌, ◌∷◌, [], List, length, take}
 use Rattle.std.specs.Prelude.{IsTrue}
 use Rattle.db_model.specs.Row.{Row}
-use Rattle.afl_base.specs.Frames.{Spares}
+use Rattle.afl_base.specs.Frames.{SparesOthers}
 use Rattle.index_set.specs.Complete.{AreComplete, AreHeld}
 use Rattle.index_set.specs.Inserts.{AllKeepBuckets, AreRoomFor, IsNoTree, KeepsTables, MayAllFollow}
 use Rattle.index_set.proofs.inserts.insert_all.Given as goal
@@ -12,7 +12,7 @@ invariant-loop-nth g l =
     let now = g.V.Files.state l.files in
     let done = take l.nth l.indexes in
     record {
-      spares : Spares start now (IsNoTree done);
+      spares : SparesOthers start now (IsNoTree done);
       tables : KeepsTables l.fn.tables l.tables done;
       held : AreHeld now l.tables (l.slot + 1) done;
       complete : IsTrue start.tells → (rows : List Row) (row : Row) → length rows ≡ l.slot → row.tuple ≡ l.tuple

@@ -5,7 +5,7 @@ use Rattle.lvm.proofs.kind.ill_typed.Given as goal
 
 abbrev pub invariant-loop-instruction : goal.invariant-loop-instruction
 invariant-loop-instruction l = record {
-  result : first_false l.before (spec.typings l.attributes l.instructions []) ≡ first_false l.parts (spec.typings l.attributes (drop l.instruction-index l.instructions) l.stack);
+  result : first_false l.before (spec.step_typings l.attributes l.instructions []) ≡ first_false l.parts (spec.step_typings l.attributes (drop l.instruction-index l.instructions) l.stack);
   room : length l.stack ≤ l.instruction-index;
   few : l.parts ≤ l.before + l.instruction-index;
 }

@@ -8,7 +8,7 @@ use Rattle.index_set.specs.declared.info.IndexInfo.{IndexInfo}
 use Rattle.index_set.specs.Complete.{AreIndexesOf, AreReadable}
 use Rattle.index_set.specs.Plans.{kinds, slots_passed}
 use Rattle.index_set.specs.Walks.{Fits, IsChosen, ahead, walk_of}
-use Rattle.cursor.specs.Remaining.{AreOnNumbers, remaining, selected_slots, slots_left}
+use Rattle.cursor.specs.Remaining.{AreOnNumbers, remaining, selected_slots, slots_to_answer}
 use Rattle.lvm.specs.Code.{IsCodeOf}
 use Rattle.tuple_file.specs.declared.tuples.Tuples.{Tuples}
 use Rattle.tuple_file.specs.Tuples.{HoldsRows, rows, slots}
@@ -114,7 +114,7 @@ returns-clause-ahead g c = λ told condition code.
     let cursor = c.in_ok-cursor.cursor in
     let indexes = are_indexes state tables held opens r k t there told in
     let O : Tuples → Type 0 = λ z. (d : Option Cond) → IsCodeOf z.schema.attributes d c.args.plan.code → AreIndexesOf state tables (rows state.files z) infos
-    → slots_left cursor (rows state.files z) ≡ selected_slots z.schema.attributes d (rows state.files z) in
+    → slots_to_answer cursor (rows state.files z) ≡ selected_slots z.schema.attributes d (rows state.files z) in
     let P : Tuples → List IndexInfo → Type 0 = λ z l. (d : Option Cond) → IsCodeOf z.schema.attributes d c.args.plan.code → AreIndexesOf state tables (rows state.files z) l
     → ahead cursor.candidates (rows state.files z) ≡ slots_passed (kinds l) (ranges_of z.schema.attributes d) (length (rows state.files z)) (rows state.files z) in
     let Q : Tuples → List IndexInfo → Type 0 = λ z l. (d : Option Cond) → IsCodeOf z.schema.attributes d c.args.plan.code

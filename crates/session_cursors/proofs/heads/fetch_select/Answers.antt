@@ -3,7 +3,7 @@ use Rattle.db_model.specs.Cost.{fetch_select_cost, passed}
 use Rattle.db_model.specs.Row.{Row}
 use Rattle.index_set.specs.Walks.{ahead, walk_of}
 use Rattle.cursor.specs.declared.select.SelectCursor.{SelectCursor}
-use Rattle.cursor.specs.Remaining.{remaining, slots_left}
+use Rattle.cursor.specs.Remaining.{remaining, slots_to_answer}
 use Rattle.tuple_file.specs.declared.tuples.Tuples.{Tuples}
 use Rattle.tuple_file.specs.Tuples.{rows}
 use Rattle.session_model.specs.View.{project}
@@ -35,7 +35,7 @@ returns-clause-ahead g c = λ told.
     let advances = h.advances in
     ahead_then files o c.rest.new.self (ap (λ (x : SelectCursor). x.tuples) (r.rests ∙ ap at_root h.stands)) (ap (λ (x : SelectCursor). x.candidates.search) r.rests ∙ advances.search)
     (ap (λ (x : SelectCursor). x.candidates.slots) r.rests ∙ advances.slots) found
-    (rested_on found (slots_left o.cursor all) (slots_left c.next.new.self all) (slots_left c.rest.new.self all) (r.slots_left all) (h.yields told (c.requires.can.fits told)).slot)
+    (rested_on found (slots_to_answer o.cursor all) (slots_to_answer c.next.new.self all) (slots_to_answer c.rest.new.self all) (r.slots_left all) (h.yields told (c.requires.can.fits told)).slot)
     (rested_at found (λ slot. o.cursor.candidates.from ≤ slot) c.next.new.self.candidates.from c.rest.new.self.candidates.from c.next.new.self.candidates.slots c.rest.new.self.candidates.slots
     (ap (λ (x : SelectCursor). x.candidates.from) r.rests) (ap (λ (x : SelectCursor). x.candidates.slots) r.rests) h.ended advances.forward)
 
@@ -51,7 +51,7 @@ returns-clause-reads g c = λ told db finds.
     let before = g.V.Files.reads c.args.files.now in
     let now = g.V.Files.reads c.next.new.files in
     let some : 0 < o.cursor.candidates.slots = omega (arith, c.if-opened.false) in
-    let P : List Row → Type 0 = λ l. now ≤ before + fetch_select_cost (walk_of o.cursor.candidates.search) l (length (passed (slice_get (slots_left o.cursor all) 0) (ahead o.cursor.candidates all))) in
+    let P : List Row → Type 0 = λ l. now ≤ before + fetch_select_cost (walk_of o.cursor.candidates.search) l (length (passed (slice_get (slots_to_answer o.cursor all) 0) (ahead o.cursor.candidates all))) in
     let yields = h.yields told fits in
     let advances = h.advances in
     subst P (sym (finds some))
@@ -66,5 +66,5 @@ returns-in_err-found-clause-reads g c = λ told db finds.
     let before = g.V.Files.reads c.args.files.now in
     let now = g.V.Files.reads c.next.new.files in
     let some : 0 < o.cursor.candidates.slots = omega (arith, c.if-opened.false) in
-    let P : List Row → Type 0 = λ l. now ≤ before + fetch_select_cost (walk_of o.cursor.candidates.search) l (length (passed (slice_get (slots_left o.cursor all) 0) (ahead o.cursor.candidates all))) in
+    let P : List Row → Type 0 = λ l. now ≤ before + fetch_select_cost (walk_of o.cursor.candidates.search) l (length (passed (slice_get (slots_to_answer o.cursor all) 0) (ahead o.cursor.candidates all))) in
     subst P (sym (finds some)) (read_failed o.cursor all before now c.requires.can.rests (c.in_err-found.ensures.reads_failed told (c.requires.can.fits told)))

@@ -1,6 +1,6 @@
 use Rattle.std.proofs.Common.{◌≡◌, List, ap, map, refl, sym, subst, ◌∙◌}
 use Rattle.afl_base.specs.Asked.{asks_few}
-use Rattle.afl_base.specs.Frames.{Spares}
+use Rattle.afl_base.specs.Frames.{SparesOthers}
 use Rattle.index_set.specs.declared.info.IndexInfo.{IndexInfo}
 use Rattle.index_set.specs.Complete.{AreComplete, AreHeld}
 use Rattle.index_set.specs.Inserts.{AreApart, IsNoTree, KeepsTables}
@@ -70,7 +70,7 @@ returns-clause-goes_on g c =
     let h = c.in_ok-answer.ensures in
     let u : RowsCome old new before after held opens k t = record {
       there = c.requires.there;
-      spared = subst (λ (l : List IndexInfo). Spares old new (StaysAt t.file l)) e h.grows.others;
+      spared = subst (λ (l : List IndexInfo). SparesOthers old new (StaysAt t.file l)) e h.grows.others;
       tables = subst (λ (l : List IndexInfo). KeepsTables before after l) e h.grows.tables;
       holds = h.grows.holds;
       few = h.few;

@@ -1,6 +1,6 @@
 use Rattle.std.proofs.Common.{◌≡◌, ◌≢◌, ◌+◌, ◌≤◌, drop, length, IsTrue}
 use Rattle.afl_base.specs.Files.{file_at}
-use Rattle.afl_base.specs.Frames.{Spares}
+use Rattle.afl_base.specs.Frames.{SparesOthers}
 use Rattle.tuple_file.specs.Tuples.{HoldsRows, rows, slots}
 use Rattle.session_rows.specs.Marking.{marked}
 use Rattle.session_rows.proofs.marking.mark_rows.Given as goal
@@ -10,7 +10,7 @@ invariant-loop-slot g l = record {
   holds : HoldsRows (g.V.Files.state l.files) l.tuples;
   count : slots (g.V.Files.state l.files).files l.tuples ≡ slots (g.V.Files.state l.fn.files).files l.tuples;
   records : length l.slot-items ≤ l.slot-index + (file_at (g.V.Files.state l.files).files l.tuples.file).records;
-  spared : Spares (g.V.Files.state l.fn.files) (g.V.Files.state l.files) (λ k. k ≢ l.tuples.file);
+  spared : SparesOthers (g.V.Files.state l.fn.files) (g.V.Files.state l.files) (λ k. k ≢ l.tuples.file);
   told : IsTrue (g.V.Files.state l.fn.files).tells → marked (drop l.slot-index l.slot-items) (rows (g.V.Files.state l.files).files l.tuples) ≡ marked l.slot-items (rows (g.V.Files.state l.fn.files).files l.tuples);
   store : length (g.V.Files.state l.files).store ≡ length (g.V.Files.state l.fn.files).store;
   lent : g.V.Files.lent l.files ≡ g.V.Files.lent l.fn.files;

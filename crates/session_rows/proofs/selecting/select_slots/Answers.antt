@@ -4,7 +4,7 @@ use Rattle.index_set.specs.Walks.{Fits}
 use Rattle.tuple_file.specs.declared.tuples.Tuples.{Tuples}
 use Rattle.tuple_file.specs.Tuples.{rows}
 use Rattle.cursor.specs.declared.select.SelectCursor.{SelectCursor}
-use Rattle.cursor.specs.Remaining.{Yields, slots_left}
+use Rattle.cursor.specs.Remaining.{Yields, slots_to_answer}
 use Rattle.session_rows.specs.Marking.{IsMarkedFront}
 use Rattle.session_rows.proofs.selecting.select_slots.Goals as goal
 
@@ -41,6 +41,6 @@ slots-preserved g c =
       may_read = search rules;
       below = c.add.ensures.below c0.candidates.slots inv.below (omega (arith, low, inv.slots));
       fits = λ told f. (yields told (inv.fits told f)).fits;
-      front = λ told f. c.add.ensures.front (slots_left c0 (rows s0.files c0.tuples)) (slots_left c2 (rows s0.files c0.tuples))
-          (subst (λ left. IsMarkedFront c.slots.selected (slots_left c0 (rows s0.files c0.tuples)) left) (yields told (inv.fits told f)).slot (inv.front told f));
+      front = λ told f. c.add.ensures.front (slots_to_answer c0 (rows s0.files c0.tuples)) (slots_to_answer c2 (rows s0.files c0.tuples))
+          (subst (λ left. IsMarkedFront c.slots.selected (slots_to_answer c0 (rows s0.files c0.tuples)) left) (yields told (inv.fits told f)).slot (inv.front told f));
     }

@@ -1,7 +1,7 @@
 use Rattle.std.proofs.Common.{◌≡◌, ◌≤◌, ◌-◌, IsTrue, length}
 use Rattle.index_set.specs.Walks.{Fits}
 use Rattle.tuple_file.specs.Tuples.{rows}
-use Rattle.cursor.specs.Remaining.{MayRead, slots_left}
+use Rattle.cursor.specs.Remaining.{MayRead, slots_to_answer}
 use Rattle.session_rows.specs.Marking.{AreBelow, IsMarkedFront}
 use Rattle.session_rows.proofs.selecting.select_slots.Given as goal
 
@@ -21,7 +21,7 @@ invariant-slots g l = record {
   fits : IsTrue (g.V.Files.state l.fn.files).tells → Fits l.fn.cursor.candidates (g.V.Files.state l.fn.files) l.tables (rows (g.V.Files.state l.fn.files).files l.fn.cursor.tuples)
       → Fits l.cursor.candidates (g.V.Files.state l.fn.files) l.tables (rows (g.V.Files.state l.fn.files).files l.fn.cursor.tuples);
   front : IsTrue (g.V.Files.state l.fn.files).tells → Fits l.fn.cursor.candidates (g.V.Files.state l.fn.files) l.tables (rows (g.V.Files.state l.fn.files).files l.fn.cursor.tuples)
-      → IsMarkedFront l.selected (slots_left l.fn.cursor (rows (g.V.Files.state l.fn.files).files l.fn.cursor.tuples)) (slots_left l.cursor (rows (g.V.Files.state l.fn.files).files l.fn.cursor.tuples));
+      → IsMarkedFront l.selected (slots_to_answer l.fn.cursor (rows (g.V.Files.state l.fn.files).files l.fn.cursor.tuples)) (slots_to_answer l.cursor (rows (g.V.Files.state l.fn.files).files l.fn.cursor.tuples));
 }
 
 abbrev pub decreases-slots : goal.decreases-slots

@@ -3,7 +3,7 @@ use Rattle.afl_base.specs.Fit.{fit}
 use Rattle.afl_base.specs.declared.kind.Kind.TheVariants.{Doubling}
 use Rattle.coffee_layout.specs.Units.{pages_of}
 use Rattle.coffee_layout.specs.declared.file.FileAt.{FileAt}
-use Rattle.coffee_merge.specs.Holding.{Holds, extent_of}
+use Rattle.coffee_merge.specs.Holding.{HoldsTable, extent_of}
 use Rattle.coffee_volume.specs.Lowest.{PlacesDraft}
 use Rattle.coffee_volume.specs.Volumes.{IsPending, places}
 use Rattle.coffee_volume.proofs.Changes.{BeginsDraft, FindsNone, lacks_left, looked_left, none_left, seen_begun, seen_left, stands_begun, stands_left}
@@ -41,7 +41,7 @@ invariant_of-self g c =
     stands_begun g.F.Flash.tells v.failed old new v.table v.draft d (record { count = v.count; big = v.big; regular = v.regular; pending = v.pending; space = v.space; told = v.told }) idle c.in-Ok.ensures.frame.size pending
     c.requires.place
     (λ (told : IsTrue g.F.Flash.tells) (no : v.failed ≡ false).
-    (c.in-Ok.ensures.begun told (places v.table) c.args.size (subst (Holds old (places v.table)) idle (v.told told no)) fits).begins.holds) in
+    (c.in-Ok.ensures.begun told (places v.table) c.args.size (subst (HoldsTable old (places v.table)) idle (v.told told no)) fits).begins.holds) in
     record { count = after.count; big = after.big; regular = after.regular; pending = after.pending; space = after.space; told = after.told }
 
 pub returns-in-Ok-clause-begun : goal.returns-in-Ok-clause-begun

@@ -2,7 +2,7 @@ use Rattle.std.proofs.Common.{Option, refl, subst, ◌&&◌, not, length, arith}
 use Rattle.coffee_volume.proofs.DraftWrites.{inside_draft, seen_written, stands_written}
 use Rattle.coffee_volume.proofs.Standing.{stands_failed}
 use Rattle.coffee_layout.specs.declared.file.FileAt.{FileAt}
-use Rattle.coffee_merge.specs.Holding.{Holds}
+use Rattle.coffee_merge.specs.Holding.{HoldsTable}
 use Rattle.coffee_volume.specs.Volumes.{places}
 use Rattle.coffee_volume.proofs.Tables.{told_by}
 use Rattle.coffee_volume.proofs.Takings.{free_taken}
@@ -61,4 +61,4 @@ returns-clause-taken g c = λ told.
     let old = g.F.Flash.image v.flash in
     let both = told_by g.F.Flash.tells v.failed told in
     free_taken old (g.F.Flash.image c.write_extent.new.flash)
-    (c.in_ok-write_extent.ensures.free both.0 (places v.table) c.drafted-draft.result (subst (λ (o : Option FileAt). Holds old (places v.table) o) c.drafted-draft.ensures (v.told both.0 both.1)) refl refl)
+    (c.in_ok-write_extent.ensures.free both.0 (places v.table) c.drafted-draft.result (subst (λ (o : Option FileAt). HoldsTable old (places v.table) o) c.drafted-draft.ensures (v.told both.0 both.1)) refl refl)

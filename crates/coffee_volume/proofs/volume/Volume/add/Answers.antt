@@ -1,7 +1,7 @@
 use Rattle.std.proofs.Common.{◌≡◌, ◌<◌, ◌&&◌, not, ℕ, Option, None, Some, IsTrue, false, length, get_or, refl, subst, arith}
 use Rattle.coffee_layout.specs.Units.{pages_of}
 use Rattle.coffee_layout.specs.declared.file.FileAt.{FileAt}
-use Rattle.coffee_merge.specs.Holding.{Commits, Holds}
+use Rattle.coffee_merge.specs.Holding.{CommitsExtent, HoldsTable}
 use Rattle.coffee_volume.specs.Volumes.{IsPending, places, roomless}
 use Rattle.coffee_volume.proofs.Drafted.{commit_holds, commit_turns, free_place, pending_regular}
 use Rattle.coffee_volume.proofs.Standing.{Stands, stands_committed, stands_failed, tells_by, where_told}
@@ -37,9 +37,9 @@ invariant_of-self-2 g c =
     let inside : i < length v.table = omega (arith, v.count, c.number.ensures.below) in
     let free : get_or v.table i None ≡ None = rw c.number.ensures.value c.requires.free in
     let unnamed = unnamed_entries (g.F.Flash.tells && not v.failed) old v.table d.name c.requires.unnamed in
-    let commits : IsTrue g.F.Flash.tells → v.failed ≡ false → Commits old new (places v.table) i d =
+    let commits : IsTrue g.F.Flash.tells → v.failed ≡ false → CommitsExtent old new (places v.table) i d =
     λ told fine.
-    let holds : Holds old (places v.table) (Some d) = subst (λ (o : Option FileAt). Holds old (places v.table) o) c.requires.begun (v.told told fine) in
+    let holds : HoldsTable old (places v.table) (Some d) = subst (λ (o : Option FileAt). HoldsTable old (places v.table) o) c.requires.begun (v.told told fine) in
     c.in_ok-commit_extent.ensures.committed told (places v.table) d i holds refl (omega (arith, inside, length_places v.table)) (free_place v.table i free) (new_name (g.F.Flash.tells && not v.failed) old v.table d.name unnamed) (c.requires.last (tells_by g.F.Flash.tells v.failed told fine)) in
     let k = stands_committed g.F.Flash.tells v.failed old new v.table v.draft i (roomless d) s c.commit_extent.ensures.frame.size
     (regular_new (pages_of old) v.table i (roomless d) v.regular inside (no_entry (g.F.Flash.tells && not v.failed) old v.table d.name unnamed) (pending_regular (pages_of old) d pending))
@@ -57,8 +57,8 @@ returns-clause-committed g c =
     let inside : i < length v.table = omega (arith, v.count, c.number.ensures.below, c.number.ensures.value) in
     let free : get_or v.table i None ≡ None = c.requires.free in
     let unnamed = unnamed_entries (g.F.Flash.tells && not v.failed) old v.table d.name c.requires.unnamed in
-    let holds : IsTrue g.F.Flash.tells → v.failed ≡ false → Holds old (places v.table) (Some d) = λ told fine. subst (λ (o : Option FileAt). Holds old (places v.table) o) c.requires.begun (v.told told fine) in
-    let commits : IsTrue g.F.Flash.tells → v.failed ≡ false → Commits old new (places v.table) i d = λ told fine. c.in_ok-commit_extent.ensures.committed told (places v.table) d i (holds told fine) refl (omega (arith, inside, length_places v.table)) (free_place v.table i free) (new_name (g.F.Flash.tells && not v.failed) old v.table d.name unnamed) (c.requires.last (tells_by g.F.Flash.tells v.failed told fine)) in
+    let holds : IsTrue g.F.Flash.tells → v.failed ≡ false → HoldsTable old (places v.table) (Some d) = λ told fine. subst (λ (o : Option FileAt). HoldsTable old (places v.table) o) c.requires.begun (v.told told fine) in
+    let commits : IsTrue g.F.Flash.tells → v.failed ≡ false → CommitsExtent old new (places v.table) i d = λ told fine. c.in_ok-commit_extent.ensures.committed told (places v.table) d i (holds told fine) refl (omega (arith, inside, length_places v.table)) (free_place v.table i free) (new_name (g.F.Flash.tells && not v.failed) old v.table d.name unnamed) (c.requires.last (tells_by g.F.Flash.tells v.failed told fine)) in
     rw (c.number.ensures.value, c.requires.begun)
     (seen_adds (g.F.Flash.tells && not v.failed) old new v.table i d inside free c.requires.lowest unnamed pending.kind pending.log
     (where_told g.F.Flash.tells v.failed _ (λ told fine. commit_turns old new v.table i d inside pending.used (holds told fine) (c.requires.last (tells_by g.F.Flash.tells v.failed told fine)) (commits told fine)))
@@ -70,4 +70,4 @@ returns-clause-taken g c = λ told.
     let old = g.F.Flash.image v.flash in
     let both = told_by g.F.Flash.tells v.failed told in
     free_taken old (g.F.Flash.image c.commit_extent.new.flash)
-    (c.in_ok-commit_extent.ensures.free both.0 (places v.table) c.args.draft (subst (λ (o : Option FileAt). Holds old (places v.table) o) c.requires.begun (v.told both.0 both.1)) refl)
+    (c.in_ok-commit_extent.ensures.free both.0 (places v.table) c.args.draft (subst (λ (o : Option FileAt). HoldsTable old (places v.table) o) c.requires.begun (v.told both.0 both.1)) refl)

@@ -2,7 +2,7 @@ use Rattle.std.proofs.Common.{◌<◌, ◌&&◌, not, ℕ, List, Option, length,
 use Rattle.afl_base.proofs.FileLaws.{file_here}
 use Rattle.coffee_layout.specs.Units.{pages_of}
 use Rattle.coffee_layout.specs.declared.file.FileAt.{FileAt}
-use Rattle.coffee_merge.specs.Holding.{Holds}
+use Rattle.coffee_merge.specs.Holding.{HoldsTable}
 use Rattle.coffee_volume.specs.Volumes.{IsEntry, IsRegular, places}
 use Rattle.coffee_volume.specs.declared.entry.Entry.{Entry}
 use Rattle.coffee_volume.proofs.Moved.{room_becomes, same_place}
@@ -23,7 +23,7 @@ invariant_of-self g c =
     let fine : IsRegular (pages_of image) (record { at = e.at; records = c.args.records; room = c.args.room }) =
     regular_granted (pages_of image) e c.args.records c.args.room c.entry-entry.ensures.regular (c.requires.ready e c.entry-entry.ensures.entry) (omega (arith, c.requires.most, c.entry-entry.ensures.size)) in
     let k = stands_same g.F.Flash.tells v.failed image image v.table v.draft i e (record { at = e.at; records = c.args.records; room = c.args.room }) s refl c.number.ensures.below is refl fine
-    (λ told fine. subst (λ (t : List (Option FileAt)). Holds image t v.draft) (sym (same_place (places v.table) i e.at (in_places v.table i e is))) (v.told told fine)) in
+    (λ told fine. subst (λ (t : List (Option FileAt)). HoldsTable image t v.draft) (sym (same_place (places v.table) i e.at (in_places v.table i e is))) (v.told told fine)) in
     record { count = k.count; big = k.big; regular = k.regular; pending = k.pending; space = k.space; told = k.told }
 
 pub returns-clause-contents : goal.returns-clause-contents

@@ -3,7 +3,7 @@ use Rattle.std.specs.List.{All}
 use Rattle.coffee_layout.specs.Files.{FitsIn, listed}
 use Rattle.coffee_layout.specs.Rules.{broken_image}
 use Rattle.coffee_layout.specs.Units.{pages_of}
-use Rattle.coffee_merge.specs.Holding.{Holds}
+use Rattle.coffee_merge.specs.Holding.{HoldsTable}
 use Rattle.coffee_volume.specs.Volumes.{AreRegular, places}
 use Rattle.coffee_volume.proofs.MountedTables.{mounted_holds, mounted_keep, mounted_length, mounted_rooms}
 use Rattle.coffee_volume.proofs.Tables.{seen_distinct}
@@ -25,8 +25,8 @@ invariant_of-result g c =
       space = λ d is. absurd (cc);
       told = λ tells known.
           let judged : (broken_image image ≡ None) × (c.check.new.table.items ≡ listed image) = (rw c.in-Ok-Ok.field-0-is at c.in-Ok-Ok.ensures.judged) tells in
-          subst (λ i. Holds i (places c.in-Ok.table) None) (sym c.check.ensures.frame.same)
-          (subst (λ t. Holds image (places t) None) (sym c.in-Ok.ensures.table) (mounted_holds image files (c.deref.ensures.0 ∙ judged.1) judged.0 whole));
+          subst (λ i. HoldsTable i (places c.in-Ok.table) None) (sym c.check.ensures.frame.same)
+          (subst (λ t. HoldsTable image (places t) None) (sym c.in-Ok.ensures.table) (mounted_holds image files (c.deref.ensures.0 ∙ judged.1) judged.0 whole));
     }
 
 pub returns-in-Err-table_of-clause-bad : goal.returns-in-Err-table_of-clause-bad

@@ -1,7 +1,7 @@
 use Rattle.std.proofs.Common.{◌≡◌, ◌<◌, ◌&&◌, not, ℕ, Option, Some, IsTrue, false, length, refl, ap, sym, subst, ◌∙◌, arith}
 use Rattle.coffee_layout.specs.Units.{pages_of}
 use Rattle.coffee_layout.specs.declared.file.FileAt.{FileAt}
-use Rattle.coffee_merge.specs.Holding.{Commits, Holds}
+use Rattle.coffee_merge.specs.Holding.{CommitsExtent, HoldsTable}
 use Rattle.coffee_volume.specs.Volumes.{IsEntry, IsPending, places, roomless}
 use Rattle.coffee_volume.specs.declared.entry.Entry.{Entry}
 use Rattle.coffee_volume.proofs.Drafted.{commit_holds, commit_turns, pending_regular}
@@ -40,9 +40,9 @@ invariant_of-self-2 g c =
     let is : IsEntry v.table i e = rw c.number.ensures.value c.entry-old.ensures.entry in
     let had = entry_of_name v.table c.args.id d.name c.requires.named in
     let name : e.at.name ≡ d.name = ap (λ (x : Entry). x.at.name) (one_entry v.table c.args.id e had.0 c.entry-old.ensures.entry had.1) ∙ had.2 in
-    let commits : IsTrue g.F.Flash.tells → v.failed ≡ false → Commits old new (places v.table) i d =
+    let commits : IsTrue g.F.Flash.tells → v.failed ≡ false → CommitsExtent old new (places v.table) i d =
     λ told fine.
-    let holds : Holds old (places v.table) (Some d) = subst (λ (o : Option FileAt). Holds old (places v.table) o) c.requires.begun (v.told told fine) in
+    let holds : HoldsTable old (places v.table) (Some d) = subst (λ (o : Option FileAt). HoldsTable old (places v.table) o) c.requires.begun (v.told told fine) in
     c.in_ok-replace_file.ensures.replaced told (places v.table) d i holds refl (in_places v.table i e is) name (c.requires.last (tells_by g.F.Flash.tells v.failed told fine)) in
     let k = stands_committed g.F.Flash.tells v.failed old new v.table v.draft i (roomless d) s c.replace_file.ensures.frame.size
     (regular_same (pages_of old) v.table i e (roomless d) v.regular inside is (sym name) (pending_regular (pages_of old) d pending))
@@ -62,8 +62,8 @@ returns-clause-committed g c =
     let is : IsEntry v.table i e = c.entry-old.ensures.entry in
     let had = entry_of_name v.table c.args.id d.name c.requires.named in
     let name : e.at.name ≡ d.name = ap (λ (x : Entry). x.at.name) (one_entry v.table c.args.id e had.0 c.entry-old.ensures.entry had.1) ∙ had.2 in
-    let holds : IsTrue g.F.Flash.tells → v.failed ≡ false → Holds old (places v.table) (Some d) = λ told fine. subst (λ (o : Option FileAt). Holds old (places v.table) o) c.requires.begun (v.told told fine) in
-    let commits : IsTrue g.F.Flash.tells → v.failed ≡ false → Commits old new (places v.table) i d = λ told fine. c.in_ok-replace_file.ensures.replaced told (places v.table) d i (holds told fine) refl (in_places v.table i e is) name (c.requires.last (tells_by g.F.Flash.tells v.failed told fine)) in
+    let holds : IsTrue g.F.Flash.tells → v.failed ≡ false → HoldsTable old (places v.table) (Some d) = λ told fine. subst (λ (o : Option FileAt). HoldsTable old (places v.table) o) c.requires.begun (v.told told fine) in
+    let commits : IsTrue g.F.Flash.tells → v.failed ≡ false → CommitsExtent old new (places v.table) i d = λ told fine. c.in_ok-replace_file.ensures.replaced told (places v.table) d i (holds told fine) refl (in_places v.table i e is) name (c.requires.last (tells_by g.F.Flash.tells v.failed told fine)) in
     rw (c.number.ensures.value, c.requires.begun)
     (seen_replaces (g.F.Flash.tells && not v.failed) old new _ v.table i e d inside is name v.regular pending.kind pending.log
     (where_told g.F.Flash.tells v.failed _ (λ told fine. commit_turns old new v.table i d inside pending.used (holds told fine) (c.requires.last (tells_by g.F.Flash.tells v.failed told fine)) (commits told fine)))
@@ -76,4 +76,4 @@ returns-clause-taken g c = λ told.
     let both = told_by g.F.Flash.tells v.failed told in
     let e : Entry = c.entry-old.result in
     free_taken old (g.F.Flash.image c.replace_file.new.flash)
-    (c.in_ok-replace_file.ensures.free both.0 (places v.table) c.args.draft c.args.id (subst (λ (o : Option FileAt). Holds old (places v.table) o) c.requires.begun (v.told both.0 both.1)) refl (in_places v.table c.args.id e c.entry-old.ensures.entry))
+    (c.in_ok-replace_file.ensures.free both.0 (places v.table) c.args.draft c.args.id (subst (λ (o : Option FileAt). HoldsTable old (places v.table) o) c.requires.begun (v.told both.0 both.1)) refl (in_places v.table c.args.id e c.entry-old.ensures.entry))
