@@ -8,3 +8,5 @@ pub mod Images
 pub mod KeyLaws
 pub mod PaddedLaws
 pub mod PutLaws
+pub mod UsedLaws
+pub mod Bits

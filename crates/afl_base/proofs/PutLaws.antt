@@ -1,6 +1,6 @@
 -- Writes into bytes: `put_at` puts bytes in the place of those that stand there.
-use Rattle.std.proofs.Common.{◌≡◌, add-zero, ℕ, ◌+◌, ◌≤◌, List, [], ◌++◌, length, take, drop, refl, sym, ap, ◌∙◌, arith, append_assoc}
-use Rattle.std.proofs.lemmas.List.{append-nil, drop-drop, drop_at, length-append, length-take-le, take_at, take-append-drop, take-append-le, take-take}
+use Rattle.std.proofs.Common.{◌≡◌, add-zero, ℕ, ◌+◌, ◌≤◌, List, [], ◌++◌, length, take, drop, refl, sym, ap, ◌∙◌, arith, append_assoc, ◌-◌, ◌<◌, get_or}
+use Rattle.std.proofs.lemmas.List.{append-nil, drop-drop, drop_at, length-append, length-take-le, take_at, take-append-drop, take-append-le, take-take, length-take, get_or_append_left, get_or-append_right, get_or-drop}
 use borrow.Rule.Slice.PartMut.{put_mid}
 use Rattle.afl_base.specs.Fields.{put_at}
 
@@ -37,3 +37,22 @@ take-put_at old written at n before room =
     take-append-le n (take at old ++ written) (drop (at + length written) old) (omega (arith, before, front, both))
     ∙ take-append-le n (take at old) written (omega (arith, before, front))
     ∙ take-take n at old before
+
+pub put_at_here : (old new : List ℕ) (at j : ℕ) → at + length new ≤ length old → j < length new → get_or (put_at old at new) (at + j) 0 ≡ get_or new j 0
+unfolding put_at
+put_at_here old new at j fits within =
+    let front : length (take at old ++ new) ≡ at + length new = omega (arith, length-append (take at old) new, length-take at old) in
+    let e : at + j - at ≡ j = omega arith in
+    get_or_append_left (take at old ++ new) (drop (at + length new) old) 0 (at + j) (omega arith)
+    ∙ get_or-append_right (take at old) new at (at + j) 0 (omega (arith, length-take at old)) (omega arith)
+    ∙ ap (λ i. get_or new i 0) e
+
+pub put_at_behind : (xs bytes : List ℕ) (at p : ℕ) → at + length bytes ≤ length xs → at + length bytes ≤ p → get_or (put_at xs at bytes) p 0 ≡ get_or xs p 0
+unfolding put_at
+put_at_behind xs bytes at p fits after =
+    let len = length-take-le at xs (omega arith) in
+    let both = length-append (take at xs) bytes in
+    let back : at + length bytes + (p - (at + length bytes)) ≡ p = omega arith in
+    get_or-append_right (take at xs ++ bytes) (drop (at + length bytes) xs) (at + length bytes) p 0 (omega (arith, both, len)) after
+    ∙ get_or-drop (at + length bytes) xs (p - (at + length bytes)) 0
+    ∙ ap (λ (i : ℕ). get_or xs i 0) back

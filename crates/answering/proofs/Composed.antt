@@ -14,12 +14,9 @@ use Rattle.reply_text.specs.WroteLess.{WroteLess}
 use Rattle.run_model.specs.Talk.{AsksToRead, Talk, after_entry, talk_costs, last_database, talk_aheads, talk_output}
 use Rattle.run_model.proofs.Talks.{costs-append, last-append, last_aheads-append, output-append}
 use Rattle.answering.specs.Carried.{Carried, HaltsIn, Standing, Stopped, StopsEntries, no_space}
+use Rattle.padded.proofs.Facts.{all_front}
 
 -- ---- entries that only read
-
-all_front : {X : Type 0} (P : X → Type 0) (xs ys : List X) → AllByRecursion P (xs ++ ys) → AllByRecursion P xs
-all_front P [] ys h = tt
-all_front P (x ∷ xs) ys h = (h.0, all_front P xs ys h.1)
 
 all_behind : {X : Type 0} (P : X → Type 0) (xs ys : List X) → AllByRecursion P (xs ++ ys) → AllByRecursion P ys
 all_behind P [] ys h = h

@@ -1,5 +1,5 @@
 -- A reply that goes through a sink that gathers, and not all of it further on.
-use Rattle.std.proofs.Common.{◌≡◌, inl, inr, ℕ, ◌<◌, ◌≤◌, Bool, true, false, List, [], ◌∷◌, ◌++◌, length, Option, refl, ap, sym, subst, ◌∙◌, arith, append_assoc, length-append, ⊎_elim}
+use Rattle.std.proofs.Common.{◌≡◌, inl, inr, ℕ, ◌<◌, ◌≤◌, false, List, [], ◌∷◌, ◌++◌, length, Option, refl, ap, sym, subst, ◌∙◌, arith, append_assoc, length-append, ⊎_elim}
 use Rattle.std.specs.Prelude.{⊤, IfErr, OnOk, Ok, Err, Result}
 use Rattle.std.specs.Io.KnownBytes.{append_known}
 use Rattle.std.proofs.lemmas.List.{append-nil}
@@ -22,6 +22,7 @@ use Rattle.db_model.proofs.ReplyTexts.{text_refused}
 use Rattle.reply_text.proofs.Pieces.{append_known-nil}
 use Rattle.reply_text.specs.WroteLess.{WroteLess}
 use Rattle.answering.specs.Taking.{CarriesEntries, KeepsRunning, HaltsInBytes, HaltsWithin, HasOne, Input, Running, TakesBytes, Told, running}
+use Rattle.padded.proofs.Facts.{false_true}
 
 -- the same, where the sink holds this
 abbrev pub held_by : Standing → Option (List ℕ) → Standing
@@ -165,9 +166,6 @@ rose_on a b c rose low = omega (arith, low, rose)
 rose_later : (a b c : ℕ) → a ≤ b → Rose b c → Rose a c
 rose_later a b c low rose = omega (arith, low, rose)
 
-true_false : (t : Bool) → t ≡ false → t ≡ true → ⊥
-true_false t e f = let n : false ≡ true = sym e ∙ f in cc
-
 sink_flash : Sink ≡ Flash → ⊥
 sink_flash e = cc
 
@@ -227,7 +225,7 @@ module _ {E Q P V : Type 0} (input : Input E Q P) (files : FilesOf V)
     fails_now : (answered : Result ⊤ Halt) → FailsNow answered b.replies replies w.left → OnOk answered (CarriesEntries input files a b entries)
         → IfErr answered (λ halt. HaltsWithin input files a b entries halt) → HaltsWithin input files a now entries Sink
     fails_now (Ok done) fails c h = record {
-      kept = λ going kept lost. absurd (true_false b.session.lost (c.kept going kept) lost);
+      kept = λ going kept lost. absurd (false_true b.session.lost (c.kept going kept) lost);
       flash = λ going is. absurd (sink_flash is);
       sink = λ going is. rose_later a.replies b.replies replies c.on.replies fails.rose;
       halts = λ going told read reader q k.

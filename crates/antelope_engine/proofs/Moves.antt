@@ -1,14 +1,11 @@
 -- What is ahead of the cursors stays, unless a command opens, fetches or closes one.
-use Rattle.std.proofs.Common.{◌≡◌, Bool, true, false, refl, if◌then◌else◌}
+use Rattle.std.proofs.Common.{◌≡◌}
 use Rattle.db_model.specs.declared.commands.Command.{Command}
 use Rattle.db_model.specs.declared.commands.Command.TheVariants.{CreateRelation, CreateAttribute, CreateIndex, Insert, Ask, Aggregate, RemoveFrom, RemoveRelation, RemoveIndex, Pack, OpenCursor, FetchCursor, CloseCursor}
 use Rattle.db_model.specs.Ahead.{Aheads, aheads_after, is_refused}
 use Rattle.db_model.specs.Database.{Database}
 use Rattle.db_model.specs.Step.{Reads, step}
-
-either_way : {A : Type 0} (b : Bool) (x : A) → (if b then x else x) ≡ x
-either_way true x = refl
-either_way false x = refl
+use Rattle.padded.proofs.Facts.{either_way}
 
 pub stay : (db : Database) (aheads : Aheads) (c : Command) → (Reads c → ⊥) → aheads_after db aheads c ≡ aheads
 stay db aheads (CreateRelation name) h = either_way (is_refused ((step db (CreateRelation name)).1)) aheads

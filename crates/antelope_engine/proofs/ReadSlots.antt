@@ -29,10 +29,11 @@ use Rattle.session_model.specs.declared.held.Open.{Open}
 use Rattle.session_model.specs.Indexed.{index_known}
 use Rattle.session_model.specs.Running.{HasFile, IsRunning}
 use Rattle.session_model.specs.View.{relation_of_rows, view}
-use Rattle.session_model.proofs.Frames.{count_rows}
 use Rattle.session_model.proofs.Running.{index_there, relation_there, same_default}
 use Rattle.antelope_engine.specs.Reading.{index_in_slot, keys_at_index, row_in_slot, schema_at, tree_of}
-use Rattle.antelope_engine.proofs.Slots.{seen, seen_of, some_same}
+use Rattle.antelope_engine.proofs.Slots.{seen_of}
+use Rattle.tuple_file.proofs.Columns.{rows_counted}
+use Rattle.padded.proofs.Facts.{some_same, seen_at}
 
 -- what stands in a slot, found by its number
 pub found_at : {A : Type 0} (xs : List (Option A)) (k id : ℕ) (o : Option A) → k ≡ id → id < length xs → get_or xs k o ≡ get_or xs id None
@@ -41,7 +42,7 @@ found_at xs k id o same below = ap (λ (n : ℕ). get_or xs n o) same ∙ same_d
 pub schema_seen : (files : Table) (held : Held) (opens : List (Option Open)) (id : ℕ)
     → option_map (λ (t : Tuples). t.schema) (get_or held.relations id None) ≡ schema_at (view files held opens) id
 schema_seen files held opens id =
-    by_slot (get_or held.relations id None) ∙ ap (option_map (λ (r : Relation). r.schema)) (sym (seen (relation_of_rows files) held.relations id))
+    by_slot (get_or held.relations id None) ∙ ap (option_map (λ (r : Relation). r.schema)) (sym (seen_at (relation_of_rows files) held.relations id))
   where
     by_slot : (o : Option Tuples) → option_map (λ (t : Tuples). t.schema) o ≡ option_map (λ (r : Relation). r.schema) (option_map (relation_of_rows files) o)
     by_slot None = refl
@@ -50,7 +51,7 @@ schema_seen files held opens id =
 pub rows_seen : (files : Table) (held : Held) (opens : List (Option Open)) (id : ℕ) (t : Tuples) → get_or held.relations id None ≡ Some t
     → rows_in (view files held opens) id ≡ rows files t
 rows_seen files held opens id t e =
-    ap (λ (o : Option Relation). option_map_or (λ (r : Relation). r.rows) o []) (seen (relation_of_rows files) held.relations id ∙ ap (option_map (relation_of_rows files)) e)
+    ap (λ (o : Option Relation). option_map_or (λ (r : Relation). r.rows) o []) (seen_at (relation_of_rows files) held.relations id ∙ ap (option_map (relation_of_rows files)) e)
 
 module _ (state : State) (tables : Tables) (held : Held) (opens : List (Option Open)) (r : IsRunning state tables held opens) where
   pub holds_rows : (id : ℕ) (t : Tuples) → get_or held.relations id None ≡ Some t → HoldsRows state t
@@ -58,7 +59,7 @@ module _ (state : State) (tables : Tables) (held : Held) (opens : List (Option O
 
   pub slot_of_rows : (id slot : ℕ) (t : Tuples) → get_or held.relations id None ≡ Some t → slot < length (rows_in (view state.files held opens) id) → slot < slots state.files t
   slot_of_rows id slot t e below =
-      let many = ap (λ (rs : List Row). length rs) (rows_seen state.files held opens id t e) ∙ count_rows state.files t in
+      let many = ap (λ (rs : List Row). length rs) (rows_seen state.files held opens id t e) ∙ rows_counted state.files t in
       omega (arith, below, many)
 
   pub row_seen : (id slot : ℕ) (tuple : List Value) (live : Bool) → slot < length (rows_in (view state.files held opens) id)
@@ -69,7 +70,7 @@ module _ (state : State) (tables : Tables) (held : Held) (opens : List (Option O
       by_slot : (o : Option Tuples) → get_or held.relations id None ≡ o → row_in_slot (view state.files held opens) id slot ≡ record { tuple = tuple; live = live }
       by_slot None e =
           let none : rows_in (view state.files held opens) id ≡ [] =
-          ap (λ (z : Option Relation). option_map_or (λ (q : Relation). q.rows) z []) (seen (relation_of_rows state.files) held.relations id ∙ ap (option_map (relation_of_rows state.files)) e) in
+          ap (λ (z : Option Relation). option_map_or (λ (q : Relation). q.rows) z []) (seen_at (relation_of_rows state.files) held.relations id ∙ ap (option_map (relation_of_rows state.files)) e) in
           let long = ap (λ (rs : List Row). length rs) none in
           absurd (omega (arith, below, long))
       by_slot (Some t) e =
@@ -110,12 +111,12 @@ module _ (state : State) (tables : Tables) (held : Held) (opens : List (Option O
   tree_size told id file e index at =
       let t = tree_in id file e in
       let o = index_there state tables held opens r id t.index t.there in
-      let is : index_known t.index ≡ index = some_same (index_known t.index) index (ap (option_map index_known) (sym t.there) ∙ sym (seen index_known held.indexes id) ∙ at) in
+      let is : index_known t.index ≡ index = some_same (index_known t.index) index (ap (option_map index_known) (sym t.there) ∙ sym (seen_at index_known held.indexes id) ∙ at) in
       let ks : List ℤ = keys t.index.attribute (rows state.files o.tuples) in
       let P : Access → Type 0 = λ a. IsComplete state tables a ks in
       let whole : size_at state.files file ≡ 683 + 195 * buckets ks = sized (bytes_at state.files file) ks (subst P t.access_is (o.indexed.complete told)) in
       let many : length ks ≡ length (rows state.files o.tuples) = length-map (rows state.files o.tuples) _ in
-      let count = count_rows state.files o.tuples in
+      let count = rows_counted state.files o.tuples in
       let slots_few = (holds_rows t.index.relation o.tuples o.is).few in
       let bound = buckets_bound ks in
       let few : buckets ks ≤ 1365 = omega (arith, many, count, slots_few, bound) in
@@ -127,7 +128,7 @@ module _ (state : State) (tables : Tables) (held : Held) (opens : List (Option O
   pub no_tree : (id : ℕ) → None ≡ option_and_then tree_of (get_or held.indexes id None) → (index : Index)
       → index_in_slot (view state.files held opens) id ≡ Some index → index.kind ≡ MaxHeap → ⊥
   no_tree id e index at heap =
-      let from = seen_of index_known (get_or held.indexes id None) index (sym (seen index_known held.indexes id) ∙ at) in
+      let from = seen_of index_known (get_or held.indexes id None) index (sym (seen_at index_known held.indexes id) ∙ at) in
       let none : None ≡ tree_of from.from = e ∙ ap (option_and_then tree_of) from.there in
       by_access from.from.access none (ap (λ (i : Index). i.kind) from.is ∙ heap)
     where

@@ -42,10 +42,11 @@ use Rattle.session_model.specs.Indexed.{index_known}
 use Rattle.session_model.specs.Running.{HasCatalogFile, HasFile, IsRunning}
 use Rattle.session_model.specs.View.{relation_of_rows, view}
 use Rattle.session_model.specs.Wanted.{WantsFew, WantsOver, room_in}
-use Rattle.session_model.proofs.Frames.{count_rows}
 use Rattle.session_model.proofs.Running.{index_there, relation_there}
 use Rattle.session_model.proofs.Wanted.{size_by_name}
-use Rattle.antelope_engine.proofs.Slots.{seen, seen_of, some_same}
+use Rattle.antelope_engine.proofs.Slots.{seen_of}
+use Rattle.tuple_file.proofs.Columns.{rows_counted}
+use Rattle.padded.proofs.Facts.{some_same, seen_at}
 
 -- ---- sizes
 
@@ -59,14 +60,14 @@ module _ (state : State) (tables : Tables) (held : Held) (opens : List (Option O
   relation_slot : (slot : ℕ) (q : Relation) → get_or (view state.files held opens).relations slot None ≡ Some q
       → (P : Relation → Type 0) → ((t : Tuples) → get_or held.relations slot None ≡ Some t → P (relation_of_rows state.files t)) → P q
   relation_slot slot q e P each =
-      let from = seen_of (relation_of_rows state.files) (get_or held.relations slot None) q (sym (seen (relation_of_rows state.files) held.relations slot) ∙ e) in
+      let from = seen_of (relation_of_rows state.files) (get_or held.relations slot None) q (sym (seen_at (relation_of_rows state.files) held.relations slot) ∙ e) in
       subst P from.is (each from.from from.there)
 
   rows_sized : (slot : ℕ) (t : Tuples) → get_or held.relations slot None ≡ Some t → size_in state.files (rows_file slot) ≡ Some (rows_size (relation_of_rows state.files t))
   rows_sized slot t e =
       let here = relation_there state tables held opens r slot t e in
       size_named t.file (rows_file slot) here.named
-      ∙ ap (λ (n : ℕ). Some n) (here.holds.whole ∙ ap (λ (n : ℕ). row_length t.schema.attributes * n) (sym (count_rows state.files t)))
+      ∙ ap (λ (n : ℕ). Some n) (here.holds.whole ∙ ap (λ (n : ℕ). row_length t.schema.attributes * n) (sym (rows_counted state.files t)))
 
   tree_sized : (told : IsTrue state.tells) (slot : ℕ) (x : Indexed) (t : Tuples) (access : Access) → access_kind access ≡ MaxHeap → HasFile state.files slot access
       → IsComplete state tables access (keys x.attribute (rows state.files t)) → size_in state.files (tree_file slot) ≡ Some (tree_size (keys x.attribute (rows state.files t)))
@@ -80,7 +81,7 @@ module _ (state : State) (tables : Tables) (held : Held) (opens : List (Option O
   index_sized told slot x e heap =
       let o = index_there state tables held opens r slot x e in
       let all : rows_in (view state.files held opens) x.relation ≡ rows state.files o.tuples =
-      ap (λ (z : Option Relation). option_map_or (λ (q : Relation). q.rows) z []) (seen (relation_of_rows state.files) held.relations x.relation ∙ ap (option_map (relation_of_rows state.files)) o.is) in
+      ap (λ (z : Option Relation). option_map_or (λ (q : Relation). q.rows) z []) (seen_at (relation_of_rows state.files) held.relations x.relation ∙ ap (option_map (relation_of_rows state.files)) o.is) in
       let P : List Row → Type 0 = λ rs. size_in state.files (tree_file slot) ≡ Some (tree_size (keys x.attribute rs)) in
       subst P (sym all) (tree_sized told slot x o.tuples x.access heap o.indexed.file (o.indexed.complete told))
 
@@ -88,10 +89,10 @@ module _ (state : State) (tables : Tables) (held : Held) (opens : List (Option O
   is_store told = record {
     short = λ slot q e. relation_slot slot q e (λ z. row_length z.schema.attributes ≤ 128) (λ t there. (relation_there state tables held opens r slot t there).holds.file.short);
     few = λ slot q e. relation_slot slot q e (λ z. length z.rows ≤ 32768)
-        (λ t there. subst (λ (n : ℕ). n ≤ 32768) (sym (count_rows state.files t)) (relation_there state tables held opens r slot t there).holds.few);
+        (λ t there. subst (λ (n : ℕ). n ≤ 32768) (sym (rows_counted state.files t)) (relation_there state tables held opens r slot t there).holds.few);
     rows = λ slot q e. relation_slot slot q e (λ z. size_in state.files (rows_file slot) ≡ Some (rows_size z)) (λ t there. rows_sized slot t there);
     trees = λ slot index e heap.
-        let from = seen_of index_known (get_or held.indexes slot None) index (sym (seen index_known held.indexes slot) ∙ e) in
+        let from = seen_of index_known (get_or held.indexes slot None) index (sym (seen_at index_known held.indexes slot) ∙ e) in
         let P : Index → Type 0 = λ z. z.kind ≡ MaxHeap → size_in state.files (tree_file slot) ≡ Some (tree_size (keys z.attribute (rows_in (view state.files held opens) z.relation))) in
         subst P from.is (λ h. index_sized told slot from.from from.there h) heap;
   }

@@ -1,5 +1,5 @@
 -- What a run over an input reads.
-use Rattle.std.proofs.Common.{◌≡◌, ℕ, ◌+◌, ◌≤◌, List, [], ◌∷◌, ◌++◌, Option, Some, subst, sym, arith}
+use Rattle.std.proofs.Common.{◌≡◌, ℕ, ◌+◌, ◌≤◌, List, [], ◌++◌, Option, Some, subst, sym, arith}
 use Rattle.std.specs.Prelude.{⊤, Result, Ok, Err}
 use Rattle.std.specs.List.{AllByRecursion}
 use Rattle.db_model.specs.declared.commands.Command.{Command}
@@ -11,10 +11,7 @@ use Rattle.run_model.specs.Line.{Line}
 use Rattle.run_model.specs.Talk.{AsksToRead, Talk, talk_costs}
 use Rattle.run_model.proofs.Talks.{costs-append}
 use Rattle.antelope_run.proofs.Fronts.{HasFronts, all_front, entries_front, longer_front, whole_front}
-
-all_first : {X : Type 0} (P : X → Type 0) (xs ys : List X) → AllByRecursion P (xs ++ ys) → AllByRecursion P xs
-all_first P [] ys h = tt
-all_first P (x ∷ xs) ys h = (h.0, all_first P xs ys h.1)
+use Rattle.padded.proofs.Facts.{all_front}
 
 module _ {E : Type 0} (line : Line E) (has : HasFronts line) (talk : Talk E) (a b : Standing) (left left_now : Option (List ℕ)) (Lacks : Command → ℕ → Type 0) where
   -- the first entries cost no more than all
@@ -22,7 +19,7 @@ module _ {E : Type 0} (line : Line E) (has : HasFronts line) (talk : Talk E) (a 
       → (AllByRecursion (AsksToRead talk) entries → b.reads ≤ a.reads + talk_costs talk a.database a.aheads entries)
       → b.reads ≤ a.reads + talk_costs talk a.database a.aheads all
   first_cost entries rest all is reads bound =
-      let few = bound (all_first (AsksToRead talk) entries rest (subst (λ (es : List E). AllByRecursion (AsksToRead talk) es) is reads)) in
+      let few = bound (all_front (AsksToRead talk) entries rest (subst (λ (es : List E). AllByRecursion (AsksToRead talk) es) is reads)) in
       let sum = costs-append talk a.database a.aheads entries rest in
       subst (λ (es : List E). b.reads ≤ a.reads + talk_costs talk a.database a.aheads es) (sym is) (omega (arith, few, sum))
 

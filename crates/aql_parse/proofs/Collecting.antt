@@ -1,5 +1,5 @@
 -- Items that are collected one by one, at most 8.
-use Rattle.std.proofs.Common.{◌≡◌, ℕ, suc, ◌+◌, ◌<◌, ◌≤◌, Bool, true, false, List, [], ◌∷◌, ◌++◌, length, get_or, drop, Some, None, refl, sym, ◌∙◌, ap, append_assoc, append-nil, length-append, add-one, drop-cons, arith, nat_le, if◌then◌else◌}
+use Rattle.std.proofs.Common.{◌≡◌, ◌+◌, ◌<◌, ◌≤◌, Bool, true, false, List, [], ◌∷◌, ◌++◌, length, Some, None, refl, sym, ◌∙◌, ap, append_assoc, append-nil, length-append, arith, nat_le, if◌then◌else◌}
 use Rattle.std.proofs.lemmas.Bool.Decides.{nat_tests}
 use Rattle.aql_parse.specs.Built.{at_most_8}
 
@@ -36,7 +36,3 @@ pub too_many : {A : Type 0} (so_far : List A) (x : A) (rest next all : List A) �
 too_many so_far x rest next all c e h =
     let long : length so_far + length (x ∷ next) ≡ length all = sym (length-append so_far (x ∷ next)) ∙ ap length (ap (λ r. so_far ++ r) (sym e) ∙ c.joined) in
     sym (ap (λ b. if b then Some all else None) (beyond all (nat_le (length all) 8) refl (omega arith)))
-
--- the item at a place comes next
-pub at_place : {A : Type 0} (xs : List A) (i : ℕ) (x : A) → i < length xs → x ≡ get_or xs i x → drop i xs ≡ x ∷ drop (i + 1) xs
-at_place xs i x h e = drop-cons xs i x h ∙ ap (λ y. y ∷ drop (suc i) xs) (sym e) ∙ ap (λ n. x ∷ drop n xs) (sym (add-one i))

@@ -15,7 +15,8 @@ use Rattle.aql_parse.specs.declared.symbols.Joint.{Joint}
 use Rattle.aql_parse.specs.declared.symbols.Joint.TheVariants as joint
 use Rattle.aql_parse.specs.declared.symbols.Symbol.{Symbol}
 use Rattle.aql_parse.specs.declared.symbols.Symbol.TheVariants as want
-use Rattle.aql_parse.proofs.Runs.{behind-nil, behind-append, behind-three, Refuses, run_pass, run_join, run_to, above, less, choose_second, run_around_none}
+use Rattle.aql_parse.proofs.Runs.{behind-nil, behind-append, behind-three, Refuses, run_pass, run_join, run_to, less, choose_second, run_around_none}
+use Rattle.padded.proofs.Facts.{suc_not_zero}
 
 -- tokens in front of others
 split : (s : List Symbol) (xs : List Token) (t : Token) (ys rest : List Token) → run s ((xs ++ t ∷ ys) ++ rest) ≡ run s (xs ++ t ∷ (ys ++ rest))
@@ -75,7 +76,7 @@ mutual
 behind_closing : (n : ℕ) (γ : List Symbol) (rest : List Token) → run (want.Behind (suc n) ∷ γ) (Sign RightBracket ∷ rest) ≡ run (want.Products ∷ want.Sums ∷ want.Behind n ∷ γ) rest
 behind_closing n γ rest =
     run_to (want.Behind (suc n)) γ (Sign RightBracket) rest (operand n)
-    (ap (λ m. or_else None m) (choose_second (suc n == 0) None (to (operand (suc n - 1))) (above n) ∙ ap (λ k. to (operand k)) (less n)))
+    (ap (λ m. or_else None m) (choose_second (suc n == 0) None (to (operand (suc n - 1))) (suc_not_zero n) ∙ ap (λ k. to (operand k)) (less n)))
 
 -- a bracket more
 inside_opening : (n : ℕ) (γ : List Symbol) (rest : List Token) → run (want.Inside n ∷ γ) (Sign LeftBracket ∷ rest) ≡ run (want.Inside (suc n) ∷ γ) rest
@@ -158,18 +159,18 @@ around_or : (n : ℕ) (γ : List Symbol) (ts : List Token) → run (want.Around 
 around_or n γ ts =
     let after : List Symbol = want.Inside 0 ∷ want.Ands ∷ want.Join joint.Or ∷ want.Ors ∷ want.Closing ∷ want.Around n ∷ [] in
     run_to (want.Around (suc n)) γ (Word KOR) ts after
-    (ap (λ m. or_else None m) (choose_second (suc n == 0) None _ (above n) ∙ ap (λ k. to (want.Inside 0 ∷ want.Ands ∷ want.Join joint.Or ∷ want.Ors ∷ want.Closing ∷ want.Around k ∷ [])) (less n)))
+    (ap (λ m. or_else None m) (choose_second (suc n == 0) None _ (suc_not_zero n) ∙ ap (λ k. to (want.Inside 0 ∷ want.Ands ∷ want.Join joint.Or ∷ want.Ors ∷ want.Closing ∷ want.Around k ∷ [])) (less n)))
     ∙ sym (behind-nil (run (after ++ γ) ts))
 
 around_closing : (n : ℕ) (γ : List Symbol) (ts : List Token) → run (want.Around (suc n) ∷ γ) (Sign RightBracket ∷ ts) ≡ run (want.Around n ∷ γ) ts
 around_closing n γ ts =
     run_to (want.Around (suc n)) γ (Sign RightBracket) ts (want.Around n ∷ [])
-    (ap (λ m. or_else None m) (choose_second (suc n == 0) None _ (above n) ∙ ap (λ k. to (want.Around k ∷ [])) (less n)))
+    (ap (λ m. or_else None m) (choose_second (suc n == 0) None _ (suc_not_zero n) ∙ ap (λ k. to (want.Around k ∷ [])) (less n)))
 
 around_and : (n : ℕ) (γ : List Symbol) (ts : List Token) → run (want.Around (suc n) ∷ γ) (Word KAND ∷ ts) ≡ run (want.Inside 0 ∷ want.Join joint.And ∷ want.Around (suc n) ∷ γ) ts
 around_and n γ ts =
     run_to (want.Around (suc n)) γ (Word KAND) ts (want.Inside 0 ∷ want.Join joint.And ∷ want.Around (suc n) ∷ [])
-    (ap (λ m. or_else None m) (choose_second (suc n == 0) None _ (above n)))
+    (ap (λ m. or_else None m) (choose_second (suc n == 0) None _ (suc_not_zero n)))
 
 -- OR and its right side
 or_right : (d : Cond) (ys : List Token) (γ : List Symbol) (rest : List Token) → Refuses want.Ands rest →

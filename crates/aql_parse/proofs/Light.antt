@@ -11,7 +11,8 @@ use Rattle.aql_parse.specs.Moves.{bulk, bulk_all}
 use Rattle.aql_parse.specs.declared.symbols.Joint.TheVariants as joint
 use Rattle.aql_parse.specs.declared.symbols.Symbol.{Symbol}
 use Rattle.aql_parse.specs.declared.symbols.Symbol.TheVariants as want
-use Rattle.aql_parse.proofs.Runs.{above, less, choose_second}
+use Rattle.aql_parse.proofs.Runs.{less, choose_second}
+use Rattle.padded.proofs.Facts.{suc_not_zero}
 
 abbrev Light : ℕ → Option Move → Type 0
 Light n None = Unit {0}
@@ -22,10 +23,10 @@ domain_light true = omega arith
 domain_light false = tt
 
 not_zero : (b n : ℕ) (m : ℕ → Option Move) → Light b (or_else (m n) None) → Light b (or_else (if suc n == 0 then None else m (suc n - 1)) None)
-not_zero b n m h = subst (Light b) (sym (ap (λ x. or_else x None) (choose_second (suc n == 0) None (m (suc n - 1)) (above n) ∙ ap m (less n)))) h
+not_zero b n m h = subst (Light b) (sym (ap (λ x. or_else x None) (choose_second (suc n == 0) None (m (suc n - 1)) (suc_not_zero n) ∙ ap m (less n)))) h
 
 not_zero_last : (b n : ℕ) (m : ℕ → Option Move) → Light b (m n) → Light b (if suc n == 0 then None else m (suc n - 1))
-not_zero_last b n m h = subst (Light b) (sym (choose_second (suc n == 0) None (m (suc n - 1)) (above n) ∙ ap m (less n))) h
+not_zero_last b n m h = subst (Light b) (sym (choose_second (suc n == 0) None (m (suc n - 1)) (suc_not_zero n) ∙ ap m (less n))) h
 
 move_light : (s : Symbol) (t : Token) → Light (bulk s) (move s t)
 move_light want.Command (Word KCREATE) = omega arith

@@ -1,6 +1,5 @@
 -- How a run goes on, symbol by symbol.
-use Rattle.std.proofs.Common.{◌≡◌, ℕ, ◌-◌, ◌==◌, Bool, true, false, List, [], ◌∷◌, ◌++◌, Option, Some, None, refl, ◌∙◌, ap, append_assoc, arith, suc, ◌⊎◌, inl, inr, if◌then◌else◌}
-use Rattle.std.proofs.lemmas.Bool.{eqb-true}
+use Rattle.std.proofs.Common.{◌≡◌, ℕ, ◌-◌, ◌==◌, Bool, true, false, List, [], ◌∷◌, ◌++◌, Option, Some, None, refl, ◌∙◌, ap, append_assoc, arith, suc, if◌then◌else◌}
 use Rattle.db_model.specs.declared.commands.Node.{Node}
 use Rattle.db_model.specs.declared.tokens.Keyword.TheVariants.{KAND, KOR}
 use Rattle.db_model.specs.declared.tokens.Sign.TheVariants.{RightBracket}
@@ -10,6 +9,7 @@ use Rattle.aql_parse.specs.Machine.{Move, move, skip, read, run, finish, behind_
 use Rattle.aql_parse.specs.declared.symbols.Joint.{Joint}
 use Rattle.aql_parse.specs.declared.symbols.Symbol.{Symbol}
 use Rattle.aql_parse.specs.declared.symbols.Symbol.TheVariants as want
+use Rattle.padded.proofs.Facts.{suc_not_zero}
 
 -- ---- nodes in front of an answer
 
@@ -85,13 +85,6 @@ run_to s γ t ts σ e = run_move s γ t ts (record { symbols = σ; nodes = [] })
 
 -- ---- numbers of a symbol
 
-pub true_or_false : (b : Bool) → (b ≡ true) ⊎ (b ≡ false)
-true_or_false true = inl refl
-true_or_false false = inr refl
-
-pub above : (n : ℕ) → (suc n == 0) ≡ false
-above n = elim (true_or_false (suc n == 0)) [ inl e ↦ absurd (omega (arith, eqb-true (suc n) 0 e)) | inr e ↦ e ]
-
 pub less : (n : ℕ) → suc n - 1 ≡ n
 less n = omega arith
 
@@ -101,7 +94,7 @@ choose_second false x y e = refl
 
 -- one item more, where one more may come
 pub another-suc : (n : ℕ) (item : Symbol) (more : ℕ → Symbol) → another (suc n) item more ≡ to (item ∷ more n ∷ [])
-another-suc n item more = choose_second (suc n == 0) None (to (item ∷ more (suc n - 1) ∷ [])) (above n) ∙ ap (λ k. to (item ∷ more k ∷ [])) (less n)
+another-suc n item more = choose_second (suc n == 0) None (to (item ∷ more (suc n - 1) ∷ [])) (suc_not_zero n) ∙ ap (λ k. to (item ∷ more k ∷ [])) (less n)
 
 -- around no brackets nothing is read
 pub around_none : (t : Token) → move (want.Around 0) t ≡ None

@@ -16,10 +16,11 @@ use Rattle.aql_parse.specs.Machine.{Move, to, operand, or_else, move, skip, read
 use Rattle.aql_parse.specs.declared.symbols.Joint.TheVariants as joint
 use Rattle.aql_parse.specs.declared.symbols.Symbol.{Symbol}
 use Rattle.aql_parse.specs.declared.symbols.Symbol.TheVariants as want
-use Rattle.aql_parse.proofs.Runs.{above, less, choose_second}
+use Rattle.aql_parse.proofs.Runs.{less, choose_second}
 use Rattle.aql_parse.proofs.Means.{ReadCommand, exactly, item_read, a_number, a_kind, no_more, negative_read, where_read, Reads, Means, nil, cons}
 use Rattle.aql_parse.proofs.SoundConditions
 use Rattle.aql_parse.proofs.SoundHeads
+use Rattle.padded.proofs.Facts.{suc_not_zero}
 
 -- what a symbol makes of a token is right: the token and what follows stand for what the symbol stands for
 abbrev Sound : Symbol → Token → Option Move → Type 0
@@ -43,14 +44,14 @@ negative_factor _ _ (cons _ _ _ _ _ _ (negative_read z) nil) = record { expr = T
 
 -- an entry that is there where a number is not 0
 not_zero : (s : Symbol) (t : Token) (n : ℕ) (m : ℕ → Option Move) → Sound s t (m n) → Sound s t (or_else (if suc n == 0 then None else m (suc n - 1)) None)
-not_zero s t n m h = subst (Sound s t) (sym (ap (λ x. or_else x None) (choose_second (suc n == 0) None (m (suc n - 1)) (above n) ∙ ap m (less n)) ∙ or_none (m n))) h
+not_zero s t n m h = subst (Sound s t) (sym (ap (λ x. or_else x None) (choose_second (suc n == 0) None (m (suc n - 1)) (suc_not_zero n) ∙ ap m (less n)) ∙ or_none (m n))) h
   where
     or_none : (x : Option Move) → or_else x None ≡ x
     or_none None = refl
     or_none (Some x) = refl
 
 not_zero_last : (s : Symbol) (t : Token) (n : ℕ) (m : ℕ → Option Move) → Sound s t (m n) → Sound s t (if suc n == 0 then None else m (suc n - 1))
-not_zero_last s t n m h = subst (Sound s t) (sym (choose_second (suc n == 0) None (m (suc n - 1)) (above n) ∙ ap m (less n))) h
+not_zero_last s t n m h = subst (Sound s t) (sym (choose_second (suc n == 0) None (m (suc n - 1)) (suc_not_zero n) ∙ ap m (less n))) h
 
 -- ---- the table
 
@@ -160,7 +161,7 @@ skip_sound (want.MoreValues n) = no_more n
 skip_sound (want.MoreAggregates n) = no_more n
 skip_sound want.Where = where_read [] [] nothing
 skip_sound (want.Around zero) = exactly
-skip_sound (want.Around (suc n)) = subst (SkipSound (want.Around (suc n))) (sym (choose_second (suc n == 0) (Some []) None (above n))) tt
+skip_sound (want.Around (suc n)) = subst (SkipSound (want.Around (suc n))) (sym (choose_second (suc n == 0) (Some []) None (suc_not_zero n))) tt
 skip_sound want.Ands = λ c xs w. record { cond = c; spelt = subst (Conj c) (sym (append-nil xs)) w; nodes = sym (append-nil (postfix c)) }
 skip_sound want.Ors = λ c xs w. record { cond = c; spelt = subst (Disj c) (sym (append-nil xs)) w; nodes = sym (append-nil (postfix c)) }
 skip_sound want.Products = λ e xs w. record { expr = e; spelt = subst (Term e) (sym (append-nil xs)) w; nodes = sym (append-nil (postfix_expr e)) }

@@ -15,9 +15,10 @@ use Rattle.aql_parse.specs.declared.symbols.Joint.{Joint}
 use Rattle.aql_parse.specs.declared.symbols.Joint.TheVariants as joint
 use Rattle.aql_parse.specs.declared.symbols.Symbol.{Symbol}
 use Rattle.aql_parse.specs.declared.symbols.Symbol.TheVariants as want
-use Rattle.aql_parse.proofs.Runs.{Refuses, run_skip, run_to, run_move, above, less, choose_second, another-suc, around_none}
+use Rattle.aql_parse.proofs.Runs.{Refuses, run_skip, run_to, run_move, less, choose_second, another-suc, around_none}
 use Rattle.aql_parse.proofs.CompleteHeads.{spells_run}
 use Rattle.aql_parse.proofs.Sound.{rest_of, start_sound}
+use Rattle.padded.proofs.Facts.{suc_not_zero}
 
 -- ---- completions
 
@@ -129,7 +130,7 @@ around_refuses (t ∷ ts) = around_none t
 around_ : (n : ℕ) (γ : List Symbol) → Live γ → Live (want.Around n ∷ γ)
 around_ zero γ l = pass (want.Around 0) γ [] refl l (around_refuses l.ts)
 around_ (suc n) γ l =
-    put (want.Around (suc n)) γ (Sign RightBracket) (want.Around n ∷ []) (choose_second (suc n == 0) None (to (want.Around (suc n - 1) ∷ [])) (above n) ∙ ap (λ k. to (want.Around k ∷ [])) (less n))
+    put (want.Around (suc n)) γ (Sign RightBracket) (want.Around n ∷ []) (choose_second (suc n == 0) None (to (want.Around (suc n - 1) ∷ [])) (suc_not_zero n) ∙ ap (λ k. to (want.Around k ∷ [])) (less n))
     (λ ts. record { products = refl; sums = refl; ands = refl; ors = refl; where_ = refl }) (around_ n γ l)
 
 factor_ : (γ : List Symbol) → Live γ → Live (want.Factor ∷ γ)

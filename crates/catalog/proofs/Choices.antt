@@ -1,6 +1,6 @@
 -- What an answer that is Some where a test passes says of the test, and the other way round.
-use Rattle.std.proofs.Common.{◌≡◌, ℕ, ◌≤◌, Bool, true, false, ◌&&◌, refl, ap, arith, Some, None}
-use Rattle.std.specs.Prelude.{◌==◌, if◌then◌else◌, nat_le, not}
+use Rattle.std.proofs.Common.{◌≡◌, ℕ, Bool, true, false, ◌&&◌, refl, ap, arith, Some, None}
+use Rattle.std.specs.Prelude.{◌==◌, if◌then◌else◌, not}
 use Rattle.std.specs.Bool.{then_some}
 use Rattle.std.proofs.lemmas.Bool.Decides.{nat_tests}
 
@@ -39,9 +39,6 @@ then_some_if false x = refl
 
 pub not_equal : (a b : ℕ) → (a ≡ b → ⊥) → (a == b) ≡ false
 not_equal a b h = grind (arith, nat_tests)
-
-pub at_most : (a b : ℕ) → a ≤ b → nat_le a b ≡ true
-at_most a b h = grind (arith, nat_tests)
 
 pub and_after : (a b : Bool) → true ≡ a → (a && b) ≡ b
 and_after true b e = refl

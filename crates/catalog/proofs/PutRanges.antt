@@ -1,7 +1,7 @@
 -- Ranges of bytes in which a part is written.
 use Rattle.std.proofs.Common.{◌≡◌, ℕ, ◌+◌, ◌-◌, ◌≤◌, List, ◌++◌, length, take, drop, sym, ap, subst, ◌∙◌, arith, length-append}
 use Rattle.std.specs.Prelude.{slice_range}
-use Rattle.std.proofs.lemmas.List.{drop-drop, drop-take, drop_at, length-take-le, take-append-le, take_at}
+use Rattle.std.proofs.lemmas.List.{drop-drop, drop-take, drop_at, length-take-le, take_at}
 use Rattle.afl_base.specs.Fields.{put_at}
 use Rattle.afl_base.proofs.FieldLaws.{drop-put_at}
 use Rattle.afl_base.proofs.PutLaws.{take-put_at}
@@ -28,6 +28,3 @@ pub here_put : (old part : List ℕ) (at n : ℕ) → length part ≡ n → at �
 here_put old part at n long room =
     let m : length part ≡ (at + n) - at = omega (arith, long) in
     ap (take ((at + n) - at)) (drop-put_at old part at room) ∙ take_at part (drop (at + length part) old) ((at + n) - at) m
-
-pub range_of_front : (xs ys : List ℕ) (a b : ℕ) → a ≤ b → b ≤ length xs → slice_range (xs ++ ys) a b ≡ slice_range xs a b
-range_of_front xs ys a b h inside = range_front (xs ++ ys) a b h ∙ ap (drop a) (take-append-le b xs ys inside) ∙ sym (range_front xs a b h)

@@ -14,7 +14,8 @@ use Rattle.db_model.proofs.Catalogs.{catalog_back, index_slot_back, length-index
 use Rattle.catalog.specs.CatalogFile.{IsCatalogSize}
 use Rattle.catalog.specs.Catalogs.{index_replaced, relation_replaced}
 use Rattle.catalog.proofs.Changes.{long_empty, slot_put}
-use Rattle.catalog.proofs.PutRanges.{before_put, behind_put, here_put, range_of_front}
+use Rattle.catalog.proofs.PutRanges.{before_put, behind_put, here_put}
+use Rattle.padded.proofs.Facts.{slice_of_front}
 
 -- ---- lists of slots
 
@@ -58,8 +59,8 @@ stands_1 : (bytes : List ℕ) → length bytes ≡ 1472 → Stands bytes (bytes 
 stands_1 bytes size = record {
   is = rw size refl;
   long = length-append bytes version_mark ∙ ap (λ n. n + 8) size;
-  relations = λ j h. ap relation_slot_of (range_of_front bytes version_mark (176 * j) (176 * j + 176) (omega arith) (omega (arith, size, h)));
-  indexes = λ j h. ap index_slot_of (range_of_front bytes version_mark (1408 + 8 * j) (1408 + 8 * j + 8) (omega arith) (omega (arith, size, h)));
+  relations = λ j h. ap relation_slot_of (slice_of_front bytes version_mark (176 * j) (176 * j + 176) (omega arith) (omega (arith, size, h)));
+  indexes = λ j h. ap index_slot_of (slice_of_front bytes version_mark (1408 + 8 * j) (1408 + 8 * j + 8) (omega arith) (omega (arith, size, h)));
 }
 
 is_empty : IsCatalog empty_catalog
@@ -72,7 +73,7 @@ empty_back = catalog_back empty_catalog is_empty
 each_slot : {X : Type 0} (f g : ℕ → X) (n j : ℕ) (d : X) → j < n → map g (range_with_len 0 n) ≡ map f (range_with_len 0 n) → g j ≡ f j
 each_slot f g n j d h e = sym (get_or-map-range_with_len g 0 n j j d h (omega arith)) ∙ ap (λ xs. get_or xs j d) e ∙ get_or-map-range_with_len f 0 n j j d h (omega arith)
 
-stands_0 : (bytes : List ℕ) → length bytes ≡ 0 → Stands bytes empty_bytes
+pub stands_0 : (bytes : List ℕ) → length bytes ≡ 0 → Stands bytes empty_bytes
 stands_0 [] size = record {
   is = refl;
   long = long_empty;

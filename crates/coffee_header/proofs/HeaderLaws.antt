@@ -11,6 +11,7 @@ use Rattle.padded.proofs.Facts.{all_zeros, both_parts}
 use Rattle.padded.specs.Padded.{padded}
 use Rattle.coffee_header.specs.Headers.{header_of, header_bytes, is_kind, is_flags, is_name_field, is_header, name_of_field, fields, IsValid}
 use Rattle.coffee_header.specs.declared.header.Header.{Header}
+use Rattle.afl_base.proofs.Bits.{or_front_nothing}
 
 with_name : (t : Bool) (h : Header) (xs name : List ℕ) → (if t then Some xs else None) ≡ Some name → (if t then Some (record h { name = xs }) else None) ≡ Some (record h { name = name })
 with_name true h xs name e = let same : xs ≡ name = cc in ap (λ n. Some (record h { name = n })) same
@@ -22,7 +23,7 @@ unfolding header_of
 header_from bytes name k f e = sym (rw (k, f) (with_name (is_name_field (drop 10 bytes)) (fields bytes) (name_of_field (drop 10 bytes)) name e))
 
 -- what a chosen value says of the choice
-chosen : {A : Type 0} (t : Bool) (x y : A) → (if t then Some x else None) ≡ Some y → (t ≡ true) × (x ≡ y)
+pub chosen : {A : Type 0} (t : Bool) (x y : A) → (if t then Some x else None) ≡ Some y → (t ≡ true) × (x ≡ y)
 chosen true x y e = (refl, cc)
 chosen false x y e = cc
 
@@ -47,7 +48,7 @@ zeros_are (x ∷ xs) all =
     let h = both_parts (x == 0) (list_all (λ b. b == 0) xs) all in
     cons_same x 0 xs _ (is_zero x h.0) (zeros_are xs h.1)
 
-number_back : (n : ℕ) → n < 65536 → n % 256 + 256 * (n / 256 % 256 + 256 * 0) ≡ n
+pub number_back : (n : ℕ) → n < 65536 → n % 256 + 256 * (n / 256 % 256 + 256 * 0) ≡ n
 number_back n small = omega arith
 
 field_back : (name : List ℕ) (n : ℕ) → is_file_name name ≡ true → (name_of_field (name ++ replicate n 0) ≡ name) × (is_name_field (name ++ replicate n 0) ≡ true)
@@ -97,10 +98,6 @@ bytes_back (b0 ∷ b1 ∷ b2 ∷ b3 ∷ b4 ∷ b5 ∷ b6 ∷ b7 ∷ b8 ∷ b9 �
     ten_back b0 b1 b2 b3 b4 b5 b6 b7 b8 b9 field h (omega arith) (small 0, small 1, small 2, small 3, small 4, small 5, small 6, small 7) e
 bytes_back bytes h long small e = absurd (omega arith)
 
-or_front_none : (xs : List ℕ) → or_front xs [] ≡ xs
-or_front_none [] = refl
-or_front_none (x ∷ xs) = refl
-
 -- more flags are programmed into a header
 ten_flags : (b0 b1 b2 b3 b4 b5 b6 b7 b8 b9 b : ℕ) (field : List ℕ) (h : Header) → header_of (b0 ∷ b1 ∷ b2 ∷ b3 ∷ b4 ∷ b5 ∷ b6 ∷ b7 ∷ b8 ∷ b9 ∷ field) ≡ Some h → is_flags (bit_or h.flags b) ≡ true
     → header_of (or_at (b0 ∷ b1 ∷ b2 ∷ b3 ∷ b4 ∷ b5 ∷ b6 ∷ b7 ∷ b8 ∷ b9 ∷ field) 9 (b ∷ [])) ≡ Some (record h { flags = bit_or h.flags b })
@@ -112,7 +109,7 @@ ten_flags b0 b1 b2 b3 b4 b5 b6 b7 b8 b9 b field h e good =
     let kind : is_kind b8 ≡ true = (both_parts (is_kind b8) (is_flags b9) form.0).0 in
     let flags : is_flags (bit_or b9 b) ≡ true = subst (λ g. is_flags (bit_or g.flags b) ≡ true) (sym c.1) good in
     subst (λ g. header_of (b0 ∷ b1 ∷ b2 ∷ b3 ∷ b4 ∷ b5 ∷ b6 ∷ b7 ∷ b8 ∷ bit_or b9 b ∷ or_front field []) ≡ Some (record g { flags = bit_or g.flags b })) c.1
-    (rw (or_front_none field, kind, flags, form.1) refl)
+    (rw (or_front_nothing field, kind, flags, form.1) refl)
 
 pub header_flags : (bytes : List ℕ) (h : Header) (b : ℕ) → length bytes ≡ 32 → header_of bytes ≡ Some h → is_flags (bit_or h.flags b) ≡ true → header_of (or_at bytes 9 (b ∷ [])) ≡ Some (record h { flags = bit_or h.flags b })
 header_flags (b0 ∷ b1 ∷ b2 ∷ b3 ∷ b4 ∷ b5 ∷ b6 ∷ b7 ∷ b8 ∷ b9 ∷ field) h b long e good = ten_flags b0 b1 b2 b3 b4 b5 b6 b7 b8 b9 b field h e good

@@ -6,7 +6,8 @@ use Rattle.coffee_layout.specs.FileBytes.{table_of}
 use Rattle.coffee_layout.specs.Files.{Placed, entry_of, entry_with, is_log, log_of}
 use Rattle.coffee_layout.specs.Rules.{first_failing, fits_its_file, names_log}
 use Rattle.coffee_layout.specs.Walks.{fits_entry, is_its_log}
-use Rattle.coffee_layout.proofs.Tests.{eq_false, eq_same, false_eq, true_eq, true_or_false}
+use Rattle.coffee_layout.proofs.Tests.{eq_false, eq_same, false_eq}
+use Rattle.padded.proofs.Facts.{true_or_false, true_eq}
 
 its_number : (page n : ℕ) → is_its_log page (if n == 0 then None else Some (record { 0 = n - 1 })) ≡ (n == page + 1)
 its_number page n =

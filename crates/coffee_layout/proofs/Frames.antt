@@ -161,7 +161,7 @@ pub record KeepsFile (old new : List ℕ) (page pages : ℕ) (log : Option PageI
 table_same : (old new : List ℕ) (l : ℕ) → length new ≡ length old → ((k : ℕ) → 256 * l ≤ k → k < 256 * l + 4096 → get_or new k 0 ≡ get_or old k 0) → table_of new l ≡ table_of old l
 table_same old new l long same = range_same new old (256 * l + 32) (256 * l + 92) long (λ k a b. same k (omega arith) (omega arith))
 
-last_bound : (table : List ℕ) (region n i : ℕ) → last_in table region n ≡ Some i → i < n
+pub last_bound : (table : List ℕ) (region n i : ℕ) → last_in table region n ≡ Some i → i < n
 unfolding last_in
 last_bound table region zero i e = cc
 last_bound table region (suc n) i e = bound_turn (number_in table n == region + 1) (last_in table region n) n i e (last_bound table region n i)

@@ -9,10 +9,10 @@ use Rattle.coffee_layout.specs.declared.unit.Unit.{Unit}
 use Rattle.coffee_layout.specs.declared.unit.Unit.TheVariants.{Free, Isolated, Extent}
 use Rattle.coffee_layout.proofs.Tilings.{kept_some}
 
-mark_front : (b : Bool) (marks : List Bool) (n i : ℕ) → i < n → get_or (replicate n b ++ marks) i false ≡ b
+pub mark_front : (b : Bool) (marks : List Bool) (n i : ℕ) → i < n → get_or (replicate n b ++ marks) i false ≡ b
 mark_front b marks n i h = get_or_append_left (replicate n b) marks false i (omega (arith, length-replicate {A = Bool} n b)) ∙ get_or-replicate n i b false h
 
-mark_behind : (b : Bool) (marks : List Bool) (n i : ℕ) → get_or (replicate n b ++ marks) (n + i) false ≡ get_or marks i false
+pub mark_behind : (b : Bool) (marks : List Bool) (n i : ℕ) → get_or (replicate n b ++ marks) (n + i) false ≡ get_or marks i false
 mark_behind b marks n i =
     let e : n + i - n ≡ i = omega arith in
     get_or-append_right (replicate n b) marks n (n + i) false (length-replicate {A = Bool} n b) (omega arith) ∙ ap (λ k. get_or marks k false) e
@@ -21,7 +21,7 @@ mark_behind b marks n i =
 run_behind : (u : Unit) (us : List Unit) (page n : ℕ) → IsRun (free_pages (u ∷ us)) (size_of u + page) n → IsRun (free_pages us) page n
 run_behind u us page n run = λ i low high. sym (mark_behind (is_free u) (free_pages us) (size_of u) i) ∙ run (size_of u + i) (omega arith) (omega arith)
 
-not_both : (b : Bool) → b ≡ true → b ≡ false → ⊥
+pub not_both : (b : Bool) → b ≡ true → b ≡ false → ⊥
 not_both true e f = cc
 not_both false e f = cc
 

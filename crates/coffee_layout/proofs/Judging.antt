@@ -3,7 +3,7 @@ use Rattle.std.proofs.Common.{length, ◌*◌, ◌≡◌, ◌⊎◌, inl, inr, t
 use Rattle.std.proofs.lemmas.List.{append-nil, take-append-drop}
 use Rattle.std.specs.List.{filter, list_any}
 use Rattle.std.specs.Option.{option_map, option_or}
-use Rattle.padded.proofs.Facts.{both_parts, either_part}
+use Rattle.padded.proofs.Facts.{both_parts, either_part, true_or_false, true_eq}
 use Rattle.afl_base.specs.declared.ids.PageId.{PageId}
 use Rattle.coffee_layout.specs.Files.{Placed, entry_with, extents, files_in, is_file, is_log, log_of, logs_in}
 use Rattle.coffee_layout.specs.Rules.{broken_files, broken_image, first_failing, first_page, first_repeated, first_some, has_fields, has_log_fields, is_log_of, names_its_log, same_name}
@@ -17,7 +17,7 @@ use Rattle.coffee_layout.specs.declared.file.FileAt.{FileAt}
 use Rattle.coffee_layout.proofs.Entries.{failing_filter}
 use Rattle.coffee_layout.proofs.Namings.{Each}
 use Rattle.coffee_layout.proofs.Tilings.{tiled_unbroken}
-use Rattle.coffee_layout.proofs.Tests.{false_eq, or_none, true_eq, true_or_false}
+use Rattle.coffee_layout.proofs.Tests.{false_eq, or_none}
 
 -- a rule of logs, judged at each extent
 pub place_logs : (rule : ℕ) (page : Option PageId) (r : Option BadImage) (test : Placed → Bool) (us : List Unit) → ((place : Option ℕ) → page ≡ option_map page_id place → r ≡ at_place rule place)
@@ -60,7 +60,7 @@ each_both : (P Q : Placed → Type 0) (es : List Placed) → Each P es → Each 
 each_both P Q [] p q = tt
 each_both P Q (e ∷ es) p q = ((p.0, q.0), each_both P Q es p.1 q.1)
 
-each_map : (P Q : Placed → Type 0) (es : List Placed) → ((e : Placed) → P e → Q e) → Each P es → Each Q es
+pub each_map : (P Q : Placed → Type 0) (es : List Placed) → ((e : Placed) → P e → Q e) → Each P es → Each Q es
 each_map P Q [] f p = tt
 each_map P Q (e ∷ es) f p = (f e p.0, each_map P Q es f p.1)
 
@@ -121,11 +121,11 @@ pub logs_fit : (image : List ℕ) (us : List Unit) → IsTiled nowhere image us 
 logs_fit image us t fields named =
     all_logs_fit (pages_of image) (logs_in us) (files_in us) (logs_inside image us t fields) (each_passes (names_its_log (logs_in us)) (files_in us) named)
 
-place_none : (rule : ℕ) (o : Option ℕ) → at_place rule o ≡ None → o ≡ None
+pub place_none : (rule : ℕ) (o : Option ℕ) → at_place rule o ≡ None → o ≡ None
 place_none rule None e = refl
 place_none rule (Some p) e = cc
 
-page_none : (files : List Placed) → first_page files ≡ None → files ≡ []
+pub page_none : (files : List Placed) → first_page files ≡ None → files ≡ []
 page_none [] e = refl
 page_none (f ∷ fs) e = cc
 

@@ -12,8 +12,8 @@ use Rattle.coffee_layout.specs.Walks.{IsSketched, files_of_unit, page_id}
 use Rattle.coffee_layout.specs.declared.unit.Unit.{Unit}
 use Rattle.coffee_layout.specs.declared.unit.Unit.TheVariants.{Free, Isolated, Extent}
 use Rattle.coffee_layout.specs.declared.file.FileAt.{FileAt}
-use Rattle.coffee_layout.proofs.Tests.{lt_false}
 use Rattle.coffee_layout.proofs.Tilings.{units_step, units_end, broken_here}
+use Rattle.padded.proofs.Facts.{lt_false}
 
 sketch : Placed → FileAt
 sketch f = entry_with f 0 0

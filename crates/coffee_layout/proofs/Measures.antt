@@ -2,7 +2,6 @@
 use Rattle.std.proofs.Common.{◌≡◌, ℕ, ◌+◌, ◌*◌, ◌≤◌, ◌<◌, Bool, true, false, not, ◌||◌, ◌==◌, nat_le, List, [], ◌∷◌, ◌++◌, length, take, drop, map, set, get_or, ⊎_elim, Option, None, Some, if◌then◌else◌, refl, ap, sym, subst, ◌∙◌, arith, append_assoc}
 use Rattle.std.proofs.lemmas.List.{append-nil, drop_all, get_or-set_same, get_or-set_other, get_or_at, length-append, length-drop, length-map, length-take, map-append, set_at, take_all}
 use Rattle.std.proofs.lemmas.Bool.{cases_eq}
-use Rattle.std.proofs.lemmas.Bool.Decides.{nat_tests}
 use Rattle.afl_base.specs.declared.ids.PageId.{PageId}
 use Rattle.afl_base.specs.declared.kind.Kind.TheVariants.{Doubling, Fixed}
 use Rattle.afl_base.specs.Fit.{fit}
@@ -15,13 +14,11 @@ use Rattle.coffee_layout.specs.Walks.{IsMeasured, LogFits, LogsFit, fitting, has
 use Rattle.coffee_layout.specs.declared.file.FileAt.{FileAt}
 use Rattle.coffee_layout.proofs.Sizes.{size_is}
 use Rattle.coffee_layout.proofs.Splits.{split, take_here, drop_here, take_behind, drop_behind}
+use Rattle.padded.proofs.Facts.{le_true}
 
 -- the entries of which the first i are measured
 abbrev pub half_measured : List ℕ → ℕ → List Placed → List FileAt
 half_measured image i files = map (entry_of image) (take i files) ++ map (λ f. entry_with f 0 0) (drop i files)
-
-le_true : (m n : ℕ) → m ≤ n → nat_le m n ≡ true
-le_true m n h = grind (arith, nat_tests)
 
 fitting_fits : (pages : ℕ) (log : Option PageId) → LogFits pages log → fitting pages log ≡ log
 fitting_fits pages None fits = refl

@@ -6,7 +6,8 @@ use Rattle.std.proofs.lemmas.List.FromFn.{get_or-map-range_with_len, length-map-
 use Rattle.std.proofs.lemmas.List.Sums.{suffix_len_is}
 use Rattle.afl_base.specs.declared.ids.PageId.{PageId}
 use Rattle.coffee_layout.specs.FileBytes.{IsEnd, file_byte, file_bytes, last_in, number_in, trimmed}
-use Rattle.coffee_layout.proofs.Tests.{eq_false, eq_true}
+use Rattle.coffee_layout.proofs.Tests.{eq_false}
+use Rattle.padded.proofs.Facts.{eq_true}
 
 pub last_more : (table : List ℕ) (region n : ℕ) → 0 < n → last_in table region n ≡ (if number_in table (n - 1) == region + 1 then Some (n - 1) else last_in table region (n - 1))
 unfolding last_in

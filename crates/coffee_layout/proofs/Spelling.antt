@@ -7,7 +7,8 @@ use Rattle.std.proofs.lemmas.List.FromFn.{get_or-map-range_with_len, length-map-
 use Rattle.afl_base.specs.declared.ids.PageId.{PageId}
 use Rattle.coffee_layout.specs.FileBytes.{IsEnd, ListsValues, file_byte, file_bytes, trimmed}
 use Rattle.coffee_layout.proofs.Sizes.{end_spelt}
-use Rattle.coffee_layout.proofs.Tests.{false_eq, true_eq}
+use Rattle.coffee_layout.proofs.Tests.{false_eq}
+use Rattle.padded.proofs.Facts.{true_eq}
 
 -- the place after the last of the first n values that is not zero
 end_at : (ℕ → ℕ) → ℕ → ℕ

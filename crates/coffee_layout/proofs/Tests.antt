@@ -1,18 +1,9 @@
 -- Tests of numbers and what they say.
-use Rattle.std.proofs.Common.{◌≡◌, ℕ, ◌+◌, ◌*◌, ◌≤◌, ◌<◌, ◌⊎◌, inl, inr, Bool, true, false, ◌||◌, ◌==◌, nat_lt, nat_le, Option, Some, None, if◌then◌else◌, refl, sym, ◌∙◌, ⊎_elim, arith}
+use Rattle.std.proofs.Common.{◌≡◌, ℕ, ◌≤◌, ◌<◌, ◌⊎◌, Bool, true, false, ◌==◌, nat_lt, Option, Some, None, if◌then◌else◌, refl, sym, ◌∙◌, ⊎_elim, arith}
 use Rattle.std.specs.Prelude.{Result, Ok, Err, IfOk}
 use Rattle.std.specs.Option.{option_or}
 use Rattle.std.proofs.lemmas.Bool.Decides.{nat_tests}
-
-pub true_or_false : (b : Bool) → (b ≡ true) ⊎ (b ≡ false)
-true_or_false true = inl refl
-true_or_false false = inr refl
-
-pub lt_true : (m n : ℕ) → m < n → nat_lt m n ≡ true
-lt_true m n h = grind (arith, nat_tests)
-
-pub lt_false : (m n : ℕ) → n ≤ m → nat_lt m n ≡ false
-lt_false m n h = grind (arith, nat_tests)
+use Rattle.padded.proofs.Facts.{true_or_false, true_eq, eq_true}
 
 pub true_lt : (m n : ℕ) → nat_lt m n ≡ true → m < n
 true_lt m n h = grind (arith, nat_tests)
@@ -20,24 +11,11 @@ true_lt m n h = grind (arith, nat_tests)
 pub false_lt : (m n : ℕ) → nat_lt m n ≡ false → n ≤ m
 false_lt m n h = grind (arith, nat_tests)
 
-pub true_le : (m n : ℕ) → nat_le m n ≡ true → m ≤ n
-true_le m n h = grind (arith, nat_tests)
-
-pub true_eq : (m n : ℕ) → m == n ≡ true → m ≡ n
-true_eq m n h = grind (arith, nat_tests)
-
-pub eq_true : (m n : ℕ) → m ≡ n → m == n ≡ true
-eq_true m n h = grind (arith, nat_tests)
-
 pub eq_false : (m n : ℕ) → (m ≡ n → ⊥) → m == n ≡ false
 eq_false m n h = grind (arith, nat_tests)
 
 pub false_eq : (m n : ℕ) → m == n ≡ false → m ≡ n → ⊥
 false_eq m n h = grind (arith, nat_tests)
-
-pub neither : (a b : Bool) → a || b ≡ false → (a ≡ false) × (b ≡ false)
-neither true b e = cc
-neither false b e = (refl, e)
 
 -- what a choice that gives nothing says
 pub none_else : {A : Type 0} (t : Bool) (x : A) (o : Option A) → (if t then Some x else o) ≡ None → (t ≡ false) × (o ≡ None)
@@ -60,6 +38,3 @@ eq_same a b c d f g =
 pub if_ok : {T E : Type 0} (r : Result T E) (P Q : T → Type 0) → IfOk r P → ((x : T) → P x → Q x) → IfOk r Q
 if_ok (Ok x) P Q p f = f x p
 if_ok (Err e) P Q p f = p
-
-pub mul_more : (i k : ℕ) → (i + 1) * k ≡ i * k + k
-mul_more i k = grind arith

@@ -7,7 +7,8 @@ use Rattle.coffee_layout.specs.Units.{is_free, pages_of, size_of, total, unit_at
 use Rattle.coffee_layout.specs.Tiling.{KeepRules, IsCovered, IsTiled, StandFrom, broken_at, broken_unit, broken_suffix, broken_from, broken_tiling, units_from, units_of, at_page}
 use Rattle.coffee_layout.specs.declared.unit.Unit.{Unit}
 use Rattle.coffee_layout.specs.declared.unit.Unit.TheVariants.{Free, Isolated, Extent}
-use Rattle.coffee_layout.proofs.Tests.{lt_true, lt_false, false_lt, false_eq, neither, none_else, or_none}
+use Rattle.coffee_layout.proofs.Tests.{false_lt, false_eq, none_else, or_none}
+use Rattle.padded.proofs.Facts.{lt_true, lt_false, neither}
 
 -- the units from a page on: one and the others, or none at the end
 pub units_step : (turns : ℕ) (image : List ℕ) (page : ℕ) (u : Unit) → page < pages_of image → unit_at image page ≡ Some u → units_from (suc turns) image page ≡ u ∷ units_from turns image (page + size_of u)

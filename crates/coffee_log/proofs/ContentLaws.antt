@@ -1,7 +1,7 @@
 -- The bytes of a file before and after a change, and what is read of them.
 use Rattle.std.proofs.Common.{◌≡◌, ◌≢◌, ℕ, ◌+◌, ◌-◌, ◌*◌, ◌≤◌, ◌<◌, List, ◌++◌, length, take, drop, get_or, slice_range, Option, refl, ap, sym, subst, ◌∙◌, arith, ⊎_elim}
 use Rattle.std.proofs.lemmas.Bool.{cases_lt}
-use Rattle.std.proofs.lemmas.List.{ext_get_or, get_or-append_right, get_or-drop, get_or-take, get_or_append_left, length-append, length-take-le}
+use Rattle.std.proofs.lemmas.List.{ext_get_or, get_or-append_right, get_or-take, get_or_append_left, length-append, length-take-le}
 use Rattle.afl_base.specs.Fields.{put_at}
 use Rattle.afl_base.specs.declared.ids.PageId.{PageId}
 use Rattle.afl_base.proofs.FieldLaws.{length-put_at}
@@ -10,6 +10,7 @@ use Rattle.flash_range.specs.Range.{Outside}
 use Rattle.coffee_layout.specs.FileBytes.{ListsValues, file_byte, file_bytes}
 use Rattle.coffee_layout.proofs.Spelling.{spells_file, spelt_file}
 use Rattle.coffee_log.specs.FileChanges.{Puts}
+use Rattle.afl_base.proofs.PutLaws.{put_at_here, put_at_behind}
 
 -- bytes behind the end are added to the list
 spells-append : (old new : ℕ → ℕ) (n : ℕ) (xs bytes : List ℕ) → ListsValues old n xs → Puts old new n (length xs) bytes → length xs + length bytes ≤ n → (1 ≤ length bytes → get_or bytes (length bytes - 1) 0 ≢ 0) → ListsValues new n (xs ++ bytes)
@@ -47,20 +48,6 @@ put_at_before xs bytes at p fits low =
     let front = put_front xs bytes at fits in
     let here : length (take at xs) ≡ at = length-take-le at xs (omega arith) in
     get_or_append_left (take at xs ++ bytes) (drop (at + length bytes) xs) 0 p (omega arith) ∙ get_or_append_left (take at xs) bytes 0 p (omega arith) ∙ get_or-take at xs p 0 low
-
-pub put_at_here : (xs bytes : List ℕ) (at k : ℕ) → at + length bytes ≤ length xs → k < length bytes → get_or (put_at xs at bytes) (at + k) 0 ≡ get_or bytes k 0
-unfolding put_at
-put_at_here xs bytes at k fits low =
-    let front = put_front xs bytes at fits in
-    let here : length (take at xs) ≡ at = length-take-le at xs (omega arith) in
-    let back : at + k - at ≡ k = omega arith in
-    get_or_append_left (take at xs ++ bytes) (drop (at + length bytes) xs) 0 (at + k) (omega arith) ∙ get_or-append_right (take at xs) bytes at (at + k) 0 here (omega arith) ∙ ap (λ j. get_or bytes j 0) back
-
-put_at_behind : (xs bytes : List ℕ) (at p : ℕ) → at + length bytes ≤ length xs → at + length bytes ≤ p → get_or (put_at xs at bytes) p 0 ≡ get_or xs p 0
-unfolding put_at
-put_at_behind xs bytes at p fits from =
-    let back : at + length bytes + (p - (at + length bytes)) ≡ p = omega arith in
-    get_or-append_right (take at xs ++ bytes) (drop (at + length bytes) xs) (at + length bytes) p 0 (put_front xs bytes at fits) from ∙ get_or-drop (at + length bytes) xs (p - (at + length bytes)) 0 ∙ ap (λ j. get_or xs j 0) back
 
 pub put_at_outside : (xs bytes : List ℕ) (at p : ℕ) → at + length bytes ≤ length xs → Outside at (length bytes) p → get_or (put_at xs at bytes) p 0 ≡ get_or xs p 0
 put_at_outside xs bytes at p fits out =

@@ -2,7 +2,8 @@
 use Rattle.std.proofs.Common.{◌≡◌, ◌≢◌, ℕ, zero, suc, ◌+◌, ◌<◌, Bool, true, false, ◌==◌, List, Option, None, Some, if◌then◌else◌, refl, ap, sym, ◌∙◌, arith, ⊎_elim}
 use Rattle.std.proofs.lemmas.Bool.{cases_eq}
 use Rattle.coffee_layout.specs.FileBytes.{last_in, number_in}
-use Rattle.coffee_layout.proofs.Tests.{eq_false, eq_true, true_eq}
+use Rattle.coffee_layout.proofs.Tests.{eq_false}
+use Rattle.padded.proofs.Facts.{true_eq, eq_true}
 
 found_turn : (table : List ℕ) (region n i : ℕ) (t : Bool) (o : Option ℕ) → number_in table n == region + 1 ≡ t → (o ≡ Some i → (i < n) × (number_in table i ≡ region + 1)) → (if t then Some n else o) ≡ Some i
     → (i < suc n) × (number_in table i ≡ region + 1)

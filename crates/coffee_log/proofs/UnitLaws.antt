@@ -13,7 +13,8 @@ use Rattle.coffee_layout.specs.declared.unit.Unit.{Unit}
 use Rattle.coffee_layout.specs.declared.unit.Unit.TheVariants.{Extent}
 use Rattle.coffee_layout.proofs.Frames.{KeepsFile, content_stays}
 use Rattle.coffee_log.specs.FileChanges.{Apart, OutsideFile}
-use Rattle.coffee_log.proofs.ContentLaws.{put_at_here, put_at_outside}
+use Rattle.coffee_log.proofs.ContentLaws.{put_at_outside}
+use Rattle.afl_base.proofs.PutLaws.{put_at_here}
 
 -- an extent is a unit of a list, at a page
 pub record StandsAt (us : List Unit) (page pages : ℕ) : Type 0 where

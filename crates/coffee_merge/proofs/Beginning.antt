@@ -3,7 +3,7 @@ use Rattle.std.proofs.Common.{◌≡◌, ◌≢◌, inl, inr, ⊎_elim, ℕ, zer
 use Rattle.std.specs.List.{list_all}
 use Rattle.std.proofs.lemmas.Bool.{cases_eq, cases_lt}
 use Rattle.std.proofs.lemmas.List.{ext_get_or, get_or-take, length-append, length-replicate, length-take-le}
-use Rattle.padded.proofs.Facts.{both_parts}
+use Rattle.padded.proofs.Facts.{both_parts, true_or_false, lt_false, true_le, true_eq}
 use Rattle.afl_base.specs.Fields.{u16_bytes}
 use Rattle.afl_base.specs.Image.{or_at, page_bytes}
 use Rattle.afl_base.specs.Names.{is_file_name, is_name_byte}
@@ -20,17 +20,14 @@ use Rattle.coffee_layout.specs.declared.unit.Unit.TheVariants.{Free, Isolated, E
 use Rattle.coffee_layout.proofs.Frames.{ends_free, keep_rest, replaced, total-append}
 use Rattle.coffee_layout.proofs.FreeBlocks.{free_block}
 use Rattle.coffee_layout.proofs.MarkLaws.{mark_front, mark_rest, mark_unit}
-use Rattle.coffee_layout.proofs.Tests.{eq_false, lt_false, true_eq, true_le, true_or_false}
+use Rattle.coffee_layout.proofs.Tests.{eq_false}
 use Rattle.coffee_layout.proofs.Tilings.{units_tiled}
 use Rattle.flash_range.proofs.Ranges.{or_on_zero, or_outside}
 use Rattle.flash_range.specs.Range.{Outside}
 use Rattle.coffee_merge.specs.Begun.{active_at, active_header, unit_begun}
 use Rattle.coffee_merge.proofs.Begun.{HavePages, active_begun, begun_active, begun_inside, begun_marks, begun_replaced, have_pages, pages_front}
 use Rattle.coffee_merge.proofs.HeaderMarks.{header_unit}
-
-yes_no : {A : Type 0} (b : Bool) → b ≡ true → b ≡ false → A
-yes_no true e f = cc
-yes_no false e f = cc
+use Rattle.coffee_merge.proofs.FreeUnits.{yes_no}
 
 -- FREE PAGES
 

@@ -12,10 +12,11 @@ use Rattle.coffee_layout.specs.declared.unit.Unit.{Unit}
 use Rattle.coffee_layout.specs.declared.unit.Unit.TheVariants.{Free, Isolated, Extent}
 use Rattle.coffee_layout.proofs.Frames.{total-append}
 use Rattle.coffee_layout.proofs.MarkLaws.{mark_unit}
-use Rattle.coffee_layout.proofs.Tests.{eq_false, eq_true}
+use Rattle.coffee_layout.proofs.Tests.{eq_false}
 use Rattle.coffee_layout.proofs.Tilings.{kept_some}
 use Rattle.coffee_space.specs.Collection.{active_extents, is_active_extent}
 use Rattle.coffee_merge.specs.Begun.{active_at, active_header, unit_begun}
+use Rattle.padded.proofs.Facts.{eq_true}
 
 -- PAGES
 

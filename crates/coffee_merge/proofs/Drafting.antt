@@ -15,13 +15,14 @@ use Rattle.coffee_layout.specs.Units.{is_free, pages_of}
 use Rattle.coffee_layout.specs.declared.file.FileAt.{FileAt}
 use Rattle.coffee_layout.specs.declared.unit.Unit.{Unit}
 use Rattle.coffee_layout.proofs.MarkLaws.{run_inside}
-use Rattle.coffee_layout.proofs.Tests.{eq_false, eq_true}
+use Rattle.coffee_layout.proofs.Tests.{eq_false}
 use Rattle.coffee_layout.proofs.Tilings.{unbroken_tiled}
 use Rattle.coffee_merge.specs.Begun.{active_at}
 use Rattle.coffee_merge.specs.Holding.{BeginsExtent, Entries, HoldsTable, IsDrafted, KeepsContents, Stays, building_of, draft_header, extent_of, file_header, has_extent_at, has_shape, is_held, kind_number, log_header}
 use Rattle.coffee_merge.proofs.Beginning.{IsBegun, begun_lowest}
 use Rattle.coffee_merge.proofs.Holdings.{HeldBy, extent_here, held_by, held_draft, held_in, holds_tiled}
 use Rattle.coffee_merge.proofs.Kept.{KeepsBodies, bodies_kept, body_stored}
+use Rattle.padded.proofs.Facts.{eq_true}
 
 -- WHAT STAYS
 

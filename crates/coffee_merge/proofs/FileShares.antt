@@ -1,6 +1,6 @@
 -- A cramped image has few sectors, by the sizes of its files.
 use Rattle.std.proofs.Common.{◌≡◌, ℕ, zero, suc, ◌+◌, ◌*◌, ◌%◌, ◌≤◌, Bool, true, false, cond, ◌&&◌, nat_le, ◌==◌, List, [], ◌∷◌, Option, Some, None, refl, arith}
-use Rattle.padded.proofs.Facts.{both_parts}
+use Rattle.padded.proofs.Facts.{both_parts, true_le, true_eq}
 use Rattle.afl_base.specs.Fit.{fit, first_fit}
 use Rattle.afl_base.specs.declared.ids.PageId.{PageId}
 use Rattle.afl_base.specs.declared.kind.Kind.{Kind}
@@ -10,7 +10,6 @@ use Rattle.coffee_layout.specs.Units.{total}
 use Rattle.coffee_layout.specs.Walks.{has_few, has_few_of}
 use Rattle.coffee_layout.specs.declared.file.FileAt.{FileAt}
 use Rattle.coffee_layout.specs.declared.unit.Unit.{Unit}
-use Rattle.coffee_layout.proofs.Tests.{true_eq, true_le}
 use Rattle.coffee_merge.specs.Holding.{IsIn, Entries, has_shape}
 use Rattle.coffee_merge.proofs.ExtentShares.{HoldsExtents, extent_share, extent_shares, file_shares, log_share, reach}
 use Rattle.afl_base.specs.Shares.{file_share, gap_for, touched_of}

@@ -7,13 +7,13 @@ use Rattle.coffee_layout.specs.Tiling.{units_of}
 use Rattle.coffee_layout.specs.Units.{is_free, size_of}
 use Rattle.coffee_layout.specs.declared.unit.Unit.{Unit}
 use Rattle.coffee_layout.specs.declared.unit.Unit.TheVariants.{Free, Isolated, Extent}
-use Rattle.coffee_space.proofs.Walks.{marks_behind, marks_front}
 use Rattle.coffee_merge.specs.Begun.{unit_begun}
 use Rattle.coffee_merge.specs.Holding.{TakesOnly, is_free_at}
 use Rattle.coffee_merge.specs.Takes.{KeepsFree}
 use Rattle.coffee_merge.proofs.Beginning.{IsBegun}
 use Rattle.coffee_merge.proofs.Begun.{HavePages, active_begun, begun_here, begun_marks, begun_there, have_pages}
 use Rattle.coffee_merge.proofs.Marked.{Reflags}
+use Rattle.coffee_layout.proofs.FreeBlocks.{mark_front, mark_behind}
 
 pub yes_no : {A : Type 0} (b : Bool) → b ≡ true → b ≡ false → A
 yes_no true e f = cc
@@ -31,13 +31,13 @@ free_from [] from k h e = cc
 free_from (u ∷ us) from k h e =
     let some = h.0 in
     ⊎_elim
-    (λ (here : k < size_of u). free_here u us from k (sym (marks_front (is_free u) (free_pages us) (size_of u) k here) ∙ e) here)
+    (λ (here : k < size_of u). free_here u us from k (sym (mark_front (is_free u) (free_pages us) (size_of u) k here) ∙ e) here)
     (λ (behind : size_of u ≤ k).
     let back : size_of u + (k - size_of u) ≡ k = omega arith in
     let place : from + size_of u + (k - size_of u) ≡ from + k = omega arith in
     begun_there u us from (from + k) (λ s. omega arith)
     ∙ ap (unit_begun us (from + size_of u)) (sym place)
-    ∙ free_from us (from + size_of u) (k - size_of u) h.1 (sym (marks_behind (is_free u) (free_pages us) (size_of u) (k - size_of u)) ∙ ap (λ j. get_or (free_pages (u ∷ us)) j false) back ∙ e))
+    ∙ free_from us (from + size_of u) (k - size_of u) h.1 (sym (mark_behind (is_free u) (free_pages us) (size_of u) (k - size_of u)) ∙ ap (λ j. get_or (free_pages (u ∷ us)) j false) back ∙ e))
     (cases_lt k (size_of u))
 
 -- a free page is a unit

@@ -3,16 +3,16 @@ use Rattle.std.proofs.Common.{◌≡◌, ℕ, ◌+◌, ◌*◌, ◌≤◌, ⊎_e
 use Rattle.std.specs.Option.{option_map}
 use Rattle.std.proofs.lemmas.List.{length-take-le}
 use Rattle.std.proofs.lemmas.List.Folds.{list_all_at}
-use Rattle.padded.proofs.Facts.{both_parts, either_part}
-use Rattle.afl_base.specs.Image.{or_at, or_front, page_bytes}
+use Rattle.padded.proofs.Facts.{both_parts, either_part, true_eq}
+use Rattle.afl_base.specs.Image.{or_at, page_bytes}
 use Rattle.afl_base.proofs.Images.{length_or_at, length_range, or_at_page}
 use Rattle.coffee_header.specs.Headers.{fields, header_of, is_flags, is_header}
 use Rattle.padded.specs.Zeros.{is_zeros}
 use Rattle.coffee_header.specs.declared.header.Header.{Header}
-use Rattle.coffee_header.proofs.HeaderLaws.{header_flags}
+use Rattle.coffee_header.proofs.HeaderLaws.{header_flags, chosen}
 use Rattle.coffee_layout.specs.Units.{unit_at, unit_of}
 use Rattle.coffee_layout.specs.declared.unit.Unit.TheVariants.{Free, Isolated, Extent}
-use Rattle.coffee_layout.proofs.Tests.{true_eq}
+use Rattle.afl_base.proofs.Bits.{or_front_nothing}
 
 -- FLAGS
 
@@ -48,10 +48,6 @@ flags_some f is = of_flags (λ f. f == 0 ≡ false) refl refl refl refl refl ref
 
 -- HEADERS AND UNITS
 
-chosen : {A : Type 0} (t : Bool) (x y : A) → (if t then Some x else None) ≡ Some y → (t ≡ true) × (x ≡ y)
-chosen true x y e = (refl, cc)
-chosen false x y e = cc
-
 -- byte 9 of a header is its flags, and they are of its form
 pub header_ninth : (bytes : List ℕ) (h : Header) → header_of bytes ≡ Some h → (get_or bytes 9 0 ≡ h.flags) × (is_flags h.flags ≡ true)
 unfolding header_of
@@ -85,15 +81,11 @@ unit_header bytes h e = unit_turn (is_zeros bytes) (bit_and (slice_index bytes 9
 
 -- A MARK
 
-or_front_none : (xs : List ℕ) → or_front xs [] ≡ xs
-or_front_none [] = refl
-or_front_none (x ∷ xs) = refl
-
 -- the front of a page that is marked is the marked front
 ten_front : (b0 b1 b2 b3 b4 b5 b6 b7 b8 b9 b : ℕ) (rest : List ℕ)
     → take 32 (or_at (b0 ∷ b1 ∷ b2 ∷ b3 ∷ b4 ∷ b5 ∷ b6 ∷ b7 ∷ b8 ∷ b9 ∷ rest) 9 (b ∷ [])) ≡ or_at (take 32 (b0 ∷ b1 ∷ b2 ∷ b3 ∷ b4 ∷ b5 ∷ b6 ∷ b7 ∷ b8 ∷ b9 ∷ rest)) 9 (b ∷ [])
 unfolding or_at
-ten_front b0 b1 b2 b3 b4 b5 b6 b7 b8 b9 b rest = rw (or_front_none rest, or_front_none (take 22 rest)) refl
+ten_front b0 b1 b2 b3 b4 b5 b6 b7 b8 b9 b rest = rw (or_front_nothing rest, or_front_nothing (take 22 rest)) refl
 
 marked_front : (bytes : List ℕ) (b : ℕ) → 10 ≤ length bytes → take 32 (or_at bytes 9 (b ∷ [])) ≡ or_at (take 32 bytes) 9 (b ∷ [])
 marked_front (b0 ∷ b1 ∷ b2 ∷ b3 ∷ b4 ∷ b5 ∷ b6 ∷ b7 ∷ b8 ∷ b9 ∷ rest) b long = ten_front b0 b1 b2 b3 b4 b5 b6 b7 b8 b9 b rest

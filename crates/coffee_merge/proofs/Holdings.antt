@@ -5,14 +5,13 @@ use Rattle.std.specs.List.{list_any}
 use Rattle.std.proofs.lemmas.Bool.{cases_eq, cases_lt}
 use Rattle.std.proofs.lemmas.List.{get_or-set_other, get_or-set_same, get_or_past, length-set}
 use Rattle.std.proofs.lemmas.List.Folds.{list_any_at}
-use Rattle.padded.proofs.Facts.{either_part}
+use Rattle.padded.proofs.Facts.{either_part, true_eq, eq_true}
 use Rattle.afl_base.specs.declared.ids.PageId.{PageId}
 use Rattle.coffee_header.specs.declared.header.Header.{Header}
 use Rattle.coffee_layout.specs.Tiling.{IsTiled, units_of}
 use Rattle.coffee_layout.specs.Walks.{is_its_log}
 use Rattle.coffee_layout.specs.declared.file.FileAt.{FileAt}
 use Rattle.coffee_layout.specs.declared.unit.Unit.TheVariants.{Extent}
-use Rattle.coffee_layout.proofs.Tests.{eq_true, true_eq}
 use Rattle.coffee_layout.proofs.Tilings.{tiled_unbroken}
 use Rattle.coffee_log.proofs.UnitLaws.{FilesApart}
 use Rattle.coffee_merge.specs.Begun.{unit_begun}

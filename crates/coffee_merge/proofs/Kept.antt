@@ -1,6 +1,6 @@
 -- Files keep their content where all bytes behind the headers of their extents and logs stay, and a
 -- table is held by an image with the same active extents whose files are stored.
-use Rattle.std.proofs.Common.{◌≡◌, ℕ, zero, suc, ◌+◌, ◌-◌, ◌*◌, ◌/◌, ◌%◌, ◌≤◌, ◌<◌, Bool, true, false, ◌==◌, List, length, get_or, Option, Some, None, if◌then◌else◌, refl, ap, sym, subst, ◌∙◌, arith}
+use Rattle.std.proofs.Common.{◌≡◌, ℕ, ◌+◌, ◌-◌, ◌*◌, ◌/◌, ◌%◌, ◌≤◌, ◌<◌, List, length, get_or, Option, Some, None, refl, ap, sym, subst, ◌∙◌, arith}
 use Rattle.afl_base.specs.declared.ids.PageId.{PageId}
 use Rattle.afl_base.proofs.Images.{range_same}
 use Rattle.coffee_layout.specs.FileBytes.{extent_place, file_byte, last_in, number_in, place_or, record_place, table_of}
@@ -8,7 +8,7 @@ use Rattle.coffee_layout.specs.Files.{FitsIn}
 use Rattle.coffee_layout.specs.Tiling.{IsTiled, broken_tiling, units_of}
 use Rattle.coffee_layout.specs.Units.{pages_of}
 use Rattle.coffee_layout.specs.declared.file.FileAt.{FileAt}
-use Rattle.coffee_layout.proofs.Frames.{KeepsFile}
+use Rattle.coffee_layout.proofs.Frames.{KeepsFile, last_bound}
 use Rattle.coffee_layout.proofs.Tilings.{units_tiled, unbroken_tiled}
 use Rattle.coffee_log.specs.FileChanges.{IsFile}
 use Rattle.coffee_log.specs.Logs.{IsLog}
@@ -43,15 +43,6 @@ log_kept old new page pages log l used long keeps is log_is =
     }
 
 -- BYTES
-
-last_bound : (table : List ℕ) (region n i : ℕ) → last_in table region n ≡ Some i → i < n
-unfolding last_in
-last_bound table region zero i e = cc
-last_bound table region (suc n) i e = bound_turn (number_in table n == region + 1) (last_in table region n) n i e (last_bound table region n i)
-  where
-    bound_turn : (t : Bool) (o : Option ℕ) (n i : ℕ) → (if t then Some n else o) ≡ Some i → (o ≡ Some i → i < n) → i < suc n
-    bound_turn true o n i e f = let s : n ≡ i = cc in omega arith
-    bound_turn false o n i e f = let l = f e in omega arith
 
 -- the place of a region lies behind a header
 place_kept : (old new : List ℕ) (page pages : ℕ) (l : PageId) (p : ℕ) (o : Option ℕ) → KeepsBody old new page pages (Some l) → p + 32 < 256 * pages → ((i : ℕ) → o ≡ Some i → i < 30)

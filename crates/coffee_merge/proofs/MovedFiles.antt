@@ -14,7 +14,6 @@ use Rattle.coffee_layout.specs.Walks.{has_few}
 use Rattle.coffee_layout.specs.declared.file.FileAt.{FileAt}
 use Rattle.coffee_layout.proofs.Measures.{few_same}
 use Rattle.coffee_layout.proofs.Spelling.{spells_file}
-use Rattle.coffee_layout.proofs.Tests.{true_or_false}
 use Rattle.coffee_merge.specs.Holding.{Entries, HoldsTable, IsIn, IsStored, KeepsContent, Moves, Stays}
 use Rattle.coffee_merge.specs.TableFiles.{SameFiles, file_of}
 use Rattle.coffee_merge.proofs.Holdings.{in_table, is_in_here, is_in_set, is_in_there}
@@ -23,10 +22,11 @@ use Rattle.coffee_merge.proofs.SoundHolders.{entry_is, file_holder, placed, stor
 use Rattle.coffee_merge.proofs.SoundImages.{holds_rules}
 use Rattle.coffee_merge.proofs.SoundRules.{rules_sound}
 use Rattle.coffee_merge.proofs.SoundUnits.{Among}
+use Rattle.padded.proofs.Facts.{true_or_false}
 
 -- BYTES
 
-bytes_same : (old new : List ℕ) (e d : FileAt) → IsStored old e → IsStored new d → d.size ≡ e.size → ((p : ℕ) → p < e.size → file_byte new d.page.0 d.log p ≡ file_byte old e.page.0 e.log p) → file_bytes new d.page.0 d.pages d.log ≡ file_bytes old e.page.0 e.pages e.log
+pub bytes_same : (old new : List ℕ) (e d : FileAt) → IsStored old e → IsStored new d → d.size ≡ e.size → ((p : ℕ) → p < e.size → file_byte new d.page.0 d.log p ≡ file_byte old e.page.0 e.log p) → file_bytes new d.page.0 d.pages d.log ≡ file_bytes old e.page.0 e.pages e.log
 bytes_same old new e d s t size same =
     let long = stored_size old e s in
     let wide = stored_size new d t in

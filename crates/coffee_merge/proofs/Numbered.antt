@@ -1,9 +1,9 @@
 -- The page of a log comes into the header of a file that has none.
-use Rattle.std.proofs.Common.{◌≡◌, ◌≢◌, ℕ, ◌+◌, ◌*◌, ◌/◌, ◌%◌, ◌≤◌, ◌<◌, inl, inr, ⊎_elim, Bool, true, false, ◌&&◌, List, [], ◌∷◌, ◌++◌, length, take, get_or, Some, None, if◌then◌else◌, refl, ap, sym, subst, ◌∙◌, arith}
+use Rattle.std.proofs.Common.{◌≡◌, ◌≢◌, ℕ, ◌+◌, ◌*◌, ◌/◌, ◌%◌, ◌≤◌, ◌<◌, inl, inr, ⊎_elim, Bool, true, false, ◌&&◌, List, [], ◌∷◌, ◌++◌, length, take, get_or, Some, refl, ap, sym, subst, ◌∙◌, arith}
 use Rattle.std.proofs.lemmas.List.{length-take-le}
 use Rattle.padded.proofs.Facts.{both_parts}
 use Rattle.afl_base.specs.Fields.{put_at, u16_at, u16_bytes}
-use Rattle.afl_base.specs.Image.{or_at, or_front, page_bytes}
+use Rattle.afl_base.specs.Image.{or_at, page_bytes}
 use Rattle.afl_base.proofs.Images.{length_or_at, length_range, or_at_page, or_at_range}
 use Rattle.coffee_header.specs.Headers.{fields, header_of, is_flags, is_header, is_kind, is_name_field}
 use Rattle.padded.specs.Zeros.{is_zeros}
@@ -19,19 +19,10 @@ use Rattle.flash_range.specs.Range.{Outside}
 use Rattle.coffee_merge.specs.Begun.{unit_begun}
 use Rattle.coffee_merge.proofs.Begun.{begun_other, begun_split, have_pages, split_begun}
 use Rattle.coffee_merge.proofs.HeaderMarks.{header_unit, unit_header}
+use Rattle.afl_base.proofs.Bits.{or_front_nothing, length_u16_bytes}
+use Rattle.coffee_header.proofs.HeaderLaws.{chosen, number_back}
 
 -- HEADERS
-
-chosen : {A : Type 0} (t : Bool) (x y : A) → (if t then Some x else None) ≡ Some y → (t ≡ true) × (x ≡ y)
-chosen true x y e = (refl, cc)
-chosen false x y e = cc
-
-or_front_none : (xs : List ℕ) → or_front xs [] ≡ xs
-or_front_none [] = refl
-or_front_none (x ∷ xs) = refl
-
-number_back : (n : ℕ) → n < 65536 → n % 256 + 256 * (n / 256 % 256 + 256 * 0) ≡ n
-number_back n small = omega arith
 
 ten_number : (b2 b3 b4 b5 b6 b7 b8 b9 n : ℕ) (field : List ℕ) (h : Header) → n < 65536 → header_of (0 ∷ 0 ∷ b2 ∷ b3 ∷ b4 ∷ b5 ∷ b6 ∷ b7 ∷ b8 ∷ b9 ∷ field) ≡ Some h
     → header_of (or_at (0 ∷ 0 ∷ b2 ∷ b3 ∷ b4 ∷ b5 ∷ b6 ∷ b7 ∷ b8 ∷ b9 ∷ field) 0 (u16_bytes n)) ≡ Some (record h { log_page = n })
@@ -67,16 +58,12 @@ header_number bytes h n long small none e = absurd (omega arith)
 
 two_front : (b0 b1 c0 c1 : ℕ) (rest : List ℕ) → take 32 (or_at (b0 ∷ b1 ∷ rest) 0 (c0 ∷ c1 ∷ [])) ≡ or_at (take 32 (b0 ∷ b1 ∷ rest)) 0 (c0 ∷ c1 ∷ [])
 unfolding or_at
-two_front b0 b1 c0 c1 rest = rw (or_front_none rest, or_front_none (take 30 rest)) refl
+two_front b0 b1 c0 c1 rest = rw (or_front_nothing rest, or_front_nothing (take 30 rest)) refl
 
 numbered_front : (bytes : List ℕ) (n : ℕ) → 2 ≤ length bytes → take 32 (or_at bytes 0 (u16_bytes n)) ≡ or_at (take 32 bytes) 0 (u16_bytes n)
 unfolding u16_bytes
 numbered_front (b0 ∷ b1 ∷ rest) n long = two_front b0 b1 (n % 256) (n / 256 % 256) rest
 numbered_front bytes n long = absurd (omega arith)
-
-length-u16_bytes : (n : ℕ) → length (u16_bytes n) ≡ 2
-unfolding u16_bytes
-length-u16_bytes n = refl
 
 pub put_number : (n : ℕ) → put_at (0 ∷ 0 ∷ []) 0 (u16_bytes n) ≡ u16_bytes n
 unfolding put_at u16_bytes
@@ -89,7 +76,7 @@ numbered image page n = or_at image (256 * page) (u16_bytes n)
 numbered_page : (image : List ℕ) (page n : ℕ) → 256 * page + 256 ≤ length image → page_bytes (numbered image page n) page ≡ or_at (page_bytes image page) 0 (u16_bytes n)
 numbered_page image page n exists =
     let place : 256 * page ≡ 256 * page + 0 = omega arith in
-    ap (λ k. page_bytes (or_at image k (u16_bytes n)) page) place ∙ or_at_page image page 0 (u16_bytes n) exists (omega (arith, length-u16_bytes n))
+    ap (λ k. page_bytes (or_at image k (u16_bytes n)) page) place ∙ or_at_page image page 0 (u16_bytes n) exists (omega (arith, length_u16_bytes n))
 
 numbered_unit : (image : List ℕ) (page : ℕ) (h : Header) (n : ℕ) → 256 * page + 256 ≤ length image → unit_at image page ≡ Some (Extent h) → h.log_page ≡ 0 → n < 65536 → unit_at (numbered image page n) page ≡ Some (Extent (record h { log_page = n }))
 numbered_unit image page h n exists is none small =
@@ -123,7 +110,7 @@ numbered_split building old front rest h n units tiled none small =
     let some : 1 ≤ h.max_pages = kept_some building old (total front) (ends_free false front) (Extent h) at.0 at.1 in
     let whole : 256 * (total front + (h.max_pages + total rest)) ≡ length old = ap (λ m. 256 * m) (sym (total-append front (Extent h ∷ rest))) ∙ tiled.whole in
     let long : length new ≡ length old = length_or_at old (256 * total front) (u16_bytes n) in
-    let two = length-u16_bytes n in
+    let two = length_u16_bytes n in
     let is : unit_at new (total front) ≡ Some (Extent k) = numbered_unit old (total front) h n (omega arith) at.0 none small in
     let all : IsTiled building new (front ++ (Extent k ∷ rest)) =
     replaced building building old new front (Extent h ∷ []) rest (Extent k) tiled long

@@ -4,7 +4,7 @@ use Rattle.std.specs.List.{list_any}
 use Rattle.std.specs.Cmp.Lexicographic.{same_text, other_text}
 use Rattle.std.proofs.lemmas.Bool.{both_ways, cases_order}
 use Rattle.std.proofs.lemmas.List.Folds.{list_any-append}
-use Rattle.padded.proofs.Facts.{both_parts}
+use Rattle.padded.proofs.Facts.{both_parts, true_or_false, true_eq}
 use Rattle.afl_base.specs.declared.kind.Kind.TheVariants.{Doubling, Fixed}
 use Rattle.coffee_header.specs.Headers.{fields, header_of, is_header, is_kind}
 use Rattle.coffee_header.specs.declared.header.Header.{Header}
@@ -12,7 +12,7 @@ use Rattle.coffee_layout.specs.Files.{Placed, kind_of, log_of}
 use Rattle.coffee_layout.specs.Rules.{first_repeated, same_name}
 use Rattle.coffee_layout.specs.declared.file.FileAt.{FileAt}
 use Rattle.coffee_layout.proofs.Namings.{Each}
-use Rattle.coffee_layout.proofs.Tests.{false_eq, true_eq, true_or_false}
+use Rattle.coffee_layout.proofs.Tests.{false_eq}
 use Rattle.coffee_merge.specs.Holding.{Entries, IsIn, file_flags, kind_number, log_number}
 use Rattle.coffee_merge.proofs.SoundUnits.{Among, Rising, each_all, each_pick, or_second}
 

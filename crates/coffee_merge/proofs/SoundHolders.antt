@@ -3,7 +3,7 @@ use Rattle.std.proofs.Common.{◌≡◌, ◌⊎◌, inl, inr, ℕ, suc, ◌+◌,
 use Rattle.std.specs.List.{filter, list_any}
 use Rattle.std.proofs.lemmas.Bool.{not-true, not_from_false}
 use Rattle.std.proofs.lemmas.List.Folds.{list_any_at}
-use Rattle.padded.proofs.Facts.{both_parts, some_same}
+use Rattle.padded.proofs.Facts.{both_parts, some_same, true_or_false, true_eq, eq_true}
 use Rattle.afl_base.specs.declared.ids.PageId.{PageId}
 use Rattle.afl_base.specs.declared.kind.Kind.{Kind}
 use Rattle.afl_base.specs.declared.kind.Kind.TheVariants.{Doubling, Fixed}
@@ -14,7 +14,7 @@ use Rattle.coffee_layout.specs.Tiling.{nowhere, units_of}
 use Rattle.coffee_layout.specs.declared.file.FileAt.{FileAt}
 use Rattle.coffee_layout.proofs.Namings.{Each, each_filter}
 use Rattle.coffee_layout.proofs.Sizes.{size_is}
-use Rattle.coffee_layout.proofs.Tests.{eq_false, eq_true, true_eq, true_or_false}
+use Rattle.coffee_layout.proofs.Tests.{eq_false}
 use Rattle.coffee_log.specs.Logs.{IsLog}
 use Rattle.coffee_merge.specs.Begun.{active_at}
 use Rattle.coffee_merge.specs.Holding.{Entries, HoldsTable, IsIn, IsStored, file_flags, file_header, has_extent_at, has_shape, kind_number, log_header, log_number}

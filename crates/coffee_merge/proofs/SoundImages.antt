@@ -3,7 +3,7 @@ use Rattle.std.proofs.Common.{◌≡◌, inl, inr, ℕ, ◌+◌, ◌≤◌, true
 use Rattle.std.specs.List.{list_any}
 use Rattle.std.specs.Option.{IfSome}
 use Rattle.std.proofs.lemmas.Bool.{and_from}
-use Rattle.padded.proofs.Facts.{both_parts}
+use Rattle.padded.proofs.Facts.{both_parts, true_or_false, true_eq, eq_true}
 use Rattle.afl_base.specs.declared.ids.PageId.{PageId}
 use Rattle.afl_base.specs.declared.kind.Kind.{Kind}
 use Rattle.afl_base.specs.declared.kind.Kind.TheVariants.{Doubling, Fixed}
@@ -14,7 +14,6 @@ use Rattle.coffee_layout.specs.Tiling.{at_place, units_of}
 use Rattle.coffee_layout.specs.Walks.{has_few}
 use Rattle.coffee_layout.specs.declared.file.FileAt.{FileAt}
 use Rattle.coffee_layout.proofs.Measures.{few_same}
-use Rattle.coffee_layout.proofs.Tests.{eq_true, true_eq, true_or_false}
 use Rattle.coffee_merge.specs.Holding.{Entries, HoldsTable, IsIn, IsStored, has_shape, kind_number, log_number}
 use Rattle.coffee_merge.proofs.Holdings.{holds_tiled}
 use Rattle.coffee_merge.proofs.SoundEntries.{none_repeated, same_named}

@@ -5,12 +5,12 @@ use Rattle.std.proofs.lemmas.Bool.{and_from, cases_lt, le-leb, not-true, or_left
 use Rattle.std.proofs.lemmas.List.{get_or-drop, get_or_past, length-drop, length-take}
 use Rattle.std.proofs.lemmas.List.FromFn.{get_or-range_with_len, length-range_with_len}
 use Rattle.std.proofs.lemmas.List.Sums.{prefix_len-le-length, prefix_len_is, prefix_len_passes}
-use Rattle.padded.proofs.Facts.{both_parts}
+use Rattle.padded.proofs.Facts.{both_parts, lt_true, true_eq, eq_true}
 use Rattle.afl_base.proofs.Images.{range_at}
 use Rattle.coffee_layout.specs.FileBytes.{number_in, records, table_of, used_in}
 use Rattle.coffee_layout.specs.Rules.{has_regions_inside, is_clear, is_front_filled, is_region_inside}
 use Rattle.padded.specs.Zeros.{is_zeros}
-use Rattle.coffee_layout.proofs.Tests.{eq_true, eq_false, false_eq, lt_true, true_eq, true_lt}
+use Rattle.coffee_layout.proofs.Tests.{eq_false, false_eq, true_lt}
 use Rattle.coffee_log.specs.FileChanges.{BeginsBelow}
 use Rattle.coffee_log.specs.Logs.{IsLog}
 use Rattle.coffee_merge.proofs.SoundUnits.{or_second}

@@ -1,9 +1,9 @@
 -- The rules of a sound image, one by one, and what they say of each file and each log.
-use Rattle.std.proofs.Common.{◌≡◌, ◌⊎◌, inl, inr, ℕ, ◌+◌, ◌-◌, ◌*◌, ◌≤◌, Bool, true, false, ◌&&◌, ◌==◌, nat_le, List, [], ◌∷◌, length, drop, take, Option, Some, None, if◌then◌else◌, refl, ap, sym, subst, ◌∙◌, ⊎_elim, arith}
+use Rattle.std.proofs.Common.{◌≡◌, ◌⊎◌, inl, inr, ℕ, ◌+◌, ◌-◌, ◌*◌, ◌≤◌, Bool, true, false, ◌&&◌, ◌==◌, nat_le, List, [], ◌∷◌, length, drop, take, Some, None, if◌then◌else◌, refl, ap, sym, subst, ◌∙◌, ⊎_elim, arith}
 use Rattle.std.specs.List.{list_any}
 use Rattle.std.proofs.lemmas.Bool.{or_cases}
 use Rattle.std.proofs.lemmas.List.{drop_all, length-drop}
-use Rattle.padded.proofs.Facts.{both_parts}
+use Rattle.padded.proofs.Facts.{both_parts, true_eq, eq_true}
 use Rattle.afl_base.specs.Image.{page_bytes}
 use Rattle.afl_base.specs.declared.ids.PageId.{PageId}
 use Rattle.coffee_header.specs.Headers.{is_kind}
@@ -15,9 +15,9 @@ use Rattle.coffee_layout.specs.Tiling.{IsTiled, at_place, broken_tiling, nowhere
 use Rattle.coffee_layout.specs.Units.{is_active_flags, pages_of, unit_at}
 use Rattle.coffee_layout.specs.declared.unit.Unit.{Unit}
 use Rattle.coffee_layout.specs.declared.unit.Unit.TheVariants.{Extent}
-use Rattle.coffee_layout.proofs.Judging.{or_nothing}
+use Rattle.coffee_layout.proofs.Judging.{or_nothing, place_none, page_none}
 use Rattle.coffee_layout.proofs.Namings.{each_stands}
-use Rattle.coffee_layout.proofs.Tests.{eq_true, or_none, true_eq}
+use Rattle.coffee_layout.proofs.Tests.{or_none}
 use Rattle.coffee_layout.proofs.Tilings.{tiled_unbroken}
 use Rattle.coffee_merge.specs.Begun.{active_at}
 use Rattle.coffee_merge.specs.Holding.{file_header, log_header}
@@ -37,14 +37,6 @@ pub record KeepsRules (image : List ℕ) (us : List Unit) : Type 0 where
   pub filled : (l : Placed) → Among l (logs_in us) → is_front_filled (table_of image l.page) ≡ true
   pub inside : (l : Placed) → Among l (logs_in us) → fits_its_file image (files_in us) l.page ≡ true
   pub clear : (l : Placed) → Among l (logs_in us) → is_clear image l.page ≡ true
-
-place_none : (rule : ℕ) (o : Option ℕ) → at_place rule o ≡ None → o ≡ None
-place_none rule None e = refl
-place_none rule (Some p) e = cc
-
-page_none : (files : List Placed) → first_page files ≡ None → files ≡ []
-page_none [] e = refl
-page_none (f ∷ fs) e = cc
 
 few_files : (files : List Placed) → at_place 5 (first_page (drop 32 files)) ≡ None → length files ≤ 32
 few_files files e =

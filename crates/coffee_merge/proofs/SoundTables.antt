@@ -20,7 +20,7 @@ use Rattle.coffee_layout.proofs.Entries.{its_log}
 use Rattle.coffee_layout.proofs.Measures.{few_same}
 use Rattle.coffee_layout.proofs.Namings.{Each}
 use Rattle.coffee_layout.proofs.Spelling.{spells_file}
-use Rattle.coffee_layout.proofs.Tests.{eq_true, none_else}
+use Rattle.coffee_layout.proofs.Tests.{none_else}
 use Rattle.coffee_layout.proofs.Tilings.{unbroken_tiled}
 use Rattle.coffee_log.specs.FileChanges.{Apart, BeginsBelow}
 use Rattle.coffee_log.specs.Logs.{IsLog}
@@ -32,6 +32,7 @@ use Rattle.coffee_merge.proofs.SoundEntries.{among_at, at_among, at_entry, entry
 use Rattle.coffee_merge.proofs.SoundLogs.{below_from_regions, log_from_rules, used_few}
 use Rattle.coffee_merge.proofs.SoundRules.{KeepsRules, entry_header, entry_log, extent_active, extent_in, file_active, file_fields, file_no_log, log_active, log_fields, one_file, regions_here, sound_rules}
 use Rattle.coffee_merge.proofs.SoundUnits.{Among, among_filter, any_among, begun_extent, each_pick, extents_rising, filter_among, two_among}
+use Rattle.padded.proofs.Facts.{eq_true}
 
 -- FILES
 

@@ -10,11 +10,12 @@ use Rattle.coffee_layout.specs.Tiling.{KeepRules}
 use Rattle.coffee_layout.specs.Units.{size_of, total}
 use Rattle.coffee_layout.specs.declared.unit.Unit.{Unit}
 use Rattle.coffee_layout.specs.declared.unit.Unit.TheVariants.{Free, Isolated, Extent}
-use Rattle.coffee_layout.proofs.Judging.{each_passes}
+use Rattle.coffee_layout.proofs.Judging.{each_passes, each_map}
 use Rattle.coffee_layout.proofs.Namings.{Each, each_filter}
-use Rattle.coffee_layout.proofs.Tests.{eq_false, eq_true, true_eq}
+use Rattle.coffee_layout.proofs.Tests.{eq_false}
 use Rattle.coffee_layout.proofs.Tilings.{kept_some}
 use Rattle.coffee_merge.specs.Begun.{unit_begun}
+use Rattle.padded.proofs.Facts.{true_eq, eq_true}
 
 -- LISTS OF EXTENTS
 
@@ -30,10 +31,6 @@ each_pick P e (x ∷ xs) ps (inr a) = each_pick P e xs ps.1 a
 pub each_all : (P : Placed → Type 0) (es : List Placed) → ((e : Placed) → Among e es → P e) → Each P es
 each_all P [] f = tt
 each_all P (x ∷ xs) f = (f x (inl refl), each_all P xs (λ e a. f e (inr a)))
-
-pub each_map : (P Q : Placed → Type 0) (es : List Placed) → ((e : Placed) → P e → Q e) → Each P es → Each Q es
-each_map P Q [] f p = tt
-each_map P Q (e ∷ es) f p = (f e p.0, each_map P Q es f p.1)
 
 kept_turn : (t : Bool) (e x : Placed) (xs : List Placed) → (x ≡ e) × (t ≡ true) ⊎ Among e xs → Among e (cond t (x ∷ xs) xs)
 kept_turn true e x xs (inl s) = inl s.0

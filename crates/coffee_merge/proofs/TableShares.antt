@@ -9,11 +9,12 @@ use Rattle.coffee_layout.specs.Walks.{is_its_log}
 use Rattle.coffee_layout.specs.declared.file.FileAt.{FileAt}
 use Rattle.coffee_layout.specs.declared.unit.Unit.{Unit}
 use Rattle.coffee_layout.specs.declared.unit.Unit.TheVariants.{Free, Isolated, Extent}
-use Rattle.coffee_layout.proofs.Tests.{eq_false, eq_true, true_eq, true_or_false}
+use Rattle.coffee_layout.proofs.Tests.{eq_false}
 use Rattle.coffee_merge.specs.Begun.{active_at, unit_begun}
 use Rattle.coffee_merge.specs.Holding.{IsIn, Entries, file_header, has_extent_at, log_header}
 use Rattle.coffee_merge.proofs.ExtentShares.{HoldsExtents, extent_shares, log_share, reach, spread}
 use Rattle.coffee_merge.proofs.Begun.{HavePages, begun_active, begun_from, begun_here, begun_there}
+use Rattle.padded.proofs.Facts.{true_or_false, true_eq, eq_true}
 
 -- ---- sums over the active extents
 

@@ -14,11 +14,9 @@ use Rattle.coffee_layout.specs.Units.{is_free, size_of, total}
 use Rattle.coffee_layout.specs.declared.file.FileAt.{FileAt}
 use Rattle.coffee_layout.specs.declared.unit.Unit.{Unit}
 use Rattle.coffee_layout.specs.declared.unit.Unit.TheVariants.{Free, Isolated, Extent}
-use Rattle.coffee_layout.proofs.Tests.{true_or_false}
 use Rattle.coffee_layout.proofs.Tilings.{units_tiled}
 use Rattle.coffee_space.specs.Collection.{IsCollected, cut_pages, touches, units_left}
-use Rattle.coffee_space.proofs.MarksLeft.{length-pages_by, mark_left, marks_left}
-use Rattle.coffee_space.proofs.Walks.{marks_behind, marks_front}
+use Rattle.coffee_space.proofs.MarksLeft.{mark_left, marks_left}
 use Rattle.coffee_merge.specs.Begun.{unit_begun}
 use Rattle.coffee_merge.specs.Flags.{flagged, obsoleted}
 use Rattle.coffee_merge.specs.Holding.{Entries, HoldsTable, IsIn, TakesOnly, draft_header, extent_of, file_header, is_free_at, log_header}
@@ -31,6 +29,9 @@ use Rattle.coffee_merge.proofs.Holdings.{LogAt, draft_unit, extent_read, file_un
 use Rattle.coffee_merge.proofs.Logged.{HasLog}
 use Rattle.coffee_merge.proofs.Marked.{Reflags}
 use Rattle.coffee_merge.proofs.Retired.{Retires, retires}
+use Rattle.padded.proofs.Facts.{true_or_false}
+use Rattle.coffee_layout.proofs.FreeBlocks.{mark_front, mark_behind}
+use Rattle.coffee_layout.proofs.MarkLaws.{length-pages_by}
 
 -- CHANGES
 
@@ -92,14 +93,14 @@ log_takes old new table i e log h is has =
 cut_free : (taken : ℕ → Bool) (us : List Unit) (page i : ℕ) → taken ((page + i) / 16) ≡ false → get_or (free_pages us) i false ≡ true → get_or (cut_pages taken page us) i false ≡ false
 cut_free taken [] page i t e = refl
 cut_free taken (u ∷ us) page i t e = ⊎_elim
-    (λ (here : i < size_of u). marks_front (touches taken page (size_of u)) (cut_pages taken (page + size_of u) us) (size_of u) i here ∙ whole u here (sym (marks_front (is_free u) (free_pages us) (size_of u) i here) ∙ e))
+    (λ (here : i < size_of u). mark_front (touches taken page (size_of u)) (cut_pages taken (page + size_of u) us) (size_of u) i here ∙ whole u here (sym (mark_front (is_free u) (free_pages us) (size_of u) i here) ∙ e))
     (λ (behind : size_of u ≤ i).
     let back : size_of u + (i - size_of u) ≡ i = omega arith in
     let place : page + i ≡ page + size_of u + (i - size_of u) = omega arith in
     ap (λ k. get_or (cut_pages taken page (u ∷ us)) k false) (sym back)
-    ∙ marks_behind (touches taken page (size_of u)) (cut_pages taken (page + size_of u) us) (size_of u) (i - size_of u)
+    ∙ mark_behind (touches taken page (size_of u)) (cut_pages taken (page + size_of u) us) (size_of u) (i - size_of u)
     ∙ cut_free taken us (page + size_of u) (i - size_of u) (ap (λ q. taken (q / 16)) (sym place) ∙ t)
-    (sym (marks_behind (is_free u) (free_pages us) (size_of u) (i - size_of u)) ∙ ap (λ k. get_or (free_pages (u ∷ us)) k false) back ∙ e))
+    (sym (mark_behind (is_free u) (free_pages us) (size_of u) (i - size_of u)) ∙ ap (λ k. get_or (free_pages (u ∷ us)) k false) back ∙ e))
     (cases_lt i (size_of u))
   where
     whole : (u : Unit) → i < size_of u → is_free u ≡ true → touches taken page (size_of u) ≡ false

@@ -7,7 +7,6 @@ use Rattle.coffee_header.specs.declared.header.Header.{Header}
 use Rattle.coffee_layout.specs.FileBytes.{file_byte}
 use Rattle.coffee_layout.specs.Tiling.{IsTiled, nowhere, units_of}
 use Rattle.coffee_layout.specs.declared.file.FileAt.{FileAt}
-use Rattle.coffee_layout.proofs.Tests.{true_or_false}
 use Rattle.coffee_layout.proofs.Tilings.{unbroken_tiled}
 use Rattle.coffee_log.specs.FileChanges.{IsFile}
 use Rattle.coffee_merge.specs.Begun.{active_at}
@@ -15,6 +14,7 @@ use Rattle.coffee_merge.specs.Holding.{Entries, HoldsTable, IsDrafted, IsIn, IsS
 use Rattle.coffee_merge.proofs.Holdings.{LogAt, draft_unit, extent_here, extent_read, file_unit, held_draft, held_in, held_set, holds_pages, is_in_set, log_here, log_unit}
 use Rattle.coffee_merge.proofs.Kept.{KeepsBody, body_byte, body_content, body_drafted, body_stored}
 use Rattle.coffee_merge.proofs.Retired.{OnlyFlags, body_flags}
+use Rattle.padded.proofs.Facts.{true_or_false}
 
 -- the draft as a file
 abbrev pub committed : Option FileAt → Option FileAt

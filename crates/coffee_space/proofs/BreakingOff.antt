@@ -1,9 +1,8 @@
 -- Where a program of one byte, or isolating, breaks off.
-use Rattle.std.proofs.Common.{◌≡◌, ℕ, ◌+◌, ◌-◌, ◌*◌, ◌/◌, ◌≤◌, ◌<◌, ◌⊎◌, inl, inr, ⊎_elim, Bool, true, false, not, ◌&&◌, ◌==◌, List, [], ◌∷◌, ◌++◌, length, take, drop, get_or, Some, refl, ap, sym, subst, ◌∙◌, arith}
+use Rattle.std.proofs.Common.{◌≡◌, ℕ, ◌+◌, ◌-◌, ◌*◌, ◌/◌, ◌≤◌, ◌<◌, ◌⊎◌, inl, inr, ⊎_elim, Bool, true, false, not, ◌&&◌, ◌==◌, List, [], ◌∷◌, length, take, get_or, Some, refl, ap, sym, subst, ◌∙◌, arith}
 use Rattle.std.proofs.lemmas.Bool.{cases_lt}
-use Rattle.std.proofs.lemmas.List.{take-append-drop}
 use Rattle.afl_base.specs.Cuts.{IsCutProgram}
-use Rattle.afl_base.specs.Image.{or_at, or_front, page_bytes}
+use Rattle.afl_base.specs.Image.{or_at, page_bytes}
 use Rattle.afl_base.proofs.Images.{or_at_page}
 use Rattle.coffee_layout.specs.Units.{pages_of, size_of}
 use Rattle.coffee_layout.specs.declared.unit.Unit.{Unit}
@@ -12,6 +11,7 @@ use Rattle.coffee_space.specs.Collection.{touches}
 use Rattle.coffee_space.specs.Steps.{IsolatesPage, IsolatesPages, IsolatesSome, IsolatesSomePages, StaysOrIsolated, unit_starts, is_chosen, is_part}
 use Rattle.coffee_space.specs.declared.part.Part.{Part}
 use Rattle.coffee_space.proofs.Isolating.{Isolating, isolating_reads}
+use Rattle.afl_base.proofs.Bits.{or_at_nothing}
 
 -- the value of `a && b`, by its two ways
 pub and_true : (a b r : Bool) → a ≡ true → r ≡ b → r ≡ a && b
@@ -20,19 +20,11 @@ and_true a b r e is = rw e is
 pub and_false : (a b r : Bool) → a ≡ false → r ≡ false → r ≡ a && b
 and_false a b r e is = rw e is
 
-or_front_none : (xs : List ℕ) → or_front xs [] ≡ xs
-or_front_none [] = refl
-or_front_none (x ∷ xs) = refl
-
-or_at_none : (image : List ℕ) (at : ℕ) → or_at image at [] ≡ image
-unfolding or_at
-or_at_none image at = ap (λ ys. take at image ++ ys) (or_front_none (drop at image)) ∙ take-append-drop at image
-
 -- of one byte none or all is programmed
 pub cut_byte : (old new : List ℕ) (page : ℕ) → 256 * page + 256 ≤ length old → IsCutProgram old new (256 * page + 9) (34 ∷ []) → (page_bytes new page ≡ page_bytes old page) ⊎ (page_bytes new page ≡ or_at (page_bytes old page) 9 (34 ∷ []))
 cut_byte old new page inside cut = ⊎_elim
     (λ (none : cut.done ≡ 0).
-    inl (ap (λ image. page_bytes image page) (cut.is ∙ ap (λ n. or_at old (256 * page + 9) (take n (34 ∷ []))) none ∙ or_at_none old (256 * page + 9))))
+    inl (ap (λ image. page_bytes image page) (cut.is ∙ ap (λ n. or_at old (256 * page + 9) (take n (34 ∷ []))) none ∙ or_at_nothing old (256 * page + 9))))
     (λ (all : cut.done ≡ 1).
     inr (ap (λ image. page_bytes image page) (cut.is ∙ ap (λ n. or_at old (256 * page + 9) (take n (34 ∷ []))) all) ∙ or_at_page old page 9 (34 ∷ []) inside (omega arith)))
     (cut.front.whole (omega arith))

@@ -1,7 +1,7 @@
 -- A collection that breaks off: the image is tiled by units of which some have given way, and keeps the active extents.
 use Rattle.std.proofs.Common.{◌≡◌, ℕ, ◌+◌, ◌-◌, ◌*◌, ◌/◌, ◌≤◌, ◌<◌, ◌⊎◌, inl, inr, ⊎_elim, Bool, true, false, not, ◌&&◌, ◌||◌, ◌==◌, nat_lt, List, [], ◌∷◌, ◌++◌, length, replicate, take, get_or, refl, ap, sym, subst, ◌∙◌, arith}
 use Rattle.std.proofs.lemmas.Bool.{cases_lt}
-use Rattle.padded.proofs.Facts.{both_parts}
+use Rattle.padded.proofs.Facts.{both_parts, true_or_false, lt_false, true_eq, neither}
 use Rattle.afl_base.specs.Cuts.{IsCutErase}
 use Rattle.afl_base.specs.Image.{or_at, page_bytes, zeros_at}
 use Rattle.afl_base.proofs.Images.{erased_other_page, erased_page, length_range, length_zeros_at, zeros_at_range}
@@ -9,7 +9,7 @@ use Rattle.coffee_layout.specs.Marks.{active_pages, is_taken}
 use Rattle.coffee_layout.specs.Tiling.{IsTiled}
 use Rattle.coffee_layout.specs.Units.{pages_of, size_of, total, unit_of}
 use Rattle.coffee_layout.specs.declared.unit.Unit.{Unit}
-use Rattle.coffee_layout.proofs.Tests.{eq_false, false_eq, false_lt, lt_false, true_eq, true_or_false}
+use Rattle.coffee_layout.proofs.Tests.{eq_false, false_eq, false_lt}
 use Rattle.coffee_space.specs.Collection.{KeepsActive, cut_pages, touches}
 use Rattle.coffee_space.proofs.ActiveExtents.{keeps_active}
 use Rattle.coffee_space.specs.Cutting.{IsCutOff, IsLoose, begun_pages}
@@ -21,11 +21,8 @@ use Rattle.coffee_space.proofs.ExtentsLeft.{extents_after}
 use Rattle.coffee_space.proofs.Isolating.{touches_true}
 use Rattle.coffee_space.proofs.MarksLeft.{active_apart, cut_active}
 use Rattle.coffee_space.proofs.UnitsLeft.{Giving, Left, given_pages, isolated_unit, tiled_after, touches_single, units_after}
-use Rattle.coffee_space.proofs.Walks.{firsts_behind, firsts_front, marks_behind, marks_front}
-
-true_false : (b : Bool) → b ≡ true → b ≡ false → ⊥
-true_false true e f = cc
-true_false false e f = cc
+use Rattle.coffee_space.proofs.Walks.{firsts_behind, firsts_front}
+use Rattle.coffee_layout.proofs.FreeBlocks.{mark_front, mark_behind, not_both}
 
 -- the unit that a page belongs to, and the unit's first page
 pub record Here (us : List Unit) (page i : ℕ) : Type 0 where
@@ -47,8 +44,8 @@ here_at (u ∷ us) page i h = ⊎_elim
       first = page;
       low = omega arith;
       high = omega arith;
-      cuts = λ taken. marks_front (touches taken page (size_of u)) (cut_pages taken (page + size_of u) us) (size_of u) i here;
-      given = λ gives. marks_front (gives page (size_of u)) (given_pages gives (page + size_of u) us) (size_of u) i here;
+      cuts = λ taken. mark_front (touches taken page (size_of u)) (cut_pages taken (page + size_of u) us) (size_of u) i here;
+      given = λ gives. mark_front (gives page (size_of u)) (given_pages gives (page + size_of u) us) (size_of u) i here;
       firsts = firsts_front (unit_starts us) (size_of u) i here ∙ ap (λ k. k == 0) (sym e);
     })
     (λ (past : size_of u ≤ i).
@@ -60,8 +57,8 @@ here_at (u ∷ us) page i h = ⊎_elim
       first = there.first;
       low = omega (arith, there.low);
       high = omega (arith, there.high);
-      cuts = λ taken. ap (λ k. get_or (cut_pages taken page (u ∷ us)) k false) (sym e) ∙ marks_behind (touches taken page (size_of u)) (cut_pages taken (page + size_of u) us) (size_of u) (i - size_of u) ∙ there.cuts taken;
-      given = λ gives. ap (λ k. get_or (given_pages gives page (u ∷ us)) k false) (sym e) ∙ marks_behind (gives page (size_of u)) (given_pages gives (page + size_of u) us) (size_of u) (i - size_of u) ∙ there.given gives;
+      cuts = λ taken. ap (λ k. get_or (cut_pages taken page (u ∷ us)) k false) (sym e) ∙ mark_behind (touches taken page (size_of u)) (cut_pages taken (page + size_of u) us) (size_of u) (i - size_of u) ∙ there.cuts taken;
+      given = λ gives. ap (λ k. get_or (given_pages gives page (u ∷ us)) k false) (sym e) ∙ mark_behind (gives page (size_of u)) (given_pages gives (page + size_of u) us) (size_of u) (i - size_of u) ∙ there.given gives;
       firsts = ap (λ k. get_or (unit_starts (u ∷ us)) k false) (sym e) ∙ firsts_behind (unit_starts us) (size_of u) (i - size_of u) ∙ there.firsts ∙ ap (λ k. k - there.first == 0) f;
     })
     (cases_lt i (size_of u))
@@ -86,7 +83,7 @@ giving_part taken gone test old new us w = record {
   stays = λ page n some none. ⊎_elim
       (λ (t : gone (page / 16) ≡ true).
       let is : part_way taken test page n ≡ true = rw (touches_true taken page n (omega arith) (w.within (page / 16) t), w.begun page t) refl in
-      absurd (true_false (part_way taken test page n) is none))
+      absurd (not_both (part_way taken test page n) is none))
       (λ (t : gone (page / 16) ≡ false). t)
       (true_or_false (gone (page / 16)));
   single = λ page g.
@@ -111,7 +108,7 @@ left_part taken gone test old new us w = record {
       let low : h.first ≤ i = omega (arith, h.low) in
       let here : gone (i / 16) ≡ false = subst (λ q. gone (q / 16) ≡ false) (sym e) out in
       let apart : taken (i / 16) ≡ false = ⊎_elim
-      (λ (t : taken (i / 16) ≡ true). absurd (true_false (gone (i / 16)) (w.upward h.first i parts.1 low t) here))
+      (λ (t : taken (i / 16) ≡ true). absurd (not_both (gone (i / 16)) (w.upward h.first i parts.1 low t) here))
       (λ (t : taken (i / 16) ≡ false). t)
       (true_or_false (taken (i / 16))) in
       subst (λ q. page_bytes new q ≡ or_at (page_bytes old q) 9 (34 ∷ [])) e
@@ -148,7 +145,7 @@ after_none (u ∷ us) page = ap (λ vs. u ∷ vs) (after_none us (page + size_of
 
 unchosen_stays : (chosen : Bool) (old new : List ℕ) (page : ℕ) → chosen ≡ false → StaysOrIsolated chosen old new page → page_bytes new page ≡ page_bytes old page
 unchosen_stays chosen old new page none (inl same) = same
-unchosen_stays chosen old new page none (inr isolated) = absurd (true_false chosen isolated.0 none)
+unchosen_stays chosen old new page none (inr isolated) = absurd (not_both chosen isolated.0 none)
 
 first_unchosen : (c f t : Bool) → f ≡ true → (c && not f) && t ≡ false
 first_unchosen true f t e = rw e refl
@@ -162,7 +159,7 @@ keeps_behind taken building old new us same long tiled i =
     let stays : (q : ℕ) → is_chosen taken Behind us q ≡ false → page_bytes new q ≡ page_bytes old q = λ q none. unchosen_stays (is_chosen taken Behind us q) old new q none (i q) in
     let left : Left (λ p n. false) (λ s. false) old new 0 us = record {
       erased = λ q h (t : false ≡ true). cc;
-      isolated = λ k inside out g. absurd (true_false (get_or (given_pages (λ p n. false) 0 us) k false) g ((here_at us 0 k inside).given (λ p n. false)));
+      isolated = λ k inside out g. absurd (not_both (get_or (given_pages (λ p n. false) 0 us) k false) g ((here_at us 0 k inside).given (λ p n. false)));
       kept = λ k inside out g f.
           let e : k ≡ 0 + k = omega arith in
           subst (λ q. page_bytes new q ≡ page_bytes old q) e (stays k (first_unchosen (get_or (cut_pages taken 0 us) k false) (get_or (unit_starts us) k false) (not (taken (k / 16))) f));
@@ -192,7 +189,7 @@ behind_chosen c f t ce fe te = rw (ce, fe, te) refl
 
 erasing_part : (taken : ℕ → Bool) (old mid new : List ℕ) (us : List Unit) (sector : ℕ) → length mid ≡ length old → Isolates taken Behind old mid us → ErasesFrom taken mid new sector → PartWay taken (gone_from taken sector) (λ p. gone_from taken sector (p / 16)) old new us
 erasing_part taken old mid new us sector long i e =
-    let untaken : (q : ℕ) → taken (q / 16) ≡ false → page_bytes new q ≡ page_bytes mid q = λ q t. e.kept q (λ low u. absurd (true_false (taken (q / 16)) u t)) in
+    let untaken : (q : ℕ) → taken (q / 16) ≡ false → page_bytes new q ≡ page_bytes mid q = λ q t. e.kept q (λ low u. absurd (not_both (taken (q / 16)) u t)) in
     let unchosen : (q : ℕ) → is_chosen taken Behind us q ≡ false → page_bytes mid q ≡ page_bytes old q = λ q none. (i q).kept none in
     record {
       within = λ s g. (both_parts (taken s) (not (nat_lt s sector)) g).0;
@@ -202,8 +199,8 @@ erasing_part taken old mid new us sector long i e =
           gone_is taken sector (q / 16) t (omega arith);
       erased = λ q inside g. e.erased q (omega arith) (gone_low taken sector (q / 16) g) (both_parts (taken (q / 16)) (not (nat_lt (q / 16) sector)) g).0;
       behind = λ q t c f. untaken q t ∙ (i q).isolated (behind_chosen (get_or (cut_pages taken 0 us) q false) (get_or (unit_starts us) q false) (taken (q / 16)) c f t);
-      head = λ q t c f g. absurd (true_false (taken (q / 16)) (both_parts (taken (q / 16)) (not (nat_lt (q / 16) sector)) g).0 t);
-      stays = λ q g f none. e.kept q (λ low u. absurd (true_false (gone_from taken sector (q / 16)) (gone_is taken sector (q / 16) u low) g))
+      head = λ q t c f g. absurd (not_both (taken (q / 16)) (both_parts (taken (q / 16)) (not (nat_lt (q / 16) sector)) g).0 t);
+      stays = λ q g f none. e.kept q (λ low u. absurd (not_both (gone_from taken sector (q / 16)) (gone_is taken sector (q / 16) u low) g))
           ∙ unchosen q (first_unchosen (get_or (cut_pages taken 0 us) q false) (get_or (unit_starts us) q false) (not (taken (q / 16))) f);
       others = λ q t c. untaken q t ∙ unchosen q (whole_unchosen (get_or (cut_pages taken 0 us) q false) (not (get_or (unit_starts us) q false)) (not (taken (q / 16))) c);
     }
@@ -271,7 +268,7 @@ loose_behind taken building old mid new us long tiled i e q inside high g =
     (λ (t : taken (q / 16) ≡ true). inl (still ∙ e.from.erased q (omega arith) (omega arith) t))
     (λ (t : taken (q / 16) ≡ false).
     let exists : 256 * q + 256 ≤ length old = omega arith in
-    let is = still ∙ e.from.kept q (λ a u. absurd (true_false (taken (q / 16)) u t)) ∙ (i q).isolated (behind_chosen (get_or (cut_pages taken 0 us) q false) (get_or (unit_starts us) q false) (taken (q / 16)) cut first t) in
+    let is = still ∙ e.from.kept q (λ a u. absurd (not_both (taken (q / 16)) u t)) ∙ (i q).isolated (behind_chosen (get_or (cut_pages taken 0 us) q false) (get_or (unit_starts us) q false) (taken (q / 16)) cut first t) in
     inr (ap (λ bytes. unit_of (take 32 bytes)) is ∙ isolated_unit (page_bytes old q) (length_range old (256 * q) (256 * q + 256) exists ∙ omega arith)))
     (true_or_false (taken (q / 16)))
 
@@ -299,10 +296,10 @@ side (inr b) = true
 
 side_left : {A B : Type 0} (x : A ⊎ B) → side x ≡ false → A
 side_left (inl a) e = a
-side_left (inr b) e = absurd (true_false true refl e)
+side_left (inr b) e = absurd (not_both true refl e)
 
 side_right : {A B : Type 0} (x : A ⊎ B) → side x ≡ true → B
-side_right (inl a) e = absurd (true_false false e refl)
+side_right (inl a) e = absurd (not_both false e refl)
 side_right (inr b) e = b
 
 -- a header that was chosen is isolated, or it stays
@@ -314,10 +311,6 @@ or_taken t s e = rw e refl
 
 or_side : (t s : Bool) → t ≡ false → t || s ≡ true → s ≡ true
 or_side t s e o = let is : false || s ≡ true = rw e at o in is
-
-or_none : (t s : Bool) → t || s ≡ false → (t ≡ false) × (s ≡ false)
-or_none true s e = cc
-or_none false s e = (refl, e)
 
 and_other : (c t : Bool) → c ≡ true → c && t ≡ false → t ≡ false
 and_other c t e o = let is : true && t ≡ false = rw e at o in is
@@ -343,7 +336,7 @@ headless_part taken old mid late new us long i e h =
       stays = λ q t f none. ⊎_elim
           (λ (c : get_or (cut_pages taken 0 us) q false ≡ true).
           let p = chosen q true true t c f in
-          side_left (h q) (or_none (taken (q / 16)) (side (h q)) (and_other (get_or (cut_pages taken 0 us) q false) (taken (q / 16) || side (h q)) c none)).1 ∙ e.kept q t ∙ (i q).kept p.0)
+          side_left (h q) (neither (taken (q / 16)) (side (h q)) (and_other (get_or (cut_pages taken 0 us) q false) (taken (q / 16) || side (h q)) c none)).1 ∙ e.kept q t ∙ (i q).kept p.0)
           (λ (c : get_or (cut_pages taken 0 us) q false ≡ false).
           let p = chosen q false true t c f in
           kept q p.1 ∙ e.kept q t ∙ (i q).kept p.0)

@@ -1,7 +1,7 @@
 -- A walk goes from a free page to the next sector, since all pages up to there are free.
 use Rattle.std.proofs.Common.{◌≡◌, ℕ, zero, suc, ◌+◌, ◌-◌, ◌*◌, ◌/◌, ◌%◌, ◌≤◌, ◌<◌, ⊎_elim, Bool, true, false, not, ◌&&◌, ◌||◌, ◌==◌, List, [], ◌∷◌, ◌++◌, length, replicate, get_or, Some, refl, ap, sym, subst, ◌∙◌, arith}
 use Rattle.std.proofs.lemmas.Bool.{cases_lt}
-use Rattle.padded.proofs.Facts.{some_same}
+use Rattle.padded.proofs.Facts.{some_same, true_or_false}
 use Rattle.afl_base.specs.Image.{page_bytes}
 use Rattle.coffee_layout.specs.Marks.{IsLowestRun, free_pages, pages_by}
 use Rattle.coffee_layout.specs.Tiling.{KeepRules}
@@ -10,7 +10,6 @@ use Rattle.coffee_layout.specs.declared.unit.Unit.{Unit}
 use Rattle.coffee_layout.specs.declared.unit.Unit.TheVariants.{Free, Isolated, Extent}
 use Rattle.coffee_layout.proofs.FreeSectors.{free_sector}
 use Rattle.coffee_layout.proofs.Searches.{IsRead}
-use Rattle.coffee_layout.proofs.Tests.{true_or_false}
 use Rattle.coffee_space.specs.Collection.{cut_pages, touches}
 use Rattle.coffee_space.specs.Sectors.{Marks, is_marked}
 use Rattle.coffee_space.specs.Steps.{IsolatesPages, unit_starts, is_chosen, is_part}
@@ -18,15 +17,12 @@ use Rattle.coffee_space.specs.declared.part.Part.{Part}
 use Rattle.coffee_space.proofs.FreeRuns.{Walked, walked_used}
 use Rattle.coffee_space.proofs.Isolating.{Isolating, isolating_next, isolating_reads, page_on}
 use Rattle.coffee_space.proofs.SectorMarks.{Marked, Marking, is_used, marked_next}
-use Rattle.coffee_space.proofs.Walks.{Ahead, marks_front, marks_behind, read_same, stands}
+use Rattle.coffee_space.proofs.Walks.{Ahead, read_same, stands}
+use Rattle.coffee_layout.proofs.FreeBlocks.{mark_front, mark_behind, not_both}
 
 or_false : (b : Bool) → b || false ≡ b
 or_false true = refl
 or_false false = refl
-
-true_false : (b : Bool) → b ≡ true → b ≡ false → ⊥
-true_false true e f = cc
-true_false false e f = cc
 
 -- n free pages in front of others
 
@@ -74,7 +70,7 @@ span_at building image us page n units rest front keep whole marks cuts firsts =
     marks = λ test i.
         let e : page + n + i ≡ page + (n + i) = omega arith in
         ap (λ k. get_or (pages_by test us) k false) e ∙ marks test (n + i) ∙ ap (λ vs. get_or (pages_by test vs) (n + i) false) front
-        ∙ ap (λ ms. get_or ms (n + i) false) (pages_free test n rest) ∙ marks_behind (test Free) (pages_by test rest) n i;
+        ∙ ap (λ ms. get_or ms (n + i) false) (pages_free test n rest) ∙ mark_behind (test Free) (pages_by test rest) n i;
     cuts = λ taken i.
         let e : page + n + i ≡ page + (n + i) = omega arith in
         ap (λ k. get_or (cut_pages taken 0 us) k false) e ∙ cuts taken (n + i) ∙ ap (λ vs. get_or (cut_pages taken page vs) (n + i) false) front ∙ cuts_past taken n page rest i;
@@ -85,7 +81,7 @@ span_at building image us page n units rest front keep whole marks cuts firsts =
   marks = λ test q low high.
       let e : q ≡ page + (q - page) = omega arith in
       ap (λ k. get_or (pages_by test us) k false) e ∙ marks test (q - page) ∙ ap (λ vs. get_or (pages_by test vs) (q - page) false) front
-      ∙ ap (λ ms. get_or ms (q - page) false) (pages_free test n rest) ∙ marks_front (test Free) (pages_by test rest) n (q - page) (omega arith);
+      ∙ ap (λ ms. get_or ms (q - page) false) (pages_free test n rest) ∙ mark_front (test Free) (pages_by test rest) n (q - page) (omega arith);
   cuts = λ taken q low high.
       let e : q ≡ page + (q - page) = omega arith in
       ap (λ k. get_or (cut_pages taken 0 us) k false) e ∙ cuts taken (q - page) ∙ ap (λ vs. get_or (cut_pages taken page vs) (q - page) false) front
@@ -146,11 +142,11 @@ marking_span : (building : ℕ → Bool) (image : List ℕ) (us : List Unit) (te
 marking_span building image us test old new page n none s m k = record {
   complete = λ i h t. ⊎_elim
       (λ (before : i < page). m.kept (i / 16) (k.complete i before t))
-      (λ (here : page ≤ i). absurd (true_false (get_or (pages_by test us) i false) t (s.marks test i here h ∙ none)))
+      (λ (here : page ≤ i). absurd (not_both (get_or (pages_by test us) i false) t (s.marks test i here h ∙ none)))
       (cases_lt i page);
   sound = λ q t. ⊎_elim
       (λ (was : is_marked old q ≡ true). k.sound q was)
-      (λ (was : is_marked old q ≡ false). absurd (true_false (test Free) (m.only q t was).0 none))
+      (λ (was : is_marked old q ≡ false). absurd (not_both (test Free) (m.only q t was).0 none))
       (true_or_false (is_marked old q));
 }
 
@@ -195,7 +191,7 @@ isolating_span taken building part old now new us page n s i some pages =
           (λ (before : q < page). page_on (is_chosen taken part us q) old now new q (pages.others q (λ a b. absurd (omega arith))) (i.done q before))
           (λ (here : page ≤ q).
           let none : is_chosen taken part us q ≡ false = ap (λ c. (c && is_part part (get_or (unit_starts us) q false)) && not (taken (q / 16))) (s.cuts taken q here h) ∙ and_part (taken (q / 16)) (is_part part (get_or (unit_starts us) q false)) in
-          record { isolated = λ w. absurd (true_false (is_chosen taken part us q) w none); kept = λ w. stays q here ∙ i.same q here })
+          record { isolated = λ w. absurd (not_both (is_chosen taken part us q) w none); kept = λ w. stays q here ∙ i.same q here })
           (cases_lt q page);
       same = λ q h. stays q (omega arith) ∙ i.same q (omega arith);
     }

@@ -1,13 +1,13 @@
 -- What `prepare` asks for is little where few bytes come.
 use Rattle.std.proofs.Common.{◌≡◌, ℕ, ◌+◌, ◌*◌, ◌≤◌, Bool, List, length, true, false, max, nat_lt, Option, Some, None, IsTrue, if◌then◌else◌, refl, ap, sym, ◌∙◌, arith}
 use Rattle.std.proofs.Math.Nat.{le-max_left, le-max_right}
-use Rattle.padded.proofs.Facts.{some_same}
+use Rattle.padded.proofs.Facts.{some_same, true_le}
 use Rattle.afl_base.specs.Files.{File, IsLive, file_at, size_at}
 use Rattle.afl_base.specs.Fit.{fit}
 use Rattle.afl_base.specs.declared.kind.Kind.{Kind}
 use Rattle.afl_base.specs.declared.kind.Kind.TheVariants.{Doubling, Fixed}
 use Rattle.coffee_layout.specs.Walks.{has_few_of}
-use Rattle.coffee_layout.proofs.Tests.{true_le, true_lt}
+use Rattle.coffee_layout.proofs.Tests.{true_lt}
 use Rattle.coffee_merge.specs.Holding.{HoldsTable, has_shape}
 use Rattle.coffee_layout.specs.declared.file.FileAt.{FileAt}
 use Rattle.coffee_volume.specs.Rooms.{has_too_few, lacks_log, pages_asked, records_needed}

@@ -1,11 +1,10 @@
 -- A file that `prepare` moves, or gives a log or a room: its bytes stay.
-use Rattle.std.proofs.Common.{◌≡◌, ℕ, ◌<◌, Bool, true, false, List, length, set, Option, Some, None, IsTrue, refl, sym, ap, ◌∙◌, subst, arith}
+use Rattle.std.proofs.Common.{◌≡◌, ℕ, ◌<◌, Bool, true, false, List, length, set, Option, Some, None, IsTrue, refl, sym, ap, ◌∙◌, subst}
 use Rattle.std.specs.Prelude.{option_map}
 use Rattle.std.proofs.lemmas.List.{set-get_or}
 use Rattle.afl_base.specs.Files.{Becomes, File, IsLive, IsUnnamed, State, bytes_at, size_at}
-use Rattle.coffee_layout.specs.FileBytes.{file_byte, file_bytes}
+use Rattle.coffee_layout.specs.FileBytes.{file_byte}
 use Rattle.coffee_layout.specs.declared.file.FileAt.{FileAt}
-use Rattle.coffee_layout.proofs.Spelling.{spells_file, spelt_file}
 use Rattle.coffee_merge.specs.Holding.{HoldsTable, IsIn, IsStored, KeepsContents, Moves, Entries}
 use Rattle.coffee_volume.specs.Rooms.{pages_asked}
 use Rattle.coffee_volume.specs.Volumes.{Asks, EntryTable, IsEntry, bytes_seen, draft_seen, files_seen, places, roomless, state_seen}
@@ -13,20 +12,12 @@ use Rattle.coffee_volume.specs.declared.entry.Entry.{Entry}
 use Rattle.coffee_volume.proofs.Standing.{set_stored}
 use Rattle.coffee_volume.proofs.States.{seen_becomes}
 use Rattle.coffee_volume.proofs.Stepped.{IsSame}
-use Rattle.coffee_volume.proofs.Tables.{file_of, in_places, one_entry, seen_kept, seen_live, size_seen, stored_size}
-
-moved_bytes : (old new : List ℕ) (from to : FileAt) → IsStored old from → IsStored new to → to.size ≡ from.size → ((p : ℕ) → p < from.size → file_byte new to.page.0 to.log p ≡ file_byte old from.page.0 from.log p)
-    → file_bytes new to.page.0 to.pages to.log ≡ file_bytes old from.page.0 from.pages from.log
-moved_bytes old new from to was now size same =
-    let s = spells_file old from.page.0 from.pages from.log in
-    let long = stored_size old from was in
-    let fits = now.fits.size in
-    spelt_file new to.page.0 to.pages to.log (file_bytes old from.page.0 from.pages from.log)
-    (record { short = omega arith; here = λ p low. same p (omega arith) ∙ s.here p low; after = λ p above below. now.file.zeros p (omega arith) below; last = s.last })
+use Rattle.coffee_volume.proofs.Tables.{file_of, in_places, one_entry, seen_kept, seen_live, size_seen}
+use Rattle.coffee_merge.proofs.MovedFiles.{bytes_same}
 
 moved_seen : (tells : Bool) (old new : List ℕ) (from to : FileAt) → IsTrue tells → IsStored old from → IsStored new to → to.size ≡ from.size → ((p : ℕ) → p < from.size → file_byte new to.page.0 to.log p ≡ file_byte old from.page.0 from.log p)
     → bytes_seen tells new to ≡ bytes_seen tells old from
-moved_seen true old new from to told was now size same = moved_bytes old new from to was now size same
+moved_seen true old new from to told was now size same = bytes_same old new from to was now size same
 moved_seen false old new from to told was now size same = absurd (cc)
 
 -- no draft is seen, where none is begun

@@ -17,11 +17,12 @@ use Rattle.coffee_layout.specs.FileBytes.{file_byte, file_bytes}
 use Rattle.coffee_layout.specs.declared.file.FileAt.{FileAt}
 use Rattle.coffee_layout.proofs.Spelling.{spelt_file}
 use Rattle.coffee_log.specs.FileChanges.{Puts}
-use Rattle.coffee_log.proofs.ContentLaws.{put_at_here, put_at_outside}
+use Rattle.coffee_log.proofs.ContentLaws.{put_at_outside}
 use Rattle.coffee_merge.specs.Holding.{IsDrafted, IsStored, KeepsContents, KeepsOthers, extent_of}
 use Rattle.coffee_volume.specs.Volumes.{AreRegular, EntryTable, IsEntry, bytes_seen, draft_seen, drafted_bytes, file_seen, files_seen, places, roomless, state_seen}
 use Rattle.coffee_volume.specs.declared.entry.Entry.{Entry}
 use Rattle.coffee_volume.proofs.Tables.{entry_of_name, length_seen, name_seen, only_named, seen_here, seen_kept, seen_named, seen_none, seen_others, seen_set, size_seen, taken_live}
+use Rattle.afl_base.proofs.PutLaws.{put_at_here}
 
 -- DRAFTS
 

@@ -14,7 +14,6 @@ use Rattle.coffee_layout.specs.Files.{FitsIn}
 use Rattle.coffee_layout.specs.Rules.{is_doubling}
 use Rattle.coffee_layout.specs.Walks.{has_few_of}
 use Rattle.coffee_layout.specs.declared.file.FileAt.{FileAt}
-use Rattle.coffee_layout.proofs.Tests.{true_eq}
 use Rattle.coffee_merge.specs.Holding.{has_shape}
 use Rattle.coffee_volume.specs.Rooms.{HasEntryRoom, has_too_few, lacks_log, pages_asked, records_needed}
 use Rattle.coffee_volume.specs.Steps.{IsAfter, MayTake, NeedsFew, need_of, step_for}
@@ -22,6 +21,7 @@ use Rattle.coffee_volume.specs.Volumes.{IsRegular, roomless}
 use Rattle.coffee_volume.specs.declared.entry.Entry.{Entry}
 use Rattle.coffee_volume.specs.declared.step.Step.{Step}
 use Rattle.coffee_volume.specs.declared.step.Step.TheVariants.{Grow, Merge, Log}
+use Rattle.padded.proofs.Facts.{true_eq}
 
 -- PAGES OF A DOUBLING FILE
 

@@ -1,5 +1,5 @@
 -- The table of a volume, its files without their room, and what callers see of it.
-use Rattle.std.proofs.Common.{◌≡◌, ◌≢◌, ℕ, ◌+◌, ◌-◌, ◌*◌, ◌<◌, ◌≤◌, Bool, true, false, not, ◌&&◌, List, [], ◌∷◌, length, set, get_or, slice_range, Option, Some, None, IsTrue, refl, sym, ap, ◌∙◌, subst, arith}
+use Rattle.std.proofs.Common.{◌≡◌, ◌≢◌, ℕ, ◌+◌, ◌-◌, ◌<◌, ◌≤◌, Bool, true, false, not, ◌&&◌, List, [], ◌∷◌, length, set, get_or, slice_range, Option, Some, None, IsTrue, refl, sym, ap, ◌∙◌, subst, arith}
 use Rattle.std.specs.Prelude.{option_map, is_some, IfNone, IfSome}
 use Rattle.std.proofs.Math.ListN.{get_or-map}
 use Rattle.std.proofs.lemmas.List.{ext_get_or, get_or-set_same, get_or-set_other, length-map, length-set, length-replicate, map-set}
@@ -15,12 +15,12 @@ use Rattle.afl_base.specs.Places.{AreTaken}
 use Rattle.afl_base.proofs.FileLaws.{file_here, named_here, some_free}
 use Rattle.coffee_layout.specs.FileBytes.{file_byte, file_bytes}
 use Rattle.coffee_layout.specs.declared.file.FileAt.{FileAt}
-use Rattle.coffee_layout.proofs.Sizes.{end_spelt}
 use Rattle.coffee_layout.proofs.Spelling.{spells_file, spelt_file}
 use Rattle.coffee_log.proofs.ContentLaws.{read_bytes}
 use Rattle.coffee_merge.specs.Holding.{HoldsTable, IsIn, IsNewName, IsStored, KeepsContents, KeepsContent, KeepsOthers}
 use Rattle.coffee_volume.specs.Volumes.{AreRegular, EntryTable, IsEntry, IsRegular, bytes_seen, entry_name, file_seen, files_seen, places}
 use Rattle.coffee_volume.specs.declared.entry.Entry.{Entry}
+use Rattle.coffee_merge.proofs.SoundHolders.{stored_size}
 
 -- ENTRIES AND PLACES
 
@@ -175,12 +175,6 @@ pub no_entry : (tells : Bool) (image : List ℕ) (table : EntryTable) (n : List 
 no_entry tells image table n none k d is same = none k (seen_named tells image table k d is ∙ ap (λ (m : List ℕ). Some m) same)
 
 -- BYTES
-
-pub stored_size : (image : List ℕ) (e : FileAt) → IsStored image e → length (file_bytes image e.page.0 e.pages e.log) ≡ e.size
-unfolding file_bytes
-stored_size image e is =
-    end_spelt (file_byte image e.page.0 e.log) (256 * e.pages - 32) e.size
-    (record { within = omega (arith, is.fits.size); zeros = is.file.zeros; last = is.last })
 
 pub stored_here : (image : List ℕ) (table : EntryTable) (draft : Option FileAt) (i : ℕ) (e : Entry) → HoldsTable image (places table) draft → IsEntry table i e → IsStored image e.at
 stored_here image table draft i e holds is = holds.stored i e.at (in_places table i e is)

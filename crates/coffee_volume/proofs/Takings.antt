@@ -12,11 +12,10 @@ use Rattle.afl_base.specs.declared.kind.Kind.{Kind}
 use Rattle.afl_base.specs.declared.kind.Kind.TheVariants.{Doubling}
 use Rattle.coffee_layout.specs.FileBytes.{file_byte}
 use Rattle.coffee_layout.specs.declared.file.FileAt.{FileAt}
-use Rattle.coffee_layout.proofs.Tests.{true_or_false}
 use Rattle.coffee_merge.specs.Holding.{HoldsTable, IsIn, Entries, TakesOnly, extent_of, is_free_at}
 use Rattle.coffee_merge.specs.Outcomes.{LogsFile, MovesFile}
 use Rattle.coffee_merge.specs.Takes.{KeepsFree}
-use Rattle.coffee_merge.proofs.FreeUnits.{frees_free, takes_free}
+use Rattle.coffee_merge.proofs.FreeUnits.{frees_free, takes_free, yes_no}
 use Rattle.coffee_merge.proofs.Lowest.{takes_more}
 use Rattle.coffee_merge.proofs.Taken.{takes_then}
 use Rattle.coffee_volume.specs.Lowest.{LooksFor, PlacesDraft, PlacesFile, Provides, StepsTo, Stops, TakesStep, log_for}
@@ -28,18 +27,15 @@ use Rattle.coffee_volume.specs.declared.step.Step.TheVariants.{Grow, Merge, Log}
 use Rattle.coffee_volume.proofs.Changes.{BeginsDraft, MakesFile, draft_begun, held, made_sets}
 use Rattle.coffee_volume.proofs.Drafted.{first_some}
 use Rattle.coffee_volume.proofs.Tables.{entry_seen, file_of, in_places, length_places, one_entry, told_by}
-
-free_not : {A : Type 0} (b : Bool) → b ≡ true → b ≡ false → A
-free_not true free taken = absurd (cc)
-free_not false free taken = absurd (cc)
+use Rattle.padded.proofs.Facts.{true_or_false}
 
 -- a page is free, or lies in the pages that may be taken
 only_lies : (old new : List ℕ) (page pages p : ℕ) → TakesOnly old new page pages → is_free_at old p ≡ true → is_free_at new p ≡ false → (page ≤ p) × (p < page + pages)
 only_lies old new page pages p takes free taken = ⊎_elim
-    (λ (before : p < page). free_not (is_free_at new p) (takes p free (λ a b. omega arith)) taken)
+    (λ (before : p < page). yes_no (is_free_at new p) (takes p free (λ a b. omega arith)) taken)
     (λ (from : page ≤ p). ⊎_elim
     (λ (below : p < page + pages). (from, below))
-    (λ (behind : page + pages ≤ p). free_not (is_free_at new p) (takes p free (λ a b. omega arith)) taken)
+    (λ (behind : page + pages ≤ p). yes_no (is_free_at new p) (takes p free (λ a b. omega arith)) taken)
     (cases_lt p (page + pages)))
     (cases_lt p page)
 
@@ -59,7 +55,7 @@ log_taken old new e l log takes = λ p free taken. inr (let both = only_lies old
 
 -- none
 pub nothing_taken : (old new : List ℕ) (e : FileAt) → TakesNone old new → TakesWithin e old new
-nothing_taken old new e takes = λ p free taken. free_not (is_free_at new p) (takes p free) taken
+nothing_taken old new e takes = λ p free taken. yes_no (is_free_at new p) (takes p free) taken
 
 -- a file of the table takes pages
 pub file_taken : (old new : List ℕ) (table : Entries) (draft : Option FileAt) (i : ℕ) (e : FileAt) → HoldsTable new table draft → IsIn table i e → TakesWithin e old new → TakesForFile e.name old new

@@ -15,7 +15,8 @@ use Rattle.coffee_volume.specs.Volumes.{EntryTable, IsEntry, IsPending, bytes_se
 use Rattle.coffee_volume.specs.declared.entry.Entry.{Entry}
 use Rattle.coffee_volume.proofs.Standing.{set_stored}
 use Rattle.coffee_volume.proofs.States.{KeepsDraft, draft_kept, seen_becomes}
-use Rattle.coffee_volume.proofs.Tables.{file_of, in_places, size_seen, stored_size}
+use Rattle.coffee_volume.proofs.Tables.{file_of, in_places, size_seen}
+use Rattle.coffee_merge.proofs.SoundHolders.{stored_size}
 
 -- a draft that kept its content kept its bytes
 draft_content : (old new : List ℕ) (pages : ℕ) (d : FileAt) → IsPending pages d → KeepsContent old new d → KeepsDraft old new d

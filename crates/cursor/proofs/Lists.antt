@@ -24,10 +24,6 @@ both_steps false true x ys zs e same = absurd (cc)
 
 -- ---- filters of filters
 
-pub filter_alike : {X : Type 0} (f g : X → Bool) (xs : List X) → ((x : X) → f x ≡ g x) → filter f xs ≡ filter g xs
-filter_alike f g [] same = refl
-filter_alike f g (x ∷ xs) same = both_steps (f x) (g x) x (filter f xs) (filter g xs) (same x) (filter_alike f g xs same)
-
 -- a test that passes less passes the same of what another passes
 weaker_step : {X : Type 0} (m : X → Bool) (p : Bool) (x : X) (ys zs : List X) → (m x ≡ true → p ≡ true) → filter m ys ≡ filter m zs → filter m (cond p (x ∷ ys) ys) ≡ filter m (x ∷ zs)
 weaker_step m true x ys zs h same = both_steps (m x) (m x) x (filter m ys) (filter m zs) refl same

@@ -21,7 +21,6 @@ use Rattle.db_model.specs.Plan.{Plan, Nothing, Scan, ByOrder, ByTree, ByTable, K
 use Rattle.db_model.specs.Ranges.{everything}
 use Rattle.db_model.specs.Row.{AllSuit, Row, no_row}
 use Rattle.db_model.specs.Step.{key_of}
-use Rattle.db_model.proofs.Rows.{both}
 use Rattle.index_set.specs.declared.candidates.Candidates.{Candidates}
 use Rattle.index_set.specs.declared.candidates.Search.{Search}
 use Rattle.index_set.specs.declared.candidates.Search.TheVariants as by
@@ -38,11 +37,9 @@ use Rattle.cursor.proofs.Lists.{filter_swap, filter_weaker, kept, passed_over}
 use Rattle.cursor.proofs.Planned.{AllLie, plan_passes}
 use Rattle.cursor.proofs.Selected.{at_slots, lies}
 use Rattle.cursor.proofs.Suited.{count_rows, key_bounds, rows_suit}
+use Rattle.padded.proofs.Facts.{le_true, both_parts}
 
 -- ---- slots from one on
-
-is_from : (from s : ℕ) → from ≤ s → nat_le from s ≡ true
-is_from from s h = grind (arith, nat_tests)
 
 is_before : (from s : ℕ) → s < from → nat_le from s ≡ false
 is_before from s h = grind (arith, nat_tests)
@@ -58,7 +55,7 @@ from_step from a k n e rest =
     let next : max (a + 1) from ≡ a + 1 = omega arith in
     let here : a ≡ max a from = omega arith in
     let left : n - (a + 1) ≡ k = omega arith in
-    kept (nat_le from a) a (filter (λ s. nat_le from s) (range_with_len (a + 1) k)) (is_from from a above)
+    kept (nat_le from a) a (filter (λ s. nat_le from s) (range_with_len (a + 1) k)) (le_true from a above)
     ∙ ap (λ (l : List ℕ). a ∷ l) (rest ∙ ap (λ (m : ℕ). range_with_len m (n - m)) next ∙ ap (λ (j : ℕ). range_with_len (a + 1) j) left)
     ∙ ap (λ (j : ℕ). range_with_len a j) e
     ∙ ap (λ (m : ℕ). range_with_len m (n - m)) here)
@@ -135,7 +132,7 @@ module _ (state : State) (t : Tuples) (told : IsTrue state.tells) (holds : Holds
       (λ slot below live.
       let r = get_or (rows state.files t) slot no_row in
       plan_passes (ranges_at on value) (λ place. key_at_place place r) (kinds infos)
-      (all_lie t.schema.attributes r.tuple (rows_suit state t told holds slot (omega (arith, below, count_rows state t))) value on ((both r.live (belongs value on r.tuple) live).1) infos places))
+      (all_lie t.schema.attributes r.tuple (rows_suit state t told holds slot (omega (arith, below, count_rows state t))) value on ((both_parts r.live (belongs value on r.tuple) live).1) infos places))
 
   -- all that belongs to the value, from a slot on, is ahead
   pub partners_ahead : (begun new : Candidates) (ranges : List Range) (from n : ℕ) → ranges ≡ ranges_at on value → ahead begun (rows state.files t) ≡ slots_passed (kinds infos) ranges n (rows state.files t)

@@ -17,7 +17,6 @@ use Rattle.db_model.specs.Plan.{lies_in, ranges_of}
 use Rattle.db_model.specs.Ranges.{range_of}
 use Rattle.db_model.specs.Row.{AllSuit, Row, no_row}
 use Rattle.db_model.specs.Step.{key_of}
-use Rattle.db_model.proofs.Rows.{both}
 use Rattle.index_set.specs.declared.info.IndexInfo.{IndexInfo}
 use Rattle.index_set.specs.Complete.{AreReadable, key_at_place}
 use Rattle.index_set.specs.Plans.{is_passed, kinds, slots_passed}
@@ -29,9 +28,11 @@ use Rattle.lvm.proofs.Within.{within-range_of}
 use Rattle.tuple_file.specs.declared.tuples.Tuples.{Tuples}
 use Rattle.tuple_file.specs.Tuples.{HoldsRows, rows, slots}
 use Rattle.cursor.specs.Remaining.{AreOnNumbers, is_live_and, passes_code, passing, selected_slots, tuples_at}
-use Rattle.cursor.proofs.Lists.{filter_alike, filter_weaker, live_at}
+use Rattle.cursor.proofs.Lists.{filter_weaker, live_at}
 use Rattle.cursor.proofs.Planned.{AllLie, plan_passes, range_there}
 use Rattle.cursor.proofs.Suited.{count_rows, key_bounds, number_there, rows_suit}
+use Rattle.db_model.proofs.Moves.{same_filter}
+use Rattle.padded.proofs.Facts.{both_parts}
 
 -- what is so of the rows of a relation is so of each slot with a live row that passes_code
 pub at_slots : (test : List Value → Bool) (P : Row → Type 0) (all : List Row) → ((slot : ℕ) → slot < length all → is_live_and test (get_or all slot no_row) ≡ true → P (get_or all slot no_row))
@@ -74,7 +75,7 @@ module _ (state : State) (t : Tuples) (told : IsTrue state.tells) (holds : Holds
       let r = get_or (rows state.files t) slot no_row in
       plan_passes (ranges_of t.schema.attributes condition) (λ place. key_at_place place r) (kinds infos)
       (all_lie t.schema.attributes condition r.tuple (rows_suit state t told holds slot (omega (arith, below, count_rows state t)))
-      (sym (alike r.tuple) ∙ (both r.live (passes_code code r.tuple) live).1) infos numbers (places_of state (slots state.files t) infos readable)))
+      (sym (alike r.tuple) ∙ (both_parts r.live (passes_code code r.tuple) live).1) infos numbers (places_of state (slots state.files t) infos readable)))
 
   -- the slots that are answered, among those that the plan passes_code
   pub slots_selected : (ranges : List Range) (n : ℕ) (cs : List ℕ) → ranges ≡ ranges_of t.schema.attributes condition → n ≡ length (rows state.files t)
@@ -83,7 +84,7 @@ module _ (state : State) (t : Tuples) (told : IsTrue state.tells) (holds : Holds
       let all = rows state.files t in
       ap (passing (passes_code code) all) (c ∙ ap (λ (l : List Range). slots_passed (kinds infos) l n all) r ∙ ap (λ (k : ℕ). slots_passed (kinds infos) (ranges_of t.schema.attributes condition) k all) e)
       ∙ filter_weaker (λ slot. is_live_and (passes_code code) (get_or all slot no_row)) (λ slot. is_passed (kinds infos) (ranges_of t.schema.attributes condition) (get_or all slot no_row)) (range_with_len 0 (length all)) passed
-      ∙ filter_alike (λ slot. is_live_and (passes_code code) (get_or all slot no_row)) (λ slot. is_live_and (selects t.schema.attributes condition) (get_or all slot no_row)) (range_with_len 0 (length all))
+      ∙ same_filter (λ slot. is_live_and (passes_code code) (get_or all slot no_row)) (λ slot. is_live_and (selects t.schema.attributes condition) (get_or all slot no_row)) (range_with_len 0 (length all))
       (λ slot. ap (λ (b : Bool). (get_or all slot no_row).live && b) (alike (get_or all slot no_row).tuple))
 
 -- the tuples at the slots that a condition selects

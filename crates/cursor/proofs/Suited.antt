@@ -4,10 +4,9 @@ use Rattle.std.specs.List.{list_all, range_with_len}
 use Rattle.std.proofs.lemmas.Bool.Decides.{nat_tests}
 use Rattle.std.proofs.lemmas.Int.{ints}
 use Rattle.std.proofs.lemmas.List.{get_or-drop}
-use Rattle.std.specs.Int.{byte_at, bytes_low_first}
+use Rattle.std.specs.Int.{bytes_low_first}
 use Rattle.std.proofs.lemmas.List.Concat.{flat_map-cons}
 use Rattle.db_model.specs.Step.{key_of}
-use Rattle.db_model.proofs.Rows.{both}
 use Rattle.afl_base.specs.Files.{State, bytes_at}
 use Rattle.db_model.specs.declared.schemas.Attribute.{Attribute}
 use Rattle.db_model.specs.declared.schemas.Domain.{Domain}
@@ -23,6 +22,7 @@ use Rattle.tuple_file.specs.Column.{IsNumber, is_number}
 use Rattle.tuple_file.specs.Tuples.{HoldsRows, rows, slots}
 use Rattle.tuple_file.proofs.Slots.{length-rows}
 use Rattle.cursor.proofs.Walking.{row_there}
+use Rattle.padded.proofs.Facts.{both_parts, byte_small}
 
 -- ---- bytes below 256
 
@@ -55,10 +55,6 @@ dropped : (n : ℕ) (xs : List ℕ) → AreBytes xs → AreBytes (drop n xs)
 unfolding AreBytes
 dropped n xs h i = rw (get_or-drop n xs i 0) (h (n + i))
 
-byte_small : (at n : ℕ) → byte_at at n < 256
-byte_small zero n = omega arith
-byte_small (suc at) n = omega arith
-
 low : (at k n : ℕ) → AreBytes (bytes_low_first at k n)
 unfolding AreBytes
 low at zero n i = omega arith
@@ -73,14 +69,14 @@ text_byte b e = grind (arith, nat_tests)
 texts : (bytes : List ℕ) → list_all is_text_byte bytes ≡ true → AreBytes bytes
 unfolding AreBytes
 texts [] e i = omega arith
-texts (b ∷ bytes) e zero = text_byte b ((both (is_text_byte b) (list_all is_text_byte bytes) e).0)
-texts (b ∷ bytes) e (suc i) = texts bytes ((both (is_text_byte b) (list_all is_text_byte bytes) e).1) i
+texts (b ∷ bytes) e zero = text_byte b ((both_parts (is_text_byte b) (list_all is_text_byte bytes) e).0)
+texts (b ∷ bytes) e (suc i) = texts bytes ((both_parts (is_text_byte b) (list_all is_text_byte bytes) e).1) i
 
 text_read : (field : List ℕ) → AreBytes (text_or_empty field)
 text_read field = by_test (is_text (up_to_zero field)) (list_all (λ b. b == 0) (drop (length (up_to_zero field)) field)) refl
   where
     by_test : (a b : Bool) → is_text (up_to_zero field) ≡ a → AreBytes (cond (a && b) (up_to_zero field) [])
-    by_test true true e = texts (up_to_zero field) ((both (nat_le (length (up_to_zero field)) 32) (list_all is_text_byte (up_to_zero field)) e).1)
+    by_test true true e = texts (up_to_zero field) ((both_parts (nat_le (length (up_to_zero field)) 32) (list_all is_text_byte (up_to_zero field)) e).1)
     by_test true false e = zeros 0
     by_test false b e = zeros 0
 

@@ -29,7 +29,7 @@ filter_both : (m g : ℕ → Bool) (xs : List ℕ) → filter m (filter g xs) �
 filter_both m g [] = refl
 filter_both m g (x ∷ xs) = both_step m (g x) x (filter g xs) (filter (λ x. g x && m x) xs) (filter_both m g xs)
 
-reads_step : (f h : ℕ → List Value) (b : Bool) (a : ℕ) (xs : List ℕ) → f a ≡ h a → map f xs ≡ map h xs → map f (cond b (a ∷ xs) xs) ≡ map h (cond b (a ∷ xs) xs)
+pub reads_step : (f h : ℕ → List Value) (b : Bool) (a : ℕ) (xs : List ℕ) → f a ≡ h a → map f xs ≡ map h xs → map f (cond b (a ∷ xs) xs) ≡ map h (cond b (a ∷ xs) xs)
 reads_step f h true a xs here rest = λ i. here i ∷ rest i
 reads_step f h false a xs here rest = rest
 

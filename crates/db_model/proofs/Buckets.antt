@@ -27,7 +27,7 @@ having-cons level d key keys = by_test (digit key level == d) (filter (λ key. d
     by_test true rest = omega arith
     by_test false rest = omega arith
 
-more : (n k : ℕ) → k < 4 → (suc (suc (suc (suc n))) == k) ≡ false
+pub more : (n k : ℕ) → k < 4 → (suc (suc (suc (suc n))) == k) ≡ false
 more n k below = grind (arith, nat_tests, below)
 
 -- a number is at most one of 0, 1, 2 and 3

@@ -18,7 +18,8 @@ use Rattle.db_model.specs.Keywords.{keyword_of}
 use Rattle.db_model.specs.Names.{is_name, is_word, is_word_byte}
 use Rattle.padded.specs.Padded.{padded}
 use Rattle.db_model.specs.Row.{up_to_zero}
-use Rattle.db_model.proofs.Rows.{both, take_front, drop_front, length-padded}
+use Rattle.db_model.proofs.Rows.{take_front, drop_front, length-padded}
+use Rattle.padded.proofs.Facts.{both_parts}
 
 -- ---- names
 
@@ -34,7 +35,7 @@ up_to_zero-bytes : (bytes : List ℕ) (k : ℕ) → list_all is_word_byte bytes 
 up_to_zero-bytes [] zero e = refl
 up_to_zero-bytes [] (suc k) e = refl
 up_to_zero-bytes (b ∷ bytes) k e =
-    let passes : (is_word_byte b ≡ true) × (list_all is_word_byte bytes ≡ true) = both (is_word_byte b) (list_all is_word_byte bytes) e in
+    let passes : (is_word_byte b ≡ true) × (list_all is_word_byte bytes ≡ true) = both_parts (is_word_byte b) (list_all is_word_byte bytes) e in
     rw (word_byte-some b passes.0, up_to_zero-bytes bytes k passes.1) refl
 
 -- what a name is: a letter, then bytes of a word, at most 15 in all
@@ -47,9 +48,9 @@ record IsNamed (bytes : List ℕ) : Type 0 where
 named : (bytes : List ℕ) → is_name bytes ≡ true → IsNamed bytes
 named [] e = cc
 named (b ∷ bytes) e =
-    let word : (is_word (b ∷ bytes) ≡ true) × (not (is_some (keyword_of (b ∷ bytes))) ≡ true) = both (is_word (b ∷ bytes)) (not (is_some (keyword_of (b ∷ bytes)))) e in
-    let front : ((nat_le (length bytes) 14 && is_ascii_alphabetic b) ≡ true) × (list_all is_word_byte bytes ≡ true) = both (nat_le (length bytes) 14 && is_ascii_alphabetic b) (list_all is_word_byte bytes) word.0 in
-    let first : (nat_le (length bytes) 14 ≡ true) × (is_ascii_alphabetic b ≡ true) = both (nat_le (length bytes) 14) (is_ascii_alphabetic b) front.0 in
+    let word : (is_word (b ∷ bytes) ≡ true) × (not (is_some (keyword_of (b ∷ bytes))) ≡ true) = both_parts (is_word (b ∷ bytes)) (not (is_some (keyword_of (b ∷ bytes)))) e in
+    let front : ((nat_le (length bytes) 14 && is_ascii_alphabetic b) ≡ true) × (list_all is_word_byte bytes ≡ true) = both_parts (nat_le (length bytes) 14 && is_ascii_alphabetic b) (list_all is_word_byte bytes) word.0 in
+    let first : (nat_le (length bytes) 14 ≡ true) × (is_ascii_alphabetic b ≡ true) = both_parts (nat_le (length bytes) 14) (is_ascii_alphabetic b) front.0 in
     let some : (b == 0) ≡ false = letter-some b first.1 in
     let few : length bytes ≤ 14 = leb-true (length bytes) 14 first.0 in
     record {

@@ -39,7 +39,7 @@ time_suits z = either (suits Time (Number z)) refl
 
 -- ---- texts
 
-cut : (bytes : List ℕ) → length (up_to_zero bytes) ≤ length bytes
+pub cut : (bytes : List ℕ) → length (up_to_zero bytes) ≤ length bytes
 cut [] = omega arith
 cut (b ∷ bytes) = either (b == 0) (cut bytes)
   where

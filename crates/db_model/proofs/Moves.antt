@@ -27,7 +27,8 @@ use Rattle.db_model.specs.Row.{Row, no_row}
 use Rattle.db_model.specs.Step.{Reply, Fine, Rows, Outcome, add_attribute, aggregate_of, answer_of, ask, asked_by, changed_by, close_cursor, create_index, create_relation, fetch_cursor, insert_into, join_of, joins, missing_in_join, open_cursor, open_cursor_of, outcome, pack, relations_read, remove_from, remove_index, remove_relation, replied, select_from, step, upgraded}
 use Rattle.db_model.specs.Typing.{domain_of, first_false, ill_typed, is_attribute, missing_name}
 use Rattle.db_model.proofs.Yielding.{Yields, yields_behind, yields_by, yields_found, yields_none, yields_ok}
-use Rattle.db_model.proofs.Standing.{false_true, none_some}
+use Rattle.db_model.proofs.Standing.{false_true}
+use Rattle.padded.proofs.Facts.{never_some}
 
 -- ---- rows by their slots
 
@@ -79,7 +80,7 @@ many_slots p f (slot ∷ slots) =
     ∙ ap (λ n. n + length rest) here
     ∙ ap (λ n. p (f slot) + n) (many_slots p f slots)
 
-many_of_one : (test : List Value × List Value → Bool) (x : List Value) (ys : List (List Value)) → length (filter test (map (λ y. (x, y)) ys)) ≡ length (filter (λ y. test (x, y)) ys)
+pub many_of_one : (test : List Value × List Value → Bool) (x : List Value) (ys : List (List Value)) → length (filter test (map (λ y. (x, y)) ys)) ≡ length (filter (λ y. test (x, y)) ys)
 many_of_one test x [] = refl
 many_of_one test x (y ∷ ys) = by_test (test (x, y)) (many_of_one test x ys)
   where
@@ -129,7 +130,7 @@ placed attributes name h = by_place (place_of name attributes) h
 value_at : (attributes : List Attribute) (values : List Value) (name : List ℕ) → is_attribute attributes name ≡ true → value_of attributes values name ≡ slice_get values (unwrap_or (place_of name attributes) 0)
 value_at attributes values name h = ap (option_and_then (slice_get values)) (placed attributes name h)
 
-same_filter : {A : Type 0} (s t : A → Bool) (xs : List A) → ((x : A) → s x ≡ t x) → filter s xs ≡ filter t xs
+pub same_filter : {A : Type 0} (s t : A → Bool) (xs : List A) → ((x : A) → s x ≡ t x) → filter s xs ≡ filter t xs
 same_filter s t [] same = refl
 same_filter s t (x ∷ xs) same = ap (λ b. cond b (x ∷ filter s xs) (filter s xs)) (same x) ∙ ap (λ ys. cond (t x) (x ∷ ys) ys) (same_filter s t xs same)
 
@@ -152,8 +153,8 @@ join_many left right on list l r at_left at_right =
 -- the ON name is an attribute of both
 both_have : (a b : Bool) (rest : List Bool) → first_false 0 ((a && b) ∷ rest) ≡ None → (a ≡ true) × (b ≡ true)
 both_have true true rest e = (refl, refl)
-both_have true false rest e = absurd (none_some (sym e))
-both_have false b rest e = absurd (none_some (sym e))
+both_have true false rest e = absurd (never_some (sym e))
+both_have false b rest e = absurd (never_some (sym e))
 
 abbrev IsOpened : Database → Query → List (List Value) → Type 0
 IsOpened db query rows = IsAhead (Some (record { reads = relations_read query; rows = rows })) (opened db query)

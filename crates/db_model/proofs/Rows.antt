@@ -1,5 +1,5 @@
 -- What was written of rows is read back.
-use Rattle.std.proofs.Common.{◌≡◌, refl, sym, ap, subst, ◌∙◌, ℕ, zero, suc, ◌+◌, ◌-◌, ◌*◌, ◌/◌, ◌^◌, ◌<◌, ◌≤◌, ℤ, pos, negsuc, Bool, true, false, ◌&&◌, List, [], ◌∷◌, ◌++◌, length, take, drop, SFits, w16, w32, w64, of_z, arith, append_assoc, append-nil, length-append}
+use Rattle.std.proofs.Common.{◌≡◌, refl, sym, ap, subst, ◌∙◌, ℕ, zero, suc, ◌+◌, ◌-◌, ◌*◌, ◌/◌, ◌^◌, ◌<◌, ◌≤◌, ℤ, pos, negsuc, Bool, true, false, List, [], ◌∷◌, ◌++◌, length, take, drop, SFits, w16, w32, w64, of_z, arith, append_assoc, append-nil, length-append}
 use Rattle.std.proofs.lemmas.Bool.{leb-true}
 use Rattle.std.proofs.lemmas.Bool.Decides.{nat_tests}
 use Rattle.std.proofs.lemmas.List.{length-replicate, length-drop, take-append-le, drop-append-le}
@@ -22,19 +22,16 @@ use Rattle.db_model.specs.declared.values.Value.TheVariants.{Number, Text}
 use Rattle.db_model.specs.Names.{is_text, is_text_byte}
 use Rattle.padded.specs.Padded.{padded}
 use Rattle.db_model.specs.Row.{Row, suits, is_between, AllSuit, AllRowsSuit, width, field_bytes, field_of, time_or_least, up_to_zero, text_or_empty, fields_length, row_length, mark, fields_bytes, row_bytes, rows_bytes, tuple_of, row_of, row_at, rows_of}
-
-pub both : (a b : Bool) → (a && b) ≡ true → (a ≡ true) × (b ≡ true)
-both true b e = (refl, e)
-both false b e = (cc, cc)
+use Rattle.padded.proofs.Facts.{both_parts, all_zeros}
 
 -- ---- numbers
 
 below : (h : ℕ) (z : ℤ) → is_between (negsuc h) (pos h) z ≡ true → mag z ≤ h
-below h (pos n) e = leb-true n h (both true (leb n h) e).1
-below h (negsuc n) e = leb-true n h (both (leb n h) true e).0
+below h (pos n) e = leb-true n h (both_parts true (leb n h) e).1
+below h (negsuc n) e = leb-true n h (both_parts (leb n h) true e).0
 
 pub at_most : (lo h : ℕ) (z : ℤ) → is_between (pos lo) (pos h) z ≡ true → mag z ≤ h
-at_most lo h (pos n) e = leb-true n h (both (leb lo n) (leb n h) e).1
+at_most lo h (pos n) e = leb-true n h (both_parts (leb lo n) (leb n h) e).1
 at_most lo h (negsuc n) e = cc
 
 number_back : (n : ℕ) (w : Width) (z : ℤ) (rest : List ℕ) → SFits w z → of_z w z < 256 ^ n → cast_signed w (little_number n (little_bytes n (cast_unsigned w z) ++ rest)) ≡ z
@@ -47,7 +44,7 @@ up_to_zero-text : (bytes : List ℕ) (k : ℕ) → list_all is_text_byte bytes �
 up_to_zero-text [] zero e = refl
 up_to_zero-text [] (suc k) e = refl
 up_to_zero-text (b ∷ bytes) k e =
-    let passes : (is_text_byte b ≡ true) × (list_all is_text_byte bytes ≡ true) = both (is_text_byte b) (list_all is_text_byte bytes) e in
+    let passes : (is_text_byte b ≡ true) × (list_all is_text_byte bytes ≡ true) = both_parts (is_text_byte b) (list_all is_text_byte bytes) e in
     rw (not_zero b passes.0, up_to_zero-text bytes k passes.1) refl
   where
     not_zero : (b : ℕ) → is_text_byte b ≡ true → (b == 0) ≡ false
@@ -66,14 +63,10 @@ length-padded n bytes short =
     let zeros : length (replicate {A = ℕ} (n - length bytes) 0) ≡ n - length bytes = length-replicate {A = ℕ} (n - length bytes) 0 in
     length-append bytes (replicate (n - length bytes) 0) ∙ omega (arith, zeros, short)
 
-all_zeros : (k : ℕ) → list_all (λ b. b == 0) (replicate k 0) ≡ true
-all_zeros zero = refl
-all_zeros (suc k) = all_zeros k
-
 text_back : (n : ℕ) (bytes rest : List ℕ) → length bytes ≤ n → is_text bytes ≡ true → text_or_empty (take n (padded n bytes ++ rest)) ≡ bytes
 text_back n bytes rest short e =
     let cut : take n (padded n bytes ++ rest) ≡ padded n bytes = take_front n (padded n bytes) rest (length-padded n bytes short) in
-    let texts : (nat_le (length bytes) 32 ≡ true) × (list_all is_text_byte bytes ≡ true) = both (nat_le (length bytes) 32) (list_all is_text_byte bytes) e in
+    let texts : (nat_le (length bytes) 32 ≡ true) × (list_all is_text_byte bytes ≡ true) = both_parts (nat_le (length bytes) 32) (list_all is_text_byte bytes) e in
     let zeros : list_all (λ b. b == 0) (drop (length bytes) (padded n bytes)) ≡ true =
     ap (list_all (λ b. b == 0)) (drop-append_seam bytes (replicate (n - length bytes) 0)) ∙ all_zeros (n - length bytes) in
     rw (cut, up_to_zero-text bytes (n - length bytes) texts.1, e, zeros) refl
@@ -92,7 +85,7 @@ field_back Time (Number z) rest e =
     let back = number_back 8 w64 z rest fits ((Fits-of_z fits).fits) in
     ap (λ z. Number (time_or_least z)) back ∙ rw e refl
 field_back (Str n) (Text bytes) rest e =
-    let each : (nat_le (length bytes) n ≡ true) × (is_text bytes ≡ true) = both (nat_le (length bytes) n) (is_text bytes) e in
+    let each : (nat_le (length bytes) n ≡ true) × (is_text bytes ≡ true) = both_parts (nat_le (length bytes) n) (is_text bytes) e in
     ap (λ bytes. Text bytes) (text_back n bytes rest (leb-true (length bytes) n each.0) each.1)
 field_back Int (Text bytes) rest e = cc
 field_back Long (Text bytes) rest e = cc
@@ -103,7 +96,7 @@ pub length-field : (d : Domain) (v : Value) → suits d v ≡ true → length (f
 length-field Int (Number z) e = refl
 length-field Long (Number z) e = refl
 length-field Time (Number z) e = refl
-length-field (Str n) (Text bytes) e = length-padded n bytes (leb-true (length bytes) n (both (nat_le (length bytes) n) (is_text bytes) e).0)
+length-field (Str n) (Text bytes) e = length-padded n bytes (leb-true (length bytes) n (both_parts (nat_le (length bytes) n) (is_text bytes) e).0)
 length-field Int (Text bytes) e = cc
 length-field Long (Text bytes) e = cc
 length-field Time (Text bytes) e = cc
@@ -154,13 +147,13 @@ row_back attributes row rest s =
 
 -- ---- lists of rows
 
-map_range_same : {X : Type 0} (f g : ℕ → X) (a n : ℕ) → ((k : ℕ) → a ≤ k → k < a + n → f k ≡ g k) → map f (range_with_len a n) ≡ map g (range_with_len a n)
+pub map_range_same : {X : Type 0} (f g : ℕ → X) (a n : ℕ) → ((k : ℕ) → a ≤ k → k < a + n → f k ≡ g k) → map f (range_with_len a n) ≡ map g (range_with_len a n)
 map_range_same f g a zero same = refl
 map_range_same f g a (suc n) same =
     rw (same a (omega arith) (omega arith), map_range_same f g (a + 1) n (λ k low high. same k (omega (arith, low)) (omega (arith, high)))) refl
 
 -- slot k of n slots ends inside them
-slot_inside : (size k n : ℕ) → k < n → size * k + size ≤ size * n
+pub slot_inside : (size k n : ℕ) → k < n → size * k + size ≤ size * n
 slot_inside size k n below = let e : size * suc k ≤ size * n = mul-le-mul_left size below in rw (← mul-suc size k) e
 
 -- the bytes of slot k stay where more bytes come behind all n slots

@@ -15,28 +15,29 @@ use Rattle.db_model.specs.Item.{place_from, selects}
 use Rattle.db_model.specs.Row.{Row, suits, AllSuit, AllRowsSuit}
 use Rattle.db_model.specs.Sound.{are_distinct, attribute_names}
 use Rattle.db_model.specs.Step.{allows, key_of, keys, first_fall, fallen_from, removed_row, unsuited, unsuited_from}
-use Rattle.db_model.proofs.Standing.{false_true, none_some, some_same}
+use Rattle.db_model.proofs.Standing.{false_true}
+use Rattle.padded.proofs.Facts.{never_some, some_alike}
 
 -- ---- values that suit
 
 suited_from : (n : ℕ) (attributes : List Attribute) (values : List Value) → unsuited_from n attributes values ≡ None → AllSuit attributes values
 suited_from n [] [] e = tt
-suited_from n [] (v ∷ values) e = absurd (none_some (sym e))
-suited_from n (a ∷ attributes) [] e = absurd (none_some (sym e))
+suited_from n [] (v ∷ values) e = absurd (never_some (sym e))
+suited_from n (a ∷ attributes) [] e = absurd (never_some (sym e))
 suited_from n (a ∷ attributes) (v ∷ values) e = by_test (suits a.domain v) refl e (λ f. suited_from (n + 1) attributes values f)
   where
     by_test : (b : Bool) → suits a.domain v ≡ b → cond b (unsuited_from (n + 1) attributes values) (Some (n + 1)) ≡ None
         → (unsuited_from (n + 1) attributes values ≡ None → AllSuit attributes values) → AllSuit (a ∷ attributes) (v ∷ values)
     by_test true h e rest = (h, rest e)
-    by_test false h e rest = absurd (none_some (sym e))
+    by_test false h e rest = absurd (never_some (sym e))
 
 pub suited : (attributes : List Attribute) (values : List Value) → unsuited attributes values ≡ None → AllSuit attributes values
-suited [] values e = absurd (none_some (sym e))
+suited [] values e = absurd (never_some (sym e))
 suited (a ∷ attributes) values e = suited_from 0 (a ∷ attributes) values e
 
 -- no tuple is one of a relation without attributes
 pub suited_some : (attributes : List Attribute) (values : List Value) → unsuited attributes values ≡ None → attributes ≡ [] → ⊥
-suited_some [] values e none = none_some (sym e)
+suited_some [] values e none = never_some (sym e)
 suited_some (a ∷ attributes) values e none = let long : length (a ∷ attributes) ≡ length {A = Attribute} [] = ap length none in omega (arith, long)
 
 pub rows_more : (attributes : List Attribute) (rows : List Row) (row : Row) → AllRowsSuit attributes rows → AllSuit attributes row.tuple → AllRowsSuit attributes (rows ++ row ∷ [])
@@ -81,8 +82,8 @@ keys_removed attributes condition place (row ∷ rows) =
     ∙ ap (λ ks. key_of (slice_get row.tuple place) ∷ ks) (keys_removed attributes condition place rows)
 
 row_at : (attributes : List Attribute) (rows : List Row) (k : ℕ) (row : Row) → AllRowsSuit attributes rows → slice_get rows k ≡ Some row → AllSuit attributes row.tuple
-row_at attributes [] k row h e = absurd (none_some e)
-row_at attributes (first ∷ rows) zero row h e = subst (λ r. AllSuit attributes r.tuple) (some_same e) h.0
+row_at attributes [] k row h e = absurd (never_some e)
+row_at attributes (first ∷ rows) zero row h e = subst (λ r. AllSuit attributes r.tuple) (some_alike e) h.0
 row_at attributes (first ∷ rows) (suc k) row h e = row_at attributes rows k row h.1 e
 
 -- ---- numbers under indexes
@@ -96,10 +97,10 @@ number_of kind domain.Time (value.Text bytes) a s = absurd (false_true s)
 number_of kind (domain.Str n) (value.Text bytes) a s = absurd (false_true a)
 
 pub number_at : (kind : IndexKind) (attributes : List Attribute) (values : List Value) (place : ℕ) (a : Attribute) → AllSuit attributes values → slice_get attributes place ≡ Some a → allows kind a.domain ≡ true → (z : ℤ) × (slice_get values place ≡ Some (value.Number z))
-number_at kind [] values place a h e k = absurd (none_some e)
+number_at kind [] values place a h e k = absurd (never_some e)
 number_at kind (b ∷ attributes) [] place a h e k = absurd h
 number_at kind (b ∷ attributes) (v ∷ values) zero a h e k =
-    let same : a ≡ b = sym (some_same e) in
+    let same : a ≡ b = sym (some_alike e) in
     let is = number_of kind b.domain v (ap (λ c. allows kind c.domain) (sym same) ∙ k) h.0 in
     (is.0, ap (λ v. Some v) is.1)
 number_at kind (b ∷ attributes) (v ∷ values) (suc place) a h e k = number_at kind attributes values place a h.1 e k
@@ -111,22 +112,22 @@ same_number e = cc
 
 not_fallen : (ordered : ℕ → Bool) (n place : ℕ) (last new : List Value) (a b : ℤ) → fallen_from ordered n last new ≡ None → ordered (n + place) ≡ true
     → slice_get last place ≡ Some (value.Number a) → slice_get new place ≡ Some (value.Number b) → int_lt b a ≡ false
-not_fallen ordered n place [] new a b none o l m = absurd (none_some l)
-not_fallen ordered n place (v ∷ last) [] a b none o l m = absurd (none_some m)
+not_fallen ordered n place [] new a b none o l m = absurd (never_some l)
+not_fallen ordered n place (v ∷ last) [] a b none o l m = absurd (never_some m)
 not_fallen ordered n zero (value.Number x ∷ last) (value.Number y ∷ new) a b none o l m =
-    let first : value.Number x ≡ value.Number a = some_same l in
-    let second : value.Number y ≡ value.Number b = some_same m in
+    let first : value.Number x ≡ value.Number a = some_alike l in
+    let second : value.Number y ≡ value.Number b = some_alike m in
     let is : n + 0 ≡ n = omega arith in
     by_test (int_lt y x) (ap (λ k. ordered k && int_lt y x) (sym is) ∙ ap (λ t. t && int_lt y x) o) none (same_number first) (same_number second) refl
   where
     by_test : (t : Bool) → (ordered n && int_lt y x) ≡ t → cond (ordered n && int_lt y x) (Some x) (fallen_from ordered (n + 1) last new) ≡ None → x ≡ a → y ≡ b → int_lt y x ≡ t → int_lt b a ≡ false
-    by_test true h none same other t = absurd (none_some (sym (ap (λ c. cond c (Some x) (fallen_from ordered (n + 1) last new)) (sym h) ∙ none)))
+    by_test true h none same other t = absurd (never_some (sym (ap (λ c. cond c (Some x) (fallen_from ordered (n + 1) last new)) (sym h) ∙ none)))
     by_test false h none same other t = ap (λ z. int_lt z a) (sym other) ∙ ap (int_lt y) (sym same) ∙ t
-not_fallen ordered n zero (value.Text x ∷ last) (w ∷ new) a b none o l m = let e : value.Text x ≡ value.Number a = some_same l in absurd (text_number e)
+not_fallen ordered n zero (value.Text x ∷ last) (w ∷ new) a b none o l m = let e : value.Text x ≡ value.Number a = some_alike l in absurd (text_number e)
   where
     text_number : value.Text x ≡ value.Number a → ⊥
     text_number e = cc
-not_fallen ordered n zero (value.Number x ∷ last) (value.Text y ∷ new) a b none o l m = let e : value.Text y ≡ value.Number b = some_same m in absurd (text_number e)
+not_fallen ordered n zero (value.Number x ∷ last) (value.Text y ∷ new) a b none o l m = let e : value.Text y ≡ value.Number b = some_alike m in absurd (text_number e)
   where
     text_number : value.Text y ≡ value.Number b → ⊥
     text_number e = cc
@@ -134,7 +135,7 @@ not_fallen ordered n (suc place) (value.Number x ∷ last) (value.Number y ∷ n
     by_test (ordered n && int_lt y x) none (λ e. not_fallen ordered (n + 1) place last new a b e (let is : n + suc place ≡ (n + 1) + place = omega arith in ap ordered (sym is) ∙ o) l m)
   where
     by_test : (t : Bool) → cond t (Some x) (fallen_from ordered (n + 1) last new) ≡ None → (fallen_from ordered (n + 1) last new ≡ None → int_lt b a ≡ false) → int_lt b a ≡ false
-    by_test true e rest = absurd (none_some (sym e))
+    by_test true e rest = absurd (never_some (sym e))
     by_test false e rest = rest e
 not_fallen ordered n (suc place) (value.Number x ∷ last) (value.Text y ∷ new) a b none o l m =
     not_fallen ordered (n + 1) place last new a b none (let is : n + suc place ≡ (n + 1) + place = omega arith in ap ordered (sym is) ∙ o) l m
@@ -155,7 +156,7 @@ keys_rise place (r ∷ q ∷ rows) row none last =
     by_test : (t : Bool) → cond t (Some (key_of (slice_get r.tuple place))) (first_fall (keys place (q ∷ rows))) ≡ None
         → (first_fall (keys place (q ∷ rows)) ≡ None → first_fall (keys place (q ∷ rows ++ row ∷ [])) ≡ None)
         → cond t (Some (key_of (slice_get r.tuple place))) (first_fall (keys place (q ∷ rows ++ row ∷ []))) ≡ None
-    by_test true e rest = absurd (none_some (sym e))
+    by_test true e rest = absurd (never_some (sym e))
     by_test false e rest = rest e
 
 -- an insert that is not refused keeps the order at a place that is to be ordered
@@ -176,7 +177,7 @@ order_kept kind attributes ordered place a rows values live all suit at allowed 
 
 -- an attribute behind all others is at none of their places
 pub placed_more : (attributes : List Attribute) (b : Attribute) (place : ℕ) (a : Attribute) → slice_get attributes place ≡ Some a → slice_get (attributes ++ b ∷ []) place ≡ Some a
-placed_more [] b place a e = absurd (none_some e)
+placed_more [] b place a e = absurd (never_some e)
 placed_more (c ∷ attributes) b zero a e = e
 placed_more (c ∷ attributes) b (suc place) a e = placed_more attributes b place a e
 
@@ -189,7 +190,7 @@ among_more name new (a ∷ attributes) b is none apart = by_test (bytes_eq a.nam
     by_test false e rest = rest e
 
 -- whether two names are one does not depend on their order
-other_name : (m n : List ℕ) → bytes_eq m n ≡ false → bytes_eq n m ≡ false
+pub other_name : (m n : List ℕ) → bytes_eq m n ≡ false → bytes_eq n m ≡ false
 other_name m n h = by_test (bytes_eq n m) refl
   where
     by_test : (b : Bool) → bytes_eq n m ≡ b → b ≡ false
@@ -213,9 +214,9 @@ distinct_more n (a ∷ attributes) b fresh distinct =
 -- the domain of an attribute by name is that of the attribute at its place
 pub domain_at : (attributes : List Attribute) (place : Option ℕ) (k : ℕ) (d : Domain) → place ≡ Some k → option_map (λ a. a.domain) (option_and_then (slice_get attributes) place) ≡ Some d
     → (a : Attribute) × (slice_get attributes k ≡ Some a) × (a.domain ≡ d)
-domain_at attributes None k d p e = absurd (none_some p)
-domain_at attributes (Some j) k d p e = at_slot (slice_get attributes j) (ap (slice_get attributes) (some_same p)) e
+domain_at attributes None k d p e = absurd (never_some p)
+domain_at attributes (Some j) k d p e = at_slot (slice_get attributes j) (ap (slice_get attributes) (some_alike p)) e
   where
     at_slot : (o : Option Attribute) → o ≡ slice_get attributes k → option_map (λ a. a.domain) o ≡ Some d → (a : Attribute) × (slice_get attributes k ≡ Some a) × (a.domain ≡ d)
-    at_slot None same e = absurd (none_some e)
-    at_slot (Some a) same e = (a, sym same, some_same e)
+    at_slot None same e = absurd (never_some e)
+    at_slot (Some a) same e = (a, sym same, some_alike e)

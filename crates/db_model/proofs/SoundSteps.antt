@@ -1,5 +1,5 @@
 -- Each command keeps a database sound.
-use Rattle.std.proofs.Common.{◌≡◌, refl, sym, ap, subst, ◌∙◌, ℕ, ℤ, ◌+◌, ◌-◌, ◌<◌, ◌≤◌, ◌⊎◌, inr, Bool, true, false, List, [], ◌∷◌, ◌++◌, length, map, set, get_or, filter, cond, Option, Some, None, arith, length-append, ⊎_elim}
+use Rattle.std.proofs.Common.{◌≡◌, refl, sym, ap, subst, ◌∙◌, ℕ, ℤ, ◌+◌, ◌-◌, ◌<◌, ◌≤◌, ◌⊎◌, inr, Bool, true, false, List, [], ◌∷◌, ◌++◌, length, map, set, get_or, filter, cond, Option, Some, None, arith, length-append, ⊎_elim, if◌then◌else◌}
 use Rattle.std.specs.Prelude.{pos, negsuc, Ok, Err, Result, IsTrue, not, ◌&&◌, ◌==◌, is_some, nat_le, nat_lt, slice_get, drop, take}
 use Rattle.std.specs.List.{list_any, AllByRecursion}
 use Rattle.std.specs.Str.{bytes_eq}
@@ -32,16 +32,17 @@ use Rattle.db_model.specs.Row.{Row, AllRowsSuit, row_length}
 use Rattle.db_model.specs.Sound.{StandsIn, IsSoundAttribute, IsSoundRelation, SuitKind, IsIndexOf, IsSoundIndex, IsSoundCursor, IsSoundDatabase, BringsNames}
 use Rattle.db_model.specs.Step.{Reply, Fine, Rows, Removed, Outcome, add_attribute, aggregate_of, allows, answer_of, ask, asked_by, changed_by, close_cursor, create_index, create_relation, domain_asked, fallen, fallen_from, fetch_cursor, first_fall, insert_into, is_ordered, join_of, key_of, keys, open_cursor, open_cursor_of, outcome, pack, refuse_indexed, refuse_kind, refuse_read, relations_read, remove_from, remove_index, remove_relation, removed_row, replied, select_from, slots_limit, step, unsuited, upgraded, with_attribute}
 use Rattle.db_model.specs.Typing.{domain_of, is_attribute, missing_name, ill_typed}
-use Rattle.db_model.proofs.Standing.{all_others, all_same, any_of, count_out, count_put, false_true, found_from, found_of, free_is, IsFree, none_of, none_some, not_on, not_read, nothing_stands, one, same_or_other, some_found, some_same, stands_either, stands_once, stands_other, stands_set}
+use Rattle.db_model.proofs.Standing.{all_others, all_same, any_of, count_out, count_put, false_true, found_from, found_of, free_is, IsFree, none_of, not_on, not_read, nothing_stands, one, same_or_other, stands_either, stands_once, stands_other, stands_set}
 use Rattle.db_model.proofs.Yielding.{Yields, err_ok, found_ok, yields_by, yields_found, yields_none, yields_ok, yields_then, yields_unless}
 use Rattle.db_model.proofs.SoundRows.{distinct_more, domain_at, fewer_live, keys_removed, order_kept, placed_more, rows_live, rows_more, rows_removed, suited, suited_some}
+use Rattle.padded.proofs.Facts.{not_not, never_some, some_alike, some_found}
 
 -- ---- databases of version 2
 
 attribute_later : (version : ℕ) (a : Attribute) → IsSoundAttribute version a → IsSoundAttribute 2 a
 attribute_later version a s = record { name = s.name; domain = s.domain; time = λ e. refl }
 
-limit_most : (version : ℕ) → (version ≡ 1) ⊎ (version ≡ 2) → slots_limit version ≤ 32768
+pub limit_most : (version : ℕ) → (version ≡ 1) ⊎ (version ≡ 2) → slots_limit version ≤ 32768
 limit_most version either = ⊎_elim (λ (e : version ≡ 1). subst (λ v. slots_limit v ≤ 32768) (sym e) (omega arith)) (λ (e : version ≡ 2). subst (λ v. slots_limit v ≤ 32768) (sym e) (omega arith)) either
 
 relation_later : (version : ℕ) (r : Relation) → (version ≡ 1) ⊎ (version ≡ 2) → IsSoundRelation version r → IsSoundRelation 2 r
@@ -99,10 +100,10 @@ put_relation db slot r s sound same apart suit = record {
   eight_relations = length-set db.relations slot (Some r) ∙ s.eight_relations;
   eight_indexes = s.eight_indexes;
   four_cursors = s.four_cursors;
-  relations = λ k q e. stands_either db.relations slot k (Some r) q e (λ i is. subst (IsSoundRelation db.version) (some_same is) sound) (λ n f. s.relations k q f);
+  relations = λ k q e. stands_either db.relations slot k (Some r) q e (λ i is. subst (IsSoundRelation db.version) (some_alike is) sound) (λ n f. s.relations k q f);
   names = λ j k p q e f same. stands_either db.relations slot j (Some r) p e
-      (λ i is. stands_either db.relations slot k (Some r) q f (λ l it. i ∙ sym l) (λ n g. absurd (apart k q n g (sym same ∙ ap (λ r. r.schema.name) (sym (some_same is))))))
-      (λ n g. stands_either db.relations slot k (Some r) q f (λ l it. absurd (apart j p n g (same ∙ ap (λ r. r.schema.name) (sym (some_same it))))) (λ m h. s.names j k p q g h same));
+      (λ i is. stands_either db.relations slot k (Some r) q f (λ l it. i ∙ sym l) (λ n g. absurd (apart k q n g (sym same ∙ ap (λ r. r.schema.name) (sym (some_alike is))))))
+      (λ n g. stands_either db.relations slot k (Some r) q f (λ l it. absurd (apart j p n g (same ∙ ap (λ r. r.schema.name) (sym (some_alike it))))) (λ m h. s.names j k p q g h same));
   indexes = λ k index e. kept_index index (s.indexes k index e) (λ old at is on. suit old index k at e is on);
   places = s.places;
   few_tables = s.few_tables;
@@ -133,8 +134,8 @@ out_relation db slot r s at unindexed unread = record {
   eight_relations = length-set db.relations slot None ∙ s.eight_relations;
   eight_indexes = s.eight_indexes;
   four_cursors = s.four_cursors;
-  relations = λ k q e. stands_either db.relations slot k None q e (λ i is. absurd (none_some is)) (λ n f. s.relations k q f);
-  names = λ j k p q e f same. stands_either db.relations slot j None p e (λ i is. absurd (none_some is)) (λ n g. stands_either db.relations slot k None q f (λ i is. absurd (none_some is)) (λ m h. s.names j k p q g h same));
+  relations = λ k q e. stands_either db.relations slot k None q e (λ i is. absurd (never_some is)) (λ n f. s.relations k q f);
+  names = λ j k p q e f same. stands_either db.relations slot j None p e (λ i is. absurd (never_some is)) (λ n g. stands_either db.relations slot k None q f (λ i is. absurd (never_some is)) (λ m h. s.names j k p q g h same));
   indexes = λ k index e. kept_index index (s.indexes k index e) (unindexed k index e);
   places = s.places;
   few_tables = s.few_tables;
@@ -164,12 +165,12 @@ put_index db slot index s free sound apart few = record {
   four_cursors = s.four_cursors;
   relations = s.relations;
   names = s.names;
-  indexes = λ k other e. stands_either db.indexes slot k (Some index) other e (λ i is. subst (IsSoundIndex db.relations) (some_same is) sound) (λ n f. s.indexes k other f);
+  indexes = λ k other e. stands_either db.indexes slot k (Some index) other e (λ i is. subst (IsSoundIndex db.relations) (some_alike is) sound) (λ n f. s.indexes k other f);
   places = λ j k a b e f relation attribute. stands_either db.indexes slot j (Some index) a e
       (λ i is. stands_either db.indexes slot k (Some index) b f (λ l it. i ∙ sym l)
-      (λ n g. absurd (apart k b g (sym relation ∙ ap (λ i. i.relation) (sym (some_same is))) (sym attribute ∙ ap (λ i. i.attribute) (sym (some_same is))))))
+      (λ n g. absurd (apart k b g (sym relation ∙ ap (λ i. i.relation) (sym (some_alike is))) (sym attribute ∙ ap (λ i. i.attribute) (sym (some_alike is))))))
       (λ n g. stands_either db.indexes slot k (Some index) b f
-      (λ l it. absurd (apart j a g (relation ∙ ap (λ i. i.relation) (sym (some_same it))) (attribute ∙ ap (λ i. i.attribute) (sym (some_same it)))))
+      (λ l it. absurd (apart j a g (relation ∙ ap (λ i. i.relation) (sym (some_alike it))) (attribute ∙ ap (λ i. i.attribute) (sym (some_alike it)))))
       (λ m h. s.places j k a b g h relation attribute));
   few_tables = let more = count_put is_hash_table db.indexes slot index free in omega (arith, few, more);
   cursors = s.cursors;
@@ -183,9 +184,9 @@ out_index db slot s = record {
   four_cursors = s.four_cursors;
   relations = s.relations;
   names = s.names;
-  indexes = λ k other e. stands_either db.indexes slot k None other e (λ i is. absurd (none_some is)) (λ n f. s.indexes k other f);
-  places = λ j k a b e f relation attribute. stands_either db.indexes slot j None a e (λ i is. absurd (none_some is))
-      (λ n g. stands_either db.indexes slot k None b f (λ i is. absurd (none_some is)) (λ m h. s.places j k a b g h relation attribute));
+  indexes = λ k other e. stands_either db.indexes slot k None other e (λ i is. absurd (never_some is)) (λ n f. s.indexes k other f);
+  places = λ j k a b e f relation attribute. stands_either db.indexes slot j None a e (λ i is. absurd (never_some is))
+      (λ n g. stands_either db.indexes slot k None b f (λ i is. absurd (never_some is)) (λ m h. s.places j k a b g h relation attribute));
   few_tables = let less = count_out is_hash_table db.indexes slot in let few = s.few_tables in omega (arith, few, less);
   cursors = s.cursors;
 }
@@ -264,9 +265,9 @@ kept_create_relation db name is s =
         let same : free.slot ≡ slot = omega (arith, number) in
         let none : get_or db.relations slot None ≡ None = ap (λ k. get_or db.relations k None) (sym same) ∙ free.free in
         put_relation (in_version_2 db) slot new (later db s) new_sound
-        (λ old e. absurd (none_some (sym none ∙ e)))
+        (λ old e. absurd (never_some (sym none ∙ e)))
         (λ k q n e is. unnamed db name k q fresh e is)
-        (λ old index k e at i on. absurd (none_some (sym none ∙ e)))
+        (λ old index k e at i on. absurd (never_some (sym none ∙ e)))
 
 -- ---- changes of a relation
 
@@ -304,20 +305,20 @@ kept_changed_later change db name s h =
 -- ---- CREATE ATTRIBUTE
 
 domain_fine : (wanted : DomainAsked) (d : Domain) → domain_asked wanted ≡ Some d → IsDomain d
-domain_fine asked.Int d e = subst IsDomain (some_same e) tt
-domain_fine asked.Long d e = subst IsDomain (some_same e) tt
-domain_fine asked.Time d e = subst IsDomain (some_same e) tt
+domain_fine asked.Int d e = subst IsDomain (some_alike e) tt
+domain_fine asked.Long d e = subst IsDomain (some_alike e) tt
+domain_fine asked.Time d e = subst IsDomain (some_alike e) tt
 domain_fine (asked.Str (pos n)) d e = by_test (nat_le 1 n && nat_le n 32) refl e
   where
     by_test : (b : Bool) → (nat_le 1 n && nat_le n 32) ≡ b → cond b (Some (domain.Str n)) None ≡ Some d → IsDomain d
     by_test true h e =
         let low : 1 ≤ n = grind (arith, nat_tests, h) in
         let high : n ≤ 32 = grind (arith, nat_tests, h) in
-        subst IsDomain (some_same e) (low, high)
-    by_test false h e = absurd (none_some e)
-domain_fine (asked.Str (negsuc n)) d e = absurd (none_some e)
+        subst IsDomain (some_alike e) (low, high)
+    by_test false h e = absurd (never_some e)
+domain_fine (asked.Str (negsuc n)) d e = absurd (never_some e)
 
-all_more : {A : Type 0} (P : A → Type 0) (xs : List A) (x : A) → AllByRecursion P xs → P x → AllByRecursion P (xs ++ x ∷ [])
+pub all_more : {A : Type 0} (P : A → Type 0) (xs : List A) (x : A) → AllByRecursion P xs → P x → AllByRecursion P (xs ++ x ∷ [])
 all_more P [] x h p = (p, tt)
 all_more P (y ∷ xs) x h p = (h.0, all_more P xs x h.1 p)
 
@@ -418,8 +419,8 @@ changes_insert values db s sound at =
 
     -- the last row is in order with the new one
     in_order : (o : Option Row) → fallen (indexes_of db s.0) o values ≡ None → (last : Row) → o ≡ Some last → fallen_from (is_ordered (indexes_of db s.0)) 0 last.tuple values ≡ None
-    in_order None none last e = absurd (none_some e)
-    in_order (Some x) none last e = subst (λ l. fallen_from (is_ordered (indexes_of db s.0)) 0 l.tuple values ≡ None) (some_same e) none
+    in_order None none last e = absurd (never_some e)
+    in_order (Some x) none last e = subst (λ l. fallen_from (is_ordered (indexes_of db s.0)) 0 l.tuple values ≡ None) (some_alike e) none
 
     suit_kind : (kind : IndexKind) (index : Index) (k : ℕ) → index.kind ≡ kind → StandsIn db.indexes k index → index.relation ≡ s.0 → (on : IsIndexOf r index) → unsuited r.schema.attributes values ≡ None
         → fallen (indexes_of db s.0) (slice_get r.rows (length r.rows - 1)) values ≡ None
@@ -583,10 +584,6 @@ kind_one MemHash db ks relation attribute e s =
         let entries : length ks ≤ 2048 = grind (arith, nat_tests, g) in
         (entries, omega (arith, tables))
 
-not_not : (b : Bool) → not b ≡ false → b ≡ true
-not_not true e = refl
-not_not false e = absurd (false_true (sym e))
-
 is_none : {A : Type 0} (o : Option A) → is_some o ≡ false → o ≡ None
 is_none None e = refl
 is_none (Some x) e = absurd (false_true (sym e))
@@ -681,7 +678,7 @@ kept_open db number query s =
     (λ place e. yields_then _ (refuse_if (is_some (cursor_at db place)) no.CursorOpen) (◌>>=◌ (answer_of db query) (opened place))
     (λ v f. yields_by _ (answer_of db query) (opened place)
     (λ rows g. yields_ok _ (with_cursor db place (Some (new rows)), Fine)
-    (put_cursor db place (Some (new rows)) s (λ c is. subst (IsSoundCursor db) (some_same is) ((query_reads db query).yields rows g))))))
+    (put_cursor db place (Some (new rows)) s (λ c is. subst (IsSoundCursor db) (some_alike is) ((query_reads db query).yields rows g))))))
   where
     new : List (List Value) → Cursor
     new rows = record { reads = relations_read query; rows = rows }
@@ -693,7 +690,7 @@ kept_open db number query s =
     at_place place = ◌>>◌ (refuse_if (is_some (cursor_at db place)) no.CursorOpen) (◌>>=◌ (answer_of db query) (opened place))
 
 -- an open cursor stands in its place
-open_stands : (db : Database) (number : ℤ) → Yields (λ (c : ℕ × Cursor). StandsIn db.cursors c.0 c.1) (open_cursor_of db number)
+pub open_stands : (db : Database) (number : ℤ) → Yields (λ (c : ℕ × Cursor). StandsIn db.cursors c.0 c.1) (open_cursor_of db number)
 open_stands db number =
     yields_by _ (found_or (cursor_place number) no.NoCursor) (λ place. ◌>>=◌ (found_or (cursor_at db place) no.NoCursor) (λ cursor. Ok (place, cursor)))
     (λ place e. yields_found _ (cursor_at db place) no.NoCursor (λ cursor. Ok (place, cursor)) (λ cursor f. yields_ok _ (place, cursor) f))
@@ -703,12 +700,12 @@ kept_fetch db number s =
     yields_by _ (open_cursor_of db number) (λ c. Ok (with_cursor db c.0 (Some (record c.1 { rows = drop 1 c.1.rows })), Rows (take 1 c.1.rows)))
     (λ c e. yields_ok _ (with_cursor db c.0 (Some (record c.1 { rows = drop 1 c.1.rows })), Rows (take 1 c.1.rows))
     (put_cursor db c.0 (Some (record c.1 { rows = drop 1 c.1.rows })) s
-    (λ d is. subst (IsSoundCursor db) (some_same is) (s.cursors c.0 c.1 ((open_stands db number).yields c e)))))
+    (λ d is. subst (IsSoundCursor db) (some_alike is) (s.cursors c.0 c.1 ((open_stands db number).yields c e)))))
 
 kept_close : (db : Database) (number : ℤ) → IsSoundDatabase db → Keeps (close_cursor db number)
 kept_close db number s =
     yields_by _ (open_cursor_of db number) (λ c. Ok (with_cursor db c.0 None, Fine))
-    (λ c e. yields_ok _ (with_cursor db c.0 None, Fine) (put_cursor db c.0 None s (λ d is. absurd (none_some is))))
+    (λ c e. yields_ok _ (with_cursor db c.0 None, Fine) (put_cursor db c.0 None s (λ d is. absurd (never_some is))))
 
 -- ---- all commands
 
@@ -748,3 +745,10 @@ empty_sound = record {
   few_tables = omega arith;
   cursors = λ k cursor e. absurd (nothing_stands 4 k cursor e);
 }
+
+pub limit_few : (version : ℕ) → slots_limit version ≤ 32768
+limit_few version = by_test (version == 1)
+  where
+    by_test : (b : Bool) → (if b then 16384 else 32768) ≤ 32768
+    by_test true = omega arith
+    by_test false = omega arith

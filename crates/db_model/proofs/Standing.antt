@@ -7,15 +7,10 @@ use Rattle.std.proofs.lemmas.Slice.Eq.{bytes_eq-Decides}
 use Rattle.db_model.specs.Catalog.{Index}
 use Rattle.db_model.specs.Database.{Relation, Cursor, used_things, free_from, relation_from, index_from, is_on, is_among, reader_from}
 use Rattle.db_model.specs.Sound.{StandsIn}
+use Rattle.padded.proofs.Facts.{never_some, some_alike}
 
 pub false_true : false ≡ true → ⊥
 false_true e = cc
-
-pub none_some : {A : Type 0} {x : A} → None ≡ Some x → ⊥
-none_some e = cc
-
-pub some_same : {A : Type 0} {x y : A} → Some x ≡ Some y → x ≡ y
-some_same e = cc
 
 pub same_or_other : {P : Type 0} (a b : ℕ) → (a ≡ b → P) → ((a ≡ b → ⊥) → P) → P
 same_or_other zero zero same other = same refl
@@ -27,7 +22,7 @@ same_or_other (suc a) (suc b) same other = same_or_other a b (λ e. same (ap suc
 
 -- what stands in a slot then is what it was set to, or stood there before in another slot
 pub stands_either : {A P : Type 0} (slots : List (Option A)) (k j : ℕ) (v : Option A) (x : A) → StandsIn (set slots k v) j x → (j ≡ k → v ≡ Some x → P) → ((j ≡ k → ⊥) → StandsIn slots j x → P) → P
-stands_either [] k j v x e same other = absurd (none_some e)
+stands_either [] k j v x e same other = absurd (never_some e)
 stands_either (y ∷ slots) zero zero v x e same other = same refl e
 stands_either (y ∷ slots) zero (suc j) v x e same other = other (λ i. omega (arith, i)) e
 stands_either (y ∷ slots) (suc k) zero v x e same other = other (λ i. omega (arith, i)) e
@@ -43,16 +38,16 @@ stands_other (y ∷ slots) (suc k) (suc j) v x n e = stands_other slots k j v x 
 
 -- a slot in which something stood holds what it was set to
 pub stands_set : {A : Type 0} (slots : List (Option A)) (k : ℕ) (x y : A) → StandsIn slots k x → StandsIn (set slots k (Some y)) k y
-stands_set [] k x y e = absurd (none_some e)
+stands_set [] k x y e = absurd (never_some e)
 stands_set (z ∷ slots) zero x y e = refl
 stands_set (z ∷ slots) (suc k) x y e = stands_set slots k x y e
 
 pub stands_once : {A : Type 0} (slots : List (Option A)) (k : ℕ) (x y : A) → StandsIn slots k x → StandsIn slots k y → x ≡ y
-stands_once slots k x y e f = some_same (sym e ∙ f)
+stands_once slots k x y e f = some_alike (sym e ∙ f)
 
 pub nothing_stands : {A : Type 0} (n k : ℕ) (x : A) → StandsIn (replicate n None) k x → ⊥
-nothing_stands zero k x e = none_some e
-nothing_stands (suc n) zero x e = none_some e
+nothing_stands zero k x e = never_some e
+nothing_stands (suc n) zero x e = never_some e
 nothing_stands (suc n) (suc k) x e = nothing_stands n k x e
 
 -- the first unused slot, the list's first being slot n
@@ -62,8 +57,8 @@ pub record IsFree {A : Type 0} (n : ℕ) (slots : List (Option A)) (k : ℕ) : T
   pub free : get_or slots slot None ≡ None
 
 pub free_is : {A : Type 0} (n k : ℕ) (slots : List (Option A)) → free_from n slots ≡ Some k → IsFree n slots k
-free_is n k [] e = absurd (none_some e)
-free_is n k (None ∷ slots) e = let same : n ≡ k = some_same e in record { slot = zero; number = omega (arith, same); free = refl }
+free_is n k [] e = absurd (never_some e)
+free_is n k (None ∷ slots) e = let same : n ≡ k = some_alike e in record { slot = zero; number = omega (arith, same); free = refl }
 free_is n k (Some x ∷ slots) e =
     let f = free_is (n + 1) k slots e in
     let number = f.number in
@@ -77,13 +72,13 @@ one true = 1
 one false = 0
 
 pub none_of : {A : Type 0} (test : A → Bool) (slots : List (Option A)) (k : ℕ) (x : A) → length (filter test (used_things slots)) ≡ 0 → StandsIn slots k x → test x ≡ false
-none_of test [] k x none e = absurd (none_some e)
-none_of test (None ∷ slots) zero x none e = absurd (none_some e)
+none_of test [] k x none e = absurd (never_some e)
+none_of test (None ∷ slots) zero x none e = absurd (never_some e)
 none_of test (None ∷ slots) (suc k) x none e = none_of test slots k x none e
 none_of test (Some y ∷ slots) k x none e = by_test (test y) refl none (λ many j d. none_of test slots j x many d)
   where
     here : (k : ℕ) → test y ≡ false → StandsIn (Some y ∷ slots) k x → ((j : ℕ) → StandsIn slots j x → test x ≡ false) → test x ≡ false
-    here zero f e rest = let same : y ≡ x = some_same e in ap test (sym same) ∙ f
+    here zero f e rest = let same : y ≡ x = some_alike e in ap test (sym same) ∙ f
     here (suc k) f e rest = rest k e
 
     by_test : (t : Bool) → test y ≡ t → length (cond t (y ∷ filter test (used_things slots)) (filter test (used_things slots))) ≡ 0
@@ -92,11 +87,11 @@ none_of test (Some y ∷ slots) k x none e = by_test (test y) refl none (λ many
     by_test false f many rest = here k f e (rest many)
 
 pub any_of : {A : Type 0} (test among : A → Bool) (slots : List (Option A)) (k : ℕ) (x : A) → StandsIn slots k x → among x ≡ true → test x ≡ true → list_any test (filter among (used_things slots)) ≡ true
-any_of test among [] k x e a t = absurd (none_some e)
-any_of test among (None ∷ slots) zero x e a t = absurd (none_some e)
+any_of test among [] k x e a t = absurd (never_some e)
+any_of test among (None ∷ slots) zero x e a t = absurd (never_some e)
 any_of test among (None ∷ slots) (suc k) x e a t = any_of test among slots k x e a t
 any_of test among (Some y ∷ slots) zero x e a t =
-    let same : y ≡ x = some_same e in
+    let same : y ≡ x = some_alike e in
     ap (λ b. list_any test (cond b (y ∷ filter among (used_things slots)) (filter among (used_things slots)))) (ap among same ∙ a)
     ∙ ap (λ b. b || list_any test (filter among (used_things slots))) (ap test same ∙ t)
 any_of test among (Some y ∷ slots) (suc k) x e a t = by_test (among y) (test y) (any_of test among slots k x e a t)
@@ -121,7 +116,7 @@ count_put test (None ∷ slots) zero x e = by_test (test x)
     by_test : (b : Bool) → length (cond b (x ∷ filter test (used_things slots)) (filter test (used_things slots))) ≤ one b + length (filter test (used_things slots))
     by_test true = omega arith
     by_test false = omega arith
-count_put test (Some y ∷ slots) zero x e = absurd (none_some (sym e))
+count_put test (Some y ∷ slots) zero x e = absurd (never_some (sym e))
 count_put test (None ∷ slots) (suc k) x e = count_put test slots k x e
 count_put test (Some y ∷ slots) (suc k) x e =
     count_both (test y) y (filter test (used_things (set slots k (Some x)))) (filter test (used_things slots)) (one (test x)) (count_put test slots k x e)
@@ -155,7 +150,7 @@ found_behind name n o slots found f =
     record { slot = suc f.slot; number = omega (arith, number); stands = f.stands; named = f.named }
 
 pub found_from : (name : List ℕ) (n : ℕ) (slots : List (Option Relation)) (found : ℕ × Relation) → relation_from name n slots ≡ Some found → IsFound name n slots found
-found_from name n [] found e = absurd (none_some e)
+found_from name n [] found e = absurd (never_some e)
 found_from name n (None ∷ slots) found e = found_behind name n None slots found (found_from name (n + 1) slots found e)
 found_from name n (Some r ∷ slots) found e = by_test (bytes_eq r.schema.name name) refl e (λ f. found_behind name n (Some r) slots found (found_from name (n + 1) slots found f))
   where
@@ -166,16 +161,16 @@ found_from name n (Some r ∷ slots) found e = by_test (bytes_eq r.schema.name n
 
     by_test : (b : Bool) → bytes_eq r.schema.name name ≡ b → cond b (Some (n, r)) (relation_from name (n + 1) slots) ≡ Some found
         → (relation_from name (n + 1) slots ≡ Some found → IsFound name n (Some r ∷ slots) found) → IsFound name n (Some r ∷ slots) found
-    by_test true h f rest = here found (some_same f) h
+    by_test true h f rest = here found (some_alike f) h
     by_test false h f rest = rest f
 
 -- what stands in a slot is found by its name, or another of that name before it
 pub found_of : (name : List ℕ) (n k : ℕ) (slots : List (Option Relation)) (r : Relation) → StandsIn slots k r → r.schema.name ≡ name → is_some (relation_from name n slots) ≡ true
-found_of name n k [] r e same = absurd (none_some e)
-found_of name n zero (None ∷ slots) r e same = absurd (none_some e)
+found_of name n k [] r e same = absurd (never_some e)
+found_of name n zero (None ∷ slots) r e same = absurd (never_some e)
 found_of name n (suc k) (None ∷ slots) r e same = found_of name (n + 1) k slots r e same
 found_of name n zero (Some q ∷ slots) r e same =
-    let is : q ≡ r = some_same e in
+    let is : q ≡ r = some_alike e in
     ap (λ b. is_some (cond b (Some (n, q)) (relation_from name (n + 1) slots))) ((bytes_eq-Decides q.schema.name name).1 (ap (λ r. r.schema.name) is ∙ same))
 found_of name n (suc k) (Some q ∷ slots) r e same = by_test (bytes_eq q.schema.name name) (found_of name (n + 1) k slots r e same)
   where
@@ -183,41 +178,36 @@ found_of name n (suc k) (Some q ∷ slots) r e same = by_test (bytes_eq q.schema
     by_test true h = refl
     by_test false h = h
 
--- where a name is some relation's, it is found with it
-pub some_found : {A : Type 0} (o : Option A) → is_some o ≡ true → (x : A) × (o ≡ Some x)
-some_found None e = absurd (false_true e)
-some_found (Some x) e = (x, refl)
-
 -- ---- indexes by place, cursors by relation
 
 pub not_on : (relation attribute n k : ℕ) (slots : List (Option Index)) (index : Index) → index_from relation attribute n slots ≡ None → StandsIn slots k index → is_on relation attribute index ≡ false
-not_on relation attribute n k [] index none e = absurd (none_some e)
-not_on relation attribute n zero (None ∷ slots) index none e = absurd (none_some e)
+not_on relation attribute n k [] index none e = absurd (never_some e)
+not_on relation attribute n zero (None ∷ slots) index none e = absurd (never_some e)
 not_on relation attribute n (suc k) (None ∷ slots) index none e = not_on relation attribute (n + 1) k slots index none e
 not_on relation attribute n k (Some other ∷ slots) index none e = by_test (is_on relation attribute other) refl none (λ f j d. not_on relation attribute (n + 1) j slots index f d)
   where
     here : (k : ℕ) → is_on relation attribute other ≡ false → StandsIn (Some other ∷ slots) k index → ((j : ℕ) → StandsIn slots j index → is_on relation attribute index ≡ false) → is_on relation attribute index ≡ false
-    here zero f e rest = let same : other ≡ index = some_same e in ap (is_on relation attribute) (sym same) ∙ f
+    here zero f e rest = let same : other ≡ index = some_alike e in ap (is_on relation attribute) (sym same) ∙ f
     here (suc k) f e rest = rest k e
 
     by_test : (b : Bool) → is_on relation attribute other ≡ b → cond b (Some n) (index_from relation attribute (n + 1) slots) ≡ None
         → (index_from relation attribute (n + 1) slots ≡ None → (j : ℕ) → StandsIn slots j index → is_on relation attribute index ≡ false) → is_on relation attribute index ≡ false
-    by_test true f none rest = absurd (none_some (sym none))
+    by_test true f none rest = absurd (never_some (sym none))
     by_test false f none rest = here k f e (rest none)
 
 pub not_read : (name : List ℕ) (n k : ℕ) (cursors : List (Option Cursor)) (cursor : Cursor) → reader_from name n cursors ≡ None → StandsIn cursors k cursor → is_among name cursor.reads ≡ false
-not_read name n k [] cursor none e = absurd (none_some e)
-not_read name n zero (None ∷ cursors) cursor none e = absurd (none_some e)
+not_read name n k [] cursor none e = absurd (never_some e)
+not_read name n zero (None ∷ cursors) cursor none e = absurd (never_some e)
 not_read name n (suc k) (None ∷ cursors) cursor none e = not_read name (n + 1) k cursors cursor none e
 not_read name n k (Some other ∷ cursors) cursor none e = by_test (is_among name other.reads) refl none (λ f j d. not_read name (n + 1) j cursors cursor f d)
   where
     here : (k : ℕ) → is_among name other.reads ≡ false → StandsIn (Some other ∷ cursors) k cursor → ((j : ℕ) → StandsIn cursors j cursor → is_among name cursor.reads ≡ false) → is_among name cursor.reads ≡ false
-    here zero f e rest = let same : other ≡ cursor = some_same e in ap (λ c. is_among name c.reads) (sym same) ∙ f
+    here zero f e rest = let same : other ≡ cursor = some_alike e in ap (λ c. is_among name c.reads) (sym same) ∙ f
     here (suc k) f e rest = rest k e
 
     by_test : (b : Bool) → is_among name other.reads ≡ b → cond b (Some n) (reader_from name (n + 1) cursors) ≡ None
         → (reader_from name (n + 1) cursors ≡ None → (j : ℕ) → StandsIn cursors j cursor → is_among name cursor.reads ≡ false) → is_among name cursor.reads ≡ false
-    by_test true f none rest = absurd (none_some (sym none))
+    by_test true f none rest = absurd (never_some (sym none))
     by_test false f none rest = here k f e (rest none)
 
 -- what holds of each of some names holds of them by another fact, but for one name that is not among them

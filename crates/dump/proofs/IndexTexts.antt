@@ -12,11 +12,8 @@ use Rattle.db_model.specs.Sound.{IsSoundDatabase, IsSoundIndex}
 use Rattle.antelope_engine.specs.Reading.{index_in_slot, schema_at}
 use Rattle.dump.specs.Parts.{index_lines}
 use Rattle.dump_model.proofs.Lexing.{false_true}
-use Rattle.dump_model.proofs.Slots.{some_same}
 use Rattle.dump_model.specs.Script.{command_line, index_command, attribute_name}
-
-none_some : {A : Type 0} {x : A} → None ≡ Some x → ⊥
-none_some h = cc
+use Rattle.padded.proofs.Facts.{never_some, some_alike}
 
 there : (xs : List Attribute) (p : ℕ) (a : Attribute) → nat_lt p (length xs) ≡ true → a ≡ slice_index_or xs p a → slice_get xs p ≡ Some a
 there [] p a below e = absurd (false_true (none_below p below))
@@ -40,11 +37,11 @@ module _ (db : Database) (sound : IsSoundDatabase db) (k : ℕ) {index : Index} 
 
   -- its relation is there
   pub relation_there : None ≡ schema_at db index.relation → ⊥
-  relation_there e = none_some (e ∙ schema_is)
+  relation_there e = never_some (e ∙ schema_is)
 
   module _ {schema : Schema} (found : Some schema ≡ schema_at db index.relation) where
     same_schema : schema ≡ index_is.relation.schema
-    same_schema = some_same (found ∙ schema_is)
+    same_schema = some_alike (found ∙ schema_is)
 
     -- its attribute is there
     pub attribute_there : false ≡ nat_lt index.attribute (length schema.attributes) → ⊥

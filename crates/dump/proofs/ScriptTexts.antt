@@ -13,8 +13,8 @@ use Rattle.db_model.specs.Row.{Row}
 use Rattle.antelope_engine.specs.Reading.{relation_in_slot, schema_at}
 use Rattle.space_model.specs.Enough.{rows_in}
 use Rattle.dump.specs.Parts.{attribute_lines, index_lines, relation_lines, row_lines, schema_lines, slots_of_all}
-use Rattle.dump_model.proofs.Slots.{some_same}
 use Rattle.dump_model.specs.Script.{attribute_command, command_line, index_command, relation_commands, row_command, script}
+use Rattle.padded.proofs.Facts.{some_alike}
 
 live_lines : (name : List ℕ) (rows : List Row) → flat_map command_line (map (row_command name) (live_tuples rows)) ≡ flat_map (row_lines name) rows
 live_lines name [] = refl
@@ -96,4 +96,4 @@ lines_of db k schema h = by_slot (relation_in_slot db k) h
   where
     by_slot : (slot : Option Relation) → option_map (λ r. r.schema) slot ≡ Some schema → relation_lines slot ≡ schema_lines schema ++ flat_map (row_lines schema.name) (rows_of_slot slot)
     by_slot None e = cc
-    by_slot (Some r) e = ap (λ s. schema_lines s ++ flat_map (row_lines s.name) r.rows) (some_same e)
+    by_slot (Some r) e = ap (λ s. schema_lines s ++ flat_map (row_lines s.name) r.rows) (some_alike e)

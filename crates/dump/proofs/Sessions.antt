@@ -9,15 +9,15 @@ use Rattle.db_model.specs.Database.{Database, Relation}
 use Rattle.db_model.specs.Sound.{IsSoundDatabase}
 use Rattle.space_model.specs.Enough.{rows_in}
 use Rattle.dump.specs.Unchanged.{IsAsBefore}
-use Rattle.dump_model.proofs.Facts.{most_slots}
-use Rattle.dump_model.proofs.Slots.{some_same}
+use Rattle.db_model.proofs.SoundSteps.{limit_most}
+use Rattle.padded.proofs.Facts.{some_alike}
 
 pub few_rows : (db : Database) (k : ℕ) → IsSoundDatabase db → length (rows_in db k) ≤ 32768
 few_rows db k is = by_slot (get_or db.relations k None) refl
   where
     by_slot : (slot : Option Relation) → get_or db.relations k None ≡ slot → length (option_map_or (λ r. r.rows) slot []) ≤ 32768
     by_slot None e = omega arith
-    by_slot (Some r) e = let few = (is.relations k r e).slots in let most = most_slots db.version is.version in omega (arith, few, most)
+    by_slot (Some r) e = let few = (is.relations k r e).slots in let most = limit_most db.version is.version in omega (arith, few, most)
 
 -- ---- numbers of slots
 
@@ -28,7 +28,7 @@ pub is_slot : (at : ℕ) (slot : Option ℕ) → at < 32768 → slot ≡ cond (n
 is_slot at slot h e = e ∙ ap (λ t. cond t (Some at) None) (by_bound at h)
 
 pub some_slot : (at : ℕ) {s : ℕ} (slot : Option ℕ) → at < 32768 → slot ≡ cond (nat_lt at 32768) (Some at) None → slot ≡ Some s → s ≡ at
-some_slot at slot h e i = some_same (sym i ∙ is_slot at slot h e)
+some_slot at slot h e i = some_alike (sym i ∙ is_slot at slot h e)
 
 pub no_slot : (at : ℕ) (slot : Option ℕ) → at < 32768 → slot ≡ cond (nat_lt at 32768) (Some at) None → slot ≡ None → ⊥
 no_slot at slot h e i = none (sym i ∙ is_slot at slot h e)

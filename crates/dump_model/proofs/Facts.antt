@@ -1,5 +1,5 @@
 -- What a sound database is, in lists: each used_things slot with those before it.
-use Rattle.std.proofs.Common.{◌≡◌, refl, sym, ap, subst, ◌∙◌, ℕ, ◌+◌, ◌<◌, ◌≤◌, ◌⊎◌, inl, inr, Bool, true, false, List, [], ◌∷◌, ◌++◌, length, map, get_or, append_assoc, arith, cond, Option, Some, None, suc}
+use Rattle.std.proofs.Common.{◌≡◌, refl, sym, ap, subst, ◌∙◌, ℕ, ◌+◌, ◌<◌, ◌≤◌, ◌⊎◌, Bool, true, false, List, [], ◌∷◌, ◌++◌, length, map, get_or, append_assoc, arith, cond, Option, Some, None, suc}
 use Rattle.std.specs.Prelude.{IsTrue, not, ◌&&◌, ◌||◌, ◌==◌, filter, slice_get, ⊤}
 use Rattle.std.specs.List.{list_any, AllByRecursion}
 use Rattle.std.specs.Str.{bytes_eq}
@@ -14,7 +14,8 @@ use Rattle.db_model.specs.Database.{Relation, Database, used_things, is_among, i
 use Rattle.db_model.specs.Names.{is_name}
 use Rattle.db_model.specs.Row.{Row, AllRowsSuit, row_length}
 use Rattle.db_model.specs.Sound.{IsSoundAttribute, IsSoundDatabase, IsSoundIndex, IsSoundRelation, StandsIn, SuitKind, are_distinct, attribute_names}
-use Rattle.db_model.specs.Step.{allows, keys, key_of, first_fall, slots_limit}
+use Rattle.db_model.specs.Step.{allows, keys, key_of, first_fall}
+use Rattle.db_model.proofs.SoundSteps.{limit_most}
 
 abbrev pub relation_names : List Relation → List (List ℕ)
 relation_names relations = map (λ r. r.schema.name) relations
@@ -68,10 +69,6 @@ listed_attributes : (version : ℕ) (attributes : List Attribute) → AllByRecur
 listed_attributes version [] h = tt
 listed_attributes version (a ∷ attributes) h = ((h.0.name, h.0.domain), listed_attributes version attributes h.1)
 
-pub most_slots : (version : ℕ) → (version ≡ 1) ⊎ (version ≡ 2) → slots_limit version ≤ 32768
-most_slots version (inl one) = let e : slots_limit 1 ≤ 32768 = omega arith in subst (λ v. slots_limit v ≤ 32768) (sym one) e
-most_slots version (inr two) = let e : slots_limit 2 ≤ 32768 = omega arith in subst (λ v. slots_limit v ≤ 32768) (sym two) e
-
 some_attribute : (attributes : List Attribute) (rows : List Row) → (attributes ≡ [] → rows ≡ []) → 0 < length rows → 0 < length attributes
 some_attribute [] rows filled some = let e = ap length (filled refl) in absurd (omega (arith, e, some))
 some_attribute (a ∷ attributes) rows filled some = omega arith
@@ -84,7 +81,7 @@ relation_facts version r known is = record {
   short = is.schema.short;
   distinct = is.schema.distinct;
   rows = is.rows;
-  slots = let most = most_slots version known in let few = is.slots in omega (arith, most, few);
+  slots = let most = limit_most version known in let few = is.slots in omega (arith, most, few);
   filled = some_attribute r.schema.attributes r.rows is.filled;
 }
 

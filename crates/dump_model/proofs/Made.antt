@@ -32,12 +32,9 @@ use Rattle.dump_model.proofs.Cutting.{lines_cut, lines_short, lines_whole}
 use Rattle.dump_model.proofs.Lexing.{IsPrintedValue, and_left, and_right}
 use Rattle.dump_model.proofs.MakingIndexes.{AreUsed, makes_index, with_indexes}
 use Rattle.dump_model.proofs.MakingRelations.{makes-append, relations_made, with_relations}
-use Rattle.dump_model.proofs.Slots.{some_same, used_few}
+use Rattle.dump_model.proofs.Slots.{used_few}
 use Rattle.dump_model.proofs.Texts.{IsPrinted, IsPrintedDomain, ArePrintedValues, text_spells}
-
-all-append : {A : Type 0} (P : A → Type 0) (xs ys : List A) → AllByRecursion P xs → AllByRecursion P ys → AllByRecursion P (xs ++ ys)
-all-append P [] ys h i = i
-all-append P (x ∷ xs) ys h i = (h.0, all-append P xs ys h.1 i)
+use Rattle.padded.proofs.Facts.{some_alike, all_append}
 
 -- ---- all commands are carried out
 
@@ -45,7 +42,7 @@ sound_at : (slots : List (Option Relation)) (k : ℕ) (r : Relation) → AllByRe
 sound_at [] k r all h = cc
 sound_at (None ∷ slots) zero r all h = cc
 sound_at (None ∷ slots) (suc k) r all h = sound_at slots k r all h
-sound_at (Some q ∷ slots) zero r all h = subst RelationFacts (some_same h) all.0
+sound_at (Some q ∷ slots) zero r all h = subst RelationFacts (some_alike h) all.0
 sound_at (Some q ∷ slots) (suc k) r all h = sound_at slots k r all.1 h
 
 makes_indexes : (slots : List (Option Relation)) (before rest : List Index) → AllByRecursion RelationFacts (used_things slots) → IsTrue (are_distinct (relation_names (used_things slots))) → length (before ++ rest) ≤ 8 → AreUsed slots before → AllIndexFacts slots before rest
@@ -56,7 +53,7 @@ makes_indexes slots before (index ∷ rest) relations distinct few used_before a
     let many = length-append before (index ∷ rest) in
     let state : List Index → Database = λ xs. with_indexes (map packed_relation (used_things slots)) (map (moved_index slots) xs) in
     let one = makes_index slots before index distinct (omega (arith, many, few)) used_before are.0 (sound_at slots index.relation are.0.relation relations are.0.used).distinct in
-    let others = makes_indexes slots (before ++ index ∷ []) rest relations distinct (rw same few) (all-append _ before (index ∷ []) used_before ((are.0.relation, are.0.used), tt)) are.1 in
+    let others = makes_indexes slots (before ++ index ∷ []) rest relations distinct (rw same few) (all_append _ before (index ∷ []) used_before ((are.0.relation, are.0.used), tt)) are.1 in
     (state (before ++ index ∷ []), one, subst (λ xs. Makes (state (before ++ index ∷ [])) (map (index_command slots) rest) (state xs)) same others)
 
 pub makes_packed : (db : Database) → DatabaseFacts db → Makes empty_database (script_commands db) (packed db)
@@ -134,13 +131,13 @@ printed_relations (r ∷ rs) h =
     let attributes = printed_attributes r.schema.name r.schema.attributes is.name is.attributes in
     let rows = printed_rows r.schema.name r.schema.attributes r.rows is.name is.filled is.few is.rows in
     subst (AllByRecursion IsPrinted) (sym (flat_map-cons relation_commands r rs))
-    (all-append IsPrinted (relation_commands r) (flat_map relation_commands rs)
-    (is.name, all-append IsPrinted (map (attribute_command r.schema.name) r.schema.attributes) (map (row_command r.schema.name) (live_tuples r.rows)) attributes rows)
+    (all_append IsPrinted (relation_commands r) (flat_map relation_commands rs)
+    (is.name, all_append IsPrinted (map (attribute_command r.schema.name) r.schema.attributes) (map (row_command r.schema.name) (live_tuples r.rows)) attributes rows)
     (printed_relations rs h.1))
 
 name_printed : (attributes : List Attribute) (p : ℕ) (a : Attribute) → AllByRecursion IsAttribute attributes → slice_get attributes p ≡ Some a → IsTrue (is_name a.name)
 name_printed [] p a all h = cc
-name_printed (b ∷ attributes) zero a all h = subst (λ c. IsTrue (is_name c.name)) (some_same h) all.0.0
+name_printed (b ∷ attributes) zero a all h = subst (λ c. IsTrue (is_name c.name)) (some_alike h) all.0.0
 name_printed (b ∷ attributes) (suc p) a all h = name_printed attributes p a all.1 h
 
 printed_index : (slots : List (Option Relation)) (before : List Index) (index : Index) → AllByRecursion RelationFacts (used_things slots) → IndexFacts slots before index → IsPrinted (index_command slots index)
@@ -157,7 +154,7 @@ printed_indexes slots before (index ∷ rest) relations are = (printed_index slo
 
 pub printed : (db : Database) → DatabaseFacts db → AllByRecursion IsPrinted (script_commands db)
 printed db is =
-    all-append IsPrinted (flat_map relation_commands (used_things db.relations)) (map (index_command db.relations) (used_things db.indexes))
+    all_append IsPrinted (flat_map relation_commands (used_things db.relations)) (map (index_command db.relations) (used_things db.indexes))
     (printed_relations (used_things db.relations) is.relations)
     (printed_indexes db.relations [] (used_things db.indexes) is.relations is.indexes)
 

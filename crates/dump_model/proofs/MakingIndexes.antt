@@ -25,7 +25,8 @@ use Rattle.dump_model.specs.Script.{index_command, attribute_name}
 use Rattle.db_model.specs.Sound.{are_distinct, attribute_names}
 use Rattle.dump_model.proofs.Facts.{IndexFacts, SuitsKind, relation_names}
 use Rattle.dump_model.proofs.Lexing.{false_true, and_left, and_right}
-use Rattle.dump_model.proofs.Slots.{not_true, not_first, or_left, or_right, or_true, some_same, same_name, slot_free, slot_taken, used_front}
+use Rattle.dump_model.proofs.Slots.{not_true, not_first, or_right, or_true, same_name, slot_free, slot_taken, used_front}
+use Rattle.padded.proofs.Facts.{filter_few, some_alike, neither_left}
 
 -- ---- an attribute at its place
 
@@ -33,14 +34,14 @@ use Rattle.dump_model.proofs.Slots.{not_true, not_first, or_left, or_right, or_t
 among_attributes : (attributes : List Attribute) (p : ℕ) (a : Attribute) → slice_get attributes p ≡ Some a → is_among a.name (attribute_names attributes) ≡ true
 among_attributes [] p a h = cc
 among_attributes (b ∷ attributes) zero a h =
-    let same : b ≡ a = some_same h in
+    let same : b ≡ a = some_alike h in
     ap (λ c. bytes_eq c.name a.name || is_among a.name (attribute_names attributes)) same ∙ ap (λ t. t || is_among a.name (attribute_names attributes)) (same_name a.name)
 among_attributes (b ∷ attributes) (suc p) a h = or_true (bytes_eq b.name a.name) (among_attributes attributes p a h)
 
 placed_from : (attributes : List Attribute) (n p : ℕ) (a : Attribute) → IsTrue (are_distinct (attribute_names attributes)) → slice_get attributes p ≡ Some a → place_from a.name n attributes ≡ Some (n + p)
 placed_from [] n p a distinct h = cc
 placed_from (b ∷ attributes) n zero a distinct h =
-    let same : b ≡ a = some_same h in
+    let same : b ≡ a = some_alike h in
     let e : n ≡ n + 0 = omega arith in
     ap (λ c. cond (bytes_eq c.name a.name) (Some n) (place_from a.name (n + 1) attributes)) same
     ∙ ap (λ t. cond t (Some n) (place_from a.name (n + 1) attributes)) (same_name a.name)
@@ -60,7 +61,7 @@ among_relations [] k r h = cc
 among_relations (None ∷ slots) zero r h = cc
 among_relations (None ∷ slots) (suc k) r h = among_relations slots k r h
 among_relations (Some q ∷ slots) zero r h =
-    let same : q ≡ r = some_same h in
+    let same : q ≡ r = some_alike h in
     ap (λ c. bytes_eq c.schema.name r.schema.name || is_among r.schema.name (relation_names (used_things slots))) same ∙ ap (λ t. t || is_among r.schema.name (relation_names (used_things slots))) (same_name r.schema.name)
 among_relations (Some q ∷ slots) (suc k) r h = or_true (bytes_eq q.schema.name r.schema.name) (among_relations slots k r h)
 
@@ -70,7 +71,7 @@ moved_from [] n k r behind distinct h = cc
 moved_from (None ∷ slots) n zero r behind distinct h = cc
 moved_from (None ∷ slots) n (suc k) r behind distinct h = moved_from slots n k r behind distinct h
 moved_from (Some q ∷ slots) n zero r behind distinct h =
-    let same : q ≡ r = some_same h in
+    let same : q ≡ r = some_alike h in
     let e : n ≡ n + 0 = omega arith in
     let rest = relation_from r.schema.name (n + 1) (map (λ x. Some x) (map packed_relation (used_things slots)) ++ behind) in
     ap (λ c. cond (bytes_eq c.schema.name r.schema.name) (Some (n, packed_relation c)) rest) same
@@ -158,14 +159,6 @@ live_rises place (row ∷ rows) h = by_live row.live (live_behind place key rows
     by_live true i j = i
     by_live false i j = j
 
-filter_few : {A : Type 0} (p : A → Bool) (xs : List A) → length (filter p xs) ≤ length xs
-filter_few p [] = omega arith
-filter_few p (x ∷ xs) = by_test (p x) (filter_few p xs)
-  where
-    by_test : (t : Bool) → length (filter p xs) ≤ length xs → length (cond t (x ∷ filter p xs) (filter p xs)) ≤ length (x ∷ xs)
-    by_test true h = omega (arith, h)
-    by_test false h = omega (arith, h)
-
 -- ---- the indexes so far
 
 abbrev pub with_indexes : List Relation → List Index → Database
@@ -193,7 +186,7 @@ absent_index slots k place n (suc m) r [] is used_things alone = absent_index sl
 absent_index slots k place n m r (index ∷ indexes) is used_things alone =
     let rest = absent_index slots k place (n + 1) m r indexes is used_things.1 (or_right (is_on k place index) (list_any (is_on k place) indexes) alone) in
     ap (λ t. cond t (Some n) (index_from (new_slot slots k) place (n + 1) (map (λ x. Some x) (map (moved_index slots) indexes) ++ replicate m None)))
-    (by_test (new_slot slots index.relation == new_slot slots k) (index.attribute == place) refl refl (or_left (is_on k place index) (list_any (is_on k place) indexes) alone))
+    (by_test (new_slot slots index.relation == new_slot slots k) (index.attribute == place) refl refl (neither_left (is_on k place index) (list_any (is_on k place) indexes) alone))
     ∙ rest
   where
     by_test : (s t : Bool) → (new_slot slots index.relation == new_slot slots k) ≡ s → (index.attribute == place) ≡ t → is_on k place index ≡ false → (s && t) ≡ false

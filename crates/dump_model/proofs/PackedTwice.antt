@@ -15,8 +15,9 @@ use Rattle.dump_model.specs.Packed.{kept_rows, moved_index, new_slot, packed, pa
 use Rattle.dump_model.specs.Script.{attribute_command, command_line, index_command, attribute_name, relation_commands, row_command, script, script_commands}
 use Rattle.dump_model.proofs.Facts.{AllIndexFacts, database_facts}
 use Rattle.dump_model.proofs.Made.{makes_packed, printed}
-use Rattle.dump_model.proofs.Slots.{some_same, used_front}
+use Rattle.dump_model.proofs.Slots.{used_front}
 use Rattle.dump_model.proofs.Texts.{IsPrinted}
+use Rattle.padded.proofs.Facts.{some_alike}
 
 -- ---- it is sound
 
@@ -79,7 +80,7 @@ moved_there : (slots : List (Option Relation)) (k : ℕ) (r : Relation) (behind 
 moved_there [] k r behind h = cc
 moved_there (None ∷ slots) zero r behind h = cc
 moved_there (None ∷ slots) (suc k) r behind h = moved_there slots k r behind h
-moved_there (Some q ∷ slots) zero r behind h = ap (λ x. Some (packed_relation x)) (some_same h)
+moved_there (Some q ∷ slots) zero r behind h = ap (λ x. Some (packed_relation x)) (some_alike h)
 moved_there (Some q ∷ slots) (suc k) r behind h = moved_there slots k r behind h
 
 -- the new slot of a slot that is used_things already is the same

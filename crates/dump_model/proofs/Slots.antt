@@ -10,16 +10,14 @@ use Rattle.dump_model.specs.Packed.{slots_for}
 use Rattle.db_model.specs.Sound.{are_distinct}
 use Rattle.dump_model.proofs.Facts.{relation_names}
 use Rattle.dump_model.proofs.Lexing.{false_true, and_left, and_right}
+use Rattle.db_model.proofs.SoundRows.{other_name}
+use Rattle.padded.proofs.Facts.{neither_left}
 
 -- ---- tests
 
 pub not_true : (b : Bool) → IsTrue (not b) → b ≡ false
 not_true true h = absurd (false_true h)
 not_true false h = refl
-
-pub or_left : (a b : Bool) → (a || b) ≡ false → a ≡ false
-or_left true b h = h
-or_left false b h = refl
 
 pub or_right : (a b : Bool) → (a || b) ≡ false → b ≡ false
 or_right true b h = absurd (false_true (sym h))
@@ -29,19 +27,8 @@ pub or_true : (a : Bool) {b : Bool} → b ≡ true → (a || b) ≡ true
 or_true true h = refl
 or_true false h = h
 
-pub some_same : {A : Type 0} {x y : A} → Some x ≡ Some y → x ≡ y
-some_same h = cc
-
 pub same_name : (name : List ℕ) → bytes_eq name name ≡ true
 same_name name = (bytes_eq-Decides name name).1 refl
-
--- whether two names are one does not depend on their order
-pub other_name : (m n : List ℕ) → bytes_eq m n ≡ false → bytes_eq n m ≡ false
-other_name m n h = by_test (bytes_eq n m) refl
-  where
-    by_test : (b : Bool) → bytes_eq n m ≡ b → b ≡ false
-    by_test true e = absurd (false_true (sym h ∙ (bytes_eq-Decides m n).1 (sym ((bytes_eq-Decides n m).0 e))))
-    by_test false e = refl
 
 -- a name that is none of some is another than each of them
 pub not_first : (m n : List ℕ) (names : List (List ℕ)) → is_among m names ≡ false → is_among n names ≡ true → bytes_eq m n ≡ false
@@ -61,7 +48,7 @@ among_front name (x ∷ xs) ys h =
     ap (λ t. t || is_among name xs) (other_name name x one) ∙ rest
   where
     among_seam : (zs : List (List ℕ)) → is_among x (zs ++ name ∷ ys) ≡ false → bytes_eq name x ≡ false
-    among_seam [] e = or_left (bytes_eq name x) (is_among x ys) e
+    among_seam [] e = neither_left (bytes_eq name x) (is_among x ys) e
     among_seam (z ∷ zs) e = among_seam zs (or_right (bytes_eq z x) (is_among x (zs ++ name ∷ ys)) e)
 
 -- ---- slots filled from the front
@@ -121,7 +108,7 @@ absent_in name n (suc m) = absent_in name (n + 1) m
 absent_from : (name : List ℕ) (n : ℕ) (rs : List Relation) (m : ℕ) → is_among name (relation_names rs) ≡ false → relation_from name n (map (λ x. Some x) rs ++ replicate m None) ≡ None
 absent_from name n [] m fresh = absent_in name n m
 absent_from name n (r ∷ rs) m fresh =
-    let other = or_left (bytes_eq r.schema.name name) (is_among name (relation_names rs)) fresh in
+    let other = neither_left (bytes_eq r.schema.name name) (is_among name (relation_names rs)) fresh in
     ap (λ t. cond t (Some (n, r)) (relation_from name (n + 1) (map (λ x. Some x) rs ++ replicate m None))) other
     ∙ absent_from name (n + 1) rs m (or_right (bytes_eq r.schema.name name) (is_among name (relation_names rs)) fresh)
 
@@ -133,7 +120,7 @@ found_from n [] r behind fresh =
     let e : n ≡ n + 0 = omega arith in
     ap (λ t. cond t (Some (n, r)) (relation_from r.schema.name (n + 1) behind)) (same_name r.schema.name) ∙ ap (λ k. Some (k, r)) e
 found_from n (q ∷ rs) r behind fresh =
-    let other = or_left (bytes_eq q.schema.name r.schema.name) (is_among r.schema.name (relation_names rs)) fresh in
+    let other = neither_left (bytes_eq q.schema.name r.schema.name) (is_among r.schema.name (relation_names rs)) fresh in
     let e : (n + 1) + length rs ≡ n + length (q ∷ rs) = omega arith in
     ap (λ t. cond t (Some (n, q)) (relation_from r.schema.name (n + 1) (map (λ x. Some x) rs ++ Some r ∷ behind))) other
     ∙ found_from (n + 1) rs r behind (or_right (bytes_eq q.schema.name r.schema.name) (is_among r.schema.name (relation_names rs)) fresh)

@@ -12,7 +12,7 @@ use Rattle.db_model.specs.Database.{Database, Relation, empty_database}
 use Rattle.db_model.specs.Sound.{IsSoundDatabase, IsSoundIndex, IsSoundRelation, StandsIn}
 use Rattle.dump_model.specs.Packed.{packed}
 use Rattle.dump_model.specs.Script.{command_line, script}
-use Rattle.dump_model.proofs.Slots.{some_same}
+use Rattle.padded.proofs.Facts.{some_alike}
 
 pub nothing : script empty_database ≡ []
 nothing = refl
@@ -116,7 +116,7 @@ sound_samples = record {
 sampled_relation : (k : ℕ) (r : Relation) → StandsIn sampled.relations k r → (k ≡ 2) × (samples ≡ r)
 sampled_relation zero r h = cc
 sampled_relation (suc zero) r h = cc
-sampled_relation (suc (suc zero)) r h = (refl, some_same h)
+sampled_relation (suc (suc zero)) r h = (refl, some_alike h)
 sampled_relation (suc (suc (suc k))) r h = absurd (no_slot 5 k r h)
 
 abbrev on_key : Index
@@ -125,7 +125,7 @@ on_key = record { kind = Inline; relation = 2; attribute = 0 }
 sampled_index : (k : ℕ) (index : Index) → StandsIn sampled.indexes k index → (k ≡ 2) × (on_key ≡ index)
 sampled_index zero index h = cc
 sampled_index (suc zero) index h = cc
-sampled_index (suc (suc zero)) index h = (refl, some_same h)
+sampled_index (suc (suc zero)) index h = (refl, some_alike h)
 sampled_index (suc (suc (suc k))) index h = absurd (no_slot 5 k index h)
 
 sound_key : IsSoundIndex sampled.relations on_key

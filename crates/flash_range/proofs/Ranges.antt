@@ -6,6 +6,7 @@ use borrow.Rule.Slice.PartMut.{put_mid}
 use Rattle.afl_base.proofs.Images.{or_at_before, or_at_inside, or_at_behind}
 use Rattle.afl_base.specs.Image.{or_at, or_front}
 use Rattle.flash_range.specs.Range.{IsCutRange, Outside, pages_touched}
+use Rattle.padded.proofs.Facts.{zero_or_more}
 
 -- a piece that ends with its page, or with the range, touches one page more
 pub touched_more : (place done n len : ℕ) → n ≡ min (len - done) (256 - (place + done) % 256) → done < len → (0 < done → done < len → (place + done) % 256 ≡ 0) → pages_touched place (done + n) ≡ pages_touched place done + 1
@@ -87,20 +88,7 @@ program_more image bytes place done n h l =
     or_at-next image place done (take done bytes) (take n (drop done bytes)) (sym (length-take-le done bytes (omega arith))) (omega arith)
     ∙ ap (λ t. or_at image place t) (sym (take_add bytes done n))
 
-or_front-nothing : (xs : List ℕ) → or_front xs [] ≡ xs
-or_front-nothing [] = refl
-or_front-nothing (x ∷ xs) = refl
-
--- where nothing is programmed, nothing changes
-pub or_at-nothing : (image : List ℕ) (at : ℕ) → or_at image at [] ≡ image
-unfolding or_at
-or_at-nothing image at = ap (λ t. take at image ++ t) (or_front-nothing (drop at image)) ∙ take-append-drop at image
-
 -- cuts
-
-zero_or : (n : ℕ) → (n ≡ 0) ⊎ (0 < n)
-zero_or zero = inl refl
-zero_or (suc n) = inr (omega arith)
 
 -- a cut behind pieces that are done is a cut in the range
 pub cut_more : (image mid new bytes rest : List ℕ) (place from done : ℕ) → mid ≡ or_at image place (take done bytes) → IsCutRange mid new from rest → from ≡ place + done → rest ≡ drop done bytes
@@ -114,7 +102,7 @@ cut_more image mid new bytes rest place from done front cut here is fits low tur
       whole = λ few one. ⊎_elim
           (λ (z : done ≡ 0). ⊎_elim (λ (n : cut.done ≡ 0). inl (omega arith)) (λ (a : cut.done ≡ length rest). inr (omega arith)) (cut.whole (omega arith) (omega arith)))
           (λ (s : 0 < done). let t = turn s in absurd (omega arith))
-          (zero_or done);
+          (zero_or_more done);
       is = cut.is ∙ ap (λ m. or_at m from (take cut.done rest)) front ∙ ap (λ p. or_at (or_at image place (take done bytes)) p (take cut.done rest)) here
           ∙ ap (λ xs. or_at (or_at image place (take done bytes)) (place + done) (take cut.done xs)) is
           ∙ program_more image bytes place done cut.done fits (omega arith);

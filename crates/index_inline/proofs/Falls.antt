@@ -15,11 +15,11 @@ use Rattle.index_inline.specs.Span.{IsPassedFront, IsSpan, KeysRise, passes_end,
 -- ---- lists
 
 -- a list that does not fall has no fall at its front, and none behind it
-not_first : (b : Bool) (a : ℤ) (rest : Option ℤ) → cond b (Some a) rest ≡ None → b ≡ false
+pub not_first : (b : Bool) (a : ℤ) (rest : Option ℤ) → cond b (Some a) rest ≡ None → b ≡ false
 not_first true a rest e = cc
 not_first false a rest e = refl
 
-none_behind : (b : Bool) (a : ℤ) (rest : Option ℤ) → cond b (Some a) rest ≡ None → rest ≡ None
+pub none_behind : (b : Bool) (a : ℤ) (rest : Option ℤ) → cond b (Some a) rest ≡ None → rest ≡ None
 none_behind true a rest e = cc
 none_behind false a rest e = e
 

@@ -22,7 +22,7 @@ use Rattle.index_tree.specs.TreeFile.{IsTree, next_number, bucket_place, number_
 use Rattle.index_tree.proofs.Added.{same_bucket, same_or, zero_or, passes_all}
 use Rattle.index_tree.proofs.Counted.{buckets_more, chain}
 use Rattle.index_tree.proofs.Filters.{rises_map}
-use Rattle.index_tree.proofs.Loaded.{counts_more, counts_none, end_level, end_there, pairs_more, zeros_few}
+use Rattle.index_tree.proofs.Loaded.{counts_more, counts_none, end_level, end_there, pairs_more, zeros_few, reach_none}
 use Rattle.index_tree.proofs.PutBucket.{Appends, IsNew, Way, appends, bucket_kept, bucket_put, kept, named_at, new_or, old_is_other}
 use Rattle.index_tree.proofs.PutPair.{adds_pair, pair_put}
 use Rattle.index_tree.proofs.Reach.{reach-append}
@@ -467,10 +467,6 @@ empty_number key (suc (suc (suc zero))) = let s = node_small key 3 (omega arith)
 empty_number key (suc (suc (suc (suc zero)))) = let s = node_small key 4 (omega arith) in empty_head (2 * node key 4) (omega (arith, s))
 empty_number key (suc (suc (suc (suc (suc h))))) = ap (next_number empty_tree key (suc (suc (suc (suc h))))) (empty_number key (suc (suc (suc (suc h)))))
 
-nothing : (key : ℤ) (l : ℕ) → reaching (goes key) l [] ≡ []
-nothing key zero = refl
-nothing key (suc l) = rw (nothing key l) refl
-
 empty_size : length empty_tree ≡ 683
 unfolding empty_tree
 empty_size = length-put_at (replicate 683 0) (1 ∷ []) 682 (omega arith)
@@ -484,7 +480,7 @@ empty_is = record {
   few = omega arith;
   size = empty_size;
   mark = mark_of_empty;
-  each = λ key h. record { none = λ z. nothing key h; some = λ s. absurd (s (empty_number key h)); within = λ s. absurd (s (empty_number key h)); holds = λ s. absurd (s (empty_number key h)) };
+  each = λ key h. record { none = λ z. reach_none key h; some = λ s. absurd (s (empty_number key h)); within = λ s. absurd (s (empty_number key h)); holds = λ s. absurd (s (empty_number key h)) };
   upper = λ key h low s. absurd (s (empty_number key h));
 }
 

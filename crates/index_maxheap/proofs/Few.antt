@@ -2,9 +2,10 @@
 use Rattle.std.proofs.Common.{◌≡◌, ◌≤◌, ◌+◌, ℕ, ℤ, List, [], ◌∷◌, ◌++◌, length, replicate, refl, arith, ap, ◌∙◌, sym, length-append}
 use Rattle.index_tree.specs.Loads.{Loads}
 use Rattle.index_tree.specs.Pairs.{Pair, pair_keys}
-use Rattle.index_tree.proofs.Counted.{buckets_few, length-keys}
+use Rattle.index_tree.proofs.Counted.{length-keys}
 use Rattle.index_tree.proofs.Loaded.{counts_none}
 use Rattle.index_maxheap.specs.Builds.{AreLoads}
+use Rattle.db_model.proofs.Buckets.{buckets_bound}
 
 pub loads_none : AreLoads (replicate 341 0) 0 0
 loads_none = ([], refl, counts_none, refl)
@@ -19,7 +20,7 @@ pub loads_few : (loads : List ℕ) (slots n : ℕ) → AreLoads loads slots n �
 loads_few loads slots n kept few =
     let ps : List Pair = kept.0 in
     let long : length (pair_keys ps) ≡ length ps = length-keys ps in
-    let most = buckets_few (pair_keys ps) in
+    let most = buckets_bound (pair_keys ps) in
     let count = kept.1 in
     let is = kept.3 in
     omega (arith, long, most, count, is, few)

@@ -4,7 +4,7 @@ use Rattle.std.specs.Prelude.{◌&&◌, nat_le}
 use Rattle.std.specs.List.{filter}
 use Rattle.std.specs.Ordering.{int_eq}
 use Rattle.std.proofs.lemmas.Bool.Decides.{nat_tests}
-use Rattle.padded.proofs.Facts.{both_parts}
+use Rattle.padded.proofs.Facts.{both_parts, le_true, true_le}
 use Rattle.afl_base.specs.Keys.{HasNone, IsFirstOf, is_key_at}
 use Rattle.index_tree.specs.Pairs.{Pair, has_key}
 use Rattle.index_tree.specs.Places.{is_wanted}
@@ -13,17 +13,11 @@ use Rattle.index_tree.proofs.Reach.{filter_weaker}
 
 -- ---- tests
 
-le_true : (m n : ℕ) → m ≤ n → nat_le m n ≡ true
-le_true m n h = grind (arith, nat_tests)
-
-le_of : (m n : ℕ) → nat_le m n ≡ true → m ≤ n
-le_of m n e = grind (arith, nat_tests)
-
 -- what is wanted from a later slot on is wanted from an earlier one on
 pub later_is : (key : ℤ) (from to : ℕ) → from ≤ to → (p : Pair) → is_wanted key to p ≡ true → is_wanted key from p ≡ true
 later_is key from to h p e =
     let parts = both_parts (has_key key p) (nat_le to p.slot) e in
-    let up : to ≤ p.slot = le_of to p.slot parts.1 in
+    let up : to ≤ p.slot = true_le to p.slot parts.1 in
     let down : nat_le from p.slot ≡ true = le_true from p.slot (omega (arith, up, h)) in
     rw (parts.0, down) refl
 
@@ -83,7 +77,7 @@ first_from key from n slot (k ∷ ks) rest e = by_test (int_eq k key && nat_le f
     by_test true t e deeper =
         let same : n ≡ slot = head (record { key = k; slot = n }) (record { key = key; slot = slot }) (filter (is_wanted key from) (numbered (n + 1) ks)) rest e in
         let parts = both_parts (int_eq k key) (nat_le from n) t in
-        let down : from ≤ n = le_of from n parts.1 in
+        let down : from ≤ n = true_le from n parts.1 in
         let z : slot - n ≡ 0 = omega (arith, same) in
         record {
           up = omega (arith, same);

@@ -15,7 +15,8 @@ use Rattle.index_tree.proofs.Counted.{chain}
 use Rattle.index_tree.proofs.Frames.{part_same, u16_same}
 use Rattle.index_tree.proofs.PutBucket.{behind_chain}
 use Rattle.index_tree.proofs.Shared.{order}
-use Rattle.index_maxheap.proofs.Verified.{load_upper, number_node}
+use Rattle.index_maxheap.proofs.Verified.{number_node}
+use Rattle.index_tree.proofs.Loaded.{load_upper}
 
 -- ---- keys for nodes
 

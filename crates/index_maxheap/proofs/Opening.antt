@@ -1,5 +1,5 @@
 -- What the bytes of a bucket say of the file.
-use Rattle.std.proofs.Common.{◌≡◌, ◌≢◌, ◌≤◌, ◌<◌, ◌+◌, ℕ, ℤ, pos, List, length, true, false, refl, arith, ◌∙◌, sym, ◌⊎◌, ⊎_elim}
+use Rattle.std.proofs.Common.{◌≡◌, ◌≢◌, ◌≤◌, ◌<◌, ◌+◌, ℕ, ℤ, pos, List, length, false, refl, arith, ◌∙◌, sym, ◌⊎◌, ⊎_elim}
 use Rattle.std.specs.Prelude.{slice_range, slice_index}
 use Rattle.std.specs.Ordering.{int_eq}
 use Rattle.std.proofs.lemmas.Bool.Decides.{Decides-int_eq}
@@ -11,9 +11,6 @@ use Rattle.index_tree.specs.Buckets.{HasPair}
 use Rattle.index_maxheap.specs.Verify.{IsTail}
 use Rattle.index_tree.proofs.Frames.{part_same, u16_same}
 use Rattle.index_maxheap.proofs.Walked.{filled_is, holds_part, key_part, last_part, slot_part}
-
-pub eq_true : (x y : ℤ) → int_eq x y ≡ true → x ≡ y
-eq_true x y e = grind (arith, Decides-int_eq)
 
 pub eq_false : (x y : ℤ) → int_eq x y ≡ false → x ≢ y
 eq_false x y e = λ s. grind (arith, Decides-int_eq)

@@ -1,6 +1,6 @@
 -- Pairs that were seen slot by slot make the file the tree.
 use Rattle.std.proofs.Common.{◌≡◌, ◌≢◌, ◌≤◌, ◌<◌, ◌+◌, ◌*◌, ◌-◌, ◌/◌, ◌%◌, ℕ, ℤ, pos, zero, suc, List, [], ◌∷◌, ◌++◌, length, get_or, set, refl, arith, ap, ◌∙◌, sym, ⊎_elim, subst, length-append}
-use Rattle.std.specs.Prelude.{min, slice_index}
+use Rattle.std.specs.Prelude.{slice_index}
 use Rattle.std.proofs.lemmas.List.{get_or-set_other, get_or-set_same, get_or_append_left}
 use Rattle.std.proofs.Math.Seq.{get_or-append_seam}
 use Rattle.db_model.specs.HashTree.{buckets, node}
@@ -16,15 +16,9 @@ use Rattle.index_tree.proofs.Counted.{chain}
 use Rattle.index_tree.proofs.PutBucket.{Way, behind_chain, behind_node, behind_none}
 use Rattle.index_tree.proofs.Shared.{Full, Same, grows, order, reach_same}
 use Rattle.index_tree.proofs.Spots.{node_small}
+use Rattle.index_tree.proofs.Loaded.{load_upper}
 
 -- ---- the last bucket of a node
-
-pub load_upper : (level n : ℕ) → level < 4 → load_of level n ≡ min 32 n
-load_upper zero n h = refl
-load_upper (suc zero) n h = refl
-load_upper (suc (suc zero)) n h = refl
-load_upper (suc (suc (suc zero))) n h = refl
-load_upper (suc (suc (suc (suc more)))) n h = absurd (omega arith)
 
 -- a bucket of an upper node is its last
 upper_hop : (loads : List ℕ) (ps : List Pair) (key : ℤ) (hop : ℕ) → Counts loads ps → hop < 4 → 0 < length (reaching (goes key) hop ps) → (0 < get_or loads (node key hop) 0) × (hop_of hop (get_or loads (node key hop) 0) ≡ hop) × (length (reaching (goes key) hop ps) ≤ 32 → (get_or loads (node key hop) 0 - 1) % 32 + 1 ≡ length (reaching (goes key) hop ps))

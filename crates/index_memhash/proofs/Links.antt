@@ -10,6 +10,7 @@ use Rattle.std.specs.Prelude.{◌&&◌, nat_le}
 use Rattle.std.specs.Ordering.{int_eq}
 use Rattle.index_memhash.specs.Chains.{IsChained, IsTable, chain_at, entry_from, first_from, hash}
 use Rattle.afl_base.specs.Keys.{is_key_at, key_in}
+use Rattle.padded.proofs.Facts.{le_true}
 
 pub hash_small : (key : ℤ) → hash key < 512
 unfolding hash
@@ -263,9 +264,6 @@ module _ (keys : List ℤ) (links last : List ℕ) (key : ℤ) (few : length key
 
 -- ---- the same over a table's arrays
 
-is_at_most : (m n : ℕ) → m ≤ n → nat_le m n ≡ true
-is_at_most m n h = grind (arith, nat_tests)
-
 both_true : (a b : Bool) → a ≡ true → b ≡ true → (a && b) ≡ false → ⊥
 both_true a b e f missed = cc
 
@@ -307,7 +305,7 @@ module _ (keys : List ℤ) (links last : List ℕ) (len : ℕ) (key : ℤ) (size
       ⊎_elim
       (λ (same : i ≡ entry).
       let there : is_key_at key keys entry ≡ true = ap (λ (z : ℤ). int_eq z key) (sym (get_or-take len keys entry (pos 0) h)) ∙ subst (λ (n : ℕ). is_key_at key front n ≡ true) same here in
-      let passed : nat_le from entry ≡ true = is_at_most from entry (omega (arith, k, same)) in
+      let passed : nat_le from entry ≡ true = le_true from entry (omega (arith, k, same)) in
       absurd (both_true (nat_le from entry) (is_key_at key keys entry) passed there missed))
       (λ (differ : i ≢ entry).
       found_rest (512 + entry) at is (omega (arith, h)) (chain_of_entry entry e) (entry + 1) (omega arith) i (omega (arith, reaches, differ)) below here)

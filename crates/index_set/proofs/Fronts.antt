@@ -1,5 +1,5 @@
 -- The keys of the first rows.
-use Rattle.std.proofs.Common.{◌≡◌, ◌≤◌, ◌<◌, ℕ, ℤ, pos, zero, suc, List, [], ◌∷◌, length, get_or, take, Bool, true, false, cond, Option, Some, None, refl, arith, ap, ◌∙◌, sym}
+use Rattle.std.proofs.Common.{◌≡◌, ◌≤◌, ◌<◌, ℕ, ℤ, pos, zero, suc, List, [], ◌∷◌, length, get_or, take, None, refl, arith, ap, ◌∙◌, sym}
 use Rattle.std.specs.Prelude.{int_lt}
 use Rattle.std.proofs.lemmas.List.{ext_get_or, get_or-take, length-take-le, take_all}
 use Rattle.std.proofs.lemmas.List.FromFn.{get_or-map-range_with_len, length-map-range_with_len}
@@ -10,6 +10,7 @@ use Rattle.db_model.specs.Step.{first_fall, keys}
 use Rattle.index_inline.specs.Keys.{keys_of}
 use Rattle.index_set.specs.declared.info.IndexInfo.{IndexInfo}
 use Rattle.index_set.specs.Complete.{HasKeys, key_at_place}
+use Rattle.index_inline.proofs.Falls.{not_first, none_behind}
 
 key_at_slot : (attribute : ℕ) (all : List Row) (slot : ℕ) → get_or (keys attribute all) slot (pos 0) ≡ key_at_place attribute (get_or all slot no_row)
 key_at_slot attribute [] slot = refl
@@ -38,14 +39,6 @@ keys_whole state y all slots count column =
     keys_front state y all slots (omega (arith, count)) column ∙ take_all slots (keys y.attribute all) (omega (arith, n, count))
 
 -- ---- keys that do not fall, from the first on
-
-not_first : (b : Bool) (a : ℤ) (rest : Option ℤ) → cond b (Some a) rest ≡ None → b ≡ false
-not_first true a rest e = cc
-not_first false a rest e = refl
-
-none_behind : (b : Bool) (a : ℤ) (rest : Option ℤ) → cond b (Some a) rest ≡ None → rest ≡ None
-none_behind true a rest e = cc
-none_behind false a rest e = e
 
 pub level_front : (zs : List ℤ) (n : ℕ) → first_fall zs ≡ None → first_fall (take n zs) ≡ None
 level_front [] zero e = refl

@@ -1,5 +1,5 @@
 -- What candidates have ahead, where rows come behind the others.
-use Rattle.std.proofs.Common.{◌≡◌, ℕ, zero, suc, ◌+◌, ◌-◌, ◌<◌, ◌≤◌, Bool, true, false, cond, ℤ, List, [], ◌∷◌, ◌++◌, length, get_or, take, drop, filter, Option, inl, inr, refl, ap, sym, ◌∙◌, subst, arith}
+use Rattle.std.proofs.Common.{◌≡◌, ℕ, zero, suc, ◌+◌, ◌-◌, ◌<◌, ◌≤◌, Bool, ℤ, List, [], ◌∷◌, ◌++◌, length, get_or, take, drop, filter, Option, inl, inr, refl, ap, sym, ◌∙◌, subst, arith}
 use Rattle.std.proofs.lemmas.List.{ext_get_or, get_or-take, length-take-le, take-append-drop}
 use Rattle.std.specs.List.{range_with_len}
 use Rattle.afl_base.specs.Files.{State, bytes_at}
@@ -22,18 +22,13 @@ use Rattle.index_set.specs.Tables.{Tables, entries}
 use Rattle.index_tree.specs.Places.{KeepsNumbers}
 use Rattle.index_tree.specs.Trees.{IsTreeOf}
 use Rattle.index_set.specs.Walks.{Fits, HasGrown, HasIndex, IsChosen, KnowsRows, RowsGrow, Waits, ahead, search_takes}
-
-step : (b c : Bool) → b ≡ c → (a : ℕ) (xs ys : List ℕ) → xs ≡ ys → cond b (a ∷ xs) xs ≡ cond c (a ∷ ys) ys
-step true true e a xs ys same = ap (λ (zs : List ℕ). a ∷ zs) same
-step false false e a xs ys same = same
-step true false e a xs ys same = absurd (cc)
-step false true e a xs ys same = absurd (cc)
+use Rattle.padded.proofs.Facts.{cond_alike}
 
 -- the slots that pass a test, where the test is the same
 pub tests_same : (f g : ℕ → Bool) (a n m : ℕ) → a + n ≤ m → ((i : ℕ) → i < m → f i ≡ g i) → filter f (range_with_len a n) ≡ filter g (range_with_len a n)
 tests_same f g a zero m h same = refl
 tests_same f g a (suc n) m h same =
-    step (f a) (g a) (same a (omega arith)) a (filter f (range_with_len (a + 1) n)) (filter g (range_with_len (a + 1) n))
+    cond_alike (f a) (g a) (same a (omega arith)) a (filter f (range_with_len (a + 1) n)) (filter g (range_with_len (a + 1) n))
     (tests_same f g (a + 1) n m (omega arith) same)
 
 pub ahead_kept : (c : Candidates) (old new : List Row) → RowsGrow old new → Waits c old → ahead c new ≡ ahead c old

@@ -21,6 +21,7 @@ use Rattle.index_set.specs.Tables.{Tables, entries}
 use Rattle.index_set.proofs.Lists.{before_it, here_of, no_tree_more, room_moved, taken}
 use Rattle.index_tree.specs.Places.{KeepsNumbers}
 use Rattle.index_tree.specs.Trees.{IsTreeOf}
+use Rattle.db_model.proofs.SoundSteps.{all_more}
 
 -- ---- an index that stays while others change
 
@@ -46,7 +47,7 @@ away_table number (x ∷ xs) h = (one number x.access h.0, away_table number xs 
     one Second (InTable First) e = tt
     one Second (InTable Second) e = e
 
-no_table : (n : TableId) (access : Access) → IsElsewhere (InTable n) access → IsNoTable n access
+pub no_table : (n : TableId) (access : Access) → IsElsewhere (InTable n) access → IsNoTable n access
 no_table n Order e = tt
 no_table n (Tree other) e = tt
 no_table First (InTable First) e = e
@@ -124,10 +125,6 @@ module _ (a b : State) (s t : Tables) (access : Access) (f : SparesOthers a b (�
   kept_before z (x ∷ xs) away h = (kept_to a b s t (λ k. IsApart k access) f z x.access (earlier_stays a b s t access f x.access keeps away.0) h.0, kept_before z xs away.1 h.1)
 
 -- ---- lists
-
-pub all_more : {T : Type 0} (P : T → Type 0) (xs : List T) (y : T) → AllByRecursion P xs → P y → AllByRecursion P (xs ++ y ∷ [])
-all_more P [] y all here = (here, tt)
-all_more P (x ∷ xs) y all here = (all.0, all_more P xs y all.1 here)
 
 pub all_less : {T : Type 0} (P : T → Type 0) (xs : List T) (y : T) → AllByRecursion P (xs ++ y ∷ []) → AllByRecursion P xs × P y
 all_less P [] y all = (tt, all.0)

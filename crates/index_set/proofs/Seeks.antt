@@ -9,16 +9,16 @@ use Rattle.db_model.specs.Step.{keys}
 use Rattle.afl_base.specs.Keys.{is_key_at}
 use Rattle.index_tree.specs.Trees.{IsTreeOf}
 use Rattle.index_tree.proofs.Numbered.{numbered_length}
-use Rattle.index_tree.proofs.Reach.{filter_shorter}
 use Rattle.index_set.specs.Complete.{key_at_place}
 use Rattle.index_maxheap.specs.Searches.{walk_left}
+use Rattle.padded.proofs.Facts.{filter_few}
 
 -- a walk that is over reads nothing more
 pub walk_over : (bytes : List ℕ) (ks : List ℤ) (key : ℤ) → IsTreeOf bytes ks → walk_left (keys_beside key ks) (Some (record { bucket = 0; pair = 0; hop = 65535 })) ≡ 0
 walk_over bytes ks key tree =
     let few = tree.few in
     let same = numbered_length 0 ks in
-    let less : keys_beside key ks ≤ length ks = filter_shorter (same_path key) ks in
+    let less : keys_beside key ks ≤ length ks = filter_few (same_path key) ks in
     over (keys_beside key ks) (omega (arith, few, same, less))
   where
     over : (e : ℕ) → e ≤ 32768 → 3 * (4 - min 65535 4) + 9 * (6 + e / 32 - 65535) ≡ 0

@@ -21,10 +21,11 @@ use Rattle.index_set.specs.Complete.{AreComplete, AreHeld, HasKeys, HaveKeysOf, 
 use Rattle.index_set.specs.Inserts.{AreApart, IsApart, IsDoublingTree, IsNoTable, KeepsTables}
 use Rattle.index_set.specs.Tables.{Tables, entries}
 use Rattle.index_set.proofs.Fronts.{keys_whole}
-use Rattle.index_set.proofs.Inserted.{all_less, all_more, complete_before, held_before}
+use Rattle.index_set.proofs.Inserted.{all_less, complete_before, held_before}
 use Rattle.index_set.proofs.Lists.{before_it, here_of, take_of, taken}
 use Rattle.afl_base.specs.Keys.{first_keys}
 use Rattle.index_tree.specs.Trees.{IsTreeOf}
+use Rattle.db_model.proofs.SoundSteps.{all_more}
 
 item_at : (xs : List IndexInfo) (n : ℕ) (y : IndexInfo) → n < length xs → y ≡ get_or xs n y → slice_get xs n ≡ Some y
 item_at [] n y h e = absurd (omega (arith, h))

@@ -222,7 +222,3 @@ few_at (suc above) level (k ∷ ks) =
     let sum = split level (drop 32 keys) in
     let cut = length-drop 32 keys in
     omega (arith, a, b, c, d, sum, cut)
-
--- at most one bucket of each node is not full
-pub buckets_few : (keys : List ℤ) → buckets keys ≤ length keys / 32 + 341
-buckets_few keys = few_at 4 0 keys

@@ -13,12 +13,13 @@ use Rattle.index_tree.specs.Ends.{IsPathEnd, spot_of}
 use Rattle.index_tree.specs.Pairs.{Pair, goes, pair_keys, reaching}
 use Rattle.index_tree.specs.Places.{IsGrown, SlotsRise}
 use Rattle.index_tree.specs.TreeFile.{IsTree, bucket_place, number_of, place_of}
-use Rattle.index_tree.proofs.Counted.{buckets_few, length-keys}
+use Rattle.index_tree.proofs.Counted.{length-keys}
 use Rattle.index_tree.proofs.Frames.{SameBytes, i32_same, u16_same}
 use Rattle.index_tree.proofs.PutBucket.{appends, bucket_put}
 use Rattle.index_tree.proofs.PutPair.{pair_put}
 use Rattle.index_tree.proofs.Shared.{order}
 use Rattle.index_tree.proofs.Spots.{byte_stays, i32_stays, u16_stays}
+use Rattle.db_model.proofs.Buckets.{buckets_bound}
 
 -- a path has one end
 
@@ -50,7 +51,7 @@ grown_new old new w two_ ps q hop at tree rises few end none spot fits first lon
 pub tree_small : (bytes : List ℕ) (ps : List Pair) → IsTree bytes ps → length bytes ≤ 268000
 tree_small bytes ps tree =
     let size : length bytes ≡ bucket_place (buckets (pair_keys ps)) = tree.size in
-    let many = buckets_few (pair_keys ps) in
+    let many = buckets_bound (pair_keys ps) in
     let same = length-keys ps in
     let few = tree.few in
     omega (arith, size, many, same, few)
@@ -60,10 +61,6 @@ tree_small bytes ps tree =
 pub long_i32 : (z : ℤ) → length (i32_bytes z) ≡ 4
 unfolding i32_bytes
 long_i32 z = refl
-
-pub long_u16 : (n : ℕ) → length (u16_bytes n) ≡ 2
-unfolding u16_bytes
-long_u16 n = refl
 
 pub pair_is : (a b c : List ℕ) (key : ℤ) (n slot : ℕ) → length a ≡ 6 → b ≡ put_at a 0 (i32_bytes key) → c ≡ put_at b 4 (u16_bytes n) → length (i32_bytes key) ≡ 4 → length (u16_bytes n) ≡ 2 → FitsSigned w32 key → n ≡ slot + 1 → n < 2 ^ 16 → IsPairBytes c (record { key = key; slot = slot })
 pair_is a b c key n slot long b_is c_is four two fits is small =

@@ -9,10 +9,10 @@ use Rattle.index_tree.specs.TreeFile.{IsTree, bucket_place}
 use Rattle.afl_base.specs.Keys.{first_keys, key_in}
 use Rattle.index_tree.specs.Trees.{IsTreeOf}
 use Rattle.index_tree.proofs.Converse.{tree_rules}
-use Rattle.index_tree.proofs.Counted.{buckets_few}
 use Rattle.index_tree.proofs.Numbered.{keys_first, keys_numbered, numbered_length, tree_of_keys, tree_of_pairs}
 use Rattle.index_tree.proofs.Owned.{owned_count}
 use Rattle.index_tree.proofs.Ruled.{each}
+use Rattle.db_model.proofs.Buckets.{buckets_bound}
 
 pub rules_tree : (bytes : List ℕ) (key : ℕ → ℤ) (slots : ℕ) → slots ≤ 32768 → MeetsRules bytes key slots → IsTree bytes (pairs_of key slots)
 rules_tree bytes key slots few r =
@@ -43,14 +43,14 @@ counted bytes keys tree = count (length bytes) (buckets keys) (sized bytes keys 
 
 pub half_many : (bytes : List ℕ) (keys : List ℤ) → IsTreeOf bytes keys → length keys ≤ 16384 → bucket_count bytes ≤ 853
 half_many bytes keys tree few =
-    let most = buckets_few keys in
+    let most = buckets_bound keys in
     let count = counted bytes keys tree in
     omega (arith, few, most, count)
 
 pub most_many : (bytes : List ℕ) (keys : List ℤ) → IsTreeOf bytes keys → bucket_count bytes ≤ 1365
 most_many bytes keys tree =
     let few : length keys ≤ 32768 = (let long = numbered_length 0 keys in let most = tree.few in omega (arith, long, most)) in
-    let most = buckets_few keys in
+    let most = buckets_bound keys in
     let count = counted bytes keys tree in
     omega (arith, few, most, count)
 

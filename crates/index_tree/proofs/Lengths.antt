@@ -3,7 +3,7 @@ use Rattle.std.specs.List.{filter}
 use Rattle.std.proofs.lemmas.List.{length-drop}
 use Rattle.index_tree.specs.Pairs.{Pair, goes, reaching, sifted}
 use Rattle.index_tree.specs.Places.{IsOnPath}
-use Rattle.index_tree.proofs.Reach.{filter_shorter}
+use Rattle.padded.proofs.Facts.{filter_few}
 
 unfoldable pub both : (Pair → Bool) → (Pair → Bool) → Pair → Bool
 both f g p = cond (g p) (f p) false
@@ -53,7 +53,7 @@ deep_from test ps h (suc hop) under full =
     (λ (below : h ≤ hop).
     let before : 32 * (hop - h) + length (reaching test hop ps) ≤ length (reaching test h ps) = deep_from test ps h hop below (λ i k. full i (omega arith)) in
     let enough : 32 ≤ length (reaching test hop ps) = full hop (omega arith) in
-    let less : length (reaching test (suc hop) ps) ≤ length (drop 32 (reaching test hop ps)) = filter_shorter (test hop) (drop 32 (reaching test hop ps)) in
+    let less : length (reaching test (suc hop) ps) ≤ length (drop 32 (reaching test hop ps)) = filter_few (test hop) (drop 32 (reaching test hop ps)) in
     let left : length (drop 32 (reaching test hop ps)) ≡ length (reaching test hop ps) - 32 = length-drop 32 (reaching test hop ps) in
     let next : 32 * (suc hop - h) ≡ 32 * (hop - h) + 32 = omega arith in
     rw next (omega (arith, before, enough, less, left)))

@@ -18,7 +18,7 @@ low_or m n = grind arith
 
 -- ---- loads
 
-load_upper : (level n : ℕ) → level < 4 → load_of level n ≡ min 32 n
+pub load_upper : (level n : ℕ) → level < 4 → load_of level n ≡ min 32 n
 load_upper zero n h = refl
 load_upper (suc zero) n h = refl
 load_upper (suc (suc zero)) n h = refl

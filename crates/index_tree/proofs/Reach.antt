@@ -4,6 +4,7 @@ use Rattle.std.proofs.lemmas.List.{drop-append-le, drop_all, drop_more, length-d
 use Rattle.std.proofs.lemmas.List.Elements.{filter-append}
 use Rattle.index_tree.specs.Pairs.{reaching, sifted}
 use Rattle.index_tree.specs.Places.{IsPlace, ahead_of_place}
+use Rattle.padded.proofs.Facts.{filter_few}
 
 no_truth : false ≡ true → ⊥
 no_truth e = cc
@@ -68,16 +69,12 @@ ahead_end mine test ps hop pair h = ap (filter mine) (drop_all pair (reaching te
 pub ahead_first : {P : Type 0} (mine : P → Bool) (test : ℕ → P → Bool) (ps : List P) → ahead_of_place mine test ps 0 0 ≡ filter mine ps
 ahead_first mine test ps = refl
 
-pub filter_shorter : {P : Type 0} (test : P → Bool) (ps : List P) → length (filter test ps) ≤ length ps
-filter_shorter test [] = omega arith
-filter_shorter test (p ∷ ps) = elim (test p) as (λ b. length (cond b (p ∷ filter test ps) (filter test ps)) ≤ length (p ∷ ps)) [ true ↦ (let less = filter_shorter test ps in omega arith) | false ↦ (let less = filter_shorter test ps in omega arith) ]
-
 -- each full bucket takes 32 pairs from those that go on
 pub deep : {P : Type 0} (test : ℕ → P → Bool) (ps : List P) (hop : ℕ) → ((i : ℕ) → i < hop → 32 ≤ length (reaching test i ps)) → 32 * hop + length (reaching test hop ps) ≤ length ps
 deep test ps zero full = omega arith
 deep test ps (suc hop) full =
     let before : 32 * hop + length (reaching test hop ps) ≤ length ps = deep test ps hop (λ i h. full i (omega arith)) in
     let enough : 32 ≤ length (reaching test hop ps) = full hop (omega arith) in
-    let less : length (filter (test hop) (drop 32 (reaching test hop ps))) ≤ length (drop 32 (reaching test hop ps)) = filter_shorter (test hop) (drop 32 (reaching test hop ps)) in
+    let less : length (filter (test hop) (drop 32 (reaching test hop ps))) ≤ length (drop 32 (reaching test hop ps)) = filter_few (test hop) (drop 32 (reaching test hop ps)) in
     let cut : length (drop 32 (reaching test hop ps)) ≡ length (reaching test hop ps) - 32 = length-drop 32 (reaching test hop ps) in
     omega arith

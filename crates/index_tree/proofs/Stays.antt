@@ -1,12 +1,13 @@
 -- Places that stay good while pairs are inserted.
-use Rattle.std.proofs.Common.{◌≡◌, ◌≢◌, ℕ, ℤ, zero, suc, List, ◌++◌, Bool, true, false, refl, arith, ap, ◌∙◌, sym, eq-eqb, subst}
-use Rattle.std.specs.Prelude.{◌&&◌, nat_le}
+use Rattle.std.proofs.Common.{◌≡◌, ◌≢◌, ℕ, ℤ, zero, suc, List, ◌++◌, true, refl, arith, ap, ◌∙◌, sym, eq-eqb, subst}
+use Rattle.std.specs.Prelude.{nat_le}
 use Rattle.std.specs.List.{filter}
 use Rattle.std.specs.Ordering.{int_eq}
 use Rattle.std.proofs.lemmas.List.Elements.{filter-append}
 use Rattle.index_tree.specs.Pairs.{Pair, goes, has_key}
 use Rattle.index_tree.specs.Places.{IsPlaceAt, KeepsNumbers, is_wanted}
 use Rattle.index_tree.proofs.Reach.{ahead-append, place-append}
+use Rattle.padded.proofs.Facts.{first_part}
 
 pub eq_true : (a b : ℤ) → int_eq a b ≡ true → a ≡ b
 eq_true a b e = grind arith
@@ -22,13 +23,9 @@ goes_own key (suc (suc (suc (suc hop)))) p mine = refl
 pub goes_mine : (key : ℤ) (hop : ℕ) (p : Pair) → has_key key p ≡ true → goes key hop p ≡ true
 goes_mine key hop p mine = goes_own key hop p (eq_true p.key key mine)
 
-first_of : (a b : Bool) → (a && b) ≡ true → a ≡ true
-first_of true b e = refl
-first_of false b e = cc
-
 -- what is wanted goes the key's way at each hop
 pub goes_wanted : (key : ℤ) (from hop : ℕ) (p : Pair) → is_wanted key from p ≡ true → goes key hop p ≡ true
-goes_wanted key from hop p mine = goes_mine key hop p (first_of (has_key key p) (nat_le from p.slot) mine)
+goes_wanted key from hop p mine = goes_mine key hop p (first_part (has_key key p) (nat_le from p.slot) mine)
 
 -- later pairs leave a place good, where buckets keep their numbers
 pub place_stays : (old new : List ℕ) (ps qs : List Pair) (key : ℤ) (from number pair hop : ℕ) → KeepsNumbers old new → IsPlaceAt old ps key from number pair hop → IsPlaceAt new (ps ++ qs) key from number pair hop

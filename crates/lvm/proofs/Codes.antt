@@ -17,9 +17,9 @@ use Rattle.lvm.specs.Kind.{step_typings}
 use Rattle.lvm.specs.Side.{derived, range_on_top}
 use Rattle.lvm.proofs.Derived.{derived-nodes}
 use Rattle.lvm.proofs.Evaluation.{evaluated-nodes}
-use Rattle.lvm.proofs.Joining.{some_same}
 use Rattle.lvm.proofs.Names.{names-nodes}
 use Rattle.lvm.proofs.Typed.{typings-nodes}
+use Rattle.padded.proofs.Facts.{some_same}
 
 -- ---- the nodes of a condition
 

@@ -8,9 +8,7 @@ use Rattle.db_model.specs.declared.schemas.Attribute.{Attribute}
 use Rattle.db_model.specs.Cond.{Leaf, Number, Text, Attribute as Name, Arithmetic, Plus, Minus, Times, Over, Expr, Tip, Arith, Cond, Comparison, Not, And, Or, Tree, OfExpr, OfCond, leaf_node, arithmetic_node, joined, joined_all}
 use Rattle.lvm.specs.declared.instruction.Instruction.{Instruction}
 use Rattle.lvm.specs.Instruction.{instruction_for, instructions_for}
-
-pub some_same : {A : Type 0} (a b : A) → Some a ≡ Some b → a ≡ b
-some_same a b e = cc
+use Rattle.padded.proofs.Facts.{some_same}
 
 -- a node that joins trees is one of six kinds
 pub by_join : (P : Node → List Tree → List Tree → Type 0)

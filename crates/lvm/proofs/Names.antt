@@ -4,7 +4,8 @@ use Rattle.db_model.specs.declared.commands.Node.{Node}
 use Rattle.db_model.specs.Cond.{Leaf, Number, Text, Attribute as Name, Arithmetic, Plus, Minus, Times, Over, Expr, Tip, Arith, Tree, OfExpr, OfCond, leaf_node, arithmetic_node, joined, joined_all}
 use Rattle.db_model.specs.Typing.{names_in, names}
 use Rattle.lvm.specs.Instruction.{names_of_node, names_among}
-use Rattle.lvm.proofs.Joining.{some_same, by_join, Between, between}
+use Rattle.lvm.proofs.Joining.{by_join, Between, between}
+use Rattle.padded.proofs.Facts.{some_same}
 
 abbrev pub names_of_tree : Tree → List (List ℕ)
 names_of_tree (OfExpr e) = names_in e

@@ -16,7 +16,8 @@ use Rattle.lvm.specs.declared.kind.Kind.{Kind}
 use Rattle.lvm.specs.declared.kind.Kind.TheVariants as kind
 use Rattle.lvm.specs.Instruction.{instruction_for, instructions_for}
 use Rattle.lvm.specs.Kind as spec
-use Rattle.lvm.proofs.Joining.{some_same, by_join, at_step, Between, between, Steps, steps}
+use Rattle.lvm.proofs.Joining.{by_join, at_step, Between, between, Steps, steps}
+use Rattle.padded.proofs.Facts.{some_same}
 
 -- the kind of a sort
 abbrev pub kind_of_sort : Option db.Sort → Kind

@@ -16,18 +16,11 @@ use Rattle.run_model.specs.Line.{ComesInParts, Cut, Line}
 use Rattle.run_model.specs.Runs.{AreEntries, FoundNoSpace, InputFoundNoSpace, World, machine_from}
 use Rattle.run_model.specs.Scripts.{script_talk}
 use Rattle.run_model.specs.Talk.{Talk, answered, last_database, talk_output}
-use Rattle.run_model.proofs.Beginnings.{begins}
+use Rattle.run_model.proofs.Beginnings.{begins, head_of, tail_of}
 use Rattle.run_model.proofs.Talks.{output-append}
 use Rattle.serve_model.specs.Served.{serve_talk}
 use Rattle.sound_image.specs.Images.{base}
-
-head_of : {X : Type 0} → X → List X → X
-head_of d [] = d
-head_of d (x ∷ xs) = x
-
-tail_of : {X : Type 0} → List X → List X
-tail_of [] = []
-tail_of (x ∷ xs) = xs
+use Rattle.padded.proofs.Facts.{some_alike}
 
 -- two fronts of one list that have one length are the same
 same_fronts : {X : Type 0} (xs ys us vs : List X) → xs ++ us ≡ ys ++ vs → length xs ≡ length ys → xs ≡ ys
@@ -37,9 +30,6 @@ same_fronts [] (b ∷ ys) us vs same long = absurd (omega (arith, long))
 same_fronts (a ∷ xs) [] us vs same long = absurd (omega (arith, long))
 same_fronts (a ∷ xs) (b ∷ ys) us vs same long =
     ap (λ h. h ∷ xs) (ap (head_of a) same) ∙ ap (λ t. b ∷ t) (same_fronts xs ys us vs (ap tail_of same) (omega (arith, long)))
-
-some_same : {X : Type 0} {a b : X} → Some a ≡ Some b → a ≡ b
-some_same e = cc
 
 -- ---- one list of entries
 
@@ -74,7 +64,7 @@ module _ {E : Type 0} (talk : Talk E) where
     written_by a = talk_output talk db a.front ++ talk.sent a.stops.entry (refusal_text (no.Space a.n))
 
     same_written : (a b : Found) → written_by a ≡ written_by b
-    same_written a b = append_cancel_left bytes (written_by a) (written_by b) (some_same (sym (here a) ∙ here b))
+    same_written a b = append_cancel_left bytes (written_by a) (written_by b) (some_alike (sym (here a) ∙ here b))
       where
         here : (a : Found) → new.held ≡ Some (bytes ++ written_by a)
         here a = a.written ∙ ap (λ held. append_known held (written_by a)) told
@@ -150,7 +140,7 @@ module _ {E Q : Type 0} (cut : Cut E Q) (line : Line E) (parts : ComesInParts cu
   -- the bytes that came are those that are not left
   one_came : (left : Option (List ℕ)) (text xs ys : List ℕ) → Some text ≡ prepend_known xs left → Some text ≡ prepend_known ys left → xs ≡ ys
   one_came None text xs ys a b = absurd (let n : ⊥ = cc in n)
-  one_came (Some left) text xs ys a b = append_cancel_right xs ys left (some_same (sym a ∙ b))
+  one_came (Some left) text xs ys a b = append_cancel_right xs ys left (some_alike (sym a ∙ b))
 
   pub one_place : TellsApart talk → (old new : World) (text bytes : List ℕ) → old.left ≡ Some text → old.held ≡ Some bytes
       → (a b : InputFoundNoSpace line talk old new) → a.found.front ≡ b.found.front

@@ -7,10 +7,7 @@ use Rattle.db_model.specs.Pieces.{ended_by}
 use Rattle.db_model.specs.Script.{Entry, Long, Unfinished, Bytes, ended, ends_piece, unended, past_white}
 use Rattle.db_model.specs.Tokens.{is_white}
 use Rattle.script_run.specs.Gathers.{GathersPiece}
-
-choose : {P : Type 0} (b : Bool) → (b ≡ true → P) → (b ≡ false → P) → P
-choose true f g = f refl
-choose false f g = g refl
+use Rattle.padded.proofs.Facts.{by_truth}
 
 -- one byte behind those without white space in front
 abbrev pushed : List ℕ → ℕ → List ℕ
@@ -19,7 +16,7 @@ pushed (x ∷ xs) b = x ∷ (xs ++ b ∷ [])
 
 past_push : (p : List ℕ) (b : ℕ) → past_white (p ++ b ∷ []) ≡ pushed (past_white p) b
 past_push [] b = refl
-past_push (x ∷ xs) b = let ih = past_push xs b in choose (is_white x) (λ e. rw e ih) (λ e. rw e refl)
+past_push (x ∷ xs) b = let ih = past_push xs b in by_truth (is_white x) (λ e. rw e ih) (λ e. rw e refl)
 
 pushed_some : (t : List ℕ) (b : ℕ) → (0 < length t) ⊎ (is_white b ≡ false) → pushed t b ≡ t ++ b ∷ []
 pushed_some [] b h = ⊎_elim (λ (w : 0 < length {A = ℕ} []). absurd (omega arith)) (λ (w : is_white b ≡ false). rw w refl) h

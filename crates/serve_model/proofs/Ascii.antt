@@ -16,6 +16,7 @@ use Rattle.db_model.specs.Names.{is_text_byte}
 use Rattle.db_model.specs.ReplyText.{line, value_text, row_text, number_text, numbers_text, count_text, ok_text, pool_text, reason_text, refusal_text, text}
 use Rattle.db_model.specs.Step.{Reply, Fine, Rows, Numbers, Removed, Refused}
 use Rattle.serve_model.proofs.Textual.{AreTextual, IsTextual, IsTextualReply}
+use Rattle.padded.proofs.Facts.{second_part}
 
 -- bytes below 128
 abbrev pub are_ascii : List ℕ → Bool
@@ -65,13 +66,9 @@ ascii_text (b ∷ bytes) h = by_test (is_text_byte b) refl h (λ i. ascii_text b
     by_test true e i rest = ascii-cons b bytes (grind (arith, nat_tests)) (rest i)
     by_test false e i rest = cc
 
-and_right : (a b : Bool) → (a && b) ≡ true → b ≡ true
-and_right true b h = h
-and_right false b h = cc
-
 ascii_value : (v : Value) → IsTextual v → AreAscii (value_text v)
 ascii_value (value.Number z) h = ascii_signed z
-ascii_value (value.Text bytes) h = ascii-append bytes (39 ∷ []) (ascii_text bytes (and_right (nat_le (length bytes) 32) (list_all is_text_byte bytes) h)) refl
+ascii_value (value.Text bytes) h = ascii-append bytes (39 ∷ []) (ascii_text bytes (second_part (nat_le (length bytes) 32) (list_all is_text_byte bytes) h)) refl
 
 ascii_joined : (texts : List (List ℕ)) → AllByRecursion AreAscii texts → AreAscii (join_with_byte 44 texts)
 ascii_joined [] h = refl

@@ -1,5 +1,5 @@
 -- A client fetches its own answer, whatever stands between.
-use Rattle.std.proofs.Common.{◌≡◌, ◌≢◌, refl, sym, ap, subst, ◌∙◌, ℕ, ◌-◌, ◌<◌, ◌≤◌, Bool, true, false, List, [], ◌∷◌, length, take, drop, get_or, arith, cond, Option, Some, None, zero, suc, pos}
+use Rattle.std.proofs.Common.{◌≡◌, ◌≢◌, refl, sym, ap, subst, ◌∙◌, ℕ, ◌-◌, ◌<◌, ◌≤◌, Bool, true, false, List, [], ◌∷◌, length, take, drop, arith, cond, Option, Some, None, zero, suc, pos}
 use Rattle.std.specs.Prelude.{ℤ, Ok, Err, Result, nat_le, ◌&&◌, ◌||◌, ◌==◌, ⊤, IsTrue, is_some, not, slice_get}
 use Rattle.std.specs.Ordering.{int_eq}
 use Rattle.std.specs.List.{list_any}
@@ -19,6 +19,7 @@ use Rattle.run_model.specs.Talk.{answered}
 use Rattle.serve_model.specs.Fetching.{FetchesItsAnswer, OpensQuery, asks, replies_fetched, is_close, is_fetch, is_read, keeps_open}
 use Rattle.serve_model.specs.Frames.{Frame, Broken, Long, Asked, Unfinished}
 use Rattle.serve_model.specs.Served.{after_frame, numbered_cursor, own_cursor}
+use Rattle.padded.proofs.Facts.{some_inside, both_parts, neither_left, untrue}
 
 -- ---- the places of cursors
 
@@ -43,27 +44,9 @@ places_apart m n low differ e = by_tests (nat_le 1 m) (nat_le m 4) refl e
 true_false : true ≡ false → ⊥
 true_false e = cc
 
--- a place that holds something is one of the list's
-in_list : {A : Type 0} (xs : List (Option A)) (k : ℕ) (x : A) → get_or xs k None ≡ Some x → k < length xs
-in_list [] k x h = cc
-in_list (y ∷ ys) zero x h = omega arith
-in_list (y ∷ ys) (suc k) x h = let e = in_list ys k x h in omega (arith, e)
-
-or_left : (a b : Bool) → (a || b) ≡ false → a ≡ false
-or_left true b h = h
-or_left false b h = refl
-
 or_right : (a b : Bool) → (a || b) ≡ false → b ≡ false
 or_right true b h = absurd (true_false h)
 or_right false b h = h
-
-not_true : (b : Bool) → not b ≡ true → b ≡ false
-not_true true h = absurd (true_false (sym h))
-not_true false h = refl
-
-both : (s t : Bool) → (s && t) ≡ true → (s ≡ true) × (t ≡ true)
-both true t e = (refl, e)
-both false t e = absurd (true_false (sym e))
 
 -- ---- heads of rows
 
@@ -173,7 +156,7 @@ module _ (read : List ℕ → Result Command Refusal) where
       ∙ ap (λ c. ◌>>=◌ (found_or c no.NoCursor) (λ c. Ok (client - 1, c))) h in
       let done : outcome db (command.FetchCursor (pos client)) ≡ Ok (with_cursor db (client - 1) (Some new), Rows (take 1 cursor.rows)) =
       ap (λ r. ◌>>=◌ r (λ c. Ok (with_cursor db c.0 (Some (record c.1 { rows = drop 1 c.1.rows })), Rows (take 1 c.1.rows)))) found in
-      (ap (λ o. (replied db o).1) done, ap (λ o. cursor_at ((replied db o).0) (client - 1)) done ∙ get_or-set_same db.cursors (client - 1) (Some new) None (in_list db.cursors (client - 1) cursor h))
+      (ap (λ o. (replied db o).1) done, ap (λ o. cursor_at ((replied db o).0) (client - 1)) done ∙ get_or-set_same db.cursors (client - 1) (Some new) None (some_inside db.cursors (client - 1) cursor h))
 
   -- a frame that is a FETCH 1 of the client
   fetched_frame : (client : ℕ) (cursor : Cursor) (db : Database) (frame : Frame) → 1 ≤ client → client ≤ 4 → asks read is_fetch client frame ≡ true → cursor_at db (client - 1) ≡ Some cursor
@@ -194,8 +177,8 @@ module _ (read : List ℕ → Result Command Refusal) where
       by_command _ same is = absurd (true_false (sym is))
 
       by_reading : (r : Result Command Refusal) → (sender == client && is_read r is_fetch) ≡ true → IsFetched (answered db (◌>>=◌ r (own_cursor sender)))
-      by_reading (Err refusal) e = absurd (true_false (sym (both (sender == client) false e).1))
-      by_reading (Ok c) e = let b = both (sender == client) (is_fetch c) e in by_command c ((Decides-eqb sender client).0 b.0) b.1
+      by_reading (Err refusal) e = absurd (true_false (sym (both_parts (sender == client) false e).1))
+      by_reading (Ok c) e = let b = both_parts (sender == client) (is_fetch c) e in by_command c ((Decides-eqb sender client).0 b.0) b.1
 
   -- ---- all frames
 
@@ -203,8 +186,8 @@ module _ (read : List ℕ → Result Command Refusal) where
       → AreHeads cursor.rows (replies_fetched read client db frames)
   heads client low high cursor db [] stays h = tt
   heads client low high cursor db (frame ∷ frames) stays h =
-      let apart = not_true (asks read is_close client frame || list_any (asks read is_close client) frames) stays in
-      let no_close = or_left (asks read is_close client frame) (list_any (asks read is_close client) frames) apart in
+      let apart = untrue (asks read is_close client frame || list_any (asks read is_close client) frames) stays in
+      let no_close = neither_left (asks read is_close client frame) (list_any (asks read is_close client) frames) apart in
       let rest : IsTrue (keeps_open read client frames) = ap not (or_right (asks read is_close client frame) (list_any (asks read is_close client) frames) apart) in
       let next : Database = (after_frame read db frame).0 in
       by_test (asks read is_fetch client frame) refl

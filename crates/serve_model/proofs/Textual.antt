@@ -30,8 +30,10 @@ use Rattle.db_model.specs.Sound.{IsSoundDatabase, StandsIn}
 use Rattle.db_model.specs.Step.{Reply, Fine, Numbers, Rows, Removed, Outcome, add_attribute, aggregate_of, answer_of, ask, asked_by, changed_by, close_cursor, create_index, create_relation, fallen, fetch_cursor, insert_into, join_of, joins, missing_in_join, open_cursor, open_cursor_of, outcome, pack, refuse_indexed, refuse_read, relations_read, remove_from, remove_index, remove_relation, removed_row, replied, select_from, slots_limit, step, unsuited, upgraded, with_attribute}
 use Rattle.db_model.specs.Typing.{domain_of, ill_typed, missing_name}
 use Rattle.db_model.proofs.SoundRows.{suited}
-use Rattle.db_model.proofs.Standing.{found_from, none_some, nothing_stands, some_same, stands_either}
-use Rattle.db_model.proofs.Yielding.{Yields, found_ok, yields_behind, yields_by, yields_found, yields_none, yields_ok}
+use Rattle.db_model.proofs.Standing.{found_from, nothing_stands, stands_either}
+use Rattle.db_model.proofs.Yielding.{Yields, found_ok, yields_behind, yields_by, yields_none, yields_ok}
+use Rattle.db_model.proofs.SoundSteps.{open_stands}
+use Rattle.padded.proofs.Facts.{never_some, some_alike, all_append}
 
 -- ---- what is textual
 
@@ -57,10 +59,6 @@ pub record IsTextualDatabase (db : Database) : Type 0 where
   pub cursors : (k : ℕ) (c : Cursor) → StandsIn db.cursors k c → AnswersTexts c.rows
 
 -- ---- lists
-
-all-append : {A : Type 0} (P : A → Type 0) (xs ys : List A) → AllByRecursion P xs → AllByRecursion P ys → AllByRecursion P (xs ++ ys)
-all-append P [] ys h i = i
-all-append P (x ∷ xs) ys h i = (h.0, all-append P xs ys h.1 i)
 
 all-filter : {A : Type 0} (P : A → Type 0) (test : A → Bool) (xs : List A) → AllByRecursion P xs → AllByRecursion P (filter test xs)
 all-filter P test [] h = tt
@@ -165,7 +163,7 @@ pairs_textual : (xs ys : List (List Value)) → AnswersTexts xs → AnswersTexts
 pairs_textual [] ys h i = tt
 pairs_textual (x ∷ xs) ys h i =
     subst (AllByRecursion BothTextual) (sym (flat_map-cons (λ x. map (λ y. (x, y)) ys) x xs))
-    (all-append BothTextual (map (λ y. (x, y)) ys) (pairs xs ys) (all-map AreTextual BothTextual (λ y. (x, y)) (λ y t. (h.0, t)) ys i) (pairs_textual xs ys h.1 i))
+    (all_append BothTextual (map (λ y. (x, y)) ys) (pairs xs ys) (all-map AreTextual BothTextual (λ y. (x, y)) (λ y t. (h.0, t)) ys i) (pairs_textual xs ys h.1 i))
 
 selects_textual : (list : List (List ℕ)) (condition : Option Cond) (r : Relation) → AreTextualRows r.rows → Yields AnswersTexts (select_from list condition r)
 selects_textual list condition r h =
@@ -205,26 +203,26 @@ StaysTextual d = IsTextualDatabase d.0 × IsTextualReply d.1
 
 with_rows : (db : Database) (slot : ℕ) (r : Relation) → IsTextualDatabase db → AreTextualRows r.rows → IsTextualDatabase (with_relation db slot (Some r))
 with_rows db slot r h rows = record {
-  relations = λ k q e. stands_either db.relations slot k (Some r) q e (λ i is. subst (λ r. AreTextualRows r.rows) (some_same is) rows) (λ n f. h.relations k q f);
+  relations = λ k q e. stands_either db.relations slot k (Some r) q e (λ i is. subst (λ r. AreTextualRows r.rows) (some_alike is) rows) (λ n f. h.relations k q f);
   cursors = h.cursors;
 }
 
 without_rows : (db : Database) (slot : ℕ) → IsTextualDatabase db → IsTextualDatabase (with_relation db slot None)
 without_rows db slot h = record {
-  relations = λ k q e. stands_either db.relations slot k None q e (λ i is. absurd (none_some is)) (λ n f. h.relations k q f);
+  relations = λ k q e. stands_either db.relations slot k None q e (λ i is. absurd (never_some is)) (λ n f. h.relations k q f);
   cursors = h.cursors;
 }
 
 with_answer : (db : Database) (place : ℕ) (c : Cursor) → IsTextualDatabase db → AnswersTexts c.rows → IsTextualDatabase (with_cursor db place (Some c))
 with_answer db place c h rows = record {
   relations = h.relations;
-  cursors = λ k d e. stands_either db.cursors place k (Some c) d e (λ i is. subst (λ c. AnswersTexts c.rows) (some_same is) rows) (λ n f. h.cursors k d f);
+  cursors = λ k d e. stands_either db.cursors place k (Some c) d e (λ i is. subst (λ c. AnswersTexts c.rows) (some_alike is) rows) (λ n f. h.cursors k d f);
 }
 
 without_answer : (db : Database) (place : ℕ) → IsTextualDatabase db → IsTextualDatabase (with_cursor db place None)
 without_answer db place h = record {
   relations = h.relations;
-  cursors = λ k d e. stands_either db.cursors place k None d e (λ i is. absurd (none_some is)) (λ n f. h.cursors k d f);
+  cursors = λ k d e. stands_either db.cursors place k None d e (λ i is. absurd (never_some is)) (λ n f. h.cursors k d f);
 }
 
 -- indexes and versions are no texts
@@ -281,7 +279,7 @@ abbrev StaysRows : Relation × Reply → Type 0
 StaysRows d = AreTextualRows d.0.rows × IsTextualReply d.1
 
 more_textual : (rows : List Row) (row : Row) → AreTextualRows rows → AreTextual row.tuple → AreTextualRows (rows ++ row ∷ [])
-more_textual rows row h t = all-append (λ row. AreTextual row.tuple) rows (row ∷ []) h (t, tt)
+more_textual rows row h t = all_append (λ row. AreTextual row.tuple) rows (row ∷ []) h (t, tt)
 
 removed_textual : (attributes : List Attribute) (condition : Option Cond) (row : Row) → AreTextual row.tuple → AreTextual (removed_row attributes condition row).tuple
 removed_textual attributes condition row h = by_test (row.live && selects attributes condition row.tuple)
@@ -359,12 +357,6 @@ stays_open db number query h =
 
     at_place : ℕ → Outcome
     at_place place = ◌>>◌ (refuse_if (is_some (cursor_at db place)) no.CursorOpen) (◌>>=◌ (answer_of db query) (opened place))
-
--- an open cursor stands in its place
-open_stands : (db : Database) (number : ℤ) → Yields (λ (c : ℕ × Cursor). StandsIn db.cursors c.0 c.1) (open_cursor_of db number)
-open_stands db number =
-    yields_by _ (found_or (cursor_place number) no.NoCursor) (λ place. ◌>>=◌ (found_or (cursor_at db place) no.NoCursor) (λ cursor. Ok (place, cursor)))
-    (λ place e. yields_found _ (cursor_at db place) no.NoCursor (λ cursor. Ok (place, cursor)) (λ cursor f. yields_ok _ (place, cursor) f))
 
 stays_fetch : (db : Database) (number : ℤ) → IsTextualDatabase db → Yields StaysTextual (fetch_cursor db number)
 stays_fetch db number h =

@@ -1,5 +1,5 @@
 -- A cursor has begun over relations of the session: what it has to come, and what is ahead of it.
-use Rattle.std.proofs.Common.{◌≡◌, ℕ, ◌+◌, ◌-◌, List, [], ◌∷◌, ◌++◌, length, map, take, drop, filter, get_or, replicate, Option, refl, ap, sym, ◌∙◌, arith}
+use Rattle.std.proofs.Common.{◌≡◌, ℕ, ◌+◌, ◌-◌, List, [], ◌∷◌, ◌++◌, length, take, drop, filter, get_or, replicate, Option, ap, sym, ◌∙◌, arith}
 use Rattle.std.specs.List.{range_with_len}
 use Rattle.std.proofs.lemmas.List.{take_all}
 use Rattle.afl_base.specs.Files.{Table}
@@ -23,19 +23,16 @@ use Rattle.session_model.specs.declared.held.Open.{Open}
 use Rattle.session_model.specs.declared.held.OpenJoin.{OpenJoin}
 use Rattle.session_model.specs.declared.held.OpenSelect.{OpenSelect}
 use Rattle.session_model.specs.Aheads.{ahead_of_join, join_stops, ahead_of_select}
-use Rattle.session_model.specs.Indexed.{index_of_info, infos_of}
+use Rattle.session_model.specs.Indexed.{infos_of}
 use Rattle.session_model.specs.View.{relation_of_rows, view}
 use Rattle.session_model.proofs.Running.{indexes_seen}
 use Rattle.session_cursors.proofs.JoinCounts.{first_stops, many_pairs, stops_from}
+use Rattle.session_plans.proofs.Kinds.{kinds_same}
 
 -- ---- the indexes of a relation, as the machine sees them
 
-seen_kinds : (k : ℕ) (infos : List IndexInfo) → kinds_of (map (index_of_info k) infos) ≡ kinds infos
-seen_kinds k [] = refl
-seen_kinds k (info ∷ infos) = λ i. (kinds (info ∷ [])) ++ seen_kinds k infos i
-
 pub kinds_held : (files : Table) (held : Held) (opens : List (Option Open)) (k : ℕ) (t : Tuples) → kinds_of (indexes_of (view files held opens) k) ≡ kinds (infos_of k t held.indexes)
-kinds_held files held opens k t = ap kinds_of (indexes_seen k t held.indexes) ∙ seen_kinds k (infos_of k t held.indexes)
+kinds_held files held opens k t = ap kinds_of (indexes_seen k t held.indexes) ∙ kinds_same k (infos_of k t held.indexes)
 
 -- ---- a SELECT
 

@@ -11,17 +11,9 @@ use Rattle.db_model.specs.Answers.{live_tuples, pairs, same_value}
 use Rattle.db_model.specs.Cost.{sum}
 use Rattle.db_model.specs.Row.{Row, no_row}
 use Rattle.cursor.specs.Pairs.{matching}
+use Rattle.db_model.proofs.Moves.{many_of_one}
 
 -- ---- the pairs of some left rows
-
-many_of_one : (test : List Value × List Value → Bool) (x : List Value) (ys : List (List Value)) → length (filter test (map (λ y. (x, y)) ys)) ≡ length (filter (λ y. test (x, y)) ys)
-many_of_one test x [] = refl
-many_of_one test x (y ∷ ys) = by_test (test (x, y)) (many_of_one test x ys)
-  where
-    by_test : (b : Bool) → length (filter test (map (λ y. (x, y)) ys)) ≡ length (filter (λ y. test (x, y)) ys)
-        → length (cond b ((x, y) ∷ filter test (map (λ y. (x, y)) ys)) (filter test (map (λ y. (x, y)) ys))) ≡ length (cond b (y ∷ filter (λ y. test (x, y)) ys) (filter (λ y. test (x, y)) ys))
-    by_test true e = ap suc e
-    by_test false e = e
 
 abbrev meets : ℕ × ℕ → List Value × List Value → Bool
 meets on pair = same_value (slice_get pair.0 on.0) (slice_get pair.1 on.1)

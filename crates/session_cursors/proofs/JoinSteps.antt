@@ -1,5 +1,5 @@
 -- A FETCH of a JOIN: the left slots at which the coming ones stop, and what is ahead then.
-use Rattle.std.proofs.Common.{◌≡◌, ℕ, suc, ◌+◌, ◌-◌, ◌<◌, ◌≤◌, Bool, true, false, cond, List, [], ◌∷◌, ◌++◌, length, map, take, drop, filter, get_or, replicate, slice_get, Option, refl, ap, sym, ◌∙◌, arith, length-append}
+use Rattle.std.proofs.Common.{◌≡◌, ℕ, suc, ◌+◌, ◌-◌, ◌<◌, ◌≤◌, Bool, true, List, [], ◌∷◌, ◌++◌, length, map, take, drop, filter, get_or, replicate, slice_get, Option, refl, ap, sym, ◌∙◌, arith, length-append}
 use Rattle.std.specs.List.{range_with_len}
 use Rattle.std.proofs.Math.Logic.{⊎_elim}
 use Rattle.std.proofs.Math.ListN.{drop_of_length-le}
@@ -16,16 +16,13 @@ use Rattle.cursor.specs.Pairs.{lefts_of, matching, pairs_left, rights_of}
 use Rattle.cursor.proofs.Lists.{at_front}
 use Rattle.session_model.specs.Aheads.{join_stops}
 use Rattle.session_cursors.proofs.JoinCounts.{head_passes, many_from, many_pairs, no_stops, one_more, partners_behind, rows_behind, stop_behind, stop_beyond, stops_from}
+use Rattle.session_model.proofs.Grown.{no_items}
 
 -- ---- lists
 
 mapped_twice : (f : ℕ → Row) (p : Row → ℕ) (xs : List ℕ) → map p (map f xs) ≡ map (λ x. p (f x)) xs
 mapped_twice f p [] = refl
 mapped_twice f p (x ∷ xs) = ap (λ (l : List ℕ). p (f x) ∷ l) (mapped_twice f p xs)
-
-no_length : {A : Type 0} (xs : List A) → length xs ≡ 0 → xs ≡ []
-no_length [] e = refl
-no_length (x ∷ xs) e = absurd (omega (arith, e))
 
 -- the rows from a slot on
 pub rows_from : (xs : List Row) (a : ℕ) → drop a xs ≡ map (λ slot. get_or xs slot no_row) (range_with_len a (length xs - a))
@@ -141,23 +138,9 @@ module _ (c : JoinCursor) (lefts rights : List Row) where
       ++ stops_from of_slot (c.at + 1) (c.left_slots - (c.at + 1))) none
       ∙ ap (λ (n : ℕ). stops_from of_slot (c.at + 1) n) few
 
--- a JOIN without right slots has no pair
-pub no_rights : (c : JoinCursor) (lefts rights : List Row) → c.right_slots ≡ 0 → pairs_left c lefts rights ≡ []
-no_rights c lefts rights e =
-    let none : rights_of c rights ≡ [] = ap (λ (n : ℕ). take n rights) e in
-    let nothing : drop c.from (rights_of c rights) ≡ [] = ap (drop c.from) none ∙ drop_of_length-le [] (omega arith) in
-    ap (λ (l : List Row). matching c.left_on c.right_on (take 1 (drop c.at (lefts_of c lefts))) l ++ matching c.left_on c.right_on (drop (c.at + 1) (lefts_of c lefts)) (rights_of c rights)) nothing
-    ∙ ap (λ (l : List Row). matching c.left_on c.right_on (take 1 (drop c.at (lefts_of c lefts))) [] ++ matching c.left_on c.right_on (drop (c.at + 1) (lefts_of c lefts)) l) none
-    ∙ ap (λ (l : List (List Value × List Value)). l ++ matching c.left_on c.right_on (drop (c.at + 1) (lefts_of c lefts)) []) (without (take 1 (drop c.at (lefts_of c lefts))))
-    ∙ without (drop (c.at + 1) (lefts_of c lefts))
-  where
-    no_partner : (b : Bool) → ◌≡◌ {A = ℕ} (cond b 0 0) 0
-    no_partner true = refl
-    no_partner false = refl
-
     none_of : (xs : List Row) → sum (map (partners (c.left_on, c.right_on) []) xs) ≡ 0
     none_of [] = refl
     none_of (x ∷ xs) = omega (arith, no_partner x.live, none_of xs)
 
     without : (xs : List Row) → matching c.left_on c.right_on xs [] ≡ []
-    without xs = no_length (matching c.left_on c.right_on xs []) (sym (many_pairs (c.left_on, c.right_on) [] xs) ∙ none_of xs)
+    without xs = no_items (matching c.left_on c.right_on xs []) (sym (many_pairs (c.left_on, c.right_on) [] xs) ∙ none_of xs)

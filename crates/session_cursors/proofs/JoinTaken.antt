@@ -16,10 +16,10 @@ use Rattle.session_model.specs.declared.held.OpenJoin.{OpenJoin}
 use Rattle.session_model.specs.declared.held.Side.{Side}
 use Rattle.session_model.specs.Aheads.{ahead_of_join, join_stops}
 use Rattle.session_model.specs.View.{project_pair}
-use Rattle.session_model.proofs.Cursors.{none_or_some}
-use Rattle.session_model.proofs.Frames.{count_rows}
 use Rattle.session_cursors.proofs.JoinReads.{ahead_found, ahead_none, read_failed, read_found, read_none}
 use Rattle.session_cursors.proofs.JoinSteps.{later_stop, next_stop, no_stop}
+use Rattle.tuple_file.proofs.Columns.{rows_counted}
+use Rattle.padded.proofs.Facts.{zero_or_more}
 
 pub left_pairs : (places : List Side) (found : Bool) (pair : List Value × List Value) (old now : List (List Value × List Value)) → MatchBool found (old ≡ pair ∷ now) (old ≡ []) → (found ≡ false → now ≡ [])
     → map (project_pair places) now ≡ drop 1 (map (project_pair places) old)
@@ -30,11 +30,11 @@ left_pairs places false pair old now e ended = ap (map (project_pair places)) (e
 
 pub lefts_long : (state : State) (c : JoinCursor) → MayReadPairs state c → c.left_slots ≤ length (rows state.files c.left)
 lefts_long state c may =
-    ⊎_elim (λ none. omega (arith, none)) (λ some. omega (arith, may.left_slots some, count_rows state.files c.left)) (none_or_some c.left_slots)
+    ⊎_elim (λ none. omega (arith, none)) (λ some. omega (arith, may.left_slots some, rows_counted state.files c.left)) (zero_or_more c.left_slots)
 
 pub rights_long : (state : State) (c : JoinCursor) → MayReadPairs state c → c.right_slots ≤ length (rows state.files c.right)
 rights_long state c may =
-    ⊎_elim (λ none. omega (arith, none)) (λ some. omega (arith, may.right_slots some, count_rows state.files c.right)) (none_or_some c.right_slots)
+    ⊎_elim (λ none. omega (arith, none)) (λ some. omega (arith, may.right_slots some, rows_counted state.files c.right)) (zero_or_more c.right_slots)
 
 pub all_lefts : (state : State) (c : JoinCursor) → MayReadPairs state c → length (lefts_of c (rows state.files c.left)) ≡ c.left_slots
 all_lefts state c may = length-take-le c.left_slots (rows state.files c.left) (lefts_long state c may)
@@ -128,4 +128,4 @@ named_price c stops lefts rights lefts_named rights_named reads reads_now same h
     let unpaid : reads_now ≤ reads = omega (arith, subst P slots h) in
     omega (arith, unpaid))
     (λ some. let e = same some in subst (λ (ls : List Row). Q ls rights_named) (sym e.0) (subst (λ (rs : List Row). Q lefts rs) (sym e.1) h))
-    (none_or_some c.left_slots)
+    (zero_or_more c.left_slots)

@@ -31,10 +31,10 @@ use Rattle.session_model.specs.Aheads.{ahead_of_join, ahead_of_select}
 use Rattle.session_model.specs.Cells.{cell_from}
 use Rattle.session_model.specs.Indexed.{infos_of}
 use Rattle.session_model.specs.View.{join_left, relation_of_rows, select_left, view}
-use Rattle.session_model.proofs.Frames.{count_rows}
 use Rattle.session_model.proofs.Views.{found_in_view, named_none, named_some}
 use Rattle.session_cursors.specs.Opened.{BeginsAnswer}
 use Rattle.session_cursors.proofs.Begun.{kinds_held}
+use Rattle.tuple_file.proofs.Columns.{rows_counted}
 
 -- ---- relations by name
 
@@ -91,7 +91,7 @@ module _ (files : Table) (held : Held) (opens : List (Option Open)) where
       select_price =
           ap (λ (o : Option (ℕ × Relation)). option_map_or (λ s. open_select_cost db s.0 s.1 (condition_of nodes)) o 0) (found name k t e)
           ∙ ap (λ (ks : Kinds). begin_cost (length (rows files t)) (plan ks (ranges_of t.schema.attributes (condition_of nodes)))) (kinds_held files held opens k t)
-          ∙ ap (λ (n : ℕ). begin_cost n (plan (kinds (infos_of k t held.indexes)) (ranges_of t.schema.attributes (condition_of nodes)))) (count_rows files t)
+          ∙ ap (λ (n : ℕ). begin_cost n (plan (kinds (infos_of k t held.indexes)) (ranges_of t.schema.attributes (condition_of nodes)))) (rows_counted files t)
 
   -- ---- a JOIN
 

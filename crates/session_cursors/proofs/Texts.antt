@@ -1,14 +1,12 @@
 -- The text of a reply of one row, or of none.
-use Rattle.std.proofs.Common.{◌≡◌, ℕ, List, [], ◌∷◌, ◌++◌, Option, Err, refl, ap, sym, ◌∙◌, subst, append-nil}
+use Rattle.std.proofs.Common.{◌≡◌, ℕ, List, [], ◌∷◌, ◌++◌, Option, ap, sym, ◌∙◌, subst, append-nil}
 use Rattle.std.specs.Io.KnownBytes.{append_known}
 use Rattle.db_model.specs.declared.values.Value.{Value}
 use Rattle.db_model.specs.ReplyText.{count_text, row_text, text}
-use Rattle.db_model.specs.Step.{Reply, Rows}
+use Rattle.db_model.specs.Step.{Rows}
 use Rattle.db_model.proofs.ReplyTexts.{text_rows}
 use Rattle.reply_text.specs.WroteLess.{WroteLess}
-use Rattle.reply_text.proofs.Pieces.{append_known-nil, append_known-twice, less_behind, less_front}
-use Rattle.session_model.specs.declared.step.Stop.TheVariants.{Flash}
-use Rattle.session_model.specs.Steps.{Replies}
+use Rattle.reply_text.proofs.Pieces.{append_known-twice, less_behind, less_front}
 use Rattle.std.proofs.lemmas.List.Concat.{flat_map-cons}
 
 pub text_one : (row : List Value) → text (Rows (row ∷ [])) ≡ row_text row ++ count_text 1
@@ -26,7 +24,3 @@ less_row h0 h1 row less = subst (λ (bytes : List ℕ). WroteLess h0 h1 bytes) (
 
 pub less_count : (h0 h1 h2 : Option (List ℕ)) (row : List Value) → h1 ≡ append_known h0 (row_text row) → WroteLess h1 h2 (count_text 1) → WroteLess h0 h2 (text (Rows (row ∷ [])))
 less_count h0 h1 h2 row first less = subst (λ (bytes : List ℕ). WroteLess h0 h2 bytes) (sym (text_one row)) (less_behind h0 h1 h2 (row_text row) (count_text 1) first less)
-
--- nothing was written
-pub none_replied : (reply : Reply) (h : Option (List ℕ)) → Replies reply (Err Flash) h h
-none_replied reply h = record { written = []; left = text reply; whole = refl; held = sym (append_known-nil h) }

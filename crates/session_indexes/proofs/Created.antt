@@ -1,20 +1,18 @@
 -- CREATE INDEX on what a session keeps.
-use Rattle.std.proofs.Common.{◌≡◌, ◌≢◌, ℕ, zero, suc, ◌+◌, ◌*◌, inl, inr, true, false, List, [], ◌∷◌, map, get_or, replicate, Option, Some, None, refl, ap, sym, ◌∙◌, subst, arith, Ok, Err, IsTrue, ℤ}
+use Rattle.std.proofs.Common.{◌≡◌, ◌≢◌, ℕ, zero, suc, ◌+◌, ◌*◌, inl, inr, List, [], ◌∷◌, map, get_or, replicate, Option, Some, None, refl, ap, sym, ◌∙◌, subst, Ok, Err, IsTrue, ℤ}
 use Rattle.std.specs.Prelude.{IsOk, IsSomeAnd, Result, ⊤, option_map, slice_get}
-use Rattle.std.specs.Option.{option_map_or}
 use Rattle.afl_base.specs.Asked.{asks_few}
 use Rattle.afl_base.specs.Files.{KeepsBytes, State}
 use Rattle.db_model.specs.declared.commands.Command.TheVariants as command
 use Rattle.db_model.specs.declared.refusals.Refusal.{Refusal}
-use Rattle.db_model.specs.declared.schemas.Attribute.{Attribute}
 use Rattle.db_model.specs.declared.schemas.IndexKind.{IndexKind}
 use Rattle.db_model.specs.declared.schemas.Schema.{Schema}
 use Rattle.db_model.specs.declared.schemas.IndexKind.TheVariants.{Inline, MaxHeap, MemHash}
 use Rattle.db_model.specs.Catalog.{Catalog as Slots, catalog_of}
-use Rattle.db_model.specs.Database.{Database, free_from, with_index}
+use Rattle.db_model.specs.Database.{Database, with_index}
 use Rattle.db_model.specs.Refusing.{◌>>◌}
 use Rattle.db_model.specs.Row.{rows_of}
-use Rattle.db_model.specs.Step.{Fine, Outcome, Reply, allows, create_index, keys, outcome, refuse_kind, upgraded}
+use Rattle.db_model.specs.Step.{Fine, Outcome, Reply, create_index, keys, outcome, refuse_kind, upgraded}
 use Rattle.index_set.specs.declared.info.Access.{Access}
 use Rattle.index_set.specs.declared.info.Access.TheVariants.{Table as InTable}
 use Rattle.index_set.specs.declared.info.TableId.{TableId}
@@ -45,16 +43,9 @@ use Rattle.session_indexes.specs.declared.sites.Site.{Site}
 use Rattle.session_indexes.specs.Made.{AsksIndex, IsMade, IsReadyFor, IsTried, IsUnrefused, KeepsTaken, index_for, indexed_for, keys_at}
 use Rattle.session_indexes.specs.Sites.{IsSite}
 use Rattle.session_indexes.proofs.Refused.{free_seen, placed}
+use Rattle.session_model.proofs.Cells.{free_slot_none, found_allowed}
 
 -- ---- the free slot
-
-free_at : {A : Type 0} (n : ℕ) (xs : List (Option A)) (m : ℕ) → free_from n xs ≡ Some m → (i : ℕ) × (m ≡ n + i) × (get_or xs i None ≡ None)
-free_at n [] m e = absurd (cc)
-free_at n (None ∷ xs) m e = let same : n ≡ m = cc in (0, omega (arith, same), refl)
-free_at n (Some x ∷ xs) m e = let f = free_at (n + 1) xs m e in (suc f.0, omega (arith, f.1), f.2)
-
-slot_free : {A : Type 0} (xs : List (Option A)) (i : ℕ) → free_from 0 xs ≡ Some i → get_or xs i None ≡ None
-slot_free xs i e = let f = free_at 0 xs i e in let same : f.0 ≡ i = omega (arith, f.1) in subst (λ (j : ℕ). get_or xs j None ≡ None) same f.2
 
 -- ---- tables that no index has
 
@@ -85,11 +76,6 @@ module _ (state : State) (before after : Tables) (held : Held) (opens : List (Op
 
 -- ---- the site
 
--- no index stands on the attribute that is found
-found_allowed : (kind : IndexKind) (o : Option Attribute) → option_map_or (λ (a : Attribute). allows kind a.domain) o false ≡ true → (a : Attribute) × (o ≡ Some a) × (allows kind a.domain ≡ true)
-found_allowed kind None e = absurd (cc)
-found_allowed kind (Some a) e = (a, refl, e)
-
 module _ (s0 : State) (before : Tables) (held : Held) (opens : List (Option Open)) (r : IsRunning s0 before held opens) (cat : ℕ) (has : held.cat ≡ Some cat) (name attribute : List ℕ) (kind : IndexKind)
     (k : ℕ) (t : Tuples) (cell : cell_from name 0 held.relations ≡ Some (k, t)) (at : get_or held.relations k None ≡ Some t) (site : Site) (on : site.relation ≡ k) (is : IsSite held attribute kind site t) where
   there : get_or held.relations site.relation None ≡ Some t
@@ -99,7 +85,7 @@ module _ (s0 : State) (before : Tables) (held : Held) (opens : List (Option Open
   cell_there = cell ∙ ap (λ (j : ℕ). Some (j, t)) (sym on)
 
   empty : get_or held.indexes site.slot None ≡ None
-  empty = slot_free held.indexes site.slot is.free
+  empty = free_slot_none held.indexes site.slot is.free
 
   pub ready_for : IsReadyFor s0 cat t site
   ready_for =

@@ -15,6 +15,7 @@ use Rattle.session_model.specs.declared.held.Indexed.{Indexed}
 use Rattle.session_model.specs.Indexed.{index_known}
 use Rattle.session_indexes.specs.Made.{IsNobodys}
 use Rattle.session_indexes.specs.Sites.{free_table, is_this_table, is_table_taken}
+use Rattle.padded.proofs.Facts.{true_or_false}
 
 -- how many indexes of a list have a table
 one : TableId → Access → ℕ
@@ -95,10 +96,6 @@ other_of Second (Table Second) (Table Second) e h = absurd h
 
 AreElsewhere : List (Option Indexed) → Type 0
 AreElsewhere xs = (i j : ℕ) (x y : Indexed) → i ≢ j → get_or xs i None ≡ Some x → get_or xs j None ≡ Some y → IsElsewhere x.access y.access
-
-true_or_false : (b : Bool) → (b ≡ true) ⊎ (b ≡ false)
-true_or_false true = inl refl
-true_or_false false = inr refl
 
 -- of a search that finds nothing
 not_taken : (b rest : Bool) → cond b true rest ≡ false → (b ≡ false) × (rest ≡ false)

@@ -1,8 +1,6 @@
 -- REMOVE INDEX on what a session keeps.
-use Rattle.std.proofs.Common.{◌≡◌, ℕ, ◌+◌, ◌*◌, Bool, true, false, cond, List, [], ◌∷◌, length, map, get_or, Option, Some, None, refl, ap, sym, ◌∙◌, subst, Ok, IsTrue}
+use Rattle.std.proofs.Common.{◌≡◌, ℕ, ◌+◌, ◌*◌, List, [], length, map, get_or, Option, Some, None, refl, ap, sym, ◌∙◌, subst, Ok, IsTrue}
 use Rattle.std.specs.Prelude.{IsOk, option_map, unwrap_or}
-use Rattle.std.specs.Str.{bytes_eq}
-use Rattle.std.proofs.lemmas.Slice.Eq.{bytes_eq-Decides}
 use Rattle.afl_base.specs.Asked.{asks_few}
 use Rattle.afl_base.specs.Files.{File, IsNamed, IsUnnamed, KeepsBytes, Removes, State, file_at, no_file, place}
 use Rattle.afl_base.proofs.FileLaws.{named_live, named_here, place_live}
@@ -34,6 +32,7 @@ use Rattle.session_indexes.specs.Made.{AsksIndexSlot}
 use Rattle.session_indexes.specs.Removed.{IsRemovable, IsTaken}
 use Rattle.session_indexes.proofs.Refused.{removed, slot_seen}
 use Rattle.session_indexes.proofs.Puts.{live_catalog}
+use Rattle.session_model.proofs.Cells.{cell_named}
 
 -- ---- the files
 
@@ -69,18 +68,6 @@ module _ (s0 s1 : State) (cat slot : ℕ) (idle : s0.draft ≡ None) (catalog : 
       }
 
 -- ---- the relation has the name
-
-cell_named : (name : List ℕ) (n : ℕ) (ts : List (Option Tuples)) (k : ℕ) (t : Tuples) → cell_from name n ts ≡ Some (k, t) → t.schema.name ≡ name
-cell_named name n [] k t e = absurd (cc)
-cell_named name n (None ∷ ts) k t e = cell_named name (n + 1) ts k t e
-cell_named name n (Some s ∷ ts) k t e = by_test name n s (cell_from name (n + 1) ts) k t (bytes_eq s.schema.name name) refl e (λ g. cell_named name (n + 1) ts k t g)
-  where
-    by_test : (name : List ℕ) (n : ℕ) (s : Tuples) (rest : Option (ℕ × Tuples)) (k : ℕ) (t : Tuples) (b : Bool) → bytes_eq s.schema.name name ≡ b → cond b (Some (n, s)) rest ≡ Some (k, t)
-        → (rest ≡ Some (k, t) → t.schema.name ≡ name) → t.schema.name ≡ name
-    by_test name n s rest k t true same e behind =
-        let both : (n, s) ≡ (k, t) = some_same (n, s) (k, t) e in
-        ap (λ (z : Tuples). z.schema.name) (sym (ap (λ (p : ℕ × Tuples). p.1) both)) ∙ (bytes_eq-Decides s.schema.name name).0 same
-    by_test name n s rest k t false same e behind = behind e
 
 -- ---- a session
 

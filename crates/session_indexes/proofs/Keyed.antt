@@ -19,17 +19,16 @@ use Rattle.space_model.specs.Enough.{tree_size}
 use Rattle.tuple_file.specs.declared.tuples.Tuples.{Tuples}
 use Rattle.tuple_file.specs.Column.{IsNumber, column_of}
 use Rattle.tuple_file.specs.Tuples.{HoldsRows, rows, slots}
-use Rattle.tuple_file.proofs.Columns.{column_key}
-use Rattle.session_model.proofs.Frames.{count_rows}
+use Rattle.tuple_file.proofs.Columns.{column_key, rows_counted}
 use Rattle.session_indexes.specs.Trees.{DraftsTree}
 
 module _ (state : State) (t : Tuples) (p : ℕ) (number : IsNumber t.schema.attributes p) (holds : HoldsRows state t) (told : IsTrue state.tells) where
   pub column_keys : first_keys (key_of state (column_of t p)) (slots state.files t) ≡ keys p (rows state.files t)
   column_keys =
       let info : IndexInfo = record { attribute = p; column = column_of t p; access = Order } in
-      keys_whole state info (rows state.files t) (slots state.files t) (count_rows state.files t)
+      keys_whole state info (rows state.files t) (slots state.files t) (rows_counted state.files t)
       (λ slot below.
-      let inside : slot < slots state.files t = omega (arith, count_rows state.files t) in
+      let inside : slot < slots state.files t = omega (arith, rows_counted state.files t) in
       column_key state t p slot number holds told inside
       ∙ ap (λ (z : Row). key_at_place p z) (sym (get_or-map-range_with_len (row_at t.schema.attributes (bytes_at state.files t.file)) 0 (slots state.files t) slot slot no_row inside (omega arith))))
 

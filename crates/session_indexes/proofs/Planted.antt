@@ -1,7 +1,6 @@
 -- A tree is built in a draft, its index put into the catalog, and the draft becomes its file.
-use Rattle.std.proofs.Common.{◌≡◌, ◌≢◌, ℕ, zero, suc, ◌-◌, ◌<◌, inr, true, false, List, length, Option, Some, None, refl, ap, sym, ◌∙◌, subst, arith, IsTrue, ℤ}
+use Rattle.std.proofs.Common.{◌≡◌, ◌≢◌, ℕ, zero, suc, ◌-◌, ◌<◌, inr, true, List, length, Option, Some, None, refl, ap, sym, ◌∙◌, subst, arith, IsTrue, ℤ}
 use Rattle.std.specs.Prelude.{option_map, slice_get, slice_index, unwrap_or}
-use Rattle.std.specs.Option.{option_map_or}
 use Rattle.afl_base.specs.declared.kind.Kind.TheVariants.{Doubling}
 use Rattle.afl_base.specs.Files.{Commits, Draft, File, IsLive, IsNamed, IsUnnamed, Keeps, KeepsBytes, State, Table, bytes_at, draft_in, file_at, no_file, place, used}
 use Rattle.afl_base.specs.Fit.{fit}
@@ -9,9 +8,6 @@ use Rattle.afl_base.proofs.FileLaws.{named_here, place_live}
 use Rattle.afl_base.proofs.FrameLaws.{becomes_spares}
 use Rattle.catalog.specs.CatalogFile.{PutsIndex}
 use Rattle.catalog.specs.Rules.{is_of_database}
-use Rattle.db_model.specs.declared.schemas.Attribute.{Attribute}
-use Rattle.db_model.specs.declared.schemas.Domain.{Domain}
-use Rattle.db_model.specs.declared.schemas.Domain.TheVariants.{Int, Long, Time, Str}
 use Rattle.db_model.specs.declared.schemas.IndexKind.{IndexKind}
 use Rattle.db_model.specs.declared.schemas.IndexKind.TheVariants.{MaxHeap}
 use Rattle.db_model.specs.Catalog.{with_index_slot}
@@ -22,33 +18,25 @@ use Rattle.index_tree.proofs.Law.{ends_marked}
 use Rattle.space_model.specs.Enough.{tree_size}
 use Rattle.space_model.specs.FileNames.{catalog_file, rows_file, tree_file}
 use Rattle.tuple_file.specs.declared.tuples.Tuples.{Tuples}
-use Rattle.tuple_file.specs.Column.{IsNumber, is_number}
+use Rattle.tuple_file.specs.Column.{IsNumber}
 use Rattle.tuple_file.specs.Tuples.{HoldsRows}
 use Rattle.session_model.specs.Frames.{LeavesOthers}
 use Rattle.session_model.specs.Indexed.{IsAllowedAt}
 use Rattle.session_model.specs.Running.{HasCatalogFile}
 use Rattle.stored.proofs.FewFiles.{few_files}
 use Rattle.session_model.proofs.Leaves.{leaves_becomes, leaves_commits, leaves_same, leaves_then}
-use Rattle.session_model.proofs.Running.{bytes_by, catalog_no_rows, differ, holds_by}
+use Rattle.session_model.proofs.Running.{bytes_by, catalog_no_rows, differ}
 use Rattle.session_indexes.specs.declared.sites.Site.{Site}
 use Rattle.session_indexes.specs.Made.{AsksIndex, IsReadyFor, index_for, keys_at}
 use Rattle.session_indexes.specs.Trees.{DraftsTree, PutsTree}
 use Rattle.session_indexes.proofs.Puts.{catalog_stays, live_catalog}
+use Rattle.session_model.proofs.Readable.{number_at}
+use Rattle.tuple_file.proofs.Holding.{holds_by}
 
 -- ---- what a kind allows
 
-number_of : (kind : IndexKind) (d : Domain) → allows kind d ≡ true → is_number d ≡ true
-number_of kind Int e = refl
-number_of kind Long e = refl
-number_of kind Time e = refl
-number_of kind (Str n) e = absurd (cc)
-
-number_in : (kind : IndexKind) (o : Option Attribute) → option_map_or (λ (a : Attribute). allows kind a.domain) o false ≡ true → option_map_or (λ (a : Attribute). is_number a.domain) o false ≡ true
-number_in kind None e = e
-number_in kind (Some a) e = number_of kind a.domain e
-
 pub allowed_number : (kind : IndexKind) (t : Tuples) (p : ℕ) → IsAllowedAt t.schema.attributes p kind → IsNumber t.schema.attributes p
-allowed_number kind t p e = number_in kind (slice_get t.schema.attributes p) e
+allowed_number kind t p e = number_at kind (slice_get t.schema.attributes p) e
 
 -- ---- names
 

@@ -19,8 +19,9 @@ use Rattle.session_model.specs.Cells.{cell_from}
 use Rattle.session_model.specs.Indexed.{index_known}
 use Rattle.session_model.specs.View.{view}
 use Rattle.session_model.proofs.Views.{found_in_view}
-use Rattle.session_model.proofs.Rules.{both_parts, true_eq}
+use Rattle.session_model.proofs.Rules.{both_parts}
 use Rattle.session_indexes.specs.Sites.{is_held_on, slot_from}
+use Rattle.padded.proofs.Facts.{true_eq}
 
 -- ---- slots of indexes
 

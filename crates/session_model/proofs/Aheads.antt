@@ -24,10 +24,10 @@ use Rattle.session_model.specs.Aheads.{ahead_in, aheads_of, join_stops, walk_of}
 use Rattle.session_model.specs.Frames.{LeavesOthers, with_indexed, with_tuples}
 use Rattle.session_model.specs.Running.{IsCursorSlot, IsRunning, ReadsRows}
 use Rattle.session_model.proofs.Catalogs.{IndexChanges, RelationChanges, StaysFor, index_stays, relation_stays, same_rows_grow}
-use Rattle.session_model.proofs.Running.{RowsCome, catalog_no_rows, grow_any, inside}
+use Rattle.session_model.proofs.Running.{RowsCome, catalog_no_rows, grow_any}
 use Rattle.session_model.proofs.Views.{mapped_same}
-use Rattle.session_model.proofs.Cursors.{none_or_some}
-use Rattle.session_model.proofs.Frames.{count_rows}
+use Rattle.tuple_file.proofs.Columns.{rows_counted}
+use Rattle.padded.proofs.Facts.{zero_or_more, some_inside}
 
 -- the left slots of the pairs to come, by the rows of both sides
 abbrev stops_by : JoinCursor → List Row → List Row → List ℕ
@@ -57,7 +57,7 @@ ahead_stays old new held (Select o) told h grow =
     let g = grow is.slot o.cursor.tuples (some, refl) is.there in
     made (ahead_kept o.cursor.candidates (rows old.files o.cursor.tuples) (rows new.files o.cursor.tuples) g (is.waits told))
     (slots_left_kept o.cursor (rows old.files o.cursor.tuples) (rows new.files o.cursor.tuples) g (is.waits told)))
-    (none_or_some o.cursor.candidates.slots)
+    (zero_or_more o.cursor.candidates.slots)
   where
     made : ahead o.cursor.candidates (rows new.files o.cursor.tuples) ≡ ahead o.cursor.candidates (rows old.files o.cursor.tuples)
         → slots_to_answer o.cursor (rows new.files o.cursor.tuples) ≡ slots_to_answer o.cursor (rows old.files o.cursor.tuples)
@@ -72,10 +72,10 @@ ahead_stays old new held (Join o) told h grow =
     (stops_kept o.cursor (rows old.files o.cursor.left) (rows old.files o.cursor.right) (rows new.files o.cursor.left) (rows new.files o.cursor.right)
     (side_kept o.cursor.left_slots (rows old.files o.cursor.left) (rows new.files o.cursor.left)
     (λ some. let is = h.left some in
-    (grow is.slot o.cursor.left (inl (some, refl)) is.there, subst (λ (n : ℕ). o.cursor.left_slots ≤ n) (sym (count_rows old.files o.cursor.left)) is.few)))
+    (grow is.slot o.cursor.left (inl (some, refl)) is.there, subst (λ (n : ℕ). o.cursor.left_slots ≤ n) (sym (rows_counted old.files o.cursor.left)) is.few)))
     (side_kept o.cursor.right_slots (rows old.files o.cursor.right) (rows new.files o.cursor.right)
     (λ some. let is = (h.right some).side in
-    (grow is.slot o.cursor.right (inr (some, refl)) is.there, subst (λ (n : ℕ). o.cursor.right_slots ≤ n) (sym (count_rows old.files o.cursor.right)) is.few))))
+    (grow is.slot o.cursor.right (inr (some, refl)) is.there, subst (λ (n : ℕ). o.cursor.right_slots ≤ n) (sym (rows_counted old.files o.cursor.right)) is.few))))
 
 -- ---- all cursors
 
@@ -85,7 +85,7 @@ pub rows_aheads : (old new : State) (before after : Tables) (held : Held) (opens
 rows_aheads old new before after held opens k t r u told =
     mapped_same (ahead_in new.files) (ahead_in old.files) opens
     (λ n o e. let P : Option Open → Type 0 = λ z. IsCursorSlot old held z in
-    ahead_stays old new held o told (subst P e (r.cursors n (omega (arith, inside opens n o e, r.four))))
+    ahead_stays old new held o told (subst P e (r.cursors n (omega (arith, some_inside opens n o e, r.four))))
     (λ j s reads there. grow_any old new before after held opens k t r u told n o e j s reads there))
 
 -- the catalog has changed, and no relation that a cursor reads
@@ -94,7 +94,7 @@ module _ (old new : State) (before : Tables) (held : Held) (opens : List (Option
   same_aheads now told stays =
       mapped_same (ahead_in new.files) (ahead_in old.files) opens
       (λ n o e. let P : Option Open → Type 0 = λ z. IsCursorSlot old held z in
-      ahead_stays old new held o told (subst P e (r.cursors n (omega (arith, inside opens n o e, r.four))))
+      ahead_stays old new held o told (subst P e (r.cursors n (omega (arith, some_inside opens n o e, r.four))))
       (λ j s reads there. same_rows_grow old new before before held opens r name l j s there ((stays n o e).relation j s reads there).0))
 
 pub catalog_aheads : (old new : State) (tables : Tables) (held : Held) (opens : List (Option Open)) → IsRunning old tables held opens → LeavesOthers old new catalog_file → IsTrue old.tells

@@ -43,20 +43,22 @@ use Rattle.session_model.specs.Running.{HasCatalogFile, HasFile, IndexStands, Is
 use Rattle.session_model.specs.View.{cursor_in, relation_of_file, relation_of_rows, view}
 use Rattle.session_model.proofs.Cursors.{cursor_kept}
 use Rattle.session_model.proofs.Leaves.{leaves_becomes, leaves_catalog}
-use Rattle.session_model.proofs.Running.{bytes_by, catalog_no_rows, catalog_no_tree, differ, holds_by, index_there, inside, relation_there, row_no_tree, rows_apart, trees_apart}
+use Rattle.session_model.proofs.Running.{bytes_by, catalog_no_rows, catalog_no_tree, differ, index_there, relation_there, row_no_tree, rows_apart, trees_apart}
 use Rattle.session_model.proofs.Views.{mapped_put, mapped_same}
 use Rattle.session_model.proofs.Written.{index_written, relation_written}
+use Rattle.tuple_file.proofs.Holding.{holds_by}
+use Rattle.padded.proofs.Facts.{some_inside}
 
 -- ---- files that stay
 
-named_at : (a b : Table) (id : ℕ) (n : List ℕ) → place b id ≡ place a id → IsNamed a id n → IsNamed b id n
+pub named_at : (a b : Table) (id : ℕ) (n : List ℕ) → place b id ≡ place a id → IsNamed a id n → IsNamed b id n
 named_at a b id n e is = ap (λ (o : Option File). name_of o) e ∙ is
   where
     name_of : Option File → Option (List ℕ)
     name_of None = None
     name_of (Some f) = Some f.name
 
-limit_grows : (v : ℕ) → slots_limit v ≤ slots_limit 2
+pub limit_grows : (v : ℕ) → slots_limit v ≤ slots_limit 2
 limit_grows v = grind (arith, nat_tests)
 
 -- what a cursor may count on: each relation of which it reads rows is held as before, and so are its indexes
@@ -203,7 +205,7 @@ module _ (old new : State) (before after : Tables) (held : Held) (opens : List (
   pub same_cursor : (now : Held) → IsTrue old.tells → (n : ℕ) (o : Open) → get_or opens n None ≡ Some o → StaysFor name held now o → cursor_in new.files o ≡ cursor_in old.files o
   same_cursor now t n o e stays =
       let P : Option Open → Type 0 = λ z. IsCursorSlot old held z in
-      cursor_kept old new held o t (subst P e (r.cursors n (omega (arith, inside opens n o e, r.four))))
+      cursor_kept old new held o t (subst P e (r.cursors n (omega (arith, some_inside opens n o e, r.four))))
       (λ k s reads there. same_rows_grow k s there (stays.relation k s reads there).0)
 
 -- ---- the catalog's file changes, and what it says does not
@@ -215,7 +217,7 @@ cat_there files o cat has h = let P : Option ℕ → Type 0 = λ z. HasCatalogFi
 pub catalog_there : (state : State) (tables : Tables) (held : Held) (opens : List (Option Open)) (cat : ℕ) → IsRunning state tables held opens → held.cat ≡ Some cat → HasCatalogFile state.files (Some cat)
 catalog_there state tables held opens cat r has = cat_there state.files held.cat cat has r.catalog
 
-bytes_there : (files : Table) (o : Option ℕ) (cat : ℕ) → o ≡ Some cat → bytes_of_catalog files o ≡ bytes_at files cat
+pub bytes_there : (files : Table) (o : Option ℕ) (cat : ℕ) → o ≡ Some cat → bytes_of_catalog files o ≡ bytes_at files cat
 bytes_there files o cat has = ap (bytes_of_catalog files) has
 
 module _ (old new : State) (tables : Tables) (held now : Held) (opens : List (Option Open)) (r : IsRunning old tables held opens) (l : LeavesOthers old new catalog_file) (idle : new.draft ≡ None)
@@ -413,7 +415,7 @@ module _ (old new : State) (before after : Tables) (held : Held) (opens : List (
 
   new_apart : (z : Indexed) → x ≡ Some z → (j : ℕ) (y : Indexed) → j ≢ i → get_or held.indexes j None ≡ Some y → IsElsewhere z.access y.access
   new_apart z is j y other e =
-      apart_by_name new.files i j z.access y.access (λ same. other (sym same)) (own_file z is) (file_of j (omega (arith, inside held.indexes j y e, r.eight_indexes)) y other e)
+      apart_by_name new.files i j z.access y.access (λ same. other (sym same)) (own_file z is) (file_of j (omega (arith, some_inside held.indexes j y e, r.eight_indexes)) y other e)
       (λ number at. u.own z number is at j y other e)
 
   index_apart : (a b : ℕ) (y z : Indexed) → a ≢ b → get_or (set held.indexes i x) a None ≡ Some y → get_or (set held.indexes i x) b None ≡ Some z → IsElsewhere y.access z.access

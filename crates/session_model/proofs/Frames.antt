@@ -1,11 +1,10 @@
 -- What stays of rows and indexes where some files change, or where room is made in them.
-use Rattle.std.proofs.Common.{◌≡◌, ◌≢◌, ℕ, ◌*◌, ◌≤◌, List, [], ◌∷◌, ◌++◌, length, Option, unwrap_or, ap, sym, ◌∙◌, subst, IsTrue, ◌/◌, ℤ}
-use Rattle.std.proofs.lemmas.List.FromFn.{length-map-range_with_len}
-use Rattle.afl_base.specs.Files.{File, State, Table, bytes_at, no_file}
+use Rattle.std.proofs.Common.{◌≡◌, ◌≢◌, ℕ, List, [], ◌∷◌, ◌++◌, Option, unwrap_or, ap, sym, ◌∙◌, subst, IsTrue, ℤ}
+use Rattle.afl_base.specs.Files.{File, State, bytes_at, no_file}
 use Rattle.afl_base.specs.Frames.{Prepares, SparesOthers}
 use Rattle.afl_base.proofs.FrameLaws.{live_by_name}
 use Rattle.db_model.specs.Step.{keys}
-use Rattle.db_model.specs.Row.{Row, row_length, row_at, rows_bytes, rows_of}
+use Rattle.db_model.specs.Row.{Row, rows_of}
 use Rattle.index_set.specs.declared.info.Access.{Access}
 use Rattle.index_set.specs.declared.info.Access.TheVariants.{Order, Tree, Table as InTable}
 use Rattle.index_set.specs.declared.info.IndexInfo.{IndexInfo}
@@ -14,26 +13,12 @@ use Rattle.index_set.specs.Inserts.{IsApart, IsNoTree}
 use Rattle.index_set.specs.Tables.{Tables}
 use Rattle.index_tree.specs.Trees.{IsTreeOf}
 use Rattle.tuple_file.specs.declared.tuples.Tuples.{Tuples}
-use Rattle.tuple_file.specs.Tuples.{HoldsRows, rows, slots}
+use Rattle.tuple_file.specs.Tuples.{rows}
 
 -- ---- rows
 
 pub rows_prepared : (a b : State) (P : ℕ → Type 0) (t : Tuples) → Prepares a b P → IsTrue a.tells → rows b.files t ≡ rows a.files t
 rows_prepared a b P t f told = ap (rows_of t.schema.attributes) (f.bytes told t.file)
-
-pub slots_prepared : (a b : State) (P : ℕ → Type 0) (t : Tuples) → Prepares a b P → slots b.files t ≡ slots a.files t
-slots_prepared a b P t f = ap (λ (n : ℕ). n / row_length t.schema.attributes) (f.sizes t.file)
-
-pub holds_prepared : (a b : State) (P : ℕ → Type 0) (t : Tuples) → Prepares a b P → HoldsRows a t → HoldsRows b t
-holds_prepared a b P t f h =
-    let s = slots_prepared a b P t f in
-    record {
-      file = record { live = live_by_name a.files b.files f.spares.named t.file h.file.live; doubling = f.spares.kind t.file h.file.live ∙ h.file.doubling; short = h.file.short };
-      whole = f.sizes t.file ∙ h.whole ∙ ap (λ (n : ℕ). row_length t.schema.attributes * n) (sym s);
-      few = subst (λ (n : ℕ). n ≤ 32768) (sym s) h.few;
-      written = λ told. let before = sym f.spares.tells ∙ told in
-          ap (rows_bytes t.schema.attributes) (rows_prepared a b P t f before) ∙ h.written before ∙ sym (f.bytes before t.file);
-    }
 
 -- ---- indexes
 
@@ -59,9 +44,6 @@ module _ (a b : State) (id : ℕ) (same : (k : ℕ) → k ≢ id → bytes_at b.
 
 pub bytes_spared : (a b : State) (id : ℕ) → SparesOthers a b (λ k. k ≢ id) → (k : ℕ) → k ≢ id → bytes_at b.files k ≡ bytes_at a.files k
 bytes_spared a b id f k other = ap (λ (o : Option File). (unwrap_or o no_file).bytes) (f.others k other)
-
-pub count_rows : (files : Table) (t : Tuples) → length (rows files t) ≡ slots files t
-count_rows files t = length-map-range_with_len (row_at t.schema.attributes (bytes_at files t.file)) 0 (slots files t)
 
 -- a row was put behind the others, and its keys into the indexes
 pub complete_added : (a b c : State) (tables after : Tables) (t : Tuples) (infos : List IndexInfo) (row : Row) → IsNoTree infos t.file

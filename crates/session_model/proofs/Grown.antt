@@ -20,12 +20,13 @@ use Rattle.session_model.specs.Frames.{LeavesOthers}
 use Rattle.session_model.specs.Indexed.{IsAllowedAt}
 use Rattle.session_model.specs.Running.{IsCursorSlot, IsIndexedOn, IsRunning, ReadsRows}
 use Rattle.session_model.proofs.Catalogs.{kept_complete, kept_file, kept_held}
-use Rattle.session_model.proofs.Frames.{count_rows}
-use Rattle.session_model.proofs.Running.{inside, on_relation, row_no_tree}
+use Rattle.session_model.proofs.Running.{on_relation, row_no_tree}
+use Rattle.tuple_file.proofs.Columns.{rows_counted}
+use Rattle.padded.proofs.Facts.{some_inside}
 
 -- ---- no rows
 
-no_items : {A : Type 0} (xs : List A) → length xs ≡ 0 → xs ≡ []
+pub no_items : {A : Type 0} (xs : List A) → length xs ≡ 0 → xs ≡ []
 no_items [] e = refl
 no_items (x ∷ xs) e = absurd (omega (arith, e))
 
@@ -33,14 +34,14 @@ pub slots_of_none : (state : State) (t : Tuples) → size_at state.files t.file 
 slots_of_none state t none = ap (λ (n : ℕ). n / row_length t.schema.attributes) none ∙ zero-div (row_length t.schema.attributes)
 
 pub rows_of_none : (state : State) (t : Tuples) → size_at state.files t.file ≡ 0 → rows state.files t ≡ []
-rows_of_none state t none = no_items (rows state.files t) (count_rows state.files t ∙ slots_of_none state t none)
+rows_of_none state t none = no_items (rows state.files t) (rows_counted state.files t ∙ slots_of_none state t none)
 
 times_none : (n m : ℕ) → m ≡ 0 → n * m ≡ 0
 times_none n m e = ap (λ (k : ℕ). n * k) e ∙ mul-zero n
 
 -- where there is no row, there is no byte
 pub no_bytes : (state : State) (t : Tuples) → HoldsRows state t → length (rows state.files t) ≡ 0 → size_at state.files t.file ≡ 0
-no_bytes state t h none = h.whole ∙ times_none (row_length t.schema.attributes) (slots state.files t) (sym (count_rows state.files t) ∙ none)
+no_bytes state t h none = h.whole ∙ times_none (row_length t.schema.attributes) (slots state.files t) (sym (rows_counted state.files t) ∙ none)
 
 -- an empty file holds the rows of any short schema
 pub holds_none : (state : State) (t s : Tuples) → HoldsRows state t → s.file ≡ t.file → row_length s.schema.attributes ≤ 128 → size_at state.files s.file ≡ 0 → HoldsRows state s
@@ -69,12 +70,12 @@ module _ (old new : State) (tables : Tables) (held : Held) (opens : List (Option
   pub unread_empty : (n : ℕ) (o : Open) → get_or opens n None ≡ Some o → ReadsRows o t → ⊥
   unread_empty n o e reads =
       let P : Option Open → Type 0 = λ z. IsCursorSlot old held z in
-      read o reads (subst P e (r.cursors n (omega (arith, inside opens n o e, r.four))))
+      read o reads (subst P e (r.cursors n (omega (arith, some_inside opens n o e, r.four))))
     where
       empty : (s : Tuples) (m : ℕ) → 0 < m → m ≤ slots old.files s → s ≡ t → ⊥
       empty s m some few same =
           let here : m ≤ slots old.files t = subst (λ (z : Tuples). m ≤ slots old.files z) same few in
-          omega (arith, some, here, count_rows old.files t, none)
+          omega (arith, some, here, rows_counted old.files t, none)
 
       read : (o : Open) → ReadsRows o t → IsCursorSlot old held (Some o) → ⊥
       read (Select c) reads h = empty c.cursor.tuples c.cursor.candidates.slots reads.0 (h.goes_on reads.0).few reads.1
@@ -88,7 +89,7 @@ module _ (old new : State) (tables : Tables) (held : Held) (opens : List (Option
       let d = on_relation old tables held opens r k t there j y e rel in
       let was : rows old.files t ≡ [] = no_items (rows old.files t) none in
       let is : rows new.files s ≡ [] = rows_of_none new s empty in
-      let no : slots old.files t ≡ slots new.files s = sym (count_rows old.files t) ∙ none ∙ sym (slots_of_none new s empty) in
+      let no : slots old.files t ≡ slots new.files s = sym (rows_counted old.files t) ∙ none ∙ sym (slots_of_none new s empty) in
       let R : List Row → Type 0 = λ all. IsComplete new tables y.access (keys y.attribute all) in
       record {
         place = d.place;

@@ -18,9 +18,10 @@ use Rattle.session_model.specs.Frames.{StaysAt}
 use Rattle.session_model.specs.Indexed.{infos_of}
 use Rattle.session_model.specs.Running.{IsRunning}
 use Rattle.session_model.specs.View.{view}
-use Rattle.session_model.proofs.Frames.{complete_kept, held_spared, holds_prepared, rows_prepared, slots_prepared}
+use Rattle.session_model.proofs.Frames.{complete_kept, held_spared, rows_prepared}
 use Rattle.session_model.proofs.Running.{RowsCome, are_complete, are_held, away, one_changes, relation_there, rows_come}
 use Rattle.session_model.proofs.Views.{view_kept}
+use Rattle.tuple_file.proofs.Holding.{slots_prepared, holds_prepared}
 
 grows_by : (old new : List Row) (row : Row) → new ≡ old ++ row ∷ [] → RowsGrow old new
 grows_by old new row e = record {

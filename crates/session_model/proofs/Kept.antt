@@ -10,18 +10,14 @@ use Rattle.cursor.specs.Pairs.{matching, pairs_left}
 use Rattle.cursor.specs.Remaining.{is_live_and, passes_code, remaining, slots_to_answer, tuples_at}
 use Rattle.cursor.specs.declared.join.JoinCursor.{JoinCursor}
 use Rattle.cursor.specs.declared.select.SelectCursor.{SelectCursor}
+use Rattle.padded.proofs.Facts.{cond_alike}
+use Rattle.cursor.proofs.Waiting.{reads_step}
 
 -- ---- slots
 
-both_ways : (b c : Bool) → b ≡ c → (a : ℕ) (xs ys : List ℕ) → xs ≡ ys → cond b (a ∷ xs) xs ≡ cond c (a ∷ ys) ys
-both_ways true true e a xs ys same = ap (λ (zs : List ℕ). a ∷ zs) same
-both_ways false false e a xs ys same = same
-both_ways true false e a xs ys same = absurd (cc)
-both_ways false true e a xs ys same = absurd (cc)
-
 -- of the slots that pass a test, those that pass another, where this is the same below a number
 filtered : (f g : ℕ → Bool) (b : Bool) (a : ℕ) (rest : List ℕ) → f a ≡ g a → filter f rest ≡ filter g rest → filter f (cond b (a ∷ rest) rest) ≡ filter g (cond b (a ∷ rest) rest)
-filtered f g true a rest e same = both_ways (f a) (g a) e a (filter f rest) (filter g rest) same
+filtered f g true a rest e same = cond_alike (f a) (g a) e a (filter f rest) (filter g rest) same
 filtered f g false a rest e same = same
 
 filters_same : (p f g : ℕ → Bool) (a n m : ℕ) → a + n ≤ m → ((i : ℕ) → i < m → f i ≡ g i) → filter f (filter p (range_with_len a n)) ≡ filter g (filter p (range_with_len a n))
@@ -29,13 +25,8 @@ filters_same p f g a zero m h same = refl
 filters_same p f g a (suc n) m h same =
     filtered f g (p a) a (filter p (range_with_len (a + 1) n)) (same a (omega arith)) (filters_same p f g (a + 1) n m (omega arith) same)
 
--- what is read at them is the same
-mapped : (f g : ℕ → List Value) (b : Bool) (a : ℕ) (rest : List ℕ) → f a ≡ g a → map f rest ≡ map g rest → map f (cond b (a ∷ rest) rest) ≡ map g (cond b (a ∷ rest) rest)
-mapped f g true a rest e same = λ i. e i ∷ same i
-mapped f g false a rest e same = same
-
 chosen : (f g : ℕ → List Value) (q : ℕ → Bool) (b : Bool) (a : ℕ) (rest : List ℕ) → f a ≡ g a → map f (filter q rest) ≡ map g (filter q rest) → map f (filter q (cond b (a ∷ rest) rest)) ≡ map g (filter q (cond b (a ∷ rest) rest))
-chosen f g q true a rest e same = mapped f g (q a) a (filter q rest) e same
+chosen f g q true a rest e same = reads_step f g (q a) a (filter q rest) e same
 chosen f g q false a rest e same = same
 
 reads_same : (p q : ℕ → Bool) (f g : ℕ → List Value) (a n m : ℕ) → a + n ≤ m → ((i : ℕ) → i < m → f i ≡ g i) → map f (filter q (filter p (range_with_len a n))) ≡ map g (filter q (filter p (range_with_len a n)))
@@ -65,10 +56,6 @@ pub ahead_none : (c : Candidates) (all : List Row) → c.slots ≡ 0 → ahead c
 ahead_none c all e =
     let few : c.slots - c.from ≡ 0 = omega (arith, e) in
     ap (λ (n : ℕ). filter (λ slot. search_takes c.search (get_or all slot no_row)) (range_with_len c.from n)) few
-
-pub remaining_none : (c : SelectCursor) (all : List Row) → c.candidates.slots ≡ 0 → remaining c all ≡ []
-remaining_none c all e =
-    ap (λ (slots : List ℕ). tuples_at (filter (λ slot. is_live_and (passes_code c.code) (get_or all slot no_row)) slots) all) (ahead_none c.candidates all e)
 
 -- ---- cursors of two relations
 

@@ -4,10 +4,10 @@ use Rattle.std.specs.Prelude.{option_map}
 use Rattle.std.proofs.lemmas.List.{drop_all}
 use Rattle.afl_base.specs.Files.{Table}
 use Rattle.db_model.specs.Database.{Cursor, reader_from}
-use Rattle.tuple_file.proofs.Lists.{drop_item}
 use Rattle.session_model.specs.declared.held.Open.{Open}
 use Rattle.session_model.specs.Readers.{is_reader}
 use Rattle.session_model.specs.View.{cursor_in}
+use Rattle.padded.proofs.Facts.{drop_item}
 
 -- the cursors from one on
 abbrev pub reader_at : Table → List ℕ → List (Option Open) → ℕ → Option ℕ

@@ -12,16 +12,11 @@ use Rattle.space_model.specs.FileNames.{catalog_file}
 use Rattle.session_model.specs.Frames.{LeavesOthers}
 use Rattle.session_model.specs.Running.{AreOfDatabase}
 use Rattle.session_model.proofs.Running.{distinct_spared, known_spared}
-
-same_option : {A : Type 0} (x y : A) → Some x ≡ Some y → x ≡ y
-same_option x y e = cc
-
-none_some : {A : Type 0} (x : A) → None ≡ Some x → ⊥
-none_some x e = cc
+use Rattle.padded.proofs.Facts.{some_same, none_some}
 
 -- the names that a file has are one
 one_name : (files : Table) (i j : ℕ) (n m : List ℕ) → i ≡ j → IsNamed files i n → IsNamed files j m → n ≡ m
-one_name files i j n m e a b = same_option n m (sym a ∙ ap (name_at files) e ∙ b)
+one_name files i j n m e a b = some_same n m (sym a ∙ ap (name_at files) e ∙ b)
 
 -- no file here: no name
 free_name : (files : Table) (id : ℕ) (n : List ℕ) → place files id ≡ None → IsNamed files id n → ⊥
@@ -71,7 +66,7 @@ known_new : (a b : State) (id : ℕ) (f : File) → place b.files id ≡ Some f 
     → AreOfDatabase a.files → AreOfDatabase b.files
 known_new a b id f here is others known k g there =
     ⊎_elim
-    (λ same. let e : g ≡ f = same_option g f (sym there ∙ ap (place b.files) same ∙ here) in subst (λ (x : File). is_of_database x.name x.kind ≡ true) (sym e) is)
+    (λ same. let e : g ≡ f = some_same g f (sym there ∙ ap (place b.files) same ∙ here) in subst (λ (x : File). is_of_database x.name x.kind ≡ true) (sym e) is)
     (λ other. known k g (sym (others k other) ∙ there))
     (cases_eq k id)
 

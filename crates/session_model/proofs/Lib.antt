@@ -18,3 +18,5 @@ pub mod Sound
 pub mod Views
 pub mod Wanted
 pub mod Written
+pub mod Cells
+pub mod Carrying

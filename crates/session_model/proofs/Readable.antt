@@ -26,24 +26,23 @@ use Rattle.cursor.specs.Remaining.{AreOnNumbers}
 use Rattle.tuple_file.specs.declared.tuples.Tuples.{Tuples}
 use Rattle.tuple_file.specs.Column.{IsNumber, is_number}
 use Rattle.tuple_file.specs.Tuples.{HoldsRows, rows, slots}
-use Rattle.tuple_file.proofs.Columns.{column_field, column_key, column_width}
+use Rattle.tuple_file.proofs.Columns.{column_field, column_key, column_width, rows_counted}
 use Rattle.session_model.specs.declared.held.Held.{Held}
 use Rattle.session_model.specs.declared.held.Indexed.{Indexed}
 use Rattle.session_model.specs.declared.held.Open.{Open}
 use Rattle.session_model.specs.Indexed.{AreNumbers, info_of, infos_of}
 use Rattle.session_model.specs.Running.{IndexStands, IsIndexed, IsRunning}
-use Rattle.session_model.proofs.Frames.{count_rows}
 use Rattle.session_model.proofs.Running.{all_of, on_relation, relation_there}
 
 -- ---- what a kind allows
 
-number_of_kind : (kind : IndexKind) (d : Domain) → allows kind d ≡ true → is_number d ≡ true
+pub number_of_kind : (kind : IndexKind) (d : Domain) → allows kind d ≡ true → is_number d ≡ true
 number_of_kind kind Int e = refl
 number_of_kind kind Long e = refl
 number_of_kind kind Time e = refl
 number_of_kind kind (Str n) e = absurd (cc)
 
-number_at : (kind : IndexKind) (o : Option Attribute) → option_map_or (λ (a : Attribute). allows kind a.domain) o false ≡ true → option_map_or (λ (a : Attribute). is_number a.domain) o false ≡ true
+pub number_at : (kind : IndexKind) (o : Option Attribute) → option_map_or (λ (a : Attribute). allows kind a.domain) o false ≡ true → option_map_or (λ (a : Attribute). is_number a.domain) o false ≡ true
 number_at kind None e = e
 number_at kind (Some a) e = number_of_kind kind a.domain e
 
@@ -92,7 +91,7 @@ index_complete state tables i x t holds told d =
     let number = index_number state tables i x t d in
     record {
       column = λ slot below.
-          let inside : slot < slots state.files t = omega (arith, count_rows state.files t) in
+          let inside : slot < slots state.files t = omega (arith, rows_counted state.files t) in
           column_key state t x.attribute slot number holds told inside
           ∙ ap (λ (z : Row). key_at_place x.attribute z) (sym (get_or-map-range_with_len (row_at t.schema.attributes (bytes_at state.files t.file)) 0 (slots state.files t) slot slot no_row inside (omega arith)));
       complete = d.complete told;

@@ -1,5 +1,5 @@
 -- What is so of a session goes on being so where rows come to one relation.
-use Rattle.std.proofs.Common.{◌≡◌, ◌≢◌, ℕ, zero, suc, ◌+◌, ◌*◌, ◌/◌, ◌<◌, ◌≤◌, Bool, true, false, cond, List, [], ◌∷◌, length, map, get_or, Option, Some, None, unwrap_or, refl, ap, sym, ◌∙◌, subst, arith, inl, inr, IsTrue, is_some, eqb, ◌==◌, filter, ℤ, ◌||◌}
+use Rattle.std.proofs.Common.{◌≡◌, ◌≢◌, ℕ, zero, suc, ◌+◌, ◌/◌, ◌<◌, ◌≤◌, Bool, true, false, cond, List, [], ◌∷◌, length, map, get_or, Option, Some, None, unwrap_or, refl, ap, sym, ◌∙◌, subst, arith, inl, inr, IsTrue, eqb, ◌==◌, filter, ℤ, ◌||◌}
 use Rattle.std.specs.Prelude.{option_map}
 use Rattle.std.specs.List.{AllByRecursion}
 use Rattle.std.proofs.Math.Logic.{⊎_elim}
@@ -16,13 +16,12 @@ use Rattle.catalog.specs.CatalogFile.{IsCatalogSize}
 use Rattle.catalog.specs.Rules.{is_of_database}
 use Rattle.db_model.specs.Catalog.{Index, catalog_of}
 use Rattle.db_model.specs.Database.{is_among, reader_from, used_things}
-use Rattle.db_model.specs.Row.{Row, no_row, row_length, rows_bytes, rows_of}
+use Rattle.db_model.specs.Row.{Row, no_row, row_length, rows_of}
 use Rattle.db_model.specs.Step.{keys, slots_limit}
 use Rattle.index_set.specs.declared.info.Access.{Access}
 use Rattle.index_set.specs.declared.info.Access.TheVariants.{Order, Tree, Table as InTable}
 use Rattle.index_set.specs.declared.info.IndexInfo.{IndexInfo}
 use Rattle.index_set.specs.declared.info.TableId.{TableId}
-use Rattle.index_set.specs.declared.info.TableId.TheVariants.{First, Second}
 use Rattle.index_set.specs.Complete.{AreComplete, AreHeld, IsComplete, IsHeld}
 use Rattle.index_set.specs.Inserts.{AreApart, IsApart, IsElsewhere, IsNoTable, IsNoTree, KeepsTables}
 use Rattle.index_set.specs.Walks.{RowsGrow}
@@ -43,6 +42,9 @@ use Rattle.session_model.specs.View.{cursor_in, relation_of_file}
 use Rattle.session_model.proofs.Cursors.{cursor_kept}
 use Rattle.session_model.proofs.Frames.{bytes_spared, held_spared}
 use Rattle.session_model.proofs.Views.{OneChanges}
+use Rattle.tuple_file.proofs.Holding.{holds_by}
+use Rattle.index_set.proofs.Inserted.{no_table}
+use Rattle.padded.proofs.Facts.{some_inside}
 
 -- ---- the list of a relation's indexes, and the slots
 
@@ -64,7 +66,7 @@ later : (P : IndexInfo → Type 0) (y : IndexInfo) (rest : List IndexInfo) (b : 
 later P y rest true h = h.1
 later P y rest false h = h
 
-is_equal : (a b : ℕ) → a ≡ b → eqb a b ≡ true
+pub is_equal : (a b : ℕ) → a ≡ b → eqb a b ≡ true
 is_equal a b e = grind (arith, nat_tests)
 
 pub one_of : (P : IndexInfo → Type 0) (k : ℕ) (t : Tuples) (xs : List (Option Indexed)) (i : ℕ) (x : Indexed) → AllByRecursion P (infos_of k t xs) → get_or xs i None ≡ Some x → x.relation ≡ k → P (info_of t x)
@@ -167,35 +169,6 @@ file_spared a b P i (InTable number) f h = unnamed_spared a b P (tree_file i) f 
 pub bytes_by : (a b : Table) (id : ℕ) → place b id ≡ place a id → bytes_at b id ≡ bytes_at a id
 bytes_by a b id e = ap (λ (o : Option File). (unwrap_or o no_file).bytes) e
 
-pub holds_by : (a b : State) (t : Tuples) → place b.files t.file ≡ place a.files t.file → b.tells ≡ a.tells → HoldsRows a t → HoldsRows b t
-holds_by a b t e tells h =
-    let bytes = bytes_by a.files b.files t.file e in
-    record {
-      file = record {
-        live = let P : Option File → Type 0 = λ o. IsTrue (is_some o) in subst P (sym e) h.file.live;
-        doubling = ap (λ (o : Option File). (unwrap_or o no_file).kind) e ∙ h.file.doubling;
-        short = h.file.short;
-      };
-      whole = ap (λ (xs : List ℕ). length xs) bytes ∙ h.whole ∙ ap (λ (xs : List ℕ). row_length t.schema.attributes * (length xs / row_length t.schema.attributes)) (sym bytes);
-      few = let P : List ℕ → Type 0 = λ xs. length xs / row_length t.schema.attributes ≤ 32768 in subst P (sym bytes) h.few;
-      written = λ told. ap (λ (xs : List ℕ). rows_bytes t.schema.attributes (rows_of t.schema.attributes xs)) bytes ∙ h.written (sym tells ∙ told) ∙ sym bytes;
-    }
-
-no_table : (number : TableId) (other : Access) → IsElsewhere (InTable number) other → IsNoTable number other
-no_table First Order h = tt
-no_table First (Tree g) h = tt
-no_table First (InTable First) h = absurd h
-no_table First (InTable Second) h = tt
-no_table Second Order h = tt
-no_table Second (Tree g) h = tt
-no_table Second (InTable First) h = tt
-no_table Second (InTable Second) h = absurd h
-
-pub inside : {A : Type 0} (xs : List (Option A)) (i : ℕ) (x : A) → get_or xs i None ≡ Some x → i < length xs
-inside [] i x e = absurd (cc)
-inside (o ∷ xs) zero x e = omega arith
-inside (o ∷ xs) (suc i) x e = omega (arith, inside xs i x e)
-
 -- the relation that an index is on
 pub record On (state : State) (tables : Tables) (i : ℕ) (x : Indexed) (o : Option Tuples) : Type 0 where
   pub tuples : Tuples
@@ -211,11 +184,11 @@ on state tables i x (Some s) h = record { tuples = s; is = refl; indexed = h }
 module _ (state : State) (tables : Tables) (held : Held) (opens : List (Option Open)) (r : IsRunning state tables held opens) where
   pub relation_there : (k : ℕ) (t : Tuples) → get_or held.relations k None ≡ Some t → HoldsRelation state held.version k t
   relation_there k t e = let P : Option Tuples → Type 0 = λ o. IsRelationSlot state held.version k o in
-      subst P e (r.relations k (omega (arith, inside held.relations k t e, r.eight)))
+      subst P e (r.relations k (omega (arith, some_inside held.relations k t e, r.eight)))
 
   pub index_there : (i : ℕ) (x : Indexed) → get_or held.indexes i None ≡ Some x → On state tables i x (get_or held.relations x.relation None)
   index_there i x e = let P : Option Indexed → Type 0 = λ o. IsIndexSlot state tables held i o in
-      on state tables i x (get_or held.relations x.relation None) (subst P e (r.indexes i (omega (arith, inside held.indexes i x e, r.eight_indexes))))
+      on state tables i x (get_or held.relations x.relation None) (subst P e (r.indexes i (omega (arith, some_inside held.indexes i x e, r.eight_indexes))))
 
   -- a file of a name that no tree has is no tree's of the relation
   no_tree : (k : ℕ) (t : Tuples) (id : ℕ) (n : List ℕ) → IsNamed state.files id n → ((i : ℕ) (x : Indexed) → get_or held.indexes i None ≡ Some x → x.relation ≡ k → n ≡ tree_file i → ⊥) → IsNoTree (infos_of k t held.indexes) id
@@ -440,7 +413,7 @@ module _ (old new : State) (before after : Tables) (held : Held) (opens : List (
     indexes = refl;
     others = λ j s other e. ap (λ (o : Option File). relation_of_file o s.schema) (place_stays j s other e);
     cursors = λ n o e. let P : Option Open → Type 0 = λ z. IsCursorSlot old held z in
-        cursor_kept old new held o told (subst P e (r.cursors n (omega (arith, inside opens n o e, r.four)))) (λ j t2 reads there. grow_any told n o e j t2 reads there);
+        cursor_kept old new held o told (subst P e (r.cursors n (omega (arith, some_inside opens n o e, r.four)))) (λ j t2 reads there. grow_any told n o e j t2 reads there);
   }
 
 -- ---- rows of one relation have changed and kept their keys, and no open cursor reads it

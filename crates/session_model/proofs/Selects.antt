@@ -21,9 +21,9 @@ use Rattle.session_model.specs.declared.held.Held.{Held}
 use Rattle.session_model.specs.declared.held.Open.{Open}
 use Rattle.session_model.specs.Indexed.{infos_of}
 use Rattle.session_model.specs.Running.{IndexStands, IsIndexed, IsRunning, IsWaiting, Stands}
-use Rattle.session_model.proofs.Cursors.{none_or_some}
 use Rattle.session_model.proofs.Readable.{stands_for}
 use Rattle.session_model.proofs.Running.{on_relation, relation_there}
+use Rattle.padded.proofs.Facts.{zero_or_more}
 
 -- a cursor that began over the slots of a relation of the session waits
 pub begun_waits : (state : State) (held : Held) (k : ℕ) (t : Tuples) → get_or held.relations k None ≡ Some t → (c : SelectCursor) → c.tuples ≡ t → c.candidates.place ≡ None
@@ -92,7 +92,7 @@ module _ (state : State) (tables : Tables) (held : Held) (opens : List (Option O
 
   pub select_fits : IsTrue state.tells → Fits c.candidates state tables (rows state.files c.tuples)
   select_fits told = record {
-    waits = ⊎_elim (λ none. waits_none (rows state.files c.tuples) none) (λ some. (w.goes_on some).waits told) (none_or_some c.candidates.slots);
+    waits = ⊎_elim (λ none. waits_none (rows state.files c.tuples) none) (λ some. (w.goes_on some).waits told) (zero_or_more c.candidates.slots);
     index = λ some. let is = w.goes_on (omega (arith, some)) in
         let P : Option Place → Type 0 = λ p. HasIndex c.candidates.search p state tables (rows state.files c.tuples) c.candidates.from in
         subst P (sym w.rests) (has_index c.candidates.search is.slot c.candidates.from is.there is.index told);

@@ -41,10 +41,11 @@ use Rattle.session_model.specs.Indexed.{index_known}
 use Rattle.session_model.specs.Running.{HasCatalogFile, HasFile, IsIndexSlot, IsRelationSlot, IsRunning, IsWritten, bytes_of_catalog}
 use Rattle.session_model.specs.View.{relation_of_rows, view}
 use Rattle.session_model.proofs.Grown.{no_bytes}
-use Rattle.padded.proofs.Facts.{both_parts, false_by, some_same}
-use Rattle.session_model.proofs.Rules.{files_used, formed, index_slot_true, no_strangers, no_third_table, none_any, none_first, not_true, relation_slot_true, schema_true, true_eq}
-use Rattle.session_model.proofs.Running.{index_there, inside, relation_there}
+use Rattle.padded.proofs.Facts.{both_parts, false_by, some_same, true_eq, some_inside}
+use Rattle.session_model.proofs.Rules.{files_used, formed, index_slot_true, no_strangers, no_third_table, none_any, not_true, relation_slot_true, schema_true}
+use Rattle.session_model.proofs.Running.{index_there, relation_there}
 use Rattle.session_model.proofs.Wanted.{by_name, bytes_by_name}
+use Rattle.stored.proofs.SameBase.{first_nothing}
 
 -- ---- slots
 
@@ -208,7 +209,7 @@ module _ (state : State) (tables : Tables) (held : Held) (opens : List (Option O
         (ap (λ (z : Relation). slice_get z.schema.attributes x.attribute) t.is ∙ sound.suits.placed) sound.suits.allowed in
         let P : Index → Type 0 = λ z. (z.relation < 8) × (stands_on z (get_or relations z.relation None) ≡ true) × (list_any (is_same_place z) before ≡ false) × (is_third_table before z ≡ false) in
         subst P from.is (
-          omega (arith, inside held.relations x.relation t.from t.there, r.eight),
+          omega (arith, some_inside held.relations x.relation t.from t.there, r.eight),
           stands,
           index_alone i x from.there,
           no_third_table (map (option_map index_known) held.indexes) i (index_known x) (seen index_known held.indexes i x from.there) s.few_tables,
@@ -224,7 +225,7 @@ module _ (state : State) (tables : Tables) (held : Held) (opens : List (Option O
         let more : 0 < length bytes_held = large some in
         let w = r.written told more in
         breaks_none bytes_held (formed bytes_held size_held w.mark) (λ none. absurd (omega (arith, more, none)))
-        (none_first (breaks_relation bytes_held) 8 (relation_fits w)) (none_first (breaks_index bytes_held) 8 (index_fits w)))
+        (first_nothing (breaks_relation bytes_held) 8 (relation_fits w)) (first_nothing (breaks_index bytes_held) 8 (index_fits w)))
         size_held
       where
         large : {n : ℕ} → (n ≡ 1472) ⊎ (n ≡ 1480) → 0 < n

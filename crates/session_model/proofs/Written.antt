@@ -1,17 +1,19 @@
 -- Where one slot of a catalog is replaced, all slots are still what is written for them.
-use Rattle.std.proofs.Common.{◌≡◌, ◌≢◌, ◌⊎◌, ℕ, zero, suc, ◌+◌, ◌*◌, ◌<◌, ◌≤◌, List, [], ◌∷◌, ◌++◌, length, take, Option, refl, sym, ap, subst, ◌∙◌, arith, length-append}
+use Rattle.std.proofs.Common.{◌≡◌, ◌≢◌, ◌⊎◌, ℕ, zero, suc, ◌+◌, ◌*◌, ◌<◌, ◌≤◌, List, [], ◌++◌, length, take, Option, refl, sym, ap, subst, ◌∙◌, arith, length-append}
 use Rattle.std.specs.Prelude.{slice_range}
 use Rattle.std.proofs.Math.Logic.{⊎_elim}
 use Rattle.std.proofs.lemmas.Bool.{cases_eq, cases_lt}
 use Rattle.std.proofs.lemmas.List.{drop_at}
 use Rattle.afl_base.specs.Fields.{put_at}
 use Rattle.catalog.specs.CatalogFile.{IsCatalogSize}
-use Rattle.catalog.proofs.Changes.{long_empty, slot_put}
-use Rattle.catalog.proofs.PutRanges.{before_put, behind_put, here_put, range_of_front}
+use Rattle.catalog.proofs.Changes.{slot_put}
+use Rattle.catalog.proofs.PutRanges.{before_put, behind_put, here_put}
 use Rattle.db_model.specs.declared.schemas.Schema.{Schema}
 use Rattle.db_model.specs.Catalog.{Index, IsRelation, empty_bytes, in_version_2, index_slot_bytes, index_slot_of, relation_slot_bytes, relation_slot_of, version_mark, with_index_slot, with_relation_slot}
 use Rattle.db_model.proofs.Catalogs.{index_slot_back, length-index_slot, length-relation_slot, relation_slot_back}
 use Rattle.session_model.specs.Running.{IsWritten, IsWrittenOrEmpty}
+use Rattle.catalog.proofs.Replaced.{stands_0}
+use Rattle.padded.proofs.Facts.{slice_of_front}
 
 -- ---- one slot
 
@@ -60,17 +62,13 @@ empty_mark = refl
 empty_written : IsWritten empty_bytes
 empty_written = record { relations = empty_relations; indexes = empty_indexes; mark = λ e. empty_mark }
 
-stands_0 : (bytes : List ℕ) → length bytes ≡ 0 → Stands bytes empty_bytes
-stands_0 [] size = record { is = refl; long = long_empty; written = empty_written }
-stands_0 (b ∷ bytes) size = absurd (omega (arith, size))
-
 stands_1 : (bytes : List ℕ) → length bytes ≡ 1472 → IsWritten bytes → Stands bytes (bytes ++ version_mark)
 stands_1 bytes size w = record {
   is = rw size refl;
   long = length-append bytes version_mark ∙ ap (λ n. n + 8) size;
   written = record {
-    relations = λ k h. subst IsRelationForm (sym (range_of_front bytes version_mark (176 * k) (176 * k + 176) (omega arith) (omega (arith, size, h)))) (w.relations k h);
-    indexes = λ i h. subst IsIndexForm (sym (range_of_front bytes version_mark (1408 + 8 * i) (1408 + 8 * i + 8) (omega arith) (omega (arith, size, h)))) (w.indexes i h);
+    relations = λ k h. subst IsRelationForm (sym (slice_of_front bytes version_mark (176 * k) (176 * k + 176) (omega arith) (omega (arith, size, h)))) (w.relations k h);
+    indexes = λ i h. subst IsIndexForm (sym (slice_of_front bytes version_mark (1408 + 8 * i) (1408 + 8 * i + 8) (omega arith) (omega (arith, size, h)))) (w.indexes i h);
     mark = λ e. ap (take 8) (drop_at bytes version_mark 1472 size);
   };
 }

@@ -1,5 +1,5 @@
 -- A query and an aggregate leave the database, and what its cursors have ahead.
-use Rattle.std.proofs.Common.{◌≡◌, ℕ, ◌+◌, ◌≤◌, Bool, true, false, List, Result, Ok, Err, refl, ap, sym, subst, ◌∙◌, rules, arith, if◌then◌else◌}
+use Rattle.std.proofs.Common.{◌≡◌, ℕ, ◌+◌, ◌≤◌, List, Result, Ok, Err, refl, ap, sym, subst, ◌∙◌, rules, arith}
 use Rattle.std.specs.Prelude.{⊤}
 use Rattle.std.specs.Io.KnownBytes.{append_known}
 use Rattle.afl_base.specs.Files.{State}
@@ -31,15 +31,12 @@ use Rattle.session_model.specs.Running.{IsRunning}
 use Rattle.session_model.specs.Steps.{Replies, UnlessFlash}
 use Rattle.session_model.specs.View.{view}
 use Rattle.session_queries.proofs.Lines.{refused_done, refused_less}
+use Rattle.padded.proofs.Facts.{either_way}
 
 -- what such a command leaves
 pub record LeavesAll (c : Command) : Type 0 where
   pub database : (db : Database) → (step db c).0 ≡ db
   pub aheads : (db : Database) (aheads : Aheads) → aheads_after db aheads c ≡ aheads
-
-either_way : {A : Type 0} (b : Bool) (x : A) → (if b then x else x) ≡ x
-either_way true x = refl
-either_way false x = refl
 
 database_asked : (db : Database) (query : Query) → (step db (Ask query)).0 ≡ db
 database_asked db query = by_rows (answer_of db query)

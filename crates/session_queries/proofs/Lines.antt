@@ -112,10 +112,6 @@ pub numbers_less : (reply : Reply) (found wanted : List (Option ℤ)) (h0 h1 : O
 numbers_less reply found wanted h0 h1 is same less =
     subst (λ (r : Reply). WroteLess h0 h1 (text r)) (sym is) (subst (λ (zs : List (Option ℤ)). WroteLess h0 h1 (text (Numbers zs))) same less)
 
--- nothing was written yet
-pub none_replied : (reply : Reply) (h : Option (List ℕ)) → Replies reply (Err Flash) h h
-none_replied reply h = record { written = []; left = text reply; whole = refl; held = none_written h }
-
 -- ---- the loop over a cursor of one relation
 
 pub record SelectGoes (state : State) (tables : Tables) (all : List Row) (places : List ℕ) (before now : SelectCursor) (held held_now : Option (List ℕ)) (count reads reads_now : ℕ) : Type 0 where

@@ -1,5 +1,5 @@
 -- A JOIN: what it costs, and its loop over the pairs.
-use Rattle.std.proofs.Common.{◌≡◌, ℕ, suc, ◌+◌, ◌*◌, ◌≤◌, Bool, true, false, cond, List, [], ◌∷◌, filter, length, map, Option, Some, None, Ok, Err, refl, ap, sym, ◌∙◌, subst, arith, length-append}
+use Rattle.std.proofs.Common.{◌≡◌, ℕ, suc, ◌+◌, ◌*◌, ◌≤◌, Bool, true, false, cond, List, [], ◌∷◌, length, map, Option, Some, None, Ok, Err, refl, ap, sym, ◌∙◌, subst, arith, length-append}
 use Rattle.std.specs.Prelude.{Result, ⊤, not, unwrap_or, slice_get}
 use Rattle.std.proofs.lemmas.List.{length-map}
 use Rattle.std.proofs.Math.Nat.{mul-le-mul}
@@ -30,12 +30,13 @@ use Rattle.session_model.specs.declared.held.Held.{Held}
 use Rattle.session_model.specs.declared.held.Open.{Open}
 use Rattle.session_model.specs.declared.held.Side.{Side}
 use Rattle.session_model.specs.View.{project_pair, relation_of_rows, view}
-use Rattle.session_model.proofs.Frames.{count_rows}
 use Rattle.session_queries.specs.declared.finding.Found.{Found}
 use Rattle.session_queries.specs.Finds.{IsRelationFound}
 use Rattle.session_queries.specs.Replies.{WroteAll, WroteNext, joined_left}
 use Rattle.session_queries.proofs.Lines.{Wrote, wrote_all, wrote_more, wrote_none}
 use Rattle.session_queries.proofs.Seen.{kinds_seen, relation_seen}
+use Rattle.tuple_file.proofs.Columns.{rows_counted}
+use Rattle.padded.proofs.Facts.{filter_few}
 
 -- ---- what it costs
 
@@ -85,10 +86,6 @@ filtered_step : {A : Type 0} (b : Bool) (x : A) (xs : List A) (n : ℕ) → leng
 filtered_step true x xs n h = omega arith
 filtered_step false x xs n h = omega arith
 
-filtered_few : {A : Type 0} (test : A → Bool) (xs : List A) → length (filter test xs) ≤ length xs
-filtered_few test [] = omega arith
-filtered_few test (x ∷ xs) = filtered_step (test x) x (filter test xs) (length xs) (filtered_few test xs)
-
 mul_more : (m n : ℕ) → n + m * n ≡ suc m * n
 mul_more m n = grind arith
 
@@ -104,7 +101,7 @@ live_few (row ∷ all) = filtered_step row.live row.tuple (live_tuples all) (len
 pub matching_few : (left_on right_on : ℕ) (lefts rights : List Row) → length (matching left_on right_on lefts rights) ≤ length lefts * length rights
 matching_few left_on right_on lefts rights =
     let all = pairs (live_tuples lefts) (live_tuples rights) in
-    let few = filtered_few (λ pair. same_value (slice_get pair.0 left_on) (slice_get pair.1 right_on)) all in
+    let few = filter_few (λ pair. same_value (slice_get pair.0 left_on) (slice_get pair.1 right_on)) all in
     omega (arith, few, length_pairs (live_tuples lefts) (live_tuples rights), mul-le-mul (live_few lefts) (live_few rights))
 
 -- a cursor that began, over the rows of both relations
@@ -141,7 +138,7 @@ begun state tables l r left_on right_on c left right indexes left_is right_is le
       few =
           let most = matching_few left_on right_on lefts rights in
           let many : length lefts * length rights ≡ c.left_slots * c.right_slots =
-          ap (λ (n : ℕ). n * length rights) (count_rows state.files l.tuples ∙ sym left_slots) ∙ ap (λ (n : ℕ). c.left_slots * n) (count_rows state.files r.tuples ∙ sym right_slots) in
+          ap (λ (n : ℕ). n * length rights) (rows_counted state.files l.tuples ∙ sym left_slots) ∙ ap (λ (n : ℕ). c.left_slots * n) (rows_counted state.files r.tuples ∙ sym right_slots) in
           omega (arith, ap (λ (ps : List (List Value × List Value)). length ps) pairs, most, many);
       cost = cost
           ∙ ap (λ (infos : List IndexInfo). 6 * (length lefts + length found) + right_costs (kinds infos) (c.left_on, c.right_on) rights lefts) indexes

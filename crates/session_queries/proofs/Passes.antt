@@ -16,6 +16,7 @@ use Rattle.session_model.specs.View.{value_at}
 use Rattle.session_plans.specs.Aggregates.{column_values}
 use Rattle.session_queries.specs.declared.tally.Tally.{Tally}
 use Rattle.session_queries.specs.Folded.{AllStand, AreClosed, AreDone, AreFolded, AreFolding, EndsPass, TakesValue, item_at, taken_by, tally_at}
+use Rattle.padded.proofs.Facts.{one_more_times}
 
 -- ---- one pass
 
@@ -76,9 +77,6 @@ done_closed items passes tallies stand closed i inside = (stand i inside).closed
 pub restarted : (before now : SelectCursor) (first : Candidates) → now.tuples ≡ before.tuples → now.code ≡ before.code → first ≡ before.candidates → record now { candidates = first } ≡ before
 restarted before now first tuples code candidates = λ i. record { tuples = tuples i; code = code i; candidates = candidates i }
 
-pub one_more : (pass cost : ℕ) → (pass + 1) * cost ≡ pass * cost + cost
-one_more pass cost = grind arith
-
 least : (pass : ℕ) → (1 ≤ pass → IsTrue false) → pass ≡ 0
 least zero h = refl
 least (suc pass) h = absurd (cc (h (omega arith)))
@@ -88,7 +86,7 @@ pub paid : (m : Bool) (pass cost : ℕ) → pass < 33 → (1 ≤ pass → IsTrue
 paid true pass cost few median =
     let more : pass + 1 ≤ 33 = omega arith in
     let most = mul-le-mul_right cost more in
-    omega (arith, most, one_more pass cost)
+    omega (arith, most, one_more_times pass cost)
 paid false pass cost few median =
     let none : pass ≡ 0 = least pass median in
     let e = ap (λ (n : ℕ). n * cost + cost) none in

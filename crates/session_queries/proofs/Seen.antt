@@ -1,5 +1,5 @@
 -- What is found is what the machine sees.
-use Rattle.std.proofs.Common.{◌≡◌, ◌≤◌, ◌*◌, Bool, arith, ℕ, ℤ, List, [], ◌∷◌, map, Option, Some, refl, ap, sym, ◌∙◌, subst}
+use Rattle.std.proofs.Common.{◌≡◌, ◌≤◌, ◌*◌, Bool, arith, ℕ, ℤ, List, [], Option, Some, ap, sym, ◌∙◌, subst}
 use Rattle.std.specs.Prelude.{if◌then◌else◌, Ok, Err, Result, option_map}
 use Rattle.afl_base.specs.Files.{State, Table}
 use Rattle.std.specs.List.{list_any}
@@ -19,14 +19,14 @@ use Rattle.db_model.specs.Database.{Database, indexes_of, relation_named}
 use Rattle.db_model.specs.Plan.{Kinds, kinds_of, ranges_of}
 use Rattle.index_set.specs.declared.info.IndexInfo.{IndexInfo}
 use Rattle.index_set.specs.Complete.{AreIndexesOf, AreReadable}
-use Rattle.index_set.specs.Plans.{access_kind, kinds}
+use Rattle.index_set.specs.Plans.{kinds}
 use Rattle.index_set.specs.Tables.{Tables}
 use Rattle.cursor.specs.Remaining.{AreOnNumbers}
 use Rattle.tuple_file.specs.declared.tuples.Tuples.{Tuples}
 use Rattle.tuple_file.specs.Tuples.{rows, slots}
 use Rattle.session_model.specs.declared.held.Held.{Held}
 use Rattle.session_model.specs.declared.held.Open.{Open}
-use Rattle.session_model.specs.Indexed.{index_of_info, infos_of}
+use Rattle.session_model.specs.Indexed.{infos_of}
 use Rattle.session_model.specs.Running.{IsRunning}
 use Rattle.session_model.specs.View.{relation_of_rows, view}
 use Rattle.session_model.proofs.Readable.{are_indexes, are_numbers, are_on_numbers, are_readable}
@@ -35,6 +35,7 @@ use Rattle.session_model.proofs.Views.{found_in_view}
 use Rattle.session_plans.specs.Aggregates.{medians}
 use Rattle.session_queries.specs.declared.finding.Found.{Found}
 use Rattle.session_queries.specs.Finds.{HasEightSlots, IsRelationFound, IsReadableBy}
+use Rattle.session_plans.proofs.Kinds.{kinds_same}
 
 -- ---- the relation and its indexes
 
@@ -42,10 +43,6 @@ pub relation_seen : (files : Table) (held : Held) (opens : List (Option Open)) (
     → relation_named (view files held opens) name ≡ Some (found.slot, relation_of_rows files found.tuples)
 relation_seen files held opens name found f =
     found_in_view files name 0 held.relations ∙ ap (option_map (λ (p : ℕ × Tuples). (p.0, relation_of_rows files p.1))) f.cell
-
-kinds_same : (k : ℕ) (infos : List IndexInfo) → kinds_of (map (index_of_info k) infos) ≡ kinds infos
-kinds_same k [] = refl
-kinds_same k (info ∷ infos) = ap (λ (l : Kinds). (access_kind info.access, info.attribute) ∷ l) (kinds_same k infos)
 
 pub kinds_seen : (files : Table) (held : Held) (opens : List (Option Open)) (name : List ℕ) (found : Found) → IsRelationFound held name found
     → kinds_of (indexes_of (view files held opens) found.slot) ≡ kinds found.indexes

@@ -1,5 +1,5 @@
 -- What a command makes of the database of a session: a refusal, a change of the catalog, or a failure.
-use Rattle.std.proofs.Common.{◌≡◌, ℕ, Bool, true, false, if◌then◌else◌, Ok, Err, refl, sym, ◌∙◌, subst, arith}
+use Rattle.std.proofs.Common.{◌≡◌, ℕ, Ok, Err, refl, sym, ◌∙◌, subst}
 use Rattle.std.specs.Prelude.{Result}
 use Rattle.afl_base.specs.declared.failed.Failed.{Failed}
 use Rattle.afl_base.specs.declared.files.Files.{Ghosts as FilesOf}
@@ -7,42 +7,23 @@ use Rattle.afl_base.specs.declared.kind.FileError.{FileError}
 use Rattle.afl_base.specs.declared.kind.FileError.TheVariants.{Space, Failed as FileFailed}
 use Rattle.afl_base.specs.Keeping.{ChangesOrLacks}
 use Rattle.db_model.specs.declared.commands.Command.{Command}
-use Rattle.db_model.specs.declared.refusals.Refusal.{Refusal}
-use Rattle.db_model.specs.Ahead.{Aheads, is_refused, moved}
+use Rattle.db_model.specs.Ahead.{is_refused, moved}
 use Rattle.db_model.specs.Database.{Database}
 use Rattle.db_model.specs.Step.{Fine, Outcome, Reads, outcome, step, upgraded}
 use Rattle.session_model.specs.declared.answer.Answer.TheVariants as answer
 use Rattle.session_model.specs.declared.base.Base.{Base}
 use Rattle.session_model.specs.declared.held.Held.{Held}
 use Rattle.session_model.specs.Answers.{Changed}
-use Rattle.session_model.specs.Carried.{Carries, Runs, Tells, aheads, database}
+use Rattle.session_model.specs.Carried.{Carries, Tells, aheads, database}
 use Rattle.session_model.specs.View.{view}
 use Rattle.session_model.specs.Wanted.{WantsFew}
 use Rattle.session_relations.specs.Changes.{Shows}
 use Rattle.session_relations.proofs.Answered.{answers_fine, answers_space}
+use Rattle.session_model.proofs.Carrying.{ahead_stays}
 
 -- ---- a refusal
 
-pub carries_refused : {V : Type 0} (v : FilesOf V) (command : Command) (base : Base V) (refusal : Refusal) → Runs v base → (Tells v base → outcome (database v base) command ≡ Err refusal)
-    → Carries v command base base (Ok (answer.Refused refusal))
-carries_refused v command base refusal runs refused = record {
-  done = λ told. (refused told, refl);
-  running = runs;
-  ahead = λ told. rw (refused told) refl;
-  tells = refl;
-  wants = λ told. tt;
-  lacks = tt;
-  untouched = refl;
-  same = λ reads. refl;
-  reads = λ told reads. omega arith;
-  frame = record { store = refl; lent = refl; later = omega arith; cause = record { later = omega arith; failed = tt } };
-}
-
 -- ---- a change of the catalog
-
-ahead_stays : (refused : Bool) (before after moved : Aheads) → moved ≡ before → after ≡ before → after ≡ (if refused then before else moved)
-ahead_stays true before after moved stays same = same
-ahead_stays false before after moved stays same = same ∙ sym stays
 
 -- of a base whose files have changed, and what is known of them
 module _ {V : Type 0} (v : FilesOf V) (command : Command) (made : Outcome) (old : Base V) (files : V) (held : Held)

@@ -1,5 +1,5 @@
 -- A relation has come into the lowest free slot.
-use Rattle.std.proofs.Common.{◌≡◌, ℕ, suc, ◌+◌, ◌*◌, ◌<◌, ◌⊎◌, List, [], ◌∷◌, length, map, get_or, Option, Some, None, refl, ap, sym, ◌∙◌, subst, arith, inl, inr, IsTrue, Ok, Err}
+use Rattle.std.proofs.Common.{◌≡◌, ℕ, ◌+◌, ◌*◌, ◌<◌, ◌⊎◌, List, [], ◌∷◌, length, map, get_or, Option, Some, None, refl, ap, sym, ◌∙◌, subst, arith, inl, inr, IsTrue, Ok, Err}
 use Rattle.std.specs.Prelude.{IsSome, IsSomeAnd, option_map}
 use Rattle.afl_base.specs.Asked.{asks_few}
 use Rattle.afl_base.specs.declared.kind.Kind.TheVariants.{Doubling}
@@ -32,25 +32,9 @@ use Rattle.session_model.proofs.Views.{found_in_view}
 use Rattle.session_model.proofs.Wanted.{relation_seen, wants_catalog, wants_new_catalog}
 use Rattle.session_relations.specs.Changes.{AsksRelationSlot, PutsSlot, Shows, bare_relation, bare_schema, changed_at}
 use Rattle.session_relations.proofs.Shown.{shows_changed}
+use Rattle.padded.proofs.Facts.{none_some}
 
 -- ---- free slots
-
--- the slot that is found free is free
-free_at : {A : Type 0} (n : ℕ) (xs : List (Option A)) (m : ℕ) → free_from n xs ≡ Some m → (j : ℕ) × (m ≡ n + j) × (get_or xs j None ≡ None)
-free_at n [] m e = absurd (cc)
-free_at n (None ∷ xs) m e = (0, some_same m n (sym e), refl)
-  where
-    some_same : (a b : ℕ) → Some a ≡ Some b → a ≡ b + 0
-    some_same a b is = let same : a ≡ b = cc in omega (arith, same)
-free_at n (Some x ∷ xs) m e =
-    let rest = free_at (n + 1) xs m e in
-    (suc rest.0, omega (arith, rest.1), rest.2)
-
-pub free_slot_none : {A : Type 0} (xs : List (Option A)) (k : ℕ) → free_from 0 xs ≡ Some k → get_or xs k None ≡ None
-free_slot_none xs k e =
-    let f = free_at 0 xs k e in
-    let same : k ≡ f.0 = omega (arith, f.1) in
-    ap (λ (j : ℕ). get_or xs j None) same ∙ f.2
 
 -- and so it is in the database
 pub free_mapped : {A B : Type 0} (f : A → B) (n : ℕ) (xs : List (Option A)) → free_from n (map (option_map f) xs) ≡ free_from n xs
@@ -83,9 +67,6 @@ pub made_slot : (files : Table) (held : Held) (opens : List (Option Open)) (name
 made_slot files held opens name slot e free = rw (relation_missing files held opens name e, free_mapped (relation_of_rows files) 0 held.relations, free) refl
 
 -- ---- the new relation
-
-none_some : {A : Type 0} (x : A) → None ≡ Some x → ⊥
-none_some x e = cc
 
 abbrev pub new_tuples : ℕ → List ℕ → Tuples
 new_tuples file name = record { file = file; schema = bare_schema name }

@@ -1,9 +1,6 @@
 -- A relation that is found by its name.
-use Rattle.std.proofs.Common.{◌≡◌, ℕ, zero, suc, ◌+◌, ◌*◌, ◌<◌, Bool, true, false, cond, List, [], ◌∷◌, length, get_or, map, replicate, Option, Some, None, refl, ap, sym, ◌∙◌, subst, IsTrue}
+use Rattle.std.proofs.Common.{◌≡◌, ℕ, zero, suc, ◌+◌, ◌*◌, ◌<◌, List, [], ◌∷◌, length, get_or, map, replicate, Option, Some, None, refl, ap, sym, ◌∙◌, subst, IsTrue}
 use Rattle.std.specs.Prelude.{IsSomeAnd, option_map}
-use Rattle.std.specs.Str.{bytes_eq}
-use Rattle.std.proofs.lemmas.Slice.Eq.{bytes_eq-Decides}
-use Rattle.padded.proofs.Facts.{some_same}
 use Rattle.afl_base.specs.Asked.{asks_few}
 use Rattle.afl_base.specs.Files.{State}
 use Rattle.db_model.specs.Catalog.{Catalog, catalog_of, empty_catalog}
@@ -22,17 +19,6 @@ use Rattle.session_model.specs.Wanted.{room_in}
 use Rattle.session_model.proofs.Running.{slot_is}
 use Rattle.session_model.proofs.Wanted.{relation_seen, wants_catalog}
 use Rattle.session_relations.specs.Changes.{AsksRelationSlot}
-
--- the relation that is found has the name
-pub cell_named : (name : List ℕ) (n : ℕ) (slots : List (Option Tuples)) (k : ℕ) (t : Tuples) → cell_from name n slots ≡ Some (k, t) → t.schema.name ≡ name
-cell_named name n [] k t e = absurd (cc)
-cell_named name n (None ∷ slots) k t e = cell_named name (n + 1) slots k t e
-cell_named name n (Some s ∷ slots) k t e = choose (bytes_eq s.schema.name name) refl e (λ rest. cell_named name (n + 1) slots k t rest)
-  where
-    choose : (b : Bool) → bytes_eq s.schema.name name ≡ b → cond b (Some (n, s)) (cell_from name (n + 1) slots) ≡ Some (k, t)
-        → (cell_from name (n + 1) slots ≡ Some (k, t) → t.schema.name ≡ name) → t.schema.name ≡ name
-    choose true same found later = sym (ap (λ (p : ℕ × Tuples). p.1.schema.name) (some_same (n, s) (k, t) found)) ∙ (bytes_eq-Decides s.schema.name name).0 same
-    choose false other found later = later found
 
 -- no slot is used
 none_used : (name : List ℕ) (n m : ℕ) (slots : List (Option Tuples)) → map (option_map schema_in) slots ≡ replicate m None → cell_from name n slots ≡ None

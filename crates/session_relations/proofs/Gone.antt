@@ -1,7 +1,6 @@
 -- A relation that no cursor reads and no index stands on is taken away.
-use Rattle.std.proofs.Common.{◌≡◌, ℕ, zero, suc, ◌<◌, Bool, true, false, cond, eqb, List, [], ◌∷◌, length, map, get_or, Option, Some, None, refl, ap, sym, ◌∙◌, subst, arith, Ok, Err}
+use Rattle.std.proofs.Common.{◌≡◌, ℕ, zero, suc, ◌<◌, Bool, true, false, cond, eqb, List, [], ◌∷◌, length, map, get_or, Option, Some, None, refl, ap, sym, ◌∙◌, subst, Ok, Err}
 use Rattle.std.specs.Prelude.{Result, ⊤, nat_lt, option_map}
-use Rattle.std.proofs.lemmas.Bool.Decides.{nat_tests}
 use Rattle.padded.proofs.Facts.{some_same}
 use Rattle.afl_base.specs.Files.{IsUnnamed, State, Table}
 use Rattle.db_model.specs.declared.refusals.Refusal.{Refusal}
@@ -22,7 +21,7 @@ use Rattle.session_model.specs.Indexed.{index_known}
 use Rattle.session_model.specs.Running.{IsRunning, ReadsRows}
 use Rattle.session_model.specs.View.{cursor_in, view}
 use Rattle.session_model.proofs.Catalogs.{RelationChanges}
-use Rattle.session_model.proofs.Running.{reads_other}
+use Rattle.session_model.proofs.Running.{reads_other, is_equal}
 use Rattle.session_model.proofs.Views.{named_none, named_some}
 use Rattle.session_relations.specs.Changes.{PutsSlot, Shows, changed_at, indexes_on, refuse_removal}
 use Rattle.session_relations.proofs.Shown.{shows_changed}
@@ -50,9 +49,6 @@ first_on k x rest false is e = absurd (cc)
 later_on : (x : Index) (rest : List Index) (b : Bool) → cond b (x ∷ rest) rest ≡ [] → rest ≡ []
 later_on x rest true e = absurd (cc)
 later_on x rest false e = e
-
-is_equal : (a b : ℕ) → a ≡ b → eqb a b ≡ true
-is_equal a b e = grind (arith, nat_tests)
 
 -- no index stands on it
 none_on : (k : ℕ) (xs : List (Option Indexed)) → indexes_on k xs ≡ [] → (j : ℕ) (y : Indexed) → get_or xs j None ≡ Some y → y.relation ≡ k → ⊥

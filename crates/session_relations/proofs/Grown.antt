@@ -22,13 +22,14 @@ use Rattle.session_model.specs.Frames.{schema_in, with_tuples}
 use Rattle.session_model.specs.Running.{IsRunning, IsWritten, IsWrittenOrEmpty, ReadsRows, bytes_of_catalog}
 use Rattle.session_model.specs.View.{view}
 use Rattle.session_model.proofs.Catalogs.{catalog_there}
-use Rattle.session_model.proofs.Frames.{count_rows}
 use Rattle.session_model.proofs.Grown.{grown_indexes, holds_none, no_bytes, rows_of_none, slots_of_none, unread_empty}
-use Rattle.session_model.proofs.Running.{catalog_no_rows, differ, holds_by, relation_there}
+use Rattle.session_model.proofs.Running.{catalog_no_rows, differ, relation_there}
 use Rattle.session_relations.specs.Changes.{IsLonger, Shows, changed_at}
 use Rattle.session_relations.proofs.ReadBack.{IsReadBack, alone, longer, read_back_more}
 use Rattle.session_relations.proofs.SlotChanges.{SlotChanges, shows_slot}
 use Rattle.session_relations.proofs.Slots.{slot_put}
+use Rattle.tuple_file.proofs.Columns.{rows_counted}
+use Rattle.tuple_file.proofs.Holding.{holds_by}
 
 -- ---- what is held is read back
 
@@ -87,7 +88,7 @@ alone_back a good =
 module _ (old new : State) (tables : Tables) (held : Held) (opens : List (Option Open)) (r : IsRunning old tables held opens) (k cat : ℕ) (was is : Tuples) (has : held.cat ≡ Some cat) (below : k < 8)
     (there : get_or held.relations k None ≡ Some was) (empty : slots old.files was ≡ 0) (more : IsLonger was is) (u : PutsRelation old new cat k (Some is.schema)) where
   none : length (rows old.files was) ≡ 0
-  none = count_rows old.files was ∙ empty
+  none = rows_counted old.files was ∙ empty
 
   same_place : place new.files was.file ≡ place old.files was.file
   same_place =

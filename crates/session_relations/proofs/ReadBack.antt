@@ -1,14 +1,17 @@
 -- A relation slot that reads back what was written goes on doing so where an attribute comes behind the others.
-use Rattle.std.proofs.Common.{◌≡◌, ℕ, zero, suc, ◌+◌, ◌-◌, ◌*◌, ◌<◌, ◌≤◌, Bool, true, false, cond, List, [], ◌∷◌, ◌++◌, length, take, drop, map, replicate, flat_map, Option, Some, None, refl, ap, sym, ◌∙◌, subst, arith, append_assoc, length-append}
+use Rattle.std.proofs.Common.{◌≡◌, ℕ, ◌+◌, ◌-◌, ◌*◌, ◌<◌, ◌≤◌, Bool, true, false, cond, List, [], ◌∷◌, ◌++◌, length, take, drop, map, replicate, flat_map, Option, Some, None, refl, ap, sym, ◌∙◌, subst, arith, append_assoc, length-append}
 use Rattle.std.specs.Prelude.{slice_index, slice_range, ◌==◌}
 use Rattle.std.specs.List.{AllByRecursion, range_with_len}
-use Rattle.std.proofs.lemmas.List.{drop-append-le, get_or-append-add, get_or_append_left, length-drop, flat_map_more, length-take, length_push, take-append-le}
+use Rattle.std.proofs.lemmas.List.{get_or-append-add, get_or_append_left, flat_map_more, length-take, length_push}
 use Rattle.std.proofs.lemmas.List.FromFn.{map-range_with_len_more}
 use Rattle.db_model.specs.declared.schemas.Attribute.{Attribute}
 use Rattle.db_model.specs.declared.schemas.Schema.{Schema}
 use Rattle.db_model.specs.Catalog.{attribute_bytes, attribute_of, attributes_of, relation_slot_bytes, relation_slot_of, schema_of}
 use Rattle.db_model.specs.Row.{up_to_zero}
-use Rattle.db_model.proofs.Rows.{drop_front, length-padded, take_front}
+use Rattle.db_model.proofs.Rows.{drop_front, length-padded, take_front, map_range_same}
+use Rattle.padded.proofs.Facts.{slice_of_front}
+use Rattle.db_model.proofs.SoundSteps.{all_more}
+use Rattle.db_model.proofs.Decoded.{cut}
 
 -- bytes with zeros behind them
 abbrev padded : ℕ → List ℕ → List ℕ
@@ -16,43 +19,19 @@ padded n bytes = bytes ++ replicate (n - length bytes) 0
 
 -- ---- names
 
-up_to_zero_short : (xs : List ℕ) → length (up_to_zero xs) ≤ length xs
-up_to_zero_short [] = omega arith
-up_to_zero_short (b ∷ xs) = choose (b == 0) (up_to_zero_short xs)
-  where
-    choose : (zero_here : Bool) → length (up_to_zero xs) ≤ length xs → length (cond zero_here [] (b ∷ up_to_zero xs)) ≤ suc (length xs)
-    choose true rest = omega arith
-    choose false rest = omega (arith, rest)
-
 -- a name that was read from 16 bytes has no more
 short_name : (name bytes : List ℕ) → up_to_zero (take 16 bytes) ≡ name → length name ≤ 16
 short_name name bytes e =
-    let read = up_to_zero_short (take 16 bytes) in
+    let read = cut (take 16 bytes) in
     let front = length-take 16 bytes in
     omega (arith, sym (ap (λ (xs : List ℕ). length xs) e), read, front)
 
 -- ---- lists
 
--- a part of the front
-front_slice : (xs ys : List ℕ) (a b : ℕ) → a ≤ b → b ≤ length xs → slice_range (xs ++ ys) a b ≡ slice_range xs a b
-front_slice xs ys a b order inside =
-    ap (take (b - a)) (drop-append-le a xs ys (omega (arith, order, inside)))
-    ∙ take-append-le (b - a) (drop a xs) ys (omega (arith, length-drop a xs, order, inside))
-
 -- what stands behind a front
 middle_slice : (front part behind : List ℕ) (a n : ℕ) → length front ≡ a → length part ≡ n → slice_range (front ++ (part ++ behind)) a (a + n) ≡ part
 middle_slice front part behind a n first long =
     ap (take (a + n - a)) (drop_front a front (part ++ behind) first) ∙ take_front (a + n - a) part behind (omega (arith, long))
-
-pub map_same : {X : Type 0} (f g : ℕ → X) (a n : ℕ) → ((j : ℕ) → a ≤ j → j < a + n → f j ≡ g j) → map f (range_with_len a n) ≡ map g (range_with_len a n)
-map_same f g a zero same = refl
-map_same f g a (suc n) same =
-    ap (λ x. x ∷ map f (range_with_len (a + 1) n)) (same a (omega arith) (omega arith))
-    ∙ ap (λ xs. g a ∷ xs) (map_same f g (a + 1) n (λ j from to. same j (omega (arith, from)) (omega (arith, to))))
-
-all_push : {X : Type 0} (P : X → Type 0) (xs : List X) (x : X) → AllByRecursion P xs → P x → AllByRecursion P (xs ++ x ∷ [])
-all_push P [] x all h = (h, tt)
-all_push P (y ∷ xs) x all h = (all.0, all_push P xs x all.1 h)
 
 -- ---- attributes
 
@@ -201,7 +180,7 @@ module _ (s : Schema) (a : Attribute) (fits : Fits s) (says : Says s) (short : I
   more_fits : AllByRecursion IsShort s.attributes → Fits (longer s a)
   more_fits all = record {
     name = fits.name;
-    attributes = long_attributes (s.attributes ++ a ∷ []) (all_push IsShort s.attributes a all short);
+    attributes = long_attributes (s.attributes ++ a ∷ []) (all_more IsShort s.attributes a all short);
     few = omega (arith, length-append s.attributes (a ∷ []), few);
   }
 
@@ -217,13 +196,13 @@ module _ (s : Schema) (a : Attribute) (fits : Fits s) (says : Says s) (short : I
       let same : (j : ℕ) → 0 ≤ j → j < 0 + n → read_at now j ≡ read_at was j = λ j from below.
       let inside : 18 * j + 18 ≤ length flat = omega (arith, fits.attributes, below) in
       ap attribute_of
-      (ap (λ (xs : List ℕ). slice_range xs (18 * j) (18 * j + 18)) is ∙ front_slice flat (attribute_bytes a ++ behind) (18 * j) (18 * j + 18) (omega arith) inside
-      ∙ sym (ap (λ (xs : List ℕ). slice_range xs (18 * j) (18 * j + 18)) old_is ∙ front_slice flat (replicate (144 - length flat) 0 ++ end_part s) (18 * j) (18 * j + 18) (omega arith) inside)) in
+      (ap (λ (xs : List ℕ). slice_range xs (18 * j) (18 * j + 18)) is ∙ slice_of_front flat (attribute_bytes a ++ behind) (18 * j) (18 * j + 18) (omega arith) inside
+      ∙ sym (ap (λ (xs : List ℕ). slice_range xs (18 * j) (18 * j + 18)) old_is ∙ slice_of_front flat (replicate (144 - length flat) 0 ++ end_part s) (18 * j) (18 * j + 18) (omega arith) inside)) in
       let last : read_at now n ≡ a =
       ap attribute_of (ap (λ (xs : List ℕ). slice_range xs (18 * n) (18 * n + 18)) is
       ∙ middle_slice flat (attribute_bytes a) behind (18 * n) 18 fits.attributes (long_attribute a short)) ∙ back in
       map-range_with_len_more (read_at now) 0 n n (omega arith)
-      ∙ ap (λ xs. xs ++ read_at now n ∷ []) (map_same (read_at now) (read_at was) 0 n same ∙ says.attributes)
+      ∙ ap (λ xs. xs ++ read_at now n ∷ []) (map_range_same (read_at now) (read_at was) 0 n same ∙ says.attributes)
       ∙ ap (λ x. s.attributes ++ x ∷ []) last
 
   more_says : Says (longer s a)

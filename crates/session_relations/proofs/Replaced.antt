@@ -14,7 +14,8 @@ use Rattle.db_model.specs.declared.schemas.Schema.{Schema}
 use Rattle.db_model.specs.Catalog.{Catalog, catalog_of, in_version_2, index_at, index_slot_bytes, index_slot_of, relation_at, relation_slot_bytes, relation_slot_of, version_mark, version_of, with_relation_slot}
 use Rattle.session_model.specs.Running.{IsWritten, IsWrittenOrEmpty}
 use Rattle.session_model.proofs.Written.{relation_written}
-use Rattle.session_relations.proofs.ReadBack.{IsReadBack, map_same}
+use Rattle.session_relations.proofs.ReadBack.{IsReadBack}
+use Rattle.db_model.proofs.Rows.{map_range_same}
 
 -- ---- bytes of which one part is another
 
@@ -133,7 +134,7 @@ module _ (unused now : List ℕ) (k : ℕ) (slot : Option Schema) (below : k < 8
   same_slots = replaced_list (relation_at unused) (relation_at now) k slot below (ap relation_slot_of at_slot ∙ back.1) (λ j inside other. ap relation_slot_of (at_other j other))
 
   same_indexes : map (index_at now) (range_with_len 0 8) ≡ map (index_at unused) (range_with_len 0 8)
-  same_indexes = map_same (index_at now) (index_at unused) 0 8 (λ i from to. ap index_slot_of (at_index i))
+  same_indexes = map_range_same (index_at now) (index_at unused) 0 8 (λ i from to. ap index_slot_of (at_index i))
 
   put_written : IsWritten unused → IsWritten now
   put_written w = record {

@@ -1,16 +1,14 @@
 -- A slot of the catalog has a relation that is read back as it was written.
-use Rattle.std.proofs.Common.{◌≡◌, ◌≢◌, ℕ, ◌<◌, ◌≤◌, List, length, map, set, get_or, Option, Some, None, refl, ap, sym, ◌∙◌, subst, arith, inr, IsTrue}
+use Rattle.std.proofs.Common.{◌≡◌, ◌≢◌, ℕ, ◌<◌, List, length, map, set, get_or, Option, Some, None, refl, ap, sym, ◌∙◌, subst, arith, inr, IsTrue}
 use Rattle.std.specs.Prelude.{option_map}
 use Rattle.std.proofs.Math.Logic.{⊎_elim}
 use Rattle.std.proofs.lemmas.Bool.{cases_eq}
-use Rattle.std.proofs.lemmas.Bool.Decides.{nat_tests}
 use Rattle.std.proofs.lemmas.List.{get_or-set_other, get_or-set_same, length-set, map-set}
-use Rattle.afl_base.specs.Files.{State, Table, bytes_at}
+use Rattle.afl_base.specs.Files.{State, bytes_at}
 use Rattle.catalog.specs.CatalogFile.{IsCatalogSize}
 use Rattle.catalog.specs.Catalogs.{relation_replaced}
 use Rattle.db_model.specs.declared.schemas.Schema.{Schema}
 use Rattle.db_model.specs.Catalog.{Catalog as Slots, catalog_of, with_relation_slot}
-use Rattle.db_model.specs.Step.{slots_limit}
 use Rattle.index_set.specs.Tables.{Tables}
 use Rattle.space_model.specs.FileNames.{rows_file, tree_file}
 use Rattle.tuple_file.specs.declared.tuples.Tuples.{Tuples}
@@ -23,12 +21,13 @@ use Rattle.session_model.specs.Indexed.{index_known}
 use Rattle.session_model.specs.Running.{HasCatalogFile, IsCursorSlot, IsIndexedOn, IsIndexSlot, IsRelationSlot, IsRunning, IsWritten, IsWrittenOrEmpty, ReadsRows, bytes_of_catalog}
 use Rattle.session_model.specs.View.{cursor_in, relation_of_rows, view}
 use Rattle.session_model.proofs.Aheads.{ahead_stays}
-use Rattle.session_model.proofs.Catalogs.{StaysFor, catalog_there, kept_cursor, kept_index, kept_relation, same_cursor, same_relation, same_rows_grow}
-use Rattle.session_model.proofs.Running.{catalog_no_tree, inside, row_no_tree, rows_apart}
+use Rattle.session_model.proofs.Catalogs.{StaysFor, catalog_there, kept_cursor, kept_index, kept_relation, same_cursor, same_relation, same_rows_grow, limit_grows, bytes_there}
+use Rattle.session_model.proofs.Running.{catalog_no_tree, row_no_tree, rows_apart}
 use Rattle.session_model.proofs.Views.{mapped_put, mapped_same}
 use Rattle.session_relations.specs.Changes.{PutsSlot, Shows, changed_at}
 use Rattle.session_relations.proofs.ReadBack.{IsReadBack}
 use Rattle.session_relations.proofs.Replaced.{slot_changed, slot_written}
+use Rattle.padded.proofs.Facts.{some_inside}
 
 -- the slot k has a relation now that is read back as it was written. No open cursor reads rows of the one that it had, and
 -- its indexes are complete
@@ -40,12 +39,6 @@ pub record SlotChanges (old new : State) (tables : Tables) (held : Held) (opens 
   pub slot : IsRelationSlot new 2 k t
   pub indexes : (j : ℕ) (y : Indexed) → get_or held.indexes j None ≡ Some y → y.relation ≡ k → IsIndexedOn new tables j y t
   pub unread : (s : Tuples) → get_or held.relations k None ≡ Some s → (n : ℕ) (o : Open) → get_or opens n None ≡ Some o → ReadsRows o s → ⊥
-
-limit_grows : (v : ℕ) → slots_limit v ≤ slots_limit 2
-limit_grows v = grind (arith, nat_tests)
-
-bytes_there : (files : Table) (o : Option ℕ) (cat : ℕ) → o ≡ Some cat → bytes_of_catalog files o ≡ bytes_at files cat
-bytes_there files o cat has = ap (bytes_of_catalog files) has
 
 module _ (old new : State) (tables : Tables) (held : Held) (opens : List (Option Open)) (k : ℕ) (t : Option Tuples) (cat : ℕ) (r : IsRunning old tables held opens)
     (u : SlotChanges old new tables held opens k t cat) where
@@ -125,7 +118,7 @@ module _ (old new : State) (tables : Tables) (held : Held) (opens : List (Option
   slot_aheads told =
       mapped_same (ahead_in new.files) (ahead_in old.files) opens
       (λ n o e. let P : Option Open → Type 0 = λ z. IsCursorSlot old held z in
-      ahead_stays old new held o told (subst P e (r.cursors n (omega (arith, inside opens n o e, r.four))))
+      ahead_stays old new held o told (subst P e (r.cursors n (omega (arith, some_inside opens n o e, r.four))))
       (λ j s reads there. same_rows_grow old new tables tables held opens r (rows_file k) u.put.leaves j s there ((relation_stays n o e).relation j s reads there).0))
 
   pub shows_slot : Shows old new tables (with_tuples held k t) opens (changed_at (view old.files held opens) k (option_map (relation_of_rows new.files) t))

@@ -16,14 +16,11 @@ use Rattle.session_model.specs.Running.{HasCatalogFile}
 use Rattle.session_model.proofs.Leaves.{leaves_becomes, leaves_creates, leaves_removes, leaves_then}
 use Rattle.session_model.proofs.Running.{catalog_no_rows, differ}
 use Rattle.session_relations.specs.Changes.{PutsSlot}
+use Rattle.session_model.proofs.Catalogs.{named_at}
 
 -- the file of a slot's rows is one of the database
 rows_known : (slot : ℕ) → slot < 8 → is_of_database (rows_file slot) Doubling ≡ true
 rows_known slot h = grind (arith, nat_tests)
-
--- a file that stays keeps its name
-named_at : (a b : Table) (id : ℕ) (n : List ℕ) → place b id ≡ place a id → IsNamed a id n → IsNamed b id n
-named_at a b id n e is = ap (option_map (λ (f : File). f.name)) e ∙ is
 
 -- the catalog's file keeps its name
 still_named : (a b : State) (cat total : ℕ) (told n : List ℕ) → IsNamed a.files cat n → Becomes a b cat total told → IsNamed b.files cat n

@@ -1,5 +1,5 @@
 -- What a command on the rows of one relation makes of the database of a session.
-use Rattle.std.proofs.Common.{◌≡◌, ℕ, Bool, true, false, if◌then◌else◌, List, get_or, Option, Some, None, Ok, Err, refl, sym, ◌∙◌, subst, arith}
+use Rattle.std.proofs.Common.{◌≡◌, ℕ, List, get_or, Option, Some, None, Ok, Err, refl, sym, subst}
 use Rattle.std.specs.Prelude.{Result, IfSome, IsErrAnd, OnOk}
 use Rattle.std.proofs.lemmas.Result.{err_from_is_err_and}
 use Rattle.afl_base.specs.declared.failed.Failed.{Failed}
@@ -8,7 +8,7 @@ use Rattle.afl_base.specs.declared.kind.FileError.TheVariants.{Failed as FileFai
 use Rattle.afl_base.specs.Keeping.{Changes, ChangesOrLacks}
 use Rattle.db_model.specs.declared.commands.Command.{Command}
 use Rattle.db_model.specs.declared.refusals.Refusal.{Refusal}
-use Rattle.db_model.specs.Ahead.{Aheads, is_refused, moved}
+use Rattle.db_model.specs.Ahead.{is_refused, moved}
 use Rattle.db_model.specs.Database.{Database, Relation}
 use Rattle.db_model.specs.Step.{Reads, Reply, changed_by, outcome, step}
 use Rattle.index_set.specs.Tables.{Tables}
@@ -17,34 +17,14 @@ use Rattle.session_model.specs.declared.answer.Answer.{Answer}
 use Rattle.session_model.specs.declared.answer.Answer.TheVariants as answer
 use Rattle.session_model.specs.declared.base.Base.{Base}
 use Rattle.session_model.specs.Answers.{Changed, OnNoSpace, OnNothing}
-use Rattle.session_model.specs.Carried.{Carries, Runs, Tells, aheads, database}
+use Rattle.session_model.specs.Carried.{Carries, Tells, aheads, database}
 use Rattle.session_model.specs.Cells.{cell_from}
 use Rattle.session_model.specs.View.{relation_of_rows, view}
 use Rattle.session_model.specs.Wanted.{WantsFew}
 use Rattle.session_model.proofs.Views.{gives_of_one}
 use Rattle.session_rows.specs.Changes.{RunsOn}
 use Rattle.session_rows.proofs.Changes.{one_of}
-
--- a refusal
-pub carries_refused : {V : Type 0} (v : FilesOf V) (command : Command) (base : Base V) (refusal : Refusal) → Runs v base → (Tells v base → outcome (database v base) command ≡ Err refusal)
-    → Carries v command base base (Ok (answer.Refused refusal))
-carries_refused v command base refusal runs refused = record {
-  done = λ told. (refused told, refl);
-  running = runs;
-  ahead = λ told. rw (refused told) refl;
-  tells = refl;
-  wants = λ told. tt;
-  lacks = tt;
-  untouched = refl;
-  same = λ reads. refl;
-  reads = λ told reads. omega arith;
-  frame = record { store = refl; lent = refl; later = omega arith; cause = record { later = omega arith; failed = tt } };
-}
-
--- a change, by what was made of the relation
-ahead_stays : (refused : Bool) (before after moved : Aheads) → moved ≡ before → after ≡ before → after ≡ (if refused then before else moved)
-ahead_stays true before after moved stays same = same
-ahead_stays false before after moved stays same = same ∙ sym stays
+use Rattle.session_model.proofs.Carrying.{ahead_stays}
 
 pub carries_of_one : {V : Type 0} (v : FilesOf V) (command : Command) (change : ℕ → Database → Relation → Result (Relation × Reply) Refusal) (name : List ℕ) (old : Base V) (files : V) (tables : Tables)
     (k : ℕ) (t : Tuples) (a : Answer) → outcome (database v old) command ≡ changed_by change (database v old) name → moved (database v old) (aheads v old) command ≡ aheads v old → (Reads command → ⊥)

@@ -21,10 +21,11 @@ use Rattle.session_model.specs.Indexed.{infos_of}
 use Rattle.session_model.specs.Running.{IsRunning}
 use Rattle.session_model.specs.View.{relation_of_rows, view}
 use Rattle.session_model.proofs.Aheads.{rows_aheads}
-use Rattle.session_model.proofs.Frames.{complete_kept, held_spared, holds_prepared, rows_prepared, slots_prepared}
+use Rattle.session_model.proofs.Frames.{complete_kept, held_spared, rows_prepared}
 use Rattle.session_model.proofs.Running.{RowsCome, are_complete, are_held, away, one_changes, reads_other, relation_there, rows_come}
 use Rattle.session_model.proofs.Views.{OneChanges}
 use Rattle.session_rows.specs.Changes.{AddsRow, RelationGrows, ReplacesRows, RunsOn}
+use Rattle.tuple_file.proofs.Holding.{slots_prepared, holds_prepared}
 
 -- ---- the session goes on where rows come
 

@@ -14,6 +14,7 @@ use Rattle.db_model.specs.Step.{removed_row}
 use Rattle.cursor.specs.Remaining.{is_live_and, selected_slots}
 use Rattle.session_rows.specs.Marking.{IsSelected, dead, marked}
 use Rattle.session_rows.specs.declared.selecting.Selected.{Selected}
+use Rattle.session_model.proofs.Running.{is_equal}
 
 abbrev is_in : ℕ → List ℕ → Bool
 is_in i [] = false
@@ -48,15 +49,12 @@ marked_at (slot ∷ slots) rows i below =
 eqb_other : (i a : ℕ) → i ≢ a → eqb i a ≡ false
 eqb_other i a h = grind (arith, nat_tests)
 
-eqb_same : (i a : ℕ) → i ≡ a → eqb i a ≡ true
-eqb_same i a h = grind (arith, nat_tests)
-
 behind : (b : Bool) (i a : ℕ) (rest : List ℕ) (v : Bool) → i ≢ a → is_in i rest ≡ v → is_in i (cond b (a ∷ rest) rest) ≡ v
 behind true i a rest v other h = ap (λ (x : Bool). x || is_in i rest) (eqb_other i a other) ∙ h
 behind false i a rest v other h = h
 
 here : (b : Bool) (i a : ℕ) (rest : List ℕ) → i ≡ a → is_in i rest ≡ false → is_in i (cond b (a ∷ rest) rest) ≡ b
-here true i a rest same h = ap (λ (x : Bool). x || is_in i rest) (eqb_same i a same)
+here true i a rest same h = ap (λ (x : Bool). x || is_in i rest) (is_equal i a same)
 here false i a rest same h = h
 
 in_none : (f : ℕ → Bool) (a n i : ℕ) → i < a → is_in i (filter f (range_with_len a n)) ≡ false

@@ -10,7 +10,6 @@ use Rattle.afl_base.specs.Files.{State, bytes_at}
 use Rattle.db_model.specs.declared.schemas.Attribute.{Attribute}
 use Rattle.db_model.specs.declared.schemas.Domain.{Domain}
 use Rattle.db_model.specs.declared.schemas.Domain.TheVariants as domain
-use Rattle.db_model.specs.declared.schemas.IndexKind.{IndexKind}
 use Rattle.db_model.specs.declared.schemas.IndexKind.TheVariants.{Inline, MaxHeap, MemHash}
 use Rattle.db_model.specs.declared.values.Value.{Value}
 use Rattle.db_model.specs.declared.values.Value.TheVariants as value
@@ -31,12 +30,10 @@ use Rattle.tuple_file.specs.Tuples.{HoldsRows, row, rows, slots}
 use Rattle.cursor.proofs.Suited.{rows_suit}
 use Rattle.cursor.proofs.Walking.{row_there}
 use Rattle.session_model.specs.Indexed.{AreAllowed, index_of_info}
-use Rattle.session_model.proofs.Frames.{count_rows}
 use Rattle.session_rows.specs.Refused.{is_order, is_order_index, is_ordered_by, is_memhash, is_table_index}
-
-by_test : {P : Type 0} (b : Bool) → (b ≡ true → P) → (b ≡ false → P) → P
-by_test true f g = f refl
-by_test false f g = g refl
+use Rattle.session_model.proofs.Cells.{found_allowed}
+use Rattle.tuple_file.proofs.Columns.{rows_counted}
+use Rattle.padded.proofs.Facts.{by_truth, both_parts}
 
 -- ---- tests of indexes
 
@@ -73,10 +70,10 @@ nothing_falls test h n (value.Text a ∷ last) (w ∷ new) = nothing_falls test 
 
 no_order : (place : ℕ) (infos : List IndexInfo) → list_any is_order_index infos ≡ false → is_ordered_by infos place ≡ false
 no_order place [] e = refl
-no_order place (info ∷ infos) e = by_test (is_order info.access) (λ is. absurd (first is e)) (λ is. behind is e (no_order place infos))
+no_order place (info ∷ infos) e = by_truth (is_order info.access) (λ is. absurd (first is e)) (λ is. behind is e (no_order place infos))
   where
     first : is_order info.access ≡ true → (is_order info.access || list_any is_order_index infos) ≡ false → ⊥
-    first is e = let both : true ≡ false = sym (ap (λ (b : Bool). b || list_any is_order_index infos) is) ∙ e in cc
+    first is e = let both_parts : true ≡ false = sym (ap (λ (b : Bool). b || list_any is_order_index infos) is) ∙ e in cc
 
     behind : is_order info.access ≡ false → (is_order info.access || list_any is_order_index infos) ≡ false → (list_any is_order_index infos ≡ false → is_ordered_by infos place ≡ false)
         → ((is_order info.access && info.attribute == place) || is_ordered_by infos place) ≡ false
@@ -99,7 +96,7 @@ fallen_of_last slot infos o last new live e =
 pub last_there : (state : State) (t : Tuples) (r : Row) → 0 < slots state.files t → row state.files t (slots state.files t - 1) ≡ r
     → slice_get (rows state.files t) (length (rows state.files t) - 1) ≡ Some r
 last_there state t r some e =
-    let count = count_rows state.files t in
+    let count = rows_counted state.files t in
     let below : length (rows state.files t) - 1 < length (rows state.files t) = omega (arith, some, count) in
     let same : length (rows state.files t) - 1 ≡ slots state.files t - 1 = omega (arith, count) in
     let inside : slots state.files t - 1 < slots state.files t = omega (arith, some) in
@@ -109,13 +106,8 @@ last_there state t r some e =
 
 -- ---- keys
 
-both : (a b : Bool) → (a && b) ≡ true → (a ≡ true) × (b ≡ true)
-both true true e = (refl, refl)
-both true false e = absurd (cc)
-both false b e = absurd (cc)
-
 number_suits : (d : Domain) (v : Value) → allows MaxHeap d ≡ true → suits d v ≡ true → is_key (Some v) ≡ true
-number_suits domain.Int (value.Number z) a s = let h = both (int_le (negsuc 32767) z) (int_le z (pos 32767)) s in grind (arith, ints, h.0, h.1)
+number_suits domain.Int (value.Number z) a s = let h = both_parts (int_le (negsuc 32767) z) (int_le z (pos 32767)) s in grind (arith, ints, h.0, h.1)
 number_suits domain.Long (value.Number z) a s = s
 number_suits domain.Time v a s = absurd (cc)
 number_suits (domain.Str n) v a s = absurd (cc)
@@ -169,11 +161,7 @@ suit_by attributes [] h = tt
 suit_by attributes (r ∷ all) h = (h zero (omega arith), suit_by attributes all (λ i below. h (suc i) (omega (arith, below))))
 
 pub all_suit : (state : State) (t : Tuples) → IsTrue state.tells → HoldsRows state t → AllRowsSuit t.schema.attributes (rows state.files t)
-all_suit state t told h = suit_by t.schema.attributes (rows state.files t) (λ i below. rows_suit state t told h i (omega (arith, below, count_rows state.files t)))
-
-allowed_at : (kind : IndexKind) (o : Option Attribute) → option_map_or (λ (a : Attribute). allows kind a.domain) o false ≡ true → (a : Attribute) × (o ≡ Some a) × (allows kind a.domain ≡ true)
-allowed_at kind None e = absurd (cc)
-allowed_at kind (Some a) e = (a, refl, e)
+all_suit state t told h = suit_by t.schema.attributes (rows state.files t) (λ i below. rows_suit state t told h i (omega (arith, below, rows_counted state.files t)))
 
 module _ (attributes : List Attribute) (all : List Row) (values : List Value) (suit : AllSuit attributes values) (rows_suit : AllRowsSuit attributes all) (test : ℕ → Bool)
     (in_order : (last : Row) → slice_get all (length all - 1) ≡ Some last → fallen_from test 0 last.tuple values ≡ None) where
@@ -181,7 +169,7 @@ module _ (attributes : List Attribute) (all : List Row) (values : List Value) (s
       → option_map_or (λ (a : Attribute). allows (access_kind access) a.domain) (slice_get attributes info.attribute) false ≡ true
       → IsComplete state tables access (keys info.attribute all) → MayFollow (keys info.attribute all) (tuple_key values info) access
   follows state tables info Order ordered allowed complete =
-      let a = allowed_at Inline (slice_get attributes info.attribute) allowed in
+      let a = found_allowed Inline (slice_get attributes info.attribute) allowed in
       let row : Row = record { tuple = values; live = true } in
       ap first_fall (sym (keys_more info.attribute all row))
       ∙ order_kept Inline attributes test info.attribute a.0 all values true rows_suit suit a.1 a.2 (ordered refl) in_order complete

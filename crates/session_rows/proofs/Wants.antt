@@ -25,10 +25,10 @@ use Rattle.session_model.specs.Cells.{cell_from}
 use Rattle.session_model.specs.Running.{IsRunning}
 use Rattle.session_model.specs.View.{relation_of_rows, view}
 use Rattle.session_model.specs.Wanted.{WantsFew, room_in}
-use Rattle.session_model.proofs.Frames.{count_rows}
 use Rattle.session_model.proofs.Running.{relation_there}
 use Rattle.session_model.proofs.Wanted.{relation_seen, wants_rows}
 use Rattle.session_rows.specs.Wanted.{WantsPackedRows, WantsRemoval}
+use Rattle.tuple_file.proofs.Columns.{rows_counted}
 
 -- where there was no space
 pub no_space : (a : Answer) (P Q : ℕ → Type 0) → ((need : ℕ) → P need → Q need) → OnNoSpace {E = Failed} (Ok a) P → OnNoSpace {E = Failed} (Ok a) Q
@@ -56,4 +56,4 @@ remove_wants state tables held opens r asks name nodes k t need cell there n cou
   where
     by_which : WantsRemoval (asks_few asks state.files) t.file n n (size_at state.files t.file) need → WantsMarks (size_in state.files) (asks_in (asks_few asks state.files) state.files) (room_in state.files) k (relation_of_rows state.files t) n need
     by_which (inl h) = inl (h.0, h.1, wants_rows state tables held opens r (asks_few asks state.files) k t n 0 need there h.2)
-    by_which (inr h) = inr (h.0, h.1 ∙ ap fit ((relation_there state tables held opens r k t there).holds.whole ∙ ap (λ (m : ℕ). row_length t.schema.attributes * m) (sym (count_rows state.files t))))
+    by_which (inr h) = inr (h.0, h.1 ∙ ap fit ((relation_there state tables held opens r k t there).holds.whole ∙ ap (λ (m : ℕ). row_length t.schema.attributes * m) (sym (rows_counted state.files t))))

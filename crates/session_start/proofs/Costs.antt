@@ -21,10 +21,10 @@ use Rattle.session_model.specs.declared.held.Held.{Held}
 use Rattle.session_model.specs.declared.held.Indexed.{Indexed}
 use Rattle.session_model.specs.Indexed.{index_known}
 use Rattle.session_model.specs.View.{relation_of_rows, view}
-use Rattle.session_model.proofs.Frames.{count_rows}
 use Rattle.session_start.specs.Found.{AreFilesFound, slots_held}
 use Rattle.session_start.specs.Reads.{all_reads, all_slots, index_reads, slots_of_relation}
 use Rattle.session_start.proofs.Opened.{base_is}
+use Rattle.tuple_file.proofs.Columns.{rows_counted}
 
 -- ---- sums over numbers
 
@@ -129,7 +129,7 @@ opened_at files held k =
   where
     by_slot : (o : Option Tuples) (m : ℕ) → option_map_or (λ (r : Relation). length r.rows * (1 + m)) (option_map (relation_of_rows files) o) 0 ≡ slots_of_relation files o * (1 + m)
     by_slot None m = grind arith
-    by_slot (Some t) m = ap (λ (n : ℕ). n * (1 + m)) (count_rows files t)
+    by_slot (Some t) m = ap (λ (n : ℕ). n * (1 + m)) (rows_counted files t)
 
 pub opening_reads : (files : Table) (held : Held) → length held.relations ≡ 8 → length held.indexes ≡ 8
     → 6 * all_slots files held.relations + all_reads files held.relations held.indexes ≤ 16384 + 16 * sum (map (slots_opened (view files held (replicate 4 None))) (range_with_len 0 8))

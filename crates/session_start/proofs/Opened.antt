@@ -17,7 +17,7 @@ use Rattle.index_set.specs.declared.info.Access.{Access}
 use Rattle.index_set.specs.declared.info.Access.TheVariants.{Order, Tree, Table as InTable}
 use Rattle.index_set.specs.Plans.{access_kind}
 use Rattle.index_set.specs.Tables.{Tables}
-use Rattle.padded.proofs.Facts.{none_there, seen_at, some_same}
+use Rattle.padded.proofs.Facts.{none_there, seen_at, some_same, none_some}
 use Rattle.space_model.specs.Enough.{rows_in}
 use Rattle.space_model.specs.FileNames.{bytes_named, bytes_in_file, catalog_file, rows_file, tree_file}
 use Rattle.space_model.proofs.NamedFiles.{named_found}
@@ -43,9 +43,6 @@ use Rattle.session_start.proofs.Written.{written_of}
 seen_long : {A B : Type 0} (f : A → B) (xs : List A) → length (map f xs) ≡ length xs
 seen_long f [] = refl
 seen_long f (x ∷ xs) = ap suc (seen_long f xs)
-
-no_some : {A : Type 0} (a : A) → None ≡ Some a → ⊥
-no_some a e = cc
 
 -- ---- bytes by name
 
@@ -111,7 +108,7 @@ module _ (state : State) (held : Held) (f : AreFilesFound state held) where
       where
         by_slot : (o : Option Tuples) → get_or held.relations k None ≡ o → AreRowsOf state.files held.version o → (schema : Schema) → option_map schema_in o ≡ Some schema
             → AreRows held.version schema.attributes (bytes_named (rows_file k) state.files)
-        by_slot None e h schema s = absurd (no_some schema s)
+        by_slot None e h schema s = absurd (none_some schema s)
         by_slot (Some t) e h schema s =
             let P : List ℕ → Type 0 = λ bytes. AreRows held.version t.schema.attributes bytes in
             let Q : Schema → Type 0 = λ z. AreRows held.version z.attributes (bytes_named (rows_file k) state.files) in
@@ -167,7 +164,7 @@ module _ (state : State) (held : Held) (f : AreFilesFound state held) where
       where
         by_slot : (o : Option Indexed) → IsPlacedSlot state held.relations i o → IsKeptOf state.files held.relations o → (index : Index) → option_map index_known o ≡ Some index
             → IsIndexComplete index.kind (bytes_named (tree_file i) state.files) (keys index.attribute (rows_in (view state.files held (replicate 4 None)) index.relation))
-        by_slot None p h index e = absurd (no_some index e)
+        by_slot None p h index e = absurd (none_some index e)
         by_slot (Some x) p h index e =
             let P : Index → Type 0 = λ z. IsIndexComplete z.kind (bytes_named (tree_file i) state.files) (keys z.attribute (rows_in (view state.files held (replicate 4 None)) z.relation)) in
             subst P (some_same (index_known x) index e) (to_on i x (get_or held.relations x.relation None) refl p h)

@@ -29,7 +29,7 @@ use Rattle.index_set.specs.declared.info.TableId.{TableId}
 use Rattle.index_set.specs.declared.info.TableId.TheVariants.{First, Second}
 use Rattle.index_set.specs.Inserts.{IsApart, IsDoublingTree, IsElsewhere, IsNoTable}
 use Rattle.index_set.specs.Plans.{access_kind}
-use Rattle.padded.proofs.Facts.{both_parts, seen_at}
+use Rattle.padded.proofs.Facts.{both_parts, seen_at, some_inside}
 use Rattle.space_model.specs.FileNames.{catalog_file, is_there, rows_file, tree_file}
 use Rattle.space_model.proofs.NamedFiles.{at_name, named_found}
 use Rattle.stored.proofs.FilesOf.{IsNumbered, by_kind, first_false, in_table, rows_wanted, tree_wanted}
@@ -40,7 +40,7 @@ use Rattle.session_model.specs.declared.held.Indexed.{Indexed}
 use Rattle.session_model.specs.Frames.{schema_in}
 use Rattle.session_model.specs.Indexed.{index_known}
 use Rattle.session_model.specs.Running.{AreOfDatabase, HasCatalogFile, HasFile}
-use Rattle.session_model.proofs.Running.{differ as files_differ, inside, trees_apart}
+use Rattle.session_model.proofs.Running.{differ as files_differ, trees_apart}
 use Rattle.session_start.specs.Found.{ShareNoAccess, HasRowFile, IsAccess, AreFilesFound, IsIndexHeld, IsPlacedOn, IsPlacedSlot, IsRelationOf, slots_held, table_behind}
 
 -- ---- files by name and kind
@@ -244,7 +244,7 @@ module _ (files : Table) (schemas : List (Option Schema)) (indexes : List (Optio
     access : IsAccess files (take i indexes) i x.access
 
   at : (i : ℕ) (x : Indexed) → get_or held i None ≡ Some x → IsAt i x
-  at i x e = by_slot (get_or indexes i None) refl (subst (λ (o : Option Indexed). IsIndexHeld files (take i indexes) i (get_or indexes i None) o) e (each i (omega (arith, inside held i x e, long))))
+  at i x e = by_slot (get_or indexes i None) refl (subst (λ (o : Option Indexed). IsIndexHeld files (take i indexes) i (get_or indexes i None) o) e (each i (omega (arith, some_inside held i x e, long))))
     where
       by_slot : (o : Option Index) → get_or indexes i None ≡ o → IsIndexHeld files (take i indexes) i o (Some x) → IsAt i x
       by_slot None is h = absurd h
@@ -308,9 +308,9 @@ module _ (files : Table) (schemas : List (Option Schema)) (indexes : List (Optio
 -- ---- slots that are filled in order
 
 filled : {A : Type 0} (P : ℕ → A → Type 0) (xs : List A) (d : A) (n : ℕ) (x : A) → n < length xs → ((i : ℕ) → i < n → P i (get_or xs i d)) → P n x → (i : ℕ) → i < n + 1 → P i (get_or (set xs n x) i d)
-filled P xs d n x inside all one i below =
+filled P xs d n x some_inside all one i below =
     ⊎_elim
-    (λ (same : i ≡ n). subst (λ (y : _). P i y) (sym (ap (λ (k : ℕ). get_or (set xs n x) k d) same ∙ get_or-set_same xs n x d inside)) (subst (λ (k : ℕ). P k x) (sym same) one))
+    (λ (same : i ≡ n). subst (λ (y : _). P i y) (sym (ap (λ (k : ℕ). get_or (set xs n x) k d) same ∙ get_or-set_same xs n x d some_inside)) (subst (λ (k : ℕ). P k x) (sym same) one))
     (λ (other : i ≢ n). subst (λ (y : _). P i y) (sym (get_or-set_other xs n i x d other)) (all i (omega (arith, below, other))))
     (cases_eq i n)
 

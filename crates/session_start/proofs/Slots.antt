@@ -1,6 +1,5 @@
 -- What is so of the slots below one, and of it.
-use Rattle.std.proofs.Common.{◌≡◌, ℕ, ◌+◌, ◌<◌, ◌≤◌, Bool, true, false, subst, sym, ◌∙◌, arith}
-use Rattle.std.specs.Bool.{Decides}
+use Rattle.std.proofs.Common.{◌≡◌, ℕ, ◌+◌, ◌<◌, ◌≤◌, subst, arith}
 use Rattle.std.proofs.Math.Logic.{⊎_elim}
 use Rattle.std.proofs.lemmas.Bool.{cases_lt}
 use Rattle.stored.specs.Sound.{IsFirst}
@@ -11,12 +10,6 @@ each_next P n all one k below =
     (λ (less : k < n). all k less)
     (λ (more : n ≤ k). let same : n ≡ k = omega (arith, below, more) in subst P same one)
     (cases_lt k n)
-
-pub to_true : (b : Bool) (P : Type 0) → Decides b P → b ≡ true → P
-to_true b P d e = d.0 e
-
-pub to_false : (b : Bool) (P : Type 0) → Decides b P → b ≡ false → P → ⊥
-to_false b P d e p = let no : true ≡ false = sym (d.1 p) ∙ e in absurd (let n : ⊥ = cc in n)
 
 -- the first at which what is so of all before it fails
 pub first_at : (P : ℕ → Type 0) (n : ℕ) → n < 8 → ((k : ℕ) → k < n → P k) → (P n → ⊥) → IsFirst P n

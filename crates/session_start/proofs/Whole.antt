@@ -20,9 +20,9 @@ use Rattle.tuple_file.specs.declared.tuples.Tuples.{Tuples}
 use Rattle.tuple_file.specs.Tuples.{row, rows, slots}
 use Rattle.session_model.specs.declared.held.Held.{Held}
 use Rattle.session_model.specs.declared.held.Indexed.{Indexed}
-use Rattle.session_model.proofs.Frames.{count_rows}
 use Rattle.session_start.specs.Found.{ShareNoAccess}
 use Rattle.session_start.specs.Judged.{IsKept, MayBeUsed, IsReadyOf, IsReadyOn, IsReadySlot}
+use Rattle.tuple_file.proofs.Columns.{rows_counted}
 
 pub on_ok : {T E : Type 0} (P Q : T → Type 0) (r : Result T E) → ((x : T) → P x → Q x) → IfOk r P → IfOk r Q
 on_ok P Q (Ok x) f h = f x h
@@ -56,12 +56,12 @@ held_alone state tables n (InTable number) a h = absurd a
 module _ (state : State) (t : Tuples) (info : IndexInfo) (each : (slot : ℕ) → slot < slots state.files t → key_of state info.column slot ≡ key_at_place info.attribute (row state.files t slot)) where
   pub has_keys : HasKeys state (rows state.files t) info
   has_keys slot below =
-      let inside : slot < slots state.files t = omega (arith, below, count_rows state.files t) in
+      let inside : slot < slots state.files t = omega (arith, below, rows_counted state.files t) in
       each slot inside
       ∙ ap (λ (z : Row). key_at_place info.attribute z) (sym (get_or-map-range_with_len (row_at t.schema.attributes (bytes_at state.files t.file)) 0 (slots state.files t) slot slot no_row inside (omega arith)))
 
   pub column_keys : map (key_of state info.column) (range_with_len 0 (slots state.files t)) ≡ keys info.attribute (rows state.files t)
-  column_keys = keys_whole state info (rows state.files t) (slots state.files t) (count_rows state.files t) has_keys
+  column_keys = keys_whole state info (rows state.files t) (slots state.files t) (rows_counted state.files t) has_keys
 
 pub alone_ready : (state : State) (tables : Tables) (x : Indexed) (t : Tuples) → IsAlone x.access → IsDoublingTree state x.access
     → (IsTrue state.tells → IsComplete state tables x.access (keys x.attribute (rows state.files t))) → MayBeUsed state tables x t

@@ -1,8 +1,7 @@
 -- The erased image is sound, and its database is empty.
-use Rattle.std.proofs.Common.{◌≡◌, ℕ, zero, suc, ◌+◌, ◌-◌, ◌*◌, ◌<◌, ◌≤◌, ◌⊎◌, inl, inr, Bool, true, false, List, [], ◌∷◌, length, replicate, get_or, Option, Some, None, if◌then◌else◌, refl, ap, sym, subst, ◌∙◌, arith}
+use Rattle.std.proofs.Common.{◌≡◌, ℕ, zero, suc, ◌+◌, ◌-◌, ◌*◌, ◌<◌, ◌≤◌, ◌⊎◌, inl, inr, Bool, true, false, List, [], ◌∷◌, length, replicate, Some, None, if◌then◌else◌, refl, ap, sym, subst, ◌∙◌, arith}
 use Rattle.std.specs.Prelude.{nat_lt, take}
 use Rattle.std.proofs.lemmas.Bool.{cases_lt}
-use Rattle.std.proofs.lemmas.Bool.Decides.{nat_tests}
 use Rattle.std.proofs.lemmas.List.{take-replicate, drop-replicate, length-replicate}
 use Rattle.afl_base.specs.Image.{page_bytes}
 use Rattle.coffee_layout.specs.Files.{extents, files_in as placed_files}
@@ -17,6 +16,7 @@ use Rattle.catalog.specs.Rules.{breaks_files, breaks_index, breaks_relation, bro
 use Rattle.stored.specs.Base.{base_of}
 use Rattle.stored.specs.Sound.{IsSoundTable}
 use Rattle.coffee_layout.specs.declared.unit.Unit.TheVariants.{Free, Isolated, Extent}
+use Rattle.padded.proofs.Facts.{lt_true, lt_false, none_there}
 
 abbrev erased : ℕ → List ℕ
 erased n = replicate (256 * n) 0
@@ -44,21 +44,15 @@ kept_here n page after h =
     ap (λ o. broken_unit false (is_zeros (page_bytes (erased n) page)) (pages_of (erased n)) page after o) (free_here n page h)
     ∙ ap (λ bs. broken_unit false (is_zeros bs) (pages_of (erased n)) page after (Some Free)) (page_zero n page h)
 
-test_in : (a b : ℕ) → a < b → nat_lt a b ≡ true
-test_in a b h = grind (arith, nat_tests)
-
-test_out : (a b : ℕ) → b ≤ a → nat_lt a b ≡ false
-test_out a b h = grind (arith, nat_tests)
-
 units_in : (n t page : ℕ) → page < n → units_from (suc t) (erased n) page ≡ Free ∷ units_from t (erased n) (page + 1)
 units_in n t page h =
     ap (λ k. if nat_lt page k then elim (unit_at (erased n) page) [ None ↦ [] | Some u ↦ u ∷ units_from t (erased n) (page + elim u [ Free ↦ 1 | Isolated ↦ 1 | Extent x ↦ x.max_pages ]) ] else []) (pages_here n)
-    ∙ ap (λ b. if b then elim (unit_at (erased n) page) [ None ↦ [] | Some u ↦ u ∷ units_from t (erased n) (page + elim u [ Free ↦ 1 | Isolated ↦ 1 | Extent x ↦ x.max_pages ]) ] else []) (test_in page n h)
+    ∙ ap (λ b. if b then elim (unit_at (erased n) page) [ None ↦ [] | Some u ↦ u ∷ units_from t (erased n) (page + elim u [ Free ↦ 1 | Isolated ↦ 1 | Extent x ↦ x.max_pages ]) ] else []) (lt_true page n h)
     ∙ ap (λ o. elim o [ None ↦ [] | Some u ↦ u ∷ units_from t (erased n) (page + elim u [ Free ↦ 1 | Isolated ↦ 1 | Extent x ↦ x.max_pages ]) ]) (free_here n page h)
 
 units_out : (n t page : ℕ) → n ≤ page → units_from t (erased n) page ≡ []
 units_out n zero page h = refl
-units_out n (suc t) page h = rw (pages_here n, test_out page n h) refl
+units_out n (suc t) page h = rw (pages_here n, lt_false page n h) refl
 
 no_extents : (n t page from : ℕ) → extents from (units_from t (erased n) page) ≡ []
 no_extents n zero page from = refl
@@ -69,13 +63,13 @@ no_extents n (suc t) page from = by_place (cases_lt page n) (no_extents n t (pag
     by_place (inr h) rest = ap (extents from) (units_out n (suc t) page h)
 
 kept_from : (n t page : ℕ) (after : Bool) → n ≤ page + t → broken_from nowhere (erased n) page after (units_from t (erased n) page) ≡ None
-kept_from n zero page after h = rw (pages_here n, test_out page n (omega (arith, h))) refl
+kept_from n zero page after h = rw (pages_here n, lt_false page n (omega (arith, h))) refl
 kept_from n (suc t) page after h = by_place (cases_lt page n) (kept_from n t (page + 1) true (omega (arith, h)))
   where
     by_place : ((page < n) ⊎ (n ≤ page)) → broken_from nowhere (erased n) (page + 1) true (units_from t (erased n) (page + 1)) ≡ None
         → broken_from nowhere (erased n) page after (units_from (suc t) (erased n) page) ≡ None
     by_place (inl i) rest = ap (broken_from nowhere (erased n) page after) (units_in n t page i) ∙ (rw (kept_here n page after i) rest)
-    by_place (inr i) rest = ap (broken_from nowhere (erased n) page after) (units_out n (suc t) page i) ∙ (rw (pages_here n, test_out page n i) refl)
+    by_place (inr i) rest = ap (broken_from nowhere (erased n) page after) (units_out n (suc t) page i) ∙ (rw (pages_here n, lt_false page n i) refl)
 
 no_extents_in : (n : ℕ) → extents 0 (units_of (erased n)) ≡ []
 unfolding units_of
@@ -110,11 +104,6 @@ base_empty = refl
 database_kept : first_broken empty_table ≡ None
 unfolding first_broken broken_catalog first breaks_files breaks_relation breaks_index
 database_kept = refl
-
-none_there : {X : Type 0} (n k : ℕ) → get_or (replicate {A = Option X} n None) k None ≡ None
-none_there zero k = refl
-none_there (suc n) zero = refl
-none_there (suc n) (suc k) = none_there n k
 
 table_sound : IsSoundTable empty_table
 table_sound = record {

@@ -1,10 +1,8 @@
 -- A sound image has no first broken rule.
-use Rattle.std.proofs.Common.{◌≡◌, ℕ, inl, inr, List, Option, Some, None, sym, ◌∙◌}
+use Rattle.std.proofs.Common.{ℕ, inl, inr, List}
 use Rattle.stored.proofs.Crowded.{unbroken_table}
 use Rattle.sound_image.specs.Images.{IsFirstBroken, IsSound, files_of_image}
-
-none_is_some : {X : Type 0} {x : X} {o : Option X} → o ≡ None → o ≡ Some x → ⊥
-none_is_some {x = x} none some = let e : None ≡ Some x = sym none ∙ some in let n : ⊥ = cc in n
+use Rattle.padded.proofs.Facts.{none_is_some}
 
 pub sound_unbroken : (image : List ℕ) (rule place : ℕ) → IsSound image → IsFirstBroken image rule place → ⊥
 sound_unbroken image rule place s (inl b) = none_is_some s.volume b

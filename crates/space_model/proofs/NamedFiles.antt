@@ -8,7 +8,7 @@ use Rattle.afl_base.specs.Fit.{fit}
 use Rattle.space_model.specs.FileNames.{asks_in, catalog_file, file_named, size_in}
 use Rattle.space_model.specs.Wants.{AsksFew, AsksLittle, IsGrowing, IsOfSixPages}
 
-distinct_behind : (o : Option File) (files : Table) → AreDistinct (o ∷ files) → AreDistinct files
+pub distinct_behind : (o : Option File) (files : Table) → AreDistinct (o ∷ files) → AreDistinct files
 distinct_behind o files d i j name a b = let e = d (suc i) (suc j) name a b in omega (arith, e)
 
 -- the file under an id is the one of its name

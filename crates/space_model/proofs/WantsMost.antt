@@ -61,7 +61,7 @@ largest-append (x ∷ xs) ys = let rest = largest-append xs ys in let more = le-
 abbrev on : ℕ → List (Option Index) → List Index
 on relation slots = filter (λ index. index.relation == relation) (used_things slots)
 
-heap_sizes : (kind : IndexKind) (sizes : List ℕ) → kind ≡ MaxHeap → elim kind [ Inline ↦ [] | MaxHeap ↦ sizes | MemHash ↦ [] ] ≡ sizes
+pub heap_sizes : (kind : IndexKind) (sizes : List ℕ) → kind ≡ MaxHeap → elim kind [ Inline ↦ [] | MaxHeap ↦ sizes | MemHash ↦ [] ] ≡ sizes
 heap_sizes Inline sizes e = cc
 heap_sizes MaxHeap sizes e = refl
 heap_sizes MemHash sizes e = cc

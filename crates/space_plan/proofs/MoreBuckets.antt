@@ -2,18 +2,15 @@
 use Rattle.std.proofs.Common.{◌≡◌, ℕ, ℤ, zero, suc, ◌+◌, ◌<◌, ◌≤◌, ⊎_elim, Bool, true, false, cond, ◌==◌, List, [], ◌∷◌, ◌++◌, length, drop, ap, sym, ◌∙◌, arith, append_assoc}
 use Rattle.std.specs.Prelude.{filter}
 use Rattle.std.proofs.lemmas.Bool.{cases_lt}
-use Rattle.std.proofs.lemmas.Bool.Decides.{nat_tests}
 use Rattle.std.proofs.lemmas.List.{append-nil, drop-append-le, drop_all, length-append}
 use Rattle.std.proofs.lemmas.List.Elements.{filter-append}
 use Rattle.db_model.specs.HashTree.{digit, onward, buckets_at, buckets}
+use Rattle.db_model.proofs.Buckets.{more}
 
 -- 1 for true
 one : Bool → ℕ
 one true = 1
 one false = 0
-
-more : (n k : ℕ) → k < 4 → (suc (suc (suc (suc n))) == k) ≡ false
-more n k below = grind (arith, nat_tests, below)
 
 -- a number is at most one of 0, 1, 2 and 3
 one_of_four : (n : ℕ) → one (n == 0) + one (n == 1) + one (n == 2) + one (n == 3) ≤ 1

@@ -1,6 +1,6 @@
 -- A script whose commands keep to a plan has the sectors that each of them may ask for.
-use Rattle.std.proofs.Common.{◌≡◌, ℕ, ◌≤◌, ◌⊎◌, inl, inr, Bool, true, false, List, [], ◌∷◌, ◌++◌, if◌then◌else◌, refl, ap, subst, ◌∙◌, arith}
-use Rattle.std.specs.Prelude.{Result, Ok, Err, ◌==◌}
+use Rattle.std.proofs.Common.{◌≡◌, ℕ, ◌≤◌, ◌⊎◌, inl, inr, List, [], ◌∷◌, ◌++◌, refl, ap, subst, ◌∙◌, arith}
+use Rattle.std.specs.Prelude.{Result, Ok, Err}
 use Rattle.std.specs.List.{AllByRecursion}
 use Rattle.db_model.specs.declared.commands.Command.{Command}
 use Rattle.db_model.specs.declared.commands.Command.TheVariants.{CreateRelation, CreateAttribute, CreateIndex, Insert, Ask, Aggregate, RemoveFrom, RemoveRelation, RemoveIndex, Pack, OpenCursor, FetchCursor, CloseCursor}
@@ -8,18 +8,13 @@ use Rattle.db_model.specs.declared.refusals.Refusal.{Refusal}
 use Rattle.db_model.specs.Database.{Database}
 use Rattle.db_model.specs.Script.{Entry, Long, Unfinished, Bytes, carried_out, last}
 use Rattle.db_model.specs.Sound.{IsSoundDatabase}
-use Rattle.db_model.specs.Step.{after_all, slots_limit, step}
+use Rattle.db_model.specs.Step.{after_all, step}
 use Rattle.space_model.specs.Enough.{enough, most}
 use Rattle.space_plan.specs.Growth.{HasFewRows, IsInsertOrRead, KeepsToPlan, before_others, commands_of, rows_brought}
 use Rattle.space_plan.specs.Planned.{planned}
 use Rattle.space_plan.proofs.PlannedSpace.{planned_suffices}
-
-limit_few : (version : ℕ) → slots_limit version ≤ 32768
-limit_few version = by_test (version == 1)
-  where
-    by_test : (b : Bool) → (if b then 16384 else 32768) ≤ 32768
-    by_test true = omega arith
-    by_test false = omega arith
+use Rattle.db_model.proofs.SoundSteps.{limit_few}
+use Rattle.padded.proofs.Facts.{all_front}
 
 pub sound_few : (db : Database) → IsSoundDatabase db → HasFewRows db
 sound_few db s slot r there =
@@ -28,10 +23,6 @@ sound_few db s slot r there =
     omega (arith, few, limit)
 
 -- ---- the commands in front
-
-all_front : {A : Type 0} (P : A → Type 0) (xs ys : List A) → AllByRecursion P (xs ++ ys) → AllByRecursion P xs
-all_front P [] ys h = tt
-all_front P (x ∷ xs) ys h = (h.0, all_front P xs ys h.1)
 
 all_behind : {A : Type 0} (P : A → Type 0) (xs : List A) (y : A) (ys : List A) → AllByRecursion P (xs ++ y ∷ ys) → P y
 all_behind P [] y ys h = h.0

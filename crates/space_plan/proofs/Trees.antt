@@ -10,9 +10,9 @@ use Rattle.db_model.specs.declared.schemas.IndexKind.TheVariants.{Inline, MaxHea
 use Rattle.db_model.specs.Catalog.{Index}
 use Rattle.db_model.specs.Database.{Database}
 use Rattle.db_model.specs.HashTree.{buckets}
-use Rattle.db_model.proofs.Standing.{some_same}
 use Rattle.space_model.specs.Enough.{rows_in}
 use Rattle.space_plan.specs.Planned.{buckets_planned, tree_planned, trees_planned}
+use Rattle.padded.proofs.Facts.{some_alike}
 
 with_tree : (kind : IndexKind) (size : ℕ) → kind ≡ MaxHeap → elim kind [ Inline ↦ [] | MaxHeap ↦ size ∷ [] | MemHash ↦ [] ] ≡ size ∷ []
 with_tree Inline size e = cc
@@ -33,4 +33,4 @@ pub slot_is : (slot id : ℕ) (made : Option ℕ) → slot < 8 → made ≡ (if 
 slot_is slot id made below is some =
     let within : nat_lt slot 8 ≡ true = grind (arith, nat_tests, below) in
     let both : Some slot ≡ Some id = ap (λ b. if b then Some slot else None) (sym within) ∙ sym is ∙ some in
-    sym (some_same both)
+    sym (some_alike both)

@@ -2,8 +2,7 @@
 use Rattle.std.proofs.Common.{◌≡◌, ℕ, zero, suc, ◌+◌, ◌*◌, ◌<◌, ◌≤◌, ◌⊎◌, inl, inr, List, [], ◌∷◌, ◌++◌, length, map, get_or, Option, Some, None, refl, ap, sym, ◌∙◌, arith}
 use Rattle.std.specs.Prelude.{unwrap_or}
 use Rattle.afl_base.specs.Files.{AreDistinct, File, Table}
-use Rattle.db_model.specs.declared.schemas.IndexKind.{IndexKind}
-use Rattle.db_model.specs.declared.schemas.IndexKind.TheVariants.{Inline, MaxHeap, MemHash}
+use Rattle.db_model.specs.declared.schemas.IndexKind.TheVariants.{MaxHeap}
 use Rattle.db_model.specs.Catalog.{Index}
 use Rattle.db_model.specs.Cost.{sum}
 use Rattle.db_model.specs.Database.{Relation, Database, used_things}
@@ -13,6 +12,7 @@ use Rattle.space_model.specs.FileNames.{catalog_file, rows_file, tree_file}
 use Rattle.stored.specs.Sizes.{HasFilesOf, IsCatalogFile, IsRowsOf, IsTreeFileOf}
 use Rattle.afl_base.specs.Shares.{file_share, gap_for, shares}
 use Rattle.stored.proofs.TableSums.{named_part, over, over_le, over_one, over_sum, over_zero, part_here}
+use Rattle.space_model.proofs.WantsMost.{heap_sizes}
 
 -- what a growing file of so many bytes takes
 abbrev size_share : ℕ → ℕ → ℕ
@@ -99,11 +99,6 @@ rows_have gap n (Some s ∷ slots) (suc slot) r f is named =
     let next : n + suc slot ≡ n + 1 + slot = omega arith in
     let rest = rows_have gap (n + 1) slots slot r f is (named ∙ ap rows_file next) in
     omega (arith, rest)
-
-heap_sizes : (kind : IndexKind) (sizes : List ℕ) → kind ≡ MaxHeap → elim kind [ Inline ↦ [] | MaxHeap ↦ sizes | MemHash ↦ [] ] ≡ sizes
-heap_sizes Inline sizes e = cc
-heap_sizes MaxHeap sizes e = refl
-heap_sizes MemHash sizes e = cc
 
 tree_has : (gap : ℕ) (db : Database) (n : ℕ) (index : Index) (f : File) → index.kind ≡ MaxHeap → f.name ≡ tree_file n
     → size_share gap (tree_size (keys index.attribute (rows_in db index.relation))) ≤ sized_part gap (tree_file n) (index_sizes db index) f

@@ -1,10 +1,11 @@
 -- No files are a sound and empty database.
-use Rattle.std.proofs.Common.{◌≡◌, ℕ, zero, suc, replicate, get_or, Option, Some, None, refl, sym, ◌∙◌}
+use Rattle.std.proofs.Common.{◌≡◌, replicate, Some, None, refl, sym, ◌∙◌}
 use Rattle.afl_base.specs.Files.{Table}
 use Rattle.catalog.specs.Rules.{breaks_files, breaks_index, breaks_relation, broken_catalog, first, first_broken}
 use Rattle.db_model.specs.Database.{empty_database}
 use Rattle.stored.specs.Base.{base_of}
 use Rattle.stored.specs.Sound.{IsSoundTable}
+use Rattle.padded.proofs.Facts.{none_there}
 
 abbrev no_files : Table
 no_files = replicate 32 None
@@ -15,11 +16,6 @@ empty_base = refl
 empty_unbroken : first_broken no_files ≡ None
 unfolding first_broken broken_catalog first breaks_files breaks_relation breaks_index
 empty_unbroken = refl
-
-none_there : {X : Type 0} (n k : ℕ) → get_or (replicate {A = Option X} n None) k None ≡ None
-none_there zero k = refl
-none_there (suc n) zero = refl
-none_there (suc n) (suc k) = none_there n k
 
 pub empty_sound : IsSoundTable no_files
 empty_sound = record {

@@ -1,5 +1,5 @@
 -- The files of a sound image are those of the database that it stands for.
-use Rattle.std.proofs.Common.{◌≡◌, ℕ, zero, suc, ◌+◌, ◌-◌, ◌*◌, ◌<◌, ◌≤◌, ⊎_elim, ◌⊎◌, inl, inr, Bool, true, false, not, ◌&&◌, ◌||◌, ◌==◌, nat_lt, nat_le, List, [], ◌∷◌, length, map, get_or, Option, Some, None, if◌then◌else◌, refl, ap, sym, subst, ◌∙◌, arith}
+use Rattle.std.proofs.Common.{◌≡◌, ℕ, zero, suc, ◌+◌, ◌-◌, ◌*◌, ◌<◌, ◌≤◌, ⊎_elim, ◌⊎◌, inl, inr, Bool, true, false, not, ◌||◌, ◌==◌, nat_le, List, [], ◌∷◌, length, map, get_or, Option, Some, None, if◌then◌else◌, refl, ap, sym, subst, ◌∙◌, arith}
 use Rattle.std.specs.Prelude.{is_some, option_map, flat_map, unwrap_or}
 use Rattle.std.specs.Int.{is_in_range}
 use Rattle.std.specs.List.{range_with_len}
@@ -31,6 +31,7 @@ use Rattle.catalog.specs.Rules.{breaks_files, broken_slot, broken_catalog, catal
 use Rattle.space_model.specs.FileNames.{bytes_in_file, file_named, is_there}
 use Rattle.space_model.proofs.NamedFiles.{named_here}
 use Rattle.stored.specs.Sizes.{HasFilesOf, IsRowsOf, IsTreeFileOf}
+use Rattle.padded.proofs.Facts.{true_or_false, lt_true, lt_false, true_eq, some_found, both_parts}
 
 -- files stand under the ids 0 to 31 alone
 abbrev pub AreInTable : Table → Type 0
@@ -91,20 +92,9 @@ unbroken files e =
       files_there = nothing_broken 18 (first 16 (breaks_files files (catalog_in files).relations (catalog_in files).indexes)) c.0;
     }
 
-true_or_false : (b : Bool) → (b ≡ true) ⊎ (b ≡ false)
-true_or_false true = inl refl
-true_or_false false = inr refl
-
-both : (a b : Bool) → (a && b) ≡ true → (a ≡ true) × (b ≡ true)
-both true b e = (refl, e)
-both false b e = cc
-
-true_eq : (m n : ℕ) → m == n ≡ true → m ≡ n
-true_eq m n h = grind (arith, nat_tests)
-
 in_range : (lo hi n : ℕ) → is_in_range lo hi n ≡ true → (lo ≤ n) × (n ≤ hi)
 in_range lo hi n e =
-    let parts = both (nat_le lo n) (nat_le n hi) e in
+    let parts = both_parts (nat_le lo n) (nat_le n hi) e in
     (true_le lo n parts.0, true_le n hi parts.1)
   where
     true_le : (a b : ℕ) → nat_le a b ≡ true → a ≤ b
@@ -122,7 +112,7 @@ numbered [] e = cc
 numbered (a ∷ []) e = cc
 numbered (a ∷ b ∷ c ∷ rest) e = cc
 numbered (a ∷ b ∷ []) e =
-    let parts = both (a == 84 || a == 88) (is_in_range 48 55 b) e in
+    let parts = both_parts (a == 84 || a == 88) (is_in_range 48 55 b) e in
     let digit = in_range 48 55 b parts.1 in
     let low = digit.0 in
     let high = digit.1 in
@@ -139,7 +129,7 @@ module _ (name : List ℕ) where
   pub by_kind : (kind : Kind) → is_of_database name kind ≡ true → ((name ≡ catalog_file) × (kind ≡ Fixed 6)) ⊎ ((IsNumbered 84 name ⊎ IsNumbered 88 name) × (kind ≡ Doubling))
   by_kind Doubling e = inr (numbered name e, refl)
   by_kind (Fixed n) e =
-      let parts = both (n == 6) (bytes_eq name catalog_file) e in
+      let parts = both_parts (n == 6) (bytes_eq name catalog_file) e in
       inl ((bytes_eq-Decides name catalog_file).0 parts.1, ap (λ k. Fixed k) (true_eq n 6 parts.0))
 
 -- ---- rule 18: they are used
@@ -150,10 +140,6 @@ wanted true true e t = refl
 wanted true false e t = cc
 wanted false used e t = cc
 
-some_there : {A : Type 0} (o : Option A) → is_some o ≡ true → (x : A) × (o ≡ Some x)
-some_there None e = cc
-some_there (Some x) e = (x, refl)
-
 tree_there : (o : Option Index) → is_tree o ≡ true → (x : Index) × (o ≡ Some x) × (x.kind ≡ MaxHeap)
 tree_there None e = cc
 tree_there (Some x) e = (x, refl, by_kind x.kind e)
@@ -162,12 +148,6 @@ tree_there (Some x) e = (x, refl, by_kind x.kind e)
     by_kind Inline e = cc
     by_kind MaxHeap e = refl
     by_kind MemHash e = cc
-
-lt_true : (m n : ℕ) → m < n → nat_lt m n ≡ true
-lt_true m n h = grind (arith, nat_tests)
-
-lt_false : (m n : ℕ) → n ≤ m → nat_lt m n ≡ false
-lt_false m n h = grind (arith, nat_tests)
 
 -- what is left of rule 18 at a place
 pub rows_wanted : (files : Table) (relations : List (Option Schema)) (indexes : List (Option Index)) (slot : ℕ) → slot < 8 → breaks_files files relations indexes slot ≡ false
@@ -208,7 +188,7 @@ rows_file_of files f d s found kind n =
     let here : file_named (rows_file n.slot) files ≡ Some f = ap (λ x. file_named x files) (sym name) ∙ found in
     let below : n.slot < 8 = n.below in
     let kept = rows_wanted files (catalog_in files).relations (catalog_in files).indexes n.slot n.below (first_false (breaks_files files (catalog_in files).relations (catalog_in files).indexes) 16 n.slot (omega (arith, below)) (unbroken files s.catalog).files_there) in
-    let used = some_there (get_or (catalog_in files).relations n.slot None) (wanted (is_there (rows_file n.slot) files) (is_some (get_or (catalog_in files).relations n.slot None)) kept (ap is_some here)) in
+    let used = some_found (get_or (catalog_in files).relations n.slot None) (wanted (is_there (rows_file n.slot) files) (is_some (get_or (catalog_in files).relations n.slot None)) kept (ap is_some here)) in
     let schema : Schema = used.0 in
     let same : bytes_in_file (file_named (rows_file n.slot) files) ≡ f.bytes = ap bytes_in_file here in
     let relation : Relation = record { schema = schema; rows = rows_of schema.attributes (bytes_in_file (file_named (rows_file n.slot) files)) } in

@@ -3,8 +3,7 @@ use Rattle.std.proofs.Common.{◌≡◌, ℕ, zero, suc, ◌+◌, ◌<◌, ◌�
 use Rattle.std.specs.Prelude.{is_some, option_map, slice_range, unwrap_or}
 use Rattle.std.specs.Str.{bytes_eq}
 use Rattle.std.proofs.lemmas.Bool.{cases_lt}
-use Rattle.std.proofs.lemmas.Bool.Decides.{nat_tests}
-use Rattle.afl_base.specs.Files.{AreDistinct, File, IsLive, IsNamed, IsUnnamed, Table, file_at, no_file, place, used}
+use Rattle.afl_base.specs.Files.{AreDistinct, File, IsLive, IsNamed, IsUnnamed, Table, file_at, place, used}
 use Rattle.afl_base.specs.declared.kind.Kind.TheVariants.{Doubling, Fixed}
 use Rattle.catalog.specs.CatalogFile.{IsCatalogSize}
 use Rattle.catalog.specs.Rules.{breaks_files, breaks_index, breaks_relation, broken_slot, broken_catalog, catalog_bytes_in, catalog_in, differ, first_broken, first_slot, has_form, is_of_database, is_stranger, is_tree}
@@ -15,11 +14,10 @@ use Rattle.space_model.proofs.NamedFiles.{named_found, named_place}
 use Rattle.stored.specs.Files.{HasCatalog, HasItsFiles, IsMatched}
 use Rattle.stored.proofs.FewFiles.{few_files}
 use Rattle.stored.proofs.FilesOf.{AreInTable, IsNumbered, Unbroken, by_kind, earliest_none, first_false, in_table, nothing_broken, rows_wanted, tree_wanted, unbroken}
+use Rattle.padded.proofs.Facts.{true_eq}
+use Rattle.afl_base.proofs.FileLaws.{file_here}
 
 -- ---- by name
-
-file_here : (files : Table) (id : ℕ) (f : File) → place files id ≡ Some f → file_at files id ≡ f
-file_here files id f e = ap (λ o. unwrap_or o no_file) e
 
 name_here : (files : Table) (id : ℕ) (f : File) → place files id ≡ Some f → IsNamed files id f.name
 name_here files id f e = ap (option_map (λ (x : File). x.name)) e
@@ -79,10 +77,7 @@ matched files name want d few u two same = by_file (file_named name files) want 
 
 -- ---- rule 15
 
-true_eq : (m n : ℕ) → m == n ≡ true → m ≡ n
-true_eq m n h = grind (arith, nat_tests)
-
-formed : (bytes : List ℕ) → broken_catalog bytes ≡ None → has_form bytes ≡ true
+pub formed : (bytes : List ℕ) → broken_catalog bytes ≡ None → has_form bytes ≡ true
 unfolding broken_catalog
 formed bytes e =
     let fifteen : Option (ℕ × ℕ) = broken_slot 15 (if has_form bytes then None else Some 0) in

@@ -109,7 +109,7 @@ unfolding first
 first_same f g zero h = refl
 first_same f g (suc n) h = first_is f n ∙ ap (λ o. last_of n o (f n)) (first_same f g n h) ∙ ap (last_of n (first n g)) (h n) ∙ sym (first_is g n)
 
-first_nothing : (test : ℕ → Bool) (n : ℕ) → ((k : ℕ) → k < n → test k ≡ false) → first n test ≡ None
+pub first_nothing : (test : ℕ → Bool) (n : ℕ) → ((k : ℕ) → k < n → test k ≡ false) → first n test ≡ None
 unfolding first last_of
 first_nothing test zero h = refl
 first_nothing test (suc n) h = first_is test n ∙ ap (λ o. last_of n o (test n)) (first_nothing test n (λ k less. h k (omega (arith, less)))) ∙ ap (last_of n None) (h n (omega arith))

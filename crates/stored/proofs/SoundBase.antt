@@ -23,15 +23,9 @@ use Rattle.space_model.specs.FileNames.{bytes_named, rows_file, tree_file}
 use Rattle.stored.specs.Base.{base_of, relation_stored}
 use Rattle.stored.specs.Sound.{IsIndexComplete, IsSoundTable, keys_stored}
 use Rattle.stored.proofs.FilesOf.{unbroken}
-use Rattle.stored.proofs.SoundSlots.{IsUnbroken, among_first, no_some, slot_below, sound_index_slot, sound_schema, sound_slot, some_same, unbroken_slots}
+use Rattle.stored.proofs.SoundSlots.{IsUnbroken, among_first, slot_below, sound_index_slot, sound_schema, sound_slot, unbroken_slots}
 use Rattle.stored.proofs.WrittenBytes.{rows_count, rows_suit}
-
-eq_true : (m n : ℕ) → m ≡ n → m == n ≡ true
-eq_true m n h = grind (arith, nat_tests)
-
-false_true : (b : Bool) → b ≡ false → b ≡ true → ⊥
-false_true true e f = let n : ⊥ = cc in n
-false_true false e f = let n : ⊥ = cc in n
+use Rattle.padded.proofs.Facts.{some_same, eq_true, none_some, false_true}
 
 module _ (files : Table) (s : IsSoundTable files) where
   abbrev bytes : List ℕ
@@ -56,7 +50,7 @@ module _ (files : Table) (s : IsSoundTable files) where
     where
       by_schema : k < 8 → (o : Option Schema) → get_or (catalog_in files).relations k None ≡ o
           → option_map (λ (x : Schema). record { schema = x; rows = rows_of x.attributes (bytes_named (rows_file k) files) }) o ≡ Some r → IsUsed k r
-      by_schema below None e f = absurd (no_some r f)
+      by_schema below None e f = absurd (none_some r f)
       by_schema below (Some schema) e f =
           let at = slot_below (relation_at bytes) 8 k schema e in
           record { below = below; schema = schema; there = e; is = at.is; relation_is = some_same _ r f }
@@ -219,7 +213,7 @@ module _ (files : Table) (s : IsSoundTable files) where
   apart j k a b = ⊎_elim (λ (less : j < k). absurd (a less)) (λ (le : k ≤ j). ⊎_elim (λ (more : k < j). absurd (b more)) (λ (ge : j ≤ k). omega (arith, le, ge)) (cases_lt k j)) (cases_lt j k)
 
   no_cursor : (k : ℕ) (cursor : Cursor) → StandsIn (replicate {A = Option Cursor} 4 None) k cursor → ⊥
-  no_cursor k cursor e = no_some cursor (sym (none_in 4 k) ∙ e)
+  no_cursor k cursor e = none_some cursor (sym (none_in 4 k) ∙ e)
     where
       none_in : (n k : ℕ) → get_or (replicate {A = Option Cursor} n None) k None ≡ None
       none_in zero k = refl

@@ -1,5 +1,5 @@
 -- The files of a sound table have the sizes of its database's.
-use Rattle.std.proofs.Common.{◌≡◌, ℕ, ◌*◌, ◌≤◌, Bool, true, false, ◌==◌, List, length, get_or, Option, Some, None, if◌then◌else◌, ap, sym, subst, ◌∙◌, arith}
+use Rattle.std.proofs.Common.{◌≡◌, ℕ, ◌*◌, Bool, true, false, List, length, get_or, Option, Some, None, ap, sym, subst, ◌∙◌, arith}
 use Rattle.std.specs.Prelude.{is_some}
 use Rattle.afl_base.specs.Files.{AreDistinct, File, Table, size_at}
 use Rattle.catalog.specs.Rules.{catalog_in, is_tree}
@@ -9,7 +9,7 @@ use Rattle.db_model.specs.declared.schemas.Schema.{Schema}
 use Rattle.db_model.specs.Catalog.{Index}
 use Rattle.db_model.specs.Database.{Relation}
 use Rattle.db_model.specs.Row.{row_length, rows_of}
-use Rattle.db_model.specs.Step.{keys, slots_limit}
+use Rattle.db_model.specs.Step.{keys}
 use Rattle.index_tree.proofs.Law.{sized}
 use Rattle.space_model.specs.Enough.{rows_in, rows_size, tree_size}
 use Rattle.space_model.specs.FileNames.{bytes_named, bytes_in_file, rows_file, size_in, tree_file}
@@ -21,13 +21,7 @@ use Rattle.stored.specs.Sound.{IsIndexComplete, IsSoundTable, keys_stored}
 use Rattle.stored.proofs.FilesOf.{whole_rows}
 use Rattle.stored.proofs.HasFiles.{its_files}
 use Rattle.stored.proofs.SoundBase.{sound_relation, used_index, used_slot}
-
-limit_most : (version : ℕ) → slots_limit version ≤ 32768
-limit_most version = by_test (version == 1)
-  where
-    by_test : (b : Bool) → (if b then 16384 else 32768) ≤ 32768
-    by_test true = omega arith
-    by_test false = omega arith
+use Rattle.db_model.proofs.SoundSteps.{limit_few}
 
 heap_tree : (index : Index) → index.kind ≡ MaxHeap → is_tree (Some index) ≡ true
 heap_tree index e = ap (λ (k : IndexKind). elim k [ Inline ↦ false | MaxHeap ↦ true | MemHash ↦ false ]) e
@@ -66,7 +60,7 @@ module _ (files : Table) (size : length files ≡ 32) (d : AreDistinct files) (s
     short = λ slot r e. (sound_relation files s slot r e).schema.short;
     few = λ slot r e.
         let few = (sound_relation files s slot r e).slots in
-        let most = limit_most (base_of files).version in
+        let most = limit_few (base_of files).version in
         omega (arith, few, most);
     rows = rows_size_is;
     trees = tree_size_is;

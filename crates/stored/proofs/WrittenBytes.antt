@@ -2,7 +2,7 @@
 use Rattle.std.proofs.Common.{◌≡◌, ℕ, zero, suc, ◌+◌, ◌*◌, ◌<◌, ◌≤◌, Bool, true, false, ◌&&◌, List, [], ◌∷◌, ◌++◌, length, map, take, drop, get_or, replicate, refl, ap, sym, subst, ◌∙◌, arith}
 use Rattle.std.specs.Prelude.{if◌then◌else◌, slice_range, ◌==◌, nat_le, not, ⊤}
 use Rattle.std.specs.Int.{is_in_range}
-use Rattle.std.specs.Int.{byte_at, bytes_low_first}
+use Rattle.std.specs.Int.{bytes_low_first}
 use Rattle.std.specs.List.{list_all, range_with_len}
 use Rattle.std.proofs.lemmas.Bool.Decides.{nat_tests}
 use Rattle.db_model.specs.declared.schemas.Attribute.{Attribute}
@@ -14,6 +14,7 @@ use Rattle.db_model.proofs.Decoded.{tuple_suits}
 use Rattle.tuple_file.specs.Tuples.{AreRows}
 use Rattle.tuple_file.proofs.Slots.{length-rows}
 use Rattle.tuple_file.proofs.Written.{length-written, written_each, written_first}
+use Rattle.padded.proofs.Facts.{both_parts, byte_small}
 
 AreSmall : List ℕ → Type 0
 AreSmall [] = ⊤
@@ -35,21 +36,13 @@ unfolding AreSmall
 small_zeros zero = tt
 small_zeros (suc n) = (omega arith, small_zeros n)
 
-small_place : (s x : ℕ) → byte_at s x < 256
-small_place zero x = omega arith
-small_place (suc s) x = omega arith
-
 small_number : (s n x : ℕ) → AreSmall (bytes_low_first s n x)
 unfolding AreSmall
 small_number s zero x = tt
-small_number s (suc n) x = (small_place s x, small_number (suc s) n x)
-
-both : (a b : Bool) → (a && b) ≡ true → (a ≡ true) × (b ≡ true)
-both true b e = (refl, e)
-both false b e = cc
+small_number s (suc n) x = (byte_small s x, small_number (suc s) n x)
 
 small_byte : (b : ℕ) → is_in_range 32 126 b ≡ true → b < 256
-small_byte b e = let parts = both (nat_le 32 b) (nat_le b 126) e in let most = true_le b 126 parts.1 in omega (arith, most)
+small_byte b e = let parts = both_parts (nat_le 32 b) (nat_le b 126) e in let most = true_le b 126 parts.1 in omega (arith, most)
   where
     true_le : (a b : ℕ) → nat_le a b ≡ true → a ≤ b
     true_le a b h = grind (arith, nat_tests)
@@ -58,12 +51,12 @@ small_text_bytes : (bytes : List ℕ) → list_all is_text_byte bytes ≡ true �
 unfolding AreSmall
 small_text_bytes [] e = tt
 small_text_bytes (b ∷ bytes) e =
-    let parts = both (is_text_byte b) (list_all is_text_byte bytes) e in
-    let here = both (is_in_range 32 126 b) (not (b == 39)) parts.0 in
+    let parts = both_parts (is_text_byte b) (list_all is_text_byte bytes) e in
+    let here = both_parts (is_in_range 32 126 b) (not (b == 39)) parts.0 in
     (small_byte b here.0, small_text_bytes bytes parts.1)
 
 small_text : (bytes : List ℕ) → is_text bytes ≡ true → AreSmall bytes
-small_text bytes e = small_text_bytes bytes (both (nat_le (length bytes) 32) (list_all is_text_byte bytes) e).1
+small_text bytes e = small_text_bytes bytes (both_parts (nat_le (length bytes) 32) (list_all is_text_byte bytes) e).1
 
 -- what is read of a field is written in small bytes
 small_read_text : (field : List ℕ) → AreSmall (text_or_empty field)

@@ -16,9 +16,10 @@ use Rattle.db_model.proofs.Decoded.{field_inside, field_written, length-row_read
 use Rattle.tuple_file.specs.Column.{IsNumber, column_of, is_number}
 use Rattle.tuple_file.specs.Tuples.{HoldsRows, row, rows, slots}
 use Rattle.tuple_file.specs.declared.tuples.Tuples.{Tuples}
-use Rattle.tuple_file.proofs.Slots.{length-rows, slot_field, slot_inside}
+use Rattle.tuple_file.proofs.Slots.{length-rows, slot_field}
 use Rattle.tuple_file.proofs.Written.{written_each, written_first}
 use Rattle.std.proofs.lemmas.Grind.{common_steps}
+use Rattle.db_model.proofs.Rows.{slot_inside}
 
 -- the attribute at the place
 pub attribute_at : (attributes : List Attribute) (place : ℕ) → IsNumber attributes place → (a : Attribute) × (slice_get attributes place ≡ Some a) × (is_number a.domain ≡ true)

@@ -1,45 +1,28 @@
 -- A draft that grows row by row: rows, and zeros behind them.
-use Rattle.std.proofs.Common.{◌≡◌, ◌≢◌, refl, sym, ap, subst, ◌∙◌, ℕ, ◌+◌, ◌-◌, ◌*◌, ◌≤◌, Bool, true, false, List, [], ◌∷◌, ◌++◌, length, take, drop, replicate, arith}
+use Rattle.std.proofs.Common.{◌≡◌, ◌≢◌, refl, sym, ap, subst, ◌∙◌, ℕ, ◌+◌, ◌-◌, ◌*◌, ◌≤◌, Bool, true, false, List, [], ◌∷◌, ◌++◌, length, replicate, arith}
 use Rattle.std.specs.Prelude.{slice_index, slice_range}
 use Rattle.std.proofs.lemmas.Grind.{flat_map-append}
-use Rattle.std.proofs.lemmas.List.{append-nil, drop-drop, drop-replicate, drop_at, get_or-append_right, length-append, take-replicate, take_at}
+use Rattle.std.proofs.lemmas.List.{append-nil, drop_at, get_or-append_right, length-append, take-replicate}
 use Rattle.afl_base.specs.Fields.{put_at}
 use Rattle.db_model.specs.declared.schemas.Attribute.{Attribute}
 use Rattle.padded.specs.Padded.{padded}
 use Rattle.db_model.specs.Row.{AllRowsSuit, AllSuit, Row, fields_bytes, mark, row_bytes, row_length, rows_bytes}
 use Rattle.db_model.proofs.Rows.{length-row}
 use Rattle.std.proofs.lemmas.Grind.{common_steps}
+use Rattle.afl_base.proofs.PaddedLaws.{put_behind, padded_all}
+use Rattle.db_model.proofs.SoundRows.{rows_more}
 
 -- ---- bytes, and zeros behind them
 
--- what is written right behind the bytes
-put_behind : (n : ℕ) (xs ys : List ℕ) → length xs + length ys ≤ n → put_at (padded n xs) (length xs) ys ≡ padded n (xs ++ ys)
-unfolding put_at
-put_behind n xs ys inside =
-    let zeros : List ℕ = replicate (n - length xs) 0 in
-    let before : take (length xs) (xs ++ zeros) ≡ xs = take_at xs zeros (length xs) refl in
-    let behind : drop (length xs + length ys) (xs ++ zeros) ≡ replicate (n - length (xs ++ ys)) 0 =
-    sym (drop-drop (length ys) (length xs) (xs ++ zeros)) ∙ ap (drop (length ys)) (drop_at xs zeros (length xs) refl)
-    ∙ drop-replicate (length ys) (n - length xs) 0 ∙ ap (λ (m : ℕ). replicate m 0) (omega (arith, length-append xs ys)) in
-    rw (before, behind) refl
-
 -- what stands there before
-zeros_behind : (n k : ℕ) (xs : List ℕ) → length xs + k ≤ n → slice_range (padded n xs) (length xs) (length xs + k) ≡ replicate k 0
+pub zeros_behind : (n k : ℕ) (xs : List ℕ) → length xs + k ≤ n → slice_range (padded n xs) (length xs) (length xs + k) ≡ replicate k 0
 zeros_behind n k xs inside = grind (arith, common_steps, drop_at, take-replicate)
-
--- nothing is left for zeros
-padded_full : (n : ℕ) (xs : List ℕ) → length xs ≡ n → padded n xs ≡ xs
-padded_full n xs long = let none : n - length xs ≡ 0 = omega (arith, long) in ap (λ (m : ℕ). xs ++ replicate m 0) none ∙ append-nil xs
 
 -- ---- lists of rows
 
 pub length-rows_bytes : (attributes : List Attribute) (rows : List Row) → AllRowsSuit attributes rows → length (rows_bytes attributes rows) ≡ row_length attributes * length rows
 length-rows_bytes attributes [] s = omega arith
 length-rows_bytes attributes (row ∷ rows) s = grind (arith, common_steps, length-row, length-append, length-rows_bytes attributes rows s.1)
-
-pub suit_more : (attributes : List Attribute) (rows : List Row) (row : Row) → AllRowsSuit attributes rows → AllSuit attributes row.tuple → AllRowsSuit attributes (rows ++ row ∷ [])
-suit_more attributes [] row s one = (one, tt)
-suit_more attributes (r ∷ rows) row s one = (s.0, suit_more attributes rows row s.1 one)
 
 -- ---- the last byte of rows is a mark
 
@@ -87,7 +70,7 @@ drafted_zeros attributes n rows draft is inside = grind (arith, common_steps, le
 
 pub drafted_more : (attributes : List Attribute) (n : ℕ) (rows : List Row) (row : Row) (draft : List ℕ) → IsDrafted attributes n rows draft → AllSuit attributes row.tuple → row_length attributes * length rows + row_length attributes ≤ n
     → IsDrafted attributes n (rows ++ row ∷ []) (put_at draft (row_length attributes * length rows) (row_bytes attributes row))
-drafted_more attributes n rows row draft is one inside = grind (arith, common_steps, length-rows_bytes, length-row, flat_map-append, append-nil, suit_more, put_behind)
+drafted_more attributes n rows row draft is one inside = grind (arith, common_steps, length-rows_bytes, length-row, flat_map-append, append-nil, rows_more, put_behind)
 
 pub drafted_all : (attributes : List Attribute) (n : ℕ) (rows : List Row) (draft : List ℕ) → IsDrafted attributes n rows draft → n ≡ row_length attributes * length rows → draft ≡ rows_bytes attributes rows
-drafted_all attributes n rows draft is full = is.bytes ∙ padded_full n (rows_bytes attributes rows) (length-rows_bytes attributes rows is.suit ∙ sym full)
+drafted_all attributes n rows draft is full = is.bytes ∙ padded_all n (rows_bytes attributes rows) (length-rows_bytes attributes rows is.suit ∙ sym full)

@@ -10,7 +10,7 @@ use Rattle.db_model.specs.declared.schemas.Domain.TheVariants.{Str}
 use Rattle.db_model.specs.Row.{field_bytes, field_of, is_text_field, mark, row_bytes, row_of, up_to_zero, width}
 use Rattle.db_model.proofs.Decoded.{length-row_read}
 use Rattle.db_model.proofs.Rows.{drop_front, take_front}
-use Rattle.padded.proofs.Facts.{all_zeros, second_part}
+use Rattle.padded.proofs.Facts.{all_zeros, second_part, suc_not_zero}
 use Rattle.padded.specs.Padded.{padded}
 use Rattle.std.proofs.lemmas.Grind.{common_steps}
 
@@ -24,13 +24,10 @@ IsRow attributes bytes = row_bytes attributes (row_of attributes bytes) ≡ byte
 
 -- ---- texts
 
-suc_test : (b : ℕ) → (suc b == 0) ≡ false
-suc_test b = grind (arith, nat_tests)
-
 are_zeros : (xs : List ℕ) → list_all (λ b. b == 0) xs ≡ true → replicate (length xs) 0 ≡ xs
 are_zeros [] e = refl
 are_zeros (zero ∷ xs) e = ap (λ (ys : List ℕ). 0 ∷ ys) (are_zeros xs e)
-are_zeros (suc b ∷ xs) e = let none : false ≡ true = (rw (suc_test b) at e) in absurd (cc)
+are_zeros (suc b ∷ xs) e = let none : false ≡ true = (rw (suc_not_zero b) at e) in absurd (cc)
 
 -- a text and the zeros behind it are the field
 text_and_zeros : (field : List ℕ) → list_all (λ b. b == 0) (drop (length (up_to_zero field)) field) ≡ true → padded (length field) (up_to_zero field) ≡ field
@@ -41,7 +38,7 @@ text_and_zeros (zero ∷ field) e =
 text_and_zeros (suc b ∷ field) e =
     let front : List ℕ = up_to_zero field in
     let same : suc (length field) - suc (length front) ≡ length field - length front = omega arith in
-    rw (suc_test b) (ap (λ (n : ℕ). suc b ∷ (front ++ replicate n 0)) same ∙ ap (λ (xs : List ℕ). suc b ∷ xs) (text_and_zeros field (rw (suc_test b) at e)))
+    rw (suc_not_zero b) (ap (λ (n : ℕ). suc b ∷ (front ++ replicate n 0)) same ∙ ap (λ (xs : List ℕ). suc b ∷ xs) (text_and_zeros field (rw (suc_not_zero b) at e)))
 
 zeros_are_text : (n : ℕ) → is_text_field (replicate n 0) ≡ true
 zeros_are_text zero = refl

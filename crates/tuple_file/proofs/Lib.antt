@@ -2,9 +2,9 @@ pub mod Answered
 pub mod Columns
 pub mod Drafted
 pub mod Judged
-pub mod Lists
 pub mod Marks
 pub mod Packed
 pub mod Puts
 pub mod Slots
 pub mod Written
+pub mod Holding

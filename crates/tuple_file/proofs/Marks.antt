@@ -13,7 +13,8 @@ use Rattle.std.proofs.lemmas.List.FromFn.{get_or-map-range_with_len}
 use Rattle.afl_base.proofs.FieldLaws.{length-put_at}
 use Rattle.tuple_file.proofs.Puts.{before-put_at, behind-put_at, byte-put_at}
 use Rattle.tuple_file.proofs.Written.{written_each, written_first, written_from}
-use Rattle.tuple_file.proofs.Slots.{length-rows, slot_inside, slots_of_whole}
+use Rattle.tuple_file.proofs.Slots.{length-rows, slots_of_whole}
+use Rattle.db_model.proofs.Rows.{slot_inside}
 
 -- the bytes of a slot
 unfoldable slot_of : List Attribute → List ℕ → ℕ → List ℕ

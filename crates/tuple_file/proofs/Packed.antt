@@ -9,9 +9,9 @@ use Rattle.afl_base.specs.Fields.{put_at}
 use Rattle.db_model.specs.declared.schemas.Attribute.{Attribute}
 use Rattle.db_model.specs.Row.{AllRowsSuit, AllSuit, Row, row_at, row_bytes, row_length, rows_bytes, rows_of, slots_in_bytes}
 use Rattle.tuple_file.proofs.Drafted.{IsDrafted, drafted_all, drafted_more, drafted_none, drafted_zeros}
-use Rattle.tuple_file.proofs.Slots.{slot_inside}
 use Rattle.tuple_file.proofs.Written.{all_rows, first_rows, more_rows, no_rows}
 use Rattle.std.proofs.lemmas.Grind.{common_steps}
+use Rattle.db_model.proofs.Rows.{slot_inside}
 
 -- those of some rows that are live
 abbrev pub living : List Row → List Row
@@ -40,10 +40,6 @@ count_more attributes bytes k live b count is =
     either : (b : Bool) → from_bool b ≡ length (cond b (row_at attributes bytes k ∷ []) [])
     either true = refl
     either false = refl
-
-pub bool_below : (b : Bool) → from_bool b ≤ 1
-bool_below true = omega arith
-bool_below false = omega arith
 
 -- the first rows are no more than all rows
 pub living_below : (attributes : List Attribute) (bytes : List ℕ) (k : ℕ) → k ≤ slots_in_bytes attributes bytes → length (living (first_rows attributes bytes k)) ≤ length (living (rows_of attributes bytes))

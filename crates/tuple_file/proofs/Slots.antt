@@ -1,5 +1,5 @@
 -- The slots of a relation's bytes, before and after a change.
-use Rattle.std.proofs.Common.{◌≡◌, ap, ◌∙◌, ℕ, suc, ◌+◌, ◌*◌, ◌<◌, ◌≤◌, List, length, take, drop, ◌-◌, arith, mul-suc, mul-le-mul_left}
+use Rattle.std.proofs.Common.{◌≡◌, ap, ◌∙◌, ℕ, ◌+◌, ◌*◌, ◌<◌, ◌≤◌, List, length, take, drop, ◌-◌, arith}
 use Rattle.std.specs.Prelude.{IsTrue, slice_range}
 use Rattle.std.proofs.lemmas.List.{drop-drop, drop-take, take-take}
 use Rattle.std.proofs.Math.Nat.{mul-div_cancel_left}
@@ -10,6 +10,7 @@ use Rattle.db_model.specs.Row.{row_at, row_length, rows_bytes, rows_of, slots_in
 use Rattle.tuple_file.specs.declared.tuples.Tuples.{Tuples}
 use Rattle.tuple_file.specs.Tuples.{HoldsRows}
 use Rattle.std.proofs.lemmas.Grind.{common_steps}
+use Rattle.db_model.proofs.Rows.{slot_inside}
 
 pub length-rows : (attributes : List Attribute) (bytes : List ℕ) → length (rows_of attributes bytes) ≡ slots_in_bytes attributes bytes
 length-rows attributes bytes = length-map-range_with_len (row_at attributes bytes) 0 (slots_in_bytes attributes bytes)
@@ -17,10 +18,6 @@ length-rows attributes bytes = length-map-range_with_len (row_at attributes byte
 -- whole rows have so many slots
 pub slots_of_whole : (attributes : List Attribute) (bytes : List ℕ) (n : ℕ) → length bytes ≡ row_length attributes * n → slots_in_bytes attributes bytes ≡ n
 slots_of_whole attributes bytes n long = let some : 0 < row_length attributes = omega arith in rw long (mul-div_cancel_left n some)
-
--- a slot ends inside the bytes
-pub slot_inside : (size k n : ℕ) → k < n → size * k + size ≤ size * n
-slot_inside size k n below = let e : size * suc k ≤ size * n = mul-le-mul_left size below in rw (← mul-suc size k) e
 
 -- the bytes of a field, in its slot and in all bytes
 pub slot_field : (bytes : List ℕ) (from size at w : ℕ) → at + w ≤ size → take w (drop at (slice_range bytes from (from + size))) ≡ take w (drop (from + at) bytes)

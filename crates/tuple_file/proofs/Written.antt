@@ -9,10 +9,10 @@ use Rattle.std.proofs.lemmas.List.FromFn.{length-range_with_len, get_or-map-rang
 use Rattle.db_model.specs.declared.schemas.Attribute.{Attribute}
 use Rattle.db_model.specs.Row.{AllSuit, Row, row_at, row_bytes, row_length, rows_bytes, rows_of, slots_in_bytes}
 use Rattle.db_model.proofs.Decoded.{length-row_read}
-use Rattle.db_model.proofs.Rows.{rows_of-insert}
-use Rattle.tuple_file.proofs.Lists.{drop_item}
-use Rattle.tuple_file.proofs.Slots.{length-rows, slot_inside, slots_of_whole}
+use Rattle.db_model.proofs.Rows.{rows_of-insert, slot_inside}
+use Rattle.tuple_file.proofs.Slots.{length-rows, slots_of_whole}
 use Rattle.std.proofs.lemmas.Grind.{common_steps}
+use Rattle.padded.proofs.Facts.{drop_item}
 
 -- the rows of the first k slots
 unfoldable pub first_rows : List Attribute → List ℕ → ℕ → List Row

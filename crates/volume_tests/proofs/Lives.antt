@@ -1,5 +1,5 @@
 -- The live files among the first places of a table.
-use Rattle.std.proofs.Common.{◌≡◌, ℕ, zero, suc, ◌+◌, ◌<◌, ◌≤◌, Bool, true, false, [], ◌∷◌, length, take, Some, None, refl, sym, ap, ◌∙◌, subst, add-one, arith}
+use Rattle.std.proofs.Common.{◌≡◌, ℕ, zero, suc, ◌+◌, ◌<◌, Bool, [], ◌∷◌, length, take, Some, None, refl, sym, ap, ◌∙◌, subst, add-one, arith}
 use Rattle.std.specs.Int.{from_bool}
 use Rattle.std.proofs.Math.Seq.{take-length}
 use Rattle.afl_base.specs.Files.{Table, is_live, used}
@@ -19,7 +19,3 @@ used_next files n live b inside front one =
 -- all places
 pub used_all : (files : Table) (n : ℕ) → length files ≡ n → used (take n files) ≡ used files
 used_all files n long = subst (λ (m : ℕ). used (take m files) ≡ used files) long (ap used (take-length files))
-
-pub bool_below : (b : Bool) → from_bool b ≤ 1
-bool_below true = omega arith
-bool_below false = omega arith

@@ -1,24 +1,17 @@
 -- A draft that is written in two parts.
-use Rattle.std.proofs.Common.{◌≡◌, ◌≢◌, ℕ, ◌+◌, ◌-◌, ◌≤◌, List, [], ◌++◌, length, take, drop, replicate, IsTrue, slice_index, refl, sym, ap, ◌∙◌, subst, arith}
+use Rattle.std.proofs.Common.{◌≡◌, ◌≢◌, ℕ, ◌+◌, ◌-◌, ◌≤◌, List, [], ◌++◌, length, take, drop, replicate, IsTrue, slice_index, sym, ap, ◌∙◌, subst, arith}
 use Rattle.std.specs.Prelude.{slice_range}
-use Rattle.std.proofs.lemmas.List.{drop_at, length-append, take-append-drop, take-replicate, take_rest}
+use Rattle.std.proofs.lemmas.List.{length-append, take-append-drop, take_rest}
 use Rattle.afl_base.specs.Fields.{put_at}
 use Rattle.afl_base.specs.Files.{Drafts, State, draft_in}
 use Rattle.padded.specs.Padded.{padded}
 use Rattle.afl_base.proofs.DraftLaws.{drafts_all, drafts_more, drafts_none}
 use Rattle.volume_tests.specs.Counts.{EndsWell}
+use Rattle.tuple_file.proofs.Drafted.{zeros_behind}
 
 -- the two parts of bytes
 pub parts : (bytes : List ℕ) (cut : ℕ) → take cut bytes ++ take (length bytes - cut) (drop cut bytes) ≡ bytes
 parts bytes cut = ap (λ (rest : List ℕ). take cut bytes ++ rest) (take_rest bytes cut) ∙ take-append-drop cut bytes
-
--- what stands behind a front
-zeros_behind : (n k : ℕ) (xs : List ℕ) → length xs + k ≤ n → slice_range (padded n xs) (length xs) (length xs + k) ≡ replicate k 0
-zeros_behind n k xs inside =
-    let zeros : List ℕ = replicate (n - length xs) 0 in
-    ap (take (length xs + k - length xs)) (drop_at xs zeros (length xs) refl)
-    ∙ take-replicate {X = ℕ} (length xs + k - length xs) (n - length xs) 0 (omega (arith, inside))
-    ∙ ap (λ (m : ℕ). replicate m 0) (omega arith)
 
 -- a draft has zeros behind its front
 pub part_zeros : (a b : State) (given : List ℕ) (n at k : ℕ) (front : List ℕ) → Drafts a b given n (padded n front) → at ≡ length front → length front + k ≤ n → IsTrue b.tells →

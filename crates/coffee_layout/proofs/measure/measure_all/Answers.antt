@@ -4,8 +4,8 @@ use Rattle.coffee_layout.specs.Files.{FitsIn}
 use Rattle.coffee_layout.specs.Units.{pages_of}
 use Rattle.coffee_layout.specs.Walks.{IsMeasured, IsPlaced}
 use Rattle.coffee_layout.proofs.Measures.{fits_more, half_more}
-use Rattle.coffee_layout.proofs.Tests.{mul_more}
 use Rattle.coffee_layout.proofs.measure.measure_all.Goals as goal
+use Rattle.padded.proofs.Facts.{one_more_times}
 
 pub loop-i-preserved : goal.loop-i-preserved
 loop-i-preserved g c =
@@ -22,7 +22,7 @@ loop-i-preserved g c =
           (subst (λ e. IsMeasured (g.F.Flash.image c.args.flash.now) e c.in_ok-file.file) (sym c.index-table-i.is) (rw c.loop-i.invariant.same at (c.in_ok-file.ensures.measured t)));
       reads =
           let file = (rw c.loop-i.invariant.same at c.in_ok-file.ensures.reads) in
-          omega (arith, mul_more c.loop-i.i (1 + 6 * pages_of (g.F.Flash.image c.args.flash.now)), file);
+          omega (arith, one_more_times c.loop-i.i (1 + 6 * pages_of (g.F.Flash.image c.args.flash.now)), file);
       later = search rules;
       faults = search rules;
     }

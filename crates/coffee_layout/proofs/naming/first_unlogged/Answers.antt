@@ -6,9 +6,9 @@ use Rattle.coffee_layout.specs.Tiling.{nowhere}
 use Rattle.coffee_layout.specs.Walks.{page_id}
 use Rattle.coffee_layout.proofs.Failings.{FailTurn, fail_turn}
 use Rattle.coffee_layout.proofs.Namings.{file_stands}
-use Rattle.coffee_layout.proofs.Tests.{mul_more}
 use Rattle.coffee_layout.specs.Units.{pages_of}
 use Rattle.coffee_layout.proofs.naming.first_unlogged.Goals as goal
+use Rattle.padded.proofs.Facts.{one_more_times}
 
 pub returns-then-not-branch-clause-first : goal.returns-then-not-branch-clause-first
 returns-then-not-branch-clause-first g c = λ t us tiled all.
@@ -24,7 +24,7 @@ loop-file-preserved g c = record {
   lent = search rules;
   reads =
       let file = (rw c.loop-file.invariant.same at c.in_ok-names_its_log.ensures.reads) in
-      omega (arith, mul_more c.loop-file.file-index (1 + pages_of (g.F.Flash.image c.args.flash.now)), file);
+      omega (arith, one_more_times c.loop-file.file-index (1 + pages_of (g.F.Flash.image c.args.flash.now)), file);
   later = search rules;
   faults = search rules;
   searched = λ t us tiled all.

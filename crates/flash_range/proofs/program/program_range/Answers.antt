@@ -3,7 +3,8 @@ use Rattle.std.proofs.lemmas.List.{length-take, length-drop, take_rest}
 use Rattle.flash_range.proofs.program.program_range.Goals as goal
 use Rattle.afl_base.specs.Image.{or_at}
 use Rattle.padded.proofs.Facts.{on_err}
-use Rattle.flash_range.proofs.Ranges.{cut_more, program_more, or_at-nothing}
+use Rattle.flash_range.proofs.Ranges.{cut_more, program_more}
+use Rattle.afl_base.proofs.Bits.{or_at_nothing}
 
 pub loop-done-init : goal.loop-done-init
 loop-done-init g c = record {
@@ -12,7 +13,7 @@ loop-done-init g c = record {
   size = search rules;
   lent = search rules;
   turn = λ a b. absurd (omega arith);
-  programmed = λ t. sym (or_at-nothing _ _);
+  programmed = λ t. sym (or_at_nothing _ _);
   other_pages = search rules;
   reads = search rules;
   faults = search rules;

@@ -5,8 +5,8 @@ use Rattle.afl_base.specs.Files.{draft_in}
 use Rattle.afl_base.proofs.FieldLaws.{length-put_at, u16_at-put_at}
 use Rattle.index_tree.specs.TreeFile.{bucket_place}
 use Rattle.index_maxheap.proofs.Built.{drafts_then, zeros_again}
-use Rattle.index_tree.proofs.Inserted.{long_u16}
 use Rattle.index_maxheap.proofs.building.write_bucket.Goals as goal
+use Rattle.afl_base.proofs.Bits.{length_u16_bytes}
 
 pub draft_write-requires-2-clause-zeros : goal.draft_write-requires-2-clause-zeros
 draft_write-requires-2-clause-zeros g c = λ told.
@@ -15,7 +15,7 @@ draft_write-requires-2-clause-zeros g c = λ told.
     let first = rw c.bucket_place.ensures at c.in_ok-draft_write.ensures.written in
     let was = rw first.tells at told in
     let w = c.first_bucket-bucket.result in
-    let long : length c.put_u16.new.bytes ≡ 2 = rw c.put_u16.ensures (length-put_at (replicate 2 0) (u16_bytes (c.args.opened + 1)) 0 (omega (arith, long_u16 (c.args.opened + 1)))) in
+    let long : length c.put_u16.new.bytes ≡ 2 = rw c.put_u16.ensures (length-put_at (replicate 2 0) (u16_bytes (c.args.opened + 1)) 0 (omega (arith, length_u16_bytes (c.args.opened + 1)))) in
     zeros_again (draft_in old).bytes (draft_in mid).bytes w c.args.at (bucket_place c.args.opened) (length c.put_u16.new.bytes) (first.bytes was) c.requires.range (omega (arith, c.first_bucket-bucket.ensures.long, c.requires.fits)) (c.requires.zeros was) long
 
 pub returns-clause-written : goal.returns-clause-written
@@ -26,6 +26,6 @@ returns-clause-written g c =
     let w = c.first_bucket-bucket.result in
     let two = c.put_u16.new.bytes in
     let first = rw c.bucket_place.ensures at c.in_ok-draft_write.ensures.written in
-    let long : length two ≡ 2 = rw c.put_u16.ensures (length-put_at (replicate 2 0) (u16_bytes (c.args.opened + 1)) 0 (omega (arith, long_u16 (c.args.opened + 1)))) in
+    let long : length two ≡ 2 = rw c.put_u16.ensures (length-put_at (replicate 2 0) (u16_bytes (c.args.opened + 1)) 0 (omega (arith, length_u16_bytes (c.args.opened + 1)))) in
     let is : u16_at two 0 ≡ c.args.opened + 1 = rw c.put_u16.ensures (u16_at-put_at (replicate 2 0) 0 (c.args.opened + 1) (omega arith) (omega (arith, c.requires.few))) in
     (w, two, c.first_bucket-bucket.ensures, long, is, drafts_then old mid new (draft_in old).name (length (draft_in old).bytes) c.args.at (put_at (draft_in old).bytes (bucket_place c.args.opened) w) two first c.in_ok-draft_write-2.ensures.written)

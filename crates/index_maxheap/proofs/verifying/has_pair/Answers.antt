@@ -1,8 +1,9 @@
 use Rattle.std.proofs.Common.{◌+◌, ◌∙◌, sym, ap}
 use Rattle.afl_base.specs.Files.{bytes_at}
-use Rattle.index_maxheap.proofs.Opening.{eq_false, eq_true}
+use Rattle.index_maxheap.proofs.Opening.{eq_false}
 use Rattle.index_maxheap.proofs.Slots.{six_key, six_slot}
 use Rattle.index_maxheap.proofs.verifying.has_pair.Goals as goal
+use Rattle.index_tree.proofs.Stays.{eq_true}
 
 pub returns-then-get_u16-number-clause-no_ : goal.returns-then-get_u16-number-clause-no_
 returns-then-get_u16-number-clause-no_ g c = λ told f key slot.

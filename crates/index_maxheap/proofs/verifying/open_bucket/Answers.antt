@@ -1,8 +1,9 @@
 use Rattle.std.proofs.Common.{arith, ◌+◌, ◌∙◌, sym, ap}
 use Rattle.afl_base.specs.Files.{bytes_at}
 use Rattle.index_tree.specs.Pairs.{Pair}
-use Rattle.index_maxheap.proofs.Opening.{eq_false, eq_true, right_pair, right_tail, wrong_blank, wrong_key, wrong_next, wrong_slot}
+use Rattle.index_maxheap.proofs.Opening.{eq_false, right_pair, right_tail, wrong_blank, wrong_key, wrong_next, wrong_slot}
 use Rattle.index_maxheap.proofs.verifying.open_bucket.Goals as goal
+use Rattle.index_tree.proofs.Stays.{eq_true}
 
 pub returns-then-get_u16-number-clause-opens : goal.returns-then-get_u16-number-clause-opens
 returns-then-get_u16-number-clause-opens g c = λ told rest has holds upper.

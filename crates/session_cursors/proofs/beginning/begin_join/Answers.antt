@@ -6,12 +6,12 @@ use Rattle.tuple_file.specs.declared.tuples.Tuples.{Tuples}
 use Rattle.tuple_file.specs.Tuples.{HoldsRows, rows, slots}
 use Rattle.session_model.specs.Indexed.{infos_of}
 use Rattle.session_model.specs.View.{project_pair}
-use Rattle.session_model.proofs.Frames.{count_rows}
 use Rattle.session_model.proofs.Joins.{begun_join_waits}
 use Rattle.session_model.proofs.Readable.{are_numbers, are_readable}
 use Rattle.session_model.proofs.Running.{relation_there}
 use Rattle.session_cursors.proofs.Begun.{join_begun}
 use Rattle.session_cursors.proofs.beginning.begin_join.Goals as goal
+use Rattle.tuple_file.proofs.Columns.{rows_counted}
 
 pub indexes_of-indexes-requires-clause-short : goal.indexes_of-indexes-requires-clause-short
 indexes_of-indexes-requires-clause-short g c = (relation_there (g.V.Files.state c.args.files.now) c.args.tables.now c.args.held.now c.args.opens.now c.requires.running c.args.k c.args.right.now c.requires.right).holds.file.short
@@ -119,7 +119,7 @@ returns-clause-ahead g c =
     let cursor = c.begin-cursor.result in
     let files = state.files in
     join_begun files (record { cursor = cursor; places = c.args.plan.places }) s t (infos_of k t held.indexes) c.args.plan.left_on c.args.plan.right_on (h.left ∙ e1) (h.right ∙ e2) (h.indexes ∙ e3) h.left_on h.right_on h.at h.from
-    (h.left_slots ∙ ap (λ (z : Tuples). slots files z) e1 ∙ sym (count_rows files s)) (h.right_slots ∙ ap (λ (z : Tuples). slots files z) e2 ∙ sym (count_rows files t))
+    (h.left_slots ∙ ap (λ (z : Tuples). slots files z) e1 ∙ sym (rows_counted files s)) (h.right_slots ∙ ap (λ (z : Tuples). slots files z) e2 ∙ sym (rows_counted files t))
 
 pub returns-clause-waits : goal.returns-clause-waits
 returns-clause-waits g c =

@@ -4,8 +4,8 @@ use Rattle.db_model.specs.ReplyText.{text}
 use Rattle.db_model.specs.Step.{Reply}
 use Rattle.reply_text.specs.WroteLess.{WroteLess}
 use Rattle.session_model.specs.Steps.{WritesReply}
-use Rattle.session_cursors.proofs.Texts.{none_replied}
 use Rattle.session_cursors.proofs.fetching.fetch_cursor.Goals as goal
+use Rattle.session_model.proofs.Carrying.{none_replied}
 
 pub returns-in-Err : goal.returns-in-Err
 returns-in-Err g c =

@@ -9,15 +9,16 @@ use Rattle.session_model.specs.Aheads.{ahead_of_join, join_stops}
 use Rattle.session_model.specs.View.{join_left, project_pair}
 use Rattle.session_model.proofs.Joins.{join_waits}
 use Rattle.session_cursors.proofs.JoinReads.{ahead_none}
-use Rattle.session_cursors.proofs.JoinSteps.{no_rights, no_stop}
+use Rattle.session_cursors.proofs.JoinSteps.{no_stop}
 use Rattle.session_cursors.proofs.JoinTaken.{all_lefts, ahead_then, fault_few, left_pairs, named_price, read_few}
 use Rattle.session_cursors.proofs.heads.fetch_join.Goals as goal
+use Rattle.cursor.proofs.Waiting.{right_none}
 
 pub returns-then-opened-eq0-clause-row : goal.returns-then-opened-eq0-clause-row
 returns-then-opened-eq0-clause-row g c = λ told.
     let files = (g.V.Files.state c.args.files.now).files in
     let o = c.args.opened.now in
-    ap (λ (l : List (List Value × List Value)). take 1 (map (project_pair o.places) l)) (no_rights o.cursor (rows files o.cursor.left) (rows files o.cursor.right) c.if-opened-eq0.true)
+    ap (λ (l : List (List Value × List Value)). take 1 (map (project_pair o.places) l)) (right_none o.cursor (rows files o.cursor.left) (rows files o.cursor.right) c.if-opened-eq0.true)
 
 pub returns-then-opened-eq0-clause-left : goal.returns-then-opened-eq0-clause-left
 returns-then-opened-eq0-clause-left g c = λ told.
@@ -25,7 +26,7 @@ returns-then-opened-eq0-clause-left g c = λ told.
     let o = c.args.opened.now in
     let now : JoinCursor = record o.cursor { at = o.cursor.left_slots } in
     ap (map (project_pair o.places)) (all_passed now (rows files o.cursor.left) (rows files o.cursor.right) (omega arith))
-    ∙ sym (ap (λ (l : List (List Value × List Value)). drop 1 (map (project_pair o.places) l)) (no_rights o.cursor (rows files o.cursor.left) (rows files o.cursor.right) c.if-opened-eq0.true))
+    ∙ sym (ap (λ (l : List (List Value × List Value)). drop 1 (map (project_pair o.places) l)) (right_none o.cursor (rows files o.cursor.left) (rows files o.cursor.right) c.if-opened-eq0.true))
 
 pub returns-then-opened-eq0-clause-ahead : goal.returns-then-opened-eq0-clause-ahead
 returns-then-opened-eq0-clause-ahead g c = λ told.
@@ -34,7 +35,7 @@ returns-then-opened-eq0-clause-ahead g c = λ told.
     let lefts = rows state.files o.cursor.left in
     let rights = rows state.files o.cursor.right in
     ahead_none state.files o o.cursor.left_slots o.cursor.from (omega arith)
-    (no_stop o.cursor lefts rights (all_lefts state o.cursor c.requires.can.may_read) (no_rights o.cursor lefts rights c.if-opened-eq0.true))
+    (no_stop o.cursor lefts rights (all_lefts state o.cursor c.requires.can.may_read) (right_none o.cursor lefts rights c.if-opened-eq0.true))
 
 pub returns-clause-left : goal.returns-clause-left
 returns-clause-left g c = λ told.

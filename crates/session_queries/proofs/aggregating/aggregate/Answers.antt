@@ -7,9 +7,10 @@ use Rattle.session_model.specs.Aheads.{aheads_of}
 use Rattle.session_model.specs.View.{view}
 use Rattle.session_queries.specs.Replies.{ReadsNoMore}
 use Rattle.session_queries.proofs.Left.{aggregated_leaves, answers_rows, refusal_failed, refusal_written, sent_frame, unread_frame, unsent_frame}
-use Rattle.session_queries.proofs.Lines.{none_replied, numbers_done, numbers_less}
+use Rattle.session_queries.proofs.Lines.{numbers_done, numbers_less}
 use Rattle.session_queries.proofs.Seen.{aggregated_cost, has_slots, is_ready}
 use Rattle.session_queries.proofs.aggregating.aggregate.Goals as goal
+use Rattle.session_model.proofs.Carrying.{none_replied}
 
 pub plan_folds-requires-clause-slots : goal.plan_folds-requires-clause-slots
 plan_folds-requires-clause-slots g c =

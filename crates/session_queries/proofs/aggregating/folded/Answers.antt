@@ -6,18 +6,18 @@ use Rattle.index_set.specs.Plans.{kinds}
 use Rattle.index_set.specs.Walks.{cost_ahead}
 use Rattle.cursor.specs.Remaining.{remaining}
 use Rattle.tuple_file.specs.Tuples.{rows}
-use Rattle.session_model.proofs.Frames.{count_rows}
 use Rattle.session_plans.specs.Aggregates.{answers, column_values, medians}
 use Rattle.session_queries.specs.Folded.{AreFolded, item_at}
 use Rattle.session_queries.proofs.Costs.{begin_chosen, pass_paid, passes_paid}
 use Rattle.session_queries.proofs.aggregating.folded.Goals as goal
+use Rattle.tuple_file.proofs.Columns.{rows_counted}
 
 pub returns-in_err-cursor-clause-reads : goal.returns-in_err-cursor-clause-reads
 returns-in_err-cursor-clause-reads g c = λ t condition code.
     let found = c.args.aggregating.found in
     let all = rows (g.V.Files.state c.args.files.now).files found.tuples in
     let ranges = ranges_of found.tuples.schema.attributes condition in
-    let begun = rw (sym (count_rows (g.V.Files.state c.args.files.now).files found.tuples)) at (c.in_err-cursor.ensures.reads condition code) in
+    let begun = rw (sym (rows_counted (g.V.Files.state c.args.files.now).files found.tuples)) at (c.in_err-cursor.ensures.reads condition code) in
     omega (arith, begun, begin_chosen (kinds found.indexes) ranges all, pass_paid (medians c.args.aggregating.plan.items) (chosen_cost (kinds found.indexes) ranges all))
 
 pub returns-clause-numbers : goal.returns-clause-numbers
@@ -44,7 +44,7 @@ returns-clause-reads g c = λ t condition code.
     let all = rows (g.V.Files.state c.args.files.now).files found.tuples in
     let ranges = ranges_of found.tuples.schema.attributes condition in
     let indexes = c.requires.ready.complete t in
-    let begun = rw (sym (count_rows (g.V.Files.state c.args.files.now).files found.tuples)) at (h.reads condition code) in
+    let begun = rw (sym (rows_counted (g.V.Files.state c.args.files.now).files found.tuples)) at (h.reads condition code) in
     let passed = (rw (h.frame.same, h.begun.tuples, c.as_slice-2.ensures.items) at c.in_ok-fold_all.ensures.reads) t (h.fits t indexes) in
     let paid = passes_paid (medians items) (begin_cost (length all) (plan (kinds found.indexes) ranges)) (cost_ahead c.in_ok-cursor.cursor.candidates all) (chosen_cost (kinds found.indexes) ranges all) ((h.begins t condition code indexes).cost) in
     omega (arith, begun, passed, paid)
@@ -57,7 +57,7 @@ returns-in_err-fold_all-clause-reads g c = λ t condition code.
     let all = rows (g.V.Files.state c.args.files.now).files found.tuples in
     let ranges = ranges_of found.tuples.schema.attributes condition in
     let indexes = c.requires.ready.complete t in
-    let begun = rw (sym (count_rows (g.V.Files.state c.args.files.now).files found.tuples)) at (h.reads condition code) in
+    let begun = rw (sym (rows_counted (g.V.Files.state c.args.files.now).files found.tuples)) at (h.reads condition code) in
     let passed = (rw (h.frame.same, h.begun.tuples, c.as_slice-2.ensures.items) at c.in_err-fold_all.ensures.reads) t (h.fits t indexes) in
     let paid = passes_paid (medians items) (begin_cost (length all) (plan (kinds found.indexes) ranges)) (cost_ahead c.in_ok-cursor.cursor.candidates all) (chosen_cost (kinds found.indexes) ranges all) ((h.begins t condition code indexes).cost) in
     omega (arith, begun, passed, paid)

@@ -4,8 +4,9 @@ use Rattle.cursor.specs.Remaining.{remaining}
 use Rattle.index_set.specs.Walks.{cost_ahead}
 use Rattle.tuple_file.specs.Tuples.{rows}
 use Rattle.session_plans.specs.Aggregates.{medians}
-use Rattle.session_queries.proofs.Passes.{done_closed, one_more, paid, pass_ends, restarted}
+use Rattle.session_queries.proofs.Passes.{done_closed, paid, pass_ends, restarted}
 use Rattle.session_queries.proofs.passing.fold_all.Goals as goal
+use Rattle.padded.proofs.Facts.{one_more_times}
 
 pub returns-in_err-fold_rows-clause-reads : goal.returns-in_err-fold_rows-clause-reads
 returns-in_err-fold_rows-clause-reads g c = λ t f.
@@ -62,5 +63,5 @@ loop-pass-preserved g c =
           pass_ends c.args.items.now all c.fold_rows.new.tallies c.end_all.new.tallies ends ((rw (inv.same, cursor) at h.folded) t f all (inv.folded t f are));
       reads = λ t f.
           let cost : ℕ = cost_ahead c.args.cursor.now.candidates (rows (g.V.Files.state c.args.files.now).files c.args.cursor.now.tuples) in
-          omega (arith, inv.reads t f, (rw (inv.same, cursor) at h.reads) t f, one_more c.loop-pass._pass cost);
+          omega (arith, inv.reads t f, (rw (inv.same, cursor) at h.reads) t f, one_more_times c.loop-pass._pass cost);
     }

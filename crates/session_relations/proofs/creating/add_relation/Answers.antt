@@ -10,9 +10,10 @@ use Rattle.session_model.proofs.Catalogs.{catalog_there}
 use Rattle.stored.proofs.FewFiles.{few_files}
 use Rattle.session_relations.specs.Changes.{PutsSlot, Shows, bare_relation, bare_schema, changed_at}
 use Rattle.session_relations.proofs.Keeping.{both_spaces, changes_done, changes_handed, changes_then, space_handed}
-use Rattle.session_relations.proofs.Created.{free_slot_none, new_tuples, shows_created, wants_first, wants_slot}
+use Rattle.session_relations.proofs.Created.{new_tuples, shows_created, wants_first, wants_slot}
 use Rattle.session_relations.proofs.Shown.{shows_kept, shows_room, shows_then}
 use Rattle.session_relations.proofs.creating.add_relation.Goals as goal
+use Rattle.session_model.proofs.Cells.{free_slot_none}
 
 pub make_rows-requires-clause-catalog : goal.make_rows-requires-clause-catalog
 make_rows-requires-clause-catalog g c =

@@ -4,8 +4,9 @@ use Rattle.db_model.specs.Database.{with_relation}
 use Rattle.db_model.specs.Step.{create_relation, upgraded}
 use Rattle.session_model.specs.View.{view}
 use Rattle.session_relations.specs.Changes.{bare_relation}
-use Rattle.session_relations.proofs.Carried.{carries_failed, carries_fine, carries_refused, carries_space}
+use Rattle.session_relations.proofs.Carried.{carries_failed, carries_fine, carries_space}
 use Rattle.session_relations.proofs.creating.create_relation.Goals as goal
+use Rattle.session_model.proofs.Carrying.{carries_refused}
 
 pub returns-in-Err : goal.returns-in-Err
 returns-in-Err g c =

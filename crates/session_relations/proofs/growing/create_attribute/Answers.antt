@@ -8,9 +8,10 @@ use Rattle.session_model.specs.Cells.{cell_from}
 use Rattle.session_model.specs.View.{view}
 use Rattle.session_model.proofs.Running.{relation_there}
 use Rattle.session_relations.proofs.Answered.{changed_made, changed_missing, changed_refused}
-use Rattle.session_relations.proofs.Carried.{carries_failed, carries_fine, carries_refused, carries_space}
+use Rattle.session_relations.proofs.Carried.{carries_failed, carries_fine, carries_space}
 use Rattle.session_relations.proofs.Found.{wants_found, without_catalog}
 use Rattle.session_relations.proofs.growing.create_attribute.Goals as goal
+use Rattle.session_model.proofs.Carrying.{carries_refused}
 
 pub returns-in-None : goal.returns-in-None
 returns-in-None g c =

@@ -9,10 +9,12 @@ use Rattle.session_model.specs.declared.held.Held.{Held}
 use Rattle.session_model.specs.Cells.{cell_from}
 use Rattle.session_model.specs.View.{cursor_in, view}
 use Rattle.tuple_file.specs.declared.tuples.Tuples.{Tuples}
-use Rattle.session_relations.proofs.Carried.{carries_failed, carries_fine, carries_refused, carries_space}
-use Rattle.session_relations.proofs.Found.{cell_named, wants_found, without_catalog}
+use Rattle.session_relations.proofs.Carried.{carries_failed, carries_fine, carries_space}
+use Rattle.session_relations.proofs.Found.{wants_found, without_catalog}
 use Rattle.session_relations.proofs.Gone.{removal_made, removal_missing, removal_refused}
 use Rattle.session_relations.proofs.removing.remove_relation.Goals as goal
+use Rattle.session_model.proofs.Cells.{cell_named}
+use Rattle.session_model.proofs.Carrying.{carries_refused}
 
 pub returns-in-None : goal.returns-in-None
 returns-in-None g c =

@@ -2,11 +2,12 @@ use Rattle.std.proofs.Common.{rules, true, refl, sym, ◌∙◌}
 use Rattle.afl_base.proofs.FrameLaws.{becomes_spares}
 use Rattle.db_model.specs.Row.{Row}
 use Rattle.tuple_file.specs.Tuples.{rows}
-use Rattle.session_model.proofs.Frames.{bytes_spared, complete_added, complete_kept, count_rows}
+use Rattle.session_model.proofs.Frames.{bytes_spared, complete_added, complete_kept}
 use Rattle.index_set.specs.declared.info.Access.TheVariants.{Tree}
 use Rattle.index_set.proofs.Lists.{rooms_stay}
 use Rattle.session_rows.proofs.Rooms.{elsewhere, exact_kept}
 use Rattle.session_rows.proofs.adding.write_row.Goals as goal
+use Rattle.tuple_file.proofs.Columns.{rows_counted}
 
 pub insert_all-requires-clause-room : goal.insert_all-requires-clause-room
 insert_all-requires-clause-room g c =
@@ -27,7 +28,7 @@ returns-clause-complete g c = λ told complete exact follow.
     let bytes = bytes_spared s0 s1 t.file spared in
     let after = spared.tells ∙ told in
     complete_added s0 s1 s2 c.args.tables.now c.insert_all.new.tables t c.args.indexes.now row c.requires.away c.in_ok-insert_all.ensures.others (c.in_ok-append.ensures.rows told)
-    (c.in_ok-insert_all.ensures.complete after all row (count_rows s0.files t ∙ sym c.requires.slot) refl
+    (c.in_ok-insert_all.ensures.complete after all row (rows_counted s0.files t ∙ sym c.requires.slot) refl
     (complete_kept s0 s1 t.file bytes c.args.tables.now all c.args.indexes.now c.requires.away complete)
     (exact_kept s0 s1 t.file bytes c.args.values.now c.args.rooms.now c.args.indexes.now c.requires.away exact)
     follow)

@@ -4,9 +4,10 @@ use Rattle.db_model.specs.declared.commands.Command.TheVariants as command
 use Rattle.db_model.specs.Step.{insert_into}
 use Rattle.session_model.proofs.Views.{named_none}
 use Rattle.session_model.proofs.Wanted.{wants_row}
-use Rattle.session_rows.proofs.Carried.{carries_failed, carries_of_one, carries_refused}
+use Rattle.session_rows.proofs.Carried.{carries_failed, carries_of_one}
 use Rattle.session_rows.proofs.Wants.{no_space}
 use Rattle.session_rows.proofs.inserting.insert.Goals as goal
+use Rattle.session_model.proofs.Carrying.{carries_refused}
 
 pub returns-in_default : goal.returns-in_default
 returns-in_default g c = record {

@@ -6,9 +6,10 @@ use Rattle.session_model.specs.View.{view}
 use Rattle.session_model.proofs.Views.{named_none}
 use Rattle.session_model.proofs.Wanted.{relation_seen}
 use Rattle.session_rows.specs.Changes.{HasOnlyLiveRows}
-use Rattle.session_rows.proofs.Carried.{carries_failed, carries_of_one, carries_refused, if_found, unless_failed}
+use Rattle.session_rows.proofs.Carried.{carries_failed, carries_of_one, if_found, unless_failed}
 use Rattle.session_rows.proofs.Wants.{no_space, pack_wants}
 use Rattle.session_rows.proofs.packing.pack.Goals as goal
+use Rattle.session_model.proofs.Carrying.{carries_refused}
 
 pub returns-in_default-clause-carried : goal.returns-in_default-clause-carried
 returns-in_default-clause-carried g c =

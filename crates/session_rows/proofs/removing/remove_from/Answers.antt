@@ -3,9 +3,10 @@ use Rattle.db_model.specs.declared.commands.Command.TheVariants as command
 use Rattle.db_model.specs.Cond.{condition_of}
 use Rattle.db_model.specs.Step.{remove_from as remove_in}
 use Rattle.session_model.proofs.Views.{named_none}
-use Rattle.session_rows.proofs.Carried.{carries_failed, carries_of_one, carries_refused}
+use Rattle.session_rows.proofs.Carried.{carries_failed, carries_of_one}
 use Rattle.session_rows.proofs.Wants.{no_space, remove_wants}
 use Rattle.session_rows.proofs.removing.remove_from.Goals as goal
+use Rattle.session_model.proofs.Carrying.{carries_refused}
 
 pub returns-in_default : goal.returns-in_default
 returns-in_default g c = record {

@@ -1,8 +1,9 @@
 use Rattle.std.proofs.Common.{arith, rules, ◌<◌, ◌+◌, None, length}
 use Rattle.session_start.specs.Judged.{IsReadySlot, KeepsSlot}
-use Rattle.session_start.proofs.Slots.{each_next, to_true}
+use Rattle.session_start.proofs.Slots.{each_next}
 use Rattle.session_start.proofs.Sums.{reads_next, reads_within}
 use Rattle.session_start.proofs.indexes.first_incomplete.Goals as goal
+use Rattle.index_set.proofs.Verified.{to_true}
 
 pub returns-in_err-whole-clause-reads : goal.returns-in_err-whole-clause-reads
 returns-in_err-whole-clause-reads g c =

@@ -2,9 +2,10 @@ use Rattle.std.proofs.Common.{arith, rules, subst, ◌<◌, ◌+◌, Option, Non
 use Rattle.tuple_file.specs.declared.tuples.Tuples.{Tuples}
 use Rattle.session_model.proofs.Running.{same_default}
 use Rattle.session_start.specs.Judged.{AreRowsOf, HasRows, HoldsFew, HoldsSlot}
-use Rattle.session_start.proofs.Slots.{each_next, to_true}
+use Rattle.session_start.proofs.Slots.{each_next}
 use Rattle.session_start.proofs.Sums.{slots_next, slots_within}
 use Rattle.session_start.proofs.rows.first_without_rows.Goals as goal
+use Rattle.index_set.proofs.Verified.{to_true}
 
 pub returns-in_err-held_rows-clause-reads : goal.returns-in_err-held_rows-clause-reads
 returns-in_err-held_rows-clause-reads g c =

@@ -1,6 +1,6 @@
 use Rattle.std.proofs.Common.{rules, ◌<◌}
-use Rattle.session_tests.proofs.Places.{used_below_32}
 use Rattle.session_tests.proofs.filling.has_place.Goals as goal
+use Rattle.afl_base.proofs.UsedLaws.{used_below_32}
 
 pub returns-in-Some : goal.returns-in-Some
 returns-in-Some g c = record {

@@ -2,9 +2,9 @@ use Rattle.std.proofs.Common.{arith}
 use Rattle.std.proofs.Math.ListN.{drop_of_length-le}
 use Rattle.std.proofs.lemmas.List.{length-drop, take_rest}
 use Rattle.tuple_file.proofs.Judged.{IsRow, field_first, mark_row, row_behind, row_whole}
-use Rattle.tuple_file.proofs.Lists.{drop_item}
 use Rattle.tuple_file.proofs.rows.is_row.Goals as goal
 use Rattle.std.proofs.lemmas.Grind.{common_steps}
+use Rattle.padded.proofs.Facts.{drop_item}
 
 pub loop-attribute-preserved : goal.loop-attribute-preserved
 loop-attribute-preserved c = grind (arith, common_steps, drop_item, take_rest, IsRow, row_whole, row_behind, length-drop)

@@ -1,6 +1,7 @@
 use Rattle.std.proofs.Common.{◌≡◌, ℕ, ◌+◌, ◌∙◌, sym, ap, arith}
-use Rattle.volume_tests.proofs.Lives.{bool_below, used_all, used_next}
+use Rattle.volume_tests.proofs.Lives.{used_all, used_next}
 use Rattle.volume_tests.proofs.calls.live_files.Goals as goal
+use Rattle.padded.proofs.Facts.{bool_below}
 
 pub loop-number-preserved : goal.loop-number-preserved
 loop-number-preserved g c =

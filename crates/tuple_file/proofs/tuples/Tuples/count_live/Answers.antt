@@ -2,10 +2,11 @@ use Rattle.std.proofs.Common.{◌≡◌, ◌+◌, ◌∙◌, ap, length, List, a
 use Rattle.afl_base.specs.Files.{bytes_at}
 use Rattle.db_model.specs.Row.{Row}
 use Rattle.tuple_file.specs.Tuples.{slots}
-use Rattle.tuple_file.proofs.Packed.{bool_below, count_more, count_none, living}
+use Rattle.tuple_file.proofs.Packed.{count_more, count_none, living}
 use Rattle.tuple_file.proofs.Written.{all_rows, first_rows}
 use Rattle.tuple_file.proofs.tuples.Tuples.count_live.Goals as goal
 use Rattle.std.proofs.lemmas.Grind.{common_steps}
+use Rattle.padded.proofs.Facts.{bool_below}
 
 pub loop-slot-init : goal.loop-slot-init
 loop-slot-init g c = grind (arith, common_steps, count_none)

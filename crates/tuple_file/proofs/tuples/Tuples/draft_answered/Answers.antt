@@ -4,10 +4,10 @@ use Rattle.afl_base.specs.Files.{Table, bytes_at, draft_in}
 use Rattle.db_model.specs.Row.{Row, row_length}
 use Rattle.tuple_file.specs.Tuples.{IsAnswered, row, slots}
 use Rattle.tuple_file.proofs.Answered.{Rewritten, rewritten_all, rewritten_more, rewritten_none, rewritten_zeros}
-use Rattle.tuple_file.proofs.Slots.{slot_inside}
 use Rattle.tuple_file.proofs.Written.{all_rows, first_rows, length-first_rows, more_rows, no_rows}
 use Rattle.tuple_file.proofs.tuples.Tuples.draft_answered.Goals as goal
 use Rattle.std.proofs.lemmas.Grind.{common_steps}
+use Rattle.db_model.proofs.Rows.{slot_inside}
 
 pub loop-slot-init : goal.loop-slot-init
 loop-slot-init g c = grind (arith, common_steps, Rewritten, first_rows, no_rows, rewritten_none)

@@ -1,14 +1,11 @@
--- The places of a table of files.
-use Rattle.std.proofs.Common.{◌≡◌, ℕ, zero, suc, ◌<◌, ◌≤◌, Bool, IsTrue, not, true, false, refl, [], ◌∷◌, length, Some, None, arith}
-use Rattle.afl_base.specs.Files.{Table, is_live, used}
+use Rattle.std.proofs.Common.{◌≤◌, [], ◌∷◌, length, Some, None, arith, ◌≡◌, ℕ, zero, suc, ◌<◌, false, Bool, IsTrue, not, true, refl}
+use Rattle.afl_base.specs.Files.{Table, used, is_live}
 
--- no more files than places
-used_most : (files : Table) → used files ≤ length files
+pub used_most : (files : Table) → used files ≤ length files
 used_most [] = omega arith
 used_most (None ∷ files) = omega (arith, used_most files)
 used_most (Some f ∷ files) = omega (arith, used_most files)
 
--- fewer where one is free
 pub used_less : (files : Table) (n : ℕ) → n < length files → is_live files n ≡ false → used files < length files
 used_less [] n inside free = absurd (omega arith)
 used_less (None ∷ files) zero inside free = omega (arith, used_most files)
@@ -16,7 +13,6 @@ used_less (Some f ∷ files) zero inside free = absurd (cc)
 used_less (None ∷ files) (suc n) inside free = omega (arith, used_less files n (omega arith) free)
 used_less (Some f ∷ files) (suc n) inside free = omega (arith, used_less files n (omega arith) free)
 
--- fewer than 32 where one of 32 places is free
 pub used_below_32 : (files : Table) (n : ℕ) → length files ≡ 32 → n < 32 → IsTrue (not (is_live files n)) → used files < 32
 used_below_32 files n long inside free = omega (arith, long, used_less files n (omega (arith, long, inside)) (dead (is_live files n) free))
   where
