@@ -244,10 +244,6 @@ pub distinct_new : (files : Table) (id : ℕ) (g : File) → id < length files �
 distinct_new files id g inside distinct none =
     distinct_set files id (Some g) inside distinct (λ n is k named. absurd (none k (named ∙ sym is)))
 
--- no file
-pub distinct_gone : (files : Table) (id : ℕ) → id < length files → AreDistinct files → AreDistinct (set files id None)
-distinct_gone files id inside distinct = distinct_set files id None inside distinct (λ n is k named. absurd (none_named n is))
-
 -- where every place holds a file, as many are used as there are places
 pub used_all : (files : Table) → ((k : ℕ) → k < length files → IsLive files k) → used files ≡ length files
 used_all [] live = refl
@@ -259,14 +255,6 @@ pub some_free : (files : Table) → length files ≡ 32 → used files < 32 → 
 some_free files places few taken =
     let all : used files ≡ length files = used_all files (λ k inside. taken k (omega arith)) in
     omega arith
-
--- a name that no place has, no id has
-pub unnamed_below : (files : Table) (n : List ℕ) → ((k : ℕ) → k < length files → name_at files k ≢ Some n) → IsUnnamed files n
-unnamed_below files n none k named =
-    ⊎_elim
-    (λ (inside : k < length files). none k inside named)
-    (λ (past : length files ≤ k). none_named n (sym (ap (option_map (λ (f : File). f.name)) (get_or-eq_default files None past)) ∙ named))
-    (cases_lt k (length files))
 
 -- a table of no files
 pub free_everywhere : (n k : ℕ) → place (replicate n None) k ≡ None
@@ -288,33 +276,6 @@ names_stay old new id total told was b k =
     ap (name_at new.files) here ∙ named_here new.files id (file_at new.files id) (place_live new.files id b.live) ∙ ap (λ (n : List ℕ). Some n) b.name
     ∙ sym (named_here old.files id (file_at old.files id) (place_live old.files id was)) ∙ sym (ap (name_at old.files) here))
     (λ (there : k ≢ id). ap (option_map (λ (f : File). f.name)) (b.others k there))
-    (cases_eq k id)
-
-pub named_of_created : (old new : State) (id : ℕ) (name : List ℕ) (kind : Kind) → Creates old new id name kind → (k : ℕ) (n : List ℕ) → n ≢ name →
-    IsNamed new.files k n → IsNamed old.files k n
-named_of_created old new id name kind c k n differs named =
-    ⊎_elim
-    (λ (here : k ≡ id).
-    let is : Some n ≡ Some name = sym named ∙ ap (name_at new.files) here ∙ named_here new.files id (new_file name kind) c.file in
-    let same : n ≡ name = cc in absurd (differs same))
-    (λ (there : k ≢ id). sym (ap (option_map (λ (f : File). f.name)) (c.others k there)) ∙ named)
-    (cases_eq k id)
-
-pub named_of_removed : (old new : State) (id : ℕ) → Removes old new id → (k : ℕ) (n : List ℕ) → IsNamed new.files k n → IsNamed old.files k n
-named_of_removed old new id r k n named =
-    ⊎_elim
-    (λ (here : k ≡ id). absurd (none_named n (sym (ap (option_map (λ (f : File). f.name)) r.gone) ∙ sym (ap (name_at new.files) here) ∙ named)))
-    (λ (there : k ≢ id). sym (ap (option_map (λ (f : File). f.name)) (r.others k there)) ∙ named)
-    (cases_eq k id)
-
-pub named_of_committed : (old new : State) (id : ℕ) → Commits old new id → (k : ℕ) (n : List ℕ) → n ≢ (draft_in old).name → IsNamed new.files k n → IsNamed old.files k n
-named_of_committed old new id c k n differs named =
-    ⊎_elim
-    (λ (here : k ≡ id).
-    let is : Some n ≡ Some (draft_in old).name =
-    sym named ∙ ap (name_at new.files) here ∙ named_here new.files id (file_at new.files id) (place_live new.files id c.live) ∙ ap (λ (m : List ℕ). Some m) c.name in
-    let same : n ≡ (draft_in old).name = cc in absurd (differs same))
-    (λ (there : k ≢ id). sym (ap (option_map (λ (f : File). f.name)) (c.others k there)) ∙ named)
     (cases_eq k id)
 
 -- an id that has a name holds a file

@@ -101,6 +101,3 @@ spares_fewer a b P Q f fewer = record {
   draft = f.draft;
   tells = f.tells;
 }
-
-pub prepares_fewer : (a b : State) (P Q : ℕ → Type 0) → Prepares a b P → ((k : ℕ) → Q k → P k) → Prepares a b Q
-prepares_fewer a b P Q f fewer = record { spares = spares_fewer a b P Q f.spares fewer; sizes = f.sizes; bytes = f.bytes }

@@ -197,34 +197,11 @@ erased_other_page image sector p exists other =
 
 -- pages and sectors
 
--- a page lies in its sector, so a sector that stays keeps its pages
-pub page_in_sector : (image : List ℕ) (p : ℕ) → 4096 * (p / 16) + 4096 ≤ length image → page_bytes image p ≡ slice_range (sector_bytes image (p / 16)) (256 * (p % 16)) (256 * (p % 16) + 256)
-page_in_sector image p exists =
-    let s : List ℕ = sector_bytes image (p / 16) in
-    let long : length (sector_bytes image (p / 16)) ≡ 4096 = omega (arith, length_range image (4096 * (p / 16)) (4096 * (p / 16) + 4096) exists) in
-    let a : length (page_bytes image p) ≡ 256 = omega (arith, length_range image (256 * p) (256 * p + 256) (omega arith)) in
-    let b : length (slice_range s (256 * (p % 16)) (256 * (p % 16) + 256)) ≡ 256 = omega (arith, length_range s (256 * (p % 16)) (256 * (p % 16) + 256) (omega arith)) in
-    ext_get_or 0 (page_bytes image p) (slice_range s (256 * (p % 16)) (256 * (p % 16) + 256)) (omega arith) (λ k h.
-    let e : 4096 * (p / 16) + (256 * (p % 16) + k) ≡ 256 * p + k = omega arith in
-    range_at image (256 * p) (256 * p + 256) k (omega arith)
-    ∙ ap (λ i. get_or image i 0) (sym e)
-    ∙ sym (range_at image (4096 * (p / 16)) (4096 * (p / 16) + 4096) (256 * (p % 16) + k) (omega arith))
-    ∙ sym (range_at s (256 * (p % 16)) (256 * (p % 16) + 256) k (omega arith)))
-
-pub page_of_same_sector : (old new : List ℕ) (p : ℕ) → length new ≡ length old → 4096 * (p / 16) + 4096 ≤ length old → sector_bytes new (p / 16) ≡ sector_bytes old (p / 16) → page_bytes new p ≡ page_bytes old p
-page_of_same_sector old new p long exists same =
-    page_in_sector new p (omega arith) ∙ ap (λ s. slice_range s (256 * (p % 16)) (256 * (p % 16) + 256)) same ∙ sym (page_in_sector old p exists)
-
 -- a byte lies in its page
 pub byte_in_page : (image : List ℕ) (k : ℕ) → get_or image k 0 ≡ get_or (page_bytes image (k / 256)) (k % 256) 0
 byte_in_page image k =
     let e : 256 * (k / 256) + k % 256 ≡ k = omega arith in
     ap (λ i. get_or image i 0) (sym e) ∙ sym (range_at image (256 * (k / 256)) (256 * (k / 256) + 256) (k % 256) (omega arith))
-
--- two images of one length with the same pages are the same
-pub images_same : (old new : List ℕ) → length new ≡ length old → ((p : ℕ) → page_bytes new p ≡ page_bytes old p) → new ≡ old
-images_same old new long same =
-    ext_get_or 0 new old long (λ k h. byte_in_page new k ∙ ap (λ xs. get_or xs (k % 256) 0) (same (k / 256)) ∙ sym (byte_in_page old k))
 
 -- what is read from a page lies in the page
 pub range_in_page : (image : List ℕ) (page a b : ℕ) → a ≤ b → b ≤ 256 → 256 * page + 256 ≤ length image → slice_range image (256 * page + a) (256 * page + b) ≡ slice_range (page_bytes image page) a b

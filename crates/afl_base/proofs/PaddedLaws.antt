@@ -45,8 +45,3 @@ put_behind n xs ys inside =
     sym (drop-drop (length ys) (length xs) (xs ++ zeros)) ∙ ap (drop (length ys)) (drop_at xs zeros (length xs) refl)
     ∙ drop-replicate (length ys) (n - length xs) 0 ∙ ap (λ (m : ℕ). replicate m 0) (omega (arith, length-append xs ys)) in
     rw (before, behind) refl
-
--- a write over the whole
-pub put_whole : (xs ys : List ℕ) → length xs ≡ length ys → put_at xs 0 ys ≡ ys
-unfolding put_at
-put_whole xs ys same = let none : drop (0 + length ys) xs ≡ [] = drop_of_length-le xs (omega arith) in rw none (append-nil ys)

@@ -128,10 +128,6 @@ plain_removes n files draft id f plain inside was =
     set_removes (plain_state files draft) (plain_state (set files id None) draft) id f (omega (arith, plain.places)) was
     (λ k named. plain.distinct k id f.name named (named_here files id f was)) refl refl refl
 
-pub some_kept : (draft : Option File) → is_some (plain_state [] draft).draft ≡ true → is_some draft ≡ true
-some_kept None begun = begun
-some_kept (Some f) begun = refl
-
 -- the file that has a name
 of_place : (o : Option File) (n : List ℕ) → option_map (λ (f : File). f.name) o ≡ Some n → (e : File) × (o ≡ Some e) × (e.name ≡ n)
 of_place None n named = absurd (cc)

@@ -12,24 +12,6 @@ pub record Programmed (old now : List ℕ) (at : ℕ) (bytes : List ℕ) (n : �
   pub done : (k : ℕ) → k < n → get_or now (at + k) 0 ≡ bit_or (get_or old (at + k) 0) (get_or bytes k 0)
   pub behind : (k : ℕ) → at + n ≤ k → get_or now k 0 ≡ get_or old k 0
 
-pub programmed-none : (old : List ℕ) (at : ℕ) (bytes : List ℕ) → Programmed old old at bytes 0
-programmed-none old at bytes = record { size = refl; before = λ k h. refl; done = λ k h. absurd (omega arith); behind = λ k h. refl }
-
-pub programmed-more : (old now : List ℕ) (at : ℕ) (bytes : List ℕ) (n : ℕ) → at + n < length now → Programmed old now at bytes n → Programmed old (set now (at + n) (bit_or (get_or now (at + n) 0) (get_or bytes n 0))) at bytes (n + 1)
-programmed-more old now at bytes n fits p =
-    let v : ℕ = bit_or (get_or now (at + n) 0) (get_or bytes n 0) in
-    record {
-      size = length-set now (at + n) v ∙ p.size;
-      before = λ k h. get_or-set_other now (at + n) k v 0 (omega arith) ∙ p.before k h;
-      done = λ k h. ⊎_elim
-          (λ (w : k < n). get_or-set_other now (at + n) (at + k) v 0 (omega arith) ∙ p.done k w)
-          (λ (w : n ≤ k).
-          let e : k ≡ n = omega arith in
-          rw e (get_or-set_same now (at + n) v 0 fits ∙ ap (λ x. bit_or x (get_or bytes n 0)) (p.behind (at + n) (omega arith))))
-          (cases_lt k n);
-      behind = λ k h. get_or-set_other now (at + n) k v 0 (omega arith) ∙ p.behind k (omega arith);
-    }
-
 pub programmed-all : (old now : List ℕ) (at : ℕ) (bytes : List ℕ) (n : ℕ) → length bytes ≤ n → n ≤ length bytes → at + length bytes ≤ length old → Programmed old now at bytes n → now ≡ or_at old at bytes
 programmed-all old now at bytes n least most fits p =
     ext_get_or 0 now (or_at old at bytes) (p.size ∙ sym (length_or_at old at bytes)) (λ k h.
@@ -50,21 +32,6 @@ pub record Erased (old now : List ℕ) (at n : ℕ) : Type 0 where
   pub before : (k : ℕ) → k < at → get_or now k 0 ≡ get_or old k 0
   pub done : (k : ℕ) → at ≤ k → k < at + n → get_or now k 0 ≡ 0
   pub behind : (k : ℕ) → at + n ≤ k → get_or now k 0 ≡ get_or old k 0
-
-pub erased-none : (old : List ℕ) (at : ℕ) → Erased old old at 0
-erased-none old at = record { size = refl; before = λ k h. refl; done = λ k h g. absurd (omega arith); behind = λ k h. refl }
-
-pub erased-more : (old now : List ℕ) (at n : ℕ) → at + n < length now → Erased old now at n → Erased old (set now (at + n) 0) at (n + 1)
-erased-more old now at n fits p =
-    record {
-      size = length-set now (at + n) 0 ∙ p.size;
-      before = λ k h. get_or-set_other now (at + n) k 0 0 (omega arith) ∙ p.before k h;
-      done = λ k h g. ⊎_elim
-          (λ (w : k < at + n). get_or-set_other now (at + n) k 0 0 (omega arith) ∙ p.done k h w)
-          (λ (w : at + n ≤ k). let e : k ≡ at + n = omega arith in rw e (get_or-set_same now (at + n) 0 0 fits))
-          (cases_lt k (at + n));
-      behind = λ k h. get_or-set_other now (at + n) k 0 0 (omega arith) ∙ p.behind k (omega arith);
-    }
 
 pub erased-all : (old now : List ℕ) (at n : ℕ) → at + n ≤ length old → Erased old now at n → now ≡ zeros_at old at n
 erased-all old now at n fits p =

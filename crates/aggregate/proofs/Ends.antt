@@ -56,14 +56,6 @@ pub length-the_least : (ns : List ℤ) (m : ℤ) → least ns ≡ Some m → 0 <
 length-the_least [] m e = cc
 length-the_least (n ∷ ns) m e = omega arith
 
-pub empty-no_greatest : (ns : List ℤ) → greatest ns ≡ None → ns ≡ []
-empty-no_greatest [] e = refl
-empty-no_greatest (n ∷ ns) e = cc
-
-pub empty-no_least : (ns : List ℤ) → least ns ≡ None → ns ≡ []
-empty-no_least [] e = refl
-empty-no_least (n ∷ ns) e = cc
-
 -- what the ends say where there are some
 pub ends-are : (agg : Agg) (l g : Option ℤ) (a b : ℤ) → l ≡ Some a → g ≡ Some b → AreEnds agg l g → (least_sum agg ≤ℤ a) × (a ≤ℤ b) × (b ≤ℤ greatest_sum agg)
 ends-are agg l g a b e f h = rw (e, f) at h

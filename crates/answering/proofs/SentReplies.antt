@@ -172,9 +172,6 @@ sink_flash e = cc
 space_flash : Space ≡ Flash → ⊥
 space_flash e = cc
 
-ok_err : (done : ⊤) (halt : Halt) → Ok done ≡ Err halt → ⊥
-ok_err done halt e = cc
-
 on_ok : {A B : Type 0} (answered : Result ⊤ Halt) → (A → B) → OnOk answered A → OnOk answered B
 on_ok (Ok done) f says = f says
 on_ok (Err halt) f says = tt

@@ -29,11 +29,6 @@ use Rattle.session_model.specs.View.{view}
 use Rattle.antelope_engine.specs.Seen.{is_flash}
 use Rattle.antelope_engine.proofs.Moves.{stay_aggregated, stay_asked}
 
-pub unless_map : {T : Type 0} (r : Result T Stop) (P Q : Type 0) → (P → Q) → UnlessFlash r P → UnlessFlash r Q
-unless_map (Ok x) P Q f h = f h
-unless_map (Err Sink) P Q f h = f h
-unless_map (Err Flash) P Q f h = tt
-
 pub unless_err : (S T : Type 0) (stop : Stop) (P : Type 0) → UnlessFlash {T = S} (Err stop) P → UnlessFlash {T = T} (Err stop) P
 unless_err S T Sink P h = h
 unless_err S T Flash P h = tt

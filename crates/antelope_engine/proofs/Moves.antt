@@ -21,9 +21,3 @@ stay db aheads (Aggregate list relation nodes) h = absurd (h tt)
 stay db aheads (OpenCursor number query) h = absurd (h tt)
 stay db aheads (FetchCursor number) h = absurd (h tt)
 stay db aheads (CloseCursor number) h = absurd (h tt)
-
-pub stay_asked : (db : Database) (aheads : Aheads) (query : _) → aheads_after db aheads (Ask query) ≡ aheads
-stay_asked db aheads query = either_way (is_refused ((step db (Ask query)).1)) aheads
-
-pub stay_aggregated : (db : Database) (aheads : Aheads) (list : _) (relation : _) (nodes : _) → aheads_after db aheads (Aggregate list relation nodes) ≡ aheads
-stay_aggregated db aheads list relation nodes = either_way (is_refused ((step db (Aggregate list relation nodes)).1)) aheads

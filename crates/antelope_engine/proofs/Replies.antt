@@ -14,11 +14,6 @@ use Rattle.session_model.specs.Steps.{Does, Made, WrotePart, answer_for}
 pub part_same : (before now : Option (List ℕ)) (all : List ℕ) → now ≡ before → WrotePart before now all
 part_same before now all e = record { written = []; left = all; whole = refl; held = e ∙ sym (append_known-nil before) }
 
--- a refusal, or none, is no answer of space
-pub refused_fits : (refused : Option Refusal) (P : ℕ → Type 0) → OnNoSpace {E = Failed} (Ok (answer_for refused)) P
-refused_fits None P = tt
-refused_fits (Some refusal) P = tt
-
 abbrev older : Database
 older = record empty_database { version = 1 }
 

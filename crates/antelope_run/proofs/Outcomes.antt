@@ -24,28 +24,6 @@ use Rattle.antelope_run.specs.Statuses.{CausedBy, LeftBy, TakenBy, RunEnds, Find
 use Rattle.antelope_run.proofs.Fronts.{has_fronts}
 use Rattle.antelope_run.proofs.Space.{input_has_space, stops_nowhere}
 
-pub is_status : (came : Came) → IsStatus (status_by came)
-is_status (Opened (Ok done)) = inl refl
-is_status (Opened (Err Input)) = inr (inr (inl refl))
-is_status (Opened (Err (Halted Space))) = inr (inr (inr (inl refl)))
-is_status (Opened (Err (Halted Flash))) = inr (inr (inr (inr (inl refl))))
-is_status (Opened (Err (Halted Sink))) = inr (inr (inr (inr (inr (inl refl)))))
-is_status (Opened (Err Long)) = inr (inr (inr (inr (inr (inr (inr refl))))))
-is_status Refused = inr (inr (inr (inr (inr (inr (inl refl))))))
-is_status Unsaid = inr (inr (inr (inr (inr (inl refl)))))
-is_status Failed = inr (inr (inr (inr (inl refl))))
-
-pub never_one : (came : Came) → status_by came ≡ 1 → ⊥
-never_one (Opened (Ok done)) e = absurd (omega (arith, e))
-never_one (Opened (Err Input)) e = absurd (omega (arith, e))
-never_one (Opened (Err (Halted Space))) e = absurd (omega (arith, e))
-never_one (Opened (Err (Halted Flash))) e = absurd (omega (arith, e))
-never_one (Opened (Err (Halted Sink))) e = absurd (omega (arith, e))
-never_one (Opened (Err Long)) e = absurd (omega (arith, e))
-never_one Refused e = absurd (omega (arith, e))
-never_one Unsaid e = absurd (omega (arith, e))
-never_one Failed e = absurd (omega (arith, e))
-
 -- which outcomes have a status
 is_ended : (came : Came) → status_by came ≡ 0 → came ≡ Opened (Ok tt)
 is_ended (Opened (Ok done)) e = refl

@@ -85,9 +85,6 @@ pub record Cutting (bytes : List ℕ) (at : ℕ) (tokens : List Token) (ends : L
   pub same : length ends ≡ length tokens
   pub within : at ≤ length bytes
 
-pub cutting_begins : (bytes : List ℕ) → Cutting bytes 0 [] []
-cutting_begins bytes = record { items = refl; places = refl; whole = refl; many = omega arith; same = refl; within = omega arith }
-
 pub cutting_more : (bytes : List ℕ) (at from to : ℕ) (tokens : List Token) (ends : List ℕ) (t : Token) → Cutting bytes at tokens ends →
     from ≡ at + prefix_len is_white (drop at bytes) → token_at (drop from bytes) ≡ Some (t, to - from) → from < to → to ≤ length bytes → Cutting bytes to (tokens ++ t ∷ []) (ends ++ to ∷ [])
 cutting_more bytes at from to tokens ends t c begin found more within =

@@ -68,13 +68,6 @@ pub record Reading (all now : List Symbol) (t : Token) (from nodes : Nodes) : Ty
   pub kept : nodes ≡ kept from out
   pub light : bulk_all now ≤ bulk_all all
 
-pub reading_begins : (all : List Symbol) (t : Token) (from : Nodes) → Reading all all t from from
-reading_begins all t from = record { out = []; same = nothing (read all t); kept = refl; light = omega arith }
-  where
-    nothing : (r : Option Move) → r ≡ behind_move [] r
-    nothing None = refl
-    nothing (Some m) = refl
-
 read_when : (s : Symbol) (γ : List Symbol) (t : Token) (m : Option Move) (k : Option (List Node)) → move s t ≡ m → skip s ≡ k →
     read (s ∷ γ) t ≡ elim m as (λ _. Option Move) [ Some m ↦ Some (record { symbols = m.symbols ++ γ; nodes = m.nodes }) | None ↦ elim k as (λ _. Option Move) [ Some before ↦ behind_move before (read γ t) | None ↦ None ] ]
 read_when s γ t m k e f = subst (λ x. read (s ∷ γ) t ≡ elim x as (λ _. Option Move) [ Some m ↦ Some (record { symbols = m.symbols ++ γ; nodes = m.nodes }) | None ↦ elim k as (λ _. Option Move) [ Some before ↦ behind_move before (read γ t) | None ↦ None ] ]) e
@@ -115,18 +108,6 @@ turn_skipped all γ stack s t from before mid nodes done skipped r m k d q w = g
           light = subst (λ y. bulk_all y ≤ bulk_all all) (sym m.1) (omega (arith, r.light));
         }
 
-pub turn_stuck : (all γ stack : List Symbol) (s : Symbol) (t : Token) (from before mid nodes : Nodes) (done skipped : Bool) → Reading all (s ∷ γ) t from before →
-    Moved (move s t) γ stack done → done ≡ false → Skipped (skip s) mid nodes skipped → skipped ≡ false → HasRead (read all t) stack from nodes false
-turn_stuck all γ stack s t from before mid nodes done skipped r m d q w = go (move s t) (skip s) refl refl m q
-  where
-    go : (x : Option Move) (y : Option (List Node)) → move s t ≡ x → skip s ≡ y → Moved x γ stack done → Skipped y mid nodes skipped → HasRead (read all t) stack from nodes false
-    go (Some x) y e f m q = cc
-    go None (Some b) e f m q = cc
-    go None None e f m q = told all t stack from nodes false None (r.same ∙ ap (behind_move r.out) (read_when s γ t None None e f)) refl
-
-pub turn_empty : (all now stack : List Symbol) (t : Token) (from nodes : Nodes) → Reading all now t from nodes → now ≡ [] → HasRead (read all t) stack from nodes false
-turn_empty all now stack t from nodes r e = told all t stack from nodes false None (r.same ∙ ap (λ x. behind_move r.out (read x t)) e) refl
-
 -- ---- ending a stack
 
 -- what is left of the stack ends as all of it does, some nodes having come
@@ -134,9 +115,6 @@ pub record Ending (all now : List Symbol) (from nodes : Nodes) : Type 0 where
   pub out : List Node
   pub same : finish all ≡ behind_nodes out (finish now)
   pub kept : nodes ≡ kept from out
-
-pub ending_begins : (all : List Symbol) (from : Nodes) → Ending all all from from
-ending_begins all from = record { out = []; same = sym (behind-nil (finish all)); kept = refl }
 
 finish_when : (s : Symbol) (γ : List Symbol) (k : Option (List Node)) → skip s ≡ k → finish (s ∷ γ) ≡ elim k as (λ _. Option (List Node)) [ Some before ↦ behind_nodes before (finish γ) | None ↦ None ]
 finish_when s γ k f = subst (λ y. finish (s ∷ γ) ≡ elim y as (λ _. Option (List Node)) [ Some before ↦ behind_nodes before (finish γ) | None ↦ None ]) f refl
@@ -156,17 +134,6 @@ end_skipped all γ s from before nodes skipped r q w = go (skip s) refl q
           kept = q.1 ∙ ap (λ y. kept y b) r.kept ∙ sym (kept-append from r.out b);
         }
 
-pub end_stuck : (all γ : List Symbol) (s : Symbol) (from before nodes : Nodes) (skipped : Bool) → Ending all (s ∷ γ) from before → Skipped (skip s) before nodes skipped → skipped ≡ false → HasEnded (finish all) from nodes false
-end_stuck all γ s from before nodes skipped r q w = go (skip s) refl q
-  where
-    go : (y : Option (List Node)) → skip s ≡ y → Skipped y before nodes skipped → HasEnded (finish all) from nodes false
-    go (Some b) f q = cc
-    go None f q = ended all from nodes false None (r.same ∙ ap (behind_nodes r.out) (finish_when s γ None f)) refl
-
-pub end_empty : (all now : List Symbol) (from nodes : Nodes) → Ending all now from nodes → now ≡ [] → HasEnded (finish all) from nodes true
-end_empty all now from nodes r e =
-    ended all from nodes true (Some (r.out ++ [])) (r.same ∙ ap (λ x. behind_nodes r.out (finish x)) e) (refl, r.kept ∙ ap (kept from) (sym (append-nil r.out)))
-
 -- ---- all tokens
 
 -- nothing is kept yet
@@ -180,9 +147,6 @@ pub record Recognizing (i : ℕ) (tokens : List Token) (stack : List Symbol) (no
   pub far : readable_tokens start tokens ≡ i + readable_tokens stack (drop i tokens)
   pub kept : nodes ≡ kept no_nodes out
   pub light : bulk_all stack ≤ 8 + 4 * i
-
-pub recognizing_begins : (tokens : List Token) → Recognizing 0 tokens start no_nodes
-recognizing_begins tokens = record { out = []; same = sym (behind-nil (run start tokens)); far = omega arith; kept = refl; light = omega arith }
 
 run_when : (γ : List Symbol) (t : Token) (ts : List Token) (r : Option Move) → read γ t ≡ r → run γ (t ∷ ts) ≡ elim r as (λ _. Option (List Node)) [ Some m ↦ behind_nodes m.nodes (run m.symbols ts) | None ↦ None ]
 run_when γ t ts r e = subst (λ y. run γ (t ∷ ts) ≡ elim y as (λ _. Option (List Node)) [ Some m ↦ behind_nodes m.nodes (run m.symbols ts) | None ↦ None ]) e refl
@@ -213,37 +177,6 @@ recognizing_more i tokens stack next nodes more t done r h e k d = go (read stac
           kept = k.2 ∙ ap (λ y. kept y m.nodes) r.kept ∙ sym (kept-append no_nodes r.out m.nodes);
           light = omega (arith, r.light, weight);
         })
-
--- a token that cannot come
-pub record Stuck (i : ℕ) (tokens : List Token) : Type 0 where
-  pub far : i ≡ readable_tokens start tokens
-  pub none : run start tokens ≡ None
-
-pub recognizing_stuck : (i : ℕ) (tokens : List Token) (stack next : List Symbol) (nodes more : Nodes) (t : Token) (done : Bool) → Recognizing i tokens stack nodes → i < length tokens → t ≡ get_or tokens i t →
-    HasRead (read stack t) next nodes more done → done ≡ false → Stuck i tokens
-recognizing_stuck i tokens stack next nodes more t done r h e k d = go (read stack t) refl k
-  where
-    rest : drop i tokens ≡ t ∷ drop (i + 1) tokens
-    rest = next_token i tokens t h e
-
-    go : (m : Option Move) → read stack t ≡ m → HasRead m next nodes more done → Stuck i tokens
-    go (Some m) f k = cc
-    go None f k =
-        let ran : run stack (drop i tokens) ≡ None = ap (run stack) rest ∙ run_when stack t (drop (i + 1) tokens) None f in
-        let reached : readable_tokens stack (drop i tokens) ≡ 0 = ap (readable_tokens stack) rest ∙ reach_when stack t (drop (i + 1) tokens) None f in
-        record { far = omega (arith, r.far, reached); none = r.same ∙ ap (behind_nodes r.out) ran }
-
--- nothing is left to read, but more has to come
-pub recognizing_short : (i : ℕ) (tokens : List Token) (stack : List Symbol) (nodes more : Nodes) (done : Bool) → Recognizing i tokens stack nodes → i ≡ length tokens →
-    HasEnded (finish stack) nodes more done → done ≡ false → Stuck (length tokens) tokens
-recognizing_short i tokens stack nodes more done r h k d = go (finish stack) refl k
-  where
-    rest : drop i tokens ≡ []
-    rest = drop_of_length-le tokens (let all : length tokens ≤ i = omega arith in all)
-
-    go : (x : Option (List Node)) → finish stack ≡ x → HasEnded x nodes more done → Stuck (length tokens) tokens
-    go (Some ns) f k = cc
-    go None f k = record { far = omega (arith, r.far, ap (readable_tokens stack) rest); none = r.same ∙ ap (behind_nodes r.out) (ap (run stack) rest ∙ f) }
 
 -- nothing is left to read or to come
 pub recognizing_ends : (i : ℕ) (tokens : List Token) (stack : List Symbol) (nodes more : Nodes) (done : Bool) → Recognizing i tokens stack nodes → i ≡ length tokens →

@@ -192,31 +192,6 @@ unfolding file_bytes
 kept_bytes old new page pages log long keeps =
     ap trimmed (map_same (file_byte new page log) (file_byte old page log) 0 (256 * pages - 32) (λ p a b. kept_byte old new page pages log p long keeps (omega arith)))
 
-kept_used : (old new : List ℕ) (page pages : ℕ) (log : Option PageId) → length new ≡ length old → KeepsFile old new page pages log → used_of new log ≡ used_of old log
-kept_used old new page pages None long keeps = refl
-kept_used old new page pages (Some l) long keeps = ap used_in (table_same old new l.0 long (keeps.logged l refl))
-
--- and its entry
-pub kept_entry : (old new : List ℕ) (f : Placed) → length new ≡ length old → KeepsFile old new f.page f.header.max_pages (log_of f.header) → entry_of new f ≡ entry_of old f
-kept_entry old new f long keeps =
-    ap (λ n. entry_with f n (used_of new (log_of f.header))) (ap (λ t. length t) (kept_bytes old new f.page f.header.max_pages (log_of f.header) long keeps))
-    ∙ ap (λ n. entry_with f (length (bytes_of old f)) n) (kept_used old new f.page f.header.max_pages (log_of f.header) long keeps)
-
-abbrev pub KeepsFiles : (old new : List ℕ) → List Placed → Type 0
-KeepsFiles old new [] = ⊤
-KeepsFiles old new (f ∷ fs) = KeepsFile old new f.page f.header.max_pages (log_of f.header) × KeepsFiles old new fs
-
--- the entries of the files that an image keeps, and the files as users see them
-pub entries_same : (old new : List ℕ) (files : List Placed) → length new ≡ length old → KeepsFiles old new files → map (entry_of new) files ≡ map (entry_of old) files
-entries_same old new [] long keeps = refl
-entries_same old new (f ∷ fs) long keeps = ap (λ e. e ∷ map (entry_of new) fs) (kept_entry old new f long keeps.0) ∙ ap (λ t. entry_of old f ∷ t) (entries_same old new fs long keeps.1)
-
-pub named_same_files : (old new : List ℕ) (files : List Placed) → length new ≡ length old → KeepsFiles old new files → map (named_file new) files ≡ map (named_file old) files
-named_same_files old new [] long keeps = refl
-named_same_files old new (f ∷ fs) long keeps =
-    ap (λ t. record { name = f.header.name; kind = kind_of f.header; bytes = t } ∷ map (named_file new) fs) (kept_bytes old new f.page f.header.max_pages (log_of f.header) long keeps.0)
-    ∙ ap (λ t. named_file old f ∷ t) (named_same_files old new fs long keeps.1)
-
 -- CONTENTS
 
 keeps-append : (old new : List ℕ) (us vs : List Unit) (page end : ℕ) → end ≡ page + total us → KeepsUnits old new page us → KeepsUnits old new end vs → KeepsUnits old new page (us ++ vs)

@@ -70,12 +70,6 @@ half_more image files table i old new fits all within is m =
     (is ∙ ap (λ t. get_or t i old) (all ∙ ap (half_measured image i) s.whole)) m
     ∙ ap (half_measured image (i + 1)) (sym s.whole)
 
-pub half_all : (image : List ℕ) (files : List Placed) (i : ℕ) → length files ≤ i → half_measured image i files ≡ map (entry_of image) files
-half_all image files i h =
-    ap (λ t. map (entry_of image) t ++ map (λ f. entry_with f 0 0) (drop i files)) (take_all i files h)
-    ∙ ap (λ t. map (entry_of image) files ++ map (λ f. entry_with f 0 0) t) (drop_all i files h)
-    ∙ append-nil (map (entry_of image) files)
-
 -- a file of more than 8,388,576 bytes fits no doubling extent, and is taken to want the largest
 pub fit_large : (size : ℕ) → 8388576 < size → fit size ≡ 32768
 unfolding fit

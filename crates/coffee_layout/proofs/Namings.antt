@@ -39,17 +39,6 @@ any_nothing test (e ∷ es) h = none_turn (is_log e) (test e) test e (filter is_
 pub any_none : (test : Placed → Bool) (us : List Unit) → first_failing (λ e. not (is_log e && test e)) (extents 0 us) ≡ None → list_any test (logs_in us) ≡ false
 any_none test us h = any_nothing test (extents 0 us) h
 
-is_its : (f l : Placed) (log : ℕ) → log + 1 ≡ f.header.log_page → is_log_at log f.header.name l ≡ is_log_of f l
-is_its f l log e = ap (λ b. b && same_name l.header.name f.header.name) (eq_same l.page log (l.page + 1) f.header.log_page (λ h. omega arith) (λ h. omega arith))
-
--- a file that names a log: it is an active log of its name
-pub names_some : (f : Placed) (logs : List Placed) (log : ℕ) → log + 1 ≡ f.header.log_page → f.header.flags == 3 ≡ false → list_any (is_log_at log f.header.name) logs ≡ names_its_log logs f
-names_some f logs log e flags = rw flags (all logs)
-  where
-    all : (ls : List Placed) → list_any (is_log_at log f.header.name) ls ≡ list_any (is_log_of f) ls
-    all [] = refl
-    all (l ∷ ls) = rw (is_its f l log e, all ls) refl
-
 -- one that names none, and is said to have one
 pub names_none : (f : Placed) (logs : List Placed) → f.header.log_page ≡ 0 → f.header.flags == 3 ≡ false → names_its_log logs f ≡ false
 names_none f logs e flags = rw flags (all logs)

@@ -18,9 +18,6 @@ pub record Searched (test : Placed → Bool) (image : List ℕ) (us : List Unit)
   pub whole : page + total rest ≡ pages_of image
   pub same : first_failing test (extents 0 us) ≡ first_failing test (extents page rest)
 
-pub searched_start : (test : Placed → Bool) (image : List ℕ) (us : List Unit) → IsTiled nowhere image us → Searched test image us 0
-searched_start test image us t = record { after_free = false; rest = us; keep = t.keep; whole = omega (arith, t.whole); same = refl }
-
 -- what stands at the page: a unit that keeps the rules, and the units behind it
 pub record Stands (test : Placed → Bool) (image : List ℕ) (us : List Unit) (page : ℕ) : Type 0 where
   pub after_free : Bool

@@ -14,9 +14,6 @@ use Rattle.padded.proofs.Facts.{lt_true, lt_false, neither}
 pub units_step : (turns : ℕ) (image : List ℕ) (page : ℕ) (u : Unit) → page < pages_of image → unit_at image page ≡ Some u → units_from (suc turns) image page ≡ u ∷ units_from turns image (page + size_of u)
 units_step turns image page u before e = rw (lt_true page (pages_of image) before, e) refl
 
-pub units_stop : (turns : ℕ) (image : List ℕ) (page : ℕ) → page < pages_of image → unit_at image page ≡ None → units_from (suc turns) image page ≡ []
-units_stop turns image page before e = rw (lt_true page (pages_of image) before, e) refl
-
 pub units_end : (turns : ℕ) (image : List ℕ) (page : ℕ) → pages_of image ≤ page → units_from turns image page ≡ []
 units_end zero image page behind = refl
 units_end (suc turns) image page behind = rw (lt_false page (pages_of image) behind) refl
@@ -134,11 +131,3 @@ unbroken_tiled building image us t =
 -- at most one list tiles an image
 pub one_tiling : (building other : ℕ → Bool) (image : List ℕ) (us vs : List Unit) → IsTiled building image us → IsTiled other image vs → us ≡ vs
 one_tiling building other image us vs t s = sym (units_tiled building image us t) ∙ units_tiled other image vs s
-
--- what a walk may read as a unit that keeps the rules, ends inside the flash
-pub kept_read : (building : ℕ → Bool) (image : List ℕ) (pages page : ℕ) (after_free : Bool) → page < pages → 256 * pages ≡ length image → broken_at building image page after_free ≡ None
-    → (u : Unit) → unit_at image page ≡ Some u → (1 ≤ size_of u) × (page + size_of u ≤ pages)
-kept_read building image pages page after_free before whole kept u is =
-    let all : pages_of image ≡ pages = omega arith in
-    let inside = kept_inside building image page after_free u (omega arith) is kept in
-    (inside.0, omega arith)

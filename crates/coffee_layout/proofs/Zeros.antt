@@ -20,13 +20,3 @@ zeros_more xs a b c low high zeros = sym (ap is_zeros (slice_split xs a b c low 
 -- a piece that is not zero decides
 pub zeros_stop : (xs : List ℕ) (a b c : ℕ) → a ≤ b → b ≤ c → is_zeros (slice_range xs a b) ≡ false → is_zeros (slice_range xs a c) ≡ false
 zeros_stop xs a b c low high stop = ap is_zeros (slice_split xs a b c low high) ∙ list_all-append (λ x. x == 0) (slice_range xs a b) (slice_range xs b c) ∙ (rw stop refl)
-
--- nothing is left
-pub zeros_end : (xs : List ℕ) (a c : ℕ) → c ≤ a → is_zeros (slice_range xs a c) ≡ true
-zeros_end xs a c done = let e : c - a ≡ 0 = omega arith in ap (λ n. is_zeros (take n (drop a xs))) e
-
-pub zeros_past : (xs : List ℕ) (a c : ℕ) → length xs ≤ a → is_zeros (slice_range xs a c) ≡ true
-zeros_past xs a c past = ap (λ t. is_zeros (take (c - a) t)) (drop_all a xs past) ∙ ap is_zeros (take_none (c - a))
-  where
-    take_none : (n : ℕ) → take {A = ℕ} n [] ≡ []
-    take_none n = take_all n [] (omega arith)

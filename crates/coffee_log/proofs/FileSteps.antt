@@ -62,8 +62,3 @@ pub append_two : (old mid new bytes rest : List ℕ) (page pages : ℕ) (log : O
 append_two old mid new bytes rest page pages log used more at n m from total first second here is many low whole fits =
     becomes_all old new bytes page pages log more (at + length bytes) at (n + (length bytes - n))
     (becomes_more old mid new bytes rest page pages log used more (at + n) (at + length bytes) at from n m (length bytes - n) first (subst (λ k. FileBecomes mid new page pages log more k from rest) whole second) here is many (omega arith) fits) (omega arith)
-
--- an append of nothing
-pub append_nothing : (image bytes : List ℕ) (page pages : ℕ) (log : Option PageId) (used at : ℕ) → length bytes ≡ 0 → IsFile image page pages log used at → FileBecomes image image page pages log used (at + length bytes) at bytes
-append_nothing image [] page pages log used at none is = let e : at ≡ at + 0 = omega arith in subst (λ k. FileBecomes image image page pages log used k at []) e (becomes_nothing image page pages log used at at is)
-append_nothing image (b ∷ bs) page pages log used at none is = absurd (omega arith)

@@ -54,12 +54,6 @@ some_pages taken part cut wanted old now new page n all inside is i here others 
   others = λ q h. others q (λ e. h (omega arith) (omega arith)) ∙ i.others q (λ a b. h a (omega arith));
 }
 
-pub isolating_so_far : (taken building : ℕ → Bool) (part : Part) (old now : List ℕ) (us : List Unit) (page : ℕ) → Isolating taken building part old now us page → IsolatesSome taken part old now us
-isolating_so_far taken building part old now us page i = λ q. ⊎_elim
-    (λ (before : q < page). stays_or_done (is_chosen taken part us q) old now now q refl (i.done q before))
-    (λ (from : page ≤ q). inl (i.same q from))
-    (cases_lt q page)
-
 pub isolating_some : (taken building : ℕ → Bool) (part : Part) (old now new : List ℕ) (us : List Unit) (page : ℕ) (u : Unit) → length now ≡ length old → page < pages_of old → Isolating taken building part old now us page → IsRead now page (Some u)
     → IsolatesSomePages taken part (touches taken page (size_of u)) now new page (size_of u) → IsolatesSome taken part old new us
 isolating_some taken building part old now new us page u long inside i is pages =

@@ -179,9 +179,6 @@ pub record Joining (state : State) (tables : Tables) (before now : JoinCursor) (
   pub left : pairs_left before (rows state.files before.left) (rows state.files before.right) ≡ pairs_left now (rows state.files before.left) (rows state.files before.right)
   pub few : reads_now + join_cost_ahead now (rows state.files before.left) (rows state.files before.right) ≤ reads + join_cost_ahead before (rows state.files before.left) (rows state.files before.right)
 
-pub joining_begins : (state : State) (tables : Tables) (c : JoinCursor) (reads : ℕ) → FitsPairs c state tables → Joining state tables c c reads reads
-joining_begins state tables c reads fits = record { fits = fits; left = refl; few = omega arith }
-
 pub next_fits : (c : JoinCursor) (state : State) (tables : Tables) → FitsPairs c state tables → FitsPairs (at_next_left c) state tables
 next_fits c state tables f = record { indexes = f.indexes; inner = λ some. tt; ahead = λ some left is. tt }
 

@@ -33,9 +33,6 @@ pub record Walking (state : State) (tables : Tables) (all : List Row) (test : Li
   -- as many slots as it has passed lie before the next that is answered
   pub passed : length (passed_until test all (ahead before all)) + length (ahead now all) ≡ length (ahead before all) + length (passed_until test all (ahead now all))
 
-pub walk_begins : (state : State) (tables : Tables) (all : List Row) (test : List Value → Bool) (c : Candidates) (reads : ℕ) → Fits c state tables all → Walking state tables all test c c reads reads
-walk_begins state tables all test c reads fits = record { fits = fits; left = refl; few = omega arith; passed = omega arith }
-
 -- a step behind slots that were passed
 pub advances_then : (found : Option ℕ) (before now after : Candidates) → Advances None before now → before.from ≤ now.from → Advances found now after → Advances found before after
 advances_then None before now after first later then_ = record {
@@ -61,9 +58,6 @@ advances_then (Some slot) before now after first later then_ =
 -- a slot that is passed
 pub passes_by : (slot : ℕ) (before after : Candidates) → Advances (Some slot) before after → Advances None before after
 passes_by slot before after a = record { search = a.search; slots = a.slots; below = tt; forward = tt; waits = a.waits }
-
-pub passes_none : (c : Candidates) → Advances None c c
-passes_none c = record { search = refl; slots = refl; below = tt; forward = tt; waits = λ all w. w }
 
 -- ---- the slots up to the next that is answered
 

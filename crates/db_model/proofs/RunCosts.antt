@@ -48,21 +48,3 @@ opening = OpenCursor (pos 1) (Select (codes "v" ∷ []) (codes "n") [])
 
 abbrev joining : Command
 joining = OpenCursor (pos 2) (Join (codes "n") (codes "n") (codes "v") (codes "v" ∷ []))
-
-abbrev costs_of : Database → Aheads → List Command → List ℕ
-costs_of db aheads [] = []
-costs_of db aheads (c ∷ cs) = cost_of db aheads c ∷ costs_of ((step db c).0) (aheads_after db aheads c) cs
-
--- a row, then a removed one and a row, then none; and a FETCH of a cursor that is not open
-pub three_fetches : costs_of three no_cursors (opening ∷ FetchCursor (pos 1) ∷ FetchCursor (pos 1) ∷ FetchCursor (pos 1) ∷ FetchCursor (pos 3) ∷ []) ≡ 0 ∷ 6 ∷ 12 ∷ 0 ∷ 0 ∷ []
-unfolding plan ranges_of
-three_fetches = refl
-
--- a left slot and a scan of three rows; the same, the removed one and the next; the last
-pub joined_fetches : costs_of three no_cursors (joining ∷ FetchCursor (pos 2) ∷ FetchCursor (pos 2) ∷ FetchCursor (pos 2) ∷ FetchCursor (pos 2) ∷ []) ≡ 0 ∷ 24 ∷ 54 ∷ 24 ∷ 0 ∷ []
-unfolding plan ranges_of
-joined_fetches = refl
-
--- a page is read at most 1,024 times, and each of three slots 16 times
-pub three_opened : opening_cost three 128 ≡ 131120
-three_opened = refl

@@ -72,7 +72,3 @@ module _ {A : Type 0} (text : A → List ℕ) (xs : List A) (i : ℕ) (d : A) (h
 
   pub less_item : (h0 h1 h2 : Option (List ℕ)) → h1 ≡ append_known h0 (flat_map text (take i xs)) → WroteLess h1 h2 (text (get_or xs i d)) → WroteLess h0 h2 (flat_map text xs)
   less_item h0 h1 h2 e w = appends_item Sink h0 h1 h2 e w
-
--- all items
-pub held_all : {A : Type 0} (text : A → List ℕ) (xs : List A) (i : ℕ) (h0 : Option (List ℕ)) {h1 : Option (List ℕ)} → length xs ≤ i → h1 ≡ append_known h0 (flat_map text (take i xs)) → h1 ≡ append_known h0 (flat_map text xs)
-held_all text xs i h0 h e = e ∙ ap (λ ys. append_known h0 (flat_map text ys)) (take_all i xs h)

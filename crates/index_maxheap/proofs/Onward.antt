@@ -110,8 +110,5 @@ place_far bytes keys key from place tree at far =
 pub look_paid : (now was start e left : ℕ) (place : Place) → place.hop ≤ 4 + e / 32 → now + 3 * min place.hop 4 ≤ was + 9 + 3 * min (place.hop + 1) 4 → was + walk_left e (Some place) ≤ start + left → now ≤ start + left
 look_paid now was start e left place near cost paid = omega (arith, near, cost, paid)
 
-pub found_paid : (now was start e left : ℕ) (place next_number : Place) → next_number.hop ≡ place.hop → now + 3 * min place.hop 4 ≤ was + 9 + 3 * min place.hop 4 → was + walk_left e (Some place) ≤ start + left → now + walk_left e (Some next_number) ≤ start + left + 9
-found_paid now was start e left place next_number same cost paid = rw same (omega (arith, cost, paid))
-
 pub onward_paid : (now was start e left : ℕ) (place next : Place) → place.hop ≤ 4 + e / 32 → next.hop ≡ place.hop + 1 → now + 3 * min place.hop 4 ≤ was + 9 + 3 * min (place.hop + 1) 4 → was + walk_left e (Some place) ≤ start + left → now + walk_left e (Some next) ≤ start + left
 onward_paid now was start e left place next near same cost paid = rw same (omega (arith, near, cost, paid))

@@ -22,9 +22,6 @@ root_start bytes keys key from bucket tree is = record {
   };
 }
 
-pub place_start : (bytes : List ℕ) (keys : List ℤ) (key : ℤ) (from : ℕ) (place : Place) → IsPlaceOf bytes keys key from (Some place) → IsStart bytes keys key from place
-place_start bytes keys key from place at = record { none = λ z. absurd (at.some z); some = λ some. at }
-
 -- the root's number is read once
 pub root_paid : (now was start e bucket : ℕ) → now ≤ was + walk_left e (Some (record { bucket = bucket; pair = 0; hop = 0 })) → was ≤ start + 3 → now ≤ start + walk_left e None
 root_paid now was start e bucket more first = omega (arith, more, first)

@@ -29,12 +29,6 @@ module _ (usable : ℕ → IndexKind × ℕ → Option model.Plan) (xs : List In
   pub passed_plan : first_plan usable 0 (kinds xs) ≡ first_plan usable n (drop n (kinds xs)) → usable n (kind_at y) ≡ None → first_plan usable 0 (kinds xs) ≡ first_plan usable (n + 1) (drop (n + 1) (kinds xs))
   passed_plan same is = same ∙ ap (first_plan usable n) (rest_of xs n y h e) ∙ ap (λ (o : Option model.Plan). option_or o (first_plan usable (n + 1) (drop (n + 1) (kinds xs)))) is
 
-pub no_plan : (usable : ℕ → IndexKind × ℕ → Option model.Plan) (xs : List IndexInfo) (n m : ℕ) → length xs ≤ n → first_plan usable m (drop n (kinds xs)) ≡ None
-no_plan usable [] zero m h = refl
-no_plan usable [] (suc n) m h = refl
-no_plan usable (x ∷ xs) zero m h = absurd (omega (arith, h))
-no_plan usable (x ∷ xs) (suc n) m h = no_plan usable xs n m (omega (arith, h))
-
 module _ (test : IndexKind × ℕ → Bool) (xs : List IndexInfo) (n : ℕ) (y : IndexInfo) (h : n < length xs) (e : y ≡ get_or xs n y) where
   pub found_any : list_any test (kinds xs) ≡ list_any test (drop n (kinds xs)) → test (kind_at y) ≡ true → list_any test (kinds xs) ≡ true
   found_any same is = same ∙ ap (list_any test) (rest_of xs n y h e) ∙ ap (λ (b : Bool). b || list_any test (drop (n + 1) (kinds xs))) is
@@ -48,25 +42,6 @@ none_any test [] (suc n) h = refl
 none_any test (x ∷ xs) zero h = absurd (omega (arith, h))
 none_any test (x ∷ xs) (suc n) h = none_any test xs n (omega (arith, h))
 
-same_item : (xs : List IndexInfo) (n : ℕ) (a b : IndexInfo) → n < length xs → a ≡ get_or xs n a → b ≡ get_or xs n b → a ≡ b
-same_item [] n a b h e f = absurd (omega (arith, h))
-same_item (x ∷ xs) zero a b h e f = e ∙ sym f
-same_item (x ∷ xs) (suc n) a b h e f = same_item xs n a b (omega (arith, h)) e f
-
-has_access : (xs : List IndexInfo) (n m : ℕ) (y : IndexInfo) (access : Access) → n < length xs → y ≡ get_or xs n y → m ≡ n → y.access ≡ access → HasAccess m access xs
-has_access xs n m y access h e same by = record {
-  within = omega (arith, h, same);
-  access_is = λ info f. ap (λ (i : IndexInfo). i.access) (same_item xs n info y h (subst (λ (k : ℕ). info ≡ get_or xs k info) same f) e) ∙ by;
-}
-
--- a plan by the index at a place is one of the list
-pub of_list : (p : Plan) (xs : List IndexInfo) (n : ℕ) (y : IndexInfo) → n < length xs → y ≡ get_or xs n y → IsBy p n y.access → IsOf p xs
-of_list chosen.Nothing xs n y h e is = tt
-of_list chosen.Scan xs n y h e is = tt
-of_list (chosen.Order m) xs n y h e is = has_access xs n m y Order h e is.0 is.1
-of_list (chosen.Tree m file key) xs n y h e is = has_access xs n m y (Tree file) h e is.0 is.1
-of_list (chosen.Table m table key) xs n y h e is = has_access xs n m y (InTable table) h e is.0 is.1
-
 -- ---- over what an index has given
 
 module _ (usable : ℕ → IndexKind × ℕ → Option model.Plan) (xs : List IndexInfo) (n : ℕ) (y : IndexInfo) (h : n < length xs) (e : y ≡ get_or xs n y) (same : first_plan usable 0 (kinds xs) ≡ first_plan usable n (drop n (kinds xs))) where
@@ -77,7 +52,3 @@ module _ (usable : ℕ → IndexKind × ℕ → Option model.Plan) (xs : List In
   pub no_given : (r : Option Plan) → is_some r ≡ false → option_map plan_in r ≡ usable n (kind_at y) → first_plan usable 0 (kinds xs) ≡ first_plan usable (n + 1) (drop (n + 1) (kinds xs))
   no_given None none is = passed_plan usable xs n y h e same (sym is)
   no_given (Some p) none is = cc
-
-pub given_index : (r : Option Plan) (xs : List IndexInfo) (n : ℕ) (y : IndexInfo) → n < length xs → y ≡ get_or xs n y → IfSome r (λ p. IsBy p n y.access) → IfSome r (λ p. IsOf p xs)
-given_index None xs n y h e is = tt
-given_index (Some p) xs n y h e is = of_list p xs n y h e is

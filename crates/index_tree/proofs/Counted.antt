@@ -209,16 +209,3 @@ split level (k ∷ ks) =
 abbrev nodes : ℕ → ℕ
 nodes zero = 1
 nodes (suc above) = 1 + 4 * nodes above
-
-few_at : (above level : ℕ) (ks : List ℤ) → buckets_at above level ks ≤ length ks / 32 + nodes above
-few_at zero level ks = omega arith
-few_at (suc above) level [] = omega arith
-few_at (suc above) level (k ∷ ks) =
-    let keys : List ℤ = k ∷ ks in
-    let a = few_at above (level + 1) (onward level 0 keys) in
-    let b = few_at above (level + 1) (onward level 1 keys) in
-    let c = few_at above (level + 1) (onward level 2 keys) in
-    let d = few_at above (level + 1) (onward level 3 keys) in
-    let sum = split level (drop 32 keys) in
-    let cut = length-drop 32 keys in
-    omega (arith, a, b, c, d, sum, cut)

@@ -31,10 +31,6 @@ pub filter_in : (f : Pair → Bool) (p : Pair) (qs : List Pair) → In p (filter
 filter_in f p [] i = absurd i
 filter_in f p (q ∷ qs) i = out_cond f p q (f q) (filter f qs) qs refl (filter_in f p qs) i
 
-pub in_append : (p : Pair) (xs ys : List Pair) → In p ys → In p (xs ++ ys)
-in_append p [] ys i = i
-in_append p (x ∷ xs) ys i = inr (in_append p xs ys i)
-
 pub above_in : (slot : ℕ) (p : Pair) (qs : List Pair) → Above slot qs → In p qs → slot < p.slot
 above_in slot p [] a i = absurd i
 above_in slot p (q ∷ qs) a (inl e) = rw e a.0

@@ -81,10 +81,6 @@ after loads key level = set loads (node key level) (get_or loads (node key level
 node_ways : (a b : ℤ) (l : ℕ) → node a l ≡ node b l → (i : ℕ) → i < l → Same a b i
 node_ways a b l e i h = digit_same a b i ((node_same a b l l e).1 i h)
 
-same_nodes : (a b : ℤ) (l : ℕ) → ((i : ℕ) → i < l → digit a i ≡ digit b i) → node a l ≡ node b l
-same_nodes a b zero same = refl
-same_nodes a b (suc l) same = rw (same_nodes a b l (λ i h. same i (omega arith)), same l (omega arith)) refl
-
 load_more : (level n m : ℕ) → level < 4 → n < 32 → m ≡ n + 1 → load_of level m ≡ load_of level n + 1
 load_more level n m upper few is = rw (load_upper level m upper, load_upper level n upper) (omega (arith, few, is))
 

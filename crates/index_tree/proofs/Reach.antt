@@ -56,11 +56,6 @@ place-append test ps qs hop pair place = record {
   short = place.short;
 }
 
--- one pair of a bucket is passed
-pub ahead_pair : {P : Type 0} (mine : P → Bool) (test : ℕ → P → Bool) (ps : List P) (hop pair : ℕ) (d : P) → pair < length (reaching test hop ps) →
-    ahead_of_place mine test ps hop pair ≡ cond (mine (get_or (reaching test hop ps) pair d)) (get_or (reaching test hop ps) pair d ∷ ahead_of_place mine test ps hop (pair + 1)) (ahead_of_place mine test ps hop (pair + 1))
-ahead_pair mine test ps hop pair d h = ap (filter mine) (drop_more (reaching test hop ps) pair d h)
-
 -- nothing is ahead_of_place at the end of a bucket that is not full
 pub ahead_end : {P : Type 0} (mine : P → Bool) (test : ℕ → P → Bool) (ps : List P) (hop pair : ℕ) → length (reaching test hop ps) ≤ pair → ahead_of_place mine test ps hop pair ≡ []
 ahead_end mine test ps hop pair h = ap (filter mine) (drop_all pair (reaching test hop ps) h)

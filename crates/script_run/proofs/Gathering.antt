@@ -28,9 +28,6 @@ none_kept (x ∷ xs) h = absurd (omega (arith, length-take 512 (x ∷ xs)))
 
 -- ---- what is kept
 
-pub gathers_none : GathersPiece [] [] false
-gathers_none = record { bytes_are = refl; long_is = refl }
-
 pub keep_white : (p bytes : List ℕ) (long : Bool) (b : ℕ) → GathersPiece p bytes long → length bytes ≡ 0 → is_white b ≡ true → GathersPiece (p ++ b ∷ []) bytes long
 keep_white p bytes long b g none white =
     let empty : past_white p ≡ [] = none_kept (past_white p) (sym (ap length g.bytes_are) ∙ none) in
@@ -75,9 +72,6 @@ kept_all p bytes g =
 
 pub said_long : (p bytes : List ℕ) → GathersPiece p bytes true → ended (past_white p) ≡ Long ∷ []
 said_long p bytes g = ended_long (past_white p) (sym g.long_is)
-
-pub kept_none : (p bytes : List ℕ) (long : Bool) → GathersPiece p bytes long → length bytes ≡ 0 → past_white p ≡ []
-kept_none p bytes long g none = none_kept (past_white p) (sym (ap length g.bytes_are) ∙ none)
 
 pub said_some : (p bytes : List ℕ) → GathersPiece p bytes false → 0 < length bytes → ended (past_white p) ≡ Bytes bytes ∷ []
 said_some p bytes g some =

@@ -13,10 +13,6 @@ true_false e = absurd (cc)
 
 -- ---- the bytes in front
 
-front_same : (h : Option (List ℕ)) → front_of h h ≡ h
-front_same None = refl
-front_same (Some bytes) = ap (λ bs. Some bs) (take_all (length bytes) bytes (omega arith))
-
 long_enough : (xs ys : List ℕ) → take (length xs) ys ≡ xs → length xs ≤ length ys
 long_enough xs ys e = let many = ap length e in omega (arith, many, length-take (length xs) ys)
 
@@ -43,15 +39,6 @@ more_told (Some xs) (Some ys) more e some same =
     absurd (omega (arith, some, long, many, sum))
 
 -- ---- since a time
-
-pub holds_first : (s : Fronted) → HoldsOn s s
-holds_first s = record {
-  held = front_same (seen s);
-  silent = λ fine same. refl;
-  faultless = λ fine. (fine, refl);
-  fault = λ fine fails. true_false (sym fails ∙ fine);
-  later = omega arith;
-}
 
 -- a call failed, and no more than before is seen
 pub holds_failed : (s a b : Fronted) → HoldsOn s a → seen b ≡ seen a → b.failed ≡ true → Rose a.faults b.faults → a.faults ≤ b.faults → HoldsOn s b

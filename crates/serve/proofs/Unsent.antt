@@ -75,7 +75,3 @@ frame_unended h mid k f c text e (inr sent) = record {
   whole = refl;
   held = sent ∙ e ∙ append_known-twice h (c ∷ []) text;
 }
-
-pub frame_held : (h mid k : Option (List ℕ)) (f : Option ℕ) (c : ℕ) (text : List ℕ) → front_held mid f ≡ append_known (append_known h (c ∷ [])) text → k ≡ append_known (front_held mid f) (192 ∷ []) → k ≡ append_known h (c ∷ text ++ 192 ∷ [])
-frame_held h mid k f c text e sent =
-    sent ∙ ap (λ h. append_known h (192 ∷ [])) (e ∙ append_known-twice h (c ∷ []) text) ∙ append_known-twice h (c ∷ text) (192 ∷ [])

@@ -23,32 +23,8 @@ use Rattle.session_model.proofs.Running.{RowsCome, are_complete, are_held, away,
 use Rattle.session_model.proofs.Views.{view_kept}
 use Rattle.tuple_file.proofs.Holding.{slots_prepared, holds_prepared}
 
-grows_by : (old new : List Row) (row : Row) → new ≡ old ++ row ∷ [] → RowsGrow old new
-grows_by old new row e = record {
-  more = omega (arith, ap (λ (rs : List Row). length rs) e, length-append old (row ∷ []));
-  same = λ i below. ap (λ (rs : List Row). get_or rs i no_row) e ∙ get_or_append_left old (row ∷ []) no_row i below;
-}
-
 grows_same : (old new : List Row) → new ≡ old → RowsGrow old new
 grows_same old new e = record { more = omega (arith, ap (λ (rs : List Row). length rs) e); same = λ i below. ap (λ (rs : List Row). get_or rs i no_row) e }
-
--- what an insert makes of the files and tables, for the session
-pub insert_made : (old new : State) (before after : Tables) (held : Held) (opens : List (Option Open)) (k : ℕ) (t : Tuples) (row : Row) → IsRunning old before held opens → get_or held.relations k None ≡ Some t
-    → slots old.files t < slots_limit held.version → SparesOthers old new (StaysAt t.file (infos_of k t held.indexes)) → KeepsTables before after (infos_of k t held.indexes)
-    → HoldsRows new t → slots new.files t ≡ slots old.files t + 1 → (IsTrue old.tells → rows new.files t ≡ rows old.files t ++ row ∷ [])
-    → AreHeld new after (slots new.files t) (infos_of k t held.indexes) → (IsTrue old.tells → AreComplete new after (rows new.files t) (infos_of k t held.indexes))
-    → RowsCome old new before after held opens k t
-insert_made old new before after held opens k t row r there few spared tables holds more added filled complete = record {
-  there = there;
-  spared = spared;
-  tables = tables;
-  holds = holds;
-  few = omega (arith, few, more);
-  grown = λ n o e reads. omega (arith, more);
-  grow = λ told n o e reads. grows_by (rows old.files t) (rows new.files t) row (added told);
-  filled = filled;
-  complete = complete;
-}
 
 -- room was made in some files, and no byte has changed
 module _ (old new : State) (tables : Tables) (held : Held) (opens : List (Option Open)) (k : ℕ) (t : Tuples) (r : IsRunning old tables held opens) (there : get_or held.relations k None ≡ Some t)

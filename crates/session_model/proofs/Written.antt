@@ -31,37 +31,6 @@ record Stands (bytes version_2 : List ℕ) : Type 0 where
   long : length version_2 ≡ 1480
   written : IsWritten version_2
 
-empty_relations : (k : ℕ) → k < 8 → slice_range empty_bytes (176 * k) (176 * k + 176) ≡ relation_slot_bytes (relation_slot_of (slice_range empty_bytes (176 * k) (176 * k + 176)))
-unfolding empty_bytes
-empty_relations zero h = refl
-empty_relations (suc zero) h = refl
-empty_relations (suc (suc zero)) h = refl
-empty_relations (suc (suc (suc zero))) h = refl
-empty_relations (suc (suc (suc (suc zero)))) h = refl
-empty_relations (suc (suc (suc (suc (suc zero))))) h = refl
-empty_relations (suc (suc (suc (suc (suc (suc zero)))))) h = refl
-empty_relations (suc (suc (suc (suc (suc (suc (suc zero))))))) h = refl
-empty_relations (suc (suc (suc (suc (suc (suc (suc (suc k)))))))) h = absurd (omega (arith, h))
-
-empty_indexes : (i : ℕ) → i < 8 → slice_range empty_bytes (1408 + 8 * i) (1408 + 8 * i + 8) ≡ index_slot_bytes (index_slot_of (slice_range empty_bytes (1408 + 8 * i) (1408 + 8 * i + 8)))
-unfolding empty_bytes
-empty_indexes zero h = refl
-empty_indexes (suc zero) h = refl
-empty_indexes (suc (suc zero)) h = refl
-empty_indexes (suc (suc (suc zero))) h = refl
-empty_indexes (suc (suc (suc (suc zero)))) h = refl
-empty_indexes (suc (suc (suc (suc (suc zero))))) h = refl
-empty_indexes (suc (suc (suc (suc (suc (suc zero)))))) h = refl
-empty_indexes (suc (suc (suc (suc (suc (suc (suc zero))))))) h = refl
-empty_indexes (suc (suc (suc (suc (suc (suc (suc (suc i)))))))) h = absurd (omega (arith, h))
-
-empty_mark : slice_range empty_bytes 1472 1480 ≡ version_mark
-unfolding empty_bytes
-empty_mark = refl
-
-empty_written : IsWritten empty_bytes
-empty_written = record { relations = empty_relations; indexes = empty_indexes; mark = λ e. empty_mark }
-
 stands_1 : (bytes : List ℕ) → length bytes ≡ 1472 → IsWritten bytes → Stands bytes (bytes ++ version_mark)
 stands_1 bytes size w = record {
   is = rw size refl;

@@ -46,9 +46,6 @@ only f r k = if r == k then f k else 0
 only_here : (f : ℕ → ℕ) (r k : ℕ) → r ≡ k → only f r k ≡ f r
 only_here f r k e = let t : (r == k) ≡ true = grind (arith, nat_tests) in rw t (ap f (sym e))
 
-only_there : (f : ℕ → ℕ) (r k : ℕ) → r ≢ k → only f r k ≡ 0
-only_there f r k h = let t : (r == k) ≡ false = grind (arith, nat_tests) in rw t refl
-
 over_pick : (f : ℕ → ℕ) (r a n : ℕ) → a ≤ r → r < a + n → f r ≤ over (only f r) a n
 over_pick f r a zero low high = absurd (omega (arith, low, high))
 over_pick f r a (suc n) low high =

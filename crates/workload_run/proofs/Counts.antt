@@ -29,9 +29,6 @@ replies_more db (x ∷ cs) c = ap (λ (rs : List Reply). (step db x).1 ∷ rs) (
 
 -- ---- one more command
 
-pub counted_none : (db : Database) → Counted [] db db nothing
-counted_none db = record { database = refl; tally_is = refl }
-
 pub counted_more : (cs : List Command) (c : Command) (a b d : Database) (t u : Tally) → Counted cs a b t → d ≡ (step b c).0 → u ≡ counted t ((step b c).1)
     → Counted (cs ++ c ∷ []) a d u
 counted_more cs c a b d t u so_far e f = record {
