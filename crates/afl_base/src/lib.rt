@@ -26,5 +26,5 @@ pub use kind::{FileError, Kind};
 pub use name::Name;
 pub use pages::{fit, regions};
 pub use places::{Named, find_in, free_in};
-pub use sizes::{MOST_BYTES, MOST_SLOTS, PAGE_SIZE, REGION_SIZE, SECTOR_SIZE};
+pub use sizes::{MOST_SLOTS, PAGE_SIZE, SECTOR_SIZE};
 pub use stream::{Sink, Source};

@@ -218,10 +218,12 @@ impl<V: Files> Session<V> {
         self.stopped
     }
 
-    /// As long as its files did not fail its database is sound. This does nothing, and says it.
+    /// As long as its files did not fail its database is sound, and as long as it may go on they did
+    /// not. This does nothing, and says it.
     pub fn database_is_sound(&self)
-        ensures { IsTrue (V.state self.now.files).tells → self.now.lost ≡ false
+        ensures sound { IsTrue (V.state self.now.files).tells → self.now.lost ≡ false
             → IsSoundDatabase self.now.database }
+        ensures going { self.now.stopped ≡ false → self.now.lost ≡ false }
     {
         let _lost = self.lost;
     }

@@ -74,28 +74,6 @@ reason_text no.Frame = codes "frame"
 unfoldable pub refusal_text : Refusal → List ℕ
 refusal_text refusal = line (codes "no " ++ reason_text refusal)
 
--- the numbers of the refusals
-abbrev pub refusal_number : Refusal → ℕ
-refusal_number (no.Syntax at) = 1
-refusal_number no.Long = 2
-refusal_number no.Unfinished = 3
-refusal_number no.NoRelation = 4
-refusal_number (no.NoAttribute nth) = 5
-refusal_number no.Exists = 6
-refusal_number no.NotEmpty = 7
-refusal_number (no.Value nth) = 8
-refusal_number (no.IllTyped nth) = 9
-refusal_number no.Domain = 10
-refusal_number (no.Full p limit) = 11
-refusal_number (no.NotOrdered last) = 12
-refusal_number (no.InUse cursor) = 13
-refusal_number no.HasIndex = 14
-refusal_number no.NoIndex = 15
-refusal_number no.NoCursor = 16
-refusal_number no.CursorOpen = 17
-refusal_number (no.Space need) = 18
-refusal_number no.Frame = 20
-
 -- ---- replies
 
 -- rows, then their number; aggregates are one row

@@ -3,7 +3,6 @@
 #![tactic(auto)]
 
 ghost use Rattle.std.specs.Prelude.{◌≡◌, ◌+◌, ◌*◌, ◌≤◌, true, IsErrOf, IsTrue, false};
-ghost use Rattle.db_model.specs.Sound.{IsSoundDatabase};
 ghost use Rattle.session_model.specs.declared.step.Stop.TheVariants.{Flash};
 ghost use Rattle.session_model.specs.Carried.{Recites};
 ghost use Rattle.session_model.specs.Steps.{UnlessFlash};
@@ -29,7 +28,7 @@ use antelope_engine::{Session, Stop};
 pub fn write<V: Files, K: Sink>(session: &mut Session<V>, out: &mut K) -> Result<(), Stop>
     requires running { session.old.stopped ≡ false }
     ensures wrote { let db = session.old.database in
-        IsTrue (V.state session.old.files).tells → IsSoundDatabase db
+        IsTrue (V.state session.old.files).tells
         → AppendsText result (K.held out.old) (K.held out.new) (script db) }
     ensures same { UnlessFlash result (IsAsBefore V.state session.old session.new) }
     ensures lost { IsErrOf result Flash
@@ -39,6 +38,7 @@ pub fn write<V: Files, K: Sink>(session: &mut Session<V>, out: &mut K) -> Result
     ensures frame { Recites V.Files K.Sink session.old.files session.new.files
         out.old out.new result }
 {
+    session.database_is_sound();
     match write_relations(session, out) {
         Ok(()) => {}
         Err(stop) => return Err(stop),

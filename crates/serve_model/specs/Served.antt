@@ -9,7 +9,7 @@ use Rattle.db_model.specs.Database.{Database}
 use Rattle.db_model.specs.Refusing.{◌>>=◌}
 use Rattle.db_model.specs.ReplyText.{text}
 use Rattle.db_model.specs.Step.{Reply}
-use Rattle.run_model.specs.Talk.{Talk, answered, last_database, talk_output}
+use Rattle.run_model.specs.Talk.{Talk, answered, talk_output}
 use Rattle.serve_model.specs.Frames.{Frame, Broken, Long, Asked, Unfinished}
 
 -- ---- what is asked
@@ -37,7 +37,7 @@ client_of Unfinished = 0
 abbrev pub framed : Frame → List ℕ → List ℕ
 framed frame text = client_of frame ∷ text ++ 192 ∷ []
 
--- ---- frames one after_frame the other
+-- ---- frames one after the other
 
 -- `read` reads the bytes of a command, or says why they are none (see `Reading` of db_model)
 module _ (read : List ℕ → Result Command Refusal) where
@@ -51,17 +51,13 @@ module _ (read : List ℕ → Result Command Refusal) where
   abbrev pub serve_talk : Talk Frame
   serve_talk = record { heard = heard; sent = framed }
 
-  -- the database after_frame a frame, and the reply to it
+  -- the database after a frame, and the reply to it
   abbrev pub after_frame : Database → Frame → Database × Reply
   after_frame db frame = answered db (heard frame)
 
-  -- the reply frames, one after_frame the other
+  -- the reply frames, one after the other
   abbrev pub served : Database → List Frame → List ℕ
   served db frames = talk_output serve_talk db frames
-
-  -- the database after_frame all frames
-  abbrev pub after_frames : Database → List Frame → Database
-  after_frames db frames = last_database serve_talk db frames
 
   -- ---- what is served, cut at each END
 

@@ -6,7 +6,6 @@ ghost use Rattle.std.specs.Prelude.{◌≡◌, ◌+◌, ◌<◌, ◌≤◌, ◌+
 ghost use Rattle.std.specs.Option.{option_to_list};
 ghost use Rattle.antelope_engine.specs.Reading.{index_in_slot, relation_in_slot};
 ghost use Rattle.db_model.specs.Database.{used_things};
-ghost use Rattle.db_model.specs.Sound.{IsSoundDatabase};
 ghost use Rattle.space_model.specs.Enough.{rows_in};
 ghost use Rattle.space_plan.specs.Planned.{planned, rows_planned, trees_planned};
 
@@ -99,9 +98,10 @@ fn push_trees<V: Files>(session: &Session<V>, rows: u16, sizes: &mut Few<u32, 16
 /// number where the files do not tell their bytes.
 pub fn planned<V: Files>(session: &Session<V>, rows: u16) -> u32
     requires running { session.now.stopped ≡ false }
-    ensures { IsTrue (V.state session.now.files).tells → IsSoundDatabase session.now.database
+    ensures { IsTrue (V.state session.now.files).tells
         → result ≡ planned session.now.database rows }
 {
+    session.database_is_sound();
     let mut sizes = Few::new();
     push_rows(session, rows, &mut sizes);
     push_trees(session, rows, &mut sizes);
