@@ -46,7 +46,7 @@ kept_list f g n same =
 -- ---- the catalog before the slot is written
 
 -- bytes of version 2 that hold the same slots
-record Stands (bytes version_2 : List ℕ) : Type 0 where
+pub record Stands (bytes version_2 : List ℕ) : Type 0 where
   is : in_version_2 bytes ≡ version_2
   long : length version_2 ≡ 1480
   relations : (j : ℕ) → j < 8 → relation_at version_2 j ≡ relation_at bytes j

@@ -3,7 +3,7 @@ use Rattle.std.proofs.Common.{◌≡◌, ◌≢◌, inl, inr, ⊎_elim, ℕ, zer
 use Rattle.std.specs.List.{list_all}
 use Rattle.std.proofs.lemmas.Bool.{cases_eq, cases_lt}
 use Rattle.std.proofs.lemmas.List.{ext_get_or, get_or-take, length-append, length-replicate, length-take-le}
-use Rattle.padded.proofs.Facts.{both_parts, true_or_false, lt_false, true_le, true_eq}
+use Rattle.padded.proofs.Facts.{both_parts, true_or_false, lt_false, true_le, true_eq, yes_no}
 use Rattle.afl_base.specs.Fields.{u16_bytes}
 use Rattle.afl_base.specs.Image.{or_at, page_bytes}
 use Rattle.afl_base.specs.Names.{is_file_name, is_name_byte}
@@ -27,7 +27,6 @@ use Rattle.flash_range.specs.Range.{Outside}
 use Rattle.coffee_merge.specs.Begun.{active_at, active_header, unit_begun}
 use Rattle.coffee_merge.proofs.Begun.{HavePages, active_begun, begun_active, begun_inside, begun_marks, begun_replaced, have_pages, pages_front}
 use Rattle.coffee_merge.proofs.HeaderMarks.{header_unit}
-use Rattle.coffee_merge.proofs.FreeUnits.{yes_no}
 
 -- FREE PAGES
 

@@ -1,6 +1,7 @@
 -- Free pages are units, and a change of headers makes none.
 use Rattle.std.proofs.Common.{◌≡◌, ⊎_elim, ℕ, ◌+◌, ◌-◌, ◌≤◌, ◌<◌, Bool, true, false, List, [], ◌∷◌, get_or, Option, Some, refl, ap, sym, ◌∙◌, arith}
 use Rattle.std.proofs.lemmas.Bool.{cases_lt}
+use Rattle.padded.proofs.Facts.{yes_no}
 use Rattle.coffee_header.specs.declared.header.Header.{Header}
 use Rattle.coffee_layout.specs.Marks.{free_pages}
 use Rattle.coffee_layout.specs.Tiling.{units_of}
@@ -14,10 +15,6 @@ use Rattle.coffee_merge.proofs.Beginning.{IsBegun}
 use Rattle.coffee_merge.proofs.Begun.{HavePages, active_begun, begun_here, begun_marks, begun_there, have_pages}
 use Rattle.coffee_merge.proofs.Marked.{Reflags}
 use Rattle.coffee_layout.proofs.FreeBlocks.{mark_front, mark_behind}
-
-pub yes_no : {A : Type 0} (b : Bool) → b ≡ true → b ≡ false → A
-yes_no true e f = cc
-yes_no false e f = cc
 
 -- FREE UNITS
 

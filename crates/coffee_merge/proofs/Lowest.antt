@@ -1,5 +1,6 @@
 -- A new extent or log takes the lowest free pages, and leaves all others as they were.
 use Rattle.std.proofs.Common.{◌≡◌, ◌≢◌, ℕ, ◌+◌, ◌*◌, ◌≤◌, ◌<◌, true, false, List, length, Option, None, Some, refl, ap, sym, subst, ◌∙◌, arith}
+use Rattle.padded.proofs.Facts.{yes_no}
 use Rattle.afl_base.specs.Image.{or_at}
 use Rattle.afl_base.specs.Names.{is_file_name}
 use Rattle.afl_base.specs.declared.ids.PageId.{PageId}
@@ -21,7 +22,7 @@ use Rattle.coffee_merge.proofs.Begun.{active_begun, begun_marks, have_pages}
 use Rattle.coffee_merge.proofs.Commits.{replaced_retires, valid}
 use Rattle.coffee_merge.proofs.Contents.{CopiesInto, place_in, write_tiled}
 use Rattle.coffee_merge.proofs.Drafting.{draft_begun}
-use Rattle.coffee_merge.proofs.FreeUnits.{FreesNone, begun_frees, free_begun, free_by, free_or_extent, free_same, free_unit, frees_then, reflags_frees, yes_no}
+use Rattle.coffee_merge.proofs.FreeUnits.{FreesNone, begun_frees, free_begun, free_by, free_or_extent, free_same, free_unit, frees_then, reflags_frees}
 use Rattle.coffee_merge.proofs.Holdings.{extent_here, log_here}
 use Rattle.coffee_merge.proofs.Logged.{HasLog}
 use Rattle.coffee_merge.proofs.Taken.{commit_takes, replace_takes}

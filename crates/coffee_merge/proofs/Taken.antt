@@ -24,12 +24,12 @@ use Rattle.coffee_merge.proofs.Beginning.{IsBegun}
 use Rattle.coffee_merge.proofs.Begun.{HavePages, begun_marks, have_pages}
 use Rattle.coffee_merge.proofs.Commits.{replaced_file, replaced_log, replaced_retires, valid}
 use Rattle.coffee_merge.proofs.Drafting.{draft_begun}
-use Rattle.coffee_merge.proofs.FreeUnits.{free_or_extent, free_unit, yes_no}
+use Rattle.coffee_merge.proofs.FreeUnits.{free_or_extent, free_unit}
 use Rattle.coffee_merge.proofs.Holdings.{LogAt, draft_unit, extent_read, file_unit, holds_pages, holds_tiled, log_unit}
 use Rattle.coffee_merge.proofs.Logged.{HasLog}
 use Rattle.coffee_merge.proofs.Marked.{Reflags}
 use Rattle.coffee_merge.proofs.Retired.{Retires, retires}
-use Rattle.padded.proofs.Facts.{true_or_false}
+use Rattle.padded.proofs.Facts.{true_or_false, yes_no}
 use Rattle.coffee_layout.proofs.FreeBlocks.{mark_front, mark_behind}
 use Rattle.coffee_layout.proofs.MarkLaws.{length-pages_by}
 

@@ -15,7 +15,7 @@ use Rattle.coffee_layout.specs.declared.file.FileAt.{FileAt}
 use Rattle.coffee_merge.specs.Holding.{HoldsTable, IsIn, Entries, TakesOnly, extent_of, is_free_at}
 use Rattle.coffee_merge.specs.Outcomes.{LogsFile, MovesFile}
 use Rattle.coffee_merge.specs.Takes.{KeepsFree}
-use Rattle.coffee_merge.proofs.FreeUnits.{frees_free, takes_free, yes_no}
+use Rattle.coffee_merge.proofs.FreeUnits.{frees_free, takes_free}
 use Rattle.coffee_merge.proofs.Lowest.{takes_more}
 use Rattle.coffee_merge.proofs.Taken.{takes_then}
 use Rattle.coffee_volume.specs.Lowest.{LooksFor, PlacesDraft, PlacesFile, Provides, StepsTo, Stops, TakesStep, log_for}
@@ -27,7 +27,7 @@ use Rattle.coffee_volume.specs.declared.step.Step.TheVariants.{Grow, Merge, Log}
 use Rattle.coffee_volume.proofs.Changes.{BeginsDraft, MakesFile, draft_begun, held, made_sets}
 use Rattle.coffee_volume.proofs.Drafted.{first_some}
 use Rattle.coffee_volume.proofs.Tables.{entry_seen, file_of, in_places, length_places, one_entry, told_by}
-use Rattle.padded.proofs.Facts.{true_or_false}
+use Rattle.padded.proofs.Facts.{true_or_false, yes_no}
 
 -- a page is free, or lies in the pages that may be taken
 only_lies : (old new : List ℕ) (page pages p : ℕ) → TakesOnly old new page pages → is_free_at old p ≡ true → is_free_at new p ≡ false → (page ≤ p) × (p < page + pages)

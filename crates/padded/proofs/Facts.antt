@@ -46,6 +46,10 @@ pub true_or_false : (b : Bool) → (b ≡ true) ⊎ (b ≡ false)
 true_or_false true = inl refl
 true_or_false false = inr refl
 
+pub yes_no : {A : Type 0} (b : Bool) → b ≡ true → b ≡ false → A
+yes_no true e f = cc
+yes_no false e f = cc
+
 pub by_truth : {P : Type 0} (b : Bool) → (b ≡ true → P) → (b ≡ false → P) → P
 by_truth true f g = f refl
 by_truth false f g = g refl
