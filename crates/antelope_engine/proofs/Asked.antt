@@ -27,7 +27,6 @@ use Rattle.session_model.specs.Running.{IsRunning}
 use Rattle.session_model.specs.Steps.{Replies, UnlessFlash, WrotePart}
 use Rattle.session_model.specs.View.{view}
 use Rattle.antelope_engine.specs.Seen.{is_flash}
-use Rattle.antelope_engine.proofs.Moves.{stay_aggregated, stay_asked}
 
 pub unless_err : (S T : Type 0) (stop : Stop) (P : Type 0) → UnlessFlash {T = S} (Err stop) P → UnlessFlash {T = T} (Err stop) P
 unless_err S T Sink P h = h

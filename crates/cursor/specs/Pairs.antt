@@ -4,7 +4,7 @@ use Rattle.std.specs.List.{range_with_len}
 use Rattle.afl_base.specs.Files.{State}
 use Rattle.db_model.specs.declared.values.Value.{Value}
 use Rattle.db_model.specs.Answers.{live_tuples, pairs, same_value}
-use Rattle.db_model.specs.Cost.{chosen_cost, ranges_at, right_side_costs as costs_of_right}
+use Rattle.db_model.specs.Cost.{chosen_cost, ranges_at, right_costs as costs_of_right}
 use Rattle.db_model.specs.Row.{Row, no_row}
 use Rattle.index_set.specs.declared.candidates.Candidates.{Candidates}
 use Rattle.index_set.specs.declared.info.IndexInfo.{IndexInfo}

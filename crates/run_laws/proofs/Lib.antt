@@ -2,3 +2,4 @@ pub mod Opening
 pub mod Planned
 pub mod Remade
 pub mod Spaceless
+pub mod Unsaid

@@ -23,7 +23,7 @@ use Rattle.sound_image.specs.Images.{base}
 use Rattle.padded.proofs.Facts.{some_alike}
 
 -- two fronts of one list that have one length are the same
-same_fronts : {X : Type 0} (xs ys us vs : List X) → xs ++ us ≡ ys ++ vs → length xs ≡ length ys → xs ≡ ys
+pub same_fronts : {X : Type 0} (xs ys us vs : List X) → xs ++ us ≡ ys ++ vs → length xs ≡ length ys → xs ≡ ys
 unfolding head_of tail_of
 same_fronts [] [] us vs same long = refl
 same_fronts [] (b ∷ ys) us vs same long = absurd (omega (arith, long))
@@ -138,7 +138,7 @@ module _ {E Q : Type 0} (cut : Cut E Q) (line : Line E) (parts : ComesInParts cu
   )
 
   -- the bytes that came are those that are not left
-  one_came : (left : Option (List ℕ)) (text xs ys : List ℕ) → Some text ≡ prepend_known xs left → Some text ≡ prepend_known ys left → xs ≡ ys
+  pub one_came : (left : Option (List ℕ)) (text xs ys : List ℕ) → Some text ≡ prepend_known xs left → Some text ≡ prepend_known ys left → xs ≡ ys
   one_came None text xs ys a b = absurd (let n : ⊥ = cc in n)
   one_came (Some left) text xs ys a b = append_cancel_right xs ys left (some_alike (sym a ∙ b))
 

@@ -13,7 +13,8 @@ ghost use Rattle.db_model.specs.Script.{commands};
 ghost use Rattle.db_model.specs.Sound.{IsSoundDatabase};
 ghost use Rattle.dump_model.specs.Script.{script};
 ghost use Rattle.run_laws.specs.Remaking.{Dumps, Remakes, RunsDump};
-ghost use Rattle.run_model.specs.Runs.{InputFoundNoSpace, World};
+ghost use Rattle.run_laws.specs.Places.{unsaid_front};
+ghost use Rattle.run_model.specs.Runs.{InputFoundNoSpace, InputUnsaid, World};
 ghost use Rattle.run_model.specs.Scripts.{script_line, script_talk};
 ghost use Rattle.serve_model.specs.Frames.{frame_line};
 ghost use Rattle.serve_model.specs.Served.{serve_talk};
@@ -80,6 +81,20 @@ pub fn one_place_finds_no_space()
         → old.left ≡ Some text → old.held ≡ Some held
         → (a b : InputFoundNoSpace frame_line (serve_talk read) old new)
         → a.found.front ≡ b.found.front }
+{
+    scripts_come_in_parts();
+    frames_come_in_parts();
+}
+
+/// Where the bytes of the input and of the sink are known, what was written tells behind which entries a run
+/// ended whose reply, or line that there is no space, was not wholly written.
+pub fn one_place_is_unsaid()
+    ensures scripts { (read : List ℕ → Result Command Refusal) (old new : World) (text held : List ℕ)
+        → old.left ≡ Some text → old.held ≡ Some held
+        → (a b : InputUnsaid script_line (script_talk read) old new) → unsaid_front a ≡ unsaid_front b }
+    ensures served { (read : List ℕ → Result Command Refusal) (old new : World) (text held : List ℕ)
+        → old.left ≡ Some text → old.held ≡ Some held
+        → (a b : InputUnsaid frame_line (serve_talk read) old new) → unsaid_front a ≡ unsaid_front b }
 {
     scripts_come_in_parts();
     frames_come_in_parts();
