@@ -1,5 +1,5 @@
 -- What a run reads, its opening included.
-use Rattle.std.proofs.Common.{◌≡◌, ℕ, ◌+◌, ◌-◌, ◌/◌, ◌≤◌, Bool, true, false, List, length, Option, Some, ap, refl, arith}
+use Rattle.std.proofs.Common.{◌≡◌, ℕ, ◌+◌, ◌-◌, ◌/◌, ◌≤◌, Bool, true, false, List, length, Option, Some, None, ap, refl, arith}
 use Rattle.db_model.specs.Ahead.{Aheads, no_cursors}
 use Rattle.db_model.specs.Database.{Database}
 use Rattle.db_model.specs.RunCost.{opening_cost}
@@ -10,11 +10,11 @@ use Rattle.run_model.specs.Talk.{Talk, talk_costs}
 use Rattle.run_model.specs.Scripts.{script_line, script_talk}
 use Rattle.serve_model.specs.Frames.{frame_line}
 use Rattle.serve_model.specs.Served.{serve_talk}
-use Rattle.sound_image.specs.Images.{base}
+use Rattle.sound_image.specs.Images.{IsSound, base}
 use Rattle.antelope_run.specs.declared.words.Form.{Form}
 use Rattle.antelope_run.specs.declared.words.Form.TheVariants.{Run, Gen, Plan, Serve, Dump}
 use Rattle.antelope_run.specs.Does.{CarriedReads, InputReads}
-use Rattle.antelope_run.specs.Statuses.{ReadsAtMost}
+use Rattle.antelope_run.specs.Statuses.{EntriesReadAtMost, OpensWithin, ReadsAtMost}
 
 -- what is not true is false
 pub not_true : (X : Type 0) (b : Bool) → (b ≡ true → X) → (X → ⊥) → b ≡ false
@@ -31,16 +31,33 @@ module _ (image : List ℕ) (left held : Option (List ℕ)) (before : ℕ) where
         let same_aheads = ap (λ (aheads : Aheads). talk_costs talk (base image) aheads (line.all text)) rest in
         omega (arith, few, same, same_aheads, opened)
 
-    pub reads_by : (form : Form) → CarriedReads form a left now → ReadsAtMost (Some form) (world image left held) (now - before)
-    reads_by Run h = λ read reader. input_reads script_line (script_talk read) (h read reader)
-    reads_by Serve h = λ read reader. input_reads frame_line (serve_talk read) (h read reader)
-    reads_by (Gen seed count) h = tt
-    reads_by (Plan rows) h = tt
-    reads_by Dump h = tt
+    entries_by : (form : Form) → CarriedReads form a left now → EntriesReadAtMost (Some form) (world image left held) (now - before)
+    entries_by Run h = λ read reader. input_reads script_line (script_talk read) (h read reader)
+    entries_by Serve h = λ read reader. input_reads frame_line (serve_talk read) (h read reader)
+    entries_by (Gen seed count) h = tt
+    entries_by (Plan rows) h = tt
+    entries_by Dump h = tt
+
+    planned_by : (form : Form) → CarriedReads form a left now → (rows : ℕ) → Some form ≡ Some (Plan rows) → OpensWithin (world image left held) (now - before)
+    planned_by (Plan rows) h n e = omega (arith, h, opened)
+    planned_by Run h n e = absurd (let f : ⊥ = cc in f)
+    planned_by Serve h n e = absurd (let f : ⊥ = cc in f)
+    planned_by (Gen seed count) h n e = absurd (let f : ⊥ = cc in f)
+    planned_by Dump h n e = absurd (let f : ⊥ = cc in f)
+
+    pub reads_by : (form : Form) → IsSound image → CarriedReads form a left now → ReadsAtMost (Some form) (world image left held) (now - before)
+    reads_by form sound h = record { refused = λ unsound. absurd (unsound sound); planned = planned_by form h; entries = entries_by form h }
+
+  unopened_entries : (form : Form) (now : ℕ) → now ≤ before + opening_cost (base image) (length image / 256) → EntriesReadAtMost (Some form) (world image left held) (now - before)
+  unopened_entries Run now h = λ read reader text told all. omega (arith, h)
+  unopened_entries Serve now h = λ read reader text told all. omega (arith, h)
+  unopened_entries (Gen seed count) now h = tt
+  unopened_entries (Plan rows) now h = tt
+  unopened_entries Dump now h = tt
 
   pub unopened_reads : (form : Form) (now : ℕ) → now ≤ before + opening_cost (base image) (length image / 256) → ReadsAtMost (Some form) (world image left held) (now - before)
-  unopened_reads Run now h = λ read reader text told all. omega (arith, h)
-  unopened_reads Serve now h = λ read reader text told all. omega (arith, h)
-  unopened_reads (Gen seed count) now h = tt
-  unopened_reads (Plan rows) now h = tt
-  unopened_reads Dump now h = tt
+  unopened_reads form now h = record { refused = λ unsound. omega (arith, h); planned = λ rows e. omega (arith, h); entries = unopened_entries form now h }
+
+-- without words nothing is read
+pub nothing_read : (image : List ℕ) (left held : Option (List ℕ)) (n : ℕ) → n ≡ 0 → ReadsAtMost None (world image left held) n
+nothing_read image left held n none = record { refused = λ unsound. omega (arith, none); planned = λ rows e. omega (arith, none); entries = tt }

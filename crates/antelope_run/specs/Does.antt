@@ -60,6 +60,7 @@ InputReads old left reads E line talk = (text : List ℕ) → left ≡ Some text
 abbrev pub CarriedReads : Form → Standing → Option (List ℕ) → ℕ → Type 0
 CarriedReads Run old left reads = OnInput Run (InputReads old left reads)
 CarriedReads Serve old left reads = OnInput Serve (InputReads old left reads)
+CarriedReads (Plan rows) old left reads = reads ≡ old.reads
 CarriedReads _ old left reads = ⊤
 
 -- the words ask for what neither changes files nor reads an input

@@ -9,6 +9,7 @@ use Rattle.db_model.specs.declared.refusals.Refusal.{Refusal}
 use Rattle.db_model.specs.declared.refusals.Refusal.TheVariants as no
 use Rattle.db_model.specs.Database.{Database}
 use Rattle.db_model.specs.Reading.{IsReader}
+use Rattle.db_model.specs.RunCost.{opening_cost}
 use Rattle.db_model.specs.ReplyText.{refusal_text}
 use Rattle.db_model.specs.Step.{after_all}
 use Rattle.db_model.specs.Workload.{first_commands}
@@ -203,8 +204,18 @@ HasSpace (Some Dump) old = ⊤
 HasSpace (Some Run) old = (old.left ≢ None) × (read : List ℕ → Result Command Refusal) × IsReader read × InputHasEnough old _ script_line (script_talk read)
 HasSpace (Some Serve) old = (old.left ≢ None) × (read : List ℕ → Result Command Refusal) × IsReader read × InputHasEnough old _ frame_line (serve_talk read)
 
--- so many pages are read at most, where the entries of the input only read
-abbrev pub ReadsAtMost : Option Form → World → ℕ → Type 0
-ReadsAtMost (Some Run) old n = OnInput Run (λ E line talk. ReadsWithin line talk old n)
-ReadsAtMost (Some Serve) old n = OnInput Serve (λ E line talk. ReadsWithin line talk old n)
-ReadsAtMost _ old n = ⊤
+-- to judge and open an image, so many pages are read at most
+abbrev pub OpensWithin : World → ℕ → Type 0
+OpensWithin old n = n ≤ opening_cost (base old.image) (length old.image / 256)
+
+-- by an input whose entries only read, so many more
+abbrev pub EntriesReadAtMost : Option Form → World → ℕ → Type 0
+EntriesReadAtMost (Some Run) old n = OnInput Run (λ E line talk. ReadsWithin line talk old n)
+EntriesReadAtMost (Some Serve) old n = OnInput Serve (λ E line talk. ReadsWithin line talk old n)
+EntriesReadAtMost _ old n = ⊤
+
+-- an image that is refused is judged alone, and so is one that is planned for
+pub record ReadsAtMost (words : Option Form) (old : World) (n : ℕ) : Type 0 where
+  pub refused : (IsSound old.image → ⊥) → OpensWithin old n
+  pub planned : (rows : ℕ) → words ≡ Some (Plan rows) → OpensWithin old n
+  pub entries : EntriesReadAtMost words old n

@@ -62,9 +62,8 @@ pub fn top<F: Flash, S: Source, K: Sink>(
         → (Rose (K.faults out.old) (K.faults out.new) → ⊥) → (result.0 ≡ 0) ⊎ (result.0 ≡ 3) }
     ensures suffices { IsTrue F.tells → IsSound (F.image flash)
         → HasSpace (form_of words.now) (world (F.image flash) (S.left script.old) (K.held out.old)) → result.0 ≢ 3 }
-    ensures reads { IsTrue F.tells → IsSound (F.image flash)
-        → ReadsAtMost (form_of words.now) (world (F.image flash) (S.left script.old) (K.held out.old))
-        (F.reads result.1 - F.reads flash) }
+    ensures reads { IsTrue F.tells → ReadsAtMost (form_of words.now)
+        (world (F.image flash) (S.left script.old) (K.held out.old)) (F.reads result.1 - F.reads flash) }
 {
     match form(words) {
         Some(form) => {
@@ -104,7 +103,7 @@ fn run_form<F: Flash, S: Source, K: Sink>(
     ensures reaches { OnOpened result.0 (λ done. ReachesBy form done (S.left input.old) (S.left input.new)) }
     ensures unread { OnUnopened result.0 (input.new ≡ input.old) }
     ensures untouched { (TakesInput (Some form) → ⊥) → input.new ≡ input.old }
-    ensures reads { IsTrue F.tells → IsSound (F.image flash) → ReadsAtMost (Some form)
+    ensures reads { IsTrue F.tells → ReadsAtMost (Some form)
         (world (F.image flash) (S.left input.old) (K.held out.old)) (F.reads result.1 - F.reads flash) }
     ensures kept { BorrowsTheSame F.Flash K.Sink flash result.1 out.old out.new }
     ensures cause { HasCameCause (S.faults input.old) (S.faults input.new) (F.faults flash) (F.faults result.1)

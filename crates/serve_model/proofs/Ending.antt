@@ -118,3 +118,15 @@ ended_on part (x ∷ xs) ys =
 
 pub frame_parts : ComesInParts frame_cut frame_line
 frame_parts = record { no_more = λ q. refl; none_ended = λ q. refl; begun_on = begun_on; ended_on = ended_on; all_is = frames_ended; whole_is = frames_finished }
+
+-- the whole frames of the first bytes are the first frames of all
+pub whole_is_front : (came left : List ℕ) → (rest : List Frame) × (frames (came ++ left) ≡ finished_frames (frames came) ++ rest)
+whole_is_front came left =
+    let ended : List Frame = ended_frames (part_behind [] came) left in
+    let last : List Frame = unended_frame (part_behind [] (came ++ left)) in (
+      ended ++ last,
+      frame_parts.all_is (came ++ left)
+          ∙ ap (λ front. front ++ last) (frame_parts.ended_on [] came left)
+          ∙ append_assoc (ended_frames [] came) ended last
+          ∙ ap (λ front. front ++ (ended ++ last)) (sym (frame_parts.whole_is came)),
+    )

@@ -30,6 +30,13 @@ pub fn frames_come_in_parts()
     ensures { ComesInParts frame_cut frame_line }
 {}
 
+/// The whole frames of the first bytes of a line are the first of its frames.
+#[tactic(auto, using(crate::proofs::Ending::whole_is_front))]
+pub fn first_bytes_give_first_frames()
+    ensures { (came left : List ℕ) → (rest : List Frame)
+        × (frames (came ++ left) ≡ finished_frames (frames came) ++ rest) }
+{}
+
 /// A client fetches the rows of its own answer in order, whatever stands between.
 #[tactic(auto, using(crate::proofs::Fetching::fetches))]
 pub fn clients_fetch_their_answers()

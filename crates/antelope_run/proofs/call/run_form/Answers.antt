@@ -5,7 +5,6 @@ use Rattle.intake.specs.declared.halt.Stop.TheVariants.{Input, Halted}
 use Rattle.stored.specs.Base.{base_of}
 use Rattle.stored.specs.Sound.{BreaksFirst, IsSoundTable}
 use Rattle.sound_image.specs.Images.{base, files_of_image, IsSound}
-use Rattle.sound_image.proofs.Judged.{sound_unbroken}
 use Rattle.antelope_run.proofs.Leaving.{leaves, tells_alone}
 use Rattle.run_model.specs.Runs.{world}
 use Rattle.antelope_run.proofs.Opened.{mounted_within, opened_within}
@@ -40,16 +39,17 @@ returns-in-Ok-Ok-clause-comes g c = λ told.
 
 pub returns-in-Ok-Ok-clause-reads : goal.returns-in-Ok-Ok-clause-reads
 unfolding base
-returns-in-Ok-Ok-clause-reads g c = λ told sound.
+returns-in-Ok-Ok-clause-reads g c = λ told.
     let image = g.F.Flash.image c.args.flash in
     let at = c.new-session.ensures.files in
     let began = c.in-Ok-Ok.ensures in
     let tells = (rw (← at) at c.in-Ok.ensures.tells) ∙ told in
     let files = rw (← at) at (ap (λ s. s.files) (c.in-Ok.ensures.files told) ∙ c.mounted_files_are_the_images.ensures image) in
+    let sound : IsSound image = record { volume = c.in-Ok.ensures.sound told; database = subst IsSoundTable files (rw c.in-Ok-Ok.field-0-is at (began.sound tells)) } in
     let start : c.begin.new.self.database ≡ base image = (rw c.in-Ok-Ok.field-0-is at (began.base tells)) ∙ ap base_of files in
     let opened = opened_within image _ files _ _ _ c.sectors-sectors.result c.sectors-sectors.ensures.size c.sectors-sectors.ensures.least (rw (← at) at c.in-Ok.ensures.reads) (began.reads tells) in
     rw c.close.ensures.reads (reads_by image (g.S.Source.left c.args.input.now) (g.K.Sink.held c.args.out.now) (g.F.Flash.reads c.args.flash)
-    _ _ start (rw c.in-Ok-Ok.field-0-is at began.aheads) opened c.args.form (c.carry_out-done.ensures.reads (ap (λ s. s.tells) began.frame.same ∙ tells)))
+    _ _ start (rw c.in-Ok-Ok.field-0-is at began.aheads) opened c.args.form sound (c.carry_out-done.ensures.reads (ap (λ s. s.tells) began.frame.same ∙ tells)))
 
 pub returns-in-Ok-Ok-clause-cause : goal.returns-in-Ok-Ok-clause-cause
 returns-in-Ok-Ok-clause-cause g c =
@@ -70,8 +70,10 @@ returns-in-Ok-Ok-clause-cause g c =
 -- the volume is not sound
 
 pub returns-in-Err-Bad-clause-reads : goal.returns-in-Err-Bad-clause-reads
-returns-in-Err-Bad-clause-reads g c = λ told sound.
-    absurd (sound_unbroken (g.F.Flash.image c.args.flash) c.in-Err-Bad.bad.rule c.in-Err-Bad.bad.place sound (inl (rw c.in-Err-Bad.field-0-is at (c.in-Err-Bad.ensures.bad told))))
+returns-in-Err-Bad-clause-reads g c = λ told.
+    let image = g.F.Flash.image c.args.flash in
+    unopened_reads image (g.S.Source.left c.args.input.now) (g.K.Sink.held c.args.out.now) (g.F.Flash.reads c.args.flash)
+    c.args.form _ (mounted_within image _ _ c.sectors-sectors.result c.sectors-sectors.ensures.size (rw c.in-Err-Bad.flash-is (rw c.in-Err-Bad.field-0-is at c.in-Err-Bad.ensures.reads)))
 
 pub returns-in-Err-Bad-clause-comes : goal.returns-in-Err-Bad-clause-comes
 returns-in-Err-Bad-clause-comes g c = λ told.
@@ -91,7 +93,7 @@ pub returns-in-Err-Bad-clause-cause : goal.returns-in-Err-Bad-clause-cause
 returns-in-Err-Bad-clause-cause g c = refused_cause c.refuse.result _ _ _ _ _ _ c.refuse.ensures.only c.refuse.ensures.rose
 
 pub returns-in-Err-Failed-clause-reads : goal.returns-in-Err-Failed-clause-reads
-returns-in-Err-Failed-clause-reads g c = λ told sound.
+returns-in-Err-Failed-clause-reads g c = λ told.
     let image = g.F.Flash.image c.args.flash in
     unopened_reads image (g.S.Source.left c.args.input.now) (g.K.Sink.held c.args.out.now) (g.F.Flash.reads c.args.flash)
     c.args.form _ (mounted_within image _ _ c.sectors-sectors.result c.sectors-sectors.ensures.size (rw c.in-Err-Failed.flash-is (rw c.in-Err-Failed.field-0-is at c.in-Err-Failed.ensures.reads)))
@@ -99,7 +101,7 @@ returns-in-Err-Failed-clause-reads g c = λ told sound.
 -- the database is not sound
 
 pub returns-in-Ok-Err-clause-reads : goal.returns-in-Ok-Err-clause-reads
-returns-in-Ok-Err-clause-reads g c = λ told sound.
+returns-in-Ok-Err-clause-reads g c = λ told.
     let image = g.F.Flash.image c.args.flash in
     let at = c.new-session.ensures.files in
     let began = c.in-Ok-Err.ensures in
@@ -137,7 +139,7 @@ returns-in-Ok-Err-clause-cause g c = refused_cause c.refuse-in-Ok-Err.result _ _
 -- the flash failed
 
 pub returns-in-Err-clause-reads : goal.returns-in-Err-clause-reads
-returns-in-Err-clause-reads g c = λ told sound.
+returns-in-Err-clause-reads g c = λ told.
     let image = g.F.Flash.image c.args.flash in
     let at = c.new-session.ensures.files in
     let began = c.in-Err.ensures in

@@ -1,6 +1,7 @@
 use Rattle.std.proofs.Common.{◌∙◌, refl, sym, arith}
 use Rattle.run_model.specs.Runs.{world}
 use Rattle.antelope_run.proofs.Outcomes.{caused_by, cut_cause, flash_cause, left_by, no_fault_by, nothing_left, sink_cause, spaceless_at, suffices_by, taken_by}
+use Rattle.antelope_run.proofs.ReadsLeft.{nothing_read}
 use Rattle.antelope_run.proofs.call.top.Goals as goal
 
 pub returns-in-Some-clause-no_fault : goal.returns-in-Some-clause-no_fault
@@ -42,6 +43,16 @@ returns-in-Some-clause-taken g c =
 
 pub returns-in-Some-clause-kept : goal.returns-in-Some-clause-kept
 returns-in-Some-clause-kept g c = c.run_form-came.ensures.kept
+
+pub returns-in-Some-clause-reads : goal.returns-in-Some-clause-reads
+returns-in-Some-clause-reads g c = λ told.
+    let is = sym c.form.ensures.form ∙ c.in-Some.is in
+    rw is (c.run_form-came.ensures.reads told)
+
+pub returns-in-None-clause-reads : goal.returns-in-None-clause-reads
+returns-in-None-clause-reads g c = λ told.
+    let is = sym c.form.ensures.form ∙ c.in-None.is in
+    rw is (nothing_read (g.F.Flash.image c.args.flash) _ _ _ (omega arith))
 
 pub returns-in-None-clause-told : goal.returns-in-None-clause-told
 returns-in-None-clause-told g c = λ told.
