@@ -46,7 +46,7 @@ kept_list f g n same =
 -- ---- the catalog before the slot is written
 
 -- bytes of version 2 that hold the same slots
-pub record Stands (bytes version_2 : List ℕ) : Type 0 where
+record Stands (bytes version_2 : List ℕ) : Type 0 where
   is : in_version_2 bytes ≡ version_2
   long : length version_2 ≡ 1480
   relations : (j : ℕ) → j < 8 → relation_at version_2 j ≡ relation_at bytes j
@@ -73,7 +73,7 @@ empty_back = catalog_back empty_catalog is_empty
 each_slot : {X : Type 0} (f g : ℕ → X) (n j : ℕ) (d : X) → j < n → map g (range_with_len 0 n) ≡ map f (range_with_len 0 n) → g j ≡ f j
 each_slot f g n j d h e = sym (get_or-map-range_with_len g 0 n j j d h (omega arith)) ∙ ap (λ xs. get_or xs j d) e ∙ get_or-map-range_with_len f 0 n j j d h (omega arith)
 
-pub stands_0 : (bytes : List ℕ) → length bytes ≡ 0 → Stands bytes empty_bytes
+stands_0 : (bytes : List ℕ) → length bytes ≡ 0 → Stands bytes empty_bytes
 stands_0 [] size = record {
   is = refl;
   long = long_empty;

@@ -10,6 +10,7 @@ use Rattle.db_model.specs.declared.refusals.Refusal.{Refusal}
 use Rattle.session_model.specs.declared.base.Base.{Base}
 use Rattle.session_model.specs.Carried.{Carries, Runs, Tells, database}
 use Rattle.db_model.specs.Ahead.{Aheads, moved}
+use Rattle.session_model.specs.declared.answer.Answer.TheVariants as answer
 
 pub none_replied : (reply : Reply) (h : Option (List ℕ)) → Replies reply (Err Flash) h h
 none_replied reply h = record { written = []; left = text reply; whole = refl; held = sym (append_known-nil h) }

@@ -1,19 +1,18 @@
 -- Where one slot of a catalog is replaced, all slots are still what is written for them.
-use Rattle.std.proofs.Common.{◌≡◌, ◌≢◌, ◌⊎◌, ℕ, zero, suc, ◌+◌, ◌*◌, ◌<◌, ◌≤◌, List, [], ◌++◌, length, take, Option, refl, sym, ap, subst, ◌∙◌, arith, length-append}
+use Rattle.std.proofs.Common.{◌≡◌, ◌≢◌, ◌⊎◌, ℕ, zero, suc, ◌+◌, ◌*◌, ◌<◌, ◌≤◌, List, [], ◌∷◌, ◌++◌, length, take, Option, refl, sym, ap, subst, ◌∙◌, arith, length-append}
 use Rattle.std.specs.Prelude.{slice_range}
 use Rattle.std.proofs.Math.Logic.{⊎_elim}
 use Rattle.std.proofs.lemmas.Bool.{cases_eq, cases_lt}
 use Rattle.std.proofs.lemmas.List.{drop_at}
 use Rattle.afl_base.specs.Fields.{put_at}
 use Rattle.catalog.specs.CatalogFile.{IsCatalogSize}
-use Rattle.catalog.proofs.Changes.{slot_put}
+use Rattle.catalog.proofs.Changes.{long_empty, slot_put}
 use Rattle.catalog.proofs.PutRanges.{before_put, behind_put, here_put}
 use Rattle.db_model.specs.declared.schemas.Schema.{Schema}
 use Rattle.db_model.specs.Catalog.{Index, IsRelation, empty_bytes, in_version_2, index_slot_bytes, index_slot_of, relation_slot_bytes, relation_slot_of, version_mark, with_index_slot, with_relation_slot}
 use Rattle.db_model.proofs.Catalogs.{index_slot_back, length-index_slot, length-relation_slot, relation_slot_back}
-use Rattle.session_model.specs.Running.{IsWritten, IsWrittenOrEmpty}
-use Rattle.catalog.proofs.Replaced.{stands_0}
 use Rattle.padded.proofs.Facts.{slice_of_front}
+use Rattle.session_model.specs.Running.{IsWritten, IsWrittenOrEmpty}
 
 -- ---- one slot
 
@@ -30,6 +29,41 @@ record Stands (bytes version_2 : List ℕ) : Type 0 where
   is : in_version_2 bytes ≡ version_2
   long : length version_2 ≡ 1480
   written : IsWritten version_2
+
+empty_relations : (k : ℕ) → k < 8 → slice_range empty_bytes (176 * k) (176 * k + 176) ≡ relation_slot_bytes (relation_slot_of (slice_range empty_bytes (176 * k) (176 * k + 176)))
+unfolding empty_bytes
+empty_relations zero h = refl
+empty_relations (suc zero) h = refl
+empty_relations (suc (suc zero)) h = refl
+empty_relations (suc (suc (suc zero))) h = refl
+empty_relations (suc (suc (suc (suc zero)))) h = refl
+empty_relations (suc (suc (suc (suc (suc zero))))) h = refl
+empty_relations (suc (suc (suc (suc (suc (suc zero)))))) h = refl
+empty_relations (suc (suc (suc (suc (suc (suc (suc zero))))))) h = refl
+empty_relations (suc (suc (suc (suc (suc (suc (suc (suc k)))))))) h = absurd (omega (arith, h))
+
+empty_indexes : (i : ℕ) → i < 8 → slice_range empty_bytes (1408 + 8 * i) (1408 + 8 * i + 8) ≡ index_slot_bytes (index_slot_of (slice_range empty_bytes (1408 + 8 * i) (1408 + 8 * i + 8)))
+unfolding empty_bytes
+empty_indexes zero h = refl
+empty_indexes (suc zero) h = refl
+empty_indexes (suc (suc zero)) h = refl
+empty_indexes (suc (suc (suc zero))) h = refl
+empty_indexes (suc (suc (suc (suc zero)))) h = refl
+empty_indexes (suc (suc (suc (suc (suc zero))))) h = refl
+empty_indexes (suc (suc (suc (suc (suc (suc zero)))))) h = refl
+empty_indexes (suc (suc (suc (suc (suc (suc (suc zero))))))) h = refl
+empty_indexes (suc (suc (suc (suc (suc (suc (suc (suc i)))))))) h = absurd (omega (arith, h))
+
+empty_mark : slice_range empty_bytes 1472 1480 ≡ version_mark
+unfolding empty_bytes
+empty_mark = refl
+
+empty_written : IsWritten empty_bytes
+empty_written = record { relations = empty_relations; indexes = empty_indexes; mark = λ e. empty_mark }
+
+stands_0 : (bytes : List ℕ) → length bytes ≡ 0 → Stands bytes empty_bytes
+stands_0 [] size = record { is = refl; long = long_empty; written = empty_written }
+stands_0 (b ∷ bytes) size = absurd (omega (arith, size))
 
 stands_1 : (bytes : List ℕ) → length bytes ≡ 1472 → IsWritten bytes → Stands bytes (bytes ++ version_mark)
 stands_1 bytes size w = record {
