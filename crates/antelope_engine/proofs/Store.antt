@@ -19,15 +19,11 @@ use Rattle.db_model.specs.Database.{Database, Relation, free_from, index_slot, r
 use Rattle.db_model.specs.Item.{place_of}
 use Rattle.db_model.specs.Row.{Row, row_length}
 use Rattle.db_model.specs.Step.{key_of, keys}
-use Rattle.index_maxheap.specs.declared.rooms.End.{End}
-use Rattle.index_maxheap.specs.declared.rooms.End.TheVariants as end
-use Rattle.index_maxheap.specs.Rooms.{end_at, room_for as room_at, room_of}
 use Rattle.index_set.specs.declared.info.Access.{Access}
 use Rattle.index_set.specs.declared.info.Access.TheVariants.{Order, Tree, Table as InTable}
 use Rattle.index_set.specs.Complete.{IsComplete}
 use Rattle.index_set.specs.Plans.{access_kind}
 use Rattle.index_set.specs.Tables.{Tables}
-use Rattle.index_tree.specs.Ends.{path_end}
 use Rattle.index_tree.proofs.Law.{sized}
 use Rattle.space_model.specs.Enough.{keys_named, most, rows_in, rows_size, tree_size}
 use Rattle.space_model.specs.FileNames.{asks_in, catalog_file, rows_file, size_in, tree_file}
@@ -43,7 +39,7 @@ use Rattle.session_model.specs.Running.{HasCatalogFile, HasFile, IsRunning}
 use Rattle.session_model.specs.View.{relation_of_rows, view}
 use Rattle.session_model.specs.Wanted.{WantsFew, WantsOver, room_in}
 use Rattle.session_model.proofs.Running.{index_there, relation_there}
-use Rattle.session_model.proofs.Wanted.{size_by_name}
+use Rattle.session_model.proofs.Wanted.{room_bytes, size_by_name}
 use Rattle.antelope_engine.proofs.Slots.{seen_of}
 use Rattle.tuple_file.proofs.Columns.{rows_counted}
 use Rattle.padded.proofs.Facts.{some_same, seen_at}
@@ -98,15 +94,6 @@ module _ (state : State) (tables : Tables) (held : Held) (opens : List (Option O
   }
 
   -- ---- few pages
-
-  room_small : (e : End) → (room_at e).bytes ≤ 4096
-  room_small (end.Pair at) = omega arith
-  room_small (end.Bucket at) = omega arith
-  room_small end.Nowhere = omega arith
-
-  room_bytes : (bytes : List ℕ) (key : ℤ) → (room_of bytes key).bytes ≤ 4096
-  unfolding room_of
-  room_bytes bytes key = room_small (end_at bytes key (path_end bytes key))
 
   few_pages : (f : File) (need : ℕ) → AreFewFor f need → need ≤ max 16 (2 * fit (length f.bytes))
   few_pages f need few = by_kind f.kind refl

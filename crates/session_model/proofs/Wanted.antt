@@ -1,5 +1,5 @@
 -- What calls ask for by the ids of files is what commands want by their names.
-use Rattle.std.proofs.Common.{◌≡◌, ℕ, zero, suc, ◌⊎◌, List, [], ◌∷◌, length, map, get_or, Option, Some, None, refl, ap, sym, ◌∙◌, subst, inl, inr, IsTrue}
+use Rattle.std.proofs.Common.{◌≡◌, ℕ, ℤ, zero, suc, ◌≤◌, ◌⊎◌, List, [], ◌∷◌, length, map, get_or, Option, Some, None, refl, ap, sym, ◌∙◌, subst, inl, inr, IsTrue, arith}
 use Rattle.std.specs.Prelude.{IsSomeAnd, option_map}
 use Rattle.afl_base.specs.Files.{File, IsNamed, IsUnnamed, State, Table, bytes_at, file_at, size_at}
 use Rattle.afl_base.proofs.FileLaws.{named_live, place_live}
@@ -10,13 +10,16 @@ use Rattle.db_model.specs.Catalog.{Index}
 use Rattle.db_model.specs.Database.{Relation, relation_named}
 use Rattle.db_model.specs.Row.{row_length}
 use Rattle.db_model.specs.Step.{keys}
-use Rattle.index_maxheap.specs.Rooms.{room_of}
+use Rattle.index_maxheap.specs.declared.rooms.End.{End}
+use Rattle.index_maxheap.specs.declared.rooms.End.TheVariants as end
+use Rattle.index_maxheap.specs.Rooms.{end_at, room_for as room_at_end, room_of}
 use Rattle.index_set.specs.declared.info.Access.{Access}
 use Rattle.index_set.specs.declared.info.Access.TheVariants.{Order, Tree, Table as InTable}
 use Rattle.index_set.specs.Complete.{IsComplete}
 use Rattle.index_set.specs.Inserts.{AsksFor, tuple_key}
 use Rattle.index_set.specs.Plans.{access_kind}
 use Rattle.index_set.specs.Tables.{Tables}
+use Rattle.index_tree.specs.Ends.{path_end}
 use Rattle.space_model.specs.FileNames.{asks_in, bytes_named, bytes_in_file, catalog_file, file_named, rows_file, size_in, tree_file}
 use Rattle.space_model.specs.Wants.{WantsCatalog, WantsNewCatalog, WantsTree, room_for}
 use Rattle.tuple_file.specs.declared.tuples.Tuples.{Tuples}
@@ -39,6 +42,16 @@ map_at : (xs : List (Option Indexed)) (i : ℕ) (x : Indexed) → get_or xs i No
 map_at [] i x e = absurd (cc)
 map_at (o ∷ xs) zero x e = ap (option_map index_known) e
 map_at (o ∷ xs) (suc i) x e = map_at xs i x e
+
+-- a key that comes into a tree needs at most a bucket's bytes
+room_small : (e : End) → (room_at_end e).bytes ≤ 4096
+room_small (end.Pair at) = omega arith
+room_small (end.Bucket at) = omega arith
+room_small end.Nowhere = omega arith
+
+pub room_bytes : (bytes : List ℕ) (key : ℤ) → (room_of bytes key).bytes ≤ 4096
+unfolding room_of
+room_bytes bytes key = room_small (end_at bytes key (path_end bytes key))
 
 -- the relation of a name, in the database
 pub relation_seen : (files : Table) (held : Held) (opens : List (Option Open)) (name : List ℕ) (k : ℕ) (t : Tuples) → cell_from name 0 held.relations ≡ Some (k, t)

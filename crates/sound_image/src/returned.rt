@@ -16,7 +16,7 @@ use afl_base::{FileId, Files, Flash};
 use coffee_volume::Volume;
 
 // A table of files has 32 places, and no two files have one name.
-fn tell_places<V: Files>(files: &V)
+pub(crate) fn tell_places<V: Files>(files: &V)
     ensures places { length (V.state files.now).files ≡ 32 }
     ensures distinct { AreDistinct (V.state files.now).files }
 {
