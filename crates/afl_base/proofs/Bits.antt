@@ -1,3 +1,4 @@
+-- Bits that are programmed, and the bytes of fields.
 use Rattle.std.proofs.Common.{◌≡◌, ℕ, List, [], ◌∷◌, refl, ◌+◌, ◌-◌, ◌++◌, take, drop, ap, ◌∙◌, length}
 use Rattle.afl_base.specs.Image.{or_front, or_at}
 use Rattle.std.proofs.lemmas.List.{take-append-drop}

@@ -1,3 +1,4 @@
+-- How many places of a table are used.
 use Rattle.std.proofs.Common.{◌≤◌, [], ◌∷◌, length, Some, None, arith, ◌≡◌, ℕ, zero, suc, ◌<◌, false, Bool, IsTrue, not, true, refl}
 use Rattle.afl_base.specs.Files.{Table, used, is_live}
 

@@ -27,7 +27,7 @@ use Rattle.session_model.specs.Indexed.{infos_of}
 use Rattle.session_model.specs.View.{relation_of_rows, view}
 use Rattle.session_model.proofs.Running.{indexes_seen}
 use Rattle.session_cursors.proofs.JoinCounts.{first_stops, many_pairs, stops_from}
-use Rattle.session_plans.proofs.Kinds.{kinds_same}
+use Rattle.session_plans.proofs.IndexKinds.{kinds_same}
 
 -- ---- the indexes of a relation, as the machine sees them
 

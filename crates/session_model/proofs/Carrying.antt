@@ -1,3 +1,4 @@
+-- What every command carries: a refusal, cursors that stay, and a reply that was not begun.
 use Rattle.std.proofs.Common.{ℕ, List, [], Option, Err, refl, sym, ◌≡◌, Ok, arith, Bool, true, false, if◌then◌else◌, ◌∙◌}
 use Rattle.db_model.specs.ReplyText.{text}
 use Rattle.db_model.specs.Step.{Reply, outcome}

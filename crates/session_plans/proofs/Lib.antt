@@ -2,4 +2,4 @@ pub mod Aggregated
 pub mod Joined
 pub mod Places
 pub mod Planned
-pub mod Kinds
+pub mod IndexKinds

@@ -35,7 +35,7 @@ use Rattle.session_model.proofs.Views.{found_in_view}
 use Rattle.session_plans.specs.Aggregates.{medians}
 use Rattle.session_queries.specs.declared.finding.Found.{Found}
 use Rattle.session_queries.specs.Finds.{HasEightSlots, IsRelationFound, IsReadableBy}
-use Rattle.session_plans.proofs.Kinds.{kinds_same}
+use Rattle.session_plans.proofs.IndexKinds.{kinds_same}
 
 -- ---- the relation and its indexes
 

@@ -1,3 +1,4 @@
+-- A file that holds rows, where only other files have changed.
 use Rattle.std.proofs.Common.{◌≡◌, ℕ, ◌*◌, ◌/◌, ◌≤◌, List, length, Option, IsTrue, is_some, unwrap_or, sym, ap, ◌∙◌, subst}
 use Rattle.afl_base.specs.Files.{File, State, bytes_at, no_file, place}
 use Rattle.db_model.specs.Row.{row_length, rows_bytes, rows_of}

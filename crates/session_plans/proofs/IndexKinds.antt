@@ -1,3 +1,4 @@
+-- The kinds of the indexes that a plan knows are those of the database.
 use Rattle.std.proofs.Common.{◌≡◌, ℕ, List, [], ◌∷◌, map, refl, ap}
 use Rattle.db_model.specs.Plan.{Kinds, kinds_of}
 use Rattle.index_set.specs.declared.info.IndexInfo.{IndexInfo}
