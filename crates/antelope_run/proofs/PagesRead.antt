@@ -11,7 +11,7 @@ use Rattle.run_model.specs.Line.{Line}
 use Rattle.run_model.specs.Talk.{AsksToRead, Talk, talk_costs}
 use Rattle.run_model.proofs.Talks.{costs-append}
 use Rattle.antelope_run.proofs.Fronts.{HasFronts, all_front, entries_front, longer_front, whole_front}
-use Rattle.padded.proofs.Facts.{all_front}
+use Rattle.padded.proofs.Facts.{all_front as all_first}
 
 module _ {E : Type 0} (line : Line E) (has : HasFronts line) (talk : Talk E) (a b : Standing) (left left_now : Option (List ℕ)) (Lacks : Command → ℕ → Type 0) where
   -- the first entries cost no more than all
@@ -19,7 +19,7 @@ module _ {E : Type 0} (line : Line E) (has : HasFronts line) (talk : Talk E) (a 
       → (AllByRecursion (AsksToRead talk) entries → b.reads ≤ a.reads + talk_costs talk a.database a.aheads entries)
       → b.reads ≤ a.reads + talk_costs talk a.database a.aheads all
   first_cost entries rest all is reads bound =
-      let few = bound (all_front (AsksToRead talk) entries rest (subst (λ (es : List E). AllByRecursion (AsksToRead talk) es) is reads)) in
+      let few = bound (all_first (AsksToRead talk) entries rest (subst (λ (es : List E). AllByRecursion (AsksToRead talk) es) is reads)) in
       let sum = costs-append talk a.database a.aheads entries rest in
       subst (λ (es : List E). b.reads ≤ a.reads + talk_costs talk a.database a.aheads es) (sym is) (omega (arith, few, sum))
 

@@ -160,10 +160,10 @@ placed_on state version i before x (Some schema) (Some t) d known s stands there
     }
 
 -- what stands in a slot of a list
-some_inside : {A : Type 0} (xs : List (Option A)) (k : ℕ) (b : Option A → Bool) → b None ≡ false → b (get_or xs k None) ≡ true → k < length xs
-some_inside [] k b none e = absurd (let no : true ≡ false = sym e ∙ none in let n : ⊥ = cc in n)
-some_inside (x ∷ xs) zero b none e = omega arith
-some_inside (x ∷ xs) (suc k) b none e = omega (arith, some_inside xs k b none e)
+test_inside : {A : Type 0} (xs : List (Option A)) (k : ℕ) (b : Option A → Bool) → b None ≡ false → b (get_or xs k None) ≡ true → k < length xs
+test_inside [] k b none e = absurd (let no : true ≡ false = sym e ∙ none in let n : ⊥ = cc in n)
+test_inside (x ∷ xs) zero b none e = omega arith
+test_inside (x ∷ xs) (suc k) b none e = omega (arith, test_inside xs k b none e)
 
 index_placed : (state : State) (version i : ℕ) (schemas : List (Option Schema)) (relations : List (Option Tuples)) (before : List (Option Index)) (index : Option Index) (x : Option Indexed)
     → AreDistinct state.files → AreOfDatabase state.files → length schemas ≡ 8 → AreSchemas version schemas → ((k : ℕ) → k < 8 → IsRelationOf state.files k (get_or schemas k None) (get_or relations k None))
@@ -177,7 +177,7 @@ index_placed state version i schemas relations before (Some index) (Some x) d kn
     let same : Bool = list_any (is_same_place (index_known x)) before in
     let third : Bool = is_third_table before (index_known x) in
     let stands = (both_parts stand (not same) (both_parts (stand && not same) (not third) now).0).0 in
-    let within = some_inside schemas x.relation (stands_on (index_known x)) refl stands in
+    let within = test_inside schemas x.relation (stands_on (index_known x)) refl stands in
     placed_on state version i before x (get_or schemas x.relation None) (get_or relations x.relation None) d known (s x.relation) stands
     (there ∙ ap (λ (z : Index). is_tree (Some z)) (sym h.0)) h.1 (rels x.relation (omega (arith, within, eight)))
 
@@ -308,9 +308,9 @@ module _ (files : Table) (schemas : List (Option Schema)) (indexes : List (Optio
 -- ---- slots that are filled in order
 
 filled : {A : Type 0} (P : ℕ → A → Type 0) (xs : List A) (d : A) (n : ℕ) (x : A) → n < length xs → ((i : ℕ) → i < n → P i (get_or xs i d)) → P n x → (i : ℕ) → i < n + 1 → P i (get_or (set xs n x) i d)
-filled P xs d n x some_inside all one i below =
+filled P xs d n x inside all one i below =
     ⊎_elim
-    (λ (same : i ≡ n). subst (λ (y : _). P i y) (sym (ap (λ (k : ℕ). get_or (set xs n x) k d) same ∙ get_or-set_same xs n x d some_inside)) (subst (λ (k : ℕ). P k x) (sym same) one))
+    (λ (same : i ≡ n). subst (λ (y : _). P i y) (sym (ap (λ (k : ℕ). get_or (set xs n x) k d) same ∙ get_or-set_same xs n x d inside)) (subst (λ (k : ℕ). P k x) (sym same) one))
     (λ (other : i ≢ n). subst (λ (y : _). P i y) (sym (get_or-set_other xs n i x d other)) (all i (omega (arith, below, other))))
     (cases_eq i n)
 
