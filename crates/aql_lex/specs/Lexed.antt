@@ -1,5 +1,7 @@
 -- What `next_token` answers, by cases.
-use Rattle.std.specs.Prelude.{ℕ}
+use Rattle.std.specs.Prelude.{ℕ, ◌≡◌, ◌+◌, ◌-◌, List, drop, Some}
+use Rattle.std.specs.List.{prefix_len}
+use Rattle.db_model.specs.Tokens.{is_white, token_at}
 use Rattle.aql_lex.specs.declared.lexed.Lexed.{Lexed}
 use Rattle.aql_lex.specs.declared.lexed.Lexed.TheVariants.{Token as Found, End, Bad}
 use Rattle.db_model.specs.declared.tokens.Token.{Token}
@@ -21,3 +23,11 @@ abbrev pub OnBad : Lexed → Type 0 → Type 0
 OnBad (Found token from to) P = Unit {0}
 OnBad End P = Unit {0}
 OnBad Bad P = P
+
+-- the place behind the white space from a place on
+abbrev pub behind_white : List ℕ → ℕ → ℕ
+behind_white bytes at = at + prefix_len is_white (drop at bytes)
+
+-- the bytes from one place to another are a token
+abbrev pub IsTokenIn : List ℕ → Token → ℕ → ℕ → Type 0
+IsTokenIn bytes token from to = token_at (drop from bytes) ≡ Some (token, to - from)

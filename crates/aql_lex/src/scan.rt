@@ -4,12 +4,11 @@
 
 ghost use Rattle.std.specs.Prelude.{◌≡◌, ◌+◌, ◌-◌, ◌^◌, ◌<◌, ◌≤◌, IfSome, IsTrue, length, drop, get_or};
 ghost use Rattle.std.specs.Char.{is_ascii_digit};
-ghost use Rattle.std.specs.List.{list_all, prefix_len, take_while};
-ghost use Rattle.std.specs.Option.{option_map};
+ghost use Rattle.std.specs.List.{list_all, prefix_len};
 ghost use Rattle.std.specs.Str.Parse.{AllDigits, digits_value};
-ghost use Rattle.aql_lex.specs.Lexed.{OnBad, OnEnd, OnToken};
+ghost use Rattle.aql_lex.specs.Lexed.{IsTokenIn, OnBad, OnEnd, OnToken, behind_white};
 ghost use Rattle.db_model.specs.Names.{is_text_byte, is_word_byte};
-ghost use Rattle.db_model.specs.Tokens.{is_white, number_token, of_length, quoted_at, sign_of, token_at, word_token};
+ghost use Rattle.db_model.specs.Tokens.{is_white, number_at, number_token, quoted_at, sign_at, sign_of, token_at, word_at, word_token};
 
 use crate::lexed::Lexed;
 use db_model::{Ident, Keyword, Sign, Text, Token};
@@ -20,12 +19,12 @@ use db_model::{Ident, Keyword, Sign, Text, Token};
 pub fn next_token(bytes: &[u8], at: u16) -> Lexed
     requires within { at ≤ length bytes.now }
     requires few { length bytes.now ≤ 512 }
-    ensures from { OnToken result (λ token from to. from ≡ at + prefix_len is_white (drop at bytes.now)) }
-    ensures token { OnToken result (λ token from to. token_at (drop from bytes.now) ≡ Some (token, to - from)) }
+    ensures from { OnToken result (λ token from to. from ≡ behind_white bytes.now at) }
+    ensures token { OnToken result (IsTokenIn bytes.now) }
     ensures to { OnToken result (λ token from to. (from < to) × (to ≤ length bytes.now)) }
     ensures end { OnEnd result (IsTrue (list_all is_white (drop at bytes.now))) }
-    ensures bad { OnBad result (at + prefix_len is_white (drop at bytes.now) < length bytes.now) }
-    ensures none { OnBad result (token_at (drop (at + prefix_len is_white (drop at bytes.now)) bytes.now) ≡ None) }
+    ensures bad { OnBad result (behind_white bytes.now at < length bytes.now) }
+    ensures none { OnBad result (token_at (drop (behind_white bytes.now at) bytes.now) ≡ None) }
 {
     let at = at as usize;
     let from = at + white_len(&bytes[at..]);
@@ -63,7 +62,7 @@ fn token_at(bytes: &[u8]) -> Option<(Token, usize)>
 
 // A keyword or a name.
 fn word_at(bytes: &[u8]) -> Option<(Token, usize)>
-    ensures { result ≡ of_length (prefix_len is_word_byte bytes.now) (word_token (take_while is_word_byte bytes.now)) }
+    ensures { result ≡ word_at bytes.now }
 {
     let len = word_len(bytes);
     let token = word_token(&bytes[..len])?;
@@ -83,7 +82,7 @@ fn word_token(word: &[u8]) -> Option<Token>
 }
 
 fn number_at(bytes: &[u8]) -> Option<(Token, usize)>
-    ensures { result ≡ of_length (prefix_len is_ascii_digit bytes.now) (number_token (take_while is_ascii_digit bytes.now)) }
+    ensures { result ≡ number_at bytes.now }
 {
     let len = digits_len(bytes);
     let token = number_token(&bytes[..len])?;
@@ -129,7 +128,7 @@ fn quoted_at(bytes: &[u8]) -> Option<(Token, usize)>
 
 // A sign by its first byte and those behind it.
 fn sign_at(first: u8, behind: &[u8]) -> Option<(Token, usize)>
-    ensures token { result ≡ option_map (λ sign. (Token.Sign sign.0, sign.1)) (sign_of first (get_or behind.now 0 0)) }
+    ensures token { result ≡ sign_at first behind.now }
     ensures within { IfSome result (λ found. (0 < found.1) × (found.1 ≤ 1 + length behind.now)) }
 {
     let (sign, len) = sign_of(first, byte_at(behind, 0))?;

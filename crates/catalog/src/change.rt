@@ -36,7 +36,8 @@ pub fn put_relation<V: Files>(
     requires live { IsLive (V.state files.old).files cat }
     requires form { IsCatalogSize (length (bytes_at (V.state files.old).files cat)) }
     requires prepared { IsPrepared (file_at (V.state files.old).files cat) (176 * id) 176 }
-    ensures put { OnOk result (PutsRelation (V.state files.old) (V.state files.new) cat id (Some schema.now)) }
+    ensures put { OnOk result
+        (PutsRelation (V.state files.old) (V.state files.new) cat id (Some schema.now)) }
     ensures frame { Changes V.state V.lent V.reads V.faults files.old files.new result }
 {
     replace(
@@ -71,7 +72,8 @@ pub fn put_index<V: Files>(
     requires live { IsLive (V.state files.old).files cat }
     requires form { IsCatalogSize (length (bytes_at (V.state files.old).files cat)) }
     requires prepared { IsPrepared (file_at (V.state files.old).files cat) (1408 + 8 * id) 8 }
-    ensures put { OnOk result (PutsIndex (V.state files.old) (V.state files.new) cat id (Some (index_in entry.now))) }
+    ensures put { OnOk result
+        (PutsIndex (V.state files.old) (V.state files.new) cat id (Some (index_in entry.now))) }
     ensures frame { Changes V.state V.lent V.reads V.faults files.old files.new result }
 {
     replace(

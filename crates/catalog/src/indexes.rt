@@ -78,7 +78,8 @@ fn sound_index(
     before: &[Option<IndexEntry>],
 ) -> Option<Option<IndexEntry>>
     requires { length slot.now ≡ 8 }
-    ensures { option_map (option_map index_in) result ≡ sound_index slot.now relations.now (indexes_in before.now) }
+    ensures { option_map (option_map index_in) result
+        ≡ sound_index slot.now relations.now (indexes_in before.now) }
 {
     let index = read_index(slot)?;
     if !is_behind(relations, before, &index) {

@@ -131,7 +131,8 @@ fn first_unmatched<V: Files>(
     relations: &[Option<Schema>],
     indexes: &[Option<IndexEntry>],
 ) -> Option<u16>
-    ensures { result ≡ first 16 (breaks_files (V.state files.now).files relations.now (indexes_in indexes.now)) }
+    ensures { let table = (V.state files.now).files in
+        result ≡ first 16 (breaks_files table relations.now (indexes_in indexes.now)) }
 {
     for k in 0..16 {
         if is_unmatched(files, relations, indexes, k) {

@@ -18,7 +18,8 @@ pub fn load_relations<V: Files>(
 ) -> Result<Result<[Option<Schema>; 8], u16>, Failed>
     requires live { IsLive (V.state files.old).files cat }
     requires size { 1472 ≤ length (bytes_at (V.state files.old).files cat) }
-    requires version { IsTrue (V.state files.old).tells → version ≡ version_of (bytes_at (V.state files.old).files cat) }
+    requires version { IsTrue (V.state files.old).tells
+        → version ≡ version_of (bytes_at (V.state files.old).files cat) }
     ensures relations { IsTrue (V.state files.old).tells → IfOk result
         (λ r. IfOk r (λ relations. relations ≡ (catalog_of (bytes_at (V.state files.old).files cat)).relations)) }
     ensures eight { IfOk result (λ r. IfOk r (λ relations. length relations ≡ 8)) }

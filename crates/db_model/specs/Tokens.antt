@@ -49,14 +49,26 @@ sign_of first next =
     if first == 62 then (if next == 61 then Some (GreaterEqual, 2) else Some (Greater, 1)) else
     None
 
+-- a keyword or a name: all the word's bytes in front
+abbrev pub word_at : List ℕ → Option (Token × ℕ)
+word_at bytes = of_length (prefix_len is_word_byte bytes) (word_token (take_while is_word_byte bytes))
+
+-- a number: all the digits in front
+abbrev pub number_at : List ℕ → Option (Token × ℕ)
+number_at bytes = of_length (prefix_len is_ascii_digit bytes) (number_token (take_while is_ascii_digit bytes))
+
+-- a sign by its first byte and those behind it
+abbrev pub sign_at : ℕ → List ℕ → Option (Token × ℕ)
+sign_at first behind = option_map (λ sign. (Signed sign.0, sign.1)) (sign_of first (get_or behind 0 0))
+
 -- the token that begins with the first byte, and how many bytes it has; None where none begins there
 abbrev pub token_at : List ℕ → Option (Token × ℕ)
 token_at [] = None
 token_at (b ∷ bs) =
-    if is_ascii_alphabetic b then of_length (prefix_len is_word_byte (b ∷ bs)) (word_token (take_while is_word_byte (b ∷ bs))) else
-    if is_ascii_digit b then of_length (prefix_len is_ascii_digit (b ∷ bs)) (number_token (take_while is_ascii_digit (b ∷ bs))) else
+    if is_ascii_alphabetic b then word_at (b ∷ bs) else
+    if is_ascii_digit b then number_at (b ∷ bs) else
     if b == 39 then quoted_at bs else
-    option_map (λ sign. (Signed sign.0, sign.1)) (sign_of b (get_or bs 0 0))
+    sign_at b bs
 
 -- the tokens of some bytes, up to the first place where none begins
 pub record Tokens : Type 0 where

@@ -16,7 +16,8 @@ pub fn ordered<V: Files>(
     requires few { slots ≤ 32768 }
     requires width { IsWidth column.now.width }
     requires fields { (slot : ℕ) → slot < slots → HasField (V.state files.old) column.now slot }
-    ensures ordered { IsTrue (V.state files.old).tells → IfOk result (λ fall. fall ≡ first_fall (keys_of (V.state files.old) column.now slots)) }
+    ensures ordered { let state = V.state files.old in IsTrue state.tells → IfOk result
+        (λ fall. fall ≡ first_fall (keys_of state column.now slots)) }
     ensures reads { V.reads files.new ≤ V.reads files.old + 6 * slots }
     ensures frame { OnlyReads V.state V.lent V.reads V.faults files.old files.new result }
 {

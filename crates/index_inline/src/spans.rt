@@ -22,8 +22,8 @@ pub fn range<V: Files>(
     requires few { slots ≤ 32768 }
     requires width { IsWidth column.now.width }
     requires fields { (slot : ℕ) → slot < slots → HasField (V.state files.old) column.now slot }
-    ensures span { IsTrue (V.state files.old).tells → NeverFalls (keys_of (V.state files.old) column.now slots)
-        → IfOk result (λ r. IsSpan within.now (key_of (V.state files.old) column.now) slots r.0 r.1) }
+    ensures span { IsTrue (V.state files.old).tells
+        → NeverFalls (keys_of (V.state files.old) column.now slots) → IfOk result (λ r. IsSpan within.now (key_of (V.state files.old) column.now) slots r.0 r.1) }
     ensures order { IfOk result (λ r. r.0 ≤ r.1) }
     ensures end { IfOk result (λ r. r.1 ≤ slots) }
     ensures reads { V.reads files.new ≤ V.reads files.old + 6 * (2 * bits slots) }

@@ -27,6 +27,10 @@ abbrev pub numbers_left : Option Place → ℕ
 numbers_left None = 5
 numbers_left (Some place) = 4 - min place.hop 4
 
+-- the reads of those before a hop
+abbrev pub number_reads : ℕ → ℕ
+number_reads hop = 3 * min hop 4
+
 -- what a walk still reads, e keys having the same path
 abbrev pub walk_left : ℕ → Option Place → ℕ
 walk_left e place = 3 * numbers_left place + 9 * (6 + e / 32 - hops place)

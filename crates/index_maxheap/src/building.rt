@@ -8,7 +8,7 @@ ghost use Rattle.afl_base.specs.Files.{draft_in};
 ghost use Rattle.afl_base.specs.KeyColumn.{HasField, IsWidth, key_of};
 ghost use Rattle.db_model.specs.HashTree.{buckets};
 ghost use Rattle.index_maxheap.specs.Builds.{Builds, DraftsBucket, DraftsPair, HasZeros, IsSafeBuild, HasOtherDraft, with_pair};
-ghost use Rattle.index_tree.specs.Pairs.{Pair, pair_keys};
+ghost use Rattle.index_tree.specs.Pairs.{Pair, pair, pair_keys};
 ghost use Rattle.index_tree.specs.Places.{SlotsRise};
 ghost use Rattle.afl_base.specs.Keys.{first_keys};
 ghost use Rattle.index_tree.specs.Trees.{IsTreeOf};
@@ -26,7 +26,8 @@ fn write_pair<V: Files>(files: &mut V, at: u32, key: &i32, slot: SlotNo) -> Resu
     requires range { at + 6 ≤ length (draft_in (V.state files.old)).bytes }
     requires zeros { IsTrue (V.state files.old).tells
         → HasZeros (draft_in (V.state files.old)).bytes at 6 }
-    ensures written { OnOk result (DraftsPair (V.state files.old) (V.state files.new) at (record { key = key.now; slot = slot })) }
+    ensures written { OnOk result
+        (DraftsPair (V.state files.old) (V.state files.new) at (pair key.now slot)) }
     ensures frame { Changes V.state V.lent V.reads V.faults files.old files.new result }
 {
     let bytes = pair_bytes(key, slot);
@@ -50,7 +51,8 @@ fn write_bucket<V: Files>(
         → HasZeros (draft_in (V.state files.old)).bytes (bucket_place opened) 195 }
     requires zeros { IsTrue (V.state files.old).tells
         → HasZeros (draft_in (V.state files.old)).bytes at 2 }
-    ensures written { OnOk result (DraftsBucket (V.state files.old) (V.state files.new) at opened (record { key = key.now; slot = slot })) }
+    ensures written { OnOk result
+        (DraftsBucket (V.state files.old) (V.state files.new) at opened (pair key.now slot)) }
     ensures frame { Changes V.state V.lent V.reads V.faults files.old files.new result }
 {
     let bucket = first_bucket(key, slot);

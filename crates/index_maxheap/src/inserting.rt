@@ -6,6 +6,7 @@ ghost use Rattle.std.specs.Prelude.{◌≡◌, ◌+◌, ◌-◌, ◌<◌, ◌≤
 ghost use Rattle.afl_base.specs.Keeping.{Changes};
 ghost use Rattle.afl_base.specs.Files.{IsLive, bytes_at, file_at, size_at};
 ghost use Rattle.afl_base.specs.Regions.{regions};
+ghost use Rattle.index_tree.specs.Pairs.{pair};
 ghost use Rattle.index_tree.specs.Places.{KeepsNumbers};
 ghost use Rattle.index_tree.specs.Trees.{IsTreeOf};
 ghost use Rattle.index_maxheap.specs.Rooms.{HasRoomFor, OnlyIndexChanges, PutsBucket, PutsPair, room_of};
@@ -55,7 +56,8 @@ fn put_pair<V: Files>(
     requires live { IsLive (V.state files.old).files index }
     requires range { at + 7 ≤ size_at (V.state files.old).files index }
     requires records { regions at 6 ≤ (file_at (V.state files.old).files index).records }
-    ensures put { OnOk result (PutsPair (V.state files.old) (V.state files.new) index at (record { key = key.now; slot = slot })) }
+    ensures put { OnOk result
+        (PutsPair (V.state files.old) (V.state files.new) index at (pair key.now slot)) }
     ensures frame { Changes V.state V.lent V.reads V.faults files.old files.new result }
 {
     let bytes = pair_bytes(key, slot);
@@ -77,7 +79,8 @@ fn put_bucket<V: Files>(
     requires small { size_at (V.state files.old).files index ≤ 268000 }
     requires records { regions at 2 ≤ (file_at (V.state files.old).files index).records }
     requires room { 195 ≤ (file_at (V.state files.old).files index).room }
-    ensures put { OnOk result (PutsBucket (V.state files.old) (V.state files.new) index at (record { key = key.now; slot = slot })) }
+    ensures put { OnOk result
+        (PutsBucket (V.state files.old) (V.state files.new) index at (pair key.now slot)) }
     ensures frame { Changes V.state V.lent V.reads V.faults files.old files.new result }
 {
     let number = ((files.size(index) - HEAD_SIZE as u32) / BUCKET_SIZE as u32 + 1) as u16;

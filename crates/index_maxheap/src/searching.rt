@@ -2,7 +2,7 @@
 
 #![tactic(auto)]
 
-ghost use Rattle.std.specs.Prelude.{◌≡◌, ◌+◌, ◌*◌, ◌-◌, ◌<◌, ◌≤◌, ◌&&◌, ℤ, List, MatchOption, Some, length, min, nat_lt, slice_range, IsTrue, IfOk, IfSome};
+ghost use Rattle.std.specs.Prelude.{◌≡◌, ◌+◌, ◌*◌, ◌-◌, ◌<◌, ◌≤◌, ◌&&◌, ℤ, List, MatchOption, Some, length, nat_lt, slice_range, IsTrue, IfOk, IfSome};
 ghost use Rattle.afl_base.specs.Keeping.{OnlyReads};
 ghost use Rattle.std.specs.Ordering.{int_eq};
 ghost use Rattle.afl_base.specs.Files.{IsLive, bytes_at, size_at};
@@ -11,7 +11,7 @@ ghost use Rattle.afl_base.specs.Keys.{HasNone, IsFirstOf};
 ghost use Rattle.index_tree.specs.Pairs.{Pair};
 ghost use Rattle.index_tree.specs.TreeFile.{HoldsPairs, bucket_place, key_at, number_of, slot_at};
 ghost use Rattle.index_tree.specs.Trees.{IsTreeOf};
-ghost use Rattle.index_maxheap.specs.Searches.{IsPlaceOf, IsSafe, IsSafeStep, IsShort, IsStart, Scans, Steps, hop_after, walk_left};
+ghost use Rattle.index_maxheap.specs.Searches.{IsPlaceOf, IsSafe, IsSafeStep, IsShort, IsStart, Scans, Steps, hop_after, number_reads, walk_left};
 
 use crate::path::node;
 use crate::places::{Found, Place};
@@ -94,7 +94,8 @@ fn number_onward<V: Files>(
     ensures number { IsTrue (V.state files.old).tells
         → place.bucket ≡ number_of (bytes_at (V.state files.old).files index) key.now place.hop
         → IfOk result (λ n. n ≡ number_of (bytes_at (V.state files.old).files index) key.now (place.hop + 1)) }
-    ensures reads { V.reads files.new + 3 * min place.hop 4 ≤ V.reads files.old + 3 * min (place.hop + 1) 4 }
+    ensures reads { let before = V.reads files.old in
+        V.reads files.new + number_reads place.hop ≤ before + number_reads (place.hop + 1) }
     ensures frame { OnlyReads V.state V.lent V.reads V.faults files.old files.new result }
 {
     if place.hop < 4 {
@@ -121,8 +122,10 @@ fn look_in<V: Files>(
         → IsPlaceOf (bytes_at (V.state files.old).files index) keys key.now from (Some place)
         → IfOk result (λ s. Steps s (bytes_at (V.state files.old).files index) keys key.now from) }
     ensures safe { IfOk result (λ s. IsSafeStep s place.hop from) }
-    ensures cost { IfOk result (λ s. V.reads files.new + 3 * min place.hop 4 ≤ V.reads files.old + 9 + 3 * min (hop_after s place.hop) 4) }
-    ensures reads { V.reads files.new + 3 * min place.hop 4 ≤ V.reads files.old + 9 + 3 * min (place.hop + 1) 4 }
+    ensures cost { let before = V.reads files.old in IfOk result (λ s.
+        V.reads files.new + number_reads place.hop ≤ before + 9 + number_reads (hop_after s place.hop)) }
+    ensures reads { let before = V.reads files.old in
+        V.reads files.new + number_reads place.hop ≤ before + 9 + number_reads (place.hop + 1) }
     ensures frame { OnlyReads V.state V.lent V.reads V.faults files.old files.new result }
 {
     if files.size(index) < bucket_place(place.bucket) {

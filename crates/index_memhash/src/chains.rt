@@ -1,6 +1,6 @@
-ghost use Rattle.std.specs.Prelude.{◌≡◌, ◌+◌, ◌*◌, ◌-◌, ◌<◌, ◌≤◌, ◌≢◌, ℕ, MatchOption, get_or, take, length, true, false, nat_le, ◌&&◌};
-ghost use Rattle.index_memhash.specs.Chains.{IsChained, chain_at, hash};
-ghost use Rattle.afl_base.specs.Keys.{HasNone, IsFirstOf, is_key_at, key_in};
+ghost use Rattle.std.specs.Prelude.{◌≡◌, ◌+◌, ◌*◌, ◌-◌, ◌<◌, ◌≤◌, ◌≢◌, ℕ, get_or, take, length, true, false, nat_le, ◌&&◌};
+ghost use Rattle.index_memhash.specs.Chains.{Finds, IsChained, chain_at, hash};
+ghost use Rattle.afl_base.specs.Keys.{is_key_at, key_in};
 
 use afl_base::SlotNo;
 
@@ -43,7 +43,7 @@ pub(crate) fn find(
 ) -> Option<SlotNo>
     requires few { len ≤ 2048 }
     requires chained { IsChained (take len keys.now) links.now last.now }
-    ensures { MatchOption result (HasNone key.now (take len keys.now) from) (λ slot. IsFirstOf key.now (take len keys.now) from slot) }
+    ensures { Finds result key.now (take len keys.now) from }
 {
     let mut entry = links[usize::from(link_before(keys, len, key, from))];
     'chain: while entry < len {

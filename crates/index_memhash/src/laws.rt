@@ -11,8 +11,8 @@ ghost use Rattle.afl_base.specs.Keys.{HasNone, IsFirstOf};
 pub fn places_stay_good()
     ensures found { (key : ℤ) (keys more : List ℤ) (from slot : ℕ) → IsFirstOf key keys from slot
         → IsFirstOf key (keys ++ more) from slot }
-    ensures later { (key : ℤ) (keys more : List ℤ) (from slot : ℕ) → HasNone key keys from → from ≤ length keys
-        → IsFirstOf key (keys ++ more) (length keys) slot → IsFirstOf key (keys ++ more) from slot }
+    ensures later { (key : ℤ) (keys more : List ℤ) (from slot : ℕ) → HasNone key keys from
+        → from ≤ length keys → IsFirstOf key (keys ++ more) (length keys) slot → IsFirstOf key (keys ++ more) from slot }
     ensures none { (key : ℤ) (keys more : List ℤ) (from : ℕ) → HasNone key keys from
         → HasNone key (keys ++ more) (length keys) → HasNone key (keys ++ more) from }
 {}

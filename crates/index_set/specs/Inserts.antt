@@ -67,6 +67,10 @@ AreApart (info ∷ infos) = AllByRecursion (λ other. IsElsewhere info.access ot
 abbrev pub KeepsTables : Tables → Tables → List IndexInfo → Type 0
 KeepsTables old new infos = (number : TableId) → AllByRecursion (λ info. IsNoTable number info.access) infos → entries new number ≡ entries old number
 
+-- those that an index has not are the same
+abbrev pub KeepsTablesBeside : Access → Tables → Tables → Type 0
+KeepsTablesBeside access old new = (number : TableId) → IsNoTable number access → entries new number ≡ entries old number
+
 -- ---- the keys of a tuple
 
 -- a number of 32 bits

@@ -15,7 +15,7 @@ ghost use Rattle.db_model.specs.Step.{first_fall};
 ghost use Rattle.index_inline.specs.Keys.{keys_of};
 ghost use Rattle.index_set.specs.declared.info.TableId.{TableId as AnyTable};
 ghost use Rattle.index_set.specs.Complete.{AreComplete, AreHeld, AreReadable, HaveKeysOf, IsComplete, IsFirstIncomplete, IsHeld, IsReadable, most_reads, most_reads_of_all};
-ghost use Rattle.index_set.specs.Inserts.{AreApart, AreDoublingTrees, IsDoublingTree, IsNoTable, KeepsTables};
+ghost use Rattle.index_set.specs.Inserts.{AreApart, AreDoublingTrees, IsDoublingTree, KeepsTables, KeepsTablesBeside};
 ghost use Rattle.index_set.specs.Tables.{entries};
 ghost use Rattle.index_set.specs.Plans.{IsBy, IsOf, by_kind, access_kind, kinds, plan_in};
 
@@ -239,7 +239,7 @@ fn is_complete<V: Files>(
         Decides whole (IsComplete state tables.new info.now.access (keys_of state info.now.column slots))) }
     ensures held { IfOk result (λ whole. IsTrue whole → IsDoublingTree (V.state files.old) info.now.access
         → IsHeld (V.state files.new) tables.new slots info.now.access) }
-    ensures tables { (number : AnyTable) → IsNoTable number info.now.access → entries tables.new number ≡ entries tables.old number }
+    ensures tables { KeepsTablesBeside info.now.access tables.old tables.new }
     ensures reads { V.reads files.new ≤ V.reads files.old + most_reads slots info.now.access }
     ensures frame { OnlyReads V.state V.lent V.reads V.faults files.old files.new result }
 {

@@ -12,10 +12,8 @@ ghost use Rattle.afl_base.specs.Frames.{Prepares, SparesOthers};
 ghost use Rattle.db_model.specs.Row.{Row, is_between};
 ghost use Rattle.db_model.specs.Step.{key_of};
 ghost use Rattle.index_maxheap.specs.Rooms.{HasRoomFor, room_of};
-ghost use Rattle.index_set.specs.declared.info.TableId.{TableId as AnyTable};
 ghost use Rattle.index_set.specs.Complete.{AreComplete, AreHeld, IsComplete, IsHeld};
-ghost use Rattle.index_set.specs.Inserts.{AllKeepBuckets, AreApart, AreOpenFor, AreRoomFor, AsksFor, HasRoom, HaveKeys, HaveRoom, IsApart, IsDoublingTree, IsNoTable, IsNoTree, IsOpenFor, IsRoomFor, KeepsBuckets, KeepsTables, MayAllFollow, MayFollow, OneAsksFor, is_key};
-ghost use Rattle.index_set.specs.Tables.{entries};
+ghost use Rattle.index_set.specs.Inserts.{AllKeepBuckets, AreApart, AreOpenFor, AreRoomFor, AsksFor, HasRoom, HaveKeys, HaveRoom, IsApart, IsDoublingTree, IsNoTree, IsOpenFor, IsRoomFor, KeepsBuckets, KeepsTables, KeepsTablesBeside, MayAllFollow, MayFollow, OneAsksFor, is_key};
 ghost use Rattle.index_tree.specs.Trees.{IsTreeOf};
 
 use crate::info::{Access, Indexes, Rooms};
@@ -62,7 +60,7 @@ pub fn prepare_all<V: Files>(
 
 // The number at a place of a tuple, where it is one of 32 bits.
 fn key_in(tuple: &Tuple, attribute: u8) -> i32
-    ensures { IsTrue (is_key (slice_get tuple.now attribute)) → result ≡ key_of (slice_get tuple.now attribute) }
+    ensures { let value = slice_get tuple.now attribute in IsTrue (is_key value) → result ≡ key_of value }
 {
     let at = usize::from(attribute);
     if at >= tuple.len() {
@@ -87,9 +85,11 @@ fn narrow(number: i64) -> i32
 fn prepare_one<V: Files>(files: &mut V, access: Access, key: &i32) -> Result<Room, FileError>
     requires idle { (V.state files.old).draft ≡ None }
     requires tree { IsDoublingTree (V.state files.old) access }
-    ensures contents { UnlessFailed result (Prepares (V.state files.old) (V.state files.new) (λ id. IsApart id access)) }
+    ensures contents { UnlessFailed result
+        (Prepares (V.state files.old) (V.state files.new) (λ id. IsApart id access)) }
     ensures room { IfOk result (λ room. HasRoom (V.state files.new) room access) }
-    ensures exact { IsTrue (V.state files.old).tells → IfOk result (λ room. IsRoomFor (V.state files.old) key.now room access) }
+    ensures exact { IsTrue (V.state files.old).tells → IfOk result (λ room.
+        IsRoomFor (V.state files.old) key.now room access) }
     ensures asked { IsTrue (V.state files.old).tells → OnSpace result (λ need.
         AsksFor (asks_few (V.asks files.new) (V.state files.new).files) (V.state files.new) key.now need access) }
     ensures frame { ChangesOrLacks V.state V.lent V.reads V.faults V.lacks files.old files.new result }
@@ -107,7 +107,8 @@ fn prepare_tree<V: Files>(files: &mut V, file: FileId, key: &i32) -> Result<Room
     requires idle { (V.state files.old).draft ≡ None }
     requires live { IsLive (V.state files.old).files file }
     requires kind { (file_at (V.state files.old).files file).kind ≡ Kind.Doubling }
-    ensures contents { UnlessFailed result (Prepares (V.state files.old) (V.state files.new) (λ id. id ≢ file)) }
+    ensures contents { UnlessFailed result
+        (Prepares (V.state files.old) (V.state files.new) (λ id. id ≢ file)) }
     ensures room { IfOk result (λ room. HasRoomFor (V.state files.new) file room) }
     ensures exact { let bytes = bytes_at (V.state files.old).files file in IsTrue (V.state files.old).tells
         → (keys : List ℤ) → IsTreeOf bytes keys → IfOk result (λ room. room ≡ room_of bytes key.now) }
@@ -188,8 +189,9 @@ fn insert_one<V: Files>(
         ((keys : List ℤ) → length keys ≡ slot → IsComplete state tables.old access keys
         → IsRoomFor state key.now room.now access → KeepsBuckets state (V.state files.new) access) }
     ensures held { OnOk result (IsHeld (V.state files.new) tables.new (slot + 1) access) }
-    ensures others { OnOk result (SparesOthers (V.state files.old) (V.state files.new) (λ id. IsApart id access)) }
-    ensures tables { OnOk result ((number : AnyTable) → IsNoTable number access → entries tables.new number ≡ entries tables.old number) }
+    ensures others { OnOk result
+        (SparesOthers (V.state files.old) (V.state files.new) (λ id. IsApart id access)) }
+    ensures tables { OnOk result (KeepsTablesBeside access tables.old tables.new) }
     ensures frame { Changes V.state V.lent V.reads V.faults files.old files.new result }
 {
     match access {

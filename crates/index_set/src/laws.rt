@@ -31,8 +31,8 @@ pub fn waits_where_rows_come()
 /// the numbers of their buckets, as inserts leave them.
 #[tactic(auto, using(crate::proofs::Grown::grown_chosen))]
 pub fn grown_where_all_are_complete()
-    ensures { (search : AnySearch) (infos : List AnyInfo) (before now : State) (tables : Tables) (all : List Row)
-        → IsChosen search infos → AreComplete now tables all infos → AllKeepBuckets before now infos
+    ensures { (search : AnySearch) (infos : List AnyInfo) (before now : State) (tables : Tables)
+        (all : List Row) → IsChosen search infos → AreComplete now tables all infos → AllKeepBuckets before now infos
         → HasGrown search before now tables all }
 {}
 

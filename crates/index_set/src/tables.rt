@@ -2,13 +2,13 @@
 
 #![tactic(auto)]
 
-ghost use Rattle.std.specs.Prelude.{◌≡◌, ◌≢◌, ◌+◌, ◌*◌, ◌<◌, ◌≤◌, ◌++◌, ◌∷◌, ℕ, [], IsTrue, MatchOption, OnOk, length, map};
+ghost use Rattle.std.specs.Prelude.{◌≡◌, ◌≢◌, ◌+◌, ◌*◌, ◌<◌, ◌≤◌, ◌++◌, ◌∷◌, ℕ, [], IsTrue, OnOk, length, map};
 ghost use Rattle.afl_base.specs.Keeping.{OnlyReads};
 ghost use Rattle.std.specs.List.{range_with_len};
 ghost use Rattle.afl_base.specs.KeyColumn.{HasField, IsWidth, key_of};
 ghost use Rattle.index_set.specs.declared.info.TableId.{TableId as AnyTable};
 ghost use Rattle.index_set.specs.Tables.{entries};
-ghost use Rattle.afl_base.specs.Keys.{HasNone, IsFirstOf};
+ghost use Rattle.index_memhash.specs.Chains.{Finds};
 
 use crate::info::TableId;
 use afl_base::{Failed, Files, KeyColumn, SlotNo};
@@ -87,7 +87,7 @@ impl HashTables {
 
     // The first slot of the key, from one on.
     pub(crate) fn next(&self, table: TableId, key: &i32, from: u16) -> Option<SlotNo>
-        ensures { MatchOption result (HasNone key.now (entries self.now table) from) (λ slot. IsFirstOf key.now (entries self.now table) from slot) }
+        ensures { Finds result key.now (entries self.now table) from }
     {
         let place = HashPlace { entry: from };
         let (slot, _) = match table {

@@ -197,7 +197,8 @@ impl Candidates {
     // The next slot, where it is below an end.
     fn next_below(&mut self, end: u16) -> Option<SlotNo>
         requires within { end ≤ self.old.slots }
-        ensures next { MatchOption result (end ≤ self.old.from) (λ slot. (slot ≡ self.old.from) × (slot < end)) }
+        ensures next { let from = self.old.from in MatchOption result (end ≤ from)
+            (λ slot. (slot ≡ from) × (slot < end)) }
         ensures moved { IsMoved result self.old self.new }
         ensures end { MatchOption result (self.new.end ≡ self.old.end) (λ slot. self.new.end ≡ end) }
     {

@@ -39,7 +39,8 @@ pub fn crowded_files_have_too_few_sectors()
 /// Beside a sound catalog stand its own file, if there is one, the rows of each relation and the tree of
 /// each index that has one, and no other file: at most 17.
 pub fn sound_catalogs_have_their_files()
-    ensures { (files : Table) → length files ≡ 32 → AreDistinct files → first_broken files ≡ None → HasItsFiles files }
+    ensures { (files : Table) → length files ≡ 32 → AreDistinct files
+        → first_broken files ≡ None → HasItsFiles files }
 {}
 
 /// No files are sound, and stand for the empty database.

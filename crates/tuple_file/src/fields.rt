@@ -59,7 +59,8 @@ fn text_or_empty(field: &[u8]) -> Text
 #[tactic(auto, unfolding(afl_base::specs::Fields::i64_at))]
 pub fn is_field(domain: Domain, bytes: &[u8]) -> bool
     requires { width domain ≤ length bytes.now }
-    ensures { IsTrue result ↔ (field_bytes domain (field_of domain bytes.now) ≡ take (width domain) bytes.now) }
+    ensures { IsTrue result
+        ↔ (field_bytes domain (field_of domain bytes.now) ≡ take (width domain) bytes.now) }
 {
     match domain {
         Domain::Int => true,

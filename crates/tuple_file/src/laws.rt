@@ -16,10 +16,10 @@ ghost use Rattle.tuple_file.specs.declared.tuples.Tuples.{Tuples};
 pub fn columns_have_the_numbers()
     ensures width { (tuples : Tuples) (place : ℕ) → IsNumber tuples.schema.attributes place
         → IsWidth (column_of tuples place).width }
-    ensures field { (state : State) (tuples : Tuples) (place slot : ℕ) → IsNumber tuples.schema.attributes place
-        → HoldsRows state tuples → slot < slots state.files tuples → HasField state (column_of tuples place) slot }
-    ensures key { (state : State) (tuples : Tuples) (place slot : ℕ) → IsNumber tuples.schema.attributes place
-        → HoldsRows state tuples → IsTrue state.tells → slot < slots state.files tuples
+    ensures field { (state : State) (tuples : Tuples) (place slot : ℕ)
+        → IsNumber tuples.schema.attributes place → HoldsRows state tuples → slot < slots state.files tuples → HasField state (column_of tuples place) slot }
+    ensures key { (state : State) (tuples : Tuples) (place slot : ℕ)
+        → IsNumber tuples.schema.attributes place → HoldsRows state tuples → IsTrue state.tells → slot < slots state.files tuples
         → key_of state (column_of tuples place) slot
         ≡ key_of_value (slice_get (row state.files tuples slot).tuple place) }
 {}
