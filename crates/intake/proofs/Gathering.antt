@@ -1,6 +1,6 @@
 -- What is taken through a sink that gathers, once what waited has gone out.
 use Rattle.std.proofs.Common.{◌≡◌, ℕ, ◌≤◌, List, [], ◌∷◌, ◌++◌, length, Option, ap, sym, subst, ◌∙◌, arith, inl, inr}
-use Rattle.std.specs.Prelude.{⊤, IfErr, IsErrAnd, OnOk, Ok, Err, Result}
+use Rattle.std.specs.Prelude.{⊤, IfErr, OnOk, Err, Result}
 use Rattle.std.specs.Io.KnownBytes.{append_known}
 use Rattle.buffered_sink.proofs.Fronts.{all_sent, front_sent}
 use Rattle.buffered_sink.specs.Handing.{Hands, WroteFront, front_of}
@@ -9,11 +9,6 @@ use Rattle.intake.specs.declared.halt.Halt.TheVariants.{Space, Flash, Sink}
 use Rattle.intake.specs.Sent.{Sent}
 use Rattle.intake.specs.Through.{Out, out_of}
 use Rattle.reply_text.proofs.Pieces.{append_known-nil}
-
--- what is so of an error is so where `?` hands it on
-pub handed : {T E : Type 0} (r : Result T E) (e : E) (P : E → Type 0) → IsErrAnd r (λ y. y ≡ e) → P e → IfErr r P
-handed (Ok x) e P is p = tt
-handed (Err y) e P is p = subst P (sym is) p
 
 none_behind : (xs ys : List ℕ) → [] ≡ xs ++ ys → ys ≡ []
 none_behind [] ys e = sym e

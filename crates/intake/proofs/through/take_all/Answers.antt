@@ -1,7 +1,7 @@
 use Rattle.std.proofs.Common.{◌<◌, ◌+◌, [], ◌∷◌, ◌++◌, length, take, drop, get_or, sym, ap, subst, ◌∙◌, arith}
 use Rattle.std.proofs.lemmas.List.{take_more, take-append-drop}
 use Rattle.intake.specs.Through.{out_of}
-use Rattle.intake.proofs.Gathering.{handed}
+use Rattle.intake.proofs.Handed.{err_is}
 use Rattle.intake.proofs.through.take_all.Goals as goal
 
 pub loop-byte-preserved : goal.loop-byte-preserved
@@ -23,7 +23,7 @@ returns-in_err-take_byte-clause-halts g c =
     let bytes = c.args.bytes.now in
     let within : l.byte-index < length c.args.bytes.now = omega arith in
     let front = take l.byte-index bytes ++ get_or bytes l.byte-index 0 ∷ [] in
-    handed c.from_residual.result _ _ c.from_residual.ensures.1
+    rw (err_is c.from_residual.result _ c.from_residual.ensures.1)
     (subst (λ xs. g.T.Taker.Halts (c.args.taker.now, out_of (g.K.Sink.held c.args.out.now) (g.K.Sink.faults c.args.out.now)) xs (c.take_byte.new.taker, out_of (g.K.Sink.held c.take_byte.new.out) (g.K.Sink.faults c.take_byte.new.out)) c.in_err-take_byte.field-0.0)
     (ap (λ xs. xs ++ drop (l.byte-index + 1) bytes) (sym (take_more bytes l.byte-index 0 within)) ∙ take-append-drop (l.byte-index + 1) bytes)
     (g.met.T.Taker.halts_before (c.args.taker.now, out_of (g.K.Sink.held c.args.out.now) (g.K.Sink.faults c.args.out.now)) (c.take_byte.new.taker, out_of (g.K.Sink.held c.take_byte.new.out) (g.K.Sink.faults c.take_byte.new.out)) front (drop (l.byte-index + 1) bytes) c.in_err-take_byte.field-0.0

@@ -1,5 +1,6 @@
 use Rattle.std.proofs.Common.{rules, [], ◌∷◌, ap, ◌∙◌, ⊎_elim}
-use Rattle.intake.proofs.Gathering.{handed, sent_halts, silent_halts}
+use Rattle.intake.proofs.Gathering.{sent_halts, silent_halts}
+use Rattle.intake.proofs.Handed.{err_is}
 use Rattle.intake.proofs.through.take_byte_since.Goals as goal
 
 pub returns-in_err-send-clause-halts : goal.returns-in_err-send-clause-halts
@@ -17,4 +18,4 @@ returns-in_err-send-clause-halts g c =
     c.args.waiting.now.bytes g1.waiting.now.bytes g2.waiting.now.bytes c.take-answered.result c.requires.none e.hands e.faultless c.take-answered.ensures.takes c.take-answered.ensures.halts
     (λ a b now answer halt. g.met.T.Taker.sent (c.args.taker.now, a) (c.take-answered.new.self, b) now c.args.byte answer halt reply) (g1.grew (g.K.Sink.held c.args.out.now) c.requires.now) e.later c.in_err-send.field-0.0 e.sent)
     c.take-answered.ensures.silent in
-    handed c.from_residual.result _ _ c.from_residual.ensures.1 (search (rules, done))
+    rw (err_is c.from_residual.result _ c.from_residual.ensures.1) (search (rules, done))
