@@ -1,6 +1,6 @@
 -- What is taken through a sink that gathers, once what waited has gone out.
 use Rattle.std.proofs.Common.{◌≡◌, ℕ, ◌≤◌, List, [], ◌∷◌, ◌++◌, length, Option, ap, sym, subst, ◌∙◌, arith, inl, inr}
-use Rattle.std.specs.Prelude.{⊤, IfErr, OnOk, Ok, Err, Result}
+use Rattle.std.specs.Prelude.{⊤, IfErr, OnOk, Err, Result}
 use Rattle.std.specs.Io.KnownBytes.{append_known}
 use Rattle.buffered_sink.proofs.Fronts.{all_sent, front_sent}
 use Rattle.buffered_sink.specs.Handing.{Hands, WroteFront, front_of}
@@ -31,10 +31,6 @@ module _ (T : Out → Out → Type 0) (H : Out → Out → Halt → Type 0) (k0 
 
   behind : w2 ≡ [] → out_of (append_known k1 w1) f1 ≡ out_of k2 f2
   behind sent = ap (λ k. out_of k f1) (sym (all_sent k1 k2 w1 w2 sent hands)) ∙ ap (out_of k2) (sym (faultless sent))
-
-  pub sent_takes : (done : ⊤) → Sent answered f1 f2 w2 (Ok done) → T (out_of k0 f0) (out_of k2 f2)
-  sent_takes done sent =
-      subst (λ (o : Out). T o (out_of k2 f2)) before (subst (λ (o : Out). T (out_of (append_known k0 w0) f0) o) (behind sent.1) (rw sent.0 at takes))
 
   -- nothing was written
   pub silent_halts : (halt : Halt) → w1 ≡ [] → Sent answered f1 f2 w2 (Err halt) → H (out_of k0 f0) (out_of k2 f2) halt

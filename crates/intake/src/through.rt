@@ -61,10 +61,8 @@ fn take_byte_since<T: Taker, K: Sink, N: Since>(
         since: PhantomData::<N>,
     };
     let answered = taker.take(&mut gathered, byte);
-    match send(&mut gathered, answered) {
-        Ok(()) => Ok(()),
-        Err(halt) => Err(halt),
-    }
+    send(&mut gathered, answered)?;
+    Ok(())
 }
 
 // Takes the end, and what waits of a reply goes out.
@@ -107,10 +105,8 @@ fn take_end_since<T: Taker, K: Sink, N: Since>(
         since: PhantomData::<N>,
     };
     let answered = taker.end(&mut gathered);
-    match send(&mut gathered, answered) {
-        Ok(()) => Ok(()),
-        Err(halt) => Err(halt),
-    }
+    send(&mut gathered, answered)?;
+    Ok(())
 }
 
 // Takes some bytes.
@@ -131,10 +127,7 @@ fn take_all<T: Taker, K: Sink>(
     ensures lent { K.lent out.new ≡ K.lent out.old }
 {
     for byte in bytes {
-        match take_byte(taker, out, waiting, *byte) {
-            Ok(()) => {}
-            Err(halt) => return Err(halt),
-        }
+        take_byte(taker, out, waiting, *byte)?;
     }
     Ok(())
 }
@@ -144,7 +137,8 @@ fn read_front<S: Source>(input: &mut S, buffer: &mut [u8], want: usize) -> Resul
     requires some { 1 ≤ want }
     requires room { want ≤ length buffer.old }
     ensures within { IfOk result (λ n. n ≤ want) }
-    ensures bytes { IfOk result (λ n. S.left input.old ≡ prepend_known (take n buffer.new) (S.left input.new)) }
+    ensures bytes { IfOk result (λ n. S.left input.old
+        ≡ prepend_known (take n buffer.new) (S.left input.new)) }
     ensures end { IfOk result (λ n. n ≡ 0 → IsAtEnd (S.left input.new)) }
     ensures failed { OnErr result (S.left input.new ≡ S.left input.old) }
     ensures counted { CountsOne (S.reads input.old) (S.reads input.new) }

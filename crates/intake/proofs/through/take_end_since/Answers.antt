@@ -1,30 +1,21 @@
 use Rattle.std.proofs.Common.{rules, ap, ◌∙◌, ⊎_elim}
-use Rattle.intake.proofs.Gathering.{sent_halts, sent_takes, silent_halts}
+use Rattle.intake.proofs.Gathering.{sent_halts, silent_halts}
+use Rattle.intake.proofs.Handed.{err_is}
 use Rattle.intake.proofs.through.take_end_since.Goals as goal
 
-pub returns-in-Ok-clause-ends : goal.returns-in-Ok-clause-ends
-returns-in-Ok-clause-ends g c =
+pub returns-in_err-send-clause-halts : goal.returns-in_err-send-clause-halts
+returns-in_err-send-clause-halts g c =
     let g1 = c.end-answered.new.out in
     let g2 = c.send.new.gathered in
-    let e = c.in-Ok.ensures in
-    let done = sent_takes (λ o p. g.T.Taker.Ends (c.args.taker.now, o) (c.end-answered.new.self, p)) (λ o p halt. g.T.Taker.HaltsAtEnd (c.args.taker.now, o) (c.end-answered.new.self, p) halt)
-    (g.K.Sink.held c.args.out.now) (g.K.Sink.held g1.out.now) (g.K.Sink.held g2.out.now) (g.K.Sink.faults c.args.out.now) (g.K.Sink.faults g1.out.now) (g.K.Sink.faults g2.out.now)
-    c.args.waiting.now.bytes g1.waiting.now.bytes g2.waiting.now.bytes c.end-answered.result c.requires.none e.hands e.faultless c.end-answered.ensures.ends c.end-answered.ensures.halts _ e.sent in
-    search (rules, done)
-
-pub returns-in-Err-clause-halts : goal.returns-in-Err-clause-halts
-returns-in-Err-clause-halts g c =
-    let g1 = c.end-answered.new.out in
-    let g2 = c.send.new.gathered in
-    let e = c.in-Err.ensures in
+    let e = c.in_err-send.ensures in
     let done = ⊎_elim
     (λ same. silent_halts (λ o p. g.T.Taker.Ends (c.args.taker.now, o) (c.end-answered.new.self, p)) (λ o p halt. g.T.Taker.HaltsAtEnd (c.args.taker.now, o) (c.end-answered.new.self, p) halt)
     (g.K.Sink.held c.args.out.now) (g.K.Sink.held g1.out.now) (g.K.Sink.held g2.out.now) (g.K.Sink.faults c.args.out.now) (g.K.Sink.faults g1.out.now) (g.K.Sink.faults g2.out.now)
     c.args.waiting.now.bytes g1.waiting.now.bytes g2.waiting.now.bytes c.end-answered.result c.requires.none e.hands e.faultless c.end-answered.ensures.ends c.end-answered.ensures.halts
-    c.in-Err.halt (ap (λ s. s.waiting.now.bytes) same ∙ c.requires.none) e.sent)
+    c.in_err-send.field-0.0 (ap (λ s. s.waiting.now.bytes) same ∙ c.requires.none) e.sent)
     (λ reply. sent_halts (λ o p. g.T.Taker.Ends (c.args.taker.now, o) (c.end-answered.new.self, p)) (λ o p halt. g.T.Taker.HaltsAtEnd (c.args.taker.now, o) (c.end-answered.new.self, p) halt)
     (g.K.Sink.held c.args.out.now) (g.K.Sink.held g1.out.now) (g.K.Sink.held g2.out.now) (g.K.Sink.faults c.args.out.now) (g.K.Sink.faults g1.out.now) (g.K.Sink.faults g2.out.now)
     c.args.waiting.now.bytes g1.waiting.now.bytes g2.waiting.now.bytes c.end-answered.result c.requires.none e.hands e.faultless c.end-answered.ensures.ends c.end-answered.ensures.halts
-    (λ a b now answer halt. g.met.T.Taker.sent_at_end (c.args.taker.now, a) (c.end-answered.new.self, b) now answer halt reply) (g1.grew (g.K.Sink.held c.args.out.now) c.requires.now) e.later c.in-Err.halt e.sent)
+    (λ a b now answer halt. g.met.T.Taker.sent_at_end (c.args.taker.now, a) (c.end-answered.new.self, b) now answer halt reply) (g1.grew (g.K.Sink.held c.args.out.now) c.requires.now) e.later c.in_err-send.field-0.0 e.sent)
     c.end-answered.ensures.silent in
-    search (rules, done)
+    rw (err_is c.from_residual.result _ c.from_residual.ensures.1) (search (rules, done))
