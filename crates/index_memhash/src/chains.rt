@@ -7,8 +7,11 @@ use afl_base::SlotNo;
 /// The number of chains.
 pub(crate) const CHAINS: u16 = 512;
 
+/// The most keys that a table holds.
+pub const MOST_KEYS: u16 = 2_048;
+
 /// Behind all entries: where a chain ends.
-pub(crate) const END: u16 = 2048;
+pub(crate) const END: u16 = MOST_KEYS;
 
 /// The hash of a key, below 512.
 #[tactic(auto, unfolding(crate::specs::Chains::hash))]

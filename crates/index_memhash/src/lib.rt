@@ -5,4 +5,5 @@ mod chains;
 pub mod laws;
 mod table;
 
+pub use chains::MOST_KEYS;
 pub use table::{HashPlace, HashTable};

@@ -25,6 +25,7 @@ use afl_base::{Failed, FileId, Files, KeyColumn};
 use db_model::{IndexKind, Range};
 use index_inline::ordered;
 use index_maxheap::verify;
+use index_memhash::MOST_KEYS;
 
 /// How the rows of a relation are found: by the index of that number in its list, counted from 0.
 #[derive(Clone, Copy, Debug, PartialEq, Eq)]
@@ -283,7 +284,7 @@ fn fill_whole<V: Files>(
     ensures other { (other : AnyTable) → other ≢ table → entries tables.new other ≡ entries tables.old other }
     ensures frame { OnlyReads V.state V.lent V.reads V.faults files.old files.new result }
 {
-    if slots > 2048 {
+    if slots > MOST_KEYS {
         return Ok(tables.len(table) == slots);
     }
     tables.fill(files, table, column, slots)?;

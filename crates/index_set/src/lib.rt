@@ -11,6 +11,7 @@ mod walks;
 
 pub use candidates::{Candidates, Search};
 pub use choices::{Plan, choose, verify_all};
+pub use index_memhash::MOST_KEYS;
 pub use info::{Access, IndexInfo, Indexes, Rooms, TableId};
 pub use inserts::{insert_all, prepare_all};
 pub use laws::{

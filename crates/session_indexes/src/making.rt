@@ -25,7 +25,7 @@ use crate::trees::add_tree;
 use afl_base::{Failed, FileError, FileId, Files};
 use db_model::{IndexKind, Pool, Refusal};
 use index_inline::ordered;
-use index_set::{Access, HashTables};
+use index_set::{Access, HashTables, MOST_KEYS};
 use session_model::{Held, Indexed};
 use tuple_file::Tuples;
 
@@ -151,7 +151,7 @@ fn make_table<V: Files>(
     if is_crowded(slots) {
         return Ok(Err(Refusal::Full {
             pool: Pool::HashEntries,
-            limit: 2048,
+            limit: MOST_KEYS,
         }));
     }
     let column = tuples.column(site.attribute);

@@ -5,7 +5,7 @@
 ghost use Rattle.std.specs.Prelude.{◌≡◌, ◌<◌, ◌≤◌, IsFalse, IsTrue};
 ghost use Rattle.session_indexes.specs.Sites.{free_table, is_in_table, is_table_taken};
 
-use index_set::{Access, TableId};
+use index_set::{Access, MOST_KEYS, TableId};
 use session_model::Indexed;
 
 fn is_in_table(index: &Option<Indexed>, table: TableId) -> bool
@@ -47,5 +47,5 @@ pub fn is_crowded(slots: u16) -> bool
     ensures crowded { IsTrue result → 2048 < slots }
     ensures fits { IsFalse result → slots ≤ 2048 }
 {
-    slots > 2048
+    slots > MOST_KEYS
 }

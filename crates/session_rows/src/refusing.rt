@@ -17,11 +17,8 @@ ghost use Rattle.session_rows.specs.Refused.{IsRefusedBy};
 use crate::suiting::{fallen, has_order, has_table, unsuited};
 use afl_base::{Failed, Files, MOST_SLOTS, SlotNo};
 use db_model::{Pool, Refusal, Tuple};
-use index_set::{HashTables, Indexes};
+use index_set::{HashTables, Indexes, MOST_KEYS};
 use tuple_file::Tuples;
-
-// How many entries a hash table has.
-const MOST_ENTRIES: u16 = 2_048;
 
 // How many rows a relation may have in a database of version 1.
 const MOST_SLOTS_OF_VERSION_1: u16 = 16_384;
@@ -70,10 +67,10 @@ pub(crate) fn refused_row<V: Files>(
     if let Some(last) = fallen_behind(files, tuples, indexes, values)? {
         return Ok(Some(Refusal::NotOrdered { last }));
     }
-    if has_table(indexes) && MOST_ENTRIES <= count {
+    if has_table(indexes) && MOST_KEYS <= count {
         return Ok(Some(Refusal::Full {
             pool: Pool::HashEntries,
-            limit: MOST_ENTRIES,
+            limit: MOST_KEYS,
         }));
     }
     Ok(None)
