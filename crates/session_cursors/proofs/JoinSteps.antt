@@ -137,10 +137,3 @@ module _ (c : JoinCursor) (lefts rights : List Row) where
       ap (λ (l : List Row). replicate (length (matching c.left_on c.right_on (take 1 l) (drop c.from (rights_of c rights)))) c.at
       ++ stops_from of_slot (c.at + 1) (c.left_slots - (c.at + 1))) none
       ∙ ap (λ (n : ℕ). stops_from of_slot (c.at + 1) n) few
-
-    none_of : (xs : List Row) → sum (map (partners (c.left_on, c.right_on) []) xs) ≡ 0
-    none_of [] = refl
-    none_of (x ∷ xs) = omega (arith, no_partner x.live, none_of xs)
-
-    without : (xs : List Row) → matching c.left_on c.right_on xs [] ≡ []
-    without xs = no_items (matching c.left_on c.right_on xs []) (sym (many_pairs (c.left_on, c.right_on) [] xs) ∙ none_of xs)
