@@ -19,8 +19,8 @@ few_by : (has some : Bool) (count n : ℕ) → has ≡ some → count ≡ n → 
 few_by has some count n e f (inl h) is = omega (arith, f, h.1)
 few_by has some count n e f (inr h) is = let both : true ≡ false = sym is ∙ sym e ∙ h in absurd (cc)
 
-pub returns-then-count-ge-MOST_ENTRIES-clause-refused : goal.returns-then-count-ge-MOST_ENTRIES-clause-refused
-returns-then-count-ge-MOST_ENTRIES-clause-refused g c = λ told slot db v indexes.
+pub returns-then-count-ge-MOST_KEYS-clause-refused : goal.returns-then-count-ge-MOST_KEYS-clause-refused
+returns-then-count-ge-MOST_KEYS-clause-refused g c = λ told slot db v indexes.
     let state = g.V.Files.state c.args.files.now in
     let t = c.args.tuples.now in
     let p : Passes c.args.values.now c.args.version slot c.args.indexes.now (relation_of_rows state.files t) = record {
@@ -29,7 +29,7 @@ returns-then-count-ge-MOST_ENTRIES-clause-refused g c = λ told slot db v indexe
       follows = sym (c.in_ok-last.ensures.fallen told slot) ∙ c.in_default-2.is;
     } in
     too_many_entries c.args.values.now c.args.version slot c.args.indexes.now (relation_of_rows state.files t) p db v indexes
-    (sym c.has_table.ensures ∙ c.if-has_table.true) (omega (arith, c.if-count-ge-MOST_ENTRIES.true, c.count-count.ensures.rows))
+    (sym c.has_table.ensures ∙ c.if-has_table.true) (omega (arith, c.if-count-ge-MOST_KEYS.true, c.count-count.ensures.rows))
 
 pub returns-clause-refused : goal.returns-clause-refused
 returns-clause-refused g c = λ told slot db v indexes.
