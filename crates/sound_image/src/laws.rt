@@ -9,6 +9,7 @@ ghost use Rattle.db_model.specs.Database.{empty_database};
 ghost use Rattle.session_model.specs.Wanted.{WantsOver};
 ghost use Rattle.sound_image.specs.Images.{IsFirstBroken, IsSound, base, files_of_image};
 ghost use Rattle.space_model.specs.Enough.{most};
+ghost use Rattle.space_model.specs.Wants.{AsksLittle};
 ghost use Rattle.stored.specs.Base.{base_of};
 ghost use Rattle.stored.specs.Sound.{IsSoundTable};
 
@@ -38,10 +39,20 @@ pub fn volumes_are_asked_for_few<F: Flash>(volume: &Volume<F>)
         → WantsOver (⟦<Volume<F> as Files>⟧.asks volume.now) files (base_of files) command need
         → need ≤ most (base_of files) command }
 {
-    tell_places(volume);
     volume.asks_for_little();
-    files_ask_for_few(volume);
-    commands_want_at_most(volume);
+    little_is_wanted(volume);
+}
+
+// The same of any files that are asked for little.
+fn little_is_wanted<V: Files>(files: &V)
+    ensures { let table = (V.state files.now).files in
+        AsksLittle table (V.asks files.now) → IsSoundTable table → (command : Command) (need : ℕ)
+        → WantsOver (V.asks files.now) table (base_of table) command need
+        → need ≤ most (base_of table) command }
+{
+    tell_places(files);
+    files_ask_for_few(files);
+    commands_want_at_most(files);
     sound_files_have_their_sizes();
     sound_catalogs_have_their_files();
 }
