@@ -4,6 +4,7 @@ use afl_sim::FileFlash;
 use std::fs;
 use std::fs::{File, Files, OpenOptions};
 use std::io::ErrorKind;
+use std::os::unix::fs::MetadataExt;
 
 // 256 sectors of 4,096 bytes
 const NEW_IMAGE: u64 = 1_048_576;
@@ -45,13 +46,14 @@ pub fn remove_new<R: Files<File = File>>(rt: &R, path: &str, image: Image) {
 
 fn take_found<R: Files<File = File>>(rt: &R, path: &str, file: File) -> Result<FileFlash, Failure> {
     let file = lock(file)?;
-    // the run that had it may have made it and removed it again
-    if fs::metadata(rt, path).is_err() {
-        return Err(Failure::Open);
-    }
     let Ok(known) = file.metadata() else {
         return Err(Failure::Open);
     };
+    // the run that had it may have made it and removed it again, and another may have made one since
+    match fs::metadata(rt, path) {
+        Ok(named) if named.dev() == known.dev() && named.ino() == known.ino() => {}
+        _ => return Err(Failure::Open),
+    }
     FileFlash::new(file, known.len()).ok_or(Failure::Length)
 }
 
