@@ -18,19 +18,22 @@ module _ (came : Came) where
   abbrev pub IsUnopened : Type 0
   IsUnopened = (came ≡ Refused) ⊎ (came ≡ Unsaid)
 
-  pub refused_comes : (form : Form) (old new : World) (rule place : ℕ) → IsUnopened → IsFirstBroken old.image rule place → new.image ≡ old.image
+  pub refused_comes : (form : Form) (old new : World) (rule place : ℕ) → IsUnopened → IsFirstBroken old.image rule place → new.image ≡ old.image → new.left ≡ old.left
       → (came ≡ Refused → new.held ≡ append_known old.held (image_line rule place)) → (came ≡ Unsaid → WroteLess old.held new.held (image_line rule place))
       → ComesTo form old new came
-  refused_comes form old new rule place (inl e) first same written less =
+  refused_comes form old new rule place (inl e) first same unread written less =
       subst (ComesTo form old new) (sym e) (record { rule = rule; place = place; first = first; same = same; written = written e })
-  refused_comes form old new rule place (inr e) first same written less =
-      subst (ComesTo form old new) (sym e) (record {
-        rule = rule;
-        place = place;
-        first = first;
-        same = same;
-        written = wrote_within [] (image_line rule place) (image_line rule place) old.held old.held new.held (sym (append_known-nil old.held)) (less e) refl;
-      })
+  refused_comes form old new rule place (inr e) first same unread written less =
+      subst (ComesTo form old new) (sym e) (
+        record {
+          rule = rule;
+          place = place;
+          first = first;
+          same = same;
+          written = wrote_within [] (image_line rule place) (image_line rule place) old.held old.held new.held (sym (append_known-nil old.held)) (less e) refl;
+        },
+        unread,
+      )
 
   pub none_opened : (P : Result ⊤ Stop → Type 0) → IsUnopened → OnOpened came P
   none_opened P (inl e) = subst (λ (k : Came). OnOpened k P) (sym e) tt

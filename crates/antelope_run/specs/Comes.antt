@@ -11,7 +11,7 @@ use Rattle.antelope_run.specs.declared.came.Came.{Came}
 use Rattle.antelope_run.specs.declared.came.Came.TheVariants.{Opened, Refused, Unsaid, Failed}
 use Rattle.antelope_run.specs.declared.words.Form.{Form}
 use Rattle.antelope_run.specs.Left.{LeavesBehind, status_of}
-use Rattle.antelope_run.specs.Statuses.{TakesInput}
+use Rattle.antelope_run.specs.Statuses.{LeavesImage, TakesInput}
 
 abbrev pub status_by : Came → ℕ
 status_by (Opened done) = status_of done
@@ -22,8 +22,8 @@ status_by Failed = 4
 abbrev pub ComesTo : Form → World → World → Came → Type 0
 ComesTo form old new (Opened done) = IsSound old.image × LeavesBehind form old new done
 ComesTo form old new Refused = Refuses old new
-ComesTo form old new Unsaid = RefusalUnsaid old new
-ComesTo form old new Failed = new.held ≡ old.held
+ComesTo form old new Unsaid = RefusalUnsaid old new × (new.left ≡ old.left)
+ComesTo form old new Failed = LeavesImage old new × (new.held ≡ old.held)
 
 -- how far the bytes of an input came: to their end, or one byte past the limit
 abbrev pub ReachesBy : Form → Result ⊤ Stop → (left left_now : Option (List ℕ)) → Type 0

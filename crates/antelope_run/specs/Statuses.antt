@@ -135,13 +135,13 @@ IsTooLong words old new = IsSound old.image × OnForm words (λ form. OnInput fo
 abbrev pub FindsNoSpace : Option Form → World → World → Type 0
 FindsNoSpace words old new = IsSound old.image × OnForm words (λ form. Spaceless form old new)
 
--- 4: nothing was written where no session was opened
+-- 4: image, input and sink are as they were where no session was opened
 abbrev pub IsFaulted : Option Form → World → World → Type 0
-IsFaulted words old new = (new.held ≡ old.held) ⊎ (IsSound old.image × OnForm words (λ form. Faulted form old new))
+IsFaulted words old new = (LeavesImage old new × (new.held ≡ old.held)) ⊎ (IsSound old.image × OnForm words (λ form. Faulted form old new))
 
--- 5: the line of an image that is not sound, or what is written of a sound one
+-- 5: of the line of an image that is not sound, the input unread, or of what is written of a sound one
 abbrev pub IsUnsaid : Option Form → World → World → Type 0
-IsUnsaid words old new = RefusalUnsaid old new ⊎ (IsSound old.image × OnForm words (λ form. Unsaid form old new))
+IsUnsaid words old new = (RefusalUnsaid old new × (new.left ≡ old.left)) ⊎ (IsSound old.image × OnForm words (λ form. Unsaid form old new))
 
 -- ---- all of them
 

@@ -24,7 +24,6 @@ use antelope_engine::Session;
 use coffee_volume::{MountError, Volume};
 use intake::{Halt, Stop};
 use sound_image::mounted_files_are_the_images;
-use stored::sound_files_are_a_sound_database;
 
 /// Carries out what the words ask for, and answers the status that the program ends with, and the flash.
 ///
@@ -47,7 +46,8 @@ pub fn top<F: Flash, S: Source, K: Sink>(
 ) -> (u8, F)
     ensures only { IsStatus result.0 }
     ensures words { (result.0 ≡ 1) ↔ (form_of words.now ≡ None) }
-    ensures words_leave { result.0 ≡ 1 → (script.new ≡ script.old) × (out.new ≡ out.old) × (result.1 ≡ flash) }
+    ensures words_leave { result.0 ≡ 1
+        → (script.new ≡ script.old) × (out.new ≡ out.old) × (result.1 ≡ flash) }
     ensures caused { CausedBy result.0 (S.faults script.old) (S.faults script.new) (F.faults flash)
         (F.faults result.1) (K.faults out.old) (K.faults out.new) }
     ensures taken { TakenBy S.left result.0 (form_of words.now) script.old script.new }
@@ -57,7 +57,8 @@ pub fn top<F: Flash, S: Source, K: Sink>(
         (world (F.image result.1) (S.left script.new) (K.held out.new)) }
     ensures unsound { IsTrue F.tells → form_of words.now ≢ None → (IsSound (F.image flash) → ⊥)
         → (result.0 ≡ 4) ⊎ (result.0 ≡ 5) ⊎ (result.0 ≡ 6) }
-    ensures no_fault { IsTrue F.tells → IsSound (F.image flash) → IsWithinLimit (form_of words.now) (S.left script.old)
+    ensures no_fault { IsTrue F.tells → IsSound (F.image flash)
+        → IsWithinLimit (form_of words.now) (S.left script.old)
         → (Rose (S.faults script.old) (S.faults script.new) → ⊥) → (Rose (F.faults flash) (F.faults result.1) → ⊥)
         → (Rose (K.faults out.old) (K.faults out.new) → ⊥) → (result.0 ≡ 0) ⊎ (result.0 ≡ 3) }
     ensures suffices { IsTrue F.tells → IsSound (F.image flash)
@@ -106,10 +107,9 @@ fn run_form<F: Flash, S: Source, K: Sink>(
     ensures reads { IsTrue F.tells → ReadsAtMost (Some form)
         (world (F.image flash) (S.left input.old) (K.held out.old)) (F.reads result.1 - F.reads flash) }
     ensures kept { BorrowsTheSame F.Flash K.Sink flash result.1 out.old out.new }
-    ensures cause { HasCameCause (S.faults input.old) (S.faults input.new) (F.faults flash) (F.faults result.1)
-        (K.faults out.old) (K.faults out.new) result.0 }
+    ensures cause { HasCameCause (S.faults input.old) (S.faults input.new)
+        (F.faults flash) (F.faults result.1) (K.faults out.old) (K.faults out.new) result.0 }
 {
-    sound_files_are_a_sound_database();
     mounted_files_are_the_images();
     let sectors = flash.sectors();
     let volume = match Volume::mount(flash) {
@@ -134,7 +134,8 @@ fn refuse<K: Sink>(out: &mut K, rule: u8, place: u16) -> Came
     ensures only { (result ≡ AnyCame.Refused) ⊎ (result ≡ AnyCame.Unsaid) }
     ensures written { result ≡ AnyCame.Refused
         → K.held out.new ≡ append_known (K.held out.old) (image_line rule place) }
-    ensures unsaid { result ≡ AnyCame.Unsaid → WroteLess (K.held out.old) (K.held out.new) (image_line rule place) }
+    ensures unsaid { result ≡ AnyCame.Unsaid
+        → WroteLess (K.held out.old) (K.held out.new) (image_line rule place) }
     ensures rose { result ≡ AnyCame.Unsaid → Rose (K.faults out.old) (K.faults out.new) }
     ensures lent { K.lent out.new ≡ K.lent out.old }
 {

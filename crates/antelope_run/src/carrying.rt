@@ -5,7 +5,6 @@
 ghost use Rattle.std.specs.Prelude.{◌≡◌, ◌≢◌, ◌≤◌, false, true, ℕ, Err, IsTrue, Some, length};
 ghost use Rattle.answering.specs.Carried.{LacksPages, standing_of};
 ghost use Rattle.answering.specs.Went.{HasRunCause};
-ghost use Rattle.db_model.specs.Sound.{IsSoundDatabase};
 ghost use Rattle.db_model.specs.Workload.{first_commands};
 ghost use Rattle.dump.specs.Unchanged.{IsAsBefore};
 ghost use Rattle.dump_model.specs.Script.{script};
@@ -38,12 +37,13 @@ pub fn carry_out<V: Files, S: Source, K: Sink>(
 ) -> Result<(), Stop>
     requires running { session.old.stopped ≡ false }
     requires commands { HasFewCommands form }
-    ensures does { IsTrue (V.state session.old.files).tells → session.old.lost ≡ false → IsSoundDatabase session.old.database
+    ensures does { IsTrue (V.state session.old.files).tells → session.old.lost ≡ false
         → DoesForm (standing_of V.state V.reads session.old (K.held out.old))
         (standing_of V.state V.reads session.new (K.held out.new)) sectors (S.left input.old) (S.left input.new)
         (LacksPages V.state V.asks V.lacks session.new) form result }
     ensures reaches { ReachesBy form result (S.left input.old) (S.left input.new) }
-    ensures lost { session.old.lost ≡ false → session.new.lost ≡ true → result ≡ Err (Stop.Halted Halt.Flash) }
+    ensures lost { session.old.lost ≡ false → session.new.lost ≡ true
+        → result ≡ Err (Stop.Halted Halt.Flash) }
     ensures store { length (V.state session.new.files).store ≡ length (V.state session.old.files).store }
     ensures reads { IsTrue (V.state session.old.files).tells → CarriedReads form
         (standing_of V.state V.reads session.old (K.held out.old)) (S.left input.old) (V.reads session.new.files) }
@@ -77,7 +77,8 @@ fn generate_all<V: Files, K: Sink>(
         let new = standing_of V.state V.reads session.new (K.held out.new) in
         IsTrue (V.state session.old.files).tells → session.old.lost ≡ false → TellsOn old new result × Generates old new
         (LacksPages V.state V.asks V.lacks session.new) (first_commands seed count) result }
-    ensures lost { session.old.lost ≡ false → session.new.lost ≡ true → result ≡ Err (Stop.Halted Halt.Flash) }
+    ensures lost { session.old.lost ≡ false → session.new.lost ≡ true
+        → result ≡ Err (Stop.Halted Halt.Flash) }
     ensures store { length (V.state session.new.files).store ≡ length (V.state session.old.files).store }
     ensures halts { OnlyHalts result }
     ensures borrows { V.lent session.new.files ≡ V.lent session.old.files }
@@ -107,7 +108,7 @@ fn plan<V: Files, K: Sink>(
     requires running { session.old.stopped ≡ false }
     ensures does { let old = standing_of V.state V.reads session.old (K.held out.old) in
         let new = standing_of V.state V.reads session.new (K.held out.new) in
-        IsTrue (V.state session.old.files).tells → IsSoundDatabase session.old.database
+        IsTrue (V.state session.old.files).tells
         → TellsOn old new result × WritesText old new (plan_text (planned session.old.database rows) sectors) result }
     ensures same { session.new ≡ session.old }
     ensures halts { OnlyHalts result }
@@ -127,11 +128,12 @@ fn dump_all<V: Files, K: Sink>(session: &mut Session<V>, out: &mut K) -> Result<
     requires running { session.old.stopped ≡ false }
     ensures does { let old = standing_of V.state V.reads session.old (K.held out.old) in
         let new = standing_of V.state V.reads session.new (K.held out.new) in
-        IsTrue (V.state session.old.files).tells → IsSoundDatabase session.old.database
+        IsTrue (V.state session.old.files).tells
         → TellsOn old new result × WritesText old new (script session.old.database) result }
     ensures same { result ≢ Err (Stop.Halted Halt.Flash) → IsAsBefore V.state session.old session.new }
     ensures files { V.state session.new.files ≡ V.state session.old.files }
-    ensures lost { session.old.lost ≡ false → session.new.lost ≡ true → result ≡ Err (Stop.Halted Halt.Flash) }
+    ensures lost { session.old.lost ≡ false → session.new.lost ≡ true
+        → result ≡ Err (Stop.Halted Halt.Flash) }
     ensures store { length (V.state session.new.files).store ≡ length (V.state session.old.files).store }
     ensures halts { OnlyHalts result }
     ensures borrows { V.lent session.new.files ≡ V.lent session.old.files }

@@ -1,10 +1,9 @@
 use Rattle.std.proofs.Common.{◌≡◌, refl, rules, ◌/◌, ap, sym, subst, ◌∙◌, inl, inr, Err, arith, length}
-use Rattle.db_model.specs.Sound.{IsSoundDatabase}
 use Rattle.intake.specs.declared.halt.Halt.TheVariants.{Flash, Sink}
 use Rattle.intake.specs.declared.halt.Stop.TheVariants.{Input, Halted}
 use Rattle.stored.specs.Base.{base_of}
 use Rattle.stored.specs.Sound.{BreaksFirst, IsSoundTable}
-use Rattle.sound_image.specs.Images.{base, files_of_image, IsSound}
+use Rattle.sound_image.specs.Images.{base, IsSound}
 use Rattle.antelope_run.proofs.Leaving.{leaves, tells_alone}
 use Rattle.run_model.specs.Runs.{world}
 use Rattle.antelope_run.proofs.Opened.{mounted_within, opened_within}
@@ -25,8 +24,6 @@ returns-in-Ok-Ok-clause-comes g c = λ told.
     let start : c.begin.new.self.database ≡ base image = (rw c.in-Ok-Ok.field-0-is at (began.base tells)) ∙ ap base_of files in
     let kept = (rw c.in-Ok-Ok.field-0-is at began.running).1 in
     let told_now = ap (λ s. s.tells) began.frame.same ∙ tells in
-    let database : IsSoundDatabase c.begin.new.self.database =
-    subst IsSoundDatabase (sym start) (c.sound_files_are_a_sound_database.ensures (files_of_image image) sound.database) in
     let many : c.sectors-sectors.result ≡ length image / 4096 = (let size = c.sectors-sectors.ensures.size in omega (arith, size)) in (
       sound,
       leaves _ _ image (g.F.Flash.image c.close.result) (g.S.Source.left c.args.input.now) (g.S.Source.left c.carry_out-done.new.input) _ start told_now
@@ -34,7 +31,7 @@ returns-in-Ok-Ok-clause-comes g c = λ told.
           (λ tells_now other. c.close.ensures.back tells_now (not_true _ c.carry_out-done.new.session.lost (c.carry_out-done.ensures.lost kept) other))
           (λ only. c.close.ensures.image ∙ c.carry_out-done.ensures.same only ∙ ap (λ s. s.store) began.frame.same ∙ store)
           (λ only. ap g.S.Source.left (c.carry_out-done.ensures.unread (tells_alone c.args.form only)))
-          (c.carry_out-done.ensures.does told_now kept database),
+          (c.carry_out-done.ensures.does told_now kept),
     )
 
 pub returns-in-Ok-Ok-clause-reads : goal.returns-in-Ok-Ok-clause-reads
@@ -73,7 +70,7 @@ pub returns-in-Err-Bad-clause-reads : goal.returns-in-Err-Bad-clause-reads
 returns-in-Err-Bad-clause-reads g c = λ told.
     let image = g.F.Flash.image c.args.flash in
     unopened_reads image (g.S.Source.left c.args.input.now) (g.K.Sink.held c.args.out.now) (g.F.Flash.reads c.args.flash)
-    c.args.form _ (mounted_within image _ _ c.sectors-sectors.result c.sectors-sectors.ensures.size (rw c.in-Err-Bad.flash-is (rw c.in-Err-Bad.field-0-is at c.in-Err-Bad.ensures.reads)))
+    c.args.form _ (mounted_within image _ _ c.sectors-sectors.result c.sectors-sectors.ensures.size (search rules))
 
 pub returns-in-Err-Bad-clause-comes : goal.returns-in-Err-Bad-clause-comes
 returns-in-Err-Bad-clause-comes g c = λ told.
@@ -81,7 +78,7 @@ returns-in-Err-Bad-clause-comes g c = λ told.
     refused_comes c.refuse.result c.args.form
     (world (g.F.Flash.image c.args.flash) (g.S.Source.left c.args.input.now) (g.K.Sink.held c.args.out.now))
     (world _ (g.S.Source.left c.args.input.now) (g.K.Sink.held c.refuse.new.out))
-    c.in-Err-Bad.bad.rule c.in-Err-Bad.bad.place e.only (inl (rw c.in-Err-Bad.field-0-is at (c.in-Err-Bad.ensures.bad told))) (search rules) (rw c.in-Err-Bad.field-0-is at e.written) (rw c.in-Err-Bad.field-0-is at e.unsaid)
+    c.in-Err-Bad.bad.rule c.in-Err-Bad.bad.place e.only (inl (rw c.in-Err-Bad.field-0-is at (c.in-Err-Bad.ensures.bad told))) (search rules) refl (rw c.in-Err-Bad.field-0-is at e.written) (rw c.in-Err-Bad.field-0-is at e.unsaid)
 
 pub returns-in-Err-Bad-clause-reaches : goal.returns-in-Err-Bad-clause-reaches
 returns-in-Err-Bad-clause-reaches g c = none_opened c.refuse.result _ c.refuse.ensures.only
@@ -125,7 +122,7 @@ returns-in-Ok-Err-clause-comes g c = λ told.
     refused_comes c.refuse-in-Ok-Err.result c.args.form
     (world image (g.S.Source.left c.args.input.now) (g.K.Sink.held c.args.out.now))
     (world (g.F.Flash.image c.close-in-Ok-Err.result) (g.S.Source.left c.args.input.now) (g.K.Sink.held c.refuse-in-Ok-Err.new.out))
-    rule place e.only (inr (c.in-Ok.ensures.sound told, bad)) (c.close-in-Ok-Err.ensures.image ∙ ap (λ s. s.store) began.frame.same ∙ store) e.written e.unsaid
+    rule place e.only (inr (c.in-Ok.ensures.sound told, bad)) (c.close-in-Ok-Err.ensures.image ∙ ap (λ s. s.store) began.frame.same ∙ store) refl e.written e.unsaid
 
 pub returns-in-Ok-Err-clause-reaches : goal.returns-in-Ok-Err-clause-reaches
 returns-in-Ok-Err-clause-reaches g c = none_opened c.refuse-in-Ok-Err.result _ c.refuse-in-Ok-Err.ensures.only
@@ -137,6 +134,14 @@ pub returns-in-Ok-Err-clause-cause : goal.returns-in-Ok-Err-clause-cause
 returns-in-Ok-Err-clause-cause g c = refused_cause c.refuse-in-Ok-Err.result _ _ _ _ _ _ c.refuse-in-Ok-Err.ensures.only c.refuse-in-Ok-Err.ensures.rose
 
 -- the flash failed
+
+pub returns-in-Err-Failed-clause-comes : goal.returns-in-Err-Failed-clause-comes
+returns-in-Err-Failed-clause-comes g c = λ told. (record { same = search rules; unread = refl }, refl)
+
+pub returns-in-Err-clause-comes : goal.returns-in-Err-clause-comes
+returns-in-Err-clause-comes g c = λ told.
+    let same = c.close-in-Err.ensures.image ∙ ap (λ s. s.store) c.in-Err.ensures.frame.same ∙ rw (← c.new-session.ensures.files) at c.in-Ok.ensures.same in
+    (record { same = same; unread = refl }, refl)
 
 pub returns-in-Err-clause-reads : goal.returns-in-Err-clause-reads
 returns-in-Err-clause-reads g c = λ told.

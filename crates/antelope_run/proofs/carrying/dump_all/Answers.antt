@@ -8,9 +8,9 @@ returns-clause-does g c =
     let e = c.write.ensures in
     let old = standing_of g.V.Files.state g.V.Files.reads c.args.session.now (g.K.Sink.held c.args.out.now) in
     let new = standing_of g.V.Files.state g.V.Files.reads c.write.new.session (g.K.Sink.held c.write.new.out) in
-    λ told sound. rw c.stopped.ensures (
+    λ told. rw c.stopped.ensures (
       λ other. ap (λ s. s.tells) (dumped_same c.write.result _ e.same other).files,
-      dumped old new _ c.write.result (e.wrote told sound),
+      dumped old new _ c.write.result (e.wrote told),
     )
 
 pub returns-clause-same : goal.returns-clause-same
