@@ -36,10 +36,7 @@ pub fn write_relations<V: Files, K: Sink>(session: &mut Session<V>, out: &mut K)
         out.old out.new result }
 {
     for slot in 0..8u16 {
-        match write_relation(session, relation_id(slot), out) {
-            Ok(()) => {}
-            Err(stop) => return Err(stop),
-        }
+        write_relation(session, relation_id(slot), out)?;
     }
     Ok(())
 }
@@ -104,8 +101,6 @@ pub fn write_lines<V: Files, K: Sink>(
         Ok(()) => {}
         Err(Failed) => return Err(Stop::Sink),
     }
-    match write_rows(session, id, &schema.name, out) {
-        Ok(()) => Ok(()),
-        Err(stop) => Err(stop),
-    }
+    write_rows(session, id, &schema.name, out)?;
+    Ok(())
 }

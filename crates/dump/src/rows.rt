@@ -45,10 +45,7 @@ pub fn write_rows<V: Files, K: Sink>(
             Some(slot) => slot,
             None => return Ok(()),
         };
-        match write_row(session, id, slot, relation, &mut tuple, out) {
-            Ok(()) => {}
-            Err(stop) => return Err(stop),
-        }
+        write_row(session, id, slot, relation, &mut tuple, out)?;
     }
     Ok(())
 }

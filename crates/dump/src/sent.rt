@@ -48,10 +48,7 @@ pub fn write_used<V: Files, K: Sink>(
         out.old out.new result }
 {
     let mut waiting = Waiting::new();
-    match write_through::<V, K, Brand>(session, id, schema, out, &mut waiting) {
-        Ok(()) => Ok(()),
-        Err(stop) => Err(stop),
-    }
+    write_through::<V, K, Brand>(session, id, schema, out, &mut waiting)
 }
 
 // The same through a sink that gathers, from now on.
@@ -110,10 +107,7 @@ pub fn write_index_line<K: Sink>(
     ensures frame { Sends K.lent K.faults out.old out.new result }
 {
     let mut waiting = Waiting::new();
-    match index_through::<K, Brand>(out, &mut waiting, relation, attribute, kind) {
-        Ok(()) => Ok(()),
-        Err(Failed) => Err(Failed),
-    }
+    index_through::<K, Brand>(out, &mut waiting, relation, attribute, kind)
 }
 
 // The same through a sink that gathers, from now on.
@@ -137,12 +131,7 @@ fn index_through<K: Sink, N: Since>(
         waiting,
         since: PhantomData::<N>,
     };
-    match lines::write_index_line(&mut gathered, relation, attribute, kind) {
-        Ok(()) => {}
-        Err(Failed) => return Err(Failed),
-    }
-    match gathered.flush() {
-        Ok(()) => Ok(()),
-        Err(Failed) => Err(Failed),
-    }
+    lines::write_index_line(&mut gathered, relation, attribute, kind)?;
+    gathered.flush()?;
+    Ok(())
 }

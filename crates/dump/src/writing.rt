@@ -39,10 +39,7 @@ pub fn write<V: Files, K: Sink>(session: &mut Session<V>, out: &mut K) -> Result
         out.old out.new result }
 {
     session.database_is_sound();
-    match write_relations(session, out) {
-        Ok(()) => {}
-        Err(stop) => return Err(stop),
-    }
+    write_relations(session, out)?;
     match write_indexes(session, out) {
         Ok(()) => Ok(()),
         Err(Failed) => Err(Stop::Sink),

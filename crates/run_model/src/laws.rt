@@ -39,6 +39,7 @@ pub fn scripts_are_answered_in_order()
         → talk_output (script_talk read) db entries ≡ script.output read db entries }
     ensures last { (read : List ℕ → Result Command Refusal) (db : Database) (entries : List Entry)
         → last_database (script_talk read) db entries ≡ script.last read db entries }
-    ensures costs { (read : List ℕ → Result Command Refusal) (db : Database) (aheads : Aheads) (entries : List Entry)
+    ensures costs { (read : List ℕ → Result Command Refusal)
+        (db : Database) (aheads : Aheads) (entries : List Entry)
         → talk_costs (script_talk read) db aheads entries ≡ run.costs read db aheads entries }
 {}

@@ -20,7 +20,8 @@ ghost use Rattle.serve_model.specs.Served.{IsOfClient, client_of, framed, parts,
 /// where bytes are left.
 #[tactic(auto, using(crate::proofs::Ending::frames_ended, crate::proofs::Ending::frames_finished))]
 pub fn frames_end_one_by_one()
-    ensures all { (bytes : List ℕ) → frames bytes ≡ ended_frames [] bytes ++ unended_frame (part_behind [] bytes) }
+    ensures all { (bytes : List ℕ)
+        → frames bytes ≡ ended_frames [] bytes ++ unended_frame (part_behind [] bytes) }
     ensures finished { (bytes : List ℕ) → finished_frames (frames bytes) ≡ ended_frames [] bytes }
 {}
 
@@ -52,14 +53,13 @@ pub fn clients_fetch_their_answers()
 #[tactic(auto, using(crate::proofs::Parts::clients_of_frames, crate::proofs::Parts::served_parts, crate::proofs::Parts::parts_plain, crate::proofs::Parts::refused_part))]
 pub fn each_reply_is_one_part()
     ensures clients { (bytes : List ℕ) → AllByRecursion IsOfClient (frames bytes) }
-    ensures served { (read : List ℕ → Result Command Refusal) (db : Database) (all : List Frame) (rest : List ℕ)
-        → IsSoundDatabase db
-        → AllByRecursion IsOfClient all
+    ensures served { (read : List ℕ → Result Command Refusal)
+        (db : Database) (all : List Frame) (rest : List ℕ)
+        → IsSoundDatabase db → AllByRecursion IsOfClient all
         → slice_split is_end (served read (bare db) all ++ rest)
         ≡ parts read (bare db) all ++ slice_split is_end rest }
     ensures plain { (read : List ℕ → Result Command Refusal) (db : Database) (all : List Frame)
-        → IsSoundDatabase db
-        → AllByRecursion IsOfClient all
+        → IsSoundDatabase db → AllByRecursion IsOfClient all
         → AllByRecursion (λ part. decoded part ≡ Some part) (parts read (bare db) all) }
     ensures refused { (frame : Frame) (refusal : Refusal) (rest : List ℕ)
         → IsOfClient frame

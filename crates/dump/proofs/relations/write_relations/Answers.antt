@@ -9,13 +9,13 @@ use Rattle.dump.specs.Appends.{AppendsText}
 use Rattle.dump.specs.Parts.{relation_lines}
 use Rattle.dump.proofs.Items.{appends_item, held_item}
 use Rattle.dump.proofs.ScriptTexts.{slots_front, slots_more}
-use Rattle.dump.proofs.Sessions.{before_on}
+use Rattle.dump.proofs.Sessions.{before_on, err_is}
 use Rattle.dump.proofs.relations.write_relations.Goals as goal
 
 pub loop-slot-preserved : goal.loop-slot-preserved
 loop-slot-preserved g c =
     let inv = c.loop-slot.invariant in
-    let e = c.in-Ok.ensures in
+    let e = c.in_ok-write_relation.ensures in
     let db = c.args.session.now.database in
     let k = c.loop-slot.slot in
     let now = g.K.Sink.held c.loop-slot.out in
@@ -41,30 +41,31 @@ loop-slot-preserved g c =
       faults = search rules;
     }
 
-pub returns-in-Err-clause-wrote : goal.returns-in-Err-clause-wrote
-returns-in-Err-clause-wrote g c = λ told sound.
+pub returns-in_err-write_relation-clause-wrote : goal.returns-in_err-write_relation-clause-wrote
+returns-in_err-write_relation-clause-wrote g c = λ told sound.
     let inv = c.loop-slot.invariant in
     let db = c.args.session.now.database in
     let k = c.loop-slot.slot in
-    let stop = c.in-Err.stop in
+    let stop = c.in_err-write_relation.field-0.0 in
     let now = g.K.Sink.held c.loop-slot.out in
     let behind = g.K.Sink.held c.write_relation.new.out in
     let below : k < length db.relations = omega (arith, sound.eight_relations, c.loop-slot-test.true) in
-    let wrote = c.in-Err.ensures.wrote
+    let wrote = c.in_err-write_relation.ensures.wrote
     (subst (λ (state : State). IsTrue state.tells) (sym inv.same.files) told)
     (subst (λ (d : Database). IsSoundDatabase d) (sym inv.same.database) sound) in
-    appends_item relation_lines db.relations k None below stop (g.K.Sink.held c.args.out.now) now behind (inv.wrote told sound)
+    rw (err_is c.from_residual.result _ c.from_residual.ensures.1)
+    (appends_item relation_lines db.relations k None below stop (g.K.Sink.held c.args.out.now) now behind (inv.wrote told sound)
     (subst (λ (d : Database). AppendsText (Err stop) now behind (relation_lines (relation_in_slot d k))) inv.same.database
-    (rw c.relation_id.ensures at wrote))
+    (rw c.relation_id.ensures at wrote)))
 
-pub returns-in-Err-clause-reads : goal.returns-in-Err-clause-reads
-returns-in-Err-clause-reads g c =
+pub returns-in_err-write_relation-clause-reads : goal.returns-in_err-write_relation-clause-reads
+returns-in_err-write_relation-clause-reads g c =
     let inv = c.loop-slot.invariant in
     let db = c.args.session.now.database in
     let k = c.loop-slot.slot in
     let more = slots_more db k in
     let front = slots_front db.relations (k + 1) in
-    let read = subst (λ (d : Database). g.V.Files.reads c.write_relation.new.session.files ≤ g.V.Files.reads c.loop-slot.session.files + 6 * length (rows_in d k)) inv.same.database (rw c.relation_id.ensures at c.in-Err.ensures.reads) in
+    let read = subst (λ (d : Database). g.V.Files.reads c.write_relation.new.session.files ≤ g.V.Files.reads c.loop-slot.session.files + 6 * length (rows_in d k)) inv.same.database (rw c.relation_id.ensures at c.in_err-write_relation.ensures.reads) in
     omega (arith, more, front, read, inv.reads)
 
 pub returns-clause-reads : goal.returns-clause-reads
