@@ -1,5 +1,5 @@
 -- The pairs that a cursor of two relations has still to answer.
-use Rattle.std.specs.Prelude.{◌≡◌, ◌≤◌, ◌<◌, ⊤, ℕ, ◌+◌, ◌*◌, ◌-◌, Bool, true, List, [], ◌++◌, filter, get_or, length, take, drop, slice_get, ◌∷◌, Option, Some, None}
+use Rattle.std.specs.Prelude.{◌≡◌, ◌≤◌, ◌<◌, ⊤, ℕ, ◌+◌, ◌*◌, ◌-◌, Bool, true, false, List, [], ◌++◌, filter, get_or, length, take, drop, slice_get, ◌∷◌, Option, Some, None, IfSome, MatchBool, MatchOption}
 use Rattle.std.specs.List.{range_with_len}
 use Rattle.afl_base.specs.Files.{State}
 use Rattle.db_model.specs.declared.values.Value.{Value}
@@ -12,8 +12,10 @@ use Rattle.index_set.specs.Complete.{AreIndexesOf, AreReadable}
 use Rattle.index_set.specs.Plans.{kinds}
 use Rattle.index_set.specs.Tables.{Tables}
 use Rattle.index_set.specs.Walks.{Fits, IsSafeBy, ahead, cost_ahead}
+use Rattle.tuple_file.specs.declared.tuples.Tuples.{Tuples}
 use Rattle.tuple_file.specs.Tuples.{HoldsRows, rows, slots}
 use Rattle.cursor.specs.declared.join.JoinCursor.{JoinCursor}
+use Rattle.cursor.specs.declared.partner.Partnered.{Partnered}
 use Rattle.cursor.specs.Remaining.{passing}
 
 -- of the live tuples of some rows, the pairs with the same value at two places
@@ -42,11 +44,15 @@ behind_pair c slot inner = record c { from = slot + 1; inner = Some inner }
 abbrev pub at_next_left : JoinCursor → JoinCursor
 at_next_left c = record c { at = c.at + 1; from = 0; inner = None }
 
+-- a slot has a live row with this tuple
+abbrev pub HasLive : List Row → ℕ → List Value → Type 0
+HasLive all slot tuple = get_or all slot no_row ≡ record { tuple = tuple; live = true }
+
 -- it has answered the pair of the left row at which it stands and of the right row before the one from which it goes on
 pub record HasAnswered (c : JoinCursor) (lefts rights : List Row) (left right : List Value) : Type 0 where
-  pub left_row : get_or lefts c.at no_row ≡ record { tuple = left; live = true }
+  pub left_row : HasLive lefts c.at left
   pub some : 0 < c.from
-  pub right_row : get_or rights (c.from - 1) no_row ≡ record { tuple = right; live = true }
+  pub right_row : HasLive rights (c.from - 1) right
 
 -- ---- what holds also where files do not tell
 
@@ -69,17 +75,30 @@ pub record MayReadPairs (state : State) (c : JoinCursor) : Type 0 where
   pub inner : HasSlots c.inner c.right_slots
   pub within : c.from ≤ c.right_slots
 
+-- the same of its right side alone, from a slot on, where the right relation had slots
+pub record MayReadRight (state : State) (right : Tuples) (infos : List IndexInfo) (stands : Option Candidates) (from count : ℕ) : Type 0 where
+  pub holds : HoldsRows state right
+  pub within : count ≤ slots state.files right
+  pub order : from ≤ count
+  pub readable : AreReadable state count infos
+  pub safe : IsSafeInner stands state
+  pub inner : HasSlots stands count
+
 -- ---- where the right side stands
 
 abbrev pub FitsInner : Option Candidates → State → Tables → List Row → Type 0
 FitsInner None state tables rights = ⊤
 FitsInner (Some inner) state tables rights = Fits inner state tables rights
 
+-- the slots from one on, below a number, whose rows pass a test
+abbrev pub partners : (List Value → Bool) → List Row → (from count : ℕ) → List ℕ
+partners test rights from count = passing test rights (range_with_len from (count - from))
+
 -- the rows that pass a test, from a slot on, are ahead
 abbrev pub HasAhead : Option Candidates → (List Value → Bool) → List Row → ℕ → ℕ → Type 0
 HasAhead None test rights from slots = ⊤
 HasAhead (Some inner) test rights from slots =
-    passing test rights (ahead inner rights) ≡ passing test rights (range_with_len from (slots - from))
+    passing test rights (ahead inner rights) ≡ partners test rights from slots
 
 -- whether a right tuple belongs to a value
 abbrev pub belongs : Option Value → ℕ → List Value → Bool
@@ -123,3 +142,70 @@ join_cost_ahead c lefts rights =
 abbrev pub join_cost_behind : JoinCursor → List Row → List Row → ℕ
 join_cost_behind c lefts rights =
     6 * (c.left_slots - (c.at + 1) + length (pairs_left c lefts rights)) + right_side_costs c rights (drop (c.at + 1) (lefts_of c lefts))
+
+-- ---- where a cursor begins
+
+-- what it is made of: it rests before the first pair of so many left and right slots
+pub record IsBegunJoin (c : JoinCursor) (first second : Tuples) (infos : List IndexInfo) (on_first on_second lefts rights : ℕ) : Type 0 where
+  pub left : c.left ≡ first
+  pub right : c.right ≡ second
+  pub indexes : c.right_indexes ≡ infos
+  pub left_on : c.left_on ≡ on_first
+  pub right_on : c.right_on ≡ on_second
+  pub left_slots : c.left_slots ≡ lefts
+  pub right_slots : c.right_slots ≡ rights
+  pub at : c.at ≡ 0
+  pub from : c.from ≡ 0
+  pub rests : c.inner ≡ None
+
+-- ---- steps of the right side
+
+-- the first partner from a slot on was found, or there was none
+abbrev pub FindsPartner : Option Partnered → (List Value → Bool) → List Row → (from count : ℕ) → Type 0
+FindsPartner found test rights from count =
+    MatchOption found (partners test rights from count ≡ []) (λ p. partners test rights from count ≡ p.slot ∷ partners test rights (p.slot + 1) count)
+
+-- and the right side stands behind it
+abbrev pub StandsBehind : Option Partnered → (List Value → Bool) → State → Tables → List Row → (count : ℕ) → Type 0
+StandsBehind found test state tables rights count =
+    IfSome found (λ p. Fits p.inner state tables rights × (passing test rights (ahead p.inner rights) ≡ partners test rights (p.slot + 1) count))
+
+-- what is ahead of it pays for what was read
+abbrev pub PaysRight : Option Partnered → List Row → (before after : ℕ) → Type 0
+PaysRight found rights before after = MatchOption found (after ≤ before) (λ p. after + cost_ahead p.inner rights ≤ before)
+
+-- ---- steps at one left row: a pair of it was answered, or none of it was left
+
+abbrev pub PairsAt : Option Partnered → List Value × List Value → JoinCursor → (lefts rights : List Row) → Type 0
+PairsAt found pair c lefts rights =
+    MatchOption found (pairs_left c lefts rights ≡ pairs_left (at_next_left c) lefts rights)
+    (λ p. pairs_left c lefts rights ≡ pair ∷ pairs_left (behind_pair c p.slot p.inner) lefts rights)
+
+abbrev pub PaysAt : Option Partnered → JoinCursor → (lefts rights : List Row) → (before after : ℕ) → Type 0
+PaysAt found c lefts rights before after =
+    MatchOption found (after + join_cost_ahead (at_next_left c) lefts rights ≤ before + join_cost_ahead c lefts rights)
+    (λ p. after + join_cost_ahead (behind_pair c p.slot p.inner) lefts rights ≤ before + join_cost_ahead c lefts rights)
+
+-- ---- steps of a cursor
+
+-- it stands elsewhere, and not before
+pub record MovesOn (old new : JoinCursor) : Type 0 where
+  pub stands : new ≡ record old { at = new.at; from = new.from; inner = new.inner }
+  pub later : old.at ≤ new.at
+
+-- behind a pair it stands at a left row, and behind the last behind all of them
+pub record StopsAt (found : Bool) (old new : JoinCursor) : Type 0 where
+  pub here : MatchBool found (new.at < new.left_slots) (new.left_slots ≤ new.at)
+  pub at_end : found ≡ false → old.at ≤ old.left_slots → new.at ≡ new.left_slots
+
+-- it has answered the first pair that was left, or there was none
+pub record YieldsPair (found : Bool) (pair : List Value × List Value) (old new : JoinCursor) (state : State) (tables : Tables) (lefts rights : List Row) (before after : ℕ) : Type 0 where
+  pub next : MatchBool found (pairs_left old lefts rights ≡ pair ∷ pairs_left new lefts rights) (pairs_left old lefts rights ≡ [])
+  pub over : found ≡ false → pairs_left new lefts rights ≡ []
+  pub fits : FitsPairs new state tables
+  pub reads : after + join_cost_ahead new lefts rights ≤ before + join_cost_ahead old lefts rights
+
+-- it has answered no pair, and the left row at which a fault came has been paid for
+pub record FailsPair (old new : JoinCursor) (lefts rights : List Row) (before after : ℕ) : Type 0 where
+  pub unanswered : pairs_left old lefts rights ≡ pairs_left new lefts rights
+  pub reads : after + join_cost_behind new lefts rights ≤ before + join_cost_ahead old lefts rights

@@ -2,12 +2,12 @@
 
 #![tactic(auto)]
 
-ghost use Rattle.std.specs.Prelude.{None, ◌≡◌, ◌+◌, ◌*◌, ◌<◌, ◌≤◌, ◌∷◌, [], false, true, IfOk, IfSome, IsTrue, MatchBool, MatchOption, OnErr, OnOk, List, get_or, length};
+ghost use Rattle.std.specs.Prelude.{None, ◌≡◌, ◌+◌, ◌*◌, ◌<◌, ◌≤◌, IfOk, IfSome, IsTrue, OnErr, OnOk, List, length};
 ghost use Rattle.afl_base.specs.Keeping.{OnlyReads};
-ghost use Rattle.db_model.specs.Row.{Row, no_row};
+ghost use Rattle.db_model.specs.Row.{Row};
 ghost use Rattle.index_set.specs.Complete.{AreReadable};
 ghost use Rattle.tuple_file.specs.Tuples.{HoldsRows, rows, slots};
-ghost use Rattle.cursor.specs.Pairs.{FitsPairs, HasAnswered, MayReadPairs, at_next_left, behind_pair, join_cost_ahead, join_cost_behind, matching, pairs_left, right_side_costs};
+ghost use Rattle.cursor.specs.Pairs.{FailsPair, FitsPairs, HasAnswered, HasLive, IsBegunJoin, MayReadPairs, MovesOn, PairsAt, PaysAt, StopsAt, YieldsPair, behind_pair, join_cost_ahead, join_cost_behind, matching, pairs_left, right_side_costs};
 
 use crate::partner::{Partner, Partnered, next_partner, value_at};
 use afl_base::{Failed, Files, SlotNo};
@@ -54,16 +54,8 @@ impl JoinCursor {
             join_cost_ahead result lefts rights
             ≡ 6 * (length lefts + length (matching left_on right_on lefts rights))
             + right_side_costs result rights lefts }
-        ensures left { result.left ≡ left }
-        ensures right { result.right ≡ right }
-        ensures indexes { result.right_indexes ≡ right_indexes }
-        ensures left_on { result.left_on ≡ left_on }
-        ensures right_on { result.right_on ≡ right_on }
-        ensures left_slots { result.left_slots ≡ slots (V.state files.now).files left }
-        ensures right_slots { result.right_slots ≡ slots (V.state files.now).files right }
-        ensures at { result.at ≡ 0 }
-        ensures from { result.from ≡ 0 }
-        ensures rests { result.inner ≡ None }
+        ensures begun { let files = (V.state files.now).files in IsBegunJoin result left right
+            right_indexes left_on right_on (slots files left) (slots files right) }
         ensures may_read { MayReadPairs (V.state files.now) result }
     {
         let left_slots = left.count(files);
@@ -102,34 +94,22 @@ impl JoinCursor {
     ) -> Result<Option<Partnered>, Failed>
         requires may_read { MayReadPairs (V.state files.old) self.now }
         requires here { self.now.at < self.now.left_slots }
-        ensures next { let state = V.state files.old in let lefts = rows state.files self.now.left in
+        ensures steps { let state = V.state files.old in let lefts = rows state.files self.now.left in
             let rights = rows state.files self.now.right in
             IsTrue state.tells → IfOk result (λ found.
-            FitsPairs self.now state tables.now → MatchOption found
-            (pairs_left self.now lefts rights ≡ pairs_left (at_next_left self.now) lefts rights) (λ p.
-            pairs_left self.now lefts rights
-            ≡ (left.new, right.new) ∷ pairs_left (behind_pair self.now p.slot p.inner) lefts rights)) }
+            FitsPairs self.now state tables.now
+            → PairsAt found (left.new, right.new) self.now lefts rights
+            × PaysAt found self.now lefts rights (V.reads files.old) (V.reads files.new)) }
         ensures fits { IsTrue (V.state files.old).tells → IfOk result (λ found.
             FitsPairs self.now (V.state files.old) tables.now → IfSome found (λ p.
             FitsPairs (behind_pair self.now p.slot p.inner) (V.state files.old) tables.now)) }
         ensures may_read { IfOk result (λ found. IfSome found (λ p.
             MayReadPairs (V.state files.old) (behind_pair self.now p.slot p.inner))) }
-        ensures left_row { let state = V.state files.old in let lefts = rows state.files self.now.left in
-            IsTrue state.tells → IfOk result (λ found. IfSome found (λ _.
-            get_or lefts self.now.at no_row ≡ record { tuple = left.new; live = true })) }
-        ensures right_row { let state = V.state files.old in
-            let rights = rows state.files self.now.right in
-            IsTrue state.tells → IfOk result (λ found. IfSome found (λ p.
-            get_or rights p.slot no_row ≡ record { tuple = right.new; live = true })) }
+        ensures left_row { let state = V.state files.old in IsTrue state.tells → IfOk result (λ found.
+            IfSome found (λ _. HasLive (rows state.files self.now.left) self.now.at left.new)) }
+        ensures right_row { let state = V.state files.old in IsTrue state.tells → IfOk result (λ found.
+            IfSome found (λ p. HasLive (rows state.files self.now.right) p.slot right.new)) }
         ensures below { IfOk result (λ found. IfSome found (λ p. p.slot < self.now.right_slots)) }
-        ensures reads { let state = V.state files.old in let lefts = rows state.files self.now.left in
-            let rights = rows state.files self.now.right in
-            IsTrue state.tells → IfOk result (λ found.
-            FitsPairs self.now state tables.now → MatchOption found
-            (V.reads files.new + join_cost_ahead (at_next_left self.now) lefts rights
-            ≤ V.reads files.old + join_cost_ahead self.now lefts rights) (λ p.
-            V.reads files.new + join_cost_ahead (behind_pair self.now p.slot p.inner) lefts rights
-            ≤ V.reads files.old + join_cost_ahead self.now lefts rights)) }
         ensures reads_err { let state = V.state files.old in let lefts = rows state.files self.now.left in
             let rights = rows state.files self.now.right in
             IsTrue state.tells → OnErr result (FitsPairs self.now state tables.now
@@ -175,50 +155,22 @@ impl JoinCursor {
         right: &mut Tuple,
     ) -> Result<bool, Failed>
         requires may_read { MayReadPairs (V.state files.old) self.old }
-        ensures next { let state = V.state files.old in let lefts = rows state.files self.old.left in
-            let rights = rows state.files self.old.right in
-            IsTrue state.tells → IfOk result (λ found. FitsPairs self.old state tables.now
-            → MatchBool found
-            (pairs_left self.old lefts rights ≡ (left.new, right.new) ∷ pairs_left self.new lefts rights)
-            (pairs_left self.old lefts rights ≡ [])) }
-        ensures ended { let state = V.state files.old in let lefts = rows state.files self.old.left in
-            let rights = rows state.files self.old.right in
-            IsTrue state.tells → IfOk result (λ found. FitsPairs self.old state tables.now
-            → found ≡ false → pairs_left self.new lefts rights ≡ []) }
-        ensures fits { IsTrue (V.state files.old).tells → OnOk result (
-            FitsPairs self.old (V.state files.old) tables.now
-            → FitsPairs self.new (V.state files.old) tables.now) }
-        ensures may_read { OnOk result (MayReadPairs (V.state files.old) self.new) }
-        ensures stands { self.new
-            ≡ record self.old { at = self.new.at; from = self.new.from; inner = self.new.inner } }
+        ensures yields { let state = V.state files.old in let lefts = rows state.files self.old.left in
+            let rights = rows state.files self.old.right in IsTrue state.tells → IfOk result (λ found.
+            FitsPairs self.old state tables.now → YieldsPair found (left.new, right.new) self.old self.new
+            state tables.now lefts rights (V.reads files.old) (V.reads files.new)) }
         ensures pair { let state = V.state files.old in let lefts = rows state.files self.old.left in
             let rights = rows state.files self.old.right in
             IsTrue state.tells → IfOk result (λ found. IsTrue found
             → HasAnswered self.new lefts rights left.new right.new) }
-        ensures here { IfOk result (λ found. MatchBool found
-            (self.new.at < self.new.left_slots) (self.new.left_slots ≤ self.new.at)) }
-        ensures at_end { IfOk result (λ found. found ≡ false → self.old.at ≤ self.old.left_slots
-            → self.new.at ≡ self.new.left_slots) }
-        ensures later { self.old.at ≤ self.new.at }
+        ensures moves { MovesOn self.old self.new }
+        ensures stops { IfOk result (λ found. StopsAt found self.old self.new) }
+        ensures may_read { OnOk result (MayReadPairs (V.state files.old) self.new) }
         ensures inside { OnErr result (self.new.at < self.new.left_slots) }
-        ensures unanswered { let state = V.state files.old in
-            let lefts = rows state.files self.old.left in let rights = rows state.files self.old.right in
-            IsTrue state.tells → OnErr result (FitsPairs self.old state tables.now
-            → pairs_left self.old lefts rights ≡ pairs_left self.new lefts rights) }
-        ensures reads { let state = V.state files.old in let lefts = rows state.files self.old.left in
-            let rights = rows state.files self.old.right in
-            IsTrue state.tells → OnOk result (FitsPairs self.old state tables.now
-            → V.reads files.new + join_cost_ahead self.new lefts rights
-            ≤ V.reads files.old + join_cost_ahead self.old lefts rights) }
-        ensures reads_err { let state = V.state files.old in
-            let lefts = rows state.files self.old.left in let rights = rows state.files self.old.right in
-            IsTrue state.tells → OnErr result (FitsPairs self.old state tables.now
-            → V.reads files.new ≤ V.reads files.old + join_cost_ahead self.old lefts rights) }
-        ensures reads_failed { let state = V.state files.old in
-            let lefts = rows state.files self.old.left in let rights = rows state.files self.old.right in
-            IsTrue state.tells → OnErr result (FitsPairs self.old state tables.now
-            → V.reads files.new + join_cost_behind self.new lefts rights
-            ≤ V.reads files.old + join_cost_ahead self.old lefts rights) }
+        ensures fails { let state = V.state files.old in let lefts = rows state.files self.old.left in
+            let rights = rows state.files self.old.right in IsTrue state.tells → OnErr result (
+            FitsPairs self.old state tables.now → FailsPair self.old self.new lefts rights
+            (V.reads files.old) (V.reads files.new)) }
         ensures frame { OnlyReads V.state V.lent V.reads V.faults files.old files.new result }
     {
         'lefts: while self.at < self.left_slots {

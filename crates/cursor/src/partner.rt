@@ -4,16 +4,14 @@
 
 ghost use Rattle.std.specs.Prelude.{None, ◌≡◌, ◌==◌, ◌+◌, ◌-◌, ◌<◌, ◌≤◌, ◌∷◌, [], true, IfOk, IfSome, IsTrue, MatchOption, OnErr, get_or, slice_get, if◌then◌else◌};
 ghost use Rattle.afl_base.specs.Keeping.{OnlyReads};
-ghost use Rattle.std.specs.List.{range_with_len};
 ghost use Rattle.db_model.specs.declared.schemas.Range.TheVariants.{Between};
 ghost use Rattle.db_model.specs.Answers.{same_value};
 ghost use Rattle.db_model.specs.Cost.{ranges_at};
 ghost use Rattle.db_model.specs.Ranges.{everything};
-ghost use Rattle.index_set.specs.Complete.{AreIndexesOf, AreReadable};
-ghost use Rattle.db_model.specs.Row.{no_row};
+ghost use Rattle.index_set.specs.Complete.{AreIndexesOf};
 ghost use Rattle.index_set.specs.Walks.{Fits, IsSafeBy, ahead, cost_ahead};
-ghost use Rattle.tuple_file.specs.Tuples.{HoldsRows, rows, slots as slots_of};
-ghost use Rattle.cursor.specs.Pairs.{FitsInner, HasAhead, HasSlots, IsSafeInner, belongs, inner_cost, right_side_cost};
+ghost use Rattle.tuple_file.specs.Tuples.{rows};
+ghost use Rattle.cursor.specs.Pairs.{FindsPartner, FitsInner, HasAhead, HasLive, MayReadRight, PaysRight, StandsBehind, belongs, inner_cost, partners, right_side_cost};
 ghost use Rattle.cursor.specs.Remaining.{passing};
 
 use crate::walk::{Test, next_row};
@@ -114,12 +112,7 @@ fn right_side<V: Files>(
     from: u16,
     slots: u16,
 ) -> Result<Candidates, Failed>
-    requires holds { HoldsRows (V.state files.old) right.now }
-    requires within { slots ≤ slots_of (V.state files.old).files right.now }
-    requires from { from ≤ slots }
-    requires readable { AreReadable (V.state files.old) slots indexes.now }
-    requires safe { IsSafeInner inner.now (V.state files.old) }
-    requires inner { HasSlots inner.now slots }
+    requires may_read { MayReadRight (V.state files.old) right.now indexes.now inner.now from slots }
     ensures safe { IfOk result (λ c. IsSafeBy c.search (V.state files.old)) }
     ensures slots { IfOk result (λ c. c.slots ≡ slots) }
     ensures fits { let state = V.state files.old in let all = rows state.files right.now in
@@ -129,7 +122,7 @@ fn right_side<V: Files>(
         let test = belongs partner.now.value partner.now.on in
         IsTrue state.tells → IfOk result (λ c. AreIndexesOf state tables.now all indexes.now
         → HasAhead inner.now test all from slots
-        → passing test all (ahead c all) ≡ passing test all (range_with_len from (slots - from))) }
+        → passing test all (ahead c all) ≡ partners test all from slots) }
     ensures reads { let state = V.state files.old in let all = rows state.files right.now in
         let cost = right_side_cost indexes.now partner.now.on partner.now.value all in
         IsTrue state.tells → IfOk result (λ c. AreIndexesOf state tables.now all indexes.now
@@ -170,29 +163,14 @@ pub(crate) fn next_partner<V: Files>(
     slots: u16,
     into: &mut Tuple,
 ) -> Result<Option<Partnered>, Failed>
-    requires holds { HoldsRows (V.state files.old) right.now }
-    requires within { slots ≤ slots_of (V.state files.old).files right.now }
-    requires from { from ≤ slots }
-    requires readable { AreReadable (V.state files.old) slots indexes.now }
-    requires safe { IsSafeInner inner.now (V.state files.old) }
-    requires inner { HasSlots inner.now slots }
-    ensures next { let state = V.state files.old in let all = rows state.files right.now in
+    requires may_read { MayReadRight (V.state files.old) right.now indexes.now inner.now from slots }
+    ensures finds { let state = V.state files.old in let all = rows state.files right.now in
         let test = belongs partner.now.value partner.now.on in
         IsTrue state.tells → IfOk result (λ found. AreIndexesOf state tables.now all indexes.now
         → FitsInner inner.now state tables.now all → HasAhead inner.now test all from slots
-        → MatchOption found (passing test all (range_with_len from (slots - from)) ≡ []) (λ p.
-        passing test all (range_with_len from (slots - from))
-        ≡ p.slot ∷ passing test all (range_with_len (p.slot + 1) (slots - (p.slot + 1))))) }
-    ensures stands { let state = V.state files.old in let all = rows state.files right.now in
-        let test = belongs partner.now.value partner.now.on in
-        IsTrue state.tells → IfOk result (λ found. AreIndexesOf state tables.now all indexes.now
-        → FitsInner inner.now state tables.now all → HasAhead inner.now test all from slots
-        → IfSome found (λ p. Fits p.inner state tables.now all
-        × (passing test all (ahead p.inner all)
-        ≡ passing test all (range_with_len (p.slot + 1) (slots - (p.slot + 1)))))) }
-    ensures row { let state = V.state files.old in let all = rows state.files right.now in
-        IsTrue state.tells → IfOk result (λ found. IfSome found (λ p.
-        get_or all p.slot no_row ≡ record { tuple = into.new; live = true })) }
+        → FindsPartner found test all from slots × StandsBehind found test state tables.now all slots) }
+    ensures row { let state = V.state files.old in IsTrue state.tells → IfOk result (λ found.
+        IfSome found (λ p. HasLive (rows state.files right.now) p.slot into.new)) }
     ensures below { IfOk result (λ found. IfSome found (λ p. p.slot < slots)) }
     ensures slots { IfOk result (λ found. IfSome found (λ p. p.inner.slots ≡ slots)) }
     ensures safe { IfOk result (λ found. IfSome found (λ p.
@@ -201,9 +179,7 @@ pub(crate) fn next_partner<V: Files>(
         let cost = right_side_cost indexes.now partner.now.on partner.now.value all in
         IsTrue state.tells → IfOk result (λ found. AreIndexesOf state tables.now all indexes.now
         → FitsInner inner.now state tables.now all
-        → MatchOption found (V.reads files.new ≤ V.reads files.old + inner_cost inner.now cost all) (λ p.
-        V.reads files.new + cost_ahead p.inner all
-        ≤ V.reads files.old + inner_cost inner.now cost all)) }
+        → PaysRight found all (V.reads files.old + inner_cost inner.now cost all) (V.reads files.new)) }
     ensures reads_err { let state = V.state files.old in let all = rows state.files right.now in
         let cost = right_side_cost indexes.now partner.now.on partner.now.value all in
         IsTrue state.tells → OnErr result (AreIndexesOf state tables.now all indexes.now

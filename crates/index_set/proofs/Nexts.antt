@@ -266,7 +266,7 @@ advances_below old new (Some slot) end short found moved stop knows =
           record {
             few = omega (arith, few, slots);
             knows = subst (λ (t : Search). KnowsRows t rows new.from new.end new.slots) (sym moved.2)
-            (subst (λ (n : ℕ). KnowsRows old.search rows new.from n new.slots) (sym stop) (subst (λ (n : ℕ). KnowsRows old.search rows new.from end n) (sym slots) known));
+                (subst (λ (n : ℕ). KnowsRows old.search rows new.from n new.slots) (sym stop) (subst (λ (n : ℕ). KnowsRows old.search rows new.from end n) (sym slots) known));
           };
     }
 

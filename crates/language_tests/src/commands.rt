@@ -1,23 +1,19 @@
 //! Commands of worked examples; the places of refusals are counted by hand.
 
-ghost use Rattle.std.specs.Prelude.{◌≤◌, length};
-
 use aql_parse::{Parser, parse};
 use db_model::{Command, Ident, Pool, Query, Refusal};
 
 const LONG: &[u8; 58] = b"SELECT k FROM s WHERE k = 1 AND NOT ( t < 'a' ) OR k <> -2";
 
-fn answer(bytes: &[u8], command: &mut Command) -> Result<(), Refusal>
-    requires { length bytes.now ≤ 512 }
-{
+fn answer(bytes: &[u8], command: &mut Command) -> Result<(), Refusal> {
+    if bytes.len() > 512 {
+        return Err(Refusal::Long);
+    }
     parse(bytes, command)
 }
 
 fn read(bytes: &[u8]) -> (Command, Result<(), Refusal>) {
     let mut command = Command::FetchCursor { number: 0 };
-    if bytes.len() > 512 {
-        return (command, Err(Refusal::Long));
-    }
     let answer = answer(bytes, &mut command);
     (command, answer)
 }
@@ -51,30 +47,31 @@ fn refusals_stand_at_the_end_of_the_longest_front(rt: HostRuntime) {
     }
 }
 
-// The first bytes of the long command.
-fn front(end: u16) -> &'static [u8] {
-    if end <= 58 {
-        &LONG[..end as usize]
+// The first of some bytes.
+fn front(bytes: &[u8], end: u16) -> &[u8] {
+    let end = usize::from(end);
+    if end <= bytes.len() {
+        &bytes[..end]
     } else {
-        LONG
+        bytes
     }
 }
 
 #[test]
 fn each_front_of_a_long_command_is_refused_at_its_end(rt: HostRuntime) {
     for end in [6, 8, 13, 21, 23, 25, 31, 35, 37, 39, 41, 45, 50, 52, 55, 57] {
-        assert!(rt; refused_at(front(end)) == Some(end));
+        assert!(rt; refused_at(front(LONG, end)) == Some(end));
     }
     for end in [15, 27, 47, 58] {
-        assert!(rt; is_accepted(front(end)));
+        assert!(rt; is_accepted(front(LONG, end)));
     }
 }
 
-// The place of the refusal where a byte of the long command begins no token.
-fn refused_with_no_token_at(place: u16) -> Option<u16> {
-    let mut bytes = *LONG;
+// The place of the refusal where one of the bytes begins no token.
+fn refused_with_no_token_at(bytes: &[u8; 58], place: u16) -> Option<u16> {
+    let mut bytes = *bytes;
     if place < 58 {
-        bytes[place as usize] = b'?';
+        bytes[usize::from(place)] = b'?';
     }
     refused_at(&bytes)
 }
@@ -84,7 +81,7 @@ fn each_front_is_refused_at_its_end_where_no_token_follows(rt: HostRuntime) {
     for end in [
         6, 8, 13, 15, 21, 23, 25, 27, 31, 35, 37, 39, 41, 45, 47, 50, 52, 55, 57,
     ] {
-        assert!(rt; refused_with_no_token_at(end) == Some(end));
+        assert!(rt; refused_with_no_token_at(LONG, end) == Some(end));
     }
 }
 
@@ -130,17 +127,15 @@ fn brackets_nest_as_deep_as_the_bytes_allow(rt: HostRuntime) {
     assert!(rt; accepted_nodes(&nested()) == Some(3));
 }
 
-// A removal where a word and then 29 times NOT stand before `k = 1`.
-fn negated(first: &[u8; 3]) -> [u8; 160] {
-    let mut bytes = [b' '; 160];
-    bytes[..20].copy_from_slice(b"REMOVE FROM s WHERE ");
-    for i in 0..30usize {
-        bytes[20 + 4 * i..23 + 4 * i].copy_from_slice(b"NOT");
-    }
-    bytes[140..145].copy_from_slice(b"k = 1");
-    bytes[20..23].copy_from_slice(first);
-    bytes
-}
+// A condition of 32 nodes, with 29 times NOT.
+const MOST: &[u8] = b"REMOVE FROM s WHERE \
+    NOT NOT NOT NOT NOT NOT NOT NOT NOT NOT NOT NOT NOT NOT NOT \
+    NOT NOT NOT NOT NOT NOT NOT NOT NOT NOT NOT NOT NOT NOT k = 1";
+
+// A condition of 33 nodes, with 30 times NOT.
+const TOO_MANY: &[u8] = b"REMOVE FROM s WHERE \
+    NOT NOT NOT NOT NOT NOT NOT NOT NOT NOT NOT NOT NOT NOT NOT \
+    NOT NOT NOT NOT NOT NOT NOT NOT NOT NOT NOT NOT NOT NOT NOT k = 1";
 
 fn is_refused(bytes: &[u8], refusal: Refusal) -> bool {
     read(bytes).1 == Err(refusal)
@@ -152,8 +147,8 @@ fn a_condition_has_at_most_32_nodes(rt: HostRuntime) {
         pool: Pool::Nodes,
         limit: 32,
     };
-    assert!(rt; is_refused(&negated(b"NOT"), full));
-    assert!(rt; is_accepted(&negated(b"   ")));
+    assert!(rt; is_refused(TOO_MANY, full));
+    assert!(rt; is_accepted(MOST));
 }
 
 fn is_named(name: &Ident, bytes: &[u8]) -> bool {
@@ -168,19 +163,36 @@ fn inserts_into_log(command: &Command) -> bool {
     }
 }
 
+// The names of two relations, and of what they are joined on.
+fn joined(query: &Query) -> Option<[Ident; 3]> {
+    match query {
+        Query::Join {
+            left,
+            right,
+            on,
+            ..
+        } => Some([*left, *right, *on]),
+        _ => None,
+    }
+}
+
+// The names in a command that opens a join.
+fn opened_join(command: &Command) -> Option<[Ident; 3]> {
+    match command {
+        Command::OpenCursor { query, .. } => joined(query),
+        _ => None,
+    }
+}
+
+fn are_a_b_k(names: &[Ident; 3]) -> bool {
+    is_named(&names[0], b"a") && is_named(&names[1], b"b") && is_named(&names[2], b"k")
+}
+
 // Whether a command opens a join of `a` and `b` on `k`.
 fn opens_a_join(command: &Command) -> bool {
-    match command {
-        Command::OpenCursor {
-            query: Query::Join {
-                left,
-                right,
-                on,
-                ..
-            },
-            ..
-        } => is_named(left, b"a") && is_named(right, b"b") && is_named(on, b"k"),
-        _ => false,
+    match opened_join(command) {
+        Some(names) => are_a_b_k(&names),
+        None => false,
     }
 }
 
@@ -193,9 +205,10 @@ fn commands_are_read_with_their_parts(rt: HostRuntime) {
 }
 
 // Reads the next command of a parser.
-fn next(parser: &mut Parser, bytes: &[u8], command: &mut Command) -> Result<(), Refusal>
-    requires { length bytes.now ≤ 512 }
-{
+fn next(parser: &mut Parser, bytes: &[u8], command: &mut Command) -> Result<(), Refusal> {
+    if bytes.len() > 512 {
+        return Err(Refusal::Long);
+    }
     parser.parse(bytes, command)
 }
 

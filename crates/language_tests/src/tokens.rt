@@ -1,27 +1,26 @@
 //! Tokens of worked examples, whose expected values are counted by hand.
 
-ghost use Rattle.std.specs.Prelude.{◌≤◌, length};
-
 use aql_lex::{Lexed, next_token};
 use db_model::{Keyword, Sign, Token};
 
-// What stands at a place.
-fn lexed(bytes: &[u8], at: u16) -> Lexed
-    requires within { at ≤ length bytes.now }
-    requires few { length bytes.now ≤ 512 }
-{
-    next_token(bytes, at)
+// What stands at a place of few bytes.
+fn lexed(bytes: &[u8], at: u16) -> Option<Lexed> {
+    if bytes.len() > 512 || usize::from(at) > bytes.len() {
+        return None;
+    }
+    Some(next_token(bytes, at))
 }
 
 // The first token, and where it ends.
 fn token(bytes: &[u8]) -> Option<(Token, u16)> {
-    if bytes.len() > 512 {
-        return None;
-    }
     match lexed(bytes, 0) {
-        Lexed::Token { token, to, .. } => Some((token, to)),
+        Some(Lexed::Token { token, to, .. }) => Some((token, to)),
         _ => None,
     }
+}
+
+fn has_no_token(bytes: &[u8]) -> bool {
+    token(bytes).is_none()
 }
 
 #[test]
@@ -95,8 +94,9 @@ fn what_is_too_long_or_open_is_no_token(rt: HostRuntime) {
         &b"\x0b"[..],
         &b"_a"[..],
     ] {
-        assert!(rt; token(bytes).is_none());
+        assert!(rt; has_no_token(bytes));
     }
-    assert!(rt; lexed(b"PACK  ", 4) == Lexed::End);
-    assert!(rt; lexed(b"PACK ?", 4) == Lexed::Bad);
+    for (bytes, wanted) in [(b"PACK  ", Lexed::End), (b"PACK ?", Lexed::Bad)] {
+        assert!(rt; lexed(bytes, 4) == Some(wanted));
+    }
 }

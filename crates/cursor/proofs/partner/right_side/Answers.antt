@@ -18,7 +18,7 @@ returns-in_err-begun-in-None-clause-reads_err g c =
     let all = rows state.files t in
     let ks = kinds c.args.indexes.now in
     let r = c.ranges_for-ranges.result in
-    let few : c.args.slots ≤ length all = omega (arith, c.requires.within, count_rows state t) in
+    let few : c.args.slots ≤ length all = omega (arith, c.requires.may_read.within, count_rows state t) in
     let same : r ≡ ranges_at c.args.partner.now.on c.args.partner.now.value = c.ranges_for-ranges.ensures in
     let cost : begin_cost c.args.slots (plan ks r) ≤ chosen_cost ks r all = beginning ks r all c.args.slots (plan ks r) few in
     let most : g.V.Files.reads c.begin.new.files ≤ g.V.Files.reads c.args.files.now + chosen_cost ks r all = omega (arith, c.in_err-begun-in-None.ensures.reads, cost) in
@@ -30,15 +30,15 @@ pub returns-in_ok-begun-in-None-clause-fits : goal.returns-in_ok-begun-in-None-c
 returns-in_ok-begun-in-None-clause-fits g c = λ told indexes inner.
     let state = g.V.Files.state c.args.files.now in
     let t = c.args.right.now in
-    let few : c.args.slots ≤ length (rows state.files t) = omega (arith, c.requires.within, count_rows state t) in
+    let few : c.args.slots ≤ length (rows state.files t) = omega (arith, c.requires.may_read.within, count_rows state t) in
     c.skip.ensures.fits state c.args.tables.now (rows state.files t) (c.in_ok-begun-in-None.ensures.begins told (rows state.files t) few indexes).fits
 
 pub returns-in_ok-begun-in-None-clause-ahead : goal.returns-in_ok-begun-in-None-clause-ahead
 returns-in_ok-begun-in-None-clause-ahead g c = λ told indexes inner.
     let state = g.V.Files.state c.args.files.now in
     let t = c.args.right.now in
-    let few : c.args.slots ≤ length (rows state.files t) = omega (arith, c.requires.within, count_rows state t) in
-    partners_ahead state t told c.requires.holds c.args.indexes.now (places_of state c.args.slots c.args.indexes.now c.requires.readable) c.args.partner.now.value c.args.partner.now.on
+    let few : c.args.slots ≤ length (rows state.files t) = omega (arith, c.requires.may_read.within, count_rows state t) in
+    partners_ahead state t told c.requires.may_read.holds c.args.indexes.now (places_of state c.args.slots c.args.indexes.now c.requires.may_read.readable) c.args.partner.now.value c.args.partner.now.on
     c.in_ok-begun-in-None.begun c.skip.new.self c.ranges_for-ranges.result c.args.from c.args.slots c.ranges_for-ranges.ensures
     (c.in_ok-begun-in-None.ensures.begins told (rows state.files t) few indexes).ahead c.skip.ensures.from c.skip.ensures.slots c.skip.ensures.search
 
@@ -49,7 +49,7 @@ returns-in_ok-begun-in-None-clause-reads g c = λ told indexes.
     let all = rows state.files t in
     let ks = kinds c.args.indexes.now in
     let r = c.ranges_for-ranges.result in
-    let few : c.args.slots ≤ length all = omega (arith, c.requires.within, count_rows state t) in
+    let few : c.args.slots ≤ length all = omega (arith, c.requires.may_read.within, count_rows state t) in
     let same : r ≡ ranges_at c.args.partner.now.on c.args.partner.now.value = c.ranges_for-ranges.ensures in
     let less : cost_ahead c.skip.new.self all ≤ cost_ahead c.in_ok-begun-in-None.begun all =
     skip_cost c.in_ok-begun-in-None.begun c.skip.new.self c.args.from all c.skip.ensures.from c.skip.ensures.slots c.skip.ensures.search (c.skip.ensures.rests ∙ sym c.in_ok-begun-in-None.ensures.rests) in

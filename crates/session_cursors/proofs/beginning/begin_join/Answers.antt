@@ -90,10 +90,10 @@ returns-clause-rows g c =
     let cursor = c.begin-cursor.result in
     let files = state.files in
     let places = c.args.plan.places in
-    let le : cursor.left ≡ s = h.left ∙ e1 in
-    let re : cursor.right ≡ t = h.right ∙ e2 in
+    let le : cursor.left ≡ s = h.begun.left ∙ e1 in
+    let re : cursor.right ≡ t = h.begun.right ∙ e2 in
     let first : map (project_pair places) (pairs_left cursor (rows files cursor.left) (rows files cursor.right)) ≡ map (project_pair places) (pairs_left cursor (rows files c.copy.result) (rows files c.copy-2.result)) =
-    λ i. map (project_pair places) (pairs_left cursor (rows files (h.left i)) (rows files (h.right i))) in
+    λ i. map (project_pair places) (pairs_left cursor (rows files (h.begun.left i)) (rows files (h.begun.right i))) in
     let last : matching c.args.plan.left_on c.args.plan.right_on (rows files c.copy.result) (rows files c.copy-2.result) ≡ matching c.args.plan.left_on c.args.plan.right_on (rows files s) (rows files t) =
     λ i. matching c.args.plan.left_on c.args.plan.right_on (rows files (e1 i)) (rows files (e2 i)) in
     first ∙ ap (map (project_pair places)) (h.pairs ∙ last)
@@ -118,8 +118,8 @@ returns-clause-ahead g c =
     let h = c.begin-cursor.ensures in
     let cursor = c.begin-cursor.result in
     let files = state.files in
-    join_begun files (record { cursor = cursor; places = c.args.plan.places }) s t (infos_of k t held.indexes) c.args.plan.left_on c.args.plan.right_on (h.left ∙ e1) (h.right ∙ e2) (h.indexes ∙ e3) h.left_on h.right_on h.at h.from
-    (h.left_slots ∙ ap (λ (z : Tuples). slots files z) e1 ∙ sym (rows_counted files s)) (h.right_slots ∙ ap (λ (z : Tuples). slots files z) e2 ∙ sym (rows_counted files t))
+    join_begun files (record { cursor = cursor; places = c.args.plan.places }) s t (infos_of k t held.indexes) c.args.plan.left_on c.args.plan.right_on (h.begun.left ∙ e1) (h.begun.right ∙ e2) (h.begun.indexes ∙ e3) h.begun.left_on h.begun.right_on h.begun.at h.begun.from
+    (h.begun.left_slots ∙ ap (λ (z : Tuples). slots files z) e1 ∙ sym (rows_counted files s)) (h.begun.right_slots ∙ ap (λ (z : Tuples). slots files z) e2 ∙ sym (rows_counted files t))
 
 pub returns-clause-waits : goal.returns-clause-waits
 returns-clause-waits g c =
@@ -141,5 +141,5 @@ returns-clause-waits g c =
     let h = c.begin-cursor.ensures in
     let cursor = c.begin-cursor.result in
     let files = state.files in
-    begun_join_waits state held j k s t there_s there_t cursor (h.left ∙ e1) (h.right ∙ e2) (h.indexes ∙ e3) (h.left_slots ∙ ap (λ (z : Tuples). slots files z) e1)
-    (h.right_slots ∙ ap (λ (z : Tuples). slots files z) e2) h.rests (omega (arith, h.from))
+    begun_join_waits state held j k s t there_s there_t cursor (h.begun.left ∙ e1) (h.begun.right ∙ e2) (h.begun.indexes ∙ e3) (h.begun.left_slots ∙ ap (λ (z : Tuples). slots files z) e1)
+    (h.begun.right_slots ∙ ap (λ (z : Tuples). slots files z) e2) h.begun.rests (omega (arith, h.begun.from))

@@ -46,12 +46,12 @@ returns-clause-left g c = λ told.
     let h = c.in_ok-found.ensures in
     let d = c.next.new.self in
     let fits = c.requires.can.fits told in
-    let stands : d ≡ record o.cursor { at = d.at; from = d.from; inner = d.inner } = h.stands in
+    let stands : d ≡ record o.cursor { at = d.at; from = d.from; inner = d.inner } = h.moves.stands in
     let is : c.rest.new.self ≡ record o.cursor { at = d.at; from = d.from; inner = None } = c.rest.ensures.rests ∙ ap (λ (z : JoinCursor). record z { inner = None }) stands in
     let P : JoinCursor → Type 0 = λ z. map (project_pair o.places) (pairs_left z (rows files z.left) (rows files z.right)) ≡ drop 1 (join_left files o) in
     let Q : JoinCursor → Type 0 = λ z. map (project_pair o.places) (pairs_left z lefts rights) ≡ drop 1 (join_left files o) in
     subst P (sym is)
-    (subst Q stands (left_pairs o.places c.in_ok-found.found (c.next.new.left, c.next.new.right) (pairs_left o.cursor lefts rights) (pairs_left d lefts rights) (h.next told fits) (h.ended told fits)))
+    (subst Q stands (left_pairs o.places c.in_ok-found.found (c.next.new.left, c.next.new.right) (pairs_left o.cursor lefts rights) (pairs_left d lefts rights) (h.yields told fits).next (h.yields told fits).over))
 
 pub returns-clause-ahead : goal.returns-clause-ahead
 returns-clause-ahead g c = λ told.
@@ -60,16 +60,16 @@ returns-clause-ahead g c = λ told.
     let h = c.in_ok-found.ensures in
     let d = c.next.new.self in
     let fits = c.requires.can.fits told in
-    let stands : d ≡ record o.cursor { at = d.at; from = d.from; inner = d.inner } = h.stands in
+    let stands : d ≡ record o.cursor { at = d.at; from = d.from; inner = d.inner } = h.moves.stands in
     let is : c.rest.new.self ≡ record o.cursor { at = d.at; from = d.from; inner = None } = c.rest.ensures.rests ∙ ap (λ (z : JoinCursor). record z { inner = None }) stands in
     let P : JoinCursor → Type 0 = λ z. ahead_of_join state.files (record { cursor = z; places = o.places }) ≡ fetched (ahead_of_join state.files o) in
     subst P (sym is)
     (ahead_then state o d c.next.new.left c.next.new.right c.in_ok-found.found (record {
       may = c.requires.can.may_read;
       stands = stands;
-      pairs = h.next told fits;
-      here = h.here;
-      later = h.later;
+      pairs = (h.yields told fits).next;
+      here = h.stops.here;
+      later = h.moves.later;
       answered = h.pair told;
       within = h.may_read.within;
     }))
@@ -79,7 +79,7 @@ returns-clause-waits g c = λ held w.
     let o = c.args.opened.now in
     let h = c.in_ok-found.ensures in
     let d = c.next.new.self in
-    let stands : d ≡ record o.cursor { at = d.at; from = d.from; inner = d.inner } = h.stands in
+    let stands : d ≡ record o.cursor { at = d.at; from = d.from; inner = d.inner } = h.moves.stands in
     join_waits (g.V.Files.state c.args.files.now) held o.cursor c.rest.new.self d.at d.from w
     (c.rest.ensures.rests ∙ ap (λ (z : JoinCursor). record z { inner = None }) stands)
     (subst (λ (n : ℕ). d.from ≤ n) (ap (λ (z : JoinCursor). z.right_slots) stands) h.may_read.within)
@@ -98,13 +98,13 @@ returns-clause-reads g c = λ told db finds.
     (g.V.Files.reads c.args.files.now) (g.V.Files.reads c.next.new.files) (λ left. finds left some)
     (read_few state o d c.next.new.left c.next.new.right c.in_ok-found.found (g.V.Files.reads c.args.files.now) (g.V.Files.reads c.next.new.files) (record {
       may = c.requires.can.may_read;
-      stands = h.stands;
-      pairs = h.next told fits;
-      here = h.here;
-      later = h.later;
+      stands = h.moves.stands;
+      pairs = (h.yields told fits).next;
+      here = h.stops.here;
+      later = h.moves.later;
       answered = h.pair told;
       within = h.may_read.within;
-    }) c.requires.can.rests (h.reads told fits))
+    }) c.requires.can.rests (h.yields told fits).reads)
 
 pub returns-in_err-found-clause-reads : goal.returns-in_err-found-clause-reads
 returns-in_err-found-clause-reads g c = λ told db finds.
@@ -117,5 +117,5 @@ returns-in_err-found-clause-reads g c = λ told db finds.
     let some : 0 < o.cursor.right_slots = omega (arith, c.if-opened-eq0.false) in
     named_price o.cursor (join_stops o.cursor lefts rights) lefts rights (rows_named db o.cursor.left.schema.name) (rows_named db o.cursor.right.schema.name)
     (g.V.Files.reads c.args.files.now) (g.V.Files.reads c.next.new.files) (λ left. finds left some)
-    (fault_few state o c.next.new.self c.next.new.left c.next.new.right (g.V.Files.reads c.args.files.now) (g.V.Files.reads c.next.new.files) c.requires.can.may_read h.stands c.requires.can.rests h.later h.inside
-    (h.unanswered told fits) (h.reads_failed told fits))
+    (fault_few state o c.next.new.self c.next.new.left c.next.new.right (g.V.Files.reads c.args.files.now) (g.V.Files.reads c.next.new.files) c.requires.can.may_read h.moves.stands c.requires.can.rests h.moves.later h.inside
+    (h.fails told fits).unanswered (h.fails told fits).reads)

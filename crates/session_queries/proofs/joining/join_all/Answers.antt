@@ -9,7 +9,7 @@ pub returns-clause-wrote : goal.returns-clause-wrote
 returns-clause-wrote g c = λ t.
     let b = c.begin-cursor.ensures in
     let s = begun (g.V.Files.state c.args.files.now) c.args.tables.now c.args.joining.left c.args.joining.right c.args.joining.plan.left_on c.args.joining.plan.right_on c.begin-cursor.result
-    b.left b.right b.indexes b.left_on b.right_on b.left_slots b.right_slots b.rests b.pairs b.cost (c.requires.right.complete t) in
+    b.begun.left b.begun.right b.begun.indexes b.begun.left_on b.begun.right_on b.begun.left_slots b.begun.right_slots b.begun.rests b.pairs b.cost (c.requires.right.complete t) in
     subst (λ (pairs : List (List Value × List Value)). WroteRows c.join_rows.result (map (project_pair c.args.joining.plan.places) pairs) (g.K.Sink.held c.args.out.now) (g.K.Sink.held c.join_rows.new.out)) s.pairs
     ((rw (s.lefts, s.rights) at c.join_rows.ensures.wrote) t s.fits s.few)
 
@@ -17,5 +17,5 @@ pub returns-clause-reads : goal.returns-clause-reads
 returns-clause-reads g c = λ t.
     let b = c.begin-cursor.ensures in
     let s = begun (g.V.Files.state c.args.files.now) c.args.tables.now c.args.joining.left c.args.joining.right c.args.joining.plan.left_on c.args.joining.plan.right_on c.begin-cursor.result
-    b.left b.right b.indexes b.left_on b.right_on b.left_slots b.right_slots b.rests b.pairs b.cost (c.requires.right.complete t) in
+    b.begun.left b.begun.right b.begun.indexes b.begun.left_on b.begun.right_on b.begun.left_slots b.begun.right_slots b.begun.rests b.pairs b.cost (c.requires.right.complete t) in
     omega (arith, s.cost, (rw (s.lefts, s.rights) at c.join_rows.ensures.reads) t s.fits)

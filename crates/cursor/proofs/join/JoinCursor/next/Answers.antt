@@ -1,12 +1,12 @@
-use Rattle.std.proofs.Common.{rules, ◌+◌, ◌≤◌, ◌∙◌, None, ap, arith}
+use Rattle.std.proofs.Common.{rules, ◌≡◌, ◌+◌, ◌≤◌, ◌∙◌, None, ap, arith}
 use Rattle.tuple_file.specs.Tuples.{rows}
 use Rattle.cursor.specs.declared.join.JoinCursor.{JoinCursor}
-use Rattle.cursor.specs.Pairs.{FitsPairs, behind_pair, join_cost_ahead, join_cost_behind}
-use Rattle.cursor.proofs.Joins.{has_answered, joining_cost, joining_fault, joining_more, joining_pair, next_may}
+use Rattle.cursor.specs.Pairs.{FailsPair, FitsPairs, behind_pair, join_cost_behind}
+use Rattle.cursor.proofs.Joins.{all_passed, has_answered, joining_cost, joining_fault, joining_more, joining_pair, next_may}
 use Rattle.cursor.proofs.join.JoinCursor.next.Goals as goal
 
-pub returns-in_err-partnered-clause-reads_failed : goal.returns-in_err-partnered-clause-reads_failed
-returns-in_err-partnered-clause-reads_failed g c = λ told.
+pub returns-in_err-partnered-clause-fails : goal.returns-in_err-partnered-clause-fails
+returns-in_err-partnered-clause-fails g c = λ told.
     let state = g.V.Files.state c.args.files.now in
     let tables = c.args.tables.now in
     let before = c.args.self.now in
@@ -14,42 +14,35 @@ returns-in_err-partnered-clause-reads_failed g c = λ told.
     let inv = c.lefts.invariant in
     let lefts = rows state.files before.left in
     let rights = rows state.files before.right in
-    let most : FitsPairs before state tables → g.V.Files.reads c.pair_at.new.files + join_cost_behind now lefts rights ≤ g.V.Files.reads c.args.files.now + join_cost_ahead before lefts rights =
+    let most : FitsPairs before state tables → FailsPair before now lefts rights (g.V.Files.reads c.args.files.now) (g.V.Files.reads c.pair_at.new.files) =
     λ fits. let j = inv.told told fits in
-    joining_fault state tables before now (g.V.Files.reads c.args.files.now) (g.V.Files.reads c.lefts.files) (g.V.Files.reads c.pair_at.new.files) j
-    (ap (λ (x : JoinCursor). x.left) inv.stands) (ap (λ (x : JoinCursor). x.right) inv.stands) ((rw inv.same at c.in_err-partnered.ensures.reads_err) told j.fits) in
+    record {
+      unanswered = j.left;
+      reads = joining_fault state tables before now (g.V.Files.reads c.args.files.now) (g.V.Files.reads c.lefts.files) (g.V.Files.reads c.pair_at.new.files) j
+          (ap (λ (x : JoinCursor). x.left) inv.stands) (ap (λ (x : JoinCursor). x.right) inv.stands) ((rw inv.same at c.in_err-partnered.ensures.reads_err) told j.fits);
+    } in
     search (rules, most)
 
-pub returns-in_err-partnered-clause-reads_err : goal.returns-in_err-partnered-clause-reads_err
-returns-in_err-partnered-clause-reads_err g c = λ told.
-    let state = g.V.Files.state c.args.files.now in
-    let tables = c.args.tables.now in
-    let before = c.args.self.now in
-    let now = c.lefts.self in
-    let inv = c.lefts.invariant in
-    let lefts = rows state.files before.left in
-    let rights = rows state.files before.right in
-    let most : FitsPairs before state tables → g.V.Files.reads c.pair_at.new.files ≤ g.V.Files.reads c.args.files.now + join_cost_ahead before lefts rights =
-    λ fits. let j = inv.told told fits in
-    omega (
-      arith,
-      joining_fault state tables before now (g.V.Files.reads c.args.files.now) (g.V.Files.reads c.lefts.files) (g.V.Files.reads c.pair_at.new.files) j
-          (ap (λ (x : JoinCursor). x.left) inv.stands) (ap (λ (x : JoinCursor). x.right) inv.stands) ((rw inv.same at c.in_err-partnered.ensures.reads_err) told j.fits),
-    ) in
-    search (rules, most)
-
-pub returns-in-Some-clause-next : goal.returns-in-Some-clause-next
-returns-in-Some-clause-next g c = λ told fits.
+pub returns-in-Some-clause-yields : goal.returns-in-Some-clause-yields
+returns-in-Some-clause-yields g c = λ told fits.
     let state = g.V.Files.state c.args.files.now in
     let before = c.args.self.now in
     let now = c.lefts.self in
     let inv = c.lefts.invariant in
     let j = inv.told told fits in
-    rw c.number.ensures.value
-    (joining_pair state c.args.tables.now before now (g.V.Files.reads c.args.files.now) (g.V.Files.reads c.lefts.files) (g.V.Files.reads c.pair_at.new.files) j
-    (ap (λ (x : JoinCursor). x.left) inv.stands) (ap (λ (x : JoinCursor). x.right) inv.stands)
-    (behind_pair now c.in-Some.partnered.slot c.in-Some.partnered.inner) (c.pair_at.new.left, c.pair_at.new.right)
-    ((rw (inv.same, c.in-Some.is) at c.in_ok-partnered.ensures.next) told j.fits))
+    let le = ap (λ (x : JoinCursor). x.left) inv.stands in
+    let re = ap (λ (x : JoinCursor). x.right) inv.stands in
+    let behind = behind_pair now c.in-Some.partnered.slot c.in-Some.partnered.inner in
+    let r0 = g.V.Files.reads c.args.files.now in
+    let r1 = g.V.Files.reads c.lefts.files in
+    let r2 = g.V.Files.reads c.pair_at.new.files in
+    let h = c.in_ok-partnered.ensures in
+    rw c.number.ensures.value (record {
+      next = joining_pair state c.args.tables.now before now r0 r1 r2 j le re behind (c.pair_at.new.left, c.pair_at.new.right) ((rw (inv.same, c.in-Some.is) at h.steps) told j.fits).0;
+      over = λ none. absurd (cc);
+      fits = (rw (inv.same, c.in-Some.is) at h.fits) told j.fits;
+      reads = joining_cost state c.args.tables.now before now r0 r1 r2 j le re behind ((rw (inv.same, c.in-Some.is) at h.steps) told j.fits).1;
+    })
 
 pub returns-in-Some-clause-pair : goal.returns-in-Some-clause-pair
 returns-in-Some-clause-pair g c = λ told yes.
@@ -63,18 +56,14 @@ returns-in-Some-clause-pair g c = λ told yes.
     ((rw (inv.same, c.in-Some.is) at c.in_ok-partnered.ensures.left_row) told)
     ((rw (inv.same, c.in-Some.is) at c.in_ok-partnered.ensures.right_row) told))
 
-pub returns-in-Some-clause-reads : goal.returns-in-Some-clause-reads
-returns-in-Some-clause-reads g c = λ told fits.
+pub returns-clause-yields : goal.returns-clause-yields
+returns-clause-yields g c = λ told fits.
     let state = g.V.Files.state c.args.files.now in
     let before = c.args.self.now in
     let now = c.lefts.self in
-    let inv = c.lefts.invariant in
-    let j = inv.told told fits in
-    rw c.number.ensures.value
-    (joining_cost state c.args.tables.now before now (g.V.Files.reads c.args.files.now) (g.V.Files.reads c.lefts.files) (g.V.Files.reads c.pair_at.new.files) j
-    (ap (λ (x : JoinCursor). x.left) inv.stands) (ap (λ (x : JoinCursor). x.right) inv.stands)
-    (behind_pair now c.in-Some.partnered.slot c.in-Some.partnered.inner)
-    ((rw (inv.same, c.in-Some.is) at c.in_ok-partnered.ensures.reads) told j.fits))
+    let j = c.lefts.invariant.told told fits in
+    let none = all_passed now (rows state.files before.left) (rows state.files before.right) (omega arith) in
+    record { next = j.left ∙ none; over = λ is. none; fits = j.fits; reads = j.few }
 
 pub lefts-preserved : goal.lefts-preserved
 lefts-preserved g c =
@@ -95,6 +84,6 @@ lefts-preserved g c =
           let j = inv.told told fits in
           joining_more state c.args.tables.now before now (g.V.Files.reads c.args.files.now) (g.V.Files.reads c.lefts.files) (g.V.Files.reads c.pair_at.new.files) j
           (ap (λ (x : JoinCursor). x.left) inv.stands) (ap (λ (x : JoinCursor). x.right) inv.stands)
-          ((rw (inv.same, c.in-None.is) at c.in_ok-partnered.ensures.next) told j.fits)
-          ((rw (inv.same, c.in-None.is) at c.in_ok-partnered.ensures.reads) told j.fits);
+          ((rw (inv.same, c.in-None.is) at c.in_ok-partnered.ensures.steps) told j.fits).0
+          ((rw (inv.same, c.in-None.is) at c.in_ok-partnered.ensures.steps) told j.fits).1;
     }
