@@ -1,11 +1,11 @@
 ghost use Rattle.std.specs.Prelude.{◌≡◌, ◌<◌, ◌≤◌, true};
 ghost use Rattle.coffee_header.specs.Headers.{is_flags, is_kind};
 
+use crate::calls::{Answer, Call, first_other};
 use afl_base::Name;
 use afl_sim::{FaultFlash, MemFlash};
 use arrayvec::ArrayVec;
 use coffee_header::{Header, write_header};
-use std::test::Fail;
 
 /// The bytes of four sectors.
 pub const SIZE: usize = 16384;
@@ -70,35 +70,62 @@ pub fn log(name: Name) -> Header
 /// `CAT` in pages 0 to 5, `T0` in pages 6 to 21, and the log of `CAT` in pages 22 to 37 with four
 /// records in use, of the regions 0, 0, 11 and 11. `CAT` has 1,472 bytes, the last of which stands in
 /// its last record; `T0` has 10.
-pub fn two_files() -> Result<[u8; SIZE], Fail> {
-    let cat = Name::new(b"CAT").ok_or("name")?;
-    let t0 = Name::new(b"T0").ok_or("name")?;
+pub fn two_files() -> [u8; SIZE] {
+    let cat = named(b"CAT");
     let mut image = erased();
     put(&mut image, 0, &file(23, 6, true, cat));
-    put(&mut image, 6, &file(0, 16, false, t0));
+    put(&mut image, 6, &file(0, 16, false, named(b"T0")));
     put(&mut image, 22, &log(cat));
     let table = 256 * 22 + 32;
-    set(&mut image, table, 1);
-    set(&mut image, table + 2, 1);
-    set(&mut image, table + 4, 12);
-    set(&mut image, table + 6, 12);
     let records = 256 * 22 + 96;
-    set(&mut image, records, 65);
-    set(&mut image, records + 128 * 2 + 100, 1);
-    set(&mut image, records + 128 * 3 + 63, 1);
-    set(&mut image, 256 * 6 + 32 + 9, 1);
-    Ok(image)
+    let bytes = [
+        (table, 1),
+        (table + 2, 1),
+        (table + 4, 12),
+        (table + 6, 12),
+        (records, 65),
+        (records + 128 * 2 + 100, 1),
+        (records + 128 * 3 + 63, 1),
+        (256 * 6 + 32 + 9, 1),
+    ];
+    set_all(&mut image, &bytes);
+    image
+}
+
+/// Sets bytes of an image at their places, where it has them.
+pub fn set_all(image: &mut [u8; SIZE], bytes: &[(usize, u8)]) {
+    for (at, byte) in bytes.iter() {
+        set(image, *at, *byte);
+    }
+}
+
+/// The name of some letters.
+pub fn named(letters: &[u8]) -> Name {
+    Name::new(letters).unwrap_or_default()
 }
 
 /// A flash in memory.
-pub fn memory<'a>(image: &'a mut [u8; SIZE]) -> Result<MemFlash<'a>, Fail> {
+pub fn memory<'a>(image: &'a mut [u8; SIZE]) -> Option<MemFlash<'a>> {
     let all = &mut image[..];
-    Ok(MemFlash::new(all).ok_or("no flash")?)
+    MemFlash::new(all)
+}
+
+/// The first other answer of a flash in memory whose call of this number fails; the calls are counted
+/// from 1.
+pub fn first_other_of(
+    image: &mut [u8; SIZE],
+    call: u64,
+    calls: &[(Call, Answer)],
+) -> Option<(usize, Answer)> {
+    match failing(image, call) {
+        Some(mut flash) => first_other(&mut flash, calls),
+        None => Some((0, Answer::Failed)),
+    }
 }
 
 /// A flash in memory whose call of this number fails.
-pub fn failing<'a>(image: &'a mut [u8; SIZE], call: u64) -> Result<FaultFlash<MemFlash<'a>>, Fail> {
+pub fn failing<'a>(image: &'a mut [u8; SIZE], call: u64) -> Option<FaultFlash<MemFlash<'a>>> {
     let mut fails = ArrayVec::new();
     fails.push(call);
-    Ok(FaultFlash::new(memory(image)?, fails))
+    Some(FaultFlash::new(memory(image)?, fails))
 }

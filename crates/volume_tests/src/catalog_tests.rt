@@ -2,15 +2,15 @@
 
 ghost use Rattle.std.specs.Prelude.{◌≡◌, None};
 
+use crate::acts::{Answer, answer_of, run_in};
 use crate::calls::{fetch, look};
 use crate::mounted::{SIZE, calls_of_mount, erased, failing, memory, mounted};
-use crate::steps::{Step, after};
+use crate::steps::Step;
 use afl_base::{FileError, Files, Flash, Kind, RelationId};
 use arrayvec::ArrayVec;
 use catalog::{catalog_file, put_relation, room_for};
 use coffee_volume::{MountError, Volume};
 use db_model::{Attribute, Attributes, Domain, Ident, Schema};
-use std::test::Fail;
 
 // How far a change of the second slot has come.
 #[derive(Clone, Copy, Default, PartialEq, Eq, Debug)]
@@ -24,47 +24,48 @@ enum Stage {
     Slot,
     // The mark stands, too.
     Marked,
+    // The image breaks a rule.
+    Broken,
+    // Neither old nor new bytes stand there.
+    Other,
 }
 
 #[test]
-fn a_slot_is_replaced_before_the_mark_of_version_2_is_appended(
-    rt: HostRuntime,
-) -> Result<(), Fail> {
-    let before = begin()?;
-    let mounting = calls_of_mount(&before)?;
-    let mut seen: ArrayVec<Stage, 4> = ArrayVec::new();
+fn a_slot_is_replaced_before_the_mark_of_version_2_is_appended(rt: HostRuntime) {
+    let (cat, catalog) = (catalog_file(), version_1());
+    // A catalog of version 1 that has a log.
+    let steps = [
+        Step::Make(cat, Kind::Fixed(6)),
+        Step::Append(cat, &catalog, 1),
+        Step::Overwrite(cat, 0, b"n"),
+    ];
+    let mut image = erased();
+    let made = run_in(&mut image, &steps);
+    let seen = [Stage::Before, Stage::Half, Stage::Slot, Stage::Marked];
+    assert_eq!(rt;
+        (made, stages(&image).as_slice()),
+        (Answer::Done, seen.as_slice())
+    );
+}
+
+// The stages that are found where one call of the flash after the other fails, up to the change that
+// is done.
+fn stages(before: &[u8; SIZE]) -> ArrayVec<Stage, 8> {
+    let mounting = calls_of_mount(before);
+    let mut seen: ArrayVec<Stage, 8> = ArrayVec::new();
     for call in 1..1_000u64 {
-        let (found, failed) = stage_after(&before, mounting.saturating_add(call))?;
-        if let Some(stage) = found {
-            if seen.last() != Some(&stage) {
-                if seen.is_full() {
-                    return Err(Fail::new("a stage came twice"));
-                }
-                seen.push(stage);
+        let (stage, changed) = stage_after(before, mounting.saturating_add(call));
+        if stage != Stage::Broken && seen.last() != Some(&stage) {
+            if seen.is_full() {
+                break;
             }
+            seen.push(stage);
         }
-        if !failed {
+        if changed != Answer::Failed {
             break;
         }
     }
-    assert_eq!(rt;
-        seen.as_slice(),
-        [Stage::Before, Stage::Half, Stage::Slot, Stage::Marked].as_slice()
-    );
-    Ok(())
-}
-
-// A catalog of version 1 that has a log.
-fn begin() -> Result<[u8; SIZE], Fail> {
-    let catalog = version_1();
-    let steps = [
-        Step::Make(catalog_file(), Kind::Fixed(6)),
-        Step::Append(catalog_file(), &catalog, 1),
-        Step::Overwrite(catalog_file(), 0, b"n"),
-    ];
-    let mut image = erased();
-    after(memory(&mut image)?, &steps)?;
-    Ok(image)
+    seen
 }
 
 // A catalog of version 1 with the relation n in its first slot.
@@ -91,41 +92,37 @@ fn slot_of(name: u8) -> [u8; 176] {
     bytes
 }
 
-// What is found once the call of this number has failed, where the image still keeps its rules, and
-// whether there was such a call.
-fn stage_after(before: &[u8; SIZE], call: u64) -> Result<(Option<Stage>, bool), Fail> {
+// What is found once the call of this number has failed, and what the change came to.
+fn stage_after(before: &[u8; SIZE], call: u64) -> (Stage, Answer) {
     let mut image = *before;
-    let failed = fails_over(failing(&mut image, call)?)?;
-    Ok((stage_over(memory(&mut image)?)?, failed))
-}
-
-// Whether the change of a flash fails.
-fn fails_over<F: Flash + Drop>(flash: F) -> Result<bool, Fail> {
-    let mut volume = mounted(flash)?;
-    match put_second(&mut volume)? {
-        Ok(true) => Ok(false),
-        Ok(false) => Err(Fail::new("a condition is not met")),
-        Err(FileError::Space { need }) => Err(Fail::new(need)),
-        Err(FileError::Failed) => Ok(true),
+    let changed = match failing(&mut image, call) {
+        Some(flash) => changed_over(flash),
+        None => Answer::Undone,
+    };
+    if changed != Answer::Done && changed != Answer::Failed {
+        return (Stage::Other, changed);
+    }
+    match memory(&mut image) {
+        Some(flash) => (stage_over(flash), changed),
+        None => (Stage::Other, changed),
     }
 }
 
-// What a flash has in the second slot, where it keeps its rules.
-fn stage_over<F: Flash + Drop>(flash: F) -> Result<Option<Stage>, Fail> {
-    match Volume::mount(flash) {
-        Ok(volume) => Ok(Some(stage_on(volume)?.ok_or("neither old nor new bytes")?)),
-        Err(MountError::Bad { bad: _, flash: _ }) => Ok(None),
-        Err(MountError::Failed { flash: _ }) => Err(Fail::new("memory failed")),
+// What putting the relation m into the second slot comes to.
+fn changed_over<F: Flash + Drop>(flash: F) -> Answer {
+    match mounted(flash) {
+        Some(mut volume) => answer_of(put_second(&mut volume)),
+        None => Answer::Undone,
     }
 }
 
-// Puts the relation m into the second slot.
-fn put_second<V: Files>(files: &mut V) -> Result<Result<bool, FileError>, Fail>
+fn put_second<V: Files>(files: &mut V) -> Result<bool, FileError>
     requires { (V.state files.old).draft ≡ None }
 {
-    let schema = relation().ok_or("no schema")?;
-    let second = RelationId::new(1).ok_or("no slot")?;
-    Ok(put(files, second, &schema))
+    match (relation(), RelationId::new(1)) {
+        (Some(schema), Some(second)) => put(files, second, &schema),
+        _ => Ok(false),
+    }
 }
 
 fn put<V: Files>(files: &mut V, id: RelationId, schema: &Schema) -> Result<bool, FileError>
@@ -161,21 +158,29 @@ fn relation() -> Option<Schema> {
     })
 }
 
-// What a volume has in the second slot.
-fn stage_on<F: Flash + Drop>(mut volume: Volume<F>) -> Result<Option<Stage>, Fail> {
-    let size = match look(&volume, catalog_file()) {
-        Some((_, _, size)) => size,
-        None => return Ok(None),
+// What a flash has in the second slot, where it keeps its rules.
+fn stage_over<F: Flash + Drop>(flash: F) -> Stage {
+    match Volume::mount(flash) {
+        Ok(mut volume) => stage_on(&mut volume),
+        Err(MountError::Bad { bad: _, flash: _ }) => Stage::Broken,
+        Err(MountError::Failed { flash: _ }) => Stage::Other,
+    }
+}
+
+// What files have in the second slot.
+fn stage_on<V: Files>(files: &mut V) -> Stage {
+    let Some((_, _, size)) = look(files, catalog_file()) else {
+        return Stage::Other;
     };
     let mut slot = [0; 176];
-    if !fetch(&mut volume, catalog_file(), 176, &mut slot)? {
-        return Ok(None);
+    match fetch(files, catalog_file(), 176, &mut slot) {
+        Ok(true) => stage_of(&slot, size),
+        _ => Stage::Other,
     }
-    Ok(stage_of(&slot, size))
 }
 
 // The bytes of the slot from 80 on lie in a second region of the file.
-fn stage_of(slot: &[u8; 176], size: u32) -> Option<Stage> {
+fn stage_of(slot: &[u8; 176], size: u32) -> Stage {
     let new = slot_of(b'm');
     let mut half = new;
     half[160] = 0;
@@ -183,19 +188,19 @@ fn stage_of(slot: &[u8; 176], size: u32) -> Option<Stage> {
     old[175] = 1;
     if slot[..] == new[..] {
         return match size {
-            1472 => Some(Stage::Slot),
-            1480 => Some(Stage::Marked),
-            _ => None,
+            1472 => Stage::Slot,
+            1480 => Stage::Marked,
+            _ => Stage::Other,
         };
     }
     if size != 1472 {
-        return None;
+        return Stage::Other;
     }
     if slot[..] == half[..] {
-        return Some(Stage::Half);
+        return Stage::Half;
     }
     if slot[..] == old[..] {
-        return Some(Stage::Before);
+        return Stage::Before;
     }
-    None
+    Stage::Other
 }

@@ -4,10 +4,10 @@ ghost use Rattle.std.specs.Prelude.{◌≡◌};
 ghost use Rattle.volume_tests.specs.Counts.{HasFiles};
 
 use crate::calls::make;
+use crate::mounted::named;
 use crate::steps::{Step, take_all};
 use afl_base::{FileError, Files, Kind, Name};
 use afl_sim::PlainFiles;
-use std::test::Fail;
 
 // What some steps over no files come to.
 fn run_plain(steps: &[Step]) -> Result<bool, FileError> {
@@ -17,8 +17,8 @@ fn run_plain(steps: &[Step]) -> Result<bool, FileError> {
 }
 
 #[test]
-fn plain_files_hold_what_was_written(rt: HostRuntime) -> Result<(), Fail> {
-    let name = Name::new(b"T0").ok_or("no name")?;
+fn plain_files_hold_what_was_written(rt: HostRuntime) {
+    let name = named(b"T0");
     let steps = [
         Step::Lacks(name),
         Step::Make(name, Kind::Doubling),
@@ -30,20 +30,17 @@ fn plain_files_hold_what_was_written(rt: HostRuntime) -> Result<(), Fail> {
         Step::Lacks(name),
     ];
     assert_eq!(rt; run_plain(&steps), Ok(true));
-    Ok(())
 }
 
 #[test]
-fn plain_files_lack_what_an_array_does_not_hold(rt: HostRuntime) -> Result<(), Fail> {
-    let name = Name::new(b"T0").ok_or("no name")?;
-    let fixed = Name::new(b"CAT").ok_or("no name")?;
+fn plain_files_lack_what_an_array_does_not_hold(rt: HostRuntime) {
+    let name = named(b"T0");
+    let fixed = named(b"CAT");
     let draft = [Step::Replace(name, &[1; 4065], 0)];
-    assert_eq!(rt; run_plain(&draft), Err(FileError::Space { need: 32 }));
     let tail = [
         Step::Make(name, Kind::Doubling),
         Step::Append(name, &[1; 4065], 1),
     ];
-    assert_eq!(rt; run_plain(&tail), Err(FileError::Space { need: 32 }));
     let most = [
         Step::Make(name, Kind::Doubling),
         Step::Append(name, &[1; 4064], 1),
@@ -53,14 +50,17 @@ fn plain_files_lack_what_an_array_does_not_hold(rt: HostRuntime) -> Result<(), F
         Step::Overwrite(fixed, 127, &[2; 3584]),
         Step::Stands(fixed, 1, Kind::Fixed(15), 3808),
     ];
-    assert_eq!(rt; run_plain(&most), Ok(true));
-    Ok(())
+    let lacking = Err(FileError::Space { need: 32 });
+    assert_eq!(rt;
+        [run_plain(&draft), run_plain(&tail), run_plain(&most)],
+        [lacking, lacking, Ok(true)]
+    );
 }
 
 #[test]
-fn a_draft_takes_the_place_of_its_name(rt: HostRuntime) -> Result<(), Fail> {
-    let old = Name::new(b"T0").ok_or("no name")?;
-    let new = Name::new(b"X0").ok_or("no name")?;
+fn a_draft_takes_the_place_of_its_name(rt: HostRuntime) {
+    let old = named(b"T0");
+    let new = named(b"X0");
     let steps = [
         Step::Make(old, Kind::Doubling),
         Step::Replace(new, &[0, 0, 99], 0),
@@ -72,13 +72,12 @@ fn a_draft_takes_the_place_of_its_name(rt: HostRuntime) -> Result<(), Fail> {
         Step::Holds(old, 0, b"rows"),
     ];
     assert_eq!(rt; run_plain(&steps), Ok(true));
-    Ok(())
 }
 
 #[test]
-fn a_file_is_changed_beside_another_that_is_replaced(rt: HostRuntime) -> Result<(), Fail> {
-    let first = Name::new(b"T0").ok_or("no name")?;
-    let second = Name::new(b"T1").ok_or("no name")?;
+fn a_file_is_changed_beside_another_that_is_replaced(rt: HostRuntime) {
+    let first = named(b"T0");
+    let second = named(b"T1");
     let steps = [
         Step::Make(first, Kind::Doubling),
         Step::Make(second, Kind::Doubling),
@@ -90,15 +89,17 @@ fn a_file_is_changed_beside_another_that_is_replaced(rt: HostRuntime) -> Result<
         Step::Holds(second, 0, b"rows"),
     ];
     assert_eq!(rt; run_plain(&steps), Ok(true));
-    Ok(())
+}
+
+// The same of files with names of one byte.
+fn make_plain(letters: u8) -> Result<bool, FileError> {
+    let mut files: PlainFiles<4064> = PlainFiles::new();
+    make_letters(&mut files, letters)
 }
 
 #[test]
 fn plain_files_are_32_at_most(rt: HostRuntime) {
-    let mut files: PlainFiles<4064> = PlainFiles::new();
-    assert_eq!(rt; make_letters(&mut files, 32), Ok(true));
-    let mut more: PlainFiles<4064> = PlainFiles::new();
-    assert_eq!(rt; make_letters(&mut more, 33), Ok(false));
+    assert_eq!(rt; [make_plain(32), make_plain(33)], [Ok(true), Ok(false)]);
 }
 
 // Makes files with names of one byte, where no file is, and looks for the last of them.

@@ -1,9 +1,9 @@
 ghost use Rattle.std.specs.Prelude.{◌≡◌, None};
 
 use crate::calls::{doubling_file, live_files, make};
-use crate::mounted::mounted;
+use crate::mounted::{mounted, named};
 use crate::rows::{append_short_rows, are_long_rows, insert_long_rows, long_rows, short_rows};
-use afl_base::{Files, Flash, Kind, Name, SlotNo};
+use afl_base::{FileError, Files, Flash, Kind, Name, SlotNo};
 use afl_sim::MemFlash;
 use db_model::{Tuple, Value};
 use std::test::Fail;
@@ -11,74 +11,102 @@ use std::test::Fail;
 #[test]
 fn rows_of_128_bytes_are_read_back(rt: HostRuntime) -> Result<(), Fail> {
     let mut image = vec![in rt.alloc(); 0u8; 262_144]?;
-    keep_long_rows(MemFlash::new(&mut image).ok_or("no flash")?)
+    assert_eq!(rt; keep_long_rows(&mut image), Ok(true));
+    Ok(())
 }
 
 #[test]
 fn rows_are_counted_up_to_32768(rt: HostRuntime) -> Result<(), Fail> {
     let mut image = vec![in rt.alloc(); 0u8; 1_048_576]?;
-    let (count, last) = count_after_all(MemFlash::new(&mut image).ok_or("no flash")?)?;
-    assert_eq!(rt; count, 32_768);
-    assert!(rt; last.as_slice() == [Value::Number(32_767)].as_slice());
+    assert_eq!(rt; last_of_short_rows(&mut image), Ok(Some((32_768, 32_767))));
     Ok(())
 }
 
-// Writes long rows into a new file of a flash, and reads them back.
-fn keep_long_rows<F: Flash + Drop>(flash: F) -> Result<(), Fail> {
-    let t0 = Name::new(b"T0").ok_or("name")?;
-    let mut volume = mounted(flash)?;
-    let mut used = live_files(&volume);
-    if !make(&mut volume, &mut used, t0, Kind::Doubling)? {
-        return Err(Fail::new("no file was made"));
+// Writes long rows into a new file of a flash, and reads them back. It answers whether all are there.
+fn keep_long_rows(image: &mut [u8]) -> Result<bool, FileError> {
+    match MemFlash::new(image) {
+        Some(flash) => keep_long_rows_over(flash),
+        None => Ok(false),
     }
-    write_long_rows(&mut volume, t0)
 }
 
-// Writes all short rows into a new file of a flash, and counts them.
-fn count_after_all<F: Flash + Drop>(flash: F) -> Result<(u16, Tuple), Fail> {
-    let t0 = Name::new(b"T0").ok_or("name")?;
-    let mut volume = mounted(flash)?;
+fn keep_long_rows_over<F: Flash + Drop>(flash: F) -> Result<bool, FileError> {
+    let Some(mut volume) = mounted(flash) else {
+        return Ok(false);
+    };
     let mut used = live_files(&volume);
-    let made = make(&mut volume, &mut used, t0, Kind::Doubling)?;
-    if !made || !append_short_rows(&mut volume, t0)? {
-        return Err(Fail::new("the rows were not appended"));
-    }
-    count_short_rows(&mut volume, t0)
+    Ok(
+        make(&mut volume, &mut used, named(b"T0"), Kind::Doubling)?
+            && write_long_rows(&mut volume, named(b"T0"))?,
+    )
 }
 
 // Writes 200 rows of 128 bytes into an empty file, and reads them back.
-fn write_long_rows<V: Files>(files: &mut V, name: Name) -> Result<(), Fail>
+fn write_long_rows<V: Files>(files: &mut V, name: Name) -> Result<bool, FileError>
     requires { (V.state files.old).draft ≡ None }
 {
-    let file = doubling_file(files, name).ok_or("no file")?;
-    let tuples = long_rows(file).ok_or("no schema")?;
+    let Some(file) = doubling_file(files, name) else {
+        return Ok(false);
+    };
+    let Some(tuples) = long_rows(file) else {
+        return Ok(false);
+    };
     if !tuples.valid(files, 2)? || tuples.count(files) != 0 {
-        return Err(Fail::new("the file is not empty"));
+        return Ok(false);
     }
     if !insert_long_rows(files, &tuples, 200)? {
-        return Err(Fail::new("a row was not made"));
+        return Ok(false);
     }
     if tuples.count(files) != 200 || files.size(file) != 25_600 {
-        return Err(Fail::new("the file has not the bytes of 200 rows"));
+        return Ok(false);
     }
-    if !are_long_rows(files, &tuples, 200)? {
-        return Err(Fail::new("the rows are others"));
-    }
-    Ok(())
+    are_long_rows(files, &tuples, 200)
 }
 
-// The number of slots of a relation, and its row in slot 32,767.
-fn count_short_rows<V: Files>(files: &mut V, name: Name) -> Result<(u16, Tuple), Fail> {
-    let file = doubling_file(files, name).ok_or("no file")?;
-    let tuples = short_rows(file).ok_or("no schema")?;
+// Writes all short rows into a new file of a flash. It answers how many there are, and the number in
+// the last.
+fn last_of_short_rows(image: &mut [u8]) -> Result<Option<(u16, i64)>, FileError> {
+    match MemFlash::new(image) {
+        Some(flash) => last_of_short_rows_over(flash),
+        None => Ok(None),
+    }
+}
+
+fn last_of_short_rows_over<F: Flash + Drop>(flash: F) -> Result<Option<(u16, i64)>, FileError> {
+    let Some(mut volume) = mounted(flash) else {
+        return Ok(None);
+    };
+    let mut used = live_files(&volume);
+    if !make(&mut volume, &mut used, named(b"T0"), Kind::Doubling)? {
+        return Ok(None);
+    }
+    if !append_short_rows(&mut volume, named(b"T0"))? {
+        return Ok(None);
+    }
+    last_short_row(&mut volume, named(b"T0"))
+}
+
+// The number of slots of a relation, and the number in slot 32,767.
+fn last_short_row<V: Files>(files: &mut V, name: Name) -> Result<Option<(u16, i64)>, FileError> {
+    let Some(file) = doubling_file(files, name) else {
+        return Ok(None);
+    };
+    let Some(tuples) = short_rows(file) else {
+        return Ok(None);
+    };
+    let Some(slot) = SlotNo::new(32_767) else {
+        return Ok(None);
+    };
     if !tuples.valid(files, 2)? {
-        return Err(Fail::new("the file has no rows"));
+        return Ok(None);
     }
     let count = tuples.count(files);
-    let slot = SlotNo::new(32_767).ok_or("no slot")?;
     let mut tuple = Tuple::new();
     if count <= 32_767 || !tuples.row(files, slot, &mut tuple)? {
-        return Err(Fail::new("the last row is not there"));
+        return Ok(None);
     }
-    Ok((count, tuple))
+    match tuple.as_slice() {
+        [Value::Number(number)] => Ok(Some((count, *number))),
+        _ => Ok(None),
+    }
 }

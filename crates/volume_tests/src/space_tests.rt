@@ -1,102 +1,149 @@
-use crate::mounted::{
-    erased, first_not_free, first_not_isolated, is_obsolete, listed, memory, only_file,
+use crate::acts::{
+    Answer, collected, first_not_free, first_not_isolated, is_obsolete, only_file, run, two_files,
 };
-use crate::steps::{Step, after, run};
-use afl_base::{Failed, FileError, Flash, Kind, Name, PageId};
+use crate::mounted::{erased, memory, named};
+use crate::steps::Step;
+use afl_base::{Flash, Kind, PageId};
 use coffee_layout::FileAt;
-use coffee_space::collect;
-use std::test::Fail;
 
 const ROW: [u8; 5] = [1, 2, 3, 4, 5];
 
-// The two files of an image that keeps its rules.
-fn two_files<F: Flash>(flash: &mut F) -> Result<(FileAt, FileAt), Fail> {
-    let table = listed(flash)?;
-    if table.len() != 2 {
-        return Err(Fail::new("not two files"));
-    }
-    Ok((table[0], table[1]))
-}
-
-#[test]
-fn a_fixed_file_a_doubling_one_and_a_log_lie_in_the_order_of_their_making(
-    rt: HostRuntime,
-) -> Result<(), Fail> {
-    let cat = Name::new(b"CAT").ok_or("name")?;
-    let t0 = Name::new(b"T0").ok_or("name")?;
-    let mut image = erased();
+// What making a file of each kind comes to, the two files with the first page behind them that is not
+// free, and what filling the doubling one and a row more come to.
+fn made_and_filled<F: Flash + Drop>(
+    flash: Option<F>,
+) -> Option<(Answer, Option<(FileAt, FileAt)>, Option<u16>, [Answer; 2])> {
+    let (cat, t0) = (named(b"CAT"), named(b"T0"));
     let making = [
         Step::Make(cat, Kind::Fixed(6)),
         Step::Append(cat, &[7; 1480], 1),
         Step::Make(t0, Kind::Doubling),
         Step::Overwrite(cat, 128, &[8; 128]),
     ];
-    let mut flash = after(memory(&mut image)?, &making)?;
-    let (first, second) = two_files(&mut flash)?;
-    assert_eq!(rt; (first.page, first.pages, first.size), (PageId(0), 6, 1480));
-    assert_eq!(rt; (first.log, first.used), (Some(PageId(22)), 1));
-    assert_eq!(rt;
-        (second.page, second.pages, second.size),
-        (PageId(6), 16, 0)
-    );
-    assert_eq!(rt; first_not_free(&mut flash, 38, 64), None);
-    let flash = after(flash, &[Step::Append(t0, &ROW, 812)])?;
+    let (mut flash, made) = run(flash?, &making);
+    let files = two_files(&mut flash);
+    let behind = first_not_free(&mut flash, 38, 64);
+    let (flash, filled) = run(flash, &[Step::Append(t0, &ROW, 812)]);
+    let (_, more) = run(flash, &[Step::Append(t0, &ROW, 1)]);
+    Some((made, files, behind, [filled, more]))
+}
+
+#[test]
+fn a_fixed_file_a_doubling_one_and_a_log_lie_in_the_order_of_their_making(rt: HostRuntime) {
+    let first = FileAt {
+        name: named(b"CAT"),
+        kind: Kind::Fixed(6),
+        page: PageId(0),
+        pages: 6,
+        size: 1480,
+        log: Some(PageId(22)),
+        used: 1,
+    };
+    let second = FileAt {
+        name: named(b"T0"),
+        kind: Kind::Doubling,
+        page: PageId(6),
+        pages: 16,
+        size: 0,
+        log: None,
+        used: 0,
+    };
     // A row more does not fit into 16 pages, and only 26 are free.
-    let (_, done) = run(flash, &[Step::Append(t0, &ROW, 1)])?;
-    assert_eq!(rt; done, Err(FileError::Space { need: 32 }));
-    Ok(())
+    let filling = [Answer::Done, Answer::Space(32)];
+    assert_eq!(rt;
+        made_and_filled(memory(&mut erased())),
+        Some((Answer::Done, Some((first, second)), None, filling))
+    );
 }
 
-#[test]
-fn a_doubling_file_grows_until_its_double_has_no_place(rt: HostRuntime) -> Result<(), Fail> {
-    let t0 = Name::new(b"T0").ok_or("name")?;
-    let mut image = erased();
+// What growing a doubling file and a row more come to, and the only file then.
+fn grown<F: Flash + Drop>(flash: Option<F>) -> Option<([Answer; 2], Option<FileAt>)> {
+    let t0 = named(b"T0");
     let growing = [Step::Make(t0, Kind::Doubling), Step::Append(t0, &ROW, 1632)];
-    let flash = after(memory(&mut image)?, &growing)?;
-    let (mut flash, done) = run(flash, &[Step::Append(t0, &ROW, 1)])?;
-    assert_eq!(rt; done, Err(FileError::Space { need: 64 }));
-    let file = only_file(&mut flash)?;
-    assert_eq!(rt; (file.page, file.pages, file.size), (PageId(16), 32, 8160));
-    Ok(())
+    let (flash, filled) = run(flash?, &growing);
+    let (mut flash, more) = run(flash, &[Step::Append(t0, &ROW, 1)]);
+    Some(([filled, more], only_file(&mut flash)))
 }
 
 #[test]
-fn a_file_is_made_and_removed_40_times_in_the_space_of_four(rt: HostRuntime) -> Result<(), Fail> {
-    let t0 = Name::new(b"T0").ok_or("name")?;
-    let mut image = erased();
-    let mut flash = after(memory(&mut image)?, &[Step::MakeAndErase(t0, 4)])?;
-    // No page is free now, and the fifth needs a collection.
-    for page in [0, 16, 32, 48] {
-        assert!(rt; is_obsolete(&mut flash, page));
-    }
-    let mut flash = after(flash, &[Step::MakeAndErase(t0, 1)])?;
-    assert!(rt; is_obsolete(&mut flash, 0));
-    assert_eq!(rt; first_not_free(&mut flash, 16, 64), None);
-    let (_, done) = run(flash, &[Step::MakeAndErase(t0, 35)])?;
-    assert_eq!(rt; done, Ok(true));
-    Ok(())
+fn a_doubling_file_grows_until_its_double_has_no_place(rt: HostRuntime) {
+    let file = FileAt {
+        name: named(b"T0"),
+        kind: Kind::Doubling,
+        page: PageId(16),
+        pages: 32,
+        size: 8160,
+        log: None,
+        used: 0,
+    };
+    assert_eq!(rt;
+        grown(memory(&mut erased())),
+        Some(([Answer::Done, Answer::Space(64)], Some(file)))
+    );
 }
 
-// How many sectors a collection erased.
-fn collected<F: Flash>(flash: &mut F) -> Result<u16, Failed> {
-    collect(flash)
+// Whether an obsolete file begins at each sector.
+fn all_are_obsolete<F: Flash>(flash: &mut F) -> bool {
+    is_obsolete(flash, 0)
+        && is_obsolete(flash, 16)
+        && is_obsolete(flash, 32)
+        && is_obsolete(flash, 48)
+}
+
+// What making and removing a file 4 times, once more and 35 times more come to; whether no page is free
+// after 4 times; and whether the fifth stands alone behind a collection.
+fn made_and_removed<F: Flash + Drop>(flash: Option<F>) -> Option<([Answer; 3], bool, bool)> {
+    let t0 = named(b"T0");
+    let (mut flash, four) = run(flash?, &[Step::MakeAndErase(t0, 4)]);
+    let full = all_are_obsolete(&mut flash);
+    let (mut flash, fifth) = run(flash, &[Step::MakeAndErase(t0, 1)]);
+    let alone = is_obsolete(&mut flash, 0) && first_not_free(&mut flash, 16, 64).is_none();
+    let (_, more) = run(flash, &[Step::MakeAndErase(t0, 35)]);
+    Some(([four, fifth, more], full, alone))
 }
 
 #[test]
-fn a_collection_isolates_what_shares_a_sector_with_a_file(rt: HostRuntime) -> Result<(), Fail> {
-    let a = Name::new(b"A").ok_or("name")?;
-    let b = Name::new(b"B").ok_or("name")?;
-    let mut image = erased();
+fn a_file_is_made_and_removed_40_times_in_the_space_of_four(rt: HostRuntime) {
+    assert_eq!(rt;
+        made_and_removed(memory(&mut erased())),
+        Some(([Answer::Done; 3], true, true))
+    );
+}
+
+// What making two files and removing the second comes to, how many sectors a collection erases then, and
+// the only file, with the first pages that are not isolated behind it and not free behind these.
+fn isolated<F: Flash + Drop>(
+    flash: Option<F>,
+) -> Option<(Answer, Option<u16>, Option<FileAt>, [Option<u16>; 2])> {
+    let (a, b) = (named(b"A"), named(b"B"));
     let steps = [
         Step::Make(a, Kind::Fixed(6)),
         Step::Make(b, Kind::Fixed(12)),
         Step::Erase(b),
     ];
-    let mut flash = after(memory(&mut image)?, &steps)?;
-    assert_eq!(rt; collected(&mut flash), Ok(1));
-    let file = only_file(&mut flash)?;
-    assert_eq!(rt; (file.name, file.page, file.pages), (a, PageId(0), 6));
-    assert_eq!(rt; first_not_isolated(&mut flash, 6, 16), None);
-    assert_eq!(rt; first_not_free(&mut flash, 16, 64), None);
-    Ok(())
+    let (mut flash, done) = run(flash?, &steps);
+    let erased = collected(&mut flash);
+    let file = only_file(&mut flash);
+    let others = [
+        first_not_isolated(&mut flash, 6, 16),
+        first_not_free(&mut flash, 16, 64),
+    ];
+    Some((done, erased, file, others))
+}
+
+#[test]
+fn a_collection_isolates_what_shares_a_sector_with_a_file(rt: HostRuntime) {
+    let file = FileAt {
+        name: named(b"A"),
+        kind: Kind::Fixed(6),
+        page: PageId(0),
+        pages: 6,
+        size: 0,
+        log: None,
+        used: 0,
+    };
+    assert_eq!(rt;
+        isolated(memory(&mut erased())),
+        Some((Answer::Done, Some(1), Some(file), [None, None]))
+    );
 }

@@ -4,11 +4,9 @@ ghost use Rattle.std.specs.Prelude.{◌≡◌, None};
 ghost use Rattle.afl_base.specs.FileErrors.{UnlessFailed};
 ghost use Rattle.volume_tests.specs.Counts.{HasFiles};
 
-use crate::calls::{change, change_behind, erase, fetch, live_files, look, make, replace};
-use crate::mounted::mounted;
+use crate::calls::{change, change_behind, erase, fetch, make, replace};
 use crate::runs::{append_rows, make_and_erase, mark_rows};
-use afl_base::{FileError, Files, Flash, Kind, Name};
-use std::test::Fail;
+use afl_base::{FileError, Files, Kind, Name};
 
 /// A call of files by a name.
 #[derive(Clone, Copy)]
@@ -35,26 +33,6 @@ pub enum Step<'a> {
     Lacks(Name),
 }
 
-/// The flash after some steps over its files, and what they came to: up to the first that is not done.
-pub fn run<F: Flash + Drop>(
-    flash: F,
-    steps: &[Step],
-) -> Result<(F, Result<bool, FileError>), Fail> {
-    let mut volume = mounted(flash)?;
-    let mut used = live_files(&volume);
-    let done = take_all(&mut volume, &mut used, steps);
-    Ok((volume.unmount(), done))
-}
-
-/// The flash after some steps over its files, all of which were done.
-pub fn after<F: Flash + Drop>(flash: F, steps: &[Step]) -> Result<F, Fail> {
-    let (flash, done) = run(flash, steps)?;
-    if !done? {
-        return Err(Fail::new("a step was not done"));
-    }
-    Ok(flash)
-}
-
 /// Takes some steps, up to the first that is not done.
 pub fn take_all<V: Files>(files: &mut V, used: &mut u16, steps: &[Step]) -> Result<bool, FileError>
     requires { HasFiles (V.state files.old) used.old }
@@ -68,7 +46,8 @@ pub fn take_all<V: Files>(files: &mut V, used: &mut u16, steps: &[Step]) -> Resu
     Ok(true)
 }
 
-fn take<V: Files>(files: &mut V, used: &mut u16, step: &Step) -> Result<bool, FileError>
+/// Takes a step.
+pub fn take<V: Files>(files: &mut V, used: &mut u16, step: &Step) -> Result<bool, FileError>
     requires { HasFiles (V.state files.old) used.old }
     ensures { UnlessFailed result (HasFiles (V.state files.new) used.new) }
 {

@@ -1,11 +1,11 @@
-ghost use Rattle.std.specs.Prelude.{◌≡◌, ◌<◌, ◌≤◌, IfOk, OnOk};
+ghost use Rattle.std.specs.Prelude.{◌≡◌, ◌<◌, ◌≤◌, IfSome, OnOk};
 ghost use Rattle.afl_base.specs.FileErrors.{OnSpace, UnlessFailed};
 ghost use Rattle.volume_tests.specs.Counts.{HasFiles};
 
 use crate::calls::{change, change_behind, erase, fetch, look, make, replace};
+use crate::mounted::named;
 use crate::random::Random;
 use afl_base::{FileError, Files, Kind, Name};
-use std::test::Fail;
 
 /// The most bytes that a walk gives to a file.
 const MOST: u32 = 16_352;
@@ -37,19 +37,20 @@ struct Bytes {
 }
 
 /// Takes so many steps over files of two kinds, which have to come out alike. Where the first answer
-/// that no space is left, the others do not take the step. It answers how often that was.
+/// that no space is left, the others do not take the step. It answers how often that was, and nothing
+/// where they come out otherwise.
 pub fn walk<V: Files, W: Files>(
     files: &mut V,
     others: &mut W,
     used: &mut u16,
     random: &mut Random,
     steps: u16,
-) -> Result<u16, Fail>
+) -> Option<u16>
     requires files { HasFiles (V.state files.old) used.old }
     requires others { HasFiles (W.state others.old) used.old }
-    ensures files { OnOk result (HasFiles (V.state files.new) used.new) }
-    ensures others { OnOk result (HasFiles (W.state others.new) used.new) }
-    ensures spaces { IfOk result (λ spaces. spaces ≤ steps) }
+    ensures files { IfSome result (λ _. HasFiles (V.state files.new) used.new) }
+    ensures others { IfSome result (λ _. HasFiles (W.state others.new) used.new) }
+    ensures spaces { IfSome result (λ spaces. spaces ≤ steps) }
 {
     let mut spaces = 0;
     for turn in 0..steps {
@@ -57,22 +58,22 @@ pub fn walk<V: Files, W: Files>(
             spaces += 1;
         }
     }
-    Ok(spaces)
+    Some(spaces)
 }
 
-// Takes one step, and says whether it lacked space.
+// Takes one step, and says whether it lacked space, where it comes out alike.
 fn take_step<V: Files, W: Files>(
     files: &mut V,
     others: &mut W,
     used: &mut u16,
     random: &mut Random,
-) -> Result<bool, Fail>
+) -> Option<bool>
     requires files { HasFiles (V.state files.old) used.old }
     requires others { HasFiles (W.state others.old) used.old }
-    ensures files { OnOk result (HasFiles (V.state files.new) used.new) }
-    ensures others { OnOk result (HasFiles (W.state others.new) used.new) }
+    ensures files { IfSome result (λ _. HasFiles (V.state files.new) used.new) }
+    ensures others { IfSome result (λ _. HasFiles (W.state others.new) used.new) }
 {
-    let (name, kind) = file_name(random.below(34) as u8)?;
+    let (name, kind) = file_name(random.below(34) as u8);
     let act = drawn(look(files, name), random);
     let step = Step { name, kind, act };
     let bytes = written(act, random);
@@ -81,28 +82,33 @@ fn take_step<V: Files, W: Files>(
     let mut count = *used;
     let done = match take(files, used, &step, &bytes, &mut first) {
         Ok(done) => done,
-        Err(FileError::Space { need: _ }) => return Ok(true),
-        Err(FileError::Failed) => return Err(Fail::new("a call failed")),
+        Err(FileError::Space { need: _ }) => return Some(true),
+        Err(FileError::Failed) => return None,
     };
-    let also = take(others, &mut count, &step, &bytes, &mut second)?;
-    if done != also || *used != count || first != second {
-        return Err(Fail::new("the answers differ"));
+    let also = match take(others, &mut count, &step, &bytes, &mut second) {
+        Ok(also) => also,
+        Err(_) => return None,
+    };
+    if done != also
+        || *used != count
+        || first != second
+        || look(files, name) != look(others, name)
+    {
+        return None;
     }
-    if look(files, name) != look(others, name) {
-        return Err(Fail::new("the files differ"));
-    }
-    Ok(false)
+    Some(false)
 }
 
 // The file of a number, of two more than there may be: its name, and the kind that it has.
-fn file_name(number: u8) -> Result<(Name, Kind), Fail>
+fn file_name(number: u8) -> (Name, Kind)
     requires { number < 34 }
 {
-    let name = Name::new(&[70, 65 + number]).ok_or("name")?;
-    if number < 26 {
-        return Ok((name, Kind::Doubling));
-    }
-    Ok((name, Kind::Fixed(u16::from(number) * 7 % 15 + 1)))
+    let kind = if number < 26 {
+        Kind::Doubling
+    } else {
+        Kind::Fixed(u16::from(number) * 7 % 15 + 1)
+    };
+    (named(&[70, 65 + number]), kind)
 }
 
 // What is done to a file, where there is one, from its size.
@@ -221,12 +227,12 @@ fn take<V: Files>(
 }
 
 /// Whether files of two kinds have the same files, byte by byte.
-pub fn are_same<V: Files, W: Files>(files: &mut V, others: &mut W) -> Result<bool, Fail>
+pub fn are_same<V: Files, W: Files>(files: &mut V, others: &mut W) -> Result<bool, FileError>
     ensures files { OnOk result (V.state files.new ≡ V.state files.old) }
     ensures others { OnOk result (W.state others.new ≡ W.state others.old) }
 {
     for number in 0..34u8 {
-        let (name, _) = file_name(number)?;
+        let (name, _) = file_name(number);
         if !is_same(files, others, name)? {
             return Ok(false);
         }
@@ -235,7 +241,7 @@ pub fn are_same<V: Files, W: Files>(files: &mut V, others: &mut W) -> Result<boo
 }
 
 // Whether the files of a name are the same.
-fn is_same<V: Files, W: Files>(files: &mut V, others: &mut W, name: Name) -> Result<bool, Fail>
+fn is_same<V: Files, W: Files>(files: &mut V, others: &mut W, name: Name) -> Result<bool, FileError>
     ensures files { OnOk result (V.state files.new ≡ V.state files.old) }
     ensures others { OnOk result (W.state others.new ≡ W.state others.old) }
 {

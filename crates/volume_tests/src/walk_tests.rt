@@ -1,4 +1,4 @@
-ghost use Rattle.std.specs.Prelude.{◌≡◌, OnOk};
+ghost use Rattle.std.specs.Prelude.{◌≡◌, None, IfSome, length};
 ghost use Rattle.volume_tests.specs.Counts.{HasFiles};
 
 use crate::calls::live_files;
@@ -12,22 +12,31 @@ use std::test::Fail;
 #[test]
 fn a_long_walk_leaves_the_files_that_arrays_have(rt: HostRuntime) -> Result<(), Fail> {
     let mut image = vec![in rt.alloc(); 0u8; 262_144]?;
-    let flash = MemFlash::new(&mut image).ok_or("no flash")?;
-    let mut others: PlainFiles<16_352> = PlainFiles::new();
-    let spaces = rounds(flash, &mut others, 10, 800)?;
     // The walk is long enough to fill the flash.
-    assert!(rt; spaces > 0);
+    assert!(rt; lacks_at_times(&mut image));
     Ok(())
 }
 
+// Whether a walk over a flash leaves the files that arrays have, and lacks space at times.
+fn lacks_at_times(image: &mut [u8]) -> bool {
+    let mut others: PlainFiles<16_352> = PlainFiles::new();
+    match MemFlash::new(image) {
+        Some(flash) => match rounds(flash, &mut others, 10, 800) {
+            Some(spaces) => spaces > 0,
+            None => false,
+        },
+        None => false,
+    }
+}
+
 // Walks from no file on, and mounts the flash anew after each round of so many steps. It answers how
-// often space was lacking.
+// often space was lacking, and nothing where the files differ.
 fn rounds<F: Flash + Drop, W: Files>(
     flash: F,
     others: &mut W,
     rounds: u16,
     steps: u16,
-) -> Result<u16, Fail>
+) -> Option<u16>
     requires { HasFiles (W.state others.old) 0 }
 {
     let mut random = Random::new(1);
@@ -40,7 +49,7 @@ fn rounds<F: Flash + Drop, W: Files>(
         spaces = spaces.saturating_add(more);
     }
     round(flash, others, &mut used, &mut random, 0)?;
-    Ok(spaces)
+    Some(spaces)
 }
 
 // One round, before and after which the files are the same.
@@ -50,17 +59,34 @@ fn round<F: Flash + Drop, W: Files>(
     used: &mut u16,
     random: &mut Random,
     steps: u16,
-) -> Result<(F, u16), Fail>
+) -> Option<(F, u16)>
     requires { HasFiles (W.state others.old) used.old }
-    ensures { OnOk result (HasFiles (W.state others.new) used.new) }
+    ensures { IfSome result (λ _. HasFiles (W.state others.new) used.new) }
 {
     let mut volume = mounted(flash)?;
-    if live_files(&volume) != *used || !are_same(&mut volume, others)? {
-        return Err(Fail::new("the files differ when they are mounted"));
+    let spaces = walk_between(&mut volume, others, used, random, steps)?;
+    Some((volume.unmount(), spaces))
+}
+
+// A walk before and after which the files are the same.
+fn walk_between<V: Files, W: Files>(
+    files: &mut V,
+    others: &mut W,
+    used: &mut u16,
+    random: &mut Random,
+    steps: u16,
+) -> Option<u16>
+    requires idle { (V.state files.old).draft ≡ None }
+    requires places { length (V.state files.old).files ≡ 32 }
+    requires others { HasFiles (W.state others.old) used.old }
+    ensures { IfSome result (λ _. HasFiles (W.state others.new) used.new) }
+{
+    if live_files(files) != *used || are_same(files, others) != Ok(true) {
+        return None;
     }
-    let spaces = walk(&mut volume, others, used, random, steps)?;
-    if !are_same(&mut volume, others)? {
-        return Err(Fail::new("the files differ after a walk"));
+    let spaces = walk(files, others, used, random, steps)?;
+    if are_same(files, others) != Ok(true) {
+        return None;
     }
-    Ok((volume.unmount(), spaces))
+    Some(spaces)
 }
