@@ -111,22 +111,22 @@ module _ {E Q : Type 0} (cut : Cut E Q) (line : Line E) (parts : ComesInParts cu
       (more, parts.all_is bytes ∙ ap (λ front. front ++ more) (sym (whole ∙ parts.whole_is bytes)))
   all_of bytes entries new (inr all) = ([], sym all.0 ∙ sym (append-nil entries))
 
+  stop_by : (old new : World) (bytes : List ℕ) (entries more : List E) → line.all bytes ≡ entries ++ more
+      → (s : ReplyUnsaid (machine_from talk (base old.image)) entries old new ⊎ SpaceUnsaid (machine_from talk (base old.image)) (talk_output talk (base old.image)) entries old new)
+      → Stop old new bytes (front_of s)
+  stop_by old new bytes entries more all (inl s) = record {
+    written = talk_output talk (base old.image) s.front ++ s.written.part;
+    held = s.written.held;
+    halts = among talk (base old.image) entries (line.all bytes) more s.front _ all (replied talk (base old.image) entries old new s);
+  }
+  stop_by old new bytes entries more all (inr s) = record {
+    written = talk_output talk (base old.image) s.front ++ s.written.part;
+    held = s.written.held;
+    halts = among talk (base old.image) entries (line.all bytes) more s.front _ all (refused talk (base old.image) entries old new tells s);
+  }
+
   stop : (old new : World) (a : InputUnsaid line talk old new) → Stop old new a.bytes (unsaid_front a)
-  stop old new a = by_kind a.stopped
-    where
-      more = all_of a.bytes a.entries new a.are
-      by_kind : (s : ReplyUnsaid (machine_from talk (base old.image)) a.entries old new ⊎ SpaceUnsaid (machine_from talk (base old.image)) (talk_output talk (base old.image)) a.entries old new)
-          → Stop old new a.bytes (front_of s)
-      by_kind (inl s) = record {
-        written = talk_output talk (base old.image) s.front ++ s.written.part;
-        held = s.written.held;
-        halts = among talk (base old.image) a.entries (line.all a.bytes) more.0 s.front _ more.1 (replied talk (base old.image) a.entries old new s);
-      }
-      by_kind (inr s) = record {
-        written = talk_output talk (base old.image) s.front ++ s.written.part;
-        held = s.written.held;
-        halts = among talk (base old.image) a.entries (line.all a.bytes) more.0 s.front _ more.1 (refused talk (base old.image) a.entries old new tells s);
-      }
+  stop old new a = let more = all_of a.bytes a.entries new a.are in stop_by old new a.bytes a.entries more.0 more.1 a.stopped
 
   pub one_place_unsaid : (old new : World) (text bytes : List ℕ) → old.left ≡ Some text → old.held ≡ Some bytes
       → (a b : InputUnsaid line talk old new) → unsaid_front a ≡ unsaid_front b

@@ -1,5 +1,6 @@
 -- The entries in front of the one whose reply was not wholly written.
-use Rattle.std.specs.Prelude.{◌⊎◌, inl, inr, List, ℕ}
+use mathlib.Core.Logic.{inl, inr}
+use Rattle.std.specs.Prelude.{◌⊎◌, List, ℕ}
 use Rattle.run_model.specs.Line.{Line}
 use Rattle.run_model.specs.Runs.{InputUnsaid, Machine, ReplyUnsaid, SpaceUnsaid, World}
 use Rattle.run_model.specs.Talk.{Talk}

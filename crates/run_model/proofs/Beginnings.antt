@@ -1,11 +1,11 @@
 -- Two fronts of one list.
 use Rattle.std.proofs.Common.{◌≡◌, ◌<◌, List, [], ◌∷◌, ◌++◌, length, ap, sym, ◌∙◌, arith}
 
-pub head_of : {X : Type 0} → X → List X → X
+unfoldable pub head_of : {X : Type 0} → X → List X → X
 head_of d [] = d
 head_of d (x ∷ xs) = x
 
-pub tail_of : {X : Type 0} → List X → List X
+unfoldable pub tail_of : {X : Type 0} → List X → List X
 tail_of [] = []
 tail_of (x ∷ xs) = xs
 
