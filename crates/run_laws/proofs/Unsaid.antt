@@ -8,7 +8,7 @@ use Rattle.db_model.specs.Database.{Database}
 use Rattle.db_model.specs.ReplyText.{refusal_text, text}
 use Rattle.db_model.specs.declared.refusals.Refusal.TheVariants as no
 use Rattle.db_model.specs.Step.{step}
-use Rattle.run_laws.specs.Places.{front_of, unsaid_front}
+use Rattle.run_laws.specs.Places.{front_at, unsaid_front}
 use Rattle.run_laws.proofs.Spaceless.{TellsApart, one_came, same_fronts}
 use Rattle.run_model.specs.Line.{ComesInParts, Cut, Line}
 use Rattle.run_model.specs.Runs.{AreEntries, InputUnsaid, ReplyUnsaid, SpaceUnsaid, World, machine_from}
@@ -113,7 +113,7 @@ module _ {E Q : Type 0} (cut : Cut E Q) (line : Line E) (parts : ComesInParts cu
 
   stop_by : (old new : World) (bytes : List ℕ) (entries more : List E) → line.all bytes ≡ entries ++ more
       → (s : ReplyUnsaid (machine_from talk (base old.image)) entries old new ⊎ SpaceUnsaid (machine_from talk (base old.image)) (talk_output talk (base old.image)) entries old new)
-      → Stop old new bytes (front_of s)
+      → Stop old new bytes (front_at s)
   stop_by old new bytes entries more all (inl s) = record {
     written = talk_output talk (base old.image) s.front ++ s.written.part;
     held = s.written.held;
