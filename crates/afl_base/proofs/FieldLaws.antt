@@ -1,20 +1,17 @@
 -- Number fields are read as they were written, and written as they were read.
-use Rattle.std.specs.Prelude.{◌≡◌, ℕ, ◌+◌, ◌-◌, ◌^◌, ◌<◌, ◌≤◌, ℤ, List, [], ◌++◌, length, take, drop, get_or, FitsSigned, slice_range}
-use Rattle.std.specs.Int.{w32, w64, cast_signed, cast_unsigned}
-use Rattle.std.proofs.Common.{arith, sym, ap, ◌∙◌, append_assoc}
-use Rattle.std.proofs.lemmas.List.{append-nil, drop-drop, drop_at, length-take-le, take_rest, get_or-take, get_or-drop}
+use Rattle.std.specs.Prelude.{◌≡◌, ℕ, ◌+◌, ◌-◌, ◌^◌, ◌<◌, ◌≤◌, ℤ, List, [], ◌++◌, length, take, drop, FitsSigned, slice_range}
+use Rattle.std.specs.Int.{w32, cast_signed, cast_unsigned}
+use Rattle.std.proofs.Common.{arith, ap, ◌∙◌, append_assoc}
+use Rattle.std.proofs.lemmas.List.{append-nil, drop-drop, drop_at, length-take-le, take_rest}
 use Rattle.std.proofs.lemmas.Grind.{common_steps}
-use Rattle.std.proofs.lemmas.Nat.{le_bytes_2, le_bytes_4, le_bytes_8}
-use Rattle.std.proofs.lemmas.Int.{of_z-to_z, to_z-of_z}
-use Rattle.std.proofs.lemmas.Bool.{cases_lt}
+use Rattle.std.proofs.lemmas.Int.{to_z-of_z}
 use Rattle.std.proofs.Math.Logic.{⊎_elim}
-use Rattle.std.proofs.Math.Seq.{take-length}
-use Rattle.std.proofs.Math.ListN.{drop_of_length-le, get_or-eq_default}
+use Rattle.std.proofs.Math.ListN.{drop_of_length-le}
 use Rattle.std.proofs.Math.Facts.{Fits-of_z}
 use borrow.Rule.Slice.PartMut.{put_mid}
 use Rattle.byteorder.specs.Endian.{little_bytes, little_number}
-use Rattle.byteorder.specs.Numbers.{little_from-take, little_from-lt, little_number-reads_back}
-use Rattle.afl_base.specs.Fields.{put_at, u16_at, i32_at, i64_at, u16_bytes, i32_bytes, i64_bytes}
+use Rattle.byteorder.specs.Numbers.{little_from-take, little_number-reads_back}
+use Rattle.afl_base.specs.Fields.{put_at, u16_at, i32_at, u16_bytes, i32_bytes}
 
 -- a write at the front of `&mut old[at..]`
 pub put_at_rest : (old new written : List ℕ) (at n : ℕ) → at + n ≤ length old → length written ≡ n →

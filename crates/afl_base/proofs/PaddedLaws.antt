@@ -1,7 +1,6 @@
 -- Bytes in front of zeros: what a write into the front, or right behind it, leaves.
 use Rattle.std.proofs.Common.{◌≡◌, ℕ, ◌+◌, ◌-◌, ◌≤◌, List, [], ◌++◌, length, take, drop, replicate, refl, sym, ap, ◌∙◌, arith, append_assoc}
 use Rattle.std.proofs.lemmas.List.{append-nil, drop-append-le, drop-drop, drop-replicate, drop_at, length-append, take-append-le, take_at}
-use Rattle.std.proofs.Math.ListN.{drop_of_length-le}
 use Rattle.std.proofs.lemmas.Grind.{common_steps}
 use Rattle.afl_base.specs.Fields.{put_at}
 use Rattle.padded.specs.Padded.{IsPadded, padded}

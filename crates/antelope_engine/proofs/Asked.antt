@@ -1,31 +1,14 @@
 -- What is so unless a file failed, and of a reply that broke off.
-use Rattle.std.proofs.Common.{◌≡◌, true, false, ℕ, List, Option, Result, Ok, Err, refl, ap, sym, subst, ◌∙◌, rules}
+use Rattle.std.proofs.Common.{◌≡◌, true, false, ℕ, List, Option, Err, refl, ◌∙◌, rules}
 use Rattle.std.specs.Prelude.{IsErrOf}
 use Rattle.db_model.specs.ReplyText.{text}
 use Rattle.reply_text.specs.WroteLess.{WroteLess}
 use Rattle.session_model.specs.declared.step.Outcome.{Outcome}
-use Rattle.afl_base.specs.Files.{State}
-use Rattle.db_model.specs.declared.commands.Agg.{Agg}
-use Rattle.db_model.specs.declared.commands.Command.{Command}
-use Rattle.db_model.specs.declared.commands.Command.TheVariants.{Ask, Aggregate}
-use Rattle.db_model.specs.declared.commands.Node.{Node}
-use Rattle.db_model.specs.declared.commands.Query.{Query}
-use Rattle.db_model.specs.declared.refusals.Refusal.{Refusal}
-use Rattle.db_model.specs.declared.values.Value.{Value}
-use Rattle.db_model.specs.Ahead.{Aheads, aheads_after}
-use Rattle.db_model.specs.Cond.{condition_of}
-use Rattle.db_model.specs.Database.{Database, Relation, named}
 use Rattle.db_model.specs.Refusing.{◌>>=◌}
-use Rattle.db_model.specs.Step.{Reply, Rows, aggregate_of, answer_of, replied, step}
-use Rattle.index_set.specs.Tables.{Tables}
-use Rattle.session_model.specs.declared.held.Held.{Held}
-use Rattle.session_model.specs.declared.held.Open.{Open}
+use Rattle.db_model.specs.Step.{Reply}
 use Rattle.session_model.specs.declared.step.Stop.{Stop}
 use Rattle.session_model.specs.declared.step.Stop.TheVariants.{Flash, Sink}
-use Rattle.session_model.specs.Aheads.{aheads_of}
-use Rattle.session_model.specs.Running.{IsRunning}
 use Rattle.session_model.specs.Steps.{Replies, UnlessFlash, WrotePart}
-use Rattle.session_model.specs.View.{view}
 use Rattle.antelope_engine.specs.Seen.{is_flash}
 
 pub unless_err : (S T : Type 0) (stop : Stop) (P : Type 0) → UnlessFlash {T = S} (Err stop) P → UnlessFlash {T = T} (Err stop) P

@@ -1,15 +1,13 @@
 -- Replies: none of an answer that is not NoSpace says that there was no space.
-use Rattle.std.proofs.Common.{◌≡◌, ◌≢◌, ℕ, List, [], Option, Some, None, Ok, Err, refl, ap, sym, ◌∙◌, arith, rules}
-use Rattle.afl_base.specs.declared.failed.Failed.{Failed}
-use Rattle.db_model.specs.declared.refusals.Refusal.{Refusal}
+use Rattle.std.proofs.Common.{◌≡◌, ◌≢◌, ℕ, List, [], Option, Ok, Err, refl, ap, sym, ◌∙◌, arith, rules}
 use Rattle.db_model.specs.Database.{Database, empty_database}
 use Rattle.db_model.specs.Step.{Fine, Removed}
 use Rattle.reply_text.proofs.Pieces.{append_known-nil}
 use Rattle.session_model.specs.declared.answer.Answer.{Answer}
 use Rattle.session_model.specs.declared.answer.Answer.TheVariants as answer
 use Rattle.session_model.specs.declared.step.Step.TheVariants.{NoSpace}
-use Rattle.session_model.specs.Answers.{Changed, OnNoSpace}
-use Rattle.session_model.specs.Steps.{Does, Made, WrotePart, answer_for}
+use Rattle.session_model.specs.Answers.{Changed}
+use Rattle.session_model.specs.Steps.{Does, Made, WrotePart}
 
 pub part_same : (before now : Option (List ℕ)) (all : List ℕ) → now ≡ before → WrotePart before now all
 part_same before now all e = record { written = []; left = all; whole = refl; held = e ∙ sym (append_known-nil before) }

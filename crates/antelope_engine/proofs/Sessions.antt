@@ -1,5 +1,5 @@
 -- A session's invariant after a command and after a start.
-use Rattle.std.proofs.Common.{◌≡◌, ℕ, Bool, false, List, Option, IsTrue, sym, subst}
+use Rattle.std.proofs.Common.{◌≡◌, ℕ, Bool, false, List, Option, sym, subst}
 use Rattle.afl_base.specs.declared.files.Files.{Ghosts as FilesOf}
 use Rattle.afl_base.specs.Files.{State}
 use Rattle.db_model.specs.declared.commands.Command.{Command}

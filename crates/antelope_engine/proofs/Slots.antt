@@ -1,7 +1,7 @@
 -- What stands in a slot, and what is seen_at of it.
 use Rattle.std.proofs.Common.{◌≡◌, [], Option, Some, None, refl}
 use Rattle.std.specs.Prelude.{option_map}
-use Rattle.padded.proofs.Facts.{some_same, seen_at}
+use Rattle.padded.proofs.Facts.{some_same}
 
 -- what is seen_at in a slot is seen_at of something
 pub record SeenOf {A B : Type 0} (f : A → B) (o : Option A) (y : B) : Type 0 where

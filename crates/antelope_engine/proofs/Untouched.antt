@@ -1,5 +1,5 @@
 -- Where nothing was changed, by the answer and by the step that replies to it.
-use Rattle.std.proofs.Common.{◌≡◌, ℕ, List, Option, Ok, Err, refl, sym, ◌∙◌, rules}
+use Rattle.std.proofs.Common.{◌≡◌, ℕ, List, Option, Ok, Err, refl, ◌∙◌, rules}
 use Rattle.afl_base.specs.declared.failed.Failed.{Failed}
 use Rattle.db_model.specs.Database.{Database, empty_database}
 use Rattle.db_model.specs.Step.{Fine, Removed}

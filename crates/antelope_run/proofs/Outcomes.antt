@@ -20,7 +20,7 @@ use Rattle.antelope_run.specs.declared.words.Form.{Form}
 use Rattle.antelope_run.specs.declared.words.Form.TheVariants.{Run, Gen, Plan, Serve, Dump}
 use Rattle.antelope_run.specs.Comes.{ComesTo, HasCameCause, OnOpened, OnUnopened, ReachesBy, status_by}
 use Rattle.antelope_run.specs.Left.{LeavesBehind}
-use Rattle.antelope_run.specs.Statuses.{CausedBy, LeftBy, TakenBy, RunEnds, FindsNoSpace, HasSpace, InputIsCutOff, IsFaulted, IsWithinLimit, IsStatus, IsTooLong, IsUnsaid, TakesInput, summed_from}
+use Rattle.antelope_run.specs.Statuses.{CausedBy, LeftBy, TakenBy, RunEnds, FindsNoSpace, HasSpace, InputIsCutOff, IsFaulted, IsWithinLimit, IsTooLong, IsUnsaid, TakesInput, summed_from}
 use Rattle.antelope_run.proofs.Fronts.{has_fronts}
 use Rattle.antelope_run.proofs.Space.{input_has_space, stops_nowhere}
 

@@ -10,7 +10,7 @@ use Rattle.aql_parse.specs.Moves.{Moved, IsKeptByMove, Skipped, HasRead, HasEnde
 use Rattle.aql_parse.specs.declared.nodes.Nodes.{Nodes}
 use Rattle.aql_parse.specs.declared.symbols.Symbol.{Symbol}
 use Rattle.aql_parse.proofs.Light.{light}
-use Rattle.aql_parse.proofs.Runs.{behind-nil, behind-append}
+use Rattle.aql_parse.proofs.Runs.{behind-append}
 
 -- ---- nodes that are kept
 

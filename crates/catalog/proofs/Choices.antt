@@ -24,10 +24,6 @@ pub and_left : (a b : Bool) → a ≡ false → (a && b) ≡ false
 and_left false b e = refl
 and_left true b e = absurd (cc)
 
-pub and_right : (a b : Bool) → b ≡ false → (a && b) ≡ false
-and_right true b e = e
-and_right false b e = refl
-
 pub and_last : (s d t : Bool) → true ≡ s → false ≡ d → (s && not d && not t) ≡ not t
 and_last true false t e f = refl
 and_last true true t e f = absurd (cc)

@@ -9,8 +9,8 @@ use Rattle.db_model.specs.Catalog.{attribute_of, attributes_of, relation_slot_of
 use Rattle.db_model.specs.Names.{is_name}
 use Rattle.db_model.specs.Row.{up_to_zero}
 use Rattle.catalog.specs.Rules.{is_attribute_slot, is_row, is_schema}
-use Rattle.padded.proofs.Facts.{both_true, first_part, second_part}
-use Rattle.catalog.proofs.Choices.{and_left, and_right}
+use Rattle.padded.proofs.Facts.{both_true, first_part, second_part, false_right}
+use Rattle.catalog.proofs.Choices.{and_left}
 
 -- a slot that is used
 pub used_slot : (slot : List ℕ) → (slice_index slot 0 == 0) ≡ false → relation_slot_of slot ≡ Some (schema_of slot)
@@ -46,10 +46,10 @@ pub attributes_bad : (version : ℕ) (slot : List ℕ) → (nat_le (slice_index 
 attributes_bad version slot e =
     let n : ℕ = slice_index slot 160 in
     let list : List Attribute = attributes_of n (drop 16 slot) in
-    and_left _ (is_row list) (and_right (is_name (up_to_zero (take 16 slot))) _ (ap (λ m. nat_le m 8 && list_all (is_attribute_slot version) list) (length-attributes n (drop 16 slot)) ∙ e))
+    and_left _ (is_row list) (false_right (is_name (up_to_zero (take 16 slot))) _ (ap (λ m. nat_le m 8 && list_all (is_attribute_slot version) list) (length-attributes n (drop 16 slot)) ∙ e))
 
 pub row_bad : (version : ℕ) (slot : List ℕ) → is_row (attributes_of (slice_index slot 160) (drop 16 slot)) ≡ false → is_schema version (schema_of slot) ≡ false
-row_bad version slot e = and_right _ _ e
+row_bad version slot e = false_right _ _ e
 
 pub schema_good : (version : ℕ) (slot : List ℕ) → is_name (up_to_zero (take 16 slot)) ≡ true → (nat_le (slice_index slot 160) 8 && list_all (is_attribute_slot version) (attributes_of (slice_index slot 160) (drop 16 slot))) ≡ true →
     is_row (attributes_of (slice_index slot 160) (drop 16 slot)) ≡ true → is_schema version (schema_of slot) ≡ true

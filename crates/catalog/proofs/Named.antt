@@ -5,7 +5,7 @@ use Rattle.std.specs.Str.{bytes_eq}
 use Rattle.std.proofs.lemmas.Slice.Eq.{bytes_eq-Decides}
 use Rattle.afl_base.specs.Files.{File, IsNamed, IsUnnamed, Table, place}
 use Rattle.space_model.specs.FileNames.{file_named, is_there}
-use Rattle.padded.proofs.Facts.{bytes_eq_same}
+use Rattle.padded.proofs.Facts.{bytes_eq_same, some_same}
 
 other_name : (m n : List ℕ) → (m ≡ n → ⊥) → bytes_eq m n ≡ false
 other_name m n differs = test (bytes_eq m n) (λ e. differs ((bytes_eq-Decides m n).0 e))
@@ -14,14 +14,11 @@ other_name m n differs = test (bytes_eq m n) (λ e. differs ((bytes_eq-Decides m
     test true h = absurd (h refl)
     test false h = refl
 
-some_name : (m n : List ℕ) → Some m ≡ Some n → m ≡ n
-some_name m n e = cc
-
 pub named_found : (files : Table) (id : ℕ) (name : List ℕ) → IsNamed files id name → ((k : ℕ) → IsNamed files k name → k ≡ id) → file_named name files ≡ place files id
 named_found [] id name is only = absurd (cc)
 named_found (None ∷ files) zero name is only = absurd (cc)
 named_found (None ∷ files) (suc id) name is only = named_found files id name is (λ k h. let e : suc k ≡ suc id = only (suc k) h in omega (arith, e))
-named_found (Some f ∷ files) zero name is only = rw (bytes_eq_same f.name name (some_name f.name name is)) refl
+named_found (Some f ∷ files) zero name is only = rw (bytes_eq_same f.name name (some_same f.name name is)) refl
 named_found (Some f ∷ files) (suc id) name is only =
     let differs : f.name ≡ name → ⊥ = λ e. let h : zero ≡ suc id = only zero (ap (λ n. Some n) e) in absurd (omega (arith, h)) in
     rw (other_name f.name name differs) (named_found files id name is (λ k h. let e : suc k ≡ suc id = only (suc k) h in omega (arith, e)))

@@ -6,8 +6,7 @@ use Rattle.afl_base.specs.Image.{page_bytes}
 use Rattle.afl_base.specs.declared.ids.PageId.{PageId}
 use Rattle.afl_base.proofs.Images.{range_in_page, range_same}
 use Rattle.coffee_header.specs.declared.header.Header.{Header}
-use Rattle.coffee_layout.specs.FileBytes.{file_byte, file_bytes, last_in, extent_place, number_in, place_or, record_place, table_of, trimmed, used_in}
-use Rattle.coffee_layout.specs.Files.{Placed, bytes_of, entry_of, entry_with, kind_of, log_of, named_file, used_of}
+use Rattle.coffee_layout.specs.FileBytes.{file_byte, file_bytes, last_in, extent_place, number_in, place_or, record_place, table_of, trimmed}
 use Rattle.coffee_layout.specs.Tiling.{KeepRules, IsTiled, broken_at, broken_suffix, broken_unit}
 use Rattle.padded.specs.Zeros.{is_zeros}
 use Rattle.coffee_layout.specs.Units.{is_free, pages_of, size_of, total, unit_at, unit_of}

@@ -1,6 +1,6 @@
 -- Measuring the files of a table, one by one.
 use Rattle.std.proofs.Common.{◌≡◌, ℕ, ◌+◌, ◌*◌, ◌≤◌, ◌<◌, Bool, true, false, not, ◌||◌, ◌==◌, nat_le, List, [], ◌∷◌, ◌++◌, length, take, drop, map, set, get_or, ⊎_elim, Option, None, Some, if◌then◌else◌, refl, ap, sym, subst, ◌∙◌, arith, append_assoc}
-use Rattle.std.proofs.lemmas.List.{append-nil, drop_all, get_or-set_same, get_or-set_other, get_or_at, length-append, length-drop, length-map, length-take, map-append, set_at, take_all}
+use Rattle.std.proofs.lemmas.List.{get_or-set_same, get_or-set_other, get_or_at, length-append, length-drop, length-map, length-take, map-append, set_at}
 use Rattle.std.proofs.lemmas.Bool.{cases_eq}
 use Rattle.afl_base.specs.declared.ids.PageId.{PageId}
 use Rattle.afl_base.specs.declared.kind.Kind.TheVariants.{Doubling, Fixed}

@@ -1,15 +1,14 @@
 -- Rule 8: a file names an active log.
-use Rattle.std.proofs.Common.{◌≡◌, ℕ, ◌+◌, Bool, true, false, cond, not, ◌&&◌, ◌==◌, List, [], ◌∷◌, ◌++◌, Option, Some, None, if◌then◌else◌, refl, ap, subst, arith}
+use Rattle.std.proofs.Common.{◌≡◌, ℕ, ◌+◌, Bool, true, false, cond, not, ◌&&◌, ◌==◌, List, [], ◌∷◌, ◌++◌, Option, Some, None, if◌then◌else◌, refl, subst, arith}
 use Rattle.std.specs.Prelude.{⊤}
 use Rattle.std.specs.List.{filter, list_any}
 use Rattle.coffee_layout.specs.Files.{Placed, extents, files_in, is_file, is_log, logs_in}
-use Rattle.coffee_layout.specs.Rules.{first_failing, is_log_of, names_its_log, same_name}
+use Rattle.coffee_layout.specs.Rules.{first_failing, is_log_of, names_its_log}
 use Rattle.coffee_layout.specs.Tiling.{IsTiled, KeepRules}
 use Rattle.coffee_layout.specs.Units.{unit_at}
-use Rattle.coffee_layout.specs.Walks.{is_log_at}
 use Rattle.coffee_layout.specs.declared.unit.Unit.{Unit}
 use Rattle.coffee_layout.specs.declared.unit.Unit.TheVariants.{Free, Isolated, Extent}
-use Rattle.coffee_layout.proofs.Tests.{eq_false, eq_same}
+use Rattle.coffee_layout.proofs.Tests.{eq_false}
 
 any_turn : (l p : Bool) (test : Placed → Bool) (e : Placed) (es : List Placed) (r : Option ℕ) (page : ℕ) → p ≡ test e
     → (r ≡ Some page → list_any test es ≡ true) → (if not (l && p) then r else Some e.page) ≡ Some page → list_any test (cond l (e ∷ es) es) ≡ true

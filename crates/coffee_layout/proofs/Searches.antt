@@ -3,7 +3,7 @@ use Rattle.std.proofs.Common.{◌≡◌, ℕ, ◌+◌, ◌≤◌, ◌<◌, Bool,
 use Rattle.padded.proofs.Facts.{some_same}
 use Rattle.coffee_layout.specs.Files.{Placed, extents}
 use Rattle.coffee_layout.specs.Rules.{first_failing}
-use Rattle.coffee_layout.specs.Tiling.{IsTiled, KeepRules, broken_at, nowhere}
+use Rattle.coffee_layout.specs.Tiling.{KeepRules, broken_at, nowhere}
 use Rattle.coffee_layout.specs.Units.{is_free, pages_of, size_of, total, unit_at}
 use Rattle.coffee_layout.specs.Walks.{keeps_unit}
 use Rattle.coffee_layout.specs.declared.unit.Unit.{Unit}

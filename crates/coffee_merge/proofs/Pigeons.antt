@@ -11,6 +11,7 @@ use Rattle.coffee_space.proofs.SectorMarks.{any_each, any_none}
 use Rattle.coffee_merge.proofs.Begun.{HavePages}
 use Rattle.afl_base.specs.Shares.{gap_for}
 use Rattle.coffee_merge.proofs.ExtentShares.{reach, spread}
+use Rattle.padded.proofs.Facts.{not_alone}
 
 -- ---- pages
 
@@ -50,16 +51,11 @@ gap_few us n a b c some order within quiet = ⊎_elim
     (λ (near : b ≤ a + gap_for n). near)
     (cases_lt (a + gap_for n) b)
   where
-    of_taken : (used active : Bool) → used && not active ≡ false → active ≡ false → used ≡ false
-    of_taken true true e f = cc
-    of_taken true false e f = cc
-    of_taken false active e f = refl
-
     free_in : (i : ℕ) → 16 * a ≤ i → i < 16 * b → get_or (free_pages us) i false ≡ true
     free_in i low high =
         let s : ℕ = i / 16 in
         let idle = any_none (active_pages us) (16 * s) (16 * s + 16) (λ q l h. quiet q (omega arith) (omega arith)) in
-        let unused = of_taken (list_any (λ m. m) (in_sector (used_pages us) s)) (list_any (λ m. m) (in_sector (active_pages us) s)) (c.kept s) idle in
+        let unused = not_alone (list_any (λ m. m) (in_sector (used_pages us) s)) (list_any (λ m. m) (in_sector (active_pages us) s)) (c.kept s) idle in
         free_there us i (omega arith) (any_each (used_pages us) (16 * s) (16 * s + 16) i unused (omega arith) (omega arith))
 
 -- ---- the walk over the units

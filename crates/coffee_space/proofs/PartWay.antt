@@ -1,7 +1,7 @@
 -- A collection that breaks off: the image is tiled by units of which some have given way, and keeps the active extents.
 use Rattle.std.proofs.Common.{◌≡◌, ℕ, ◌+◌, ◌-◌, ◌*◌, ◌/◌, ◌≤◌, ◌<◌, ◌⊎◌, inl, inr, ⊎_elim, Bool, true, false, not, ◌&&◌, ◌||◌, ◌==◌, nat_lt, List, [], ◌∷◌, ◌++◌, length, replicate, take, get_or, refl, ap, sym, subst, ◌∙◌, arith}
 use Rattle.std.proofs.lemmas.Bool.{cases_lt}
-use Rattle.padded.proofs.Facts.{both_parts, true_or_false, lt_false, true_eq, neither}
+use Rattle.padded.proofs.Facts.{both_parts, true_or_false, lt_false, true_eq, neither, other_side}
 use Rattle.afl_base.specs.Cuts.{IsCutErase}
 use Rattle.afl_base.specs.Image.{or_at, page_bytes, zeros_at}
 use Rattle.afl_base.proofs.Images.{erased_other_page, erased_page, length_range, length_zeros_at, zeros_at_range}
@@ -309,9 +309,6 @@ is_headless taken late new vs h p = taken (p / 16) || side (h p)
 or_taken : (t s : Bool) → t ≡ true → t || s ≡ true
 or_taken t s e = rw e refl
 
-or_side : (t s : Bool) → t ≡ false → t || s ≡ true → s ≡ true
-or_side t s e o = let is : false || s ≡ true = rw e at o in is
-
 and_other : (c t : Bool) → c ≡ true → c && t ≡ false → t ≡ false
 and_other c t e o = let is : true && t ≡ false = rw e at o in is
 
@@ -332,7 +329,7 @@ headless_part taken old mid late new us long i e h =
       behind = λ q t c f. let p = chosen q true false t c f in kept q p.1 ∙ e.kept q t ∙ (i q).isolated p.0;
       head = λ q t c f test.
           let p = chosen q true true t c f in
-          (side_right (h q) (or_side (taken (q / 16)) (side (h q)) t test)).1 ∙ ap (λ bytes. or_at bytes 9 (34 ∷ [])) (e.kept q t ∙ (i q).kept p.0);
+          (side_right (h q) (other_side (taken (q / 16)) (side (h q)) t test)).1 ∙ ap (λ bytes. or_at bytes 9 (34 ∷ [])) (e.kept q t ∙ (i q).kept p.0);
       stays = λ q t f none. ⊎_elim
           (λ (c : get_or (cut_pages taken 0 us) q false ≡ true).
           let p = chosen q true true t c f in

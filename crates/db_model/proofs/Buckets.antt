@@ -15,7 +15,7 @@ nodes zero = 1
 nodes (suc above) = 1 + 4 * nodes above
 
 -- 1 for true
-one : Bool → ℕ
+unfoldable pub one : Bool → ℕ
 one true = 1
 one false = 0
 
@@ -31,7 +31,7 @@ pub more : (n k : ℕ) → k < 4 → (suc (suc (suc (suc n))) == k) ≡ false
 more n k below = grind (arith, nat_tests, below)
 
 -- a number is at most one of 0, 1, 2 and 3
-one_of_four : (n : ℕ) → one (n == 0) + one (n == 1) + one (n == 2) + one (n == 3) ≤ 1
+pub one_of_four : (n : ℕ) → one (n == 0) + one (n == 1) + one (n == 2) + one (n == 3) ≤ 1
 unfolding one
 one_of_four zero = omega arith
 one_of_four (suc zero) = omega arith

@@ -2,18 +2,16 @@
 use Rattle.std.proofs.Common.{◌≡◌, refl, ℕ, ◌+◌, ◌≤◌, List, [], ◌∷◌, ◌++◌, Some, None, true, false, arith}
 use Rattle.std.specs.Prelude.{pos, Result, codes, replicate}
 use Rattle.db_model.specs.declared.commands.Command.{Command}
-use Rattle.db_model.specs.declared.commands.Command.TheVariants.{OpenCursor, FetchCursor}
+use Rattle.db_model.specs.declared.commands.Command.TheVariants.{OpenCursor}
 use Rattle.db_model.specs.declared.commands.Query.TheVariants.{Select, Join}
 use Rattle.db_model.specs.declared.refusals.Refusal.{Refusal}
 use Rattle.db_model.specs.declared.schemas.Domain.TheVariants.{Int}
 use Rattle.db_model.specs.declared.values.Value.TheVariants.{Number}
-use Rattle.db_model.specs.Ahead.{Aheads, aheads_after, cost_of, no_cursors}
+use Rattle.db_model.specs.Ahead.{Aheads}
 use Rattle.db_model.specs.Database.{Database, empty_database}
-use Rattle.db_model.specs.Plan.{plan, ranges_of}
 use Rattle.db_model.specs.Row.{Row}
-use Rattle.db_model.specs.RunCost.{costs, entry_aheads, entry_cost, last_aheads, opening_cost}
+use Rattle.db_model.specs.RunCost.{costs, entry_aheads, entry_cost, last_aheads}
 use Rattle.db_model.specs.Script.{Entry, after, last}
-use Rattle.db_model.specs.Step.{step}
 
 module _ (read : List ℕ → Result Command Refusal) where
   pub costs_append : (db : Database) (aheads : Aheads) (xs ys : List Entry) → costs read db aheads (xs ++ ys) ≡ costs read db aheads xs + costs read (last read db xs) (last_aheads read db aheads xs) ys

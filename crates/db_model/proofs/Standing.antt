@@ -7,7 +7,7 @@ use Rattle.std.proofs.lemmas.Slice.Eq.{bytes_eq-Decides}
 use Rattle.db_model.specs.Catalog.{Index}
 use Rattle.db_model.specs.Database.{Relation, Cursor, used_things, free_from, relation_from, index_from, is_on, is_among, reader_from}
 use Rattle.db_model.specs.Sound.{StandsIn}
-use Rattle.padded.proofs.Facts.{never_some, some_alike}
+use Rattle.padded.proofs.Facts.{never_some, some_alike, neither}
 
 pub false_true : false ≡ true → ⊥
 false_true e = cc
@@ -98,11 +98,11 @@ any_of test among (Some y ∷ slots) (suc k) x e a t = by_test (among y) (test y
   where
     by_test : (b c : Bool) → list_any test (filter among (used_things slots)) ≡ true → list_any test (cond b (y ∷ filter among (used_things slots)) (filter among (used_things slots))) ≡ true
     by_test false c h = h
-    by_test true c h = either (test y)
+    by_test true c h = neither (test y)
       where
-        either : (c : Bool) → (c || list_any test (filter among (used_things slots))) ≡ true
-        either true = refl
-        either false = h
+        neither : (c : Bool) → (c || list_any test (filter among (used_things slots))) ≡ true
+        neither true = refl
+        neither false = h
 
 count_both : {A : Type 0} (b : Bool) (y : A) (xs ys : List A) (n : ℕ) → length xs ≤ n + length ys → length (cond b (y ∷ xs) xs) ≤ n + length (cond b (y ∷ ys) ys)
 count_both true y xs ys n h = omega (arith, h)
@@ -214,11 +214,7 @@ not_read name n k (Some other ∷ cursors) cursor none e = by_test (is_among nam
 pub all_others : (P Q : List ℕ → Type 0) (name : List ℕ) (names : List (List ℕ)) → is_among name names ≡ false → ((other : List ℕ) → bytes_eq other name ≡ false → P other → Q other) → AllByRecursion P names → AllByRecursion Q names
 all_others P Q name [] none turn h = tt
 all_others P Q name (other ∷ others) none turn h =
-    let apart = either (bytes_eq other name) (is_among name others) none in (turn other apart.0 h.0, all_others P Q name others apart.1 turn h.1)
-  where
-    either : (a b : Bool) → (a || b) ≡ false → (a ≡ false) × (b ≡ false)
-    either true b e = absurd (false_true (sym e))
-    either false b e = (refl, e)
+    let apart = neither (bytes_eq other name) (is_among name others) none in (turn other apart.0 h.0, all_others P Q name others apart.1 turn h.1)
 
 pub all_same : {A : Type 0} (P Q : A → Type 0) (xs : List A) → ((x : A) → P x → Q x) → AllByRecursion P xs → AllByRecursion Q xs
 all_same P Q [] turn h = tt

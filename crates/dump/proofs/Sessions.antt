@@ -1,6 +1,6 @@
 -- What holds of the database of a session.
 use Rattle.std.proofs.Common.{◌≡◌, refl, sym, ap, ◌∙◌, ℕ, ◌<◌, ◌≤◌, true, [], length, get_or, arith, cond, Option, Some, None}
-use Rattle.std.specs.Prelude.{IsErrAnd, Result, Ok, Err, nat_lt}
+use Rattle.std.specs.Prelude.{nat_lt}
 use Rattle.std.specs.Option.{option_map_or}
 use Rattle.std.proofs.lemmas.Bool.Decides.{nat_tests}
 use Rattle.afl_base.specs.Files.{State}
@@ -35,12 +35,6 @@ no_slot at slot h e i = none (sym i ∙ is_slot at slot h e)
   where
     none : {n : ℕ} → None ≡ Some n → ⊥
     none k = cc
-
--- ---- what a `?` hands on
-
-pub err_is : {T E : Type 0} (r : Result T E) (e : E) → IsErrAnd r (λ y. y ≡ e) → r ≡ Err e
-err_is (Ok x) e is = absurd is
-err_is (Err y) e is = ap Err is
 
 -- ---- sessions that are only read
 

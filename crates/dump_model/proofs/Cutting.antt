@@ -19,7 +19,7 @@ use Rattle.db_model.specs.Keywords.{keyword_text, keyword_of}
 use Rattle.db_model.specs.Names.{is_name, is_word, is_word_byte, is_text, is_text_byte}
 use Rattle.db_model.specs.ReplyText.{value_text}
 use Rattle.db_model.specs.Pieces.{entries_after}
-use Rattle.db_model.specs.Script.{Entry, Long, Bytes, ended, unended, past_white, ends_piece, quoted_after, commands, finished, whole}
+use Rattle.db_model.specs.Script.{Long, Bytes, ended, unended, past_white, quoted_after, commands, finished, whole}
 use Rattle.db_model.proofs.Cutting.{commands_after}
 use Rattle.dump_model.specs.Made.{IsShortText}
 use Rattle.dump_model.specs.Script.{command_line, command_text, domain_text, values_text}

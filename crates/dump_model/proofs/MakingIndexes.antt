@@ -25,8 +25,8 @@ use Rattle.dump_model.specs.Script.{index_command, attribute_name}
 use Rattle.db_model.specs.Sound.{are_distinct, attribute_names}
 use Rattle.dump_model.proofs.Facts.{IndexFacts, SuitsKind, relation_names}
 use Rattle.dump_model.proofs.Lexing.{false_true, and_left, and_right}
-use Rattle.dump_model.proofs.Slots.{not_true, not_first, or_right, or_true, same_name, slot_free, slot_taken, used_front}
-use Rattle.padded.proofs.Facts.{filter_few, some_alike, neither_left}
+use Rattle.dump_model.proofs.Slots.{not_true, not_first, or_true, same_name, slot_free, slot_taken, used_front}
+use Rattle.padded.proofs.Facts.{filter_few, some_alike, neither_left, neither_right}
 
 -- ---- an attribute at its place
 
@@ -184,7 +184,7 @@ absent_index : (slots : List (Option Relation)) (k place n m : ℕ) (r : Relatio
 absent_index slots k place n zero r [] is used_things alone = refl
 absent_index slots k place n (suc m) r [] is used_things alone = absent_index slots k place (n + 1) m r [] is used_things alone
 absent_index slots k place n m r (index ∷ indexes) is used_things alone =
-    let rest = absent_index slots k place (n + 1) m r indexes is used_things.1 (or_right (is_on k place index) (list_any (is_on k place) indexes) alone) in
+    let rest = absent_index slots k place (n + 1) m r indexes is used_things.1 (neither_right (is_on k place index) (list_any (is_on k place) indexes) alone) in
     ap (λ t. cond t (Some n) (index_from (new_slot slots k) place (n + 1) (map (λ x. Some x) (map (moved_index slots) indexes) ++ replicate m None)))
     (by_test (new_slot slots index.relation == new_slot slots k) (index.attribute == place) refl refl (neither_left (is_on k place index) (list_any (is_on k place) indexes) alone))
     ∙ rest

@@ -28,8 +28,8 @@ use Rattle.dump_model.specs.Packed.{slots_for, kept_rows, packed_relation}
 use Rattle.dump_model.specs.Script.{domain_named, relation_commands, attribute_command, row_command}
 use Rattle.db_model.specs.Sound.{are_distinct, attribute_names}
 use Rattle.dump_model.proofs.Facts.{RelationFacts, relation_names}
-use Rattle.dump_model.proofs.Slots.{or_right, among_front, absent, found_last, slot_taken, slot_free, slot_changed}
-use Rattle.padded.proofs.Facts.{neither_left}
+use Rattle.dump_model.proofs.Slots.{among_front, absent, found_last, slot_taken, slot_free, slot_changed}
+use Rattle.padded.proofs.Facts.{neither_left, neither_right}
 
 pub makes-append : (a b c : Database) (xs ys : List Command) → Makes a xs b → Makes b ys c → Makes a (xs ++ ys) c
 makes-append a b c [] ys h i = subst (λ d. Makes d ys c) (sym h) i
@@ -82,7 +82,7 @@ absent_attribute : (name : List ℕ) (n : ℕ) (attributes : List Attribute) →
 absent_attribute name n [] fresh = refl
 absent_attribute name n (a ∷ attributes) fresh =
     ap (λ t. cond t (Some n) (place_from name (n + 1) attributes)) (neither_left (bytes_eq a.name name) (is_among name (attribute_names attributes)) fresh)
-    ∙ absent_attribute name (n + 1) attributes (or_right (bytes_eq a.name name) (is_among name (attribute_names attributes)) fresh)
+    ∙ absent_attribute name (n + 1) attributes (neither_right (bytes_eq a.name name) (is_among name (attribute_names attributes)) fresh)
 
 fields_length-append : (xs ys : List Attribute) → fields_length (xs ++ ys) ≡ fields_length xs + fields_length ys
 fields_length-append [] ys = let e : fields_length ys ≡ 0 + fields_length ys = omega arith in e

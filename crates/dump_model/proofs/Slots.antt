@@ -11,17 +11,13 @@ use Rattle.db_model.specs.Sound.{are_distinct}
 use Rattle.dump_model.proofs.Facts.{relation_names}
 use Rattle.dump_model.proofs.Lexing.{false_true, and_left, and_right}
 use Rattle.db_model.proofs.SoundRows.{other_name}
-use Rattle.padded.proofs.Facts.{neither_left}
+use Rattle.padded.proofs.Facts.{neither_left, neither_right}
 
 -- ---- tests
 
 pub not_true : (b : Bool) → IsTrue (not b) → b ≡ false
 not_true true h = absurd (false_true h)
 not_true false h = refl
-
-pub or_right : (a b : Bool) → (a || b) ≡ false → b ≡ false
-or_right true b h = absurd (false_true (sym h))
-or_right false b h = h
 
 pub or_true : (a : Bool) {b : Bool} → b ≡ true → (a || b) ≡ true
 or_true true h = refl
@@ -49,7 +45,7 @@ among_front name (x ∷ xs) ys h =
   where
     among_seam : (zs : List (List ℕ)) → is_among x (zs ++ name ∷ ys) ≡ false → bytes_eq name x ≡ false
     among_seam [] e = neither_left (bytes_eq name x) (is_among x ys) e
-    among_seam (z ∷ zs) e = among_seam zs (or_right (bytes_eq z x) (is_among x (zs ++ name ∷ ys)) e)
+    among_seam (z ∷ zs) e = among_seam zs (neither_right (bytes_eq z x) (is_among x (zs ++ name ∷ ys)) e)
 
 -- ---- slots filled from the front
 
@@ -110,7 +106,7 @@ absent_from name n [] m fresh = absent_in name n m
 absent_from name n (r ∷ rs) m fresh =
     let other = neither_left (bytes_eq r.schema.name name) (is_among name (relation_names rs)) fresh in
     ap (λ t. cond t (Some (n, r)) (relation_from name (n + 1) (map (λ x. Some x) rs ++ replicate m None))) other
-    ∙ absent_from name (n + 1) rs m (or_right (bytes_eq r.schema.name name) (is_among name (relation_names rs)) fresh)
+    ∙ absent_from name (n + 1) rs m (neither_right (bytes_eq r.schema.name name) (is_among name (relation_names rs)) fresh)
 
 pub absent : (name : List ℕ) (n : ℕ) (rs : List Relation) → is_among name (relation_names rs) ≡ false → relation_from name 0 (slots_for n rs) ≡ None
 absent name n rs fresh = absent_from name 0 rs (n - length rs) fresh
@@ -123,7 +119,7 @@ found_from n (q ∷ rs) r behind fresh =
     let other = neither_left (bytes_eq q.schema.name r.schema.name) (is_among r.schema.name (relation_names rs)) fresh in
     let e : (n + 1) + length rs ≡ n + length (q ∷ rs) = omega arith in
     ap (λ t. cond t (Some (n, q)) (relation_from r.schema.name (n + 1) (map (λ x. Some x) rs ++ Some r ∷ behind))) other
-    ∙ found_from (n + 1) rs r behind (or_right (bytes_eq q.schema.name r.schema.name) (is_among r.schema.name (relation_names rs)) fresh)
+    ∙ found_from (n + 1) rs r behind (neither_right (bytes_eq q.schema.name r.schema.name) (is_among r.schema.name (relation_names rs)) fresh)
     ∙ ap (λ k. Some (k, r)) e
 
 -- the last one is found by its name

@@ -1,7 +1,6 @@
 -- A draft with a tree in front takes one pair more.
 use Rattle.std.proofs.Common.{◌≡◌, ◌≢◌, ◌≤◌, ◌<◌, ◌+◌, ◌*◌, ◌-◌, ◌/◌, ◌%◌, ℕ, ℤ, zero, suc, List, [], ◌∷◌, ◌++◌, length, take, drop, get_or, set, replicate, refl, arith, ap, ◌∙◌, sym, inl, inr, ⊎_elim, subst, length-append}
-use Rattle.std.specs.Prelude.{slice_range, slice_index, true}
-use Rattle.std.specs.List.{filter}
+use Rattle.std.specs.Prelude.{slice_range, slice_index}
 use Rattle.std.proofs.lemmas.List.{ext_get_or, get_or-append-add, get_or-drop, get_or-replicate, get_or-set_other, get_or-set_same, get_or-take, get_or_append_left, replicate-append-replicate, length-drop, length-replicate, length-set, length-take-le}
 use Rattle.std.proofs.lemmas.List.FromFn.{length-map-range_with_len}
 use Rattle.afl_base.specs.Fields.{put_at, u16_at}
@@ -20,16 +19,16 @@ use Rattle.index_tree.specs.Pairs.{Pair, goes, pair_keys, pair_of, pairs_of, rea
 use Rattle.index_tree.specs.Places.{SlotsRise}
 use Rattle.index_tree.specs.TreeFile.{IsTree, next_number, bucket_place, number_of, place_of}
 use Rattle.index_tree.proofs.Added.{same_bucket, same_or, zero_or, passes_all}
-use Rattle.index_tree.proofs.Counted.{buckets_more, chain}
+use Rattle.index_tree.proofs.Counted.{buckets_more, chain, all_stay}
 use Rattle.index_tree.proofs.Filters.{rises_map}
 use Rattle.index_tree.proofs.Loaded.{counts_more, counts_none, end_level, end_there, pairs_more, zeros_few, reach_none}
-use Rattle.index_tree.proofs.PutBucket.{Appends, IsNew, Way, appends, bucket_kept, bucket_put, kept, named_at, new_or, old_is_other}
+use Rattle.index_tree.proofs.PutBucket.{Appends, IsNew, Way, appends, bucket_kept, bucket_put, kept, named_at, new_or, old_is_other, node_way, spot_chain}
 use Rattle.index_tree.proofs.PutPair.{adds_pair, pair_put}
 use Rattle.index_tree.proofs.Reach.{reach-append}
 use Rattle.index_tree.proofs.Inserted.{zero_u16}
 use Rattle.index_tree.proofs.Frames.{put_here}
 use Rattle.index_tree.proofs.Shared.{Full, Same, goes_self, grows, order, reach_same}
-use Rattle.index_tree.proofs.Spots.{u16_stays, byte_stays, chain_same, digit_same, node_same, node_small}
+use Rattle.index_tree.proofs.Spots.{u16_stays, byte_stays, chain_same, node_small}
 use Rattle.index_maxheap.proofs.Walked.{number_spot}
 
 -- ---- zeros
@@ -66,10 +65,6 @@ chain_length key ps (suc j) =
     let cut = length-drop 32 (reaching (goes key) (chain j) ps) in
     let next : length (reaching (goes key) (chain (suc j)) ps) ≡ length (drop 32 (reaching (goes key) (chain j) ps)) = ap length (all_stay (drop 32 (reaching (goes key) (chain j) ps))) in
     omega (arith, before, cut, next)
-  where
-    all_stay : (qs : List Pair) → filter (λ (p : Pair). true) qs ≡ qs
-    all_stay [] = refl
-    all_stay (q ∷ qs) = ap (λ xs. q ∷ xs) (all_stay qs)
 
 abbrev last_hop : List ℕ → ℤ → ℕ → ℕ
 last_hop loads key level = level + (get_or loads (node key level) 0 - 1) / 32
@@ -158,10 +153,6 @@ blank_bucket tree new ps q hop number a blank key h now x up down = ⊎_elim
 
 -- ---- the last buckets stay
 
--- at the same node the same way
-pub node_way : (a b : ℤ) (l m : ℕ) → node a l ≡ node b m → (l ≡ m) × Way a b l
-node_way a b l m e = let both = node_same a b l m e in (both.0, λ i j. digit_same a b i (both.1 i j))
-
 pub way_deep : (a b : ℤ) (l h : ℕ) → Way a b l → (l < h → 4 ≤ l) → Way a b h
 way_deep a b l h way deep i k = ⊎_elim (λ (out : l ≤ i). chain_same a b i (let d = deep (omega (arith, out, k)) in omega (arith, d, out))) (λ (in_ : i < l). way i in_) (order l i)
 
@@ -211,13 +202,10 @@ ends_bucket loads places tree new ps q level hop number is counts wide ends lev 
     let here : get_or (set loads n v) (node key l) 0 ≡ get_or loads (node key l) 0 = get_or-set_other loads n (node key l) v 0 d in
     let s : 0 < get_or loads (node key l) 0 = rw here at some in
     let there : number_of tree key (last_hop loads key l) ≢ 0 = number_some tree ps key (last_hop loads key l) is (last_some loads ps key l counts low s) in
-    let grown : number_of new key (last_hop loads key l) ≡ number_of tree key (last_hop loads key l) = kept tree new ps q hop number a key (last_hop loads key l) (old_other tree new ps q hop number a key (last_hop loads key l) there) in
+    let grown : number_of new key (last_hop loads key l) ≡ number_of tree key (last_hop loads key l) = kept tree new ps q hop number a key (last_hop loads key l) (old_is_other tree new ps q hop number a key (last_hop loads key l) there) in
     let g : l + (get_or (set loads n v) (node key l) 0 - 1) / 32 ≡ last_hop loads key l = ap (λ (m : ℕ). l + (m - 1) / 32) here in
     rw g (get_or-set_other places n (node key l) (place_of number) 0 d ∙ ends key l low s ∙ ap place_of (sym grown)))
     (same_or (node key l) n)
-  where
-    old_other : (t u : List ℕ) (xs : List Pair) (r : Pair) (h m : ℕ) → Appends t u xs r h m → (k : ℤ) (g : ℕ) → number_of t k g ≢ 0 → IsNew k r h g → ⊥
-    old_other t u xs r h m b k g s = old_is_other t u xs r h m b k g s
 
 -- ---- the draft
 
@@ -322,7 +310,7 @@ module _ (loads places : List ℕ) (opens : ℕ) (draft : List ℕ) (ps : List P
       let last : ℕ = level + (load - 1) / 32 in
       let e : hop ≡ suc last = omega (arith, is, whole, some) in
       next s ∙ ap (λ (n : ℕ). n + 192) (b.ends key level low some)
-      ∙ sym (subst (λ (h : ℕ). spot_of b.tree key h ≡ place_of (number_of b.tree key last) + 192) (sym e) (chain_spot b.tree key last (omega (arith, deep)))))
+      ∙ sym (subst (λ (h : ℕ). spot_of b.tree key h ≡ place_of (number_of b.tree key last) + 192) (sym e) (spot_chain b.tree key last (omega (arith, deep)))))
       (zero_or load)
     where
       positive : (n : ℕ) → n ≢ 0 → 0 < n
@@ -336,13 +324,6 @@ module _ (loads places : List ℕ) (opens : ℕ) (draft : List ℕ) (ps : List P
       node_spot bytes k (suc (suc (suc zero))) h = refl
       node_spot bytes k (suc (suc (suc (suc zero)))) h = refl
       node_spot bytes k (suc (suc (suc (suc (suc l))))) h = absurd (omega arith)
-
-      chain_spot : (bytes : List ℕ) (k : ℤ) (j : ℕ) → 4 ≤ j → spot_of bytes k (suc j) ≡ place_of (number_of bytes k j) + 192
-      chain_spot bytes k zero h = absurd (omega arith)
-      chain_spot bytes k (suc zero) h = absurd (omega arith)
-      chain_spot bytes k (suc (suc zero)) h = absurd (omega arith)
-      chain_spot bytes k (suc (suc (suc zero))) h = absurd (omega arith)
-      chain_spot bytes k (suc (suc (suc (suc j)))) h = refl
 
   spot_zero : number_of b.tree key hop ≡ 0 → u16_at b.tree (spot_of b.tree key hop) ≡ 0
   unfolding hop end_

@@ -3,7 +3,7 @@ use Rattle.std.proofs.Common.{◌≡◌, ◌≤◌, ◌+◌, ℕ, ℤ, List, [],
 use Rattle.std.specs.Prelude.{Err, IfOk, IfSome, None, Ok, Option, Result, Some}
 use Rattle.afl_base.specs.Fields.{u16_at}
 use Rattle.index_tree.specs.Trees.{IsTreeOf, numbered}
-use Rattle.index_maxheap.specs.Searches.{IsPlaceOf, IsStart, walk_left}
+use Rattle.index_maxheap.specs.Searches.{IsStart, walk_left}
 use Rattle.index_maxheap.specs.declared.places.Found.{Found}
 use Rattle.index_maxheap.specs.declared.places.Place.{Place}
 

@@ -11,12 +11,13 @@ use Rattle.index_tree.specs.TreeFile.{HoldsPairs, IsTree, next_number, bucket_pl
 use Rattle.index_maxheap.specs.Verify.{AreSeen, AreTails, Has, IsDone, IsTail, hop_of}
 use Rattle.index_tree.specs.Buckets.{HasPair}
 use Rattle.index_tree.proofs.Added.{number_same, only_end, same_or}
-use Rattle.index_maxheap.proofs.Built.{chain_length, node_way, way_deep}
+use Rattle.index_maxheap.proofs.Built.{chain_length, way_deep}
 use Rattle.index_tree.proofs.Counted.{chain}
-use Rattle.index_tree.proofs.PutBucket.{Way, behind_chain, behind_node, behind_none}
+use Rattle.index_tree.proofs.PutBucket.{Way, behind_chain, behind_node, behind_none, node_way}
 use Rattle.index_tree.proofs.Shared.{Full, Same, grows, order, reach_same}
 use Rattle.index_tree.proofs.Spots.{node_small}
 use Rattle.index_tree.proofs.Loaded.{load_upper}
+use Rattle.index_tree.proofs.Owned.{none_of}
 
 -- ---- the last bucket of a node
 
@@ -130,10 +131,6 @@ module _ (bytes loads places nexts fills : List ℕ) (ps : List Pair) (counts : 
         (end_next key hop hop (omega (arith, low)) last.0 last.1).0;
   }
     where
-      none_of : (xs : List Pair) → (0 < length xs → ⊥) → xs ≡ []
-      none_of [] h = refl
-      none_of (x ∷ xs) h = absurd (h (omega arith))
-
       there : (k : ℤ) (h : ℕ) → number_of bytes k h ≢ 0 → 0 < length (reaching (goes k) h ps)
       there k h s = ⊎_elim (λ (z : length (reaching (goes k) h ps) ≤ 0). absurd (s (nothing_there k h (omega (arith, z))))) (λ (x : 0 < length (reaching (goes k) h ps)). x) (order (length (reaching (goes k) h ps)) 0)
 

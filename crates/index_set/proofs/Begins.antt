@@ -1,5 +1,5 @@
 -- Where candidates begin, by each plan.
-use Rattle.std.proofs.Common.{◌≡◌, ◌≤◌, ◌<◌, ◌+◌, ◌-◌, ◌*◌, ℕ, ℤ, zero, suc, List, [], ◌∷◌, length, get_or, Bool, true, false, Option, None, refl, arith, ap, ◌∙◌, sym, subst}
+use Rattle.std.proofs.Common.{◌≡◌, ◌≤◌, ◌<◌, ◌+◌, ◌-◌, ◌*◌, ℕ, ℤ, zero, suc, List, [], ◌∷◌, length, get_or, true, false, Option, None, refl, arith, ap, ◌∙◌, sym, subst}
 use Rattle.std.specs.Prelude.{◌&&◌, int_le}
 use Rattle.index_maxheap.specs.declared.places.Place.{Place}
 use Rattle.std.specs.List.{filter, range_with_len}
@@ -32,6 +32,7 @@ use Rattle.index_set.proofs.Costs.{all_counted, few_counted}
 use Rattle.index_set.proofs.Fronts.{keys_front, level_front}
 use Rattle.index_set.proofs.Lists.{here_of, some_of}
 use Rattle.index_set.proofs.Slots.{between_pass, between_same}
+use Rattle.padded.proofs.Facts.{false_right}
 
 -- the attribute's place of the index with a number
 place_of : (xs : List IndexInfo) (n : ℕ) (y : IndexInfo) → n < length xs → y ≡ get_or xs n y → place_at (kinds xs) n ≡ y.attribute
@@ -225,13 +226,9 @@ module _ (infos : List IndexInfo) (ranges : List Range) (slots : ℕ) where
       behind : (i : ℕ) → c.end ≤ i → i < slots → lies_in range (key_at_place y.attribute (get_or all i no_row)) ≡ false
       behind i past below = subst (λ (k : ℤ). lies_in range k ≡ false) (row_key i below) (not_above range (key_of state y.column i) (span.above i past below))
         where
-          and_no : (a b : Bool) → b ≡ false → (a && b) ≡ false
-          and_no true b t = t
-          and_no false b t = refl
-
           not_above : (r : Range) (k : ℤ) → is_above r k ≡ true → lies_in r k ≡ false
           not_above Empty k t = refl
-          not_above (Between lo hi) k t = let no_more : int_le k hi ≡ false = grind (arith, ints) in rw no_more (and_no (int_le lo k) false refl)
+          not_above (Between lo hi) k t = let no_more : int_le k hi ≡ false = grind (arith, ints) in rw no_more (false_right (int_le lo k) false refl)
 
       inside : (i : ℕ) → c.from ≤ i → i < c.end → lies_in range (key_at_place y.attribute (get_or all i no_row)) ≡ true
       inside i past below = let end = span.end in subst (λ (k : ℤ). lies_in range k ≡ true) (row_key i (omega (arith, below, end))) (span.inside i past below)

@@ -1,17 +1,15 @@
 -- The first index of a list that gives a plan.
-use Rattle.std.proofs.Common.{◌≡◌, ◌<◌, ◌≤◌, ◌+◌, ℕ, zero, suc, List, [], ◌∷◌, length, get_or, drop, Bool, true, false, ◌||◌, Option, Some, None, refl, arith, ap, ◌∙◌, sym, subst}
-use Rattle.std.specs.Prelude.{IfSome, is_some, option_map}
+use Rattle.std.proofs.Common.{◌≡◌, ◌<◌, ◌≤◌, ◌+◌, ℕ, zero, suc, List, [], ◌∷◌, length, get_or, drop, Bool, true, false, ◌||◌, Option, Some, None, refl, arith, ap, ◌∙◌, sym}
+use Rattle.std.specs.Prelude.{is_some, option_map}
 use Rattle.std.specs.List.{list_any}
 use Rattle.std.specs.Option.{option_or}
 use Rattle.db_model.specs.declared.schemas.IndexKind.{IndexKind}
 use Rattle.db_model.specs.Plan as model
-use Rattle.db_model.specs.Plan.{Kinds, first_plan}
+use Rattle.db_model.specs.Plan.{first_plan}
 use Rattle.index_set.specs.declared.choices.Plan.{Plan}
 use Rattle.index_set.specs.declared.choices.Plan.TheVariants as chosen
-use Rattle.index_set.specs.declared.info.Access.{Access}
-use Rattle.index_set.specs.declared.info.Access.TheVariants.{Order, Tree, Table as InTable}
 use Rattle.index_set.specs.declared.info.IndexInfo.{IndexInfo}
-use Rattle.index_set.specs.Plans.{HasAccess, IsBy, IsOf, access_kind, kinds, plan_in}
+use Rattle.index_set.specs.Plans.{access_kind, kinds, plan_in}
 
 abbrev pub kind_at : IndexInfo → IndexKind × ℕ
 kind_at info = (access_kind info.access, info.attribute)

@@ -1,6 +1,6 @@
 -- The next of the slots that a search has ahead.
 use Rattle.std.proofs.Common.{◌≡◌, ◌≤◌, ◌<◌, ◌+◌, ◌*◌, ◌⊎◌, inl, inr, ℕ, ℤ, zero, suc, List, [], ◌∷◌, length, get_or, true, false, Option, Some, None, refl, arith, ap, ◌∙◌, sym, subst}
-use Rattle.std.specs.Prelude.{Result, Ok, Err, IfOk, OnOk, IfSome, MatchOption}
+use Rattle.std.specs.Prelude.{Result, Ok, Err, IfOk, OnOk, MatchOption}
 use Rattle.std.proofs.Math.Logic.{⊎_elim}
 use Rattle.std.specs.Ordering.{int_eq}
 use Rattle.afl_base.specs.declared.failed.Failed.{Failed}

@@ -1,6 +1,6 @@
 -- Indexes that are found complete one after the other.
 use Rattle.std.proofs.Common.{◌≡◌, ◌<◌, ◌≤◌, ◌+◌, ◌==◌, ℕ, ℤ, zero, suc, List, [], ◌∷◌, ◌++◌, length, get_or, take, Bool, true, false, Some, refl, arith, ap, ◌∙◌, sym, subst}
-use Rattle.std.specs.Prelude.{Result, Ok, Err, IfOk, IsTrue, OnOk, slice_get}
+use Rattle.std.specs.Prelude.{Result, Ok, Err, IfOk, IsTrue, slice_get}
 use Rattle.afl_base.specs.declared.failed.Failed.{Failed}
 use Rattle.std.specs.Bool.{Decides}
 use Rattle.std.specs.List.{AllByRecursion}

@@ -16,6 +16,7 @@ use Rattle.index_tree.proofs.Loaded.{end_there, pairs_more}
 use Rattle.index_tree.proofs.Owned.{in_drop, in_reach, none_of}
 use Rattle.index_tree.proofs.Shared.{Same, goes_self, order, reach_same, rises_reach, same_way}
 use Rattle.index_tree.proofs.Expected.{expected}
+use Rattle.padded.proofs.Facts.{neither_less}
 
 -- ---- members of lists that rise
 
@@ -188,17 +189,14 @@ module _ (bytes : List ℕ) (f : ℕ → ℤ) (n : ℕ) (few_slots : n ≤ 32768
       let in_h : In p (reaching (goes p.key) h ps) = subst (λ (r : Pair). In r (reaching (goes p.key) h ps)) p_there (in_get (reaching (goes p.key) h ps) b b_in) in
       let not_up : g < h → ⊥ = λ less. (let up = earlier_less (goes p.key) ps p g h a rises_ps less short_a a_in in_h in let e = ap (λ (r : Pair). r.slot) p_here in omega (arith, up, e)) in
       let not_down : h < g → ⊥ = λ less. (let up = earlier_less (goes p.key) ps p h g b rises_ps less short_b b_in in_g in let e = ap (λ (r : Pair). r.slot) p_there in omega (arith, up, e)) in
-      let hops : g ≡ h = equal g h not_up not_down in
+      let hops : g ≡ h = neither_less g h not_up not_down in
       let p_again : get_or (reaching (goes p.key) g ps) b no_pair ≡ p = subst (λ (l : ℕ). get_or (reaching (goes p.key) l ps) b no_pair ≡ p) (sym hops) p_there in
       let b_again : b < length (reaching (goes p.key) g ps) = subst (λ (l : ℕ). b < length (reaching (goes p.key) l ps)) (sym hops) b_in in
       let risen = rises_reach (goes p.key) g ps rises_ps in
       let e = ap (λ (r : Pair). r.slot) p_here in
       let e_ = ap (λ (r : Pair). r.slot) p_again in
-      let places : a ≡ b = equal a b (λ less. (let up = rises_index (reaching (goes p.key) g ps) a b risen less b_again in omega (arith, up, e, e_))) (λ less. (let up = rises_index (reaching (goes p.key) g ps) b a risen less a_in in omega (arith, up, e, e_))) in
+      let places : a ≡ b = neither_less a b (λ less. (let up = rises_index (reaching (goes p.key) g ps) a b risen less b_again in omega (arith, up, e, e_))) (λ less. (let up = rises_index (reaching (goes p.key) g ps) b a risen less a_in in omega (arith, up, e, e_))) in
       (hops, places, λ i l. λ r. to_p i l r ∙ sym (to_q i (omega (arith, l, hops)) r))
-    where
-      equal : (x y : ℕ) → (x < y → ⊥) → (y < x → ⊥) → x ≡ y
-      equal x y u d = ⊎_elim (λ (le : x ≤ y). ⊎_elim (λ (ge : y ≤ x). omega (arith, le, ge)) (λ (lt : x < y). absurd (u lt)) (order y x)) (λ (gt : y < x). absurd (d gt)) (order x y)
 
   bucket_of : (b : ℕ) → b < bucket_count bytes → (k : ℤ) × (h : ℕ) × (number_of bytes k h ≢ 0) × (place_of (number_of bytes k h) ≡ bucket_place b)
   bucket_of b inside =

@@ -117,7 +117,7 @@ ceil_more n = ⊎_elim
     (λ (none : n % 32 < 1). let z : n % 32 ≡ 0 = omega arith in rw z (omega (arith, z)))
     (order 1 (n % 32))
 
-all_stay : (ps : List Pair) → filter (λ (p : Pair). true) ps ≡ ps
+pub all_stay : (ps : List Pair) → filter (λ (p : Pair). true) ps ≡ ps
 all_stay [] = refl
 all_stay (p ∷ ps) = ap (λ xs. p ∷ xs) (all_stay ps)
 

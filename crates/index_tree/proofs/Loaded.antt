@@ -3,7 +3,7 @@ use Rattle.std.proofs.Common.{◌≡◌, ◌≢◌, ◌≤◌, ◌<◌, ◌+◌,
 use Rattle.std.specs.Prelude.{min}
 use Rattle.std.proofs.lemmas.List.{get_or_past, get_or-replicate, get_or-set_other, get_or-set_same, length-set}
 use Rattle.std.proofs.lemmas.List.FromFn.{map-range_with_len_more}
-use Rattle.db_model.specs.HashTree.{buckets, digit, node}
+use Rattle.db_model.specs.HashTree.{buckets, node}
 use Rattle.index_tree.specs.Ends.{IsPathEnd}
 use Rattle.index_tree.specs.Loads.{Counts, IsLevel, Loads, load_of, opened_bucket}
 use Rattle.index_tree.specs.Pairs.{Pair, goes, pair_keys, pair_of, pairs_of, reaching}

@@ -37,8 +37,17 @@ way_or a b (suc h) = ⊎_elim
     (λ (no_way : Way a b h → ⊥). inr (λ (w : Way a b (suc h)). no_way (λ i k. w i (omega arith))))
     (way_or a b h)
 
-node_way : (a b : ℤ) (h k : ℕ) → node a h ≡ node b k → (h ≡ k) × Way a b h
+-- at the same node the same way
+pub node_way : (a b : ℤ) (h k : ℕ) → node a h ≡ node b k → (h ≡ k) × Way a b h
 node_way a b h k e = let both = node_same a b h k e in (both.0, λ i j. digit_same a b i (both.1 i j))
+
+-- behind the nodes of the head the number stands at the end of the bucket before
+pub spot_chain : (bytes : List ℕ) (k : ℤ) (j : ℕ) → 4 ≤ j → spot_of bytes k (suc j) ≡ place_of (number_of bytes k j) + 192
+spot_chain bytes k zero h = absurd (omega arith)
+spot_chain bytes k (suc zero) h = absurd (omega arith)
+spot_chain bytes k (suc (suc zero)) h = absurd (omega arith)
+spot_chain bytes k (suc (suc (suc zero))) h = absurd (omega arith)
+spot_chain bytes k (suc (suc (suc (suc j)))) h = refl
 
 -- the bucket at h of a key's path is the new one
 abbrev pub IsNew : ℤ → Pair → ℕ → ℕ → Type 0
@@ -202,13 +211,6 @@ named_at old new ps q hop number a key (suc h) is =
     ∙ subst (λ (x : ℕ). u16_at new x ≡ number) (spot_node old q.key h low) named)
     (order 4 h)
   where
-    spot_chain : (bytes : List ℕ) (k : ℤ) (j : ℕ) → 4 ≤ j → spot_of bytes k (suc j) ≡ place_of (number_of bytes k j) + 192
-    spot_chain bytes k zero h = absurd (omega arith)
-    spot_chain bytes k (suc zero) h = absurd (omega arith)
-    spot_chain bytes k (suc (suc zero)) h = absurd (omega arith)
-    spot_chain bytes k (suc (suc (suc zero))) h = absurd (omega arith)
-    spot_chain bytes k (suc (suc (suc (suc j)))) h = refl
-
     spot_node : (bytes : List ℕ) (k : ℤ) (j : ℕ) → j < 4 → spot_of bytes k (suc j) ≡ 2 * node k (suc j)
     spot_node bytes k zero h = refl
     spot_node bytes k (suc zero) h = refl

@@ -1,6 +1,6 @@
-use Rattle.std.proofs.Common.{◌≡◌, ◌≤◌, ◌<◌, ◌+◌, ◌-◌, ◌*◌, ℕ, zero, suc, List, [], ◌∷◌, ◌++◌, length, drop, get_or, Bool, true, false, cond, refl, arith, ap, ◌∙◌, sym, add-one, length-append}
+use Rattle.std.proofs.Common.{◌≡◌, ◌≤◌, ◌<◌, ◌+◌, ◌-◌, ◌*◌, ℕ, zero, suc, List, [], ◌∷◌, ◌++◌, length, drop, Bool, true, false, cond, refl, arith, ap, ◌∙◌, sym, add-one, length-append}
 use Rattle.std.specs.List.{filter}
-use Rattle.std.proofs.lemmas.List.{drop-append-le, drop_all, drop_more, length-drop}
+use Rattle.std.proofs.lemmas.List.{drop-append-le, drop_all, length-drop}
 use Rattle.std.proofs.lemmas.List.Elements.{filter-append}
 use Rattle.index_tree.specs.Pairs.{reaching, sifted}
 use Rattle.index_tree.specs.Places.{IsPlace, ahead_of_place}

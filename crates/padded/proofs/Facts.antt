@@ -1,6 +1,6 @@
 -- Small facts on truth, numbers, options, lists and results that many proofs need.
 use Rattle.std.proofs.Common.{◌≡◌, ℕ, zero, suc, ◌+◌, ◌-◌, ◌*◌, ◌≤◌, ◌<◌, ◌⊎◌, inl, inr, Bool, true, false, ◌&&◌, ◌||◌, ◌==◌, not, cond, if◌then◌else◌, List, [], ◌∷◌, ◌++◌, take, drop, drop-cons, length, map, filter, get_or, replicate, Option, Some, None, option_map, refl, sym, ap, ◌∙◌, add-one, arith}
-use Rattle.std.specs.Prelude.{Result, Ok, Err, OnErr, is_some, nat_le, nat_lt, slice_range}
+use Rattle.std.specs.Prelude.{IsErrAnd, Result, Ok, Err, OnErr, is_some, nat_le, nat_lt, slice_range}
 use Rattle.std.specs.Int.{byte_at, from_bool}
 use Rattle.std.specs.List.{list_all, AllByRecursion}
 use Rattle.std.specs.Str.{bytes_eq}
@@ -37,6 +37,27 @@ neither false b e = (refl, e)
 pub neither_left : (a b : Bool) → (a || b) ≡ false → a ≡ false
 neither_left true b h = h
 neither_left false b h = refl
+
+pub neither_right : (a b : Bool) → (a || b) ≡ false → b ≡ false
+neither_right true b h = cc
+neither_right false b h = h
+
+pub either_right : (a b : Bool) → b ≡ true → (a || b) ≡ true
+either_right true b h = refl
+either_right false b h = h
+
+pub other_side : (a b : Bool) → a ≡ false → a || b ≡ true → b ≡ true
+other_side true b e f = cc
+other_side false b e f = f
+
+pub false_right : (a b : Bool) → b ≡ false → (a && b) ≡ false
+false_right true b e = e
+false_right false b e = refl
+
+pub not_alone : (a b : Bool) → a && not b ≡ false → b ≡ false → a ≡ false
+not_alone true true e f = cc
+not_alone true false e f = cc
+not_alone false b e f = refl
 
 pub false_by : (b : Bool) → (b ≡ true → ⊥) → b ≡ false
 false_by true h = absurd (h refl)
@@ -102,6 +123,9 @@ eq_true m n h = grind (arith, nat_tests)
 
 pub true_eq : (m n : ℕ) → m == n ≡ true → m ≡ n
 true_eq m n h = grind (arith, nat_tests)
+
+pub neither_less : (a b : ℕ) → (a < b → ⊥) → (b < a → ⊥) → a ≡ b
+neither_less a b f g = grind (arith, f, g)
 
 pub byte_small : (at n : ℕ) → byte_at at n < 256
 byte_small zero n = omega arith
@@ -189,3 +213,7 @@ all_append P (x ∷ xs) ys h i = (h.0, all_append P xs ys h.1 i)
 pub on_err : {T E P : Type 0} (r : Result T E) → P → OnErr r P
 on_err (Ok x) p = tt
 on_err (Err e) p = p
+
+pub err_is : {T E : Type 0} (r : Result T E) (e : E) → IsErrAnd r (λ y. y ≡ e) → r ≡ Err e
+err_is (Ok x) e is = absurd is
+err_is (Err y) e is = ap Err is

@@ -18,6 +18,7 @@ use Rattle.sound_image.specs.Images.{IsSound, base, files_of_image}
 use Rattle.space_model.specs.Enough.{enough, most}
 use Rattle.stored.specs.Base.{base_of}
 use Rattle.stored.specs.Sound.{IsSoundTable}
+use Rattle.padded.proofs.Facts.{some_alike}
 
 -- a sound image stands for a sound database
 pub sound_base : ((files : Table) → IsSoundTable files → IsSoundDatabase (base_of files))
@@ -51,9 +52,6 @@ has_space read reader old text told each =
       read,
       reader,
       λ other told_other.
-          let same : text ≡ other = some_same (sym told ∙ told_other) in
+          let same : text ≡ other = some_alike (sym told ∙ told_other) in
           subst (λ t. HasEnough (machine_from (script_talk read) (base old.image)) (length old.image / 4096) (commands t)) same each,
     )
-  where
-    some_same : {a b : List ℕ} → Some a ≡ Some b → a ≡ b
-    some_same e = cc

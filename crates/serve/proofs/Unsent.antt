@@ -1,5 +1,5 @@
 -- What stands in a sink where a byte that goes out first may not have gone out yet.
-use Rattle.std.proofs.Common.{◌≡◌, ℕ, ◌+◌, ◌<◌, ◌⊎◌, inl, inr, false, List, [], ◌∷◌, ◌++◌, length, take, drop, Option, Some, None, refl, ap, sym, subst, ◌∙◌, append_assoc, append-nil, arith, length-append}
+use Rattle.std.proofs.Common.{◌≡◌, ℕ, ◌+◌, ◌<◌, ◌⊎◌, inl, inr, List, [], ◌∷◌, ◌++◌, length, take, drop, Option, Some, None, refl, ap, sym, subst, ◌∙◌, append_assoc, append-nil, arith, length-append}
 use Rattle.std.proofs.Math.Seq.{take-append_seam, take-append-add}
 use Rattle.std.proofs.lemmas.List.{take-append-drop}
 use Rattle.std.specs.Io.KnownBytes.{append_known}
@@ -7,9 +7,7 @@ use Rattle.reply_text.proofs.Pieces.{append_known-nil, append_known-twice}
 use Rattle.reply_text.specs.WroteLess.{WroteLess}
 use Rattle.session_model.specs.Steps.{WrotePart}
 use Rattle.serve.specs.Front.{front_held}
-
-some_same : {x y : List ℕ} → Some x ≡ Some y → x ≡ y
-some_same h = cc
+use Rattle.padded.proofs.Facts.{some_alike}
 
 -- ---- a part
 
@@ -33,7 +31,7 @@ unsent_part None None (Some b) c all w = record { written = []; left = c ∷ all
 unsent_part None (Some ks) (Some b) c all w = let e = w.held in cc
 unsent_part (Some bs) None (Some b) c all w = let e = w.held in cc
 unsent_part (Some bs) (Some ks) (Some b) c all w =
-    let same : ks ++ b ∷ [] ≡ bs ++ (c ∷ w.written) = some_same (w.held ∙ append_known-twice (Some bs) (c ∷ []) w.written) in
+    let same : ks ++ b ∷ [] ≡ bs ++ (c ∷ w.written) = some_alike (w.held ∙ append_known-twice (Some bs) (c ∷ []) w.written) in
     record {
       written = take (length w.written) (c ∷ w.written);
       left = drop (length w.written) (c ∷ w.written) ++ w.left;

@@ -19,7 +19,7 @@ use Rattle.run_model.specs.Talk.{answered}
 use Rattle.serve_model.specs.Fetching.{FetchesItsAnswer, OpensQuery, asks, replies_fetched, is_close, is_fetch, is_read, keeps_open}
 use Rattle.serve_model.specs.Frames.{Frame, Broken, Long, Asked, Unfinished}
 use Rattle.serve_model.specs.Served.{after_frame, numbered_cursor, own_cursor}
-use Rattle.padded.proofs.Facts.{some_inside, both_parts, neither_left, untrue}
+use Rattle.padded.proofs.Facts.{some_inside, both_parts, neither_left, untrue, neither_right}
 
 -- ---- the places of cursors
 
@@ -43,10 +43,6 @@ places_apart m n low differ e = by_tests (nat_le 1 m) (nat_le m 4) refl e
 
 true_false : true ≡ false → ⊥
 true_false e = cc
-
-or_right : (a b : Bool) → (a || b) ≡ false → b ≡ false
-or_right true b h = absurd (true_false h)
-or_right false b h = h
 
 -- ---- heads of rows
 
@@ -188,7 +184,7 @@ module _ (read : List ℕ → Result Command Refusal) where
   heads client low high cursor db (frame ∷ frames) stays h =
       let apart = untrue (asks read is_close client frame || list_any (asks read is_close client) frames) stays in
       let no_close = neither_left (asks read is_close client frame) (list_any (asks read is_close client) frames) apart in
-      let rest : IsTrue (keeps_open read client frames) = ap not (or_right (asks read is_close client frame) (list_any (asks read is_close client) frames) apart) in
+      let rest : IsTrue (keeps_open read client frames) = ap not (neither_right (asks read is_close client frame) (list_any (asks read is_close client) frames) apart) in
       let next : Database = (after_frame read db frame).0 in
       by_test (asks read is_fetch client frame) refl
       (λ e. let f = fetched_frame client cursor db frame low high e h in (f.0, heads client low high (record cursor { rows = drop 1 cursor.rows }) next frames rest f.1))

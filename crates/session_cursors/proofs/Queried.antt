@@ -11,7 +11,7 @@ use Rattle.db_model.specs.declared.refusals.Refusal.{Refusal}
 use Rattle.db_model.specs.declared.refusals.Refusal.TheVariants as no
 use Rattle.db_model.specs.declared.values.Value.{Value}
 use Rattle.db_model.specs.Ahead as model
-use Rattle.db_model.specs.Ahead.{Ahead, opened}
+use Rattle.db_model.specs.Ahead.{Ahead}
 use Rattle.db_model.specs.Cond.{condition_of}
 use Rattle.db_model.specs.Cost.{begin_cost, open_cost, open_select_cost, places_of}
 use Rattle.db_model.specs.Database.{Database, Relation, indexes_of, named, relation_named}

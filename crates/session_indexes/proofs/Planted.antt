@@ -12,7 +12,7 @@ use Rattle.db_model.specs.declared.schemas.IndexKind.{IndexKind}
 use Rattle.db_model.specs.declared.schemas.IndexKind.TheVariants.{MaxHeap}
 use Rattle.db_model.specs.Catalog.{with_index_slot}
 use Rattle.db_model.specs.Row.{rows_of}
-use Rattle.db_model.specs.Step.{allows, keys}
+use Rattle.db_model.specs.Step.{keys}
 use Rattle.index_tree.specs.Trees.{IsTreeOf}
 use Rattle.index_tree.proofs.Law.{ends_marked}
 use Rattle.space_model.specs.Enough.{tree_size}

@@ -1,17 +1,14 @@
 -- A row was put behind the others of a relation, or there was no room for it.
-use Rattle.std.proofs.Common.{◌≡◌, ℕ, ◌+◌, ◌<◌, List, [], ◌∷◌, ◌++◌, length, get_or, Option, Some, None, refl, ap, sym, ◌∙◌, subst, arith, IsTrue, length-append}
-use Rattle.std.proofs.lemmas.List.{get_or_append_left}
+use Rattle.std.proofs.Common.{◌≡◌, ℕ, ◌+◌, ◌<◌, List, [], ◌∷◌, ◌++◌, length, get_or, Option, Some, None, refl, ap, sym, ◌∙◌, subst, arith, IsTrue}
 use Rattle.afl_base.specs.Files.{State}
-use Rattle.afl_base.specs.Frames.{Prepares, SparesOthers}
+use Rattle.afl_base.specs.Frames.{Prepares}
 use Rattle.db_model.specs.Row.{Row, no_row}
-use Rattle.db_model.specs.Step.{slots_limit}
 use Rattle.index_set.specs.declared.info.IndexInfo.{IndexInfo}
 use Rattle.index_set.specs.Complete.{AreComplete, AreHeld}
-use Rattle.index_set.specs.Inserts.{KeepsTables}
 use Rattle.index_set.specs.Tables.{Tables}
 use Rattle.index_set.specs.Walks.{RowsGrow}
 use Rattle.tuple_file.specs.declared.tuples.Tuples.{Tuples}
-use Rattle.tuple_file.specs.Tuples.{HoldsRows, rows, slots}
+use Rattle.tuple_file.specs.Tuples.{rows, slots}
 use Rattle.session_model.specs.declared.held.Held.{Held}
 use Rattle.session_model.specs.declared.held.Open.{Open}
 use Rattle.session_model.specs.Frames.{StaysAt}

@@ -44,7 +44,7 @@ use Rattle.session_model.proofs.Frames.{bytes_spared, held_spared}
 use Rattle.session_model.proofs.Views.{OneChanges}
 use Rattle.tuple_file.proofs.Holding.{holds_by}
 use Rattle.index_set.proofs.Inserted.{no_table}
-use Rattle.padded.proofs.Facts.{some_inside}
+use Rattle.padded.proofs.Facts.{some_inside, some_same, either_right}
 
 -- ---- the list of a relation's indexes, and the slots
 
@@ -120,10 +120,10 @@ pub catalog_no_tree : (i : ℕ) → catalog_file ≡ tree_file i → ⊥
 catalog_no_tree i e = let same : ◌≡◌ {A = ℕ} 3 2 = ap (λ (l : List ℕ). length l) e in absurd (omega arith)
 
 same_name : (files : Table) (id : ℕ) (n m : List ℕ) → IsNamed files id n → IsNamed files id m → n ≡ m
-same_name files id n m a b = some_name (sym a ∙ b)
+same_name files id n m a b = some_same (sym a ∙ b)
   where
-    some_name : Some n ≡ Some m → n ≡ m
-    some_name e = cc
+    some_same : Some n ≡ Some m → n ≡ m
+    some_same e = cc
 
 pub differ : (files : Table) (a b : ℕ) (n m : List ℕ) → IsNamed files a n → IsNamed files b m → (n ≡ m → ⊥) → a ≢ b
 differ files a b n m x y h e = h (same_name files b n m (subst (λ (j : ℕ). IsNamed files j n) e x) y)
@@ -154,12 +154,9 @@ known_spared a b P f known id now is =
     let live : IsLive a.files id = live_by_name b.files a.files (λ k. sym (f.named k)) id (live_here b.files id now is) in
     let was : File = file_at a.files id in
     let there = place_live a.files id live in
-    let name : now.name ≡ was.name = some_name now.name was.name (sym (named_here b.files id now is) ∙ f.named id ∙ named_here a.files id was there) in
+    let name : now.name ≡ was.name = some_same now.name was.name (sym (named_here b.files id now is) ∙ f.named id ∙ named_here a.files id was there) in
     let kind : now.kind ≡ was.kind = ap (λ (x : File). x.kind) (sym (file_here b.files id now is)) ∙ f.kind id live in
     ap (λ (n : List ℕ). is_of_database n now.kind) name ∙ ap (is_of_database was.name) kind ∙ known id was there
-  where
-    some_name : (x y : List ℕ) → Some x ≡ Some y → x ≡ y
-    some_name x y e = cc
 
 pub file_spared : (a b : State) (P : ℕ → Type 0) (i : ℕ) (access : Access) → SparesOthers a b P → HasFile a.files i access → HasFile b.files i access
 file_spared a b P i Order f h = unnamed_spared a b P (tree_file i) f h
@@ -428,10 +425,6 @@ or_left : (a b : Bool) → a ≡ true → (a || b) ≡ true
 or_left true b e = refl
 or_left false b e = absurd (cc)
 
-or_right : (a b : Bool) → b ≡ true → (a || b) ≡ true
-or_right true b e = refl
-or_right false b e = e
-
 same_name_bytes : (s t : Tuples) → s ≡ t → bytes_eq s.schema.name t.schema.name ≡ true
 same_name_bytes s t e = (bytes_eq-Decides s.schema.name t.schema.name).1 (ap (λ (z : Tuples). z.schema.name) e)
 
@@ -445,7 +438,7 @@ no_name : (o : Open) (files : Table) (t : Tuples) → is_among t.schema.name (cu
 no_name (Select o) files t h reads = true≢false (sym (or_left _ _ (same_name_bytes o.cursor.tuples t reads.1)) ∙ h)
 no_name (Join o) files t h (inl reads) = true≢false (sym (or_left _ _ (same_name_bytes o.cursor.left t reads.1)) ∙ h)
 no_name (Join o) files t h (inr reads) =
-    true≢false (sym (or_right _ _ (or_left _ _ (same_name_bytes o.cursor.right t reads.1))) ∙ h)
+    true≢false (sym (either_right _ _ (or_left _ _ (same_name_bytes o.cursor.right t reads.1))) ∙ h)
 
 pub reads_other : (files : Table) (t : Tuples) (m : ℕ) (os : List (Option Open)) → reader_from t.schema.name m (map (option_map (cursor_in files)) os) ≡ None
     → (n : ℕ) (o : Open) → get_or os n None ≡ Some o → ReadsRows o t → ⊥

@@ -33,7 +33,7 @@ use Rattle.session_model.specs.Indexed.{AreAllowed, index_of_info}
 use Rattle.session_rows.specs.Refused.{is_order, is_order_index, is_ordered_by, is_memhash, is_table_index}
 use Rattle.session_model.proofs.Cells.{found_allowed}
 use Rattle.tuple_file.proofs.Columns.{rows_counted}
-use Rattle.padded.proofs.Facts.{by_truth, both_parts}
+use Rattle.padded.proofs.Facts.{by_truth, both_parts, either_right}
 
 -- ---- tests of indexes
 
@@ -181,15 +181,11 @@ module _ (attributes : List Attribute) (all : List Row) (values : List Value) (s
   all_follow state tables [] ordered allowed complete = tt
   all_follow state tables (info ∷ infos) ordered allowed complete = (
     follows state tables info info.access (λ is. ordered info.attribute (first is)) allowed.0 complete.0,
-    all_follow state tables infos (λ place e. ordered place (later (is_order info.access && info.attribute == place) (is_ordered_by infos place) e)) allowed.1 complete.1,
+    all_follow state tables infos (λ place e. ordered place (either_right (is_order info.access && info.attribute == place) (is_ordered_by infos place) e)) allowed.1 complete.1,
   )
     where
       same : (n : ℕ) → (n == n) ≡ true
       same n = grind (arith, nat_tests)
-
-      later : (b c : Bool) → c ≡ true → (b || c) ≡ true
-      later true c e = refl
-      later false c e = e
 
       first : is_order info.access ≡ true → ((is_order info.access && info.attribute == info.attribute) || is_ordered_by infos info.attribute) ≡ true
       first is = λ i. (is i && same info.attribute i) || is_ordered_by infos info.attribute

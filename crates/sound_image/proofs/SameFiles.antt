@@ -13,6 +13,8 @@ use Rattle.coffee_merge.proofs.SoundTables.{sound_held}
 use Rattle.coffee_volume.specs.Mounting.{mounted_state, roomless_file}
 use Rattle.coffee_volume.specs.Volumes.{file_seen, files_seen, roomless}
 use Rattle.stored.specs.Same.{HasLike, HaveSameFiles}
+use Rattle.padded.proofs.Facts.{some_alike}
+use Rattle.afl_base.proofs.FileLaws.{place_live}
 
 -- ---- the same files
 
@@ -51,15 +53,8 @@ module _ (image : List ℕ) where
       let less : c.0 < length (map (named_file image) ps) = c.1 in
       (suc c.0, omega (arith, less), c.2)
 
-live_place : (files : Table) (id : ℕ) → IsLive files id → place files id ≡ Some (file_at files id)
-live_place files id h = of_place (place files id) h
-  where
-    of_place : (o : Option File) → IsTrue (is_some o) → o ≡ Some (unwrap_or o no_file)
-    of_place None h = absurd (let n : ⊥ = cc in n)
-    of_place (Some f) h = refl
-
-place_live : (files : Table) (id : ℕ) (f : File) → place files id ≡ Some f → IsLive files id × (file_at files id ≡ f)
-place_live files id f e = (subst (λ o. IsTrue (is_some o)) (sym e) refl, ap (λ o. unwrap_or o no_file) e)
+live_there : (files : Table) (id : ℕ) (f : File) → place files id ≡ Some f → IsLive files id × (file_at files id ≡ f)
+live_there files id f e = (subst (λ o. IsTrue (is_some o)) (sym e) refl, ap (λ o. unwrap_or o no_file) e)
 
 -- as a volume says it when it hands back its flash
 pub same_files : (files : Table) (image : List ℕ)
@@ -68,7 +63,7 @@ pub same_files : (files : Table) (image : List ℕ)
     → HaveSameFiles files (mounted_state image).files
 same_files files image each only = record {
   kept = λ id f e.
-      let l = place_live files id f e in
+      let l = live_there files id f e in
       let c : Contains (files_of image) (roomless_file f) = subst (λ x. Contains (files_of image) (roomless_file x)) l.1 (each id l.0) in
       contained_like image (placed_in (units_of image)) (32 - length (listed image)) c.0 f c.1 c.2;
   only = λ id g e.
@@ -77,7 +72,7 @@ same_files files image each only = record {
       record {
         id = o.0;
         file = file_at files o.0;
-        there = live_place files o.0 o.1;
+        there = place_live files o.0 o.1;
         name = ap (λ (x : NamedFile). x.name) o.2;
         kind = ap (λ (x : NamedFile). x.kind) o.2;
         bytes = ap (λ (x : NamedFile). x.bytes) o.2;
@@ -106,10 +101,7 @@ names_seen image (e ∷ es) n (suc i) = names_seen image es n i
 entry_named : (o : Option FileAt) (name : List ℕ) → name_of_entry o ≡ Some name → (e : FileAt) × (o ≡ Some e) × (e.name ≡ name)
 unfolding name_of_entry
 entry_named None name h = cc
-entry_named (Some e) name h = (e, refl, name_in h)
-  where
-    name_in : {a b : List ℕ} → Some a ≡ Some b → a ≡ b
-    name_in {a} h = ap (λ o. elim o [ None ↦ a | Some x ↦ x ]) h
+entry_named (Some e) name h = (e, refl, some_alike h)
 
 distinct_by : (image : List ℕ) (es : List FileAt) (n : ℕ)
     → ((i j : ℕ) (e d : FileAt) → IsIn (map Some es ++ replicate n None) i e → IsIn (map Some es ++ replicate n None) j d → e.name ≡ d.name → i ≡ j)

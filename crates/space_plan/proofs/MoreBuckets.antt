@@ -5,21 +5,7 @@ use Rattle.std.proofs.lemmas.Bool.{cases_lt}
 use Rattle.std.proofs.lemmas.List.{append-nil, drop-append-le, drop_all, length-append}
 use Rattle.std.proofs.lemmas.List.Elements.{filter-append}
 use Rattle.db_model.specs.HashTree.{digit, onward, buckets_at, buckets}
-use Rattle.db_model.proofs.Buckets.{more}
-
--- 1 for true
-one : Bool → ℕ
-one true = 1
-one false = 0
-
--- a number is at most one of 0, 1, 2 and 3
-one_of_four : (n : ℕ) → one (n == 0) + one (n == 1) + one (n == 2) + one (n == 3) ≤ 1
-unfolding one
-one_of_four zero = omega arith
-one_of_four (suc zero) = omega arith
-one_of_four (suc (suc zero)) = omega arith
-one_of_four (suc (suc (suc zero))) = omega arith
-one_of_four (suc (suc (suc (suc n)))) = rw (more n 0 (omega arith), more n 1 (omega arith), more n 2 (omega arith), more n 3 (omega arith)) (omega arith)
+use Rattle.db_model.proofs.Buckets.{more, one, one_of_four}
 
 -- what goes on by a digit has at most this key more
 record OneMore (level d : ℕ) (keys : List ℤ) (key : ℤ) : Type 0 where

@@ -1,5 +1,5 @@
 -- The files of a database are few.
-use Rattle.std.proofs.Common.{◌≡◌, ℕ, zero, suc, ◌+◌, ◌<◌, ◌≤◌, ⊎_elim, ◌⊎◌, true, List, [], ◌∷◌, Option, Some, None, refl, ap, ◌∙◌, arith}
+use Rattle.std.proofs.Common.{◌≡◌, ℕ, zero, suc, ◌+◌, ◌<◌, ◌≤◌, ⊎_elim, ◌⊎◌, true, List, [], ◌∷◌, Some, None, refl, ap, ◌∙◌, arith}
 use Rattle.std.proofs.lemmas.Bool.{cases_lt}
 use Rattle.afl_base.specs.Files.{AreDistinct, File, Table, place, used}
 use Rattle.afl_base.specs.declared.kind.Kind.TheVariants.{Doubling, Fixed}

@@ -31,7 +31,7 @@ use Rattle.catalog.specs.Rules.{breaks_files, broken_slot, broken_catalog, catal
 use Rattle.space_model.specs.FileNames.{bytes_in_file, file_named, is_there}
 use Rattle.space_model.proofs.NamedFiles.{named_here}
 use Rattle.stored.specs.Sizes.{HasFilesOf, IsRowsOf, IsTreeFileOf}
-use Rattle.padded.proofs.Facts.{true_or_false, lt_true, lt_false, true_eq, some_found, both_parts}
+use Rattle.padded.proofs.Facts.{true_or_false, lt_true, lt_false, true_eq, some_found, both_parts, other_side}
 
 -- files stand under the ids 0 to 31 alone
 abbrev pub AreInTable : Table → Type 0
@@ -119,11 +119,8 @@ numbered (a ∷ b ∷ []) e =
     let back : b ≡ 48 + (b - 48) = omega (arith, low) in
     ⊎_elim
     (λ (t : a == 84 ≡ true). inl (record { slot = b - 48; below = omega (arith, low, high); is = ap (λ x. x ∷ b ∷ []) (true_eq a 84 t) ∙ ap (λ x. 84 ∷ x ∷ []) back }))
-    (λ (f : a == 84 ≡ false). inr (record { slot = b - 48; below = omega (arith, low, high); is = ap (λ x. x ∷ b ∷ []) (true_eq a 88 (second (a == 84) (a == 88) f parts.0)) ∙ ap (λ x. 88 ∷ x ∷ []) back }))
+    (λ (f : a == 84 ≡ false). inr (record { slot = b - 48; below = omega (arith, low, high); is = ap (λ x. x ∷ b ∷ []) (true_eq a 88 (other_side (a == 84) (a == 88) f parts.0)) ∙ ap (λ x. 88 ∷ x ∷ []) back }))
     (true_or_false (a == 84))
-  where
-    second : (p q : Bool) → p ≡ false → p || q ≡ true → q ≡ true
-    second p q f t = rw f at t
 
 module _ (name : List ℕ) where
   pub by_kind : (kind : Kind) → is_of_database name kind ≡ true → ((name ≡ catalog_file) × (kind ≡ Fixed 6)) ⊎ ((IsNumbered 84 name ⊎ IsNumbered 88 name) × (kind ≡ Doubling))

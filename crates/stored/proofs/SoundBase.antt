@@ -3,7 +3,6 @@ use Rattle.std.proofs.Common.{◌≡◌, ℕ, ℤ, zero, suc, ◌+◌, ◌<◌, 
 use Rattle.std.specs.Prelude.{option_map, slice_get}
 use Rattle.std.specs.List.{list_any}
 use Rattle.std.specs.Option.{option_map_or}
-use Rattle.std.proofs.lemmas.Bool.{cases_lt}
 use Rattle.std.proofs.lemmas.Bool.Decides.{nat_tests}
 use Rattle.std.proofs.lemmas.List.FromFn.{get_or-map-range_with_len, length-map-range_with_len}
 use Rattle.std.proofs.lemmas.Slice.Eq.{bytes_eq-Decides}
@@ -25,7 +24,7 @@ use Rattle.stored.specs.Sound.{IsIndexComplete, IsSoundTable, keys_stored}
 use Rattle.stored.proofs.FilesOf.{unbroken}
 use Rattle.stored.proofs.SoundSlots.{IsUnbroken, among_first, slot_below, sound_index_slot, sound_schema, sound_slot, unbroken_slots}
 use Rattle.stored.proofs.WrittenBytes.{rows_count, rows_suit}
-use Rattle.padded.proofs.Facts.{some_same, eq_true, none_some, false_true}
+use Rattle.padded.proofs.Facts.{some_same, eq_true, none_some, false_true, neither_less}
 
 module _ (files : Table) (s : IsSoundTable files) where
   abbrev bytes : List ℕ
@@ -209,9 +208,6 @@ module _ (files : Table) (s : IsSoundTable files) where
       by_test true = inl refl
       by_test false = inr refl
 
-  apart : (j k : ℕ) → (j < k → ⊥) → (k < j → ⊥) → j ≡ k
-  apart j k a b = ⊎_elim (λ (less : j < k). absurd (a less)) (λ (le : k ≤ j). ⊎_elim (λ (more : k < j). absurd (b more)) (λ (ge : j ≤ k). omega (arith, le, ge)) (cases_lt k j)) (cases_lt j k)
-
   no_cursor : (k : ℕ) (cursor : Cursor) → StandsIn (replicate {A = Option Cursor} 4 None) k cursor → ⊥
   no_cursor k cursor e = none_some cursor (sym (none_in 4 k) ∙ e)
     where
@@ -227,9 +223,9 @@ module _ (files : Table) (s : IsSoundTable files) where
     eight_indexes = length-map-range_with_len (index_at bytes) 0 8;
     four_cursors = refl;
     relations = sound_relation;
-    names = λ j k q r a b same. apart j k (λ less. earlier_name j k q r less a b same) (λ less. earlier_name k j r q less b a (sym same));
+    names = λ j k q r a b same. neither_less j k (λ less. earlier_name j k q r less a b same) (λ less. earlier_name k j r q less b a (sym same));
     indexes = sound_index;
-    places = λ j k a b p q e f. apart j k (λ less. earlier_place j k a b less p q e f) (λ less. earlier_place k j b a less q p (sym e) (sym f));
+    places = λ j k a b p q e f. neither_less j k (λ less. earlier_place j k a b less p q e f) (λ less. earlier_place k j b a less q p (sym e) (sym f));
     few_tables = few_tables;
     cursors = λ k cursor e. absurd (no_cursor k cursor e);
   }

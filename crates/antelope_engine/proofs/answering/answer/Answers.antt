@@ -1,11 +1,8 @@
-use Rattle.std.proofs.Common.{◌≡◌, ℤ, OnOk, refl, sym, subst}
+use Rattle.std.proofs.Common.{◌≡◌, ℤ, refl}
 use Rattle.db_model.specs.declared.commands.Command.{Command}
 use Rattle.db_model.specs.declared.commands.Command.TheVariants.{Ask, Aggregate, CloseCursor, CreateAttribute, CreateIndex, CreateRelation, FetchCursor, Insert, OpenCursor, Pack, RemoveFrom, RemoveIndex, RemoveRelation}
 use Rattle.db_model.specs.declared.commands.Query.{Query}
-use Rattle.db_model.specs.Ahead.{Aheads}
 use Rattle.db_model.specs.Step.{Reads}
-use Rattle.session_model.specs.Aheads.{aheads_of}
-use Rattle.session_model.specs.View.{view}
 use Rattle.antelope_engine.specs.Writes.{WritesRows}
 use Rattle.antelope_engine.proofs.answering.answer.Goals as goal
 

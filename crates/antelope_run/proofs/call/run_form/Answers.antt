@@ -1,4 +1,4 @@
-use Rattle.std.proofs.Common.{◌≡◌, refl, rules, ◌/◌, ap, sym, subst, ◌∙◌, inl, inr, Err, arith, length}
+use Rattle.std.proofs.Common.{◌≡◌, refl, rules, ◌/◌, ap, subst, ◌∙◌, inl, inr, Err, arith, length}
 use Rattle.intake.specs.declared.halt.Halt.TheVariants.{Flash, Sink}
 use Rattle.intake.specs.declared.halt.Stop.TheVariants.{Input, Halted}
 use Rattle.stored.specs.Base.{base_of}

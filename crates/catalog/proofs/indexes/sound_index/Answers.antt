@@ -3,8 +3,8 @@ use Rattle.std.specs.Prelude.{option_map}
 use Rattle.db_model.specs.Catalog.{index_slot_of}
 use Rattle.catalog.specs.CatalogFile.{index_in, indexes_in}
 use Rattle.catalog.specs.Rules.{is_behind, sound_index}
-use Rattle.padded.proofs.Facts.{both_true}
-use Rattle.catalog.proofs.Choices.{and_left, and_right, if_none, if_some}
+use Rattle.padded.proofs.Facts.{both_true, false_right}
+use Rattle.catalog.proofs.Choices.{and_left, if_none, if_some}
 use Rattle.catalog.proofs.indexes.sound_index.Goals as goal
 
 pub returns-in_err-index : goal.returns-in_err-index
@@ -16,7 +16,7 @@ pub returns-then-not-is_behind : goal.returns-then-not-is_behind
 unfolding sound_index
 returns-then-not-is_behind c =
     let judged = ap (is_behind c.args.relations.now (indexes_in c.args.before.now)) (sym c.in_ok-index.ensures.some) ∙ sym c.if-not-is_behind.ensures in
-    if_none _ (index_slot_of c.args.slot.now) (and_right _ _ judged)
+    if_none _ (index_slot_of c.args.slot.now) (false_right _ _ judged)
 
 pub returns : goal.returns
 unfolding sound_index

@@ -2,8 +2,8 @@ use Rattle.std.proofs.Common.{ap, sym, ◌∙◌}
 use Rattle.std.specs.Prelude.{not}
 use Rattle.db_model.specs.Catalog.{relation_slot_of}
 use Rattle.catalog.specs.Rules.{is_named_among, sound_relation}
-use Rattle.padded.proofs.Facts.{both_true}
-use Rattle.catalog.proofs.Choices.{and_left, and_right, if_none, if_some, none_if, some_if}
+use Rattle.padded.proofs.Facts.{both_true, false_right}
+use Rattle.catalog.proofs.Choices.{and_left, if_none, if_some, none_if, some_if}
 use Rattle.catalog.proofs.relations.sound_relation.Goals as goal
 
 pub returns-in_err-relation : goal.returns-in_err-relation
@@ -16,7 +16,7 @@ unfolding sound_relation
 returns-then-is_named_among c =
     let read = some_if _ _ _ c.in_ok-relation.ensures in
     let named = ap not (ap (λ r. is_named_among r c.args.before.now) (sym read.1) ∙ sym c.if-is_named_among.ensures) in
-    if_none _ (relation_slot_of c.args.slot.now) (and_right _ _ named)
+    if_none _ (relation_slot_of c.args.slot.now) (false_right _ _ named)
 
 pub returns : goal.returns
 unfolding sound_relation

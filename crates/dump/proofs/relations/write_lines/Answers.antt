@@ -4,8 +4,8 @@ use Rattle.dump.specs.Appends.{AppendsText}
 use Rattle.dump.specs.Parts.{row_lines, schema_lines}
 use Rattle.dump.proofs.Items.{appends_behind}
 use Rattle.dump.proofs.ScriptTexts.{lines_of}
-use Rattle.dump.proofs.Sessions.{err_is}
 use Rattle.dump.proofs.relations.write_lines.Goals as goal
+use Rattle.padded.proofs.Facts.{err_is}
 
 pub returns-in_err-write_rows-clause-wrote : goal.returns-in_err-write_rows-clause-wrote
 returns-in_err-write_rows-clause-wrote g c = λ told sound.

@@ -9,8 +9,9 @@ use Rattle.dump.specs.Appends.{AppendsText}
 use Rattle.dump.specs.Parts.{relation_lines}
 use Rattle.dump.proofs.Items.{appends_item, held_item}
 use Rattle.dump.proofs.ScriptTexts.{slots_front, slots_more}
-use Rattle.dump.proofs.Sessions.{before_on, err_is}
+use Rattle.dump.proofs.Sessions.{before_on}
 use Rattle.dump.proofs.relations.write_relations.Goals as goal
+use Rattle.padded.proofs.Facts.{err_is}
 
 pub loop-slot-preserved : goal.loop-slot-preserved
 loop-slot-preserved g c =

@@ -8,8 +8,9 @@ use Rattle.space_model.specs.Enough.{rows_in}
 use Rattle.dump.specs.Appends.{AppendsText}
 use Rattle.dump.specs.Parts.{row_lines}
 use Rattle.dump.proofs.Items.{appends_item}
-use Rattle.dump.proofs.Sessions.{err_is, few_rows, no_slot, some_slot}
+use Rattle.dump.proofs.Sessions.{few_rows, no_slot, some_slot}
 use Rattle.dump.proofs.rows.write_rows.Goals as goal
+use Rattle.padded.proofs.Facts.{err_is}
 
 pub returns-in-None-clause-wrote : goal.returns-in-None-clause-wrote
 returns-in-None-clause-wrote g c = λ told sound.

@@ -1,8 +1,8 @@
 use Rattle.std.proofs.Common.{◌<◌, ◌+◌, [], ◌∷◌, ◌++◌, length, take, drop, get_or, sym, ap, subst, ◌∙◌, arith}
 use Rattle.std.proofs.lemmas.List.{take_more, take-append-drop}
 use Rattle.intake.specs.Through.{out_of}
-use Rattle.intake.proofs.Handed.{err_is}
 use Rattle.intake.proofs.through.take_all.Goals as goal
+use Rattle.padded.proofs.Facts.{err_is}
 
 pub loop-byte-preserved : goal.loop-byte-preserved
 loop-byte-preserved g c =

@@ -1,7 +1,7 @@
 use Rattle.std.proofs.Common.{rules, [], ◌∷◌, ap, ◌∙◌, ⊎_elim}
 use Rattle.intake.proofs.Gathering.{sent_halts, silent_halts}
-use Rattle.intake.proofs.Handed.{err_is}
 use Rattle.intake.proofs.through.take_byte_since.Goals as goal
+use Rattle.padded.proofs.Facts.{err_is}
 
 pub returns-in_err-send-clause-halts : goal.returns-in_err-send-clause-halts
 returns-in_err-send-clause-halts g c =

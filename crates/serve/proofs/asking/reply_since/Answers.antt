@@ -1,6 +1,5 @@
 use Rattle.std.proofs.Common.{◌≡◌, Some, false, refl, ap, sym, subst, ◌∙◌, arith, drop, rules}
 use Rattle.std.specs.Prelude.{◌≤◌, Ok, Err}
-use Rattle.std.specs.Io.KnownBytes.{append_known}
 use Rattle.answering.specs.Carried.{LacksPages, standing_of}
 use Rattle.db_model.specs.Database.{Database}
 use Rattle.db_model.specs.ReplyText.{text}
@@ -11,7 +10,7 @@ use Rattle.session_model.specs.declared.step.Stop.TheVariants.{Flash, Sink}
 use Rattle.session_model.specs.Carried.{ChangesAndSends}
 use Rattle.session_model.specs.Wanted.{WantsOver}
 use Rattle.space_model.specs.Enough.{most}
-use Rattle.serve.specs.Front.{front_held, fronted}
+use Rattle.serve.specs.Front.{fronted}
 use Rattle.serve.proofs.Replied.{finds_none, says_less, says_part}
 use Rattle.serve.proofs.Holding.{fine_by, rose_behind, same_faults}
 use Rattle.serve.proofs.Unsent.{frame_less, frame_part, frame_unended}

@@ -4,7 +4,6 @@ use Rattle.db_model.specs.Row.{Row}
 use Rattle.index_set.specs.Walks.{ahead, walk_of}
 use Rattle.cursor.specs.declared.select.SelectCursor.{SelectCursor}
 use Rattle.cursor.specs.Remaining.{remaining, slots_to_answer}
-use Rattle.tuple_file.specs.declared.tuples.Tuples.{Tuples}
 use Rattle.tuple_file.specs.Tuples.{rows}
 use Rattle.session_model.specs.View.{project}
 use Rattle.session_cursors.proofs.SelectSteps.{ahead_then, at_root, ended_rows, left_rows, read_failed, read_few, rested_at, rested_on}

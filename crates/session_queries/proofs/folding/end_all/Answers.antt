@@ -3,8 +3,9 @@ use Rattle.std.specs.Prelude.{IsFalse}
 use Rattle.std.proofs.Math.Logic.{⊎_elim}
 use Rattle.session_queries.specs.declared.tally.Tally.{Tally}
 use Rattle.session_queries.specs.Folded.{EndsPass, tally_at}
-use Rattle.session_queries.proofs.FoldSteps.{either_false, either_true, median_of, set_before, set_behind, tally_read}
+use Rattle.session_queries.proofs.FoldSteps.{either_true, median_of, set_before, set_behind, tally_read}
 use Rattle.session_queries.proofs.folding.end_all.Goals as goal
+use Rattle.padded.proofs.Facts.{neither}
 
 pub loop-i-preserved : goal.loop-i-preserved
 loop-i-preserved c =
@@ -19,7 +20,7 @@ loop-i-preserved c =
       behind = set_behind c.args.tallies.now c.loop-i.tallies i new inv.behind;
       ends = set_before (λ j tally. EndsPass (tally_at c.args.tallies.now j) tally) c.loop-i.tallies i new inside inv.ends ended;
       closed = λ none.
-          let neither = either_false c.loop-i.is_open new.is_open (sym c.either-is_open.ensures ∙ none) in
+          let neither = neither c.loop-i.is_open new.is_open (sym c.either-is_open.ensures ∙ none) in
           set_before (λ j tally. IsFalse tally.is_open) c.loop-i.tallies i new inside (inv.closed neither.0) neither.1;
       median = λ aggs some.
           ⊎_elim (λ before. inv.median aggs before)

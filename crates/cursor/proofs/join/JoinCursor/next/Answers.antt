@@ -1,7 +1,7 @@
 use Rattle.std.proofs.Common.{rules, ◌≡◌, ◌+◌, ◌≤◌, ◌∙◌, None, ap, arith}
 use Rattle.tuple_file.specs.Tuples.{rows}
 use Rattle.cursor.specs.declared.join.JoinCursor.{JoinCursor}
-use Rattle.cursor.specs.Pairs.{FailsPair, FitsPairs, behind_pair, join_cost_behind}
+use Rattle.cursor.specs.Pairs.{FailsPair, FitsPairs, behind_pair}
 use Rattle.cursor.proofs.Joins.{all_passed, has_answered, joining_cost, joining_fault, joining_more, joining_pair, next_may}
 use Rattle.cursor.proofs.join.JoinCursor.next.Goals as goal
 
