@@ -33,9 +33,9 @@ module _ {E : Type 0} (talk : Talk E) (db : Database) where
       let front : List E = xs ++ a.entry ∷ [] in
       let more : List ℕ = talk_output talk (last_database talk db front) r.mid in
       a.short (more ++ b.behind) (
-        sym (append_assoc (talk_output talk db front) more b.behind)
-        ∙ ap (λ bytes. bytes ++ b.behind) (sym (output-append talk db front r.mid) ∙ ap (λ es. talk_output talk db es) (sym r.is))
-        ∙ sym b.begun)
+      sym (append_assoc (talk_output talk db front) more b.behind)
+      ∙ ap (λ bytes. bytes ++ b.behind) (sym (output-append talk db front r.mid) ∙ ap (λ es. talk_output talk db es) (sym r.is))
+      ∙ sym b.begun)
 
   one_front : (entries xs ys : List E) (written : List ℕ) → Halts entries xs written → Halts entries ys written → xs ≡ ys
   one_front entries xs ys written a b =

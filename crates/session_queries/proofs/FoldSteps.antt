@@ -20,7 +20,6 @@ or_left : (a b : Bool) → IsTrue a → IsTrue (a || b)
 or_left true b h = refl
 or_left false b h = absurd (cc)
 
-
 pub either_true : (a b : Bool) → (a || b) ≡ true → IsTrue a ⊎ IsTrue b
 either_true true b e = inl refl
 either_true false b e = inr e
