@@ -1,7 +1,7 @@
 //! Commands of worked examples; the places of refusals are counted by hand.
 
 use aql_parse::{Parser, parse};
-use db_model::{Command, Ident, Pool, Query, Refusal};
+use db_model::{Command, Ident, Node, Pool, Query, Refusal};
 
 const LONG: &[u8; 58] = b"SELECT k FROM s WHERE k = 1 AND NOT ( t < 'a' ) OR k <> -2";
 
@@ -119,6 +119,24 @@ fn accepted_nodes(bytes: &[u8]) -> Option<usize> {
         Ok(()) => nodes_of(&command),
         Err(_) => None,
     }
+}
+
+// Whether a SELECT is accepted whose condition has OR as its last operator.
+fn ends_with_or(bytes: &[u8]) -> bool {
+    let (command, answer) = read(bytes);
+    match &command {
+        Command::Ask(Query::Select { condition, .. }) => {
+            answer.is_ok() && matches!(condition.as_slice(), [.., Node::Or])
+        }
+        _ => false,
+    }
+}
+
+#[test]
+fn and_binds_tighter_than_or(rt: HostRuntime) {
+    assert!(rt; ends_with_or(b"SELECT k FROM s WHERE a = 1 OR b = 2 AND c = 3"));
+    assert!(rt; ends_with_or(b"SELECT k FROM s WHERE a = 1 AND b = 2 OR c = 3"));
+    assert!(rt; !ends_with_or(b"SELECT k FROM s WHERE ( a = 1 OR b = 2 ) AND c = 3"));
 }
 
 #[test]
