@@ -1,6 +1,6 @@
 //! What is asked of a relation, as ranges of its attributes and as a condition.
 
-ghost use Rattle.std.specs.Prelude.{◌≡◌, ◌+◌, ◌++◌, ◌∷◌, [], ◌≤◌, IfSome, OnSome, length};
+ghost use Rattle.std.specs.Prelude.{◌≡◌, ◌+◌, ◌++◌, ◌∷◌, [], ◌≤◌, OnSome, length};
 ghost use Rattle.db_model.specs.Cond.{IsCondition};
 ghost use Rattle.db_model.specs.declared.commands.Node.TheVariants as Nodes;
 
@@ -65,12 +65,12 @@ impl Asked {
     }
 
     /// The condition.
-    pub fn condition(&self) -> Option<Condition>
-        ensures { IfSome result (λ nodes. IsCondition nodes) }
+    pub fn condition(&self) -> Condition
+        ensures { IsCondition result }
     {
         match *self {
             Asked::Nothing => both((b"l", Compare::Eq, 3), (b"l", Compare::Lt, 3)),
-            Asked::Everything => Some(Condition::new()),
+            Asked::Everything => Condition::new(),
             Asked::MiddleK => both((b"k", Compare::Ge, 2), (b"k", Compare::Le, 9)),
             Asked::ThreeL => one((b"l", Compare::Eq, 3)),
             Asked::LeastR => one((b"r", Compare::Eq, -3)),
@@ -79,31 +79,35 @@ impl Asked {
     }
 }
 
+fn attribute(name: &[u8]) -> Ident {
+    Ident::new(name).unwrap_or_default()
+}
+
 // The comparison of an attribute with a number.
-fn one(compared: (&[u8], Compare, i64)) -> Option<Condition>
-    ensures { IfSome result (λ nodes. IsCondition nodes) }
+fn one(compared: (&[u8], Compare, i64)) -> Condition
+    ensures { IsCondition result }
 {
     let (name, sign, number) = compared;
     let mut nodes = Condition::new();
-    nodes.push(Node::Attribute(Ident::new(name)?));
+    nodes.push(Node::Attribute(attribute(name)));
     nodes.push(Node::Number(number));
     nodes.push(Node::Compare(sign));
-    Some(nodes)
+    nodes
 }
 
 // Two comparisons, joined by AND.
-fn both(first: (&[u8], Compare, i64), second: (&[u8], Compare, i64)) -> Option<Condition>
-    ensures { IfSome result (λ nodes. IsCondition nodes) }
+fn both(first: (&[u8], Compare, i64), second: (&[u8], Compare, i64)) -> Condition
+    ensures { IsCondition result }
 {
     let mut nodes = Condition::new();
     let (name, sign, number) = first;
-    nodes.push(Node::Attribute(Ident::new(name)?));
+    nodes.push(Node::Attribute(attribute(name)));
     nodes.push(Node::Number(number));
     nodes.push(Node::Compare(sign));
     let (name, sign, number) = second;
-    nodes.push(Node::Attribute(Ident::new(name)?));
+    nodes.push(Node::Attribute(attribute(name)));
     nodes.push(Node::Number(number));
     nodes.push(Node::Compare(sign));
     nodes.push(Node::And);
-    Some(nodes)
+    nodes
 }

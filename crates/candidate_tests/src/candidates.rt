@@ -38,19 +38,28 @@ fn count_answers<V: Files>(
         return Err(Fail::new("another plan is chosen"));
     }
     let mut from = 0;
+    let mut answers = 0;
+    let mut ended = false;
     for turn in 0..600u16 {
         let found = number_of(&candidates.next(files, tables)?);
         if found != known.next(asked, from, slots) {
             return Err(Fail::new("another slot is answered"));
         }
+        // Behind the last slot none is answered once more.
+        if ended {
+            return Ok(answers);
+        }
         change_all(files, tables, relation, known, counts)?;
-        let Some(slot) = found else {
-            if candidates.next(files, tables)?.is_some() {
-                return Err(Fail::new("a slot is answered behind the last"));
+        match found {
+            Some(slot) => {
+                from = slot.saturating_add(1);
+                answers = turn.saturating_add(1);
             }
-            return Ok(turn);
-        };
-        from = slot.saturating_add(1);
+            None => {
+                from = slots;
+                ended = true;
+            }
+        }
         if rests && turn % 3 == 1 {
             candidates.rest();
         }
@@ -109,21 +118,38 @@ fn ask_all<V: Files>(files: &mut V, known: &mut Known, counts: &Counts) -> Resul
     })
 }
 
+// Whether the files had the bytes of 24 rows and of their tree, and those of the rows and of the tree
+// outgrow their first 16 pages.
+fn has_grown(seen: &Seen, known: &Known) -> bool {
+    let rows = u32::from(known.count());
+    if rows > 600 || seen.before != (480, 878) || seen.behind.0 != 20 * rows {
+        return false;
+    }
+    4_064 < seen.behind.0 && 4_064 < seen.behind.1
+}
+
+// Whether a sector was erased for each row but the first 24.
+fn has_erased(counts: &Counts, known: &Known) -> bool {
+    u32::from(known.count()) <= counts.erased.get().saturating_add(24)
+}
+
+// Asks all questions over the files of an image.
+fn ask_in(image: &mut [u8], known: &mut Known, counts: &Counts) -> Result<Seen, Fail> {
+    let flash = MemFlash::new(image).ok_or("no flash")?;
+    let mut volume = mounted(CountingFlash::new(flash, counts))?;
+    ask_all(&mut volume, known, counts)
+}
+
 #[test]
 fn slots_are_answered_while_all_is_changed_between_them(rt: HostRuntime) -> Result<(), Fail> {
     let counts = Counts::new();
     let mut image = vec![in rt.alloc(); 0u8; 98_304]?;
-    let flash = MemFlash::new(&mut image).ok_or("no flash")?;
-    let mut volume = mounted(CountingFlash::new(flash, &counts))?;
     let mut known = Known::new();
-    let seen = ask_all(&mut volume, &mut known, &counts)?;
+    let seen = ask_in(&mut image, &mut known, &counts)?;
     // None; all rows that there are; and of each k four.
     assert_eq!(rt; seen.answers, [0, 0, 26, 53, 32, 32, 35, 48, 52, 63]);
-    // The files of the rows and of the tree outgrow their first 16 pages.
-    let rows = u32::from(known.count());
-    assert_eq!(rt; (seen.before, seen.behind.0), ((480, 878), 20 * rows));
-    assert!(rt; 4_064 < seen.behind.0 && 4_064 < seen.behind.1);
+    assert!(rt; has_grown(&seen, &known));
     // A row was added and a sector erased behind each answer.
-    assert!(rt; rows <= counts.erased.get().saturating_add(24));
+    assert!(rt; has_erased(&counts, &known));
     Ok(())
 }

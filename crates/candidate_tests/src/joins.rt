@@ -86,17 +86,22 @@ fn join_on<V: Files>(
     count_pairs(files, &mut tables, &relation, known, counts, on, rests)
 }
 
+// Joins a relation in an image on each key in turn, and at every second turn the cursor rests between
+// some pairs.
+fn join_in(image: &mut [u8], counts: &Counts, turn: u8) -> Result<u16, Fail> {
+    let flash = MemFlash::new(image).ok_or("no flash")?;
+    let mut volume = mounted(CountingFlash::new(flash, counts))?;
+    let mut known = Known::new();
+    join_on(&mut volume, &mut known, counts, turn / 2, turn % 2 == 1)
+}
+
 #[test]
 fn pairs_are_joined_while_rows_come_on_both_sides(rt: HostRuntime) -> Result<(), Fail> {
     let counts = Counts::new();
     let mut answers = [0; 6];
     for turn in 0..6u8 {
         let mut image = vec![in rt.alloc(); 0u8; 98_304]?;
-        let flash = MemFlash::new(&mut image).ok_or("no flash")?;
-        let mut volume = mounted(CountingFlash::new(flash, &counts))?;
-        let mut known = Known::new();
-        let rests = turn % 2 == 1;
-        answers[usize::from(turn)] = join_on(&mut volume, &mut known, &counts, turn / 2, rests)?;
+        answers[usize::from(turn)] = join_in(&mut image, &counts, turn)?;
     }
     // Of k there are four rows of each of six numbers.
     assert_eq!(rt; answers, [96, 96, 58, 58, 118, 118]);

@@ -73,6 +73,24 @@ impl Known {
         }
     }
 
+    /// Whether the next slot that is asked for was answered with its tuple, or that there is none.
+    pub fn is_next(
+        &self,
+        asked: Asked,
+        from: u16,
+        end: u16,
+        found: Option<u16>,
+        tuple: &Tuple,
+    ) -> bool {
+        if found != self.next(asked, from, end) {
+            return false;
+        }
+        match found {
+            Some(slot) => self.has(slot, tuple),
+            None => true,
+        }
+    }
+
     /// The next slot that is asked for, from one on and below another.
     pub fn next(&self, asked: Asked, from: u16, end: u16) -> Option<u16>
         ensures { IfSome result (λ slot. slot < 600) }

@@ -23,13 +23,20 @@ fn next_seed(seed: u32) -> u32 {
     seed.wrapping_mul(1664525).wrapping_add(1013904223)
 }
 
-// Writes a list of seeded keys.
-fn fill(keys: &mut [i32]) {
+// A list of seeded keys.
+fn seeded() -> [i32; 10_000] {
+    let mut keys = [0; 10_000];
     let mut seed = 1u32;
-    for key in keys.iter_mut() {
+    for at in 0..10_000usize {
         seed = next_seed(seed);
-        *key = key_for(seed);
+        keys[at] = key_for(seed);
     }
+    keys
+}
+
+// Whether a slot is the last of so many.
+fn is_last_of(slot: u16, every: u16) -> bool {
+    every != 0 && slot % every == every - 1
 }
 
 // Whether searches for some keys agree with the first of a list.
@@ -51,30 +58,27 @@ fn agrees<V: Files>(
     Ok(true)
 }
 
-// Inserts the seeded keys of a list. It answers whether the searches between, for the last key and
+// Inserts the first seeded keys. It answers whether the searches between, for the last key and
 // another after each so many inserts, agree with the list.
 fn grows<V: Files>(
     files: &mut V,
     index: FileId,
-    keys: &[i32],
+    keys: &[i32; 10_000],
+    slots: u16,
     every: u16,
 ) -> Result<bool, FileError>
     requires idle { (V.state files.old).draft ≡ None }
     ensures idle { OnOk result ((V.state files.new).draft ≡ None) }
 {
-    if every == 0 || keys.len() > 32_768 {
-        return Err(FileError::Failed);
-    }
     let mut seed = 1u32;
-    for slot in 0..keys.len() as u16 {
+    for slot in 0..slots {
         seed = next_seed(seed);
         let key = key_for(seed);
         put_key(files, index, &key, slot)?;
-        if slot % every == every - 1 {
-            let sought = [key, key_for(seed / 8)];
-            if !agrees(files, index, keys, slot + 1, &sought)? {
-                return Ok(false);
-            }
+        if is_last_of(slot, every)
+            && !agrees(files, index, keys, slot + 1, &[key, key_for(seed / 8)])?
+        {
+            return Ok(false);
         }
     }
     Ok(true)
@@ -82,38 +86,40 @@ fn grows<V: Files>(
 
 // Whether a tree that so many inserts grew agrees with a list of their keys, in searches between and,
 // at the end, for the six keys and one that is absent.
-fn grows_to<V: Files>(
-    files: &mut V,
-    keys: &mut [i32],
-    slots: u16,
-    every: u16,
-) -> Result<bool, FileError>
+fn grows_to<V: Files>(files: &mut V, slots: u16, every: u16) -> Result<bool, FileError>
     requires idle { (V.state files.old).draft ≡ None }
 {
-    fill(keys);
+    let keys = seeded();
     let rows = new_file(files, b"T0", Kind::Doubling)?;
     let index = built_tree(files, b"X0", rows, 0)?;
-    if size_of(files, index) != 683 || keys.len() != usize::from(slots) {
+    if size_of(files, index) != 683 || !grows(files, index, &keys, slots, every)? {
         return Ok(false);
     }
-    if !grows(files, index, keys, every)? {
-        return Ok(false);
-    }
-    agrees(files, index, keys, slots, &[7, 71, 135, 199, -1, 65543, 8])
+    agrees(files, index, &keys, slots, &[7, 71, 135, 199, -1, 65543, 8])
+}
+
+fn grows_to_1600<V: Files>(files: &mut V) -> Result<bool, FileError>
+    requires idle { (V.state files.old).draft ≡ None }
+{
+    grows_to(files, 1_600, 50)
+}
+
+fn grows_to_10_000<V: Files>(files: &mut V) -> Result<bool, FileError>
+    requires idle { (V.state files.old).draft ≡ None }
+{
+    grows_to(files, 10_000, 500)
 }
 
 #[test]
 fn inserts_and_queries_agree_with_a_list(rt: HostRuntime) {
     let mut files: PlainFiles<16352> = PlainFiles::new();
-    let mut keys = [0i32; 1600];
-    assert!(rt; grows_to(&mut files, &mut keys, 1600, 50) == Ok(true));
+    assert!(rt; grows_to_1600(&mut files) == Ok(true));
 }
 
 #[test]
 fn ten_thousand_inserts_agree_with_a_list(rt: HostRuntime) -> Result<(), Fail> {
     let mut image = vec![in rt.alloc(); 0u8; 1_048_576]?;
-    let mut keys = vec![in rt.alloc(); 0i32; 10_000]?;
     let mut volume = mounted(MemFlash::new(&mut image).ok_or("no flash")?)?;
-    assert!(rt; grows_to(&mut volume, &mut keys, 10_000, 500) == Ok(true));
+    assert!(rt; grows_to_10_000(&mut volume) == Ok(true));
     Ok(())
 }

@@ -94,15 +94,19 @@ fn a_table_of_one_key_is_full_at_2048_and_empty_when_cleared(rt: HostRuntime) {
     assert!(rt; slot_from(&table, 0, 7).is_none());
 }
 
+fn put_three(table: &mut HashTable) {
+    put(table, i32::MIN);
+    put(table, -1);
+    put(table, i32::MAX);
+}
+
 #[test]
 fn places_stay_good_when_keys_come_behind(rt: HostRuntime) {
     let mut table = HashTable::new();
     put(&mut table, -1);
     assert!(rt; slot_from(&table, 0, -1) == Some(0));
     assert!(rt; slot_from(&table, 1, -1).is_none());
-    put(&mut table, i32::MIN);
-    put(&mut table, -1);
-    put(&mut table, i32::MAX);
+    put_three(&mut table);
     assert!(rt; slot_from(&table, 1, -1) == Some(2));
     assert!(rt; slot_from(&table, 0, i32::MIN) == Some(1));
     assert!(rt; slot_from(&table, 0, i32::MAX) == Some(3));

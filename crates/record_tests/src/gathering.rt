@@ -13,29 +13,16 @@ fn numbered() -> [u8; 1200] {
     text
 }
 
-// Writes the text in pieces of 7 bytes, and hands on what waits.
+// Writes the text in pieces of 3 bytes, and hands on twice what waits.
 fn write_text<K: Sink>(out: &mut K, waiting: &mut Waiting, text: &[u8]) -> Result<(), Failed> {
     let mut gathered = Buffered {
         out,
         waiting,
         since: PhantomData::<Brand>,
     };
-    for piece in text.chunks(7) {
+    for piece in text.chunks(3) {
         write_all(&mut gathered, piece)?;
     }
-    gathered.flush()
-}
-
-// Writes a short line in three pieces, and hands on twice what waits.
-fn write_line<K: Sink>(out: &mut K, waiting: &mut Waiting) -> Result<(), Failed> {
-    let mut gathered = Buffered {
-        out,
-        waiting,
-        since: PhantomData::<Brand>,
-    };
-    write_all(&mut gathered, b"rows")?;
-    write_all(&mut gathered, b" 12")?;
-    write_all(&mut gathered, b"\n")?;
     gathered.flush()?;
     gathered.flush()
 }
@@ -57,7 +44,7 @@ fn fails_once<K: Sink>(out: &mut K, waiting: &mut Waiting) -> bool {
 fn a_short_text_goes_out_in_one_call(rt: HostRuntime) {
     let mut room = [0u8; 8];
     let mut sink = MemSink::new(&mut room, Some(2));
-    assert!(rt; write_line(&mut sink, &mut Waiting::new()).is_ok());
+    assert!(rt; write_text(&mut sink, &mut Waiting::new(), b"rows 12\n").is_ok());
     assert!(rt; sink.written() == b"rows 12\n".as_slice());
 }
 

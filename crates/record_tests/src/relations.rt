@@ -1,4 +1,4 @@
-ghost use Rattle.std.specs.Prelude.{◌≡◌, ℕ, ℤ, List, [], ◌∷◌, IfOk, IfSome, IsTrue, OnOk, None};
+ghost use Rattle.std.specs.Prelude.{◌≡◌, ℕ, ℤ, List, [], ◌∷◌, IfOk, IsTrue, OnOk, None};
 ghost use Rattle.db_model.specs.Row.{AllSuit, suits};
 ghost use Rattle.tuple_file.specs.Tuples.{HoldsRows};
 
@@ -23,8 +23,8 @@ fn holds<V: Files>(tuples: &Tuples, files: &mut V) -> Result<bool, FileError>
     Ok(tuples.valid(files, 2)?)
 }
 
-// Prepares and appends a row.
-fn insert<V: Files>(tuples: &Tuples, files: &mut V, tuple: &Tuple) -> Result<(), FileError>
+// Prepares and appends a row that suits the attributes.
+fn insert_suiting<V: Files>(tuples: &Tuples, files: &mut V, tuple: &Tuple) -> Result<(), FileError>
     requires idle { (V.state files.old).draft ≡ None }
     requires suits { AllSuit tuples.now.schema.attributes tuple.now }
     ensures idle { OnOk result ((V.state files.new).draft ≡ None) }
@@ -61,6 +61,26 @@ fn count<V: Files>(tuples: &Tuples, files: &mut V) -> Result<u16, FileError>
     Ok(tuples.count(files))
 }
 
+// Reads the row of a slot. It answers whether there is one, which is live.
+fn has_row<V: Files>(
+    tuples: &Tuples,
+    files: &mut V,
+    slot: SlotNo,
+    tuple: &mut Tuple,
+) -> Result<bool, FileError>
+    requires idle { (V.state files.old).draft ≡ None }
+    ensures idle { OnOk result ((V.state files.new).draft ≡ None) }
+{
+    if !holds(tuples, files)? || slot.number() >= tuples.count(files) {
+        return Ok(false);
+    }
+    Ok(tuples.row(files, slot, tuple)?)
+}
+
+fn begins_with(tuple: &Tuple, key: i64) -> bool {
+    !tuple.is_empty() && *tuple.get(0) == Value::Number(key)
+}
+
 // Whether a slot has a live row that begins with this number.
 fn has_key<V: Files>(
     tuples: &Tuples,
@@ -74,12 +94,8 @@ fn has_key<V: Files>(
     let Some(slot) = SlotNo::new(number) else {
         return Ok(false);
     };
-    if !holds(tuples, files)? || number >= tuples.count(files) {
-        return Ok(false);
-    }
     let mut tuple = Tuple::new();
-    let live = tuples.row(files, slot, &mut tuple)?;
-    Ok(live && !tuple.is_empty() && *tuple.get(0) == Value::Number(key))
+    Ok(has_row(tuples, files, slot, &mut tuple)? && begins_with(&tuple, key))
 }
 
 // Takes all rows that have this number away.
@@ -108,26 +124,29 @@ fn pack<V: Files>(tuples: &Tuples, files: &mut V) -> Result<(), FileError>
     tuples.pack(files)
 }
 
+fn attribute(name: &[u8], domain: Domain) -> Attribute
+    ensures { result.domain ≡ domain }
+{
+    Attribute {
+        name: Ident::new(name).unwrap_or_default(),
+        domain,
+    }
+}
+
 // The rows of a relation with the attributes k LONG and t STRING(3).
-fn keys_and_texts(file: FileId) -> Option<Tuples>
-    ensures suits { IfSome result (λ tuples. (k : ℤ) (t : List ℕ) → IsTrue (suits Domain.Long (Value.Number k))
+fn keys_and_texts(file: FileId) -> Tuples
+    ensures suits { (k : ℤ) (t : List ℕ) → IsTrue (suits Domain.Long (Value.Number k))
         → IsTrue (suits (Domain.Str 3) (Value.Text t))
-        → AllSuit tuples.schema.attributes (Value.Number k ∷ Value.Text t ∷ [])) }
+        → AllSuit result.schema.attributes (Value.Number k ∷ Value.Text t ∷ []) }
 {
     let mut attributes = Attributes::new();
-    attributes.push(Attribute {
-        name: Ident::new(b"k")?,
-        domain: Domain::Long,
-    });
-    attributes.push(Attribute {
-        name: Ident::new(b"t")?,
-        domain: Domain::Str(3),
-    });
-    let name = Ident::new(b"s")?;
-    Some(Tuples {
+    attributes.push(attribute(b"k", Domain::Long));
+    attributes.push(attribute(b"t", Domain::Str(3)));
+    let name = Ident::default();
+    Tuples {
         file,
         schema: Schema { name, attributes },
-    })
+    }
 }
 
 // The tuple of a key and a text.
@@ -143,16 +162,24 @@ fn key_and_text(k: i64, t: Text) -> Tuple
 // Rows of a new file.
 fn new_tuples<V: Files>(files: &mut V) -> Result<Tuples, FileError>
     requires idle { (V.state files.old).draft ≡ None }
-    ensures suits { IfOk result (λ tuples. (k : ℤ) (t : List ℕ) → IsTrue (suits Domain.Long (Value.Number k))
-        → IsTrue (suits (Domain.Str 3) (Value.Text t))
-        → AllSuit tuples.schema.attributes (Value.Number k ∷ Value.Text t ∷ [])) }
     ensures idle { OnOk result ((V.state files.new).draft ≡ None) }
 {
     let file = new_file(files, b"T0", Kind::Doubling)?;
-    match keys_and_texts(file) {
-        Some(tuples) => Ok(tuples),
-        None => Err(FileError::Failed),
+    Ok(keys_and_texts(file))
+}
+
+// Adds a row of a key and a text of at most 3 bytes.
+fn insert<V: Files>(files: &mut V, file: FileId, k: i32, text: &[u8]) -> Result<(), FileError>
+    requires idle { (V.state files.old).draft ≡ None }
+    ensures idle { OnOk result ((V.state files.new).draft ≡ None) }
+{
+    let Some(t) = Text::new(text) else {
+        return Err(FileError::Failed);
+    };
+    if text.len() > 3 {
+        return Err(FileError::Failed);
     }
+    insert_suiting(&keys_and_texts(file), files, &key_and_text(i64::from(k), t))
 }
 
 // Whether two rows are counted, have their bytes and are read back.
@@ -160,11 +187,8 @@ fn writes_two<V: Files>(files: &mut V) -> Result<bool, FileError>
     requires idle { (V.state files.old).draft ≡ None }
 {
     let tuples = new_tuples(files)?;
-    let Some(text) = Text::new(b"abc") else {
-        return Ok(false);
-    };
-    insert(&tuples, files, &key_and_text(5, text))?;
-    insert(&tuples, files, &key_and_text(-1, Text::default()))?;
+    insert(files, tuples.file, 5, b"abc")?;
+    insert(files, tuples.file, -1, b"")?;
     if count(&tuples, files)? != 2 || !has_key(&tuples, files, 1, -1)? {
         return Ok(false);
     }
@@ -185,9 +209,9 @@ fn three_rows<V: Files>(files: &mut V) -> Result<Tuples, FileError>
     ensures idle { OnOk result ((V.state files.new).draft ≡ None) }
 {
     let tuples = new_tuples(files)?;
-    insert(&tuples, files, &key_and_text(5, Text::default()))?;
-    insert(&tuples, files, &key_and_text(6, Text::default()))?;
-    insert(&tuples, files, &key_and_text(7, Text::default()))?;
+    insert(files, tuples.file, 5, b"")?;
+    insert(files, tuples.file, 6, b"")?;
+    insert(files, tuples.file, 7, b"")?;
     Ok(tuples)
 }
 

@@ -55,9 +55,10 @@ fn replies_follow_one_another(rt: HostRuntime) {
     );
 }
 
-// Whether a byte is written, and the line behind it fails.
-fn fails_in_the_line<K: Sink>(out: &mut K) -> bool {
-    write_all(out, b"x").is_ok() && write_numbers(out, &[Some(12), Some(3)]).is_err()
+// Writes a byte, and a line behind it.
+fn write_byte_and_line<K: Sink>(out: &mut K) -> Result<(), Failed> {
+    write_all(out, b"x")?;
+    write_numbers(out, &[Some(12), Some(3)])
 }
 
 fn fails_in_the_count<K: Sink>(out: &mut K) -> bool {
@@ -68,7 +69,7 @@ fn fails_in_the_count<K: Sink>(out: &mut K) -> bool {
 fn a_sink_that_fails_in_mid_stream_has_a_part_of_the_line(rt: HostRuntime) {
     let mut room = [0u8; 64];
     let mut out = MemSink::new(&mut room, Some(3));
-    assert!(rt; fails_in_the_line(&mut out));
+    assert!(rt; write_byte_and_line(&mut out).is_err());
     assert!(rt; out.written() == b"x12".as_slice());
     let mut short = [0u8; 5];
     let mut out = MemSink::new(&mut short, None);
