@@ -87,7 +87,8 @@ fn load<F: Backing>(
     ensures cache { IsCache F.tells (F.image inner.new) memory.new known.new }
     ensures known { OnOk result (IsKnown known.new sector) }
     ensures once { IsKnown known.old sector → IsOk result × (inner.new ≡ inner.old) }
-    ensures unknown { get_or known.old sector false ≡ false → CountsOne (F.reads inner.old) (F.reads inner.new) }
+    ensures unknown { get_or known.old sector false ≡ false
+        → CountsOne (F.reads inner.old) (F.reads inner.new) }
     ensures others { (s : ℕ) → IsKnown known.old s → IsKnown known.new s }
     ensures faultless { OnOk result (F.faults inner.new ≡ F.faults inner.old) }
     ensures frame { OnlyReads F.image F.lent F.reads F.faults inner.old inner.new result }
@@ -219,10 +220,12 @@ impl<F: Backing + Drop> Flash for CachedFlash<'_, F> {
         ensures faultless { OnOk result (F.faults self.new.inner ≡ F.faults self.old.inner) }
         ensures frame { let flash = ⟦<Self as Flash>⟧ in
             OnlyReads flash.image flash.lent flash.reads flash.faults self.old self.new result }
-        ensures once { IsKnown self.old.known (page.0 / 16) → IsOk result × (self.new.inner ≡ self.old.inner) }
+        ensures once { IsKnown self.old.known (page.0 / 16)
+            → IsOk result × (self.new.inner ≡ self.old.inner) }
         ensures unknown { get_or self.old.known (page.0 / 16) false ≡ false
             → CountsOne (F.reads self.old.inner) (F.reads self.new.inner) }
-        ensures known { page.0 / 16 < length self.old.known → OnOk result (IsKnown self.new.known (page.0 / 16)) }
+        ensures known { page.0 / 16 < length self.old.known
+            → OnOk result (IsKnown self.new.known (page.0 / 16)) }
         ensures kept { (s : ℕ) → IsKnown self.old.known s → IsKnown self.new.known s }
     {
         self.reads = self.reads.saturating_add(1);

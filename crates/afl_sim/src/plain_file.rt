@@ -47,7 +47,8 @@ impl<const CAP: usize> PlainFile<CAP> {
     pub fn new(name: Name, kind: Kind, size: usize) -> PlainFile<CAP>
         requires size { size ≤ CAP }
         requires kind { IsKind kind }
-        ensures { result ≡ record { name = name; kind = kind; bytes = replicate size 0; records = 0; room = 0 } }
+        ensures { result
+            ≡ record { name = name; kind = kind; bytes = replicate size 0; records = 0; room = 0 } }
     {
         PlainFile {
             name,
@@ -94,7 +95,8 @@ impl<const CAP: usize> PlainFile<CAP> {
     pub fn overwrite(&mut self, at: usize, bytes: &[u8], records: u16)
         requires range { at + length bytes.now ≤ length self.old.bytes }
         requires records { records ≤ self.old.records }
-        ensures { self.new ≡ record self.old { bytes = put_at self.old.bytes at bytes.now; records = self.old.records - records } }
+        ensures { let over = put_at self.old.bytes at bytes.now in
+            self.new ≡ record self.old { bytes = over; records = self.old.records - records } }
     {
         let all = &mut self.bytes[..];
         put_bytes(all, at, bytes);

@@ -178,7 +178,8 @@ impl<const CAP: usize> Files for PlainFiles<CAP> {
         ensures need_fixed { OnSpace result (λ need. (n : ℕ) → (file_at self.old.files id).kind ≡ Kind.Fixed n
             → need ≤ 16) }
         ensures asked { OnSpace result (λ need. need ≡ asked_pages self.new.files id bytes) }
-        ensures unasked { ((n : ℕ) → n ≡ asked_pages self.old.files id bytes → ⊥) → OnSpace result (λ need. ⊥) }
+        ensures unasked { ((n : ℕ) → n ≡ asked_pages self.old.files id bytes → ⊥)
+            → OnSpace result (λ need. ⊥) }
         ensures kept { OnSpace result (λ need. self.new ≡ self.old) }
         ensures frame { let files = ⟦<Self as Files>⟧ in
             ChangesOrLacks files.state files.lent files.reads files.faults files.lacks self.old self.new result }

@@ -10,7 +10,8 @@ ghost use Rattle.coffee_layout.specs.declared.unit.Unit.{Unit};
 pub fn one_tiling()
     ensures one { (building other : ℕ → Bool) (image : List ℕ) (us vs : List Unit)
         → IsTiled building image us → IsTiled other image vs → us ≡ vs }
-    ensures covered { (image : List ℕ) (us vs : List Unit) → IsCovered image us → IsCovered image vs → us ≡ vs }
+    ensures covered { (image : List ℕ) (us vs : List Unit)
+        → IsCovered image us → IsCovered image vs → us ≡ vs }
     ensures covers { (building : ℕ → Bool) (image : List ℕ) (us : List Unit)
         → IsTiled building image us → IsCovered image us }
     ensures units { (building : ℕ → Bool) (image : List ℕ) (us : List Unit)

@@ -35,7 +35,8 @@ pub fn held_image()
         → ((i : ℕ) (e : FileAt) → IsIn table i e → has_few e ≡ true) → broken_image image ≡ None }
     ensures rule { (image : List ℕ) (table : Entries) → HoldsTable image table None → length table ≤ 32
         → IfSome (broken_image image) (λ bad. bad.rule ≡ 13) }
-    ensures place { (image : List ℕ) (table : Entries) (page : ℕ) → HoldsTable image table None → length table ≤ 32
+    ensures place { (image : List ℕ) (table : Entries) (page : ℕ)
+        → HoldsTable image table None → length table ≤ 32
         → ((i : ℕ) (e : FileAt) → IsIn table i e → e.page.0 ≢ page → has_few e ≡ true)
         → IfSome (broken_image image) (λ bad. bad ≡ record { rule = 13; place = page }) }
 {}
@@ -58,8 +59,8 @@ pub fn held_files()
 pub fn kept_files()
     ensures stays { (old new : List ℕ) (table : Entries) → HoldsTable old table None → Stays old new table
         → SameFiles old new }
-    ensures moves { (old new : List ℕ) (table : Entries) (i : ℕ) (from to : FileAt) → HoldsTable old table None
-        → IsIn table i from → Moves old new table i from to
+    ensures moves { (old new : List ℕ) (table : Entries) (i : ℕ) (from to : FileAt)
+        → HoldsTable old table None → IsIn table i from → Moves old new table i from to
         → to.name ≡ from.name → to.kind ≡ from.kind → to.size ≡ from.size → SameFiles old new }
 {}
 

@@ -1,4 +1,5 @@
 pub mod Asking
+pub mod Choices
 pub mod Lowest
 pub mod Mounting
 pub mod Rooms

@@ -145,7 +145,8 @@ impl<F: Flash> Files for Volume<F> {
             → size_at (⟦<Self as Files>⟧.state self.old).files id + bytes + 32 ≤ 256 * n }
         ensures contents { UnlessFailed result (
             KeepsBytes (⟦<Self as Files>⟧.state self.old) (⟦<Self as Files>⟧.state self.new) id) }
-        ensures records { OnOk result (overwrites ≤ (file_at (⟦<Self as Files>⟧.state self.new).files id).records) }
+        ensures records { OnOk result
+            (overwrites ≤ (file_at (⟦<Self as Files>⟧.state self.new).files id).records) }
         ensures room { OnOk result (bytes ≤ (file_at (⟦<Self as Files>⟧.state self.new).files id).room) }
         ensures taken { UnlessFailed result (
             WhereTold (⟦<Self as Files>⟧.state self.old) (⟦<Self as Files>⟧.state self.new)

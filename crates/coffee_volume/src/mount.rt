@@ -106,7 +106,8 @@ impl<F: Flash> Volume<F> {
 fn table_of(listed: &[FileAt]) -> Result<EntryTable, BadImage>
     requires most { length listed.now ≤ 32 }
     ensures table { IfOk result (λ table. table ≡ mounted_table listed.now) }
-    ensures regular { IfOk result (λ table. (pages : ℕ) → All (FitsIn pages) listed.now → AreRegular pages table) }
+    ensures regular { IfOk result (λ table.
+        (pages : ℕ) → All (FitsIn pages) listed.now → AreRegular pages table) }
     ensures broken { IfErr result (λ _. KeepFileRules (places (mounted_table listed.now)) → ⊥) }
 {
     let mut table = [None; 32];

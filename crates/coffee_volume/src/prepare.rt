@@ -3,11 +3,12 @@ ghost use Rattle.afl_base.specs.FileErrors.{OnSpace, UnlessFailed};
 ghost use Rattle.afl_base.specs.Files.{IsLive, KeepsBytes, file_at, size_at};
 ghost use Rattle.afl_base.specs.Fit.{fit};
 ghost use Rattle.afl_base.specs.Keeping.{ChangesOrLacks};
-ghost use Rattle.coffee_volume.specs.Lowest.{LooksFor, StepsTo, log_for};
+ghost use Rattle.coffee_volume.specs.Choices.{ChoosesPages};
+ghost use Rattle.coffee_volume.specs.Lowest.{log_for};
 ghost use Rattle.coffee_volume.specs.Rooms.{pages_asked};
 ghost use Rattle.coffee_volume.specs.Steps.{IsAfter, MayTake, need_of, step_for};
-ghost use Rattle.coffee_volume.specs.Taking.{LiesIn, TakesNone, TakesWithin};
-ghost use Rattle.coffee_volume.specs.Volumes.{AtEntry, FromTo, WhereTold};
+ghost use Rattle.coffee_volume.specs.Taking.{LiesIn};
+ghost use Rattle.coffee_volume.specs.Volumes.{AtEntry, FromTo};
 
 use crate::entry::Entry;
 use crate::step::{Step, lacks_log, step_for, take_step};
@@ -44,18 +45,9 @@ impl<F: Flash> Volume<F> {
             → need ≤ max 16 (2 * fit (size_at (⟦<Self as Files>⟧.state self.old).files id))) }
         ensures need_fixed { OnSpace result (λ need. (n : ℕ)
             → (file_at (⟦<Self as Files>⟧.state self.old).files id).kind ≡ Kind.Fixed n → need ≤ 16) }
-        ensures taken { OnOk result (
-            WhereTold (⟦<Self as Files>⟧.state self.old) (⟦<Self as Files>⟧.state self.new)
-            (λ old new. AtEntry self.new.table id (λ e. TakesWithin e old new))) }
-        ensures lowest { OnOk result (
-            WhereTold (⟦<Self as Files>⟧.state self.old) (⟦<Self as Files>⟧.state self.new)
-            (λ old new. FromTo self.old.table self.new.table id
-            (λ e. StepsTo (step_for e overwrites bytes) old new e))) }
-        ensures looked { OnSpace result (λ need.
-            WhereTold (⟦<Self as Files>⟧.state self.old) (⟦<Self as Files>⟧.state self.new)
-            (λ old new. AtEntry self.old.table id (λ e. LooksFor (step_for e overwrites bytes) e need old new))) }
-        ensures untaken { OnSpace result (λ _.
-            WhereTold (⟦<Self as Files>⟧.state self.old) (⟦<Self as Files>⟧.state self.new) TakesNone) }
+        ensures chooses { let state = ⟦<Self as Files>⟧.state in
+            ChoosesPages (λ e. step_for e overwrites bytes) id self.old.table self.new.table
+            (state self.old) (state self.new) result }
         ensures frame { let files = ⟦<Self as Files>⟧ in
             ChangesOrLacks files.state files.lent files.reads files.faults files.lacks self.old self.new result }
     {
@@ -90,18 +82,9 @@ impl<F: Flash> Volume<F> {
             → OnSpace result (λ _. ⊥)) }
         ensures asked { OnSpace result (λ need. ⟦<Self as Files>⟧.asks self.new id overwrites bytes need) }
         ensures need { OnSpace result (λ need. need ≡ 16) }
-        ensures taken { OnOk result (
-            WhereTold (⟦<Self as Files>⟧.state self.old) (⟦<Self as Files>⟧.state self.new)
-            (λ old new. AtEntry self.new.table id (λ e. TakesWithin e old new))) }
-        ensures lowest { OnOk result (
-            WhereTold (⟦<Self as Files>⟧.state self.old) (⟦<Self as Files>⟧.state self.new)
-            (λ old new. FromTo self.old.table self.new.table id
-            (λ e. StepsTo (log_for e overwrites bytes) old new e))) }
-        ensures looked { OnSpace result (λ need.
-            WhereTold (⟦<Self as Files>⟧.state self.old) (⟦<Self as Files>⟧.state self.new)
-            (λ old new. AtEntry self.old.table id (λ e. LooksFor (log_for e overwrites bytes) e need old new))) }
-        ensures untaken { OnSpace result (λ _.
-            WhereTold (⟦<Self as Files>⟧.state self.old) (⟦<Self as Files>⟧.state self.new) TakesNone) }
+        ensures chooses { let state = ⟦<Self as Files>⟧.state in
+            ChoosesPages (λ e. log_for e overwrites bytes) id self.old.table self.new.table
+            (state self.old) (state self.new) result }
         ensures frame { let files = ⟦<Self as Files>⟧ in
             ChangesOrLacks files.state files.lent files.reads files.faults files.lacks self.old self.new result }
     {
@@ -122,17 +105,9 @@ impl<F: Flash> Volume<F> {
         ensures after { OnOk result (FromTo self.old.table self.new.table id (IsAfter step)) }
         ensures kept { OnSpace result (λ _. self.new.table ≡ self.old.table) }
         ensures need { OnSpace result (λ need. AtEntry self.old.table id (λ e. need ≡ need_of step e)) }
-        ensures taken { OnOk result (
-            WhereTold (⟦<Self as Files>⟧.state self.old) (⟦<Self as Files>⟧.state self.new)
-            (λ old new. AtEntry self.new.table id (λ e. TakesWithin e old new))) }
-        ensures lowest { OnOk result (
-            WhereTold (⟦<Self as Files>⟧.state self.old) (⟦<Self as Files>⟧.state self.new)
-            (λ old new. FromTo self.old.table self.new.table id (StepsTo (Some step) old new))) }
-        ensures looked { OnSpace result (λ need.
-            WhereTold (⟦<Self as Files>⟧.state self.old) (⟦<Self as Files>⟧.state self.new)
-            (λ old new. AtEntry self.old.table id (λ e. LooksFor (Some step) e need old new))) }
-        ensures untaken { OnSpace result (λ _.
-            WhereTold (⟦<Self as Files>⟧.state self.old) (⟦<Self as Files>⟧.state self.new) TakesNone) }
+        ensures chooses { let state = ⟦<Self as Files>⟧.state in
+            ChoosesPages (λ _. Some step) id self.old.table self.new.table
+            (state self.old) (state self.new) result }
         ensures frame { let files = ⟦<Self as Files>⟧ in
             ChangesOrLacks files.state files.lent files.reads files.faults files.lacks self.old self.new result }
     {
@@ -162,7 +137,8 @@ impl<F: Flash> Volume<F> {
         requires live { IsLive (⟦<Self as Files>⟧.state self.old).files id }
         requires ready { AtEntry self.old.table id (λ e. pages_asked e records room ≡ None) }
         requires most { size_at (⟦<Self as Files>⟧.state self.old).files id + room ≤ 4194304 }
-        ensures contents { KeepsBytes (⟦<Self as Files>⟧.state self.old) (⟦<Self as Files>⟧.state self.new) id }
+        ensures contents { let state = ⟦<Self as Files>⟧.state in
+            KeepsBytes (state self.old) (state self.new) id }
         ensures records { (file_at (⟦<Self as Files>⟧.state self.new).files id).records ≡ records }
         ensures room { (file_at (⟦<Self as Files>⟧.state self.new).files id).room ≡ room }
         ensures flash { self.new.flash ≡ self.old.flash }

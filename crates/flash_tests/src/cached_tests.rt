@@ -1,7 +1,9 @@
-use crate::calls::{Answer, Call, SIZE, erased, failing, first_other, only_byte};
-use afl_sim::{CachedFlash, FileFlash};
+use crate::calls::{Answer, Call, SIZE, erased, failing, first_other, first_other_of, flash_in};
+use crate::files::{only_byte_in, read_alone, two_bytes_in, zeros};
+use afl_base::Flash;
+use afl_sim::CachedFlash;
 use std::fs;
-use std::fs::File;
+use std::fs::{File, Files};
 use std::test::Fail;
 
 const PATH: &str = "afl_sim_cached_test.img";
@@ -13,36 +15,30 @@ fn first_other_of_kept(
     memory: &mut [u8],
     known: &mut [bool],
     calls: &[(Call, Answer)],
-) -> Result<Option<(usize, Answer)>, Fail> {
-    let inner = failing(image, fails).ok_or("no flash")?;
-    let mut flash = CachedFlash::new(inner, memory, known);
-    Ok(first_other(&mut flash, calls))
+) -> Option<(usize, Answer)> {
+    match failing(image, fails) {
+        Some(inner) => first_other(&mut CachedFlash::new(inner, memory, known), calls),
+        None => Some((0, Answer::Nowhere)),
+    }
 }
 
-// The first other answer of a flash that is not kept.
-fn first_other_of(
-    image: &mut [u8; SIZE],
-    calls: &[(Call, Answer)],
-) -> Result<Option<(usize, Answer)>, Fail> {
-    let mut flash = failing(image, &[]).ok_or("no flash")?;
-    Ok(first_other(&mut flash, calls))
-}
-
-// A flash in a file that is kept in `memory`.
-fn kept_file<'a>(
-    file: File,
+// The same of a flash of so many bytes in a file.
+fn first_other_of_kept_file(
+    file: Option<File>,
     length: u64,
-    memory: &'a mut [u8],
-    known: &'a mut [bool],
-) -> Option<CachedFlash<'a, FileFlash>> {
-    Some(CachedFlash::new(FileFlash::new(file, length)?, memory, known))
+    memory: &mut [u8],
+    known: &mut [bool],
+    calls: &[(Call, Answer)],
+) -> Option<(usize, Answer)> {
+    match flash_in(file, length) {
+        Some(inner) => first_other(&mut CachedFlash::new(inner, memory, known), calls),
+        None => Some((0, Answer::Nowhere)),
+    }
 }
 
 #[test]
-fn a_sector_is_read_once_and_changes_go_through_at_once(rt: HostRuntime) -> Result<(), Fail> {
-    let mut image = erased();
+fn a_sector_is_read_once_and_changes_go_through_at_once(rt: HostRuntime) {
     let before = [(Call::Program(1, 3, [5, 0]), Answer::Done)];
-    assert_eq!(rt; first_other_of(&mut image, &before)?, None);
     let calls = [
         (Call::Sectors, Answer::Sectors(4)),
         (Call::Read(1, 2), Answer::Bytes([0, 5, 0])),
@@ -54,19 +50,31 @@ fn a_sector_is_read_once_and_changes_go_through_at_once(rt: HostRuntime) -> Resu
         // the fifth call that reaches the flash inside
         (Call::Read(32, 0), Answer::Failed),
     ];
-    let (mut memory, mut known) = ([9u8; 8192], [true; 2]);
-    let other = first_other_of_kept(&mut image, &[5], &mut memory, &mut known, &calls)?;
-    assert_eq!(rt; other, None);
     let after = [
         (Call::Read(1, 2), Answer::Bytes([0, 7, 8])),
         (Call::Read(16, 0), Answer::Bytes([0, 0, 0])),
     ];
-    assert_eq!(rt; first_other_of(&mut image, &after)?, None);
-    Ok(())
+    assert_eq!(rt; first_others(&before, &calls, &after), [None; 3]);
+}
+
+// The first other answers of a flash, of the same one while it is kept and the fifth call inside fails,
+// and of the same one again.
+fn first_others(
+    before: &[(Call, Answer)],
+    kept: &[(Call, Answer)],
+    after: &[(Call, Answer)],
+) -> [Option<(usize, Answer)>; 3] {
+    let mut image = erased();
+    let (mut memory, mut known) = ([9u8; 8192], [true; 2]);
+    [
+        first_other_of(&mut image, &[], before),
+        first_other_of_kept(&mut image, &[5], &mut memory, &mut known, kept),
+        first_other_of(&mut image, &[], after),
+    ]
 }
 
 #[test]
-fn what_failed_is_read_again(rt: HostRuntime) -> Result<(), Fail> {
+fn what_failed_is_read_again(rt: HostRuntime) {
     let mut image = erased();
     let calls = [
         (Call::Read(0, 0), Answer::Bytes([0, 0, 0])),
@@ -78,13 +86,12 @@ fn what_failed_is_read_again(rt: HostRuntime) -> Result<(), Fail> {
         (Call::Read(0, 0), Answer::Bytes([6, 6, 0])),
     ];
     let (mut memory, mut known) = ([0u8; 16384], [false; 4]);
-    let other = first_other_of_kept(&mut image, &[2, 4, 6], &mut memory, &mut known, &calls)?;
+    let other = first_other_of_kept(&mut image, &[2, 4, 6], &mut memory, &mut known, &calls);
     assert_eq!(rt; other, None);
-    Ok(())
 }
 
 #[test]
-fn a_flash_without_memory_goes_through(rt: HostRuntime) -> Result<(), Fail> {
+fn a_flash_without_memory_goes_through(rt: HostRuntime) {
     let mut image = erased();
     let calls = [
         (Call::Program(63, 254, [3, 4]), Answer::Done),
@@ -93,53 +100,60 @@ fn a_flash_without_memory_goes_through(rt: HostRuntime) -> Result<(), Fail> {
         (Call::Read(63, 253), Answer::Bytes([0, 3, 4])),
         (Call::Read(47, 253), Answer::Bytes([0, 0, 0])),
     ];
-    let other = first_other_of_kept(&mut image, &[], &mut [], &mut [false; 4], &calls)?;
+    let other = first_other_of_kept(&mut image, &[], &mut [], &mut [false; 4], &calls);
     assert_eq!(rt; other, None);
-    Ok(())
 }
 
-#[test]
-fn a_flash_in_a_file_is_written_at_once(rt: HostRuntime) -> Result<(), Fail> {
-    let _ = fs::remove_file(&rt, PATH);
-    let file = File::create_new(&rt, PATH)?;
-    file.set_len(16384)?;
-    let (mut memory, mut known) = ([0u8; 12288], [false; 4]);
-    let mut flash = kept_file(file, 16384, &mut memory, &mut known).ok_or("no flash")?;
+// What a flash that keeps a file answers otherwise to calls and to some more, with two bytes of the file
+// after the first and the only byte in it after the others.
+fn written_at_once<R: Files<File = File> + AllocGlobal, F: Flash>(
+    rt: &R,
+    flash: &mut F,
+) -> (
+    [Option<(usize, Answer)>; 2],
+    Option<[u8; 2]>,
+    Option<(usize, Option<(usize, u8)>)>,
+) {
     let first = [
         (Call::Program(17, 250, [1, 2]), Answer::Done),
         (Call::Read(17, 249), Answer::Bytes([0, 1, 2])),
         (Call::Program(17, 250, [4, 4]), Answer::Done),
     ];
-    assert_eq!(rt; first_other(&mut flash, &first), None);
-    let kept = fs::read(&rt, PATH)?;
-    assert_eq!(rt;
-        (kept.get(4602).copied(), kept.get(4603).copied()),
-        (Some(5), Some(6))
-    );
     let second = [
         (Call::Erase(1), Answer::Done),
         (Call::Program(16, 0, [7, 0]), Answer::Done),
     ];
-    assert_eq!(rt; first_other(&mut flash, &second), None);
-    let kept = fs::read(&rt, PATH)?;
-    assert_eq!(rt; only_byte(kept.as_slice()), Some((4096, 7)));
+    let other = first_other(flash, &first);
+    let two = two_bytes_in(rt, PATH, 4602);
+    let others = [other, first_other(flash, &second)];
+    (others, two, only_byte_in(rt, PATH))
+}
+
+#[test]
+fn a_flash_in_a_file_is_written_at_once(rt: HostRuntime) -> Result<(), Fail> {
+    let (mut memory, mut known) = ([0u8; 12288], [false; 4]);
+    let inner = flash_in(zeros(&rt, PATH), 16384).ok_or("no flash")?;
+    let mut flash = CachedFlash::new(inner, &mut memory, &mut known);
+    assert_eq!(rt;
+        written_at_once(&rt, &mut flash),
+        ([None, None], Some([5, 6]), Some((16384, Some((4096, 7)))))
+    );
     Ok(())
 }
 
 #[test]
 fn a_file_that_fails_leaves_what_stands_in_it(rt: HostRuntime) -> Result<(), Fail> {
     const READ_ALONE: &str = "afl_sim_read_alone_test.img";
-    fs::write(&rt, READ_ALONE, [7u8; 16384].as_slice())?;
-    let file = File::open(&rt, READ_ALONE)?;
+    let file = read_alone(&rt, READ_ALONE, &[7; 16384]);
     let (mut memory, mut known) = ([0u8; 20480], [false; 5]);
-    let mut flash = kept_file(file, 20480, &mut memory, &mut known).ok_or("no flash")?;
     let calls = [
         (Call::Read(64, 0), Answer::Failed),
         (Call::Read(63, 0), Answer::Bytes([7, 7, 7])),
         (Call::Program(63, 0, [8, 8]), Answer::Failed),
         (Call::Read(63, 0), Answer::Bytes([7, 7, 7])),
     ];
-    assert_eq!(rt; first_other(&mut flash, &calls), None);
+    let other = first_other_of_kept_file(file, 20480, &mut memory, &mut known, &calls);
     fs::remove_file(&rt, READ_ALONE)?;
+    assert_eq!(rt; other, None);
     Ok(())
 }

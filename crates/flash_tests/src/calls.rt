@@ -1,8 +1,9 @@
 //! Calls of a flash, one after the other, each beside what it has to answer.
 
 use afl_base::{Failed, Flash, PageId, SectorId};
-use afl_sim::{FaultFlash, MemFlash};
+use afl_sim::{FaultFlash, FileFlash, MemFlash};
 use arrayvec::ArrayVec;
+use std::fs::File;
 
 /// The bytes of four sectors.
 pub const SIZE: usize = 16384;
@@ -45,6 +46,23 @@ pub fn first_other<F: Flash>(flash: &mut F, calls: &[(Call, Answer)]) -> Option<
         }
     }
     None
+}
+
+/// The same of a flash of so many bytes in a file.
+pub fn first_other_in(
+    file: Option<File>,
+    length: u64,
+    calls: &[(Call, Answer)],
+) -> Option<(usize, Answer)> {
+    match flash_in(file, length) {
+        Some(mut flash) => first_other(&mut flash, calls),
+        None => Some((0, Answer::Nowhere)),
+    }
+}
+
+/// A flash of so many bytes in a file.
+pub fn flash_in(file: Option<File>, length: u64) -> Option<FileFlash> {
+    FileFlash::new(file?, length)
 }
 
 /// What a call answers, where the flash has the place.
@@ -100,6 +118,18 @@ pub fn only_byte(bytes: &[u8]) -> Option<(usize, u8)> {
         }
     }
     found
+}
+
+/// The first other answer of a flash in memory whose calls of these numbers fail.
+pub fn first_other_of(
+    image: &mut [u8; SIZE],
+    fails: &[u64],
+    calls: &[(Call, Answer)],
+) -> Option<(usize, Answer)> {
+    match failing(image, fails) {
+        Some(mut flash) => first_other(&mut flash, calls),
+        None => Some((0, Answer::Nowhere)),
+    }
 }
 
 /// A flash in memory whose calls of these numbers fail.

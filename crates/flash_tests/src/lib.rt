@@ -8,6 +8,10 @@ mod calls;
 #[cfg(test)]
 mod cut_tests;
 #[cfg(test)]
+mod files;
+#[cfg(test)]
+mod streams;
+#[cfg(test)]
 mod system_tests;
 #[cfg(test)]
 mod tests;

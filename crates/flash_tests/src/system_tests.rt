@@ -1,7 +1,8 @@
-use crate::calls::{Answer, Call, SIZE, first_other};
-use afl_base::{Failed, SECTOR_SIZE, Sink, Source};
-use afl_sim::{FileFlash, StdSink, StdSource};
-use std::fs::{File, Files, OpenOptions};
+use crate::calls::{Answer, Call, first_other_in};
+use crate::files::{is_erased_alone_in, sevens};
+use crate::streams::{Count, first_other_read, first_other_write};
+use afl_base::Failed;
+use afl_sim::{StdSink, StdSource};
 use std::io::{ErrorKind, Read, Write};
 use std::test::Fail;
 use std::{fs, io};
@@ -64,57 +65,21 @@ fn turn(calls: &mut u64, fails: u64) -> io::Result<()> {
     Ok(())
 }
 
-// Reads up to two bytes, and answers how many and the first of them.
-fn read<S: Source>(source: &mut S) -> (Result<usize, Failed>, u8) {
-    let mut into = [9; 2];
-    let n = source.read(&mut into);
-    (n, into[0])
-}
-
-// Writes bytes, where there are some.
-fn write<S: Sink>(sink: &mut S, bytes: &[u8]) -> Result<usize, Failed> {
-    if bytes.is_empty() {
-        return Ok(0);
-    }
-    sink.write(bytes)
-}
-
-// Whether the bytes of one sector are zero and all others 7.
-fn is_erased_alone(bytes: &[u8], sector: usize) -> bool {
-    for (at, byte) in bytes.iter().enumerate() {
-        let wanted = if at / SECTOR_SIZE == sector { 0 } else { 7 };
-        if *byte != wanted {
-            return false;
-        }
-    }
-    true
-}
-
-// A flash in a file of bytes that are all 7.
-fn flash_of_sevens<R: Files<File = File>>(rt: &R, path: &str) -> Result<FileFlash, Fail> {
-    fs::write(rt, path, [7u8; SIZE].as_slice())?;
-    let file = OpenOptions::new().read(true).write(true).open(rt, path)?;
-    Ok(FileFlash::new(file, SIZE as u64).ok_or("no flash")?)
-}
-
 #[test]
 fn every_byte_of_an_erased_sector_is_zero_and_its_neighbours_stay(
     rt: HostRuntime,
 ) -> Result<(), Fail> {
     const PATH: &str = "afl_sim_erased_test.img";
-    let mut flash = flash_of_sevens(&rt, PATH)?;
     let calls = [(Call::Erase(1), Answer::Done)];
-    assert_eq!(rt; first_other(&mut flash, &calls), None);
-    drop(flash);
-    let kept = fs::read(&rt, PATH)?;
-    assert_eq!(rt; kept.len(), SIZE);
-    assert!(rt; is_erased_alone(kept.as_slice(), 1));
+    let other = first_other_in(sevens(&rt, PATH), 16384, &calls);
+    let kept = is_erased_alone_in(&rt, PATH, 1);
     fs::remove_file(&rt, PATH)?;
+    assert_eq!(rt; (other, kept), (None, Some(true)));
     Ok(())
 }
 
-#[test]
-fn a_writer_that_takes_a_part_gets_the_rest_later(rt: HostRuntime) {
+// What a writer of three bytes whose fourth call fails answers otherwise, and the bytes that it took.
+fn sipped(calls: &[(&[u8], Count)]) -> (Option<(usize, Count)>, [u8; 3]) {
     let mut room = [0u8; 3];
     let writer = Sips {
         room: &mut room,
@@ -122,14 +87,20 @@ fn a_writer_that_takes_a_part_gets_the_rest_later(rt: HostRuntime) {
         calls: 0,
         fails: 4,
     };
-    let mut sink = StdSink::new(writer);
-    assert_eq!(rt; write(&mut sink, b"xyz"), Ok(1));
-    assert_eq!(rt; write(&mut sink, b"yz"), Ok(1));
-    assert_eq!(rt; write(&mut sink, b"z"), Err(Failed));
-    assert_eq!(rt; write(&mut sink, b"z"), Ok(1));
-    assert_eq!(rt; write(&mut sink, b"!"), Err(Failed));
-    drop(sink);
-    assert_eq!(rt; room, *b"xyz");
+    let other = first_other_write(&mut StdSink::new(writer), calls);
+    (other, room)
+}
+
+#[test]
+fn a_writer_that_takes_a_part_gets_the_rest_later(rt: HostRuntime) {
+    let calls = [
+        (b"xyz".as_slice(), Ok(1)),
+        (b"yz".as_slice(), Ok(1)),
+        (b"z".as_slice(), Err(Failed)),
+        (b"z".as_slice(), Ok(1)),
+        (b"!".as_slice(), Err(Failed)),
+    ];
+    assert_eq!(rt; sipped(&calls), (None, *b"xyz"));
 }
 
 #[test]
@@ -139,9 +110,11 @@ fn a_reader_that_fails_goes_on_where_it_stood(rt: HostRuntime) {
         calls: 0,
         fails: 3,
     };
-    let mut source = StdSource::new(reader);
-    assert_eq!(rt; read(&mut source), (Ok(1), b'a'));
-    assert_eq!(rt; read(&mut source), (Err(Failed), 9));
-    assert_eq!(rt; read(&mut source), (Ok(1), b'b'));
-    assert_eq!(rt; read(&mut source), (Ok(0), 9));
+    let calls = [
+        (Ok(1), [b'a', 9]),
+        (Err(Failed), [9, 9]),
+        (Ok(1), [b'b', 9]),
+        (Ok(0), [9, 9]),
+    ];
+    assert_eq!(rt; first_other_read(&mut StdSource::new(reader), &calls), None);
 }

@@ -1,10 +1,11 @@
-ghost use Rattle.std.specs.Prelude.{◌≡◌, None};
+ghost use Rattle.std.specs.Prelude.{◌≡◌, None, IfSome};
 
 use crate::calls::{doubling_file, live_files, make};
 use crate::mounted::{mounted, named};
 use crate::rows::{append_short_rows, are_long_rows, insert_long_rows, long_rows, short_rows};
 use afl_base::{FileError, Files, Flash, Kind, Name, SlotNo};
 use afl_sim::MemFlash;
+use coffee_volume::Volume;
 use db_model::{Tuple, Value};
 use std::test::Fail;
 
@@ -31,14 +32,22 @@ fn keep_long_rows(image: &mut [u8]) -> Result<bool, FileError> {
 }
 
 fn keep_long_rows_over<F: Flash + Drop>(flash: F) -> Result<bool, FileError> {
-    let Some(mut volume) = mounted(flash) else {
-        return Ok(false);
-    };
+    match with_a_file(flash) {
+        Some(mut volume) => write_long_rows(&mut volume, named(b"T0")),
+        None => Ok(false),
+    }
+}
+
+// The files of a flash, with a new one.
+fn with_a_file<F: Flash + Drop>(flash: F) -> Option<Volume<F>>
+    ensures { IfSome result (λ v. (⟦<Volume<F> as Files>⟧.state v).draft ≡ None) }
+{
+    let mut volume = mounted(flash)?;
     let mut used = live_files(&volume);
-    Ok(
-        make(&mut volume, &mut used, named(b"T0"), Kind::Doubling)?
-            && write_long_rows(&mut volume, named(b"T0"))?,
-    )
+    match make(&mut volume, &mut used, named(b"T0"), Kind::Doubling) {
+        Ok(true) => Some(volume),
+        _ => None,
+    }
 }
 
 // Writes 200 rows of 128 bytes into an empty file, and reads them back.
@@ -48,9 +57,7 @@ fn write_long_rows<V: Files>(files: &mut V, name: Name) -> Result<bool, FileErro
     let Some(file) = doubling_file(files, name) else {
         return Ok(false);
     };
-    let Some(tuples) = long_rows(file) else {
-        return Ok(false);
-    };
+    let tuples = long_rows(file);
     if !tuples.valid(files, 2)? || tuples.count(files) != 0 {
         return Ok(false);
     }
@@ -73,17 +80,19 @@ fn last_of_short_rows(image: &mut [u8]) -> Result<Option<(u16, i64)>, FileError>
 }
 
 fn last_of_short_rows_over<F: Flash + Drop>(flash: F) -> Result<Option<(u16, i64)>, FileError> {
-    let Some(mut volume) = mounted(flash) else {
-        return Ok(None);
-    };
-    let mut used = live_files(&volume);
-    if !make(&mut volume, &mut used, named(b"T0"), Kind::Doubling)? {
+    match with_a_file(flash) {
+        Some(mut volume) => all_short_rows(&mut volume, named(b"T0")),
+        None => Ok(None),
+    }
+}
+
+fn all_short_rows<V: Files>(files: &mut V, name: Name) -> Result<Option<(u16, i64)>, FileError>
+    requires { (V.state files.old).draft ≡ None }
+{
+    if !append_short_rows(files, name)? {
         return Ok(None);
     }
-    if !append_short_rows(&mut volume, named(b"T0"))? {
-        return Ok(None);
-    }
-    last_short_row(&mut volume, named(b"T0"))
+    last_short_row(files, name)
 }
 
 // The number of slots of a relation, and the number in slot 32,767.
@@ -91,9 +100,7 @@ fn last_short_row<V: Files>(files: &mut V, name: Name) -> Result<Option<(u16, i6
     let Some(file) = doubling_file(files, name) else {
         return Ok(None);
     };
-    let Some(tuples) = short_rows(file) else {
-        return Ok(None);
-    };
+    let tuples = short_rows(file);
     let Some(slot) = SlotNo::new(32_767) else {
         return Ok(None);
     };

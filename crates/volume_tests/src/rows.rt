@@ -15,36 +15,36 @@ use tuple_file::Tuples;
 
 /// The rows of a relation with the attributes k LONG, a, b and c STRING(32), and d STRING(27): 128
 /// bytes each.
-pub fn long_rows(file: FileId) -> Option<Tuples>
-    ensures file { IfSome result (λ tuples. tuples.file ≡ file) }
-    ensures long { IfSome result (λ tuples. AreLong tuples.schema.attributes) }
+pub fn long_rows(file: FileId) -> Tuples
+    ensures file { result.file ≡ file }
+    ensures long { AreLong result.schema.attributes }
 {
     let mut attributes = Attributes::new();
     attributes.push(Attribute {
-        name: Ident::new(b"k")?,
+        name: Ident::new(b"k").unwrap_or_default(),
         domain: Domain::Long,
     });
     attributes.push(Attribute {
-        name: Ident::new(b"a")?,
+        name: Ident::new(b"a").unwrap_or_default(),
         domain: Domain::Str(32),
     });
     attributes.push(Attribute {
-        name: Ident::new(b"b")?,
+        name: Ident::new(b"b").unwrap_or_default(),
         domain: Domain::Str(32),
     });
     attributes.push(Attribute {
-        name: Ident::new(b"c")?,
+        name: Ident::new(b"c").unwrap_or_default(),
         domain: Domain::Str(32),
     });
     attributes.push(Attribute {
-        name: Ident::new(b"d")?,
+        name: Ident::new(b"d").unwrap_or_default(),
         domain: Domain::Str(27),
     });
-    let name = Ident::new(b"s")?;
-    Some(Tuples {
+    let name = Ident::new(b"s").unwrap_or_default();
+    Tuples {
         file,
         schema: Schema { name, attributes },
-    })
+    }
 }
 
 /// The tuple of such a row, which its number decides.
@@ -119,20 +119,20 @@ pub fn are_long_rows<V: Files>(files: &mut V, tuples: &Tuples, rows: u8) -> Resu
 }
 
 /// The rows of a relation with the one attribute v INT: 3 bytes each.
-pub fn short_rows(file: FileId) -> Option<Tuples>
-    ensures file { IfSome result (λ tuples. tuples.file ≡ file) }
-    ensures short { IfSome result (λ tuples. row_length tuples.schema.attributes ≡ 3) }
+pub fn short_rows(file: FileId) -> Tuples
+    ensures file { result.file ≡ file }
+    ensures short { row_length result.schema.attributes ≡ 3 }
 {
     let mut attributes = Attributes::new();
     attributes.push(Attribute {
-        name: Ident::new(b"v")?,
+        name: Ident::new(b"v").unwrap_or_default(),
         domain: Domain::Int,
     });
-    let name = Ident::new(b"s")?;
-    Some(Tuples {
+    let name = Ident::new(b"s").unwrap_or_default();
+    Tuples {
         file,
         schema: Schema { name, attributes },
-    })
+    }
 }
 
 /// Appends the bytes of the live rows of the numbers 0 to 32,767, some at a time. It answers whether

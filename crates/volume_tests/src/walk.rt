@@ -253,14 +253,29 @@ fn is_same<V: Files, W: Files>(files: &mut V, others: &mut W, name: Name) -> Res
         return Ok(true);
     };
     for piece in 0..size / 500 + 1 {
-        let mut first = [0; 500];
-        let mut second = [1; 500];
         let n = (size - 500 * piece).min(500) as usize;
-        let read = fetch(files, name, 500 * piece, &mut first[..n])?;
-        let also = fetch(others, name, 500 * piece, &mut second[..n])?;
-        if !read || !also || first[..n] != second[..n] {
+        if !are_same_bytes(files, others, name, 500 * piece, n)? {
             return Ok(false);
         }
     }
     Ok(true)
+}
+
+// Whether so many bytes of the files of a name, at most 500, are the same from a place on.
+fn are_same_bytes<V: Files, W: Files>(
+    files: &mut V,
+    others: &mut W,
+    name: Name,
+    at: u32,
+    n: usize,
+) -> Result<bool, FileError>
+    requires { n ≤ 500 }
+    ensures files { OnOk result (V.state files.new ≡ V.state files.old) }
+    ensures others { OnOk result (W.state others.new ≡ W.state others.old) }
+{
+    let mut first = [0; 500];
+    let mut second = [1; 500];
+    let read = fetch(files, name, at, &mut first[..n])?;
+    let also = fetch(others, name, at, &mut second[..n])?;
+    Ok(read && also && first[..n] == second[..n])
 }

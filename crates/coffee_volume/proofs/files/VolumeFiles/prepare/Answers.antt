@@ -53,9 +53,9 @@ returns-clause-taken g c =
       first = c.in_ok-reshape.ensures.contents;
       second = c.in_ok-provide_log.ensures.contents;
       told = n.told;
-      taken = c.in_ok-reshape.ensures.taken;
+      taken = c.in_ok-reshape.ensures.chooses.taken;
       more = c.in_ok-provide_log.ensures.more;
-      then_taken = c.in_ok-provide_log.ensures.taken;
+      then_taken = c.in_ok-provide_log.ensures.chooses.taken;
     }))
 
 pub returns-in_err-provide_log-clause-taken : goal.returns-in_err-provide_log-clause-taken
@@ -68,13 +68,13 @@ returns-in_err-provide_log-clause-taken g c =
     let first = c.in_ok-reshape.ensures.contents in
     let said = err_from_is_err_and c.from_residual-in_err-provide_log.result c.from_residual-in_err-provide_log.ensures.1 in
     handed_on c.provide_log.result c.from_residual-in_err-provide_log.result c.in_err-provide_log.field-0.0 _ _ _ _ c.in_err-provide_log.was (said.1 ∙ ap (λ e. Err e) said.2)
-    c.provide_log.ensures.contents c.provide_log.ensures.kept c.provide_log.ensures.untaken
+    c.provide_log.ensures.contents c.provide_log.ensures.kept c.provide_log.ensures.chooses.untaken
     (λ second kept none told. steps_taken g.F.Flash.tells v.failed m.failed n.failed (g.F.Flash.image v.flash) mid new v.table m.table n.table v.draft m.draft n.draft c.args.id
     (record {
       first = first;
       second = second;
       told = n.told;
-      taken = c.in_ok-reshape.ensures.taken;
+      taken = c.in_ok-reshape.ensures.chooses.taken;
       more = same_more m.table n.table c.args.id kept;
       then_taken = λ then d is. nothing_taken mid new d.at (none then);
     }) told)
@@ -93,8 +93,8 @@ returns-clause-lowest g c =
       second = c.in_ok-provide_log.ensures.contents;
       between_held = m.told;
       told = n.told;
-      lowest = c.in_ok-reshape.ensures.lowest;
-      then_lowest = c.in_ok-provide_log.ensures.lowest;
+      lowest = c.in_ok-reshape.ensures.chooses.lowest;
+      then_lowest = c.in_ok-provide_log.ensures.chooses.lowest;
     }))
 
 pub returns-in_err-reshape-clause-unasked : goal.returns-in_err-reshape-clause-unasked
@@ -133,7 +133,7 @@ returns-in_err-reshape-clause-looked g c =
     space_handed c.reshape.result c.from_residual.result c.in_err-reshape.field-0.0 _ c.in_err-reshape.was (said.1 ∙ ap (λ e. Err e) said.2)
     (space_with c.reshape.result (λ need. IsTrue (g.F.Flash.tells && not v.failed) → AtEntry v.table id (λ e. LooksFor (step_for e w b) e need old new)) (λ need. IsTrue (g.F.Flash.tells && not v.failed) → AtEntry v.table id (λ e. LooksFor (step_for e w b) e need old new)) _
     (λ need looks _. stops_first g.F.Flash.tells v.failed old new v.table v.draft id w b need c.requires.live v.told looks)
-    c.reshape.ensures.looked c.reshape.ensures.looked)
+    c.reshape.ensures.chooses.looked c.reshape.ensures.chooses.looked)
 
 pub returns-in_err-provide_log-clause-looked : goal.returns-in_err-provide_log-clause-looked
 returns-in_err-provide_log-clause-looked g c =
@@ -153,7 +153,7 @@ returns-in_err-provide_log-clause-looked g c =
       held = v.told;
       first = c.in_ok-reshape.ensures.contents;
       between_held = m.told;
-      lowest = c.in_ok-reshape.ensures.lowest;
+      lowest = c.in_ok-reshape.ensures.chooses.lowest;
       looks = looks;
     }))
-    c.provide_log.ensures.looked c.provide_log.ensures.looked)
+    c.provide_log.ensures.chooses.looked c.provide_log.ensures.chooses.looked)

@@ -73,28 +73,26 @@ returns-in-Some-clause-need_fixed g c =
     omega (arith, need e c.entry-at.ensures.entry, needs.fixed m (sym (ap (λ (f : File). f.kind) c.entry-at.ensures.file) ∙ is)))
     c.take.ensures.need c.take.ensures.need
 
-pub returns-in-Some-clause-lowest : goal.returns-in-Some-clause-lowest
-returns-in-Some-clause-lowest g c =
-    let v = c.args.self.now in
-    let e : Entry = c.entry-at.result in
-    let step : Step = c.in-Some.step in
-    on_ok_weaker c.take.result
-    (λ lowest told x d was is.
-    let one = one_entry v.table c.args.id e x c.entry-at.ensures.entry was in
-    let asks : step_for x.at c.args.overwrites c.args.bytes ≡ Some step = subst (λ (y : Entry). step_for y.at c.args.overwrites c.args.bytes ≡ Some step) one (sym c.step_for.ensures ∙ c.in-Some.is) in
-    subst (λ (o : Option Step). StepsTo o (g.F.Flash.image v.flash) (g.F.Flash.image c.take.new.self.flash) x.at d.at) (sym asks) (lowest told x d was is))
-    c.take.ensures.lowest
-
-pub returns-in-Some-clause-looked : goal.returns-in-Some-clause-looked
-returns-in-Some-clause-looked g c =
+pub returns-in-Some-clause-chooses : goal.returns-in-Some-clause-chooses
+returns-in-Some-clause-chooses g c =
     let v = c.args.self.now in
     let e : Entry = c.entry-at.result in
     let step : Step = c.in-Some.step in
     let old = g.F.Flash.image v.flash in
     let new = g.F.Flash.image c.take.new.self.flash in
-    space_with c.take.result (λ need. IsTrue (g.F.Flash.tells && not v.failed) → AtEntry v.table c.args.id (λ d. LooksFor (Some step) d need old new)) (λ need. IsTrue (g.F.Flash.tells && not v.failed) → AtEntry v.table c.args.id (λ d. LooksFor (Some step) d need old new)) _
-    (λ need looks _ told x was.
-    let one = one_entry v.table c.args.id e x c.entry-at.ensures.entry was in
-    let asks : step_for x.at c.args.overwrites c.args.bytes ≡ Some step = subst (λ (y : Entry). step_for y.at c.args.overwrites c.args.bytes ≡ Some step) one (sym c.step_for.ensures ∙ c.in-Some.is) in
-    subst (λ (o : Option Step). LooksFor o x.at need old new) (sym asks) (looks told x was))
-    c.take.ensures.looked c.take.ensures.looked
+    record {
+      taken = c.take.ensures.chooses.taken;
+      lowest = on_ok_weaker c.take.result
+          (λ lowest told x d was is.
+          let one = one_entry v.table c.args.id e x c.entry-at.ensures.entry was in
+          let asks : step_for x.at c.args.overwrites c.args.bytes ≡ Some step = subst (λ (y : Entry). step_for y.at c.args.overwrites c.args.bytes ≡ Some step) one (sym c.step_for.ensures ∙ c.in-Some.is) in
+          subst (λ (o : Option Step). StepsTo o old new x.at d.at) (sym asks) (lowest told x d was is))
+          c.take.ensures.chooses.lowest;
+      looked = space_with c.take.result (λ need. IsTrue (g.F.Flash.tells && not v.failed) → AtEntry v.table c.args.id (λ d. LooksFor (Some step) d need old new)) (λ need. IsTrue (g.F.Flash.tells && not v.failed) → AtEntry v.table c.args.id (λ d. LooksFor (Some step) d need old new)) _
+          (λ need looks _ told x was.
+          let one = one_entry v.table c.args.id e x c.entry-at.ensures.entry was in
+          let asks : step_for x.at c.args.overwrites c.args.bytes ≡ Some step = subst (λ (y : Entry). step_for y.at c.args.overwrites c.args.bytes ≡ Some step) one (sym c.step_for.ensures ∙ c.in-Some.is) in
+          subst (λ (o : Option Step). LooksFor o x.at need old new) (sym asks) (looks told x was))
+          c.take.ensures.chooses.looked c.take.ensures.chooses.looked;
+      untaken = c.take.ensures.chooses.untaken;
+    }

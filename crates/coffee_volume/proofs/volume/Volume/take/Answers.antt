@@ -82,57 +82,53 @@ returns-in-Err-Space-clause-frame g c =
       cause = search rules;
     }
 
-pub returns-in-Ok-clause-taken : goal.returns-in-Ok-clause-taken
-returns-in-Ok-clause-taken g c = λ told d is p free taken.
-    let v = c.args.self.now in
-    let old = g.F.Flash.image v.flash in
-    let e : Entry = c.entry-at.result in
-    let id : ℕ = c.args.id in
-    let both = told_by g.F.Flash.tells v.failed told in
-    let s : Stands g.F.Flash.tells v.failed old v.table v.draft = record { count = v.count; big = v.big; regular = v.regular; pending = v.pending; space = v.space; told = v.told } in
-    let inside : id < length v.table = omega (arith, v.count, c.number.ensures.below, c.number.ensures.value) in
-    let same = set_entry v.table id (roomless c.in-Ok.to) d inside (rw c.number.ensures.value at is) in
-    subst (λ (x : Entry). LiesIn x.at p) same
-    ((c.in-Ok.ensures.moved both.0 (places v.table) id (holds_idle g.F.Flash.tells v.failed old v.table v.draft s c.requires.idle both.0 both.1) (in_places v.table id e c.entry-at.ensures.entry)).taken p free taken)
-
-pub returns-in-Err-Space-clause-untaken : goal.returns-in-Err-Space-clause-untaken
-returns-in-Err-Space-clause-untaken g c told =
-    let v = c.args.self.now in
-    let old = g.F.Flash.image v.flash in
-    let s : Stands g.F.Flash.tells v.failed old v.table v.draft = record { count = v.count; big = v.big; regular = v.regular; pending = v.pending; space = v.space; told = v.told } in
-    let both = told_by g.F.Flash.tells v.failed told in
-    none_taken old (g.F.Flash.image c.take_step.new.flash)
-    (rw c.in-Err-Space.field-0-is at (c.in-Err-Space.ensures.left both.0) (places v.table) (holds_idle g.F.Flash.tells v.failed old v.table v.draft s c.requires.idle both.0 both.1)).untaken
-
-pub returns-in-Ok-clause-lowest : goal.returns-in-Ok-clause-lowest
-returns-in-Ok-clause-lowest g c = λ told x d was is.
+pub returns-in-Ok-clause-chooses : goal.returns-in-Ok-clause-chooses
+returns-in-Ok-clause-chooses g c =
     let v = c.args.self.now in
     let old = g.F.Flash.image v.flash in
     let new = g.F.Flash.image c.take_step.new.flash in
     let e : Entry = c.entry-at.result in
     let id : ℕ = c.args.id in
-    let both = told_by g.F.Flash.tells v.failed told in
     let s : Stands g.F.Flash.tells v.failed old v.table v.draft = record { count = v.count; big = v.big; regular = v.regular; pending = v.pending; space = v.space; told = v.told } in
     let inside : id < length v.table = omega (arith, v.count, c.number.ensures.below, c.number.ensures.value) in
-    let one : e ≡ x = one_entry v.table id e x c.entry-at.ensures.entry was in
-    let same : roomless c.in-Ok.to ≡ d = set_entry v.table id (roomless c.in-Ok.to) d inside (rw c.number.ensures.value at is) in
-    subst (λ (y : Entry). StepsTo (Some c.args.step) old new x.at y.at) same
-    (subst (λ (y : Entry). StepsTo (Some c.args.step) old new y.at c.in-Ok.to) one (
-      c.in-Ok.ensures.after,
-      (c.in-Ok.ensures.moved both.0 (places v.table) id (holds_idle g.F.Flash.tells v.failed old v.table v.draft s c.requires.idle both.0 both.1) (in_places v.table id e c.entry-at.ensures.entry)).lowest,
-    ))
+    record {
+      taken = λ told d is p free taken.
+          let both = told_by g.F.Flash.tells v.failed told in
+          let same = set_entry v.table id (roomless c.in-Ok.to) d inside (rw c.number.ensures.value at is) in
+          subst (λ (x : Entry). LiesIn x.at p) same
+          ((c.in-Ok.ensures.moved both.0 (places v.table) id (holds_idle g.F.Flash.tells v.failed old v.table v.draft s c.requires.idle both.0 both.1) (in_places v.table id e c.entry-at.ensures.entry)).taken p free taken);
+      lowest = λ told x d was is.
+          let both = told_by g.F.Flash.tells v.failed told in
+          let one : e ≡ x = one_entry v.table id e x c.entry-at.ensures.entry was in
+          let same : roomless c.in-Ok.to ≡ d = set_entry v.table id (roomless c.in-Ok.to) d inside (rw c.number.ensures.value at is) in
+          subst (λ (y : Entry). StepsTo (Some c.args.step) old new x.at y.at) same
+          (subst (λ (y : Entry). StepsTo (Some c.args.step) old new y.at c.in-Ok.to) one (
+            c.in-Ok.ensures.after,
+            (c.in-Ok.ensures.moved both.0 (places v.table) id (holds_idle g.F.Flash.tells v.failed old v.table v.draft s c.requires.idle both.0 both.1) (in_places v.table id e c.entry-at.ensures.entry)).lowest,
+          ));
+      looked = search rules;
+      untaken = search rules;
+    }
 
-pub returns-in-Err-Space-clause-looked : goal.returns-in-Err-Space-clause-looked
-returns-in-Err-Space-clause-looked g c =
+pub returns-in-Err-Space-clause-chooses : goal.returns-in-Err-Space-clause-chooses
+returns-in-Err-Space-clause-chooses g c =
     let v = c.args.self.now in
     let old = g.F.Flash.image v.flash in
     let new = g.F.Flash.image c.take_step.new.flash in
     let e : Entry = c.entry-at.result in
     let s : Stands g.F.Flash.tells v.failed old v.table v.draft = record { count = v.count; big = v.big; regular = v.regular; pending = v.pending; space = v.space; told = v.told } in
     let need : c.in-Err-Space.need ≡ need_of c.args.step e.at = rw c.in-Err-Space.field-0-is at c.in-Err-Space.ensures.need in
-    rw c.in-Err-Space.field-0-is
-    (λ told x is.
-    let both = told_by g.F.Flash.tells v.failed told in
-    let one : e ≡ x = one_entry v.table c.args.id e x c.entry-at.ensures.entry is in
-    let left = rw c.in-Err-Space.field-0-is at (c.in-Err-Space.ensures.left both.0) (places v.table) (holds_idle g.F.Flash.tells v.failed old v.table v.draft s c.requires.idle both.0 both.1) in
-    subst (λ (y : Entry). LooksFor (Some c.args.step) y.at c.in-Err-Space.need old new) one (need, left.looked))
+    record {
+      taken = search rules;
+      lowest = search rules;
+      looked = rw c.in-Err-Space.field-0-is
+          (λ told x is.
+          let both = told_by g.F.Flash.tells v.failed told in
+          let one : e ≡ x = one_entry v.table c.args.id e x c.entry-at.ensures.entry is in
+          let left = rw c.in-Err-Space.field-0-is at (c.in-Err-Space.ensures.left both.0) (places v.table) (holds_idle g.F.Flash.tells v.failed old v.table v.draft s c.requires.idle both.0 both.1) in
+          subst (λ (y : Entry). LooksFor (Some c.args.step) y.at c.in-Err-Space.need old new) one (need, left.looked));
+      untaken = λ told.
+          let both = told_by g.F.Flash.tells v.failed told in
+          none_taken old new
+          (rw c.in-Err-Space.field-0-is at (c.in-Err-Space.ensures.left both.0) (places v.table) (holds_idle g.F.Flash.tells v.failed old v.table v.draft s c.requires.idle both.0 both.1)).untaken;
+    }
