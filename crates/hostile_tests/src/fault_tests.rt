@@ -1,116 +1,120 @@
 //! The first fault of the words, the script, the flash or the sink decides how a run ends.
 
-use crate::flash_tests::with_fault;
-use crate::running::{Ended, RUN, SMALL, call, expect, expect_erased, expect_run, run};
-use afl_sim::{MemFlash, MemSource};
-use std::alloc::Global;
+use crate::images::put;
+use crate::running::{
+    Faults, NO_FAULTS, RUN, SMALL, call, erased, flash_fails, is_erased, runs, script_fails, show,
+    sink_fails,
+};
+use std::alloc::{AllocError, Global};
 use std::test::Fail;
 
 const MAKES: &[u8] = b"CREATE RELATION n;CREATE ATTRIBUTE v DOMAIN INT IN n;";
 
-// Calls the program with some words on an image. The script fails at one call, the sink at another.
-fn called(
+// Whether a script over an image ends with just this status and this text.
+fn ends(
     alloc: Global,
-    words: &[&str],
     script: &[u8],
+    faults: Faults,
     image: &mut [u8],
-    script_fails_at: Option<u64>,
-    sink_fails_at: Option<u64>,
-) -> Result<Ended, Fail> {
-    let mut source = MemSource::new(script, script_fails_at);
-    let flash = MemFlash::new(image).ok_or("no flash")?;
-    Ok(call(alloc, words, &mut source, sink_fails_at, flash)?)
+    status: u8,
+    text: &[u8],
+) -> bool {
+    call(alloc, RUN, script, faults, image).is(status, text)
+}
+
+// Whether two words, which are of no form, leave an image.
+fn two_words_leave_all(alloc: Global) -> bool {
+    let mut image = erased(alloc, SMALL);
+    let ended = call(alloc, &["run", "a"], MAKES, NO_FAULTS, image.as_mut_slice());
+    ended.is(1, b"") && is_erased(alloc, image.as_slice())
 }
 
 #[test]
 fn words_of_no_form_leave_all(rt: HostRuntime) -> Result<(), Fail> {
-    let mut image = vec![in rt.alloc(); 0u8; SMALL]?;
-    let words = &["run", "a"];
-    let ended = called(rt.alloc(), words, MAKES, image.as_mut_slice(), None, None)?;
-    expect(&ended, 1, "")?;
-    expect_erased(image.as_slice())
+    show(two_words_leave_all(rt.alloc()), "the image stays")
 }
 
-// A run is cut off by its script or by its sink, and has no reply.
-fn is_cut_off(
-    alloc: Global,
-    image: &mut [u8],
-    script_fails_at: Option<u64>,
-    sink_fails_at: Option<u64>,
-    status: u8,
-) -> Result<(), Fail> {
-    let ended = called(alloc, RUN, MAKES, image, script_fails_at, sink_fails_at)?;
-    expect(&ended, status, "")
+// Whether the first call of the flash and of the script may fail, and no bytes are left.
+fn first_calls_fail(alloc: Global, image: &mut [u8]) -> bool {
+    ends(alloc, MAKES, flash_fails(1), image, 4, b"")
+        && ends(alloc, MAKES, script_fails(1), image, 2, b"")
+        && is_erased(alloc, image)
+}
+
+// Whether the first call of the sink may fail: the relation is there, and has no attribute.
+fn first_reply_fails(alloc: Global, image: &mut [u8]) -> bool {
+    let asks = b"SELECT v FROM n;INSERT (1) INTO n;";
+    ends(alloc, MAKES, sink_fails(1), image, 5, b"")
+        && runs(alloc, asks, image, b"no attribute 1\nno value 1\n")
 }
 
 #[test]
 fn the_first_call_of_each_may_fail(rt: HostRuntime) -> Result<(), Fail> {
-    let mut image = vec![in rt.alloc(); 0u8; SMALL]?;
-    let of_flash = with_fault(rt.alloc(), MAKES, image.as_mut_slice(), 1)?;
-    expect(&of_flash, 4, "")?;
-    is_cut_off(rt.alloc(), image.as_mut_slice(), Some(1), None, 2)?;
-    expect_erased(image.as_slice())?;
-    is_cut_off(rt.alloc(), image.as_mut_slice(), None, Some(1), 5)?;
-    // The relation is there, and has no attribute.
-    let asks = b"SELECT v FROM n;INSERT (1) INTO n;";
-    expect_run(
-        rt.alloc(),
-        asks,
-        image.as_mut_slice(),
-        "no attribute 1\nno value 1\n",
-    )
+    let mut image = erased(rt.alloc(), SMALL);
+    let calls = first_calls_fail(rt.alloc(), image.as_mut_slice());
+    let reply = first_reply_fails(rt.alloc(), image.as_mut_slice());
+    show(calls && reply, "each first call fails")
+}
+
+// Whether a script ends with this status behind its first row, which is left.
+fn leaves_one_row(alloc: Global, script: &[u8], faults: Faults, status: u8) -> bool {
+    let mut image = erased(alloc, SMALL);
+    let all = image.as_mut_slice();
+    ends(alloc, script, faults, all, status, b"ok\nok\nok\n")
+        && runs(alloc, b"SELECT COUNT(v) FROM n;", all, b"1\nrows 1\n")
 }
 
 const ONE_ROW_AND_A_HALF: &[u8] = b"CREATE RELATION n;CREATE ATTRIBUTE v DOMAIN INT IN n;\
     INSERT (1) INTO n; SEL";
 
-// The relation n has one row.
-fn has_one_row(alloc: Global, image: &mut [u8]) -> Result<(), Fail> {
-    expect_run(alloc, b"SELECT COUNT(v) FROM n;", image, "1\nrows 1\n")
-}
-
 #[test]
 fn a_script_that_fails_leaves_what_came_whole(rt: HostRuntime) -> Result<(), Fail> {
-    let mut image = vec![in rt.alloc(); 0u8; SMALL]?;
-    let script = ONE_ROW_AND_A_HALF;
-    let ended = called(rt.alloc(), RUN, script, image.as_mut_slice(), Some(2), None)?;
-    expect(&ended, 2, "ok\nok\nok\n")?;
-    has_one_row(rt.alloc(), image.as_mut_slice())
+    let left = leaves_one_row(rt.alloc(), ONE_ROW_AND_A_HALF, script_fails(2), 2);
+    show(left, "one row is left")
 }
 
-// A script that is filled up to so many bytes.
-fn filled(alloc: Global, front: &[u8], byte: u8, bytes: usize) -> Result<Vec<u8>, Fail> {
-    let mut script = vec![in alloc; byte; bytes]?;
-    let all = script.as_mut_slice();
-    for (i, byte) in front.iter().enumerate() {
-        if i < all.len() {
-            all[i] = *byte;
+fn of_bytes(alloc: Global, byte: u8, bytes: usize) -> Result<Vec<u8>, AllocError> {
+    vec![in alloc; byte; bytes]
+}
+
+// A script of so many bytes, which begins with these and is filled up with another.
+fn filled(alloc: Global, front: &[u8], byte: u8, bytes: usize) -> Vec<u8> {
+    match of_bytes(alloc, byte, bytes) {
+        Ok(mut script) => {
+            put(script.as_mut_slice(), 0, front);
+            script
         }
+        Err(_) => Vec::new(alloc),
     }
-    Ok(script)
 }
 
-// A script of so many spaces ends with this status, and has no reply.
-fn spaces_end_with(alloc: Global, bytes: usize, image: &mut [u8], status: u8) -> Result<(), Fail> {
-    let script = filled(alloc, b"", b' ', bytes)?;
-    expect(&run(alloc, script.as_slice(), image)?, status, "")
+// Whether a script of so many spaces ends with this status and no reply, and leaves an erased image.
+fn spaces_end_with(alloc: Global, bytes: usize, status: u8) -> bool {
+    let mut image = erased(alloc, SMALL);
+    let script = filled(alloc, b"", b' ', bytes);
+    let all = image.as_mut_slice();
+    script.len() == bytes
+        && ends(alloc, script.as_slice(), NO_FAULTS, all, status, b"")
+        && is_erased(alloc, all)
 }
 
 #[test]
 fn a_script_has_at_most_16777216_bytes(rt: HostRuntime) -> Result<(), Fail> {
-    let mut image = vec![in rt.alloc(); 0u8; SMALL]?;
-    spaces_end_with(rt.alloc(), 16_777_216, image.as_mut_slice(), 0)?;
-    spaces_end_with(rt.alloc(), 16_777_217, image.as_mut_slice(), 8)?;
-    expect_erased(image.as_slice())
+    show(
+        spaces_end_with(rt.alloc(), 16_777_216, 0),
+        "so many are read",
+    )?;
+    show(
+        spaces_end_with(rt.alloc(), 16_777_217, 8),
+        "one more is too many",
+    )
 }
 
 const ONE_ROW: &[u8] = b"CREATE RELATION n;CREATE ATTRIBUTE v DOMAIN INT IN n;INSERT (1) INTO n;";
 
 #[test]
 fn a_long_script_leaves_what_came_whole(rt: HostRuntime) -> Result<(), Fail> {
-    let mut image = vec![in rt.alloc(); 0u8; SMALL]?;
-    let script = filled(rt.alloc(), ONE_ROW, b'x', 16_777_217)?;
-    let ended = run(rt.alloc(), script.as_slice(), image.as_mut_slice())?;
-    expect(&ended, 8, "ok\nok\nok\n")?;
-    has_one_row(rt.alloc(), image.as_mut_slice())
+    let script = filled(rt.alloc(), ONE_ROW, b'x', 16_777_217);
+    let left = leaves_one_row(rt.alloc(), script.as_slice(), NO_FAULTS, 8);
+    show(left, "one row is left")
 }

@@ -1,8 +1,9 @@
 //! Images that are made byte by byte.
 
-use crate::running::{LARGE, run};
+use crate::running::{LARGE, copied, erased, none_is_wrong, run, show, text};
 use std::alloc::Global;
 use std::test::Fail;
+use test_texts::Part;
 
 /// One byte of an image: its page, its place in the page, and its value.
 pub type Byte = (u16, u8, u8);
@@ -11,34 +12,35 @@ pub type Byte = (u16, u8, u8);
 /// two rows.
 pub type Case = (&'static str, &'static [Byte]);
 
-/// An erased image of 256 sectors.
-pub fn erased(alloc: Global) -> Result<Vec<u8>, Fail> {
-    Ok(vec![in alloc; 0u8; LARGE]?)
+// Lines `ok`, as many as there are in a text of so many bytes.
+fn all_ok(alloc: Global, bytes: usize) -> Vec<u8> {
+    text(alloc, &[Part::Often("ok\n", (bytes / 3 % 65_536) as u16)])
 }
 
-/// What a script leaves of an erased image. All of its commands are accepted.
-pub fn made_by(alloc: Global, script: &[u8]) -> Result<Vec<u8>, Fail> {
-    let mut image = erased(alloc)?;
-    let run = run(alloc, script, image.as_mut_slice())?;
-    if run.status != 0 {
-        return Err(Fail::new("the script was not carried out"));
+/// What a script leaves of an erased image, which is none where one of its commands is not accepted.
+pub fn made_by(alloc: Global, script: &[u8]) -> Vec<u8> {
+    let mut image = erased(alloc, LARGE);
+    let ended = run(alloc, script, image.as_mut_slice());
+    if ended.is(0, all_ok(alloc, ended.written.len()).as_slice()) {
+        image
+    } else {
+        Vec::new(alloc)
     }
-    for line in run.written.as_slice().chunks(3) {
-        if line != b"ok\n".as_slice() {
-            return Err(Fail::new("a command was refused"));
-        }
-    }
-    Ok(image)
 }
+
+/// The same of a script of some parts.
+pub fn made_of(alloc: Global, script: &[Part]) -> Vec<u8> {
+    made_by(alloc, text(alloc, script).as_slice())
+}
+
+const TWO_ROWS: &[u8] =
+    b"CREATE RELATION s;CREATE ATTRIBUTE k DOMAIN LONG IN s;CREATE ATTRIBUTE t DOMAIN STRING(3) IN s;\
+    INSERT (5, 'abc') INTO s;INSERT (-1, '') INTO s;";
 
 /// The relation s with two rows: `CAT` in pages 0 to 5, its log in pages 22 to 37 with four records in
 /// use, and `T0` in pages 6 to 21.
-pub fn two_rows(alloc: Global) -> Result<Vec<u8>, Fail> {
-    made_by(
-        alloc,
-        b"CREATE RELATION s;CREATE ATTRIBUTE k DOMAIN LONG IN s;CREATE ATTRIBUTE t DOMAIN STRING(3) IN s;\
-          INSERT (5, 'abc') INTO s;INSERT (-1, '') INTO s;",
-    )
+pub fn two_rows(alloc: Global) -> Vec<u8> {
+    made_by(alloc, TWO_ROWS)
 }
 
 /// Sets a byte of an image, where it has that byte.
@@ -57,8 +59,10 @@ pub fn set_all(image: &mut [u8], bytes: &[Byte]) {
 
 /// Writes bytes into an image from one on.
 pub fn put(image: &mut [u8], at: usize, bytes: &[u8]) {
-    for (i, byte) in bytes.iter().enumerate() {
-        set(image, at.saturating_add(i), *byte);
+    let mut place = at;
+    for byte in bytes {
+        set(image, place, *byte);
+        place = place.saturating_add(1);
     }
 }
 
@@ -74,38 +78,48 @@ pub fn put_file(image: &mut [u8], page: u16, pages: u16, kind: u8, name: &[u8]) 
     put(image, at + 10, name);
 }
 
-/// A run over a sound image, of which some bytes are changed, is refused by just this line, and leaves the
-/// image.
+/// Whether a run over a sound image, of which some bytes are changed, is refused by just this line, and
+/// leaves the image.
+pub fn is_refused(alloc: Global, sound: &[u8], bytes: &[Byte], line: &str) -> bool {
+    let mut image = copied(alloc, sound);
+    set_all(image.as_mut_slice(), bytes);
+    let before = copied(alloc, image.as_slice());
+    let ended = run(alloc, b"CREATE RELATION q;", image.as_mut_slice());
+    ended.is(6, line.as_bytes()) && image.as_slice() == before.as_slice()
+}
+
+/// A run over such an image is refused by just this line, and leaves the image.
 pub fn expect_refused(
     alloc: Global,
     sound: &[u8],
     bytes: &[Byte],
     line: &'static str,
 ) -> Result<(), Fail> {
-    let mut image = Vec::from_slice(alloc, sound)?;
-    set_all(image.as_mut_slice(), bytes);
-    let before = Vec::from_slice(alloc, image.as_slice())?;
-    let run = run(alloc, b"CREATE RELATION q;", image.as_mut_slice())?;
-    if run.is(6, line.as_bytes()) && image.as_slice() == before.as_slice() {
-        Ok(())
-    } else {
-        Err(Fail::new(line))
+    show(is_refused(alloc, sound, bytes, line), line)
+}
+
+// The number of the first image of a table that is not refused by its line.
+fn first_accepted(alloc: Global, cases: &[Case]) -> Option<u64> {
+    let sound = two_rows(alloc);
+    let mut number = 0u64;
+    for (line, bytes) in cases {
+        if !is_refused(alloc, sound.as_slice(), *bytes, *line) {
+            return Some(number);
+        }
+        number = number.saturating_add(1);
     }
+    None
 }
 
 /// Each image of a table is refused by its line.
 pub fn all_are_refused(alloc: Global, cases: &[Case]) -> Result<(), Fail> {
-    let sound = two_rows(alloc)?;
-    for (line, bytes) in cases {
-        expect_refused(alloc, sound.as_slice(), *bytes, *line)?;
-    }
-    Ok(())
+    none_is_wrong(first_accepted(alloc, cases))
 }
 
 /// A catalog of version 1 in pages 0 to 5, with the relation n whose one attribute v has the domain of
 /// this byte, and its file in so many pages from page 6 on.
-pub fn version_1(alloc: Global, domain: u8, pages: u16) -> Result<Vec<u8>, Fail> {
-    let mut image = erased(alloc)?;
+pub fn version_1(alloc: Global, domain: u8, pages: u16) -> Vec<u8> {
+    let mut image = erased(alloc, LARGE);
     let all = image.as_mut_slice();
     put_file(all, 0, 6, 1, b"CAT");
     for slot in 0..8usize {
@@ -117,5 +131,5 @@ pub fn version_1(alloc: Global, domain: u8, pages: u16) -> Result<Vec<u8>, Fail>
     set(all, 32 + 32, domain);
     set(all, 32 + 160, 1);
     put_file(all, 6, pages, 0, b"T0");
-    Ok(image)
+    image
 }

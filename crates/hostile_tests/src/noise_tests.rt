@@ -1,19 +1,11 @@
 //! Whole scripts over a flash whose reads answer noise.
 
 use crate::noise::{Noise, NoisyFlash, Random};
-use crate::running::{SMALL, run, run_on};
+use crate::running::{NO_FAULTS, RUN, SMALL, call_on, erased, none_is_wrong, run, show};
 use crate::scripts::whole_script;
 use afl_sim::MemFlash;
 use std::alloc::Global;
 use std::test::Fail;
-
-// What the seeds came to.
-#[derive(Clone, Copy, Default, PartialEq, Eq, Debug)]
-struct Counts {
-    carried_out: u16,
-    halted: u16,
-    refused: u16,
-}
 
 // The noise of a seed: from the first read on, or from a later one, in each read or in some.
 fn noise_of(seed: u32) -> Noise {
@@ -32,43 +24,66 @@ fn noise_of(seed: u32) -> Noise {
     Noise::new(seed, quiet, one_in)
 }
 
-// The status of a script over noise. It is one of a run without a fault, and so is that of a second run
-// over the image that is left, without noise.
-fn status_over(alloc: Global, script: &[u8], noise: Noise) -> Result<u8, Fail> {
-    let mut image = vec![in alloc; 0u8; SMALL]?;
-    let flash = MemFlash::new(image.as_mut_slice()).ok_or("no flash")?;
-    let ended = run_on(alloc, script, NoisyFlash::new(flash, noise))?;
-    let written = ended.written.as_slice();
-    if ended.status == 6 && !written.starts_with(b"no image ") {
-        return Err(Fail::new("no rule was told"));
-    }
-    let after = run(alloc, b"SELECT v FROM n;", image.as_mut_slice())?;
-    match after.status {
-        0 | 6 => Ok(ended.status),
-        _ => Err(Fail::new("the image that was left is neither run on nor refused")),
+// The status of a script on an image over noise, which is one of a run without a fault, or 255.
+fn status_over(alloc: Global, script: &[u8], noise: Noise, image: &mut [u8]) -> u8 {
+    let Some(flash) = MemFlash::new(image) else {
+        return 255;
+    };
+    let ended = call_on(alloc, RUN, script, NO_FAULTS, NoisyFlash::new(flash, noise));
+    match ended.status {
+        6 if ended.is_refused() => 6,
+        0 | 3 => ended.status,
+        _ => 255,
     }
 }
 
-// What so many seeds come to.
-fn counted(alloc: Global, seeds: u32) -> Result<Counts, Fail> {
-    let script = whole_script(alloc)?;
-    let mut counts = Counts::default();
+// The status of a script over the noise of a seed. A second run over the image that is left, without
+// noise, is refused or carried out, or it is 255.
+fn status_of(alloc: Global, script: &[u8], seed: u32) -> u8 {
+    let mut image = erased(alloc, SMALL);
+    let status = status_over(alloc, script, noise_of(seed), image.as_mut_slice());
+    match run(alloc, b"SELECT v FROM n;", image.as_mut_slice()).status {
+        0 | 6 => status,
+        _ => 255,
+    }
+}
+
+// What so many seeds come to: whether a script was carried out to its end, and one refused, and the first
+// seed that is wrong.
+#[derive(Clone, Copy)]
+struct Seeds {
+    carried_out: bool,
+    refused: bool,
+    wrong: Option<u64>,
+}
+
+fn tried(alloc: Global, seeds: u32) -> Seeds {
+    let script = whole_script(alloc);
+    let mut carried_out = false;
+    let mut refused = false;
+    let mut wrong = None;
     for seed in 0..seeds {
-        let status = status_over(alloc, script.as_slice(), noise_of(seed))?;
-        match status {
-            0 => counts.carried_out = counts.carried_out.saturating_add(1),
-            3 => counts.halted = counts.halted.saturating_add(1),
-            6 => counts.refused = counts.refused.saturating_add(1),
-            _ => return Err(Fail::new(status)),
+        match status_of(alloc, script.as_slice(), seed) {
+            0 => carried_out = true,
+            6 => refused = true,
+            3 => {}
+            _ => wrong = Some(u64::from(seed)),
         }
     }
-    Ok(counts)
+    Seeds {
+        carried_out,
+        refused,
+        wrong,
+    }
 }
 
 #[test]
 fn a_script_over_noise_ends_without_a_fault(rt: HostRuntime) -> Result<(), Fail> {
-    let counts = counted(rt.alloc(), 1_000)?;
+    let seeds = tried(rt.alloc(), 1_000);
+    none_is_wrong(seeds.wrong)?;
     // Noise comes early enough to be refused, and late enough to be met by commands.
-    assert!(rt; counts.carried_out > 0 && counts.refused > 0);
-    Ok(())
+    show(
+        seeds.carried_out && seeds.refused,
+        "noise comes early and late",
+    )
 }

@@ -1,6 +1,7 @@
 //! Each rule of an image is the first that is broken.
 
-use crate::images::{Byte, Case, all_are_refused, erased, expect_refused, put_file};
+use crate::images::{Byte, Case, all_are_refused, expect_refused, put_file};
+use crate::running::{LARGE, erased};
 use std::alloc::Global;
 use std::test::Fail;
 
@@ -49,8 +50,8 @@ fn rules_of_the_database_are_told_with_their_places(rt: HostRuntime) -> Result<(
 }
 
 // An image of so many files, each of one page.
-fn many_files(alloc: Global, files: u16) -> Result<Vec<u8>, Fail> {
-    let mut image = erased(alloc)?;
+fn many_files(alloc: Global, files: u16) -> Vec<u8> {
+    let mut image = erased(alloc, LARGE);
     for page in 0..files {
         let tens = (page / 10 % 10) as u8;
         let ones = (page % 10) as u8;
@@ -60,12 +61,12 @@ fn many_files(alloc: Global, files: u16) -> Result<Vec<u8>, Fail> {
         }
         put_file(image.as_mut_slice(), page, 1, 1, &name);
     }
-    Ok(image)
+    image
 }
 
 #[test]
 fn the_33rd_file_is_told(rt: HostRuntime) -> Result<(), Fail> {
-    let image = many_files(rt.alloc(), 33)?;
+    let image = many_files(rt.alloc(), 33);
     expect_refused(rt.alloc(), image.as_slice(), &[], "no image 5 32\n")
 }
 
@@ -78,7 +79,7 @@ fn one_file_alone(
     bytes: &[Byte],
     line: &'static str,
 ) -> Result<(), Fail> {
-    let mut image = erased(alloc)?;
+    let mut image = erased(alloc, LARGE);
     put_file(image.as_mut_slice(), 0, pages, kind, name);
     expect_refused(alloc, image.as_slice(), bytes, line)
 }

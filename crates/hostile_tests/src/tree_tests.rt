@@ -1,24 +1,15 @@
 //! Trees on flash that are not those of their keys.
 
-ghost use Rattle.std.specs.Prelude.{◌≡◌, None, IfOk};
+ghost use Rattle.std.specs.Prelude.{◌≡◌, None};
 
-use crate::images::{expect_refused, made_by};
-use afl_base::{Failed, FileError, Files, Flash, Kind, Name};
+use crate::images::{is_refused, made_of};
+use crate::running::{copied, show};
+use afl_base::{FileError, Files, Flash, Kind, Name};
 use afl_sim::MemFlash;
 use coffee_volume::{MountError, Volume};
 use std::alloc::Global;
 use std::test::Fail;
-
-// The files of a flash.
-fn mounted<F: Flash + Drop>(flash: F) -> Result<Volume<F>, Fail>
-    ensures idle { IfOk result (λ v. (⟦<Volume<F> as Files>⟧.state v).draft ≡ None) }
-{
-    match Volume::mount(flash) {
-        Ok(volume) => Ok(volume),
-        Err(MountError::Bad { bad, flash: _ }) => Err(Fail::from(bad)),
-        Err(MountError::Failed { flash: _ }) => Err(Fail::from(Failed)),
-    }
-}
+use test_texts::{ONE, Part};
 
 // Puts a byte into a growing file. It answers whether the file has it.
 fn put_byte<V: Files>(files: &mut V, name: Name, at: u32, byte: u8) -> Result<bool, FileError>
@@ -40,58 +31,78 @@ fn put_byte<V: Files>(files: &mut V, name: Name, at: u32, byte: u8) -> Result<bo
     Ok(true)
 }
 
-// Puts a byte into the tree `X0` of a flash.
-fn put_on<F: Flash + Drop>(flash: F, at: u32, byte: u8) -> Result<(), Fail> {
-    let tree = Name::new(b"X0").ok_or("no name")?;
-    let mut volume = mounted(flash)?;
-    if put_byte(&mut volume, tree, at, byte)? {
-        Ok(())
-    } else {
-        Err(Fail::new("the tree has no such byte"))
+// Puts a byte into the tree `X0` of a flash, and answers whether the tree has it.
+fn put_on<F: Flash + Drop>(flash: F, at: u32, byte: u8) -> bool {
+    let Some(tree) = Name::new(b"X0") else {
+        return false;
+    };
+    match Volume::mount(flash) {
+        Ok(mut volume) => match put_byte(&mut volume, tree, at, byte) {
+            Ok(done) => done,
+            Err(_) => false,
+        },
+        Err(MountError::Bad { bad: _, flash: _ }) => false,
+        Err(MountError::Failed { flash: _ }) => false,
     }
 }
 
-// An image is refused because of its tree, of which some bytes are changed.
-fn breaks(alloc: Global, sound: &[u8], bytes: &[(u32, u8)]) -> Result<(), Fail> {
-    let mut image = Vec::from_slice(alloc, sound)?;
+// Whether an image is refused because of its tree, of which some bytes are changed.
+fn breaks(alloc: Global, sound: &[u8], bytes: &[(u32, u8)]) -> bool {
+    let mut image = copied(alloc, sound);
     for (at, byte) in bytes {
-        put_on(
-            MemFlash::new(image.as_mut_slice()).ok_or("no flash")?,
-            *at,
-            *byte,
-        )?;
+        let Some(flash) = MemFlash::new(image.as_mut_slice()) else {
+            return false;
+        };
+        if !put_on(flash, *at, *byte) {
+            return false;
+        }
     }
-    expect_refused(alloc, image.as_slice(), &[], "no image 20 0\n")
+    is_refused(alloc, image.as_slice(), &[], "no image 20 0\n")
 }
 
-// The relation n with so many rows of the number 7 under a MAXHEAP.
-fn sevens(alloc: Global, rows: u16) -> Result<Vec<u8>, Fail> {
-    let mut script = Vec::from_slice(
-        alloc,
-        b"CREATE RELATION n;CREATE ATTRIBUTE v DOMAIN INT IN n;CREATE INDEX n.v TYPE MAXHEAP;",
-    )?;
-    for row in 0..rows {
-        script.extend_from_slice(b"INSERT (7) INTO n;")?;
-    }
-    made_by(alloc, script.as_slice())
-}
+const MANY: &[Part] = &[
+    Part::Once(ONE),
+    Part::Once("CREATE INDEX n.v TYPE MAXHEAP;"),
+    Part::Often("INSERT (7) INTO n;", 256),
+];
+
+const FEW: &[Part] = &[
+    Part::Once(ONE),
+    Part::Once("CREATE INDEX n.v TYPE MAXHEAP;"),
+    Part::Often("INSERT (7) INTO n;", 33),
+];
 
 #[test]
 fn another_key_in_a_tree_is_told(rt: HostRuntime) -> Result<(), Fail> {
-    let image = sevens(rt.alloc(), 256)?;
+    let image = made_of(rt.alloc(), MANY);
     // Eight buckets of 195 bytes behind 683 bytes; a pair is its key and its slot + 1.
-    breaks(rt.alloc(), image.as_slice(), &[(683, 6)])?;
+    show(
+        breaks(rt.alloc(), image.as_slice(), &[(683, 6)]),
+        "another key",
+    )?;
     // Slot 0 has two pairs, and slot 1 has none.
-    breaks(rt.alloc(), image.as_slice(), &[(683 + 10, 1)])?;
+    show(
+        breaks(rt.alloc(), image.as_slice(), &[(683 + 10, 1)]),
+        "two pairs of a slot",
+    )?;
     // Node 1 has the bucket of the root, too.
-    breaks(rt.alloc(), image.as_slice(), &[(2, 1)])?;
+    show(
+        breaks(rt.alloc(), image.as_slice(), &[(2, 1)]),
+        "a bucket of two nodes",
+    )?;
     // The chain of node 293 ends before its last bucket.
-    breaks(rt.alloc(), image.as_slice(), &[(683 + 195 * 6 + 192, 0)])
+    show(
+        breaks(rt.alloc(), image.as_slice(), &[(683 + 195 * 6 + 192, 0)]),
+        "a chain that ends",
+    )
 }
 
 #[test]
 fn a_bucket_off_the_path_of_its_key_is_told(rt: HostRuntime) -> Result<(), Fail> {
-    let image = sevens(rt.alloc(), 33)?;
+    let image = made_of(rt.alloc(), FEW);
     // The second bucket of key 7 is that of node 4, which is here made that of node 1.
-    breaks(rt.alloc(), image.as_slice(), &[(8, 0), (2, 2)])
+    show(
+        breaks(rt.alloc(), image.as_slice(), &[(8, 0), (2, 2)]),
+        "a bucket off its path",
+    )
 }

@@ -2,12 +2,13 @@
 
 ghost use Rattle.std.specs.Prelude.{◌≡◌, None};
 
-use crate::told::{mounted, say, started};
+use crate::arrays::{text, zeros};
+use crate::told::{told, volume_over};
 use afl_base::Files;
-use afl_sim::{MemFlash, PlainFiles};
+use afl_sim::PlainFiles;
 use std::alloc::Global;
 use std::test::Fail;
-use test_texts::{Part, joined};
+use test_texts::Part;
 
 /// The bytes of 256 sectors.
 pub const LARGE: usize = 1_048_576;
@@ -20,45 +21,64 @@ pub struct Case {
     pub replies: &'static [Part],
 }
 
+/// What a test shows is so.
+pub fn show(holds: bool, shows: &'static str) -> Result<(), Fail> {
+    if holds { Ok(()) } else { Err(Fail::new(shows)) }
+}
+
+// What a case that is wrong was to show, or none is.
+fn none_is_wrong(wrong: Option<&'static str>) -> Result<(), Fail> {
+    match wrong {
+        None => Ok(()),
+        Some(shows) => Err(Fail::new(shows)),
+    }
+}
+
 /// Carries out each script over files in memory and over a flash, of which there is nothing before.
 pub fn expect_each(alloc: Global, cases: &[Case]) -> Result<(), Fail> {
+    none_is_wrong(first_wrong(alloc, cases))
+}
+
+fn first_wrong(alloc: Global, cases: &[Case]) -> Option<&'static str> {
     for case in cases {
-        expect_over(alloc, PlainFiles::<4064>::new(), case)?;
-        expect_on_flash(alloc, 262_144, case)?;
+        if !is_told(alloc, PlainFiles::<4064>::new(), case)
+            || !is_told_on_flash(alloc, 262_144, case)
+        {
+            return Some(case.shows);
+        }
     }
-    Ok(())
+    None
 }
 
-/// Carries out each script over a flash of 256 sectors.
-pub fn expect_each_on_flash(alloc: Global, cases: &[Case]) -> Result<(), Fail> {
+/// Carries out each script over an erased flash of so many bytes.
+pub fn expect_each_on_flash(alloc: Global, bytes: usize, cases: &[Case]) -> Result<(), Fail> {
+    none_is_wrong(first_wrong_on_flash(alloc, bytes, cases))
+}
+
+fn first_wrong_on_flash(alloc: Global, bytes: usize, cases: &[Case]) -> Option<&'static str> {
     for case in cases {
-        expect_on_flash(alloc, LARGE, case)?;
+        if !is_told_on_flash(alloc, bytes, case) {
+            return Some(case.shows);
+        }
     }
-    Ok(())
+    None
 }
 
-/// Carries out a script over an erased flash of so many bytes.
-pub fn expect_on_flash(alloc: Global, bytes: usize, case: &Case) -> Result<(), Fail> {
-    let mut image = vec![in alloc; 0u8; bytes]?;
-    let flash = MemFlash::new(image.as_mut_slice()).ok_or("no flash")?;
-    expect_over(alloc, mounted(flash)?, case)
+// Whether a script over an erased flash of so many bytes has the replies of the case.
+fn is_told_on_flash(alloc: Global, bytes: usize, case: &Case) -> bool {
+    match volume_over(zeros(alloc, bytes).as_mut_slice()) {
+        Some(volume) => is_told(alloc, volume, case),
+        None => false,
+    }
 }
 
-fn expect_over<V: Files + Drop>(alloc: Global, files: V, case: &Case) -> Result<(), Fail>
+fn is_told<V: Files + Drop>(alloc: Global, files: V, case: &Case) -> bool
     requires { (V.state files).draft ≡ None }
 {
-    let mut session = started(files)?;
-    let script = joined(alloc, case.script)?;
-    let replies = joined(alloc, case.replies)?;
-    let said = say(alloc, &mut session, script.as_slice())?;
-    expect(said.as_slice(), replies.as_slice(), case.shows)
-}
-
-/// What was written is just this.
-pub fn expect(written: &[u8], wanted: &[u8], shows: &'static str) -> Result<(), Fail> {
-    if written == wanted {
-        Ok(())
-    } else {
-        Err(Fail::new(shows))
+    let script = text(alloc, case.script);
+    let replies = text(alloc, case.replies);
+    match told(alloc, files, script.as_slice()) {
+        Some((written, _)) => written.as_slice() == replies.as_slice(),
+        None => false,
     }
 }

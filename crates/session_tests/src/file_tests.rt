@@ -2,35 +2,49 @@
 
 ghost use Rattle.std.specs.Prelude.{◌≡◌, None};
 
-use crate::cases::expect;
+use crate::arrays::text;
+use crate::cases::show;
 use crate::filling::size_of;
-use crate::told::{say, started};
+use crate::told::told;
 use afl_base::{Files, Name};
 use afl_sim::PlainFiles;
-use std::alloc::Global;
+use std::alloc::{AllocError, Global};
 use std::test::Fail;
-use test_texts::{ONE, Part, joined};
+use test_texts::{ONE, Part};
 
-// The bytes of a file that a session hands back behind a text.
-fn handed_back<V: Files + Drop>(
-    alloc: Global,
-    files: V,
-    text: &[u8],
-    name: &[u8],
-) -> Result<Vec<u8>, Fail>
+// The bytes of the file of a name.
+fn read_file<V: Files>(alloc: Global, files: &mut V, name: Name) -> Result<Vec<u8>, AllocError> {
+    match files.find(name) {
+        Some(id) if files.live(id) => {
+            let mut bytes = vec![in alloc; 0u8; files.size(id) as usize]?;
+            match files.read(id, 0, bytes.as_mut_slice()) {
+                Ok(()) => Ok(bytes),
+                Err(_) => Ok(Vec::new(alloc)),
+            }
+        }
+        _ => Ok(Vec::new(alloc)),
+    }
+}
+
+// Whether the file of a name has just these bytes.
+fn has_file<V: Files>(alloc: Global, files: &mut V, name: &[u8], wanted: &[u8]) -> bool {
+    let Some(name) = Name::new(name) else {
+        return false;
+    };
+    match read_file(alloc, files, name) {
+        Ok(bytes) => bytes.as_slice() == wanted,
+        Err(_) => false,
+    }
+}
+
+// Whether the file of the rows that a script leaves has just the bytes of a case.
+fn is_stored<V: Files + Drop>(alloc: Global, files: V, case: &Stored) -> bool
     requires { (V.state files).draft ≡ None }
 {
-    let mut session = started(files)?;
-    say(alloc, &mut session, text)?;
-    let mut files = session.close();
-    let name = Name::new(name).ok_or("name")?;
-    let id = files.find(name).ok_or("no file")?;
-    if !files.live(id) {
-        return Err(Fail::new("no file"));
+    match told(alloc, files, case.script) {
+        Some((_, mut files)) => has_file(alloc, &mut files, b"T0", case.rows),
+        None => false,
     }
-    let mut bytes = vec![in alloc; 0u8; files.size(id) as usize]?;
-    files.read(id, 0, bytes.as_mut_slice())?;
-    Ok(bytes)
 }
 
 // A script, and the bytes of the rows that it leaves.
@@ -64,18 +78,15 @@ const STORED: &[Stored] = &[
     },
 ];
 
-// The file of the rows that a script leaves has just these bytes.
-fn all_are_stored(alloc: Global, cases: &[Stored]) -> Result<(), Fail> {
-    for case in cases {
-        let bytes = handed_back(alloc, PlainFiles::<4064>::new(), case.script, b"T0")?;
-        expect(bytes.as_slice(), case.rows, case.shows)?;
-    }
-    Ok(())
-}
-
 #[test]
 fn rows_stand_in_the_file_of_their_relation(rt: HostRuntime) -> Result<(), Fail> {
-    all_are_stored(rt.alloc(), STORED)
+    for case in STORED {
+        show(
+            is_stored(rt.alloc(), PlainFiles::<4064>::new(), case),
+            case.shows,
+        )?;
+    }
+    Ok(())
 }
 
 const EQUAL_KEYS: &[Part] = &[
@@ -85,17 +96,15 @@ const EQUAL_KEYS: &[Part] = &[
 ];
 
 // The bytes of the hash tree of 256 equal keys.
-fn tree_size<V: Files + Drop>(alloc: Global, files: V) -> Result<u32, Fail>
+fn tree_size<V: Files + Drop>(alloc: Global, files: V) -> Option<u32>
     requires { (V.state files).draft ≡ None }
 {
-    let mut session = started(files)?;
-    say(alloc, &mut session, joined(alloc, EQUAL_KEYS)?.as_slice())?;
-    size_of(&session.close(), b"X0")
+    let (_, files) = told(alloc, files, text(alloc, EQUAL_KEYS).as_slice())?;
+    size_of(&files, b"X0")
 }
 
 #[test]
 fn a_hash_tree_of_256_equal_keys_has_8_buckets(rt: HostRuntime) -> Result<(), Fail> {
-    let size = tree_size(rt.alloc(), PlainFiles::<4064>::new())?;
-    assert!(rt; size == 2_243);
-    Ok(())
+    let size = tree_size(rt.alloc(), PlainFiles::<4064>::new());
+    show(size == Some(2_243), "the tree has eight buckets")
 }

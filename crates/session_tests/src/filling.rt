@@ -1,10 +1,9 @@
 //! Files that are made without a session, and what stands in them.
 
-ghost use Rattle.std.specs.Prelude.{◌≡◌, ◌≢◌, ◌+◌, ◌-◌, ◌*◌, ◌<◌, ◌≤◌, ℕ, None, IsTrue, OnOk, length, slice_index};
+ghost use Rattle.std.specs.Prelude.{◌≡◌, ◌≢◌, ◌+◌, ◌-◌, ◌*◌, ◌<◌, ◌≤◌, ℕ, None, IsSome, IsTrue, length, slice_index};
 ghost use Rattle.afl_base.specs.Files.{IsKind, used};
 
 use afl_base::{FileId, Files, Kind, Name};
-use std::test::Fail;
 
 // Whether the last place for a file is free.
 fn has_place<V: Files>(files: &V) -> bool
@@ -17,16 +16,19 @@ fn has_place<V: Files>(files: &V) -> bool
 }
 
 /// A new file.
-pub fn new_file<V: Files>(files: &mut V, name: &[u8], kind: Kind) -> Result<FileId, Fail>
+pub fn new_file<V: Files>(files: &mut V, name: &[u8], kind: Kind) -> Option<FileId>
     requires idle { (V.state files.old).draft ≡ None }
     requires kind { IsKind kind }
-    ensures idle { OnOk result ((V.state files.new).draft ≡ None) }
+    ensures idle { IsSome result → (V.state files.new).draft ≡ None }
 {
-    let name = Name::new(name).ok_or("name")?;
+    let name = Name::new(name)?;
     if files.find(name).is_some() || !has_place(files) {
-        return Err(Fail::new("there is no place for a file"));
+        return None;
     }
-    Ok(files.create(name, kind)?)
+    match files.create(name, kind) {
+        Ok(id) => Some(id),
+        Err(_) => None,
+    }
 }
 
 // Whether a file of the kind may have so many bytes.
@@ -59,23 +61,24 @@ fn is_tail(kind: Kind, size: u32, tail: &[u8]) -> bool
     total <= 4_194_304 && holds(kind, total)
 }
 
-/// Puts bytes behind those of a file.
-pub fn fill<V: Files>(files: &mut V, id: FileId, bytes: &[u8]) -> Result<(), Fail>
+/// Puts bytes behind those of a file, and answers whether they fit.
+pub fn fill<V: Files>(files: &mut V, id: FileId, bytes: &[u8]) -> bool
     requires idle { (V.state files.old).draft ≡ None }
-    ensures idle { OnOk result ((V.state files.new).draft ≡ None) }
+    ensures idle { IsTrue result → (V.state files.new).draft ≡ None }
 {
     if !files.live(id) || !is_tail(files.kind(id), files.size(id), bytes) {
-        return Err(Fail::new("the bytes do not fit"));
+        return false;
     }
-    files.prepare(id, 0, bytes.len() as u32)?;
-    Ok(files.append(id, bytes)?)
+    match files.prepare(id, 0, bytes.len() as u32) {
+        Ok(()) => files.append(id, bytes).is_ok(),
+        Err(_) => false,
+    }
 }
 
 /// The number of bytes of the file of a name.
-pub fn size_of<V: Files>(files: &V, name: &[u8]) -> Result<u32, Fail> {
-    let name = Name::new(name).ok_or("name")?;
-    match files.find(name) {
-        Some(id) if files.live(id) => Ok(files.size(id)),
-        _ => Err(Fail::new("no file")),
+pub fn size_of<V: Files>(files: &V, name: &[u8]) -> Option<u32> {
+    match files.find(Name::new(name)?) {
+        Some(id) if files.live(id) => Some(files.size(id)),
+        _ => None,
     }
 }

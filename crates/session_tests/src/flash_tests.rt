@@ -1,33 +1,11 @@
 //! Sessions over a flash in memory: merging, drafts, growth, and full pools.
 
-use crate::cases::{Case, LARGE, expect, expect_each_on_flash, expect_on_flash};
-use crate::told::{mounted, say, started};
-use afl_sim::MemFlash;
-use arrayvec::ArrayVec;
+use crate::arrays::{text, zeros};
+use crate::cases::{Case, LARGE, expect_each_on_flash, show};
+use crate::told::{told, volume_over};
 use std::alloc::{AllocError, Global};
 use std::test::Fail;
-use test_texts::{ONE, Part, joined};
-
-/// A text with a number of five digits in it.
-pub fn with_number(front: &[u8], number: u16, behind: &[u8]) -> ArrayVec<u8, 64> {
-    let mut text = ArrayVec::new();
-    for byte in front {
-        push(&mut text, *byte);
-    }
-    for scale in [10_000, 1_000, 100, 10, 1] {
-        push(&mut text, b'0' + (number / scale % 10) as u8);
-    }
-    for byte in behind {
-        push(&mut text, *byte);
-    }
-    text
-}
-
-fn push(text: &mut ArrayVec<u8, 64>, byte: u8) {
-    if text.len() < 64 {
-        text.push(byte);
-    }
-}
+use test_texts::{ONE, Part, push_number, push_often};
 
 const GROWN: &[Case] = &[
     Case {
@@ -89,7 +67,7 @@ const GROWN: &[Case] = &[
 
 #[test]
 fn rows_logs_and_indexes_grow(rt: HostRuntime) -> Result<(), Fail> {
-    expect_each_on_flash(rt.alloc(), GROWN)
+    expect_each_on_flash(rt.alloc(), LARGE, GROWN)
 }
 
 const SLOTS: &[Case] = &[Case {
@@ -107,11 +85,11 @@ const SLOTS: &[Case] = &[Case {
 
 #[test]
 fn the_last_slot_is_number_32_767(rt: HostRuntime) -> Result<(), Fail> {
-    expect_each_on_flash(rt.alloc(), SLOTS)
+    expect_each_on_flash(rt.alloc(), LARGE, SLOTS)
 }
 
 // 812 rows of four bytes fill a flash of four sectors.
-const FILLED: Case = Case {
+const FILLED: &[Case] = &[Case {
     shows: "a command that has no space does nothing",
     script: &[
         Part::Once("CREATE RELATION n;CREATE ATTRIBUTE v DOMAIN LONG IN n;"),
@@ -124,30 +102,32 @@ const FILLED: Case = Case {
         Part::Often("no space 32\n812,1\nrows 1\n", 2),
         Part::Once("rows 0\nno relation\n"),
     ],
-};
+}];
 
 #[test]
 fn a_command_that_has_no_space_does_nothing(rt: HostRuntime) -> Result<(), Fail> {
-    expect_on_flash(rt.alloc(), 16_384, &FILLED)
+    expect_each_on_flash(rt.alloc(), 16_384, FILLED)
 }
 
-const SAMPLES: &[u8] = b"CREATE RELATION samples;CREATE ATTRIBUTE minute DOMAIN LONG IN samples;\
+const SAMPLES: &str = "CREATE RELATION samples;CREATE ATTRIBUTE minute DOMAIN LONG IN samples;\
     CREATE ATTRIBUTE node DOMAIN INT IN samples;CREATE ATTRIBUTE value DOMAIN INT IN samples;\
     CREATE INDEX samples.minute TYPE INLINE;";
 
+const TEN_MINUTES: &str = "SELECT minute, value FROM samples WHERE minute >= 600 AND minute < 610;";
+
 // A sensor's day, a row a minute, and a question after ten minutes of it: 1,446 commands.
-fn day(alloc: Global) -> Result<Vec<u8>, AllocError> {
-    let mut text = Vec::from_slice(alloc, SAMPLES)?;
+fn push_day(alloc: Global) -> Result<Vec<u8>, AllocError> {
+    let mut text = Vec::from_slice(alloc, SAMPLES.as_bytes())?;
     for minute in 0..1_440u16 {
-        text.extend_from_slice(with_number(b"INSERT (", minute, b", ").as_slice())?;
-        text.push(b'0' + (minute % 4) as u8)?;
-        text.extend_from_slice(b", 20")?;
-        text.push(b'0' + (minute % 7) as u8)?;
-        text.extend_from_slice(b") INTO samples;")?;
+        push_often(&mut text, "INSERT (", 1)?;
+        push_number(&mut text, minute)?;
+        push_often(&mut text, ", ", 1)?;
+        push_number(&mut text, minute % 4)?;
+        push_often(&mut text, ", ", 1)?;
+        push_number(&mut text, 200 + minute % 7)?;
+        push_often(&mut text, ") INTO samples;", 1)?;
     }
-    text.extend_from_slice(
-        b"SELECT minute, value FROM samples WHERE minute >= 600 AND minute < 610;",
-    )?;
+    push_often(&mut text, TEN_MINUTES, 1)?;
     Ok(text)
 }
 
@@ -157,12 +137,27 @@ const FOUND: &[Part] = &[
     Part::Once("608,206\n609,200\nrows 10\n"),
 ];
 
+fn day(alloc: Global) -> Vec<u8> {
+    match push_day(alloc) {
+        Ok(text) => text,
+        Err(_) => Vec::new(alloc),
+    }
+}
+
+// Whether the ten minutes are found.
+fn is_found(alloc: Global) -> bool {
+    let replies = text(alloc, FOUND);
+    let mut image = zeros(alloc, LARGE);
+    let Some(volume) = volume_over(image.as_mut_slice()) else {
+        return false;
+    };
+    match told(alloc, volume, day(alloc).as_slice()) {
+        Some((written, _)) => written.as_slice() == replies.as_slice(),
+        None => false,
+    }
+}
+
 #[test]
 fn a_day_of_samples_is_found_by_its_minutes(rt: HostRuntime) -> Result<(), Fail> {
-    let mut image = vec![in rt.alloc(); 0u8; LARGE]?;
-    let flash = MemFlash::new(image.as_mut_slice()).ok_or("no flash")?;
-    let mut session = started(mounted(flash)?)?;
-    let written = say(rt.alloc(), &mut session, day(rt.alloc())?.as_slice())?;
-    let replies = joined(rt.alloc(), FOUND)?;
-    expect(written.as_slice(), replies.as_slice(), "the ten minutes")
+    show(is_found(rt.alloc()), "the ten minutes")
 }

@@ -89,12 +89,12 @@ fn told<V: Files>(
     session: &mut Session<V>,
     command: &Command,
     room: &mut [u8; 4096],
-) -> Result<(usize, Outcome), Fail>
+) -> Option<(usize, Outcome)>
     requires { IsWellFormed command.now }
 {
     let mut out = MemSink::new(&mut room[..], None);
     let outcome = carry_out(session, command, &mut out)?;
-    Ok((out.written().len(), outcome))
+    Some((out.written().len(), outcome))
 }
 
 // Whether a command is of indexes, which one of the two sessions has alone.
@@ -121,17 +121,32 @@ fn is_alike<V: Files>(
     command: &Command,
     left: &mut [u8; 4096],
     right: &mut [u8; 4096],
-) -> Result<bool, Fail>
+) -> bool
     requires { IsWellFormed command.now }
 {
-    let (wrote, outcome) = told(indexed, command, left)?;
+    let Some((wrote, outcome)) = told(indexed, command, left) else {
+        return false;
+    };
     if is_of_indexes(command) || outcome == Outcome::Refused && is_change(command) {
-        return Ok(true);
+        return true;
     }
-    let (also, _) = told(plain, command, right)?;
+    let Some((also, _)) = told(plain, command, right) else {
+        return false;
+    };
     match (left.get(..wrote), right.get(..also)) {
-        (Some(left), Some(right)) => Ok(left == right),
-        _ => Ok(false),
+        (Some(left), Some(right)) => left == right,
+        _ => false,
+    }
+}
+
+// Command number k of a list, which begins with those that make the relations.
+fn nth_command(k: usize, more: &[&[u8]], seed: &mut u32) -> ArrayVec<u8, 128> {
+    match RELATIONS.get(k) {
+        Some(text) => filled(text, seed),
+        None => match chosen(COMMANDS, more, seed) {
+            Some(text) => filled(text, seed),
+            None => ArrayVec::new(),
+        },
     }
 }
 
@@ -141,38 +156,49 @@ fn are_alike<V: Files>(
     plain: &mut Session<V>,
     seed: u32,
     more: &[&[u8]],
-) -> Result<bool, Fail> {
+) -> bool {
     let mut seed = seed;
     let mut command = Command::FetchCursor { number: 0 };
     let mut left = [0; 4096];
     let mut right = [0; 4096];
-    for number in 0..46usize {
-        let text = match RELATIONS.get(number) {
-            Some(text) => filled(text, &mut seed),
-            None => filled(
-                chosen(COMMANDS, more, &mut seed).ok_or("no command")?,
-                &mut seed,
-            ),
-        };
+    for k in 0..46usize {
+        let text = nth_command(k, more, &mut seed);
         if read(text.as_slice(), &mut command).is_err()
-            || !is_alike(indexed, plain, &command, &mut left, &mut right)?
+            || !is_alike(indexed, plain, &command, &mut left, &mut right)
         {
-            return Ok(false);
+            return false;
         }
     }
-    Ok(true)
+    true
+}
+
+// Whether the list of a seed is answered alike.
+fn is_list_alike(seed: u32, more: &[&[u8]]) -> bool {
+    match (
+        started(PlainFiles::<4064>::new()),
+        started(PlainFiles::<4064>::new()),
+    ) {
+        (Some(mut indexed), Some(mut plain)) => are_alike(&mut indexed, &mut plain, seed, more),
+        _ => false,
+    }
+}
+
+// The first of 250 lists that is not answered alike.
+fn first_unlike(first: u32, more: &[&[u8]]) -> Option<u32> {
+    for list in 0..250u32 {
+        if !is_list_alike(first.wrapping_add(list), more) {
+            return Some(list);
+        }
+    }
+    None
 }
 
 // 250 lists are answered alike.
 fn lists_are_alike(first: u32, more: &[&[u8]]) -> Result<(), Fail> {
-    for list in 0..250u32 {
-        let mut indexed = started(PlainFiles::<4064>::new())?;
-        let mut plain = started(PlainFiles::<4064>::new())?;
-        if !are_alike(&mut indexed, &mut plain, first.wrapping_add(list), more)? {
-            return Err(Fail::new(list));
-        }
+    match first_unlike(first, more) {
+        None => Ok(()),
+        Some(list) => Err(Fail::new(list)),
     }
-    Ok(())
 }
 
 const BETWEEN_BOUNDS: &[&[u8]] = &[

@@ -1,83 +1,101 @@
 //! A session that is told commands as text.
 
-ghost use Rattle.std.specs.Prelude.{◌≡◌, ◌≤◌, IfOk, None, OnOk, length};
+ghost use Rattle.std.specs.Prelude.{◌≡◌, ◌≤◌, IfSome, None, OnOk, length};
 ghost use Rattle.session_model.specs.Queries.{IsWellFormed};
 
-use afl_base::{Failed, Files, Flash, Sink};
-use afl_sim::MemSink;
+use crate::arrays::{copied, zeros};
+use afl_base::{Files, Flash, Sink};
+use afl_sim::{MemFlash, MemSink};
 use antelope_engine::{Outcome, Session, StartError, Step};
 use aql_parse::parse;
 use coffee_volume::{MountError, Volume};
 use db_model::{Command, Refusal};
 use reply_text::write_refusal;
 use std::alloc::Global;
-use std::test::Fail;
 
 /// A volume over a flash.
-pub fn mounted<F: Flash + Drop>(flash: F) -> Result<Volume<F>, Fail>
-    ensures idle { IfOk result (λ v. (⟦<Volume<F> as Files>⟧.state v).draft ≡ None) }
+pub fn mounted<F: Flash + Drop>(flash: F) -> Option<Volume<F>>
+    ensures idle { IfSome result (λ v. (⟦<Volume<F> as Files>⟧.state v).draft ≡ None) }
 {
     match Volume::mount(flash) {
-        Ok(volume) => Ok(volume),
-        Err(MountError::Bad { bad, flash: _ }) => Err(Fail::from(bad)),
-        Err(MountError::Failed { flash: _ }) => Err(Fail::from(Failed)),
+        Ok(volume) => Some(volume),
+        Err(MountError::Bad { bad: _, flash: _ }) => None,
+        Err(MountError::Failed { flash: _ }) => None,
+    }
+}
+
+/// A volume over a flash in memory.
+pub fn volume_over<'a>(image: &'a mut [u8]) -> Option<Volume<MemFlash<'a>>>
+    ensures idle { IfSome result (λ v. (⟦<Volume<MemFlash<'a>> as Files>⟧.state v).draft ≡ None) }
+{
+    match MemFlash::new(image) {
+        Some(flash) => mounted(flash),
+        None => None,
     }
 }
 
 /// A session over files in which no draft is begun.
-pub fn started<V: Files + Drop>(files: V) -> Result<Session<V>, Fail>
+pub fn started<V: Files + Drop>(files: V) -> Option<Session<V>>
     requires { (V.state files).draft ≡ None }
 {
     match Session::start(files) {
-        Ok(session) => Ok(session),
-        Err(StartError::Bad { broken, files: _ }) => Err(Fail::from(broken)),
-        Err(StartError::Failed { files: _ }) => Err(Fail::from(Failed)),
+        Ok(session) => Some(session),
+        Err(
+            StartError::Bad {
+                broken: _,
+                files: _,
+            },
+        ) => None,
+        Err(StartError::Failed { files: _ }) => None,
     }
 }
 
-/// Carries out the commands of a text, each ended by `;`, and answers what was written.
-pub fn say<V: Files>(
-    alloc: Global,
-    session: &mut Session<V>,
-    text: &[u8],
-) -> Result<Vec<u8>, Fail> {
-    let mut room = vec![in alloc; 0u8; 131_072]?;
-    let mut out = MemSink::new(room.as_mut_slice(), None);
-    say_all(session, text, &mut out)?;
-    Ok(Vec::from_slice(alloc, out.written())?)
+/// Carries out the commands of a text over files in which no draft is begun, and answers what was written,
+/// and the files.
+pub fn told<V: Files + Drop>(alloc: Global, files: V, text: &[u8]) -> Option<(Vec<u8>, V)>
+    requires { (V.state files).draft ≡ None }
+{
+    let mut session = started(files)?;
+    let written = say(alloc, &mut session, text)?;
+    Some((written, session.close()))
 }
 
-// Carries out the commands of a text into a sink.
-fn say_all<V: Files, K: Sink>(
-    session: &mut Session<V>,
-    text: &[u8],
-    out: &mut K,
-) -> Result<(), Fail> {
+/// Carries out the commands of a text, each ended by `;`, and answers what was written.
+pub fn say<V: Files>(alloc: Global, session: &mut Session<V>, text: &[u8]) -> Option<Vec<u8>> {
+    let mut room = zeros(alloc, 131_072);
+    let mut out = MemSink::new(room.as_mut_slice(), None);
+    if say_all(session, text, &mut out) {
+        Some(copied(alloc, out.written()))
+    } else {
+        None
+    }
+}
+
+// Carries out the commands of a text into a sink, and answers whether it came to its end.
+fn say_all<V: Files, K: Sink>(session: &mut Session<V>, text: &[u8], out: &mut K) -> bool {
     let mut command = Command::FetchCursor { number: 0 };
     let mut from = 0;
     for at in 0..text.len() {
         if text[at] == b';' {
-            let piece = text.get(from..at).ok_or("no piece")?;
-            say_one(session, &mut command, piece, out)?;
-            from = at + 1;
+            match text.get(from..at) {
+                Some(piece) if say_one(session, &mut command, piece, out) => from = at + 1,
+                _ => return false,
+            }
         }
     }
-    Ok(())
+    true
 }
 
-// Reads a command and carries it out, and answers what it came to.
+// Reads a command and carries it out.
 fn say_one<V: Files, K: Sink>(
     session: &mut Session<V>,
     command: &mut Command,
     bytes: &[u8],
     out: &mut K,
-) -> Result<Outcome, Fail> {
+) -> bool {
     match read(bytes, command) {
-        Ok(()) => carry_out(session, command, out),
-        Err(refusal) => {
-            write_refusal(out, &refusal)?;
-            Ok(Outcome::Refused)
-        }
+        Ok(()) => carry_out(session, command, out).is_some(),
+        Err(refusal) => refuse(&refusal, out).is_some(),
     }
 }
 
@@ -97,28 +115,31 @@ pub fn carry_out<V: Files, K: Sink>(
     session: &mut Session<V>,
     command: &Command,
     out: &mut K,
-) -> Result<Outcome, Fail>
+) -> Option<Outcome>
     requires { IsWellFormed command.now }
 {
     match step(session, command, out)? {
-        Step::Done(outcome) => Ok(outcome),
-        Step::NoSpace { need } => {
-            write_refusal(out, &Refusal::Space { need })?;
-            Ok(Outcome::Refused)
-        }
+        Step::Done(outcome) => Some(outcome),
+        Step::NoSpace { need } => refuse(&Refusal::Space { need }, out),
+    }
+}
+
+fn refuse<K: Sink>(refusal: &Refusal, out: &mut K) -> Option<Outcome> {
+    match write_refusal(out, refusal) {
+        Ok(()) => Some(Outcome::Refused),
+        Err(_) => None,
     }
 }
 
 // What a session that was not stopped does at a command.
-fn step<V: Files, K: Sink>(
-    session: &mut Session<V>,
-    command: &Command,
-    out: &mut K,
-) -> Result<Step, Fail>
+fn step<V: Files, K: Sink>(session: &mut Session<V>, command: &Command, out: &mut K) -> Option<Step>
     requires { IsWellFormed command.now }
 {
     if session.is_stopped() {
-        return Err(Fail::from(Failed));
+        return None;
     }
-    Ok(session.exec(command, out)?)
+    match session.exec(command, out) {
+        Ok(step) => Some(step),
+        Err(_) => None,
+    }
 }

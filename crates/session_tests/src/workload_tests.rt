@@ -2,16 +2,16 @@
 
 ghost use Rattle.std.specs.Prelude.{◌≡◌, None};
 
-use crate::cases::expect;
-use crate::flash_tests::with_number;
-use crate::told::{carry_out, mounted, read, say, started};
+use crate::arrays::zeros;
+use crate::cases::show;
+use crate::told::{carry_out, read, say, started, volume_over};
 use afl_base::Files;
-use afl_sim::{MemFlash, MemSink};
+use afl_sim::MemSink;
 use antelope_engine::{Outcome, Session};
-use arrayvec::ArrayVec;
 use db_model::Command;
-use std::alloc::Global;
+use std::alloc::{AllocError, Global};
 use std::test::Fail;
+use test_texts::{push_number, push_often};
 
 // What a number of commands came to.
 #[derive(Clone, Copy, Debug, Default, PartialEq, Eq)]
@@ -33,34 +33,58 @@ impl Tally {
 
 // Command number k of a seed behind the first four: a key that is hashed from k is inserted, and at
 // every 64th one is looked for.
-fn generated(seed: u32, k: u32) -> ArrayVec<u8, 64> {
+fn push_generated(alloc: Global, seed: u32, k: u32) -> Result<Vec<u8>, AllocError> {
     let mixed = seed ^ k.wrapping_mul(2_654_435_761);
     let hash = mixed.wrapping_mul(1_664_525).wrapping_add(1_013_904_223);
     let key = (hash / 65_536 % 512) as u16;
+    let mut text = Vec::new(alloc);
     if k % 64 == 63 {
-        return with_number(b"SELECT COUNT(v) FROM w WHERE k = ", key, b"");
+        push_often(&mut text, "SELECT COUNT(v) FROM w WHERE k = ", 1)?;
+        push_number(&mut text, key)?;
+    } else {
+        push_often(&mut text, "INSERT (", 1)?;
+        push_number(&mut text, key)?;
+        push_often(&mut text, ", ", 1)?;
+        push_number(&mut text, (k % 1000) as u16)?;
+        push_often(&mut text, ") INTO w", 1)?;
     }
-    let front = with_number(b"INSERT (", key, b", ");
-    with_number(front.as_slice(), (k % 1000) as u16, b") INTO w")
+    Ok(text)
+}
+
+fn generated(alloc: Global, seed: u32, k: u32) -> Vec<u8> {
+    match push_generated(alloc, seed, k) {
+        Ok(text) => text,
+        Err(_) => Vec::new(alloc),
+    }
 }
 
 const FIRST: &[u8] =
     b"CREATE RELATION w;CREATE ATTRIBUTE k DOMAIN LONG IN w;CREATE ATTRIBUTE v DOMAIN INT IN w;\
     CREATE INDEX w.k TYPE MAXHEAP;";
 
+// What a command of a text came to.
+fn outcome<V: Files>(
+    session: &mut Session<V>,
+    text: &[u8],
+    command: &mut Command,
+) -> Option<Outcome> {
+    let mut room = [0; 64];
+    let mut out = MemSink::new(&mut room[..], None);
+    match read(text, command) {
+        Ok(()) => carry_out(session, command, &mut out),
+        Err(_) => None,
+    }
+}
+
 // What the commands 4 to 19,999 of a seed come to.
-fn tallied<V: Files>(session: &mut Session<V>, seed: u32) -> Result<Tally, Fail> {
+fn tallied<V: Files>(alloc: Global, session: &mut Session<V>, seed: u32) -> Option<Tally> {
     let mut tally = Tally::default();
     let mut command = Command::FetchCursor { number: 0 };
     for k in 4..20_000u32 {
-        let mut room = [0; 64];
-        let mut out = MemSink::new(&mut room[..], None);
-        match read(generated(seed, k).as_slice(), &mut command) {
-            Ok(()) => tally.count(&carry_out(session, &command, &mut out)?),
-            Err(_) => return Err(Fail::new("the workload cannot be read")),
-        }
+        let text = generated(alloc, seed, k);
+        tally.count(&outcome(session, text.as_slice(), &mut command)?);
     }
-    Ok(tally)
+    Some(tally)
 }
 
 const WHOLE: Tally = Tally {
@@ -69,27 +93,44 @@ const WHOLE: Tally = Tally {
     refused: 0,
 };
 
-// The workload over new files is carried out.
-fn expect_done<V: Files + Drop>(alloc: Global, files: V) -> Result<(), Fail>
+// Whether a text has just these replies.
+fn says<V: Files>(alloc: Global, session: &mut Session<V>, text: &[u8], replies: &[u8]) -> bool {
+    match say(alloc, session, text) {
+        Some(written) => written.as_slice() == replies,
+        None => false,
+    }
+}
+
+// Whether the workload over new files is carried out.
+fn is_done<V: Files + Drop>(alloc: Global, files: V) -> bool
     requires { (V.state files).draft ≡ None }
 {
-    let mut session = started(files)?;
-    let first = say(alloc, &mut session, FIRST)?;
-    expect(first.as_slice(), b"ok\nok\nok\nok\n", "the first commands")?;
-    if tallied(&mut session, 7)? != WHOLE {
-        return Err(Fail::new("the commands come to something else"));
+    match started(files) {
+        Some(mut session) => {
+            says(alloc, &mut session, FIRST, b"ok\nok\nok\nok\n")
+                && tallied(alloc, &mut session, 7) == Some(WHOLE)
+                && says(
+                    alloc,
+                    &mut session,
+                    b"SELECT COUNT(v) FROM w;",
+                    b"19684\nrows 1\n",
+                )
+        }
+        None => false,
     }
-    let last = say(alloc, &mut session, b"SELECT COUNT(v) FROM w;")?;
-    expect(
-        last.as_slice(),
-        b"19684\nrows 1\n",
-        "the rows that are left",
-    )
+}
+
+fn is_done_on_flash(alloc: Global) -> bool {
+    match volume_over(zeros(alloc, 4_194_304).as_mut_slice()) {
+        Some(volume) => is_done(alloc, volume),
+        None => false,
+    }
 }
 
 #[test]
 fn twenty_thousand_generated_commands_are_done(rt: HostRuntime) -> Result<(), Fail> {
-    let mut image = vec![in rt.alloc(); 0u8; 4_194_304]?;
-    let volume = mounted(MemFlash::new(image.as_mut_slice()).ok_or("no flash")?)?;
-    expect_done(rt.alloc(), volume)
+    show(
+        is_done_on_flash(rt.alloc()),
+        "the commands come to their counts",
+    )
 }

@@ -2,70 +2,60 @@
 
 ghost use Rattle.std.specs.Prelude.{◌≡◌, None};
 
+use crate::arrays::{copied, zeros};
+use crate::cases::show;
 use crate::told::{say, started};
-use afl_base::{Failed, Files, Sink};
+use afl_base::{Files, Sink};
 use afl_sim::{MemSink, PlainFiles};
 use antelope_engine::{Session, Stop};
 use std::alloc::Global;
 use std::test::Fail;
 
-// How the writing of a session's database ends.
-fn write<V: Files, K: Sink>(
-    session: &mut Session<V>,
-    out: &mut K,
-) -> Result<Result<(), Stop>, Fail> {
+// How the writing of a session's database ends, which was not stopped.
+fn write<V: Files, K: Sink>(session: &mut Session<V>, out: &mut K) -> Option<Result<(), Stop>> {
     if session.is_stopped() {
-        return Err(Fail::from(Failed));
+        return None;
     }
-    Ok(dump::write(session, out))
+    Some(dump::write(session, out))
 }
 
-// The script of a session's database, into a sink that fails at a call of a number.
+// The script of a session's database, into a sink that fails at a call of a number, and how it ends.
 fn script<V: Files>(
     alloc: Global,
     session: &mut Session<V>,
     fail_at: Option<u64>,
-) -> Result<(Vec<u8>, Result<(), Stop>), Fail> {
-    let mut room = vec![in alloc; 0u8; 4096]?;
+) -> Option<(Vec<u8>, Result<(), Stop>)> {
+    let mut room = zeros(alloc, 4096);
     let mut out = MemSink::new(room.as_mut_slice(), fail_at);
     let ended = write(session, &mut out)?;
-    Ok((Vec::from_slice(alloc, out.written())?, ended))
+    Some((copied(alloc, out.written()), ended))
+}
+
+// Whether a session is written as just this script.
+fn is_script<V: Files>(alloc: Global, session: &mut Session<V>, wanted: &[u8]) -> bool {
+    match script(alloc, session, None) {
+        Some((text, ended)) => ended == Ok(()) && text.as_slice() == wanted,
+        None => false,
+    }
 }
 
 // A session over new files, which was told a text.
-fn told<V: Files + Drop>(alloc: Global, files: V, text: &[u8]) -> Result<Session<V>, Fail>
+fn session_told<V: Files + Drop>(alloc: Global, files: V, text: &[u8]) -> Option<Session<V>>
     requires { (V.state files).draft ≡ None }
 {
     let mut session = started(files)?;
     say(alloc, &mut session, text)?;
-    Ok(session)
+    Some(session)
 }
 
-// A session is written as just this script.
-fn expect_script<V: Files>(
-    alloc: Global,
-    session: &mut Session<V>,
-    wanted: &[u8],
-) -> Result<(), Fail> {
-    let (text, ended) = script(alloc, session, None)?;
-    if ended == Ok(()) && text.as_slice() == wanted {
-        Ok(())
-    } else {
-        Err(Fail::new("another script is written"))
-    }
-}
-
-// What a text makes of new files is written as just this script.
-fn is_written_as<V: Files + Drop>(
-    alloc: Global,
-    files: V,
-    text: &[u8],
-    wanted: &[u8],
-) -> Result<(), Fail>
+// Whether what a text makes of new files is written as just this script.
+fn is_written_as<V: Files + Drop>(alloc: Global, files: V, text: &[u8], wanted: &[u8]) -> bool
     requires { (V.state files).draft ≡ None }
 {
-    let mut session = told(alloc, files, text)?;
-    expect_script(alloc, &mut session, wanted)
+    match session_told(alloc, files, text) {
+        Some(mut session) => is_script(alloc, &mut session, wanted),
+        None => false,
+    }
 }
 
 const TWO_ROWS: &[u8] = b"CREATE RELATION s;\nCREATE ATTRIBUTE k DOMAIN LONG IN s;\n\
@@ -73,12 +63,17 @@ const TWO_ROWS: &[u8] = b"CREATE RELATION s;\nCREATE ATTRIBUTE k DOMAIN LONG IN 
 
 #[test]
 fn a_relation_is_written_as_commands_one_a_line(rt: HostRuntime) -> Result<(), Fail> {
-    is_written_as(rt.alloc(), PlainFiles::<4064>::new(), TWO_ROWS, TWO_ROWS)
+    let files = PlainFiles::<4064>::new();
+    show(
+        is_written_as(rt.alloc(), files, TWO_ROWS, TWO_ROWS),
+        "two rows",
+    )
 }
 
 #[test]
 fn no_relation_gives_no_command(rt: HostRuntime) -> Result<(), Fail> {
-    is_written_as(rt.alloc(), PlainFiles::<4064>::new(), b"", b"")
+    let files = PlainFiles::<4064>::new();
+    show(is_written_as(rt.alloc(), files, b"", b""), "no relation")
 }
 
 // Unused slots, removed rows and an index between others.
@@ -97,33 +92,55 @@ const CLOSED_UP: &[u8] = b"CREATE RELATION b;\nCREATE ATTRIBUTE at DOMAIN TIME I
 
 #[test]
 fn what_is_removed_is_left_out_and_the_script_makes_itself(rt: HostRuntime) -> Result<(), Fail> {
-    is_written_as(rt.alloc(), PlainFiles::<4064>::new(), GAPS, CLOSED_UP)?;
-    is_written_as(rt.alloc(), PlainFiles::<4064>::new(), CLOSED_UP, CLOSED_UP)
+    let files = PlainFiles::<4064>::new();
+    show(
+        is_written_as(rt.alloc(), files, GAPS, CLOSED_UP),
+        "gaps are left out",
+    )?;
+    let files = PlainFiles::<4064>::new();
+    show(
+        is_written_as(rt.alloc(), files, CLOSED_UP, CLOSED_UP),
+        "the script makes itself",
+    )
 }
 
-// A sink that fails at its third call holds a proper prefix that ends with this line, and a second script
-// is whole.
-fn is_cut_off<V: Files + Drop>(
+// Whether the script of a session, into a sink that fails at its third call, is a proper prefix that ends
+// with this line.
+fn is_cut_off<V: Files>(
+    alloc: Global,
+    session: &mut Session<V>,
+    whole: &[u8],
+    last: &[u8],
+) -> bool {
+    match script(alloc, session, Some(3)) {
+        Some((front, ended)) => {
+            ended == Err(Stop::Sink) && is_prefix(front.as_slice(), whole, last)
+        }
+        None => false,
+    }
+}
+
+// Whether a text is a proper prefix of another that ends so.
+fn is_prefix(front: &[u8], whole: &[u8], last: &[u8]) -> bool {
+    front.len() < whole.len() && whole.starts_with(front) && front.ends_with(last)
+}
+
+// Whether this is so of what a text makes of new files, and a second script is whole.
+fn is_cut_off_once<V: Files + Drop>(
     alloc: Global,
     files: V,
     text: &[u8],
     whole: &[u8],
     last: &[u8],
-) -> Result<(), Fail>
+) -> bool
     requires { (V.state files).draft ≡ None }
 {
-    let mut session = told(alloc, files, text)?;
-    let (front, ended) = script(alloc, &mut session, Some(3))?;
-    if ended != Err(Stop::Sink) {
-        return Err(Fail::new("the script did not end with the sink"));
+    match session_told(alloc, files, text) {
+        Some(mut session) => {
+            is_cut_off(alloc, &mut session, whole, last) && is_script(alloc, &mut session, whole)
+        }
+        None => false,
     }
-    if front.len() >= whole.len() || !whole.starts_with(front.as_slice()) {
-        return Err(Fail::new("the sink holds no proper prefix"));
-    }
-    if !front.as_slice().ends_with(last) {
-        return Err(Fail::new("the sink holds another part"));
-    }
-    expect_script(alloc, &mut session, whole)
 }
 
 #[test]
@@ -131,5 +148,8 @@ fn a_sink_that_fails_holds_a_proper_prefix(rt: HostRuntime) -> Result<(), Fail> 
     let files = PlainFiles::<4064>::new();
     // the text of each relation goes out in a call, and so does that of each index
     let last = b"CREATE ATTRIBUTE w DOMAIN LONG IN c;\n";
-    is_cut_off(rt.alloc(), files, GAPS, CLOSED_UP, last)
+    show(
+        is_cut_off_once(rt.alloc(), files, GAPS, CLOSED_UP, last),
+        "a proper prefix",
+    )
 }
