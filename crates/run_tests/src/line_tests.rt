@@ -1,8 +1,8 @@
 //! Four clients on one line.
 
-use crate::cases::expect;
+use crate::cases::show;
 use crate::one_byte::OneByte;
-use crate::running::{Ended, call, erased};
+use crate::running::{MANY, call, call_with, copied, erased};
 use crate::samples::{TWO_ROWS, made_of};
 use afl_sim::MemSource;
 use std::alloc::{AllocError, Global};
@@ -39,8 +39,7 @@ const REPLIES: &[Part] = &[
     (1, "no cursor\n"),
 ];
 
-// A frame a part: the client, the text, and the end.
-fn frames(alloc: Global, parts: &[Part]) -> Result<Vec<u8>, AllocError> {
+fn push_frames(alloc: Global, parts: &[Part]) -> Result<Vec<u8>, AllocError> {
     let mut line = Vec::new(alloc);
     for (client, text) in parts {
         line.push(*client)?;
@@ -50,43 +49,44 @@ fn frames(alloc: Global, parts: &[Part]) -> Result<Vec<u8>, AllocError> {
     Ok(line)
 }
 
-// What is written of a line that comes in large reads.
-fn served(alloc: Global, line: &[u8], image: &mut [u8]) -> Result<Ended, Fail> {
-    let mut input = MemSource::new(line, None);
-    call(alloc, &["serve", "image", "line"], &mut input, image)
-}
-
-// What is written of a line that comes byte by byte.
-fn served_slowly(alloc: Global, line: &[u8], image: &mut [u8]) -> Result<Ended, Fail> {
-    let mut input = OneByte::new(MemSource::new(line, None));
-    call(alloc, &["serve", "image", "line"], &mut input, image)
-}
-
-// A line over an image gives just these replies, in large reads and byte by byte, and leaves the same.
-fn expect_served(alloc: Global, line: &[u8], replies: &[u8], image: &mut [u8]) -> Result<(), Fail> {
-    let mut again = Vec::from_slice(alloc, image)?;
-    let ended = served(alloc, line, image)?;
-    expect(&ended, 0, replies, "the replies to large reads")?;
-    let ended = served_slowly(alloc, line, again.as_mut_slice())?;
-    expect(&ended, 0, replies, "the replies byte by byte")?;
-    if &*image == again.as_slice() {
-        Ok(())
-    } else {
-        Err(Fail::new("the images differ"))
+// A frame a part: the client, the text, and the end.
+fn frames(alloc: Global, parts: &[Part]) -> Vec<u8> {
+    match push_frames(alloc, parts) {
+        Ok(line) => line,
+        Err(_) => Vec::new(alloc),
     }
+}
+
+const SERVE: &[&str] = &["serve", "image", "line"];
+
+// Whether a line over an image that comes in large reads gives just these replies.
+fn is_served(alloc: Global, line: &[u8], replies: &[u8], image: &mut [u8]) -> bool {
+    call_with(alloc, SERVE, line, image).is(0, replies)
+}
+
+// The same of a line that comes byte by byte.
+fn is_served_slowly(alloc: Global, line: &[u8], replies: &[u8], image: &mut [u8]) -> bool {
+    let mut input = OneByte::new(MemSource::new(line, None));
+    call(alloc, SERVE, &mut input, image).is(0, replies)
+}
+
+// Whether a line over an image gives just these replies, in large reads and byte by byte, and leaves the
+// same.
+fn is_served_alike(alloc: Global, line: &[u8], replies: &[u8], image: &mut [u8]) -> bool {
+    let mut again = copied(alloc, image);
+    is_served(alloc, line, replies, image)
+        && is_served_slowly(alloc, line, replies, again.as_mut_slice())
+        && &*image == again.as_slice()
 }
 
 #[test]
 fn clients_fetch_their_own_rows(rt: HostRuntime) -> Result<(), Fail> {
-    let line = frames(rt.alloc(), SENT)?;
-    let replies = frames(rt.alloc(), REPLIES)?;
-    let mut image = made_of(rt.alloc(), TWO_ROWS, 5)?;
-    expect_served(
-        rt.alloc(),
-        line.as_slice(),
-        replies.as_slice(),
-        image.as_mut_slice(),
-    )
+    let line = frames(rt.alloc(), SENT);
+    let replies = frames(rt.alloc(), REPLIES);
+    let mut image = made_of(rt.alloc(), TWO_ROWS, 5);
+    let all = image.as_mut_slice();
+    let alike = is_served_alike(rt.alloc(), line.as_slice(), replies.as_slice(), all);
+    show(alike, "the replies and the image of both are the same")
 }
 
 // Two empty frames, a client 5, a broken escape, a command of no bytes, and a rest.
@@ -101,7 +101,8 @@ const TOLD: &[Part] = &[
 
 #[test]
 fn each_frame_that_is_not_empty_has_one_reply(rt: HostRuntime) -> Result<(), Fail> {
-    let replies = frames(rt.alloc(), TOLD)?;
-    let mut image = erased(rt.alloc())?;
-    expect_served(rt.alloc(), BROKEN, replies.as_slice(), image.as_mut_slice())
+    let replies = frames(rt.alloc(), TOLD);
+    let mut image = erased(rt.alloc(), MANY);
+    let alike = is_served_alike(rt.alloc(), BROKEN, replies.as_slice(), image.as_mut_slice());
+    show(alike, "the replies and the image of both are the same")
 }

@@ -1,8 +1,8 @@
 //! Rows that are inserted, and values that do not suit.
 
-use crate::cases::{Case, expect_each, expect_in_turn, expect_on};
-use crate::image::{expect_contents, is_erased_from};
-use crate::running::erased;
+use crate::cases::{Case, expect_each, expect_in_turn, expect_on, show};
+use crate::image::{has_contents, is_erased_from};
+use crate::running::{MANY, erased};
 use std::test::Fail;
 use test_texts::{ONE, Part, TWO};
 
@@ -14,10 +14,9 @@ const NOTHING: Case = Case {
 
 #[test]
 fn an_empty_script_leaves_an_erased_image(rt: HostRuntime) -> Result<(), Fail> {
-    let mut image = erased(rt.alloc())?;
+    let mut image = erased(rt.alloc(), MANY);
     expect_on(rt.alloc(), &NOTHING, image.as_mut_slice())?;
-    assert!(rt; is_erased_from(image.as_slice(), 0));
-    Ok(())
+    show(is_erased_from(image.as_slice(), 0), "the image stays")
 }
 
 const SELECTED: Case = Case {
@@ -33,9 +32,10 @@ const STORED: &[u8] = b"\x05\x00\x00\x00abc\x01\xff\xff\xff\xff\x00\x00\x00\x01"
 
 #[test]
 fn rows_are_selected_as_they_were_inserted(rt: HostRuntime) -> Result<(), Fail> {
-    let mut image = erased(rt.alloc())?;
+    let mut image = erased(rt.alloc(), MANY);
     expect_on(rt.alloc(), &SELECTED, image.as_mut_slice())?;
-    expect_contents(rt.alloc(), image.as_mut_slice(), "T0", STORED)
+    let stored = has_contents(rt.alloc(), image.as_mut_slice(), "T0", STORED);
+    show(stored, "the file has the bytes of two rows")
 }
 
 const SUITED: &[Case] = &[
@@ -82,6 +82,6 @@ const TWO_RUNS: &[Case] = &[
 
 #[test]
 fn a_second_run_finds_the_rows_of_the_first(rt: HostRuntime) -> Result<(), Fail> {
-    let mut image = erased(rt.alloc())?;
+    let mut image = erased(rt.alloc(), MANY);
     expect_in_turn(rt.alloc(), TWO_RUNS, image.as_mut_slice())
 }

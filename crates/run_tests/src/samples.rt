@@ -1,10 +1,8 @@
 //! Databases that several tests begin with.
 
-use crate::cases::expect;
-use crate::running::{erased, run};
+use crate::running::{MANY, erased, run, text};
 use std::alloc::{AllocError, Global};
-use std::test::Fail;
-use test_texts::{ONE, Part, TWO, joined, push_number, push_often};
+use test_texts::{ONE, Part, TWO, push_number, push_often};
 
 const SAMPLES: &str = "CREATE RELATION samples; CREATE ATTRIBUTE minute DOMAIN LONG IN samples; \
     CREATE ATTRIBUTE node DOMAIN INT IN samples; CREATE ATTRIBUTE value DOMAIN INT IN samples; ";
@@ -12,16 +10,16 @@ const SAMPLES: &str = "CREATE RELATION samples; CREATE ATTRIBUTE minute DOMAIN L
 /// The index by which a sensor's day is ordered.
 pub const BY_MINUTE: &str = "CREATE INDEX samples.minute TYPE INLINE; ";
 
-/// A question after ten minutes of a sensor's day, which lie together.
-pub const TEN_MINUTES: &str =
+// A question after ten minutes of a sensor's day, which lie together.
+const TEN_MINUTES: &str =
     "SELECT minute, value FROM samples WHERE minute >= 600 AND minute < 610; ";
 
 /// The ten minutes.
 pub const THE_TEN: &str = "600,205\n601,206\n602,200\n603,201\n604,202\n605,203\n606,204\n607,205\n\
     608,206\n609,200\nrows 10\n";
 
-/// A sensor's day, a row a minute: 1,444 commands, and one more where it has an index.
-pub fn day(alloc: Global, index: &str) -> Result<Vec<u8>, AllocError> {
+// A sensor's day, a row a minute, behind which stands a text so many times.
+fn push_day(alloc: Global, index: &str, behind: &str, times: u16) -> Result<Vec<u8>, AllocError> {
     let mut script = Vec::from_slice(alloc, SAMPLES.as_bytes())?;
     push_often(&mut script, index, 1)?;
     for minute in 0..1_440u16 {
@@ -33,7 +31,17 @@ pub fn day(alloc: Global, index: &str) -> Result<Vec<u8>, AllocError> {
         push_number(&mut script, 200 + minute % 7)?;
         push_often(&mut script, ") INTO samples; ", 1)?;
     }
+    push_often(&mut script, behind, times)?;
     Ok(script)
+}
+
+/// A sensor's day, a row a minute: 1,444 commands, and one more where it has an index; and behind them so
+/// many questions after ten minutes of it.
+pub fn day(alloc: Global, index: &str, questions: u16) -> Vec<u8> {
+    match push_day(alloc, index, TEN_MINUTES, questions) {
+        Ok(script) => script,
+        Err(_) => Vec::new(alloc),
+    }
 }
 
 /// 256 rows of the number 7 under a hash tree: 259 commands.
@@ -49,21 +57,19 @@ pub const TWO_ROWS: &[Part] = &[
     Part::Once("INSERT (5, 'abc') INTO s; INSERT (-1, '') INTO s;"),
 ];
 
-/// What a script of so many commands leaves of an erased image, all of which reply `ok`.
-pub fn made_by(alloc: Global, script: &[u8], commands: u16) -> Result<Vec<u8>, Fail> {
-    let mut image = erased(alloc)?;
-    let replies = joined(alloc, &[Part::Often("ok\n", commands)])?;
-    let ended = run(alloc, script, image.as_mut_slice())?;
-    expect(
-        &ended,
-        0,
-        replies.as_slice(),
-        "all commands are carried out",
-    )?;
-    Ok(image)
+/// What a script of so many commands leaves of an erased image, all of which reply `ok`; no image where
+/// they do not.
+pub fn made_by(alloc: Global, script: &[u8], commands: u16) -> Vec<u8> {
+    let mut image = erased(alloc, MANY);
+    let replies = text(alloc, &[Part::Often("ok\n", commands)]);
+    if run(alloc, script, image.as_mut_slice()).is(0, replies.as_slice()) {
+        image
+    } else {
+        Vec::new(alloc)
+    }
 }
 
 /// What a script of some parts leaves, which has so many commands.
-pub fn made_of(alloc: Global, script: &[Part], commands: u16) -> Result<Vec<u8>, Fail> {
-    made_by(alloc, joined(alloc, script)?.as_slice(), commands)
+pub fn made_of(alloc: Global, script: &[Part], commands: u16) -> Vec<u8> {
+    made_by(alloc, text(alloc, script).as_slice(), commands)
 }

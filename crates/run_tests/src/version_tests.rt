@@ -1,8 +1,8 @@
 //! Images of version 1, which become those of version 2 with the next change of the catalog.
 
-use crate::cases::{Case, expect_on};
-use crate::image::expect_size;
-use crate::running::erased;
+use crate::cases::{Case, expect_on, show};
+use crate::image::has_size;
+use crate::running::{MANY, copied, erased};
 use std::alloc::Global;
 use std::test::Fail;
 use test_texts::Part;
@@ -16,8 +16,10 @@ fn set(image: &mut [u8], at: usize, byte: u8) {
 
 // Writes bytes into an image from one on.
 fn put(image: &mut [u8], at: usize, bytes: &[u8]) {
-    for (i, byte) in bytes.iter().enumerate() {
-        set(image, at.saturating_add(i), *byte);
+    let mut place = at;
+    for byte in bytes {
+        set(image, place, *byte);
+        place = place.saturating_add(1);
     }
 }
 
@@ -35,8 +37,8 @@ fn put_file(image: &mut [u8], page: usize, pages: u16, kind: u8, name: &str) {
 
 // An image of version 1 with the relation n of one INT attribute v, which has so many rows of the number
 // 5, in a file of so many pages.
-fn version_1(alloc: Global, rows: u16, pages: u16) -> Result<Vec<u8>, Fail> {
-    let mut image = erased(alloc)?;
+fn version_1(alloc: Global, rows: u16, pages: u16) -> Vec<u8> {
+    let mut image = erased(alloc, MANY);
     let all = image.as_mut_slice();
     put_file(all, 0, 6, 1, "CAT");
     for slot in 0..8usize {
@@ -52,7 +54,7 @@ fn version_1(alloc: Global, rows: u16, pages: u16) -> Result<Vec<u8>, Fail> {
     for row in 0..rows {
         put(all, 6 * 256 + 32 + 3 * usize::from(row), &[5, 0, 1]);
     }
-    Ok(image)
+    image
 }
 
 const READ: Case = Case {
@@ -63,12 +65,12 @@ const READ: Case = Case {
 
 #[test]
 fn a_catalog_of_version_1_stays_where_it_is_only_read(rt: HostRuntime) -> Result<(), Fail> {
-    let mut image = version_1(rt.alloc(), 1, 16)?;
-    expect_size(rt.alloc(), image.as_mut_slice(), "CAT", 1_472)?;
-    let before = Vec::from_slice(rt.alloc(), image.as_slice())?;
+    let mut image = version_1(rt.alloc(), 1, 16);
+    let old = has_size(rt.alloc(), image.as_mut_slice(), "CAT", 1_472);
+    show(old, "the catalog is of version 1")?;
+    let before = copied(rt.alloc(), image.as_slice());
     expect_on(rt.alloc(), &READ, image.as_mut_slice())?;
-    assert!(rt; image.as_slice() == before.as_slice());
-    Ok(())
+    show(image.as_slice() == before.as_slice(), "the image stays")
 }
 
 const CHANGED: Case = Case {
@@ -87,9 +89,10 @@ const CHANGED: Case = Case {
 
 #[test]
 fn a_catalog_of_version_1_changes_with_its_first_slot(rt: HostRuntime) -> Result<(), Fail> {
-    let mut image = version_1(rt.alloc(), 1, 16)?;
+    let mut image = version_1(rt.alloc(), 1, 16);
     expect_on(rt.alloc(), &CHANGED, image.as_mut_slice())?;
-    expect_size(rt.alloc(), image.as_mut_slice(), "CAT", 1_480)
+    let new = has_size(rt.alloc(), image.as_mut_slice(), "CAT", 1_480);
+    show(new, "the catalog is of version 2")
 }
 
 const FULL: Case = Case {
@@ -101,6 +104,6 @@ const FULL: Case = Case {
 #[test]
 fn version_1_has_16384_slots_and_version_2_has_more(rt: HostRuntime) -> Result<(), Fail> {
     // 256 pages hold the 49,152 bytes of the rows.
-    let mut image = version_1(rt.alloc(), 16_384, 256)?;
+    let mut image = version_1(rt.alloc(), 16_384, 256);
     expect_on(rt.alloc(), &FULL, image.as_mut_slice())
 }
