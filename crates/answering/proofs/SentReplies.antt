@@ -16,7 +16,8 @@ use Rattle.intake.specs.declared.halt.Halt.TheVariants.{Space, Flash, Sink}
 use Rattle.intake.specs.Sent.{FailsNow, Sent}
 use Rattle.session_model.specs.Steps.{WrotePart}
 use Rattle.run_model.specs.Talk.{Talk, after_entry, last_database, talk_output}
-use Rattle.answering.specs.Carried.{Carried, FoundNoRoom, HaltsIn, LacksPages, SaidLess, SaidNone, Standing, Stopped, no_space, standing_of}
+use Rattle.answering.specs.Carried.{Carried, FoundNoRoom, HaltsIn, SaidLess, SaidNone, Standing, Stopped, no_space, standing_of}
+use Rattle.antelope_engine.specs.Commands.{LacksPages}
 use Rattle.db_model.specs.declared.refusals.Refusal.TheVariants as no
 use Rattle.db_model.proofs.ReplyTexts.{text_refused}
 use Rattle.reply_text.proofs.Pieces.{append_known-nil}

@@ -8,7 +8,8 @@ use Rattle.db_model.specs.declared.refusals.Refusal.{Refusal}
 use Rattle.db_model.specs.Reading.{IsReader}
 use Rattle.intake.specs.declared.halt.Halt.{Halt}
 use Rattle.run_model.specs.Line.{ComesInParts, Line}
-use Rattle.answering.specs.Carried.{Carried, HaltsIn, LacksPages, standing_of}
+use Rattle.answering.specs.Carried.{Carried, HaltsIn, standing_of}
+use Rattle.antelope_engine.specs.Commands.{LacksPages}
 use Rattle.answering.specs.Taking.{CarriesEntries, KeepsRunning, HaltsInBytes, Input, Running, TakesBytes}
 use Rattle.answering.proofs.Composed.{carried_none, carried_then, halts_later, halts_sooner}
 

@@ -12,7 +12,8 @@ use Rattle.intake.specs.declared.halt.Stop.{Stop}
 use Rattle.intake.specs.declared.halt.Stop.TheVariants.{Input as BadInput, Long, Halted}
 use Rattle.intake.specs.Through.{Through}
 use Rattle.run_model.specs.Line.{ComesInParts, Line}
-use Rattle.answering.specs.Carried.{Carried, HaltsIn, LacksPages, standing_of}
+use Rattle.answering.specs.Carried.{Carried, HaltsIn, standing_of}
+use Rattle.antelope_engine.specs.Commands.{LacksPages}
 use Rattle.answering.specs.Taking.{EndsInput, KeepsRunning, HaltsAtLast, HaltsInBytes, Input, Running, TakesBytes}
 use Rattle.answering.specs.Went.{Reaches, Went}
 use Rattle.answering.proofs.Composed.{carried_then, halts_later}

@@ -18,8 +18,6 @@ use Rattle.intake.specs.declared.halt.Halt.TheVariants.{Space, Flash, Sink}
 use Rattle.reply_text.specs.WroteLess.{WroteLess}
 use Rattle.run_model.specs.Talk.{AsksCommand, AsksToRead, Talk, after_entry, talk_costs, last_database, talk_aheads, talk_output}
 use Rattle.session_model.specs.Steps.{WrotePart}
-use Rattle.session_model.specs.Wanted.{WantsOver}
-use Rattle.space_model.specs.Enough.{most}
 
 -- how a run stands: the database, what its cursors have ahead, what the sink holds, and the count of reads
 pub record Standing : Type 0 where
@@ -101,12 +99,6 @@ standing_of state reads session held = record {
   held = held;
   reads = reads session.files;
 }
-
--- a command wants n pages of the session's files, no more than are counted for it, and none can be had
-pub record LacksPages {V : Type 0} (state : V → State) (asks : V → ℕ → ℕ → ℕ → ℕ → Type 0) (lacks : V → ℕ → Type 0) (session : Seen V) (command : Command) (n : ℕ) : Type 0 where
-  pub wants : WantsOver (asks session.files) (state session.files).files session.database command n
-  pub few : n ≤ most session.database command
-  pub none : lacks session.files n
 
 -- what failed has counted it, and no count falls
 pub record HasHaltCause {T : Type 0} (files files_now replies replies_now : ℕ) (result : Result T Halt) : Type 0 where

@@ -10,7 +10,8 @@ use Rattle.intake.specs.declared.halt.Halt.{Halt}
 use Rattle.intake.specs.declared.halt.Halt.TheVariants.{Flash, Sink}
 use Rattle.run_model.specs.Line.{Cut}
 use Rattle.run_model.specs.Talk.{Talk}
-use Rattle.answering.specs.Carried.{Carried, HaltsIn, LacksPages, standing_of}
+use Rattle.answering.specs.Carried.{Carried, HaltsIn, standing_of}
+use Rattle.antelope_engine.specs.Commands.{LacksPages}
 
 -- a session, what is kept of the entry at hand, what the sink holds, and how many of its calls failed
 pub record Running (V P : Type 0) : Type 0 where

@@ -1,5 +1,6 @@
 pub mod Asked
 pub mod Causes
+pub mod Lacking
 pub mod Moves
 pub mod ReadSlots
 pub mod Replies

@@ -1,3 +1,4 @@
+pub mod Commands
 pub mod Executed
 pub mod Reading
 pub mod Seen

@@ -5,7 +5,7 @@
 ghost use Rattle.std.specs.Prelude.{◌≡◌, ◌+◌, ◌*◌, ◌≤◌, None, true, false, IsTrue, IfErr, IfOk, IsErrOf, OnErr, OnOk, length, map, replicate};
 ghost use Rattle.std.specs.List.{range_with_len};
 ghost use Rattle.afl_base.specs.Keeping.{OnlyReads};
-ghost use Rattle.db_model.specs.Ahead.{aheads_after, cost_of, no_cursors};
+ghost use Rattle.db_model.specs.Ahead.{cost_of, no_cursors};
 ghost use Rattle.db_model.specs.Cost.{sum};
 ghost use Rattle.db_model.specs.ReplyText.{text};
 ghost use Rattle.db_model.specs.RunCost.{slots_opened};
@@ -16,12 +16,11 @@ ghost use Rattle.session_model.specs.declared.step.Stop.TheVariants.{Flash, Sink
 ghost use Rattle.session_model.specs.Queries.{IsWellFormed};
 ghost use Rattle.session_model.specs.Carried.{ChangesAndSends};
 ghost use Rattle.session_model.specs.Steps.{Does, WrotePart};
-ghost use Rattle.session_model.specs.Wanted.{WantsOver};
-ghost use Rattle.space_model.specs.Enough.{most};
 ghost use Rattle.stored.specs.Base.{base_of};
 ghost use Rattle.stored.specs.Sound.{BreaksFirst, IsSoundTable};
 ghost use Rattle.db_model.specs.Database.{bare};
-ghost use Rattle.antelope_engine.specs.Seen.{WhereNoSpace, OnNothingDone, is_flash};
+ghost use Rattle.antelope_engine.specs.Commands.{GoesOn, LacksPages, LeavesFiles, StopsAtFault};
+ghost use Rattle.antelope_engine.specs.Seen.{WhereNoSpace, is_flash};
 ghost use Rattle.antelope_engine.specs.Started.{HasStartCause, OnBroken, UnlessBegun, files_after, files_left};
 
 use crate::executing::carry_out;
@@ -179,25 +178,16 @@ impl<V: Files> Session<V> {
         ensures flash { IsTrue (V.state self.old.files).tells → IsErrOf result Flash
             → WrotePart (K.held out.old) (K.held out.new)
             (text (step self.old.database command.now).1) }
-        ensures silent { WhereNoSpace result (λ need. K.held out.new ≡ K.held out.old) }
-        ensures wants { IsTrue (V.state self.old.files).tells → WhereNoSpace result (λ need.
-            WantsOver (V.asks self.new.files) (V.state self.new.files).files
-            self.old.database command.now need) }
-        ensures most { IsTrue (V.state self.old.files).tells → WhereNoSpace result (λ need.
-            need ≤ most self.old.database command.now) }
-        ensures lacks { WhereNoSpace result (λ need. V.lacks self.new.files need) }
-        ensures aheads { IsTrue (V.state self.old.files).tells → self.new.lost ≡ false
-            → self.new.aheads ≡ aheads_after self.old.database self.old.aheads command.now }
-        ensures tells { self.new.lost ≡ false
-            → (V.state self.new.files).tells ≡ (V.state self.old.files).tells }
+        ensures space { IsTrue (V.state self.old.files).tells → WhereNoSpace result (λ need.
+            LacksPages V.state V.asks V.lacks self.new command.now need) }
+        ensures silent { WhereNoSpace result (λ need.
+            V.lacks self.new.files need × (K.held out.new ≡ K.held out.old)) }
+        ensures goes_on { self.new.lost ≡ false → GoesOn V.state command.now self.old self.new }
         ensures reads { IsTrue (V.state self.old.files).tells → Reads command.now
             → V.reads self.new.files
             ≤ V.reads self.old.files + cost_of self.old.database self.old.aheads command.now }
-        ensures running { OnOk result (self.new.stopped ≡ false) }
-        ensures stopped { OnErr result (self.new.stopped ≡ true) }
-        ensures lost { self.new.lost ≡ true → IsErrOf result Flash }
-        ensures untouched { OnNothingDone result (V.state self.new.files ≡ V.state self.old.files) }
-        ensures same { Reads command.now → V.state self.new.files ≡ V.state self.old.files }
+        ensures stops { StopsAtFault result self.new }
+        ensures leaves { LeavesFiles V.state command.now result self.old.files self.new.files }
         ensures frame { ChangesAndSends V.Files K.Sink self.old.files self.new.files out.old out.new result }
     {
         hold_names(command);

@@ -2,7 +2,7 @@
 use Rattle.std.proofs.Common.{◌≡◌, ◌≤◌, ℕ, ℤ, List, Option, refl, ap, subst, sym, ◌∙◌}
 use Rattle.afl_base.specs.Files.{State}
 use Rattle.antelope_engine.specs.Seen.{Seen}
-use Rattle.answering.specs.Carried.{LacksPages}
+use Rattle.antelope_engine.specs.Commands.{LacksPages}
 use Rattle.db_model.specs.declared.commands.Command.{Command}
 use Rattle.db_model.specs.declared.commands.Command.TheVariants.{CreateRelation, CreateAttribute, CreateIndex, Insert, Ask, Aggregate, RemoveFrom, RemoveRelation, RemoveIndex, Pack, OpenCursor, FetchCursor, CloseCursor}
 use Rattle.db_model.specs.Database.{Database, bare}

@@ -3,7 +3,8 @@
 #![tactic(auto)]
 
 ghost use Rattle.std.specs.Prelude.{◌≡◌, ◌≢◌, ◌≤◌, false, true, ℕ, Err, IsTrue, Some, length};
-ghost use Rattle.answering.specs.Carried.{LacksPages, standing_of};
+ghost use Rattle.answering.specs.Carried.{standing_of};
+ghost use Rattle.antelope_engine.specs.Commands.{LacksPages};
 ghost use Rattle.answering.specs.Went.{HasRunCause};
 ghost use Rattle.db_model.specs.Workload.{first_commands};
 ghost use Rattle.dump.specs.Unchanged.{IsAsBefore};

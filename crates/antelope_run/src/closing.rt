@@ -3,7 +3,7 @@
 #![tactic(auto)]
 
 ghost use Rattle.std.specs.Prelude.{◌≡◌, false, IsTrue};
-ghost use Rattle.answering.specs.Carried.{LacksPages};
+ghost use Rattle.antelope_engine.specs.Commands.{LacksPages};
 ghost use Rattle.antelope_run.specs.HandedBack.{HandsBack};
 
 use afl_base::{Files, Flash};

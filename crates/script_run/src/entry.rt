@@ -14,7 +14,8 @@ ghost use Rattle.db_model.specs.Script.{Bytes};
 ghost use Rattle.db_model.specs.Spelling.{nodes_of};
 ghost use Rattle.intake.specs.declared.halt.Halt.TheVariants as Halt;
 ghost use Rattle.reply_text.specs.WroteLess.{WroteLess};
-ghost use Rattle.answering.specs.Carried.{Carried, HaltsIn, ChangesOrHalts, LacksPages, standing_of};
+ghost use Rattle.answering.specs.Carried.{Carried, HaltsIn, ChangesOrHalts, standing_of};
+ghost use Rattle.antelope_engine.specs.Commands.{LacksPages};
 ghost use Rattle.run_model.specs.Scripts.{script_talk};
 
 use afl_base::{Failed, Files, Sink};

@@ -8,7 +8,8 @@ ghost use Rattle.db_model.specs.declared.refusals.Refusal.{Refusal as AnyRefusal
 ghost use Rattle.db_model.specs.Reading.{IsReader};
 ghost use Rattle.db_model.specs.Script.{ended, past_white, unended};
 ghost use Rattle.intake.specs.declared.halt.Halt.TheVariants as Halt;
-ghost use Rattle.answering.specs.Carried.{Carried, ChangesOrHalts, HaltsIn, HasHaltCause, LacksPages, standing_of};
+ghost use Rattle.answering.specs.Carried.{Carried, ChangesOrHalts, HaltsIn, HasHaltCause, standing_of};
+ghost use Rattle.antelope_engine.specs.Commands.{LacksPages};
 ghost use Rattle.answering.specs.Taking.{EndsInput, HaltsAtLast, HaltsInBytes, HasOne, TakesBytes, running};
 ghost use Rattle.run_model.specs.Scripts.{script_cut, script_talk};
 ghost use Rattle.script_run.specs.Gathers.{AsksOne, GathersPiece};

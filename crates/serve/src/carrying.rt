@@ -3,7 +3,8 @@
 #![tactic(auto)]
 
 ghost use Rattle.std.specs.Prelude.{◌≡◌, ◌≤◌, ◌∷◌, [], false, true, ℕ, List, Result, IfErr, IsErrOf, IsTrue, OnOk, length};
-ghost use Rattle.answering.specs.Carried.{Carried, HaltsIn, ChangesOrHalts, LacksPages, standing_of};
+ghost use Rattle.answering.specs.Carried.{Carried, HaltsIn, ChangesOrHalts, standing_of};
+ghost use Rattle.antelope_engine.specs.Commands.{LacksPages};
 ghost use Rattle.db_model.specs.declared.commands.Command.{Command as AnyCommand};
 ghost use Rattle.db_model.specs.declared.refusals.Refusal.{Refusal as AnyRefusal};
 ghost use Rattle.db_model.specs.Reading.{IsReader};

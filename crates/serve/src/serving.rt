@@ -3,7 +3,8 @@
 #![tactic(auto)]
 
 ghost use Rattle.std.specs.Prelude.{◌≡◌, ◌⊎◌, ◌≤◌, ◌∷◌, [], false, true, ℕ, List, Result, IfErr, IsErrOf, IsTrue, OnOk, length};
-ghost use Rattle.answering.specs.Carried.{Carried, ChangesOrHalts, HaltsIn, HasHaltCause, LacksPages, standing_of};
+ghost use Rattle.answering.specs.Carried.{Carried, ChangesOrHalts, HaltsIn, HasHaltCause, standing_of};
+ghost use Rattle.antelope_engine.specs.Commands.{LacksPages};
 ghost use Rattle.answering.specs.Taking.{EndsInput, HaltsAtLast, HaltsInBytes, HasOne, TakesBytes, running};
 ghost use Rattle.db_model.specs.declared.commands.Command.{Command as AnyCommand};
 ghost use Rattle.db_model.specs.declared.refusals.Refusal.{Refusal as AnyRefusal};

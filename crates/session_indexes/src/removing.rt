@@ -112,7 +112,8 @@ pub fn remove_index<V: Files>(
     attribute: &Ident,
 ) -> Result<Answer, Failed>
     requires running { Runs V.Files base.old }
-    ensures carried { Carries V.Files (command.RemoveIndex relation.now attribute.now) base.old base.new result }
+    ensures carried { Carries V.Files (command.RemoveIndex relation.now attribute.now)
+        base.old base.new result }
 {
     let cat = base.held.cat;
     let Some(found) = relation_named(&base.held, relation) else {

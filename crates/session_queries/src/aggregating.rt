@@ -35,8 +35,8 @@ use reply_text::{write_numbers, write_refusal, write_rows};
 use session_model::{Base, Held, Outcome, Stop};
 use session_plans::{AggregatePlan, plan_aggregates};
 
-/// Writes one row with the aggregates of a list, or the refusal. A MEDIAN takes several passes over the rows, and no
-/// buffer.
+/// Writes one row with the aggregates of a list, or the refusal. A MEDIAN takes several passes over the
+/// rows, and no buffer.
 pub fn aggregate<V: Files, K: Sink>(
     base: &mut Base<V>,
     list: &AggList,
@@ -46,9 +46,10 @@ pub fn aggregate<V: Files, K: Sink>(
 ) -> Result<Outcome, Stop>
     requires running { Runs V.Files base.old }
     requires condition { IsCondition condition.now }
-    ensures written { AnswersRows V.Files K.Sink (command.Aggregate list.now relation.now condition.now) base.old base.new
-        out.old out.new result }
-    ensures reads { ReadsNoMore V.Files (command.Aggregate list.now relation.now condition.now) base.old base.new }
+    ensures written { AnswersRows V.Files K.Sink (command.Aggregate list.now relation.now condition.now)
+        base.old base.new out.old out.new result }
+    ensures reads { ReadsNoMore V.Files (command.Aggregate list.now relation.now condition.now)
+        base.old base.new }
     ensures files_only { base.new ≡ record base.old { files = base.new.files } }
 {
     let aggregating = match plan_folds(&base.held, list, relation, condition) {

@@ -56,7 +56,8 @@ fn value_at(tuple: &Tuple, place: u8) -> Value
 pub fn end_all(items: &[(Agg, u8)], tallies: &mut [Tally]) -> bool
     requires many { length items.now ≤ length tallies.old }
     ensures many { length tallies.new ≡ length tallies.old }
-    ensures ends { (i : ℕ) → i < length items.now → EndsPass (tally_at tallies.old i) (tally_at tallies.new i) }
+    ensures ends { (i : ℕ) → i < length items.now
+        → EndsPass (tally_at tallies.old i) (tally_at tallies.new i) }
     ensures closed { result ≡ false → AreClosed items.now tallies.new }
     ensures median { HaveAggs items.now tallies.old → IsTrue result → IsTrue (medians items.now) }
 {

@@ -84,13 +84,14 @@ pub fn select<V: Files, K: Sink>(
         let all = rows (V.state files.old).files tuples in
         IsTrue (V.state files.old).tells → (condition : Option Cond)
         → IsCodeOf tuples.schema.attributes condition selecting.plan.code
-        → Replies (Rows (map (project selecting.plan.places) (selected tuples.schema.attributes condition all)))
-        result (K.held out.old) (K.held out.new) }
+        → Replies (Rows (map (project selecting.plan.places)
+        (selected tuples.schema.attributes condition all))) result (K.held out.old) (K.held out.new) }
     ensures reads { let tuples = selecting.found.tuples in
         let all = rows (V.state files.old).files tuples in
         IsTrue (V.state files.old).tells → (condition : Option Cond)
-        → IsCodeOf tuples.schema.attributes condition selecting.plan.code → V.reads files.new
-        ≤ V.reads files.old + chosen_cost (kinds selecting.found.indexes) (ranges_of tuples.schema.attributes condition) all }
+        → IsCodeOf tuples.schema.attributes condition selecting.plan.code
+        → V.reads files.new ≤ V.reads files.old
+        + chosen_cost (kinds selecting.found.indexes) (ranges_of tuples.schema.attributes condition) all }
     ensures frame { Recites V.Files K.Sink files.old files.new out.old out.new result }
 {
     let Selecting { found, plan } = selecting;

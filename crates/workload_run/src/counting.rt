@@ -4,7 +4,7 @@
 
 ghost use Rattle.std.specs.Prelude.{◌≡◌, ◌≤◌, false, true, IsErrOf, IsTrue, OnOk, length};
 ghost use Rattle.afl_base.specs.Causes.{Rose};
-ghost use Rattle.answering.specs.Carried.{LacksPages};
+ghost use Rattle.antelope_engine.specs.Commands.{LacksPages};
 ghost use Rattle.db_model.specs.Workload.{first_commands, nothing};
 ghost use Rattle.workload_run.specs.declared.counting.Failure.TheVariants.{Flash};
 ghost use Rattle.workload_run.specs.Counted.{Counted, CountedUntil, OnSpaceFailure};

@@ -3,7 +3,8 @@
 #![tactic(auto)]
 
 ghost use Rattle.std.specs.Prelude.{◌≡◌, ◌≤◌, false, true, IfErr, IsErrOf, IsTrue, OnOk};
-ghost use Rattle.answering.specs.Carried.{ChangesOrHalts, LacksPages};
+ghost use Rattle.answering.specs.Carried.{ChangesOrHalts};
+ghost use Rattle.antelope_engine.specs.Commands.{LacksPages};
 ghost use Rattle.db_model.specs.Workload.{first_commands};
 ghost use Rattle.intake.specs.declared.halt.Halt.TheVariants as Halt;
 ghost use Rattle.workload_run.specs.Summed.{StopsCommands, SummedUp};

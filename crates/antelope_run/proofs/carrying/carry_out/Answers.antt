@@ -1,5 +1,6 @@
 use Rattle.std.proofs.Common.{ap}
-use Rattle.answering.specs.Carried.{LacksPages, standing_of}
+use Rattle.answering.specs.Carried.{standing_of}
+use Rattle.antelope_engine.specs.Commands.{LacksPages}
 use Rattle.run_model.proofs.Parts.{script_parts}
 use Rattle.run_model.specs.Scripts.{script_cut, script_line, script_talk}
 use Rattle.serve_model.proofs.Ending.{frame_parts}

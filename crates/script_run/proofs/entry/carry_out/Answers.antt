@@ -5,7 +5,8 @@ use Rattle.intake.specs.declared.halt.Halt.{Halt}
 use Rattle.intake.specs.declared.halt.Halt.TheVariants.{Sink}
 use Rattle.reply_text.specs.WroteLess.{WroteLess}
 use Rattle.answering.proofs.Single.{refused_carried, refused_halts}
-use Rattle.answering.specs.Carried.{HaltsIn, LacksPages, standing_of}
+use Rattle.answering.specs.Carried.{HaltsIn, standing_of}
+use Rattle.antelope_engine.specs.Commands.{LacksPages}
 use Rattle.run_model.specs.Scripts.{script_talk}
 use Rattle.script_run.proofs.entry.carry_out.Goals as goal
 

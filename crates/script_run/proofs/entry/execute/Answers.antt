@@ -12,7 +12,8 @@ use Rattle.std.specs.Prelude.{◌≤◌, ℕ, List, Option}
 use Rattle.intake.specs.declared.halt.Halt.TheVariants.{Sink}
 use Rattle.reply_text.specs.WroteLess.{WroteLess}
 use Rattle.answering.proofs.Single.{command_found, command_halts_less, command_unsaid}
-use Rattle.answering.specs.Carried.{HaltsIn, LacksPages, standing_of}
+use Rattle.answering.specs.Carried.{HaltsIn, standing_of}
+use Rattle.antelope_engine.specs.Commands.{LacksPages}
 use Rattle.script_run.proofs.entry.execute.Goals as goal
 
 pub returns-in-Ok-clause-halts : goal.returns-in-Ok-clause-halts
@@ -24,12 +25,9 @@ returns-in-Ok-clause-halts g c = λ told read bytes is.
     let state = g.V.Files.state in
     let a = standing_of state g.V.Files.reads c.args.session.now (g.K.Sink.held c.args.out.now) in
     let b = standing_of state g.V.Files.reads s (g.K.Sink.held c.refuse.new.out) in
-    let kept : s.lost ≡ false = search rules in
-    let P : Database → Type 0 = λ db. WantsOver (g.V.Files.asks s.files) (state s.files).files db c.args.command.now n in
-    let Q : Database → Type 0 = λ db. n ≤ most db c.args.command.now in
-    let back : c.args.session.now.database ≡ s.database = sym does.0 in
-    command_found (script_talk read) (Bytes bytes) a b (e.tells kept) c.args.command.now is (LacksPages state g.V.Files.asks g.V.Files.lacks s) (e.reads told) n does.0 does.2
-    (record { wants = subst P back (rw c.in-Ok-NoSpace.field-0-is at (e.wants told)); few = subst Q back (rw c.in-Ok-NoSpace.field-0-is at (e.most told)); none = rw c.in-Ok-NoSpace.field-0-is at e.lacks })
+    let kept : s.lost ≡ false = search (rules, e.stops.lost) in
+    command_found (script_talk read) (Bytes bytes) a b (e.goes_on kept).tells c.args.command.now is (LacksPages state g.V.Files.asks g.V.Files.lacks s) (e.reads told) n does.0 does.2
+    (rw c.in-Ok-NoSpace.field-0-is at (e.space told))
     (c.in-Ok.ensures.written ∙ ap (λ (h : Option (List ℕ)). append_known h (refusal_text (no.Space n))) does.1)
 
 pub returns-in-Err-clause-halts : goal.returns-in-Err-clause-halts
@@ -41,16 +39,13 @@ returns-in-Err-clause-halts g c = λ told read bytes is.
     let state = g.V.Files.state in
     let a = standing_of state g.V.Files.reads c.args.session.now (g.K.Sink.held c.args.out.now) in
     let b = standing_of state g.V.Files.reads s (g.K.Sink.held c.refuse.new.out) in
-    let kept : s.lost ≡ false = search rules in
-    let P : Database → Type 0 = λ db. WantsOver (g.V.Files.asks s.files) (state s.files).files db c.args.command.now n in
-    let Q : Database → Type 0 = λ db. n ≤ most db c.args.command.now in
-    let back : c.args.session.now.database ≡ s.database = sym does.0 in
+    let kept : s.lost ≡ false = search (rules, e.stops.lost) in
     let R : Halt → Type 0 = λ halt. HaltsIn (script_talk read) (LacksPages state g.V.Files.asks g.V.Files.lacks s) (Bytes bytes ∷ []) a b halt in
     let less : WroteLess (g.K.Sink.held c.exec.new.out) (g.K.Sink.held c.refuse.new.out) (refusal_text (no.Space n)) = search rules in
     let sink : c.in-Err.halt ≡ Sink = search rules in
     subst R (sym sink)
-    (command_unsaid (script_talk read) (Bytes bytes) a b (e.tells kept) c.args.command.now is (LacksPages state g.V.Files.asks g.V.Files.lacks s) (e.reads told) n does.0 does.2
-    (record { wants = subst P back (rw c.in-Ok-NoSpace.field-0-is at (e.wants told)); few = subst Q back (rw c.in-Ok-NoSpace.field-0-is at (e.most told)); none = rw c.in-Ok-NoSpace.field-0-is at e.lacks }) (g.K.Sink.held c.exec.new.out) does.1 less)
+    (command_unsaid (script_talk read) (Bytes bytes) a b (e.goes_on kept).tells c.args.command.now is (LacksPages state g.V.Files.asks g.V.Files.lacks s) (e.reads told) n does.0 does.2
+    (rw c.in-Ok-NoSpace.field-0-is at (e.space told)) (g.K.Sink.held c.exec.new.out) does.1 less)
 
 pub returns-in-Err-Sink-clause-halts : goal.returns-in-Err-Sink-clause-halts
 returns-in-Err-Sink-clause-halts g c = λ told read bytes is.
@@ -58,6 +53,6 @@ returns-in-Err-Sink-clause-halts g c = λ told read bytes is.
     let s = c.exec.new.self in
     let a = standing_of g.V.Files.state g.V.Files.reads c.args.session.now (g.K.Sink.held c.args.out.now) in
     let b = standing_of g.V.Files.state g.V.Files.reads s (g.K.Sink.held c.exec.new.out) in
-    let kept : s.lost ≡ false = search rules in
+    let kept : s.lost ≡ false = search (rules, e.stops.lost) in
     let less = e.sink told (search rules) in
-    command_halts_less (script_talk read) (Bytes bytes) a b (e.tells kept) c.args.command.now is (LacksPages g.V.Files.state g.V.Files.asks g.V.Files.lacks s) (e.reads told) less.1 less.0
+    command_halts_less (script_talk read) (Bytes bytes) a b (e.goes_on kept).tells c.args.command.now is (LacksPages g.V.Files.state g.V.Files.asks g.V.Files.lacks s) (e.reads told) less.1 less.0

@@ -8,7 +8,8 @@ use Rattle.intake.specs.declared.halt.Halt.TheVariants.{Sink}
 use Rattle.reply_text.specs.WroteLess.{WroteLess}
 use Rattle.script_run.proofs.Gathering.{said_long, said_some}
 use Rattle.answering.proofs.Single.{refused_carried, refused_halts}
-use Rattle.answering.specs.Carried.{Carried, HaltsIn, LacksPages, standing_of}
+use Rattle.answering.specs.Carried.{Carried, HaltsIn, standing_of}
+use Rattle.antelope_engine.specs.Commands.{LacksPages}
 use Rattle.script_run.specs.Gathers.{GathersPiece}
 use Rattle.run_model.specs.Scripts.{script_talk}
 use Rattle.script_run.proofs.running.answer_ended.Goals as goal

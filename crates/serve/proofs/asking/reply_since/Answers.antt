@@ -1,6 +1,7 @@
 use Rattle.std.proofs.Common.{◌≡◌, Some, false, refl, ap, sym, subst, ◌∙◌, arith, drop, rules}
 use Rattle.std.specs.Prelude.{◌≤◌, Ok, Err}
-use Rattle.answering.specs.Carried.{LacksPages, standing_of}
+use Rattle.answering.specs.Carried.{standing_of}
+use Rattle.antelope_engine.specs.Commands.{LacksPages}
 use Rattle.db_model.specs.Database.{Database}
 use Rattle.db_model.specs.ReplyText.{text}
 use Rattle.db_model.specs.Step.{step}
@@ -28,10 +29,10 @@ returns-in-Err-clause-answered g c = λ told read bytes is.
     let h = g.K.Sink.held c.args.out.now in
     let k = g.K.Sink.held c.finish.new.self.out.now in
     let reply = text ((step c.args.session.now.database c.args.command.now).1) in
-    let kept : s.lost ≡ false = search rules in
+    let kept : s.lost ≡ false = search (rules, e.stops.lost) in
     let said = does.1.0 in
     let done = says_less (serve_talk read) (Asked c.args.client bytes) (standing_of g.V.Files.state g.V.Files.reads c.args.session.now h) (standing_of g.V.Files.state g.V.Files.reads s k) c.args.command.now is
-    (e.reads told) (e.tells kept) does.0 (frame_unended h (g.K.Sink.held mid.out.now) k mid.front c.args.client reply said c.in-Err.ensures.failed) in
+    (e.reads told) (e.goes_on kept).tells does.0 (frame_unended h (g.K.Sink.held mid.out.now) k mid.front c.args.client reply said c.in-Err.ensures.failed) in
     search (rules, done)
 
 -- the reply was not wholly written
@@ -43,10 +44,10 @@ returns-in-Err-Sink-clause-answered g c = λ told read bytes is.
     let h = g.K.Sink.held c.args.out.now in
     let k = g.K.Sink.held new.out.now in
     let reply = text ((step c.args.session.now.database c.args.command.now).1) in
-    let kept : s.lost ≡ false = search rules in
+    let kept : s.lost ≡ false = search (rules, e.stops.lost) in
     let does = e.sink told (search rules) in
     let done = says_less (serve_talk read) (Asked c.args.client bytes) (standing_of g.V.Files.state g.V.Files.reads c.args.session.now h) (standing_of g.V.Files.state g.V.Files.reads s k) c.args.command.now is
-    (e.reads told) (e.tells kept) does.0 (frame_less h k new.front c.args.client reply does.1) in
+    (e.reads told) (e.goes_on kept).tells does.0 (frame_less h k new.front c.args.client reply does.1) in
     search (rules, done)
 
 -- the flash failed amid the reply
@@ -70,8 +71,13 @@ returns-in-Ok-NoSpace-clause-silent g c =
     let new = c.exec.new.out in
     let fine = fine_by new.failed e.frame.faultless in
     let on = new.on (fronted (g.K.Sink.held c.args.out.now) (g.K.Sink.faults c.args.out.now) (Some c.args.client) false) c.requires.begun in
-    let same = on.silent fine (rw c.in-Ok-NoSpace.field-0-is at e.silent) in
+    let same = on.silent fine (rw c.in-Ok-NoSpace.field-0-is at e.silent).1 in
     search (rules, same)
+
+pub returns-in-Ok-NoSpace-clause-lacks : goal.returns-in-Ok-NoSpace-clause-lacks
+returns-in-Ok-NoSpace-clause-lacks g c =
+    let none = (rw c.in-Ok-NoSpace.field-0-is at c.in-Ok-NoSpace.ensures.silent).0 in
+    search (rules, none)
 
 pub returns-in-Ok-NoSpace-clause-answered : goal.returns-in-Ok-NoSpace-clause-answered
 returns-in-Ok-NoSpace-clause-answered g c = λ told read bytes is.
@@ -80,19 +86,13 @@ returns-in-Ok-NoSpace-clause-answered g c = λ told read bytes is.
     let s = c.exec.new.self in
     let n = c.in-Ok-NoSpace.need in
     let new = c.exec.new.out in
-    let kept : s.lost ≡ false = search rules in
+    let kept : s.lost ≡ false = search (rules, e.stops.lost) in
     let fine = fine_by new.failed e.frame.faultless in
     let on = new.on (fronted (g.K.Sink.held c.args.out.now) (g.K.Sink.faults c.args.out.now) (Some c.args.client) false) c.requires.begun in
     let same = on.silent fine does.1 in
-    let Wants : Database → Type 0 = λ db. WantsOver (g.V.Files.asks s.files) (g.V.Files.state s.files).files db c.args.command.now n in
-    let Few : Database → Type 0 = λ db. n ≤ most db c.args.command.now in
     let done = finds_none (serve_talk read) (Asked c.args.client bytes) (standing_of g.V.Files.state g.V.Files.reads c.args.session.now (g.K.Sink.held c.args.out.now)) (standing_of g.V.Files.state g.V.Files.reads s (g.K.Sink.held new.out.now)) c.args.command.now is
     (e.reads told) (LacksPages g.V.Files.state g.V.Files.asks g.V.Files.lacks s) n does.2
-    (record {
-      wants = subst Wants (sym does.0) (rw c.in-Ok-NoSpace.field-0-is at (e.wants told));
-      few = subst Few (sym does.0) (rw c.in-Ok-NoSpace.field-0-is at (e.most told));
-      none = rw c.in-Ok-NoSpace.field-0-is at e.lacks;
-    }) (e.tells kept) does.0 same in
+    (rw c.in-Ok-NoSpace.field-0-is at (e.space told)) (e.goes_on kept).tells does.0 same in
     search (rules, done)
 
 -- ---- what the calls keep

@@ -1,4 +1,5 @@
-use Rattle.answering.specs.Carried.{LacksPages, standing_of}
+use Rattle.answering.specs.Carried.{standing_of}
+use Rattle.antelope_engine.specs.Commands.{LacksPages}
 use Rattle.serve.proofs.Halting.{less_halts, none_halts, part_halts, unsaid_halts}
 use Rattle.serve_model.specs.Frames.{Asked}
 use Rattle.serve_model.specs.Served.{serve_talk}

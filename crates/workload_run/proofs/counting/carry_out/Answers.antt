@@ -1,5 +1,5 @@
 use Rattle.std.proofs.Common.{◌≡◌, ◌≤◌, ◌<◌, Bool, IsTrue, arith, false, rules, subst, sym, ◌∙◌}
-use Rattle.answering.specs.Carried.{LacksPages}
+use Rattle.antelope_engine.specs.Commands.{LacksPages}
 use Rattle.db_model.specs.Database.{Database}
 use Rattle.session_model.specs.Wanted.{WantsOver}
 use Rattle.space_model.specs.Enough.{most}
@@ -15,24 +15,21 @@ returns-in-Ok-NoSpace-clause-space g c = λ told.
     let command = c.nth_command.new.command in
     let n = c.in-Ok-NoSpace.need in
     let does = rw c.in-Ok-NoSpace.field-0-is at (e.done now) in
-    let P : Database → Type 0 = λ db. WantsOver (g.V.Files.asks s.files) (g.V.Files.state s.files).files db command n in
-    let Q : Database → Type 0 = λ db. n ≤ most db command in
-    let back : c.loop-k.session.database ≡ s.database = sym does.0 in
     stops_here (LacksPages g.V.Files.state g.V.Files.asks g.V.Files.lacks s) c.args.seed c.loop-k.k c.args.count n command c.args.session.now.database c.loop-k.session.database s.database
     c.loop-k.tally c.nth_command.ensures.command (inv.counted told) c.loop-k-test.true does.0 does.2
-    (record { wants = subst P back (rw c.in-Ok-NoSpace.field-0-is at (e.wants now)); few = subst Q back (rw c.in-Ok-NoSpace.field-0-is at (e.most now)); none = rw c.in-Ok-NoSpace.field-0-is at e.lacks })
+    (rw c.in-Ok-NoSpace.field-0-is at (e.space now))
 
 pub loop-k-preserved : goal.loop-k-preserved
 loop-k-preserved g c =
     let inv = c.loop-k.invariant in
     let e = c.in-Ok-Done.ensures in
     let s = c.exec.new.self in
-    let kept : s.lost ≡ false = search rules in
+    let kept : s.lost ≡ false = search (rules, e.stops.lost) in
     let below : c.loop-k.k < 100000 = omega (arith, c.loop-k-test.true, c.requires.few) in
     record {
-      going = e.running;
+      going = e.stops.running;
       kept = λ old. kept;
-      tells = e.tells kept ∙ inv.tells;
+      tells = (e.goes_on kept).tells ∙ inv.tells;
       counted = λ told.
           let now : IsTrue (g.V.Files.state c.loop-k.session.files).tells = subst (λ (b : Bool). IsTrue b) (sym inv.tells) told in
           let does = rw c.in-Ok-Done.field-0-is at (e.done now) in

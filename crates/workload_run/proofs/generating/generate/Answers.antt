@@ -1,5 +1,5 @@
 use Rattle.std.proofs.Common.{inr, rules}
-use Rattle.answering.specs.Carried.{LacksPages}
+use Rattle.antelope_engine.specs.Commands.{LacksPages}
 use Rattle.db_model.specs.Workload.{first_commands}
 use Rattle.workload_run.proofs.Summing.{found_none, space_unsaid}
 use Rattle.workload_run.proofs.generating.generate.Goals as goal

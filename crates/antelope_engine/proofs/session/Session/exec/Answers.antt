@@ -1,7 +1,8 @@
-use Rattle.std.proofs.Common.{◌≡◌, Bool, false, IsTrue, ap, sym, subst, ◌∙◌}
+use Rattle.std.proofs.Common.{◌≡◌, Bool, false, IsTrue, refl, ap, sym, subst, ◌∙◌}
 use Rattle.antelope_engine.specs.Seen.{Seen}
 use Rattle.session_model.specs.declared.step.Step.{Step}
 use Rattle.antelope_engine.proofs.Asked.{flash_stop, kept_stop, sink_stop}
+use Rattle.antelope_engine.proofs.Lacking.{both_there, pages_lack}
 use Rattle.antelope_engine.proofs.Sessions.{is_session, sound_done, sound_step}
 use Rattle.antelope_engine.proofs.session.Session.exec.Goals as goal
 
@@ -18,23 +19,20 @@ invariant_of-self g c =
 pub returns-in-Ok-clause-done : goal.returns-in-Ok-clause-done
 returns-in-Ok-clause-done g c = rw (← c.self.view_is) c.in-Ok.ensures.executed.done
 
-pub returns-in-Ok-clause-wants : goal.returns-in-Ok-clause-wants
-returns-in-Ok-clause-wants g c = rw (← c.self.view_is) c.in-Ok.ensures.executed.wants
+pub returns-in-Ok-clause-space : goal.returns-in-Ok-clause-space
+returns-in-Ok-clause-space g c = rw (← c.self.view_is) (pages_lack _ _ _ _ _ _ _ c.in-Ok.step _ _ c.in-Ok.ensures.executed)
 
-pub returns-in-Ok-clause-most : goal.returns-in-Ok-clause-most
-returns-in-Ok-clause-most g c = rw (← c.self.view_is) c.in-Ok.ensures.executed.fewest
+pub returns-in-Ok-clause-silent : goal.returns-in-Ok-clause-silent
+returns-in-Ok-clause-silent g c = both_there c.in-Ok.step _ _ c.in-Ok.ensures.executed.lacks c.in-Ok.ensures.executed.silent
 
-pub returns-in-Ok-clause-aheads : goal.returns-in-Ok-clause-aheads
-returns-in-Ok-clause-aheads g c = rw (← c.self.view_is) (λ told kept. c.in-Ok.ensures.executed.ahead told)
+pub returns-in-Ok-clause-goes_on : goal.returns-in-Ok-clause-goes_on
+returns-in-Ok-clause-goes_on g c = rw (← c.self.view_is) (λ kept. record { tells = c.in-Ok.ensures.executed.tells; aheads = c.in-Ok.ensures.executed.ahead })
 
 pub returns-in-Ok-clause-reads : goal.returns-in-Ok-clause-reads
 returns-in-Ok-clause-reads g c = rw (← c.self.view_is) c.in-Ok.ensures.executed.reads
 
-pub returns-in-Ok-clause-untouched : goal.returns-in-Ok-clause-untouched
-returns-in-Ok-clause-untouched g c = rw (← c.self.view_is) c.in-Ok.ensures.executed.untouched
-
-pub returns-in-Ok-clause-same : goal.returns-in-Ok-clause-same
-returns-in-Ok-clause-same g c = rw (← c.self.view_is) c.in-Ok.ensures.executed.same
+pub returns-in-Ok-clause-leaves : goal.returns-in-Ok-clause-leaves
+returns-in-Ok-clause-leaves g c = rw (← c.self.view_is) (record { untouched = c.in-Ok.ensures.executed.untouched; same = c.in-Ok.ensures.executed.same })
 
 pub returns-in-Ok-clause-frame : goal.returns-in-Ok-clause-frame
 returns-in-Ok-clause-frame g c = rw (← c.self.view_is) c.in-Ok.ensures.executed.frame
@@ -59,20 +57,24 @@ returns-in-Err-clause-sink g c = rw (← c.self.view_is) c.in-Err.ensures.execut
 pub returns-in-Err-clause-flash : goal.returns-in-Err-clause-flash
 returns-in-Err-clause-flash g c = rw (← c.self.view_is) c.in-Err.ensures.executed.flash
 
-pub returns-in-Err-clause-aheads : goal.returns-in-Err-clause-aheads
-returns-in-Err-clause-aheads g c = rw (← c.self.view_is) (λ told kept. kept_stop Step c.in-Err.stop _ (sym c.is_flash-self-inside.ensures ∙ kept) (c.in-Err.ensures.executed.ahead told))
-
-pub returns-in-Err-clause-tells : goal.returns-in-Err-clause-tells
-returns-in-Err-clause-tells g c = rw (← c.self.view_is) (λ kept. kept_stop Step c.in-Err.stop _ (sym c.is_flash-self-inside.ensures ∙ kept) c.in-Err.ensures.executed.tells)
+pub returns-in-Err-clause-goes_on : goal.returns-in-Err-clause-goes_on
+returns-in-Err-clause-goes_on g c = rw (← c.self.view_is) (λ kept.
+    let e = c.in-Err.ensures.executed in
+    let still = sym c.is_flash-self-inside.ensures ∙ kept in
+    record { tells = kept_stop Step c.in-Err.stop _ still e.tells; aheads = λ told. kept_stop Step c.in-Err.stop _ still (e.ahead told) })
 
 pub returns-in-Err-clause-reads : goal.returns-in-Err-clause-reads
 returns-in-Err-clause-reads g c = rw (← c.self.view_is) c.in-Err.ensures.executed.reads
 
-pub returns-in-Err-clause-same : goal.returns-in-Err-clause-same
-returns-in-Err-clause-same g c = rw (← c.self.view_is) c.in-Err.ensures.executed.same
+pub returns-in-Err-clause-leaves : goal.returns-in-Err-clause-leaves
+returns-in-Err-clause-leaves g c = rw (← c.self.view_is) (record { untouched = c.in-Err.ensures.executed.untouched; same = c.in-Err.ensures.executed.same })
 
 pub returns-in-Err-clause-frame : goal.returns-in-Err-clause-frame
 returns-in-Err-clause-frame g c = rw (← c.self.view_is) c.in-Err.ensures.executed.frame
 
-pub returns-in-Err-clause-lost : goal.returns-in-Err-clause-lost
-returns-in-Err-clause-lost g c = λ lost. flash_stop Step c.in-Err.stop (sym c.is_flash-self-inside.ensures ∙ lost)
+pub returns-in-Err-clause-stops : goal.returns-in-Err-clause-stops
+returns-in-Err-clause-stops g c = record {
+  running = tt;
+  stopped = refl;
+  lost = λ lost. flash_stop Step c.in-Err.stop (sym c.is_flash-self-inside.ensures ∙ lost);
+}

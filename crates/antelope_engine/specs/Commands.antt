@@ -1,0 +1,34 @@
+-- What is said of a session behind a command.
+use Rattle.std.specs.Prelude.{◌≡◌, ◌≤◌, ℕ, true, false, IsTrue, IsErrOf, OnErr, OnOk, Result}
+use Rattle.afl_base.specs.Files.{State}
+use Rattle.db_model.specs.declared.commands.Command.{Command}
+use Rattle.db_model.specs.Ahead.{aheads_after}
+use Rattle.db_model.specs.Step.{Reads}
+use Rattle.session_model.specs.declared.step.Step.{Step}
+use Rattle.session_model.specs.declared.step.Stop.{Stop}
+use Rattle.session_model.specs.declared.step.Stop.TheVariants.{Flash}
+use Rattle.session_model.specs.Wanted.{WantsOver}
+use Rattle.space_model.specs.Enough.{most}
+use Rattle.antelope_engine.specs.Seen.{OnNothingDone, Seen}
+
+-- a command wants n pages of the session's files, no more than are counted for it, and none can be had
+pub record LacksPages {V : Type 0} (state : V → State) (asks : V → ℕ → ℕ → ℕ → ℕ → Type 0) (lacks : V → ℕ → Type 0) (session : Seen V) (command : Command) (n : ℕ) : Type 0 where
+  pub wants : WantsOver (asks session.files) (state session.files).files session.database command n
+  pub few : n ≤ most session.database command
+  pub none : lacks session.files n
+
+-- the files tell what they told, and the command has moved what is ahead of the cursors
+pub record GoesOn {V : Type 0} (state : V → State) (command : Command) (old new : Seen V) : Type 0 where
+  pub tells : (state new.files).tells ≡ (state old.files).tells
+  pub aheads : IsTrue (state old.files).tells → new.aheads ≡ aheads_after old.database old.aheads command
+
+-- a session stops with its first fault, and has lost its files only where one of them failed
+pub record StopsAtFault {V : Type 0} (result : Result Step Stop) (session : Seen V) : Type 0 where
+  pub running : OnOk result (session.stopped ≡ false)
+  pub stopped : OnErr result (session.stopped ≡ true)
+  pub lost : session.lost ≡ true → IsErrOf result Flash
+
+-- the files stay where nothing was done, and under a command that changes at most a cursor
+pub record LeavesFiles {V : Type 0} (state : V → State) (command : Command) (result : Result Step Stop) (old new : V) : Type 0 where
+  pub untouched : OnNothingDone result (state new ≡ state old)
+  pub same : Reads command → state new ≡ state old
