@@ -67,14 +67,11 @@ pub fn carry_out<V: Files, K: Sink>(
 {
     readings_are_unique();
     match parser.parse(bytes, command) {
-        Ok(()) => match execute(session, command, out) {
-            Ok(()) => Ok(()),
-            Err(halt) => Err(halt),
-        },
-        Err(refusal) => match refuse(out, &refusal) {
-            Ok(()) => Ok(()),
-            Err(halt) => Err(halt),
-        },
+        Ok(()) => execute(session, command, out),
+        Err(refusal) => {
+            refuse(out, &refusal)?;
+            Ok(())
+        }
     }
 }
 
@@ -103,10 +100,10 @@ fn execute<V: Files, K: Sink>(
 {
     match session.exec(command, out) {
         Ok(Step::Done(_)) => Ok(()),
-        Ok(Step::NoSpace { need }) => match refuse(out, &Refusal::Space { need }) {
-            Ok(()) => Err(Halt::Space),
-            Err(halt) => Err(halt),
-        },
+        Ok(Step::NoSpace { need }) => {
+            refuse(out, &Refusal::Space { need })?;
+            Err(Halt::Space)
+        }
         Err(Stop::Flash) => Err(Halt::Flash),
         Err(Stop::Sink) => Err(Halt::Sink),
     }

@@ -126,7 +126,8 @@ fn take_byte<V: Files, K: Sink>(
     ensures halts { IfErr result (λ halt. HaltsInBytes script_input V.Files
         (running session.old piece.old (K.held out.old) (K.faults out.old)) (byte ∷ [])
         (running session.new piece.new (K.held out.new) (K.faults out.new)) halt) }
-    ensures silent { (out.new ≡ out.old) ⊎ HasOne script_input piece.old (λ q. script_cut.ended q (byte ∷ [])) }
+    ensures silent { (out.new ≡ out.old)
+        ⊎ HasOne script_input piece.old (λ q. script_cut.ended q (byte ∷ [])) }
     ensures lent { K.lent out.new ≡ K.lent out.old }
 {
     if session.is_stopped() {
@@ -138,10 +139,8 @@ fn take_byte<V: Files, K: Sink>(
     }
     let answered = answer_ended(session, parser, command, piece, out);
     piece.clear();
-    match answered {
-        Ok(()) => Ok(()),
-        Err(halt) => Err(halt),
-    }
+    answered?;
+    Ok(())
 }
 
 // Takes the end of a script.
@@ -162,10 +161,8 @@ fn take_end<V: Files, K: Sink>(
     if session.is_stopped() {
         return Err(Halt::Flash);
     }
-    match answer_unended(session, piece, out) {
-        Ok(()) => Ok(()),
-        Err(halt) => Err(halt),
-    }
+    answer_unended(session, piece, out)?;
+    Ok(())
 }
 
 // Answers what a piece asks for that a `;` ends. White space alone asks for nothing.
@@ -196,18 +193,14 @@ fn answer_ended<V: Files, K: Sink>(
         out.old out.new result }
 {
     if piece.long {
-        return match refuse(out, &Refusal::Long) {
-            Ok(()) => Ok(()),
-            Err(halt) => Err(halt),
-        };
+        refuse(out, &Refusal::Long)?;
+        return Ok(());
     }
     if piece.bytes.is_empty() {
         return Ok(());
     }
-    match carry_out(session, parser, command, piece.bytes.as_slice(), out) {
-        Ok(()) => Ok(()),
-        Err(halt) => Err(halt),
-    }
+    carry_out(session, parser, command, piece.bytes.as_slice(), out)?;
+    Ok(())
 }
 
 // Answers the last piece, which nothing ends.
@@ -238,8 +231,6 @@ fn answer_unended<V: Files, K: Sink>(
     if piece.bytes.is_empty() {
         return Ok(());
     }
-    match refuse(out, &Refusal::Unfinished) {
-        Ok(()) => Ok(()),
-        Err(halt) => Err(halt),
-    }
+    refuse(out, &Refusal::Unfinished)?;
+    Ok(())
 }

@@ -37,7 +37,8 @@ pub fn run_script<V: Files, S: Source, K: Sink>(
         (standing_of V.state V.reads session.new (K.held out.new)) (S.left script.old) (S.left script.new)
         (LacksPages V.state V.asks V.lacks session.new) result }
     ensures reaches { Reaches result (S.left script.old) (S.left script.new) }
-    ensures lost { session.old.lost ≡ false → session.new.lost ≡ true → result ≡ Err (Stop.Halted Halt.Flash) }
+    ensures lost { session.old.lost ≡ false → session.new.lost ≡ true
+        → result ≡ Err (Stop.Halted Halt.Flash) }
     ensures store { length (V.state session.new.files).store ≡ length (V.state session.old.files).store }
     ensures borrows { V.lent session.new.files ≡ V.lent session.old.files }
     ensures lent { K.lent out.new ≡ K.lent out.old }

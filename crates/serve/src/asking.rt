@@ -60,10 +60,7 @@ pub fn answer<V: Files, K: Sink>(
         out.old out.new result }
 {
     match hear(parser, client, bytes, command) {
-        Ok(()) => match reply(session, client, command, out) {
-            Ok(step) => Ok(step),
-            Err(stop) => Err(stop),
-        },
+        Ok(()) => reply(session, client, command, out),
         Err(refusal) => match refuse(out, client, &refusal) {
             Ok(()) => Ok(Step::Done(Outcome::Refused)),
             Err(Failed) => Err(Stop::Sink),
@@ -94,10 +91,7 @@ fn reply<V: Files, K: Sink>(
     ensures frame { ChangesAndSends V.Files K.Sink session.old.files session.new.files
         out.old out.new result }
 {
-    match reply_since::<V, K, Brand>(session, client, command, out) {
-        Ok(step) => Ok(step),
-        Err(stop) => Err(stop),
-    }
+    reply_since::<V, K, Brand>(session, client, command, out)
 }
 
 // The same through the sink that puts the client first, from now on.

@@ -53,8 +53,10 @@ impl Decoder {
     /// Takes one byte. `More` comes exactly where no frame that is not empty ends at it, and else what the
     /// frame is.
     pub fn feed(&mut self, byte: u8) -> Fed
-        ensures frames { (part : List ℕ) → GathersPart part self.old → ended_frames part (byte ∷ []) ≡ told result self.new }
-        ensures part { (part : List ℕ) → GathersPart part self.old → GathersPart (part_behind part (byte ∷ [])) self.new }
+        ensures frames { (part : List ℕ) → GathersPart part self.old
+            → ended_frames part (byte ∷ []) ≡ told result self.new }
+        ensures part { (part : List ℕ) → GathersPart part self.old
+            → GathersPart (part_behind part (byte ∷ [])) self.new }
         ensures frame { result ≡ Fed.Frame → HasFrame self.new }
     {
         if byte == END {

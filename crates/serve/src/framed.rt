@@ -81,10 +81,8 @@ fn send_front<K: Sink>(out: &mut K, front: Option<u8>) -> Result<(), Failed>
     let Some(byte) = front else {
         return Ok(());
     };
-    match out.write(&[byte]) {
-        Ok(_) => Ok(()),
-        Err(Failed) => Err(Failed),
-    }
+    out.write(&[byte])?;
+    Ok(())
 }
 
 impl<'a, K: Sink, B: Begun> Sink for Framed<'a, K, B> {

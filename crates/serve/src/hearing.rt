@@ -29,39 +29,27 @@ pub fn hear(
     ensures condition { OnOk result (IsCondition (nodes_of command.new)) }
 {
     readings_are_unique();
-    match parser.parse(bytes, command) {
-        Ok(()) => match own_cursor(client, command) {
-            Ok(()) => Ok(()),
-            Err(refusal) => Err(refusal),
-        },
-        Err(refusal) => Err(refusal),
-    }
+    parser.parse(bytes, command)?;
+    own_cursor(client, command)
 }
 
 // A client's cursor 1 is the one of its number, and it has no other.
 fn own_cursor(client: u8, command: &mut Command) -> Result<(), Refusal>
     ensures own { own_cursor client command.old ≡ read_as result command.new }
-    ensures condition { IsCondition (nodes_of command.old) → OnOk result (IsCondition (nodes_of command.new)) }
+    ensures condition { IsCondition (nodes_of command.old)
+        → OnOk result (IsCondition (nodes_of command.new)) }
 {
     match command {
-        Command::OpenCursor { number, .. } => match own(client, number) {
-            Ok(()) => Ok(()),
-            Err(refusal) => Err(refusal),
-        },
-        Command::FetchCursor { number } => match own(client, number) {
-            Ok(()) => Ok(()),
-            Err(refusal) => Err(refusal),
-        },
-        Command::CloseCursor { number } => match own(client, number) {
-            Ok(()) => Ok(()),
-            Err(refusal) => Err(refusal),
-        },
+        Command::OpenCursor { number, .. } => own(client, number),
+        Command::FetchCursor { number } => own(client, number),
+        Command::CloseCursor { number } => own(client, number),
         _ => Ok(()),
     }
 }
 
 fn own(client: u8, number: &mut i64) -> Result<(), Refusal>
-    ensures { (made : ℤ → AnyCommand) → numbered_cursor client number.old made ≡ read_as result (made number.new) }
+    ensures { (made : ℤ → AnyCommand)
+        → numbered_cursor client number.old made ≡ read_as result (made number.new) }
 {
     if *number != 1 {
         return Err(Refusal::NoCursor);

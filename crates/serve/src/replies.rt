@@ -24,16 +24,8 @@ pub fn refuse<K: Sink>(out: &mut K, client: u8, refusal: &Refusal) -> Result<(),
         (client ∷ refusal_text refusal.now ++ 192 ∷ [])) }
     ensures frame { Sends K.lent K.faults out.old out.new result }
 {
-    match write_all(out, &[client]) {
-        Ok(()) => {}
-        Err(failed) => return Err(failed),
-    }
-    match write_refusal(out, refusal) {
-        Ok(()) => {}
-        Err(failed) => return Err(failed),
-    }
-    match write_all(out, &[END]) {
-        Ok(()) => Ok(()),
-        Err(failed) => Err(failed),
-    }
+    write_all(out, &[client])?;
+    write_refusal(out, refusal)?;
+    write_all(out, &[END])?;
+    Ok(())
 }

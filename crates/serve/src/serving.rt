@@ -130,17 +130,16 @@ fn take_byte<V: Files, K: Sink>(
     ensures halts { IfErr result (λ halt. HaltsInBytes frame_input V.Files
         (running session.old decoder.old (K.held out.old) (K.faults out.old)) (byte ∷ [])
         (running session.new decoder.new (K.held out.new) (K.faults out.new)) halt) }
-    ensures silent { (out.new ≡ out.old) ⊎ HasOne frame_input decoder.old (λ q. frame_cut.ended q (byte ∷ [])) }
+    ensures silent { (out.new ≡ out.old)
+        ⊎ HasOne frame_input decoder.old (λ q. frame_cut.ended q (byte ∷ [])) }
     ensures lent { K.lent out.new ≡ K.lent out.old }
 {
     if session.is_stopped() {
         return Err(Halt::Flash);
     }
     let fed = decoder.feed(byte);
-    match answer_fed(session, parser, command, decoder, fed, out) {
-        Ok(()) => Ok(()),
-        Err(halt) => Err(halt),
-    }
+    answer_fed(session, parser, command, decoder, fed, out)?;
+    Ok(())
 }
 
 // Takes the end of a line: bytes behind the last END are no frame.

@@ -10,14 +10,15 @@ use Rattle.session_model.specs.Wanted.{WantsOver}
 use Rattle.space_model.specs.Enough.{most}
 use Rattle.std.specs.Prelude.{◌≤◌, ℕ, List, Option}
 use Rattle.intake.specs.declared.halt.Halt.TheVariants.{Sink}
+use Rattle.padded.proofs.Facts.{err_is}
 use Rattle.reply_text.specs.WroteLess.{WroteLess}
 use Rattle.answering.proofs.Single.{command_found, command_halts_less, command_unsaid}
 use Rattle.answering.specs.Carried.{HaltsIn, standing_of}
 use Rattle.antelope_engine.specs.Commands.{LacksPages}
 use Rattle.script_run.proofs.entry.execute.Goals as goal
 
-pub returns-in-Ok-clause-halts : goal.returns-in-Ok-clause-halts
-returns-in-Ok-clause-halts g c = λ told read bytes is.
+pub returns-in_ok-refuse-in-Ok-NoSpace-clause-halts : goal.returns-in_ok-refuse-in-Ok-NoSpace-clause-halts
+returns-in_ok-refuse-in-Ok-NoSpace-clause-halts g c = λ told read bytes is.
     let e = c.in-Ok-NoSpace.ensures in
     let does = rw c.in-Ok-NoSpace.field-0-is at (e.done told) in
     let s = c.exec.new.self in
@@ -28,10 +29,10 @@ returns-in-Ok-clause-halts g c = λ told read bytes is.
     let kept : s.lost ≡ false = search (rules, e.stops.lost) in
     command_found (script_talk read) (Bytes bytes) a b (e.goes_on kept).tells c.args.command.now is (LacksPages state g.V.Files.asks g.V.Files.lacks s) (e.reads told) n does.0 does.2
     (rw c.in-Ok-NoSpace.field-0-is at (e.space told))
-    (c.in-Ok.ensures.written ∙ ap (λ (h : Option (List ℕ)). append_known h (refusal_text (no.Space n))) does.1)
+    (c.in_ok-refuse-in-Ok-NoSpace.ensures.written ∙ ap (λ (h : Option (List ℕ)). append_known h (refusal_text (no.Space n))) does.1)
 
-pub returns-in-Err-clause-halts : goal.returns-in-Err-clause-halts
-returns-in-Err-clause-halts g c = λ told read bytes is.
+pub returns-in_err-refuse-in-Ok-NoSpace-clause-halts : goal.returns-in_err-refuse-in-Ok-NoSpace-clause-halts
+returns-in_err-refuse-in-Ok-NoSpace-clause-halts g c = λ told. rw (err_is c.from_residual.result _ c.from_residual.ensures.1) (λ read bytes is.
     let e = c.in-Ok-NoSpace.ensures in
     let does = rw c.in-Ok-NoSpace.field-0-is at (e.done told) in
     let s = c.exec.new.self in
@@ -42,10 +43,10 @@ returns-in-Err-clause-halts g c = λ told read bytes is.
     let kept : s.lost ≡ false = search (rules, e.stops.lost) in
     let R : Halt → Type 0 = λ halt. HaltsIn (script_talk read) (LacksPages state g.V.Files.asks g.V.Files.lacks s) (Bytes bytes ∷ []) a b halt in
     let less : WroteLess (g.K.Sink.held c.exec.new.out) (g.K.Sink.held c.refuse.new.out) (refusal_text (no.Space n)) = search rules in
-    let sink : c.in-Err.halt ≡ Sink = search rules in
+    let sink : c.in_err-refuse-in-Ok-NoSpace.field-0.0 ≡ Sink = search rules in
     subst R (sym sink)
     (command_unsaid (script_talk read) (Bytes bytes) a b (e.goes_on kept).tells c.args.command.now is (LacksPages state g.V.Files.asks g.V.Files.lacks s) (e.reads told) n does.0 does.2
-    (rw c.in-Ok-NoSpace.field-0-is at (e.space told)) (g.K.Sink.held c.exec.new.out) does.1 less)
+    (rw c.in-Ok-NoSpace.field-0-is at (e.space told)) (g.K.Sink.held c.exec.new.out) does.1 less))
 
 pub returns-in-Err-Sink-clause-halts : goal.returns-in-Err-Sink-clause-halts
 returns-in-Err-Sink-clause-halts g c = λ told read bytes is.

@@ -9,14 +9,14 @@ returns-then-is_stopped-clause-silent g c = inl refl
 pub returns-then-not-ends_at-clause-silent : goal.returns-then-not-ends_at-clause-silent
 returns-then-not-ends_at-clause-silent g c = inl refl
 
-pub returns-in-Ok-clause-silent : goal.returns-in-Ok-clause-silent
-returns-in-Ok-clause-silent g c = ⊎_elim inl (λ one. inr (λ q keeps.
+pub returns-clause-silent : goal.returns-clause-silent
+returns-clause-silent g c = ⊎_elim inl (λ one. inr (λ q keeps.
     let entry = one q.1 keeps.gathers in
     (entry.0, one_ended q.0 q.1 c.args.byte entry.0 (ap (λ quoted. ends_piece quoted c.args.byte) (sym keeps.quoted_is) ∙ sym c.ends_at.ensures ∙ c.if-not-ends_at.false) entry.1)))
     c.answer_ended-answered.ensures.silent
 
-pub returns-in-Err-clause-silent : goal.returns-in-Err-clause-silent
-returns-in-Err-clause-silent g c = ⊎_elim inl (λ one. inr (λ q keeps.
+pub returns-in_err-answered-clause-silent : goal.returns-in_err-answered-clause-silent
+returns-in_err-answered-clause-silent g c = ⊎_elim inl (λ one. inr (λ q keeps.
     let entry = one q.1 keeps.gathers in
     (entry.0, one_ended q.0 q.1 c.args.byte entry.0 (ap (λ quoted. ends_piece quoted c.args.byte) (sym keeps.quoted_is) ∙ sym c.ends_at.ensures ∙ c.if-not-ends_at.false) entry.1)))
     c.answer_ended-answered.ensures.silent
