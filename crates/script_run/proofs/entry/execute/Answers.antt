@@ -1,13 +1,10 @@
 use Rattle.std.proofs.Common.{◌≡◌, false, ap, subst, sym, ◌∙◌, [], ◌∷◌, rules}
 use Rattle.std.specs.Io.KnownBytes.{append_known}
-use Rattle.db_model.specs.Database.{Database}
 use Rattle.db_model.specs.Script.{Bytes}
 use Rattle.intake.specs.declared.halt.Halt.{Halt}
 use Rattle.db_model.specs.declared.refusals.Refusal.TheVariants as no
 use Rattle.db_model.specs.ReplyText.{refusal_text}
 use Rattle.run_model.specs.Scripts.{script_talk}
-use Rattle.session_model.specs.Wanted.{WantsOver}
-use Rattle.space_model.specs.Enough.{most}
 use Rattle.std.specs.Prelude.{◌≤◌, ℕ, List, Option}
 use Rattle.intake.specs.declared.halt.Halt.TheVariants.{Sink}
 use Rattle.padded.proofs.Facts.{err_is}

@@ -1,16 +1,13 @@
-use Rattle.std.proofs.Common.{◌≡◌, Some, false, refl, ap, sym, subst, ◌∙◌, arith, drop, rules}
+use Rattle.std.proofs.Common.{◌≡◌, Some, false, refl, ap, ◌∙◌, arith, drop, rules}
 use Rattle.std.specs.Prelude.{◌≤◌, Ok, Err}
 use Rattle.answering.specs.Carried.{standing_of}
 use Rattle.antelope_engine.specs.Commands.{LacksPages}
-use Rattle.db_model.specs.Database.{Database}
 use Rattle.db_model.specs.ReplyText.{text}
 use Rattle.db_model.specs.Step.{step}
 use Rattle.session_model.specs.declared.step.Step.{Step}
 use Rattle.session_model.specs.declared.step.Step.TheVariants.{Done, NoSpace}
 use Rattle.session_model.specs.declared.step.Stop.TheVariants.{Flash, Sink}
 use Rattle.session_model.specs.Carried.{ChangesAndSends}
-use Rattle.session_model.specs.Wanted.{WantsOver}
-use Rattle.space_model.specs.Enough.{most}
 use Rattle.serve.specs.Front.{fronted}
 use Rattle.serve.proofs.Replied.{finds_none, says_less, says_part}
 use Rattle.serve.proofs.Holding.{fine_by, rose_behind, same_faults}

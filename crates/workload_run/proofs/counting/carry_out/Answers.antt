@@ -1,8 +1,5 @@
 use Rattle.std.proofs.Common.{◌≡◌, ◌≤◌, ◌<◌, Bool, IsTrue, arith, false, rules, subst, sym, ◌∙◌}
 use Rattle.antelope_engine.specs.Commands.{LacksPages}
-use Rattle.db_model.specs.Database.{Database}
-use Rattle.session_model.specs.Wanted.{WantsOver}
-use Rattle.space_model.specs.Enough.{most}
 use Rattle.workload_run.proofs.Counts.{counted_next, rows_next, stops_here}
 use Rattle.workload_run.proofs.counting.carry_out.Goals as goal
 
