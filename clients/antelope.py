@@ -29,6 +29,7 @@ import sys
 from collections.abc import Mapping
 
 import antelope_hub
+import antelope_tool
 from antelope_line import CLIENTS, MOST_COMMAND, TIMEOUT, Line, LineFailed
 
 apilevel = "2.0"
@@ -464,7 +465,7 @@ def ask(wanted):
     with connect(wanted.line, client=wanted.client, speed=wanted.speed, timeout=wanted.timeout) as station:
         for command in wanted.commands:
             reply = station._reply(command.strip().removesuffix(";"))
-            print(*reply, sep="\n")
+            print(*reply, sep="\n", flush=True)
             status = 1 if reply[-1].startswith("no ") else status
     return status
 
@@ -472,7 +473,6 @@ def ask(wanted):
 def hub(wanted):
     """Lends a line to up to four clients of a Unix socket."""
     antelope_hub.run(wanted.line, wanted.socket, wanted.speed, wanted.timeout)
-    return 0
 
 
 def add_line(parser, word="line"):
@@ -495,11 +495,7 @@ def main():
     add_line(form)
     form.add_argument("socket", help="the path of the socket that clients connect to")
     wanted = parser.parse_args()
-    try:
-        return wanted.do(wanted)
-    except (Error, LineFailed, OSError) as error:
-        print(f"antelope.py: {error}", file=sys.stderr)
-        return 1
+    return antelope_tool.run("antelope.py", lambda: wanted.do(wanted), Error, LineFailed)
 
 
 if __name__ == "__main__":

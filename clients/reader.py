@@ -12,6 +12,7 @@ import argparse
 import collections
 import csv
 import re
+import signal
 import sys
 
 PAGE = 256
@@ -258,10 +259,12 @@ def main():
     try:
         with open(wanted.image, "rb") as file:
             database = Database(file.read())
-        if wanted.csv is None:
-            sys.stdout.writelines(script(database) if wanted.dump else summary(database))
-        elif not write_csv(database, wanted.csv, sys.stdout):
-            database.troubles.append(f"there is no relation {wanted.csv}")
+        # closed in here, so that what could not be written is told
+        with open(1, "w", encoding="ascii", closefd=False) as output:
+            if wanted.csv is None:
+                output.writelines(script(database) if wanted.dump else summary(database))
+            elif not write_csv(database, wanted.csv, output):
+                database.troubles.append(f"there is no relation {wanted.csv}")
     except OSError as error:
         print(f"reader.py: {error}", file=sys.stderr)
         return 1
@@ -271,4 +274,7 @@ def main():
 
 
 if __name__ == "__main__":
+    # one that is interrupted, or read no further, ends without a word
+    for it in (signal.SIGINT, signal.SIGPIPE):
+        signal.signal(it, signal.SIG_DFL)
     sys.exit(main())
