@@ -15,7 +15,8 @@ A line is named in one of these ways:
     run:./antelope serve station.img -    a program that is started, and ends with the connection
 
 One line has one reader, since two that read it would take each other's bytes. A port is locked, so that a
-second program waits until the first is done; through `antelope.py hub` up to four share a line.
+second program waits until the first is done. `antelope.py hub /dev/ttyUSB0 station` lends it to up to four
+programs, which connect to "station".
 
 A command is carried out for good when it is executed: there is nothing to commit, and no way back. Values are
 whole numbers and texts, and None for an aggregate without a value. The types in a cursor's description are

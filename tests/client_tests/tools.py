@@ -36,6 +36,8 @@ def test_each_tool_says_what_it_does():
     for words in map(str.split, tools):
         same(tool(*words, "--help")[0].startswith("usage: "), True, f"help of {words}")
         tool(*words, status=2)
+    begun = tool_at(f"{EXAMPLES}/client.py", "--help", stdout=subprocess.PIPE)
+    same((begun.communicate()[0][:7], begun.returncode), (b"usage: ", 0), "help of the example")
 
 
 def test_the_words_of_the_language_are_those_of_its_page():
@@ -56,7 +58,7 @@ def tool_at(path, *words, **how):
     return subprocess.Popen(command, env=environment, stdin=subprocess.DEVNULL, stderr=subprocess.PIPE, **how)
 
 
-def tools():
+def tools_that_write():
     """The tools with words for which they write something."""
     where, query = station(), "SELECT k, k FROM s"
     yield f"{CLIENTS}/antelope.py", "ask", where, query
@@ -70,7 +72,7 @@ def tools():
 
 
 def test_output_that_cannot_be_written_is_told():
-    for path, *words in tools():
+    for path, *words in tools_that_write():
         name = os.path.basename(path)
         with open("/dev/full", "wb") as full:
             begun = tool_at(path, *words, stdout=full)
@@ -83,7 +85,7 @@ def test_output_that_cannot_be_written_is_told():
 
 
 def test_a_tool_whose_output_nobody_reads_ends_without_a_word():
-    for path, *words in tools():
+    for path, *words in tools_that_write():
         reader, writer = os.pipe()
         os.close(reader)
         begun = tool_at(path, *words, stdout=writer)
