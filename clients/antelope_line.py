@@ -173,6 +173,7 @@ class Line:
     """A line, whose replies this process alone reads."""
 
     def __init__(self, where, speed=None, timeout=TIMEOUT):
+        where = os.fspath(where)
         try:
             self._source, self._sink, self._close = open_way(where, speed, timeout)
         except (OSError, ValueError, termios.error, LineFailed) as error:

@@ -1,6 +1,7 @@
 """Tests of the lines themselves: how they are opened, noise, clients that were killed, and waits that end."""
 import contextlib
 import os
+import pathlib
 import pty
 import random
 import select
@@ -92,7 +93,7 @@ def test_a_line_that_cannot_be_opened_is_told():
     refuses(antelope.InterfaceError, lambda: antelope.connect("none", client=5))
     with on_a_pty() as path:
         refuses(antelope.OperationalError, lambda: antelope.connect(path, speed=7), says="7 bits a second")
-        with antelope.connect(path, speed=9600) as line:
+        with antelope.connect(pathlib.Path(path), speed=9600) as line:
             same(line.cursor().execute("SELECT k, t FROM s").fetchall(), ROWS, "rows")
 
 
