@@ -17,6 +17,7 @@ import sys
 
 PAGE = 256
 SECTOR = 16 * PAGE
+MOST = 4095 * SECTOR
 HEADER = 32
 REGION = 128
 RECORDS = 30
@@ -52,10 +53,12 @@ class Flash:
     """The files of an image."""
 
     def __init__(self, content):
-        self._content = content
+        self._content = content[:MOST]
         self.troubles = []
         self._files, self._logs = {}, {}
-        if len(content) % SECTOR or not 4 <= len(content) // SECTOR <= 4095:
+        if len(content) > MOST:
+            self.troubles.append(f"the image has more than {MOST} bytes, and what is behind them was not read")
+        elif len(content) % SECTOR or len(content) < 4 * SECTOR:
             self.troubles.append(f"the image has {len(content)} bytes, which are not 4 to 4,095 sectors")
         for extent in self._extents():
             if extent.flags in ACTIVE_FILES:
@@ -258,7 +261,7 @@ def main():
     wanted = parser.parse_args()
     try:
         with open(wanted.image, "rb") as file:
-            database = Database(file.read())
+            database = Database(file.read(MOST + 1))
         # closed in here, so that what could not be written is told
         with open(1, "w", encoding="ascii", closefd=False) as output:
             if wanted.csv is None:
