@@ -27,7 +27,7 @@ import collections
 import operator
 import re
 import sys
-from collections.abc import Mapping
+from collections.abc import Iterable, Mapping
 
 import antelope_hub
 import antelope_tool
@@ -151,8 +151,9 @@ def row_of(text):
 
 def bind(operation, parameters=()):
     """A command with values in the places of its `?`, but for those in quotes."""
-    if isinstance(parameters, (str, bytes, Mapping)):
-        raise ProgrammingError("parameters are a sequence of values")
+    parameters = () if parameters is None else parameters
+    if isinstance(parameters, (str, bytes, Mapping)) or not isinstance(parameters, Iterable):
+        raise ProgrammingError(f"{parameters!r}: parameters are a sequence of values, as (5,) is")
     values = collections.deque(literal(it) for it in parameters)
     given, places = len(values), 0
 

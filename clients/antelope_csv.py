@@ -85,6 +85,7 @@ def separator(text):
 
 
 def is_name(text):
+    """Whether a relation or an attribute may be called so."""
     return bool(re.fullmatch(NAME, text)) and text.upper() not in KEYWORDS
 
 
