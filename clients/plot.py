@@ -98,7 +98,7 @@ def text(names, points, width):
         yield f"{number:>{margin}} |{''.join(grid[row])}".rstrip()
     yield f"{'':{margin}} +{'-' * columns}"
     first, last = str(right.low), str(right.high)
-    yield f"{'':{margin}}  {first}{last:>{columns - len(first)}}"
+    yield f"{'':{margin}}  {first} {last:>{max(0, columns - len(first) - 1)}}"
 
 
 def draw(wanted):

@@ -253,6 +253,10 @@ def test_a_plot_has_a_point_for_each_row():
     lines = tool("plot", where, "SELECT k, k FROM s", "--width", "20")[0].splitlines()
     same(sum(it.count("*") for it in lines), 3, "points in the terminal")
     same((lines[0], max(map(len, lines)) <= 20, len(lines)), ("k over k, 3 rows", True, 23), "the lines")
+    where = station("CREATE RELATION s; CREATE ATTRIBUTE k DOMAIN TIME IN s; INSERT (1700000000000) INTO s;")
+    lines = tool("plot", where, "SELECT k, k FROM s", "--width", "5")[0].splitlines()
+    same(lines[-1].split(), ["1700000000000"] * 2, "the numbers where there is little room")
+    where = station()
     empty = "SELECT MIN(k), MAX(k) FROM s WHERE k > 9"
     for query in ("SELECT k FROM s", "SELECT k, t FROM s", empty, "PACK s", "SELECT x FROM s"):
         tool("plot", where, query, "--svg", status=1)
