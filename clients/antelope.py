@@ -15,7 +15,8 @@ A line is named in one of these ways:
     run:./antelope serve station.img -    a program that is started, and ends with the connection
 
 One line has one reader, since two that read it would take each other's bytes. A port is locked, so that a
-second program waits until the first is done; through `antelope.py hub` up to four share a line.
+second program waits until the first is done. `antelope.py hub /dev/ttyUSB0 station` lends it to up to four
+programs, which connect to "station".
 
 A command is carried out for good when it is executed: there is nothing to commit, and no way back. Values are
 whole numbers and texts, and None for an aggregate without a value. The types in a cursor's description are
@@ -26,9 +27,10 @@ import collections
 import operator
 import re
 import sys
-from collections.abc import Mapping
+from collections.abc import Iterable, Mapping
 
 import antelope_hub
+import antelope_tool
 from antelope_line import CLIENTS, MOST_COMMAND, TIMEOUT, Line, LineFailed
 
 apilevel = "2.0"
@@ -149,8 +151,9 @@ def row_of(text):
 
 def bind(operation, parameters=()):
     """A command with values in the places of its `?`, but for those in quotes."""
-    if isinstance(parameters, (str, bytes, Mapping)):
-        raise ProgrammingError("parameters are a sequence of values")
+    parameters = () if parameters is None else parameters
+    if isinstance(parameters, (str, bytes, Mapping)) or not isinstance(parameters, Iterable):
+        raise ProgrammingError(f"{parameters!r}: parameters are a sequence of values, as (5,) is")
     values = collections.deque(literal(it) for it in parameters)
     given, places = len(values), 0
 
@@ -464,7 +467,7 @@ def ask(wanted):
     with connect(wanted.line, client=wanted.client, speed=wanted.speed, timeout=wanted.timeout) as station:
         for command in wanted.commands:
             reply = station._reply(command.strip().removesuffix(";"))
-            print(*reply, sep="\n")
+            print(*reply, sep="\n", flush=True)
             status = 1 if reply[-1].startswith("no ") else status
     return status
 
@@ -472,7 +475,6 @@ def ask(wanted):
 def hub(wanted):
     """Lends a line to up to four clients of a Unix socket."""
     antelope_hub.run(wanted.line, wanted.socket, wanted.speed, wanted.timeout)
-    return 0
 
 
 def add_line(parser, word="line"):
@@ -495,11 +497,7 @@ def main():
     add_line(form)
     form.add_argument("socket", help="the path of the socket that clients connect to")
     wanted = parser.parse_args()
-    try:
-        return wanted.do(wanted)
-    except (Error, LineFailed, OSError) as error:
-        print(f"antelope.py: {error}", file=sys.stderr)
-        return 1
+    return antelope_tool.run("antelope.py", lambda: wanted.do(wanted), Error, LineFailed)
 
 
 if __name__ == "__main__":

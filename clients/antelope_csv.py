@@ -17,9 +17,15 @@ import re
 import sys
 
 import antelope
+import antelope_tool
 
 MOST_INPUT = 16_777_216
+MOST_COLUMNS = 8
 NAME = "[A-Za-z][A-Za-z0-9_]{0,14}"
+KEYWORDS = (
+    "CREATE RELATION ATTRIBUTE INDEX DOMAIN INT LONG STRING IN TYPE INLINE MAXHEAP MEMHASH INSERT INTO SELECT FROM"
+    " WHERE JOIN ON PROJECT REMOVE PACK OPEN FETCH CLOSE AND OR NOT COUNT SUM MIN MAX MEAN MEDIAN"
+).split()
 NUMBERS = {"INT": range(-(2**15), 2**15), "LONG": range(-(2**31), 2**31), "TIME": range(2**47)}
 
 
@@ -56,9 +62,9 @@ def values_of(domain):
     """A call that gives the value of a domain that a text means."""
     if domain in NUMBERS:
         return number_in(NUMBERS[domain])
-    found = re.fullmatch(r"STRING\(([0-9]+)\)", domain)
-    if not found:
-        raise Unfit(f"{domain!r} is no domain: INT, LONG, TIME, or STRING(8) or so")
+    found = re.fullmatch(r"STRING\(([0-9]{1,2})\)", domain)
+    if not found or not 1 <= int(found[1]) <= antelope.MOST_TEXT:
+        raise Unfit(f"{domain!r} is no domain: INT, LONG, TIME, or STRING(1) to STRING({antelope.MOST_TEXT})")
     return text_up_to(int(found[1]))
 
 
@@ -69,6 +75,18 @@ def guessed(texts):
 
 
 # A CSV as commands
+
+
+def separator(text):
+    """What may stand between values."""
+    if len(text) != 1 or text in '"\r\n':
+        raise argparse.ArgumentTypeError(f"{text!r} is not one character that can stand between values")
+    return text
+
+
+def is_name(text):
+    """Whether a relation or an attribute may be called so."""
+    return bool(re.fullmatch(NAME, text)) and text.upper() not in KEYWORDS
 
 
 def read_table(path, delimiter):
@@ -82,6 +100,8 @@ def read_table(path, delimiter):
     for line, row in rows:
         if len(row) != len(names):
             raise Unfit(f"line {line}: {len(row)} values for {len(names)} columns")
+    if len(names) > MOST_COLUMNS:
+        raise Unfit(f"{path} has {len(names)} columns, and a relation at most {MOST_COLUMNS}")
     return [it.strip() for it in names], rows
 
 
@@ -99,9 +119,11 @@ def inserts(relation, rows, domains):
 
 def creations(relation, names, domains):
     """The commands that make the relation."""
-    for name in (relation, *names):
-        if not re.fullmatch(NAME, name):
-            raise Unfit(f"{name!r} is no name")
+    for at, name in enumerate(names):
+        if not is_name(name):
+            raise Unfit(f"{name!r} is no name in AQL")
+        if name in names[:at]:
+            raise Unfit(f"two columns are called {name}")
     yield f"CREATE RELATION {relation};\n"
     for name, domain in zip(names, domains):
         yield f"CREATE ATTRIBUTE {name} DOMAIN {domain} IN {relation};\n"
@@ -109,6 +131,8 @@ def creations(relation, names, domains):
 
 def commands(wanted):
     """The commands that a CSV comes to, a line each."""
+    if not is_name(wanted.relation):
+        raise Unfit(f"{wanted.relation!r} is no name in AQL")
     names, rows = read_table(wanted.csv, wanted.delimiter)
     domains = [it.strip().upper() for it in wanted.domains.split(",")] if wanted.domains else []
     if domains and len(domains) != len(names):
@@ -186,7 +210,7 @@ def parse():
     form.add_argument("relation", help="the relation that the rows go into")
     form.add_argument("--domains", help="those of the columns, as in 'TIME, INT, STRING(8)'")
     form.add_argument("--create", action="store_true", help="make the relation first, with the names of the columns")
-    form.add_argument("--delimiter", default=",", help="what stands between values (,)")
+    form.add_argument("--delimiter", type=separator, default=",", help="what stands between values (,)")
     form.add_argument("--parts", metavar="PART", help="write files PART-001.aql .., each small enough for a run")
     form.add_argument("--most", type=int, default=MOST_INPUT, help=f"bytes of a script ({MOST_INPUT})")
     antelope.add_line(form, "--line")
@@ -195,12 +219,8 @@ def parse():
 
 def main():
     wanted = parse()
-    try:
-        wanted.do(wanted)
-    except (Unfit, antelope.Error, csv.Error, OSError, UnicodeDecodeError) as error:
-        print(f"antelope_csv.py: {error}", file=sys.stderr)
-        return 1
-    return 0
+    errors = (Unfit, antelope.Error, csv.Error, UnicodeDecodeError)
+    return antelope_tool.run("antelope_csv.py", lambda: wanted.do(wanted), *errors)
 
 
 if __name__ == "__main__":

@@ -143,6 +143,14 @@ def close_cursor(line, number):
 
 def listen(path):
     """A socket whose path is there from the moment that clients can connect to it."""
+    try:
+        return listen_alone(path)
+    except OSError as error:
+        raise LineFailed(f"{path}: {error}") from error
+
+
+def listen_alone(path):
+    """A socket at a path where no other hub and nothing else is."""
     with socket.socket(socket.AF_UNIX) as other:
         if other.connect_ex(path) == 0:
             raise LineFailed(f"{path}: another hub is there")

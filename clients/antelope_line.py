@@ -76,6 +76,8 @@ def set_raw(port, speed):
 def open_port(path, speed, seconds):
     port = os.open(path, os.O_RDWR | os.O_NOCTTY | os.O_NONBLOCK)
     try:
+        if not os.isatty(port):
+            raise LineFailed("it is neither a port nor a socket; the line of an image is 'run:./antelope serve IMAGE -'")
         lock(port, time.monotonic() + seconds)
         set_raw(port, speed)
     except BaseException:
@@ -102,6 +104,8 @@ def open_unix(path, seconds):
 
 def open_tcp(address, seconds):
     host, _, port = address.rpartition(":")
+    if not host or not re.fullmatch("[0-9]{1,5}", port):
+        raise LineFailed("a host and the number of a port are named as in tcp:HOST:PORT")
     return open_socket(socket.create_connection((host.strip("[]"), int(port)), seconds))
 
 
@@ -173,6 +177,7 @@ class Line:
     """A line, whose replies this process alone reads."""
 
     def __init__(self, where, speed=None, timeout=TIMEOUT):
+        where = os.fspath(where)
         try:
             self._source, self._sink, self._close = open_way(where, speed, timeout)
         except (OSError, ValueError, termios.error, LineFailed) as error:

@@ -11,6 +11,7 @@ import sys
 from xml.sax.saxutils import escape
 
 import antelope
+import antelope_tool
 
 WIDTH, HEIGHT = 800, 480
 LEFT, RIGHT, TOP, BOTTOM = 110, 30, 30, 60
@@ -97,7 +98,13 @@ def text(names, points, width):
         yield f"{number:>{margin}} |{''.join(grid[row])}".rstrip()
     yield f"{'':{margin}} +{'-' * columns}"
     first, last = str(right.low), str(right.high)
-    yield f"{'':{margin}}  {first}{last:>{columns - len(first)}}"
+    yield f"{'':{margin}}  {first} {last:>{max(0, columns - len(first) - 1)}}"
+
+
+def draw(wanted):
+    """Draws the answer of the query."""
+    names, points = read_points(wanted)
+    print(*(svg(names, points) if wanted.svg else text(names, points, wanted.width)), sep="\n")
 
 
 def main():
@@ -107,14 +114,7 @@ def main():
     parser.add_argument("--svg", action="store_true", help="write an SVG")
     parser.add_argument("--width", type=int, default=80, help="characters of a line in the terminal (80)")
     wanted = parser.parse_args()
-    try:
-        names, points = read_points(wanted)
-        lines = svg(names, points) if wanted.svg else text(names, points, wanted.width)
-        print(*lines, sep="\n")
-    except (Unfit, antelope.Error, OSError) as error:
-        print(f"plot.py: {error}", file=sys.stderr)
-        return 1
-    return 0
+    return antelope_tool.run("plot.py", lambda: draw(wanted), Unfit, antelope.Error)
 
 
 if __name__ == "__main__":

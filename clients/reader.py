@@ -12,10 +12,12 @@ import argparse
 import collections
 import csv
 import re
+import signal
 import sys
 
 PAGE = 256
 SECTOR = 16 * PAGE
+MOST = 4095 * SECTOR
 HEADER = 32
 REGION = 128
 RECORDS = 30
@@ -51,10 +53,12 @@ class Flash:
     """The files of an image."""
 
     def __init__(self, content):
-        self._content = content
+        self._content = content[:MOST]
         self.troubles = []
         self._files, self._logs = {}, {}
-        if len(content) % SECTOR or not 4 <= len(content) // SECTOR <= 4095:
+        if len(content) > MOST:
+            self.troubles.append(f"the image has more than {MOST} bytes, and what is behind them was not read")
+        elif len(content) % SECTOR or len(content) < 4 * SECTOR:
             self.troubles.append(f"the image has {len(content)} bytes, which are not 4 to 4,095 sectors")
         for extent in self._extents():
             if extent.flags in ACTIVE_FILES:
@@ -257,11 +261,13 @@ def main():
     wanted = parser.parse_args()
     try:
         with open(wanted.image, "rb") as file:
-            database = Database(file.read())
-        if wanted.csv is None:
-            sys.stdout.writelines(script(database) if wanted.dump else summary(database))
-        elif not write_csv(database, wanted.csv, sys.stdout):
-            database.troubles.append(f"there is no relation {wanted.csv}")
+            database = Database(file.read(MOST + 1))
+        # closed in here, so that what could not be written is told
+        with open(1, "w", encoding="ascii", closefd=False) as output:
+            if wanted.csv is None:
+                output.writelines(script(database) if wanted.dump else summary(database))
+            elif not write_csv(database, wanted.csv, output):
+                database.troubles.append(f"there is no relation {wanted.csv}")
     except OSError as error:
         print(f"reader.py: {error}", file=sys.stderr)
         return 1
@@ -271,4 +277,7 @@ def main():
 
 
 if __name__ == "__main__":
+    # one that is interrupted, or read no further, ends without a word
+    for it in (signal.SIGINT, signal.SIGPIPE):
+        signal.signal(it, signal.SIG_DFL)
     sys.exit(main())

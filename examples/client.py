@@ -12,6 +12,16 @@ import sys
 
 sys.path.insert(0, os.path.join(os.path.dirname(os.path.realpath(__file__)), "..", "clients"))
 import antelope
+import antelope_tool
+
+
+def fetch(wanted):
+    """Prints the rows of the answer as they come."""
+    with antelope.connect(
+        wanted.path, client=wanted.client, speed=wanted.speed, timeout=wanted.timeout
+    ) as station:
+        for row in station.cursor().execute(wanted.query):
+            print(antelope.row_text(row), flush=True)
 
 
 def main():
@@ -22,16 +32,7 @@ def main():
     parser.add_argument("--speed", type=int, help="bits a second of the port; as it is set, if not given")
     parser.add_argument("--timeout", type=float, default=10.0, help="seconds to wait for a reply (10)")
     wanted = parser.parse_args()
-    try:
-        with antelope.connect(
-            wanted.path, client=wanted.client, speed=wanted.speed, timeout=wanted.timeout
-        ) as station:
-            for row in station.cursor().execute(wanted.query):
-                print(antelope.row_text(row))
-    except antelope.Error as error:
-        print(f"client.py: {error}", file=sys.stderr)
-        return 1
-    return 0
+    return antelope_tool.run("client.py", lambda: fetch(wanted), antelope.Error)
 
 
 if __name__ == "__main__":

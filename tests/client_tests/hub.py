@@ -162,6 +162,9 @@ def test_a_hub_has_its_path_alone():
             same("another hub is there" in says, True, says)
             says = tool("antelope", "hub", path, "other.hub", "--timeout", "0.2", status=1)[1]
             same("another program reads it" in says, True, says)
+        for at in ("none/hub", "x" * 200):
+            says = tool("antelope", "hub", path, at, status=1)[1]
+            same(says.startswith(f"antelope.py: {at}: "), True, says)
         write("file", "kept")
         tool("antelope", "hub", path, "file", status=1)
         same(read("file"), b"kept", "the file")

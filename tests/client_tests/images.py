@@ -116,6 +116,12 @@ def test_what_cannot_be_read_is_told():
             file.write(whole[:length])
         wrote, said = tool("reader", "image", "--dump", status=1)
         same((wrote.count("INSERT"), "sectors" in said), (left, True), f"what was said of {length} bytes: {said}")
+    with open("image", "wb") as file:
+        file.write(whole)
+        file.truncate(4096 * 4096)
+    for image, left in (("image", 3), ("/dev/zero", 0)):
+        wrote, said = tool("reader", image, "--dump", status=1)
+        same((wrote.count("INSERT"), "more than 16773120 bytes" in said), (left, True), f"what was said of {image}: {said}")
 
 
 def test_of_two_files_of_one_name_one_is_read():

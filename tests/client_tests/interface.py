@@ -187,6 +187,8 @@ def test_parameters_are_written_as_values():
         for query, values, rows in (
             ("SELECT k FROM s WHERE k = ?", (5,), [(5,)]),
             ("SELECT k FROM s WHERE k=? OR k=?;", [-1, Five()], [(5,), (-1,)]),
+            ("SELECT k FROM s WHERE k = ?", iter([7]), [(7,)]),
+            ("SELECT k FROM s WHERE k = 7", None, [(7,)]),
             ("SELECT k FROM s WHERE k - ? = 6", (-1,), [(5,)]),
             ("SELECT k FROM s WHERE t = ?", ("it?,-",), [(7,)]),
             ("SELECT k FROM s WHERE t = 'it?,-' AND k = ?", (7,), [(7,)]),
@@ -207,8 +209,10 @@ def test_parameters_that_aql_cannot_write_are_refused():
         for value in (*texts, 10**18, -(10**18), 1.5, 2.0, None, True, b"a", [1], ()):
             refuses(antelope.DataError, cursor.execute, "SELECT k FROM s WHERE k = ?", (value,))
         query = "SELECT k FROM s WHERE k = ?"
-        for values in ((), (1, 2), "1", b"1", {"k": 1}):
-            refuses(antelope.ProgrammingError, cursor.execute, query, values)
+        for values in ((), (1, 2), None):
+            refuses(antelope.ProgrammingError, cursor.execute, query, values, says="1 places for")
+        for values in ("1", b"1", {"k": 1}, 1):
+            refuses(antelope.ProgrammingError, cursor.execute, query, values, says="a sequence of values")
         refuses(antelope.ProgrammingError, cursor.execute, "SELECT k FROM s WHERE k = ??", (1, 2))
         refuses(antelope.ProgrammingError, cursor.execute, "SELECT k FROM s WHERE k = 1?", (1,))
         refuses(antelope.ProgrammingError, cursor.execute, "SELECT k FROM s WHERE t = '?'", ("a",))

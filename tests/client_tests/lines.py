@@ -1,6 +1,7 @@
 """Tests of the lines themselves: how they are opened, noise, clients that were killed, and waits that end."""
 import contextlib
 import os
+import pathlib
 import pty
 import random
 import select
@@ -86,13 +87,25 @@ def test_sockets_are_lines():
 
 def test_a_line_that_cannot_be_opened_is_told():
     write("file", "")
-    programs = ("run:", "run:./none", "run:/bin/true")
-    for where in ("none", "file", "/dev/null", "tcp:127.0.0.1:1", "tcp:127.0.0.1:x", *programs):
-        refuses(antelope.OperationalError, antelope.connect, where)
+    for where, says in (
+        ("none", "none: "),
+        (".", ".: "),
+        ("file", "file: it is neither a port nor a socket"),
+        ("/dev/null", "/dev/null: it is neither a port nor a socket"),
+        ("tcp:127.0.0.1:1", "refused"),
+        ("tcp:127.0.0.1:x", "tcp:HOST:PORT"),
+        ("tcp:127.0.0.1", "tcp:HOST:PORT"),
+        ("tcp:127.0.0.1:99999", "tcp:127.0.0.1:99999: "),
+        ("run:", "no program is named"),
+        ("run:./none", "./none"),
+        ("run:'x", "run:'x: "),
+        ("run:/bin/true", "closed"),
+    ):
+        refuses(antelope.OperationalError, antelope.connect, where, says=says)
     refuses(antelope.InterfaceError, lambda: antelope.connect("none", client=5))
     with on_a_pty() as path:
         refuses(antelope.OperationalError, lambda: antelope.connect(path, speed=7), says="7 bits a second")
-        with antelope.connect(path, speed=9600) as line:
+        with antelope.connect(pathlib.Path(path), speed=9600) as line:
             same(line.cursor().execute("SELECT k, t FROM s").fetchall(), ROWS, "rows")
 
 

@@ -1,8 +1,20 @@
 """Tests of the tools: commands by hand, CSV and plots."""
+import contextlib
 import os
+import pty
+import re
+import signal
+import subprocess
+import sys
+import tty
 import xml.etree.ElementTree
 
-from client_tests.common import EXAMPLES, PROGRAM, made, on_a_pty, program, read, same, station, tool, write
+import antelope
+import antelope_csv
+from client_tests.common import (
+    CLIENTS, EXAMPLES, PROGRAM, ROOT, made, on_a_pty, program, read, same, station, tool, write,
+)
+from client_tests.lines import answered_by, framed
 
 SVG = "{http://www.w3.org/2000/svg}"
 
@@ -24,6 +36,95 @@ def test_each_tool_says_what_it_does():
     for words in map(str.split, tools):
         same(tool(*words, "--help")[0].startswith("usage: "), True, f"help of {words}")
         tool(*words, status=2)
+    begun = tool_at(f"{EXAMPLES}/client.py", "--help", stdout=subprocess.PIPE)
+    same((begun.communicate()[0][:7], begun.returncode), (b"usage: ", 0), "help of the example")
+
+
+def test_the_words_of_the_language_are_those_of_its_page():
+    page = read(f"{ROOT}/docs/AQL.md").decode()
+    refusals = set(re.findall(r"^\| `no ([a-z]+)", page, re.M)) - {"frame", "unfinished"}
+    same(sorted(antelope.REFUSALS), sorted(refusals), "the refusals that have an exception")
+    keywords = re.search(r"are\s+keywords: ([A-Z\s]+)\.", page)[1].split()
+    same(sorted(antelope_csv.KEYWORDS), sorted(keywords), "the keywords, which are no names")
+
+
+# How tools end
+
+
+def tool_at(path, *words, **how):
+    """A tool that was begun, with standard error in a pipe. Its output waits in a buffer, as it does for users."""
+    environment = {it: text for it, text in os.environ.items() if it != "PYTHONUNBUFFERED"}
+    command = [sys.executable, "-B", path, *words]
+    return subprocess.Popen(command, env=environment, stdin=subprocess.DEVNULL, stderr=subprocess.PIPE, **how)
+
+
+def tools_that_write():
+    """The tools with words for which they write something."""
+    where, query = station(), "SELECT k, k FROM s"
+    yield f"{CLIENTS}/antelope.py", "ask", where, query
+    yield f"{CLIENTS}/antelope_csv.py", "out", where, query
+    write("rows.csv", "k\n1\n")
+    yield f"{CLIENTS}/antelope_csv.py", "in", "rows.csv", "s"
+    yield f"{CLIENTS}/plot.py", where, query
+    yield f"{CLIENTS}/reader.py", "image"
+    yield f"{CLIENTS}/reader.py", "image", "--csv", "s"
+    yield f"{ROOT}/docs/picture", "image"
+
+
+def test_output_that_cannot_be_written_is_told():
+    for path, *words in tools_that_write():
+        name = os.path.basename(path)
+        with open("/dev/full", "wb") as full:
+            begun = tool_at(path, *words, stdout=full)
+        said = begun.communicate()[1].decode()
+        same((begun.returncode, said.count("\n"), said[:len(name)]), (1, 1, name), f"the end of {name}: {said}")
+        same("No space left" in said, True, f"what {name} said: {said}")
+        begun = tool_at(path, *words, preexec_fn=lambda: os.close(1))
+        said = begun.communicate()[1].decode()
+        same((begun.returncode, said.count("\n"), said[:len(name)]), (1, 1, name), f"{name} without output: {said}")
+
+
+def test_a_tool_whose_output_nobody_reads_ends_without_a_word():
+    for path, *words in tools_that_write():
+        reader, writer = os.pipe()
+        os.close(reader)
+        begun = tool_at(path, *words, stdout=writer)
+        os.close(writer)
+        same((begun.communicate()[1], begun.returncode), (b"", -signal.SIGPIPE), f"the end of {path} {words}")
+    # a cursor that was open is closed
+    with on_a_pty() as line:
+        begun = tool_at(f"{CLIENTS}/antelope_csv.py", "out", line, "SELECT k FROM s", stdout=subprocess.PIPE)
+        begun.stdout.close()
+        begun.communicate()
+        with contextlib.closing(antelope.connect(line, client=2)) as other:
+            same(other.cursor().execute("REMOVE FROM s").rowcount, 3, "rows that were removed")
+
+
+def test_an_interrupted_tool_ends_without_a_word():
+    near, far = pty.openpty()
+    tty.setraw(far)
+    for path, *words in (
+        (f"{CLIENTS}/antelope.py", "ask", os.ttyname(far), "PACK s"),
+        (f"{CLIENTS}/antelope.py", "hub", os.ttyname(far), "hub"),
+        (f"{CLIENTS}/plot.py", os.ttyname(far), "SELECT k, k FROM s"),
+    ):
+        begun = tool_at(path, *words, stdout=subprocess.PIPE)
+        # it waits now for a reply that does not come
+        os.read(near, 4096)
+        begun.send_signal(signal.SIGINT)
+        same((*begun.communicate(), begun.returncode), (b"", b"", -signal.SIGINT), f"the end of {path} {words}")
+    os.close(near)
+    os.close(far)
+    same(os.listdir("."), [], "the files")
+
+
+def test_replies_to_commands_by_hand_come_at_once():
+    with answered_by(framed(b"ok\n", b"ok\n", None)) as path:
+        words = ("ask", path, "PACK s", "PACK s", "--timeout", "300")
+        begun = tool_at(f"{CLIENTS}/antelope.py", *words, stdout=subprocess.PIPE)
+        same(begun.stdout.readline(), b"ok\n", "the first reply")
+        begun.kill()
+        begun.communicate()
 
 
 # CSV
@@ -68,14 +169,31 @@ def test_csv_that_aql_cannot_write_is_refused():
         ("k,t\n1,ab\n", "INT,STRING(1)", "line 2: 'ab' has more than 1 characters"),
         ("k,t\n1,a\n", "INT", "1 domains for 2 columns"),
         ("k,t\n1,a\n", "INT,TEXT", "'TEXT' is no domain"),
+        ("k,t\n1,a\n", "INT,STRING(33)", "'STRING(33)' is no domain"),
+        ("k,t\n1,\n", "INT,STRING(0)", "'STRING(0)' is no domain"),
+        ("a,b,c,d,e,f,g,h,i\n1,2,3,4,5,6,7,8,9\n", "", "9 columns, and a relation at most 8"),
         ("", "", "no line with names"),
     ):
         write("rows.csv", text)
         words = ("--domains", domains) if domains else ()
         wrote, said = tool("antelope_csv", "in", "rows.csv", "s", *words, status=1)
         same((wrote, says in said), ("", True), f"{text!r}: {said}")
-    write("rows.csv", "k t\n1\n")
-    tool("antelope_csv", "in", "rows.csv", "s", "--create", "--domains", "INT", status=1)
+    for names, says in (
+        ("k t,v", "'k t' is no name in AQL"),
+        ("v,Min", "'Min' is no name in AQL"),
+        (f"v,{'k' * 16}", "is no name in AQL"),
+        ("v,v", "two columns are called v"),
+    ):
+        write("rows.csv", f"{names}\n1,2\n")
+        wrote, said = tool("antelope_csv", "in", "rows.csv", "s", "--create", "--domains", "INT,INT", status=1)
+        same((wrote, says in said), ("", True), f"{names}: {said}")
+        same(tool("antelope_csv", "in", "rows.csv", "s")[0], "INSERT (1, 2) INTO s;\n", f"rows without {names}")
+    for relation in ("", "s; PACK s", "index", "1s", "s" * 16):
+        wrote, said = tool("antelope_csv", "in", "rows.csv", relation, status=1)
+        same((wrote, "is no name in AQL" in said), ("", True), f"{relation!r}: {said}")
+    for delimiter in ("", "ab", '"', "\n"):
+        said = tool("antelope_csv", "in", "rows.csv", "s", "--delimiter", delimiter, status=2)[1]
+        same("is not one character" in said, True, f"{delimiter!r}: {said}")
     tool("antelope_csv", "in", "rows.csv", "s", "--create", status=1)
     tool("antelope_csv", "in", "none.csv", "s", status=1)
 
@@ -135,6 +253,10 @@ def test_a_plot_has_a_point_for_each_row():
     lines = tool("plot", where, "SELECT k, k FROM s", "--width", "20")[0].splitlines()
     same(sum(it.count("*") for it in lines), 3, "points in the terminal")
     same((lines[0], max(map(len, lines)) <= 20, len(lines)), ("k over k, 3 rows", True, 23), "the lines")
+    where = station("CREATE RELATION s; CREATE ATTRIBUTE k DOMAIN TIME IN s; INSERT (1700000000000) INTO s;")
+    lines = tool("plot", where, "SELECT k, k FROM s", "--width", "5")[0].splitlines()
+    same(lines[-1].split(), ["1700000000000"] * 2, "the numbers where there is little room")
+    where = station()
     empty = "SELECT MIN(k), MAX(k) FROM s WHERE k > 9"
     for query in ("SELECT k FROM s", "SELECT k, t FROM s", empty, "PACK s", "SELECT x FROM s"):
         tool("plot", where, query, "--svg", status=1)
