@@ -62,7 +62,7 @@ pub record FlashWithFaults (F : Type 0) : Type 0 where
   pub reads : ℕ
   pub faults : ℕ
 
--- the number of the call to come, faults_counted from 1 up to the last number of a u64
+-- the number of the call to come, counted from 1 up to the last number of a u64
 abbrev pub number_of_call : ℕ → ℕ
 number_of_call calls = min (calls + 1) (2 ^ 64 - 1)
 
@@ -71,7 +71,7 @@ abbrev pub fails_now : List ℕ → ℕ → Bool
 fails_now fails calls = list_any (λ n. nat_eq n (number_of_call calls)) fails
 
 -- a call is numbered; it fails where its number is one of those, and does nothing inside then, and
--- else only where the flash inside faults_counted a fault
+-- else only where the flash inside counted a fault
 pub record FailsOnDemand {F T E : Type 0} (inner : F → ℕ) (old new : FlashWithFaults F) (result : Result T E) : Type 0 where
   pub counts : new.faults ≡ faults_counted (fails_now old.fails old.calls) old.faults
   pub numbered : new.calls ≡ number_of_call old.calls
@@ -110,7 +110,7 @@ done_at_cut front n = if nat_lt front n then (if nat_lt 2 n then front else 0) e
 abbrev pub done_of : FlashWithCut → ℕ → ℕ
 done_of flash n = if flash.off then 0 else if nat_eq flash.writes 0 then done_at_cut flash.front n else n
 
--- a write is faults_counted: it fails where the power is gone behind it
+-- a write is counted: it fails where the power is gone behind it
 pub record CountsWrite {T E : Type 0} (old new : FlashWithCut) (result : Result T E) : Type 0 where
   pub fails : is_err result ≡ power old
   pub off : new.off ≡ power old

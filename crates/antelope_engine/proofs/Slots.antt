@@ -1,9 +1,9 @@
--- What stands in a slot, and what is seen_at of it.
+-- What stands in a slot, and what is seen of it.
 use Rattle.std.proofs.Common.{◌≡◌, [], Option, Some, None, refl}
 use Rattle.std.specs.Prelude.{option_map}
 use Rattle.padded.proofs.Facts.{some_same}
 
--- what is seen_at in a slot is seen_at of something
+-- what is seen in a slot is seen of something
 pub record SeenOf {A B : Type 0} (f : A → B) (o : Option A) (y : B) : Type 0 where
   pub from : A
   pub there : o ≡ Some from

@@ -129,7 +129,7 @@ pub record EndsExpression (rest : List Token) : Type 0 where
   pub products : Refuses want.Products rest
   pub sums : Refuses want.Sums rest
 
--- the sign of a comparison_move is read behind its left side
+-- the sign of a comparison is read behind its left side
 behind_sign : (how : Compare) (n : ℕ) → move (want.Behind n) (compare_sign how) ≡ comparison_move n how
 behind_sign compare.Eq n = refl
 behind_sign compare.Ne n = refl

@@ -34,7 +34,7 @@ use Rattle.cursor.proofs.Suited.{count_rows, key_bounds, number_there, rows_suit
 use Rattle.db_model.proofs.Moves.{same_filter}
 use Rattle.padded.proofs.Facts.{both_parts}
 
--- what is so of the rows of a relation is so of each slot with a live row that passes_code
+-- what is so of the rows of a relation is so of each slot with a live row that passes
 pub at_slots : (test : List Value → Bool) (P : Row → Type 0) (all : List Row) → ((slot : ℕ) → slot < length all → is_live_and test (get_or all slot no_row) ≡ true → P (get_or all slot no_row))
     → (slot : ℕ) → is_live_and test (get_or all slot no_row) ≡ true → P (get_or all slot no_row)
 at_slots test P all each slot live =
@@ -77,7 +77,7 @@ module _ (state : State) (t : Tuples) (told : IsTrue state.tells) (holds : Holds
       (all_lie t.schema.attributes condition r.tuple (rows_suit state t told holds slot (omega (arith, below, count_rows state t)))
       (sym (alike r.tuple) ∙ (both_parts r.live (passes_code code r.tuple) live).1) infos numbers (places_of state (slots state.files t) infos readable)))
 
-  -- the slots that are answered, among those that the plan passes_code
+  -- the slots that are answered, among those that the plan passes
   pub slots_selected : (ranges : List Range) (n : ℕ) (cs : List ℕ) → ranges ≡ ranges_of t.schema.attributes condition → n ≡ length (rows state.files t)
       → cs ≡ slots_passed (kinds infos) ranges n (rows state.files t) → passing (passes_code code) (rows state.files t) cs ≡ selected_slots t.schema.attributes condition (rows state.files t)
   slots_selected ranges n cs r e c =

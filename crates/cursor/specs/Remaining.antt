@@ -22,7 +22,7 @@ use Rattle.tuple_file.specs.Column.{IsNumber}
 use Rattle.tuple_file.specs.Tuples.{HoldsRows, slots}
 use Rattle.cursor.specs.declared.select.SelectCursor.{SelectCursor}
 
--- a row is live, and its tuple passes_code a test
+-- a row is live, and its tuple passes a test
 abbrev pub is_live_and : (List Value → Bool) → Row → Bool
 is_live_and test row = row.live && test row.tuple
 
@@ -81,7 +81,7 @@ pub record IsBegun (c : SelectCursor) (relation : Tuples) (condition : List Inst
   pub rests : c.candidates.place ≡ None
   pub chosen : IsChosen c.candidates.search infos
 
--- over these rows, a step of candidates to the next row that is live and passes_code a test: what is ahead pays for what was read
+-- over these rows, a step of candidates to the next row that is live and passes a test: what is ahead pays for what was read
 pub record StepsTo (found : Option ℕ) (test : List Value → Bool) (old new : Candidates) (state : State) (tables : Tables) (all : List Row) (before after : ℕ) : Type 0 where
   pub first : MatchOption found (passing test all (ahead old all) ≡ [])
       (λ slot. passing test all (ahead old all) ≡ slot ∷ passing test all (ahead new all))

@@ -42,7 +42,7 @@ free_from n [] = None
 free_from n (None ∷ slots) = Some n
 free_from n (Some x ∷ slots) = free_from (n + 1) slots
 
--- what the used_things slots hold
+-- what the used slots hold
 abbrev pub used_things : {A : Type 0} → List (Option A) → List A
 used_things [] = []
 used_things (None ∷ slots) = used_things slots

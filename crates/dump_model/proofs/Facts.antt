@@ -1,4 +1,4 @@
--- What a sound database is, in lists: each used_things slot with those before it.
+-- What a sound database is, in lists: each used slot with those before it.
 use Rattle.std.proofs.Common.{◌≡◌, refl, sym, ap, subst, ◌∙◌, ℕ, ◌+◌, ◌<◌, ◌≤◌, ◌⊎◌, Bool, true, false, List, [], ◌∷◌, ◌++◌, length, map, get_or, append_assoc, arith, cond, Option, Some, None, suc}
 use Rattle.std.specs.Prelude.{IsTrue, not, ◌&&◌, ◌||◌, ◌==◌, filter, slice_get, ⊤}
 use Rattle.std.specs.List.{list_any, AllByRecursion}
@@ -85,7 +85,7 @@ relation_facts version r known is = record {
   filled = some_attribute r.schema.attributes r.rows is.filled;
 }
 
--- what holds of each slot that is used_things holds of all that is in them
+-- what holds of each slot that is used holds of all that is in them
 all_used : {A : Type 0} (P : A → Type 0) (slots : List (Option A)) → ((k : ℕ) (x : A) → StandsIn slots k x → P x) → AllByRecursion P (used_things slots)
 all_used P [] each = tt
 all_used P (None ∷ slots) each = all_used P slots (λ k x h. each (suc k) x h)
@@ -95,7 +95,7 @@ all_used P (Some x ∷ slots) each = (each 0 x refl, all_used P slots (λ k y h.
 abbrev AreApart : List (Option Relation) → Type 0
 AreApart slots = (j k : ℕ) (q r : Relation) → StandsIn slots j q → StandsIn slots k r → q.schema.name ≡ r.schema.name → j ≡ k
 
--- a name that none of the used_things slots has
+-- a name that none of the used slots has
 not_among : (name : List ℕ) (slots : List (Option Relation)) → ((k : ℕ) (r : Relation) → StandsIn slots k r → name ≡ r.schema.name → ⊥) → is_among name (relation_names (used_things slots)) ≡ false
 not_among name [] other = refl
 not_among name (None ∷ slots) other = not_among name slots (λ k r h. other (suc k) r h)
@@ -125,7 +125,7 @@ names_apart (Some p ∷ slots) apart =
 abbrev ArePlaced : List (Option Index) → Type 0
 ArePlaced slots = (j k : ℕ) (a b : Index) → StandsIn slots j a → StandsIn slots k b → a.relation ≡ b.relation → a.attribute ≡ b.attribute → j ≡ k
 
--- none of some indexes is on the place of one in a used_things slot
+-- none of some indexes is on the place of one in a used slot
 abbrev AreElsewhere : List Index → List (Option Index) → Type 0
 AreElsewhere before slots = (k : ℕ) (index : Index) → StandsIn slots k index → list_any (is_on index.relation index.attribute) before ≡ false
 

@@ -85,7 +85,7 @@ moved_from (Some q ∷ slots) n (suc k) r behind distinct h =
     ∙ moved_from slots (n + 1) k r behind (and_right (not (is_among q.schema.name (relation_names (used_things slots)))) (are_distinct (relation_names (used_things slots))) distinct) h
     ∙ ap (λ j. Some (j, packed_relation r)) e
 
--- used_things slots keep apart
+-- used slots keep apart
 slots_apart : (slots : List (Option Relation)) (j k : ℕ) (q r : Relation) → get_or slots j None ≡ Some q → get_or slots k None ≡ Some r → new_slot slots j ≡ new_slot slots k → j ≡ k
 slots_apart [] j k q r h i e = cc
 slots_apart (None ∷ slots) zero k q r h i e = cc
@@ -164,7 +164,7 @@ live_rises place (row ∷ rows) h = by_live row.live (live_behind place key rows
 abbrev pub with_indexes : List Relation → List Index → Database
 with_indexes rs indexes = record { version = 2; relations = slots_for 8 rs; indexes = slots_for 8 indexes; cursors = replicate 4 None }
 
--- the relation of each of them is in a used_things slot
+-- the relation of each of them is in a used slot
 abbrev pub AreUsed : List (Option Relation) → List Index → Type 0
 AreUsed slots indexes = AllByRecursion (λ index. (r : Relation) × (get_or slots index.relation None ≡ Some r)) indexes
 

@@ -74,7 +74,7 @@ all_commands (r ∷ rs) =
 
 -- ---- its indexes
 
--- the relation in the new slot of a used_things one
+-- the relation in the new slot of a used one
 moved_there : (slots : List (Option Relation)) (k : ℕ) (r : Relation) (behind : List (Option Relation)) → get_or slots k None ≡ Some r
     → get_or (map (λ x. Some x) (map packed_relation (used_things slots)) ++ behind) (new_slot slots k) None ≡ Some (packed_relation r)
 moved_there [] k r behind h = cc
@@ -83,7 +83,7 @@ moved_there (None ∷ slots) (suc k) r behind h = moved_there slots k r behind h
 moved_there (Some q ∷ slots) zero r behind h = ap (λ x. Some (packed_relation x)) (some_alike h)
 moved_there (Some q ∷ slots) (suc k) r behind h = moved_there slots k r behind h
 
--- the new slot of a slot that is used_things already is the same
+-- the new slot of a slot that is used already is the same
 new_there : (slots : List (Option Relation)) (k : ℕ) (r : Relation) (behind : List (Option Relation)) → get_or slots k None ≡ Some r
     → new_slot (map (λ x. Some x) (map packed_relation (used_things slots)) ++ behind) (new_slot slots k) ≡ new_slot slots k
 new_there [] k r behind h = cc

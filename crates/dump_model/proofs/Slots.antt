@@ -49,7 +49,7 @@ among_front name (x ∷ xs) ys h =
 
 -- ---- slots filled from the front
 
--- what is in the used_things slots
+-- what is in the used slots
 pub used_front : {A : Type 0} (xs : List A) (m : ℕ) → used_things (map (λ x. Some x) xs ++ replicate m None) ≡ xs
 used_front [] zero = refl
 used_front [] (suc m) = used_front [] m

@@ -15,7 +15,7 @@ packed_relation r = record r { rows = kept_rows r.rows }
 abbrev pub slots_for : {A : Type 0} → ℕ → List A → List (Option A)
 slots_for n xs = map (λ x. Some x) xs ++ replicate (n - length xs) None
 
--- the slot that a used_things slot gets: so many are used_things before it
+-- the slot that a used slot gets: so many are used before it
 abbrev pub new_slot : {A : Type 0} → List (Option A) → ℕ → ℕ
 new_slot slots k = length (used_things (take k slots))
 

@@ -215,7 +215,7 @@ draft_front draft tree i is h = ap (λ (xs : List ℕ). get_or xs i 0) is ∙ ge
 draft_back : (draft tree : List ℕ) (i : ℕ) → draft ≡ padded (length draft) tree → length tree + i < length draft → get_or draft (length tree + i) 0 ≡ 0
 draft_back draft tree i is h = ap (λ (xs : List ℕ). get_or xs (length tree + i) 0) is ∙ get_or-append-add tree (replicate (length draft - length tree) 0) i 0 ∙ get_or-replicate (length draft - length tree) i 0 0 (omega (arith, h))
 
--- a write next_number leaves what stands before
+-- a write behind leaves what stands before
 pub zeros_again : (old mid w : List ℕ) (at place_ n : ℕ) → mid ≡ put_at old place_ w → at + 2 ≤ place_ → place_ + length w ≤ length old → slice_range old at (at + 2) ≡ replicate 2 0 → n ≡ 2 → slice_range mid at (at + n) ≡ replicate n 0
 zeros_again old mid w at place_ n is before fits zeros two =
     let long : length mid ≡ length old = ap length is ∙ length-put_at old w place_ fits in
@@ -288,7 +288,7 @@ module _ (loads places : List ℕ) (opens : ℕ) (draft : List ℕ) (ps : List P
       let size = tree_size in
       slice_zeros draft (bucket_place opens) 195 (omega (arith, room)) (λ i h. rw (sym size) (draft_back draft b.tree i b.padding (omega (arith, size, room, h))))
 
-  -- the path ends where a bucket is to be opened_bucket
+  -- the path ends where a bucket is to be opened
   new_bucket : load % 32 ≡ 0 → number_of b.tree key hop ≡ 0
   unfolding hop end_
   new_bucket whole = ⊎_elim
@@ -535,7 +535,7 @@ only_then a b c x y = (
   },
 )
 
--- a tree with no room next_number it is the whole draft
+-- a tree with no room behind it is the whole draft
 pub builds_all : (loads places : List ℕ) (opens : ℕ) (draft : List ℕ) (ps : List Pair) (most : ℕ) → Builds loads places opens draft ps → most ≡ buckets (pair_keys ps) → length draft ≡ bucket_place most → IsTree draft ps
 builds_all loads places opens draft ps most b is long =
     let same : length b.tree ≡ length draft = b.is.size ∙ ap bucket_place (sym is) ∙ sym long in

@@ -41,7 +41,7 @@ held bytes part keys key from place tree at is =
     let holds = (tree.each key place.hop).holds (subst (λ (n : ℕ). n ≢ 0) at.there at.some) in
     holds_part bytes part (place_of place.bucket) rest is (subst (λ (n : ℕ). HoldsPairs bytes (place_of n) rest) (sym at.there) holds)
 
--- next_number a full bucket what is wanted comes in the next
+-- behind a full bucket what is wanted comes in the next
 onward : (ps : List Pair) (key : ℤ) (from hop : ℕ) → to_come ps key from hop 32 ≡ to_come ps key from (hop + 1) 0
 onward ps key from hop = ahead_hop (is_wanted key from) (goes key) (goes_wanted key from) ps hop
 

@@ -101,7 +101,7 @@ pub walk_near : (bytes : List ℕ) (keys : List ℤ) (key : ℤ) (hop at level n
 walk_near bytes keys key hop at level number tree walks is some =
     path_short key keys hop (record { full = walks.full; some = (tree.each key hop).some (λ z. some (is ∙ sym walks.number ∙ z)) })
 
--- the reads that are left pay for a look, and for the number next_number
+-- the reads that are left pay for a look, and for the number behind
 pub look_paid_by : (now was start e hop number : ℕ) → (number ≢ 0 → hop ≤ 4 + e / 32) → (number ≡ 0 → now ≤ was) → now ≤ was + 9 → was + reads_from e hop ≤ start → now ≤ start
 look_paid_by now was start e hop number near none cost paid =
     ⊎_elim

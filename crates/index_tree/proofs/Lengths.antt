@@ -26,7 +26,7 @@ unfolding both
 fuse g f [] = refl
 fuse g f (p ∷ ps) = fuse_step (g p) (f p) p g (filter f ps) (filter (both g f) ps) refl (fuse g f ps)
 
--- no more reaching a bucket than pass the tests before it
+-- no more reach a bucket than pass the tests before it
 pub reach_fewer : (test : ℕ → Pair → Bool) (hop : ℕ) (ps : List Pair) (g : Pair → Bool) → length (filter g (reaching test hop ps)) ≤ length (filter g (sifted test hop ps))
 reach_fewer test zero ps g = omega arith
 reach_fewer test (suc hop) ps g =

@@ -89,7 +89,7 @@ module _ (bytes : List ℕ) (f : ℕ → ℤ) (n many : ℕ) (each : (key : ℤ)
   first : ℕ → ℕ
   first b = slot_at bytes (bucket_place b) 0 - 1
 
-  -- the first pair of a bucket is a slot that opened_bucket it
+  -- the first pair of a bucket is a slot that opened it
   opener : (b : ℕ) → b < many → (first b < n) × (o (first b) ≡ 1) × (number_of bytes (f (first b)) (e (first b)).0 ≡ b + 1)
   unfolding o first
   opener b inside =

@@ -49,7 +49,7 @@ bucket_pairs bytes number rest bucket =
 
 -- ---- a path
 
--- those of a key in the buckets before a hop, and those that reaching it, are all
+-- those of a key in the buckets before a hop, and those that reach it, are all
 split_at : (bytes : List ℕ) (ps : List Pair) (key : ℤ) (hop : ℕ) → IsTree bytes ps → filter (has_key key) (pairs_along bytes key hop) ++ filter (has_key key) (reaching (goes key) hop ps) ≡ filter (has_key key) ps
 split_at bytes ps key zero tree = refl
 split_at bytes ps key (suc hop) tree =

@@ -37,7 +37,7 @@ reach-append test ps qs (suc hop) full =
     ∙ ap (filter (test hop)) (drop-append-le 32 (reaching test hop ps) (sifted test hop qs) (full hop (omega arith)))
     ∙ filter-append (test hop) (drop 32 (reaching test hop ps)) (sifted test hop qs)
 
--- later pairs of the key come behind those that were ahead_of_place
+-- later pairs of the key come behind those that were ahead
 pub ahead-append : {P : Type 0} (mine : P → Bool) (test : ℕ → P → Bool) → ((hop : ℕ) (p : P) → mine p ≡ true → test hop p ≡ true) → (ps qs : List P) (hop pair : ℕ) → IsPlace test ps hop pair → ahead_of_place mine test (ps ++ qs) hop pair ≡ ahead_of_place mine test ps hop pair ++ filter mine qs
 ahead-append mine test goes ps qs hop pair place =
     ap (λ xs. filter mine (drop pair xs)) (reach-append test ps qs hop place.full)
@@ -56,11 +56,11 @@ place-append test ps qs hop pair place = record {
   short = place.short;
 }
 
--- nothing is ahead_of_place at the end of a bucket that is not full
+-- nothing is ahead at the end of a bucket that is not full
 pub ahead_end : {P : Type 0} (mine : P → Bool) (test : ℕ → P → Bool) (ps : List P) (hop pair : ℕ) → length (reaching test hop ps) ≤ pair → ahead_of_place mine test ps hop pair ≡ []
 ahead_end mine test ps hop pair h = ap (filter mine) (drop_all pair (reaching test hop ps) h)
 
--- the first place has all pairs of the key ahead_of_place: the pairs of a key along its path are all its pairs, in order
+-- the first place has all pairs of the key ahead: the pairs of a key along its path are all its pairs, in order
 pub ahead_first : {P : Type 0} (mine : P → Bool) (test : ℕ → P → Bool) (ps : List P) → ahead_of_place mine test ps 0 0 ≡ filter mine ps
 ahead_first mine test ps = refl
 

@@ -67,7 +67,7 @@ byte_stays xs w at p fits apart = let e : p ≡ p + 0 = omega arith in subst (λ
 
 -- ---- numbers
 
--- the numbers next_number a bucket stay
+-- the numbers behind a bucket stay
 pub behind_stays : (old new : List ℕ) (key : ℤ) (h n : ℕ) → ((p : ℕ) → p + 2 ≤ 682 → u16_at new p ≡ u16_at old p) → (n ≢ 0 → next_at new (place_of n) ≡ next_at old (place_of n)) → next_number new key h n ≡ next_number old key h n
 behind_stays old new key zero n heads next = let small = node_small key 1 (omega arith) in heads (2 * node key 1) (omega arith)
 behind_stays old new key (suc zero) n heads next = let small = node_small key 2 (omega arith) in heads (2 * node key 2) (omega arith)

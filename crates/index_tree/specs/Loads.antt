@@ -3,7 +3,7 @@ use Rattle.std.specs.Prelude.{ℕ, zero, suc, ℤ, ◌≡◌, ◌+◌, ◌<◌, 
 use Rattle.db_model.specs.HashTree.{buckets, node}
 use Rattle.index_tree.specs.Pairs.{Pair, goes, pair_keys, reaching}
 
--- of the pairs that reaching a node those that it holds: an upper node 32, a lowest node all
+-- of the pairs that reach a node those that it holds: an upper node 32, a lowest node all
 abbrev pub load_of : ℕ → ℕ → ℕ
 load_of zero n = min 32 n
 load_of (suc zero) n = min 32 n

@@ -34,7 +34,7 @@ last_at bytes place = slice_index bytes (place + 194)
 
 -- ---- paths
 
--- the number next_number that of a bucket at a hop of a key's path: the next node's, and in a chain next
+-- the number behind that of a bucket at a hop of a key's path: the next node's, and in a chain next
 abbrev pub next_number : List ℕ → ℤ → ℕ → ℕ → ℕ
 next_number bytes key zero number = bucket_number bytes (node key 1)
 next_number bytes key (suc zero) number = bucket_number bytes (node key 2)

@@ -45,8 +45,6 @@ use Rattle.session_indexes.specs.Sites.{IsSite}
 use Rattle.session_indexes.proofs.Refused.{free_seen, placed}
 use Rattle.session_model.proofs.Cells.{free_slot_none, found_allowed}
 
--- ---- the free slot
-
 -- ---- tables that no index has
 
 module _ (state : State) (before after : Tables) (held : Held) (opens : List (Option Open)) (r : IsRunning state before held opens) (kept : KeepsTaken before after held.indexes) where

@@ -67,8 +67,6 @@ module _ (s0 s1 : State) (cat slot : ℕ) (idle : s0.draft ≡ None) (catalog : 
         unnamed = subst (λ (n : List ℕ). IsUnnamed s2.files n) (some_same (file_at s1.files file).name name own) k.unnamed;
       }
 
--- ---- the relation has the name
-
 -- ---- a session
 
 module _ (s0 : State) (tables : Tables) (held : Held) (opens : List (Option Open)) (r : IsRunning s0 tables held opens) (cat : ℕ) (has : held.cat ≡ Some cat) (name attribute : List ℕ)

@@ -79,7 +79,7 @@ AreClosed items tallies = (i : ℕ) → i < length items → IsFalse (tally_at t
 abbrev pub AreDone : List (Agg × ℕ) → List Tally → Type 0
 AreDone items tallies = (i : ℕ) → i < length items → IsFalse (wants_pass (tally_at tallies i).fold)
 
--- between passes: in those that ended each has taken its column_values of all tuples, as long as it was open
+-- between passes: in those that ended each has taken its column of all tuples, as long as it was open
 abbrev pub AreFolded : List (Agg × ℕ) → List (List Value) → List Tally → Type 0
 AreFolded items all tallies =
     (i : ℕ) → i < length items → Folds (column_values (item_at items i).1 all) [] (tally_at tallies i).fold

@@ -21,8 +21,6 @@ use Rattle.session_relations.specs.Changes.{Shows}
 use Rattle.session_relations.proofs.Answered.{answers_fine, answers_space}
 use Rattle.session_model.proofs.Carrying.{ahead_stays}
 
--- ---- a refusal
-
 -- ---- a change of the catalog
 
 -- of a base whose files have changed, and what is known of them

@@ -18,8 +18,6 @@ use Rattle.db_model.specs.Sound.{IsSoundAttribute, IsSoundSchema, StandsIn, are_
 use Rattle.stored.proofs.FilesOf.{earliest_none, first_false, nothing_broken}
 use Rattle.padded.proofs.Facts.{none_there, true_le, true_eq, none_some, not_not, both_parts, untrue}
 
--- ---- tests
-
 -- ---- slots of a list that a function gives
 
 pub record IsBelow {X : Type 0} (f : ℕ → Option X) (n k : ℕ) (x : X) : Type 0 where
