@@ -1,5 +1,4 @@
 pub mod Opening
+pub mod Places
 pub mod Planned
 pub mod Remade
-pub mod Spaceless
-pub mod Unsaid
