@@ -73,7 +73,6 @@ module _ (files : Table) (held : Held) (opens : List (Option Open)) (sound : IsS
   named_rows k t there =
       let slots : List (Option Relation) = map (option_map (relation_of_rows files)) held.relations in
       let stands : get_or slots k None ≡ Some (relation_of_rows files t) = mapped_at (relation_of_rows files) held.relations k (Some t) there in
-      let here : 0 + k ≡ k = omega arith in
       let found : relation_from t.schema.name 0 slots ≡ Some (0 + k, relation_of_rows files t) =
       found_first t.schema.name 0 k (relation_of_rows files t) slots stands ((bytes_eq-Decides t.schema.name t.schema.name).1 refl)
       (λ j q e same. sound.names j k q (relation_of_rows files t) e stands ((bytes_eq-Decides q.schema.name t.schema.name).0 same)) in

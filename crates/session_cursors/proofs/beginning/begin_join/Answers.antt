@@ -27,11 +27,8 @@ begin-cursor-requires-clause-left g c =
     let opens = c.args.opens.now in
     let r = c.requires.running in
     let s = c.args.left.now in
-    let t = c.args.right.now in
     let j = c.args.j in
-    let k = c.args.k in
     let there_s = c.requires.left in
-    let there_t = c.requires.right in
     subst (λ (z : Tuples). HoldsRows state z) (sym c.copy.ensures) (relation_there state tables held opens r j s there_s).holds
 
 pub begin-cursor-requires-clause-right : goal.begin-cursor-requires-clause-right
@@ -41,11 +38,8 @@ begin-cursor-requires-clause-right g c =
     let held = c.args.held.now in
     let opens = c.args.opens.now in
     let r = c.requires.running in
-    let s = c.args.left.now in
     let t = c.args.right.now in
-    let j = c.args.j in
     let k = c.args.k in
-    let there_s = c.requires.left in
     let there_t = c.requires.right in
     subst (λ (z : Tuples). HoldsRows state z) (sym c.copy-2.ensures) (relation_there state tables held opens r k t there_t).holds
 
@@ -56,14 +50,10 @@ begin-cursor-requires-clause-readable g c =
     let held = c.args.held.now in
     let opens = c.args.opens.now in
     let r = c.requires.running in
-    let s = c.args.left.now in
     let t = c.args.right.now in
-    let j = c.args.j in
     let k = c.args.k in
-    let there_s = c.requires.left in
     let there_t = c.requires.right in
     let infos : List IndexInfo = c.indexes_of-indexes.result in
-    let e1 : c.copy.result ≡ s = c.copy.ensures in
     let e2 : c.copy-2.result ≡ t = c.copy-2.ensures in
     let e3 : infos ≡ infos_of k t held.indexes = c.indexes_of-indexes.ensures in
     let P : Tuples → List IndexInfo → Type 0 = λ z l. AreReadable state (slots state.files z) l in
@@ -72,26 +62,14 @@ begin-cursor-requires-clause-readable g c =
 pub returns-clause-rows : goal.returns-clause-rows
 returns-clause-rows g c =
     let state = g.V.Files.state c.args.files.now in
-    let tables = c.args.tables.now in
-    let held = c.args.held.now in
-    let opens = c.args.opens.now in
-    let r = c.requires.running in
     let s = c.args.left.now in
     let t = c.args.right.now in
-    let j = c.args.j in
-    let k = c.args.k in
-    let there_s = c.requires.left in
-    let there_t = c.requires.right in
-    let infos : List IndexInfo = c.indexes_of-indexes.result in
     let e1 : c.copy.result ≡ s = c.copy.ensures in
     let e2 : c.copy-2.result ≡ t = c.copy-2.ensures in
-    let e3 : infos ≡ infos_of k t held.indexes = c.indexes_of-indexes.ensures in
     let h = c.begin-cursor.ensures in
     let cursor = c.begin-cursor.result in
     let files = state.files in
     let places = c.args.plan.places in
-    let le : cursor.left ≡ s = h.begun.left ∙ e1 in
-    let re : cursor.right ≡ t = h.begun.right ∙ e2 in
     let first : map (project_pair places) (pairs_left cursor (rows files cursor.left) (rows files cursor.right)) ≡ map (project_pair places) (pairs_left cursor (rows files c.copy.result) (rows files c.copy-2.result)) =
     λ i. map (project_pair places) (pairs_left cursor (rows files (h.begun.left i)) (rows files (h.begun.right i))) in
     let last : matching c.args.plan.left_on c.args.plan.right_on (rows files c.copy.result) (rows files c.copy-2.result) ≡ matching c.args.plan.left_on c.args.plan.right_on (rows files s) (rows files t) =
@@ -101,16 +79,10 @@ returns-clause-rows g c =
 pub returns-clause-ahead : goal.returns-clause-ahead
 returns-clause-ahead g c =
     let state = g.V.Files.state c.args.files.now in
-    let tables = c.args.tables.now in
     let held = c.args.held.now in
-    let opens = c.args.opens.now in
-    let r = c.requires.running in
     let s = c.args.left.now in
     let t = c.args.right.now in
-    let j = c.args.j in
     let k = c.args.k in
-    let there_s = c.requires.left in
-    let there_t = c.requires.right in
     let infos : List IndexInfo = c.indexes_of-indexes.result in
     let e1 : c.copy.result ≡ s = c.copy.ensures in
     let e2 : c.copy-2.result ≡ t = c.copy-2.ensures in
@@ -124,10 +96,7 @@ returns-clause-ahead g c =
 pub returns-clause-waits : goal.returns-clause-waits
 returns-clause-waits g c =
     let state = g.V.Files.state c.args.files.now in
-    let tables = c.args.tables.now in
     let held = c.args.held.now in
-    let opens = c.args.opens.now in
-    let r = c.requires.running in
     let s = c.args.left.now in
     let t = c.args.right.now in
     let j = c.args.j in

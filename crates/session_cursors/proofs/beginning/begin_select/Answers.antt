@@ -151,13 +151,9 @@ returns-clause-waits g c =
 pub returns-in_err-cursor-clause-reads : goal.returns-in_err-cursor-clause-reads
 returns-in_err-cursor-clause-reads g c =
     let state = g.V.Files.state c.args.files.now in
-    let tables = c.args.tables.now in
     let held = c.args.held.now in
-    let opens = c.args.opens.now in
-    let r = c.requires.running in
     let t = c.args.tuples.now in
     let k = c.args.k in
-    let there = c.requires.there in
     let copy : Tuples = c.copy.result in
     let infos : List IndexInfo = c.indexes_of-indexes.result in
     let e1 : copy ≡ t = c.copy.ensures in
@@ -169,13 +165,9 @@ returns-in_err-cursor-clause-reads g c =
 pub returns-clause-reads : goal.returns-clause-reads
 returns-clause-reads g c =
     let state = g.V.Files.state c.args.files.now in
-    let tables = c.args.tables.now in
     let held = c.args.held.now in
-    let opens = c.args.opens.now in
-    let r = c.requires.running in
     let t = c.args.tuples.now in
     let k = c.args.k in
-    let there = c.requires.there in
     let copy : Tuples = c.copy.result in
     let infos : List IndexInfo = c.indexes_of-indexes.result in
     let e1 : copy ≡ t = c.copy.ensures in

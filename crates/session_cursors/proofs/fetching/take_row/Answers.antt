@@ -42,7 +42,6 @@ fetch_open-requires g c =
 pub returns-clause-done : goal.returns-clause-done
 returns-clause-done g c = λ told.
     let state = g.V.Files.state c.args.files.now in
-    let tables = c.args.tables.now in
     let held = c.args.held.now in
     let opens = c.args.opens.now in
     let place = c.in-Some.place in
@@ -84,7 +83,6 @@ returns-clause-running g c =
 pub returns-clause-aheads : goal.returns-clause-aheads
 returns-clause-aheads g c = λ told.
     let state = g.V.Files.state c.args.files.now in
-    let tables = c.args.tables.now in
     let held = c.args.held.now in
     let opens = c.args.opens.now in
     let place = c.in-Some.place in
@@ -105,7 +103,6 @@ returns-clause-aheads g c = λ told.
 pub returns-clause-reads : goal.returns-clause-reads
 returns-clause-reads g c = λ told sound.
     let state = g.V.Files.state c.args.files.now in
-    let tables = c.args.tables.now in
     let held = c.args.held.now in
     let opens = c.args.opens.now in
     let place = c.in-Some.place in
@@ -123,7 +120,6 @@ returns-clause-reads g c = λ told sound.
 pub returns-in_err-found-clause-reads : goal.returns-in_err-found-clause-reads
 returns-in_err-found-clause-reads g c = λ told sound.
     let state = g.V.Files.state c.args.files.now in
-    let tables = c.args.tables.now in
     let held = c.args.held.now in
     let opens = c.args.opens.now in
     let place = c.in-Some.place in

@@ -15,7 +15,6 @@ use Rattle.session_cursors.proofs.opening.open_cursor.Goals as goal
 pub returns-then-is_open : goal.returns-then-is_open
 returns-then-is_open g c =
     let state = g.V.Files.state c.args.base.now.files in
-    let tables = c.args.base.now.tables in
     let held = c.args.base.now.held in
     let opens = c.args.base.now.opens in
     let number = c.args.number.now in
@@ -101,7 +100,6 @@ returns-in-Ok g c =
 pub returns-in-Err : goal.returns-in-Err
 returns-in-Err g c =
     let state = g.V.Files.state c.args.base.now.files in
-    let tables = c.args.base.now.tables in
     let held = c.args.base.now.held in
     let opens = c.args.base.now.opens in
     let number = c.args.number.now in
