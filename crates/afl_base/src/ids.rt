@@ -1,4 +1,4 @@
-ghost use Rattle.std.specs.Prelude.{◌≡◌, ◌&&◌, ◌<◌, ◌≤◌, if◌then◌else◌, nat_le, nat_lt};
+ghost use Rattle.std.specs.Prelude.{◌≡◌, ◌<◌, if◌then◌else◌, nat_lt};
 
 use std::marker::Model;
 
@@ -122,46 +122,6 @@ impl IndexId {
     pub fn number(&self) -> u16
         ensures value { result ≡ self.now }
         ensures below { result < 8 }
-    {
-        self.number
-    }
-}
-
-/// A cursor, 1 to 4.
-#[derive(Clone, Copy, PartialEq, Eq, PartialOrd, Ord, Debug)]
-pub struct CursorId {
-    number: u16,
-}
-
-impl Model for CursorId {
-    ghost use Rattle.std.specs.Prelude.{ℕ, ◌≤◌};
-
-    ghost Value = { ℕ };
-
-    ghost view = { λ id. id.number };
-
-    ghost invariant = { λ id. (1 ≤ id.number) × (id.number ≤ 4) };
-
-    ghost inverse = { λ n. record { number = n } };
-}
-
-impl CursorId {
-    /// The cursor of this number, None exactly where it is not 1 to 4.
-    pub fn new(n: u16) -> Option<CursorId>
-        ensures { result ≡ (if nat_le 1 n && nat_le n 4 then Some n else None) }
-    {
-        if 1 <= n && n <= 4 {
-            Some(CursorId { number: n })
-        } else {
-            None
-        }
-    }
-
-    /// Its number, 1 to 4.
-    pub fn number(&self) -> u16
-        ensures value { result ≡ self.now }
-        ensures least { 1 ≤ result }
-        ensures most { result ≤ 4 }
     {
         self.number
     }

@@ -3,6 +3,7 @@
 #![tactic(auto)]
 
 mod failed;
+mod fault;
 mod fields;
 mod files;
 mod flash;
@@ -17,10 +18,11 @@ mod sizes;
 mod stream;
 
 pub use failed::Failed;
+pub use fault::Fault;
 pub use fields::{get_i32, get_i64, get_u16, put_bytes, put_i32, put_i64, put_u16};
 pub use files::Files;
 pub use flash::Flash;
-pub use ids::{CursorId, FileId, IndexId, PageId, RelationId, SectorId, SlotNo};
+pub use ids::{FileId, IndexId, PageId, RelationId, SectorId, SlotNo};
 pub use key_column::KeyColumn;
 pub use kind::{FileError, Kind};
 pub use name::Name;

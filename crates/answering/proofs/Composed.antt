@@ -7,8 +7,8 @@ use Rattle.db_model.specs.Ahead.{Aheads, is_refused}
 use Rattle.db_model.specs.Database.{Database}
 use Rattle.db_model.specs.ReplyText.{text}
 use Rattle.db_model.specs.Step.{step}
-use Rattle.intake.specs.declared.halt.Halt.{Halt}
-use Rattle.intake.specs.declared.halt.Halt.TheVariants.{Space, Flash, Sink}
+use Rattle.intake.specs.declared.ending.Ending.{Ending}
+use Rattle.intake.specs.declared.ending.Ending.TheVariants.{Space, Flash, Sink}
 use Rattle.reply_text.proofs.Pieces.{append_known-nil, append_known-twice, held_more}
 use Rattle.reply_text.specs.WroteLess.{WroteLess}
 use Rattle.run_model.specs.Talk.{AsksToRead, Talk, after_entry, talk_costs, last_database, talk_aheads, talk_output}
@@ -85,7 +85,7 @@ module _ {E : Type 0} (talk : Talk E) where
       lacks = s.lacks;
     }
 
-    stops_later : (halt : Halt) → StopsEntries talk Lacks fs b c halt → StopsEntries talk Lacks (es ++ fs) a c halt
+    stops_later : (halt : Ending) → StopsEntries talk Lacks fs b c halt → StopsEntries talk Lacks (es ++ fs) a c halt
     unfolding stopped_behind
     stops_later Space h = record {
       stopped = stopped_behind h.stopped;
@@ -120,7 +120,7 @@ module _ {E : Type 0} (talk : Talk E) where
       held = held_more a.held b.held c.held (talk_output talk a.database es) h.written (talk_output talk a.database es ++ h.written) x.held h.held refl;
     }
 
-    pub halts_later : (halt : Halt) → HaltsIn talk Lacks fs b c halt → HaltsIn talk Lacks (es ++ fs) a c halt
+    pub halts_later : (halt : Ending) → HaltsIn talk Lacks fs b c halt → HaltsIn talk Lacks (es ++ fs) a c halt
     halts_later halt h = record { stops = stops_later halt h.stops; reads = reads_then es fs a b x c.reads h.reads }
 
   -- ---- further entries behind
@@ -144,7 +144,7 @@ module _ {E : Type 0} (talk : Talk E) where
       lacks = s.lacks;
     }
 
-    stops_sooner : (halt : Halt) → StopsEntries talk Lacks es a b halt → StopsEntries talk Lacks (es ++ fs) a b halt
+    stops_sooner : (halt : Ending) → StopsEntries talk Lacks es a b halt → StopsEntries talk Lacks (es ++ fs) a b halt
     unfolding stopped_before
     stops_sooner Space h = record { stopped = stopped_before h.stopped; held = h.held }
     stops_sooner Sink (inl h) = inl (record {
@@ -167,7 +167,7 @@ module _ {E : Type 0} (talk : Talk E) where
       held = h.held;
     }
 
-    pub halts_sooner : (halt : Halt) → HaltsIn talk Lacks es a b halt → HaltsIn talk Lacks (es ++ fs) a b halt
+    pub halts_sooner : (halt : Ending) → HaltsIn talk Lacks es a b halt → HaltsIn talk Lacks (es ++ fs) a b halt
     halts_sooner halt h = record {
       stops = stops_sooner halt h.stops;
       reads = λ all.

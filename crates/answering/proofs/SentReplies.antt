@@ -11,8 +11,8 @@ use Rattle.db_model.specs.ReplyText.{text}
 use Rattle.db_model.specs.Step.{Refused, Reply}
 use Rattle.buffered_sink.proofs.Fronts.{front_part, less_of_all, less_of_less, none_left}
 use Rattle.buffered_sink.specs.Handing.{WroteFront}
-use Rattle.intake.specs.declared.halt.Halt.{Halt}
-use Rattle.intake.specs.declared.halt.Halt.TheVariants.{Space, Flash, Sink}
+use Rattle.intake.specs.declared.ending.Ending.{Ending}
+use Rattle.intake.specs.declared.ending.Ending.TheVariants.{Space, Flash, Sink}
 use Rattle.intake.specs.Sent.{FailsNow, Sent}
 use Rattle.session_model.specs.Steps.{WrotePart}
 use Rattle.run_model.specs.Talk.{Talk, after_entry, last_database, talk_output}
@@ -138,7 +138,7 @@ module _ {E : Type 0} (talk : Talk E) (some : (entry : E) (reply : Reply) → 0 
           }
 
       -- why it went no further, before the reply was handed on and behind
-      abbrev Halts : Halt → Type 0
+      abbrev Halts : Ending → Type 0
       Halts halt = HaltsIn talk Lacks (entry ∷ []) old (held_by new h1) halt
 
       space_still : w.left ≡ [] → Halts Space → HaltsIn talk Lacks (entry ∷ []) old new Space
@@ -173,7 +173,7 @@ sink_flash e = cc
 space_flash : Space ≡ Flash → ⊥
 space_flash e = cc
 
-on_ok : {A B : Type 0} (answered : Result ⊤ Halt) → (A → B) → OnOk answered A → OnOk answered B
+on_ok : {A B : Type 0} (answered : Result ⊤ Ending) → (A → B) → OnOk answered A → OnOk answered B
 on_ok (Ok done) f says = f says
 on_ok (Err halt) f says = tt
 
@@ -197,7 +197,7 @@ module _ {E Q P V : Type 0} (input : Input E Q P) (files : FilesOf V)
     on_now : KeepsRunning input files a b → KeepsRunning input files a now
     on_now on = record { faults = on.faults; replies = omega (arith, on.replies, later); store = on.store; lent = on.lent }
 
-    told_now : (halt halt_now : Halt)
+    told_now : (halt halt_now : Ending)
         → ((read : List ℕ → Result Command Refusal) (entry : E) → HaltsIn (input.talk read) Lacks (entry ∷ []) old (held_by new b.held) halt → HaltsIn (input.talk read) Lacks (entry ∷ []) old new halt_now)
         → HaltsWithin input files a b entries halt → a.session.stopped ≡ false → Told input files a (λ talk q. HaltsIn talk Lacks (entries q) old new halt_now)
     told_now halt halt_now f h = λ going told read reader q k.
@@ -206,7 +206,7 @@ module _ {E Q P V : Type 0} (input : Input E Q P) (files : FilesOf V)
         subst (λ (es : List E). HaltsIn (input.talk read) Lacks es old new halt_now) (sym is)
         (f read entry (subst (λ (es : List E). HaltsIn (input.talk read) Lacks es old (held_by new b.held) halt) is (h.halts going told read reader q k)))
 
-    still : (halt : Halt)
+    still : (halt : Ending)
         → ((read : List ℕ → Result Command Refusal) (entry : E) → HaltsIn (input.talk read) Lacks (entry ∷ []) old (held_by new b.held) halt → HaltsIn (input.talk read) Lacks (entry ∷ []) old new halt)
         → HaltsWithin input files a b entries halt → HaltsWithin input files a now entries halt
     still halt f h = record {
@@ -220,7 +220,7 @@ module _ {E Q P V : Type 0} (input : Input E Q P) (files : FilesOf V)
     still_sink : HaltsWithin input files a b entries Sink → HaltsWithin input files a now entries Sink
     still_sink h = still Sink (λ read entry. sink_still (input.talk read) (some read) entry old new b.held w Lacks) h
 
-    fails_now : (answered : Result ⊤ Halt) → FailsNow answered b.replies replies w.left → OnOk answered (CarriesEntries input files a b entries)
+    fails_now : (answered : Result ⊤ Ending) → FailsNow answered b.replies replies w.left → OnOk answered (CarriesEntries input files a b entries)
         → IfErr answered (λ halt. HaltsWithin input files a b entries halt) → HaltsWithin input files a now entries Sink
     fails_now (Ok done) fails c h = record {
       kept = λ going kept lost. absurd (false_true b.session.lost (c.kept going kept) lost);
@@ -244,7 +244,7 @@ module _ {E Q P V : Type 0} (input : Input E Q P) (files : FilesOf V)
     fails_now (Err Flash) fails c h = absurd (fails.fine refl)
     fails_now (Err Sink) fails c h = still_sink h
 
-    pub sent_reply : (answered : Result ⊤ Halt) (halt : Halt) → OnOk answered (CarriesEntries input files a b entries)
+    pub sent_reply : (answered : Result ⊤ Ending) (halt : Ending) → OnOk answered (CarriesEntries input files a b entries)
         → IfErr answered (λ h. HaltsWithin input files a b entries h) → Sent answered b.replies replies w.left (Err halt) → HaltsWithin input files a now entries halt
     sent_reply answered Space c h sent = still Space (λ read entry. space_still (input.talk read) (some read) entry old new b.held w Lacks sent.1) (rw sent.0 at h)
     sent_reply answered Flash c h sent = still Flash (λ read entry. flash_still (input.talk read) (some read) entry old new b.held w Lacks) (rw sent at h)
@@ -252,7 +252,7 @@ module _ {E Q P V : Type 0} (input : Input E Q P) (files : FilesOf V)
     sent_reply answered Sink c h (inr fails) = fails_now answered fails c h
 
   -- the reply to what a byte ends
-  pub sent_behind : (came : List ℕ) (answered : Result ⊤ Halt) (halt : Halt) → HasOne input a.part (λ q. input.cut.ended q came)
+  pub sent_behind : (came : List ℕ) (answered : Result ⊤ Ending) (halt : Ending) → HasOne input a.part (λ q. input.cut.ended q came)
       → OnOk answered (TakesBytes input files a came b) → IfErr answered (λ h. HaltsInBytes input files a came b h)
       → (w : WroteFront a.held held b.held) → b.replies ≤ replies → Sent answered b.replies replies w.left (Err halt) → HaltsInBytes input files a came now halt
   sent_behind came answered halt one takes h w later sent =

@@ -6,7 +6,7 @@ use Rattle.afl_base.specs.Causes.{Rose}
 use Rattle.db_model.specs.declared.commands.Command.{Command}
 use Rattle.db_model.specs.declared.refusals.Refusal.{Refusal}
 use Rattle.db_model.specs.Reading.{IsReader}
-use Rattle.intake.specs.declared.halt.Halt.{Halt}
+use Rattle.intake.specs.declared.ending.Ending.{Ending}
 use Rattle.run_model.specs.Line.{ComesInParts, Line}
 use Rattle.answering.specs.Carried.{Carried, HaltsIn, standing_of}
 use Rattle.antelope_engine.specs.Commands.{LacksPages}
@@ -61,7 +61,7 @@ module _ {E Q P V : Type 0} (input : Input E Q P) (files : FilesOf V) (line : Li
     };
   }
 
-  pub halted_behind : (a b c : Running V P) (xs ys : List ℕ) (halt : Halt) → TakesBytes input files a xs b → HaltsInBytes input files b ys c halt
+  pub halted_behind : (a b c : Running V P) (xs ys : List ℕ) (halt : Ending) → TakesBytes input files a xs b → HaltsInBytes input files b ys c halt
       → HaltsInBytes input files a (xs ++ ys) c halt
   halted_behind a b c xs ys halt x h = record {
     kept = λ e f g. h.kept (x.carries.going e) (x.carries.kept e f) g;
@@ -80,7 +80,7 @@ module _ {E Q P V : Type 0} (input : Input E Q P) (files : FilesOf V) (line : Li
     on = on_then a b c x.carries.on h.on;
   }
 
-  pub halted_before : (a b : Running V P) (xs ys : List ℕ) (halt : Halt) → HaltsInBytes input files a xs b halt → HaltsInBytes input files a (xs ++ ys) b halt
+  pub halted_before : (a b : Running V P) (xs ys : List ℕ) (halt : Ending) → HaltsInBytes input files a xs b halt → HaltsInBytes input files a (xs ++ ys) b halt
   halted_before a b xs ys halt h = record {
     kept = h.kept;
     flash = h.flash;

@@ -6,10 +6,10 @@ use Rattle.afl_base.specs.Causes.{Rose}
 use Rattle.db_model.specs.declared.commands.Command.{Command}
 use Rattle.db_model.specs.declared.refusals.Refusal.{Refusal}
 use Rattle.db_model.specs.Reading.{IsReader}
-use Rattle.intake.specs.declared.halt.Halt.{Halt}
-use Rattle.intake.specs.declared.halt.Halt.TheVariants as halt
-use Rattle.intake.specs.declared.halt.Stop.{Stop}
-use Rattle.intake.specs.declared.halt.Stop.TheVariants.{Input as BadInput, Long, Halted}
+use Rattle.intake.specs.declared.ending.Ending.{Ending}
+use Rattle.intake.specs.declared.ending.Ending.TheVariants as halt
+use Rattle.intake.specs.declared.ending.InputEnding.{InputEnding}
+use Rattle.intake.specs.declared.ending.InputEnding.TheVariants.{Input as BadInput, Long, Early}
 use Rattle.intake.specs.Through.{Through}
 use Rattle.run_model.specs.Line.{ComesInParts, Line}
 use Rattle.answering.specs.Carried.{Carried, HaltsIn, standing_of}
@@ -25,21 +25,21 @@ module _ {E Q P V T : Type 0} (input : Input E Q P) (files : FilesOf V) (line : 
   abbrev pub Ends : T → T → Type 0
   Ends a b = EndsInput input files (seen a) (seen b)
 
-  abbrev pub Halts : T → List ℕ → T → Halt → Type 0
+  abbrev pub Halts : T → List ℕ → T → Ending → Type 0
   Halts a came b halt = HaltsInBytes input files (seen a) came (seen b) halt
 
-  abbrev pub HaltsAtEnd : T → T → Halt → Type 0
+  abbrev pub HaltsAtEnd : T → T → Ending → Type 0
   HaltsAtEnd a b halt = HaltsAtLast input files (seen a) (seen b) halt
 
   module _ (a b : T) (left left_now : Option (List ℕ)) (reads reads_now : ℕ) (going : (seen a).session.stopped ≡ false) where
     -- ---- what is so whether the files tell or not
 
     -- no count falls, and what failed has counted it; only a fault of the files loses them
-    pub record Sum (result : Result ⊤ Stop) : Type 0 where
+    pub record Sum (result : Result ⊤ InputEnding) : Type 0 where
       pub on : KeepsRunning input files (seen a) (seen b)
-      pub kept : (seen a).session.lost ≡ false → (seen b).session.lost ≡ true → result ≡ Err (Halted halt.Flash)
-      pub flash : result ≡ Err (Halted halt.Flash) → Rose (files.faults (seen a).session.files) (files.faults (seen b).session.files)
-      pub sink : result ≡ Err (Halted halt.Sink) → Rose (seen a).replies (seen b).replies
+      pub kept : (seen a).session.lost ≡ false → (seen b).session.lost ≡ true → result ≡ Err (Early halt.Flash)
+      pub flash : result ≡ Err (Early halt.Flash) → Rose (files.faults (seen a).session.files) (files.faults (seen b).session.files)
+      pub sink : result ≡ Err (Early halt.Sink) → Rose (seen a).replies (seen b).replies
 
     clash : (c : T) → (seen c).session.lost ≡ false → (seen c).session.lost ≡ true → ⊥
     clash c e f = let n : false ≡ true = sym e ∙ f in cc
@@ -47,7 +47,7 @@ module _ {E Q P V T : Type 0} (input : Input E Q P) (files : FilesOf V) (line : 
     later : (x y z : T) → KeepsRunning input files (seen x) (seen y) → KeepsRunning input files (seen y) (seen z) → KeepsRunning input files (seen x) (seen z)
     later x y z e f = record { faults = omega (arith, e.faults, f.faults); replies = omega (arith, e.replies, f.replies); store = f.store ∙ e.store; lent = f.lent ∙ e.lent }
 
-    pub sum : (result : Result ⊤ Stop) → Through Takes Ends Halts HaltsAtEnd result a b left left_now reads reads_now → Sum result
+    pub sum : (result : Result ⊤ InputEnding) → Through Takes Ends Halts HaltsAtEnd result a b left left_now reads reads_now → Sum result
     unfolding clash later
     sum (Ok done) t = record {
       on = later a t.last b t.takes.carries.on t.ends.on;
@@ -67,16 +67,16 @@ module _ {E Q P V T : Type 0} (input : Input E Q P) (files : FilesOf V) (line : 
       flash = λ e. absurd (let n : ⊥ = cc in n);
       sink = λ e. absurd (let n : ⊥ = cc in n);
     }
-    sum (Err (Halted h)) (inl t) = record {
+    sum (Err (Early h)) (inl t) = record {
       on = t.halts.on;
-      kept = λ kept lost. let is : h ≡ halt.Flash = t.halts.kept going kept lost in ap (λ k. Err (Halted k)) is;
+      kept = λ kept lost. let is : h ≡ halt.Flash = t.halts.kept going kept lost in ap (λ k. Err (Early k)) is;
       flash = λ e. let is : h ≡ halt.Flash = cc in t.halts.flash going is;
       sink = λ e. let is : h ≡ halt.Sink = cc in t.halts.sink going is;
     }
-    sum (Err (Halted h)) (inr t) = record {
+    sum (Err (Early h)) (inr t) = record {
       on = later a t.last b t.takes.carries.on t.halts.on;
       kept = λ kept lost.
-          let is : h ≡ halt.Flash = t.halts.kept (t.takes.carries.going going) (t.takes.carries.kept going kept) lost in ap (λ k. Err (Halted k)) is;
+          let is : h ≡ halt.Flash = t.halts.kept (t.takes.carries.going going) (t.takes.carries.kept going kept) lost in ap (λ k. Err (Early k)) is;
       flash = λ e.
           let is : h ≡ halt.Flash = cc in
           let rose = t.halts.flash (t.takes.carries.going going) is in
@@ -89,11 +89,11 @@ module _ {E Q P V T : Type 0} (input : Input E Q P) (files : FilesOf V) (line : 
           omega (arith, rose, before);
     }
 
-    pub reaches : (result : Result ⊤ Stop) → Through Takes Ends Halts HaltsAtEnd result a b left left_now reads reads_now → Reaches result left left_now
+    pub reaches : (result : Result ⊤ InputEnding) → Through Takes Ends Halts HaltsAtEnd result a b left left_now reads reads_now → Reaches result left left_now
     reaches (Ok done) t = t.at_end
     reaches (Err BadInput) t = tt
     reaches (Err Long) t = record { bytes = t.came; more = t.more; left = t.left; many = t.many; one = t.one }
-    reaches (Err (Halted h)) t = tt
+    reaches (Err (Early h)) t = tt
 
     -- ---- what was carried out, where they tell
 
@@ -102,7 +102,7 @@ module _ {E Q P V T : Type 0} (input : Input E Q P) (files : FilesOf V) (line : 
       told_then : (c : T) (came : List ℕ) → Takes a came c → IsTrue (files.state (seen c).session.files).tells
       told_then c came t = (t.carries.carried going told read reader input.cut.start keeps).tells ∙ told
 
-      pub went : (result : Result ⊤ Stop) → Through Takes Ends Halts HaltsAtEnd result a b left left_now reads reads_now
+      pub went : (result : Result ⊤ InputEnding) → Through Takes Ends Halts HaltsAtEnd result a b left left_now reads reads_now
           → Went line (input.talk read) (standing_of files.state files.reads (seen a).session (seen a).held) (standing_of files.state files.reads (seen b).session (seen b).held)
           left left_now (LacksPages files.state files.asks files.lacks (seen b).session) result
       unfolding told_then
@@ -142,7 +142,7 @@ module _ {E Q P V T : Type 0} (input : Input E Q P) (files : FilesOf V) (line : 
             carried = subst (λ (es : List E). Carried (input.talk read) es old new) (sym (parts.whole_is t.came))
                 (t.takes.carries.carried going told read reader input.cut.start keeps);
           }
-      went (Err (Halted h)) (inl t) =
+      went (Err (Early h)) (inl t) =
           let old = standing_of files.state files.reads (seen a).session (seen a).held in
           let new = standing_of files.state files.reads (seen b).session (seen b).held in
           let Lacks = LacksPages files.state files.asks files.lacks (seen b).session in
@@ -155,7 +155,7 @@ module _ {E Q P V T : Type 0} (input : Input E Q P) (files : FilesOf V) (line : 
             halts = subst (λ (es : List E). HaltsIn (input.talk read) Lacks es old new h) (sym (parts.whole_is t.came))
                 (t.halts.halts going told read reader input.cut.start keeps);
           }
-      went (Err (Halted h)) (inr t) =
+      went (Err (Early h)) (inr t) =
           let old = standing_of files.state files.reads (seen a).session (seen a).held in
           let mid = standing_of files.state files.reads (seen t.last).session (seen t.last).held in
           let new = standing_of files.state files.reads (seen b).session (seen b).held in

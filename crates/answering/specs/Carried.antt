@@ -13,8 +13,8 @@ use Rattle.db_model.specs.Ahead.{Aheads, is_refused}
 use Rattle.db_model.specs.Database.{Database}
 use Rattle.db_model.specs.ReplyText.{refusal_text, text}
 use Rattle.db_model.specs.Step.{step}
-use Rattle.intake.specs.declared.halt.Halt.{Halt}
-use Rattle.intake.specs.declared.halt.Halt.TheVariants.{Space, Flash, Sink}
+use Rattle.intake.specs.declared.ending.Ending.{Ending}
+use Rattle.intake.specs.declared.ending.Ending.TheVariants.{Space, Flash, Sink}
 use Rattle.reply_text.specs.WroteLess.{WroteLess}
 use Rattle.run_model.specs.Talk.{AsksCommand, AsksToRead, Talk, after_entry, talk_costs, last_database, talk_aheads, talk_output}
 use Rattle.session_model.specs.Steps.{WrotePart}
@@ -79,13 +79,13 @@ module _ {E : Type 0} (talk : Talk E) where
     pub database : new.database ≡ last_database talk old.database (front ++ entry ∷ [])
 
   -- why no more of these entries was carried out
-  abbrev pub StopsEntries : (Command → ℕ → Type 0) → List E → Standing → Standing → Halt → Type 0
+  abbrev pub StopsEntries : (Command → ℕ → Type 0) → List E → Standing → Standing → Ending → Type 0
   StopsEntries Lacks entries old new Space = FoundNoRoom Lacks entries old new
   StopsEntries Lacks entries old new Sink = SaidLess entries old new ⊎ SaidNone Lacks entries old new
   StopsEntries Lacks entries old new Flash = WrotePart old.held new.held (talk_output talk old.database entries)
 
   -- it went no further within these entries
-  pub record HaltsIn (Lacks : Command → ℕ → Type 0) (entries : List E) (old new : Standing) (halt : Halt) : Type 0 where
+  pub record HaltsIn (Lacks : Command → ℕ → Type 0) (entries : List E) (old new : Standing) (halt : Ending) : Type 0 where
     pub stops : StopsEntries Lacks entries old new halt
     pub reads : AllByRecursion (AsksToRead talk) entries → new.reads ≤ old.reads + talk_costs talk old.database old.aheads entries
 
@@ -101,14 +101,14 @@ standing_of state reads session held = record {
 }
 
 -- what failed has counted it, and no count falls
-pub record HasHaltCause {T : Type 0} (files files_now replies replies_now : ℕ) (result : Result T Halt) : Type 0 where
+pub record HasHaltCause {T : Type 0} (files files_now replies replies_now : ℕ) (result : Result T Ending) : Type 0 where
   pub files_later : files ≤ files_now
   pub replies_later : replies ≤ replies_now
   pub flash : IsErrOf result Flash → Rose files files_now
   pub sink : IsErrOf result Sink → Rose replies replies_now
 
 -- a call that answers entries of an input: what the files lie in keeps its size, and files and sink hold on to what they borrow
-pub record ChangesOrHalts {V K T : Type 0} (v : FilesOf V) (k : SinkOf K) (old new : V) (before now : K) (result : Result T Halt) : Type 0 where
+pub record ChangesOrHalts {V K T : Type 0} (v : FilesOf V) (k : SinkOf K) (old new : V) (before now : K) (result : Result T Ending) : Type 0 where
   pub store : length (v.state new).store ≡ length (v.state old).store
   pub lent : v.lent new ≡ v.lent old
   pub sink_lent : k.lent now ≡ k.lent before

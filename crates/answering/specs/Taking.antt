@@ -6,8 +6,8 @@ use Rattle.antelope_engine.specs.Seen.{Seen}
 use Rattle.db_model.specs.declared.commands.Command.{Command}
 use Rattle.db_model.specs.declared.refusals.Refusal.{Refusal}
 use Rattle.db_model.specs.Reading.{IsReader}
-use Rattle.intake.specs.declared.halt.Halt.{Halt}
-use Rattle.intake.specs.declared.halt.Halt.TheVariants.{Flash, Sink}
+use Rattle.intake.specs.declared.ending.Ending.{Ending}
+use Rattle.intake.specs.declared.ending.Ending.TheVariants.{Flash, Sink}
 use Rattle.run_model.specs.Line.{Cut}
 use Rattle.run_model.specs.Talk.{Talk}
 use Rattle.answering.specs.Carried.{Carried, HaltsIn, standing_of}
@@ -65,7 +65,7 @@ module _ {E Q P V : Type 0} (input : Input E Q P) (files : FilesOf V) where
   EndsInput a b = CarriesEntries a b input.cut.left
 
   -- it went no further within these entries
-  pub record HaltsWithin (a b : Running V P) (entries : Q → List E) (halt : Halt) : Type 0 where
+  pub record HaltsWithin (a b : Running V P) (entries : Q → List E) (halt : Ending) : Type 0 where
     pub kept : a.session.stopped ≡ false → a.session.lost ≡ false → b.session.lost ≡ true → halt ≡ Flash
     pub flash : a.session.stopped ≡ false → halt ≡ Flash → Rose (files.faults a.session.files) (files.faults b.session.files)
     pub sink : a.session.stopped ≡ false → halt ≡ Sink → Rose a.replies b.replies
@@ -74,8 +74,8 @@ module _ {E Q P V : Type 0} (input : Input E Q P) (files : FilesOf V) where
         (standing_of files.state files.reads a.session a.held) (standing_of files.state files.reads b.session b.held) halt)
     pub on : KeepsRunning a b
 
-  abbrev pub HaltsInBytes : Running V P → List ℕ → Running V P → Halt → Type 0
+  abbrev pub HaltsInBytes : Running V P → List ℕ → Running V P → Ending → Type 0
   HaltsInBytes a came b halt = HaltsWithin a b (λ q. input.cut.ended q came) halt
 
-  abbrev pub HaltsAtLast : Running V P → Running V P → Halt → Type 0
+  abbrev pub HaltsAtLast : Running V P → Running V P → Ending → Type 0
   HaltsAtLast a b halt = HaltsWithin a b input.cut.left halt

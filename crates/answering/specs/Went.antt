@@ -3,10 +3,10 @@ use Rattle.std.specs.Prelude.{◌≡◌, ◌⊎◌, ⊤, ℕ, ◌≤◌, List, �
 use Rattle.std.specs.Io.KnownBytes.{prepend_known, IsAtEnd}
 use Rattle.afl_base.specs.Causes.{Rose}
 use Rattle.db_model.specs.declared.commands.Command.{Command}
-use Rattle.intake.specs.declared.halt.Halt.{Halt}
-use Rattle.intake.specs.declared.halt.Halt.TheVariants.{Flash, Sink}
-use Rattle.intake.specs.declared.halt.Stop.{Stop}
-use Rattle.intake.specs.declared.halt.Stop.TheVariants.{Input, Long, Halted}
+use Rattle.intake.specs.declared.ending.Ending.{Ending}
+use Rattle.intake.specs.declared.ending.Ending.TheVariants.{Flash, Sink}
+use Rattle.intake.specs.declared.ending.InputEnding.{InputEnding}
+use Rattle.intake.specs.declared.ending.InputEnding.TheVariants.{Input, Long, Early}
 use Rattle.run_model.specs.Line.{Line}
 use Rattle.run_model.specs.Runs.{CameToLimit}
 use Rattle.run_model.specs.Talk.{Talk}
@@ -38,7 +38,7 @@ module _ {E : Type 0} (line : Line E) (talk : Talk E) (old new : Standing) (left
     pub carried : Carried talk (line.whole bytes) old new
 
   -- it went no further within the entries of the bytes that came
-  pub record StoppedWithin (Lacks : Command → ℕ → Type 0) (halt : Halt) : Type 0 where
+  pub record StoppedWithin (Lacks : Command → ℕ → Type 0) (halt : Ending) : Type 0 where
     pub bytes : List ℕ
     pub entries : List E
     pub came : left ≡ prepend_known bytes left_now
@@ -46,21 +46,21 @@ module _ {E : Type 0} (line : Line E) (talk : Talk E) (old new : Standing) (left
     pub are : (entries ≡ line.whole bytes) ⊎ ((entries ≡ line.all bytes) × IsAtEnd left_now)
     pub halts : HaltsIn talk Lacks entries old new halt
 
-  abbrev pub Went : (Command → ℕ → Type 0) → Result ⊤ Stop → Type 0
+  abbrev pub Went : (Command → ℕ → Type 0) → Result ⊤ InputEnding → Type 0
   Went Lacks (Ok done) = CarriedAll
   Went Lacks (Err Input) = TookSome
   Went Lacks (Err Long) = ReachedLimit
-  Went Lacks (Err (Halted halt)) = StoppedWithin Lacks halt
+  Went Lacks (Err (Early halt)) = StoppedWithin Lacks halt
 
 -- how far the bytes of the input came, whether the files tell or not: to their end, or one byte past the limit
-abbrev pub Reaches : Result ⊤ Stop → (left left_now : Option (List ℕ)) → Type 0
+abbrev pub Reaches : Result ⊤ InputEnding → (left left_now : Option (List ℕ)) → Type 0
 Reaches (Ok done) left left_now = IsAtEnd left_now
 Reaches (Err Long) left left_now = CameToLimit left left_now
 Reaches _ left left_now = ⊤
 
 -- what failed has counted it, and the files' count does not fall
-pub record HasRunCause (inputs inputs_now files files_now replies replies_now : ℕ) (result : Result ⊤ Stop) : Type 0 where
+pub record HasRunCause (inputs inputs_now files files_now replies replies_now : ℕ) (result : Result ⊤ InputEnding) : Type 0 where
   pub files_later : files ≤ files_now
   pub input : result ≡ Err Input → Rose inputs inputs_now
-  pub flash : result ≡ Err (Halted Flash) → Rose files files_now
-  pub sink : result ≡ Err (Halted Sink) → Rose replies replies_now
+  pub flash : result ≡ Err (Early Flash) → Rose files files_now
+  pub sink : result ≡ Err (Early Sink) → Rose replies replies_now

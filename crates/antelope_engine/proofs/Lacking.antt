@@ -8,7 +8,7 @@ use Rattle.db_model.specs.Database.{Database}
 use Rattle.session_model.specs.declared.base.Base.{Base}
 use Rattle.session_model.specs.declared.step.Step.{Step}
 use Rattle.session_model.specs.declared.step.Step.TheVariants.{Done, NoSpace}
-use Rattle.session_model.specs.declared.step.Stop.{Stop}
+use Rattle.afl_base.specs.declared.fault.Fault.{Fault}
 use Rattle.session_model.specs.Carried.{Tells, aheads, database}
 use Rattle.session_model.specs.Wanted.{WantsOver}
 use Rattle.space_model.specs.Enough.{most}
@@ -22,7 +22,7 @@ session_of v base stopped lost = record { files = base.files; database = databas
 -- the pages that lack are those that the database wants, since it stays
 pub pages_lack : {V K : Type 0} (v : FilesOf V) (k : SinkOf K) (command : Command) (old new : Base V) (before now : K) (step : Step) (stopped lost : Bool)
     → Executes v k command old new before now (Ok step) → Tells v old
-    → WhereNoSpace {E = Stop} (Ok step) (λ need. LacksPages v.state v.asks v.lacks (session_of v new stopped lost) command need)
+    → WhereNoSpace {E = Fault} (Ok step) (λ need. LacksPages v.state v.asks v.lacks (session_of v new stopped lost) command need)
 pages_lack v k command old new before now (Done came) stopped lost e told = tt
 pages_lack v k command old new before now (NoSpace need) stopped lost e told =
     let same : database v new ≡ database v old = (e.done told).0 in
@@ -32,7 +32,7 @@ pages_lack v k command old new before now (NoSpace need) stopped lost e told =
       none = e.lacks;
     }
 
-pub both_there : (step : Step) (P Q : ℕ → Type 0) → WhereNoSpace {E = Stop} (Ok step) P → WhereNoSpace {E = Stop} (Ok step) Q
-    → WhereNoSpace {E = Stop} (Ok step) (λ need. P need × Q need)
+pub both_there : (step : Step) (P Q : ℕ → Type 0) → WhereNoSpace {E = Fault} (Ok step) P → WhereNoSpace {E = Fault} (Ok step) Q
+    → WhereNoSpace {E = Fault} (Ok step) (λ need. P need × Q need)
 both_there (Done came) P Q p q = tt
 both_there (NoSpace need) P Q p q = (p, q)

@@ -9,12 +9,12 @@ use Rattle.session_model.specs.declared.step.Outcome.{Outcome}
 use Rattle.session_model.specs.declared.step.Outcome.TheVariants as came
 use Rattle.session_model.specs.declared.step.Step.{Step}
 use Rattle.session_model.specs.declared.step.Step.TheVariants.{Done, NoSpace}
-use Rattle.session_model.specs.declared.step.Stop.{Stop}
+use Rattle.afl_base.specs.declared.fault.Fault.{Fault}
 use Rattle.session_model.specs.Answers.{Changed, OnNothing}
 use Rattle.session_model.specs.Steps.{Does, Made}
 use Rattle.antelope_engine.specs.Seen.{OnNothingDone}
 
-pub untouched_always : (c : Outcome) (P : Type 0) → P → OnNothingDone {E = Stop} (Ok (Done c)) P
+pub untouched_always : (c : Outcome) (P : Type 0) → P → OnNothingDone {E = Fault} (Ok (Done c)) P
 untouched_always came.Fine P p = tt
 untouched_always (came.Rows k) P p = λ none. p
 untouched_always came.Refused P p = p
@@ -27,7 +27,7 @@ untouched_rows : (j k : ℕ) (P : Type 0) → came.Rows j ≡ came.Rows k → (j
 untouched_rows j k P same p none = let e : j ≡ k = cc in p (e ∙ none)
 
 pub untouched_done : (a : Answer) (step : Step) (before now : Option (List ℕ)) (P : Type 0) → Replied a step before now
-    → OnNothing {E = Failed} (Ok a) P → OnNothingDone {E = Stop} (Ok step) P
+    → OnNothing {E = Failed} (Ok a) P → OnNothingDone {E = Fault} (Ok step) P
 untouched_done a (NoSpace need) before now P h p = tt
 untouched_done a (Done came.Fine) before now P h p = tt
 untouched_done answer.Fine (Done came.Refused) before now P h p = let e = (h (Ok (empty_database, Fine)) empty_database empty_database refl).1.1 in absurd (search (rules, e))

@@ -5,8 +5,8 @@ use Rattle.db_model.specs.declared.commands.Command.{Command}
 use Rattle.db_model.specs.Ahead.{aheads_after}
 use Rattle.db_model.specs.Step.{Reads}
 use Rattle.session_model.specs.declared.step.Step.{Step}
-use Rattle.session_model.specs.declared.step.Stop.{Stop}
-use Rattle.session_model.specs.declared.step.Stop.TheVariants.{Flash}
+use Rattle.afl_base.specs.declared.fault.Fault.{Fault}
+use Rattle.afl_base.specs.declared.fault.Fault.TheVariants.{Flash}
 use Rattle.session_model.specs.Wanted.{WantsOver}
 use Rattle.space_model.specs.Enough.{most}
 use Rattle.antelope_engine.specs.Seen.{OnNothingDone, Seen}
@@ -23,12 +23,12 @@ pub record GoesOn {V : Type 0} (state : V → State) (command : Command) (old ne
   pub aheads : IsTrue (state old.files).tells → new.aheads ≡ aheads_after old.database old.aheads command
 
 -- a session stops with its first fault, and has lost its files only where one of them failed
-pub record StopsAtFault {V : Type 0} (result : Result Step Stop) (session : Seen V) : Type 0 where
+pub record StopsAtFault {V : Type 0} (result : Result Step Fault) (session : Seen V) : Type 0 where
   pub running : OnOk result (session.stopped ≡ false)
   pub stopped : OnErr result (session.stopped ≡ true)
   pub lost : session.lost ≡ true → IsErrOf result Flash
 
 -- the files stay where nothing was done, and under a command that changes at most a cursor
-pub record LeavesFiles {V : Type 0} (state : V → State) (command : Command) (result : Result Step Stop) (old new : V) : Type 0 where
+pub record LeavesFiles {V : Type 0} (state : V → State) (command : Command) (result : Result Step Fault) (old new : V) : Type 0 where
   pub untouched : OnNothingDone result (state new ≡ state old)
   pub same : Reads command → state new ≡ state old

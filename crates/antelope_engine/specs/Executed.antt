@@ -9,8 +9,8 @@ use Rattle.db_model.specs.Step.{Reads, outcome, step}
 use Rattle.reply_text.specs.WroteLess.{WroteLess}
 use Rattle.session_model.specs.declared.base.Base.{Base}
 use Rattle.session_model.specs.declared.step.Step.{Step}
-use Rattle.session_model.specs.declared.step.Stop.{Stop}
-use Rattle.session_model.specs.declared.step.Stop.TheVariants.{Flash, Sink}
+use Rattle.afl_base.specs.declared.fault.Fault.{Fault}
+use Rattle.afl_base.specs.declared.fault.Fault.TheVariants.{Flash, Sink}
 use Rattle.session_model.specs.Carried.{ChangesAndSends, Runs, Tells, aheads, database}
 use Rattle.session_model.specs.Steps.{Does, UnlessFlash, WrotePart}
 use Rattle.session_model.specs.Wanted.{WantsOver}
@@ -19,7 +19,7 @@ use Rattle.antelope_engine.specs.Seen.{WhereNoSpace, OnNothingDone}
 
 -- a command was carried out and its reply written; or there was no space for it, and nothing was written; or what of the
 -- reply was written before a fault
-pub record Executes {V K : Type 0} (v : FilesOf V) (k : SinkOf K) (command : Command) (old new : Base V) (before now : K) (result : Result Step Stop) : Type 0 where
+pub record Executes {V K : Type 0} (v : FilesOf V) (k : SinkOf K) (command : Command) (old new : Base V) (before now : K) (result : Result Step Fault) : Type 0 where
   pub done : Tells v old → IfOk result (λ came.
       Does (outcome (database v old) command) (database v old) (database v new) came (k.held before) (k.held now))
   pub sink : Tells v old → IsErrOf result Sink → (database v new ≡ (step (database v old) command).0)

@@ -9,8 +9,8 @@ use Rattle.session_model.specs.declared.base.Base.{Base}
 use Rattle.session_model.specs.declared.step.Outcome.TheVariants.{Fine, Refused, Rows}
 use Rattle.session_model.specs.declared.step.Step.{Step}
 use Rattle.session_model.specs.declared.step.Step.TheVariants.{Done, NoSpace}
-use Rattle.session_model.specs.declared.step.Stop.{Stop}
-use Rattle.session_model.specs.declared.step.Stop.TheVariants.{Flash, Sink}
+use Rattle.afl_base.specs.declared.fault.Fault.{Fault}
+use Rattle.afl_base.specs.declared.fault.Fault.TheVariants.{Flash, Sink}
 
 -- the files, the database that they stand for with the open cursors, and what these have ahead; whether a reply or a
 -- file failed, and whether a file did
@@ -42,6 +42,6 @@ OnNothingDone (Ok (NoSpace need)) P = ⊤
 OnNothingDone (Err e) P = ⊤
 
 -- whether a file failed
-abbrev pub is_flash : Stop → Bool
+abbrev pub is_flash : Fault → Bool
 is_flash Flash = true
 is_flash Sink = false

@@ -11,16 +11,16 @@ ghost use Rattle.antelope_engine.specs.Writes.{WritesRows};
 
 use crate::answering::{answer, write_answer};
 use crate::writing::write;
-use afl_base::{Failed, Files, Sink};
+use afl_base::{Failed, Fault, Files, Sink};
 use db_model::Command;
-use session_model::{Base, Step, Stop};
+use session_model::{Base, Step};
 
 /// Carries out a command and writes its reply.
 pub fn carry_out<V: Files, K: Sink>(
     base: &mut Base<V>,
     command: &Command,
     out: &mut K,
-) -> Result<Step, Stop>
+) -> Result<Step, Fault>
     requires running { Runs V.Files base.old }
     requires sound { Tells V.Files base.old → IsSoundDatabase (database V.Files base.old) }
     requires command { IsWellFormed command.now }
@@ -35,9 +35,9 @@ pub fn carry_out<V: Files, K: Sink>(
     match answer(base, command) {
         Ok(answer) => match write_answer(out, &answer) {
             Ok(step) => Ok(step),
-            Err(Failed) => Err(Stop::Sink),
+            Err(Failed) => Err(Fault::Sink),
         },
-        Err(Failed) => Err(Stop::Flash),
+        Err(Failed) => Err(Fault::Flash),
     }
 }
 

@@ -10,5 +10,5 @@ mod start_error;
 mod writing;
 
 pub use session::Session;
-pub use session_model::{Outcome, Step, Stop};
+pub use session_model::{Outcome, Step};
 pub use start_error::StartError;

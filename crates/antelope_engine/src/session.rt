@@ -12,7 +12,7 @@ ghost use Rattle.db_model.specs.RunCost.{slots_opened};
 ghost use Rattle.db_model.specs.Sound.{BringsNames, IsSoundDatabase};
 ghost use Rattle.db_model.specs.Step.{Reads, outcome, step};
 ghost use Rattle.reply_text.specs.WroteLess.{WroteLess};
-ghost use Rattle.session_model.specs.declared.step.Stop.TheVariants.{Flash, Sink as OfSink};
+ghost use Rattle.afl_base.specs.declared.fault.Fault.TheVariants.{Flash, Sink as OfSink};
 ghost use Rattle.session_model.specs.Queries.{IsWellFormed};
 ghost use Rattle.session_model.specs.Carried.{ChangesAndSends};
 ghost use Rattle.session_model.specs.Steps.{Does, WrotePart};
@@ -25,10 +25,10 @@ ghost use Rattle.antelope_engine.specs.Started.{HasStartCause, OnBroken, UnlessB
 
 use crate::executing::carry_out;
 use crate::start_error::StartError;
-use afl_base::{Failed, Files, Sink};
+use afl_base::{Failed, Fault, Files, Sink};
 use db_model::Command;
 use index_set::HashTables;
-use session_model::{Base, Held, Open, Step, Stop};
+use session_model::{Base, Held, Open, Step};
 use session_start::{BrokenRule, open_database};
 use std::marker::Model;
 
@@ -165,7 +165,7 @@ impl<V: Files> Session<V> {
     /// `Flash` comes only where a file failed: a part of the reply is written, and no more is said
     /// of the files. `Sink` comes only where the reply could not be written to its end: the command
     /// is carried out. After either the session is stopped.
-    pub fn exec<K: Sink>(&mut self, command: &Command, out: &mut K) -> Result<Step, Stop>
+    pub fn exec<K: Sink>(&mut self, command: &Command, out: &mut K) -> Result<Step, Fault>
         requires running { self.old.stopped ≡ false }
         requires command { IsWellFormed command.now }
         ensures done { IsTrue (V.state self.old.files).tells → IfOk result (λ came.
@@ -249,10 +249,10 @@ fn nothing_held() -> Held {
     }
 }
 
-fn is_flash(stop: &Stop) -> bool
+fn is_flash(stop: &Fault) -> bool
     ensures { result ≡ is_flash stop.now }
 {
-    matches!(stop, Stop::Flash)
+    matches!(stop, Fault::Flash)
 }
 
 // The names that a command brings are NAMEs, as each `Ident` is.

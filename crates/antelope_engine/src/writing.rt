@@ -6,10 +6,10 @@ ghost use Rattle.session_model.specs.Carried.{AnswersRows, Runs};
 ghost use Rattle.session_model.specs.Queries.{IsWellFormed};
 ghost use Rattle.antelope_engine.specs.Writes.{WritesRows};
 
-use afl_base::{Files, Sink};
+use afl_base::{Fault, Files, Sink};
 use db_model::Command;
 use session_cursors::fetch_cursor;
-use session_model::{Base, Outcome, Stop};
+use session_model::{Base, Outcome};
 use session_queries::{aggregate, ask};
 
 /// Carries out a command that writes each row as it is found.
@@ -17,7 +17,7 @@ pub fn write<V: Files, K: Sink>(
     base: &mut Base<V>,
     command: &Command,
     out: &mut K,
-) -> Result<Outcome, Stop>
+) -> Result<Outcome, Fault>
     requires running { Runs V.Files base.old }
     requires rows { WritesRows command.now }
     requires command { IsWellFormed command.now }

@@ -6,9 +6,9 @@ use Rattle.std.proofs.lemmas.List.{append-nil}
 use Rattle.db_model.specs.declared.commands.Command.{Command}
 use Rattle.db_model.specs.Database.{Database, bare}
 use Rattle.db_model.specs.ReplyText.{text}
-use Rattle.intake.specs.declared.halt.Halt.TheVariants.{Space, Flash, Sink}
-use Rattle.intake.specs.declared.halt.Stop.{Stop}
-use Rattle.intake.specs.declared.halt.Stop.TheVariants.{Input, Long, Halted}
+use Rattle.intake.specs.declared.ending.Ending.TheVariants.{Space, Flash, Sink}
+use Rattle.intake.specs.declared.ending.InputEnding.{InputEnding}
+use Rattle.intake.specs.declared.ending.InputEnding.TheVariants.{Input, Long, Early}
 use Rattle.reply_text.proofs.Pieces.{append_known-twice}
 use Rattle.reply_text.specs.WroteLess.{WroteLess}
 use Rattle.sound_image.specs.Images.{base}
@@ -85,18 +85,18 @@ module _ {E : Type 0} (talk : Talk E) (a b : Standing) (image image_now : List �
         }
 
 -- the files tell as they did, unless they failed
-pub told_on : {E : Type 0} (line : Line E) (talk : Talk E) (a b : Standing) (left left_now : Option (List ℕ)) (Lacks : Command → ℕ → Type 0) (result : Result ⊤ Stop)
-    → Went line talk a b left left_now Lacks result → result ≢ Err (Halted Flash) → b.tells ≡ a.tells
+pub told_on : {E : Type 0} (line : Line E) (talk : Talk E) (a b : Standing) (left left_now : Option (List ℕ)) (Lacks : Command → ℕ → Type 0) (result : Result ⊤ InputEnding)
+    → Went line talk a b left left_now Lacks result → result ≢ Err (Early Flash) → b.tells ≡ a.tells
 told_on line talk a b left left_now Lacks (Ok done) w other = w.carried.tells
 told_on line talk a b left left_now Lacks (Err Input) w other = w.carried.tells
 told_on line talk a b left left_now Lacks (Err Long) w other = w.carried.tells
-told_on line talk a b left left_now Lacks (Err (Halted Space)) w other = w.halts.stops.stopped.tells
-told_on line talk a b left left_now Lacks (Err (Halted Sink)) w other = by_stop w.halts.stops
+told_on line talk a b left left_now Lacks (Err (Early Space)) w other = w.halts.stops.stopped.tells
+told_on line talk a b left left_now Lacks (Err (Early Sink)) w other = by_stop w.halts.stops
   where
     by_stop : (SaidLess talk w.entries a b ⊎ SaidNone talk Lacks w.entries a b) → b.tells ≡ a.tells
     by_stop (inl s) = s.tells
     by_stop (inr s) = s.stopped.tells
-told_on line talk a b left left_now Lacks (Err (Halted Flash)) w other = absurd (other refl)
+told_on line talk a b left left_now Lacks (Err (Early Flash)) w other = absurd (other refl)
 
 -- ---- status by status
 

@@ -3,13 +3,13 @@ use Rattle.std.proofs.Common.{◌≡◌, ◌≢◌, ℕ, Bool, true, false, List
 use Rattle.std.specs.Prelude.{⊤, IfErr, IsErrOf, OnOk, Result, Ok, Err}
 use Rattle.db_model.specs.declared.commands.Command.{Command}
 use Rattle.dump.specs.Appends.{AppendsText}
-use Rattle.intake.specs.declared.halt.Halt.{Halt}
-use Rattle.intake.specs.declared.halt.Halt.TheVariants as halt
-use Rattle.intake.specs.declared.halt.Stop.{Stop}
-use Rattle.intake.specs.declared.halt.Stop.TheVariants.{Input, Long, Halted}
-use Rattle.session_model.specs.declared.step.Stop.{Stop as AnyStop}
-use Rattle.session_model.specs.declared.step.Stop.TheVariants as stop
-use Rattle.session_model.specs.Steps.{HasStopCause, UnlessFlash}
+use Rattle.intake.specs.declared.ending.Ending.{Ending}
+use Rattle.intake.specs.declared.ending.Ending.TheVariants as halt
+use Rattle.intake.specs.declared.ending.InputEnding.{InputEnding}
+use Rattle.intake.specs.declared.ending.InputEnding.TheVariants.{Input, Long, Early}
+use Rattle.afl_base.specs.declared.fault.Fault.{Fault}
+use Rattle.afl_base.specs.declared.fault.Fault.TheVariants as fault
+use Rattle.session_model.specs.Steps.{HasFaultCause, UnlessFlash}
 use Rattle.answering.specs.Carried.{HasHaltCause, Standing}
 use Rattle.answering.specs.Went.{HasRunCause, Reaches}
 use Rattle.workload_run.specs.Summed.{StopsCommands, SummedUp}
@@ -23,25 +23,25 @@ clash e = absurd (let n : ⊥ = cc in n)
 
 -- ---- generated commands
 
-pub generated : (old new : Standing) (Lacks : Command → ℕ → Type 0) (commands : List Command) (done : Result ⊤ Halt)
+pub generated : (old new : Standing) (Lacks : Command → ℕ → Type 0) (commands : List Command) (done : Result ⊤ Ending)
     → OnOk done (SummedUp commands old.database new.database old.held new.held)
     → IfErr done (λ h. StopsCommands Lacks commands old.database new.database old.held new.held h)
     → Generates old new Lacks commands (halted done)
 generated old new Lacks commands (Ok x) ok err = ok
 generated old new Lacks commands (Err h) ok err = err
 
-is_halt : (done : Result ⊤ Halt) → IsErrOf done halt.Flash → halted done ≡ Err (Halted halt.Flash)
+is_halt : (done : Result ⊤ Ending) → IsErrOf done halt.Flash → halted done ≡ Err (Early halt.Flash)
 is_halt done h = ap halted h
 
-pub generated_lost : (done : Result ⊤ Halt) (lost : Bool) → (lost ≡ true → IsErrOf done halt.Flash) → lost ≡ true → halted done ≡ Err (Halted halt.Flash)
+pub generated_lost : (done : Result ⊤ Ending) (lost : Bool) → (lost ≡ true → IsErrOf done halt.Flash) → lost ≡ true → halted done ≡ Err (Early halt.Flash)
 generated_lost done lost h is = is_halt done (h is)
 
-pub generated_tells : (done : Result ⊤ Halt) (lost : Bool) (T : Type 0) → (lost ≡ true → IsErrOf done halt.Flash) → (lost ≡ false → T)
-    → halted done ≢ Err (Halted halt.Flash) → T
+pub generated_tells : (done : Result ⊤ Ending) (lost : Bool) (T : Type 0) → (lost ≡ true → IsErrOf done halt.Flash) → (lost ≡ false → T)
+    → halted done ≢ Err (Early halt.Flash) → T
 generated_tells done true T h keeps other = absurd (other (is_halt done (h refl)))
 generated_tells done false T h keeps other = keeps refl
 
-pub generated_cause : (done : Result ⊤ Halt) (inputs f g r s : ℕ) → HasHaltCause f g r s done → HasRunCause inputs inputs f g r s (halted done)
+pub generated_cause : (done : Result ⊤ Ending) (inputs f g r s : ℕ) → HasHaltCause f g r s done → HasRunCause inputs inputs f g r s (halted done)
 generated_cause (Ok x) inputs f g r s c = record {
   files_later = c.files_later;
   input = λ e. absurd (let n : ⊥ = cc in n);
@@ -57,68 +57,68 @@ generated_cause (Err h) inputs f g r s c = record {
 
 -- ---- a dumped script
 
-pub dumped : (old new : Standing) (text : List ℕ) (done : Result ⊤ AnyStop) → AppendsText done old.held new.held text → WritesText old new text (stopped done)
+pub dumped : (old new : Standing) (text : List ℕ) (done : Result ⊤ Fault) → AppendsText done old.held new.held text → WritesText old new text (stopped done)
 dumped old new text (Ok x) h = h
-dumped old new text (Err stop.Sink) h = h
-dumped old new text (Err stop.Flash) h = h
+dumped old new text (Err fault.Sink) h = h
+dumped old new text (Err fault.Flash) h = h
 
-pub dumped_same : (done : Result ⊤ AnyStop) (P : Type 0) → UnlessFlash done P → stopped done ≢ Err (Halted halt.Flash) → P
+pub dumped_same : (done : Result ⊤ Fault) (P : Type 0) → UnlessFlash done P → stopped done ≢ Err (Early halt.Flash) → P
 dumped_same (Ok x) P h other = h
-dumped_same (Err stop.Sink) P h other = h
-dumped_same (Err stop.Flash) P h other = absurd (other refl)
+dumped_same (Err fault.Sink) P h other = h
+dumped_same (Err fault.Flash) P h other = absurd (other refl)
 
-pub dumped_lost : (done : Result ⊤ AnyStop) (lost : Bool) → UnlessFlash done (lost ≡ false) → lost ≡ true → stopped done ≡ Err (Halted halt.Flash)
+pub dumped_lost : (done : Result ⊤ Fault) (lost : Bool) → UnlessFlash done (lost ≡ false) → lost ≡ true → stopped done ≡ Err (Early halt.Flash)
 dumped_lost (Ok x) true h is = clash (let e : true ≡ false = h in cc)
 dumped_lost (Ok x) false h is = clash is
-dumped_lost (Err stop.Sink) true h is = clash (let e : true ≡ false = h in cc)
-dumped_lost (Err stop.Sink) false h is = clash is
-dumped_lost (Err stop.Flash) lost h is = refl
+dumped_lost (Err fault.Sink) true h is = clash (let e : true ≡ false = h in cc)
+dumped_lost (Err fault.Sink) false h is = clash is
+dumped_lost (Err fault.Flash) lost h is = refl
 
-pub dumped_cause : (done : Result ⊤ AnyStop) (inputs f g r s : ℕ) → HasStopCause f g r s done → HasRunCause inputs inputs f g r s (stopped done)
+pub dumped_cause : (done : Result ⊤ Fault) (inputs f g r s : ℕ) → HasFaultCause f g r s done → HasRunCause inputs inputs f g r s (stopped done)
 dumped_cause (Ok x) inputs f g r s c = record {
   files_later = c.files_later;
   input = λ e. absurd (let n : ⊥ = cc in n);
   flash = λ e. absurd (let n : ⊥ = cc in n);
   sink = λ e. absurd (let n : ⊥ = cc in n);
 }
-dumped_cause (Err stop.Sink) inputs f g r s c = record {
+dumped_cause (Err fault.Sink) inputs f g r s c = record {
   files_later = c.files_later;
   input = λ e. absurd (let n : ⊥ = cc in n);
   flash = λ e. absurd (let n : ⊥ = cc in n);
   sink = λ e. c.sink refl;
 }
-dumped_cause (Err stop.Flash) inputs f g r s c = record {
+dumped_cause (Err fault.Flash) inputs f g r s c = record {
   files_later = c.files_later;
   input = λ e. absurd (let n : ⊥ = cc in n);
   flash = λ e. c.flash refl;
   sink = λ e. absurd (let n : ⊥ = cc in n);
 }
 
-pub unless_flash : {P Q : Type 0} (done : Result ⊤ AnyStop) → (P → Q) → UnlessFlash done P → UnlessFlash done Q
+pub unless_flash : {P Q : Type 0} (done : Result ⊤ Fault) → (P → Q) → UnlessFlash done P → UnlessFlash done Q
 unless_flash (Ok x) f h = f h
-unless_flash (Err stop.Sink) f h = f h
-unless_flash (Err stop.Flash) f h = h
+unless_flash (Err fault.Sink) f h = f h
+unless_flash (Err fault.Flash) f h = h
 
 -- ---- how far an input came
 
-pub halted_only : (done : Result ⊤ Halt) → OnlyHalts (halted done)
+pub halted_only : (done : Result ⊤ Ending) → OnlyHalts (halted done)
 halted_only (Ok x) = tt
 halted_only (Err h) = tt
 
-pub stopped_only : (done : Result ⊤ AnyStop) → OnlyHalts (stopped done)
+pub stopped_only : (done : Result ⊤ Fault) → OnlyHalts (stopped done)
 stopped_only (Ok x) = tt
-stopped_only (Err stop.Sink) = tt
-stopped_only (Err stop.Flash) = tt
+stopped_only (Err fault.Sink) = tt
+stopped_only (Err fault.Flash) = tt
 
 module _ (form : Form) (left left_now : Option (List ℕ)) where
-  pub reaches_by : (result : Result ⊤ Stop) → Reaches result left left_now → ReachesBy form result left left_now
+  pub reaches_by : (result : Result ⊤ InputEnding) → Reaches result left left_now → ReachesBy form result left left_now
   reaches_by (Ok x) h = λ takes. h
   reaches_by (Err Input) h = tt
   reaches_by (Err Long) h = h
-  reaches_by (Err (Halted k)) h = tt
+  reaches_by (Err (Early k)) h = tt
 
-  pub reaches_none : (TakesInput (Some form) → ⊥) → (result : Result ⊤ Stop) → OnlyHalts result → ReachesBy form result left left_now
+  pub reaches_none : (TakesInput (Some form) → ⊥) → (result : Result ⊤ InputEnding) → OnlyHalts result → ReachesBy form result left left_now
   reaches_none none (Ok x) h = λ takes. absurd (none takes)
   reaches_none none (Err Input) h = absurd h
   reaches_none none (Err Long) h = absurd h
-  reaches_none none (Err (Halted k)) h = tt
+  reaches_none none (Err (Early k)) h = tt

@@ -8,9 +8,9 @@ use Rattle.db_model.specs.Database.{Database, bare}
 use Rattle.db_model.specs.ReplyText.{refusal_text}
 use Rattle.db_model.specs.Workload.{first_commands}
 use Rattle.dump_model.specs.Script.{script}
-use Rattle.intake.specs.declared.halt.Halt.TheVariants.{Space, Flash, Sink}
-use Rattle.intake.specs.declared.halt.Stop.{Stop}
-use Rattle.intake.specs.declared.halt.Stop.TheVariants.{Input, Long, Halted}
+use Rattle.intake.specs.declared.ending.Ending.TheVariants.{Space, Flash, Sink}
+use Rattle.intake.specs.declared.ending.InputEnding.{InputEnding}
+use Rattle.intake.specs.declared.ending.InputEnding.TheVariants.{Input, Long, Early}
 use Rattle.reply_text.proofs.Pieces.{append_known-nil}
 use Rattle.reply_text.specs.WroteLess.{WroteLess}
 use Rattle.sound_image.specs.Images.{base}
@@ -34,13 +34,13 @@ use Rattle.antelope_run.proofs.Finished.{cut_off, ended, faulted, found_no_space
 
 -- ---- an input
 
-abbrev pub LeavesInput : {E : Type 0} → Line E → Talk E → World → World → Result ⊤ Stop → Type 0
+abbrev pub LeavesInput : {E : Type 0} → Line E → Talk E → World → World → Result ⊤ InputEnding → Type 0
 LeavesInput line talk old new (Ok done) = InputEnded line talk old new
 LeavesInput line talk old new (Err Input) = InputCutOff line talk old new
 LeavesInput line talk old new (Err Long) = InputTooLong line talk old new
-LeavesInput line talk old new (Err (Halted Space)) = InputFoundNoSpace line talk old new
-LeavesInput line talk old new (Err (Halted Flash)) = InputFaulted line talk old new
-LeavesInput line talk old new (Err (Halted Sink)) = InputUnsaid line talk old new
+LeavesInput line talk old new (Err (Early Space)) = InputFoundNoSpace line talk old new
+LeavesInput line talk old new (Err (Early Flash)) = InputFaulted line talk old new
+LeavesInput line talk old new (Err (Early Sink)) = InputUnsaid line talk old new
 
 module _ (a b : Standing) (image image_now : List ℕ) (before now : Option (List ℕ)) (Lacks : Command → ℕ → Type 0) (start : a.database ≡ base image) (told : IsTrue a.tells) where
   abbrev Old : World
@@ -49,42 +49,42 @@ module _ (a b : Standing) (image image_now : List ℕ) (before now : Option (Lis
   abbrev New : World
   New = world image_now now b.held
 
-  abbrev pub Back : Result ⊤ Stop → Type 0
-  Back result = IsTrue b.tells → result ≢ Err (Halted Flash) → HandsBack b.database Lacks image_now
+  abbrev pub Back : Result ⊤ InputEnding → Type 0
+  Back result = IsTrue b.tells → result ≢ Err (Early Flash) → HandsBack b.database Lacks image_now
 
-  leaves_input : {E : Type 0} (line : Line E) (talk : Talk E) (result : Result ⊤ Stop) → Back result → Went line talk a b before now Lacks result → LeavesInput line talk Old New result
+  leaves_input : {E : Type 0} (line : Line E) (talk : Talk E) (result : Result ⊤ InputEnding) → Back result → Went line talk a b before now Lacks result → LeavesInput line talk Old New result
   leaves_input line talk (Ok done) back w =
-      let other : ◌≢◌ {A = Result ⊤ Stop} (Ok done) (Err (Halted Flash)) = λ e. (let n : ⊥ = cc in n) in
+      let other : ◌≢◌ {A = Result ⊤ InputEnding} (Ok done) (Err (Early Flash)) = λ e. (let n : ⊥ = cc in n) in
       ended line talk a b image image_now before now start Lacks (back (w.carried.tells ∙ told) other) w
   leaves_input line talk (Err Input) back w =
-      let other : ◌≢◌ {A = Result ⊤ Stop} (Err Input) (Err (Halted Flash)) = λ e. (let n : ⊥ = cc in n) in
+      let other : ◌≢◌ {A = Result ⊤ InputEnding} (Err Input) (Err (Early Flash)) = λ e. (let n : ⊥ = cc in n) in
       cut_off line talk a b image image_now before now start Lacks (back (w.carried.tells ∙ told) other) w
   leaves_input line talk (Err Long) back w =
-      let other : ◌≢◌ {A = Result ⊤ Stop} (Err Long) (Err (Halted Flash)) = λ e. (let n : ⊥ = cc in n) in
+      let other : ◌≢◌ {A = Result ⊤ InputEnding} (Err Long) (Err (Early Flash)) = λ e. (let n : ⊥ = cc in n) in
       too_long line talk a b image image_now before now start Lacks (back (w.carried.tells ∙ told) other) w
-  leaves_input line talk (Err (Halted Space)) back w =
-      let other : ◌≢◌ {A = Result ⊤ Stop} (Err (Halted Space)) (Err (Halted Flash)) = λ e. (let n : ⊥ = cc in n) in
-      found_no_space line talk a b image image_now before now start Lacks (back (told_on line talk a b before now Lacks (Err (Halted Space)) w other ∙ told) other) w
-  leaves_input line talk (Err (Halted Flash)) back w = faulted line talk a b image image_now before now start Lacks w
-  leaves_input line talk (Err (Halted Sink)) back w =
-      let other : ◌≢◌ {A = Result ⊤ Stop} (Err (Halted Sink)) (Err (Halted Flash)) = λ e. (let n : ⊥ = cc in n) in
-      unsaid line talk a b image image_now before now start Lacks (back (told_on line talk a b before now Lacks (Err (Halted Sink)) w other ∙ told) other) w
+  leaves_input line talk (Err (Early Space)) back w =
+      let other : ◌≢◌ {A = Result ⊤ InputEnding} (Err (Early Space)) (Err (Early Flash)) = λ e. (let n : ⊥ = cc in n) in
+      found_no_space line talk a b image image_now before now start Lacks (back (told_on line talk a b before now Lacks (Err (Early Space)) w other ∙ told) other) w
+  leaves_input line talk (Err (Early Flash)) back w = faulted line talk a b image image_now before now start Lacks w
+  leaves_input line talk (Err (Early Sink)) back w =
+      let other : ◌≢◌ {A = Result ⊤ InputEnding} (Err (Early Sink)) (Err (Early Flash)) = λ e. (let n : ⊥ = cc in n) in
+      unsaid line talk a b image image_now before now start Lacks (back (told_on line talk a b before now Lacks (Err (Early Sink)) w other ∙ told) other) w
 
-  by_run : (result : Result ⊤ Stop) → OnInput Run (λ E line talk. LeavesInput line talk Old New result) → left.LeavesBehind Run Old New result
+  by_run : (result : Result ⊤ InputEnding) → OnInput Run (λ E line talk. LeavesInput line talk Old New result) → left.LeavesBehind Run Old New result
   by_run (Ok done) h = h
   by_run (Err Input) h = h
   by_run (Err Long) h = h
-  by_run (Err (Halted Space)) h = h
-  by_run (Err (Halted Flash)) h = h
-  by_run (Err (Halted Sink)) h = h
+  by_run (Err (Early Space)) h = h
+  by_run (Err (Early Flash)) h = h
+  by_run (Err (Early Sink)) h = h
 
-  by_serve : (result : Result ⊤ Stop) → OnInput Serve (λ E line talk. LeavesInput line talk Old New result) → left.LeavesBehind Serve Old New result
+  by_serve : (result : Result ⊤ InputEnding) → OnInput Serve (λ E line talk. LeavesInput line talk Old New result) → left.LeavesBehind Serve Old New result
   by_serve (Ok done) h = h
   by_serve (Err Input) h = h
   by_serve (Err Long) h = h
-  by_serve (Err (Halted Space)) h = h
-  by_serve (Err (Halted Flash)) h = h
-  by_serve (Err (Halted Sink)) h = h
+  by_serve (Err (Early Space)) h = h
+  by_serve (Err (Early Flash)) h = h
+  by_serve (Err (Early Sink)) h = h
 
   -- ---- generated commands
 
@@ -132,20 +132,20 @@ module _ (a b : Standing) (image image_now : List ℕ) (before now : Option (Lis
     unsaid_by (inl s) = inl (line_unsaid s)
     unsaid_by (inr s) = inr (subst (λ (db : Database). SpaceUnsaid (summed_from db) nothing_yet commands Old New) start (space_unsaid_at s))
 
-  by_gen : (seed count : ℕ) (result : Result ⊤ Stop) → Back result → TellsOn a b result → Generates a b Lacks (first_commands seed count) result → left.LeavesBehind (Gen seed count) Old New result
+  by_gen : (seed count : ℕ) (result : Result ⊤ InputEnding) → Back result → TellsOn a b result → Generates a b Lacks (first_commands seed count) result → left.LeavesBehind (Gen seed count) Old New result
   by_gen seed count (Ok done) back tells g =
-      let other : ◌≢◌ {A = Result ⊤ Stop} (Ok done) (Err (Halted Flash)) = λ e. (let n : ⊥ = cc in n) in
+      let other : ◌≢◌ {A = Result ⊤ InputEnding} (Ok done) (Err (Early Flash)) = λ e. (let n : ⊥ = cc in n) in
       subst (λ (db : Database). CarriedOut (summed_from db) (first_commands seed count) Old New) start
       (all_made (first_commands seed count) (back (tells other ∙ told) other) g)
   by_gen seed count (Err Input) back tells g = absurd g
   by_gen seed count (Err Long) back tells g = absurd g
-  by_gen seed count (Err (Halted Space)) back tells g =
-      let other : ◌≢◌ {A = Result ⊤ Stop} (Err (Halted Space)) (Err (Halted Flash)) = λ e. (let n : ⊥ = cc in n) in
+  by_gen seed count (Err (Early Space)) back tells g =
+      let other : ◌≢◌ {A = Result ⊤ InputEnding} (Err (Early Space)) (Err (Early Flash)) = λ e. (let n : ⊥ = cc in n) in
       subst (λ (db : Database). FoundNoSpace (summed_from db) (first_commands seed count) Old New) start
       (found_at (first_commands seed count) (back (tells other ∙ told) other) g)
-  by_gen seed count (Err (Halted Flash)) back tells g = g
-  by_gen seed count (Err (Halted Sink)) back tells g =
-      let other : ◌≢◌ {A = Result ⊤ Stop} (Err (Halted Sink)) (Err (Halted Flash)) = λ e. (let n : ⊥ = cc in n) in
+  by_gen seed count (Err (Early Flash)) back tells g = g
+  by_gen seed count (Err (Early Sink)) back tells g =
+      let other : ◌≢◌ {A = Result ⊤ InputEnding} (Err (Early Sink)) (Err (Early Flash)) = λ e. (let n : ⊥ = cc in n) in
       unsaid_by (first_commands seed count) (back (tells other ∙ told) other) g
 
   -- ---- what is told of an image
@@ -160,25 +160,25 @@ module _ (a b : Standing) (image image_now : List ℕ) (before now : Option (Lis
     told_less : (image_now ≡ image) → WroteLess a.held b.held (text image) → TellsLess text Old New
     told_less same w = record { leaves = record { same = same; unread = unread }; written = less_of (text image) w }
 
-  by_plan : (rows : ℕ) → now ≡ before → (result : Result ⊤ Stop) → Stays → WritesText a b (planned_text rows image) result → left.LeavesBehind (Plan rows) Old New result
+  by_plan : (rows : ℕ) → now ≡ before → (result : Result ⊤ InputEnding) → Stays → WritesText a b (planned_text rows image) result → left.LeavesBehind (Plan rows) Old New result
   by_plan rows unread (Ok done) stays w = told_all (planned_text rows) unread stays w
   by_plan rows unread (Err Input) stays w = absurd w
   by_plan rows unread (Err Long) stays w = absurd w
-  by_plan rows unread (Err (Halted Space)) stays w = absurd w
-  by_plan rows unread (Err (Halted Flash)) stays w = (record { same = stays; unread = unread }, record { part = w.written; rest = w.left; split = w.whole; held = w.held })
-  by_plan rows unread (Err (Halted Sink)) stays w = told_less (planned_text rows) unread stays w
+  by_plan rows unread (Err (Early Space)) stays w = absurd w
+  by_plan rows unread (Err (Early Flash)) stays w = (record { same = stays; unread = unread }, record { part = w.written; rest = w.left; split = w.whole; held = w.held })
+  by_plan rows unread (Err (Early Sink)) stays w = told_less (planned_text rows) unread stays w
 
-  by_dump : now ≡ before → (result : Result ⊤ Stop) → Stays → WritesText a b (dumped_text image) result → left.LeavesBehind Dump Old New result
+  by_dump : now ≡ before → (result : Result ⊤ InputEnding) → Stays → WritesText a b (dumped_text image) result → left.LeavesBehind Dump Old New result
   by_dump unread (Ok done) stays w = told_all dumped_text unread stays w
   by_dump unread (Err Input) stays w = absurd w
   by_dump unread (Err Long) stays w = absurd w
-  by_dump unread (Err (Halted Space)) stays w = absurd w
-  by_dump unread (Err (Halted Flash)) stays w = (record { same = stays; unread = unread }, record { part = w.written; rest = w.left; split = w.whole; held = w.held })
-  by_dump unread (Err (Halted Sink)) stays w = told_less dumped_text unread stays w
+  by_dump unread (Err (Early Space)) stays w = absurd w
+  by_dump unread (Err (Early Flash)) stays w = (record { same = stays; unread = unread }, record { part = w.written; rest = w.left; split = w.whole; held = w.held })
+  by_dump unread (Err (Early Sink)) stays w = told_less dumped_text unread stays w
 
   -- ---- each form
 
-  pub leaves : (sectors : ℕ) → sectors ≡ length image / 4096 → (form : Form) (result : Result ⊤ Stop) → Back result → (OnlyTells form → Stays) → (OnlyTells form → now ≡ before)
+  pub leaves : (sectors : ℕ) → sectors ≡ length image / 4096 → (form : Form) (result : Result ⊤ InputEnding) → Back result → (OnlyTells form → Stays) → (OnlyTells form → now ≡ before)
       → DoesForm a b sectors before now Lacks form result → left.LeavesBehind form Old New result
   leaves sectors many Run result back stays unread d = by_run result (λ read reader. leaves_input _ _ result back (d read reader))
   leaves sectors many Serve result back stays unread d = by_serve result (λ read reader. leaves_input _ _ result back (d read reader))

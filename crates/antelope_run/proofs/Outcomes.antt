@@ -4,8 +4,8 @@ use Rattle.std.specs.Prelude.{Ok, Err}
 use Rattle.std.proofs.lemmas.List.{length-append}
 use Rattle.std.specs.Io.KnownBytes.{IsAtEnd}
 use Rattle.afl_base.specs.Causes.{Rose}
-use Rattle.intake.specs.declared.halt.Halt.TheVariants.{Space, Flash, Sink}
-use Rattle.intake.specs.declared.halt.Stop.TheVariants.{Input, Long, Halted}
+use Rattle.intake.specs.declared.ending.Ending.TheVariants.{Space, Flash, Sink}
+use Rattle.intake.specs.declared.ending.InputEnding.TheVariants.{Input, Long, Early}
 use Rattle.run_model.specs.Runs.{Refuses, CameToLimit, World}
 use Rattle.run_model.specs.Scripts.{script_cut, script_line, script_talk}
 use Rattle.run_model.proofs.Parts.{script_parts}
@@ -28,9 +28,9 @@ use Rattle.antelope_run.proofs.Space.{input_has_space, stops_nowhere}
 is_ended : (came : Came) → status_by came ≡ 0 → came ≡ Opened (Ok tt)
 is_ended (Opened (Ok done)) e = refl
 is_ended (Opened (Err Input)) e = absurd (omega (arith, e))
-is_ended (Opened (Err (Halted Space))) e = absurd (omega (arith, e))
-is_ended (Opened (Err (Halted Flash))) e = absurd (omega (arith, e))
-is_ended (Opened (Err (Halted Sink))) e = absurd (omega (arith, e))
+is_ended (Opened (Err (Early Space))) e = absurd (omega (arith, e))
+is_ended (Opened (Err (Early Flash))) e = absurd (omega (arith, e))
+is_ended (Opened (Err (Early Sink))) e = absurd (omega (arith, e))
 is_ended (Opened (Err Long)) e = absurd (omega (arith, e))
 is_ended Refused e = absurd (omega (arith, e))
 is_ended Unsaid e = absurd (omega (arith, e))
@@ -39,42 +39,42 @@ is_ended Failed e = absurd (omega (arith, e))
 is_cut : (came : Came) → status_by came ≡ 2 → came ≡ Opened (Err Input)
 is_cut (Opened (Ok done)) e = absurd (omega (arith, e))
 is_cut (Opened (Err Input)) e = refl
-is_cut (Opened (Err (Halted Space))) e = absurd (omega (arith, e))
-is_cut (Opened (Err (Halted Flash))) e = absurd (omega (arith, e))
-is_cut (Opened (Err (Halted Sink))) e = absurd (omega (arith, e))
+is_cut (Opened (Err (Early Space))) e = absurd (omega (arith, e))
+is_cut (Opened (Err (Early Flash))) e = absurd (omega (arith, e))
+is_cut (Opened (Err (Early Sink))) e = absurd (omega (arith, e))
 is_cut (Opened (Err Long)) e = absurd (omega (arith, e))
 is_cut Refused e = absurd (omega (arith, e))
 is_cut Unsaid e = absurd (omega (arith, e))
 is_cut Failed e = absurd (omega (arith, e))
 
-is_spaceless : (came : Came) → status_by came ≡ 3 → came ≡ Opened (Err (Halted Space))
+is_spaceless : (came : Came) → status_by came ≡ 3 → came ≡ Opened (Err (Early Space))
 is_spaceless (Opened (Ok done)) e = absurd (omega (arith, e))
 is_spaceless (Opened (Err Input)) e = absurd (omega (arith, e))
-is_spaceless (Opened (Err (Halted Space))) e = refl
-is_spaceless (Opened (Err (Halted Flash))) e = absurd (omega (arith, e))
-is_spaceless (Opened (Err (Halted Sink))) e = absurd (omega (arith, e))
+is_spaceless (Opened (Err (Early Space))) e = refl
+is_spaceless (Opened (Err (Early Flash))) e = absurd (omega (arith, e))
+is_spaceless (Opened (Err (Early Sink))) e = absurd (omega (arith, e))
 is_spaceless (Opened (Err Long)) e = absurd (omega (arith, e))
 is_spaceless Refused e = absurd (omega (arith, e))
 is_spaceless Unsaid e = absurd (omega (arith, e))
 is_spaceless Failed e = absurd (omega (arith, e))
 
-is_faulted : (came : Came) → status_by came ≡ 4 → (came ≡ Opened (Err (Halted Flash))) ⊎ (came ≡ Failed)
+is_faulted : (came : Came) → status_by came ≡ 4 → (came ≡ Opened (Err (Early Flash))) ⊎ (came ≡ Failed)
 is_faulted (Opened (Ok done)) e = absurd (omega (arith, e))
 is_faulted (Opened (Err Input)) e = absurd (omega (arith, e))
-is_faulted (Opened (Err (Halted Space))) e = absurd (omega (arith, e))
-is_faulted (Opened (Err (Halted Flash))) e = inl refl
-is_faulted (Opened (Err (Halted Sink))) e = absurd (omega (arith, e))
+is_faulted (Opened (Err (Early Space))) e = absurd (omega (arith, e))
+is_faulted (Opened (Err (Early Flash))) e = inl refl
+is_faulted (Opened (Err (Early Sink))) e = absurd (omega (arith, e))
 is_faulted (Opened (Err Long)) e = absurd (omega (arith, e))
 is_faulted Refused e = absurd (omega (arith, e))
 is_faulted Unsaid e = absurd (omega (arith, e))
 is_faulted Failed e = inr refl
 
-is_unsaid : (came : Came) → status_by came ≡ 5 → (came ≡ Opened (Err (Halted Sink))) ⊎ (came ≡ Unsaid)
+is_unsaid : (came : Came) → status_by came ≡ 5 → (came ≡ Opened (Err (Early Sink))) ⊎ (came ≡ Unsaid)
 is_unsaid (Opened (Ok done)) e = absurd (omega (arith, e))
 is_unsaid (Opened (Err Input)) e = absurd (omega (arith, e))
-is_unsaid (Opened (Err (Halted Space))) e = absurd (omega (arith, e))
-is_unsaid (Opened (Err (Halted Flash))) e = absurd (omega (arith, e))
-is_unsaid (Opened (Err (Halted Sink))) e = inl refl
+is_unsaid (Opened (Err (Early Space))) e = absurd (omega (arith, e))
+is_unsaid (Opened (Err (Early Flash))) e = absurd (omega (arith, e))
+is_unsaid (Opened (Err (Early Sink))) e = inl refl
 is_unsaid (Opened (Err Long)) e = absurd (omega (arith, e))
 is_unsaid Refused e = absurd (omega (arith, e))
 is_unsaid Unsaid e = inr refl
@@ -83,9 +83,9 @@ is_unsaid Failed e = absurd (omega (arith, e))
 is_refused : (came : Came) → status_by came ≡ 6 → came ≡ Refused
 is_refused (Opened (Ok done)) e = absurd (omega (arith, e))
 is_refused (Opened (Err Input)) e = absurd (omega (arith, e))
-is_refused (Opened (Err (Halted Space))) e = absurd (omega (arith, e))
-is_refused (Opened (Err (Halted Flash))) e = absurd (omega (arith, e))
-is_refused (Opened (Err (Halted Sink))) e = absurd (omega (arith, e))
+is_refused (Opened (Err (Early Space))) e = absurd (omega (arith, e))
+is_refused (Opened (Err (Early Flash))) e = absurd (omega (arith, e))
+is_refused (Opened (Err (Early Sink))) e = absurd (omega (arith, e))
 is_refused (Opened (Err Long)) e = absurd (omega (arith, e))
 is_refused Refused e = refl
 is_refused Unsaid e = absurd (omega (arith, e))
@@ -94,9 +94,9 @@ is_refused Failed e = absurd (omega (arith, e))
 is_long : (came : Came) → status_by came ≡ 8 → came ≡ Opened (Err Long)
 is_long (Opened (Ok done)) e = absurd (omega (arith, e))
 is_long (Opened (Err Input)) e = absurd (omega (arith, e))
-is_long (Opened (Err (Halted Space))) e = absurd (omega (arith, e))
-is_long (Opened (Err (Halted Flash))) e = absurd (omega (arith, e))
-is_long (Opened (Err (Halted Sink))) e = absurd (omega (arith, e))
+is_long (Opened (Err (Early Space))) e = absurd (omega (arith, e))
+is_long (Opened (Err (Early Flash))) e = absurd (omega (arith, e))
+is_long (Opened (Err (Early Sink))) e = absurd (omega (arith, e))
 is_long (Opened (Err Long)) e = refl
 is_long Refused e = absurd (omega (arith, e))
 is_long Unsaid e = absurd (omega (arith, e))
@@ -111,14 +111,14 @@ module _ (came : Came) (inputs inputs_now flash flash_now replies replies_now : 
   pub flash_cause : status_by came ≡ 4 → Rose flash flash_now
   flash_cause e = by_case (is_faulted came e)
     where
-      by_case : ((came ≡ Opened (Err (Halted Flash))) ⊎ (came ≡ Failed)) → Rose flash flash_now
+      by_case : ((came ≡ Opened (Err (Early Flash))) ⊎ (came ≡ Failed)) → Rose flash flash_now
       by_case (inl h) = c.flash_failed h
       by_case (inr h) = c.unopened h
 
   pub sink_cause : status_by came ≡ 5 → Rose replies replies_now
   sink_cause e = by_case (is_unsaid came e)
     where
-      by_case : ((came ≡ Opened (Err (Halted Sink))) ⊎ (came ≡ Unsaid)) → Rose replies replies_now
+      by_case : ((came ≡ Opened (Err (Early Sink))) ⊎ (came ≡ Unsaid)) → Rose replies replies_now
       by_case (inl h) = c.sink_failed h
       by_case (inr h) = c.unsaid h
 
@@ -181,14 +181,14 @@ module _ (form : Form) (came : Came) (old new : World) (comes : ComesTo form old
   pub faulted_at : status_by came ≡ 4 → IsFaulted (Some form) old new
   faulted_at e = by_case (is_faulted came e)
     where
-      by_case : ((came ≡ Opened (Err (Halted Flash))) ⊎ (came ≡ Failed)) → IsFaulted (Some form) old new
+      by_case : ((came ≡ Opened (Err (Early Flash))) ⊎ (came ≡ Failed)) → IsFaulted (Some form) old new
       by_case (inl h) = inr (subst (ComesTo form old new) h comes)
       by_case (inr h) = inl (subst (ComesTo form old new) h comes)
 
   pub unsaid_at : status_by came ≡ 5 → IsUnsaid (Some form) old new
   unsaid_at e = by_case (is_unsaid came e)
     where
-      by_case : ((came ≡ Opened (Err (Halted Sink))) ⊎ (came ≡ Unsaid)) → IsUnsaid (Some form) old new
+      by_case : ((came ≡ Opened (Err (Early Sink))) ⊎ (came ≡ Unsaid)) → IsUnsaid (Some form) old new
       by_case (inl h) = inr (subst (ComesTo form old new) h comes)
       by_case (inr h) = inl (subst (ComesTo form old new) h comes)
 
@@ -246,9 +246,9 @@ module _ (form : Form) (old new : World) (sound : IsSound old.image) (short : Is
       → (status_by came ≡ 2 → ⊥) → (status_by came ≡ 4 → ⊥) → (status_by came ≡ 5 → ⊥) → (status_by came ≡ 0) ⊎ (status_by came ≡ 3)
   no_fault_by (Opened (Ok done)) h r input flash sink = inl refl
   no_fault_by (Opened (Err Input)) h r input flash sink = absurd (input refl)
-  no_fault_by (Opened (Err (Halted Space))) h r input flash sink = inr refl
-  no_fault_by (Opened (Err (Halted Flash))) h r input flash sink = absurd (flash refl)
-  no_fault_by (Opened (Err (Halted Sink))) h r input flash sink = absurd (sink refl)
+  no_fault_by (Opened (Err (Early Space))) h r input flash sink = inr refl
+  no_fault_by (Opened (Err (Early Flash))) h r input flash sink = absurd (flash refl)
+  no_fault_by (Opened (Err (Early Sink))) h r input flash sink = absurd (sink refl)
   no_fault_by (Opened (Err Long)) h r input flash sink =
       let s = short.1 (takes_by form old new h.1) in
       absurd (within_limit s.0 old.left new.left s.1 s.2 r)

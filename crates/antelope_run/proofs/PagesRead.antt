@@ -3,8 +3,8 @@ use Rattle.std.proofs.Common.{◌≡◌, ℕ, ◌+◌, ◌≤◌, List, ◌++◌
 use Rattle.std.specs.Prelude.{⊤, Result, Ok, Err}
 use Rattle.std.specs.List.{AllByRecursion}
 use Rattle.db_model.specs.declared.commands.Command.{Command}
-use Rattle.intake.specs.declared.halt.Stop.{Stop}
-use Rattle.intake.specs.declared.halt.Stop.TheVariants.{Input, Long, Halted}
+use Rattle.intake.specs.declared.ending.InputEnding.{InputEnding}
+use Rattle.intake.specs.declared.ending.InputEnding.TheVariants.{Input, Long, Early}
 use Rattle.answering.specs.Carried.{Standing}
 use Rattle.answering.specs.Went.{Went}
 use Rattle.run_model.specs.Line.{Line}
@@ -23,7 +23,7 @@ module _ {E : Type 0} (line : Line E) (has : HasFronts line) (talk : Talk E) (a 
       let sum = costs-append talk a.database a.aheads entries rest in
       subst (λ (es : List E). b.reads ≤ a.reads + talk_costs talk a.database a.aheads es) (sym is) (omega (arith, few, sum))
 
-  pub reads_few : (result : Result ⊤ Stop) → Went line talk a b left left_now Lacks result → (text : List ℕ) → left ≡ Some text → AllByRecursion (AsksToRead talk) (line.all text)
+  pub reads_few : (result : Result ⊤ InputEnding) → Went line talk a b left left_now Lacks result → (text : List ℕ) → left ≡ Some text → AllByRecursion (AsksToRead talk) (line.all text)
       → b.reads ≤ a.reads + talk_costs talk a.database a.aheads (line.all text)
   reads_few (Ok done) w text told all =
       let f = all_front line has text left left_now told w.bytes w.came w.at_end in
@@ -34,6 +34,6 @@ module _ {E : Type 0} (line : Line E) (has : HasFronts line) (talk : Talk E) (a 
   reads_few (Err Long) w text told all =
       let f = longer_front line has text left left_now told w.bytes w.more w.came in
       first_cost (line.whole w.bytes) f.0 (line.all text) f.1 all w.carried.reads
-  reads_few (Err (Halted halt)) w text told all =
+  reads_few (Err (Early halt)) w text told all =
       let f = entries_front line has text left left_now told w.bytes w.entries w.came w.are in
       first_cost w.entries f.0 (line.all text) f.1 all w.halts.reads

@@ -3,7 +3,7 @@ use Rattle.std.proofs.Common.{◌≡◌, ◌⊎◌, inl, inr, ℕ, [], refl, sub
 use Rattle.std.specs.Prelude.{⊤, Result}
 use Rattle.std.specs.Io.KnownBytes.{append_known}
 use Rattle.afl_base.specs.Causes.{Rose}
-use Rattle.intake.specs.declared.halt.Stop.{Stop}
+use Rattle.intake.specs.declared.ending.InputEnding.{InputEnding}
 use Rattle.reply_text.proofs.Pieces.{append_known-nil}
 use Rattle.reply_text.specs.WroteLess.{WroteLess}
 use Rattle.run_model.specs.Runs.{World, image_line}
@@ -35,7 +35,7 @@ module _ (came : Came) where
         unread,
       )
 
-  pub none_opened : (P : Result ⊤ Stop → Type 0) → IsUnopened → OnOpened came P
+  pub none_opened : (P : Result ⊤ InputEnding → Type 0) → IsUnopened → OnOpened came P
   none_opened P (inl e) = subst (λ (k : Came). OnOpened k P) (sym e) tt
   none_opened P (inr e) = subst (λ (k : Came). OnOpened k P) (sym e) tt
 

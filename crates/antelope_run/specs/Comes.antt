@@ -2,9 +2,9 @@
 use Rattle.std.specs.Prelude.{◌≡◌, ⊤, ℕ, List, Option, Some, Result, Ok, Err}
 use Rattle.std.specs.Io.KnownBytes.{IsAtEnd}
 use Rattle.afl_base.specs.Causes.{Rose}
-use Rattle.intake.specs.declared.halt.Halt.TheVariants.{Flash, Sink}
-use Rattle.intake.specs.declared.halt.Stop.{Stop}
-use Rattle.intake.specs.declared.halt.Stop.TheVariants.{Input, Long, Halted}
+use Rattle.intake.specs.declared.ending.Ending.TheVariants.{Flash, Sink}
+use Rattle.intake.specs.declared.ending.InputEnding.{InputEnding}
+use Rattle.intake.specs.declared.ending.InputEnding.TheVariants.{Input, Long, Early}
 use Rattle.run_model.specs.Runs.{Refuses, RefusalUnsaid, CameToLimit, World}
 use Rattle.sound_image.specs.Images.{IsSound}
 use Rattle.antelope_run.specs.declared.came.Came.{Came}
@@ -26,13 +26,13 @@ ComesTo form old new Unsaid = RefusalUnsaid old new × (new.left ≡ old.left)
 ComesTo form old new Failed = LeavesImage old new × (new.held ≡ old.held)
 
 -- how far the bytes of an input came: to their end, or one byte past the limit
-abbrev pub ReachesBy : Form → Result ⊤ Stop → (left left_now : Option (List ℕ)) → Type 0
+abbrev pub ReachesBy : Form → Result ⊤ InputEnding → (left left_now : Option (List ℕ)) → Type 0
 ReachesBy form (Ok done) left left_now = TakesInput (Some form) → IsAtEnd left_now
 ReachesBy form (Err Long) left left_now = CameToLimit left left_now
 ReachesBy form _ left left_now = ⊤
 
 -- P of what an opened session came to
-abbrev pub OnOpened : Came → (Result ⊤ Stop → Type 0) → Type 0
+abbrev pub OnOpened : Came → (Result ⊤ InputEnding → Type 0) → Type 0
 OnOpened (Opened done) P = P done
 OnOpened _ P = ⊤
 
@@ -44,7 +44,7 @@ OnUnopened _ P = P
 -- what is said to have failed has counted it
 pub record HasCameCause (inputs inputs_now flash flash_now replies replies_now : ℕ) (came : Came) : Type 0 where
   pub input : came ≡ Opened (Err Input) → Rose inputs inputs_now
-  pub flash_failed : came ≡ Opened (Err (Halted Flash)) → Rose flash flash_now
-  pub sink_failed : came ≡ Opened (Err (Halted Sink)) → Rose replies replies_now
+  pub flash_failed : came ≡ Opened (Err (Early Flash)) → Rose flash flash_now
+  pub sink_failed : came ≡ Opened (Err (Early Sink)) → Rose replies replies_now
   pub unsaid : came ≡ Unsaid → Rose replies replies_now
   pub unopened : came ≡ Failed → Rose flash flash_now

@@ -5,13 +5,13 @@ use Rattle.std.specs.Io.KnownBytes.{append_known}
 use Rattle.db_model.specs.declared.commands.Command.{Command}
 use Rattle.db_model.specs.Workload.{first_commands}
 use Rattle.dump_model.specs.Script.{script}
-use Rattle.intake.specs.declared.halt.Halt.{Halt}
-use Rattle.intake.specs.declared.halt.Halt.TheVariants.{Space, Flash, Sink}
-use Rattle.intake.specs.declared.halt.Stop.{Stop}
-use Rattle.intake.specs.declared.halt.Stop.TheVariants.{Input, Long, Halted}
+use Rattle.intake.specs.declared.ending.Ending.{Ending}
+use Rattle.intake.specs.declared.ending.Ending.TheVariants.{Space, Flash, Sink}
+use Rattle.intake.specs.declared.ending.InputEnding.{InputEnding}
+use Rattle.intake.specs.declared.ending.InputEnding.TheVariants.{Input, Long, Early}
 use Rattle.reply_text.specs.WroteLess.{WroteLess}
-use Rattle.session_model.specs.declared.step.Stop.{Stop as AnyStop}
-use Rattle.session_model.specs.declared.step.Stop.TheVariants as stop
+use Rattle.afl_base.specs.declared.fault.Fault.{Fault}
+use Rattle.afl_base.specs.declared.fault.Fault.TheVariants as fault
 use Rattle.session_model.specs.Steps.{WrotePart}
 use Rattle.answering.specs.Carried.{Standing}
 use Rattle.answering.specs.Went.{Went}
@@ -26,27 +26,27 @@ use Rattle.antelope_run.specs.Statuses.{OnInput}
 
 module _ (old new : Standing) where
   -- given commands were carried out, and one line was written
-  abbrev pub Generates : (Command → ℕ → Type 0) → List Command → Result ⊤ Stop → Type 0
+  abbrev pub Generates : (Command → ℕ → Type 0) → List Command → Result ⊤ InputEnding → Type 0
   Generates Lacks commands (Ok done) = SummedUp commands old.database new.database old.held new.held
-  Generates Lacks commands (Err (Halted halt)) = StopsCommands Lacks commands old.database new.database old.held new.held halt
+  Generates Lacks commands (Err (Early halt)) = StopsCommands Lacks commands old.database new.database old.held new.held halt
   Generates Lacks commands (Err Input) = ⊥
   Generates Lacks commands (Err Long) = ⊥
 
   -- a text was written, and the database stays
-  abbrev pub WritesText : List ℕ → Result ⊤ Stop → Type 0
+  abbrev pub WritesText : List ℕ → Result ⊤ InputEnding → Type 0
   WritesText text (Ok done) = new.held ≡ append_known old.held text
-  WritesText text (Err (Halted Sink)) = WroteLess old.held new.held text
-  WritesText text (Err (Halted Flash)) = WrotePart old.held new.held text
-  WritesText text (Err (Halted Space)) = ⊥
+  WritesText text (Err (Early Sink)) = WroteLess old.held new.held text
+  WritesText text (Err (Early Flash)) = WrotePart old.held new.held text
+  WritesText text (Err (Early Space)) = ⊥
   WritesText text (Err Input) = ⊥
   WritesText text (Err Long) = ⊥
 
   -- the files tell what they told, unless they failed
-  abbrev pub TellsOn : Result ⊤ Stop → Type 0
-  TellsOn result = result ≢ Err (Halted Flash) → new.tells ≡ old.tells
+  abbrev pub TellsOn : Result ⊤ InputEnding → Type 0
+  TellsOn result = result ≢ Err (Early Flash) → new.tells ≡ old.tells
 
   -- what was done of a form, on a flash of so many sectors
-  abbrev pub DoesForm : (sectors : ℕ) → (left left_now : Option (List ℕ)) → (Command → ℕ → Type 0) → Form → Result ⊤ Stop → Type 0
+  abbrev pub DoesForm : (sectors : ℕ) → (left left_now : Option (List ℕ)) → (Command → ℕ → Type 0) → Form → Result ⊤ InputEnding → Type 0
   DoesForm sectors left left_now Lacks (Gen seed count) result = TellsOn result × Generates Lacks (first_commands seed count) result
   DoesForm sectors left left_now Lacks (Plan rows) result = TellsOn result × WritesText (plan_text (planned old.database rows) sectors) result
   DoesForm sectors left left_now Lacks Dump result = TellsOn result × WritesText (script old.database) result
@@ -71,18 +71,18 @@ OnlyTells _ = ⊥
 
 -- ---- why a run went no further, of what halts and what stops
 
-abbrev pub halted : Result ⊤ Halt → Result ⊤ Stop
+abbrev pub halted : Result ⊤ Ending → Result ⊤ InputEnding
 halted (Ok done) = Ok done
-halted (Err halt) = Err (Halted halt)
+halted (Err halt) = Err (Early halt)
 
-abbrev pub stopped : Result ⊤ AnyStop → Result ⊤ Stop
+abbrev pub stopped : Result ⊤ Fault → Result ⊤ InputEnding
 stopped (Ok done) = Ok done
-stopped (Err stop.Sink) = Err (Halted Sink)
-stopped (Err stop.Flash) = Err (Halted Flash)
+stopped (Err fault.Sink) = Err (Early Sink)
+stopped (Err fault.Flash) = Err (Early Flash)
 
 -- no input failed or was too long
-abbrev pub OnlyHalts : Result ⊤ Stop → Type 0
+abbrev pub OnlyHalts : Result ⊤ InputEnding → Type 0
 OnlyHalts (Ok done) = ⊤
-OnlyHalts (Err (Halted halt)) = ⊤
+OnlyHalts (Err (Early halt)) = ⊤
 OnlyHalts (Err Input) = ⊥
 OnlyHalts (Err Long) = ⊥

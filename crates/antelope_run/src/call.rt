@@ -22,7 +22,7 @@ use crate::words::Form;
 use afl_base::{Failed, Flash, Sink, Source};
 use antelope_engine::Session;
 use coffee_volume::{MountError, Volume};
-use intake::{Halt, Stop};
+use intake::{Ending, InputEnding};
 use sound_image::mounted_files_are_the_images;
 
 /// Carries out what the words ask for, and answers the status that the program ends with, and the flash.
@@ -81,12 +81,12 @@ fn status(came: Came) -> u8
 {
     match came {
         Came::Opened(Ok(())) => 0,
-        Came::Opened(Err(Stop::Input)) => 2,
-        Came::Opened(Err(Stop::Halted(Halt::Space))) => 3,
-        Came::Opened(Err(Stop::Halted(Halt::Flash))) | Came::Failed => 4,
-        Came::Opened(Err(Stop::Halted(Halt::Sink))) | Came::Unsaid => 5,
+        Came::Opened(Err(InputEnding::Input)) => 2,
+        Came::Opened(Err(InputEnding::Early(Ending::Space))) => 3,
+        Came::Opened(Err(InputEnding::Early(Ending::Flash))) | Came::Failed => 4,
+        Came::Opened(Err(InputEnding::Early(Ending::Sink))) | Came::Unsaid => 5,
         Came::Refused => 6,
-        Came::Opened(Err(Stop::Long)) => 8,
+        Came::Opened(Err(InputEnding::Long)) => 8,
     }
 }
 

@@ -9,8 +9,8 @@ ghost use Rattle.answering.specs.Went.{HasRunCause};
 ghost use Rattle.db_model.specs.Workload.{first_commands};
 ghost use Rattle.dump.specs.Unchanged.{IsAsBefore};
 ghost use Rattle.dump_model.specs.Script.{script};
-ghost use Rattle.intake.specs.declared.halt.Halt.TheVariants as Halt;
-ghost use Rattle.intake.specs.declared.halt.Stop.TheVariants as Stop;
+ghost use Rattle.intake.specs.declared.ending.Ending.TheVariants as Ending;
+ghost use Rattle.intake.specs.declared.ending.InputEnding.TheVariants as InputEnding;
 ghost use Rattle.space_plan.specs.Lines.{plan_text};
 ghost use Rattle.space_plan.specs.Planned.{planned};
 ghost use Rattle.antelope_run.specs.declared.words.Form.TheVariants as Form;
@@ -20,9 +20,9 @@ ghost use Rattle.antelope_run.specs.Statuses.{TakesInput};
 ghost use Rattle.antelope_run.specs.Words.{HasFewCommands};
 
 use crate::words::Form;
-use afl_base::{Failed, Files, Sink, Source};
+use afl_base::{Failed, Fault, Files, Sink, Source};
 use antelope_engine::Session;
-use intake::{Halt, Stop};
+use intake::{Ending, InputEnding};
 use script_run::run_script;
 use serve::serve_line;
 use space_plan::{planned, write_plan};
@@ -35,7 +35,7 @@ pub fn carry_out<V: Files, S: Source, K: Sink>(
     session: &mut Session<V>,
     input: &mut S,
     out: &mut K,
-) -> Result<(), Stop>
+) -> Result<(), InputEnding>
     requires running { session.old.stopped ≡ false }
     requires commands { HasFewCommands form }
     ensures does { IsTrue (V.state session.old.files).tells → session.old.lost ≡ false
@@ -44,7 +44,7 @@ pub fn carry_out<V: Files, S: Source, K: Sink>(
         (LacksPages V.state V.asks V.lacks session.new) form result }
     ensures reaches { ReachesBy form result (S.left input.old) (S.left input.new) }
     ensures lost { session.old.lost ≡ false → session.new.lost ≡ true
-        → result ≡ Err (Stop.Halted Halt.Flash) }
+        → result ≡ Err (InputEnding.Early Ending.Flash) }
     ensures store { length (V.state session.new.files).store ≡ length (V.state session.old.files).store }
     ensures reads { IsTrue (V.state session.old.files).tells → CarriedReads form
         (standing_of V.state V.reads session.old (K.held out.old)) (S.left input.old) (V.reads session.new.files) }
@@ -71,7 +71,7 @@ fn generate_all<V: Files, K: Sink>(
     seed: u32,
     count: u32,
     out: &mut K,
-) -> Result<(), Stop>
+) -> Result<(), InputEnding>
     requires running { session.old.stopped ≡ false }
     requires few { count ≤ 100000 }
     ensures does { let old = standing_of V.state V.reads session.old (K.held out.old) in
@@ -79,7 +79,7 @@ fn generate_all<V: Files, K: Sink>(
         IsTrue (V.state session.old.files).tells → session.old.lost ≡ false → TellsOn old new result × Generates old new
         (LacksPages V.state V.asks V.lacks session.new) (first_commands seed count) result }
     ensures lost { session.old.lost ≡ false → session.new.lost ≡ true
-        → result ≡ Err (Stop.Halted Halt.Flash) }
+        → result ≡ Err (InputEnding.Early Ending.Flash) }
     ensures store { length (V.state session.new.files).store ≡ length (V.state session.old.files).store }
     ensures halts { OnlyHalts result }
     ensures borrows { V.lent session.new.files ≡ V.lent session.old.files }
@@ -90,12 +90,12 @@ fn generate_all<V: Files, K: Sink>(
     halted(generate(session, seed, count, out))
 }
 
-fn halted(done: Result<(), Halt>) -> Result<(), Stop>
+fn halted(done: Result<(), Ending>) -> Result<(), InputEnding>
     ensures { result ≡ halted done }
 {
     match done {
         Ok(()) => Ok(()),
-        Err(halt) => Err(Stop::Halted(halt)),
+        Err(halt) => Err(InputEnding::Early(halt)),
     }
 }
 
@@ -105,7 +105,7 @@ fn plan<V: Files, K: Sink>(
     rows: u16,
     sectors: u16,
     out: &mut K,
-) -> Result<(), Stop>
+) -> Result<(), InputEnding>
     requires running { session.old.stopped ≡ false }
     ensures does { let old = standing_of V.state V.reads session.old (K.held out.old) in
         let new = standing_of V.state V.reads session.new (K.held out.new) in
@@ -120,21 +120,21 @@ fn plan<V: Files, K: Sink>(
     let needed = planned(session, rows);
     match write_plan(out, needed, sectors) {
         Ok(()) => Ok(()),
-        Err(Failed) => Err(Stop::Halted(Halt::Sink)),
+        Err(Failed) => Err(InputEnding::Early(Ending::Sink)),
     }
 }
 
 // Writes the database as a script.
-fn dump_all<V: Files, K: Sink>(session: &mut Session<V>, out: &mut K) -> Result<(), Stop>
+fn dump_all<V: Files, K: Sink>(session: &mut Session<V>, out: &mut K) -> Result<(), InputEnding>
     requires running { session.old.stopped ≡ false }
     ensures does { let old = standing_of V.state V.reads session.old (K.held out.old) in
         let new = standing_of V.state V.reads session.new (K.held out.new) in
         IsTrue (V.state session.old.files).tells
         → TellsOn old new result × WritesText old new (script session.old.database) result }
-    ensures same { result ≢ Err (Stop.Halted Halt.Flash) → IsAsBefore V.state session.old session.new }
+    ensures same { result ≢ Err (InputEnding.Early Ending.Flash) → IsAsBefore V.state session.old session.new }
     ensures files { V.state session.new.files ≡ V.state session.old.files }
     ensures lost { session.old.lost ≡ false → session.new.lost ≡ true
-        → result ≡ Err (Stop.Halted Halt.Flash) }
+        → result ≡ Err (InputEnding.Early Ending.Flash) }
     ensures store { length (V.state session.new.files).store ≡ length (V.state session.old.files).store }
     ensures halts { OnlyHalts result }
     ensures borrows { V.lent session.new.files ≡ V.lent session.old.files }
@@ -145,12 +145,12 @@ fn dump_all<V: Files, K: Sink>(session: &mut Session<V>, out: &mut K) -> Result<
     stopped(dump::write(session, out))
 }
 
-fn stopped(done: Result<(), session_model::Stop>) -> Result<(), Stop>
+fn stopped(done: Result<(), Fault>) -> Result<(), InputEnding>
     ensures { result ≡ stopped done }
 {
     match done {
         Ok(()) => Ok(()),
-        Err(session_model::Stop::Sink) => Err(Stop::Halted(Halt::Sink)),
-        Err(session_model::Stop::Flash) => Err(Stop::Halted(Halt::Flash)),
+        Err(Fault::Sink) => Err(InputEnding::Early(Ending::Sink)),
+        Err(Fault::Flash) => Err(InputEnding::Early(Ending::Flash)),
     }
 }

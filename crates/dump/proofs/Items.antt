@@ -7,8 +7,8 @@ use Rattle.std.proofs.lemmas.List.Concat.{flat_map-cons}
 use Rattle.std.specs.Io.KnownBytes.{append_known}
 use Rattle.reply_text.proofs.Pieces.{append_known-twice, less_front, less_behind}
 use Rattle.reply_text.specs.WroteLess.{WroteLess}
-use Rattle.session_model.specs.declared.step.Stop.{Stop}
-use Rattle.session_model.specs.declared.step.Stop.TheVariants.{Flash, Sink}
+use Rattle.afl_base.specs.declared.fault.Fault.{Fault}
+use Rattle.afl_base.specs.declared.fault.Fault.TheVariants.{Flash, Sink}
 use Rattle.session_model.specs.Steps.{WrotePart}
 use Rattle.dump.specs.Appends.{AppendsText}
 
@@ -34,13 +34,13 @@ part_behind h0 h1 h2 a b e w = record {
 }
 
 -- the first was written
-pub appends_behind : (r : Result ⊤ Stop) (h0 h1 h2 : Option (List ℕ)) (a b : List ℕ) → h1 ≡ append_known h0 a → AppendsText r h1 h2 b → AppendsText r h0 h2 (a ++ b)
+pub appends_behind : (r : Result ⊤ Fault) (h0 h1 h2 : Option (List ℕ)) (a b : List ℕ) → h1 ≡ append_known h0 a → AppendsText r h1 h2 b → AppendsText r h0 h2 (a ++ b)
 appends_behind (Ok done) h0 h1 h2 a b e w = held_behind h0 a b e w
 appends_behind (Err Sink) h0 h1 h2 a b e w = less_behind h0 h1 h2 a b e w
 appends_behind (Err Flash) h0 h1 h2 a b e w = part_behind h0 h1 h2 a b e w
 
 -- the first was not written to its end
-pub appends_front : (stop : Stop) (h0 h1 : Option (List ℕ)) (a b : List ℕ) → AppendsText (Err stop) h0 h1 a → AppendsText (Err stop) h0 h1 (a ++ b)
+pub appends_front : (stop : Fault) (h0 h1 : Option (List ℕ)) (a b : List ℕ) → AppendsText (Err stop) h0 h1 a → AppendsText (Err stop) h0 h1 (a ++ b)
 appends_front Sink h0 h1 a b w = less_front h0 h1 a b w
 appends_front Flash h0 h1 a b w = part_front h0 h1 a b w
 
@@ -64,7 +64,7 @@ module _ {A : Type 0} (text : A → List ℕ) (xs : List A) (i : ℕ) (d : A) (h
   held_item h0 e f = held_behind h0 (flat_map text (take i xs)) (text (get_or xs i d)) e f ∙ ap (append_known h0) (sym item_more)
 
   -- an item was not written to its end
-  pub appends_item : (stop : Stop) (h0 h1 h2 : Option (List ℕ)) → h1 ≡ append_known h0 (flat_map text (take i xs)) → AppendsText (Err stop) h1 h2 (text (get_or xs i d)) → AppendsText (Err stop) h0 h2 (flat_map text xs)
+  pub appends_item : (stop : Fault) (h0 h1 h2 : Option (List ℕ)) → h1 ≡ append_known h0 (flat_map text (take i xs)) → AppendsText (Err stop) h1 h2 (text (get_or xs i d)) → AppendsText (Err stop) h0 h2 (flat_map text xs)
   appends_item stop h0 h1 h2 e w =
       subst (AppendsText (Err stop) h0 h2) (sym item_whole)
       (appends_front stop h0 h2 (flat_map text (take i xs) ++ text (get_or xs i d)) (flat_map text (drop (i + 1) xs))

@@ -4,8 +4,8 @@ use Rattle.std.specs.Io.KnownBytes.{append_known}
 use Rattle.db_model.specs.Database.{Database}
 use Rattle.db_model.specs.Sound.{IsSoundDatabase}
 use Rattle.reply_text.specs.WroteLess.{WroteLess}
-use Rattle.session_model.specs.declared.step.Stop.{Stop}
-use Rattle.session_model.specs.declared.step.Stop.TheVariants.{Sink}
+use Rattle.afl_base.specs.declared.fault.Fault.{Fault}
+use Rattle.afl_base.specs.declared.fault.Fault.TheVariants.{Sink}
 use Rattle.dump.specs.Appends.{AppendsText}
 use Rattle.dump.specs.Parts.{index_lines, relation_lines}
 use Rattle.dump.proofs.Items.{appends_behind, appends_front}
@@ -13,7 +13,7 @@ use Rattle.dump.proofs.ScriptTexts.{script_parts}
 use Rattle.dump_model.specs.Script.{script}
 
 -- the relations were not written to their end
-pub relations_cut : (stop : Stop) (db : Database) (h0 h1 : Option (List ℕ)) → AppendsText (Err stop) h0 h1 (flat_map relation_lines db.relations) → AppendsText (Err stop) h0 h1 (script db)
+pub relations_cut : (stop : Fault) (db : Database) (h0 h1 : Option (List ℕ)) → AppendsText (Err stop) h0 h1 (flat_map relation_lines db.relations) → AppendsText (Err stop) h0 h1 (script db)
 relations_cut stop db h0 h1 w =
     subst (AppendsText (Err stop) h0 h1) (sym (script_parts db)) (appends_front stop h0 h1 (flat_map relation_lines db.relations) (flat_map (index_lines db.relations) db.indexes) w)
 

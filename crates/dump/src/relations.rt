@@ -5,7 +5,7 @@
 ghost use Rattle.std.specs.Prelude.{◌≡◌, ◌+◌, ◌*◌, ◌<◌, ◌≤◌, true, false, IsErrOf, IsTrue, Some, flat_map, length};
 ghost use Rattle.db_model.specs.Sound.{IsSoundDatabase};
 ghost use Rattle.antelope_engine.specs.Reading.{relation_in_slot, schema_at};
-ghost use Rattle.session_model.specs.declared.step.Stop.TheVariants.{Flash};
+ghost use Rattle.afl_base.specs.declared.fault.Fault.TheVariants.{Flash};
 ghost use Rattle.session_model.specs.Carried.{Recites};
 ghost use Rattle.session_model.specs.Steps.{UnlessFlash};
 ghost use Rattle.space_model.specs.Enough.{rows_in};
@@ -16,12 +16,15 @@ ghost use Rattle.dump.specs.Unchanged.{IsAsBefore};
 use crate::rows::write_rows;
 use crate::schemas::write_schema;
 use crate::sent::write_used;
-use afl_base::{Failed, Files, RelationId, Sink};
-use antelope_engine::{Session, Stop};
+use afl_base::{Failed, Fault, Files, RelationId, Sink};
+use antelope_engine::Session;
 use db_model::Schema;
 
 // Appends the lines of all relations, in slot order.
-pub fn write_relations<V: Files, K: Sink>(session: &mut Session<V>, out: &mut K) -> Result<(), Stop>
+pub fn write_relations<V: Files, K: Sink>(
+    session: &mut Session<V>,
+    out: &mut K,
+) -> Result<(), Fault>
     requires running { session.old.stopped ≡ false }
     ensures wrote { let db = session.old.database in
         IsTrue (V.state session.old.files).tells → IsSoundDatabase db
@@ -56,7 +59,7 @@ fn write_relation<V: Files, K: Sink>(
     session: &mut Session<V>,
     id: RelationId,
     out: &mut K,
-) -> Result<(), Stop>
+) -> Result<(), Fault>
     requires running { session.old.stopped ≡ false }
     ensures wrote { let db = session.old.database in
         IsTrue (V.state session.old.files).tells → IsSoundDatabase db
@@ -82,7 +85,7 @@ pub fn write_lines<V: Files, K: Sink>(
     id: RelationId,
     schema: &Schema,
     out: &mut K,
-) -> Result<(), Stop>
+) -> Result<(), Fault>
     requires running { session.old.stopped ≡ false }
     requires schema { schema_at session.old.database id ≡ Some schema.now }
     ensures wrote { let db = session.old.database in
@@ -99,7 +102,7 @@ pub fn write_lines<V: Files, K: Sink>(
 {
     match write_schema(out, schema) {
         Ok(()) => {}
-        Err(Failed) => return Err(Stop::Sink),
+        Err(Failed) => return Err(Fault::Sink),
     }
     write_rows(session, id, &schema.name, out)?;
     Ok(())

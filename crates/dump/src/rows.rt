@@ -5,7 +5,7 @@
 ghost use Rattle.std.specs.Prelude.{◌≡◌, ◌+◌, ◌*◌, ◌<◌, ◌≤◌, true, false, IsErrOf, IsSome, IsTrue, flat_map, length};
 ghost use Rattle.db_model.specs.Sound.{IsSoundDatabase};
 ghost use Rattle.antelope_engine.specs.Reading.{relation_in_slot, row_in_slot};
-ghost use Rattle.session_model.specs.declared.step.Stop.TheVariants.{Flash};
+ghost use Rattle.afl_base.specs.declared.fault.Fault.TheVariants.{Flash};
 ghost use Rattle.session_model.specs.Carried.{Recites};
 ghost use Rattle.session_model.specs.Steps.{UnlessFlash};
 ghost use Rattle.space_model.specs.Enough.{rows_in};
@@ -14,8 +14,8 @@ ghost use Rattle.dump.specs.Parts.{row_lines};
 ghost use Rattle.dump.specs.Unchanged.{IsAsBefore};
 
 use crate::lines::write_row_line;
-use afl_base::{Failed, Files, RelationId, Sink, SlotNo};
-use antelope_engine::{Session, Stop};
+use afl_base::{Failed, Fault, Files, RelationId, Sink, SlotNo};
+use antelope_engine::Session;
 use db_model::{Ident, Tuple};
 
 // Appends the lines that insert the live rows of the relation in a slot.
@@ -24,7 +24,7 @@ pub fn write_rows<V: Files, K: Sink>(
     id: RelationId,
     relation: &Ident,
     out: &mut K,
-) -> Result<(), Stop>
+) -> Result<(), Fault>
     requires running { session.old.stopped ≡ false }
     requires used { IsSome (relation_in_slot session.old.database id) }
     ensures wrote { let db = session.old.database in
@@ -58,7 +58,7 @@ fn write_row<V: Files, K: Sink>(
     relation: &Ident,
     tuple: &mut Tuple,
     out: &mut K,
-) -> Result<(), Stop>
+) -> Result<(), Fault>
     requires running { session.old.stopped ≡ false }
     requires slot { slot < length (rows_in session.old.database id) }
     ensures wrote { let db = session.old.database in
@@ -75,9 +75,9 @@ fn write_row<V: Files, K: Sink>(
     match session.tuple(id, slot, tuple) {
         Ok(true) => match write_row_line(out, relation, tuple) {
             Ok(()) => Ok(()),
-            Err(Failed) => Err(Stop::Sink),
+            Err(Failed) => Err(Fault::Sink),
         },
         Ok(false) => Ok(()),
-        Err(Failed) => Err(Stop::Flash),
+        Err(Failed) => Err(Fault::Flash),
     }
 }

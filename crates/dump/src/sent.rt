@@ -13,15 +13,15 @@ ghost use Rattle.dump.specs.Parts.{relation_lines};
 ghost use Rattle.dump.specs.Unchanged.{IsAsBefore};
 ghost use Rattle.dump_model.specs.Script.{command_line};
 ghost use Rattle.reply_text.specs.WroteLess.{WroteLess};
-ghost use Rattle.session_model.specs.declared.step.Stop.TheVariants.{Flash};
+ghost use Rattle.afl_base.specs.declared.fault.Fault.TheVariants.{Flash};
 ghost use Rattle.session_model.specs.Carried.{Recites};
 ghost use Rattle.session_model.specs.Steps.{UnlessFlash};
 ghost use Rattle.space_model.specs.Enough.{rows_in};
 
 use crate::lines;
 use crate::relations::write_lines;
-use afl_base::{Failed, Files, RelationId, Sink};
-use antelope_engine::{Session, Stop};
+use afl_base::{Failed, Fault, Files, RelationId, Sink};
+use antelope_engine::Session;
 use buffered_sink::{Buffered, Since, Waiting};
 use db_model::{Ident, IndexKind, Schema};
 use std::marker::{Brand, PhantomData};
@@ -32,7 +32,7 @@ pub fn write_used<V: Files, K: Sink>(
     id: RelationId,
     schema: &Schema,
     out: &mut K,
-) -> Result<(), Stop>
+) -> Result<(), Fault>
     requires running { session.old.stopped ≡ false }
     requires schema { schema_at session.old.database id ≡ Some schema.now }
     ensures wrote { let db = session.old.database in
@@ -58,7 +58,7 @@ fn write_through<V: Files, K: Sink, N: Since>(
     schema: &Schema,
     out: &mut K,
     waiting: &mut Waiting,
-) -> Result<(), Stop>
+) -> Result<(), Fault>
     requires now { N.held ≡ Some (K.held out.old) }
     requires none { waiting.old.bytes ≡ [] }
     requires running { session.old.stopped ≡ false }
@@ -83,13 +83,13 @@ fn write_through<V: Files, K: Sink, N: Since>(
     match write_lines(session, id, schema, &mut gathered) {
         Ok(()) => match gathered.flush() {
             Ok(()) => Ok(()),
-            Err(Failed) => Err(Stop::Sink),
+            Err(Failed) => Err(Fault::Sink),
         },
-        Err(Stop::Flash) => {
+        Err(Fault::Flash) => {
             let _sent = gathered.flush();
-            Err(Stop::Flash)
+            Err(Fault::Flash)
         }
-        Err(Stop::Sink) => Err(Stop::Sink),
+        Err(Fault::Sink) => Err(Fault::Sink),
     }
 }
 

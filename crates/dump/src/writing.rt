@@ -3,7 +3,7 @@
 #![tactic(auto)]
 
 ghost use Rattle.std.specs.Prelude.{◌≡◌, ◌+◌, ◌*◌, ◌≤◌, true, IsErrOf, IsTrue, false};
-ghost use Rattle.session_model.specs.declared.step.Stop.TheVariants.{Flash};
+ghost use Rattle.afl_base.specs.declared.fault.Fault.TheVariants.{Flash};
 ghost use Rattle.session_model.specs.Carried.{Recites};
 ghost use Rattle.session_model.specs.Steps.{UnlessFlash};
 ghost use Rattle.dump.specs.Appends.{AppendsText};
@@ -13,8 +13,8 @@ ghost use Rattle.dump_model.specs.Script.{script};
 
 use crate::indexes::write_indexes;
 use crate::relations::write_relations;
-use afl_base::{Failed, Files, Sink};
-use antelope_engine::{Session, Stop};
+use afl_base::{Failed, Fault, Files, Sink};
+use antelope_engine::Session;
 
 /// Appends the script of a session's database: one command a line, the relations with their live
 /// rows and then the indexes, in slot order. Each row is read once, and held no longer than it is
@@ -22,10 +22,10 @@ use antelope_engine::{Session, Stop};
 ///
 /// # Errors
 ///
-/// `Stop::Sink` leaves a proper prefix of the script in the sink. `Stop::Flash` leaves a prefix of
+/// `Fault::Sink` leaves a proper prefix of the script in the sink. `Fault::Flash` leaves a prefix of
 /// it, and stops the session.
 #[tactic(auto, using(crate::proofs::WholeScript::relations_cut))]
-pub fn write<V: Files, K: Sink>(session: &mut Session<V>, out: &mut K) -> Result<(), Stop>
+pub fn write<V: Files, K: Sink>(session: &mut Session<V>, out: &mut K) -> Result<(), Fault>
     requires running { session.old.stopped ≡ false }
     ensures wrote { let db = session.old.database in
         IsTrue (V.state session.old.files).tells
@@ -42,6 +42,6 @@ pub fn write<V: Files, K: Sink>(session: &mut Session<V>, out: &mut K) -> Result
     write_relations(session, out)?;
     match write_indexes(session, out) {
         Ok(()) => Ok(()),
-        Err(Failed) => Err(Stop::Sink),
+        Err(Failed) => Err(Fault::Sink),
     }
 }

@@ -1,9 +1,9 @@
 -- What an input was taken through.
 use Rattle.std.specs.Prelude.{◌≡◌, ℕ, ◌+◌, ◌≤◌, ◌⊎◌, List, ◌++◌, length, Option, Result, Ok, Err, ⊤}
 use Rattle.std.specs.Io.KnownBytes.{prepend_known, IsAtEnd}
-use Rattle.intake.specs.declared.halt.Halt.{Halt}
-use Rattle.intake.specs.declared.halt.Stop.{Stop}
-use Rattle.intake.specs.declared.halt.Stop.TheVariants.{Input, Long, Halted}
+use Rattle.intake.specs.declared.ending.Ending.{Ending}
+use Rattle.intake.specs.declared.ending.InputEnding.{InputEnding}
+use Rattle.intake.specs.declared.ending.InputEnding.TheVariants.{Input, Long, Early}
 
 -- what a sink holds, and how many of its calls failed
 pub record Out : Type 0 where
@@ -15,7 +15,7 @@ out_of held faults = record { held = held; faults = faults }
 
 -- T is what takes an input, with what it writes to; of the input, what it has left and how often it was read:
 -- each read but the last brought a byte
-module _ {T : Type 0} (Takes : T → List ℕ → T → Type 0) (Ends : T → T → Type 0) (Halts : T → List ℕ → T → Halt → Type 0) (HaltsAtEnd : T → T → Halt → Type 0) where
+module _ {T : Type 0} (Takes : T → List ℕ → T → Type 0) (Ends : T → T → Type 0) (Halts : T → List ℕ → T → Ending → Type 0) (HaltsAtEnd : T → T → Ending → Type 0) where
   -- the bytes came, and were taken
   pub record Took (old new : T) (left0 left1 : Option (List ℕ)) (reads0 reads1 : ℕ) : Type 0 where
     pub came : List ℕ
@@ -47,7 +47,7 @@ module _ {T : Type 0} (Takes : T → List ℕ → T → Type 0) (Ends : T → T 
 
   -- these bytes came, and it went no further within them: what came before the last read was taken before
   -- it, and each read before it brought a byte
-  pub record WentNoFurther (old new : T) (left0 left1 : Option (List ℕ)) (reads0 reads1 : ℕ) (halt : Halt) : Type 0 where
+  pub record WentNoFurther (old new : T) (left0 left1 : Option (List ℕ)) (reads0 reads1 : ℕ) (halt : Ending) : Type 0 where
     pub came : List ℕ
     pub left : left0 ≡ prepend_known came left1
     pub reads : reads1 ≤ reads0 + length came
@@ -61,7 +61,7 @@ module _ {T : Type 0} (Takes : T → List ℕ → T → Type 0) (Ends : T → T 
     pub earlier : reads1 ≤ reads0 + length before + 1
 
   -- all bytes came and were taken, and it went no further in what was left
-  pub record WentNoFurtherAtEnd (old new : T) (left0 left1 : Option (List ℕ)) (reads0 reads1 : ℕ) (halt : Halt) : Type 0 where
+  pub record WentNoFurtherAtEnd (old new : T) (left0 left1 : Option (List ℕ)) (reads0 reads1 : ℕ) (halt : Ending) : Type 0 where
     pub came : List ℕ
     pub left : left0 ≡ prepend_known came left1
     pub reads : reads1 ≤ reads0 + length came + 1
@@ -71,8 +71,8 @@ module _ {T : Type 0} (Takes : T → List ℕ → T → Type 0) (Ends : T → T 
     pub takes : Takes old came last
     pub halts : HaltsAtEnd last new halt
 
-  abbrev pub Through : Result ⊤ Stop → T → T → Option (List ℕ) → Option (List ℕ) → ℕ → ℕ → Type 0
+  abbrev pub Through : Result ⊤ InputEnding → T → T → Option (List ℕ) → Option (List ℕ) → ℕ → ℕ → Type 0
   Through (Ok done) old new left0 left1 reads0 reads1 = TookAll old new left0 left1 reads0 reads1
   Through (Err Input) old new left0 left1 reads0 reads1 = Took old new left0 left1 reads0 reads1
   Through (Err Long) old new left0 left1 reads0 reads1 = TookLimit old new left0 left1 reads0 reads1
-  Through (Err (Halted halt)) old new left0 left1 reads0 reads1 = WentNoFurther old new left0 left1 reads0 reads1 halt ⊎ WentNoFurtherAtEnd old new left0 left1 reads0 reads1 halt
+  Through (Err (Early halt)) old new left0 left1 reads0 reads1 = WentNoFurther old new left0 left1 reads0 reads1 halt ⊎ WentNoFurtherAtEnd old new left0 left1 reads0 reads1 halt

@@ -6,7 +6,7 @@ ghost use Rattle.std.specs.Prelude.{◌≡◌, ◌≤◌, []};
 ghost use Rattle.buffered_sink.specs.Handing.{Hands};
 ghost use Rattle.intake.specs.Sent.{Sent};
 
-use crate::halt::Halt;
+use crate::ending::Ending;
 use afl_base::{Failed, Sink};
 use buffered_sink::{Buffered, Since};
 
@@ -14,8 +14,8 @@ use buffered_sink::{Buffered, Since};
 /// flash goes out as far as the sink takes it.
 pub fn send<'a, K: Sink, S: Since>(
     gathered: &mut Buffered<'a, K, S>,
-    answered: Result<(), Halt>,
-) -> Result<(), Halt>
+    answered: Result<(), Ending>,
+) -> Result<(), Ending>
     ensures hands { Hands (K.held gathered.old.out.now) (K.held gathered.new.out.now)
         gathered.old.waiting.now.bytes gathered.new.waiting.now.bytes }
     ensures sent { Sent answered (K.faults gathered.old.out.now) (K.faults gathered.new.out.now)
@@ -29,16 +29,16 @@ pub fn send<'a, K: Sink, S: Since>(
     match answered {
         Ok(()) => match gathered.flush() {
             Ok(()) => Ok(()),
-            Err(Failed) => Err(Halt::Sink),
+            Err(Failed) => Err(Ending::Sink),
         },
-        Err(Halt::Space) => match gathered.flush() {
-            Ok(()) => Err(Halt::Space),
-            Err(Failed) => Err(Halt::Sink),
+        Err(Ending::Space) => match gathered.flush() {
+            Ok(()) => Err(Ending::Space),
+            Err(Failed) => Err(Ending::Sink),
         },
-        Err(Halt::Flash) => {
+        Err(Ending::Flash) => {
             let _sent = gathered.flush();
-            Err(Halt::Flash)
+            Err(Ending::Flash)
         }
-        Err(Halt::Sink) => Err(Halt::Sink),
+        Err(Ending::Sink) => Err(Ending::Sink),
     }
 }

@@ -7,7 +7,7 @@ ghost use Rattle.std.specs.Io.KnownBytes.{prepend_known, IsAtEnd};
 ghost use Rattle.afl_base.specs.Causes.{CountsOne, HasCause, Rose};
 ghost use Rattle.intake.specs.Through.{Through, out_of};
 
-use crate::halt::{Halt, Stop};
+use crate::ending::{Ending, InputEnding};
 use crate::sending::send;
 use crate::taker::Taker;
 use afl_base::{Failed, Sink, Source};
@@ -23,7 +23,7 @@ fn take_byte<T: Taker, K: Sink>(
     out: &mut K,
     waiting: &mut Waiting,
     byte: u8,
-) -> Result<(), Halt>
+) -> Result<(), Ending>
     requires none { waiting.old.bytes ≡ [] }
     ensures takes { OnOk result (T.Takes (taker.old, out_of (K.held out.old) (K.faults out.old)) (byte ∷ [])
         (taker.new, out_of (K.held out.new) (K.faults out.new))) }
@@ -43,7 +43,7 @@ fn take_byte_since<T: Taker, K: Sink, N: Since>(
     out: &mut K,
     waiting: &mut Waiting,
     byte: u8,
-) -> Result<(), Halt>
+) -> Result<(), Ending>
     requires now { N.held ≡ Some (K.held out.old) }
     requires none { waiting.old.bytes ≡ [] }
     ensures takes { OnOk result (T.Takes (taker.old, out_of (K.held out.old) (K.faults out.old)) (byte ∷ [])
@@ -70,7 +70,7 @@ fn take_end<T: Taker, K: Sink>(
     taker: &mut T,
     out: &mut K,
     waiting: &mut Waiting,
-) -> Result<(), Halt>
+) -> Result<(), Ending>
     requires none { waiting.old.bytes ≡ [] }
     ensures ends { OnOk result (T.Ends (taker.old, out_of (K.held out.old) (K.faults out.old))
         (taker.new, out_of (K.held out.new) (K.faults out.new))) }
@@ -88,7 +88,7 @@ fn take_end_since<T: Taker, K: Sink, N: Since>(
     taker: &mut T,
     out: &mut K,
     waiting: &mut Waiting,
-) -> Result<(), Halt>
+) -> Result<(), Ending>
     requires now { N.held ≡ Some (K.held out.old) }
     requires none { waiting.old.bytes ≡ [] }
     ensures ends { OnOk result (T.Ends (taker.old, out_of (K.held out.old) (K.faults out.old))
@@ -115,7 +115,7 @@ fn take_all<T: Taker, K: Sink>(
     out: &mut K,
     waiting: &mut Waiting,
     bytes: &[u8],
-) -> Result<(), Halt>
+) -> Result<(), Ending>
     requires none { waiting.old.bytes ≡ [] }
     ensures takes { OnOk result (T.Takes (taker.old, out_of (K.held out.old) (K.faults out.old)) bytes.now
         (taker.new, out_of (K.held out.new) (K.faults out.new))) }
@@ -155,13 +155,13 @@ pub fn take_through<S: Source, T: Taker, K: Sink>(
     input: &mut S,
     taker: &mut T,
     out: &mut K,
-) -> Result<(), Stop>
+) -> Result<(), InputEnding>
     ensures through { Through T.Takes T.Ends T.Halts T.HaltsAtEnd result
         (taker.old, out_of (K.held out.old) (K.faults out.old))
         (taker.new, out_of (K.held out.new) (K.faults out.new))
         (S.left input.old) (S.left input.new) (S.reads input.old) (S.reads input.new) }
-    ensures input { result ≡ Err Stop.Input → Rose (S.faults input.old) (S.faults input.new) }
-    ensures faultless { result ≢ Err Stop.Input → S.faults input.new ≡ S.faults input.old }
+    ensures input { result ≡ Err InputEnding.Input → Rose (S.faults input.old) (S.faults input.new) }
+    ensures faultless { result ≢ Err InputEnding.Input → S.faults input.new ≡ S.faults input.old }
     ensures later { S.faults input.old ≤ S.faults input.new }
     ensures stays { T.stays taker.old taker.new }
     ensures lent { K.lent out.new ≡ K.lent out.old }
@@ -172,20 +172,20 @@ pub fn take_through<S: Source, T: Taker, K: Sink>(
     'reads: loop {
         let want = (LIMIT - taken).min(4096).max(1);
         let Ok(n) = read_front(input, &mut buffer, want as usize) else {
-            return Err(Stop::Input);
+            return Err(InputEnding::Input);
         };
         if n == 0 {
             return match take_end(taker, out, &mut waiting) {
                 Ok(()) => Ok(()),
-                Err(halt) => Err(Stop::Halted(halt)),
+                Err(halt) => Err(InputEnding::Early(halt)),
             };
         }
         if taken == LIMIT {
-            return Err(Stop::Long);
+            return Err(InputEnding::Long);
         }
         match take_all(taker, out, &mut waiting, &buffer[..n]) {
             Ok(()) => {}
-            Err(halt) => return Err(Stop::Halted(halt)),
+            Err(halt) => return Err(InputEnding::Early(halt)),
         }
         taken += n as u32;
     }

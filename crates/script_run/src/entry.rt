@@ -12,32 +12,32 @@ ghost use Rattle.db_model.specs.ReplyText.{refusal_text};
 ghost use Rattle.db_model.specs.Cond.{IsCondition};
 ghost use Rattle.db_model.specs.Script.{Bytes};
 ghost use Rattle.db_model.specs.Spelling.{nodes_of};
-ghost use Rattle.intake.specs.declared.halt.Halt.TheVariants as Halt;
+ghost use Rattle.intake.specs.declared.ending.Ending.TheVariants as Ending;
 ghost use Rattle.reply_text.specs.WroteLess.{WroteLess};
 ghost use Rattle.answering.specs.Carried.{Carried, HaltsIn, ChangesOrHalts, standing_of};
 ghost use Rattle.antelope_engine.specs.Commands.{LacksPages};
 ghost use Rattle.run_model.specs.Scripts.{script_talk};
 
-use afl_base::{Failed, Files, Sink};
-use antelope_engine::{Session, Step, Stop};
+use afl_base::{Failed, Fault, Files, Sink};
+use antelope_engine::{Session, Step};
 use aql_parse::{Parser, readings_are_unique};
 use db_model::{Command, Refusal};
-use intake::Halt;
+use intake::Ending;
 use reply_text::write_refusal;
 
 /// Writes why an entry is refused.
-pub fn refuse<K: Sink>(out: &mut K, refusal: &Refusal) -> Result<(), Halt>
+pub fn refuse<K: Sink>(out: &mut K, refusal: &Refusal) -> Result<(), Ending>
     ensures written { OnOk result
         (K.held out.new ≡ append_known (K.held out.old) (refusal_text refusal.now)) }
     ensures failed { OnErr result (WroteLess (K.held out.old) (K.held out.new) (refusal_text refusal.now)) }
-    ensures sink { IfErr result (λ halt. halt ≡ Halt.Sink) }
+    ensures sink { IfErr result (λ halt. halt ≡ Ending.Sink) }
     ensures rose { OnErr result (Rose (K.faults out.old) (K.faults out.new)) }
     ensures later { K.faults out.old ≤ K.faults out.new }
     ensures lent { K.lent out.new ≡ K.lent out.old }
 {
     match write_refusal(out, refusal) {
         Ok(()) => Ok(()),
-        Err(Failed) => Err(Halt::Sink),
+        Err(Failed) => Err(Ending::Sink),
     }
 }
 
@@ -48,7 +48,7 @@ pub fn carry_out<V: Files, K: Sink>(
     command: &mut Command,
     bytes: &[u8],
     out: &mut K,
-) -> Result<(), Halt>
+) -> Result<(), Ending>
     requires running { session.old.stopped ≡ false }
     requires short { length bytes.now ≤ 512 }
     ensures carried { IsTrue (V.state session.old.files).tells → OnOk result (
@@ -61,7 +61,7 @@ pub fn carry_out<V: Files, K: Sink>(
         (standing_of V.state V.reads session.old (K.held out.old))
         (standing_of V.state V.reads session.new (K.held out.new)) halt) }
     ensures running { OnOk result (session.new.stopped ≡ false) }
-    ensures lost { session.old.lost ≡ false → session.new.lost ≡ true → IsErrOf result Halt.Flash }
+    ensures lost { session.old.lost ≡ false → session.new.lost ≡ true → IsErrOf result Ending.Flash }
     ensures frame { ChangesOrHalts V.Files K.Sink session.old.files session.new.files
         out.old out.new result }
 {
@@ -81,7 +81,7 @@ fn execute<V: Files, K: Sink>(
     session: &mut Session<V>,
     command: &Command,
     out: &mut K,
-) -> Result<(), Halt>
+) -> Result<(), Ending>
     requires running { session.old.stopped ≡ false }
     requires condition { IsCondition (nodes_of command.now) }
     ensures carried { IsTrue (V.state session.old.files).tells → OnOk result (
@@ -94,7 +94,7 @@ fn execute<V: Files, K: Sink>(
         (standing_of V.state V.reads session.old (K.held out.old))
         (standing_of V.state V.reads session.new (K.held out.new)) halt) }
     ensures running { OnOk result (session.new.stopped ≡ false) }
-    ensures lost { session.old.lost ≡ false → session.new.lost ≡ true → IsErrOf result Halt.Flash }
+    ensures lost { session.old.lost ≡ false → session.new.lost ≡ true → IsErrOf result Ending.Flash }
     ensures frame { ChangesOrHalts V.Files K.Sink session.old.files session.new.files
         out.old out.new result }
 {
@@ -102,9 +102,9 @@ fn execute<V: Files, K: Sink>(
         Ok(Step::Done(_)) => Ok(()),
         Ok(Step::NoSpace { need }) => {
             refuse(out, &Refusal::Space { need })?;
-            Err(Halt::Space)
+            Err(Ending::Space)
         }
-        Err(Stop::Flash) => Err(Halt::Flash),
-        Err(Stop::Sink) => Err(Halt::Sink),
+        Err(Fault::Flash) => Err(Ending::Flash),
+        Err(Fault::Sink) => Err(Ending::Sink),
     }
 }

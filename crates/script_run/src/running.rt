@@ -7,7 +7,7 @@ ghost use Rattle.db_model.specs.declared.commands.Command.{Command as AnyCommand
 ghost use Rattle.db_model.specs.declared.refusals.Refusal.{Refusal as AnyRefusal};
 ghost use Rattle.db_model.specs.Reading.{IsReader};
 ghost use Rattle.db_model.specs.Script.{ended, past_white, unended};
-ghost use Rattle.intake.specs.declared.halt.Halt.TheVariants as Halt;
+ghost use Rattle.intake.specs.declared.ending.Ending.TheVariants as Ending;
 ghost use Rattle.answering.specs.Carried.{Carried, ChangesOrHalts, HaltsIn, HasHaltCause, standing_of};
 ghost use Rattle.antelope_engine.specs.Commands.{LacksPages};
 ghost use Rattle.answering.specs.Taking.{EndsInput, HaltsAtLast, HaltsInBytes, HasOne, TakesBytes, running};
@@ -21,7 +21,7 @@ use afl_base::{Files, Sink};
 use antelope_engine::Session;
 use aql_parse::Parser;
 use db_model::{Command, Refusal};
-use intake::{Halt, Taker};
+use intake::{Ending, Taker};
 
 /// What takes the bytes of a script and carries out its commands over a session that is lent to it.
 #[derive(Drop)]
@@ -61,7 +61,7 @@ impl<'a, V: Files> Taker for Runner<'a, V> {
 
     ghost HasReplyAtEnd = { λ a. HasOne script_input a.piece (λ q. script_cut.left q) };
 
-    fn take<K: Sink>(&mut self, out: &mut K, byte: u8) -> Result<(), Halt> {
+    fn take<K: Sink>(&mut self, out: &mut K, byte: u8) -> Result<(), Ending> {
         take_byte(
             self.session,
             &mut self.parser,
@@ -72,7 +72,7 @@ impl<'a, V: Files> Taker for Runner<'a, V> {
         )
     }
 
-    fn end<K: Sink>(&mut self, out: &mut K) -> Result<(), Halt> {
+    fn end<K: Sink>(&mut self, out: &mut K) -> Result<(), Ending> {
         take_end(self.session, &self.piece, out)
     }
 
@@ -119,7 +119,7 @@ fn take_byte<V: Files, K: Sink>(
     piece: &mut Piece,
     out: &mut K,
     byte: u8,
-) -> Result<(), Halt>
+) -> Result<(), Ending>
     ensures takes { OnOk result (TakesBytes script_input V.Files
         (running session.old piece.old (K.held out.old) (K.faults out.old)) (byte ∷ [])
         (running session.new piece.new (K.held out.new) (K.faults out.new))) }
@@ -131,7 +131,7 @@ fn take_byte<V: Files, K: Sink>(
     ensures lent { K.lent out.new ≡ K.lent out.old }
 {
     if session.is_stopped() {
-        return Err(Halt::Flash);
+        return Err(Ending::Flash);
     }
     if !piece.ends_at(byte) {
         piece.push(byte);
@@ -148,7 +148,7 @@ fn take_end<V: Files, K: Sink>(
     session: &mut Session<V>,
     piece: &Piece,
     out: &mut K,
-) -> Result<(), Halt>
+) -> Result<(), Ending>
     ensures ends { OnOk result (EndsInput script_input V.Files
         (running session.old piece.now (K.held out.old) (K.faults out.old))
         (running session.new piece.now (K.held out.new) (K.faults out.new))) }
@@ -159,7 +159,7 @@ fn take_end<V: Files, K: Sink>(
     ensures lent { K.lent out.new ≡ K.lent out.old }
 {
     if session.is_stopped() {
-        return Err(Halt::Flash);
+        return Err(Ending::Flash);
     }
     answer_unended(session, piece, out)?;
     Ok(())
@@ -172,7 +172,7 @@ fn answer_ended<V: Files, K: Sink>(
     command: &mut Command,
     piece: &Piece,
     out: &mut K,
-) -> Result<(), Halt>
+) -> Result<(), Ending>
     requires running { session.old.stopped ≡ false }
     ensures carried { IsTrue (V.state session.old.files).tells → OnOk result (
         (read : List ℕ → Result AnyCommand AnyRefusal) → IsReader read
@@ -186,7 +186,7 @@ fn answer_ended<V: Files, K: Sink>(
         (standing_of V.state V.reads session.old (K.held out.old))
         (standing_of V.state V.reads session.new (K.held out.new)) halt) }
     ensures running { OnOk result (session.new.stopped ≡ false) }
-    ensures lost { session.old.lost ≡ false → session.new.lost ≡ true → IsErrOf result Halt.Flash }
+    ensures lost { session.old.lost ≡ false → session.new.lost ≡ true → IsErrOf result Ending.Flash }
     ensures silent { (out.new ≡ out.old)
         ⊎ AsksOne piece.now.bytes.items piece.now.long (λ p. ended (past_white p)) }
     ensures frame { ChangesOrHalts V.Files K.Sink session.old.files session.new.files
@@ -208,7 +208,7 @@ fn answer_unended<V: Files, K: Sink>(
     session: &mut Session<V>,
     piece: &Piece,
     out: &mut K,
-) -> Result<(), Halt>
+) -> Result<(), Ending>
     requires running { session.old.stopped ≡ false }
     ensures carried { IsTrue (V.state session.old.files).tells → OnOk result (
         (read : List ℕ → Result AnyCommand AnyRefusal) → IsReader read

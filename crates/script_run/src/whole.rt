@@ -9,8 +9,8 @@ ghost use Rattle.answering.specs.Went.{HasRunCause, Reaches, Went};
 ghost use Rattle.db_model.specs.declared.commands.Command.{Command as AnyCommand};
 ghost use Rattle.db_model.specs.declared.refusals.Refusal.{Refusal as AnyRefusal};
 ghost use Rattle.db_model.specs.Reading.{IsReader};
-ghost use Rattle.intake.specs.declared.halt.Halt.TheVariants as Halt;
-ghost use Rattle.intake.specs.declared.halt.Stop.TheVariants as Stop;
+ghost use Rattle.intake.specs.declared.ending.Ending.TheVariants as Ending;
+ghost use Rattle.intake.specs.declared.ending.InputEnding.TheVariants as InputEnding;
 ghost use Rattle.run_model.specs.Scripts.{script_line, script_talk};
 ghost use Rattle.script_run.specs.Input.{KeepsPiece};
 
@@ -20,7 +20,7 @@ use afl_base::{Files, Sink, Source};
 use antelope_engine::Session;
 use aql_parse::Parser;
 use db_model::Command;
-use intake::{Stop, take_through};
+use intake::{InputEnding, take_through};
 
 /// Carries out a script to its end, or as far as it goes.
 // Not inlined, so that what keeps the script's commands is on the stack of no other run.
@@ -29,7 +29,7 @@ pub fn run_script<V: Files, S: Source, K: Sink>(
     session: &mut Session<V>,
     script: &mut S,
     out: &mut K,
-) -> Result<(), Stop>
+) -> Result<(), InputEnding>
     requires running { session.old.stopped ≡ false }
     ensures went { IsTrue (V.state session.old.files).tells
         → (read : List ℕ → Result AnyCommand AnyRefusal) → IsReader read
@@ -38,7 +38,7 @@ pub fn run_script<V: Files, S: Source, K: Sink>(
         (LacksPages V.state V.asks V.lacks session.new) result }
     ensures reaches { Reaches result (S.left script.old) (S.left script.new) }
     ensures lost { session.old.lost ≡ false → session.new.lost ≡ true
-        → result ≡ Err (Stop.Halted Halt.Flash) }
+        → result ≡ Err (InputEnding.Early Ending.Flash) }
     ensures store { length (V.state session.new.files).store ≡ length (V.state session.old.files).store }
     ensures borrows { V.lent session.new.files ≡ V.lent session.old.files }
     ensures lent { K.lent out.new ≡ K.lent out.old }
@@ -59,7 +59,7 @@ fn run_through<'a, V: Files, S: Source, K: Sink>(
     runner: &mut Runner<'a, V>,
     script: &mut S,
     out: &mut K,
-) -> Result<(), Stop>
+) -> Result<(), InputEnding>
     requires running { runner.old.session.now.stopped ≡ false }
     requires none { KeepsPiece (false, []) runner.old.piece }
     ensures went { IsTrue (V.state runner.old.session.now.files).tells
@@ -70,7 +70,7 @@ fn run_through<'a, V: Files, S: Source, K: Sink>(
         (S.left script.old) (S.left script.new) (LacksPages V.state V.asks V.lacks runner.new.session.now) result }
     ensures reaches { Reaches result (S.left script.old) (S.left script.new) }
     ensures lost { runner.old.session.now.lost ≡ false → runner.new.session.now.lost ≡ true
-        → result ≡ Err (Stop.Halted Halt.Flash) }
+        → result ≡ Err (InputEnding.Early Ending.Flash) }
     ensures store { let new = V.state runner.new.session.now.files in
         length new.store ≡ length (V.state runner.old.session.now.files).store }
     ensures session { runner.new.session.ghost_name ≡ runner.old.session.ghost_name }

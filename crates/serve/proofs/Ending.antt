@@ -1,7 +1,7 @@
 -- What is left of a line at its end.
 use Rattle.std.proofs.Common.{◌≡◌, refl, ℕ, true, false, List, [], ◌∷◌, length}
 use Rattle.std.specs.Prelude.{nat_lt}
-use Rattle.intake.specs.declared.halt.Halt.TheVariants.{Sink, Flash}
+use Rattle.intake.specs.declared.ending.Ending.TheVariants.{Sink, Flash}
 use Rattle.serve_model.specs.Frames.{Unfinished, unended_frame}
 
 pub true_false : true ≡ false → ⊥

@@ -6,7 +6,7 @@ use Rattle.answering.proofs.Single.{command_found, command_unsaid}
 use Rattle.answering.specs.Carried.{HaltsIn, Standing, no_space}
 use Rattle.db_model.specs.declared.commands.Command.{Command}
 use Rattle.db_model.specs.ReplyText.{text}
-use Rattle.intake.specs.declared.halt.Halt.TheVariants.{Space, Flash, Sink}
+use Rattle.intake.specs.declared.ending.Ending.TheVariants.{Space, Flash, Sink}
 use Rattle.reply_text.proofs.Pieces.{append_known-nil}
 use Rattle.reply_text.specs.WroteLess.{WroteLess}
 use Rattle.run_model.specs.Talk.{Talk, after_entry}

@@ -10,8 +10,8 @@ use Rattle.reply_text.specs.WroteLess.{WroteLess}
 use Rattle.run_model.specs.Talk.{AsksCommand, AsksToRead, Talk, after_entry, talk_costs}
 use Rattle.session_model.specs.declared.step.Step.{Step}
 use Rattle.session_model.specs.declared.step.Step.TheVariants.{Done, NoSpace}
-use Rattle.session_model.specs.declared.step.Stop.{Stop}
-use Rattle.session_model.specs.declared.step.Stop.TheVariants.{Flash, Sink}
+use Rattle.afl_base.specs.declared.fault.Fault.{Fault}
+use Rattle.afl_base.specs.declared.fault.Fault.TheVariants.{Flash, Sink}
 use Rattle.session_model.specs.Steps.{WrotePart, outcome_of}
 
 module _ {E : Type 0} (talk : Talk E) (entry : E) where
@@ -43,7 +43,7 @@ module _ {E : Type 0} (talk : Talk E) (entry : E) where
     pub reads : ReadsFew old new
 
   -- by the answer to it
-  abbrev pub Answered : (Command → ℕ → Type 0) → Result Step Stop → Standing → Standing → Type 0
+  abbrev pub Answered : (Command → ℕ → Type 0) → Result Step Fault → Standing → Standing → Type 0
   Answered Lacks (Ok (Done came)) old new = Carried talk (entry ∷ []) old new × (outcome_of ((after_entry talk old.database entry).1) ≡ came)
   Answered Lacks (Ok (NoSpace n)) old new = FindsNone Lacks n old new
   Answered Lacks (Err Sink) old new = SaysLess old new

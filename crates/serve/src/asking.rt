@@ -15,15 +15,15 @@ ghost use Rattle.serve.specs.Answered.{Answered};
 ghost use Rattle.serve.specs.Front.{fronted};
 ghost use Rattle.serve_model.specs.Frames.{Asked, is_client};
 ghost use Rattle.serve_model.specs.Served.{heard, serve_talk};
-ghost use Rattle.session_model.specs.declared.step.Stop.TheVariants.{Flash};
+ghost use Rattle.afl_base.specs.declared.fault.Fault.TheVariants.{Flash};
 ghost use Rattle.session_model.specs.Carried.{ChangesAndSends};
-ghost use Rattle.session_model.specs.Steps.{HasStopCause};
+ghost use Rattle.session_model.specs.Steps.{HasFaultCause};
 
 use crate::framed::{Begun, Framed};
 use crate::hearing::hear;
 use crate::replies::refuse;
-use afl_base::{Failed, Files, Sink};
-use antelope_engine::{Outcome, Session, Step, Stop};
+use afl_base::{Failed, Fault, Files, Sink};
+use antelope_engine::{Outcome, Session, Step};
 use aql_parse::Parser;
 use db_model::Command;
 use std::marker::{Brand, PhantomData};
@@ -33,7 +33,7 @@ use std::marker::{Brand, PhantomData};
 ///
 /// # Errors
 ///
-/// `Stop::Sink` leaves a proper prefix of the reply frame, and `Stop::Flash` a part of it. Each comes only
+/// `Fault::Sink` leaves a proper prefix of the reply frame, and `Fault::Flash` a part of it. Each comes only
 /// where that object counted a fault.
 pub fn answer<V: Files, K: Sink>(
     session: &mut Session<V>,
@@ -42,7 +42,7 @@ pub fn answer<V: Files, K: Sink>(
     client: u8,
     bytes: &[u8],
     out: &mut K,
-) -> Result<Step, Stop>
+) -> Result<Step, Fault>
     requires running { session.old.stopped ≡ false }
     requires client { IsTrue (is_client client) }
     requires short { length bytes.now ≤ 512 }
@@ -63,7 +63,7 @@ pub fn answer<V: Files, K: Sink>(
         Ok(()) => reply(session, client, command, out),
         Err(refusal) => match refuse(out, client, &refusal) {
             Ok(()) => Ok(Step::Done(Outcome::Refused)),
-            Err(Failed) => Err(Stop::Sink),
+            Err(Failed) => Err(Fault::Sink),
         },
     }
 }
@@ -74,7 +74,7 @@ fn reply<V: Files, K: Sink>(
     client: u8,
     command: &Command,
     out: &mut K,
-) -> Result<Step, Stop>
+) -> Result<Step, Fault>
     requires running { session.old.stopped ≡ false }
     requires condition { IsCondition (nodes_of command.now) }
     ensures answered { IsTrue (V.state session.old.files).tells
@@ -101,7 +101,7 @@ fn reply_since<V: Files, K: Sink, B: Begun>(
     client: u8,
     command: &Command,
     out: &mut K,
-) -> Result<Step, Stop>
+) -> Result<Step, Fault>
     requires begun { B.start ≡ Some (fronted (K.held out.old) (K.faults out.old) (Some client) false) }
     requires running { session.old.stopped ≡ false }
     requires condition { IsCondition (nodes_of command.now) }
@@ -128,10 +128,10 @@ fn reply_since<V: Files, K: Sink, B: Begun>(
     match session.exec(command, &mut framed) {
         Ok(Step::Done(outcome)) => match framed.finish() {
             Ok(()) => Ok(Step::Done(outcome)),
-            Err(Failed) => Err(Stop::Sink),
+            Err(Failed) => Err(Fault::Sink),
         },
         Ok(Step::NoSpace { need }) => Ok(Step::NoSpace { need }),
-        Err(Stop::Flash) => Err(Stop::Flash),
-        Err(Stop::Sink) => Err(Stop::Sink),
+        Err(Fault::Flash) => Err(Fault::Flash),
+        Err(Fault::Sink) => Err(Fault::Sink),
     }
 }

@@ -8,17 +8,17 @@ ghost use Rattle.antelope_engine.specs.Commands.{LacksPages};
 ghost use Rattle.db_model.specs.declared.commands.Command.{Command as AnyCommand};
 ghost use Rattle.db_model.specs.declared.refusals.Refusal.{Refusal as AnyRefusal};
 ghost use Rattle.db_model.specs.Reading.{IsReader};
-ghost use Rattle.intake.specs.declared.halt.Halt.TheVariants as Halt;
+ghost use Rattle.intake.specs.declared.ending.Ending.TheVariants as Ending;
 ghost use Rattle.serve_model.specs.Frames.{Asked, is_client};
 ghost use Rattle.serve_model.specs.Served.{serve_talk};
 
 use crate::asking::answer;
 use crate::replies::refuse;
-use afl_base::{Failed, Files, Sink};
-use antelope_engine::{Session, Step, Stop};
+use afl_base::{Failed, Fault, Files, Sink};
+use antelope_engine::{Session, Step};
 use aql_parse::Parser;
 use db_model::{Command, Refusal};
-use intake::Halt;
+use intake::Ending;
 
 /// Answers a client's command, or writes that there is no space for it.
 pub fn carry_out<V: Files, K: Sink>(
@@ -28,7 +28,7 @@ pub fn carry_out<V: Files, K: Sink>(
     client: u8,
     bytes: &[u8],
     out: &mut K,
-) -> Result<(), Halt>
+) -> Result<(), Ending>
     requires running { session.old.stopped ≡ false }
     requires client { IsTrue (is_client client) }
     requires short { length bytes.now ≤ 512 }
@@ -42,17 +42,17 @@ pub fn carry_out<V: Files, K: Sink>(
         (standing_of V.state V.reads session.old (K.held out.old))
         (standing_of V.state V.reads session.new (K.held out.new)) halt) }
     ensures running { OnOk result (session.new.stopped ≡ false) }
-    ensures lost { session.old.lost ≡ false → session.new.lost ≡ true → IsErrOf result Halt.Flash }
+    ensures lost { session.old.lost ≡ false → session.new.lost ≡ true → IsErrOf result Ending.Flash }
     ensures frame { ChangesOrHalts V.Files K.Sink session.old.files session.new.files
         out.old out.new result }
 {
     match answer(session, parser, command, client, bytes, out) {
         Ok(Step::Done(_)) => Ok(()),
         Ok(Step::NoSpace { need }) => match refuse(out, client, &Refusal::Space { need }) {
-            Ok(()) => Err(Halt::Space),
-            Err(Failed) => Err(Halt::Sink),
+            Ok(()) => Err(Ending::Space),
+            Err(Failed) => Err(Ending::Sink),
         },
-        Err(Stop::Flash) => Err(Halt::Flash),
-        Err(Stop::Sink) => Err(Halt::Sink),
+        Err(Fault::Flash) => Err(Ending::Flash),
+        Err(Fault::Sink) => Err(Ending::Sink),
     }
 }

@@ -9,7 +9,7 @@ ghost use Rattle.answering.specs.Taking.{EndsInput, HaltsAtLast, HaltsInBytes, H
 ghost use Rattle.db_model.specs.declared.commands.Command.{Command as AnyCommand};
 ghost use Rattle.db_model.specs.declared.refusals.Refusal.{Refusal as AnyRefusal};
 ghost use Rattle.db_model.specs.Reading.{IsReader};
-ghost use Rattle.intake.specs.declared.halt.Halt.TheVariants as Halt;
+ghost use Rattle.intake.specs.declared.ending.Ending.TheVariants as Ending;
 ghost use Rattle.serve.specs.Gathers.{GathersPart, HasFrame, told};
 ghost use Rattle.serve.specs.Input.{frame_input};
 ghost use Rattle.serve_model.specs.Frames.{Frame, frame_cut};
@@ -23,7 +23,7 @@ use afl_base::{Failed, Files, Sink};
 use antelope_engine::Session;
 use aql_parse::Parser;
 use db_model::{Command, Refusal};
-use intake::{Halt, Taker};
+use intake::{Ending, Taker};
 
 /// What takes the bytes of a line and answers its frames over a session that is lent to it.
 #[derive(Drop)]
@@ -65,7 +65,7 @@ impl<'a, V: Files> Taker for Server<'a, V> {
 
     ghost HasReplyAtEnd = { λ a. HasOne frame_input a.decoder (λ q. frame_cut.left q) };
 
-    fn take<K: Sink>(&mut self, out: &mut K, byte: u8) -> Result<(), Halt> {
+    fn take<K: Sink>(&mut self, out: &mut K, byte: u8) -> Result<(), Ending> {
         take_byte(
             self.session,
             &mut self.parser,
@@ -76,7 +76,7 @@ impl<'a, V: Files> Taker for Server<'a, V> {
         )
     }
 
-    fn end<K: Sink>(&mut self, out: &mut K) -> Result<(), Halt> {
+    fn end<K: Sink>(&mut self, out: &mut K) -> Result<(), Ending> {
         take_end(self.session, &self.decoder, out)
     }
 
@@ -123,7 +123,7 @@ fn take_byte<V: Files, K: Sink>(
     decoder: &mut Decoder,
     out: &mut K,
     byte: u8,
-) -> Result<(), Halt>
+) -> Result<(), Ending>
     ensures takes { OnOk result (TakesBytes frame_input V.Files
         (running session.old decoder.old (K.held out.old) (K.faults out.old)) (byte ∷ [])
         (running session.new decoder.new (K.held out.new) (K.faults out.new))) }
@@ -135,7 +135,7 @@ fn take_byte<V: Files, K: Sink>(
     ensures lent { K.lent out.new ≡ K.lent out.old }
 {
     if session.is_stopped() {
-        return Err(Halt::Flash);
+        return Err(Ending::Flash);
     }
     let fed = decoder.feed(byte);
     answer_fed(session, parser, command, decoder, fed, out)?;
@@ -147,7 +147,7 @@ fn take_end<V: Files, K: Sink>(
     session: &mut Session<V>,
     decoder: &Decoder,
     out: &mut K,
-) -> Result<(), Halt>
+) -> Result<(), Ending>
     ensures ends { OnOk result (EndsInput frame_input V.Files
         (running session.old decoder.now (K.held out.old) (K.faults out.old))
         (running session.new decoder.now (K.held out.new) (K.faults out.new))) }
@@ -158,14 +158,14 @@ fn take_end<V: Files, K: Sink>(
     ensures lent { K.lent out.new ≡ K.lent out.old }
 {
     if session.is_stopped() {
-        return Err(Halt::Flash);
+        return Err(Ending::Flash);
     }
     if !decoder.is_begun() {
         return Ok(());
     }
     match refuse(out, 0, &Refusal::Unfinished) {
         Ok(()) => Ok(()),
-        Err(Failed) => Err(Halt::Sink),
+        Err(Failed) => Err(Ending::Sink),
     }
 }
 
@@ -177,7 +177,7 @@ fn answer_fed<V: Files, K: Sink>(
     decoder: &Decoder,
     fed: Fed,
     out: &mut K,
-) -> Result<(), Halt>
+) -> Result<(), Ending>
     requires running { session.old.stopped ≡ false }
     requires frame { fed ≡ Fed.Frame → HasFrame decoder.now }
     ensures carried { IsTrue (V.state session.old.files).tells → OnOk result (
@@ -190,7 +190,7 @@ fn answer_fed<V: Files, K: Sink>(
         (standing_of V.state V.reads session.old (K.held out.old))
         (standing_of V.state V.reads session.new (K.held out.new)) halt) }
     ensures running { OnOk result (session.new.stopped ≡ false) }
-    ensures lost { session.old.lost ≡ false → session.new.lost ≡ true → IsErrOf result Halt.Flash }
+    ensures lost { session.old.lost ≡ false → session.new.lost ≡ true → IsErrOf result Ending.Flash }
     ensures silent { (out.new ≡ out.old) ⊎ ((frame : Frame) × (told fed decoder.now ≡ frame ∷ [])) }
     ensures frame { ChangesOrHalts V.Files K.Sink session.old.files session.new.files
         out.old out.new result }
@@ -206,11 +206,11 @@ fn answer_fed<V: Files, K: Sink>(
         }
         Fed::Bad => match refuse(out, 0, &Refusal::Frame) {
             Ok(()) => Ok(()),
-            Err(Failed) => Err(Halt::Sink),
+            Err(Failed) => Err(Ending::Sink),
         },
         Fed::Long { client } => match refuse(out, client, &Refusal::Long) {
             Ok(()) => Ok(()),
-            Err(Failed) => Err(Halt::Sink),
+            Err(Failed) => Err(Ending::Sink),
         },
     }
 }

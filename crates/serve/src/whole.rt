@@ -9,8 +9,8 @@ ghost use Rattle.answering.specs.Went.{HasRunCause, Reaches, Went};
 ghost use Rattle.db_model.specs.declared.commands.Command.{Command as AnyCommand};
 ghost use Rattle.db_model.specs.declared.refusals.Refusal.{Refusal as AnyRefusal};
 ghost use Rattle.db_model.specs.Reading.{IsReader};
-ghost use Rattle.intake.specs.declared.halt.Halt.TheVariants as Halt;
-ghost use Rattle.intake.specs.declared.halt.Stop.TheVariants as Stop;
+ghost use Rattle.intake.specs.declared.ending.Ending.TheVariants as Ending;
+ghost use Rattle.intake.specs.declared.ending.InputEnding.TheVariants as InputEnding;
 ghost use Rattle.serve.specs.Gathers.{GathersPart};
 ghost use Rattle.serve_model.specs.Frames.{frame_line};
 ghost use Rattle.serve_model.specs.Served.{serve_talk};
@@ -21,7 +21,7 @@ use afl_base::{Files, Sink, Source};
 use antelope_engine::Session;
 use aql_parse::Parser;
 use db_model::Command;
-use intake::{Stop, take_through};
+use intake::{InputEnding, take_through};
 
 /// Answers the frames of a line to its end, or as far as it goes.
 // Not inlined, so that what keeps the line's commands is on the stack of no other run.
@@ -30,7 +30,7 @@ pub fn serve_line<V: Files, S: Source, K: Sink>(
     session: &mut Session<V>,
     line: &mut S,
     out: &mut K,
-) -> Result<(), Stop>
+) -> Result<(), InputEnding>
     requires running { session.old.stopped ≡ false }
     ensures went { IsTrue (V.state session.old.files).tells
         → (read : List ℕ → Result AnyCommand AnyRefusal) → IsReader read
@@ -39,7 +39,7 @@ pub fn serve_line<V: Files, S: Source, K: Sink>(
         (LacksPages V.state V.asks V.lacks session.new) result }
     ensures reaches { Reaches result (S.left line.old) (S.left line.new) }
     ensures lost { session.old.lost ≡ false → session.new.lost ≡ true
-        → result ≡ Err (Stop.Halted Halt.Flash) }
+        → result ≡ Err (InputEnding.Early Ending.Flash) }
     ensures store { length (V.state session.new.files).store ≡ length (V.state session.old.files).store }
     ensures borrows { V.lent session.new.files ≡ V.lent session.old.files }
     ensures lent { K.lent out.new ≡ K.lent out.old }
@@ -60,7 +60,7 @@ fn serve_through<'a, V: Files, S: Source, K: Sink>(
     server: &mut Server<'a, V>,
     line: &mut S,
     out: &mut K,
-) -> Result<(), Stop>
+) -> Result<(), InputEnding>
     requires running { server.old.session.now.stopped ≡ false }
     requires none { GathersPart [] server.old.decoder }
     ensures went { IsTrue (V.state server.old.session.now.files).tells
@@ -71,7 +71,7 @@ fn serve_through<'a, V: Files, S: Source, K: Sink>(
         (S.left line.old) (S.left line.new) (LacksPages V.state V.asks V.lacks server.new.session.now) result }
     ensures reaches { Reaches result (S.left line.old) (S.left line.new) }
     ensures lost { server.old.session.now.lost ≡ false → server.new.session.now.lost ≡ true
-        → result ≡ Err (Stop.Halted Halt.Flash) }
+        → result ≡ Err (InputEnding.Early Ending.Flash) }
     ensures store { let new = V.state server.new.session.now.files in
         length new.store ≡ length (V.state server.old.session.now.files).store }
     ensures session { server.new.session.ghost_name ≡ server.old.session.ghost_name }

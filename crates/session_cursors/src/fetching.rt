@@ -8,7 +8,7 @@ ghost use Rattle.db_model.specs.declared.commands.Command.TheVariants as command
 ghost use Rattle.db_model.specs.Ahead.{aheads_after, cost_of};
 ghost use Rattle.db_model.specs.Sound.{IsSoundDatabase};
 ghost use Rattle.db_model.specs.Step.{step};
-ghost use Rattle.session_model.specs.declared.step.Stop.TheVariants.{Flash};
+ghost use Rattle.afl_base.specs.declared.fault.Fault.TheVariants.{Flash};
 ghost use Rattle.session_model.specs.Aheads.{aheads_of};
 ghost use Rattle.session_model.specs.Carried.{AnswersRows, Runs};
 ghost use Rattle.session_model.specs.Running.{IsRunning};
@@ -18,10 +18,10 @@ ghost use Rattle.session_cursors.specs.Fetched.{reply_fetched};
 use crate::heads::fetch_open;
 use crate::numbers::open_place;
 use crate::replies::write_reply;
-use afl_base::{Failed, Files, Sink};
+use afl_base::{Failed, Fault, Files, Sink};
 use db_model::Tuple;
 use index_set::HashTables;
-use session_model::{Base, Held, Open, Outcome, Stop};
+use session_model::{Base, Held, Open, Outcome};
 
 // Takes the next row of an open cursor: `Some` says whether there is one, `None` that there is no such cursor.
 fn take_row<V: Files>(
@@ -66,7 +66,7 @@ pub fn fetch_cursor<V: Files, K: Sink>(
     base: &mut Base<V>,
     number: &i64,
     out: &mut K,
-) -> Result<Outcome, Stop>
+) -> Result<Outcome, Fault>
     requires running { Runs V.Files base.old }
     ensures written { AnswersRows V.Files K.Sink (command.FetchCursor number.now) base.old base.new
         out.old out.new result }
@@ -83,10 +83,10 @@ pub fn fetch_cursor<V: Files, K: Sink>(
         &mut row,
     ) {
         Ok(came) => came,
-        Err(Failed) => return Err(Stop::Flash),
+        Err(Failed) => return Err(Fault::Flash),
     };
     match write_reply(out, came, &row) {
         Ok(outcome) => Ok(outcome),
-        Err(Failed) => Err(Stop::Sink),
+        Err(Failed) => Err(Fault::Sink),
     }
 }

@@ -3,7 +3,7 @@ use Rattle.std.proofs.Common.{ℕ, List, [], Option, Err, refl, sym, ◌≡◌, 
 use Rattle.db_model.specs.ReplyText.{text}
 use Rattle.db_model.specs.Step.{Reply, outcome}
 use Rattle.reply_text.proofs.Pieces.{append_known-nil}
-use Rattle.session_model.specs.declared.step.Stop.TheVariants.{Flash}
+use Rattle.afl_base.specs.declared.fault.Fault.TheVariants.{Flash}
 use Rattle.session_model.specs.Steps.{Replies}
 use Rattle.afl_base.specs.declared.files.Files.{Ghosts as FilesOf}
 use Rattle.db_model.specs.declared.commands.Command.{Command}

@@ -12,11 +12,11 @@ use Rattle.db_model.specs.Step.{Reads, step}
 use Rattle.session_model.specs.declared.answer.Answer.{Answer}
 use Rattle.session_model.specs.declared.base.Base.{Base}
 use Rattle.session_model.specs.declared.step.Outcome.{Outcome}
-use Rattle.session_model.specs.declared.step.Stop.{Stop}
+use Rattle.afl_base.specs.declared.fault.Fault.{Fault}
 use Rattle.session_model.specs.Aheads.{aheads_of}
 use Rattle.session_model.specs.Answers.{OnNoSpace, OnNothing}
 use Rattle.session_model.specs.Running.{IsRunning}
-use Rattle.session_model.specs.Steps.{Answers, HasStopCause, Replies, UnlessFlash}
+use Rattle.session_model.specs.Steps.{Answers, HasFaultCause, Replies, UnlessFlash}
 use Rattle.session_model.specs.View.{view}
 use Rattle.session_model.specs.Wanted.{WantsFew}
 
@@ -59,25 +59,25 @@ pub record Carries {V : Type 0} (v : FilesOf V) (command : Command) (old new : B
 -- ---- commands that write rows
 
 -- a call that reads files and writes to a sink: the files stay, and both hold on to what they borrow
-pub record Recites {V K T : Type 0} (v : FilesOf V) (k : SinkOf K) (old new : V) (before now : K) (result : Result T Stop) : Type 0 where
+pub record Recites {V K T : Type 0} (v : FilesOf V) (k : SinkOf K) (old new : V) (before now : K) (result : Result T Fault) : Type 0 where
   pub same : v.state new ≡ v.state old
   pub lent : v.lent new ≡ v.lent old
   pub later : v.reads old ≤ v.reads new
   pub sink_lent : k.lent now ≡ k.lent before
   pub faultless : OnOk result (k.faults now ≡ k.faults before)
-  pub cause : HasStopCause (v.faults old) (v.faults new) (k.faults before) (k.faults now) result
+  pub cause : HasFaultCause (v.faults old) (v.faults new) (k.faults before) (k.faults now) result
 
 -- a call that may change files and writes to a sink
-pub record ChangesAndSends {V K T : Type 0} (v : FilesOf V) (k : SinkOf K) (old new : V) (before now : K) (result : Result T Stop) : Type 0 where
+pub record ChangesAndSends {V K T : Type 0} (v : FilesOf V) (k : SinkOf K) (old new : V) (before now : K) (result : Result T Fault) : Type 0 where
   pub store : length (v.state new).store ≡ length (v.state old).store
   pub lent : v.lent new ≡ v.lent old
   pub later : v.reads old ≤ v.reads new
   pub sink_lent : k.lent now ≡ k.lent before
   pub faultless : OnOk result (k.faults now ≡ k.faults before)
-  pub cause : HasStopCause (v.faults old) (v.faults new) (k.faults before) (k.faults now) result
+  pub cause : HasFaultCause (v.faults old) (v.faults new) (k.faults before) (k.faults now) result
 
 -- a command was carried out that writes each row as it is found: its reply was written, or a part of it
-pub record AnswersRows {V K : Type 0} (v : FilesOf V) (k : SinkOf K) (command : Command) (old new : Base V) (before now : K) (result : Result Outcome Stop) : Type 0 where
+pub record AnswersRows {V K : Type 0} (v : FilesOf V) (k : SinkOf K) (command : Command) (old new : Base V) (before now : K) (result : Result Outcome Fault) : Type 0 where
   pub reply : Tells v old → Replies ((step (database v old) command).1) result (k.held before) (k.held now)
   pub seen : Tells v old → UnlessFlash result (database v new ≡ (step (database v old) command).0)
   pub running : UnlessFlash result (Runs v new)

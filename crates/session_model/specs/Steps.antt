@@ -14,8 +14,8 @@ use Rattle.session_model.specs.declared.step.Outcome.{Outcome}
 use Rattle.session_model.specs.declared.step.Outcome.TheVariants as came_to
 use Rattle.session_model.specs.declared.step.Step.{Step}
 use Rattle.session_model.specs.declared.step.Step.TheVariants.{Done, NoSpace}
-use Rattle.session_model.specs.declared.step.Stop.{Stop}
-use Rattle.session_model.specs.declared.step.Stop.TheVariants.{Flash, Sink}
+use Rattle.afl_base.specs.declared.fault.Fault.{Fault}
+use Rattle.afl_base.specs.declared.fault.Fault.TheVariants.{Flash, Sink}
 use Rattle.session_model.specs.Answers.{Changed}
 
 -- ---- changes
@@ -54,7 +54,7 @@ pub record WrotePart (before now : Option (List ℕ)) (all : List ℕ) : Type 0 
   pub held : now ≡ append_known before written
 
 -- the reply was written, or what of it was written before a fault
-abbrev pub Replies : Reply → Result Outcome Stop → Option (List ℕ) → Option (List ℕ) → Type 0
+abbrev pub Replies : Reply → Result Outcome Fault → Option (List ℕ) → Option (List ℕ) → Type 0
 Replies reply (Ok came) before now = WritesReply reply came before now
 Replies reply (Err Sink) before now = WroteLess before now (text reply)
 Replies reply (Err Flash) before now = WrotePart before now (text reply)
@@ -68,13 +68,13 @@ Does made old new (NoSpace need) before now = (new ≡ old) × (now ≡ before) 
 -- ---- failures
 
 -- P, where the files did not fail
-abbrev pub UnlessFlash : {T : Type 0} → Result T Stop → Type 0 → Type 0
+abbrev pub UnlessFlash : {T : Type 0} → Result T Fault → Type 0 → Type 0
 UnlessFlash (Ok x) P = P
 UnlessFlash (Err Sink) P = P
 UnlessFlash (Err Flash) P = ⊤
 
 -- no count falls, and what is said to have failed has counted it
-pub record HasStopCause {T : Type 0} (files files_now replies replies_now : ℕ) (result : Result T Stop) : Type 0 where
+pub record HasFaultCause {T : Type 0} (files files_now replies replies_now : ℕ) (result : Result T Fault) : Type 0 where
   pub files_later : files ≤ files_now
   pub replies_later : replies ≤ replies_now
   pub flash : IsErrOf result Flash → Rose files files_now

@@ -19,4 +19,4 @@ pub use preparing::prepare_catalog;
 pub use projecting::{project, project_pair};
 pub use readers::least_reader;
 pub use replies::reply;
-pub use step::{Outcome, Step, Stop};
+pub use step::{Outcome, Step};

@@ -23,8 +23,8 @@ use Rattle.reply_text.specs.WroteLess.{WroteLess}
 use Rattle.session_model.specs.declared.base.Base.{Base}
 use Rattle.session_model.specs.declared.step.Outcome.{Outcome}
 use Rattle.session_model.specs.declared.step.Outcome.TheVariants as came
-use Rattle.session_model.specs.declared.step.Stop.{Stop}
-use Rattle.session_model.specs.declared.step.Stop.TheVariants.{Flash, Sink}
+use Rattle.afl_base.specs.declared.fault.Fault.{Fault}
+use Rattle.afl_base.specs.declared.fault.Fault.TheVariants.{Flash, Sink}
 use Rattle.session_model.specs.Aheads.{aheads_of}
 use Rattle.session_model.specs.Carried.{AnswersRows, Recites, Runs, Tells, aheads, database}
 use Rattle.session_model.specs.Running.{IsRunning}
@@ -68,13 +68,13 @@ aggregated_leaves list relation nodes = record {
   aheads = λ db aheads. either_way (is_refused ((step db (Aggregate list relation nodes)).1)) aheads;
 }
 
-unless : {T : Type 0} (r : Result T Stop) (P : Type 0) → P → UnlessFlash r P
+unless : {T : Type 0} (r : Result T Fault) (P : Type 0) → P → UnlessFlash r P
 unless (Ok x) P h = h
 unless (Err Sink) P h = h
 unless (Err Flash) P h = tt
 
 -- it was answered, by files that stay as they are
-pub answers_rows : {V K : Type 0} (v : FilesOf V) (k : SinkOf K) (c : Command) → LeavesAll c → (old : Base V) (files : V) (before now : K) (result : Result Outcome Stop) → Runs v old
+pub answers_rows : {V K : Type 0} (v : FilesOf V) (k : SinkOf K) (c : Command) → LeavesAll c → (old : Base V) (files : V) (before now : K) (result : Result Outcome Fault) → Runs v old
     → (Tells v old → Replies ((step (database v old) c).1) result (k.held before) (k.held now))
     → (Tells v old → v.reads files ≤ v.reads old.files + cost_of (database v old) (aheads v old) c)
     → Recites v k old.files files before now result

@@ -16,8 +16,8 @@ use Rattle.cursor.specs.declared.select.SelectCursor.{SelectCursor}
 use Rattle.reply_text.proofs.Pieces.{held_more, less_behind, less_front}
 use Rattle.reply_text.specs.WroteLess.{WroteLess}
 use Rattle.session_model.specs.declared.step.Outcome.TheVariants as came
-use Rattle.session_model.specs.declared.step.Stop.{Stop}
-use Rattle.session_model.specs.declared.step.Stop.TheVariants.{Flash, Sink}
+use Rattle.afl_base.specs.declared.fault.Fault.{Fault}
+use Rattle.afl_base.specs.declared.fault.Fault.TheVariants.{Flash, Sink}
 use Rattle.session_model.specs.Steps.{Replies, WritesReply}
 use Rattle.session_queries.specs.Replies.{WroteAll, WroteNext, rows_left}
 
@@ -77,7 +77,7 @@ text_split all done rest e =
     ∙ append_assoc (flat_map row_text done) (flat_map row_text rest) (count_text (length all))
 
 -- a row, or the next one's reading, failed
-pub rows_failed : (all left after : List (List Value)) (h0 h1 h2 : Option (List ℕ)) (count : ℕ) (stop : Stop) → Wrote all left h0 h1 count → WroteNext (Err stop) left after h1 h2 → Replies (Rows all) (Err stop) h0 h2
+pub rows_failed : (all left after : List (List Value)) (h0 h1 h2 : Option (List ℕ)) (count : ℕ) (stop : Fault) → Wrote all left h0 h1 count → WroteNext (Err stop) left after h1 h2 → Replies (Rows all) (Err stop) h0 h2
 rows_failed all left after h0 h1 h2 count Sink w next =
     let end = flat_map row_text next.rest ++ count_text (length all) in
     let e : text (Rows all) ≡ flat_map row_text w.done ++ (row_text next.row ++ end) =

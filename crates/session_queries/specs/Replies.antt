@@ -15,8 +15,8 @@ use Rattle.cursor.specs.Remaining.{remaining}
 use Rattle.reply_text.specs.WroteLess.{WroteLess}
 use Rattle.session_model.specs.declared.base.Base.{Base}
 use Rattle.session_model.specs.declared.held.Side.{Side}
-use Rattle.session_model.specs.declared.step.Stop.{Stop}
-use Rattle.session_model.specs.declared.step.Stop.TheVariants.{Flash, Sink}
+use Rattle.afl_base.specs.declared.fault.Fault.{Fault}
+use Rattle.afl_base.specs.declared.fault.Fault.TheVariants.{Flash, Sink}
 use Rattle.session_model.specs.Carried.{Tells, aheads, database}
 use Rattle.session_model.specs.Steps.{Replies}
 use Rattle.session_model.specs.View.{project, project_pair}
@@ -31,7 +31,7 @@ pub record WroteNoMore (old : List (List Value)) (before now : Option (List ℕ)
   pub wrote : WroteLess before now (row_text row)
 
 -- the first of the rows that were left was written, or there was none
-abbrev pub WroteNext : Result Bool Stop → List (List Value) → List (List Value) → Option (List ℕ) → Option (List ℕ) → Type 0
+abbrev pub WroteNext : Result Bool Fault → List (List Value) → List (List Value) → Option (List ℕ) → Option (List ℕ) → Type 0
 WroteNext (Ok true) old new before now = (row : List Value) × (old ≡ row ∷ new) × (now ≡ append_known before (row_text row))
 WroteNext (Ok false) old new before now = (old ≡ []) × (now ≡ before)
 WroteNext (Err Sink) old new before now = WroteNoMore old before now
@@ -42,7 +42,7 @@ pub record WroteAll (all : List (List Value)) (before now : Option (List ℕ)) (
   pub counted : count ≡ length all
   pub written : now ≡ append_known before (flat_map row_text all)
 
-abbrev pub WroteRows : Result ℕ Stop → List (List Value) → Option (List ℕ) → Option (List ℕ) → Type 0
+abbrev pub WroteRows : Result ℕ Fault → List (List Value) → Option (List ℕ) → Option (List ℕ) → Type 0
 WroteRows (Ok count) all before now = WroteAll all before now count
 WroteRows (Err stop) all before now = Replies (Rows all) (Err stop) before now
 

@@ -27,12 +27,12 @@ ghost use Rattle.session_queries.specs.Replies.{ReadsNoMore};
 use crate::finding::{Found, find};
 use crate::folding::{answers_of, new_tallies};
 use crate::passing::fold_all;
-use afl_base::{Failed, Files, Sink};
+use afl_base::{Failed, Fault, Files, Sink};
 use cursor::SelectCursor;
 use db_model::{AggList, Condition, Few, Ident, Refusal};
 use index_set::HashTables;
 use reply_text::{write_numbers, write_refusal, write_rows};
-use session_model::{Base, Held, Outcome, Stop};
+use session_model::{Base, Held, Outcome};
 use session_plans::{AggregatePlan, plan_aggregates};
 
 /// Writes one row with the aggregates of a list, or the refusal. A MEDIAN takes several passes over the
@@ -43,7 +43,7 @@ pub fn aggregate<V: Files, K: Sink>(
     relation: &Ident,
     condition: &Condition,
     out: &mut K,
-) -> Result<Outcome, Stop>
+) -> Result<Outcome, Fault>
     requires running { Runs V.Files base.old }
     requires condition { IsCondition condition.now }
     ensures written { AnswersRows V.Files K.Sink (command.Aggregate list.now relation.now condition.now)
@@ -57,17 +57,17 @@ pub fn aggregate<V: Files, K: Sink>(
         Err(refusal) => {
             return match write_refusal(out, &refusal) {
                 Ok(()) => Ok(Outcome::Refused),
-                Err(_) => Err(Stop::Sink),
+                Err(_) => Err(Fault::Sink),
             };
         }
     };
     let numbers = match folded(&mut base.files, &base.tables, aggregating) {
         Ok(numbers) => numbers,
-        Err(_) => return Err(Stop::Flash),
+        Err(_) => return Err(Fault::Flash),
     };
     match write_answers(numbers.as_slice(), out) {
         Ok(()) => Ok(Outcome::Rows(1)),
-        Err(_) => Err(Stop::Sink),
+        Err(_) => Err(Fault::Sink),
     }
 }
 

@@ -12,17 +12,17 @@ ghost use Rattle.session_queries.specs.Replies.{ReadsNoMore};
 
 use crate::joining::{join, plan_pairs};
 use crate::selecting::{plan, select};
-use afl_base::{Files, Sink};
+use afl_base::{Fault, Files, Sink};
 use db_model::{Condition, Ident, Idents, Query};
 use reply_text::write_refusal;
-use session_model::{Base, Outcome, Stop};
+use session_model::{Base, Outcome};
 
 /// Writes the rows of a query, each as it is found, and then their number; or the query's refusal.
 pub fn ask<V: Files, K: Sink>(
     base: &mut Base<V>,
     query: &Query,
     out: &mut K,
-) -> Result<Outcome, Stop>
+) -> Result<Outcome, Fault>
     requires running { Runs V.Files base.old }
     requires condition { HasConditions query.now }
     ensures written { AnswersRows V.Files K.Sink (command.Ask query.now) base.old base.new
@@ -51,7 +51,7 @@ fn ask_select<V: Files, K: Sink>(
     relation: &Ident,
     condition: &Condition,
     out: &mut K,
-) -> Result<Outcome, Stop>
+) -> Result<Outcome, Fault>
     requires running { Runs V.Files base.old }
     requires condition { IsCondition condition.now }
     ensures written { let asked = query.Select list.now relation.now condition.now in
@@ -64,7 +64,7 @@ fn ask_select<V: Files, K: Sink>(
         Ok(selecting) => select(&mut base.files, &base.tables, selecting, out),
         Err(refusal) => match write_refusal(out, &refusal) {
             Ok(()) => Ok(Outcome::Refused),
-            Err(_) => Err(Stop::Sink),
+            Err(_) => Err(Fault::Sink),
         },
     }
 }
@@ -76,7 +76,7 @@ fn ask_join<V: Files, K: Sink>(
     on: &Ident,
     list: &Idents,
     out: &mut K,
-) -> Result<Outcome, Stop>
+) -> Result<Outcome, Fault>
     requires running { Runs V.Files base.old }
     ensures written { let asked = query.Join left.now right.now on.now list.now in
         AnswersRows V.Files K.Sink (command.Ask asked) base.old base.new out.old out.new result }
@@ -88,7 +88,7 @@ fn ask_join<V: Files, K: Sink>(
         Ok(joining) => join(&mut base.files, &base.tables, joining, out),
         Err(refusal) => match write_refusal(out, &refusal) {
             Ok(()) => Ok(Outcome::Refused),
-            Err(_) => Err(Stop::Sink),
+            Err(_) => Err(Fault::Sink),
         },
     }
 }

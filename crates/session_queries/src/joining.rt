@@ -18,12 +18,12 @@ ghost use Rattle.session_queries.specs.Finds.{HasEightSlots, IsRelationFound, Is
 ghost use Rattle.session_queries.specs.Replies.{WroteNext, WroteRows, joined_left};
 
 use crate::finding::{Found, find};
-use afl_base::{Files, Sink};
+use afl_base::{Fault, Files, Sink};
 use cursor::JoinCursor;
 use db_model::{Few, Ident, Idents, Refusal, Tuple};
 use index_set::HashTables;
 use reply_text::{write_row, write_rows};
-use session_model::{Held, Outcome, Side, Stop, project_pair};
+use session_model::{Held, Outcome, Side, project_pair};
 use session_plans::{JoinPlan, plan_join};
 
 /// Two relations, and what a JOIN asks of them.
@@ -78,7 +78,7 @@ pub fn join<V: Files, K: Sink>(
     tables: &HashTables,
     joining: Joining,
     out: &mut K,
-) -> Result<Outcome, Stop>
+) -> Result<Outcome, Fault>
     requires left { IsReadableBy (V.state files.old) tables.now joining.left }
     requires right { IsReadableBy (V.state files.old) tables.now joining.right }
     ensures replies { let state = V.state files.old in let plan = joining.plan in
@@ -99,7 +99,7 @@ pub fn join<V: Files, K: Sink>(
             let count = u64::from(count);
             match write_rows(out, count) {
                 Ok(()) => Ok(Outcome::Rows(count)),
-                Err(_) => Err(Stop::Sink),
+                Err(_) => Err(Fault::Sink),
             }
         }
         Err(stop) => Err(stop),
@@ -112,7 +112,7 @@ fn join_all<V: Files, K: Sink>(
     tables: &HashTables,
     joining: Joining,
     out: &mut K,
-) -> Result<u32, Stop>
+) -> Result<u32, Fault>
     requires left { IsReadableBy (V.state files.old) tables.now joining.left }
     requires right { IsReadableBy (V.state files.old) tables.now joining.right }
     ensures wrote { let state = V.state files.old in let plan = joining.plan in
@@ -153,7 +153,7 @@ fn join_rows<V: Files, K: Sink>(
     cursor: &mut JoinCursor,
     places: &Few<Side, 8>,
     out: &mut K,
-) -> Result<u32, Stop>
+) -> Result<u32, Fault>
     requires may_read { MayReadPairs (V.state files.old) cursor.old }
     ensures wrote { let state = V.state files.old in let lefts = rows state.files cursor.old.left in
         let rights = rows state.files cursor.old.right in
@@ -188,7 +188,7 @@ fn join_next<V: Files, K: Sink>(
     cursor: &mut JoinCursor,
     places: &Few<Side, 8>,
     out: &mut K,
-) -> Result<bool, Stop>
+) -> Result<bool, Fault>
     requires may_read { MayReadPairs (V.state files.old) cursor.old }
     ensures wrote { let state = V.state files.old in let lefts = rows state.files cursor.old.left in
         let rights = rows state.files cursor.old.right in
@@ -218,12 +218,12 @@ fn join_next<V: Files, K: Sink>(
     match cursor.next(files, tables, &mut left, &mut right) {
         Ok(true) => {}
         Ok(false) => return Ok(false),
-        Err(_) => return Err(Stop::Flash),
+        Err(_) => return Err(Fault::Flash),
     }
     let mut row = Tuple::new();
     project_pair(places, &left, &right, &mut row);
     match write_row(out, &row) {
         Ok(()) => Ok(true),
-        Err(_) => Err(Stop::Sink),
+        Err(_) => Err(Fault::Sink),
     }
 }

@@ -23,12 +23,12 @@ ghost use Rattle.session_queries.specs.Finds.{HasEightSlots, IsRelationFound, Is
 ghost use Rattle.session_queries.specs.Replies.{WroteNext, rows_left};
 
 use crate::finding::{Found, find};
-use afl_base::{Files, Sink};
+use afl_base::{Fault, Files, Sink};
 use cursor::SelectCursor;
 use db_model::{Condition, Few, Ident, Idents, Refusal, Tuple};
 use index_set::HashTables;
 use reply_text::{write_row, write_rows};
-use session_model::{Held, Outcome, Stop, project};
+use session_model::{Held, Outcome, project};
 use session_plans::{SelectPlan, plan_select};
 
 /// A relation, and what a SELECT asks of it.
@@ -78,7 +78,7 @@ pub fn select<V: Files, K: Sink>(
     tables: &HashTables,
     selecting: Selecting,
     out: &mut K,
-) -> Result<Outcome, Stop>
+) -> Result<Outcome, Fault>
     requires ready { IsReadableBy (V.state files.old) tables.now selecting.found }
     ensures replies { let tuples = selecting.found.tuples in
         let all = rows (V.state files.old).files tuples in
@@ -101,7 +101,7 @@ pub fn select<V: Files, K: Sink>(
             let mut cursor = cursor;
             select_rows(files, tables, &mut cursor, &places, out)
         }
-        Err(_) => Err(Stop::Flash),
+        Err(_) => Err(Fault::Flash),
     }
 }
 
@@ -112,7 +112,7 @@ fn select_rows<V: Files, K: Sink>(
     cursor: &mut SelectCursor,
     places: &Few<u8, 8>,
     out: &mut K,
-) -> Result<Outcome, Stop>
+) -> Result<Outcome, Fault>
     requires may_read { MayRead (V.state files.old) cursor.old.tuples cursor.old.candidates }
     ensures replies { let state = V.state files.old in let all = rows state.files cursor.old.tuples in
         IsTrue state.tells → Fits cursor.old.candidates state tables.now all
@@ -138,7 +138,7 @@ fn select_rows<V: Files, K: Sink>(
     }
     match write_rows(out, count) {
         Ok(()) => Ok(Outcome::Rows(count)),
-        Err(_) => Err(Stop::Sink),
+        Err(_) => Err(Fault::Sink),
     }
 }
 
@@ -152,7 +152,7 @@ fn select_next<V: Files, K: Sink>(
     tuple: &mut Tuple,
     row: &mut Tuple,
     out: &mut K,
-) -> Result<bool, Stop>
+) -> Result<bool, Fault>
     requires may_read { MayRead (V.state files.old) cursor.old.tuples cursor.old.candidates }
     ensures wrote { let state = V.state files.old in let all = rows state.files cursor.old.tuples in
         IsTrue state.tells → Fits cursor.old.candidates state tables.now all
@@ -179,11 +179,11 @@ fn select_next<V: Files, K: Sink>(
     match cursor.next(files, tables, tuple) {
         Ok(Some(_)) => {}
         Ok(None) => return Ok(false),
-        Err(_) => return Err(Stop::Flash),
+        Err(_) => return Err(Fault::Flash),
     }
     project(places, tuple, row);
     match write_row(out, row) {
         Ok(()) => Ok(true),
-        Err(_) => Err(Stop::Sink),
+        Err(_) => Err(Fault::Sink),
     }
 }

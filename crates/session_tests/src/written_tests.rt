@@ -5,14 +5,14 @@ ghost use Rattle.std.specs.Prelude.{◌≡◌, None};
 use crate::arrays::{copied, zeros};
 use crate::cases::show;
 use crate::told::{say, started};
-use afl_base::{Files, Sink};
+use afl_base::{Fault, Files, Sink};
 use afl_sim::{MemSink, PlainFiles};
-use antelope_engine::{Session, Stop};
+use antelope_engine::Session;
 use std::alloc::Global;
 use std::test::Fail;
 
 // How the writing of a session's database ends, which was not stopped.
-fn write<V: Files, K: Sink>(session: &mut Session<V>, out: &mut K) -> Option<Result<(), Stop>> {
+fn write<V: Files, K: Sink>(session: &mut Session<V>, out: &mut K) -> Option<Result<(), Fault>> {
     if session.is_stopped() {
         return None;
     }
@@ -24,7 +24,7 @@ fn script<V: Files>(
     alloc: Global,
     session: &mut Session<V>,
     fail_at: Option<u64>,
-) -> Option<(Vec<u8>, Result<(), Stop>)> {
+) -> Option<(Vec<u8>, Result<(), Fault>)> {
     let mut room = zeros(alloc, 4096);
     let mut out = MemSink::new(room.as_mut_slice(), fail_at);
     let ended = write(session, &mut out)?;
@@ -114,7 +114,7 @@ fn is_cut_off<V: Files>(
 ) -> bool {
     match script(alloc, session, Some(3)) {
         Some((front, ended)) => {
-            ended == Err(Stop::Sink) && is_prefix(front.as_slice(), whole, last)
+            ended == Err(Fault::Sink) && is_prefix(front.as_slice(), whole, last)
         }
         None => false,
     }

@@ -7,8 +7,8 @@ use Rattle.db_model.specs.Database.{Database}
 use Rattle.db_model.specs.ReplyText.{refusal_text}
 use Rattle.db_model.specs.Step.{after_all, replies}
 use Rattle.db_model.specs.Workload.{nothing, tally, tally_text}
-use Rattle.intake.specs.declared.halt.Halt.{Halt}
-use Rattle.intake.specs.declared.halt.Halt.TheVariants.{Space, Flash, Sink}
+use Rattle.intake.specs.declared.ending.Ending.{Ending}
+use Rattle.intake.specs.declared.ending.Ending.TheVariants.{Space, Flash, Sink}
 use Rattle.reply_text.specs.WroteLess.{WroteLess}
 use Rattle.workload_run.specs.Counted.{StopsAtCommand}
 
@@ -44,7 +44,7 @@ module _ (Lacks : Command → ℕ → Type 0) where
     pub held : WroteLess before now (summed_until old stops.front n)
 
   -- why no more of them was carried out
-  abbrev pub StopsCommands : List Command → Database → Database → Option (List ℕ) → Option (List ℕ) → Halt → Type 0
+  abbrev pub StopsCommands : List Command → Database → Database → Option (List ℕ) → Option (List ℕ) → Ending → Type 0
   StopsCommands commands old new before now Space = SaidNoRoom commands old new before now
   StopsCommands commands old new before now Sink = LeftLineUnsaid commands old new before now ⊎ LeftSpaceUnsaid commands old new before now
   StopsCommands commands old new before now Flash = now ≡ before

@@ -11,8 +11,8 @@ ghost use Rattle.workload_run.specs.Counted.{Counted, CountedUntil, OnSpaceFailu
 
 use crate::discard::Discard;
 use crate::tally::Tally;
-use afl_base::Files;
-use antelope_engine::{Session, Step, Stop};
+use afl_base::{Fault, Files};
+use antelope_engine::{Session, Step};
 use db_model::Command;
 use workload::nth_command;
 
@@ -57,9 +57,9 @@ pub fn carry_out<V: Files>(
         match session.exec(&command, &mut replies) {
             Ok(Step::Done(outcome)) => tally.count(&outcome),
             Ok(Step::NoSpace { need }) => return Err(Failure::NoSpace { need }),
-            Err(Stop::Flash) => return Err(Failure::Flash),
+            Err(Fault::Flash) => return Err(Failure::Flash),
             // The sink never fails.
-            Err(Stop::Sink) => unreachable!(),
+            Err(Fault::Sink) => unreachable!(),
         }
     }
     Ok(())

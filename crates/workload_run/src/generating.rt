@@ -6,7 +6,7 @@ ghost use Rattle.std.specs.Prelude.{◌≡◌, ◌≤◌, false, true, IfErr, Is
 ghost use Rattle.answering.specs.Carried.{ChangesOrHalts};
 ghost use Rattle.antelope_engine.specs.Commands.{LacksPages};
 ghost use Rattle.db_model.specs.Workload.{first_commands};
-ghost use Rattle.intake.specs.declared.halt.Halt.TheVariants as Halt;
+ghost use Rattle.intake.specs.declared.ending.Ending.TheVariants as Ending;
 ghost use Rattle.workload_run.specs.Summed.{StopsCommands, SummedUp};
 
 use crate::counting::{Failure, carry_out};
@@ -14,7 +14,7 @@ use crate::line::{write_no_space, write_tally};
 use crate::tally::Tally;
 use afl_base::{Failed, Files, Sink};
 use antelope_engine::Session;
-use intake::Halt;
+use intake::Ending;
 
 /// Carries out the first `count` commands of a seed, 1 to 100,000. Their replies are counted and not
 /// written; behind all of them comes one line, `commands C ok A rows B refused D`.
@@ -29,7 +29,7 @@ pub fn generate<V: Files, K: Sink>(
     seed: u32,
     count: u32,
     out: &mut K,
-) -> Result<(), Halt>
+) -> Result<(), Ending>
     requires running { session.old.stopped ≡ false }
     requires few { count ≤ 100000 }
     ensures carried { IsTrue (V.state session.old.files).tells → OnOk result
@@ -38,10 +38,10 @@ pub fn generate<V: Files, K: Sink>(
     ensures halts { IsTrue (V.state session.old.files).tells → IfErr result (λ halt.
         StopsCommands (LacksPages V.state V.asks V.lacks session.new) (first_commands seed count)
         session.old.database session.new.database (K.held out.old) (K.held out.new) halt) }
-    ensures silent { IsErrOf result Halt.Flash → K.held out.new ≡ K.held out.old }
+    ensures silent { IsErrOf result Ending.Flash → K.held out.new ≡ K.held out.old }
     ensures running { OnOk result (session.new.stopped ≡ false) }
     ensures lost { session.old.lost ≡ false → session.new.lost ≡ true
-        → IsErrOf result Halt.Flash }
+        → IsErrOf result Ending.Flash }
     ensures tells { session.new.lost ≡ false
         → (V.state session.new.files).tells ≡ (V.state session.old.files).tells }
     ensures frame { ChangesOrHalts V.Files K.Sink session.old.files session.new.files
@@ -51,12 +51,12 @@ pub fn generate<V: Files, K: Sink>(
     match carry_out(session, seed, count, &mut tally) {
         Ok(()) => match write_tally(out, &tally) {
             Ok(()) => Ok(()),
-            Err(Failed) => Err(Halt::Sink),
+            Err(Failed) => Err(Ending::Sink),
         },
         Err(Failure::NoSpace { need }) => match write_no_space(out, &tally, need) {
-            Ok(()) => Err(Halt::Space),
-            Err(Failed) => Err(Halt::Sink),
+            Ok(()) => Err(Ending::Space),
+            Err(Failed) => Err(Ending::Sink),
         },
-        Err(Failure::Flash) => Err(Halt::Flash),
+        Err(Failure::Flash) => Err(Ending::Flash),
     }
 }

@@ -1,6 +1,6 @@
 use Rattle.std.proofs.Common.{◌≡◌, refl, rules, ◌/◌, ap, subst, ◌∙◌, inl, inr, Err, arith, length}
-use Rattle.intake.specs.declared.halt.Halt.TheVariants.{Flash, Sink}
-use Rattle.intake.specs.declared.halt.Stop.TheVariants.{Input, Halted}
+use Rattle.intake.specs.declared.ending.Ending.TheVariants.{Flash, Sink}
+use Rattle.intake.specs.declared.ending.InputEnding.TheVariants.{Input, Early}
 use Rattle.stored.specs.Base.{base_of}
 use Rattle.stored.specs.Sound.{BreaksFirst, IsSoundTable}
 use Rattle.sound_image.specs.Images.{base, IsSound}
@@ -56,10 +56,10 @@ returns-in-Ok-Ok-clause-cause g c =
     record {
       input = λ e. let is : c.carry_out-done.result ≡ Err Input = cc in cause.input is;
       flash_failed = λ e.
-          let is : c.carry_out-done.result ≡ Err (Halted Flash) = cc in
+          let is : c.carry_out-done.result ≡ Err (Early Flash) = cc in
           let rose = cause.flash is in
           rw c.close.ensures.faults (omega (arith, rose, later, mounted));
-      sink_failed = λ e. let is : c.carry_out-done.result ≡ Err (Halted Sink) = cc in cause.sink is;
+      sink_failed = λ e. let is : c.carry_out-done.result ≡ Err (Early Sink) = cc in cause.sink is;
       unsaid = λ e. absurd (let n : ⊥ = cc in n);
       unopened = λ e. absurd (let n : ⊥ = cc in n);
     }

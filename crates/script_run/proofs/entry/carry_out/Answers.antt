@@ -3,8 +3,8 @@ use Rattle.std.proofs.lemmas.Result.{IfErr-weaker, on_ok_weaker}
 use Rattle.db_model.specs.ReplyText.{refusal_text}
 use Rattle.db_model.specs.Script.{Bytes}
 use Rattle.padded.proofs.Facts.{err_is}
-use Rattle.intake.specs.declared.halt.Halt.{Halt}
-use Rattle.intake.specs.declared.halt.Halt.TheVariants.{Sink}
+use Rattle.intake.specs.declared.ending.Ending.{Ending}
+use Rattle.intake.specs.declared.ending.Ending.TheVariants.{Sink}
 use Rattle.reply_text.specs.WroteLess.{WroteLess}
 use Rattle.answering.proofs.Single.{refused_carried, refused_halts}
 use Rattle.answering.specs.Carried.{HaltsIn, standing_of}
@@ -44,5 +44,5 @@ returns-in_err-refuse-in-Err-clause-halts g c = λ told. rw (err_is c.from_resid
     let is = c.readings_are_unique.ensures.reading bytes (read bytes) (Err r) (reader.reads bytes) c.in-Err.ensures.reading in
     let less : WroteLess (g.K.Sink.held c.args.out.now) (g.K.Sink.held c.refuse.new.out) (refusal_text r) = search rules in
     let sink : c.in_err-refuse-in-Err.field-0.0 ≡ Sink = search rules in
-    let R : Halt → Type 0 = λ halt. HaltsIn (script_talk read) (LacksPages g.V.Files.state g.V.Files.asks g.V.Files.lacks c.args.session.now) (Bytes bytes ∷ []) a b halt in
+    let R : Ending → Type 0 = λ halt. HaltsIn (script_talk read) (LacksPages g.V.Files.state g.V.Files.asks g.V.Files.lacks c.args.session.now) (Bytes bytes ∷ []) a b halt in
     subst R (sym sink) (refused_halts (script_talk read) (Bytes bytes) a b refl r is refl (LacksPages g.V.Files.state g.V.Files.asks g.V.Files.lacks c.args.session.now) (omega arith) less))

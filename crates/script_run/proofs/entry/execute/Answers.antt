@@ -1,12 +1,12 @@
 use Rattle.std.proofs.Common.{◌≡◌, false, ap, subst, sym, ◌∙◌, [], ◌∷◌, rules}
 use Rattle.std.specs.Io.KnownBytes.{append_known}
 use Rattle.db_model.specs.Script.{Bytes}
-use Rattle.intake.specs.declared.halt.Halt.{Halt}
+use Rattle.intake.specs.declared.ending.Ending.{Ending}
 use Rattle.db_model.specs.declared.refusals.Refusal.TheVariants as no
 use Rattle.db_model.specs.ReplyText.{refusal_text}
 use Rattle.run_model.specs.Scripts.{script_talk}
 use Rattle.std.specs.Prelude.{◌≤◌, ℕ, List, Option}
-use Rattle.intake.specs.declared.halt.Halt.TheVariants.{Sink}
+use Rattle.intake.specs.declared.ending.Ending.TheVariants.{Sink}
 use Rattle.padded.proofs.Facts.{err_is}
 use Rattle.reply_text.specs.WroteLess.{WroteLess}
 use Rattle.answering.proofs.Single.{command_found, command_halts_less, command_unsaid}
@@ -38,7 +38,7 @@ returns-in_err-refuse-in-Ok-NoSpace-clause-halts g c = λ told. rw (err_is c.fro
     let a = standing_of state g.V.Files.reads c.args.session.now (g.K.Sink.held c.args.out.now) in
     let b = standing_of state g.V.Files.reads s (g.K.Sink.held c.refuse.new.out) in
     let kept : s.lost ≡ false = search (rules, e.stops.lost) in
-    let R : Halt → Type 0 = λ halt. HaltsIn (script_talk read) (LacksPages state g.V.Files.asks g.V.Files.lacks s) (Bytes bytes ∷ []) a b halt in
+    let R : Ending → Type 0 = λ halt. HaltsIn (script_talk read) (LacksPages state g.V.Files.asks g.V.Files.lacks s) (Bytes bytes ∷ []) a b halt in
     let less : WroteLess (g.K.Sink.held c.exec.new.out) (g.K.Sink.held c.refuse.new.out) (refusal_text (no.Space n)) = search rules in
     let sink : c.in_err-refuse-in-Ok-NoSpace.field-0.0 ≡ Sink = search rules in
     subst R (sym sink)

@@ -3,8 +3,8 @@ use Rattle.std.proofs.lemmas.Bool.Decides.{nat_tests}
 use Rattle.db_model.specs.declared.refusals.Refusal.TheVariants as no
 use Rattle.db_model.specs.ReplyText.{refusal_text}
 use Rattle.db_model.specs.Script.{Entry, Unfinished, past_white, unended}
-use Rattle.intake.specs.declared.halt.Halt.{Halt}
-use Rattle.intake.specs.declared.halt.Halt.TheVariants.{Sink}
+use Rattle.intake.specs.declared.ending.Ending.{Ending}
+use Rattle.intake.specs.declared.ending.Ending.TheVariants.{Sink}
 use Rattle.padded.proofs.Facts.{err_is}
 use Rattle.reply_text.specs.WroteLess.{WroteLess}
 use Rattle.script_run.proofs.Gathering.{unclosed_some}
@@ -32,7 +32,7 @@ returns-in_err-refuse-clause-halts g c = λ told. rw (err_is c.from_residual.res
     let b = standing_of g.V.Files.state g.V.Files.reads c.args.session.now (g.K.Sink.held c.refuse.new.out) in
     let less : WroteLess (g.K.Sink.held c.args.out.now) (g.K.Sink.held c.refuse.new.out) (refusal_text no.Unfinished) = search rules in
     let sink : c.in_err-refuse.field-0.0 ≡ Sink = search rules in
-    let R : Halt → Type 0 = λ halt. HaltsIn (script_talk read) (LacksPages g.V.Files.state g.V.Files.asks g.V.Files.lacks c.args.session.now) (unended (past_white p)) a b halt in
+    let R : Ending → Type 0 = λ halt. HaltsIn (script_talk read) (LacksPages g.V.Files.state g.V.Files.asks g.V.Files.lacks c.args.session.now) (unended (past_white p)) a b halt in
     let P : List Entry → Type 0 = λ es. HaltsIn (script_talk read) (LacksPages g.V.Files.state g.V.Files.asks g.V.Files.lacks c.args.session.now) es a b Sink in
     subst R (sym sink) (subst P (sym (unclosed_some p v.bytes.items v.long gathers some))
     (refused_halts (script_talk read) Unfinished a b refl no.Unfinished refl refl (LacksPages g.V.Files.state g.V.Files.asks g.V.Files.lacks c.args.session.now) (omega arith) less)))

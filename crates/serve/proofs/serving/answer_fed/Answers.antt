@@ -3,7 +3,7 @@ use Rattle.answering.proofs.Single.{refused_carried, refused_halts}
 use Rattle.answering.specs.Carried.{Carried, HaltsIn, standing_of}
 use Rattle.antelope_engine.specs.Commands.{LacksPages}
 use Rattle.db_model.specs.declared.refusals.Refusal.TheVariants as no
-use Rattle.intake.specs.declared.halt.Halt.TheVariants.{Sink}
+use Rattle.intake.specs.declared.ending.Ending.TheVariants.{Sink}
 use Rattle.serve.specs.Gathers.{client_in, command_in, told}
 use Rattle.serve_model.specs.Frames.{Asked, Frame, Broken, Long}
 use Rattle.serve_model.specs.Served.{serve_talk}

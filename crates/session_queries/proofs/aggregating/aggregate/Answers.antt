@@ -2,7 +2,7 @@ use Rattle.std.proofs.Common.{arith, Ok, Err, ◌∙◌, refl}
 use Rattle.db_model.specs.declared.commands.Command.TheVariants as command
 use Rattle.db_model.specs.Step.{step}
 use Rattle.session_model.specs.declared.step.Outcome.TheVariants as came
-use Rattle.session_model.specs.declared.step.Stop.TheVariants.{Flash, Sink as OfSink}
+use Rattle.afl_base.specs.declared.fault.Fault.TheVariants.{Flash, Sink as OfSink}
 use Rattle.session_model.specs.Aheads.{aheads_of}
 use Rattle.session_model.specs.View.{view}
 use Rattle.session_queries.specs.Replies.{ReadsNoMore}

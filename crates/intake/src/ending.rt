@@ -1,6 +1,6 @@
 /// Why what takes an input went no further.
 #[derive(Clone, Copy, Debug, PartialEq, Eq)]
-pub enum Halt {
+pub enum Ending {
     /// No extent of the pages that are needed could be had.
     Space,
     /// The flash failed.
@@ -11,11 +11,11 @@ pub enum Halt {
 
 /// Why an input was not taken to its end.
 #[derive(Clone, Copy, Debug, PartialEq, Eq)]
-pub enum Stop {
+pub enum InputEnding {
     /// The input failed.
     Input,
     /// It has more than 16,777,216 bytes.
     Long,
-    /// What takes it went no further.
-    Halted(Halt),
+    /// What takes it ended before it did.
+    Early(Ending),
 }
