@@ -1,4 +1,6 @@
-use crate::calls::{Answer, Call, SIZE, erased, failing, first_other, first_other_of, flash_in};
+use crate::device_calls::{
+    Answer, Call, SIZE, erased, failing, first_other, first_other_of, flash_in,
+};
 use crate::files::{only_byte_in, read_alone, two_bytes_in, zeros};
 use afl_base::Flash;
 use afl_sim::CachedFlash;

@@ -1,4 +1,4 @@
-use crate::calls::{Answer, Call, SIZE, erased, first_other};
+use crate::device_calls::{Answer, Call, SIZE, erased, first_other};
 use afl_base::{Failed, Flash, PageId};
 use afl_sim::CutFlash;
 

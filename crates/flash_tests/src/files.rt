@@ -1,6 +1,6 @@
 //! Real files, by calls that answer plain values.
 
-use crate::calls::{SIZE, only_byte};
+use crate::device_calls::{SIZE, only_byte};
 use afl_base::SECTOR_SIZE;
 use std::fs;
 use std::fs::{File, Files, OpenOptions};

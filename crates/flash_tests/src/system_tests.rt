@@ -1,4 +1,4 @@
-use crate::calls::{Answer, Call, first_other_in};
+use crate::device_calls::{Answer, Call, first_other_in};
 use crate::files::{is_erased_alone_in, sevens};
 use crate::streams::{Count, first_other_read, first_other_write};
 use afl_base::Failed;

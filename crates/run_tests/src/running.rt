@@ -5,6 +5,7 @@ use afl_base::{Flash, Sink, Source};
 use afl_sim::{MemFlash, MemSink, MemSource};
 use antelope_run::top;
 use std::alloc::{AllocError, Global};
+use std::test::Fail;
 use test_texts::{Part, joined};
 
 /// The bytes of a sector.
@@ -12,6 +13,12 @@ pub const SECTOR: usize = 4_096;
 
 /// The sectors of most images.
 pub const MANY: usize = 256;
+
+/// The sectors of a small one.
+pub const FEW: usize = 24;
+
+/// The words that carry out a script.
+pub const RUN: &[&str] = &["run", "image", "script"];
 
 /// What a run came to, and how often it read its flash.
 #[derive(Drop)]
@@ -26,9 +33,33 @@ impl Ended {
     pub fn is(&self, status: u8, text: &[u8]) -> bool {
         self.status == status && self.written.as_slice() == text
     }
+
+    /// Whether it ended with this status and wrote this text, or a part of it from its first byte on.
+    pub fn is_front(&self, status: u8, text: &[u8]) -> bool {
+        self.status == status && text.starts_with(self.written.as_slice())
+    }
+
+    /// Whether it ended with this status and wrote less than this text.
+    pub fn is_cut_off(&self, status: u8, text: &[u8]) -> bool {
+        self.written.len() < text.len() && self.is_front(status, text)
+    }
+
+    /// Whether it ended with the line of a broken rule.
+    pub fn is_refused(&self) -> bool {
+        self.status == 6 && self.written.as_slice().starts_with(b"no image ")
+    }
 }
 
-fn of_zeros(alloc: Global, bytes: usize) -> Result<Vec<u8>, AllocError> {
+/// A case of a test is wrong, or none is.
+pub fn none_is_wrong(wrong: Option<u64>) -> Result<(), Fail> {
+    match wrong {
+        None => Ok(()),
+        Some(case) => Err(Fail::new(case)),
+    }
+}
+
+/// So many zeros.
+pub fn of_zeros(alloc: Global, bytes: usize) -> Result<Vec<u8>, AllocError> {
     vec![in alloc; 0u8; bytes]
 }
 
@@ -48,6 +79,11 @@ pub fn copied(alloc: Global, bytes: &[u8]) -> Vec<u8> {
     }
 }
 
+/// Whether all bytes of an image are 0.
+pub fn is_erased(alloc: Global, image: &[u8]) -> bool {
+    image == erased(alloc, image.len() / SECTOR).as_slice()
+}
+
 /// The text of some parts.
 pub fn text(alloc: Global, parts: &[Part]) -> Vec<u8> {
     match joined(alloc, parts) {
@@ -56,8 +92,8 @@ pub fn text(alloc: Global, parts: &[Part]) -> Vec<u8> {
     }
 }
 
-// Calls the program with some words, and answers its status and the flash.
-fn finish<F: Flash + Drop, S: Source, K: Sink>(
+/// Calls the program with some words, and answers its status and the flash.
+pub fn finish<F: Flash + Drop, S: Source, K: Sink>(
     alloc: Global,
     words: &[&str],
     input: &mut S,
@@ -90,8 +126,8 @@ fn called<S: Source>(
     })
 }
 
-// No run.
-fn nothing(alloc: Global) -> Ended {
+/// No run.
+pub fn nothing(alloc: Global) -> Ended {
     Ended {
         status: 255,
         written: Vec::new(alloc),
@@ -120,9 +156,18 @@ pub fn ask(alloc: Global, words: &[&str], image: &mut [u8]) -> Ended {
     call_with(alloc, words, b"", image)
 }
 
-const RUN: &[&str] = &["run", "image", "script"];
-
 /// Carries out a script on an image.
 pub fn run(alloc: Global, script: &[u8], image: &mut [u8]) -> Ended {
     call_with(alloc, RUN, script, image)
+}
+
+/// Whether a script over an image is carried out with just these replies.
+pub fn runs(alloc: Global, script: &[u8], image: &mut [u8], replies: &[u8]) -> bool {
+    run(alloc, script, image).is(0, replies)
+}
+
+/// Whether a run on an image finds that it is sound, or says which rule it breaks.
+pub fn is_judged(alloc: Global, image: &mut [u8]) -> bool {
+    let ended = run(alloc, b"", image);
+    ended.is(0, b"") || ended.is_refused()
 }

@@ -1,9 +1,0 @@
-use Rattle.std.proofs.Common.{◌≡◌, None}
-use Rattle.candidate_tests.specs.Standing.{LeavesFiles}
-use Rattle.candidate_tests.proofs.between.collect.Given as goal
-
-abbrev pub invariant-loop-turn : goal.invariant-loop-turn
-invariant-loop-turn g l = record {
-  idle : (g.V.Files.state l.files).draft ≡ None;
-  keeps : LeavesFiles (g.V.Files.state l.fn.files) (g.V.Files.state l.files);
-}
