@@ -5,3 +5,4 @@ pub mod Holding
 pub mod Outcomes
 pub mod TableFiles
 pub mod Takes
+pub mod Torn

@@ -1,4 +1,4 @@
-ghost use Rattle.std.specs.Prelude.{◌≡◌, ◌≢◌, ◌+◌, ◌*◌, ◌≤◌, ℕ, true, None, length, IsTrue, IfOk, OnErr, OnOk};
+ghost use Rattle.std.specs.Prelude.{◌≡◌, ◌≢◌, ◌+◌, ◌*◌, ◌≤◌, ℕ, true, None, length, IsErrOf, IsTrue, IfOk, OnErr, OnOk};
 ghost use Rattle.afl_base.specs.Keeping.{ChangesFlashOrLacks, Programs};
 ghost use Rattle.afl_base.specs.Cuts.{IsCutProgram};
 ghost use Rattle.afl_base.specs.FileErrors.{OnSpace};
@@ -8,6 +8,7 @@ ghost use Rattle.coffee_header.specs.Headers.{header_bytes, is_flags, is_kind};
 ghost use Rattle.coffee_layout.specs.Units.{pages_of};
 ghost use Rattle.coffee_merge.specs.Holding.{Entries, HoldsTable, draft_header, extent_of, has_shape};
 ghost use Rattle.coffee_merge.specs.Outcomes.{BeginsFile, IsObtained, LeavesAll};
+ghost use Rattle.coffee_merge.specs.Torn.{BreaksOff};
 
 use afl_base::{Failed, FileError, Flash, Kind, Name, PageId};
 use coffee_header::{Header, write_header};
@@ -32,6 +33,9 @@ pub fn begin_extent<F: Flash>(
         → LeavesAll (F.image flash.old) (F.image flash.new) table need) }
     ensures need { OnSpace result (λ need. need ≡ pages) }
     ensures inside { IfOk result (λ page. page.0 + pages ≤ pages_of (F.image flash.new)) }
+    ensures cut { IsTrue F.tells → IsTrue F.cuts → IsErrOf result FileError.Failed
+        → (table : Entries) → HoldsTable (F.image flash.old) table None
+        → BreaksOff (F.image flash.old) (F.image flash.new) table }
     ensures frame { ChangesFlashOrLacks F.image F.lent F.reads F.faults flash.old flash.new result }
 {
     let page = obtain_pages(flash, pages)?;
@@ -50,6 +54,9 @@ pub(crate) fn obtain_pages<F: Flash>(flash: &mut F, pages: u16) -> Result<PageId
         → LeavesAll (F.image flash.old) (F.image flash.new) table need) }
     ensures need { OnSpace result (λ need. need ≡ pages) }
     ensures inside { IfOk result (λ page. 256 * (page.0 + pages) ≤ length (F.image flash.new)) }
+    ensures cut { IsTrue F.tells → IsTrue F.cuts → IsErrOf result FileError.Failed
+        → (table : Entries) → HoldsTable (F.image flash.old) table None
+        → BreaksOff (F.image flash.old) (F.image flash.new) table }
     ensures frame { ChangesFlashOrLacks F.image F.lent F.reads F.faults flash.old flash.new result }
 {
     obtain(flash, pages)

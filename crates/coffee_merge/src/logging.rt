@@ -1,5 +1,6 @@
-ghost use Rattle.std.specs.Prelude.{◌≡◌, ◌≢◌, ◌+◌, ◌*◌, ◌≤◌, ◌<◌, ℕ, true, None, length, IsTrue, IfOk, OnErr, OnOk};
+ghost use Rattle.std.specs.Prelude.{◌≡◌, ◌≢◌, ◌+◌, ◌*◌, ◌≤◌, ◌<◌, ℕ, true, None, length, IsErrOf, IsTrue, IfOk, OnErr, OnOk};
 ghost use Rattle.afl_base.specs.Keeping.{ChangesFlashOrLacks, Programs};
+ghost use Rattle.afl_base.specs.Cuts.{IsCutProgram};
 ghost use Rattle.afl_base.specs.Fields.{u16_bytes};
 ghost use Rattle.afl_base.specs.FileErrors.{OnSpace};
 ghost use Rattle.afl_base.specs.Image.{or_at, page_bytes};
@@ -11,6 +12,7 @@ ghost use Rattle.coffee_merge.specs.CutMarks.{IsCutNaming};
 ghost use Rattle.coffee_merge.specs.Flags.{flagged};
 ghost use Rattle.coffee_merge.specs.Holding.{Entries, HoldsTable, IsIn, log_header};
 ghost use Rattle.coffee_merge.specs.Outcomes.{LeavesAll, LogsFile};
+ghost use Rattle.coffee_merge.specs.Torn.{BreaksOff};
 
 use crate::begin::{obtain_pages, put_header};
 use afl_base::{Failed, FileError, Flash, Name, PageId, put_u16};
@@ -31,6 +33,10 @@ pub fn add_log<F: Flash>(flash: &mut F, file: &FileAt) -> Result<PageId, FileErr
         → LeavesAll (F.image flash.old) (F.image flash.new) table need) }
     ensures need { OnSpace result (λ need. need ≡ 16) }
     ensures inside { IfOk result (λ log. log.0 + 16 ≤ pages_of (F.image flash.new)) }
+    ensures cut { IsTrue F.tells → IsTrue F.cuts → IsErrOf result FileError.Failed
+        → (table : Entries) (i : ℕ) → HoldsTable (F.image flash.old) table None
+        → IsIn table i file.now → file.now.log ≡ None
+        → BreaksOff (F.image flash.old) (F.image flash.new) table }
     ensures frame { ChangesFlashOrLacks F.image F.lent F.reads F.faults flash.old flash.new result }
 {
     flash.sectors();
@@ -48,6 +54,8 @@ fn put_log_header<F: Flash>(flash: &mut F, log: PageId, name: &Name) -> Result<(
         (F.image flash.new ≡ or_at (F.image flash.old) (256 * log.0) (header_bytes (log_header name.now))) }
     ensures other_pages { IsTrue F.tells → (p : ℕ) → p ≢ log.0
         → page_bytes (F.image flash.new) p ≡ page_bytes (F.image flash.old) p }
+    ensures cut { IsTrue F.tells → IsTrue F.cuts → OnErr result
+        (IsCutProgram (F.image flash.old) (F.image flash.new) (256 * log.0) (header_bytes (log_header name.now))) }
     ensures frame { Programs F.image F.lent F.reads F.faults flash.old flash.new result }
 {
     let header = Header {

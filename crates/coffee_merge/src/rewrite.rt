@@ -1,10 +1,11 @@
-ghost use Rattle.std.specs.Prelude.{◌≡◌, ◌+◌, ◌*◌, ◌≤◌, ℕ, None, true, IsTrue, IfOk};
+ghost use Rattle.std.specs.Prelude.{◌≡◌, ◌+◌, ◌*◌, ◌≤◌, ℕ, None, true, IsErrOf, IsTrue, IfOk};
 ghost use Rattle.afl_base.specs.FileErrors.{OnSpace};
 ghost use Rattle.afl_base.specs.Keeping.{ChangesFlashOrLacks};
 ghost use Rattle.coffee_layout.specs.Files.{FitsIn};
 ghost use Rattle.coffee_layout.specs.Units.{pages_of};
 ghost use Rattle.coffee_merge.specs.Holding.{Entries, HoldsTable, IsIn, has_shape};
 ghost use Rattle.coffee_merge.specs.Outcomes.{LeavesAll, MovesFile};
+ghost use Rattle.coffee_merge.specs.Torn.{BreaksOff};
 
 use crate::begin::begin_extent;
 use crate::commit::replace_file;
@@ -28,6 +29,10 @@ pub fn merge<F: Flash>(flash: &mut F, file: &FileAt) -> Result<FileAt, FileError
         → LeavesAll (F.image flash.old) (F.image flash.new) table need) }
     ensures need { OnSpace result (λ need. need ≡ file.now.pages) }
     ensures inside { IfOk result (λ to. FitsIn (pages_of (F.image flash.new)) to) }
+    ensures cut { IsTrue F.tells → IsTrue F.cuts → IsErrOf result FileError.Failed
+        → (table : Entries) (i : ℕ) → HoldsTable (F.image flash.old) table None
+        → IsIn table i file.now
+        → BreaksOff (F.image flash.old) (F.image flash.new) table }
     ensures frame { ChangesFlashOrLacks F.image F.lent F.reads F.faults flash.old flash.new result }
 {
     rewrite(flash, file, file.pages)
@@ -51,6 +56,10 @@ pub fn grow<F: Flash>(flash: &mut F, file: &FileAt) -> Result<FileAt, FileError>
         → LeavesAll (F.image flash.old) (F.image flash.new) table need) }
     ensures need { OnSpace result (λ need. need ≡ 2 * file.now.pages) }
     ensures inside { IfOk result (λ to. FitsIn (pages_of (F.image flash.new)) to) }
+    ensures cut { IsTrue F.tells → IsTrue F.cuts → IsErrOf result FileError.Failed
+        → (table : Entries) (i : ℕ) → HoldsTable (F.image flash.old) table None
+        → IsIn table i file.now
+        → BreaksOff (F.image flash.old) (F.image flash.new) table }
     ensures frame { ChangesFlashOrLacks F.image F.lent F.reads F.faults flash.old flash.new result }
 {
     rewrite(flash, file, 2 * file.pages)
@@ -71,6 +80,10 @@ fn rewrite<F: Flash>(flash: &mut F, file: &FileAt, pages: u16) -> Result<FileAt,
         → LeavesAll (F.image flash.old) (F.image flash.new) table need) }
     ensures need { OnSpace result (λ need. need ≡ pages) }
     ensures inside { IfOk result (λ to. FitsIn (pages_of (F.image flash.new)) to) }
+    ensures cut { IsTrue F.tells → IsTrue F.cuts → IsErrOf result FileError.Failed
+        → (table : Entries) (i : ℕ) → HoldsTable (F.image flash.old) table None
+        → IsIn table i file.now
+        → BreaksOff (F.image flash.old) (F.image flash.new) table }
     ensures frame { ChangesFlashOrLacks F.image F.lent F.reads F.faults flash.old flash.new result }
 {
     let page = begin_extent(flash, &file.name, file.kind, pages)?;

@@ -1,7 +1,8 @@
-use Rattle.std.proofs.Common.{None, arith}
+use Rattle.std.proofs.Common.{None, arith, refl}
 use Rattle.coffee_merge.proofs.Drafting.{draft_begins, stays_begins}
 use Rattle.coffee_merge.proofs.Lowest.{draft_frees, takes_by}
 use Rattle.coffee_merge.proofs.Taken.{draft_takes, takes_after}
+use Rattle.coffee_merge.proofs.TornFiles.{torn_header}
 use Rattle.coffee_merge.proofs.begin.begin_extent.Goals as goal
 
 pub returns-clause-begun : goal.returns-clause-begun
@@ -20,3 +21,9 @@ returns-clause-begun g c = λ t table size h fits.
           (λ p out apart. c.put_file_header.ensures.other_pages t p (λ same. out (omega arith) (omega (arith, c.requires.some))))
           (draft_frees mid new table c.args.name.now c.args.kind c.in_ok-page.page.0 c.args.pages first.stays.holds first.run c.requires.some (omega (arith, c.ranges.pages)) c.put_file_header.ensures.name written);
     }
+
+pub returns-in_err-put_file_header-clause-cut : goal.returns-in_err-put_file_header-clause-cut
+returns-in_err-put_file_header-clause-cut g c = λ t u failed table h.
+    let first = c.in_ok-page.ensures.run t table h in
+    torn_header (g.F.Flash.image c.args.flash.now) (g.F.Flash.image c.obtain_pages.new.flash) (g.F.Flash.image c.put_file_header.new.flash) table first.stays.kept
+    c.in_ok-page.page.0 c.args.pages _ first.stays.holds first.run refl (c.in_err-put_file_header.ensures.cut t u)

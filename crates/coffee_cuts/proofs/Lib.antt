@@ -1,0 +1,3 @@
+mod Reached
+mod SettledImages
+mod SoundImages
