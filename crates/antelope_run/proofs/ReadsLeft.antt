@@ -1,8 +1,9 @@
 -- What a run reads, its opening included.
-use Rattle.std.proofs.Common.{◌≡◌, ℕ, ◌+◌, ◌-◌, ◌/◌, ◌≤◌, Bool, true, false, List, length, Option, Some, None, ap, refl, arith}
+use Rattle.std.proofs.Common.{◌≡◌, ℕ, ◌+◌, ◌-◌, ◌*◌, ◌/◌, ◌≤◌, Bool, true, false, List, length, Option, Some, None, ap, refl, arith}
 use Rattle.db_model.specs.Ahead.{Aheads, no_cursors}
 use Rattle.db_model.specs.Database.{Database}
 use Rattle.db_model.specs.RunCost.{opening_cost}
+use Rattle.dump.specs.Parts.{slots_of_all}
 use Rattle.answering.specs.Carried.{Standing}
 use Rattle.run_model.specs.Line.{Line}
 use Rattle.run_model.specs.Runs.{ReadsWithin, world}
@@ -14,7 +15,7 @@ use Rattle.sound_image.specs.Images.{IsSound, base}
 use Rattle.antelope_run.specs.declared.words.Form.{Form}
 use Rattle.antelope_run.specs.declared.words.Form.TheVariants.{Run, Gen, Plan, Serve, Dump}
 use Rattle.antelope_run.specs.Does.{CarriedReads, InputReads}
-use Rattle.antelope_run.specs.Statuses.{EntriesReadAtMost, OpensWithin, ReadsAtMost}
+use Rattle.antelope_run.specs.Statuses.{DumpsWithin, EntriesReadAtMost, OpensWithin, ReadsAtMost}
 
 -- what is not true is false
 pub not_true : (X : Type 0) (b : Bool) → (b ≡ true → X) → (X → ⊥) → b ≡ false
@@ -45,8 +46,17 @@ module _ (image : List ℕ) (left held : Option (List ℕ)) (before : ℕ) where
     planned_by (Gen seed count) h n e = absurd (let f : ⊥ = cc in f)
     planned_by Dump h n e = absurd (let f : ⊥ = cc in f)
 
+    dumped_by : (form : Form) → CarriedReads form a left now → Some form ≡ Some Dump → DumpsWithin (world image left held) (now - before)
+    dumped_by Dump h e =
+        let slots = ap (λ (db : Database). slots_of_all db.relations) start in
+        omega (arith, h, opened, slots)
+    dumped_by Run h e = absurd (let f : ⊥ = cc in f)
+    dumped_by Serve h e = absurd (let f : ⊥ = cc in f)
+    dumped_by (Gen seed count) h e = absurd (let f : ⊥ = cc in f)
+    dumped_by (Plan rows) h e = absurd (let f : ⊥ = cc in f)
+
     pub reads_by : (form : Form) → IsSound image → CarriedReads form a left now → ReadsAtMost (Some form) (world image left held) (now - before)
-    reads_by form sound h = record { refused = λ unsound. absurd (unsound sound); planned = planned_by form h; entries = entries_by form h }
+    reads_by form sound h = record { refused = λ unsound. absurd (unsound sound); planned = planned_by form h; dumped = dumped_by form h; entries = entries_by form h }
 
   unopened_entries : (form : Form) (now : ℕ) → now ≤ before + opening_cost (base image) (length image / 256) → EntriesReadAtMost (Some form) (world image left held) (now - before)
   unopened_entries Run now h = λ read reader text told all. omega (arith, h)
@@ -56,8 +66,8 @@ module _ (image : List ℕ) (left held : Option (List ℕ)) (before : ℕ) where
   unopened_entries Dump now h = tt
 
   pub unopened_reads : (form : Form) (now : ℕ) → now ≤ before + opening_cost (base image) (length image / 256) → ReadsAtMost (Some form) (world image left held) (now - before)
-  unopened_reads form now h = record { refused = λ unsound. omega (arith, h); planned = λ rows e. omega (arith, h); entries = unopened_entries form now h }
+  unopened_reads form now h = record { refused = λ unsound. omega (arith, h); planned = λ rows e. omega (arith, h); dumped = λ e. omega (arith, h); entries = unopened_entries form now h }
 
 -- without words nothing is read
 pub nothing_read : (image : List ℕ) (left held : Option (List ℕ)) (n : ℕ) → n ≡ 0 → ReadsAtMost None (world image left held) n
-nothing_read image left held n none = record { refused = λ unsound. omega (arith, none); planned = λ rows e. omega (arith, none); entries = tt }
+nothing_read image left held n none = record { refused = λ unsound. omega (arith, none); planned = λ rows e. omega (arith, none); dumped = λ e. omega (arith, none); entries = tt }

@@ -1,9 +1,10 @@
 -- What a session does that the words ask for.
-use Rattle.std.specs.Prelude.{◌≡◌, ◌≢◌, ◌≤◌, ◌+◌, ⊤, ℕ, List, Option, Some, Result, Ok, Err}
+use Rattle.std.specs.Prelude.{◌≡◌, ◌≢◌, ◌≤◌, ◌+◌, ◌*◌, ⊤, ℕ, List, Option, Some, Result, Ok, Err}
 use Rattle.std.specs.List.{AllByRecursion}
 use Rattle.std.specs.Io.KnownBytes.{append_known}
 use Rattle.db_model.specs.declared.commands.Command.{Command}
 use Rattle.db_model.specs.Workload.{first_commands}
+use Rattle.dump.specs.Parts.{slots_of_all}
 use Rattle.dump_model.specs.Script.{script}
 use Rattle.intake.specs.declared.ending.Ending.{Ending}
 use Rattle.intake.specs.declared.ending.Ending.TheVariants.{Space, Flash, Sink}
@@ -61,6 +62,7 @@ abbrev pub CarriedReads : Form → Standing → Option (List ℕ) → ℕ → Ty
 CarriedReads Run old left reads = OnInput Run (InputReads old left reads)
 CarriedReads Serve old left reads = OnInput Serve (InputReads old left reads)
 CarriedReads (Plan rows) old left reads = reads ≡ old.reads
+CarriedReads Dump old left reads = reads ≤ old.reads + 6 * slots_of_all old.database.relations
 CarriedReads _ old left reads = ⊤
 
 -- the words ask for what neither changes files nor reads an input

@@ -1,5 +1,5 @@
 -- What a run leaves behind, by what its words ask for.
-use Rattle.std.specs.Prelude.{◌≡◌, ◌≢◌, ◌⊎◌, ⊤, ℕ, ◌/◌, ◌≤◌, List, [], length, Option, Some, None, Result}
+use Rattle.std.specs.Prelude.{◌≡◌, ◌≢◌, ◌⊎◌, ⊤, ℕ, ◌+◌, ◌*◌, ◌/◌, ◌≤◌, List, [], length, Option, Some, None, Result}
 use Rattle.std.specs.Io.KnownBytes.{IsAtEnd, append_known}
 use Rattle.afl_base.specs.declared.flash.Flash.{Ghosts as FlashOf}
 use Rattle.afl_base.specs.declared.stream.Sink.{Ghosts as SinkOf}
@@ -13,6 +13,7 @@ use Rattle.db_model.specs.RunCost.{opening_cost}
 use Rattle.db_model.specs.ReplyText.{refusal_text}
 use Rattle.db_model.specs.Step.{after_all}
 use Rattle.db_model.specs.Workload.{first_commands}
+use Rattle.dump.specs.Parts.{slots_of_all}
 use Rattle.dump_model.specs.Script.{script}
 use Rattle.run_model.specs.Line.{Line}
 use Rattle.run_model.specs.Runs.{CarriedOut, FoundNoSpace, HasEnough, InputCutOff, InputEnded, InputFaulted, InputFoundNoSpace, InputTooLong, InputUnsaid, Machine, ReadsWithin, RefusalUnsaid, Refuses, SpaceUnsaid, StandsAfter, CameToLimit, World, WroteWithin, WroteInFront, machine_from}
@@ -208,14 +209,20 @@ HasSpace (Some Serve) old = (old.left ≢ None) × (read : List ℕ → Result C
 abbrev pub OpensWithin : World → ℕ → Type 0
 OpensWithin old n = n ≤ opening_cost (base old.image) (length old.image / 256)
 
+-- to dump its database, six more for each slot of a relation
+abbrev pub DumpsWithin : World → ℕ → Type 0
+DumpsWithin old n = n ≤ opening_cost (base old.image) (length old.image / 256) + 6 * slots_of_all (base old.image).relations
+
 -- by an input whose entries only read, so many more
 abbrev pub EntriesReadAtMost : Option Form → World → ℕ → Type 0
 EntriesReadAtMost (Some Run) old n = OnInput Run (λ E line talk. ReadsWithin line talk old n)
 EntriesReadAtMost (Some Serve) old n = OnInput Serve (λ E line talk. ReadsWithin line talk old n)
 EntriesReadAtMost _ old n = ⊤
 
--- an image that is refused is judged alone, and so is one that is planned for
+-- an image that is refused is judged alone, and so is one that is planned for; for generated commands, which change files,
+-- there is no bound
 pub record ReadsAtMost (words : Option Form) (old : World) (n : ℕ) : Type 0 where
   pub refused : (IsSound old.image → ⊥) → OpensWithin old n
   pub planned : (rows : ℕ) → words ≡ Some (Plan rows) → OpensWithin old n
+  pub dumped : words ≡ Some Dump → DumpsWithin old n
   pub entries : EntriesReadAtMost words old n

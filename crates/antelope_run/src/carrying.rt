@@ -2,11 +2,12 @@
 
 #![tactic(auto)]
 
-ghost use Rattle.std.specs.Prelude.{◌≡◌, ◌≢◌, ◌≤◌, false, true, ℕ, Err, IsTrue, Some, length};
+ghost use Rattle.std.specs.Prelude.{◌≡◌, ◌≢◌, ◌≤◌, ◌+◌, ◌*◌, false, true, ℕ, Err, IsTrue, Some, length};
 ghost use Rattle.answering.specs.Carried.{standing_of};
 ghost use Rattle.antelope_engine.specs.Commands.{LacksPages};
 ghost use Rattle.answering.specs.Went.{HasRunCause};
 ghost use Rattle.db_model.specs.Workload.{first_commands};
+ghost use Rattle.dump.specs.Parts.{slots_of_all};
 ghost use Rattle.dump.specs.Unchanged.{IsAsBefore};
 ghost use Rattle.dump_model.specs.Script.{script};
 ghost use Rattle.intake.specs.declared.ending.Ending.TheVariants as Ending;
@@ -133,6 +134,8 @@ fn dump_all<V: Files, K: Sink>(session: &mut Session<V>, out: &mut K) -> Result<
         → TellsOn old new result × WritesText old new (script session.old.database) result }
     ensures same { result ≢ Err (InputEnding.Early Ending.Flash) → IsAsBefore V.state session.old session.new }
     ensures files { V.state session.new.files ≡ V.state session.old.files }
+    ensures reads { let slots = slots_of_all session.old.database.relations in
+        V.reads session.new.files ≤ V.reads session.old.files + 6 * slots }
     ensures lost { session.old.lost ≡ false → session.new.lost ≡ true
         → result ≡ Err (InputEnding.Early Ending.Flash) }
     ensures store { length (V.state session.new.files).store ≡ length (V.state session.old.files).store }
