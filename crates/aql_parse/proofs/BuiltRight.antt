@@ -1,6 +1,8 @@
 -- Where tokens spell a command, it is the one that is built of them.
-use Rattle.std.proofs.Common.{◌≡◌, ℕ, ◌≤◌, Bool, true, false, List, [], ◌∷◌, ◌++◌, length, Option, Some, None, refl, ◌∙◌, ap, arith, nat_le, nat_lt, if◌then◌else◌}
+use Rattle.std.proofs.Common.{◌≡◌, ℕ, suc, ◌+◌, ◌-◌, ◌*◌, ◌≤◌, Bool, true, false, List, [], ◌∷◌, ◌++◌, length, take, Option, Some, None, refl, ◌∙◌, ap, arith, length-append, nat_le, nat_lt, if◌then◌else◌}
 use Rattle.std.proofs.lemmas.Bool.Decides.{nat_tests}
+use Rattle.std.proofs.Math.Seq.{take-append-add}
+use Rattle.std.proofs.lemmas.List.{take_all}
 use Rattle.std.specs.Option.{option_map, option_and_then}
 use Rattle.db_model.specs.Grammar.{Listed, one, more, ListOf, NameItem, a_name, ValueItem, number_value, minus_value, text_value, AggItem, an_aggregate, agg_word, int, long, time, string, IsQuery, select, join, Spells, create_relation, create_attribute, create_index, insert, ask, aggregate, remove_from, remove_relation, remove_index, pack, open_cursor, fetch_cursor, close_cursor}
 use Rattle.db_model.specs.Spelling.{query_nodes, nodes_of}
@@ -12,12 +14,12 @@ use Rattle.db_model.specs.declared.commands.Node.{Node}
 use Rattle.db_model.specs.declared.commands.Query.{Query}
 use Rattle.db_model.specs.declared.commands.Query.TheVariants as query
 use Rattle.db_model.specs.declared.schemas.IndexKind.TheVariants as kind
-use Rattle.db_model.specs.declared.tokens.Keyword.TheVariants.{KFROM, KINTO, KON, KPROJECT}
+use Rattle.db_model.specs.declared.tokens.Keyword.TheVariants.{KFROM, KINTO, KON, KPROJECT, KSELECT, KOPEN}
 use Rattle.db_model.specs.declared.tokens.Sign.TheVariants.{LeftBracket, RightBracket, Comma}
 use Rattle.db_model.specs.declared.tokens.Token.{Token}
-use Rattle.db_model.specs.declared.tokens.Token.TheVariants.{Word, Name, Sign}
+use Rattle.db_model.specs.declared.tokens.Token.TheVariants.{Word, Name, Number, Sign}
 use Rattle.db_model.specs.declared.values.Value.{Value}
-use Rattle.aql_parse.specs.Built.{at_most_8, name_tokens, values_in, aggregates_in, relation_in, select_of, insert_of, join_read, query_of, selection_of, aggregate_read, command_of}
+use Rattle.aql_parse.specs.Built.{at_most_8, name_tokens, values_in, aggregates_in, relation_in, select_of, insert_of, join_read, query_of, selection_of, aggregate_read, first_tokens, command_of}
 use Rattle.aql_parse.proofs.Collecting.{within}
 
 few : {A : Type 0} (xs : List A) → length xs ≤ 8 → at_most_8 xs ≡ Some xs
@@ -131,6 +133,14 @@ aggregate_built list r nodes ts us l =
     ∙ ap (λ x. made (Some r) (at_most_8 x)) (aggregates_before list ts l.listed (Word KFROM ∷ Name r ∷ us) refl)
     ∙ ap (made (Some r)) (few list l.few)
 
+-- ---- what follows a relation's name tells nothing
+
+ask_built : (list : List (List ℕ)) (r : List ℕ) (nodes : List Node) (ts us : List Token) → ListOf NameItem list ts → command_of (Word KSELECT ∷ (ts ++ Word KFROM ∷ Name r ∷ us)) nodes ≡ Some (command.Ask (query.Select list r nodes))
+ask_built list r nodes ts us l = selection_names list ts l.listed (Word KFROM ∷ Name r ∷ us) nodes ∙ ap (option_map (λ q. command.Ask q)) (select_built list r nodes ts us l)
+
+aggregates_built : (list : List (Agg × List ℕ)) (r : List ℕ) (nodes : List Node) (ts us : List Token) → ListOf AggItem list ts → command_of (Word KSELECT ∷ (ts ++ Word KFROM ∷ Name r ∷ us)) nodes ≡ Some (command.Aggregate list r nodes)
+aggregates_built list r nodes ts us l = selection_aggregates list ts l.listed (Word KFROM ∷ Name r ∷ us) nodes ∙ aggregate_built list r nodes ts us l
+
 -- ---- commands
 
 insert_built : (list : List Value) (r : List ℕ) (ts : List Token) → ListOf ValueItem list ts → insert_of (Sign LeftBracket ∷ (ts ++ Sign RightBracket ∷ Word KINTO ∷ Name r ∷ [])) ≡ Some (command.Insert list r)
@@ -151,9 +161,9 @@ spells_built _ _ (create_index r a kind.Inline) = refl
 spells_built _ _ (create_index r a kind.MaxHeap) = refl
 spells_built _ _ (create_index r a kind.MemHash) = refl
 spells_built _ _ (insert list r ts l) = insert_built list r ts l
-spells_built _ _ (ask _ _ (select list r nodes ts us l w)) = selection_names list ts l.listed (Word KFROM ∷ Name r ∷ us) nodes ∙ ap (option_map (λ q. command.Ask q)) (select_built list r nodes ts us l)
+spells_built _ _ (ask _ _ (select list r nodes ts us l w)) = ask_built list r nodes ts us l
 spells_built _ _ (ask _ _ (join left right on list ts l)) = ap (option_map (λ q. command.Ask q)) (join_built left right on list ts l)
-spells_built _ _ (aggregate list r nodes ts us l w) = selection_aggregates list ts l.listed (Word KFROM ∷ Name r ∷ us) nodes ∙ aggregate_built list r nodes ts us l
+spells_built _ _ (aggregate list r nodes ts us l w) = aggregates_built list r nodes ts us l
 spells_built _ _ (remove_from r nodes us w) = refl
 spells_built _ _ (remove_relation r) = refl
 spells_built _ _ (remove_index r a) = refl
@@ -161,3 +171,59 @@ spells_built _ _ (pack r) = refl
 spells_built _ _ (open_cursor z q ts p) = ap (option_map (λ q. command.OpenCursor z q)) (query_built q ts p)
 spells_built _ _ (fetch_cursor z) = refl
 spells_built _ _ (close_cursor z) = refl
+
+-- ---- the first tokens tell as much as all
+
+-- how many tokens a list has
+
+names_length : (list : List (List ℕ)) (ts : List Token) → Listed NameItem list ts → length ts + 1 ≤ 2 * length list
+names_length _ _ (one _ _ (a_name n)) = omega arith
+names_length _ _ (more _ as_ _ ys (a_name n) l) = omega (arith, names_length as_ ys l)
+
+values_length : (list : List Value) (ts : List Token) → Listed ValueItem list ts → length ts + 1 ≤ 3 * length list
+values_length _ _ (one _ _ (number_value z)) = omega arith
+values_length _ _ (one _ _ (minus_value z)) = omega arith
+values_length _ _ (one _ _ (text_value bytes)) = omega arith
+values_length _ _ (more _ as_ _ ys (number_value z) l) = omega (arith, values_length as_ ys l)
+values_length _ _ (more _ as_ _ ys (minus_value z) l) = omega (arith, values_length as_ ys l)
+values_length _ _ (more _ as_ _ ys (text_value bytes) l) = omega (arith, values_length as_ ys l)
+
+aggregates_length : (list : List (Agg × List ℕ)) (ts : List Token) → Listed AggItem list ts → length ts + 1 ≤ 5 * length list
+aggregates_length _ _ (one _ _ (an_aggregate a n)) = omega arith
+aggregates_length _ _ (more _ as_ _ ys (an_aggregate a n) l) = omega (arith, aggregates_length as_ ys l)
+
+-- what is kept behind a relation's name
+kept_behind : (n : ℕ) (ts us : List Token) (r : List ℕ) → length ts + 2 ≤ n → take n (ts ++ Word KFROM ∷ Name r ∷ us) ≡ ts ++ Word KFROM ∷ Name r ∷ take (n - (length ts + 2)) us
+kept_behind n ts us r h =
+    let size : n ≡ length ts + suc (suc (n - (length ts + 2))) = omega (arith, h) in
+    ap (λ k. take k (ts ++ Word KFROM ∷ Name r ∷ us)) size ∙ take-append-add ts (Word KFROM ∷ Name r ∷ us) (suc (suc (n - (length ts + 2))))
+
+whole_built : (c : Command) (ts : List Token) → Spells c ts → length ts ≤ 42 → command_of (first_tokens ts) (nodes_of c) ≡ Some c
+whole_built c ts s h = ap (λ x. command_of x (nodes_of c)) (take_all 42 ts h) ∙ spells_built c ts s
+
+-- where tokens spell a command, it is built of the first of them
+pub head_built : (c : Command) (ts : List Token) → Spells c ts → command_of (first_tokens ts) (nodes_of c) ≡ Some c
+head_built _ _ (create_relation n) = refl
+head_built _ _ (create_attribute n _ r _ int) = refl
+head_built _ _ (create_attribute n _ r _ long) = refl
+head_built _ _ (create_attribute n _ r _ (time m e)) = refl
+head_built _ _ (create_attribute n _ r _ (string z)) = refl
+head_built _ _ (create_index r a kind.Inline) = refl
+head_built _ _ (create_index r a kind.MaxHeap) = refl
+head_built _ _ (create_index r a kind.MemHash) = refl
+head_built _ _ (insert list r ts l) = whole_built _ _ (insert list r ts l) (omega (arith, length-append ts (Sign RightBracket ∷ Word KINTO ∷ Name r ∷ []), values_length list ts l.listed, l.few))
+head_built _ _ (ask _ _ (select list r nodes ts us l w)) =
+    ap (λ x. command_of (Word KSELECT ∷ x) nodes) (kept_behind 41 ts us r (omega (arith, names_length list ts l.listed, l.few))) ∙ ask_built list r nodes ts (take (41 - (length ts + 2)) us) l
+head_built _ _ (ask _ _ (join left right on list ts l)) = whole_built _ _ (ask _ _ (join left right on list ts l)) (omega (arith, names_length list ts l.listed, l.few))
+head_built _ _ (aggregate list r nodes ts us l w) =
+    ap (λ x. command_of (Word KSELECT ∷ x) nodes) (kept_behind 41 ts us r (omega (arith, aggregates_length list ts l.listed, l.few))) ∙ aggregates_built list r nodes ts (take (41 - (length ts + 2)) us) l
+head_built _ _ (remove_from r nodes us w) = refl
+head_built _ _ (remove_relation r) = refl
+head_built _ _ (remove_index r a) = refl
+head_built _ _ (pack r) = refl
+head_built _ _ (open_cursor z _ _ (select list r nodes ts us l w)) =
+    ap (λ x. command_of (Word KOPEN ∷ Number z ∷ Word KSELECT ∷ x) nodes) (kept_behind 39 ts us r (omega (arith, names_length list ts l.listed, l.few)))
+    ∙ ap (option_map (λ q. command.OpenCursor z q)) (select_built list r nodes ts (take (39 - (length ts + 2)) us) l)
+head_built _ _ (open_cursor z _ _ (join left right on list ts l)) = whole_built _ _ (open_cursor z _ _ (join left right on list ts l)) (omega (arith, names_length list ts l.listed, l.few))
+head_built _ _ (fetch_cursor z) = refl
+head_built _ _ (close_cursor z) = refl

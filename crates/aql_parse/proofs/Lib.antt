@@ -9,6 +9,7 @@ pub mod Viable
 pub mod Light
 pub mod Turns
 pub mod Cutting
+pub mod Streaming
 pub mod Collecting
 pub mod ReadRight
 pub mod BuiltRight

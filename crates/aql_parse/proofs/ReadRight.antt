@@ -2,7 +2,7 @@
 use Rattle.std.proofs.Common.{◌≡◌, ℕ, ◌≤◌, Bool, true, false, IsSome, List, [], ◌∷◌, ◌++◌, length, Option, Some, None, Result, Ok, Err, refl, sym, ◌∙◌, ap, subst, append-nil, arith}
 use Rattle.db_model.specs.Cond.{Cond, postfix, condition_of, IsCondition}
 use Rattle.db_model.specs.Grammar.{Disj, Where, nothing, condition, IsQuery, select, join, Spells, create_relation, create_attribute, create_index, insert, ask, aggregate, remove_from, remove_relation, remove_index, pack, open_cursor, fetch_cursor, close_cursor}
-use Rattle.db_model.specs.Reading.{IsNoCommand, IsTooLarge, IsReading}
+use Rattle.db_model.specs.Reading.{IsTooLarge, IsReading}
 use Rattle.db_model.specs.Spelling.{IsSpelt, IsLongestFront, GoesWrongAt, end_of, nodes_of, query_nodes}
 use Rattle.db_model.specs.Tokens.{tokens_of}
 use Rattle.db_model.specs.declared.commands.Command.{Command}
@@ -13,15 +13,15 @@ use Rattle.db_model.specs.declared.refusals.Pool.TheVariants as pool
 use Rattle.db_model.specs.declared.refusals.Refusal.{Refusal}
 use Rattle.db_model.specs.declared.refusals.Refusal.TheVariants as refusal
 use Rattle.db_model.specs.declared.tokens.Token.{Token}
-use Rattle.aql_parse.specs.Built.{command_of}
+use Rattle.aql_parse.specs.Built.{command_of, first_tokens}
 use Rattle.aql_parse.specs.Kept.{KeepsNodes, AreKept}
 use Rattle.aql_parse.specs.Machine.{run, readable_tokens, start}
 use Rattle.aql_parse.specs.declared.nodes.Nodes.{Nodes}
-use Rattle.aql_parse.proofs.BuiltRight.{spells_built}
+use Rattle.aql_parse.proofs.BuiltRight.{spells_built, head_built}
 use Rattle.aql_parse.proofs.Complete.{disj_runs}
 use Rattle.aql_parse.proofs.CompleteHeads.{spells_run}
 use Rattle.aql_parse.proofs.Sound.{start_sound}
-use Rattle.aql_parse.proofs.Viable.{longest, read_whole}
+use Rattle.aql_parse.proofs.Viable.{longest}
 
 -- tokens that the machine does not read to their end spell nothing
 pub none_spelt : (bytes : List ℕ) (tokens : List Token) → tokens ≡ (tokens_of bytes).items → run start tokens ≡ None → (c : Command) → IsSpelt c bytes → ⊥
@@ -44,16 +44,6 @@ wrong_at bytes tokens ends n at e f h p =
       place = p ∙ ap (λ x. end_of x n) f;
     }
 
--- the refusal where the machine stops
-pub stops_at : (bytes : List ℕ) (tokens : List Token) (ends : List ℕ) (n at : ℕ) → tokens ≡ (tokens_of bytes).items → ends ≡ (tokens_of bytes).ends →
-    n ≡ readable_tokens start tokens → run start tokens ≡ None → at ≡ end_of ends n → IsNoCommand bytes at
-stops_at bytes tokens ends n at e f h r p = record { none = none_spelt bytes tokens e r; wrong = wrong_at bytes tokens ends n at e f h p }
-
--- the refusal where the tokens stop
-pub breaks_off_at : (bytes : List ℕ) (tokens : List Token) (ends : List ℕ) (whole : Bool) (n at : ℕ) → tokens ≡ (tokens_of bytes).items → ends ≡ (tokens_of bytes).ends →
-    whole ≡ (tokens_of bytes).whole → whole ≡ false → n ≡ readable_tokens start tokens → at ≡ end_of ends n → IsNoCommand bytes at
-breaks_off_at bytes tokens ends whole n at e f g w h p = record { none = not_whole bytes whole g w; wrong = wrong_at bytes tokens ends n at e f h p }
-
 -- where all tokens are read
 pub record IsRead (tokens : List Token) (nodes : Nodes) : Type 0 where
   pub all : List Node
@@ -67,49 +57,46 @@ is_read tokens nodes k = go (run start tokens) refl k
     go None e k = absurd k
     go (Some all) e k = record { all = all; ran = e; keeps = k }
 
-pub all_read : (tokens : List Token) (nodes : Nodes) → AreKept (run start tokens) nodes → length tokens ≡ readable_tokens start tokens
-all_read tokens nodes k = let r = is_read tokens nodes k in sym (read_whole tokens r.all r.ran)
-
 -- a command with too many nodes
-pub too_much : (bytes : List ℕ) (tokens : List Token) (nodes : Nodes) (whole : Bool) → tokens ≡ (tokens_of bytes).items → whole ≡ (tokens_of bytes).whole → whole ≡ true →
-    AreKept (run start tokens) nodes → nodes.over ≡ true → IsTooLarge bytes pool.Nodes 32
-too_much bytes tokens nodes whole e f w k o =
-    let r = is_read tokens nodes k in
-    let c = start_sound tokens r.all r.ran in
+pub too_much : (bytes : List ℕ) (nodes : Nodes) → (tokens_of bytes).whole ≡ true → AreKept (run start (tokens_of bytes).items) nodes → nodes.over ≡ true → IsTooLarge bytes pool.Nodes 32
+too_much bytes nodes w k o =
+    let r = is_read (tokens_of bytes).items nodes k in
+    let c = start_sound (tokens_of bytes).items r.all r.ran in
     record {
       nodes = refl;
       few = refl;
       command = c.command;
-      spelt = record { whole = sym f ∙ w; spelling = subst (Spells c.command) e c.spelt };
+      spelt = record { whole = w; spelling = c.spelt };
       many = omega (arith, r.keeps.more o, ap length c.nodes);
     }
 
--- the command that is built
-pub record IsBuilt (bytes : List ℕ) (tokens : List Token) (nodes : Nodes) : Type 0 where
+-- the command that is built of the first tokens
+pub record IsBuilt (bytes : List ℕ) (head : List Token) (nodes : Nodes) : Type 0 where
   pub command : Command
-  pub built : command_of tokens nodes.first ≡ Some command
+  pub built : command_of head nodes.first ≡ Some command
   pub spelt : IsSpelt command bytes
   pub few : length (nodes_of command) ≤ 32
 
-pub is_built : (bytes : List ℕ) (tokens : List Token) (nodes : Nodes) (whole : Bool) → tokens ≡ (tokens_of bytes).items → whole ≡ (tokens_of bytes).whole → whole ≡ true →
-    AreKept (run start tokens) nodes → nodes.over ≡ false → IsBuilt bytes tokens nodes
-is_built bytes tokens nodes whole e f w k o =
+pub is_built : (bytes : List ℕ) (head : List Token) (nodes : Nodes) → head ≡ first_tokens (tokens_of bytes).items → (tokens_of bytes).whole ≡ true →
+    AreKept (run start (tokens_of bytes).items) nodes → nodes.over ≡ false → IsBuilt bytes head nodes
+is_built bytes head nodes e w k o =
+    let tokens : List Token = (tokens_of bytes).items in
     let r = is_read tokens nodes k in
     let c = start_sound tokens r.all r.ran in
     let same : nodes_of c.command ≡ nodes.first = c.nodes ∙ sym (r.keeps.whole o) in
     record {
       command = c.command;
-      built = ap (command_of tokens) (sym same) ∙ spells_built c.command tokens c.spelt;
-      spelt = record { whole = sym f ∙ w; spelling = subst (Spells c.command) e c.spelt };
+      built = ap (λ ts. command_of ts nodes.first) e ∙ ap (command_of (first_tokens tokens)) (sym same) ∙ head_built c.command tokens c.spelt;
+      spelt = record { whole = w; spelling = c.spelt };
       few = omega (arith, ap length same, r.keeps.few);
     }
 
 -- a command is built
-pub is_there : (bytes : List ℕ) (tokens : List Token) (nodes : Nodes) (r : Option Command) → IsBuilt bytes tokens nodes → r ≡ command_of tokens nodes.first → r ≡ None → ⊥
-is_there bytes tokens nodes r b e h = let built = b.built in cc
+pub is_there : (bytes : List ℕ) (head : List Token) (nodes : Nodes) (r : Option Command) → IsBuilt bytes head nodes → r ≡ command_of head nodes.first → r ≡ None → ⊥
+is_there bytes head nodes r b e h = let built = b.built in cc
 
-pub is_it : (bytes : List ℕ) (tokens : List Token) (nodes : Nodes) (c : Command) (r : Option Command) → (b : IsBuilt bytes tokens nodes) → r ≡ command_of tokens nodes.first → r ≡ Some c → b.command ≡ c
-is_it bytes tokens nodes c r b e h = let built = b.built in cc
+pub is_it : (bytes : List ℕ) (head : List Token) (nodes : Nodes) (c : Command) (r : Option Command) → (b : IsBuilt bytes head nodes) → r ≡ command_of head nodes.first → r ≡ Some c → b.command ≡ c
+is_it bytes head nodes c r b e h = let built = b.built in cc
 
 -- ---- conditions
 

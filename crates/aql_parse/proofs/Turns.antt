@@ -148,10 +148,10 @@ pub record Recognizing (i : ℕ) (tokens : List Token) (stack : List Symbol) (no
   pub kept : nodes ≡ kept no_nodes out
   pub light : bulk_all stack ≤ 8 + 4 * i
 
-run_when : (γ : List Symbol) (t : Token) (ts : List Token) (r : Option Move) → read γ t ≡ r → run γ (t ∷ ts) ≡ elim r as (λ _. Option (List Node)) [ Some m ↦ behind_nodes m.nodes (run m.symbols ts) | None ↦ None ]
+pub run_when : (γ : List Symbol) (t : Token) (ts : List Token) (r : Option Move) → read γ t ≡ r → run γ (t ∷ ts) ≡ elim r as (λ _. Option (List Node)) [ Some m ↦ behind_nodes m.nodes (run m.symbols ts) | None ↦ None ]
 run_when γ t ts r e = subst (λ y. run γ (t ∷ ts) ≡ elim y as (λ _. Option (List Node)) [ Some m ↦ behind_nodes m.nodes (run m.symbols ts) | None ↦ None ]) e refl
 
-reach_when : (γ : List Symbol) (t : Token) (ts : List Token) (r : Option Move) → read γ t ≡ r → readable_tokens γ (t ∷ ts) ≡ elim r as (λ _. ℕ) [ Some m ↦ suc (readable_tokens m.symbols ts) | None ↦ 0 ]
+pub reach_when : (γ : List Symbol) (t : Token) (ts : List Token) (r : Option Move) → read γ t ≡ r → readable_tokens γ (t ∷ ts) ≡ elim r as (λ _. ℕ) [ Some m ↦ suc (readable_tokens m.symbols ts) | None ↦ 0 ]
 reach_when γ t ts r e = subst (λ y. readable_tokens γ (t ∷ ts) ≡ elim y as (λ _. ℕ) [ Some m ↦ suc (readable_tokens m.symbols ts) | None ↦ 0 ]) e refl
 
 next_token : (i : ℕ) (tokens : List Token) (t : Token) → i < length tokens → t ≡ get_or tokens i t → drop i tokens ≡ t ∷ drop (i + 1) tokens

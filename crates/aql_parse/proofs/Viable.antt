@@ -1,6 +1,5 @@
 -- Every stack can be brought to an end, so what the machine can read begins a command.
-use Rattle.std.proofs.Common.{◌≡◌, ℕ, zero, suc, ◌-◌, ◌==◌, ◌≤◌, pos, List, [], ◌∷◌, ◌++◌, length, take, append-nil, Option, Some, None, refl, ◌∙◌, ap, arith}
-use Rattle.std.proofs.Math.Seq.{take-length}
+use Rattle.std.proofs.Common.{◌≡◌, ℕ, zero, suc, ◌-◌, ◌==◌, ◌≤◌, pos, List, [], ◌∷◌, ◌++◌, length, take, Option, Some, None, refl, ◌∙◌, ap, arith}
 use Rattle.db_model.specs.Grammar.{minus}
 use Rattle.db_model.specs.Spelling.{IsLongestFront, nodes_of}
 use Rattle.db_model.specs.declared.commands.Compare.TheVariants as compare
@@ -227,7 +226,7 @@ read_far (t ∷ ts) γ (suc n) rest ns h e = go (read γ t) e (λ δ ms k. read_
     go None e h = cc
     go (Some m) e h = let r = rest_of m.nodes (run m.symbols (take n ts ++ rest)) ns e in omega (arith, h m.symbols r.nodes r.found)
 
-pub reach_fits : (ts : List Token) (γ : List Symbol) → readable_tokens γ ts ≤ length ts
+reach_fits : (ts : List Token) (γ : List Symbol) → readable_tokens γ ts ≤ length ts
 reach_fits [] γ = omega arith
 reach_fits (t ∷ ts) γ = go (read γ t) (λ δ. reach_fits ts δ)
   where
@@ -245,9 +244,3 @@ longest ts =
       begins = record { rest = k.rest; command = c.command; spelling = c.spelt };
       longest = λ m h b. read_far ts start m b.rest (nodes_of b.command) h (spells_run b.command (take m ts ++ b.rest) b.spelling);
     }
-
--- tokens that are read to their end are read whole
-pub read_whole : (ts : List Token) (ns : List Node) → run start ts ≡ Some ns → readable_tokens start ts ≡ length ts
-read_whole ts ns e =
-    let far = read_far ts start (length ts) [] ns (omega arith) (ap (run start) (ap (λ y. y ++ []) (take-length ts) ∙ append-nil ts) ∙ e) in
-    omega (arith, far, reach_fits ts start)

@@ -1,5 +1,5 @@
 -- The command of tokens of which it is known that they spell one.
-use Rattle.std.specs.Prelude.{ℕ, ℤ, Bool, true, false, List, [], ◌∷◌, length, drop, slice_get, Option, Some, None, nat_le, nat_lt, if◌then◌else◌}
+use Rattle.std.specs.Prelude.{ℕ, ℤ, Bool, true, false, List, [], ◌∷◌, length, drop, take, slice_get, Option, Some, None, nat_le, nat_lt, if◌then◌else◌}
 use Rattle.std.specs.Option.{option_map, option_and_then}
 use Rattle.db_model.specs.Grammar.{minus}
 use Rattle.db_model.specs.declared.commands.Agg.{Agg}
@@ -112,6 +112,10 @@ abbrev pub at_most_8 : {A : Type 0} → List A → Option (List A)
 at_most_8 xs = if nat_le (length xs) 8 then Some xs else None
 
 -- ---- commands
+
+-- the first tokens: no command has more in front of its condition
+abbrev pub first_tokens : List Token → List Token
+first_tokens tokens = take 42 tokens
 
 abbrev pub domain_read : List Token → Option DomainAsked
 domain_read (Word KINT ∷ ts) = Some asked.Int

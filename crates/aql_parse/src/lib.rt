@@ -3,7 +3,7 @@
 
 mod built;
 mod conditions;
-mod cut;
+mod head;
 mod heads;
 mod items;
 mod laws;

@@ -2,37 +2,60 @@
 
 #![tactic(auto)]
 
-ghost use Rattle.std.specs.Prelude.{◌≡◌, ◌≤◌, IfErr, OnOk, None, Some, length};
+ghost use Rattle.std.specs.Prelude.{◌≡◌, ◌≤◌, IfErr, OnOk, None, Some, length, true};
+ghost use Rattle.aql_parse.specs.Built.{first_tokens};
 ghost use Rattle.aql_parse.specs.Kept.{AreKept};
-ghost use Rattle.aql_parse.specs.Machine.{finish, joint_node, readable_tokens, read, run, skip, start};
+ghost use Rattle.aql_parse.specs.Machine.{finish, joint_node, read, run, skip, start};
 ghost use Rattle.aql_parse.specs.Moves.{HasEnded, HasRead, Skipped, bulk_all};
+ghost use Rattle.db_model.specs.Reading.{IsNoCommand};
+ghost use Rattle.db_model.specs.Tokens.{tokens_of};
 
+use crate::head::{Head, keep};
 use crate::moves::moves;
 use crate::nodes::Nodes;
 use crate::stack::Stack;
 use crate::symbols::{Joint, Symbol};
+use aql_lex::{Lexed, next_token};
 use db_model::{Node, Token};
 
-/// Puts the nodes of the condition where those of an earlier one were, if the tokens spell a
-/// command; else tells how many of them, at most, begin one. The stack serves for the work.
-pub fn recognize(tokens: &[Token], stack: &mut Stack, nodes: &mut Nodes) -> Result<(), usize>
-    requires { length tokens.now ≤ 512 }
-    ensures nodes { OnOk result (AreKept (run start tokens.now) nodes.new) }
-    ensures front { IfErr result (λ n. n ≡ readable_tokens start tokens.now) }
-    ensures none { IfErr result (λ _. run start tokens.now ≡ None) }
+/// Puts the first tokens of a command and the nodes of its condition where those of an earlier one
+/// were, if the bytes are tokens to their end and spell one; else tells how many of the bytes, at
+/// most, begin one. Each token is read as soon as it is cut. The stack serves for the work.
+pub fn recognize(
+    bytes: &[u8],
+    head: &mut Head,
+    stack: &mut Stack,
+    nodes: &mut Nodes,
+) -> Result<(), u16>
+    requires { length bytes.now ≤ 512 }
+    ensures head { OnOk result (head.new ≡ first_tokens (tokens_of bytes.now).items) }
+    ensures nodes { OnOk result (AreKept (run start (tokens_of bytes.now).items) nodes.new) }
+    ensures whole { OnOk result ((tokens_of bytes.now).whole ≡ true) }
+    ensures wrong { IfErr result (IsNoCommand bytes.now) }
 {
+    head.clear();
     stack.clear();
     nodes.clear();
     stack.push(Symbol::Command);
-    for (n, token) in tokens.iter().enumerate() {
-        if !read(stack, token, nodes) {
-            return Err(n);
+    let mut at = 0;
+    'tokens: loop {
+        match next_token(bytes, at) {
+            Lexed::Token { token, to, .. } => {
+                if !read(stack, &token, nodes) {
+                    return Err(at);
+                }
+                keep(head, &token);
+                at = to;
+            }
+            Lexed::End => {
+                if finish(stack, nodes) {
+                    return Ok(());
+                }
+                return Err(at);
+            }
+            Lexed::Bad => return Err(at),
         }
     }
-    if !finish(stack, nodes) {
-        return Err(tokens.len());
-    }
-    Ok(())
 }
 
 // Reads one token; false where it cannot come.

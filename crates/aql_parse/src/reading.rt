@@ -6,10 +6,10 @@ ghost use Rattle.std.specs.Prelude.{◌≡◌, ◌≤◌, OnErr, OnOk, length};
 ghost use Rattle.aql_parse.specs.ReadAs.{read_as};
 ghost use Rattle.db_model.specs.Cond.{IsCondition};
 ghost use Rattle.db_model.specs.Reading.{IsReading};
-ghost use Rattle.db_model.specs.Spelling.{end_of, nodes_of};
+ghost use Rattle.db_model.specs.Spelling.{nodes_of};
 
 use crate::built::command_of;
-use crate::cut::{Ends, Tokens, cut};
+use crate::head::Head;
 use crate::machine::recognize;
 use crate::nodes::Nodes;
 use crate::stack::Stack;
@@ -21,20 +21,18 @@ use db_model::{Command, Few, Pool, Refusal};
 /// was read before changes no answer.
 #[derive(Drop)]
 pub struct Parser {
-    tokens: Tokens,
-    ends: Ends,
+    head: Head,
     stack: Stack,
     nodes: Nodes,
 }
 
 impl Parser {
-    /// A parser that has read nothing yet: 31 KB, so it is made once and lent from then on.
+    /// A parser that has read nothing yet: 11 KB, so it is made once and lent from then on.
     // Inlined, so that its parts are made in their places: on the stack each would stand twice else.
     #[inline(always)]
     pub fn new() -> Parser {
         Parser {
-            tokens: Few::new(),
-            ends: Few::new(),
+            head: Few::new(),
             stack: Stack::new(),
             nodes: Nodes::new(),
         }
@@ -48,13 +46,7 @@ impl Parser {
         ensures same { OnErr result (command.new ≡ command.old) }
     {
         conditions_are_read_back();
-        let whole = cut(bytes, &mut self.tokens, &mut self.ends);
-        if let Err(n) = recognize(self.tokens.as_slice(), &mut self.stack, &mut self.nodes) {
-            let at = end_of(self.ends.as_slice(), n);
-            return Err(Refusal::Syntax { at });
-        }
-        if !whole {
-            let at = end_of(self.ends.as_slice(), self.tokens.len());
+        if let Err(at) = recognize(bytes, &mut self.head, &mut self.stack, &mut self.nodes) {
             return Err(Refusal::Syntax { at });
         }
         if self.nodes.over {
@@ -63,7 +55,7 @@ impl Parser {
                 limit: 32,
             });
         }
-        if !command_of(self.tokens.as_slice(), &mut self.nodes.first, command) {
+        if !command_of(self.head.as_slice(), &mut self.nodes.first, command) {
             unreachable!();
         }
         Ok(())
@@ -83,12 +75,4 @@ pub fn parse(bytes: &[u8], command: &mut Command) -> Result<(), Refusal>
 {
     let mut parser = Parser::new();
     parser.parse(bytes, command)
-}
-
-// Where the nth token ends, 0 for none.
-fn end_of(ends: &[u16], n: usize) -> u16
-    requires { n ≤ length ends.now }
-    ensures { result ≡ end_of ends.now n }
-{
-    if n == 0 { 0 } else { ends[n - 1] }
 }

@@ -3,6 +3,7 @@ pub mod Catalogs
 pub mod Conditions
 pub mod Cutting
 pub mod Decoded
+pub mod Lengths
 pub mod Moves
 pub mod ReplyTexts
 pub mod Rows

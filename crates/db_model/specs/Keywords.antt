@@ -1,5 +1,5 @@
 -- The keywords of the language, and the keyword that a word spells in any letter case.
-use Rattle.std.specs.Prelude.{ℕ, List, [], ◌∷◌, Option, Some, None, codes, if◌then◌else◌}
+use Rattle.std.specs.Prelude.{ℕ, ◌==◌, List, [], ◌∷◌, length, filter, Option, Some, None, codes, if◌then◌else◌}
 use Rattle.std.specs.Str.{str_eq_ignore_ascii_case}
 use Rattle.db_model.specs.declared.tokens.Keyword.{Keyword}
 use Rattle.db_model.specs.declared.tokens.Keyword.TheVariants.{KCREATE, KRELATION, KATTRIBUTE, KINDEX, KDOMAIN, KINT, KLONG, KSTRING, KIN, KTYPE, KINLINE, KMAXHEAP, KMEMHASH, KINSERT, KINTO, KSELECT, KFROM, KWHERE, KJOIN, KON, KPROJECT, KREMOVE, KPACK, KOPEN, KFETCH, KCLOSE, KAND, KOR, KNOT, KCOUNT, KSUM, KMIN, KMAX, KMEAN, KMEDIAN}
@@ -45,6 +45,10 @@ keyword_text KMEDIAN = codes "MEDIAN"
 -- all of them
 unfoldable pub keywords : List Keyword
 keywords = KCREATE ∷ KRELATION ∷ KATTRIBUTE ∷ KINDEX ∷ KDOMAIN ∷ KINT ∷ KLONG ∷ KSTRING ∷ KIN ∷ KTYPE ∷ KINLINE ∷ KMAXHEAP ∷ KMEMHASH ∷ KINSERT ∷ KINTO ∷ KSELECT ∷ KFROM ∷ KWHERE ∷ KJOIN ∷ KON ∷ KPROJECT ∷ KREMOVE ∷ KPACK ∷ KOPEN ∷ KFETCH ∷ KCLOSE ∷ KAND ∷ KOR ∷ KNOT ∷ KCOUNT ∷ KSUM ∷ KMIN ∷ KMAX ∷ KMEAN ∷ KMEDIAN ∷ []
+
+-- those of so many letters
+abbrev pub keywords_of_length : ℕ → List Keyword
+keywords_of_length n = filter (λ k. length (keyword_text k) == n) keywords
 
 -- the first of some keywords that a word is, in any letter case
 abbrev pub keyword_among : List Keyword → List ℕ → Option Keyword

@@ -4,7 +4,7 @@
 
 ghost use Rattle.std.specs.Prelude.{◌≡◌};
 ghost use Rattle.std.specs.Str.{str_eq_ignore_ascii_case};
-ghost use Rattle.db_model.specs.Keywords.{keyword_among, keyword_of, keyword_text};
+ghost use Rattle.db_model.specs.Keywords.{keyword_among, keyword_of, keyword_text, keywords_of_length};
 
 use crate::names::Ident;
 use crate::texts::Text;
@@ -89,51 +89,60 @@ pub enum Keyword {
     KMEDIAN,
 }
 
-const KEYWORDS: [Keyword; 35] = [
-    Keyword::KCREATE,
-    Keyword::KRELATION,
-    Keyword::KATTRIBUTE,
-    Keyword::KINDEX,
-    Keyword::KDOMAIN,
+// The keywords by the number of their letters.
+const OF_TWO: [Keyword; 3] = [Keyword::KIN, Keyword::KON, Keyword::KOR];
+
+const OF_THREE: [Keyword; 6] = [
     Keyword::KINT,
-    Keyword::KLONG,
-    Keyword::KSTRING,
-    Keyword::KIN,
-    Keyword::KTYPE,
-    Keyword::KINLINE,
-    Keyword::KMAXHEAP,
-    Keyword::KMEMHASH,
-    Keyword::KINSERT,
-    Keyword::KINTO,
-    Keyword::KSELECT,
-    Keyword::KFROM,
-    Keyword::KWHERE,
-    Keyword::KJOIN,
-    Keyword::KON,
-    Keyword::KPROJECT,
-    Keyword::KREMOVE,
-    Keyword::KPACK,
-    Keyword::KOPEN,
-    Keyword::KFETCH,
-    Keyword::KCLOSE,
     Keyword::KAND,
-    Keyword::KOR,
     Keyword::KNOT,
-    Keyword::KCOUNT,
     Keyword::KSUM,
     Keyword::KMIN,
     Keyword::KMAX,
+];
+
+const OF_FOUR: [Keyword; 8] = [
+    Keyword::KLONG,
+    Keyword::KTYPE,
+    Keyword::KINTO,
+    Keyword::KFROM,
+    Keyword::KJOIN,
+    Keyword::KPACK,
+    Keyword::KOPEN,
     Keyword::KMEAN,
+];
+
+const OF_FIVE: [Keyword; 5] = [
+    Keyword::KINDEX,
+    Keyword::KWHERE,
+    Keyword::KFETCH,
+    Keyword::KCLOSE,
+    Keyword::KCOUNT,
+];
+
+const OF_SIX: [Keyword; 8] = [
+    Keyword::KCREATE,
+    Keyword::KDOMAIN,
+    Keyword::KSTRING,
+    Keyword::KINLINE,
+    Keyword::KINSERT,
+    Keyword::KSELECT,
+    Keyword::KREMOVE,
     Keyword::KMEDIAN,
 ];
 
+const OF_SEVEN: [Keyword; 3] = [Keyword::KMAXHEAP, Keyword::KMEMHASH, Keyword::KPROJECT];
+
+const OF_EIGHT: [Keyword; 1] = [Keyword::KRELATION];
+
+const OF_NINE: [Keyword; 1] = [Keyword::KATTRIBUTE];
+
 impl Keyword {
     /// The keyword that a word is, in any letter case; None where it is none.
-    #[tactic(auto, unfolding(crate::specs::Keywords::keyword_of, crate::specs::Keywords::keywords))]
     pub fn of(word: &[u8]) -> Option<Keyword>
         ensures { result ≡ keyword_of word.now }
     {
-        keyword_among(&KEYWORDS, word)
+        keyword_among(of_length(word.len()), word)
     }
 
     /// The keyword in capitals.
@@ -177,6 +186,24 @@ impl Keyword {
             Keyword::KMEAN => b"MEAN",
             Keyword::KMEDIAN => b"MEDIAN",
         }
+    }
+}
+
+// The keywords of so many letters: a word is compared with no others.
+#[tactic(auto, unfolding(crate::specs::Keywords::keywords), using(crate::proofs::Lengths::none_of_length))]
+fn of_length(len: usize) -> &'static [Keyword]
+    ensures { result.now ≡ keywords_of_length len }
+{
+    match len {
+        2 => &OF_TWO,
+        3 => &OF_THREE,
+        4 => &OF_FOUR,
+        5 => &OF_FIVE,
+        6 => &OF_SIX,
+        7 => &OF_SEVEN,
+        8 => &OF_EIGHT,
+        9 => &OF_NINE,
+        _ => &[],
     }
 }
 
