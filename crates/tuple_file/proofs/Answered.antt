@@ -1,7 +1,7 @@
 -- Rows about which one answer each was given.
 use Rattle.std.proofs.Common.{arith}
 use Rattle.std.proofs.Common.{◌≡◌, refl, sym, ap, subst, ◌∙◌, ℕ, suc, ◌+◌, ◌*◌, ◌≤◌, Bool, true, false, List, [], ◌∷◌, ◌++◌, length, replicate}
-use Rattle.std.specs.Prelude.{map, MatchBool, not, ◌&&◌, if◌then◌else◌, slice_range}
+use Rattle.std.specs.Prelude.{map, MatchBool, not, ◌&&◌, if◌then◌else◌}
 use Rattle.afl_base.specs.Fields.{put_at}
 use Rattle.db_model.specs.declared.schemas.Attribute.{Attribute}
 use Rattle.db_model.specs.declared.values.Value.{Value}

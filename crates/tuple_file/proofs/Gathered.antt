@@ -1,5 +1,5 @@
 -- Rows that wait for the draft: what is written, and what stands behind it.
-use Rattle.std.proofs.Common.{◌≡◌, refl, sym, ap, ◌∙◌, ℕ, ◌+◌, ◌-◌, ◌≤◌, List, [], ◌++◌, length, drop, replicate, arith, length-append}
+use Rattle.std.proofs.Common.{◌≡◌, sym, ap, ◌∙◌, ℕ, ◌+◌, ◌-◌, ◌≤◌, List, [], ◌++◌, length, drop, replicate, arith}
 use Rattle.std.proofs.lemmas.List.{drop-drop, drop-replicate, length-replicate}
 use Rattle.afl_base.specs.Fields.{put_at}
 use Rattle.afl_base.proofs.FieldLaws.{length-put_at}

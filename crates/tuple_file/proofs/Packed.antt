@@ -1,6 +1,6 @@
 -- The live rows among the first ones, and a draft that holds them.
 use Rattle.std.proofs.Common.{◌≡◌, refl, sym, ap, subst, ◌∙◌, ℕ, ◌+◌, ◌*◌, ◌<◌, ◌≤◌, Bool, true, false, List, [], ◌∷◌, ◌++◌, length, take, drop, replicate, arith}
-use Rattle.std.specs.Prelude.{cond, filter, slice_range}
+use Rattle.std.specs.Prelude.{cond, filter}
 use Rattle.std.specs.Int.{from_bool}
 use Rattle.std.proofs.lemmas.List.{append-nil, length-append, take-append-drop}
 use Rattle.std.proofs.lemmas.List.Elements.{filter-append}

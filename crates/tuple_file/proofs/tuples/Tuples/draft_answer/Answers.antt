@@ -1,4 +1,4 @@
-use Rattle.std.proofs.Common.{◌+◌, ◌*◌, ◌∙◌, ap, mul-suc, arith}
+use Rattle.std.proofs.Common.{◌∙◌, ap, mul-suc, arith}
 use Rattle.std.specs.Fn.{FnReturnsAt}
 use Rattle.afl_base.specs.Fields.{put_at}
 use Rattle.db_model.specs.Row.{Row, row_bytes, row_length}

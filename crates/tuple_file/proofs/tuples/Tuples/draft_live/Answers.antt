@@ -1,4 +1,4 @@
-use Rattle.std.proofs.Common.{◌≡◌, ◌+◌, ◌*◌, ◌≤◌, ◌∙◌, refl, sym, ap, subst, length, List, ℕ, replicate, arith}
+use Rattle.std.proofs.Common.{◌≡◌, ◌*◌, ◌∙◌, refl, sym, ap, subst, length, ℕ, replicate, arith}
 use Rattle.afl_base.specs.Files.{bytes_at, draft_in}
 use Rattle.db_model.specs.Row.{row_length}
 use Rattle.tuple_file.specs.Gathered.{gathered}
