@@ -1,13 +1,13 @@
 -- Rows about which one answer each was given.
 use Rattle.std.proofs.Common.{arith}
 use Rattle.std.proofs.Common.{◌≡◌, refl, sym, ap, subst, ◌∙◌, ℕ, suc, ◌+◌, ◌*◌, ◌≤◌, Bool, true, false, List, [], ◌∷◌, ◌++◌, length, replicate}
-use Rattle.std.specs.Prelude.{map, MatchBool, not, ◌&&◌, if◌then◌else◌, slice_range}
+use Rattle.std.specs.Prelude.{map, MatchBool, not, ◌&&◌, if◌then◌else◌}
 use Rattle.afl_base.specs.Fields.{put_at}
 use Rattle.db_model.specs.declared.schemas.Attribute.{Attribute}
 use Rattle.db_model.specs.declared.values.Value.{Value}
 use Rattle.db_model.specs.Row.{AllRowsSuit, AllSuit, Row, row_bytes, row_length, rows_bytes}
 use Rattle.tuple_file.specs.Tuples.{AreAnswered, IsAnswered}
-use Rattle.tuple_file.proofs.Drafted.{IsDrafted, drafted_all, drafted_more, drafted_none, drafted_zeros}
+use Rattle.tuple_file.proofs.Drafted.{IsDrafted, drafted_all, drafted_more, drafted_none}
 use Rattle.std.proofs.lemmas.Grind.{common_steps}
 
 pub length-answered : (answers : List Value → Bool → Type 0) (olds news : List Row) → AreAnswered answers olds news → length news ≡ length olds
@@ -73,11 +73,6 @@ pub record Rewritten (answers : List Value → Bool → Type 0) (attributes : Li
 
 pub rewritten_none : (answers : List Value → Bool → Type 0) (attributes : List Attribute) (n : ℕ) → Rewritten answers attributes n [] (replicate n 0)
 rewritten_none answers attributes n = record { news = []; answered = tt; drafted = drafted_none attributes n }
-
-pub rewritten_zeros : (answers : List Value → Bool → Type 0) (attributes : List Attribute) (n k : ℕ) (olds : List Row) (draft : List ℕ) → Rewritten answers attributes n olds draft → length olds ≡ k
-    → row_length attributes * k + row_length attributes ≤ n
-    → slice_range draft (row_length attributes * k) (row_length attributes * k + row_length attributes) ≡ replicate (row_length attributes) 0
-rewritten_zeros answers attributes n k olds draft is many inside = grind (arith, common_steps, length-answered, drafted_zeros)
 
 pub rewritten_more : (answers : List Value → Bool → Type 0) (attributes : List Attribute) (n k : ℕ) (olds : List Row) (old new : Row) (draft after : List ℕ) → Rewritten answers attributes n olds draft → length olds ≡ k
     → row_length attributes * k + row_length attributes ≤ n → IsAnswered answers old new → AllSuit attributes new.tuple → after ≡ put_at draft (row_length attributes * k) (row_bytes attributes new)

@@ -64,10 +64,6 @@ pub record IsDrafted (attributes : List Attribute) (n : ℕ) (rows : List Row) (
 pub drafted_none : (attributes : List Attribute) (n : ℕ) → IsDrafted attributes n [] (replicate n 0)
 drafted_none attributes n = record { suit = tt; bytes = ap (λ (m : ℕ). replicate m 0) (omega arith) }
 
-pub drafted_zeros : (attributes : List Attribute) (n : ℕ) (rows : List Row) (draft : List ℕ) → IsDrafted attributes n rows draft → row_length attributes * length rows + row_length attributes ≤ n
-    → slice_range draft (row_length attributes * length rows) (row_length attributes * length rows + row_length attributes) ≡ replicate (row_length attributes) 0
-drafted_zeros attributes n rows draft is inside = grind (arith, common_steps, length-rows_bytes, zeros_behind)
-
 pub drafted_more : (attributes : List Attribute) (n : ℕ) (rows : List Row) (row : Row) (draft : List ℕ) → IsDrafted attributes n rows draft → AllSuit attributes row.tuple → row_length attributes * length rows + row_length attributes ≤ n
     → IsDrafted attributes n (rows ++ row ∷ []) (put_at draft (row_length attributes * length rows) (row_bytes attributes row))
 drafted_more attributes n rows row draft is one inside = grind (arith, common_steps, length-rows_bytes, length-row, flat_map-append, append-nil, rows_more, put_behind)

@@ -1,6 +1,7 @@
 pub mod Answered
 pub mod Columns
 pub mod Drafted
+pub mod Gathered
 pub mod Judged
 pub mod Marks
 pub mod Packed

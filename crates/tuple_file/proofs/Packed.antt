@@ -1,6 +1,6 @@
 -- The live rows among the first ones, and a draft that holds them.
 use Rattle.std.proofs.Common.{◌≡◌, refl, sym, ap, subst, ◌∙◌, ℕ, ◌+◌, ◌*◌, ◌<◌, ◌≤◌, Bool, true, false, List, [], ◌∷◌, ◌++◌, length, take, drop, replicate, arith}
-use Rattle.std.specs.Prelude.{cond, filter, slice_range}
+use Rattle.std.specs.Prelude.{cond, filter}
 use Rattle.std.specs.Int.{from_bool}
 use Rattle.std.proofs.lemmas.List.{append-nil, length-append, take-append-drop}
 use Rattle.std.proofs.lemmas.List.Elements.{filter-append}
@@ -8,7 +8,7 @@ use Rattle.std.proofs.lemmas.List.FromFn.{take-map-range_with_len}
 use Rattle.afl_base.specs.Fields.{put_at}
 use Rattle.db_model.specs.declared.schemas.Attribute.{Attribute}
 use Rattle.db_model.specs.Row.{AllRowsSuit, AllSuit, Row, row_at, row_bytes, row_length, rows_bytes, rows_of, slots_in_bytes}
-use Rattle.tuple_file.proofs.Drafted.{IsDrafted, drafted_all, drafted_more, drafted_none, drafted_zeros}
+use Rattle.tuple_file.proofs.Drafted.{IsDrafted, drafted_all, drafted_more, drafted_none}
 use Rattle.tuple_file.proofs.Written.{all_rows, first_rows, more_rows, no_rows}
 use Rattle.std.proofs.lemmas.Grind.{common_steps}
 use Rattle.db_model.proofs.Rows.{slot_inside}
@@ -77,10 +77,6 @@ pub record IsPacked (attributes : List Attribute) (bytes : List ℕ) (room k wri
 
 pub packed_none : (attributes : List Attribute) (bytes : List ℕ) (room : ℕ) → IsPacked attributes bytes room 0 0 (replicate (row_length attributes * room) 0)
 packed_none attributes bytes room = grind (arith, common_steps, first_rows, no_rows, IsDrafted, drafted_none)
-
-pub packed_zeros : (attributes : List Attribute) (bytes : List ℕ) (room k written : ℕ) (draft : List ℕ) → IsPacked attributes bytes room k written draft → written < room
-    → slice_range draft (row_length attributes * written) (row_length attributes * written + row_length attributes) ≡ replicate (row_length attributes) 0
-packed_zeros attributes bytes room k written draft is below = grind (arith, common_steps, slot_inside, drafted_zeros, first_rows)
 
 -- a live row is put behind those that are written
 packed_live : (attributes : List Attribute) (bytes : List ℕ) (room k written : ℕ) (draft after : List ℕ) → IsPacked attributes bytes room k written draft → written < room

@@ -1,5 +1,5 @@
 -- The draft of a relation's file: the new rows, slot by slot.
-use Rattle.std.specs.Prelude.{◌≡◌, ℕ, ◌+◌, ◌*◌, ◌≤◌, length, replicate, slice_range}
+use Rattle.std.specs.Prelude.{◌≡◌, ℕ, ◌+◌, ◌*◌, ◌≤◌, List, length, replicate}
 use Rattle.afl_base.specs.Fields.{put_at}
 use Rattle.afl_base.specs.Files.{State, draft_in}
 use Rattle.db_model.specs.Row.{Row, row_bytes, row_length}
@@ -14,14 +14,7 @@ abbrev pub HasSlot : State → Tuples → ℕ → Type 0
 HasSlot state tuples slot =
     row_length tuples.schema.attributes * slot + row_length tuples.schema.attributes ≤ length (draft_in state).bytes
 
--- it has zeros in the slot
-abbrev pub IsZeroSlot : State → Tuples → ℕ → Type 0
-IsZeroSlot state tuples slot =
-    slice_range (draft_in state).bytes (row_length tuples.schema.attributes * slot)
-    (row_length tuples.schema.attributes * slot + row_length tuples.schema.attributes)
-    ≡ replicate (row_length tuples.schema.attributes) 0
-
--- a row is put into the slot, and all other bytes stay
-abbrev pub PutsRow : (old new : State) → Tuples → ℕ → Row → Type 0
+-- a row is put into the slot of such bytes, and all others stay
+abbrev pub PutsRow : (old new : List ℕ) → Tuples → ℕ → Row → Type 0
 PutsRow old new tuples slot row =
-    (draft_in new).bytes ≡ put_at (draft_in old).bytes (row_length tuples.schema.attributes * slot) (row_bytes tuples.schema.attributes row)
+    new ≡ put_at old (row_length tuples.schema.attributes * slot) (row_bytes tuples.schema.attributes row)

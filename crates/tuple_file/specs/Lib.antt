@@ -1,3 +1,4 @@
 pub mod Column
 pub mod Drafts
+pub mod Gathered
 pub mod Tuples

@@ -9,11 +9,12 @@ ghost use Rattle.afl_base.specs.FileErrors.{OnSpace};
 ghost use Rattle.afl_base.specs.Files.{Commits, Drafts, IsLive, Keeps, draft_in, file_at, size_at};
 ghost use Rattle.afl_base.specs.Fit.{fit};
 ghost use Rattle.db_model.specs.Row.{AllRowsSuit, AllSuit, Row, row_length, rows_bytes};
-ghost use Rattle.tuple_file.specs.Drafts.{HasSlot, IsZeroDraft, IsZeroSlot, PutsRow};
+ghost use Rattle.tuple_file.specs.Drafts.{HasSlot, IsZeroDraft, PutsRow};
+ghost use Rattle.tuple_file.specs.Gathered.{IsFree, end_of, gathered};
 ghost use Rattle.tuple_file.specs.Tuples.{AreAnswered, HoldsRows, IsAnswered, IsLiveTuple, IsRowFile, OnlyDraftChanges, OnlyRowsChange, live_rows, row, rows, slots};
 
-use crate::rows::put_row;
-use crate::tuples::{ROW_SIZE, Tuples};
+use crate::tuples::Tuples;
+use crate::waiting::Waiting;
 use afl_base::{Failed, FileError, Files};
 use db_model::{Tuple, row_length};
 
@@ -72,6 +73,7 @@ impl Tuples {
         requires begun { IsSome (V.state files.old).draft }
         requires size { length (draft_in (V.state files.old)).bytes
             ≡ size_at (V.state files.old).files self.now.file }
+        requires most { length (draft_in (V.state files.old)).bytes ≤ 4194304 }
         requires zeros { IsTrue (V.state files.old).tells
             → IsZeroDraft (V.state files.old) (size_at (V.state files.old).files self.now.file) }
         ensures rows { IsTrue (V.state files.old).tells
@@ -82,18 +84,21 @@ impl Tuples {
         ensures only { OnOk result (OnlyDraftChanges (V.state files.old) (V.state files.new)) }
         ensures frame { Changes V.state V.lent V.reads V.faults files.old files.new result }
     {
+        let mut waiting = Waiting::new();
         for slot in 0..count {
-            self.draft_answer(files, slot, removed)?;
+            self.draft_answer(files, slot, removed, &mut waiting)?;
         }
+        waiting.flush(files)?;
         Ok(())
     }
 
-    // Writes the row in the slot into the draft as `removed` answers about it.
+    // Puts the row in the slot behind those that wait, as `removed` answers about it.
     fn draft_answer<V: Files, F: Fn(&Tuple) -> bool>(
         &self,
         files: &mut V,
         slot: u16,
         removed: &F,
+        waiting: &mut Waiting,
     ) -> Result<(), Failed>
         requires holds { HoldsRows (V.state files.old) self.now }
         requires slot { slot < slots (V.state files.old).files self.now }
@@ -103,19 +108,26 @@ impl Tuples {
             → F.pre removed.now tuple }
         requires begun { IsSome (V.state files.old).draft }
         requires range { HasSlot (V.state files.old) self.now slot }
-        requires zeros { IsTrue (V.state files.old).tells → IsZeroSlot (V.state files.old) self.now slot }
+        requires most { length (draft_in (V.state files.old)).bytes ≤ 4194304 }
+        requires behind { end_of waiting.old ≡ row_length self.now.schema.attributes * slot }
+        requires free { IsTrue (V.state files.old).tells → IsFree (V.state files.old) waiting.old }
         ensures row { IsTrue (V.state files.old).tells
             → OnOk result ((new : Row)
             × IsAnswered (FnReturnsAt F.Fn removed.now) (row (V.state files.old).files self.now slot) new
             × AllSuit self.now.schema.attributes new.tuple
-            × PutsRow (V.state files.old) (V.state files.new) self.now slot new) }
+            × PutsRow (gathered (V.state files.old) waiting.old) (gathered (V.state files.new) waiting.new)
+            self.now slot new) }
+        ensures free { IsTrue (V.state files.old).tells
+            → OnOk result (IsFree (V.state files.new) waiting.new) }
+        ensures behind { OnOk result (end_of waiting.new
+            ≡ row_length self.now.schema.attributes * (slot + 1)) }
         ensures only { OnOk result (OnlyDraftChanges (V.state files.old) (V.state files.new)) }
         ensures frame { Changes V.state V.lent V.reads V.faults files.old files.new result }
     {
         let mut tuple = Tuple::new();
         let live = self.get(files, slot, &mut tuple)?;
         let stays = stays(live, &tuple, removed);
-        self.draft_row(files, slot, &tuple, stays)?;
+        waiting.put(files, &self.schema.attributes, &tuple, stays)?;
         Ok(())
     }
 
@@ -201,6 +213,7 @@ impl Tuples {
         requires begun { IsSome (V.state files.old).draft }
         requires size { length (draft_in (V.state files.old)).bytes
             ≡ row_length self.now.schema.attributes * room }
+        requires most { length (draft_in (V.state files.old)).bytes ≤ 4194304 }
         requires zeros { IsTrue (V.state files.old).tells
             → IsZeroDraft (V.state files.old) (row_length self.now.schema.attributes * room) }
         ensures suit { IsTrue (V.state files.old).tells
@@ -212,15 +225,17 @@ impl Tuples {
         ensures only { OnOk result (OnlyDraftChanges (V.state files.old) (V.state files.new)) }
         ensures frame { Changes V.state V.lent V.reads V.faults files.old files.new result }
     {
+        let mut waiting = Waiting::new();
         let mut written = 0;
         for slot in 0..count {
-            written = self.draft_if_live(files, slot, written, room)?;
+            written = self.draft_if_live(files, slot, written, room, &mut waiting)?;
         }
+        waiting.flush(files)?;
         Ok(())
     }
 
-    // Writes the row in the slot into the draft, where it is live, behind those that are written already.
-    // Answers how many are then. A file that does not tell its bytes may show more live rows than it did
+    // Puts the row in the slot, where it is live, behind those that were put before it, and answers how
+    // many they are then. A file that does not tell its bytes may show more live rows than it did
     // when they were counted; they are left out.
     fn draft_if_live<V: Files>(
         &self,
@@ -228,6 +243,7 @@ impl Tuples {
         slot: u16,
         written: u16,
         room: u16,
+        waiting: &mut Waiting,
     ) -> Result<u16, Failed>
         requires holds { HoldsRows (V.state files.old) self.now }
         requires slot { slot < slots (V.state files.old).files self.now }
@@ -236,18 +252,23 @@ impl Tuples {
         requires begun { IsSome (V.state files.old).draft }
         requires size { length (draft_in (V.state files.old)).bytes
             ≡ row_length self.now.schema.attributes * room }
-        requires zeros { IsTrue (V.state files.old).tells
-            → written < room → IsZeroSlot (V.state files.old) self.now written }
+        requires most { length (draft_in (V.state files.old)).bytes ≤ 4194304 }
+        requires behind { end_of waiting.old ≡ row_length self.now.schema.attributes * written }
+        requires free { IsTrue (V.state files.old).tells → IsFree (V.state files.old) waiting.old }
         ensures live { IsTrue (V.state files.old).tells → written < room
             → (row (V.state files.old).files self.now slot).live ≡ true
             → IfOk result (λ now. (now ≡ written + 1)
             × AllSuit self.now.schema.attributes (row (V.state files.old).files self.now slot).tuple
-            × PutsRow (V.state files.old) (V.state files.new) self.now written
-            (row (V.state files.old).files self.now slot)) }
+            × PutsRow (gathered (V.state files.old) waiting.old) (gathered (V.state files.new) waiting.new)
+            self.now written (row (V.state files.old).files self.now slot)) }
         ensures removed { IsTrue (V.state files.old).tells
             → (row (V.state files.old).files self.now slot).live ≡ false
             → IfOk result (λ now. (now ≡ written)
-            × ((draft_in (V.state files.new)).bytes ≡ (draft_in (V.state files.old)).bytes)) }
+            × (gathered (V.state files.new) waiting.new ≡ gathered (V.state files.old) waiting.old)) }
+        ensures free { IsTrue (V.state files.old).tells
+            → OnOk result (IsFree (V.state files.new) waiting.new) }
+        ensures behind { IfOk result (λ now. end_of waiting.new
+            ≡ row_length self.now.schema.attributes * now) }
         ensures few { IfOk result (λ now. now ≤ room) }
         ensures only { OnOk result (OnlyDraftChanges (V.state files.old) (V.state files.new)) }
         ensures frame { Changes V.state V.lent V.reads V.faults files.old files.new result }
@@ -257,7 +278,7 @@ impl Tuples {
         if !live || written == room {
             return Ok(written);
         }
-        self.draft_row(files, written, &tuple, true)?;
+        waiting.put(files, &self.schema.attributes, &tuple, true)?;
         Ok(written + 1)
     }
 
@@ -291,34 +312,6 @@ impl Tuples {
         ensures frame { Changes V.state V.lent V.reads V.faults files.old files.new result }
     {
         files.draft_commit()?;
-        Ok(())
-    }
-
-    // Puts a row into the draft, behind so many others.
-    fn draft_row<V: Files>(
-        &self,
-        files: &mut V,
-        before: u16,
-        tuple: &Tuple,
-        live: bool,
-    ) -> Result<(), Failed>
-        requires short { row_length self.now.schema.attributes ≤ 128 }
-        requires suits { AllSuit self.now.schema.attributes tuple.now }
-        requires begun { IsSome (V.state files.old).draft }
-        requires range { HasSlot (V.state files.old) self.now before }
-        requires few { before ≤ 32767 }
-        requires zeros { IsTrue (V.state files.old).tells → IsZeroSlot (V.state files.old) self.now before }
-        ensures written { IsTrue (V.state files.old).tells
-            → OnOk result (PutsRow (V.state files.old) (V.state files.new) self.now before
-            (record { tuple = tuple.now; live = live })) }
-        ensures only { OnOk result (OnlyDraftChanges (V.state files.old) (V.state files.new)) }
-        ensures frame { Changes V.state V.lent V.reads V.faults files.old files.new result }
-    {
-        let mut bytes = [0; ROW_SIZE];
-        let row = &mut bytes[..row_length(&self.schema.attributes)];
-        put_row(&self.schema.attributes, tuple, live, row);
-        let at = row_length(&self.schema.attributes) as u32 * u32::from(before);
-        files.draft_write(at, row)?;
         Ok(())
     }
 }

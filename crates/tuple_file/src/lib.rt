@@ -6,5 +6,6 @@ mod fields;
 pub mod laws;
 mod rows;
 mod tuples;
+mod waiting;
 
 pub use tuples::Tuples;
