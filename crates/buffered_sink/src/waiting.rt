@@ -42,6 +42,13 @@ impl Waiting {
         }
     }
 
+    /// Whether there are none.
+    pub fn is_empty(&self) -> bool
+        ensures { result ≡ nat_eq (length self.now.bytes) 0 }
+    {
+        self.from == self.to
+    }
+
     // Whether there is room for none more.
     pub fn is_full(&self) -> bool
         ensures { result ≡ nat_eq self.now.room 0 }

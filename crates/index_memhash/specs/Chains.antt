@@ -1,5 +1,5 @@
 -- How a table finds a key: the entries whose keys have one hash form a chain, in their order.
-use Rattle.std.specs.Prelude.{ℕ, ℤ, ◌≡◌, ◌+◌, ◌-◌, ◌*◌, ◌/◌, ◌%◌, ◌<◌, ◌≤◌, ◌==◌, List, [], ◌∷◌, length, drop, get_or, take, nat_lt, if◌then◌else◌, Option, MatchOption}
+use Rattle.std.specs.Prelude.{ℕ, zero, suc, ℤ, ◌≡◌, ◌+◌, ◌-◌, ◌*◌, ◌/◌, ◌%◌, ◌<◌, ◌≤◌, ◌==◌, List, [], ◌∷◌, length, drop, get_or, take, nat_lt, if◌then◌else◌, Option, MatchOption}
 use Rattle.std.specs.Int.{w32, cast_unsigned}
 use Rattle.afl_base.specs.Keys.{HasNone, IsFirstOf, key_in}
 
@@ -24,14 +24,24 @@ entry_from keys chain from = first_from chain from (drop from keys)
 abbrev pub chain_at : List ℤ → ℕ → ℕ
 chain_at keys link = if nat_lt link 512 then link else hash (key_in keys (link - 512))
 
--- The chains of some keys, by their links and by the last link of each chain.
+-- the arrays hold an entry as its number and 1, so that an array of zeros has none: the entry that is held, 2048 for none
+abbrev pub entry_of : ℕ → ℕ
+entry_of zero = 2048
+entry_of (suc entry) = entry
+
+-- the last link of a chain, by the last entry that is held: the chain's head where there is none
+abbrev pub end_of : ℕ → ℕ → ℕ
+end_of chain zero = chain
+end_of chain (suc entry) = 512 + entry
+
+-- The chains of some keys, by the entry that each link leads to and by the last entry of each chain, as they are held.
 pub record IsChained (keys : List ℤ) (links last : List ℕ) : Type 0 where
   -- each link leads to the first entry of its chain behind it
-  pub linked : (link : ℕ) → link < 512 + length keys → get_or links link 0 ≡ entry_from keys (chain_at keys link) (link - 511)
+  pub linked : (link : ℕ) → link < 512 + length keys → entry_of (get_or links link 0) ≡ entry_from keys (chain_at keys link) (link - 511)
   -- the last link of a chain is one of its links, and leads nowhere
-  pub within : (chain : ℕ) → chain < 512 → get_or last chain 0 < 512 + length keys
-  pub own : (chain : ℕ) → chain < 512 → chain_at keys (get_or last chain 0) ≡ chain
-  pub ends : (chain : ℕ) → chain < 512 → entry_from keys chain (get_or last chain 0 - 511) ≡ 2048
+  pub within : (chain : ℕ) → chain < 512 → end_of chain (get_or last chain 0) < 512 + length keys
+  pub own : (chain : ℕ) → chain < 512 → chain_at keys (end_of chain (get_or last chain 0)) ≡ chain
+  pub ends : (chain : ℕ) → chain < 512 → entry_from keys chain (end_of chain (get_or last chain 0) - 511) ≡ 2048
 
 -- the arrays of a table with so many entries
 pub record IsTable (keys : List ℤ) (links last : List ℕ) (len : ℕ) : Type 0 where

@@ -1,5 +1,5 @@
 ghost use Rattle.std.specs.Prelude.{◌≡◌, ◌+◌, ◌*◌, ◌-◌, ◌<◌, ◌≤◌, ◌≢◌, ℕ, get_or, take, length, true, false, nat_le, ◌&&◌};
-ghost use Rattle.index_memhash.specs.Chains.{Finds, IsChained, chain_at, hash};
+ghost use Rattle.index_memhash.specs.Chains.{Finds, IsChained, chain_at, end_of, entry_of, hash};
 ghost use Rattle.afl_base.specs.Keys.{is_key_at, key_in};
 
 use afl_base::SlotNo;
@@ -22,17 +22,26 @@ pub(crate) fn chain_of(key: &i32) -> u16
     (key.cast_unsigned().wrapping_mul(2_654_435_769) >> 23) as u16
 }
 
-/// Takes all entries out of the chains: each head leads nowhere, and is the last link of its chain.
+/// Takes all entries out of the chains: each head leads nowhere, and no chain has a last entry.
 pub(crate) fn empty(links: &mut [u16; 2560], last: &mut [u16; 512])
     ensures links_size { length links.new ≡ 2560 }
     ensures last_size { length last.new ≡ 512 }
-    ensures heads { (link : ℕ) → link < 512 → get_or links.new link 0 ≡ 2048 }
-    ensures last { (chain : ℕ) → chain < 512 → get_or last.new chain 0 ≡ chain }
+    ensures heads { (link : ℕ) → link < 512 → get_or links.new link 0 ≡ 0 }
+    ensures last { (chain : ℕ) → chain < 512 → get_or last.new chain 0 ≡ 0 }
 {
     for chain in 0..CHAINS {
-        links[usize::from(chain)] = END;
-        last[usize::from(chain)] = chain;
+        links[usize::from(chain)] = 0;
+        last[usize::from(chain)] = 0;
     }
+}
+
+/// The last link of a chain, by its last entry as it is held.
+pub(crate) fn end_of(chain: u16, held: u16) -> u16
+    requires few { chain < 512 }
+    requires within { held ≤ 2048 }
+    ensures { result ≡ end_of chain held }
+{
+    if held == 0 { chain } else { 511 + held }
 }
 
 /// The first slot of a key, from one on, by the chain of its hash.
@@ -48,14 +57,23 @@ pub(crate) fn find(
     requires chained { IsChained (take len keys.now) links.now last.now }
     ensures { Finds result key.now (take len keys.now) from }
 {
-    let mut entry = links[usize::from(link_before(keys, len, key, from))];
+    let mut entry = led_to(links, link_before(keys, len, key, from));
     'chain: while entry < len {
         if is_wanted(keys, entry, key, from) {
             return SlotNo::new(entry);
         }
-        entry = links[usize::from(512 + entry)];
+        entry = led_to(links, 512 + entry);
     }
     None
+}
+
+// The entry that a link leads to, END for none.
+fn led_to(links: &[u16; 2560], link: u16) -> u16
+    requires within { link < 2560 }
+    ensures { result ≡ entry_of (get_or links.now link 0) }
+{
+    let held = links[usize::from(link)];
+    if held == 0 { END } else { held - 1 }
 }
 
 // A link of the key's chain before all entries from one on: that of the entry before it where this

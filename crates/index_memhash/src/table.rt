@@ -1,7 +1,7 @@
 ghost use Rattle.std.specs.Prelude.{◌++◌, ◌∷◌, ◌≡◌, ◌+◌, ◌<◌, ◌≤◌, [], ℕ, MatchOption, length, nat_eq, ◌==◌};
 ghost use Rattle.afl_base.specs.Keys.{HasNone, IsFirstOf};
 
-use crate::chains::{END, chain_of, empty, find};
+use crate::chains::{END, chain_of, empty, end_of, find};
 use afl_base::SlotNo;
 use std::marker::Model;
 
@@ -16,9 +16,10 @@ pub struct HashPlace {
 #[derive(Drop)]
 pub struct HashTable {
     keys: [i32; 2048],
-    // The chains' heads, and behind them the link of each entry.
+    // The chains' heads, and behind them the link of each entry: the entry that each leads to. Here and in
+    // `last` an entry is held as its number and 1, and 0 is none: so a table of zeros is empty.
     links: [u16; 2560],
-    // The last link of each chain.
+    // The last entry of each chain.
     last: [u16; 512],
     len: u16,
 }
@@ -36,16 +37,15 @@ impl Model for HashTable {
 
 impl HashTable {
     /// A table with no entries.
+    // Inlined, so that the zeros are written where the table is to stay.
+    #[inline(always)]
     pub fn new() -> HashTable
         ensures { result ≡ [] }
     {
-        let mut links = [0; 2560];
-        let mut last = [0; 512];
-        empty(&mut links, &mut last);
         HashTable {
             keys: [0; 2048],
-            links,
-            last,
+            links: [0; 2560],
+            last: [0; 512],
             len: 0,
         }
     }
@@ -78,11 +78,12 @@ impl HashTable {
         requires room { length self.old < 2048 }
         ensures { self.new ≡ self.old ++ key.now ∷ [] }
     {
-        let chain = usize::from(chain_of(key));
+        let chain = chain_of(key);
         let entry = usize::from(self.len);
-        self.links[usize::from(self.last[chain])] = self.len;
-        self.last[chain] = 512 + self.len;
-        self.links[512 + entry] = END;
+        let end = end_of(chain, self.last[usize::from(chain)]);
+        self.links[usize::from(end)] = self.len + 1;
+        self.last[usize::from(chain)] = self.len + 1;
+        self.links[512 + entry] = 0;
         self.keys[entry] = *key;
         self.len += 1;
     }

@@ -33,6 +33,8 @@ impl Model for HashTables {
 
 impl HashTables {
     /// Two empty tables.
+    // Inlined, so that the zeros are written where the tables are to stay.
+    #[inline(always)]
     pub fn new() -> HashTables
         ensures { (table : AnyTable) → entries result table ≡ [] }
     {

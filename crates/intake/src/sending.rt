@@ -12,6 +12,8 @@ use buffered_sink::{Buffered, Since};
 
 /// Hands on what waits of a reply, unless the sink has failed before. What waits behind a fault of the
 /// flash goes out as far as the sink takes it.
+// Inlined, since nothing waits behind most bytes.
+#[inline(always)]
 pub fn send<'a, K: Sink, S: Since>(
     gathered: &mut Buffered<'a, K, S>,
     answered: Result<(), Ending>,
@@ -26,6 +28,9 @@ pub fn send<'a, K: Sink, S: Since>(
         → K.faults gathered.new.out.now ≡ K.faults gathered.old.out.now }
     ensures later { K.faults gathered.old.out.now ≤ K.faults gathered.new.out.now }
 {
+    if gathered.waiting.is_empty() {
+        return answered;
+    }
     match answered {
         Ok(()) => match gathered.flush() {
             Ok(()) => Ok(()),

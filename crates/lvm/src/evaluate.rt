@@ -34,6 +34,9 @@ pub fn evaluated(instructions: &[Instruction], tuple: &Tuple) -> bool
     requires { length instructions.now ≤ 32 }
     ensures { result ≡ spec.verdict (spec.evaluated instructions.now tuple.now []) }
 {
+    if instructions.is_empty() {
+        return true;
+    }
     let mut stack = Stack::new();
     for instruction in instructions {
         step(instruction, tuple, &mut stack);

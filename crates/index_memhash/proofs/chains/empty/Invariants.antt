@@ -5,6 +5,6 @@ abbrev pub invariant-loop-chain : goal.invariant-loop-chain
 invariant-loop-chain l = record {
   links_size : length l.links ≡ 2560;
   last_size : length l.last ≡ 512;
-  heads : (i : ℕ) → i < l.chain → get_or l.links i 0 ≡ 2048;
-  last : (i : ℕ) → i < l.chain → get_or l.last i 0 ≡ i;
+  heads : (i : ℕ) → i < l.chain → get_or l.links i 0 ≡ 0;
+  last : (i : ℕ) → i < l.chain → get_or l.last i 0 ≡ 0;
 }

@@ -1,12 +1,5 @@
-use Rattle.std.proofs.Common.{rules, arith}
-use Rattle.index_memhash.proofs.Links.{none_chained}
+use Rattle.index_memhash.proofs.Links.{zeros_table}
 use Rattle.index_memhash.proofs.table.HashTable.new.Goals as goal
 
 pub invariant_of-result : goal.invariant_of-result
-invariant_of-result c = record {
-  few = omega arith;
-  keys_size = search rules;
-  links_size = c.empty.ensures.links_size;
-  last_size = c.empty.ensures.last_size;
-  chained = none_chained _ _ c.empty.ensures.heads c.empty.ensures.last;
-}
+invariant_of-result c = zeros_table
