@@ -19,8 +19,8 @@ use Rattle.answering.specs.Went.{Went}
 use Rattle.run_model.specs.Line.{Line}
 use Rattle.run_model.specs.Runs.{CarriedOut, FoundNoSpace, InputCutOff, InputEnded, InputFaulted, InputFoundNoSpace, InputTooLong, InputUnsaid, SpaceUnsaid, StandsAfter, StopsAt, World, WroteWithin, world}
 use Rattle.run_model.specs.Talk.{Talk}
-use Rattle.space_plan.specs.Lines.{plan_text}
-use Rattle.space_plan.specs.Planned.{planned}
+use Rattle.space_plan.specs.declared.further.FurtherRows.{FurtherRows}
+use Rattle.space_plan.specs.Lines.{plan_reply}
 use Rattle.workload_run.specs.Counted as counted
 use Rattle.workload_run.specs.Summed.{summed}
 use Rattle.workload_run.specs.Summed as sums
@@ -160,7 +160,7 @@ module _ (a b : Standing) (image image_now : List ℕ) (before now : Option (Lis
     told_less : (image_now ≡ image) → WroteLess a.held b.held (text image) → TellsLess text Old New
     told_less same w = record { leaves = record { same = same; unread = unread }; written = less_of (text image) w }
 
-  by_plan : (rows : ℕ) → now ≡ before → (result : Result ⊤ InputEnding) → Stays → WritesText a b (planned_text rows image) result → left.LeavesBehind (Plan rows) Old New result
+  by_plan : (rows : FurtherRows) → now ≡ before → (result : Result ⊤ InputEnding) → Stays → WritesText a b (planned_text rows image) result → left.LeavesBehind (Plan rows) Old New result
   by_plan rows unread (Ok done) stays w = told_all (planned_text rows) unread stays w
   by_plan rows unread (Err Input) stays w = absurd w
   by_plan rows unread (Err Long) stays w = absurd w
@@ -185,8 +185,8 @@ module _ (a b : Standing) (image image_now : List ℕ) (before now : Option (Lis
   leaves sectors many (Gen seed count) result back stays unread d = by_gen seed count result back d.0 d.1
   leaves sectors many (Plan rows) result back stays unread d =
       by_plan rows (unread tt) result (stays tt)
-      (subst (λ (db : Database). WritesText a b (plan_text (planned db rows) (length image / 4096)) result) start
-      (subst (λ (n : ℕ). WritesText a b (plan_text (planned a.database rows) n) result) many d.1))
+      (subst (λ (db : Database). WritesText a b (plan_reply db rows (length image / 4096)) result) start
+      (subst (λ (n : ℕ). WritesText a b (plan_reply a.database rows n) result) many d.1))
   leaves sectors many Dump result back stays unread d =
       by_dump (unread tt) result (stays tt) (subst (λ (db : Database). WritesText a b (script db) result) start d.1)
 

@@ -1,5 +1,5 @@
 -- What a run reads, its opening included.
-use Rattle.std.proofs.Common.{◌≡◌, ℕ, ◌+◌, ◌-◌, ◌*◌, ◌/◌, ◌≤◌, Bool, true, false, List, length, Option, Some, None, ap, refl, arith}
+use Rattle.std.proofs.Common.{◌≡◌, ℕ, ◌+◌, ◌-◌, ◌/◌, ◌≤◌, Bool, true, false, List, length, Option, Some, None, ap, refl, arith}
 use Rattle.db_model.specs.Ahead.{Aheads, no_cursors}
 use Rattle.db_model.specs.Database.{Database}
 use Rattle.db_model.specs.RunCost.{opening_cost}
@@ -12,6 +12,7 @@ use Rattle.run_model.specs.Scripts.{script_line, script_talk}
 use Rattle.serve_model.specs.Frames.{frame_line}
 use Rattle.serve_model.specs.Served.{serve_talk}
 use Rattle.sound_image.specs.Images.{IsSound, base}
+use Rattle.space_plan.specs.declared.further.FurtherRows.{FurtherRows}
 use Rattle.antelope_run.specs.declared.words.Form.{Form}
 use Rattle.antelope_run.specs.declared.words.Form.TheVariants.{Run, Gen, Plan, Serve, Dump}
 use Rattle.antelope_run.specs.Does.{CarriedReads, InputReads}
@@ -39,7 +40,7 @@ module _ (image : List ℕ) (left held : Option (List ℕ)) (before : ℕ) where
     entries_by (Plan rows) h = tt
     entries_by Dump h = tt
 
-    planned_by : (form : Form) → CarriedReads form a left now → (rows : ℕ) → Some form ≡ Some (Plan rows) → OpensWithin (world image left held) (now - before)
+    planned_by : (form : Form) → CarriedReads form a left now → (rows : FurtherRows) → Some form ≡ Some (Plan rows) → OpensWithin (world image left held) (now - before)
     planned_by (Plan rows) h n e = omega (arith, h, opened)
     planned_by Run h n e = absurd (let f : ⊥ = cc in f)
     planned_by Serve h n e = absurd (let f : ⊥ = cc in f)

@@ -18,8 +18,7 @@ use Rattle.answering.specs.Carried.{Standing}
 use Rattle.answering.specs.Went.{Went}
 use Rattle.run_model.specs.Line.{Line}
 use Rattle.run_model.specs.Talk.{AsksToRead, Talk, talk_costs}
-use Rattle.space_plan.specs.Lines.{plan_text}
-use Rattle.space_plan.specs.Planned.{planned}
+use Rattle.space_plan.specs.Lines.{plan_reply}
 use Rattle.workload_run.specs.Summed.{StopsCommands, SummedUp}
 use Rattle.antelope_run.specs.declared.words.Form.{Form}
 use Rattle.antelope_run.specs.declared.words.Form.TheVariants.{Run, Gen, Plan, Serve, Dump}
@@ -49,7 +48,7 @@ module _ (old new : Standing) where
   -- what was done of a form, on a flash of so many sectors
   abbrev pub DoesForm : (sectors : ℕ) → (left left_now : Option (List ℕ)) → (Command → ℕ → Type 0) → Form → Result ⊤ InputEnding → Type 0
   DoesForm sectors left left_now Lacks (Gen seed count) result = TellsOn result × Generates Lacks (first_commands seed count) result
-  DoesForm sectors left left_now Lacks (Plan rows) result = TellsOn result × WritesText (plan_text (planned old.database rows) sectors) result
+  DoesForm sectors left left_now Lacks (Plan rows) result = TellsOn result × WritesText (plan_reply old.database rows sectors) result
   DoesForm sectors left left_now Lacks Dump result = TellsOn result × WritesText (script old.database) result
   DoesForm sectors left left_now Lacks form result = OnInput form (λ E line talk. Went line talk old new left left_now Lacks result)
 

@@ -22,8 +22,8 @@ use Rattle.run_model.specs.Talk.{Talk}
 use Rattle.serve_model.specs.Frames.{frame_line}
 use Rattle.serve_model.specs.Served.{serve_talk}
 use Rattle.sound_image.specs.Images.{IsSound, base}
-use Rattle.space_plan.specs.Lines.{plan_text}
-use Rattle.space_plan.specs.Planned.{planned}
+use Rattle.space_plan.specs.declared.further.FurtherRows.{FurtherRows}
+use Rattle.space_plan.specs.Lines.{plan_reply}
 use Rattle.workload_run.specs.Summed.{summed}
 use Rattle.antelope_run.specs.declared.words.Form.{Form}
 use Rattle.antelope_run.specs.declared.words.Form.TheVariants.{Run, Gen, Plan, Serve, Dump}
@@ -61,10 +61,11 @@ pub record LineUnsaid (commands : List Command) (old new : World) : Type 0 where
   pub written : WroteWithin [] (summed (base old.image) commands) old.held new.held
   pub stands : StandsAfter (summed_from (base old.image)) commands new.image
 
--- ---- what is told of an image: the sectors that are planned for so many rows, and the script of its database
+-- ---- what is told of an image: the sectors that are planned for so many rows, or that one of the relations is not there,
+-- and the script of its database
 
-abbrev pub planned_text : ℕ → List ℕ → List ℕ
-planned_text rows image = plan_text (planned (base image) rows) (length image / 4096)
+abbrev pub planned_text : FurtherRows → List ℕ → List ℕ
+planned_text rows image = plan_reply (base image) rows (length image / 4096)
 
 abbrev pub dumped_text : List ℕ → List ℕ
 dumped_text image = script (base image)
@@ -223,6 +224,6 @@ EntriesReadAtMost _ old n = ⊤
 -- there is no bound
 pub record ReadsAtMost (words : Option Form) (old : World) (n : ℕ) : Type 0 where
   pub refused : (IsSound old.image → ⊥) → OpensWithin old n
-  pub planned : (rows : ℕ) → words ≡ Some (Plan rows) → OpensWithin old n
+  pub planned : (rows : FurtherRows) → words ≡ Some (Plan rows) → OpensWithin old n
   pub dumped : words ≡ Some Dump → DumpsWithin old n
   pub entries : EntriesReadAtMost words old n

@@ -12,8 +12,7 @@ ghost use Rattle.dump.specs.Unchanged.{IsAsBefore};
 ghost use Rattle.dump_model.specs.Script.{script};
 ghost use Rattle.intake.specs.declared.ending.Ending.TheVariants as Ending;
 ghost use Rattle.intake.specs.declared.ending.InputEnding.TheVariants as InputEnding;
-ghost use Rattle.space_plan.specs.Lines.{plan_text};
-ghost use Rattle.space_plan.specs.Planned.{planned};
+ghost use Rattle.space_plan.specs.Lines.{plan_reply};
 ghost use Rattle.antelope_run.specs.declared.words.Form.TheVariants as Form;
 ghost use Rattle.antelope_run.specs.Comes.{ReachesBy};
 ghost use Rattle.antelope_run.specs.Does.{CarriedReads, DoesForm, Generates, OnlyHalts, OnlyTells, TellsOn, WritesText, halted, stopped};
@@ -26,7 +25,7 @@ use antelope_engine::Session;
 use intake::{Ending, InputEnding};
 use script_run::run_script;
 use serve::serve_line;
-use space_plan::{planned, write_plan};
+use space_plan::FurtherRows;
 use workload_run::generate;
 
 /// Carries out what a form asks for on a flash of so many sectors.
@@ -61,7 +60,7 @@ pub fn carry_out<V: Files, S: Source, K: Sink>(
         Form::Run => run_script(session, input, out),
         Form::Serve => serve_line(session, input, out),
         Form::Gen { seed, count } => generate_all(session, seed, count, out),
-        Form::Plan { rows } => plan(session, rows, sectors, out),
+        Form::Plan { rows } => plan(session, &rows, sectors, out),
         Form::Dump => dump_all(session, out),
     }
 }
@@ -100,10 +99,11 @@ fn halted(done: Result<(), Ending>) -> Result<(), InputEnding>
     }
 }
 
-// Writes how many sectors are planned for so many rows more, and how many there are.
+// Writes how many sectors are planned for so many rows more, and how many there are, or that a relation is
+// not there.
 fn plan<V: Files, K: Sink>(
     session: &mut Session<V>,
-    rows: u16,
+    rows: &FurtherRows,
     sectors: u16,
     out: &mut K,
 ) -> Result<(), InputEnding>
@@ -111,15 +111,15 @@ fn plan<V: Files, K: Sink>(
     ensures does { let old = standing_of V.state V.reads session.old (K.held out.old) in
         let new = standing_of V.state V.reads session.new (K.held out.new) in
         IsTrue (V.state session.old.files).tells
-        → TellsOn old new result × WritesText old new (plan_text (planned session.old.database rows) sectors) result }
+        → TellsOn old new result
+        × WritesText old new (plan_reply session.old.database rows.now sectors) result }
     ensures same { session.new ≡ session.old }
     ensures halts { OnlyHalts result }
     ensures lent { K.lent out.new ≡ K.lent out.old }
     ensures cause { (inputs : ℕ) → HasRunCause inputs inputs (V.faults session.old.files)
         (V.faults session.new.files) (K.faults out.old) (K.faults out.new) result }
 {
-    let needed = planned(session, rows);
-    match write_plan(out, needed, sectors) {
+    match space_plan::write(session, rows, sectors, out) {
         Ok(()) => Ok(()),
         Err(Failed) => Err(InputEnding::Early(Ending::Sink)),
     }

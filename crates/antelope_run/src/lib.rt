@@ -5,7 +5,9 @@ mod call;
 mod came;
 mod carrying;
 mod closing;
+mod digits;
 mod image_line;
+mod planned;
 mod reading;
 mod words;
 

@@ -1,5 +1,7 @@
+use space_plan::FurtherRows;
+
 /// What the words of the program ask for. IMAGE, SCRIPT and INPUT are any words.
-#[derive(Clone, Copy, PartialEq, Eq, Debug)]
+#[derive(Drop)]
 pub enum Form {
     /// `run IMAGE SCRIPT`: to carry out a script on an image.
     Run,
@@ -7,8 +9,9 @@ pub enum Form {
     /// value from 0 to 4,294,967,295, COUNT 1 to 6 digits and a value from 1 to 100,000.
     Gen { seed: u32, count: u32 },
     /// `plan IMAGE ROWS`: to tell how many sectors are enough for so many further rows in each relation.
-    /// ROWS has 1 to 5 digits and a value from 0 to 32,767.
-    Plan { rows: u16 },
+    /// ROWS has 1 to 5 digits and a value from 0 to 32,767. Or `plan IMAGE NAME=ROWS ..`, with 1 to 8
+    /// such words: so many in each relation that is named, once, and none in the others.
+    Plan { rows: FurtherRows },
     /// `serve IMAGE INPUT`: to answer the frames of up to four clients on one line.
     Serve,
     /// `dump IMAGE`: to write the database as a script.

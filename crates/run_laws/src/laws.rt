@@ -56,14 +56,14 @@ pub fn dumps_are_made_again()
     sound_files_are_a_sound_database();
 }
 
-/// A script whose commands insert and read, and bring at most n rows to each relation, finds enough space
-/// on a sound image with the sectors that were planned for n rows. So by the contract of `top` its run does
-/// not end with status 3.
+/// A script whose commands insert and read, and bring at most so many rows to each relation as were planned
+/// for by its name, finds enough space on a sound image with the sectors that were planned. So by the
+/// contract of `top` its run does not end with status 3.
 pub fn planned_runs_find_space()
     ensures { (read : List ℕ → Result Command Refusal) → IsReader read
-        → (n : ℕ) (old : World) (text : List ℕ) → IsSound old.image → old.left ≡ Some text
-        → KeepsToPlan n (base old.image) (commands_of read (commands text))
-        → planned (base old.image) n ≤ length old.image / 4096 → HasSpace (Some Run) old }
+        → (rows : List ℕ → ℕ) (old : World) (text : List ℕ) → IsSound old.image
+        → old.left ≡ Some text → KeepsToPlan rows (base old.image) (commands_of read (commands text))
+        → planned (base old.image) rows ≤ length old.image / 4096 → HasSpace (Some Run) old }
 {
     planned_flash_has_enough();
     scripts_are_answered_in_order();

@@ -3,6 +3,7 @@ pub mod Inserted
 pub mod Lines
 pub mod Longer
 pub mod MoreBuckets
+pub mod Names
 pub mod PlannedSpace
 pub mod Scripts
 pub mod Trees

@@ -81,16 +81,16 @@ few_in most (Some r) q h = h.within
 pub grown_few : (most : List ℕ → ℕ) (db new : Database) → IsGrown most db new → HasFewRows new
 grown_few most db new h slot q e = few_in most (get_or db.relations slot None) q (subst (IsLongerIn most (get_or db.relations slot None)) e (h.relations slot))
 
-most_in : (most : List ℕ → ℕ) (n : ℕ) → ((name : List ℕ) → most name ≤ n) → (o p : Option Relation) → IsLongerIn most o p → IsLongerIn (λ name. n) o p
-most_in most n few None None h = tt
-most_in most n few None (Some q) h = absurd h
-most_in most n few (Some r) None h = absurd h
-most_in most n few (Some r) (Some q) h =
+most_in : (most limit : List ℕ → ℕ) → ((name : List ℕ) → most name ≤ limit name) → (o p : Option Relation) → IsLongerIn most o p → IsLongerIn limit o p
+most_in most limit few None None h = tt
+most_in most limit few None (Some q) h = absurd h
+most_in most limit few (Some r) None h = absurd h
+most_in most limit few (Some r) (Some q) h =
     record { schema = h.schema; more = h.more; rows = h.rows; few = (let a = few r.schema.name in let b = h.few in omega (arith, a, b)); within = h.within }
 
-pub grown_most : (most : List ℕ → ℕ) (n : ℕ) (db new : Database) → ((name : List ℕ) → most name ≤ n) → IsGrown most db new → IsGrown (λ name. n) db new
-grown_most most n db new few h =
-    record { slots = h.slots; relations = λ k. most_in most n few (get_or db.relations k None) (get_or new.relations k None) (h.relations k); indexes = h.indexes }
+pub grown_most : (most limit : List ℕ → ℕ) (db new : Database) → ((name : List ℕ) → most name ≤ limit name) → IsGrown most db new → IsGrown limit db new
+grown_most most limit db new few h =
+    record { slots = h.slots; relations = λ k. most_in most limit few (get_or db.relations k None) (get_or new.relations k None) (h.relations k); indexes = h.indexes }
 
 -- ---- one row more
 

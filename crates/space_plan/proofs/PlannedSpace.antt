@@ -19,7 +19,7 @@ use Rattle.db_model.specs.Step.{after_all, key_of, keys}
 use Rattle.db_model.proofs.Buckets.{buckets_bound}
 use Rattle.space_model.specs.Enough.{enough, file_sizes, index_sizes, largest, most, most_of, rows_in, rows_size, tree_size, tree_sizes}
 use Rattle.space_plan.specs.Growth.{HasFewRows, KeepsToPlan, rows_brought}
-use Rattle.space_plan.specs.Planned.{index_planned, planned, rows_planned, sizes_planned, slots_planned, tree_planned, trees_planned}
+use Rattle.space_plan.specs.Planned.{index_planned, name_in, planned, rows_planned, sizes_planned, slots_planned, tree_planned, trees_planned}
 use Rattle.space_plan.proofs.Fitting.{AreWithin, enough_within, largest_within, within-append}
 use Rattle.space_plan.proofs.Inserted.{all_grow}
 use Rattle.space_plan.proofs.Longer.{IsGrown, IsLonger, IsLongerIn, grown_most}
@@ -27,46 +27,46 @@ use Rattle.space_plan.proofs.MoreBuckets.{buckets-append}
 
 -- ---- sizes of what has grown
 
-module _ (n : ℕ) where
-  rows_few : (r q : Relation) → IsLonger n r q → rows_size q ≤ rows_planned n r
+-- rows with at most n more behind them
+record LongerRows (n : ℕ) (rows new : List Row) : Type 0 where
+  more : List Row
+  is : new ≡ rows ++ more
+  few : length more ≤ n
+  within : length new ≤ 32768
+
+module _ (most : List ℕ → ℕ) where
+  rows_few : (r q : Relation) → IsLonger (most r.schema.name) r q → rows_size q ≤ rows_planned most r
   rows_few r q h =
       let few = h.few in
       let within = h.within in
       let size : length q.rows ≡ length r.rows + length h.more = ap length h.rows ∙ length-append r.rows h.more in
-      let less : length q.rows ≤ slots_planned n (length r.rows) = omega (arith, few, within, size) in
+      let less : length q.rows ≤ slots_planned (most r.schema.name) (length r.rows) = omega (arith, few, within, size) in
       let width : row_length q.schema.attributes ≡ row_length r.schema.attributes = ap (λ s. row_length s.attributes) h.schema in
       rw width (mul-le-mul_left (row_length r.schema.attributes) less)
 
   -- the relations of some slots, and of others with more rows
-  all_rows_few : (slots others : List (Option Relation)) → length others ≡ length slots → ((k : ℕ) → IsLongerIn (λ name. n) (get_or slots k None) (get_or others k None))
-      → AreWithin (map rows_size (used_things others)) (map (rows_planned n) (used_things slots))
+  all_rows_few : (slots others : List (Option Relation)) → length others ≡ length slots → ((k : ℕ) → IsLongerIn most (get_or slots k None) (get_or others k None))
+      → AreWithin (map rows_size (used_things others)) (map (rows_planned most) (used_things slots))
   all_rows_few [] [] same h = tt
   all_rows_few [] (p ∷ others) same h = absurd (omega (arith, same))
   all_rows_few (o ∷ slots) [] same h = absurd (omega (arith, same))
   all_rows_few (o ∷ slots) (p ∷ others) same h = first o p (h 0) (all_rows_few slots others (omega (arith, same)) (λ k. h (suc k)))
     where
-      first : (o p : Option Relation) → IsLongerIn (λ name. n) o p → AreWithin (map rows_size (used_things others)) (map (rows_planned n) (used_things slots))
-          → AreWithin (map rows_size (used_things (p ∷ others))) (map (rows_planned n) (used_things (o ∷ slots)))
+      first : (o p : Option Relation) → IsLongerIn most o p → AreWithin (map rows_size (used_things others)) (map (rows_planned most) (used_things slots))
+          → AreWithin (map rows_size (used_things (p ∷ others))) (map (rows_planned most) (used_things (o ∷ slots)))
       first None None g rest = rest
       first None (Some q) g rest = absurd g
       first (Some r) None g rest = absurd g
       first (Some r) (Some q) g rest = (rows_few r q g, rest)
 
-  -- rows with at most n more behind them
-  record LongerRows (rows new : List Row) : Type 0 where
-    more : List Row
-    is : new ≡ rows ++ more
-    few : length more ≤ n
-    within : length new ≤ 32768
-
-  rows_longer : (o p : Option Relation) → IsLongerIn (λ name. n) o p → LongerRows (option_map_or (λ r. r.rows) o []) (option_map_or (λ r. r.rows) p [])
+  rows_longer : (o p : Option Relation) → IsLongerIn most o p → LongerRows (most (option_map_or (λ r. r.schema.name) o [])) (option_map_or (λ r. r.rows) o []) (option_map_or (λ r. r.rows) p [])
   rows_longer None None h = record { more = []; is = refl; few = omega arith; within = omega arith }
   rows_longer None (Some q) h = absurd h
   rows_longer (Some r) None h = absurd h
   rows_longer (Some r) (Some q) h = record { more = h.more; is = h.rows; few = h.few; within = h.within }
 
-  tree_few : (place : ℕ) (rows new : List Row) → LongerRows rows new → tree_size (keys place new) ≤ tree_planned n (keys place rows)
-  tree_few place rows new h =
+  tree_few : (n place : ℕ) (rows new : List Row) → LongerRows n rows new → tree_size (keys place new) ≤ tree_planned n (keys place rows)
+  tree_few n place rows new h =
       let few = h.few in
       let within = h.within in
       let parts : keys place new ≡ keys place rows ++ keys place h.more = ap (keys place) h.is ∙ map-append (λ row. key_of (slice_get row.tuple place)) rows h.more in
@@ -80,30 +80,30 @@ module _ (n : ℕ) where
       let bound : buckets (keys place new) ≤ slots_planned n (length (keys place rows)) / 32 + 341 = omega (arith, most, a, slots) in
       omega (arith, grown, bound, c, few)
 
-  index_few : (db new : Database) (index : Index) → IsGrown (λ name. n) db new → AreWithin (index_sizes new index) (index_planned n db index)
+  index_few : (db new : Database) (index : Index) → IsGrown most db new → AreWithin (index_sizes new index) (index_planned most db index)
   index_few db new index h = by_kind index.kind
     where
       by_kind : (kind : IndexKind)
           → AreWithin (elim kind [ Inline ↦ [] | MaxHeap ↦ tree_size (keys index.attribute (rows_in new index.relation)) ∷ [] | MemHash ↦ [] ])
-          (elim kind [ Inline ↦ [] | MaxHeap ↦ tree_planned n (keys index.attribute (rows_in db index.relation)) ∷ [] | MemHash ↦ [] ])
+          (elim kind [ Inline ↦ [] | MaxHeap ↦ tree_planned (most (name_in db index.relation)) (keys index.attribute (rows_in db index.relation)) ∷ [] | MemHash ↦ [] ])
       by_kind Inline = tt
       by_kind MaxHeap = (
-        tree_few index.attribute (rows_in db index.relation) (rows_in new index.relation)
+        tree_few (most (name_in db index.relation)) index.attribute (rows_in db index.relation) (rows_in new index.relation)
             (rows_longer (get_or db.relations index.relation None) (get_or new.relations index.relation None) (h.relations index.relation)),
         tt,
       )
       by_kind MemHash = tt
 
-  trees_few : (db new : Database) (indexes : List Index) → IsGrown (λ name. n) db new → AreWithin (tree_sizes new indexes) (trees_planned n db indexes)
+  trees_few : (db new : Database) (indexes : List Index) → IsGrown most db new → AreWithin (tree_sizes new indexes) (trees_planned most db indexes)
   trees_few db new [] h = tt
   trees_few db new (index ∷ indexes) h =
-      within-append (index_sizes new index) (index_planned n db index) (tree_sizes new indexes) (trees_planned n db indexes) (index_few db new index h) (trees_few db new indexes h)
+      within-append (index_sizes new index) (index_planned most db index) (tree_sizes new indexes) (trees_planned most db indexes) (index_few db new index h) (trees_few db new indexes h)
 
-  sizes_few : (db new : Database) → IsGrown (λ name. n) db new → AreWithin (file_sizes new) (sizes_planned n db)
+  sizes_few : (db new : Database) → IsGrown most db new → AreWithin (file_sizes new) (sizes_planned most db)
   sizes_few db new h =
-      let trees : AreWithin (tree_sizes new (used_things new.indexes)) (trees_planned n db (used_things db.indexes)) =
-      subst (λ is. AreWithin (tree_sizes new (used_things is)) (trees_planned n db (used_things db.indexes))) (sym h.indexes) (trees_few db new (used_things db.indexes) h) in
-      within-append (map rows_size (used_things new.relations)) (map (rows_planned n) (used_things db.relations)) (tree_sizes new (used_things new.indexes)) (trees_planned n db (used_things db.indexes))
+      let trees : AreWithin (tree_sizes new (used_things new.indexes)) (trees_planned most db (used_things db.indexes)) =
+      subst (λ is. AreWithin (tree_sizes new (used_things is)) (trees_planned most db (used_things db.indexes))) (sym h.indexes) (trees_few db new (used_things db.indexes) h) in
+      within-append (map rows_size (used_things new.relations)) (map (rows_planned most) (used_things db.relations)) (tree_sizes new (used_things new.indexes)) (trees_planned most db (used_things db.indexes))
       (all_rows_few db.relations new.relations h.slots h.relations) trees
 
 -- ---- an INSERT asks for no more than twice the largest file
@@ -145,12 +145,12 @@ insert_among db name (Some s) e =
 
 -- ---- the law
 
-pub planned_suffices : (n : ℕ) (db : Database) (commands : List Command) (values : List Value) (name : List ℕ) → HasFewRows db → KeepsToPlan n db commands
-    → enough (after_all db commands) (most (after_all db commands) (Insert values name)) ≤ planned db n
-planned_suffices n db commands values name few plan =
+pub planned_suffices : (rows : List ℕ → ℕ) (db : Database) (commands : List Command) (values : List Value) (name : List ℕ) → HasFewRows db → KeepsToPlan rows db commands
+    → enough (after_all db commands) (most (after_all db commands) (Insert values name)) ≤ planned db rows
+planned_suffices rows db commands values name few plan =
     let new : Database = after_all db commands in
-    let grown = grown_most (rows_brought db commands) n db new plan.few (all_grow db commands plan.kinds few) in
-    let sizes : AreWithin (file_sizes new) (sizes_planned n db) = sizes_few n db new grown in
-    let files = largest_within (file_sizes new) (sizes_planned n db) sizes in
+    let grown = grown_most (rows_brought db commands) rows db new plan.few (all_grow db commands plan.kinds few) in
+    let sizes : AreWithin (file_sizes new) (sizes_planned rows db) = sizes_few rows db new grown in
+    let files = largest_within (file_sizes new) (sizes_planned rows db) sizes in
     let asked = insert_among new name (relation_named new name) refl in
-    enough_within (file_sizes new) (sizes_planned n db) (most new (Insert values name)) (most_of (sizes_planned n db)) sizes (omega (arith, files, asked))
+    enough_within (file_sizes new) (sizes_planned rows db) (most new (Insert values name)) (most_of (sizes_planned rows db)) sizes (omega (arith, files, asked))

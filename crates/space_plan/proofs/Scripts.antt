@@ -33,18 +33,18 @@ brought_front db [] ys name = omega arith
 brought_front db (x ∷ xs) ys name = let rest = brought_front (step db x).0 xs ys name in omega (arith, rest)
 
 -- a command that keeps to a plan asks for nothing, or there are the sectors for it
-has_enough : (n : ℕ) (db : Database) (front rest : List Command) (command : Command) → HasFewRows db → KeepsToPlan n db (front ++ command ∷ rest)
-    → (most (after_all db front) command ≡ 0) ⊎ (enough (after_all db front) (most (after_all db front) command) ≤ planned db n)
-has_enough n db front rest command few plan = by_command command (all_behind IsInsertOrRead front command rest plan.kinds)
+has_enough : (rows : List ℕ → ℕ) (db : Database) (front rest : List Command) (command : Command) → HasFewRows db → KeepsToPlan rows db (front ++ command ∷ rest)
+    → (most (after_all db front) command ≡ 0) ⊎ (enough (after_all db front) (most (after_all db front) command) ≤ planned db rows)
+has_enough rows db front rest command few plan = by_command command (all_behind IsInsertOrRead front command rest plan.kinds)
   where
-    before : KeepsToPlan n db front
+    before : KeepsToPlan rows db front
     before = record {
       kinds = all_front IsInsertOrRead front (command ∷ rest) plan.kinds;
       few = λ name. let all = plan.few name in let less = brought_front db front (command ∷ rest) name in omega (arith, all, less);
     }
 
-    by_command : (c : Command) → IsInsertOrRead c → (most (after_all db front) c ≡ 0) ⊎ (enough (after_all db front) (most (after_all db front) c) ≤ planned db n)
-    by_command (Insert values name) r = inr (planned_suffices n db front values name few before)
+    by_command : (c : Command) → IsInsertOrRead c → (most (after_all db front) c ≡ 0) ⊎ (enough (after_all db front) (most (after_all db front) c) ≤ planned db rows)
+    by_command (Insert values name) r = inr (planned_suffices rows db front values name few before)
     by_command (Ask query) r = inl refl
     by_command (Aggregate list relation nodes) r = inl refl
     by_command (OpenCursor number query) r = inl refl
@@ -83,16 +83,16 @@ module _ (read : List ℕ → Result Command Refusal) where
       by_read (Ok c) one rest = one c
       by_read (Err refusal) one rest = rest
 
-  pub script_has_enough : (db : Database) (entries : List Entry) (n sectors : ℕ) → IsSoundDatabase db → KeepsToPlan n db (commands_of read entries) → planned db n ≤ sectors
+  pub script_has_enough : (db : Database) (entries : List Entry) (rows : List ℕ → ℕ) (sectors : ℕ) → IsSoundDatabase db → KeepsToPlan rows db (commands_of read entries) → planned db rows ≤ sectors
       → (front rest : List Entry) (bytes : List ℕ) (command : Command) → entries ≡ front ++ Bytes bytes ∷ rest → read bytes ≡ Ok command
       → (most (last read db front) command ≡ 0) ⊎ (enough (last read db front) (most (last read db front) command) ≤ sectors)
-  script_has_enough db entries n sectors sound plan there front rest bytes command split is =
+  script_has_enough db entries rows sectors sound plan there front rest bytes command split is =
       let here : commands_of read (Bytes bytes ∷ rest) ≡ command ∷ commands_of read rest = ap (λ r. before_others read r (commands_of read rest)) is in
       let same : commands_of read entries ≡ commands_of read front ++ command ∷ commands_of read rest =
       ap (commands_of read) split ∙ commands_of-append front (Bytes bytes ∷ rest) ∙ ap (λ cs. commands_of read front ++ cs) here in
-      let kept : KeepsToPlan n db (commands_of read front ++ command ∷ commands_of read rest) = subst (KeepsToPlan n db) same plan in
-      rw (last_of db front) (within (has_enough n db (commands_of read front) (commands_of read rest) command (sound_few db sound) kept))
+      let kept : KeepsToPlan rows db (commands_of read front ++ command ∷ commands_of read rest) = subst (KeepsToPlan rows db) same plan in
+      rw (last_of db front) (within (has_enough rows db (commands_of read front) (commands_of read rest) command (sound_few db sound) kept))
     where
-      within : {P : Type 0} {m : ℕ} → P ⊎ (m ≤ planned db n) → P ⊎ (m ≤ sectors)
+      within : {P : Type 0} {m : ℕ} → P ⊎ (m ≤ planned db rows) → P ⊎ (m ≤ sectors)
       within (inl p) = inl p
       within (inr less) = inr (omega (arith, less, there))

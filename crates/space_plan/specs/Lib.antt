@@ -1,3 +1,4 @@
+pub mod FurtherRows
 pub mod Growth
 pub mod Lines
 pub mod Planned

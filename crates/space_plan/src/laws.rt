@@ -21,21 +21,22 @@ pub fn sound_databases_have_few_rows()
     ensures { (db : Database) → IsSoundDatabase db → HasFewRows db }
 {}
 
-/// After commands that insert and read, and bring at most n rows to each relation, the sectors that are
-/// enough for one more INSERT are no more than were planned for n rows.
+/// After commands that insert and read, and bring at most so many rows to each relation as were planned for
+/// by its name, the sectors that are enough for one more INSERT are no more than were planned.
 pub fn planned_space_suffices()
-    ensures { (n : ℕ) (db : Database) (commands : List AnyCommand)
-        (values : List Value) (name : List ℕ) → HasFewRows db → KeepsToPlan n db commands
+    ensures { (rows : List ℕ → ℕ) (db : Database) (commands : List AnyCommand)
+        (values : List Value) (name : List ℕ) → HasFewRows db → KeepsToPlan rows db commands
         → let grown = after_all db commands in
-        enough grown (most grown (Insert values name)) ≤ planned db n }
+        enough grown (most grown (Insert values name)) ≤ planned db rows }
 {}
 
-/// In a script whose commands insert and read, and bring at most n rows to each relation, each command
-/// asks for nothing, or a flash with the sectors that were planned for n rows has enough for it.
+/// In a script whose commands insert and read, and bring at most so many rows to each relation as were
+/// planned for by its name, each command asks for nothing, or a flash with the sectors that were planned has
+/// enough for it.
 pub fn planned_flash_has_enough()
     ensures { (read : List ℕ → Result AnyCommand Refusal) (db : Database) (entries : List Entry)
-        (n sectors : ℕ) → IsSoundDatabase db → KeepsToPlan n db (commands_of read entries)
-        → planned db n ≤ sectors
+        (rows : List ℕ → ℕ) (sectors : ℕ) → IsSoundDatabase db
+        → KeepsToPlan rows db (commands_of read entries) → planned db rows ≤ sectors
         → (front rest : List Entry) (bytes : List ℕ) (command : AnyCommand)
         → entries ≡ front ++ Bytes bytes ∷ rest → read bytes ≡ Ok command
         → (most (last read db front) command ≡ 0)

@@ -3,7 +3,7 @@ use Rattle.std.proofs.Math.Seq.{drop-cons}
 use Rattle.std.proofs.lemmas.Bool.Decides.{nat_tests}
 use Rattle.antelope_run.specs.Words.{value_from}
 use Rattle.antelope_run.proofs.Numbers.{too_large}
-use Rattle.antelope_run.proofs.reading.value_within.Goals as goal
+use Rattle.antelope_run.proofs.digits.value_within.Goals as goal
 
 pub returns-then-next-from-clause-number : goal.returns-then-next-from-clause-number
 returns-then-next-from-clause-number c =
