@@ -1,6 +1,6 @@
 -- The files of a session have the sizes that its database says, and no command asks them for more than is counted for it.
-use Rattle.std.proofs.Common.{◌≡◌, ℕ, ℤ, ◌+◌, ◌*◌, ◌≤◌, ◌⊎◌, inl, inr, List, [], length, max, get_or, Option, Some, None, refl, ap, sym, subst, ◌∙◌, arith, IsTrue}
-use Rattle.std.specs.Prelude.{option_map, IsSomeAnd, slice_get}
+use Rattle.std.proofs.Common.{◌≡◌, ℕ, ◌*◌, ◌≤◌, List, [], length, max, get_or, Option, Some, None, refl, ap, sym, subst, ◌∙◌, arith, IsTrue}
+use Rattle.std.specs.Prelude.{option_map}
 use Rattle.std.specs.Option.{option_map_or}
 use Rattle.afl_base.specs.Asked.{AreFewFor, asks_few}
 use Rattle.afl_base.specs.Files.{File, IsNamed, State, Table, bytes_at, file_at, size_at}
@@ -8,26 +8,21 @@ use Rattle.afl_base.specs.Fit.{fit}
 use Rattle.afl_base.specs.declared.kind.Kind.{Kind}
 use Rattle.afl_base.specs.declared.kind.Kind.TheVariants.{Doubling, Fixed}
 use Rattle.db_model.specs.declared.commands.Command.{Command}
-use Rattle.db_model.specs.declared.commands.Command.TheVariants.{CreateRelation, CreateAttribute, CreateIndex, Insert, Ask, Aggregate, RemoveFrom, RemoveRelation, RemoveIndex, Pack, OpenCursor, FetchCursor, CloseCursor}
-use Rattle.db_model.specs.declared.schemas.IndexKind.{IndexKind}
-use Rattle.db_model.specs.declared.schemas.IndexKind.TheVariants.{Inline, MaxHeap, MemHash}
-use Rattle.db_model.specs.declared.values.Value.{Value}
-use Rattle.db_model.specs.Answers.{selected}
+use Rattle.db_model.specs.declared.schemas.IndexKind.TheVariants.{MaxHeap}
 use Rattle.db_model.specs.Catalog.{Index}
-use Rattle.db_model.specs.Cond.{condition_of}
-use Rattle.db_model.specs.Database.{Database, Relation, free_from, index_slot, relation_named}
-use Rattle.db_model.specs.Item.{place_of}
+use Rattle.db_model.specs.Database.{Database, Relation}
 use Rattle.db_model.specs.Row.{Row, row_length}
-use Rattle.db_model.specs.Step.{key_of, keys}
+use Rattle.db_model.specs.Step.{keys}
 use Rattle.index_set.specs.declared.info.Access.{Access}
 use Rattle.index_set.specs.declared.info.Access.TheVariants.{Order, Tree, Table as InTable}
 use Rattle.index_set.specs.Complete.{IsComplete}
 use Rattle.index_set.specs.Plans.{access_kind}
 use Rattle.index_set.specs.Tables.{Tables}
 use Rattle.index_tree.proofs.Law.{sized}
-use Rattle.space_model.specs.Enough.{keys_named, most, rows_in, rows_size, tree_size}
+use Rattle.space_model.specs.Enough.{most, rows_in, rows_size, tree_size}
 use Rattle.space_model.specs.FileNames.{asks_in, catalog_file, rows_file, size_in, tree_file}
-use Rattle.space_model.specs.Wants.{AsksFew, IsStoreOf, Wants, WantsCatalog, WantsIndex, WantsMarks, WantsTree, room_for}
+use Rattle.space_model.specs.Wants.{AsksFew, IsStoreOf}
+use Rattle.space_model.proofs.StillWanted.{wanted_still}
 use Rattle.space_model.proofs.WantsMost.{wants_at_most}
 use Rattle.tuple_file.specs.declared.tuples.Tuples.{Tuples}
 use Rattle.tuple_file.specs.Tuples.{rows}
@@ -125,61 +120,9 @@ module _ (state : State) (tables : Tables) (held : Held) (opens : List (Option O
       wants_at_most (size_in state.files) (asks_in (asks_few asks state.files) state.files) (room_in state.files) (view state.files held opens) command need
       (is_store told) (asks_few_by_name asks) wanted
 
--- ---- what is asked for few pages is asked for
-
-some_more : {A : Type 0} (o : Option A) (P Q : A → Type 0) → ((x : A) → P x → Q x) → IsSomeAnd o P → IsSomeAnd o Q
-some_more None P Q f h = h
-some_more (Some x) P Q f h = f x h
-
-module _ (size_of : List ℕ → Option ℕ) (asks more : List ℕ → ℕ → ℕ → ℕ → Type 0) (room : ℕ → ℤ → ℕ × ℕ)
-    (weaker : (name : List ℕ) (w b need : ℕ) → asks name w b need → more name w b need) where
-  catalog_more : (at n need : ℕ) → WantsCatalog size_of asks room at n need → WantsCatalog size_of more room at n need
-  catalog_more at n need h = some_more (size_of catalog_file) _ _ (λ size a. weaker catalog_file ((room_for size at n).0) ((room_for size at n).1) need a) h
-
-  tree_more : (relation : ℕ) (values : List Value) (need slot : ℕ) (o : Option Index) → WantsTree size_of asks room relation values need slot o
-      → WantsTree size_of more room relation values need slot o
-  tree_more relation values need slot None h = h
-  tree_more relation values need slot (Some index) h =
-      let key : ℤ = key_of (slice_get values index.attribute) in
-      (h.0, h.1, weaker (tree_file slot) ((room slot key).0) ((room slot key).1) need h.2)
-
-  index_more : (kind : IndexKind) (ks : List ℤ) (slot need : ℕ) → WantsIndex size_of asks room kind ks slot need → WantsIndex size_of more room kind ks slot need
-  index_more Inline ks slot need h = catalog_more (1408 + 8 * slot) 8 need h
-  index_more MemHash ks slot need h = catalog_more (1408 + 8 * slot) 8 need h
-  index_more MaxHeap ks slot need (inl h) = inl (catalog_more (1408 + 8 * slot) 8 need h)
-  index_more MaxHeap ks slot need (inr h) = inr h
-
-  marks_more : (slot : ℕ) (q : Relation) (k need : ℕ) → WantsMarks size_of asks room slot q k need → WantsMarks size_of more room slot q k need
-  marks_more slot q k need (inl h) = inl (h.0, h.1, weaker (rows_file slot) k 0 need h.2)
-  marks_more slot q k need (inr h) = inr h
-
-  wants_more : (db : Database) (c : Command) (need : ℕ) → Wants size_of asks room db c need → Wants size_of more room db c need
-  wants_more db (CreateRelation name) need (inl h) = inl h
-  wants_more db (CreateRelation name) need (inr (inl h)) = inr (inl (some_more (free_from 0 db.relations) _ _ (λ slot a. catalog_more (176 * slot) 176 need a) h))
-  wants_more db (CreateRelation name) need (inr (inr h)) = inr (inr h)
-  wants_more db (CreateAttribute name domain relation) need h = some_more (relation_named db relation) _ _ (λ s a. catalog_more (176 * s.0) 176 need a) h
-  wants_more db (CreateIndex relation attribute kind) need h = some_more (free_from 0 db.indexes) _ _ (λ slot a. index_more kind (keys_named db relation attribute) slot need a) h
-  wants_more db (Insert values relation) need h = some_more (relation_named db relation) _ _ (λ s a. by_which s a) h
-    where
-      by_which : (s : ℕ × Relation)
-          → asks (rows_file s.0) 0 (row_length s.1.schema.attributes) need ⊎ ((slot : ℕ) × WantsTree size_of asks room s.0 values need slot (get_or db.indexes slot None))
-          → more (rows_file s.0) 0 (row_length s.1.schema.attributes) need ⊎ ((slot : ℕ) × WantsTree size_of more room s.0 values need slot (get_or db.indexes slot None))
-      by_which s (inl a) = inl (weaker (rows_file s.0) 0 (row_length s.1.schema.attributes) need a)
-      by_which s (inr a) = inr (a.0, tree_more s.0 values need a.0 (get_or db.indexes a.0 None) a.1)
-  wants_more db (RemoveFrom relation nodes) need h =
-      some_more (relation_named db relation) _ _ (λ s a. marks_more s.0 s.1 (length (selected s.1.schema.attributes (condition_of nodes) s.1.rows)) need a) h
-  wants_more db (Pack relation) need h = h
-  wants_more db (RemoveRelation relation) need h = some_more (relation_named db relation) _ _ (λ s a. catalog_more (176 * s.0) 176 need a) h
-  wants_more db (RemoveIndex relation attribute) need h =
-      some_more (relation_named db relation) _ _
-      (λ s a. some_more (place_of attribute s.1.schema.attributes) _ _ (λ place b. some_more (index_slot db s.0 place) _ _ (λ slot d. catalog_more (1408 + 8 * slot) 8 need d) b) a) h
-  wants_more db (Ask query) need h = h
-  wants_more db (Aggregate list relation nodes) need h = h
-  wants_more db (OpenCursor number query) need h = h
-  wants_more db (FetchCursor number) need h = h
-  wants_more db (CloseCursor number) need h = h
-
+-- what is asked for few pages is asked for
 pub few_wanted : (asks : ℕ → ℕ → ℕ → ℕ → Type 0) (files : Table) (db : Database) (command : Command) (need : ℕ)
     → WantsFew asks files db command need → WantsOver asks files db command need
 few_wanted asks files db command need h =
-    wants_more (size_in files) (asks_in (asks_few asks files) files) (asks_in asks files) (room_in files) (λ name w b n a. (a.0, a.1, a.2.0)) db command need h
+    wanted_still (size_in files) (size_in files) (asks_in (asks_few asks files) files) (asks_in asks files) (room_in files) (room_in files)
+    (λ name. refl) (λ slot key. refl) (λ name w b n a. (a.0, a.1, a.2.0)) db command need h

@@ -1,5 +1,6 @@
 pub mod Buckets
 pub mod Catalogs
+pub mod Change
 pub mod Conditions
 pub mod Cutting
 pub mod Decoded

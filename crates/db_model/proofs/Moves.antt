@@ -1,34 +1,33 @@
 -- What is ahead of the cursors goes along with the rows that they have still to answer.
 use Rattle.std.proofs.Common.{◌≡◌, refl, sym, ap, subst, ◌∙◌, ℕ, ℤ, zero, suc, ◌+◌, ◌-◌, Bool, true, false, List, [], ◌∷◌, length, map, drop, set, get_or, filter, flat_map, replicate, cond, Option, Some, None, arith, length-append}
-use Rattle.std.specs.Prelude.{Ok, Err, Result, not, ◌&&◌, ◌||◌, is_some, slice_get, take, unwrap_or, option_map, option_and_then}
+use Rattle.std.specs.Prelude.{not, ◌&&◌, ◌||◌, is_some, slice_get, unwrap_or, option_map, option_and_then}
 use Rattle.std.specs.List.{range_with_len}
 use Rattle.std.specs.Option.{option_map_or}
 use Rattle.std.proofs.lemmas.List.{length-drop, length-map, length-replicate}
 use Rattle.std.proofs.lemmas.List.Concat.{flat_map-cons}
 use Rattle.std.proofs.lemmas.List.Elements.{filter-append}
 use Rattle.db_model.specs.declared.commands.Command.{Command}
-use Rattle.db_model.specs.declared.commands.Command.TheVariants.{CreateRelation, CreateAttribute, CreateIndex, Insert, Ask, Aggregate, RemoveFrom, RemoveRelation, RemoveIndex, Pack, OpenCursor, FetchCursor, CloseCursor}
 use Rattle.db_model.specs.declared.commands.Query.{Query}
 use Rattle.db_model.specs.declared.commands.Query.TheVariants.{Select, Join}
-use Rattle.db_model.specs.declared.refusals.Refusal.{Refusal}
 use Rattle.db_model.specs.declared.refusals.Refusal.TheVariants as no
 use Rattle.db_model.specs.declared.schemas.Attribute.{Attribute}
-use Rattle.db_model.specs.declared.schemas.IndexKind.{IndexKind}
 use Rattle.db_model.specs.declared.values.Value.{Value}
 use Rattle.db_model.specs.Ahead.{Ahead, Aheads, AreAhead, IsAhead, ahead_of, aheads_after, fetched, is_refused, join_ahead, moved, no_cursors, opened, pair_slots, partners, select_ahead, slots_in, with_ahead}
 use Rattle.db_model.specs.Answers.{join, live_tuples, pairs, projected, projected_pair, same_value, select, selected}
+use Rattle.db_model.specs.Catalog.{Index}
 use Rattle.db_model.specs.Cond.{Cond, condition_of}
 use Rattle.db_model.specs.Cost.{places_of, sum}
-use Rattle.db_model.specs.Database.{Relation, Cursor, Database, bare, cursor_at, cursor_place, indexes_of, relation_named, named, with_cursor}
+use Rattle.db_model.specs.Database.{Relation, Cursor, Database, bare, cursor_place, indexes_of, relation_named, with_cursor}
 use Rattle.db_model.specs.Item.{place_of, selects, value_of}
 use Rattle.db_model.specs.Plan.{kinds_of, ranges_of}
-use Rattle.db_model.specs.Refusing.{◌>>=◌, ◌>>◌, refuse_if, refuse_found, found_or}
+use Rattle.db_model.specs.Refusing.{refuse_if, refuse_found}
 use Rattle.db_model.specs.Row.{Row, no_row}
-use Rattle.db_model.specs.Step.{Reply, Fine, Rows, Outcome, add_attribute, aggregate_of, answer_of, ask, asked_by, changed_by, close_cursor, create_index, create_relation, fetch_cursor, insert_into, join_of, joins, missing_in_join, open_cursor, open_cursor_of, outcome, pack, relations_read, remove_from, remove_index, remove_relation, replied, select_from, step, upgraded}
+use Rattle.db_model.specs.Step.{Reply, Fine, answer_of, joins, missing_in_join, relations_read, step}
 use Rattle.db_model.specs.Typing.{domain_of, first_false, ill_typed, is_attribute, missing_name}
-use Rattle.db_model.proofs.Yielding.{Yields, yields_behind, yields_by, yields_found, yields_none, yields_ok}
+use Rattle.db_model.proofs.Yielding.{Yields, yields_behind, yields_found, yields_none, yields_ok}
 use Rattle.db_model.proofs.Standing.{false_true}
 use Rattle.padded.proofs.Facts.{never_some}
+use Rattle.db_model.proofs.Change.{Answered, Change, CursorMade, IndexMade, RelationMade, Nothing, OfRelation, OfIndex, OfCursor, Refuses, Creates, Drops, Opens, Fetches, Closes, change_of}
 
 -- ---- rows by their slots
 
@@ -89,10 +88,10 @@ many_of_one test x (y ∷ ys) = by_test (test (x, y)) (many_of_one test x ys)
     by_test true e = ap suc e
     by_test false e = e
 
-abbrev meets : ℕ × ℕ → List Value × List Value → Bool
+abbrev pub meets : ℕ × ℕ → List Value × List Value → Bool
 meets on pair = same_value (slice_get pair.0 on.0) (slice_get pair.1 on.1)
 
-many_pairs : (on : ℕ × ℕ) (rights lefts : List Row) → sum (map (partners on rights) lefts) ≡ length (filter (meets on) (pairs (live_tuples lefts) (live_tuples rights)))
+pub many_pairs : (on : ℕ × ℕ) (rights lefts : List Row) → sum (map (partners on rights) lefts) ≡ length (filter (meets on) (pairs (live_tuples lefts) (live_tuples rights)))
 many_pairs on rights [] = refl
 many_pairs on rights (l ∷ lefts) = by_live l.live (many_pairs on rights lefts)
   where
@@ -161,13 +160,10 @@ IsOpened db query rows = IsAhead (Some (record { reads = relations_read query; r
 
 opened_ahead : (db : Database) (query : Query) → Yields (IsOpened db query) (answer_of db query)
 opened_ahead db (Select list name nodes) =
-    yields_found (IsOpened db query) (relation_named db name) no.NoRelation (λ s. select_from list (condition_of nodes) s.1)
-    (λ s e.
-    let found : opened db query ≡ Some (ahead s) = ap (option_map ahead) e in
-    yields_behind (IsOpened db query) (refuse_found (missing_name s.1.schema.attributes list (condition_of nodes)) no.NoAttribute) (typed s)
-    (yields_behind (IsOpened db query) (refuse_found (ill_typed s.1.schema.attributes (map (λ _. true) list) (condition_of nodes)) no.IllTyped) (Ok (rows s))
-    (yields_ok (IsOpened db query) (rows s)
-    (subst (IsAhead (Some (record { reads = relations_read query; rows = rows s }))) (sym found) (select_many name list db s.0 s.1 (condition_of nodes))))))
+    yields_found _ (relation_named db name) no.NoRelation _
+    (λ s e. yields_behind _ (refuse_found (missing_name s.1.schema.attributes list (condition_of nodes)) no.NoAttribute) _
+    (yields_behind _ (refuse_found (ill_typed s.1.schema.attributes (map (λ _. true) list) (condition_of nodes)) no.IllTyped) _
+    (yields_ok _ (rows s) (subst (IsAhead (Some (record { reads = relations_read query; rows = rows s }))) (sym (ap (option_map ahead) e)) (select_many name list db s.0 s.1 (condition_of nodes))))))
   where
     query : Query
     query = Select list name nodes
@@ -177,21 +173,15 @@ opened_ahead db (Select list name nodes) =
 
     ahead : ℕ × Relation → Ahead
     ahead s = select_ahead name (kinds_of (indexes_of db s.0)) (ranges_of s.1.schema.attributes (condition_of nodes)) s.1 (condition_of nodes)
-
-    typed : ℕ × Relation → Result (List (List Value)) Refusal
-    typed s = ◌>>◌ (refuse_found (ill_typed s.1.schema.attributes (map (λ _. true) list) (condition_of nodes)) no.IllTyped) (Ok (rows s))
 opened_ahead db (Join left right on list) =
-    yields_found (IsOpened db query) (relation_named db left) no.NoRelation (λ l. ◌>>=◌ (named db right) (λ r. join_of on list l.1 r.1))
-    (λ l e. yields_found (IsOpened db query) (relation_named db right) no.NoRelation (λ r. join_of on list l.1 r.1)
-    (λ r f.
+    yields_found _ (relation_named db left) no.NoRelation _
+    (λ l e. yields_found _ (relation_named db right) no.NoRelation _
+    (λ r f. yields_none _ (missing_in_join l.1.schema.attributes r.1.schema.attributes on list) no.NoAttribute _
+    (λ none. yields_behind _ (refuse_if (not (joins (domain_of l.1.schema.attributes on) (domain_of r.1.schema.attributes on))) (no.IllTyped 1)) _
+    (let have = both_have (is_attribute l.1.schema.attributes on) (is_attribute r.1.schema.attributes on) (map (λ name. is_attribute l.1.schema.attributes name || is_attribute r.1.schema.attributes name) list) none in
     let found : opened db query ≡ Some (ahead l r) =
     ap (option_and_then (λ l. option_map (ahead l) (relation_named db right))) e ∙ ap (option_map (ahead l)) f in
-    yields_none (IsOpened db query) (missing_in_join l.1.schema.attributes r.1.schema.attributes on list) no.NoAttribute (typed l r)
-    (λ none.
-    let have = both_have (is_attribute l.1.schema.attributes on) (is_attribute r.1.schema.attributes on) (map (λ name. is_attribute l.1.schema.attributes name || is_attribute r.1.schema.attributes name) list) none in
-    yields_behind (IsOpened db query) (refuse_if (not (joins (domain_of l.1.schema.attributes on) (domain_of r.1.schema.attributes on))) (no.IllTyped 1)) (Ok (rows l r))
-    (yields_ok (IsOpened db query) (rows l r)
-    (subst (IsAhead (Some (record { reads = relations_read query; rows = rows l r }))) (sym found) (join_many left right on list l.1 r.1 have.0 have.1))))))
+    yields_ok _ (rows l r) (subst (IsAhead (Some (record { reads = relations_read query; rows = rows l r }))) (sym found) (join_many left right on list l.1 r.1 have.0 have.1))))))
   where
     query : Query
     query = Join left right on list
@@ -201,9 +191,6 @@ opened_ahead db (Join left right on list) =
 
     ahead : ℕ × Relation → ℕ × Relation → Ahead
     ahead l r = join_ahead left right (places_of on l.1 r.1) (kinds_of (indexes_of db r.0)) l.1.rows r.1.rows
-
-    typed : ℕ × Relation → ℕ × Relation → Result (List (List Value)) Refusal
-    typed l r = ◌>>◌ (refuse_if (not (joins (domain_of l.1.schema.attributes on) (domain_of r.1.schema.attributes on))) (no.IllTyped 1)) (Ok (rows l r))
 
 -- ---- cursors and what they have ahead
 
@@ -225,125 +212,46 @@ fetched_one : (cursor : Cursor) (o : Option Ahead) → IsAhead (Some cursor) o �
 fetched_one cursor None h = absurd h
 fetched_one cursor (Some ahead) h = length-drop 1 ahead.stops ∙ ap (λ n. n - 1) h ∙ sym (length-drop 1 cursor.rows)
 
--- an open cursor is the one at the place of its number
-record IsOpenAt (db : Database) (number : ℤ) (c : ℕ × Cursor) : Type 0 where
-  place : cursor_place number ≡ Some c.0
-  cursor : cursor_at db c.0 ≡ Some c.1
-
-open_at : (db : Database) (number : ℤ) → Yields (IsOpenAt db number) (open_cursor_of db number)
-open_at db number =
-    yields_found (IsOpenAt db number) (cursor_place number) no.NoCursor (λ place. ◌>>=◌ (found_or (cursor_at db place) no.NoCursor) (λ cursor. Ok (place, cursor)))
-    (λ place e. yields_found (IsOpenAt db number) (cursor_at db place) no.NoCursor (λ cursor. Ok (place, cursor))
-    (λ cursor f. yields_ok (IsOpenAt db number) (place, cursor) (record { place = e; cursor = f })))
-
 module _ (db : Database) (aheads : Aheads) (are : AreAhead db.cursors aheads) where
-  -- after a command that is carried out
   abbrev Kept : Command → Database × Reply → Type 0
   Kept c d = AreAhead d.0.cursors (cond (is_refused d.1) aheads (moved db aheads c))
 
-  kept_open : (number : ℤ) (query : Query) → Yields (Kept (OpenCursor number query)) (open_cursor db number query)
-  kept_open number query =
-      yields_found (Kept c) (cursor_place number) no.NoCursor at_place
-      (λ place e. yields_behind (Kept c) (refuse_if (is_some (cursor_at db place)) no.CursorOpen) (◌>>=◌ (answer_of db query) (opening place))
-      (yields_by (Kept c) (answer_of db query) (opening place)
-      (λ rows f. yields_ok (Kept c) (with_cursor db place (Some (new rows)), Fine)
-      (subst (AreAhead (set db.cursors place (Some (new rows)))) (sym (moves place e))
-      (set_both db.cursors aheads place (Some (new rows)) (opened db query) are ((opened_ahead db query).yields rows f))))))
-    where
-      c : Command
-      c = OpenCursor number query
+  -- what leaves the cursors leaves what is ahead
+  kept_answer : (c : Command) (reply : Reply) → Answered db c reply → Kept c (db, reply)
+  kept_answer _ _ (Refuses c refusal e) = are
+  kept_answer _ _ _ = are
 
-      new : List (List Value) → Cursor
-      new rows = record { reads = relations_read query; rows = rows }
+  kept_relation : (c : Command) (version slot : ℕ) (r : Option Relation) (reply : Reply) → RelationMade db c version slot r reply → Kept c (db, reply)
+  kept_relation _ _ _ _ _ (Creates name slot fresh free) = are
+  kept_relation _ _ _ _ _ _ = are
 
-      opening : ℕ → List (List Value) → Outcome
-      opening place rows = Ok (with_cursor db place (Some (new rows)), Fine)
+  kept_index : (c : Command) (slot : ℕ) (index : Option Index) → IndexMade db c slot index → Kept c (db, Fine)
+  kept_index _ _ _ (Drops name attribute slot) = are
+  kept_index _ _ _ _ = are
 
-      at_place : ℕ → Outcome
-      at_place place = ◌>>◌ (refuse_if (is_some (cursor_at db place)) no.CursorOpen) (◌>>=◌ (answer_of db query) (opening place))
+  -- the cursor and what it has ahead change at one place
+  at_place : (number : ℤ) (place : ℕ) (cursor : Option Cursor) (ahead : Option Ahead) → cursor_place number ≡ Some place → IsAhead cursor ahead → AreAhead (set db.cursors place cursor) (with_ahead aheads number ahead)
+  at_place number place cursor ahead e is =
+      subst (AreAhead (set db.cursors place cursor)) (sym (ap (λ o. option_map_or (λ p. set aheads p ahead) o aheads) e)) (set_both db.cursors aheads place cursor ahead are is)
 
-      moves : (place : ℕ) → cursor_place number ≡ Some place → with_ahead aheads number (opened db query) ≡ set aheads place (opened db query)
-      moves place e = ap (λ o. option_map_or (λ p. set aheads p (opened db query)) o aheads) e
+  kept_cursor : (c : Command) (place : ℕ) (cursor : Option Cursor) (reply : Reply) → CursorMade db c place cursor reply → Kept c (with_cursor db place cursor, reply)
+  kept_cursor _ _ _ _ (Opens number query place rows at free e) =
+      at_place number place (Some (record { reads = relations_read query; rows = rows })) (opened db query) at ((opened_ahead db query).yields rows e)
+  kept_cursor _ _ _ _ (Fetches number c at) =
+      let one : IsAhead (Some c.1) (get_or aheads c.0 None) = subst (λ o. IsAhead o (get_or aheads c.0 None)) at.cursor (at_both db.cursors aheads c.0 are) in
+      let here : ahead_of aheads number ≡ get_or aheads c.0 None = ap (option_and_then (λ place. get_or aheads place None)) at.place in
+      at_place number c.0 (Some (record c.1 { rows = drop 1 c.1.rows })) (option_map fetched (ahead_of aheads number)) at.place
+      (fetched_one c.1 (ahead_of aheads number) (subst (IsAhead (Some c.1)) (sym here) one))
+  kept_cursor _ _ _ _ (Closes number c at) = at_place number c.0 None None at.place tt
 
-  kept_fetch : (number : ℤ) → Yields (Kept (FetchCursor number)) (fetch_cursor db number)
-  kept_fetch number =
-      yields_by (Kept (FetchCursor number)) (open_cursor_of db number) (λ c. Ok (with_cursor db c.0 (Some (record c.1 { rows = drop 1 c.1.rows })), Rows (take 1 c.1.rows)))
-      (λ c e. yields_ok (Kept (FetchCursor number)) (with_cursor db c.0 (Some (record c.1 { rows = drop 1 c.1.rows })), Rows (take 1 c.1.rows)) (here c ((open_at db number).yields c e)))
-    where
-      here : (c : ℕ × Cursor) → IsOpenAt db number c → AreAhead (set db.cursors c.0 (Some (record c.1 { rows = drop 1 c.1.rows }))) (with_ahead aheads number (option_map fetched (ahead_of aheads number)))
-      here c at =
-          let next : Option ℕ → Aheads = λ o. option_map_or (λ p. set aheads p (option_map fetched (option_and_then (λ place. get_or aheads place None) o))) o aheads in
-          let one : IsAhead (Some c.1) (get_or aheads c.0 None) = subst (λ o. IsAhead o (get_or aheads c.0 None)) at.cursor (at_both db.cursors aheads c.0 are) in
-          subst (AreAhead (set db.cursors c.0 (Some (record c.1 { rows = drop 1 c.1.rows })))) (sym (ap next at.place))
-          (set_both db.cursors aheads c.0 (Some (record c.1 { rows = drop 1 c.1.rows })) (option_map fetched (get_or aheads c.0 None)) are (fetched_one c.1 (get_or aheads c.0 None) one))
-
-  kept_close : (number : ℤ) → Yields (Kept (CloseCursor number)) (close_cursor db number)
-  kept_close number =
-      yields_by (Kept (CloseCursor number)) (open_cursor_of db number) (λ c. Ok (with_cursor db c.0 None, Fine))
-      (λ c e. yields_ok (Kept (CloseCursor number)) (with_cursor db c.0 None, Fine)
-      (subst (AreAhead (set db.cursors c.0 None)) (sym (ap (λ o. option_map_or (λ p. set aheads p None) o aheads) ((open_at db number).yields c e).place))
-      (set_both db.cursors aheads c.0 None None are tt)))
-
-  -- ---- the other commands leave the cursors
-
-  abbrev Stays : Database × Reply → Type 0
-  Stays d = d.0.cursors ≡ db.cursors
-
-  either : (b : Bool) (cursors : List (Option Cursor)) → cursors ≡ db.cursors → AreAhead cursors (cond b aheads aheads)
-  either true cursors e = subst (λ cs. AreAhead cs aheads) (sym e) are
-  either false cursors e = subst (λ cs. AreAhead cs aheads) (sym e) are
-
-  stays_kept : (c : Command) (o : Outcome) → ((b : Bool) → cond b aheads (moved db aheads c) ≡ cond b aheads aheads) → Yields Stays o → Yields (Kept c) o
-  stays_kept c o same h = record { yields = λ d e. subst (AreAhead d.0.cursors) (sym (same (is_refused d.1))) (either (is_refused d.1) d.0.cursors (h.yields d e)) }
-
-  stays_upgraded : (o : Outcome) → Yields Stays o → Yields Stays (upgraded o)
-  stays_upgraded o h = yields_by Stays o (λ done. Ok (record (done.0) { version = 2 }, done.1)) (λ d e. yields_ok Stays (record (d.0) { version = 2 }, d.1) (h.yields d e))
-
-  stays_changed : (change : ℕ → Database → Relation → Result (Relation × Reply) Refusal) (name : List ℕ) → Yields Stays (changed_by change db name)
-  stays_changed change name = search (yields_by, yields_ok) depth 20
-
-  stays_asked : (answer : Relation → Result Reply Refusal) (name : List ℕ) → Yields Stays (asked_by answer db name)
-  stays_asked answer name = search (yields_by, yields_ok) depth 20
-
-  stays_create_relation : (name : List ℕ) → Yields Stays (create_relation db name)
-  stays_create_relation name = search (yields_behind, yields_by, yields_ok) depth 20
-
-  stays_create_index : (name attribute : List ℕ) (kind : IndexKind) → Yields Stays (create_index db name attribute kind)
-  stays_create_index name attribute kind = search (yields_behind, yields_by, yields_ok) depth 20
-
-  stays_remove_index : (name attribute : List ℕ) → Yields Stays (remove_index db name attribute)
-  stays_remove_index name attribute = search (yields_behind, yields_by, yields_ok) depth 20
-
-  stays_remove_relation : (name : List ℕ) → Yields Stays (remove_relation db name)
-  stays_remove_relation name = search (yields_behind, yields_by, yields_ok) depth 20
-
-  stays_ask : (query : Query) → Yields Stays (ask db query)
-  stays_ask query = search (yields_by, yields_ok) depth 20
-
-  kept_outcome : (c : Command) → Yields (Kept c) (outcome db c)
-  kept_outcome (CreateRelation name) = stays_kept (CreateRelation name) (outcome db (CreateRelation name)) (λ b. refl) (stays_upgraded (create_relation db name) (stays_create_relation name))
-  kept_outcome (CreateAttribute name domain relation) =
-      stays_kept (CreateAttribute name domain relation) (outcome db (CreateAttribute name domain relation)) (λ b. refl) (stays_upgraded (changed_by (add_attribute name domain) db relation) (stays_changed (add_attribute name domain) relation))
-  kept_outcome (CreateIndex relation attribute kind) =
-      stays_kept (CreateIndex relation attribute kind) (outcome db (CreateIndex relation attribute kind)) (λ b. refl) (stays_upgraded (create_index db relation attribute kind) (stays_create_index relation attribute kind))
-  kept_outcome (Insert values relation) = stays_kept (Insert values relation) (outcome db (Insert values relation)) (λ b. refl) (stays_changed (insert_into values) relation)
-  kept_outcome (Ask query) = stays_kept (Ask query) (outcome db (Ask query)) (λ b. refl) (stays_ask query)
-  kept_outcome (Aggregate list relation nodes) = stays_kept (Aggregate list relation nodes) (outcome db (Aggregate list relation nodes)) (λ b. refl) (stays_asked (aggregate_of list (condition_of nodes)) relation)
-  kept_outcome (RemoveFrom relation nodes) = stays_kept (RemoveFrom relation nodes) (outcome db (RemoveFrom relation nodes)) (λ b. refl) (stays_changed (remove_from (condition_of nodes)) relation)
-  kept_outcome (RemoveRelation relation) = stays_kept (RemoveRelation relation) (outcome db (RemoveRelation relation)) (λ b. refl) (stays_upgraded (remove_relation db relation) (stays_remove_relation relation))
-  kept_outcome (RemoveIndex relation attribute) =
-      stays_kept (RemoveIndex relation attribute) (outcome db (RemoveIndex relation attribute)) (λ b. refl) (stays_upgraded (remove_index db relation attribute) (stays_remove_index relation attribute))
-  kept_outcome (Pack relation) = stays_kept (Pack relation) (outcome db (Pack relation)) (λ b. refl) (stays_changed pack relation)
-  kept_outcome (OpenCursor number query) = kept_open number query
-  kept_outcome (FetchCursor number) = kept_fetch number
-  kept_outcome (CloseCursor number) = kept_close number
-
-  kept_replied : (c : Command) (o : Outcome) → Yields (Kept c) o → AreAhead ((replied db o).0).cursors (cond (is_refused ((replied db o).1)) aheads (moved db aheads c))
-  kept_replied c (Ok done) h = h.yields done refl
-  kept_replied c (Err refusal) h = are
+  kept : (c : Command) (d : Database × Reply) → Change db c d → Kept c d
+  kept _ _ (Nothing c reply a) = kept_answer c reply a
+  kept _ _ (OfRelation c version slot r reply m) = kept_relation c version slot r reply m
+  kept _ _ (OfIndex c slot index m) = kept_index c slot index m
+  kept _ _ (OfCursor c place cursor reply m) = kept_cursor c place cursor reply m
 
 pub ahead_kept : (db : Database) (aheads : Aheads) (c : Command) → AreAhead db.cursors aheads → AreAhead ((step db c).0).cursors (aheads_after db aheads c)
-ahead_kept db aheads c are = kept_replied db aheads are c (outcome db c) (kept_outcome db aheads are c)
+ahead_kept db aheads c are = kept db aheads are c (step db c) (change_of db c)
 
 pub none_ahead : (db : Database) → AreAhead (bare db).cursors no_cursors
 none_ahead db = (tt, (tt, (tt, (tt, tt))))

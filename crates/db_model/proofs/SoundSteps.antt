@@ -1,17 +1,15 @@
 -- Each command keeps a database sound.
 use Rattle.std.proofs.Common.{◌≡◌, refl, sym, ap, subst, ◌∙◌, ℕ, ℤ, ◌+◌, ◌-◌, ◌<◌, ◌≤◌, ◌⊎◌, inr, Bool, true, false, List, [], ◌∷◌, ◌++◌, length, map, set, get_or, filter, cond, Option, Some, None, arith, length-append, ⊎_elim, if◌then◌else◌}
-use Rattle.std.specs.Prelude.{pos, negsuc, Ok, Err, Result, IsTrue, not, ◌&&◌, ◌==◌, is_some, nat_le, nat_lt, slice_get, drop, take}
+use Rattle.std.specs.Prelude.{pos, negsuc, Ok, IsTrue, not, ◌&&◌, ◌==◌, is_some, nat_le, nat_lt, slice_get, drop}
 use Rattle.std.specs.List.{list_any, AllByRecursion}
 use Rattle.std.specs.Str.{bytes_eq}
 use Rattle.std.proofs.lemmas.Bool.Decides.{nat_tests}
 use Rattle.std.proofs.lemmas.List.{length-map, length-set}
 use Rattle.std.proofs.lemmas.Slice.Eq.{bytes_eq-Decides}
 use Rattle.db_model.specs.declared.commands.Command.{Command}
-use Rattle.db_model.specs.declared.commands.Command.TheVariants.{CreateRelation, CreateAttribute, CreateIndex, Insert, Ask, Aggregate, RemoveFrom, RemoveRelation, RemoveIndex, Pack, OpenCursor, FetchCursor, CloseCursor}
 use Rattle.db_model.specs.declared.commands.Query.{Query}
 use Rattle.db_model.specs.declared.commands.Query.TheVariants.{Select, Join}
 use Rattle.db_model.specs.declared.refusals.Pool.TheVariants as pool
-use Rattle.db_model.specs.declared.refusals.Refusal.{Refusal}
 use Rattle.db_model.specs.declared.refusals.Refusal.TheVariants as no
 use Rattle.db_model.specs.declared.schemas.Attribute.{Attribute}
 use Rattle.db_model.specs.declared.schemas.Domain.{Domain}
@@ -22,20 +20,20 @@ use Rattle.db_model.specs.declared.schemas.IndexKind.{IndexKind}
 use Rattle.db_model.specs.declared.schemas.IndexKind.TheVariants.{Inline, MaxHeap, MemHash}
 use Rattle.db_model.specs.declared.values.Value.{Value}
 use Rattle.db_model.specs.Catalog.{Index, IsDomain}
-use Rattle.db_model.specs.Answers.{selected}
 use Rattle.db_model.specs.Cond.{Cond, condition_of}
-use Rattle.db_model.specs.Database.{Relation, Cursor, Database, empty_database, used_things, free_from, relation_from, relation_named, named, with_relation, with_index, index_slot, indexes_of, is_inline, is_hash_table, cursor_place, cursor_at, with_cursor, is_among, reader_of}
+use Rattle.db_model.specs.Database.{Relation, Cursor, Database, empty_database, used_things, free_from, relation_from, relation_named, with_relation, with_index, index_slot, indexes_of, is_inline, is_hash_table, with_cursor, is_among}
 use Rattle.db_model.specs.Item.{place_of}
 use Rattle.db_model.specs.Names.{is_name}
-use Rattle.db_model.specs.Refusing.{◌>>=◌, ◌>>◌, refuse_if, refuse_found, found_or}
+use Rattle.db_model.specs.Refusing.{◌>>◌, refuse_if, refuse_found}
 use Rattle.db_model.specs.Row.{Row, AllRowsSuit, row_length}
 use Rattle.db_model.specs.Sound.{StandsIn, IsSoundAttribute, IsSoundRelation, SuitKind, IsIndexOf, IsSoundIndex, IsSoundCursor, IsSoundDatabase, BringsNames}
-use Rattle.db_model.specs.Step.{Reply, Fine, Rows, Removed, Outcome, add_attribute, aggregate_of, allows, answer_of, ask, asked_by, changed_by, close_cursor, create_index, create_relation, domain_asked, fallen, fallen_from, fetch_cursor, first_fall, insert_into, is_ordered, join_of, key_of, keys, open_cursor, open_cursor_of, outcome, pack, refuse_indexed, refuse_kind, refuse_read, relations_read, remove_from, remove_index, remove_relation, removed_row, replied, select_from, slots_limit, step, unsuited, upgraded, with_attribute}
-use Rattle.db_model.specs.Typing.{domain_of, is_attribute, missing_name, ill_typed}
-use Rattle.db_model.proofs.Standing.{all_others, all_same, any_of, count_out, count_put, false_true, found_from, found_of, free_is, IsFree, none_of, not_on, not_read, nothing_stands, one, same_or_other, stands_either, stands_once, stands_other, stands_set}
-use Rattle.db_model.proofs.Yielding.{Yields, err_ok, found_ok, yields_by, yields_found, yields_none, yields_ok, yields_then, yields_unless}
+use Rattle.db_model.specs.Step.{Reply, allows, answer_of, domain_asked, fallen, fallen_from, first_fall, is_ordered, key_of, keys, refuse_kind, relations_read, removed_row, slots_limit, step, unsuited, with_attribute}
+use Rattle.db_model.specs.Typing.{domain_of, is_attribute}
+use Rattle.db_model.proofs.Standing.{nothing_free, all_others, all_same, any_of, count_out, count_put, false_true, found_from, found_of, none_of, not_on, not_read, nothing_stands, one, same_or_other, stands_either, stands_once, stands_other, stands_set}
+use Rattle.db_model.proofs.Yielding.{Yields, err_ok, yields_found}
 use Rattle.db_model.proofs.SoundRows.{distinct_more, domain_at, fewer_live, keys_removed, order_kept, placed_more, rows_live, rows_more, rows_removed, suited, suited_some}
 use Rattle.padded.proofs.Facts.{not_not, never_some, some_alike, some_found}
+use Rattle.db_model.proofs.Change.{Change, CursorMade, IndexMade, RelationMade, Nothing, OfRelation, OfIndex, OfCursor, Creates, Grows, Inserts, Marks, Packs, Removes, Builds, Drops, Opens, Fetches, Closes, change_of, in_version, new_relation, packed_up, with_removed, with_row}
 
 -- ---- databases of version 2
 
@@ -62,10 +60,7 @@ relation_later version r either s =
       filled = s.filled;
     }
 
-abbrev in_version_2 : Database → Database
-in_version_2 db = record db { version = 2 }
-
-later : (db : Database) → IsSoundDatabase db → IsSoundDatabase (in_version_2 db)
+later : (db : Database) → IsSoundDatabase db → IsSoundDatabase (in_version 2 db)
 later db s = record {
   version = inr refl;
   eight_relations = s.eight_relations;
@@ -207,67 +202,44 @@ put_cursor db place cursor s sound = record {
   cursors = λ k c e. stands_either db.cursors place k cursor c e (λ i is. sound c is) (λ n f. s.cursors k c f);
 }
 
--- ---- commands
-
-abbrev Keeps : Outcome → Type 0
-Keeps o = Yields (λ (d : Database × Reply). IsSoundDatabase d.0) o
-
--- it is sound once it has version 2
-abbrev KeepsLater : Outcome → Type 0
-KeepsLater o = Yields (λ (d : Database × Reply). IsSoundDatabase (in_version_2 d.0)) o
-
-kept_upgraded : (o : Outcome) → KeepsLater o → Keeps (upgraded o)
-kept_upgraded o h = yields_by _ o (λ done. Ok (record (done.0) { version = 2 }, done.1)) (λ d e. yields_ok _ (record (d.0) { version = 2 }, d.1) (h.yields d e))
+-- ---- relations by name
 
 -- a relation that is found by name
 record IsNamed (db : Database) (name : List ℕ) (s : ℕ × Relation) : Type 0 where
   stands : StandsIn db.relations s.0 s.1
   is : s.1.schema.name ≡ name
-  found : is_some (relation_named db name) ≡ true
 
-named_is : (db : Database) (name : List ℕ) (s : ℕ × Relation) → named db name ≡ Ok s → IsNamed db name s
+named_is : (db : Database) (name : List ℕ) (s : ℕ × Relation) → relation_named db name ≡ Some s → IsNamed db name s
 named_is db name s e =
-    let o : relation_from name 0 db.relations ≡ Some s = found_ok (relation_from name 0 db.relations) no.NoRelation s e in
-    let f = found_from name 0 db.relations s o in
+    let f = found_from name 0 db.relations s e in
     let number = f.number in
     let same : f.slot ≡ s.0 = omega (arith, number) in
-    record { stands = subst (λ k. StandsIn db.relations k s.1) same f.stands; is = f.named; found = ap (λ o. is_some o) o }
-
-by_name : {B : Type 0} (Q : B → Type 0) (db : Database) (name : List ℕ) (f : ℕ × Relation → Result B Refusal) → ((s : ℕ × Relation) → IsNamed db name s → Yields Q (f s)) → Yields Q (◌>>=◌ (named db name) f)
-by_name Q db name f h = yields_by Q (named db name) f (λ s e. h s (named_is db name s e))
+    record { stands = subst (λ k. StandsIn db.relations k s.1) same f.stands; is = f.named }
 
 -- no relation has a name that is not found
 unnamed : (db : Database) (name : List ℕ) (k : ℕ) (q : Relation) → is_some (relation_named db name) ≡ false → StandsIn db.relations k q → q.schema.name ≡ name → ⊥
 unnamed db name k q none e is = false_true (sym none ∙ found_of name 0 k db.relations q e is)
 
-kept_create_relation : (db : Database) (name : List ℕ) → IsTrue (is_name name) → IsSoundDatabase db → KeepsLater (create_relation db name)
-kept_create_relation db name is s =
-    yields_unless _ (is_some (relation_named db name)) no.Exists (◌>>=◌ (found_or (free_from 0 db.relations) (no.Full pool.Relations 8)) made)
-    (λ fresh. yields_found _ (free_from 0 db.relations) (no.Full pool.Relations 8) made (λ slot e. yields_ok _ (with_relation db slot (Some new), Fine) (put slot fresh (free_is 0 slot db.relations e))))
+-- ---- CREATE RELATION
+
+sound_created : (db : Database) (name : List ℕ) (slot : ℕ) → IsTrue (is_name name) → is_some (relation_named db name) ≡ false → free_from 0 db.relations ≡ Some slot → IsSoundDatabase db
+    → IsSoundDatabase (with_relation (in_version 2 db) slot (Some (new_relation name)))
+sound_created db name slot is fresh free s =
+    put_relation (in_version 2 db) slot (new_relation name) (later db s) new_sound
+    (λ old e. absurd (never_some (sym none ∙ e)))
+    (λ k q n e is. unnamed db name k q fresh e is)
+    (λ old index k e at i on. absurd (never_some (sym none ∙ e)))
   where
-    new : Relation
-    new = record { schema = record { name = name; attributes = [] }; rows = [] }
+    none : get_or db.relations slot None ≡ None
+    none = nothing_free db.relations slot free
 
-    made : ℕ → Outcome
-    made slot = Ok (with_relation db slot (Some new), Fine)
-
-    new_sound : IsSoundRelation 2 new
+    new_sound : IsSoundRelation 2 (new_relation name)
     new_sound = record {
       schema = record { name = is; few = omega arith; attributes = tt; distinct = refl; short = omega arith };
       rows = tt;
       slots = omega arith;
       filled = λ e. refl;
     }
-
-    put : (slot : ℕ) → is_some (relation_named db name) ≡ false → IsFree 0 db.relations slot → IsSoundDatabase (in_version_2 (with_relation db slot (Some new)))
-    put slot fresh free =
-        let number = free.number in
-        let same : free.slot ≡ slot = omega (arith, number) in
-        let none : get_or db.relations slot None ≡ None = ap (λ k. get_or db.relations k None) (sym same) ∙ free.free in
-        put_relation (in_version_2 db) slot new (later db s) new_sound
-        (λ old e. absurd (never_some (sym none ∙ e)))
-        (λ k q n e is. unnamed db name k q fresh e is)
-        (λ old index k e at i on. absurd (never_some (sym none ∙ e)))
 
 -- ---- changes of a relation
 
@@ -283,24 +255,6 @@ change_put db slot old new s at c =
     (λ q e. ap (λ r. r.schema.name) (stands_once db.relations slot q old e at) ∙ c.name)
     (λ k q n e is. n (s.names k slot q old e at (is ∙ sym c.name)))
     (λ q index k e f i on. c.indexes index k f i (subst (λ r. IsIndexOf r index) (stands_once db.relations slot q old e at) on))
-
-abbrev Changes : Database → ℕ → ℕ × Relation → Result (Relation × Reply) Refusal → Type 0
-Changes db version s result = Yields (λ (d : Relation × Reply). IsChange db version s.0 s.1 d.0) result
-
-kept_changed : (change : ℕ → Database → Relation → Result (Relation × Reply) Refusal) (db : Database) (name : List ℕ) → IsSoundDatabase db
-    → ((s : ℕ × Relation) → IsNamed db name s → Changes db db.version s (change s.0 db s.1)) → Keeps (changed_by change db name)
-kept_changed change db name s h =
-    by_name _ db name (λ s. ◌>>=◌ (change s.0 db s.1) (λ r. Ok (with_relation db s.0 (Some r.0), r.1)))
-    (λ t is. yields_by _ (change t.0 db t.1) (λ r. Ok (with_relation db t.0 (Some r.0), r.1))
-    (λ r e. yields_ok _ (with_relation db t.0 (Some r.0), r.1) (change_put db t.0 t.1 r.0 s is.stands ((h t is).yields r e))))
-
-kept_changed_later : (change : ℕ → Database → Relation → Result (Relation × Reply) Refusal) (db : Database) (name : List ℕ) → IsSoundDatabase db
-    → ((s : ℕ × Relation) → IsNamed db name s → Changes db 2 s (change s.0 db s.1)) → KeepsLater (changed_by change db name)
-kept_changed_later change db name s h =
-    by_name _ db name (λ s. ◌>>=◌ (change s.0 db s.1) (λ r. Ok (with_relation db s.0 (Some r.0), r.1)))
-    (λ t is. yields_by _ (change t.0 db t.1) (λ r. Ok (with_relation db t.0 (Some r.0), r.1))
-    (λ r e. let c = (h t is).yields r e in
-    yields_ok _ (with_relation db t.0 (Some r.0), r.1) (change_put (in_version_2 db) t.0 t.1 r.0 (later db s) is.stands (record { sound = c.sound; name = c.name; indexes = c.indexes }))))
 
 -- ---- CREATE ATTRIBUTE
 
@@ -331,183 +285,117 @@ few_keys Inline = refl
 few_keys MaxHeap = tt
 few_keys MemHash = omega arith
 
-changes_attribute : (name : List ℕ) (wanted : DomainAsked) (db : Database) (s : ℕ × Relation) → IsTrue (is_name name) → IsSoundDatabase db → StandsIn db.relations s.0 s.1 → Changes db 2 s (add_attribute name wanted s.0 db s.1)
-changes_attribute name wanted db s is sound at =
-    yields_unless _ (is_attribute r.schema.attributes name) no.Exists (◌>>=◌ (found_or (domain_asked wanted) no.Domain) with_domain)
-    (λ fresh. yields_found _ (domain_asked wanted) no.Domain with_domain
-    (λ d e. yields_unless _ (nat_lt 0 (length r.rows)) no.NotEmpty (behind_rows d)
-    (λ none. yields_unless _ (nat_le 8 (length r.schema.attributes)) (no.Full pool.Attributes 8) (behind_count d)
-    (λ few. yields_unless _ (nat_lt 128 (row_length (grown d).schema.attributes)) (no.Full pool.RowBytes 128) (Ok (grown d, Fine))
-    (λ short. yields_ok _ (grown d, Fine) (change d fresh (domain_fine wanted d e) none few short))))))
-  where
-    r : Relation
-    r = s.1
-
-    grown : Domain → Relation
-    grown d = with_attribute r (record { name = name; domain = d })
-
-    behind_count : Domain → Result (Relation × Reply) Refusal
-    behind_count d = ◌>>◌ (refuse_if (nat_lt 128 (row_length (grown d).schema.attributes)) (no.Full pool.RowBytes 128)) (Ok (grown d, Fine))
-
-    behind_rows : Domain → Result (Relation × Reply) Refusal
-    behind_rows d = ◌>>◌ (refuse_if (nat_le 8 (length r.schema.attributes)) (no.Full pool.Attributes 8)) (behind_count d)
-
-    with_domain : Domain → Result (Relation × Reply) Refusal
-    with_domain d = ◌>>◌ (refuse_if (nat_lt 0 (length r.rows)) no.NotEmpty) (behind_rows d)
-
-    change : (d : Domain) → is_attribute r.schema.attributes name ≡ false → IsDomain d → nat_lt 0 (length r.rows) ≡ false → nat_le 8 (length r.schema.attributes) ≡ false
-        → nat_lt 128 (row_length (grown d).schema.attributes) ≡ false → IsChange db 2 s.0 r (grown d)
-    change d fresh fine none few short =
-        let before = relation_later db.version r sound.version (sound.relations s.0 r at) in
-        let new : Attribute = record { name = name; domain = d } in
-        let empty : r.rows ≡ [] = no_rows r.rows none in
-        let less : length r.schema.attributes < 8 = grind (arith, nat_tests, few) in
-        let more : length (r.schema.attributes ++ new ∷ []) ≡ length r.schema.attributes + 1 = length-append r.schema.attributes (new ∷ []) in
-        let bytes : row_length (grown d).schema.attributes ≤ 128 = grind (arith, nat_tests, short) in
-        record {
-          sound = record {
-            schema = record {
-              name = before.schema.name;
-              few = omega (arith, less, more);
-              attributes = all_more (IsSoundAttribute 2) r.schema.attributes new before.schema.attributes (record { name = is; domain = fine; time = λ e. refl });
-              distinct = distinct_more 0 r.schema.attributes new fresh before.schema.distinct;
-              short = bytes;
-            };
-            rows = subst (AllRowsSuit (r.schema.attributes ++ new ∷ [])) (sym empty) tt;
-            slots = before.slots;
-            filled = λ e. empty;
-          };
-          name = refl;
-          indexes = λ index k e i on. record {
-            attribute = on.attribute;
-            placed = placed_more r.schema.attributes new index.attribute on.attribute on.placed;
-            allowed = on.allowed;
-            keys = subst (λ rows. SuitKind index.kind (keys index.attribute rows)) (sym empty) (few_keys index.kind);
-          };
-        }
+grows : (name : List ℕ) (d : Domain) (db : Database) (slot : ℕ) (r : Relation) → IsTrue (is_name name) → IsSoundDatabase db → StandsIn db.relations slot r
+    → is_attribute r.schema.attributes name ≡ false → IsDomain d → nat_lt 0 (length r.rows) ≡ false → nat_le 8 (length r.schema.attributes) ≡ false
+    → nat_lt 128 (row_length (with_attribute r (record { name = name; domain = d })).schema.attributes) ≡ false
+    → IsChange db 2 slot r (with_attribute r (record { name = name; domain = d }))
+grows name d db slot r is sound at fresh fine none few short =
+    let before = relation_later db.version r sound.version (sound.relations slot r at) in
+    let new : Attribute = record { name = name; domain = d } in
+    let empty : r.rows ≡ [] = no_rows r.rows none in
+    let less : length r.schema.attributes < 8 = grind (arith, nat_tests, few) in
+    let more : length (r.schema.attributes ++ new ∷ []) ≡ length r.schema.attributes + 1 = length-append r.schema.attributes (new ∷ []) in
+    let bytes : row_length (with_attribute r new).schema.attributes ≤ 128 = grind (arith, nat_tests, short) in
+    record {
+      sound = record {
+        schema = record {
+          name = before.schema.name;
+          few = omega (arith, less, more);
+          attributes = all_more (IsSoundAttribute 2) r.schema.attributes new before.schema.attributes (record { name = is; domain = fine; time = λ e. refl });
+          distinct = distinct_more 0 r.schema.attributes new fresh before.schema.distinct;
+          short = bytes;
+        };
+        rows = subst (AllRowsSuit (r.schema.attributes ++ new ∷ [])) (sym empty) tt;
+        slots = before.slots;
+        filled = λ e. empty;
+      };
+      name = refl;
+      indexes = λ index k e i on. record {
+        attribute = on.attribute;
+        placed = placed_more r.schema.attributes new index.attribute on.attribute on.placed;
+        allowed = on.allowed;
+        keys = subst (λ rows. SuitKind index.kind (keys index.attribute rows)) (sym empty) (few_keys index.kind);
+      };
+    }
 
 -- ---- INSERT
 
-changes_insert : (values : List Value) (db : Database) (s : ℕ × Relation) → IsSoundDatabase db → StandsIn db.relations s.0 s.1 → Changes db db.version s (insert_into values s.0 db s.1)
-changes_insert values db s sound at =
-    yields_none _ (unsuited r.schema.attributes values) no.Value behind_values
-    (λ suit. yields_unless _ (nat_le (slots_limit db.version) (length r.rows)) (no.Full pool.Slots (slots_limit db.version)) behind_slots
-    (λ room. yields_none _ (fallen (indexes_of db s.0) (slice_get r.rows (length r.rows - 1)) values) no.NotOrdered behind_order
-    (λ order. yields_unless _ (list_any is_hash_table (indexes_of db s.0) && nat_le 2048 (length r.rows)) (no.Full pool.HashEntries 2048) (Ok (more, Fine))
-    (λ entries. yields_ok _ (more, Fine) (change suit room order entries)))))
+inserts : (values : List Value) (db : Database) (slot : ℕ) (r : Relation) → IsSoundDatabase db → StandsIn db.relations slot r
+    → unsuited r.schema.attributes values ≡ None → nat_le (slots_limit db.version) (length r.rows) ≡ false
+    → fallen (indexes_of db slot) (slice_get r.rows (length r.rows - 1)) values ≡ None → (list_any is_hash_table (indexes_of db slot) && nat_le 2048 (length r.rows)) ≡ false
+    → IsChange db db.version slot r (with_row r values)
+inserts values db slot r sound at suit room order entries =
+    let before = sound.relations slot r at in
+    let less : length r.rows < slots_limit db.version = grind (arith, nat_tests, room) in
+    record {
+      sound = record {
+        schema = before.schema;
+        rows = rows_more r.schema.attributes r.rows row before.rows (suited r.schema.attributes values suit);
+        slots = omega (arith, less, longer);
+        filled = λ e. absurd (suited_some r.schema.attributes values suit e);
+      };
+      name = refl;
+      indexes = λ index k e i on. record {
+        attribute = on.attribute;
+        placed = on.placed;
+        allowed = on.allowed;
+        keys = suit_kind index.kind index k refl e i on on.keys;
+      };
+    }
   where
-    r : Relation
-    r = s.1
-
     row : Row
     row = record { tuple = values; live = true }
-
-    more : Relation
-    more = record r { rows = r.rows ++ row ∷ [] }
-
-    behind_order : Result (Relation × Reply) Refusal
-    behind_order = ◌>>◌ (refuse_if (list_any is_hash_table (indexes_of db s.0) && nat_le 2048 (length r.rows)) (no.Full pool.HashEntries 2048)) (Ok (more, Fine))
-
-    behind_slots : Result (Relation × Reply) Refusal
-    behind_slots = ◌>>◌ (refuse_found (fallen (indexes_of db s.0) (slice_get r.rows (length r.rows - 1)) values) no.NotOrdered) behind_order
-
-    behind_values : Result (Relation × Reply) Refusal
-    behind_values = ◌>>◌ (refuse_if (nat_le (slots_limit db.version) (length r.rows)) (no.Full pool.Slots (slots_limit db.version))) behind_slots
 
     longer : length (r.rows ++ row ∷ []) ≡ length r.rows + 1
     longer = length-append r.rows (row ∷ [])
 
     -- the last row is in order with the new one
-    in_order : (o : Option Row) → fallen (indexes_of db s.0) o values ≡ None → (last : Row) → o ≡ Some last → fallen_from (is_ordered (indexes_of db s.0)) 0 last.tuple values ≡ None
+    in_order : (o : Option Row) → fallen (indexes_of db slot) o values ≡ None → (last : Row) → o ≡ Some last → fallen_from (is_ordered (indexes_of db slot)) 0 last.tuple values ≡ None
     in_order None none last e = absurd (never_some e)
-    in_order (Some x) none last e = subst (λ l. fallen_from (is_ordered (indexes_of db s.0)) 0 l.tuple values ≡ None) (some_alike e) none
+    in_order (Some x) none last e = subst (λ l. fallen_from (is_ordered (indexes_of db slot)) 0 l.tuple values ≡ None) (some_alike e) none
 
-    suit_kind : (kind : IndexKind) (index : Index) (k : ℕ) → index.kind ≡ kind → StandsIn db.indexes k index → index.relation ≡ s.0 → (on : IsIndexOf r index) → unsuited r.schema.attributes values ≡ None
-        → fallen (indexes_of db s.0) (slice_get r.rows (length r.rows - 1)) values ≡ None
-        → (list_any is_hash_table (indexes_of db s.0) && nat_le 2048 (length r.rows)) ≡ false
+    suit_kind : (kind : IndexKind) (index : Index) (k : ℕ) → index.kind ≡ kind → StandsIn db.indexes k index → index.relation ≡ slot → (on : IsIndexOf r index)
         → SuitKind kind (keys index.attribute r.rows) → SuitKind kind (keys index.attribute (r.rows ++ row ∷ []))
-    suit_kind Inline index k is e i on suit order entries keys =
-        order_kept index.kind r.schema.attributes (is_ordered (indexes_of db s.0)) index.attribute on.attribute r.rows values true
-        (sound.relations s.0 r at).rows (suited r.schema.attributes values suit) on.placed on.allowed
-        (any_of (λ x. is_inline x && x.attribute == index.attribute) (λ x. x.relation == s.0) db.indexes k index e (grind (arith, nat_tests, i))
+    suit_kind Inline index k is e i on keys =
+        order_kept index.kind r.schema.attributes (is_ordered (indexes_of db slot)) index.attribute on.attribute r.rows values true
+        (sound.relations slot r at).rows (suited r.schema.attributes values suit) on.placed on.allowed
+        (any_of (λ x. is_inline x && x.attribute == index.attribute) (λ x. x.relation == slot) db.indexes k index e (grind (arith, nat_tests, i))
         (ap (λ kind. is_inline (record index { kind = kind }) && index.attribute == index.attribute) is ∙ same_number index.attribute))
         (in_order (slice_get r.rows (length r.rows - 1)) order) keys
       where
         same_number : (n : ℕ) → (n == n) ≡ true
         same_number n = grind (arith, nat_tests)
-    suit_kind MaxHeap index k is e i on suit order entries keys = tt
-    suit_kind MemHash index k is e i on suit order entries keys =
-        let table : list_any is_hash_table (indexes_of db s.0) ≡ true =
-        any_of is_hash_table (λ x. x.relation == s.0) db.indexes k index e (grind (arith, nat_tests, i)) (ap (λ kind. is_hash_table (record index { kind = kind })) is) in
+    suit_kind MaxHeap index k is e i on keys = tt
+    suit_kind MemHash index k is e i on keys =
+        let table : list_any is_hash_table (indexes_of db slot) ≡ true =
+        any_of is_hash_table (λ x. x.relation == slot) db.indexes k index e (grind (arith, nat_tests, i)) (ap (λ kind. is_hash_table (record index { kind = kind })) is) in
         let few : nat_le 2048 (length r.rows) ≡ false = sym (ap (λ t. t && nat_le 2048 (length r.rows)) table) ∙ entries in
         let less : length r.rows < 2048 = grind (arith, nat_tests, few) in
         let same = length-map (r.rows ++ row ∷ []) (λ row. key_of (slice_get row.tuple index.attribute)) in
         omega (arith, less, same, longer)
 
-    change : unsuited r.schema.attributes values ≡ None → nat_le (slots_limit db.version) (length r.rows) ≡ false → fallen (indexes_of db s.0) (slice_get r.rows (length r.rows - 1)) values ≡ None
-        → (list_any is_hash_table (indexes_of db s.0) && nat_le 2048 (length r.rows)) ≡ false → IsChange db db.version s.0 r more
-    change suit room order entries =
-        let before = sound.relations s.0 r at in
-        let less : length r.rows < slots_limit db.version = grind (arith, nat_tests, room) in
-        record {
-          sound = record {
-            schema = before.schema;
-            rows = rows_more r.schema.attributes r.rows row before.rows (suited r.schema.attributes values suit);
-            slots = omega (arith, less, longer);
-            filled = λ e. absurd (suited_some r.schema.attributes values suit e);
-          };
-          name = refl;
-          indexes = λ index k e i on. record {
-            attribute = on.attribute;
-            placed = on.placed;
-            allowed = on.allowed;
-            keys = suit_kind index.kind index k refl e i on suit order entries on.keys;
-          };
-        }
-
 -- ---- REMOVE FROM, PACK
 
-changes_remove : (condition : Option Cond) (db : Database) (s : ℕ × Relation) → IsSoundDatabase db → StandsIn db.relations s.0 s.1 → Changes db db.version s (remove_from condition s.0 db s.1)
-changes_remove condition db s sound at =
-    yields_then _ (refuse_found (missing_name r.schema.attributes [] condition) no.NoAttribute) behind_names
-    (λ v e. yields_then _ (refuse_found (ill_typed r.schema.attributes [] condition) no.IllTyped) behind_types
-    (λ w f. yields_then _ (refuse_read db r.schema.name) (Ok done) (λ x g. yields_ok _ done change)))
-  where
-    r : Relation
-    r = s.1
-
-    less : Relation
-    less = record r { rows = map (removed_row r.schema.attributes condition) r.rows }
-
-    done : Relation × Reply
-    done = (less, Removed (length (selected r.schema.attributes condition r.rows)))
-
-    behind_types : Result (Relation × Reply) Refusal
-    behind_types = ◌>>◌ (refuse_read db r.schema.name) (Ok done)
-
-    behind_names : Result (Relation × Reply) Refusal
-    behind_names = ◌>>◌ (refuse_found (ill_typed r.schema.attributes [] condition) no.IllTyped) behind_types
-
-    change : IsChange db db.version s.0 r less
-    change =
-        let before = sound.relations s.0 r at in
-        let slots = before.slots in
-        let many : length less.rows ≡ length r.rows = length-map r.rows (removed_row r.schema.attributes condition) in
-        record {
-          sound = record {
-            schema = before.schema;
-            rows = rows_removed r.schema.attributes condition r.rows before.rows;
-            slots = omega (arith, slots, many);
-            filled = λ e. ap (map (removed_row r.schema.attributes condition)) (before.filled e);
-          };
-          name = refl;
-          indexes = λ index k e i on. record {
-            attribute = on.attribute;
-            placed = on.placed;
-            allowed = on.allowed;
-            keys = subst (SuitKind index.kind) (sym (keys_removed r.schema.attributes condition index.attribute r.rows)) on.keys;
-          };
-        }
+marks : (condition : Option Cond) (db : Database) (slot : ℕ) (r : Relation) → IsSoundDatabase db → StandsIn db.relations slot r → IsChange db db.version slot r (with_removed r condition)
+marks condition db slot r sound at =
+    let before = sound.relations slot r at in
+    let slots = before.slots in
+    let many : length (with_removed r condition).rows ≡ length r.rows = length-map r.rows (removed_row r.schema.attributes condition) in
+    record {
+      sound = record {
+        schema = before.schema;
+        rows = rows_removed r.schema.attributes condition r.rows before.rows;
+        slots = omega (arith, slots, many);
+        filled = λ e. ap (map (removed_row r.schema.attributes condition)) (before.filled e);
+      };
+      name = refl;
+      indexes = λ index k e i on. record {
+        attribute = on.attribute;
+        placed = on.placed;
+        allowed = on.allowed;
+        keys = subst (SuitKind index.kind) (sym (keys_removed r.schema.attributes condition index.attribute r.rows)) on.keys;
+      };
+    }
 
 -- no index is on a relation that has none
 unindexed : (db : Database) (slot k : ℕ) (index : Index) → nat_lt 0 (length (indexes_of db slot)) ≡ false → StandsIn db.indexes k index → index.relation ≡ slot → ⊥
@@ -516,50 +404,45 @@ unindexed db slot k index none e on =
     let here : (index.relation == slot) ≡ true = grind (arith, nat_tests, on) in
     false_true (sym (none_of (λ index. index.relation == slot) db.indexes k index no e) ∙ here)
 
-changes_pack : (db : Database) (s : ℕ × Relation) → IsSoundDatabase db → StandsIn db.relations s.0 s.1 → Changes db db.version s (pack s.0 db s.1)
-changes_pack db s sound at =
-    yields_then _ (refuse_read db r.schema.name) (◌>>◌ (refuse_indexed db s.0) (Ok (packed, Fine)))
-    (λ v e. yields_unless _ (nat_lt 0 (length (indexes_of db s.0))) no.HasIndex (Ok (packed, Fine)) (λ none. yields_ok _ (packed, Fine) (change none)))
-  where
-    r : Relation
-    r = s.1
+packs : (db : Database) (slot : ℕ) (r : Relation) → IsSoundDatabase db → StandsIn db.relations slot r → nat_lt 0 (length (indexes_of db slot)) ≡ false → IsChange db db.version slot r (packed_up r)
+packs db slot r sound at none =
+    let before = sound.relations slot r at in
+    let slots = before.slots in
+    let fewer = fewer_live r.rows in
+    record {
+      sound = record {
+        schema = before.schema;
+        rows = rows_live r.schema.attributes r.rows before.rows;
+        slots = omega (arith, slots, fewer);
+        filled = λ e. ap (filter (λ row. row.live)) (before.filled e);
+      };
+      name = refl;
+      indexes = λ index k e i on. absurd (unindexed db slot k index none e i);
+    }
 
-    packed : Relation
-    packed = record r { rows = filter (λ row. row.live) r.rows }
+-- ---- a relation is made
 
-    change : nat_lt 0 (length (indexes_of db s.0)) ≡ false → IsChange db db.version s.0 r packed
-    change none =
-        let before = sound.relations s.0 r at in
-        let slots = before.slots in
-        let fewer = fewer_live r.rows in
-        record {
-          sound = record {
-            schema = before.schema;
-            rows = rows_live r.schema.attributes r.rows before.rows;
-            slots = omega (arith, slots, fewer);
-            filled = λ e. ap (filter (λ row. row.live)) (before.filled e);
-          };
-          name = refl;
-          indexes = λ index k e i on. absurd (unindexed db s.0 k index none e i);
-        }
-
--- ---- REMOVE RELATION
-
-kept_remove_relation : (db : Database) (name : List ℕ) → IsSoundDatabase db → KeepsLater (remove_relation db name)
-kept_remove_relation db name s =
-    by_name _ db name named_one
-    (λ t is. yields_none _ (reader_of db name) no.InUse (behind_readers t)
-    (λ unread. yields_unless _ (nat_lt 0 (length (indexes_of db t.0))) no.HasIndex (Ok (with_relation db t.0 None, Fine))
-    (λ none. yields_ok _ (with_relation db t.0 None, Fine)
-    (out_relation (in_version_2 db) t.0 t.1 (later db s) is.stands
+sound_relation : (db : Database) (c : Command) (version slot : ℕ) (r : Option Relation) (reply : Reply) → RelationMade db c version slot r reply → BringsNames c → IsSoundDatabase db
+    → IsSoundDatabase (with_relation (in_version version db) slot r)
+sound_relation db _ _ _ _ _ (Creates name slot fresh free) b s = sound_created db name slot b fresh free s
+sound_relation db _ _ _ _ _ (Grows name wanted relation t d e fresh fine none few short) b s =
+    let at = (named_is db relation t e).stands in
+    let c = grows name d db t.0 t.1 b s at fresh (domain_fine wanted d fine) none few short in
+    change_put (in_version 2 db) t.0 t.1 (with_attribute t.1 (record { name = name; domain = d })) (later db s) at (record { sound = c.sound; name = c.name; indexes = c.indexes })
+sound_relation db _ _ _ _ _ (Inserts values name t e suit room order entries) b s =
+    let at = (named_is db name t e).stands in
+    change_put db t.0 t.1 (with_row t.1 values) s at (inserts values db t.0 t.1 s at suit room order entries)
+sound_relation db _ _ _ _ _ (Marks name nodes t e) b s =
+    let at = (named_is db name t e).stands in
+    change_put db t.0 t.1 (with_removed t.1 (condition_of nodes)) s at (marks (condition_of nodes) db t.0 t.1 s at)
+sound_relation db _ _ _ _ _ (Packs name t e none) b s =
+    let at = (named_is db name t e).stands in
+    change_put db t.0 t.1 (packed_up t.1) s at (packs db t.0 t.1 s at none)
+sound_relation db _ _ _ _ _ (Removes name t e unread none) b s =
+    let named = named_is db name t e in
+    out_relation (in_version 2 db) t.0 t.1 (later db s) named.stands
     (λ k index e on. unindexed db t.0 k index none e on)
-    (λ k cursor e. ap (λ n. is_among n cursor.reads) is.is ∙ not_read name 1 k db.cursors cursor unread e)))))
-  where
-    behind_readers : ℕ × Relation → Outcome
-    behind_readers t = ◌>>◌ (refuse_indexed db t.0) (Ok (with_relation db t.0 None, Fine))
-
-    named_one : ℕ × Relation → Outcome
-    named_one t = ◌>>◌ (refuse_read db name) (behind_readers t)
+    (λ k cursor e. ap (λ n. is_among n cursor.reads) named.is ∙ not_read name 1 k db.cursors cursor unread e)
 
 -- ---- CREATE INDEX, REMOVE INDEX
 
@@ -588,149 +471,55 @@ is_none : {A : Type 0} (o : Option A) → is_some o ≡ false → o ≡ None
 is_none None e = refl
 is_none (Some x) e = absurd (false_true (sym e))
 
-kept_create_index : (db : Database) (name attribute : List ℕ) (kind : IndexKind) → IsSoundDatabase db → KeepsLater (create_index db name attribute kind)
-kept_create_index db name attribute kind s =
-    by_name _ db name named_one
-    (λ t is. yields_found _ (place_of attribute t.1.schema.attributes) (no.NoAttribute 1) (placed t)
-    (λ place at. yields_found _ (domain_of t.1.schema.attributes attribute) (no.NoAttribute 1) (of_domain t place)
-    (λ d e. yields_unless _ (not (allows kind d)) no.Domain (behind_domain t place)
-    (λ allowed. yields_unless _ (is_some (index_slot db t.0 place)) no.Exists (behind_exists t place)
-    (λ fresh. yields_found _ (free_from 0 db.indexes) (no.Full pool.Indexes 8) (free t place)
-    (λ slot f. yields_then _ (refuse_kind kind db (keys place t.1.rows)) (Ok (with_index db slot (Some (new t place)), Fine))
-    (λ v g. yields_ok _ (with_index db slot (Some (new t place)), Fine)
-    (put t place slot d is at e (not_not (allows kind d) allowed) (is_none (index_slot db t.0 place) fresh) (free_is 0 slot db.indexes f) g))))))))
+builds : (db : Database) (name attribute : List ℕ) (kind : IndexKind) (t : ℕ × Relation) (place slot : ℕ) (d : Domain) → relation_named db name ≡ Some t
+    → place_of attribute t.1.schema.attributes ≡ Some place → domain_of t.1.schema.attributes attribute ≡ Some d → not (allows kind d) ≡ false → is_some (index_slot db t.0 place) ≡ false
+    → free_from 0 db.indexes ≡ Some slot → refuse_kind kind db (keys place t.1.rows) ≡ Ok tt → IsSoundDatabase db
+    → IsSoundDatabase (with_index (in_version 2 db) slot (Some (record { kind = kind; relation = t.0; attribute = place })))
+builds db name attribute kind t place slot d e at is allowed fresh free g s =
+    let there = domain_at t.1.schema.attributes (place_of attribute t.1.schema.attributes) place d at is in
+    let kinds = kind_one kind db (keys place t.1.rows) t.0 place g s in
+    put_index (in_version 2 db) slot (record { kind = kind; relation = t.0; attribute = place }) (later db s) (nothing_free db.indexes slot free)
+    (record {
+      relation = t.1;
+      stands = (named_is db name t e).stands;
+      suits = record { attribute = there.0; placed = there.1; allowed = ap (allows kind) there.2 ∙ not_not (allows kind d) allowed; keys = kinds.0 };
+    })
+    (λ k other f relation attribute. false_true (sym (not_on t.0 place 0 k db.indexes other (is_none (index_slot db t.0 place) fresh) f) ∙ both relation attribute))
+    kinds.1
   where
-    new : ℕ × Relation → ℕ → Index
-    new t place = record { kind = kind; relation = t.0; attribute = place }
+    both : {a b c d : ℕ} → a ≡ b → c ≡ d → (a == b && c == d) ≡ true
+    both e f = grind (arith, nat_tests, e, f)
 
-    free : ℕ × Relation → ℕ → ℕ → Outcome
-    free t place slot = ◌>>◌ (refuse_kind kind db (keys place t.1.rows)) (Ok (with_index db slot (Some (new t place)), Fine))
+sound_index : (db : Database) (c : Command) (slot : ℕ) (index : Option Index) → IndexMade db c slot index → IsSoundDatabase db → IsSoundDatabase (with_index (in_version 2 db) slot index)
+sound_index db _ _ _ (Builds name attribute kind t place slot d e at is allowed fresh free g) s = builds db name attribute kind t place slot d e at is allowed fresh free g s
+sound_index db _ _ _ (Drops name attribute slot) s = out_index (in_version 2 db) slot (later db s)
 
-    behind_exists : ℕ × Relation → ℕ → Outcome
-    behind_exists t place = ◌>>=◌ (found_or (free_from 0 db.indexes) (no.Full pool.Indexes 8)) (free t place)
-
-    behind_domain : ℕ × Relation → ℕ → Outcome
-    behind_domain t place = ◌>>◌ (refuse_if (is_some (index_slot db t.0 place)) no.Exists) (behind_exists t place)
-
-    of_domain : ℕ × Relation → ℕ → Domain → Outcome
-    of_domain t place d = ◌>>◌ (refuse_if (not (allows kind d)) no.Domain) (behind_domain t place)
-
-    placed : ℕ × Relation → ℕ → Outcome
-    placed t place = ◌>>=◌ (found_or (domain_of t.1.schema.attributes attribute) (no.NoAttribute 1)) (of_domain t place)
-
-    named_one : ℕ × Relation → Outcome
-    named_one t = ◌>>=◌ (found_or (place_of attribute t.1.schema.attributes) (no.NoAttribute 1)) (placed t)
-
-    put : (t : ℕ × Relation) (place slot : ℕ) (d : Domain) → IsNamed db name t → place_of attribute t.1.schema.attributes ≡ Some place → domain_of t.1.schema.attributes attribute ≡ Some d → allows kind d ≡ true
-        → index_slot db t.0 place ≡ None → IsFree 0 db.indexes slot → refuse_kind kind db (keys place t.1.rows) ≡ Ok tt → IsSoundDatabase (in_version_2 (with_index db slot (Some (new t place))))
-    put t place slot d is at e allowed fresh free g =
-        let number = free.number in
-        let same : free.slot ≡ slot = omega (arith, number) in
-        let none : get_or db.indexes slot None ≡ None = ap (λ k. get_or db.indexes k None) (sym same) ∙ free.free in
-        let there = domain_at t.1.schema.attributes (place_of attribute t.1.schema.attributes) place d at e in
-        let kinds = kind_one kind db (keys place t.1.rows) t.0 place g s in
-        put_index (in_version_2 db) slot (new t place) (later db s) none
-        (record { relation = t.1; stands = is.stands; suits = record { attribute = there.0; placed = there.1; allowed = ap (allows kind) there.2 ∙ allowed; keys = kinds.0 } })
-        (λ k other f relation attribute. false_true (sym (not_on t.0 place 0 k db.indexes other fresh f) ∙ both relation attribute))
-        kinds.1
-      where
-        both : {a b c d : ℕ} → a ≡ b → c ≡ d → (a == b && c == d) ≡ true
-        both e f = grind (arith, nat_tests, e, f)
-
-kept_remove_index : (db : Database) (name attribute : List ℕ) → IsSoundDatabase db → KeepsLater (remove_index db name attribute)
-kept_remove_index db name attribute s =
-    by_name _ db name named_one
-    (λ t is. yields_found _ (place_of attribute t.1.schema.attributes) (no.NoAttribute 1) (placed t)
-    (λ place at. yields_found _ (index_slot db t.0 place) no.NoIndex found_one
-    (λ slot e. yields_then _ (refuse_read db name) (Ok (with_index db slot None, Fine))
-    (λ v f. yields_ok _ (with_index db slot None, Fine) (out_index (in_version_2 db) slot (later db s))))))
-  where
-    found_one : ℕ → Outcome
-    found_one slot = ◌>>◌ (refuse_read db name) (Ok (with_index db slot None, Fine))
-
-    placed : ℕ × Relation → ℕ → Outcome
-    placed t place = ◌>>=◌ (found_or (index_slot db t.0 place) no.NoIndex) found_one
-
-    named_one : ℕ × Relation → Outcome
-    named_one t = ◌>>=◌ (found_or (place_of attribute t.1.schema.attributes) (no.NoAttribute 1)) (placed t)
-
--- ---- queries and cursors
-
-kept_ask : (db : Database) (query : Query) → IsSoundDatabase db → Keeps (ask db query)
-kept_ask db query s = yields_by _ (answer_of db query) (λ rows. Ok (db, Rows rows)) (λ rows e. yields_ok _ (db, Rows rows) s)
-
-kept_asked : (answer : Relation → Result Reply Refusal) (db : Database) (name : List ℕ) → IsSoundDatabase db → Keeps (asked_by answer db name)
-kept_asked answer db name s =
-    by_name _ db name (λ t. ◌>>=◌ (answer t.1) (λ reply. Ok (db, reply)))
-    (λ t is. yields_by _ (answer t.1) (λ reply. Ok (db, reply)) (λ reply e. yields_ok _ (db, reply) s))
+-- ---- cursors
 
 -- the relations of a query that is answered are there
 query_reads : (db : Database) (query : Query) → Yields (λ (rows : List (List Value)). AllByRecursion (λ name. is_some (relation_named db name) ≡ true) (relations_read query)) (answer_of db query)
-query_reads db (Select list name nodes) =
-    by_name _ db name (λ t. select_from list (condition_of nodes) t.1) (λ t is. record { yields = λ rows e. (is.found, tt) })
+query_reads db (Select list name nodes) = yields_found _ (relation_named db name) no.NoRelation _ (λ t e. record { yields = λ rows f. (ap (λ o. is_some o) e, tt) })
 query_reads db (Join left right on list) =
-    by_name _ db left (λ l. ◌>>=◌ (named db right) (λ r. join_of on list l.1 r.1))
-    (λ l is. by_name _ db right (λ r. join_of on list l.1 r.1) (λ r it. record { yields = λ rows e. (is.found, (it.found, tt)) }))
+    yields_found _ (relation_named db left) no.NoRelation _
+    (λ l e. yields_found _ (relation_named db right) no.NoRelation _ (λ r f. record { yields = λ rows g. (ap (λ o. is_some o) e, (ap (λ o. is_some o) f, tt)) }))
 
-kept_open : (db : Database) (number : ℤ) (query : Query) → IsSoundDatabase db → Keeps (open_cursor db number query)
-kept_open db number query s =
-    yields_by _ (found_or (cursor_place number) no.NoCursor) at_place
-    (λ place e. yields_then _ (refuse_if (is_some (cursor_at db place)) no.CursorOpen) (◌>>=◌ (answer_of db query) (opened place))
-    (λ v f. yields_by _ (answer_of db query) (opened place)
-    (λ rows g. yields_ok _ (with_cursor db place (Some (new rows)), Fine)
-    (put_cursor db place (Some (new rows)) s (λ c is. subst (IsSoundCursor db) (some_alike is) ((query_reads db query).yields rows g))))))
-  where
-    new : List (List Value) → Cursor
-    new rows = record { reads = relations_read query; rows = rows }
-
-    opened : ℕ → List (List Value) → Outcome
-    opened place rows = Ok (with_cursor db place (Some (new rows)), Fine)
-
-    at_place : ℕ → Outcome
-    at_place place = ◌>>◌ (refuse_if (is_some (cursor_at db place)) no.CursorOpen) (◌>>=◌ (answer_of db query) (opened place))
-
--- an open cursor stands in its place
-pub open_stands : (db : Database) (number : ℤ) → Yields (λ (c : ℕ × Cursor). StandsIn db.cursors c.0 c.1) (open_cursor_of db number)
-open_stands db number =
-    yields_by _ (found_or (cursor_place number) no.NoCursor) (λ place. ◌>>=◌ (found_or (cursor_at db place) no.NoCursor) (λ cursor. Ok (place, cursor)))
-    (λ place e. yields_found _ (cursor_at db place) no.NoCursor (λ cursor. Ok (place, cursor)) (λ cursor f. yields_ok _ (place, cursor) f))
-
-kept_fetch : (db : Database) (number : ℤ) → IsSoundDatabase db → Keeps (fetch_cursor db number)
-kept_fetch db number s =
-    yields_by _ (open_cursor_of db number) (λ c. Ok (with_cursor db c.0 (Some (record c.1 { rows = drop 1 c.1.rows })), Rows (take 1 c.1.rows)))
-    (λ c e. yields_ok _ (with_cursor db c.0 (Some (record c.1 { rows = drop 1 c.1.rows })), Rows (take 1 c.1.rows))
-    (put_cursor db c.0 (Some (record c.1 { rows = drop 1 c.1.rows })) s
-    (λ d is. subst (IsSoundCursor db) (some_alike is) (s.cursors c.0 c.1 ((open_stands db number).yields c e)))))
-
-kept_close : (db : Database) (number : ℤ) → IsSoundDatabase db → Keeps (close_cursor db number)
-kept_close db number s =
-    yields_by _ (open_cursor_of db number) (λ c. Ok (with_cursor db c.0 None, Fine))
-    (λ c e. yields_ok _ (with_cursor db c.0 None, Fine) (put_cursor db c.0 None s (λ d is. absurd (never_some is))))
+sound_cursor : (db : Database) (c : Command) (place : ℕ) (cursor : Option Cursor) (reply : Reply) → CursorMade db c place cursor reply → IsSoundDatabase db → IsSoundDatabase (with_cursor db place cursor)
+sound_cursor db _ _ _ _ (Opens number query place rows at free e) s =
+    put_cursor db place (Some (record { reads = relations_read query; rows = rows })) s (λ c is. subst (IsSoundCursor db) (some_alike is) ((query_reads db query).yields rows e))
+sound_cursor db _ _ _ _ (Fetches number c at) s =
+    put_cursor db c.0 (Some (record c.1 { rows = drop 1 c.1.rows })) s (λ d is. subst (IsSoundCursor db) (some_alike is) (s.cursors c.0 c.1 at.cursor))
+sound_cursor db _ _ _ _ (Closes number c at) s = put_cursor db c.0 None s (λ d is. absurd (never_some is))
 
 -- ---- all commands
 
-kept_outcome : (db : Database) (c : Command) → BringsNames c → IsSoundDatabase db → Keeps (outcome db c)
-kept_outcome db (CreateRelation name) b s = kept_upgraded (create_relation db name) (kept_create_relation db name b s)
-kept_outcome db (CreateAttribute name domain relation) b s =
-    kept_upgraded (changed_by (add_attribute name domain) db relation) (kept_changed_later (add_attribute name domain) db relation s (λ t is. changes_attribute name domain db t b s is.stands))
-kept_outcome db (CreateIndex relation attribute kind) b s = kept_upgraded (create_index db relation attribute kind) (kept_create_index db relation attribute kind s)
-kept_outcome db (Insert values relation) b s = kept_changed (insert_into values) db relation s (λ t is. changes_insert values db t s is.stands)
-kept_outcome db (Ask query) b s = kept_ask db query s
-kept_outcome db (Aggregate list relation nodes) b s = kept_asked (aggregate_of list (condition_of nodes)) db relation s
-kept_outcome db (RemoveFrom relation nodes) b s = kept_changed (remove_from (condition_of nodes)) db relation s (λ t is. changes_remove (condition_of nodes) db t s is.stands)
-kept_outcome db (RemoveRelation relation) b s = kept_upgraded (remove_relation db relation) (kept_remove_relation db relation s)
-kept_outcome db (RemoveIndex relation attribute) b s = kept_upgraded (remove_index db relation attribute) (kept_remove_index db relation attribute s)
-kept_outcome db (Pack relation) b s = kept_changed pack db relation s (λ t is. changes_pack db t s is.stands)
-kept_outcome db (OpenCursor number query) b s = kept_open db number query s
-kept_outcome db (FetchCursor number) b s = kept_fetch db number s
-kept_outcome db (CloseCursor number) b s = kept_close db number s
-
-kept_replied : (db : Database) (o : Outcome) → IsSoundDatabase db → Keeps o → IsSoundDatabase ((replied db o).0)
-kept_replied db (Ok done) s k = k.yields done refl
-kept_replied db (Err refusal) s k = s
+sound_change : (db : Database) (c : Command) (d : Database × Reply) → Change db c d → BringsNames c → IsSoundDatabase db → IsSoundDatabase d.0
+sound_change db _ _ (Nothing c reply a) b s = s
+sound_change db _ _ (OfRelation c version slot r reply m) b s = sound_relation db c version slot r reply m b s
+sound_change db _ _ (OfIndex c slot index m) b s = sound_index db c slot index m s
+sound_change db _ _ (OfCursor c place cursor reply m) b s = sound_cursor db c place cursor reply m s
 
 pub step_sound : (db : Database) (c : Command) → BringsNames c → IsSoundDatabase db → IsSoundDatabase ((step db c).0)
-step_sound db c b s = kept_replied db (outcome db c) s (kept_outcome db c b s)
+step_sound db c b s = sound_change db c (step db c) (change_of db c) b s
 
 pub empty_sound : IsSoundDatabase empty_database
 empty_sound = record {

@@ -64,6 +64,13 @@ free_is n k (Some x ∷ slots) e =
     let number = f.number in
     record { slot = suc f.slot; number = omega (arith, number); free = f.free }
 
+pub nothing_free : {A : Type 0} (slots : List (Option A)) (slot : ℕ) → free_from 0 slots ≡ Some slot → get_or slots slot None ≡ None
+nothing_free slots slot e =
+    let free = free_is 0 slot slots e in
+    let number = free.number in
+    let same : free.slot ≡ slot = omega (arith, number) in
+    ap (λ k. get_or slots k None) (sym same) ∙ free.free
+
 -- ---- tests over what the slots hold
 
 -- 1 for true

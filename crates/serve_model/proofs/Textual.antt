@@ -1,38 +1,32 @@
 -- A database whose texts are texts stays one, and replies with texts.
-use Rattle.std.proofs.Common.{◌≡◌, refl, sym, subst, ℕ, ◌-◌, Bool, true, false, List, [], ◌∷◌, ◌++◌, length, map, take, drop, filter, cond, Option, Some, None, pos, zero, suc}
-use Rattle.std.specs.Prelude.{ℤ, Ok, Err, Result, IsTrue, ⊤, ◌&&◌, not, is_some, slice_get, unwrap_or, option_and_then, nat_le}
+use Rattle.std.proofs.Common.{◌≡◌, sym, subst, ℕ, ◌-◌, Bool, true, false, List, [], ◌∷◌, length, map, take, drop, filter, cond, Option, Some, None, pos, zero, suc}
+use Rattle.std.specs.Prelude.{IsTrue, ⊤, ◌&&◌, not, slice_get, unwrap_or, option_and_then, nat_le}
 use Rattle.std.specs.Option.{option_or}
-use Rattle.std.specs.List.{AllByRecursion, list_any}
+use Rattle.std.specs.List.{AllByRecursion}
 use Rattle.std.proofs.lemmas.List.Concat.{flat_map-cons}
-use Rattle.db_model.specs.declared.commands.Agg.{Agg}
 use Rattle.db_model.specs.declared.commands.Command.{Command}
-use Rattle.db_model.specs.declared.commands.Command.TheVariants.{CreateRelation, CreateAttribute, CreateIndex, Insert, Ask, Aggregate, RemoveFrom, RemoveRelation, RemoveIndex, Pack, OpenCursor, FetchCursor, CloseCursor}
 use Rattle.db_model.specs.declared.commands.Query.{Query}
 use Rattle.db_model.specs.declared.commands.Query.TheVariants.{Select, Join}
-use Rattle.db_model.specs.declared.refusals.Pool.TheVariants as pool
-use Rattle.db_model.specs.declared.refusals.Refusal.{Refusal}
 use Rattle.db_model.specs.declared.refusals.Refusal.TheVariants as no
 use Rattle.db_model.specs.declared.schemas.Attribute.{Attribute}
 use Rattle.db_model.specs.declared.schemas.Domain.{Domain}
 use Rattle.db_model.specs.declared.schemas.Domain.TheVariants as domain
-use Rattle.db_model.specs.declared.schemas.DomainAsked.{DomainAsked}
-use Rattle.db_model.specs.declared.schemas.IndexKind.{IndexKind}
 use Rattle.db_model.specs.declared.values.Value.{Value}
 use Rattle.db_model.specs.declared.values.Value.TheVariants as value
 use Rattle.db_model.specs.Answers.{live_tuples, selected, projected, projected_pair, select, pairs, join, same_value}
 use Rattle.db_model.specs.Cond.{Cond, condition_of}
-use Rattle.db_model.specs.Database.{Relation, Cursor, Database, bare, free_from, indexes_of, is_hash_table, named, relation_from, relation_named, with_index, with_relation, with_cursor, cursor_at, cursor_place}
+use Rattle.db_model.specs.Database.{Relation, Cursor, Database, bare, relation_named, with_relation, with_cursor}
 use Rattle.db_model.specs.Item.{value_of, place_of, selects}
 use Rattle.db_model.specs.Names.{is_text}
-use Rattle.db_model.specs.Refusing.{◌>>=◌, ◌>>◌, refuse_if, refuse_found, found_or}
+use Rattle.db_model.specs.Refusing.{refuse_if, refuse_found}
 use Rattle.db_model.specs.Row.{Row, AllRowsSuit, AllSuit, suits}
 use Rattle.db_model.specs.Sound.{IsSoundDatabase, StandsIn}
-use Rattle.db_model.specs.Step.{Reply, Fine, Numbers, Rows, Removed, Outcome, add_attribute, aggregate_of, answer_of, ask, asked_by, changed_by, close_cursor, create_index, create_relation, fallen, fetch_cursor, insert_into, join_of, joins, missing_in_join, open_cursor, open_cursor_of, outcome, pack, refuse_indexed, refuse_read, relations_read, remove_from, remove_index, remove_relation, removed_row, replied, select_from, slots_limit, step, unsuited, upgraded, with_attribute}
+use Rattle.db_model.specs.Step.{Reply, Rows, answer_of, join_of, joins, missing_in_join, removed_row, select_from, step}
 use Rattle.db_model.specs.Typing.{domain_of, ill_typed, missing_name}
 use Rattle.db_model.proofs.SoundRows.{suited}
 use Rattle.db_model.proofs.Standing.{found_from, nothing_stands, stands_either}
-use Rattle.db_model.proofs.Yielding.{Yields, found_ok, yields_behind, yields_by, yields_none, yields_ok}
-use Rattle.db_model.proofs.SoundSteps.{open_stands}
+use Rattle.db_model.proofs.Yielding.{Yields, yields_behind, yields_found, yields_ok}
+use Rattle.db_model.proofs.Change.{Answered, Change, CursorMade, RelationMade, Nothing, OfRelation, OfIndex, OfCursor, Tells, Creates, Grows, Inserts, Marks, Packs, Removes, Opens, Fetches, Closes, change_of, in_version}
 use Rattle.padded.proofs.Facts.{never_some, some_alike, all_append}
 
 -- ---- what is textual
@@ -184,102 +178,36 @@ joins_textual on list l r h i =
     (yields_behind AnswersTexts (refuse_if (not (joins (domain_of l.schema.attributes on) (domain_of r.schema.attributes on))) (no.IllTyped 1)) _ done)
 
 -- a relation that is found by name stands in its slot
-named_textual : (db : Database) (name : List ℕ) (s : ℕ × Relation) → IsTextualDatabase db → named db name ≡ Ok s → AreTextualRows s.1.rows
-named_textual db name s h e =
-    let f = found_from name 0 db.relations s (found_ok (relation_from name 0 db.relations) no.NoRelation s e) in
-    h.relations f.slot s.1 f.stands
+named_textual : (db : Database) (name : List ℕ) (s : ℕ × Relation) → IsTextualDatabase db → relation_named db name ≡ Some s → AreTextualRows s.1.rows
+named_textual db name s h e = let f = found_from name 0 db.relations s e in h.relations f.slot s.1 f.stands
 
 answers_textual : (db : Database) (query : Query) → IsTextualDatabase db → Yields AnswersTexts (answer_of db query)
 answers_textual db (Select list name nodes) h =
-    yields_by AnswersTexts (named db name) (λ s. select_from list (condition_of nodes) s.1) (λ s e. selects_textual list (condition_of nodes) s.1 (named_textual db name s h e))
+    yields_found _ (relation_named db name) no.NoRelation _ (λ s e. selects_textual list (condition_of nodes) s.1 (named_textual db name s h e))
 answers_textual db (Join left right on list) h =
-    yields_by AnswersTexts (named db left) (λ l. ◌>>=◌ (named db right) (λ r. join_of on list l.1 r.1))
-    (λ l e. yields_by AnswersTexts (named db right) (λ r. join_of on list l.1 r.1) (λ r f. joins_textual on list l.1 r.1 (named_textual db left l h e) (named_textual db right r h f)))
+    yields_found _ (relation_named db left) no.NoRelation _
+    (λ l e. yields_found _ (relation_named db right) no.NoRelation _ (λ r f. joins_textual on list l.1 r.1 (named_textual db left l h e) (named_textual db right r h f)))
 
 -- ---- what a command leaves and replies
 
 abbrev pub StaysTextual : Database × Reply → Type 0
 StaysTextual d = IsTextualDatabase d.0 × IsTextualReply d.1
 
-with_rows : (db : Database) (slot : ℕ) (r : Relation) → IsTextualDatabase db → AreTextualRows r.rows → IsTextualDatabase (with_relation db slot (Some r))
-with_rows db slot r h rows = record {
-  relations = λ k q e. stands_either db.relations slot k (Some r) q e (λ i is. subst (λ r. AreTextualRows r.rows) (some_alike is) rows) (λ n f. h.relations k q f);
+in_some : {A : Type 0} (P : A → Type 0) (o : Option A) (x : A) → InOption P o → o ≡ Some x → P x
+in_some P None x h e = absurd (never_some e)
+in_some P (Some y) x h e = subst P (some_alike e) h
+
+with_rows : (db : Database) (version slot : ℕ) (r : Option Relation) → IsTextualDatabase db → InOption (λ q. AreTextualRows q.rows) r → IsTextualDatabase (with_relation (in_version version db) slot r)
+with_rows db version slot r h rows = record {
+  relations = λ k q e. stands_either db.relations slot k r q e (λ i is. in_some (λ q. AreTextualRows q.rows) r q rows is) (λ n f. h.relations k q f);
   cursors = h.cursors;
 }
 
-without_rows : (db : Database) (slot : ℕ) → IsTextualDatabase db → IsTextualDatabase (with_relation db slot None)
-without_rows db slot h = record {
-  relations = λ k q e. stands_either db.relations slot k None q e (λ i is. absurd (never_some is)) (λ n f. h.relations k q f);
-  cursors = h.cursors;
-}
-
-with_answer : (db : Database) (place : ℕ) (c : Cursor) → IsTextualDatabase db → AnswersTexts c.rows → IsTextualDatabase (with_cursor db place (Some c))
-with_answer db place c h rows = record {
+with_answer : (db : Database) (place : ℕ) (cursor : Option Cursor) → IsTextualDatabase db → InOption (λ c. AnswersTexts c.rows) cursor → IsTextualDatabase (with_cursor db place cursor)
+with_answer db place cursor h rows = record {
   relations = h.relations;
-  cursors = λ k d e. stands_either db.cursors place k (Some c) d e (λ i is. subst (λ c. AnswersTexts c.rows) (some_alike is) rows) (λ n f. h.cursors k d f);
+  cursors = λ k c e. stands_either db.cursors place k cursor c e (λ i is. in_some (λ c. AnswersTexts c.rows) cursor c rows is) (λ n f. h.cursors k c f);
 }
-
-without_answer : (db : Database) (place : ℕ) → IsTextualDatabase db → IsTextualDatabase (with_cursor db place None)
-without_answer db place h = record {
-  relations = h.relations;
-  cursors = λ k d e. stands_either db.cursors place k None d e (λ i is. absurd (never_some is)) (λ n f. h.cursors k d f);
-}
-
--- indexes and versions are no texts
-fine_with : (db other : Database) → other.relations ≡ db.relations → other.cursors ≡ db.cursors → IsTextualDatabase db → Yields StaysTextual (Ok (other, Fine))
-fine_with db other same still h = yields_ok StaysTextual (other, Fine) (
-  record {
-    relations = subst (λ rs. (k : ℕ) (r : Relation) → StandsIn rs k r → AreTextualRows r.rows) (sym same) h.relations;
-    cursors = subst (λ cs. (k : ℕ) (c : Cursor) → StandsIn cs k c → AnswersTexts c.rows) (sym still) h.cursors;
-  },
-  tt,
-)
-
-stays_upgraded : (o : Outcome) → Yields StaysTextual o → Yields StaysTextual (upgraded o)
-stays_upgraded o h =
-    yields_by StaysTextual o (λ done. Ok (record (done.0) { version = 2 }, done.1))
-    (λ d e. let s = h.yields d e in yields_ok StaysTextual (record (d.0) { version = 2 }, d.1) (record { relations = s.0.relations; cursors = s.0.cursors }, s.1))
-
-stays_create_relation : (db : Database) (name : List ℕ) → IsTextualDatabase db → Yields StaysTextual (create_relation db name)
-stays_create_relation db name h =
-    yields_behind StaysTextual (refuse_if (is_some (relation_named db name)) no.Exists) (◌>>=◌ (found_or (free_from 0 db.relations) (no.Full pool.Relations 8)) made)
-    (yields_by StaysTextual (found_or (free_from 0 db.relations) (no.Full pool.Relations 8)) made (λ slot e. yields_ok StaysTextual (with_relation db slot (Some new), Fine) (with_rows db slot new h tt, tt)))
-  where
-    new : Relation
-    new = record { schema = record { name = name; attributes = [] }; rows = [] }
-
-    made : ℕ → Outcome
-    made slot = Ok (with_relation db slot (Some new), Fine)
-
-stays_create_index : (db : Database) (name attribute : List ℕ) (kind : IndexKind) → IsTextualDatabase db → Yields StaysTextual (create_index db name attribute kind)
-stays_create_index db name attribute kind h =
-    let fine : (slot place : ℕ) (s : ℕ × Relation) → Yields StaysTextual (Ok (with_index db slot (Some (record { kind = kind; relation = s.0; attribute = place })), Fine)) =
-    λ slot place s. fine_with db (with_index db slot (Some (record { kind = kind; relation = s.0; attribute = place }))) refl refl h in
-    search (yields_behind, yields_by, fine) depth 20
-
-stays_remove_index : (db : Database) (name attribute : List ℕ) → IsTextualDatabase db → Yields StaysTextual (remove_index db name attribute)
-stays_remove_index db name attribute h =
-    let fine : (slot : ℕ) → Yields StaysTextual (Ok (with_index db slot None, Fine)) = λ slot. fine_with db (with_index db slot None) refl refl h in
-    search (yields_behind, yields_by, fine) depth 20
-
-stays_remove_relation : (db : Database) (name : List ℕ) → IsTextualDatabase db → Yields StaysTextual (remove_relation db name)
-stays_remove_relation db name h =
-    yields_by StaysTextual (named db name) out
-    (λ s e. yields_behind StaysTextual (refuse_read db name) (behind s) (yields_behind StaysTextual (refuse_indexed db s.0) (Ok (with_relation db s.0 None, Fine)) (yields_ok StaysTextual (with_relation db s.0 None, Fine) (without_rows db s.0 h, tt))))
-  where
-    behind : ℕ × Relation → Outcome
-    behind s = ◌>>◌ (refuse_indexed db s.0) (Ok (with_relation db s.0 None, Fine))
-
-    out : ℕ × Relation → Outcome
-    out s = ◌>>◌ (refuse_read db name) (behind s)
-
--- ---- changes of one relation
-
-abbrev StaysRows : Relation × Reply → Type 0
-StaysRows d = AreTextualRows d.0.rows × IsTextualReply d.1
-
-more_textual : (rows : List Row) (row : Row) → AreTextualRows rows → AreTextual row.tuple → AreTextualRows (rows ++ row ∷ [])
-more_textual rows row h t = all_append (λ row. AreTextual row.tuple) rows (row ∷ []) h (t, tt)
 
 removed_textual : (attributes : List Attribute) (condition : Option Cond) (row : Row) → AreTextual row.tuple → AreTextual (removed_row attributes condition row).tuple
 removed_textual attributes condition row h = by_test (row.live && selects attributes condition row.tuple)
@@ -291,104 +219,40 @@ removed_textual attributes condition row h = by_test (row.live && selects attrib
     by_test true = h
     by_test false = h
 
-attribute_kept : (name : List ℕ) (wanted : DomainAsked) (slot : ℕ) (db : Database) (r : Relation) → AreTextualRows r.rows → Yields StaysRows (add_attribute name wanted slot db r)
-attribute_kept name wanted slot db r h =
-    let fine : (d : Domain) → Yields StaysRows (Ok (with_attribute r (record { name = name; domain = d }), Fine)) =
-    λ d. yields_ok StaysRows (with_attribute r (record { name = name; domain = d }), Fine) (h, tt) in
-    search (yields_behind, yields_by, fine) depth 20
+-- ---- the changes
 
-insert_kept : (values : List Value) (slot : ℕ) (db : Database) (r : Relation) → AreTextualRows r.rows → Yields StaysRows (insert_into values slot db r)
-insert_kept values slot db r h =
-    let new : Relation = record r { rows = r.rows ++ record { tuple = values; live = true } ∷ [] } in
-    yields_none StaysRows (unsuited r.schema.attributes values) no.Value _
-    (λ e. let fine = yields_ok StaysRows (new, Fine) (more_textual r.rows (record { tuple = values; live = true }) h (suited_textual r.schema.attributes values (suited r.schema.attributes values e)), tt) in
-    yields_behind StaysRows (refuse_if (nat_le (slots_limit db.version) (length r.rows)) (no.Full pool.Slots (slots_limit db.version))) _
-    (yields_behind StaysRows (refuse_found (fallen (indexes_of db slot) (slice_get r.rows (length r.rows - 1)) values) no.NotOrdered) _
-    (yields_behind StaysRows (refuse_if (list_any is_hash_table (indexes_of db slot) && nat_le 2048 (length r.rows)) (no.Full pool.HashEntries 2048)) _ fine)))
+replies_answer : (db : Database) (c : Command) (reply : Reply) → Answered db c reply → IsTextualDatabase db → IsTextualReply reply
+replies_answer db _ _ (Tells query rows e) h = (answers_textual db query h).yields rows e
+replies_answer db _ _ _ h = tt
 
-remove_kept : (condition : Option Cond) (slot : ℕ) (db : Database) (r : Relation) → AreTextualRows r.rows → Yields StaysRows (remove_from condition slot db r)
-remove_kept condition slot db r h =
-    let new : Relation = record r { rows = map (removed_row r.schema.attributes condition) r.rows } in
-    let reply : Reply = Removed (length (selected r.schema.attributes condition r.rows)) in
-    let done = yields_ok StaysRows (new, reply)
-    (all-map (λ row. AreTextual row.tuple) (λ row. AreTextual row.tuple) (removed_row r.schema.attributes condition) (removed_textual r.schema.attributes condition) r.rows h, tt) in
-    yields_behind StaysRows (refuse_found (missing_name r.schema.attributes [] condition) no.NoAttribute) _
-    (yields_behind StaysRows (refuse_found (ill_typed r.schema.attributes [] condition) no.IllTyped) _ (yields_behind StaysRows (refuse_read db r.schema.name) _ done))
+replies_relation : (db : Database) (c : Command) (version slot : ℕ) (r : Option Relation) (reply : Reply) → RelationMade db c version slot r reply → IsTextualReply reply
+replies_relation db _ _ _ _ _ (Creates name slot fresh free) = tt
+replies_relation db _ _ _ _ _ _ = tt
 
-pack_kept : (slot : ℕ) (db : Database) (r : Relation) → AreTextualRows r.rows → Yields StaysRows (pack slot db r)
-pack_kept slot db r h =
-    let done = yields_ok StaysRows (record r { rows = filter (λ row. row.live) r.rows }, Fine) (all-filter (λ row. AreTextual row.tuple) (λ row. row.live) r.rows h, tt) in
-    yields_behind StaysRows (refuse_read db r.schema.name) _ (yields_behind StaysRows (refuse_indexed db slot) _ done)
+rows_relation : (db : Database) (c : Command) (version slot : ℕ) (r : Option Relation) (reply : Reply) → RelationMade db c version slot r reply → IsTextualDatabase db
+    → InOption (λ q. AreTextualRows q.rows) r
+rows_relation db _ _ _ _ _ (Creates name slot fresh free) h = tt
+rows_relation db _ _ _ _ _ (Grows name wanted relation s d e fresh fine none few short) h = named_textual db relation s h e
+rows_relation db _ _ _ _ _ (Inserts values name s e suit room order entries) h =
+    all_append (λ row. AreTextual row.tuple) s.1.rows (record { tuple = values; live = true } ∷ []) (named_textual db name s h e)
+    (suited_textual s.1.schema.attributes values (suited s.1.schema.attributes values suit), tt)
+rows_relation db _ _ _ _ _ (Marks name nodes s e) h =
+    all-map (λ row. AreTextual row.tuple) (λ row. AreTextual row.tuple) (removed_row s.1.schema.attributes (condition_of nodes)) (removed_textual s.1.schema.attributes (condition_of nodes)) s.1.rows
+    (named_textual db name s h e)
+rows_relation db _ _ _ _ _ (Packs name s e none) h = all-filter (λ row. AreTextual row.tuple) (λ row. row.live) s.1.rows (named_textual db name s h e)
+rows_relation db _ _ _ _ _ (Removes name s e unread none) h = tt
 
-stays_changed : (change : ℕ → Database → Relation → Result (Relation × Reply) Refusal) (db : Database) (name : List ℕ) → IsTextualDatabase db
-    → ((slot : ℕ) (r : Relation) → AreTextualRows r.rows → Yields StaysRows (change slot db r)) → Yields StaysTextual (changed_by change db name)
-stays_changed change db name h g =
-    yields_by StaysTextual (named db name) (λ s. ◌>>=◌ (change s.0 db s.1) (λ r. Ok (with_relation db s.0 (Some r.0), r.1)))
-    (λ s e. yields_by StaysTextual (change s.0 db s.1) (λ r. Ok (with_relation db s.0 (Some r.0), r.1))
-    (λ r f. let k = (g s.0 s.1 (named_textual db name s h e)).yields r f in yields_ok StaysTextual (with_relation db s.0 (Some r.0), r.1) (with_rows db s.0 r.0 h k.0, k.1)))
+rows_cursor : (db : Database) (c : Command) (place : ℕ) (cursor : Option Cursor) (reply : Reply) → CursorMade db c place cursor reply → IsTextualDatabase db
+    → InOption (λ c. AnswersTexts c.rows) cursor × IsTextualReply reply
+rows_cursor db _ _ _ _ (Opens number query place rows at free e) h = ((answers_textual db query h).yields rows e, tt)
+rows_cursor db _ _ _ _ (Fetches number c at) h = let rows = h.cursors c.0 c.1 at.cursor in (all-drop AreTextual 1 c.1.rows rows, all-take AreTextual 1 c.1.rows rows)
+rows_cursor db _ _ _ _ (Closes number c at) h = (tt, tt)
 
--- ---- queries, aggregates and cursors
-
-stays_ask : (db : Database) (query : Query) → IsTextualDatabase db → Yields StaysTextual (ask db query)
-stays_ask db query h = yields_by StaysTextual (answer_of db query) (λ rows. Ok (db, Rows rows)) (λ rows e. yields_ok StaysTextual (db, Rows rows) (h, (answers_textual db query h).yields rows e))
-
-aggregate_numbers : (list : List (Agg × List ℕ)) (condition : Option Cond) (r : Relation) → Yields IsTextualReply (aggregate_of list condition r)
-aggregate_numbers list condition r =
-    let numbers : (ns : List (Option ℤ)) → Yields IsTextualReply (Ok (Numbers ns)) = λ ns. yields_ok IsTextualReply (Numbers ns) tt in
-    search (yields_behind, numbers) depth 20
-
-stays_asked : (answer : Relation → Result Reply Refusal) (db : Database) (name : List ℕ) → IsTextualDatabase db → ((r : Relation) → Yields IsTextualReply (answer r)) → Yields StaysTextual (asked_by answer db name)
-stays_asked answer db name h g =
-    yields_by StaysTextual (named db name) (λ s. ◌>>=◌ (answer s.1) (λ reply. Ok (db, reply)))
-    (λ s e. yields_by StaysTextual (answer s.1) (λ reply. Ok (db, reply)) (λ reply f. yields_ok StaysTextual (db, reply) (h, (g s.1).yields reply f)))
-
-stays_open : (db : Database) (number : ℤ) (query : Query) → IsTextualDatabase db → Yields StaysTextual (open_cursor db number query)
-stays_open db number query h =
-    yields_by StaysTextual (found_or (cursor_place number) no.NoCursor) at_place
-    (λ place e. yields_behind StaysTextual (refuse_if (is_some (cursor_at db place)) no.CursorOpen) (◌>>=◌ (answer_of db query) (opened place))
-    (yields_by StaysTextual (answer_of db query) (opened place)
-    (λ rows g. yields_ok StaysTextual (with_cursor db place (Some (new rows)), Fine) (with_answer db place (new rows) h ((answers_textual db query h).yields rows g), tt))))
-  where
-    new : List (List Value) → Cursor
-    new rows = record { reads = relations_read query; rows = rows }
-
-    opened : ℕ → List (List Value) → Outcome
-    opened place rows = Ok (with_cursor db place (Some (new rows)), Fine)
-
-    at_place : ℕ → Outcome
-    at_place place = ◌>>◌ (refuse_if (is_some (cursor_at db place)) no.CursorOpen) (◌>>=◌ (answer_of db query) (opened place))
-
-stays_fetch : (db : Database) (number : ℤ) → IsTextualDatabase db → Yields StaysTextual (fetch_cursor db number)
-stays_fetch db number h =
-    yields_by StaysTextual (open_cursor_of db number) (λ c. Ok (with_cursor db c.0 (Some (record c.1 { rows = drop 1 c.1.rows })), Rows (take 1 c.1.rows)))
-    (λ c e. let rows = h.cursors c.0 c.1 ((open_stands db number).yields c e) in
-    yields_ok StaysTextual (with_cursor db c.0 (Some (record c.1 { rows = drop 1 c.1.rows })), Rows (take 1 c.1.rows))
-    (with_answer db c.0 (record c.1 { rows = drop 1 c.1.rows }) h (all-drop AreTextual 1 c.1.rows rows), all-take AreTextual 1 c.1.rows rows))
-
-stays_close : (db : Database) (number : ℤ) → IsTextualDatabase db → Yields StaysTextual (close_cursor db number)
-stays_close db number h =
-    yields_by StaysTextual (open_cursor_of db number) (λ c. Ok (with_cursor db c.0 None, Fine)) (λ c e. yields_ok StaysTextual (with_cursor db c.0 None, Fine) (without_answer db c.0 h, tt))
-
--- ---- all commands
-
-stays_outcome : (db : Database) (c : Command) → IsTextualDatabase db → Yields StaysTextual (outcome db c)
-stays_outcome db (CreateRelation name) h = stays_upgraded (create_relation db name) (stays_create_relation db name h)
-stays_outcome db (CreateAttribute name domain relation) h = stays_upgraded (changed_by (add_attribute name domain) db relation) (stays_changed (add_attribute name domain) db relation h (λ slot r rows. attribute_kept name domain slot db r rows))
-stays_outcome db (CreateIndex relation attribute kind) h = stays_upgraded (create_index db relation attribute kind) (stays_create_index db relation attribute kind h)
-stays_outcome db (Insert values relation) h = stays_changed (insert_into values) db relation h (λ slot r rows. insert_kept values slot db r rows)
-stays_outcome db (Ask query) h = stays_ask db query h
-stays_outcome db (Aggregate list relation nodes) h = stays_asked (aggregate_of list (condition_of nodes)) db relation h (aggregate_numbers list (condition_of nodes))
-stays_outcome db (RemoveFrom relation nodes) h = stays_changed (remove_from (condition_of nodes)) db relation h (λ slot r rows. remove_kept (condition_of nodes) slot db r rows)
-stays_outcome db (RemoveRelation relation) h = stays_upgraded (remove_relation db relation) (stays_remove_relation db relation h)
-stays_outcome db (RemoveIndex relation attribute) h = stays_upgraded (remove_index db relation attribute) (stays_remove_index db relation attribute h)
-stays_outcome db (Pack relation) h = stays_changed pack db relation h (λ slot r rows. pack_kept slot db r rows)
-stays_outcome db (OpenCursor number query) h = stays_open db number query h
-stays_outcome db (FetchCursor number) h = stays_fetch db number h
-stays_outcome db (CloseCursor number) h = stays_close db number h
-
-stays_replied : (db : Database) (o : Outcome) → IsTextualDatabase db → Yields StaysTextual o → StaysTextual (replied db o)
-stays_replied db (Ok done) h k = k.yields done refl
-stays_replied db (Err refusal) h k = (h, tt)
+change_textual : (db : Database) (c : Command) (d : Database × Reply) → Change db c d → IsTextualDatabase db → StaysTextual d
+change_textual db _ _ (Nothing c reply a) h = (h, replies_answer db c reply a h)
+change_textual db _ _ (OfRelation c version slot r reply m) h = (with_rows db version slot r h (rows_relation db c version slot r reply m h), replies_relation db c version slot r reply m)
+change_textual db _ _ (OfIndex c slot index m) h = (record { relations = h.relations; cursors = h.cursors }, tt)
+change_textual db _ _ (OfCursor c place cursor reply m) h = let rows = rows_cursor db c place cursor reply m h in (with_answer db place cursor h rows.0, rows.1)
 
 pub stays_textual : (db : Database) (c : Command) → IsTextualDatabase db → StaysTextual (step db c)
-stays_textual db c h = stays_replied db (outcome db c) h (stays_outcome db c h)
+stays_textual db c h = change_textual db c (step db c) (change_of db c) h

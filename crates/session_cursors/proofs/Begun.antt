@@ -26,7 +26,8 @@ use Rattle.session_model.specs.Aheads.{ahead_of_join, join_stops, ahead_of_selec
 use Rattle.session_model.specs.Indexed.{infos_of}
 use Rattle.session_model.specs.View.{relation_of_rows, view}
 use Rattle.session_model.proofs.Running.{indexes_seen}
-use Rattle.session_cursors.proofs.JoinCounts.{first_stops, many_pairs, stops_from}
+use Rattle.db_model.proofs.Moves.{many_pairs}
+use Rattle.session_cursors.proofs.JoinCounts.{first_stops, stops_from}
 use Rattle.session_plans.proofs.IndexKinds.{kinds_same}
 
 -- ---- the indexes of a relation, as the machine sees them

@@ -1,41 +1,14 @@
 -- How many pairs are to come: those of each left slot, one after the other.
-use Rattle.std.proofs.Common.{◌≡◌, ℕ, zero, suc, ◌+◌, ◌-◌, ◌<◌, ◌≤◌, Bool, true, false, cond, List, [], ◌∷◌, ◌++◌, length, map, drop, filter, flat_map, get_or, replicate, slice_get, refl, ap, sym, ◌∙◌, subst, arith, length-append}
+use Rattle.std.proofs.Common.{◌≡◌, ℕ, zero, suc, ◌+◌, ◌-◌, ◌<◌, ◌≤◌, Bool, true, false, cond, List, [], ◌∷◌, ◌++◌, length, map, drop, filter, flat_map, get_or, replicate, slice_get, refl, ap, sym, ◌∙◌, subst, arith}
 use Rattle.std.specs.List.{range_with_len}
 use Rattle.std.proofs.Math.Logic.{⊎_elim}
 use Rattle.std.proofs.lemmas.Bool.{cases_eq}
 use Rattle.std.proofs.lemmas.List.Concat.{flat_map-cons}
-use Rattle.std.proofs.lemmas.List.Elements.{filter-append}
 use Rattle.db_model.specs.declared.values.Value.{Value}
 use Rattle.db_model.specs.Ahead.{partners}
-use Rattle.db_model.specs.Answers.{live_tuples, pairs, same_value}
+use Rattle.db_model.specs.Answers.{live_tuples, same_value}
 use Rattle.db_model.specs.Cost.{sum}
 use Rattle.db_model.specs.Row.{Row, no_row}
-use Rattle.cursor.specs.Pairs.{matching}
-use Rattle.db_model.proofs.Moves.{many_of_one}
-
--- ---- the pairs of some left rows
-
-abbrev meets : ℕ × ℕ → List Value × List Value → Bool
-meets on pair = same_value (slice_get pair.0 on.0) (slice_get pair.1 on.1)
-
-pub many_pairs : (on : ℕ × ℕ) (rights lefts : List Row) → sum (map (partners on rights) lefts) ≡ length (matching on.0 on.1 lefts rights)
-many_pairs on rights [] = refl
-many_pairs on rights (l ∷ lefts) = by_live l.live (many_pairs on rights lefts)
-  where
-    found : List (List Value)
-    found = filter (λ r. meets on (l.tuple, r)) (live_tuples rights)
-
-    by_live : (b : Bool) → sum (map (partners on rights) lefts) ≡ length (filter (meets on) (pairs (live_tuples lefts) (live_tuples rights)))
-        → cond b (length found) 0 + sum (map (partners on rights) lefts) ≡ length (filter (meets on) (pairs (cond b (l.tuple ∷ live_tuples lefts) (live_tuples lefts)) (live_tuples rights)))
-    by_live false e = let is : 0 + sum (map (partners on rights) lefts) ≡ sum (map (partners on rights) lefts) = omega arith in is ∙ e
-    by_live true e =
-        let first = map (λ r. (l.tuple, r)) (live_tuples rights) in
-        let others = pairs (live_tuples lefts) (live_tuples rights) in
-        ap (λ n. length found + n) e
-        ∙ ap (λ n. n + length (filter (meets on) others)) (sym (many_of_one (meets on) l.tuple (live_tuples rights)))
-        ∙ sym (length-append (filter (meets on) first) (filter (meets on) others))
-        ∙ ap length (sym (filter-append (meets on) first others))
-        ∙ ap (λ ps. length (filter (meets on) ps)) (sym (flat_map-cons (λ x. map (λ y. (x, y)) (live_tuples rights)) l.tuple (live_tuples lefts)))
 
 -- ---- the partners behind one of them are fewer
 

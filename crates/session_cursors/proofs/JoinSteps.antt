@@ -15,7 +15,8 @@ use Rattle.cursor.specs.declared.join.JoinCursor.{JoinCursor}
 use Rattle.cursor.specs.Pairs.{lefts_of, matching, pairs_left, rights_of}
 use Rattle.cursor.proofs.Lists.{at_front}
 use Rattle.session_model.specs.Aheads.{join_stops}
-use Rattle.session_cursors.proofs.JoinCounts.{head_passes, many_from, many_pairs, no_stops, one_more, partners_behind, rows_behind, stop_behind, stop_beyond, stops_from}
+use Rattle.db_model.proofs.Moves.{many_pairs}
+use Rattle.session_cursors.proofs.JoinCounts.{head_passes, many_from, no_stops, one_more, partners_behind, rows_behind, stop_behind, stop_beyond, stops_from}
 
 -- ---- lists
 

@@ -43,7 +43,8 @@ use Rattle.session_indexes.specs.declared.sites.Site.{Site}
 use Rattle.session_indexes.specs.Made.{AsksIndex, IsMade, IsReadyFor, IsTried, IsUnrefused, KeepsTaken, index_for, indexed_for, keys_at}
 use Rattle.session_indexes.specs.Sites.{IsSite}
 use Rattle.session_indexes.proofs.Refused.{free_seen, placed}
-use Rattle.session_model.proofs.Cells.{free_slot_none, found_allowed}
+use Rattle.db_model.proofs.Standing.{nothing_free}
+use Rattle.session_model.proofs.Cells.{found_allowed}
 
 -- ---- tables that no index has
 
@@ -83,7 +84,7 @@ module _ (s0 : State) (before : Tables) (held : Held) (opens : List (Option Open
   cell_there = cell ∙ ap (λ (j : ℕ). Some (j, t)) (sym on)
 
   empty : get_or held.indexes site.slot None ≡ None
-  empty = free_slot_none held.indexes site.slot is.free
+  empty = nothing_free held.indexes site.slot is.free
 
   pub ready_for : IsReadyFor s0 cat t site
   ready_for =

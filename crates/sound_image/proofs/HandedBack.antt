@@ -27,7 +27,8 @@ use Rattle.db_model.specs.Database.{Database}
 use Rattle.session_model.specs.Wanted.{WantsOver, room_in}
 use Rattle.space_model.specs.FileNames.{asks_in, size_in}
 use Rattle.space_model.specs.Wants.{Wants}
-use Rattle.sound_image.proofs.WantedThere.{room_stays, size_stays, wanted_still}
+use Rattle.sound_image.proofs.WantedThere.{room_stays, size_stays}
+use Rattle.space_model.proofs.StillWanted.{wanted_still}
 use Rattle.sound_image.specs.Images.{IsSound, base}
 use Rattle.sound_image.specs.Lacking.{WantsOf}
 

@@ -8,7 +8,7 @@ use Rattle.std.proofs.lemmas.List.{length-map}
 use Rattle.std.proofs.lemmas.Bool.{eq-eqb, le-leb, leb-true}
 use Rattle.afl_base.specs.Fit.{fit, first_fit}
 use Rattle.db_model.specs.declared.commands.Command.{Command}
-use Rattle.db_model.specs.declared.commands.Command.TheVariants.{CreateRelation, CreateAttribute, CreateIndex, Insert, Ask, Aggregate, RemoveFrom, RemoveRelation, RemoveIndex, Pack, OpenCursor, FetchCursor, CloseCursor}
+use Rattle.db_model.specs.declared.commands.Command.TheVariants.{CreateRelation, CreateAttribute, CreateIndex, Insert, RemoveFrom, RemoveRelation, RemoveIndex, Pack}
 use Rattle.db_model.specs.declared.schemas.IndexKind.{IndexKind}
 use Rattle.db_model.specs.declared.schemas.IndexKind.TheVariants.{Inline, MaxHeap, MemHash}
 use Rattle.db_model.specs.Catalog.{Index}
@@ -212,8 +212,4 @@ module _ (size_of : List ℕ → Option ℕ) (asks : List ℕ → ℕ → ℕ �
   wants_at_most db (RemoveRelation relation) need store few w = with_some (relation_named db relation) w (λ s e h. change_few few (176 * s.0) 176 need h)
   wants_at_most db (RemoveIndex relation attribute) need store few w =
       with_some (relation_named db relation) w (λ s e h. with_some (place_of attribute s.1.schema.attributes) h (λ place f i. with_some (index_slot db s.0 place) i (λ slot g j. change_few few (1408 + 8 * slot) 8 need j)))
-  wants_at_most db (Ask query) need store few w = absurd w
-  wants_at_most db (Aggregate list relation nodes) need store few w = absurd w
-  wants_at_most db (OpenCursor number query) need store few w = absurd w
-  wants_at_most db (FetchCursor number) need store few w = absurd w
-  wants_at_most db (CloseCursor number) need store few w = absurd w
+  wants_at_most db _ need store few w = absurd w

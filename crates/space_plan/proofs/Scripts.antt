@@ -3,7 +3,7 @@ use Rattle.std.proofs.Common.{◌≡◌, ℕ, ◌≤◌, ◌⊎◌, inl, inr, Li
 use Rattle.std.specs.Prelude.{Result, Ok, Err}
 use Rattle.std.specs.List.{AllByRecursion}
 use Rattle.db_model.specs.declared.commands.Command.{Command}
-use Rattle.db_model.specs.declared.commands.Command.TheVariants.{CreateRelation, CreateAttribute, CreateIndex, Insert, Ask, Aggregate, RemoveFrom, RemoveRelation, RemoveIndex, Pack, OpenCursor, FetchCursor, CloseCursor}
+use Rattle.db_model.specs.declared.commands.Command.TheVariants.{Insert, Ask, Aggregate, OpenCursor, FetchCursor, CloseCursor}
 use Rattle.db_model.specs.declared.refusals.Refusal.{Refusal}
 use Rattle.db_model.specs.Database.{Database}
 use Rattle.db_model.specs.Script.{Entry, Long, Unfinished, Bytes, carried_out, last}
@@ -50,13 +50,7 @@ has_enough rows db front rest command few plan = by_command command (all_behind 
     by_command (OpenCursor number query) r = inl refl
     by_command (FetchCursor number) r = inl refl
     by_command (CloseCursor number) r = inl refl
-    by_command (CreateRelation name) r = absurd r
-    by_command (CreateAttribute name domain relation) r = absurd r
-    by_command (CreateIndex relation attribute kind) r = absurd r
-    by_command (RemoveFrom relation nodes) r = absurd r
-    by_command (RemoveRelation relation) r = absurd r
-    by_command (RemoveIndex relation attribute) r = absurd r
-    by_command (Pack relation) r = absurd r
+    by_command _ r = absurd r
 
 -- ---- entries
 

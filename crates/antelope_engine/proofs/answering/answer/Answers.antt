@@ -1,6 +1,6 @@
 use Rattle.std.proofs.Common.{◌≡◌, ℤ, refl}
 use Rattle.db_model.specs.declared.commands.Command.{Command}
-use Rattle.db_model.specs.declared.commands.Command.TheVariants.{Ask, Aggregate, CloseCursor, CreateAttribute, CreateIndex, CreateRelation, FetchCursor, Insert, OpenCursor, Pack, RemoveFrom, RemoveIndex, RemoveRelation}
+use Rattle.db_model.specs.declared.commands.Command.TheVariants.{Ask, Aggregate, CloseCursor, FetchCursor, OpenCursor}
 use Rattle.db_model.specs.declared.commands.Query.{Query}
 use Rattle.db_model.specs.Step.{Reads}
 use Rattle.antelope_engine.specs.Writes.{WritesRows}
@@ -14,14 +14,7 @@ reads_not (Aggregate list relation nodes) w o s r = w tt
 reads_not (FetchCursor number) w o s r = w tt
 reads_not (OpenCursor number query) w o s r = o number query refl
 reads_not (CloseCursor number) w o s r = s number refl
-reads_not (CreateRelation name) w o s r = r
-reads_not (CreateAttribute name domain relation) w o s r = r
-reads_not (CreateIndex relation attribute kind) w o s r = r
-reads_not (Insert values relation) w o s r = r
-reads_not (RemoveFrom relation nodes) w o s r = r
-reads_not (RemoveRelation relation) w o s r = r
-reads_not (RemoveIndex relation attribute) w o s r = r
-reads_not (Pack relation) w o s r = r
+reads_not _ w o s r = r
 
 pub change-requires : goal.change-requires
 change-requires g c = record {

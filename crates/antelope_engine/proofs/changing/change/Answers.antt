@@ -1,6 +1,6 @@
 use Rattle.std.proofs.Common.{◌≡◌, ℕ, List, refl}
 use Rattle.db_model.specs.declared.commands.Command.{Command}
-use Rattle.db_model.specs.declared.commands.Command.TheVariants.{CreateRelation, CreateAttribute, CreateIndex, Insert, Ask, Aggregate, RemoveFrom, RemoveRelation, RemoveIndex, Pack, OpenCursor, FetchCursor, CloseCursor}
+use Rattle.db_model.specs.declared.commands.Command.TheVariants.{CreateRelation, CreateAttribute, CreateIndex, Insert, RemoveFrom, RemoveRelation, RemoveIndex, Pack}
 use Rattle.db_model.specs.declared.schemas.DomainAsked.{DomainAsked}
 use Rattle.db_model.specs.declared.schemas.IndexKind.{IndexKind}
 use Rattle.db_model.specs.declared.commands.Node.{Node}
@@ -26,11 +26,7 @@ none_left (RemoveFrom n x) r a b d e f g h i = f n x refl
 none_left (RemoveRelation n) r a b d e f g h i = g n refl
 none_left (RemoveIndex n m) r a b d e f g h i = h n m refl
 none_left (Pack n) r a b d e f g h i = i n refl
-none_left (Ask q) r a b d e f g h i = r tt
-none_left (Aggregate l n x) r a b d e f g h i = r tt
-none_left (OpenCursor n q) r a b d e f g h i = r tt
-none_left (FetchCursor n) r a b d e f g h i = r tt
-none_left (CloseCursor n) r a b d e f g h i = r tt
+none_left _ r a b d e f g h i = r tt
 
 pub returns-in-CreateRelation : goal.returns-in-CreateRelation
 returns-in-CreateRelation g c = record { carried = rw c.in-CreateRelation.is c.create_relation.ensures.carried }

@@ -1,7 +1,7 @@
 use Rattle.std.proofs.Common.{◌≡◌, ℕ, ℤ, List, refl}
 use Rattle.db_model.specs.declared.commands.Agg.{Agg}
 use Rattle.db_model.specs.declared.commands.Command.{Command}
-use Rattle.db_model.specs.declared.commands.Command.TheVariants.{Ask, Aggregate, CloseCursor, CreateAttribute, CreateIndex, CreateRelation, FetchCursor, Insert, OpenCursor, Pack, RemoveFrom, RemoveIndex, RemoveRelation}
+use Rattle.db_model.specs.declared.commands.Command.TheVariants.{Ask, Aggregate, FetchCursor}
 use Rattle.db_model.specs.declared.commands.Node.{Node}
 use Rattle.db_model.specs.declared.commands.Query.{Query}
 use Rattle.antelope_engine.specs.Writes.{WritesRows}
@@ -14,16 +14,7 @@ none_left : (c : Command) → WritesRows c → ((query : Query) → c ≡ Ask qu
 none_left (Ask query) w a b d = a query refl
 none_left (Aggregate list relation nodes) w a b d = b list relation nodes refl
 none_left (FetchCursor number) w a b d = d number refl
-none_left (CreateRelation name) w a b d = w
-none_left (CreateAttribute name domain relation) w a b d = w
-none_left (CreateIndex relation attribute kind) w a b d = w
-none_left (Insert values relation) w a b d = w
-none_left (RemoveFrom relation nodes) w a b d = w
-none_left (RemoveRelation relation) w a b d = w
-none_left (RemoveIndex relation attribute) w a b d = w
-none_left (Pack relation) w a b d = w
-none_left (OpenCursor number query) w a b d = w
-none_left (CloseCursor number) w a b d = w
+none_left _ w a b d = w
 
 pub returns-in-Ask : goal.returns-in-Ask
 returns-in-Ask g c = record { written = rw c.in-Ask.is c.ask.ensures.written }

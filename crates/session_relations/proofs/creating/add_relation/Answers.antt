@@ -13,7 +13,7 @@ use Rattle.session_relations.proofs.Keeping.{both_spaces, changes_done, changes_
 use Rattle.session_relations.proofs.Created.{new_tuples, shows_created, wants_first, wants_slot}
 use Rattle.session_relations.proofs.Shown.{shows_kept, shows_room, shows_then}
 use Rattle.session_relations.proofs.creating.add_relation.Goals as goal
-use Rattle.session_model.proofs.Cells.{free_slot_none}
+use Rattle.db_model.proofs.Standing.{nothing_free}
 
 pub make_rows-requires-clause-catalog : goal.make_rows-requires-clause-catalog
 make_rows-requires-clause-catalog g c =
@@ -27,7 +27,7 @@ make_rows-requires-clause-unnamed g c =
     let made = c.in_ok-cat.ensures.made in
     let below : c.args.slot < 8 = omega arith in
     let free : get_or c.make_catalog.new.held.relations c.args.slot None ≡ None =
-    ap (λ (h : Held). get_or h.relations c.args.slot None) c.in_ok-cat.ensures.cat ∙ free_slot_none c.args.held.now.relations c.args.slot c.requires.slot in
+    ap (λ (h : Held). get_or h.relations c.args.slot None) c.in_ok-cat.ensures.cat ∙ nothing_free c.args.held.now.relations c.args.slot c.requires.slot in
     let P : Option Tuples → Type 0 = λ o. IsRelationSlot s1 c.make_catalog.new.held.version c.args.slot o in
     subst P free (made.running.relations c.args.slot below)
 
@@ -55,7 +55,7 @@ returns-clause-made g c =
     let schema = c.bare_schema-schema.result in
     let bare : schema ≡ bare_schema name = c.bare_schema-schema.ensures.schema in
     let free : get_or h1.relations slot None ≡ None =
-    ap (λ (h : Held). get_or h.relations slot None) c.in_ok-cat.ensures.cat ∙ free_slot_none held.relations slot c.requires.slot in
+    ap (λ (h : Held). get_or h.relations slot None) c.in_ok-cat.ensures.cat ∙ nothing_free held.relations slot c.requires.slot in
     let put : PutsSlot s1 s2 c.in_ok-cat.cat slot (Some (bare_schema name)) =
     subst (λ (s : Schema). PutsSlot s1 s2 c.in_ok-cat.cat slot (Some s)) bare c.in_ok-file.ensures.put in
     let shows = shows_created s1 s2 tables h1 opens made.running slot c.in_ok-cat.cat file name (ap (λ (h : Held). h.cat) c.in_ok-cat.ensures.cat) below free
