@@ -7,6 +7,7 @@ pub mod SoundHeads
 pub mod Sound
 pub mod Viable
 pub mod Light
+pub mod Fitting
 pub mod Turns
 pub mod Cutting
 pub mod Streaming

@@ -1,5 +1,5 @@
 -- A token adds little to a stack.
-use Rattle.std.proofs.Common.{◌≡◌, ℕ, zero, suc, ◌+◌, ◌-◌, ◌==◌, ◌≤◌, Bool, true, false, List, [], ◌∷◌, ◌++◌, length, Option, Some, None, sym, ◌∙◌, ap, subst, arith, lit≤, if◌then◌else◌}
+use Rattle.std.proofs.Common.{◌≡◌, ℕ, zero, suc, ◌+◌, ◌*◌, ◌-◌, ◌==◌, ◌≤◌, Bool, true, false, List, [], ◌∷◌, ◌++◌, length, Option, Some, None, sym, ◌∙◌, ap, subst, arith, lit≤, if◌then◌else◌}
 use Rattle.db_model.specs.Grammar.{is_time}
 use Rattle.db_model.specs.declared.commands.Node.{Node}
 use Rattle.db_model.specs.declared.tokens.Keyword.TheVariants.{KCREATE, KRELATION, KATTRIBUTE, KINDEX, KDOMAIN, KINT, KLONG, KSTRING, KIN, KTYPE, KINLINE, KMAXHEAP, KMEMHASH, KINSERT, KINTO, KSELECT, KFROM, KWHERE, KJOIN, KON, KPROJECT, KREMOVE, KPACK, KOPEN, KFETCH, KCLOSE, KAND, KOR, KNOT, KCOUNT, KSUM, KMIN, KMAX, KMEAN, KMEDIAN}
@@ -96,7 +96,7 @@ move_light (want.Inside n) (Quoted bytes) = omega arith
 move_light (want.Inside n) (Name a) = omega arith
 move_light (want.Inside n) (Sign Minus) = omega arith
 move_light (want.Behind zero) (Sign RightBracket) = tt
-move_light (want.Behind (suc n)) (Sign RightBracket) = not_zero_last (suc n + 1) n (λ k. to (operand k)) (omega arith)
+move_light (want.Behind (suc n)) (Sign RightBracket) = not_zero_last (4 * suc n + 1) n (λ k. to (operand k)) (omega arith)
 move_light (want.Behind n) (Sign Equal) = omega arith
 move_light (want.Behind n) (Sign Unequal) = omega arith
 move_light (want.Behind n) (Sign Less) = omega arith
@@ -106,9 +106,9 @@ move_light (want.Behind n) (Sign GreaterEqual) = omega arith
 move_light (want.Around zero) (Word KAND) = tt
 move_light (want.Around zero) (Word KOR) = tt
 move_light (want.Around zero) (Sign RightBracket) = tt
-move_light (want.Around (suc n)) (Word KAND) = not_zero_last (suc n + 1) n (λ _. to (want.Inside 0 ∷ want.Join joint.And ∷ want.Around (suc n) ∷ [])) (omega arith)
-move_light (want.Around (suc n)) (Word KOR) = not_zero_last (suc n + 1) n (λ k. to (want.Inside 0 ∷ want.Ands ∷ want.Join joint.Or ∷ want.Ors ∷ want.Closing ∷ want.Around k ∷ [])) (omega arith)
-move_light (want.Around (suc n)) (Sign RightBracket) = not_zero_last (suc n + 1) n (λ k. to (want.Around k ∷ [])) (omega arith)
+move_light (want.Around (suc n)) (Word KAND) = not_zero_last (4 * suc n + 1) n (λ _. to (want.Inside 0 ∷ want.Join joint.And ∷ want.Around (suc n) ∷ [])) (omega arith)
+move_light (want.Around (suc n)) (Word KOR) = not_zero_last (4 * suc n + 1) n (λ k. to (want.Inside 0 ∷ want.Ands ∷ want.Join joint.Or ∷ want.Ors ∷ want.Closing ∷ want.Around k ∷ [])) (omega arith)
+move_light (want.Around (suc n)) (Sign RightBracket) = not_zero_last (4 * suc n + 1) n (λ k. to (want.Around k ∷ [])) (omega arith)
 move_light want.Ands (Word KAND) = omega arith
 move_light want.Ors (Word KOR) = omega arith
 move_light want.Factor (Number z) = omega arith

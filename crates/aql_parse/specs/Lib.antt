@@ -3,3 +3,4 @@ pub mod Machine
 pub mod Moves
 pub mod Built
 pub mod ReadAs
+pub mod Codes

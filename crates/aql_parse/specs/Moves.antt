@@ -1,5 +1,5 @@
 -- What a function that moves the machine answers and leaves.
-use Rattle.std.specs.Prelude.{◌≡◌, ℕ, ◌+◌, Bool, true, false, List, [], ◌∷◌, ◌++◌, Option, Some, None}
+use Rattle.std.specs.Prelude.{◌≡◌, ℕ, ◌+◌, ◌*◌, Bool, true, false, List, [], ◌∷◌, ◌++◌, Option, Some, None}
 use Rattle.db_model.specs.declared.commands.Node.{Node}
 use Rattle.aql_parse.specs.Kept.{kept}
 use Rattle.aql_parse.specs.Machine.{Move}
@@ -32,14 +32,14 @@ abbrev pub HasEnded : Option (List Node) → Nodes → Nodes → Bool → Type 0
 HasEnded None old new done = done ≡ false
 HasEnded (Some nodes) old new done = (done ≡ true) × (new ≡ kept old nodes)
 
--- how many brackets a symbol is inside of, and more: a bound on the symbols that may come of it
+-- four for each bracket that a symbol is inside of, and more: a bound on the symbols that may come of it
 abbrev pub bulk : Symbol → ℕ
 bulk want.Command = 8
 bulk want.Query = 8
 bulk want.Selection = 3
-bulk (want.Inside n) = n + 1
-bulk (want.Behind n) = n + 1
-bulk (want.Around n) = n + 1
+bulk (want.Inside n) = 4 * n + 1
+bulk (want.Behind n) = 4 * n + 1
+bulk (want.Around n) = 4 * n + 1
 bulk _ = 1
 
 abbrev pub bulk_all : List Symbol → ℕ

@@ -36,7 +36,7 @@ pub fn condition_moves(symbol: Symbol, token: &Token, stack: &mut Stack, nodes: 
 // A condition without AND and OR inside n brackets that may be an expression's.
 fn inside_moves(n: u16, token: &Token, stack: &mut Stack, nodes: &mut Nodes) -> bool
     requires room { length stack.old ≤ 2056 }
-    requires brackets { n ≤ 2060 }
+    requires brackets { n ≤ 514 }
     ensures stack { Moved (condition_move (Symbol.Inside n) token.now) stack.old stack.new result }
     ensures nodes { IsKeptByMove (condition_move (Symbol.Inside n) token.now) nodes.old nodes.new }
 {
@@ -72,7 +72,8 @@ fn inside_moves(n: u16, token: &Token, stack: &mut Stack, nodes: &mut Nodes) -> 
 
 // What follows an operand inside n brackets.
 fn put_operand(n: u16, stack: &mut Stack)
-    requires { length stack.old ≤ 2056 }
+    requires room { length stack.old ≤ 2056 }
+    requires brackets { n ≤ 514 }
     ensures { stack.new ≡ operand n ++ stack.old }
 {
     stack.put(&[Symbol::Products, Symbol::Sums, Symbol::Behind(n)]);
@@ -80,7 +81,8 @@ fn put_operand(n: u16, stack: &mut Stack)
 
 // What makes a condition of an expression inside n brackets.
 fn behind_moves(n: u16, token: &Token, stack: &mut Stack) -> bool
-    requires { length stack.old ≤ 2056 }
+    requires room { length stack.old ≤ 2056 }
+    requires brackets { n ≤ 514 }
     ensures { Moved (condition_move (Symbol.Behind n) token.now) stack.old stack.new result }
 {
     match token {
@@ -97,7 +99,8 @@ fn behind_moves(n: u16, token: &Token, stack: &mut Stack) -> bool
 }
 
 fn put_comparison(how: Compare, n: u16, stack: &mut Stack)
-    requires { length stack.old ≤ 2056 }
+    requires room { length stack.old ≤ 2056 }
+    requires brackets { n ≤ 514 }
     ensures { Moved (comparison_move n how) stack.old stack.new true }
 {
     stack.put(&[
@@ -111,7 +114,8 @@ fn put_comparison(how: Compare, n: u16, stack: &mut Stack)
 
 // What may follow inside n brackets of conditions.
 fn around_moves(n: u16, token: &Token, stack: &mut Stack) -> bool
-    requires { length stack.old ≤ 2056 }
+    requires room { length stack.old ≤ 2056 }
+    requires brackets { n ≤ 514 }
     ensures { Moved (condition_move (Symbol.Around n) token.now) stack.old stack.new result }
 {
     match token {

@@ -2,6 +2,7 @@
 #![tactic(auto)]
 
 mod built;
+mod codes;
 mod conditions;
 mod head;
 mod heads;

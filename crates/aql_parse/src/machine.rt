@@ -59,6 +59,9 @@ pub fn recognize(
 }
 
 // Reads one token; false where it cannot come.
+// Not inlined: in the loop over the tokens, a token would be tested for each symbol that may come,
+// and not only for those that do.
+#[inline(never)]
 fn read(stack: &mut Stack, token: &Token, nodes: &mut Nodes) -> bool
     requires { bulk_all stack.old ≤ 2052 }
     ensures { HasRead (read stack.old token.now) stack.new nodes.old nodes.new result }

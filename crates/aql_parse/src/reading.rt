@@ -27,7 +27,7 @@ pub struct Parser {
 }
 
 impl Parser {
-    /// A parser that has read nothing yet: 11 KB, so it is made once and lent from then on.
+    /// A parser that has read nothing yet: 7 KB, so it is made once and lent from then on.
     // Inlined, so that its parts are made in their places: on the stack each would stand twice else.
     #[inline(always)]
     pub fn new() -> Parser {

@@ -73,9 +73,3 @@ pub enum Symbol {
     /// Nothing more to read: the node goes behind those that it joins.
     Join(Joint),
 }
-
-impl Default for Symbol {
-    fn default() -> Symbol {
-        Symbol::Command
-    }
-}
