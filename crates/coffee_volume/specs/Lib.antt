@@ -6,3 +6,4 @@ pub mod Rooms
 pub mod Steps
 pub mod Taking
 pub mod Volumes
+pub mod Windows

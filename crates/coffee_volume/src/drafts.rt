@@ -29,6 +29,7 @@ impl<F: Flash> Volume<F> {
         let old = self.entry(id).at;
         let failed = self.failed;
         self.failed = true;
+        self.window.clear();
         replace_file(&mut self.flash, draft.page, &old)?;
         self.table[id.number() as usize] = Some(Entry {
             at: draft,
@@ -57,6 +58,7 @@ impl<F: Flash> Volume<F> {
     {
         let failed = self.failed;
         self.failed = true;
+        self.window.clear();
         commit_extent(&mut self.flash, draft.page)?;
         self.table[id.number() as usize] = Some(Entry {
             at: draft,

@@ -6,7 +6,7 @@ use crate::entry::Entry;
 use crate::volume::Volume;
 use afl_base::{Failed, FileError, FileId, Files, Flash, Kind, Name, find_in, fit, free_in};
 use coffee_layout::FileAt;
-use coffee_log::{append_file, overwrite_file, read_file};
+use coffee_log::{append_file, overwrite_file};
 use coffee_merge::{begin_extent, commit_extent, retire_file, write_extent};
 
 impl<F: Flash> Files for Volume<F> {
@@ -54,7 +54,7 @@ impl<F: Flash> Files for Volume<F> {
 
     fn read(&mut self, id: FileId, at: u32, into: &mut [u8]) -> Result<(), Failed> {
         let file = self.entry(id).at;
-        read_file(&mut self.flash, file.page, file.log, at, into)?;
+        self.window.read(&mut self.flash, id, &file, at, into)?;
         Ok(())
     }
 
@@ -85,6 +85,7 @@ impl<F: Flash> Files for Volume<F> {
         let pages = first_pages(kind);
         let failed = self.failed;
         self.failed = true;
+        self.window.clear();
         match begin_extent(&mut self.flash, &name, kind, pages) {
             Ok(page) => {
                 commit_extent(&mut self.flash, page)?;
@@ -126,6 +127,7 @@ impl<F: Flash> Files for Volume<F> {
         let file = self.entry(id).at;
         let failed = self.failed;
         self.failed = true;
+        self.window.clear();
         retire_file(&mut self.flash, &file)?;
         self.table[id.number() as usize] = None;
         self.failed = failed;
@@ -204,6 +206,7 @@ impl<F: Flash> Files for Volume<F> {
         };
         let failed = self.failed;
         self.failed = true;
+        self.window.clear();
         let used = overwrite_file(
             &mut self.flash,
             file.page,
@@ -243,6 +246,7 @@ impl<F: Flash> Files for Volume<F> {
         let file = entry.at;
         let failed = self.failed;
         self.failed = true;
+        self.window.clear();
         let used = append_file(
             &mut self.flash,
             file.page,
@@ -290,6 +294,7 @@ impl<F: Flash> Files for Volume<F> {
         let pages = fit(size);
         let failed = self.failed;
         self.failed = true;
+        self.window.clear();
         match begin_extent(&mut self.flash, &name, Kind::Doubling, pages) {
             Ok(page) => {
                 self.draft = Some(FileAt {
@@ -329,6 +334,7 @@ impl<F: Flash> Files for Volume<F> {
         let draft = drafted(&self.draft);
         let failed = self.failed;
         self.failed = true;
+        self.window.clear();
         write_extent(&mut self.flash, draft.page, draft.pages, at, bytes)?;
         self.failed = failed;
         Ok(())

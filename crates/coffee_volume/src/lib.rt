@@ -9,6 +9,7 @@ mod mount;
 mod prepare;
 mod step;
 mod volume;
+mod window;
 
 pub use laws::cramped_volume_is_small;
 pub use mount::MountError;

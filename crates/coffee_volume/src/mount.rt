@@ -13,6 +13,7 @@ ghost use Rattle.coffee_volume.specs.Volumes.{AreRegular, places};
 
 use crate::entry::EntryTable;
 use crate::volume::{Volume, entry_of};
+use crate::window::Window;
 use afl_base::{Files, Flash, Kind, find_in};
 use coffee_layout::{BadImage, FileAt, check, has_few_pages, is_doubling};
 
@@ -67,6 +68,7 @@ impl<F: Flash> Volume<F> {
                 table,
                 draft: None,
                 failed: false,
+                window: Window::new(),
             }),
             Err(bad) => Err(MountError::Bad { bad, flash }),
         }
@@ -96,6 +98,7 @@ impl<F: Flash> Volume<F> {
             table: _,
             draft: _,
             failed: _,
+            window: _,
         } = self;
         flash
     }

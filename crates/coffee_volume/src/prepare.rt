@@ -114,6 +114,7 @@ impl<F: Flash> Volume<F> {
         let at = self.entry(id).at;
         let failed = self.failed;
         self.failed = true;
+        self.window.clear();
         match take_step(&mut self.flash, &at, step) {
             Ok(to) => {
                 self.table[id.number() as usize] = Some(Entry {
@@ -144,6 +145,7 @@ impl<F: Flash> Volume<F> {
         ensures flash { self.new.flash ≡ self.old.flash }
     {
         let entry = self.entry(id);
+        self.window.clear();
         self.table[id.number() as usize] = Some(Entry {
             records,
             room,

@@ -5,12 +5,15 @@ ghost use Rattle.coffee_layout.specs.Units.{pages_of};
 ghost use Rattle.coffee_layout.specs.declared.file.FileAt.{FileAt};
 ghost use Rattle.coffee_merge.specs.Holding.{HoldsTable, IsStored};
 ghost use Rattle.coffee_volume.specs.Volumes.{AreRegular, IsEntry, IsPending, IsRegular, file_seen, files_seen, places, roomless};
+ghost use Rattle.coffee_volume.specs.Windows.{ShowsFile};
 
 use crate::entry::{Entry, EntryTable};
+use crate::window::Window;
 use afl_base::{FileId, Files, Flash, Kind};
 use coffee_layout::FileAt;
 
-/// The files of a flash. It keeps 32 entries, one for each file, and no heap.
+/// The files of a flash. It keeps 32 entries, one for each file, the part of a page that was read last,
+/// and no heap.
 ///
 /// Where the flash tells its image, the files are those that the image stands for, until a call
 /// answers `Failed`. Afterwards nothing is known of them, and each call still is safe and returns.
@@ -20,6 +23,7 @@ pub struct Volume<F: Flash> {
     pub(crate) table: EntryTable,
     pub(crate) draft: Option<FileAt>,
     pub(crate) failed: bool,
+    pub(crate) window: Window,
 
     ghost count: { length table ≡ 32 },
     ghost big: { length (F.image flash) ≤ 16773120 },
@@ -28,6 +32,7 @@ pub struct Volume<F: Flash> {
     ghost space: { (d : FileAt) → draft ≡ Some d → IsUnnamed (files_seen false (F.image flash) table) d.name
         → used (files_seen false (F.image flash) table) < 32 },
     ghost told: { IsTrue F.tells → failed ≡ false → HoldsTable (F.image flash) (places table) draft },
+    ghost shown: { IsTrue F.tells → ShowsFile (F.image flash) table window },
 }
 
 impl<F: Flash> Volume<F> {

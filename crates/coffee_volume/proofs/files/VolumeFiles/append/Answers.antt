@@ -8,6 +8,7 @@ use Rattle.coffee_volume.proofs.Standing.{Stands, stands_failed, stands_same, wh
 use Rattle.coffee_volume.proofs.States.{room_set}
 use Rattle.coffee_volume.proofs.Tables.{told_by}
 use Rattle.coffee_volume.proofs.Written.{append_becomes, append_sets}
+use Rattle.coffee_volume.proofs.Windows.{none_held}
 use Rattle.coffee_volume.proofs.files.VolumeFiles.append.Goals as goal
 
 pub invariant_of-self : goal.invariant_of-self
@@ -15,7 +16,7 @@ invariant_of-self g c =
     let v = c.args.self.now in
     let s : Stands g.F.Flash.tells v.failed (g.F.Flash.image v.flash) v.table v.draft = record { count = v.count; big = v.big; regular = v.regular; pending = v.pending; space = v.space; told = v.told } in
     let k = stands_failed g.F.Flash.tells v.failed (g.F.Flash.image v.flash) (g.F.Flash.image c.append_file.new.flash) v.table v.draft s c.append_file.ensures.frame.size in
-    record { count = k.count; big = k.big; regular = k.regular; pending = k.pending; space = k.space; told = k.told }
+    record { count = k.count; big = k.big; regular = k.regular; pending = k.pending; space = k.space; told = k.told; shown = λ told e is k low. absurd (none_held _ k c.clear.ensures low) }
 
 pub invariant_of-self-2 : goal.invariant_of-self-2
 invariant_of-self-2 g c =
@@ -36,7 +37,7 @@ invariant_of-self-2 g c =
     (regular_appended _ e n (e.at.size + length bytes) (length bytes) regular refl c.requires.some room c.in_ok-used.ensures.few c.in_ok-used.ensures.unlogged)
     (λ told no. (append_sets old new v.table v.draft i e n bytes (v.told told no) is c.append_file.ensures.frame.size c.requires.some fits c.requires.last
     (λ none. c.in_ok-used.ensures.unlogged none ∙ regular.fits.unused none) (c.in_ok-used.ensures.becomes told)).holds) in
-    record { count = k.count; big = k.big; regular = k.regular; pending = k.pending; space = k.space; told = k.told }
+    record { count = k.count; big = k.big; regular = k.regular; pending = k.pending; space = k.space; told = k.told; shown = λ told e is k low. absurd (none_held _ k c.clear.ensures low) }
 
 pub returns-clause-appended : goal.returns-clause-appended
 returns-clause-appended g c =

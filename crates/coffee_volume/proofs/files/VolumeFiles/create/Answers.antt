@@ -9,6 +9,7 @@ use Rattle.coffee_volume.proofs.States.{none_drafted}
 use Rattle.coffee_volume.proofs.Tables.{free_entry}
 use Rattle.coffee_volume.proofs.Takings.{made_lowest, made_taken}
 use Rattle.coffee_volume.proofs.files.VolumeFiles.create.Given.{Over}
+use Rattle.coffee_volume.proofs.Windows.{none_held}
 use Rattle.coffee_volume.proofs.files.VolumeFiles.create.Goals as goal
 
 pub free_in-id-requires-clause-free : goal.free_in-id-requires-clause-free
@@ -65,7 +66,7 @@ invariant_of-self-in-Ok g c =
       keeps_free = c.in_ok-commit_extent-in-Ok.ensures.free;
       other_pages = c.commit_extent.ensures.other_pages;
     })) in
-    record { count = after.count; big = after.big; regular = after.regular; pending = after.pending; space = after.space; told = after.told }
+    record { count = after.count; big = after.big; regular = after.regular; pending = after.pending; space = after.space; told = after.told; shown = λ told e is k low. absurd (none_held _ k c.clear.ensures low) }
 
 pub returns-in_ok-commit_extent-in-Ok-clause-created : goal.returns-in_ok-commit_extent-in-Ok-clause-created
 returns-in_ok-commit_extent-in-Ok-clause-created g c =
@@ -105,7 +106,7 @@ invariant_of-self-in-Err-Space g c =
       size = c.in-Err-Space.ensures.frame.size;
       left = rw c.in-Err-Space.field-0-is at c.in-Err-Space.ensures.left;
     }) in
-    record { count = after.count; big = after.big; regular = after.regular; pending = after.pending; space = after.space; told = after.told }
+    record { count = after.count; big = after.big; regular = after.regular; pending = after.pending; space = after.space; told = after.told; shown = λ told e is k low. absurd (none_held _ k c.clear.ensures low) }
 
 pub returns-in-Err-Space-clause-frame : goal.returns-in-Err-Space-clause-frame
 returns-in-Err-Space-clause-frame g c =

@@ -12,6 +12,7 @@ use Rattle.coffee_volume.proofs.Standing.{same_pages}
 use Rattle.coffee_volume.proofs.States.{none_drafted}
 use Rattle.coffee_volume.proofs.Takings.{begun_lowest, begun_taken}
 use Rattle.coffee_volume.proofs.files.VolumeFiles.draft.Given.{Over}
+use Rattle.coffee_volume.proofs.Windows.{none_held}
 use Rattle.coffee_volume.proofs.files.VolumeFiles.draft.Goals as goal
 
 pub begin_extent-requires-clause-shape : goal.begin_extent-requires-clause-shape
@@ -42,7 +43,7 @@ invariant_of-self g c =
     c.requires.place
     (λ (told : IsTrue g.F.Flash.tells) (no : v.failed ≡ false).
     (c.in-Ok.ensures.begun told (places v.table) c.args.size (subst (HoldsTable old (places v.table)) idle (v.told told no)) fits).begins.holds) in
-    record { count = after.count; big = after.big; regular = after.regular; pending = after.pending; space = after.space; told = after.told }
+    record { count = after.count; big = after.big; regular = after.regular; pending = after.pending; space = after.space; told = after.told; shown = λ told e is k low. absurd (none_held _ k c.clear.ensures low) }
 
 pub returns-in-Ok-clause-begun : goal.returns-in-Ok-clause-begun
 returns-in-Ok-clause-begun g c =
@@ -82,7 +83,7 @@ invariant_of-self-in-Err-Space g c =
       size = c.in-Err-Space.ensures.frame.size;
       left = rw c.in-Err-Space.field-0-is at c.in-Err-Space.ensures.left;
     }) in
-    record { count = after.count; big = after.big; regular = after.regular; pending = after.pending; space = after.space; told = after.told }
+    record { count = after.count; big = after.big; regular = after.regular; pending = after.pending; space = after.space; told = after.told; shown = λ told e is k low. absurd (none_held _ k c.clear.ensures low) }
 
 pub returns-in-Err-Space-clause-frame : goal.returns-in-Err-Space-clause-frame
 returns-in-Err-Space-clause-frame g c =

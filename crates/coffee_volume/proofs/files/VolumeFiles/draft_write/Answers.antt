@@ -6,6 +6,7 @@ use Rattle.coffee_merge.specs.Holding.{HoldsTable}
 use Rattle.coffee_volume.specs.Volumes.{places}
 use Rattle.coffee_volume.proofs.Tables.{told_by}
 use Rattle.coffee_volume.proofs.Takings.{free_taken}
+use Rattle.coffee_volume.proofs.Windows.{none_held}
 use Rattle.coffee_volume.proofs.files.VolumeFiles.draft_write.Goals as goal
 
 pub write_extent-requires-clause-placed : goal.write_extent-requires-clause-placed
@@ -25,7 +26,7 @@ invariant_of-self g c =
     let after =
     stands_failed g.F.Flash.tells v.failed (g.F.Flash.image v.flash) (g.F.Flash.image c.write_extent.new.flash) v.table v.draft
     (record { count = v.count; big = v.big; regular = v.regular; pending = v.pending; space = v.space; told = v.told }) c.write_extent.ensures.frame.size in
-    record { count = after.count; big = after.big; regular = after.regular; pending = after.pending; space = after.space; told = after.told }
+    record { count = after.count; big = after.big; regular = after.regular; pending = after.pending; space = after.space; told = after.told; shown = λ told e is k low. absurd (none_held _ k c.clear.ensures low) }
 
 pub invariant_of-self-2 : goal.invariant_of-self-2
 invariant_of-self-2 g c =
@@ -40,7 +41,7 @@ invariant_of-self-2 g c =
       size = c.write_extent.ensures.frame.size;
       written = c.in_ok-write_extent.ensures.written;
     }) in
-    record { count = after.count; big = after.big; regular = after.regular; pending = after.pending; space = after.space; told = after.told }
+    record { count = after.count; big = after.big; regular = after.regular; pending = after.pending; space = after.space; told = after.told; shown = λ told e is k low. absurd (none_held _ k c.clear.ensures low) }
 
 pub returns-clause-written : goal.returns-clause-written
 returns-clause-written g c =

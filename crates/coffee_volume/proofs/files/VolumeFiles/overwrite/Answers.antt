@@ -8,6 +8,7 @@ use Rattle.coffee_volume.proofs.Standing.{Stands, stands_failed, stands_same, wh
 use Rattle.coffee_volume.proofs.States.{room_set}
 use Rattle.coffee_volume.proofs.Tables.{told_by}
 use Rattle.coffee_volume.proofs.Written.{overwrite_becomes, overwrite_sets}
+use Rattle.coffee_volume.proofs.Windows.{none_held}
 use Rattle.coffee_volume.proofs.files.VolumeFiles.overwrite.Goals as goal
 
 pub invariant_of-self : goal.invariant_of-self
@@ -15,7 +16,7 @@ invariant_of-self g c =
     let v = c.args.self.now in
     let s : Stands g.F.Flash.tells v.failed (g.F.Flash.image v.flash) v.table v.draft = record { count = v.count; big = v.big; regular = v.regular; pending = v.pending; space = v.space; told = v.told } in
     let k = stands_failed g.F.Flash.tells v.failed (g.F.Flash.image v.flash) (g.F.Flash.image c.overwrite_file.new.flash) v.table v.draft s c.overwrite_file.ensures.frame.size in
-    record { count = k.count; big = k.big; regular = k.regular; pending = k.pending; space = k.space; told = k.told }
+    record { count = k.count; big = k.big; regular = k.regular; pending = k.pending; space = k.space; told = k.told; shown = λ told e is k low. absurd (none_held _ k c.clear.ensures low) }
 
 pub invariant_of-self-2 : goal.invariant_of-self-2
 invariant_of-self-2 g c =
@@ -37,7 +38,7 @@ invariant_of-self-2 g c =
     (regular_overwritten _ e c.in-Some.log n taken c.entry-entry.ensures.regular c.in-Some.is used few)
     (λ told no. (overwrite_sets old new v.table v.draft i e c.in-Some.log n c.args.at bytes (v.told told no) is c.overwrite_file.ensures.frame.size c.in-Some.is c.requires.some within
     (λ all. c.requires.last (all ∙ sym c.entry-entry.ensures.size)) (c.in_ok-used.ensures.becomes told)).holds) in
-    record { count = k.count; big = k.big; regular = k.regular; pending = k.pending; space = k.space; told = k.told }
+    record { count = k.count; big = k.big; regular = k.regular; pending = k.pending; space = k.space; told = k.told; shown = λ told e is k low. absurd (none_held _ k c.clear.ensures low) }
 
 pub returns-clause-overwritten : goal.returns-clause-overwritten
 returns-clause-overwritten g c =

@@ -5,6 +5,7 @@ use Rattle.coffee_volume.proofs.Standing.{Stands, holds_idle, stands_idle, where
 use Rattle.coffee_volume.proofs.States.{none_drafted, seen_removes}
 use Rattle.coffee_volume.proofs.Tables.{in_places, regular_gone, told_by}
 use Rattle.coffee_volume.proofs.Takings.{none_taken}
+use Rattle.coffee_volume.proofs.Windows.{none_held}
 use Rattle.coffee_volume.proofs.files.VolumeFiles.remove.Goals as goal
 
 pub invariant_of-self-2 : goal.invariant_of-self-2
@@ -20,7 +21,7 @@ invariant_of-self-2 g c =
     let inside : i < length v.table = omega (arith, v.count, c.number.ensures.below) in
     let k = stands_idle g.F.Flash.tells v.failed old new v.table v.draft i None s idle c.retire_file.ensures.frame.size (regular_gone _ v.table i v.regular inside)
     (λ told no. (c.in_ok-retire_file.ensures.retired told _ i (holds_idle g.F.Flash.tells v.failed old v.table v.draft s idle told no) (in_places v.table i e is)).holds) in
-    record { count = k.count; big = k.big; regular = k.regular; pending = k.pending; space = k.space; told = k.told }
+    record { count = k.count; big = k.big; regular = k.regular; pending = k.pending; space = k.space; told = k.told; shown = λ told e is k low. absurd (none_held _ k c.clear.ensures low) }
 
 pub returns-clause-removed : goal.returns-clause-removed
 returns-clause-removed g c =

@@ -8,6 +8,7 @@ use Rattle.coffee_volume.proofs.Standing.{Stands, stands_committed, stands_faile
 use Rattle.coffee_volume.proofs.States.{seen_adds}
 use Rattle.coffee_volume.proofs.Tables.{length_places, new_name, no_entry, regular_new, told_by, unnamed_entries}
 use Rattle.coffee_volume.proofs.Takings.{free_taken}
+use Rattle.coffee_volume.proofs.Windows.{none_held}
 use Rattle.coffee_volume.proofs.volume.Volume.add.Goals as goal
 
 pub commit_extent-requires : goal.commit_extent-requires
@@ -23,7 +24,7 @@ invariant_of-self g c =
     let v = c.args.self.now in
     let s : Stands g.F.Flash.tells v.failed (g.F.Flash.image v.flash) v.table v.draft = record { count = v.count; big = v.big; regular = v.regular; pending = v.pending; space = v.space; told = v.told } in
     let k = stands_failed g.F.Flash.tells v.failed (g.F.Flash.image v.flash) (g.F.Flash.image c.commit_extent.new.flash) v.table v.draft s c.commit_extent.ensures.frame.size in
-    record { count = k.count; big = k.big; regular = k.regular; pending = k.pending; space = k.space; told = k.told }
+    record { count = k.count; big = k.big; regular = k.regular; pending = k.pending; space = k.space; told = k.told; shown = λ told e is k low. absurd (none_held _ k c.clear.ensures low) }
 
 pub invariant_of-self-2 : goal.invariant_of-self-2
 invariant_of-self-2 g c =
@@ -44,7 +45,7 @@ invariant_of-self-2 g c =
     let k = stands_committed g.F.Flash.tells v.failed old new v.table v.draft i (roomless d) s c.commit_extent.ensures.frame.size
     (regular_new (pages_of old) v.table i (roomless d) v.regular inside (no_entry (g.F.Flash.tells && not v.failed) old v.table d.name unnamed) (pending_regular (pages_of old) d pending))
     (λ told fine. commit_holds old new (places v.table) i d pending.used (commits told fine)) in
-    record { count = k.count; big = k.big; regular = k.regular; pending = k.pending; space = k.space; told = k.told }
+    record { count = k.count; big = k.big; regular = k.regular; pending = k.pending; space = k.space; told = k.told; shown = λ told e is k low. absurd (none_held _ k c.clear.ensures low) }
 
 pub returns-clause-committed : goal.returns-clause-committed
 returns-clause-committed g c =

@@ -7,6 +7,7 @@ use Rattle.coffee_merge.specs.Holding.{HoldsTable}
 use Rattle.coffee_volume.specs.Volumes.{AreRegular, places}
 use Rattle.coffee_volume.proofs.MountedTables.{mounted_holds, mounted_keep, mounted_length, mounted_rooms}
 use Rattle.coffee_volume.proofs.Tables.{seen_distinct}
+use Rattle.coffee_volume.proofs.Windows.{none_held}
 use Rattle.coffee_volume.proofs.volume.Volume.mount.Goals as goal
 
 pub invariant_of-result : goal.invariant_of-result
@@ -27,6 +28,7 @@ invariant_of-result g c =
           let judged : (broken_image image ≡ None) × (c.check.new.table.items ≡ listed image) = (rw c.in-Ok-Ok.field-0-is at c.in-Ok-Ok.ensures.judged) tells in
           subst (λ i. HoldsTable i (places c.in-Ok.table) None) (sym c.check.ensures.frame.same)
           (subst (λ t. HoldsTable image (places t) None) (sym c.in-Ok.ensures.table) (mounted_holds image files (c.deref.ensures.0 ∙ judged.1) judged.0 whole));
+      shown = λ told e is k low. absurd (none_held _ k c.new.ensures low);
     }
 
 pub returns-in-Err-table_of-clause-bad : goal.returns-in-Err-table_of-clause-bad

@@ -9,6 +9,7 @@ use Rattle.coffee_volume.proofs.Standing.{Stands, stands_committed, stands_faile
 use Rattle.coffee_volume.proofs.States.{seen_replaces}
 use Rattle.coffee_volume.proofs.Tables.{entry_of_name, in_places, one_entry, regular_same, told_by}
 use Rattle.coffee_volume.proofs.Takings.{free_taken}
+use Rattle.coffee_volume.proofs.Windows.{none_held}
 use Rattle.coffee_volume.proofs.volume.Volume.replace_by.Goals as goal
 
 pub replace_file-requires-clause-page : goal.replace_file-requires-clause-page
@@ -24,7 +25,7 @@ invariant_of-self g c =
     let v = c.args.self.now in
     let s : Stands g.F.Flash.tells v.failed (g.F.Flash.image v.flash) v.table v.draft = record { count = v.count; big = v.big; regular = v.regular; pending = v.pending; space = v.space; told = v.told } in
     let k = stands_failed g.F.Flash.tells v.failed (g.F.Flash.image v.flash) (g.F.Flash.image c.replace_file.new.flash) v.table v.draft s c.replace_file.ensures.frame.size in
-    record { count = k.count; big = k.big; regular = k.regular; pending = k.pending; space = k.space; told = k.told }
+    record { count = k.count; big = k.big; regular = k.regular; pending = k.pending; space = k.space; told = k.told; shown = λ told e is k low. absurd (none_held _ k c.clear.ensures low) }
 
 pub invariant_of-self-2 : goal.invariant_of-self-2
 invariant_of-self-2 g c =
@@ -47,7 +48,7 @@ invariant_of-self-2 g c =
     let k = stands_committed g.F.Flash.tells v.failed old new v.table v.draft i (roomless d) s c.replace_file.ensures.frame.size
     (regular_same (pages_of old) v.table i e (roomless d) v.regular inside is (sym name) (pending_regular (pages_of old) d pending))
     (λ told fine. commit_holds old new (places v.table) i d pending.used (commits told fine)) in
-    record { count = k.count; big = k.big; regular = k.regular; pending = k.pending; space = k.space; told = k.told }
+    record { count = k.count; big = k.big; regular = k.regular; pending = k.pending; space = k.space; told = k.told; shown = λ told e is k low. absurd (none_held _ k c.clear.ensures low) }
 
 pub returns-clause-committed : goal.returns-clause-committed
 returns-clause-committed g c =

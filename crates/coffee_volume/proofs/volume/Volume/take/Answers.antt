@@ -12,6 +12,7 @@ use Rattle.coffee_volume.proofs.Standing.{Stands, holds_idle, same_pages, stands
 use Rattle.coffee_volume.proofs.Stepped.{after_regular, after_same}
 use Rattle.coffee_volume.proofs.Tables.{in_places, one_entry, regular_same, told_by}
 use Rattle.coffee_volume.proofs.Takings.{none_taken, set_entry}
+use Rattle.coffee_volume.proofs.Windows.{none_held}
 use Rattle.coffee_volume.proofs.volume.Volume.take.Goals as goal
 
 pub invariant_of-self-in-Ok : goal.invariant_of-self-in-Ok
@@ -30,7 +31,7 @@ invariant_of-self-in-Ok g c =
     let same = after_same c.args.step e.at to c.in-Ok.ensures.after in
     let k = stands_idle g.F.Flash.tells v.failed old new v.table v.draft i (Some (roomless to)) s c.requires.idle c.take_step.ensures.frame.size (regular_same (pages_of old) v.table i e (roomless to) v.regular inside is same.name fine)
     (λ told fine. (c.in-Ok.ensures.moved told (places v.table) i (holds_idle g.F.Flash.tells v.failed old v.table v.draft s c.requires.idle told fine) (in_places v.table i e is)).moves.sets.holds) in
-    record { count = k.count; big = k.big; regular = k.regular; pending = k.pending; space = k.space; told = k.told }
+    record { count = k.count; big = k.big; regular = k.regular; pending = k.pending; space = k.space; told = k.told; shown = λ told e is k low. absurd (none_held _ k c.clear.ensures low) }
 
 pub invariant_of-self-in-Err-Space : goal.invariant_of-self-in-Err-Space
 invariant_of-self-in-Err-Space g c =
@@ -40,7 +41,7 @@ invariant_of-self-in-Err-Space g c =
     let s : Stands g.F.Flash.tells v.failed old v.table v.draft = record { count = v.count; big = v.big; regular = v.regular; pending = v.pending; space = v.space; told = v.told } in
     let k = stands_still g.F.Flash.tells v.failed old new v.table v.draft s c.requires.idle c.take_step.ensures.frame.size
     (λ told fine. (rw c.in-Err-Space.field-0-is at (c.in-Err-Space.ensures.left told) (places v.table) (holds_idle g.F.Flash.tells v.failed old v.table v.draft s c.requires.idle told fine)).stays.holds) in
-    record { count = k.count; big = k.big; regular = k.regular; pending = k.pending; space = k.space; told = k.told }
+    record { count = k.count; big = k.big; regular = k.regular; pending = k.pending; space = k.space; told = k.told; shown = λ told e is k low. absurd (none_held _ k c.clear.ensures low) }
 
 pub returns-in-Ok-clause-contents : goal.returns-in-Ok-clause-contents
 returns-in-Ok-clause-contents g c =
