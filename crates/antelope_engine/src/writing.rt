@@ -13,6 +13,8 @@ use session_model::{Base, Outcome};
 use session_queries::{aggregate, ask};
 
 /// Carries out a command that writes each row as it is found.
+// Not inlined, so that the cursors and rows of a query are on the stack of no other command.
+#[inline(never)]
 pub fn write<V: Files, K: Sink>(
     base: &mut Base<V>,
     command: &Command,

@@ -149,7 +149,7 @@ fn read_front<S: Source>(input: &mut S, buffer: &mut [u8], want: usize) -> Resul
     Ok(n)
 }
 
-/// Takes an input through to its end, in parts of at most 4,096 bytes, however it is cut into reads: at most
+/// Takes an input through to its end, in parts of at most 512 bytes, however it is cut into reads: at most
 /// 16,777,216 bytes, and one more to see that it has more.
 pub fn take_through<S: Source, T: Taker, K: Sink>(
     input: &mut S,
@@ -167,10 +167,10 @@ pub fn take_through<S: Source, T: Taker, K: Sink>(
     ensures lent { K.lent out.new ≡ K.lent out.old }
 {
     let mut waiting = Waiting::new();
-    let mut buffer = [0u8; 4096];
+    let mut buffer = [0u8; 512];
     let mut taken = 0;
     'reads: loop {
-        let want = (LIMIT - taken).min(4096).max(1);
+        let want = (LIMIT - taken).min(512).max(1);
         let Ok(n) = read_front(input, &mut buffer, want as usize) else {
             return Err(InputEnding::Input);
         };

@@ -14,6 +14,8 @@ use db_model::{Query, Refusal};
 use session_model::{Answer, Base};
 
 /// Opens a cursor on a query: what it will answer is fixed with that. Or says how it is refused.
+// Not inlined, so that the cursors of which it is made are on the stack of no other command.
+#[inline(never)]
 pub fn open_cursor<V: Files>(
     base: &mut Base<V>,
     number: &i64,

@@ -1,5 +1,5 @@
 -- What is found is what the machine sees.
-use Rattle.std.proofs.Common.{◌≡◌, ◌≤◌, ◌*◌, Bool, arith, ℕ, ℤ, List, [], Option, Some, ap, sym, ◌∙◌, subst}
+use Rattle.std.proofs.Common.{◌≡◌, ◌≤◌, ◌*◌, Bool, arith, ℕ, ℤ, List, Option, Some, ap, sym, ◌∙◌, subst}
 use Rattle.std.specs.Prelude.{if◌then◌else◌, Ok, Err, Result, option_map}
 use Rattle.afl_base.specs.Files.{State, Table}
 use Rattle.std.specs.List.{list_any}

@@ -27,19 +27,13 @@ pub fn new_tally(agg: Agg) -> Tally
 }
 
 /// Shows it a value, which it takes where it is open.
-pub fn push(tally: &Tally, value: &Value) -> Tally
-    requires suits { Suits tally.now.fold.agg value.now }
-    requires few { IsTrue tally.now.is_open → tally.now.fold.pushed < 32768 }
-    ensures { TakesValue value.now tally.now result }
+pub fn push(tally: &mut Tally, value: &Value)
+    requires suits { Suits tally.old.fold.agg value.now }
+    requires few { IsTrue tally.old.is_open → tally.old.fold.pushed < 32768 }
+    ensures { TakesValue value.now tally.old tally.new }
 {
-    if !tally.is_open {
-        return *tally;
-    }
-    let mut fold = tally.fold;
-    fold.push(value);
-    Tally {
-        fold,
-        is_open: true,
+    if tally.is_open {
+        tally.fold.push(value);
     }
 }
 

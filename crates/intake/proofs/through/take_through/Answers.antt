@@ -37,7 +37,7 @@ pub returns-in-Err-take_all-clause-through : goal.returns-in-Err-take_all-clause
 returns-in-Err-take_all-clause-through g c =
     let l = c.reads.invariant in
     let chunk = take c.in-Ok.n c.read_front.new.buffer in
-    let within : c.in-Ok.n ≤ 4096 = omega (arith, c.in-Ok.ensures.within) in
+    let within : c.in-Ok.n ≤ 512 = omega (arith, c.in-Ok.ensures.within) in
     inl (record {
       came = l.came ++ chunk;
       left = l.left ∙ ap (λ k. prepend_known l.came k) c.in-Ok.ensures.bytes ∙ prepend_twice (g.S.Source.left c.read_front.new.input) l.came chunk;
@@ -56,7 +56,7 @@ pub reads-preserved : goal.reads-preserved
 reads-preserved g c =
     let l = c.reads.invariant in
     let chunk = take c.in-Ok.n c.read_front.new.buffer in
-    let within : c.in-Ok.n ≤ 4096 = omega (arith, c.in-Ok.ensures.within) in
+    let within : c.in-Ok.n ≤ 512 = omega (arith, c.in-Ok.ensures.within) in
     record {
       came = l.came ++ chunk;
       left = l.left ∙ ap (λ k. prepend_known l.came k) c.in-Ok.ensures.bytes ∙ prepend_twice (g.S.Source.left c.read_front.new.input) l.came chunk;
