@@ -17,6 +17,7 @@ pub mod Selects
 pub mod Sound
 pub mod Views
 pub mod Wanted
+pub mod WellFormed
 pub mod Written
 pub mod Cells
 pub mod Carrying
