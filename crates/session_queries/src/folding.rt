@@ -37,9 +37,7 @@ pub fn push_all(items: &[(Agg, u8)], tuple: &Tuple, tallies: &mut [Tally])
         (tally_at tallies.old i) (tally_at tallies.new i) }
 {
     for i in 0..items.len() {
-        let old = tallies[i];
-        let tally = push(&old, &value_at(tuple, items[i].1));
-        tallies[i] = tally;
+        push(&mut tallies[i], &value_at(tuple, items[i].1));
     }
 }
 
@@ -63,11 +61,8 @@ pub fn end_all(items: &[(Agg, u8)], tallies: &mut [Tally]) -> bool
 {
     let mut is_open = false;
     for i in 0..items.len() {
-        let old = tallies[i];
-        let tally = end_pass(&old);
-        let more = tally.is_open;
-        tallies[i] = tally;
-        is_open = either(is_open, more);
+        end_pass(&mut tallies[i]);
+        is_open = either(is_open, tallies[i].is_open);
     }
     is_open
 }

@@ -27,30 +27,21 @@ pub fn new_tally(agg: Agg) -> Tally
 }
 
 /// Shows it a value, which it takes where it is open.
-pub fn push(tally: &Tally, value: &Value) -> Tally
-    requires suits { Suits tally.now.fold.agg value.now }
-    requires few { IsTrue tally.now.is_open → tally.now.fold.pushed < 32768 }
-    ensures { TakesValue value.now tally.now result }
+pub fn push(tally: &mut Tally, value: &Value)
+    requires suits { Suits tally.old.fold.agg value.now }
+    requires few { IsTrue tally.old.is_open → tally.old.fold.pushed < 32768 }
+    ensures { TakesValue value.now tally.old tally.new }
 {
-    if !tally.is_open {
-        return *tally;
-    }
-    let mut fold = tally.fold;
-    fold.push(value);
-    Tally {
-        fold,
-        is_open: true,
+    if tally.is_open {
+        tally.fold.push(value);
     }
 }
 
 /// Ends a pass, and closes it where it wants no other.
-pub fn end_pass(tally: &Tally) -> Tally
-    ensures { EndsPass tally.now result }
+pub fn end_pass(tally: &mut Tally)
+    ensures { EndsPass tally.old tally.new }
 {
-    if !tally.is_open {
-        return *tally;
+    if tally.is_open {
+        tally.is_open = tally.fold.end_pass();
     }
-    let mut fold = tally.fold;
-    let is_open = fold.end_pass();
-    Tally { fold, is_open }
 }
