@@ -1,4 +1,4 @@
-use Rattle.std.proofs.Common.{◌≡◌, ℕ, zero, suc, ◌+◌, ◌<◌, ◌≤◌, Bool, true, false, cond, List, [], ◌∷◌, ◌++◌, refl, ap, arith, Some, slice_get, ◌∙◌, if◌then◌else◌}
+use Rattle.std.proofs.Common.{◌≡◌, ℕ, zero, suc, ◌+◌, ◌<◌, ◌≤◌, Bool, true, false, cond, List, [], ◌∷◌, ◌++◌, refl, ap, arith, Some, slice_get, ◌∙◌, ◌⊎◌, ⊎_elim, inl, inr, if◌then◌else◌}
 use Rattle.std.specs.Prelude.{ℤ, pos, ◌+ℤ◌, ◌≤ℤ◌, ◌<ℤ◌, int_le, int_lt}
 use Rattle.std.proofs.lemmas.Int.{ints}
 use Rattle.db_model.specs.Answers.{placed, rising}
@@ -31,11 +31,18 @@ is_le a b h = grind (arith, ints)
 not_le : (a b : ℤ) → b <ℤ a → int_le a b ≡ false
 not_le a b h = grind (arith, ints)
 
-is_lt : (a b : ℤ) → a <ℤ b → int_lt a b ≡ true
+pub is_lt : (a b : ℤ) → a <ℤ b → int_lt a b ≡ true
 is_lt a b h = grind (arith, ints)
 
-not_lt : (a b : ℤ) → b ≤ℤ a → int_lt a b ≡ false
+pub not_lt : (a b : ℤ) → b ≤ℤ a → int_lt a b ≡ false
 not_lt a b h = grind (arith, ints)
+
+int_cases : (a b : ℤ) → (a <ℤ b) ⊎ (b ≤ℤ a)
+int_cases a b = by_test (int_lt a b) refl
+  where
+    by_test : (t : Bool) → int_lt a b ≡ t → (a <ℤ b) ⊎ (b ≤ℤ a)
+    by_test true e = inl (lt_true a b e)
+    by_test false e = inr (lt_false a b e)
 
 equal_z : (a b : ℤ) → a ≤ℤ b → b ≤ℤ a → a ≡ b
 equal_z a b h k = omega (arith, ints)
@@ -129,6 +136,17 @@ pub below-next : (m : ℤ) (xs : List ℤ) → below (m +ℤ pos 1) xs ≡ up_to
 below-next m [] = refl
 below-next m (x ∷ xs) = rw (step_test x m, below-next m xs) refl
 
-pub up_to-append : (m : ℤ) (xs : List ℤ) (x : ℤ) → up_to m (xs ++ x ∷ []) ≡ up_to m xs + (if int_le x m then 1 else 0)
-up_to-append m [] x = omega arith
-up_to-append m (y ∷ ys) x = let r : up_to m (ys ++ x ∷ []) ≡ up_to m ys + (if int_le x m then 1 else 0) = up_to-append m ys x in omega arith
+-- more numbers are below a greater bound
+below_step : (a b x : ℤ) → a ≤ℤ b → (if int_lt x a then 1 else 0) ≤ (if int_lt x b then 1 else 0)
+below_step a b x h = ⊎_elim
+    (λ (l : x <ℤ a). let e = is_lt x a l in let f = is_lt x b (omega (arith, ints, l)) in rw (e, f) (omega arith))
+    (λ (l : a ≤ℤ x). let e = not_lt x a l in rw e (omega arith))
+    (int_cases x a)
+
+pub below-order : (a b : ℤ) (xs : List ℤ) → a ≤ℤ b → below a xs ≤ below b xs
+below-order a b [] h = omega arith
+below-order a b (x ∷ xs) h = omega (arith, below_step a b x h, below-order a b xs h)
+
+pub below-append : (m : ℤ) (xs : List ℤ) (x : ℤ) → below m (xs ++ x ∷ []) ≡ below m xs + (if int_lt x m then 1 else 0)
+below-append m [] x = omega arith
+below-append m (y ∷ ys) x = let r : below m (ys ++ x ∷ []) ≡ below m ys + (if int_lt x m then 1 else 0) = below-append m ys x in omega arith

@@ -5,7 +5,7 @@ use Rattle.db_model.specs.declared.commands.Agg.TheVariants.{Count}
 use Rattle.db_model.specs.declared.values.Value.{Value}
 use Rattle.db_model.specs.declared.values.Value.TheVariants.{Number, Text}
 use Rattle.aggregate.specs.declared.stage.Stage.{Stage}
-use Rattle.aggregate.specs.declared.stage.Stage.TheVariants.{Gathering, Halving, Done}
+use Rattle.aggregate.specs.declared.stage.Stage.TheVariants.{Gathering, Searching, Done}
 use Rattle.db_model.specs.Answers.{aggregate, numbers}
 use Rattle.aggregate.specs.Folding.{Folding}
 use Rattle.aggregate.specs.Search.{Seeks}
@@ -32,7 +32,7 @@ numbers_for _ values = numbers values
 
 abbrev pub Knows : Agg → List Value → List Value → Stage → Type 0
 Knows agg all so_far (Gathering s) = Summarises (numbers_for agg so_far) s
-Knows agg all so_far (Halving s) = (s.place ≡ (length (numbers all) - 1) / 2) × Seeks (numbers all) (numbers so_far) s
+Knows agg all so_far (Searching s) = Seeks (numbers all) (numbers so_far) ((length (numbers all) - 1) / 2) s
 Knows agg all so_far (Done answer) = answer ≡ aggregate agg all
 
 -- Each pass that has ended pushed all the values, and this pass so far has pushed these.

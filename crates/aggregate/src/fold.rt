@@ -73,15 +73,15 @@ impl Fold {
         let Some(number) = number_for(self.agg, value) else {
             return;
         };
-        match self.stage {
-            Stage::Gathering(summary) => self.stage = Stage::Gathering(summary.with(number)),
-            Stage::Halving(search) => self.stage = Stage::Halving(search.with(number)),
+        match &mut self.stage {
+            Stage::Gathering(summary) => *summary = summary.with(number),
+            Stage::Searching(search) => search.take(number),
             Stage::Done(_) => {}
         }
     }
 
     /// Ends this pass, and says whether another one over the same values is wanted. An aggregate
-    /// other than MEDIAN wants one pass, and MEDIAN at most 33.
+    /// other than MEDIAN wants one pass, and MEDIAN at most 9.
     pub fn end_pass(&mut self) -> bool
         ensures agg { self.new.agg ≡ self.old.agg }
         ensures passes { self.new.passes
@@ -89,7 +89,7 @@ impl Fold {
         ensures pushed { self.new.pushed ≡ 0 }
         ensures wanted { result ≡ wants_pass self.new }
         ensures once { self.old.agg ≢ Median → IsFalse result }
-        ensures few { IsTrue result → self.new.passes < 33 }
+        ensures few { IsTrue result → self.new.passes < 9 }
         ensures told { (all : List Value) → Folds all all self.old → Folds all [] self.new }
     {
         match self.stage {
@@ -97,7 +97,7 @@ impl Fold {
                 self.stage = after_first(self.agg, self.pushed, summary);
                 self.passes += 1;
             }
-            Stage::Halving(search) => {
+            Stage::Searching(search) => {
                 self.stage = after_later(search);
                 self.passes += 1;
             }

@@ -11,7 +11,7 @@ ghost use Rattle.aggregate.specs.Limits.{Suits, least_sum, greatest_sum};
 ghost use Rattle.aggregate.specs.Folding.{IsSearch, IsSoundStage, IsSummary};
 ghost use Rattle.aggregate.specs.Fold.{Knows, is_open, number_for, numbers_for};
 ghost use Rattle.aggregate.specs.Summary.{Summarises};
-ghost use Rattle.aggregate.specs.declared.stage.Stage.TheVariants.{Halving};
+ghost use Rattle.aggregate.specs.declared.stage.Stage.TheVariants.{Searching};
 ghost use Rattle.std.specs.Int.{w64};
 
 use crate::search::Search;
@@ -24,7 +24,7 @@ pub enum Stage {
     /// In the first pass: the summary of its numbers.
     Gathering(Summary),
     /// In a later pass of a median.
-    Halving(Search),
+    Searching(Search),
     /// After the last pass: the answer.
     Done(Option<i64>),
 }
@@ -55,7 +55,7 @@ impl Stage {
             → result ≡ aggregate agg all }
     {
         match self {
-            Stage::Gathering(_) | Stage::Halving(_) => None,
+            Stage::Gathering(_) | Stage::Searching(_) => None,
             Stage::Done(answer) => answer,
         }
     }
@@ -105,25 +105,25 @@ fn search_in(summary: Summary) -> Stage
     if span == 0 {
         return Stage::Done(Some(least));
     }
-    Stage::Halving(Search {
+    Stage::Searching(Search {
         place: summary.count.saturating_sub(1) / 2,
         lo: least,
         span,
-        up_to: 0,
+        counts: [0; 16],
     })
 }
 
 /// What a later pass leaves to know.
 pub fn after_later(search: Search) -> Stage
-    requires open { 0 < search.span }
+    requires sixteen { length search.counts ≡ 16 }
     requires fits { FitsSigned w64 (search.lo +ℤ pos search.span) }
     ensures sound { (p n : ℕ) → IsSearch Median p n search → IsSoundStage Median (p + 1) 0 result }
-    ensures told { (all : List Value) → Knows Median all all (Halving search) → Knows Median all [] result }
+    ensures told { (all : List Value) → Knows Median all all (Searching search) → Knows Median all [] result }
 {
     let next = search.narrowed();
     if next.span == 0 {
         Stage::Done(Some(next.lo))
     } else {
-        Stage::Halving(next)
+        Stage::Searching(next)
     }
 }

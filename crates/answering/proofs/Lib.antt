@@ -4,4 +4,3 @@ pub mod SentReplies
 pub mod Single
 pub mod Taken
 pub mod Through
-pub mod WellFormed

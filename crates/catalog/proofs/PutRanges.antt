@@ -1,6 +1,8 @@
 -- Ranges of bytes in which a part is written.
-use Rattle.std.proofs.Common.{◌≡◌, ℕ, ◌+◌, ◌-◌, ◌≤◌, List, ◌++◌, length, take, drop, sym, ap, subst, ◌∙◌, arith, length-append}
+use Rattle.std.proofs.Common.{◌≡◌, ◌≢◌, ℕ, ◌+◌, ◌-◌, ◌*◌, ◌<◌, ◌≤◌, List, ◌++◌, length, take, drop, sym, ap, subst, ◌∙◌, arith, length-append}
 use Rattle.std.specs.Prelude.{slice_range}
+use Rattle.std.proofs.Math.Logic.{⊎_elim}
+use Rattle.std.proofs.lemmas.Bool.{cases_lt}
 use Rattle.std.proofs.lemmas.List.{drop-drop, drop-take, drop_at, length-take-le, take_at}
 use Rattle.afl_base.specs.Fields.{put_at}
 use Rattle.afl_base.proofs.FieldLaws.{drop-put_at}
@@ -28,3 +30,23 @@ pub here_put : (old part : List ℕ) (at n : ℕ) → length part ≡ n → at �
 here_put old part at n long room =
     let m : length part ≡ (at + n) - at = omega (arith, long) in
     ap (take ((at + n) - at)) (drop-put_at old part at room) ∙ take_at part (drop (at + length part) old) ((at + n) - at) m
+
+-- ---- slots
+
+-- where a relation slot is put, the others are as before
+pub other_relation_put : (bytes part : List ℕ) (j k : ℕ) → length part ≡ 176 → j ≢ k → 176 * k ≤ length bytes
+    → slice_range (put_at bytes (176 * k) part) (176 * j) (176 * j + 176) ≡ slice_range bytes (176 * j) (176 * j + 176)
+other_relation_put bytes part j k n differs room =
+    ⊎_elim
+    (λ (less : j < k). before_put bytes part (176 * k) (176 * j) (176 * j + 176) (omega arith) (omega (arith, less)) room)
+    (λ (more : k ≤ j). behind_put bytes part (176 * k) (176 * j) (176 * j + 176) (omega (arith, n, more, differs)) room)
+    (cases_lt j k)
+
+-- where an index slot is put, the others are as before
+pub other_index_put : (bytes part : List ℕ) (j k : ℕ) → length part ≡ 8 → j ≢ k → 1408 + 8 * k ≤ length bytes
+    → slice_range (put_at bytes (1408 + 8 * k) part) (1408 + 8 * j) (1408 + 8 * j + 8) ≡ slice_range bytes (1408 + 8 * j) (1408 + 8 * j + 8)
+other_index_put bytes part j k n differs room =
+    ⊎_elim
+    (λ (less : j < k). before_put bytes part (1408 + 8 * k) (1408 + 8 * j) (1408 + 8 * j + 8) (omega arith) (omega (arith, less)) room)
+    (λ (more : k ≤ j). behind_put bytes part (1408 + 8 * k) (1408 + 8 * j) (1408 + 8 * j + 8) (omega (arith, n, more, differs)) room)
+    (cases_lt j k)

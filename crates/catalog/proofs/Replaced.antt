@@ -1,9 +1,8 @@
 -- A change of one slot, seen by the catalog that the bytes stand for.
 use Rattle.std.proofs.Common.{◌≡◌, ◌≢◌, ◌⊎◌, inr, ℕ, ◌+◌, ◌*◌, ◌<◌, ◌≤◌, List, [], ◌∷◌, ◌++◌, length, map, set, get_or, Option, None, refl, sym, ap, ◌∙◌, arith, length-append}
-use Rattle.std.specs.Prelude.{slice_range}
 use Rattle.std.specs.List.{range_with_len}
 use Rattle.std.proofs.Math.Logic.{⊎_elim}
-use Rattle.std.proofs.lemmas.Bool.{cases_eq, cases_lt}
+use Rattle.std.proofs.lemmas.Bool.{cases_eq}
 use Rattle.std.proofs.lemmas.List.{ext_get_or, get_or-set_other, get_or-set_same, length-set}
 use Rattle.std.proofs.lemmas.List.FromFn.{get_or-map-range_with_len, length-map-range_with_len}
 use Rattle.afl_base.specs.Fields.{put_at}
@@ -14,7 +13,7 @@ use Rattle.db_model.proofs.Catalogs.{catalog_back, index_slot_back, length-index
 use Rattle.catalog.specs.CatalogFile.{IsCatalogSize}
 use Rattle.catalog.specs.Catalogs.{index_replaced, relation_replaced}
 use Rattle.catalog.proofs.Changes.{long_empty, slot_put}
-use Rattle.catalog.proofs.PutRanges.{before_put, behind_put, here_put}
+use Rattle.catalog.proofs.PutRanges.{before_put, behind_put, here_put, other_index_put, other_relation_put}
 use Rattle.padded.proofs.Facts.{slice_of_front}
 
 -- ---- lists of slots
@@ -82,33 +81,35 @@ stands_0 [] size = record {
 }
 stands_0 (b ∷ bytes) size = absurd (omega (arith, size))
 
+-- ---- a slot
+
+-- what is read of a slot is what was written
+abbrev pub IsReadBack : Option Schema → Type 0
+IsReadBack slot = (length (relation_slot_bytes slot) ≡ 176) × (relation_slot_of (relation_slot_bytes slot) ≡ slot)
+
+pub read_back : (slot : Option Schema) → IsRelation slot → IsReadBack slot
+read_back slot good = (length-relation_slot slot good, relation_slot_back slot good)
+
 -- ---- the laws
 
 same_slots : (v w : ℕ) (r s : List (Option Schema)) (i j : List (Option Index)) → v ≡ w → r ≡ s → i ≡ j → ◌≡◌ {A = Catalog} (record { version = v; relations = r; indexes = i }) (record { version = w; relations = s; indexes = j })
 same_slots v w r s i j e f g = rw (e, f, g) refl
 
-relation_put : (bytes version_2 : List ℕ) (k : ℕ) (slot : Option Schema) → Stands bytes version_2 → k < 8 → IsRelation slot → catalog_of (with_relation_slot bytes k slot) ≡ relation_replaced (catalog_of bytes) k slot
-relation_put bytes version_2 k slot stands h good =
+relation_put : (bytes version_2 : List ℕ) (k : ℕ) (slot : Option Schema) → Stands bytes version_2 → k < 8 → IsReadBack slot → catalog_of (with_relation_slot bytes k slot) ≡ relation_replaced (catalog_of bytes) k slot
+relation_put bytes version_2 k slot stands h back =
     let part : List ℕ = relation_slot_bytes slot in
-    let n : length part ≡ 176 = length-relation_slot slot good in
+    let n : length part ≡ 176 = back.0 in
     let at : ℕ = 176 * k in
     let new : List ℕ = put_at version_2 at part in
     let room : at ≤ length version_2 = omega (arith, stands.long, h) in
     let long : length new ≡ 1480 = length-put_at version_2 part at (omega (arith, stands.long, h, n)) ∙ stands.long in
     let relations : map (relation_at new) (range_with_len 0 8) ≡ set (map (relation_at bytes) (range_with_len 0 8)) k slot =
-    replaced_list (relation_at bytes) (relation_at new) 8 k slot h (ap relation_slot_of (here_put version_2 part at 176 n room) ∙ relation_slot_back slot good)
-    (λ j inside differs. ap relation_slot_of (other j inside differs n room) ∙ stands.relations j inside) in
+    replaced_list (relation_at bytes) (relation_at new) 8 k slot h (ap relation_slot_of (here_put version_2 part at 176 n room) ∙ back.1)
+    (λ j inside differs. ap relation_slot_of (other_relation_put version_2 part j k n differs room) ∙ stands.relations j inside) in
     let indexes : map (index_at new) (range_with_len 0 8) ≡ map (index_at bytes) (range_with_len 0 8) =
     kept_list (index_at bytes) (index_at new) 8 (λ j inside. ap index_slot_of (behind_put version_2 part at (1408 + 8 * j) (1408 + 8 * j + 8) (omega (arith, n, h)) room) ∙ stands.indexes j inside) in
     ap catalog_of (slot_put bytes version_2 part at stands.is)
     ∙ same_slots _ 2 _ _ _ _ (rw long refl) relations indexes
-  where
-    other : (j : ℕ) → j < 8 → j ≢ k → length (relation_slot_bytes slot) ≡ 176 → 176 * k ≤ length version_2 → slice_range (put_at version_2 (176 * k) (relation_slot_bytes slot)) (176 * j) (176 * j + 176) ≡ slice_range version_2 (176 * j) (176 * j + 176)
-    other j inside differs n room =
-        ⊎_elim
-        (λ (less : j < k). before_put version_2 (relation_slot_bytes slot) (176 * k) (176 * j) (176 * j + 176) (omega arith) (omega (arith, less)) room)
-        (λ (more : k ≤ j). behind_put version_2 (relation_slot_bytes slot) (176 * k) (176 * j) (176 * j + 176) (omega (arith, n, more, differs)) room)
-        (cases_lt j k)
 
 index_put : (bytes version_2 : List ℕ) (k : ℕ) (slot : Option Index) → Stands bytes version_2 → k < 8 → catalog_of (with_index_slot bytes k slot) ≡ index_replaced (catalog_of bytes) k slot
 index_put bytes version_2 k slot stands h =
@@ -122,16 +123,9 @@ index_put bytes version_2 k slot stands h =
     kept_list (relation_at bytes) (relation_at new) 8 (λ j inside. ap relation_slot_of (before_put version_2 part at (176 * j) (176 * j + 176) (omega arith) (omega (arith, inside)) room) ∙ stands.relations j inside) in
     let indexes : map (index_at new) (range_with_len 0 8) ≡ set (map (index_at bytes) (range_with_len 0 8)) k slot =
     replaced_list (index_at bytes) (index_at new) 8 k slot h (ap index_slot_of (here_put version_2 part at 8 n room) ∙ index_slot_back slot)
-    (λ j inside differs. ap index_slot_of (other j inside differs n room) ∙ stands.indexes j inside) in
+    (λ j inside differs. ap index_slot_of (other_index_put version_2 part j k n differs room) ∙ stands.indexes j inside) in
     ap catalog_of (slot_put bytes version_2 part at stands.is)
     ∙ same_slots _ 2 _ _ _ _ (rw long refl) relations indexes
-  where
-    other : (j : ℕ) → j < 8 → j ≢ k → length (index_slot_bytes slot) ≡ 8 → 1408 + 8 * k ≤ length version_2 → slice_range (put_at version_2 (1408 + 8 * k) (index_slot_bytes slot)) (1408 + 8 * j) (1408 + 8 * j + 8) ≡ slice_range version_2 (1408 + 8 * j) (1408 + 8 * j + 8)
-    other j inside differs n room =
-        ⊎_elim
-        (λ (less : j < k). before_put version_2 (index_slot_bytes slot) (1408 + 8 * k) (1408 + 8 * j) (1408 + 8 * j + 8) (omega arith) (omega (arith, less)) room)
-        (λ (more : k ≤ j). behind_put version_2 (index_slot_bytes slot) (1408 + 8 * k) (1408 + 8 * j) (1408 + 8 * j + 8) (omega (arith, n, more, differs)) room)
-        (cases_lt j k)
 
 by_size : (P : Type 0) (bytes : List ℕ) → IsCatalogSize (length bytes) → ((version_2 : List ℕ) → Stands bytes version_2 → P) → P
 by_size P bytes size use_it =
@@ -144,8 +138,8 @@ by_size P bytes size use_it =
     some)
     size
 
-pub relation_changed : (bytes : List ℕ) (k : ℕ) (slot : Option Schema) → IsCatalogSize (length bytes) → k < 8 → IsRelation slot → catalog_of (with_relation_slot bytes k slot) ≡ relation_replaced (catalog_of bytes) k slot
-relation_changed bytes k slot size h good = by_size _ bytes size (λ (version_2 : List ℕ) (stands : Stands bytes version_2). relation_put bytes version_2 k slot stands h good)
+pub relation_changed : (bytes : List ℕ) (k : ℕ) (slot : Option Schema) → IsCatalogSize (length bytes) → k < 8 → IsReadBack slot → catalog_of (with_relation_slot bytes k slot) ≡ relation_replaced (catalog_of bytes) k slot
+relation_changed bytes k slot size h back = by_size _ bytes size (λ (version_2 : List ℕ) (stands : Stands bytes version_2). relation_put bytes version_2 k slot stands h back)
 
 pub index_changed : (bytes : List ℕ) (k : ℕ) (slot : Option Index) → IsCatalogSize (length bytes) → k < 8 → catalog_of (with_index_slot bytes k slot) ≡ index_replaced (catalog_of bytes) k slot
 index_changed bytes k slot size h = by_size _ bytes size (λ (version_2 : List ℕ) (stands : Stands bytes version_2). index_put bytes version_2 k slot stands h)

@@ -5,7 +5,10 @@ ghost use Rattle.db_model.specs.Catalog.{with_slot};
 ghost use Rattle.catalog.specs.CatalogFile.{IsCatalogSize, IsPrepared, PutsIndex, PutsRelation, index_in};
 ghost use Rattle.space_model.specs.Wants.{room_for};
 
-use crate::slots::{VERSION_MARK, first_catalog, index_slot, relation_slot, unused_slot};
+use crate::slots::{
+    SIZE_OF_VERSION_1, SIZE_OF_VERSION_2, VERSION_MARK, first_catalog, index_slot, relation_slot,
+    unused_slot,
+};
 use crate::types::IndexEntry;
 use afl_base::{Failed, FileId, Files, IndexId, RelationId, regions};
 use db_model::Schema;
@@ -19,8 +22,8 @@ pub fn room_for(size: u32, at: u32, len: u32) -> (u16, u32)
 {
     let overwrites = regions(at, len as usize);
     match size {
-        0 => (0, 1480),
-        1472 => (overwrites, 8),
+        0 => (0, SIZE_OF_VERSION_2),
+        SIZE_OF_VERSION_1 => (overwrites, 8),
         _ => (overwrites, 0),
     }
 }
@@ -115,7 +118,7 @@ fn replace<V: Files>(files: &mut V, cat: FileId, at: u32, slot: &[u8]) -> Result
         return Ok(());
     }
     files.overwrite(cat, at, slot)?;
-    if size == 1480 {
+    if size == SIZE_OF_VERSION_2 {
         return Ok(());
     }
     files.append(cat, &VERSION_MARK)?;

@@ -10,7 +10,7 @@ ghost use Rattle.catalog.specs.Rules.{breaks_files, broken_catalog, catalog_byte
 use crate::indexes::load_indexes;
 use crate::names::{catalog_file, first_stranger, is_there, rows_file, tree_file};
 use crate::relations::load_relations;
-use crate::slots::VERSION_MARK;
+use crate::slots::{SIZE_OF_VERSION_1, SIZE_OF_VERSION_2, VERSION_MARK};
 use crate::types::{BadCatalog, Catalog, IndexEntry};
 use afl_base::{Failed, FileId, Files, IndexId, RelationId};
 use db_model::{IndexKind, Schema};
@@ -114,10 +114,10 @@ fn read_version<V: Files>(files: &mut V, cat: FileId) -> Result<Option<u8>, Fail
 {
     match files.size(cat) {
         0 => Ok(Some(2)),
-        1472 => Ok(Some(1)),
-        1480 => {
+        SIZE_OF_VERSION_1 => Ok(Some(1)),
+        SIZE_OF_VERSION_2 => {
             let mut mark = [0u8; 8];
-            files.read(cat, 1472, &mut mark)?;
+            files.read(cat, SIZE_OF_VERSION_1, &mut mark)?;
             Ok((mark == VERSION_MARK).then_some(2))
         },
         _ => Ok(None),

@@ -125,7 +125,7 @@ fn put_empty(bytes: &mut [u8])
     let index: [u8; 8] = unused_slot();
     put_copies(bytes, 0, &relation, 8);
     put_copies(bytes, 1408, &index, 8);
-    put_bytes(bytes, 1472, &VERSION_MARK);
+    put_bytes(bytes, SIZE_OF_VERSION_1 as usize, &VERSION_MARK);
 }
 
 // Puts `n` copies of `part` in the place of the bytes from `at` on.
@@ -141,16 +141,22 @@ fn put_copies(bytes: &mut [u8], at: usize, part: &[u8], n: usize)
 }
 
 // The bytes of a catalog of version 2 with one used slot, which stands at `at`.
-pub fn first_catalog(at: usize, slot: &[u8]) -> [u8; 1480]
+pub fn first_catalog(at: usize, slot: &[u8]) -> [u8; SIZE_OF_VERSION_2 as usize]
     requires { at + length slot.now ≤ 1472 }
     ensures value { result ≡ put_at empty_bytes at slot.now }
     ensures last { slice_index result 1479 ≡ 1 }
 {
-    let mut bytes = [0; 1480];
+    let mut bytes = [0; SIZE_OF_VERSION_2 as usize];
     put_empty(&mut bytes);
     put_bytes(&mut bytes, at, slot);
     bytes
 }
 
-// The end of a catalog of version 2.
+// The bytes of a catalog of version 1: eight relation slots and eight index slots.
+pub const SIZE_OF_VERSION_1: u32 = 1_472;
+
+// The bytes of one of version 2, in which a mark comes behind the slots.
+pub const SIZE_OF_VERSION_2: u32 = 1_480;
+
+// The mark.
 pub const VERSION_MARK: [u8; 8] = [2, 0, 0, 0, 0, 0, 0, 1];

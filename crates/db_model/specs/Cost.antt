@@ -110,9 +110,9 @@ begin_cost slots _ = 0
 abbrev pub is_median : Agg × List ℕ → Bool
 is_median item = elim item.0 [ Count ↦ false | Sum ↦ false | Min ↦ false | Max ↦ false | Mean ↦ false | Median ↦ true ]
 
--- a median takes at most 34 passes over its values
+-- a median takes at most 10 passes over its values
 abbrev pub passes_of : List (Agg × List ℕ) → ℕ
-passes_of list = if list_any is_median list then 34 else 1
+passes_of list = if list_any is_median list then 10 else 1
 
 abbrev pub query_cost : Database → Query → ℕ
 query_cost db (Select list name nodes) = option_map_or (λ s. select_cost db s.0 s.1 (condition_of nodes)) (relation_named db name) 0

@@ -32,12 +32,12 @@ fn pass(fold: &mut Fold, count: u32, lows: u32, low: i32, high: i32) -> bool
     fold.end_pass()
 }
 
-// The median of such numbers, None where 33 passes are not enough.
+// The median of such numbers, None where 9 passes are not enough.
 fn median(count: u32, lows: u32, low: i32, high: i32) -> Option<i64>
     requires { count ≤ 32768 }
 {
     let mut fold = Fold::new(Agg::Median);
-    for _ in 0..33 {
+    for _ in 0..9 {
         if !pass(&mut fold, count, lows, low, high) {
             return fold.answer();
         }
@@ -82,7 +82,7 @@ fn a_median_is_the_lower_middle(rt: HostRuntime) {
 }
 
 #[test]
-fn the_median_of_32768_ends_of_long_comes_within_33_passes(rt: HostRuntime) {
+fn the_median_of_32768_ends_of_long_comes_within_9_passes(rt: HostRuntime) {
     assert!(rt; median(32768, 16384, i32::MIN, i32::MAX) == Some(-2147483648));
     assert!(rt; median(32768, 16383, i32::MIN, i32::MAX) == Some(2147483647));
 }

@@ -95,7 +95,7 @@ fn reply<V: Files, K: Sink>(
 }
 
 // The same through the sink that puts the client first, from now on.
-#[tactic(auto, using(answering::proofs::WellFormed::well_formed))]
+#[tactic(auto, using(session_model::proofs::WellFormed::well_formed))]
 fn reply_since<V: Files, K: Sink, B: Begun>(
     session: &mut Session<V>,
     client: u8,

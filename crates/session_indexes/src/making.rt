@@ -74,11 +74,8 @@ fn make_order<V: Files>(
         Ok(Some(last)) => return Ok(Err(Refusal::NotOrdered { last })),
         Err(Failed) => return Err(FileError::Failed),
     }
-    match put_entry(files, cat, site, IndexKind::Inline) {
-        Ok(()) => Ok(Ok(Access::Order)),
-        Err(FileError::Space { need }) => Err(FileError::Space { need }),
-        Err(FileError::Failed) => Err(FileError::Failed),
-    }
+    put_entry(files, cat, site, IndexKind::Inline)?;
+    Ok(Ok(Access::Order))
 }
 
 // An index with a hash tree of all keys.
@@ -106,11 +103,8 @@ fn make_tree<V: Files>(
         AsksIndex (V.asks files.new) (V.state files.new) cat site.now.slot MaxHeap ks need) }
     ensures frame { ChangesOrLacks V.state V.lent V.reads V.faults V.lacks files.old files.new result }
 {
-    match add_tree(files, cat, tuples, site) {
-        Ok(file) => Ok(Ok(Access::Tree(file))),
-        Err(FileError::Space { need }) => Err(FileError::Space { need }),
-        Err(FileError::Failed) => Err(FileError::Failed),
-    }
+    let file = add_tree(files, cat, tuples, site)?;
+    Ok(Ok(Access::Tree(file)))
 }
 
 // An index with a hash table of all keys. A table that no index has is filled first.

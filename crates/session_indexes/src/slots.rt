@@ -30,11 +30,8 @@ pub fn prepare_slot<V: Files>(files: &mut V, cat: FileId, slot: IndexId) -> Resu
         AsksIndexSlot (V.asks files.new) (V.state files.new) cat slot need) }
     ensures frame { ChangesOrLacks V.state V.lent V.reads V.faults V.lacks files.old files.new result }
 {
-    match prepare_catalog(files, cat, 1408 + 8 * u32::from(slot.number()), 8) {
-        Ok(()) => Ok(()),
-        Err(FileError::Space { need }) => Err(FileError::Space { need }),
-        Err(FileError::Failed) => Err(FileError::Failed),
-    }
+    prepare_catalog(files, cat, 1408 + 8 * u32::from(slot.number()), 8)?;
+    Ok(())
 }
 
 /// Puts an index of a kind into its slot of the catalog, for which room was made. All others stay.
@@ -77,14 +74,8 @@ pub fn put_entry<V: Files>(
         AsksIndexSlot (V.asks files.new) (V.state files.new) cat site.now.slot need) }
     ensures frame { ChangesOrLacks V.state V.lent V.reads V.faults V.lacks files.old files.new result }
 {
-    match prepare_slot(files, cat, site.slot) {
-        Ok(()) => {}
-        Err(FileError::Space { need }) => return Err(FileError::Space { need }),
-        Err(FileError::Failed) => return Err(FileError::Failed),
-    }
-    let Ok(()) = put_site(files, cat, site, kind) else {
-        return Err(FileError::Failed);
-    };
+    prepare_slot(files, cat, site.slot)?;
+    put_site(files, cat, site, kind)?;
     Ok(())
 }
 
@@ -100,14 +91,8 @@ pub fn clear_entry<V: Files>(files: &mut V, cat: FileId, slot: IndexId) -> Resul
         AsksIndexSlot (V.asks files.new) (V.state files.new) cat slot need) }
     ensures frame { ChangesOrLacks V.state V.lent V.reads V.faults V.lacks files.old files.new result }
 {
-    match prepare_slot(files, cat, slot) {
-        Ok(()) => {}
-        Err(FileError::Space { need }) => return Err(FileError::Space { need }),
-        Err(FileError::Failed) => return Err(FileError::Failed),
-    }
-    let Ok(()) = clear_index(files, cat, slot) else {
-        return Err(FileError::Failed);
-    };
+    prepare_slot(files, cat, slot)?;
+    clear_index(files, cat, slot)?;
     Ok(())
 }
 

@@ -22,7 +22,7 @@ use crate::slots::{prepare_slot, put_site};
 use afl_base::{FileError, FileId, Files, IndexId};
 use catalog::tree_file;
 use db_model::IndexKind;
-use index_maxheap::{buckets_for, build};
+use index_maxheap::{BUCKET_SIZE, HEAD_SIZE, buckets_for, build};
 use tuple_file::Tuples;
 
 // Builds the tree of the keys of an attribute in a draft.
@@ -50,7 +50,8 @@ fn draft_tree<V: Files>(
     let Ok(buckets) = buckets_for(files, tuples.column(attribute), slots) else {
         return Err(FileError::Failed);
     };
-    match files.draft(tree_file(slot), 683 + 195 * u32::from(buckets)) {
+    let size = HEAD_SIZE as u32 + BUCKET_SIZE as u32 * u32::from(buckets);
+    match files.draft(tree_file(slot), size) {
         Ok(()) => {}
         Err(FileError::Space { need }) => return Err(FileError::Space { need }),
         Err(FileError::Failed) => return Err(FileError::Failed),

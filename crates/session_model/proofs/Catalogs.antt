@@ -12,9 +12,9 @@ use Rattle.afl_base.proofs.FileLaws.{file_here, named_here, named_live}
 use Rattle.afl_base.proofs.FrameLaws.{becomes_spares}
 use Rattle.catalog.specs.CatalogFile.{IsCatalogSize}
 use Rattle.catalog.specs.Catalogs.{index_replaced, relation_replaced}
-use Rattle.catalog.proofs.Replaced.{index_changed, relation_changed}
+use Rattle.catalog.proofs.Replaced.{IsReadBack, index_changed, relation_changed}
 use Rattle.db_model.specs.declared.schemas.Schema.{Schema}
-use Rattle.db_model.specs.Catalog.{Catalog as Slots, Index, IsRelation as IsSchema, catalog_of, with_index_slot, with_relation_slot}
+use Rattle.db_model.specs.Catalog.{Catalog as Slots, Index, catalog_of, with_index_slot, with_relation_slot}
 use Rattle.db_model.specs.Database.{with_index, with_relation}
 use Rattle.db_model.specs.Row.{Row, no_row, row_length, rows_of}
 use Rattle.db_model.specs.Step.{keys, slots_limit}
@@ -475,15 +475,15 @@ module _ (old new : State) (before after : Tables) (held : Held) (opens : List (
 
 -- ---- a relation has come, grown by an attribute, or gone
 
--- the slot k has a relation now, or none. No open cursor reads rows of the one that it had, and the indexes of the new one
--- are complete for it
+-- the slot k has a relation now that is read back as it was written, or none. No open cursor reads rows of the one that it
+-- had, and the indexes of the new one are complete for it
 pub record RelationChanges (old new : State) (tables : Tables) (held : Held) (opens : List (Option Open)) (k : ℕ) (t : Option Tuples) (cat : ℕ) : Type 0 where
   pub below : k < 8
   pub has : held.cat ≡ Some cat
   pub leaves : LeavesOthers old new (rows_file k)
   pub bytes : HasBytes old new cat (with_relation_slot (bytes_at old.files cat) k (option_map schema_in t))
   pub idle : new.draft ≡ None
-  pub form : IsSchema (option_map schema_in t)
+  pub back : IsTrue old.tells → IsReadBack (option_map schema_in t)
   pub slot : IsRelationSlot new 2 k t
   pub indexes : (j : ℕ) (y : Indexed) → get_or held.indexes j None ≡ Some y → y.relation ≡ k → IsIndexedOn new tables j y t
   pub unread : (s : Tuples) → get_or held.relations k None ≡ Some s → (n : ℕ) (o : Open) → get_or opens n None ≡ Some o → ReadsRows o s → ⊥
@@ -544,12 +544,12 @@ module _ (old new : State) (tables : Tables) (held : Held) (opens : List (Option
     catalog = let P : Option ℕ → Type 0 = λ o. HasCatalogFile new.files o in subst P (sym u.has) (u.bytes.named, inr (inr u.bytes.size), u.bytes.kind);
     listed = λ told. let past = sym u.leaves.tells ∙ told in
         ap catalog_of (new_bytes past)
-        ∙ relation_changed (bytes_at old.files cat) k (option_map schema_in t) was_size u.below u.form
+        ∙ relation_changed (bytes_at old.files cat) k (option_map schema_in t) was_size u.below (u.back past)
         ∙ ap (λ (c : Slots). relation_replaced c k (option_map schema_in t)) (ap catalog_of (sym (bytes_there old.files held.cat cat u.has)) ∙ r.listed past)
         ∙ ap (λ (rs : List (Option Schema)). record { version = 2; relations = rs; indexes = map (option_map index_known) held.indexes }) (sym (map-set (option_map schema_in) held.relations k t));
     written = λ told some. let past = sym u.leaves.tells ∙ told in
         subst IsWritten (sym (new_bytes past))
-        (relation_written (bytes_at old.files cat) k (option_map schema_in t) was_size u.below u.form (subst IsWrittenOrEmpty (bytes_there old.files held.cat cat u.has) (r.written past)));
+        (relation_written (bytes_at old.files cat) k (option_map schema_in t) was_size u.below (u.back past) (subst IsWrittenOrEmpty (bytes_there old.files held.cat cat u.has) (r.written past)));
   }
 
   pub relation_view : IsTrue old.tells → view new.files (with_tuples held k t) opens ≡ record (with_relation (view old.files held opens) k (option_map (relation_of_rows new.files) t)) { version = 2 }

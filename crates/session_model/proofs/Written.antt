@@ -7,10 +7,11 @@ use Rattle.std.proofs.lemmas.List.{drop_at}
 use Rattle.afl_base.specs.Fields.{put_at}
 use Rattle.catalog.specs.CatalogFile.{IsCatalogSize}
 use Rattle.catalog.proofs.Changes.{long_empty, slot_put}
-use Rattle.catalog.proofs.PutRanges.{before_put, behind_put, here_put}
+use Rattle.catalog.proofs.PutRanges.{before_put, behind_put, here_put, other_index_put, other_relation_put}
+use Rattle.catalog.proofs.Replaced.{IsReadBack}
 use Rattle.db_model.specs.declared.schemas.Schema.{Schema}
-use Rattle.db_model.specs.Catalog.{Index, IsRelation, empty_bytes, in_version_2, index_slot_bytes, index_slot_of, relation_slot_bytes, relation_slot_of, version_mark, with_index_slot, with_relation_slot}
-use Rattle.db_model.proofs.Catalogs.{index_slot_back, length-index_slot, length-relation_slot, relation_slot_back}
+use Rattle.db_model.specs.Catalog.{Index, empty_bytes, in_version_2, index_slot_bytes, index_slot_of, relation_slot_bytes, relation_slot_of, version_mark, with_index_slot, with_relation_slot}
+use Rattle.db_model.proofs.Catalogs.{index_slot_back, length-index_slot}
 use Rattle.padded.proofs.Facts.{slice_of_front}
 use Rattle.session_model.specs.Running.{IsWritten, IsWrittenOrEmpty}
 
@@ -92,10 +93,10 @@ by_size P bytes size w use_it =
 
 -- ---- a slot is replaced
 
-relation_put : (bytes version_2 : List ℕ) (k : ℕ) (slot : Option Schema) → Stands bytes version_2 → k < 8 → IsRelation slot → IsWritten (with_relation_slot bytes k slot)
-relation_put bytes version_2 k slot stands h good =
+relation_put : (bytes version_2 : List ℕ) (k : ℕ) (slot : Option Schema) → Stands bytes version_2 → k < 8 → IsReadBack slot → IsWritten (with_relation_slot bytes k slot)
+relation_put bytes version_2 k slot stands h back =
     let part : List ℕ = relation_slot_bytes slot in
-    let n : length part ≡ 176 = length-relation_slot slot good in
+    let n : length part ≡ 176 = back.0 in
     let at : ℕ = 176 * k in
     let room : at ≤ length version_2 = omega (arith, stands.long, h) in
     let w = stands.written in
@@ -103,21 +104,13 @@ relation_put bytes version_2 k slot stands h good =
       relations = λ j inside.
           ⊎_elim
           (λ same. subst IsRelationForm (sym (ap (λ (m : ℕ). slice_range (put_at version_2 at part) (176 * m) (176 * m + 176)) same ∙ here_put version_2 part at 176 n room))
-          (ap relation_slot_bytes (sym (relation_slot_back slot good))))
-          (λ differs. subst IsRelationForm (sym (other j inside differs n room)) (w.relations j inside))
+          (ap relation_slot_bytes (sym back.1)))
+          (λ differs. subst IsRelationForm (sym (other_relation_put version_2 part j k n differs room)) (w.relations j inside))
           (cases_eq j k);
       indexes = λ i inside.
           subst IsIndexForm (sym (behind_put version_2 part at (1408 + 8 * i) (1408 + 8 * i + 8) (omega (arith, n, h)) room)) (w.indexes i inside);
       mark = λ e. behind_put version_2 part at 1472 1480 (omega (arith, n, h)) room ∙ w.mark stands.long;
     })
-  where
-    other : (j : ℕ) → j < 8 → j ≢ k → length (relation_slot_bytes slot) ≡ 176 → 176 * k ≤ length version_2
-        → slice_range (put_at version_2 (176 * k) (relation_slot_bytes slot)) (176 * j) (176 * j + 176) ≡ slice_range version_2 (176 * j) (176 * j + 176)
-    other j inside differs n room =
-        ⊎_elim
-        (λ (less : j < k). before_put version_2 (relation_slot_bytes slot) (176 * k) (176 * j) (176 * j + 176) (omega arith) (omega (arith, less)) room)
-        (λ (more : k ≤ j). behind_put version_2 (relation_slot_bytes slot) (176 * k) (176 * j) (176 * j + 176) (omega (arith, n, more, differs)) room)
-        (cases_lt j k)
 
 index_put : (bytes version_2 : List ℕ) (i : ℕ) (slot : Option Index) → Stands bytes version_2 → i < 8 → IsWritten (with_index_slot bytes i slot)
 index_put bytes version_2 i slot stands h =
@@ -133,21 +126,13 @@ index_put bytes version_2 i slot stands h =
           ⊎_elim
           (λ same. subst IsIndexForm (sym (ap (λ (m : ℕ). slice_range (put_at version_2 at part) (1408 + 8 * m) (1408 + 8 * m + 8)) same ∙ here_put version_2 part at 8 n room))
           (ap index_slot_bytes (sym (index_slot_back slot))))
-          (λ differs. subst IsIndexForm (sym (other j inside differs n room)) (w.indexes j inside))
+          (λ differs. subst IsIndexForm (sym (other_index_put version_2 part j i n differs room)) (w.indexes j inside))
           (cases_eq j i);
       mark = λ e. behind_put version_2 part at 1472 1480 (omega (arith, n, h)) room ∙ w.mark stands.long;
     })
-  where
-    other : (j : ℕ) → j < 8 → j ≢ i → length (index_slot_bytes slot) ≡ 8 → 1408 + 8 * i ≤ length version_2
-        → slice_range (put_at version_2 (1408 + 8 * i) (index_slot_bytes slot)) (1408 + 8 * j) (1408 + 8 * j + 8) ≡ slice_range version_2 (1408 + 8 * j) (1408 + 8 * j + 8)
-    other j inside differs n room =
-        ⊎_elim
-        (λ (less : j < i). before_put version_2 (index_slot_bytes slot) (1408 + 8 * i) (1408 + 8 * j) (1408 + 8 * j + 8) (omega arith) (omega (arith, less)) room)
-        (λ (more : i ≤ j). behind_put version_2 (index_slot_bytes slot) (1408 + 8 * i) (1408 + 8 * j) (1408 + 8 * j + 8) (omega (arith, n, more, differs)) room)
-        (cases_lt j i)
 
-pub relation_written : (bytes : List ℕ) (k : ℕ) (slot : Option Schema) → IsCatalogSize (length bytes) → k < 8 → IsRelation slot → IsWrittenOrEmpty bytes → IsWritten (with_relation_slot bytes k slot)
-relation_written bytes k slot size h good w = by_size _ bytes size w (λ (version_2 : List ℕ) (stands : Stands bytes version_2). relation_put bytes version_2 k slot stands h good)
+pub relation_written : (bytes : List ℕ) (k : ℕ) (slot : Option Schema) → IsCatalogSize (length bytes) → k < 8 → IsReadBack slot → IsWrittenOrEmpty bytes → IsWritten (with_relation_slot bytes k slot)
+relation_written bytes k slot size h back w = by_size _ bytes size w (λ (version_2 : List ℕ) (stands : Stands bytes version_2). relation_put bytes version_2 k slot stands h back)
 
 pub index_written : (bytes : List ℕ) (i : ℕ) (slot : Option Index) → IsCatalogSize (length bytes) → i < 8 → IsWrittenOrEmpty bytes → IsWritten (with_index_slot bytes i slot)
 index_written bytes i slot size h w = by_size _ bytes size w (λ (version_2 : List ℕ) (stands : Stands bytes version_2). index_put bytes version_2 i slot stands h)

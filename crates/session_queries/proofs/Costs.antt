@@ -22,10 +22,10 @@ pub begin_chosen : (indexes : Kinds) (ranges : List Range) (all : List Row) → 
 begin_chosen indexes ranges all = begin_within indexes ranges all (plan indexes ranges)
 
 -- one pass more than there are pays for the beginning
-pub passes_paid : (m : Bool) (begin ahead chosen : ℕ) → begin + ahead ≤ chosen → begin + (if m then 33 else 1) * ahead ≤ (if m then 34 else 1) * chosen
+pub passes_paid : (m : Bool) (begin ahead chosen : ℕ) → begin + ahead ≤ chosen → begin + (if m then 9 else 1) * ahead ≤ (if m then 10 else 1) * chosen
 passes_paid true begin ahead chosen h = omega arith
 passes_paid false begin ahead chosen h = omega arith
 
-pub pass_paid : (m : Bool) (chosen : ℕ) → chosen ≤ (if m then 34 else 1) * chosen
+pub pass_paid : (m : Bool) (chosen : ℕ) → chosen ≤ (if m then 10 else 1) * chosen
 pass_paid true chosen = omega arith
 pass_paid false chosen = omega arith

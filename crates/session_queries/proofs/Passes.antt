@@ -82,9 +82,9 @@ least zero h = refl
 least (suc pass) h = absurd (cc (h (omega arith)))
 
 -- one more pass is paid for: there is more than one for a median alone
-pub paid : (m : Bool) (pass cost : ℕ) → pass < 33 → (1 ≤ pass → IsTrue m) → pass * cost + cost ≤ (if m then 33 else 1) * cost
+pub paid : (m : Bool) (pass cost : ℕ) → pass < 9 → (1 ≤ pass → IsTrue m) → pass * cost + cost ≤ (if m then 9 else 1) * cost
 paid true pass cost few median =
-    let more : pass + 1 ≤ 33 = omega arith in
+    let more : pass + 1 ≤ 9 = omega arith in
     let most = mul-le-mul_right cost more in
     omega (arith, most, one_more_times pass cost)
 paid false pass cost few median =

@@ -61,13 +61,13 @@ select_cost_is files held opens name list nodes found f =
 pub aggregate_cost_is : (files : Table) (held : Held) (opens : List (Option Open)) (name : List ℕ) (list : List (Agg × List ℕ)) (nodes : List Node) (found : Found) (items : List (Agg × ℕ))
     → IsRelationFound held name found → medians items ≡ list_any is_median list
     → aggregate_cost (view files held opens) list name nodes
-    ≡ (if medians items then 34 else 1) * chosen_cost (kinds found.indexes) (ranges_of found.tuples.schema.attributes (condition_of nodes)) (rows files found.tuples)
+    ≡ (if medians items then 10 else 1) * chosen_cost (kinds found.indexes) (ranges_of found.tuples.schema.attributes (condition_of nodes)) (rows files found.tuples)
 aggregate_cost_is files held opens name list nodes found items f m =
     let ranges = ranges_of found.tuples.schema.attributes (condition_of nodes) in
     let all = rows files found.tuples in
     rw (relation_seen files held opens name found f)
     (ap (λ (k : Kinds). passes_of list * chosen_cost k ranges all) (kinds_seen files held opens name found f)
-    ∙ ap (λ (b : Bool). (if b then 34 else 1) * chosen_cost (kinds found.indexes) ranges all) (sym m))
+    ∙ ap (λ (b : Bool). (if b then 10 else 1) * chosen_cost (kinds found.indexes) ranges all) (sym m))
 
 -- ---- what the machine answers
 

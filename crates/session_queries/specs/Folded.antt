@@ -27,7 +27,7 @@ tally_at tallies i = get_or tallies i no_tally
 pub record StandsAfterPasses (passes : ℕ) (tally : Tally) : Type 0 where
   pub wants : IsTrue tally.is_open → IsTrue (wants_pass tally.fold)
   pub passed : IsTrue tally.is_open → tally.fold.passes ≡ passes
-  pub few : IsTrue tally.is_open → passes < 33
+  pub few : IsTrue tally.is_open → passes < 9
   pub closed : IsFalse tally.is_open → IsFalse (wants_pass tally.fold)
 
 -- what an open one has taken

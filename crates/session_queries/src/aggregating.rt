@@ -98,7 +98,7 @@ fn plan_folds(
     ensures cost { let tree = condition_of condition.now in IfOk result (λ a.
         (files : Table) (opens : List (Option AnyOpen))
         → aggregate_cost (view files held.now opens) list.now relation.now condition.now
-        ≡ (if medians a.plan.items then 34 else 1) * chosen_cost (kinds a.found.indexes)
+        ≡ (if medians a.plan.items then 10 else 1) * chosen_cost (kinds a.found.indexes)
         (ranges_of a.found.tuples.schema.attributes tree) (rows files a.found.tuples)) }
     ensures refused { IfErr result (λ refusal. (files : Table) (opens : List (Option AnyOpen))
         → (step (view files held.now opens)
@@ -132,7 +132,7 @@ fn folded<V: Files>(
         IsTrue (V.state files.old).tells → (condition : Option Cond)
         → IsCodeOf tuples.schema.attributes condition aggregating.plan.code
         → V.reads files.new ≤ V.reads files.old
-        + (if medians aggregating.plan.items then 34 else 1) * chosen_cost (kinds aggregating.found.indexes)
+        + (if medians aggregating.plan.items then 10 else 1) * chosen_cost (kinds aggregating.found.indexes)
         (ranges_of tuples.schema.attributes condition) all }
     ensures frame { OnlyReads V.state V.lent V.reads V.faults files.old files.new result }
 {

@@ -61,11 +61,8 @@ pub fn end_all(items: &[(Agg, u8)], tallies: &mut [Tally]) -> bool
 {
     let mut is_open = false;
     for i in 0..items.len() {
-        let old = tallies[i];
-        let tally = end_pass(&old);
-        let more = tally.is_open;
-        tallies[i] = tally;
-        is_open = either(is_open, more);
+        end_pass(&mut tallies[i]);
+        is_open = either(is_open, tallies[i].is_open);
     }
     is_open
 }

@@ -18,7 +18,7 @@ use cursor::SelectCursor;
 use db_model::{Agg, Tuple};
 use index_set::{Candidates, HashTables};
 
-/// Passes over the rows that a cursor has still to answer, until no tally is open: 33 times at
+/// Passes over the rows that a cursor has still to answer, until no tally is open: 9 times at
 /// most, and more than once for a median alone.
 pub fn fold_all<V: Files>(
     files: &mut V,
@@ -43,11 +43,11 @@ pub fn fold_all<V: Files>(
     ensures reads { let state = V.state files.old in let all = rows state.files cursor.old.tuples in
         IsTrue state.tells → Fits cursor.old.candidates state tables.now all
         → V.reads files.new ≤ V.reads files.old
-        + (if medians items.now then 33 else 1) * cost_ahead cursor.old.candidates all }
+        + (if medians items.now then 9 else 1) * cost_ahead cursor.old.candidates all }
     ensures frame { OnlyReads V.state V.lent V.reads V.faults files.old files.new result }
 {
     let first = cursor.candidates;
-    for _pass in 0..33u8 {
+    for _pass in 0..9u8 {
         restart(cursor, &first);
         fold_rows(files, tables, cursor, items, tallies)?;
         if !end_all(items, tallies) {

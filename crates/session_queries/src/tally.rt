@@ -38,13 +38,10 @@ pub fn push(tally: &mut Tally, value: &Value)
 }
 
 /// Ends a pass, and closes it where it wants no other.
-pub fn end_pass(tally: &Tally) -> Tally
-    ensures { EndsPass tally.now result }
+pub fn end_pass(tally: &mut Tally)
+    ensures { EndsPass tally.old tally.new }
 {
-    if !tally.is_open {
-        return *tally;
+    if tally.is_open {
+        tally.is_open = tally.fold.end_pass();
     }
-    let mut fold = tally.fold;
-    let is_open = fold.end_pass();
-    Tally { fold, is_open }
 }

@@ -5,6 +5,7 @@ use Rattle.afl_base.specs.Asked.{asks_few}
 use Rattle.afl_base.specs.declared.kind.Kind.TheVariants.{Doubling}
 use Rattle.afl_base.specs.Files.{File, State, Table, bytes_at, new_file, place, size_at}
 use Rattle.afl_base.proofs.FileLaws.{file_here, live_here, named_here}
+use Rattle.catalog.proofs.Replaced.{read_back}
 use Rattle.db_model.specs.declared.commands.Command.TheVariants as command
 use Rattle.db_model.specs.declared.refusals.Pool.TheVariants as pool
 use Rattle.db_model.specs.declared.refusals.Refusal.TheVariants as no
@@ -120,7 +121,7 @@ module _ (old new : State) (tables : Tables) (held : Held) (opens : List (Option
     leaves = put.leaves;
     bytes = put.bytes;
     idle = put.idle;
-    form = (is, omega arith, tt);
+    back = λ told. read_back (Some (bare_schema name)) (is, omega arith, tt);
     slot = new_relation new file k name here;
     indexes = no_index;
     unread = λ s e. absurd (none_some s (sym free ∙ e));

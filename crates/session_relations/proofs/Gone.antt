@@ -3,6 +3,7 @@ use Rattle.std.proofs.Common.{◌≡◌, ℕ, zero, suc, ◌<◌, Bool, true, fa
 use Rattle.std.specs.Prelude.{Result, ⊤, nat_lt, option_map}
 use Rattle.padded.proofs.Facts.{some_same}
 use Rattle.afl_base.specs.Files.{IsUnnamed, State, Table}
+use Rattle.catalog.proofs.Replaced.{read_back}
 use Rattle.db_model.specs.declared.refusals.Refusal.{Refusal}
 use Rattle.db_model.specs.declared.refusals.Refusal.TheVariants as no
 use Rattle.db_model.specs.Catalog.{Index}
@@ -70,7 +71,7 @@ module _ (old new : State) (tables : Tables) (held : Held) (opens : List (Option
     leaves = put.leaves;
     bytes = put.bytes;
     idle = put.idle;
-    form = tt;
+    back = λ told. read_back None tt;
     slot = gone;
     indexes = λ j y e rel. absurd (none_on k held.indexes alone j y e rel);
     unread = λ s e n o is reads. reads_other old.files t 1 opens unread n o is (subst (λ (z : Tuples). ReadsRows o z) (some_same s t (sym e ∙ there)) reads);

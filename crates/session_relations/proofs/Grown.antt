@@ -7,10 +7,10 @@ use Rattle.std.proofs.lemmas.List.FromFn.{get_or-map-range_with_len}
 use Rattle.padded.proofs.Facts.{some_same}
 use Rattle.afl_base.specs.Files.{File, IsNamed, State, bytes_at, name_at, no_file, place, size_at}
 use Rattle.catalog.specs.CatalogFile.{PutsRelation}
+use Rattle.catalog.proofs.Replaced.{IsReadBack, read_back}
 use Rattle.db_model.specs.declared.schemas.Attribute.{Attribute}
 use Rattle.db_model.specs.declared.schemas.Schema.{Schema}
-use Rattle.db_model.specs.Catalog.{Catalog as Slots, IsAttribute, IsRelation, catalog_of, empty_catalog, relation_at, relation_slot_bytes, relation_slot_of}
-use Rattle.db_model.proofs.Catalogs.{length-relation_slot, relation_slot_back}
+use Rattle.db_model.specs.Catalog.{Catalog as Slots, IsAttribute, catalog_of, empty_catalog, relation_at, relation_slot_bytes, relation_slot_of}
 use Rattle.db_model.specs.Row.{Row}
 use Rattle.index_set.specs.Tables.{Tables}
 use Rattle.space_model.specs.FileNames.{catalog_file, rows_file}
@@ -21,12 +21,12 @@ use Rattle.session_model.specs.declared.held.Open.{Open}
 use Rattle.session_model.specs.Frames.{schema_in, with_tuples}
 use Rattle.session_model.specs.Running.{IsRunning, IsWritten, IsWrittenOrEmpty, ReadsRows, bytes_of_catalog}
 use Rattle.session_model.specs.View.{view}
-use Rattle.session_model.proofs.Catalogs.{catalog_there}
+use Rattle.session_model.proofs.Catalogs.{RelationChanges, catalog_there}
 use Rattle.session_model.proofs.Grown.{grown_indexes, holds_none, no_bytes, rows_of_none, slots_of_none, unread_empty}
 use Rattle.session_model.proofs.Running.{catalog_no_rows, differ, relation_there}
 use Rattle.session_relations.specs.Changes.{IsLonger, Shows, changed_at}
-use Rattle.session_relations.proofs.ReadBack.{IsReadBack, alone, longer, read_back_more}
-use Rattle.session_relations.proofs.SlotChanges.{SlotChanges, shows_slot}
+use Rattle.session_relations.proofs.ReadBack.{alone, longer, read_back_more}
+use Rattle.session_relations.proofs.Shown.{shows_changed}
 use Rattle.session_relations.proofs.Slots.{slot_put}
 use Rattle.tuple_file.proofs.Columns.{rows_counted}
 use Rattle.tuple_file.proofs.Holding.{holds_by}
@@ -80,8 +80,7 @@ held_back state tables held opens k cat t r has below there told =
 -- the attribute that comes would be read back in a relation of its own
 alone_back : (a : Attribute) → IsAttribute a → IsReadBack (Some (alone a))
 alone_back a good =
-    let form : IsRelation (Some (alone a)) = (good.0, omega arith, (good, tt)) in
-    (length-relation_slot (Some (alone a)) form, relation_slot_back (Some (alone a)) form)
+    read_back (Some (alone a)) (good.0, omega arith, (good, tt))
 
 -- ---- the relation grows
 
@@ -108,22 +107,24 @@ module _ (old new : State) (tables : Tables) (held : Held) (opens : List (Option
   new_named =
       ap (λ (id : ℕ). name_at new.files id) more.file ∙ ap (option_map (λ (f : File). f.name)) same_place ∙ (relation_there old tables held opens r k was there).named
 
-  read_back : IsTrue old.tells → IsReadBack (Some is.schema)
-  read_back told =
+  grown_back : IsTrue old.tells → IsReadBack (Some is.schema)
+  grown_back told =
       let same : is.schema ≡ longer was.schema more.attribute = λ i. record { name = more.name i; attributes = more.attributes i } in
       let few : length was.schema.attributes < 8 =
       omega (arith, more.few, ap (λ (xs : List Attribute). length xs) more.attributes, length-append was.schema.attributes (more.attribute ∷ [])) in
       subst (λ (s : Schema). IsReadBack (Some s)) (sym same)
       (read_back_more was.schema more.attribute (held_back old tables held opens k cat was r has below there told) (alone_back more.attribute more.good) few)
 
-  grown : SlotChanges old new tables held opens k (Some is) cat
+  grown : RelationChanges old new tables held opens k (Some is) cat
   grown =
       let put = slot_put old new cat k (Some is.schema) r.idle (catalog_there old tables held opens cat r has) u in
       record {
         below = below;
         has = has;
-        put = put;
-        back = read_back;
+        leaves = put.leaves;
+        bytes = put.bytes;
+        idle = put.idle;
+        back = grown_back;
         slot = record { holds = new_holds; named = new_named; few = omega (arith, slots_of_none new is new_size) };
         indexes = grown_indexes old new tables held opens r k was there none put.leaves is more.attribute more.attributes new_size;
         unread = λ s e n o at reads. unread_empty old new tables held opens r k was there none n o at (subst (λ (z : Tuples). ReadsRows o z) (some_same s was (sym e ∙ there)) reads);
@@ -132,4 +133,4 @@ module _ (old new : State) (tables : Tables) (held : Held) (opens : List (Option
   pub shows_grown : Shows old new tables (with_tuples held k (Some is)) opens (changed_at (view old.files held opens) k (Some (record { schema = is.schema; rows = [] })))
   shows_grown =
       let P : List Row → Type 0 = λ all. Shows old new tables (with_tuples held k (Some is)) opens (changed_at (view old.files held opens) k (Some (record { schema = is.schema; rows = all }))) in
-      subst P (rows_of_none new is new_size) (shows_slot old new tables held opens k (Some is) cat r grown)
+      subst P (rows_of_none new is new_size) (shows_changed old new tables held opens r k (Some is) cat grown)

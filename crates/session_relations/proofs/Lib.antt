@@ -6,7 +6,5 @@ pub mod Gone
 pub mod Grown
 pub mod Keeping
 pub mod ReadBack
-pub mod Replaced
 pub mod Shown
-pub mod SlotChanges
 pub mod Slots

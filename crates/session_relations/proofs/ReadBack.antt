@@ -4,6 +4,7 @@ use Rattle.std.specs.Prelude.{slice_index, slice_range, ◌==◌}
 use Rattle.std.specs.List.{AllByRecursion, range_with_len}
 use Rattle.std.proofs.lemmas.List.{get_or-append-add, get_or_append_left, flat_map_more, length-take, length_push}
 use Rattle.std.proofs.lemmas.List.FromFn.{map-range_with_len_more}
+use Rattle.catalog.proofs.Replaced.{IsReadBack}
 use Rattle.db_model.specs.declared.schemas.Attribute.{Attribute}
 use Rattle.db_model.specs.declared.schemas.Schema.{Schema}
 use Rattle.db_model.specs.Catalog.{attribute_bytes, attribute_of, attributes_of, relation_slot_bytes, relation_slot_of, schema_of}
@@ -56,10 +57,6 @@ read_short bytes [] = tt
 read_short bytes (j ∷ js) = (short_name _ (slice_range bytes (18 * j) (18 * j + 18)) refl, read_short bytes js)
 
 -- ---- a slot
-
--- what is read of a slot is what was written
-abbrev pub IsReadBack : Option Schema → Type 0
-IsReadBack slot = (length (relation_slot_bytes slot) ≡ 176) × (relation_slot_of (relation_slot_bytes slot) ≡ slot)
 
 abbrev name_part : Schema → List ℕ
 name_part s = padded 16 s.name

@@ -100,7 +100,7 @@ fn say_one<V: Files, K: Sink>(
 }
 
 /// Reads a command.
-#[tactic(auto, using(crate::proofs::WellFormed::well_formed))]
+#[tactic(auto, using(session_model::proofs::WellFormed::well_formed))]
 pub fn read(bytes: &[u8], command: &mut Command) -> Result<(), Refusal>
     ensures { OnOk result (IsWellFormed command.new) }
 {

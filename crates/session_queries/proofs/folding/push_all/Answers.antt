@@ -1,4 +1,4 @@
-use Rattle.std.proofs.Common.{rules, arith, ◌<◌, length, subst, sym}
+use Rattle.std.proofs.Common.{rules, arith, ◌<◌, length, subst, sym, ◌∙◌, get_or}
 use Rattle.db_model.specs.declared.values.Value.{Value}
 use Rattle.session_model.specs.View.{value_at}
 use Rattle.session_queries.specs.declared.tally.Tally.{Tally}
@@ -17,6 +17,6 @@ loop-i-preserved c =
       many = search rules;
       behind = set_behind c.args.tallies.now c.loop-i.tallies i new inv.behind;
       takes = set_before (λ j tally. TakesValue (value_at c.args.tuple.now (item_at c.args.items.now j).1) (tally_at c.args.tallies.now j) tally) c.loop-i.tallies i new inside inv.takes
-          (subst (λ (t : Tally). TakesValue (value_at c.args.tuple.now (item_at c.args.items.now i).1) t new) read
-          (subst (λ (v : Value). TakesValue v c.index-tallies-i.result new) c.value_at.ensures (subst (λ (t : Tally). TakesValue c.value_at.result t new) (sym c.index-tallies-i.is) c.push.ensures)));
+          (subst (λ (t : Tally). TakesValue (value_at c.args.tuple.now (item_at c.args.items.now i).1) t new) (sym c.index-tallies-i.is ∙ read)
+          (subst (λ (v : Value). TakesValue v (get_or c.loop-i.tallies i c.index-tallies-i.result) new) c.value_at.ensures c.push.ensures));
     }

@@ -1,4 +1,6 @@
-use Rattle.std.proofs.Common.{rules, arith, ◌≡◌, true, ◌∙◌}
+use Rattle.std.proofs.Common.{rules, arith, ◌≡◌, Bool, true, subst, sym, ◌∙◌, ◌++◌, ◌∷◌, []}
+use Rattle.aggregate.specs.Fold.{Folds}
+use Rattle.session_queries.specs.Folded.{taken_by}
 use Rattle.session_queries.proofs.tally.push.Goals as goal
 
 pub returns-then-tally : goal.returns-then-tally
@@ -15,5 +17,7 @@ returns-then-tally c =
       };
       open_only = λ e. was_open;
       pushed = omega (arith, h.pushed);
-      told = λ all so_far folds. rw was_open (h.told all so_far (rw was_open at folds));
+      told = λ all so_far folds.
+          subst (λ (b : Bool). Folds all (taken_by b (so_far ++ c.args.value.now ∷ [])) c.push.new.self) (sym was_open)
+          (h.told all so_far (subst (λ (b : Bool). Folds all (taken_by b so_far) c.args.tally.now.fold) was_open folds));
     }
