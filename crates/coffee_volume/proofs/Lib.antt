@@ -13,3 +13,4 @@ pub mod Stepped
 pub mod Tables
 pub mod Takings
 pub mod Written
+pub mod CutCommits

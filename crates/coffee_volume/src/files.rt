@@ -19,7 +19,7 @@ impl<F: Flash> Files for Volume<F> {
     ghost use Rattle.coffee_log.specs.FileCuts.{IsFileCut};
     ghost use Rattle.coffee_merge.specs.CutMarks.{IsCutObsolete};
     ghost use Rattle.coffee_merge.specs.Torn.{BreaksOff};
-    ghost use Rattle.coffee_volume.specs.Cuts.{PreparesPart};
+    ghost use Rattle.coffee_volume.specs.Cuts.{CommitsPart, PreparesPart};
     ghost use Rattle.coffee_volume.specs.Lowest.{Looks, PlacesDraft, PlacesFile, Provides, Stops};
     ghost use Rattle.coffee_volume.specs.Taking.{KeepsUnits, TakesForDraft, TakesForFile, TakesNone};
     ghost use Rattle.coffee_volume.specs.Volumes.{AtEntry, Asks, Lacks, WhereTold, places, state_seen};
@@ -368,6 +368,9 @@ impl<F: Flash> Files for Volume<F> {
             Commits (⟦<Self as Files>⟧.state self.old) (⟦<Self as Files>⟧.state self.new) id) }
         ensures taken { OnOk result (
             WhereTold (⟦<Self as Files>⟧.state self.old) (⟦<Self as Files>⟧.state self.new) TakesNone) }
+        ensures cut { let old = ⟦<Self as Files>⟧.state self.old in IsTrue old.tells → IsTrue F.cuts → OnErr result
+            ((d : FileAt) → self.old.draft ≡ Some d
+            → CommitsPart old.store (F.image self.new.flash) self.old.table d) }
         ensures frame { let files = ⟦<Self as Files>⟧ in
             Changes files.state files.lent files.reads files.faults self.old self.new result }
     {
