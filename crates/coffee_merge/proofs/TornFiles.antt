@@ -9,7 +9,8 @@ use Rattle.coffee_layout.specs.Marks.{IsLowestRun, free_pages}
 use Rattle.coffee_layout.specs.Tiling.{IsTiled, nowhere, units_of}
 use Rattle.coffee_layout.specs.declared.file.FileAt.{FileAt}
 use Rattle.coffee_layout.specs.declared.unit.Unit.{Unit}
-use Rattle.coffee_merge.specs.CutMarks.{IsCutNaming, IsCutReplace, KeepsHead}
+use Rattle.coffee_merge.specs.CutMarks.{IsCutNaming, IsCutReplace, IsOneOf, KeepsHead}
+use Rattle.coffee_merge.specs.Flags.{flagged}
 use Rattle.coffee_merge.specs.Holding.{Entries, HoldsTable, IsIn, KeepsContents, log_header}
 use Rattle.coffee_merge.specs.Takes.{KeepsPagesBut}
 use Rattle.coffee_merge.specs.Torn.{BreaksOff}
@@ -42,6 +43,17 @@ module _ (old mid new : List ℕ) (table : Entries) (kept : KeepsContents old mi
     torn = inr (inr (inr (inl (record { d = d; is = refl; head = head; others = others }))));
   }
 
+  -- an extent that is made a file, or not yet
+  pub torn_commit : (d : FileAt) → HoldsTable mid table (Some d) → IsOneOf new mid (flagged mid d.page.0 1) → BreaksOff old new table
+  torn_commit d holds (inl is) = record { whole = mid; draft = Some d; holds = holds; kept = kept; torn = inl is }
+  torn_commit d holds (inr done) = record {
+    whole = mid;
+    draft = Some d;
+    holds = holds;
+    kept = kept;
+    torn = inr (inr (inr (inr (inl (record { d = d; is = refl; done = done })))));
+  }
+
   -- a file that is replaced in part
   pub torn_replacing : (d : FileAt) (i : ℕ) (e : FileAt) → HoldsTable mid table (Some d) → IsIn table i e → e.name ≡ d.name
       → IsCutReplace mid new d.page.0 e.page.0 e.log → BreaksOff old new table
@@ -50,7 +62,7 @@ module _ (old mid new : List ℕ) (table : Entries) (kept : KeepsContents old mi
     draft = Some d;
     holds = holds;
     kept = kept;
-    torn = inr (inr (inr (inr (inl (record { d = d; place = i; e = e; is = refl; there = there; name = name; cut = cut })))));
+    torn = inr (inr (inr (inr (inr (inl (record { d = d; place = i; e = e; is = refl; there = there; name = name; cut = cut }))))));
   }
 
   -- a log that is named in part
@@ -62,7 +74,7 @@ module _ (old mid new : List ℕ) (table : Entries) (kept : KeepsContents old mi
     draft = None;
     holds = holds;
     kept = kept;
-    torn = inr (inr (inr (inr (inr (record {
+    torn = inr (inr (inr (inr (inr (inr (record {
       place = i;
       e = e;
       log = log;
@@ -70,7 +82,7 @@ module _ (old mid new : List ℕ) (table : Entries) (kept : KeepsContents old mi
       none = none;
       run = run;
       cut = subst (λ image. IsCutNaming image new e.page.0 log.0) made cut;
-    })))));
+    }))))));
   }
 
 -- a collection that broke off

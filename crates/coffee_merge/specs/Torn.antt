@@ -11,6 +11,7 @@ use Rattle.coffee_layout.specs.Tiling.{IsTiled, nowhere, units_of}
 use Rattle.coffee_layout.specs.declared.file.FileAt.{FileAt}
 use Rattle.coffee_layout.specs.declared.unit.Unit.{Unit}
 use Rattle.coffee_merge.specs.CutMarks.{IsCutNaming, IsCutReplace, KeepsHead}
+use Rattle.coffee_merge.specs.Flags.{flagged}
 use Rattle.coffee_merge.specs.Holding.{Entries, HoldsTable, IsIn, KeepsContents, log_header}
 use Rattle.coffee_merge.specs.Takes.{KeepsPagesBut}
 use Rattle.coffee_space.specs.Cutting.{IsCutCollection}
@@ -53,9 +54,16 @@ pub record TearsNaming (whole new : List ℕ) (table : Entries) : Type 0 where
   pub run : IsLowestRun (free_pages (units_of whole)) 16 log.0
   pub cut : IsCutNaming (or_at whole (256 * log.0) (header_bytes (log_header e.name))) new e.page.0 log.0
 
+-- the extent under construction is made a file
+pub record CommitsDraft (whole new : List ℕ) (draft : Option FileAt) : Type 0 where
+  pub d : FileAt
+  pub is : draft ≡ Some d
+  pub done : new ≡ flagged whole d.page.0 1
+
+-- or nothing is torn
 abbrev pub IsTorn : (whole new : List ℕ) → Entries → Option FileAt → Type 0
 IsTorn whole new table draft = (new ≡ whole) ⊎ (TearsCollection whole new ⊎ (TearsHeader whole new ⊎ (TearsDraft whole new draft
-    ⊎ (TearsReplacing whole new table draft ⊎ TearsNaming whole new table))))
+    ⊎ (CommitsDraft whole new draft ⊎ (TearsReplacing whole new table draft ⊎ TearsNaming whole new table)))))
 
 -- a call broke off: some image holds the files, with their content, and maybe a draft, and of it this is left
 pub record BreaksOff (old new : List ℕ) (table : Entries) : Type 0 where

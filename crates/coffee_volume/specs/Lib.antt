@@ -1,5 +1,6 @@
 pub mod Asking
 pub mod Choices
+pub mod Cuts
 pub mod Lowest
 pub mod Mounting
 pub mod Rooms

@@ -1,10 +1,11 @@
-ghost use Rattle.std.specs.Prelude.{◌≡◌, ◌≢◌, ◌+◌, ◌*◌, ◌≤◌, ◌==◌, not, true, None, Some, IsTrue, IfOk};
+ghost use Rattle.std.specs.Prelude.{◌≡◌, ◌≢◌, ◌+◌, ◌*◌, ◌≤◌, ◌==◌, not, true, None, Some, IsErrOf, IsTrue, IfOk};
 ghost use Rattle.afl_base.specs.Keeping.{ChangesFlashOrLacks};
 ghost use Rattle.afl_base.specs.FileErrors.{OnSpace};
 ghost use Rattle.coffee_layout.specs.Files.{FitsIn};
 ghost use Rattle.coffee_layout.specs.Units.{pages_of};
 ghost use Rattle.coffee_merge.specs.Holding.{has_shape};
 ghost use Rattle.coffee_merge.specs.Outcomes.{LeavesAll};
+ghost use Rattle.coffee_merge.specs.Torn.{BreaksOff};
 ghost use Rattle.coffee_volume.specs.Lowest.{TakesStep};
 ghost use Rattle.coffee_volume.specs.Rooms.{has_too_few, lacks_log, own_record, records_needed};
 ghost use Rattle.coffee_volume.specs.Steps.{IsAfter, MayTake, WhereHeld, WhereStands, need_of, step_for};
@@ -69,6 +70,9 @@ pub(crate) fn take_step<F: Flash>(
         (λ table. LeavesAll (F.image flash.old) (F.image flash.new) table need)) }
     ensures need { OnSpace result (λ need. need ≡ need_of step file.now) }
     ensures inside { IfOk result (λ to. FitsIn (pages_of (F.image flash.new)) to) }
+    ensures cut { IsTrue F.tells → IsTrue F.cuts → IsErrOf result FileError.Failed
+        → WhereStands (F.image flash.old) file.now
+        (λ table _. BreaksOff (F.image flash.old) (F.image flash.new) table) }
     ensures frame { ChangesFlashOrLacks F.image F.lent F.reads F.faults flash.old flash.new result }
 {
     match step {
@@ -89,6 +93,9 @@ fn log<F: Flash>(flash: &mut F, file: &FileAt) -> Result<FileAt, FileError>
         (λ table. LeavesAll (F.image flash.old) (F.image flash.new) table need)) }
     ensures need { OnSpace result (λ need. need ≡ 16) }
     ensures inside { IfOk result (λ to. FitsIn (pages_of (F.image flash.new)) to) }
+    ensures cut { IsTrue F.tells → IsTrue F.cuts → IsErrOf result FileError.Failed
+        → WhereStands (F.image flash.old) file.now
+        (λ table _. BreaksOff (F.image flash.old) (F.image flash.new) table) }
     ensures frame { ChangesFlashOrLacks F.image F.lent F.reads F.faults flash.old flash.new result }
 {
     let log = add_log(flash, file)?;

@@ -1,12 +1,14 @@
-use Rattle.std.proofs.Common.{ℕ, ◌&&◌, not, Some, set, rules, refl, sym, subst, arith}
+use Rattle.std.proofs.Common.{◌≡◌, ℕ, ◌&&◌, not, None, Some, set, rules, refl, sym, subst, arith}
+use Rattle.coffee_merge.proofs.TornFiles.{torn_commit}
 use Rattle.coffee_merge.specs.Holding.{extent_of}
 use Rattle.coffee_volume.specs.Lowest.{PlacesFile}
-use Rattle.coffee_volume.specs.Volumes.{roomless}
+use Rattle.coffee_volume.specs.Volumes.{places, roomless}
 use Rattle.coffee_volume.proofs.Changes.{FindsNone, MakesFile, lacks_left, looked_left, none_left, seen_left, seen_made, stands_left, stands_made}
 use Rattle.coffee_volume.specs.declared.entry.Entry.{Entry}
-use Rattle.coffee_volume.proofs.Standing.{Stands}
+use Rattle.coffee_volume.proofs.Drafted.{first_some}
+use Rattle.coffee_volume.proofs.Standing.{Stands, holds_idle}
 use Rattle.coffee_volume.proofs.States.{none_drafted}
-use Rattle.coffee_volume.proofs.Tables.{free_entry}
+use Rattle.coffee_volume.proofs.Tables.{free_entry, told_by}
 use Rattle.coffee_volume.proofs.Takings.{made_lowest, made_taken}
 use Rattle.coffee_volume.proofs.files.VolumeFiles.create.Given.{Over}
 use Rattle.coffee_volume.proofs.Windows.{none_held}
@@ -133,3 +135,12 @@ pub returns-in-Err-Space-clause-looked : goal.returns-in-Err-Space-clause-looked
 returns-in-Err-Space-clause-looked g c =
     let v = c.args.self.now in
     rw c.in-Err-Space.field-0-is (looked_left g.F.Flash.tells v.failed (g.F.Flash.image v.flash) (g.F.Flash.image c.begin_extent.new.flash) v.table v.draft c.in-Err-Space.need (none g c))
+
+pub returns-in_err-commit_extent-in-Ok-clause-cut : goal.returns-in_err-commit_extent-in-Ok-clause-cut
+returns-in_err-commit_extent-in-Ok-clause-cut g c = λ told u failed.
+    let v = c.args.self.now in
+    let both = told_by g.F.Flash.tells v.failed told in
+    let s : Stands g.F.Flash.tells v.failed (g.F.Flash.image v.flash) v.table v.draft = record { count = v.count; big = v.big; regular = v.regular; pending = v.pending; space = v.space; told = v.told } in
+    let idle : v.draft ≡ None = none_drafted (g.F.Flash.tells && not v.failed) (g.F.Flash.image v.flash) v.draft c.requires.idle in
+    let begun = (c.in-Ok.ensures.begun both.0 (places v.table) 0 (holds_idle g.F.Flash.tells v.failed (g.F.Flash.image v.flash) v.table v.draft s idle both.0 both.1) (omega (arith, first_some c.args.kind c.requires.kind, c.first_pages-pages.ensures))).begins in
+    torn_commit (g.F.Flash.image v.flash) (g.F.Flash.image c.begin_extent.new.flash) (g.F.Flash.image c.commit_extent.new.flash) (places v.table) begun.kept _ begun.holds (c.in_err-commit_extent-in-Ok.ensures.cut both.0 u)

@@ -1,4 +1,4 @@
-use Rattle.std.proofs.Common.{◌≡◌, ◌<◌, ◌&&◌, not, ℕ, Some, length, rules, subst, arith}
+use Rattle.std.proofs.Common.{◌≡◌, ◌<◌, ◌&&◌, not, ℕ, Some, length, Err, ap, rules, subst, arith}
 use Rattle.coffee_layout.specs.Files.{FitsIn}
 use Rattle.coffee_layout.specs.Units.{pages_of}
 use Rattle.coffee_layout.specs.declared.file.FileAt.{FileAt}
@@ -133,3 +133,12 @@ returns-in-Err-Space-clause-chooses g c =
           none_taken old new
           (rw c.in-Err-Space.field-0-is at (c.in-Err-Space.ensures.left both.0) (places v.table) (holds_idle g.F.Flash.tells v.failed old v.table v.draft s c.requires.idle both.0 both.1)).untaken;
     }
+
+pub returns-in-Err-Failed-clause-cut : goal.returns-in-Err-Failed-clause-cut
+returns-in-Err-Failed-clause-cut g c = λ told u failed.
+    let v = c.args.self.now in
+    let e : Entry = c.entry-at.result in
+    let id : ℕ = c.args.id in
+    let both = told_by g.F.Flash.tells v.failed told in
+    let s : Stands g.F.Flash.tells v.failed (g.F.Flash.image v.flash) v.table v.draft = record { count = v.count; big = v.big; regular = v.regular; pending = v.pending; space = v.space; told = v.told } in
+    c.in-Err-Failed.ensures.cut both.0 u (ap Err c.in-Err-Failed.field-0-is) (places v.table) id (holds_idle g.F.Flash.tells v.failed (g.F.Flash.image v.flash) v.table v.draft s c.requires.idle both.0 both.1) (in_places v.table id e c.entry-at.ensures.entry)

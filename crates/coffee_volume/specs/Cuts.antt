@@ -1,0 +1,22 @@
+-- What a cut leaves of the files of a volume.
+use Rattle.std.specs.Prelude.{◌≡◌, ◌≢◌, ℕ, List, Some}
+use Rattle.afl_base.specs.Files.{KeepsBytes, State}
+use Rattle.coffee_layout.specs.declared.file.FileAt.{FileAt}
+use Rattle.coffee_merge.specs.CutMarks.{IsCutReplace, IsOneOf}
+use Rattle.coffee_merge.specs.Flags.{flagged}
+use Rattle.coffee_merge.specs.Torn.{BreaksOff}
+use Rattle.coffee_volume.specs.Volumes.{EntryTable, IsEntry, entry_name, files_seen, places}
+use Rattle.coffee_volume.specs.declared.entry.Entry.{Entry}
+
+-- a file was being prepared: it may have been moved first, with its bytes, and then a call broke off
+pub record PreparesPart (old : State) (new : List ℕ) (id : ℕ) : Type 0 where
+  pub between : State
+  pub table : EntryTable
+  pub files : between.files ≡ files_seen between.tells between.store table
+  pub kept : KeepsBytes old between id
+  pub off : BreaksOff between.store new (places table)
+
+-- of the marks that make a draft the file of its name, those in front stand
+pub record CommitsPart (old new : List ℕ) (table : EntryTable) (d : FileAt) : Type 0 where
+  pub replaced : (i : ℕ) (e : Entry) → IsEntry table i e → e.at.name ≡ d.name → IsCutReplace old new d.page.0 e.at.page.0 e.at.log
+  pub added : ((i : ℕ) → entry_name table i ≢ Some d.name) → IsOneOf new old (flagged old d.page.0 1)
