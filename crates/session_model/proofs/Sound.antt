@@ -8,7 +8,7 @@ use Rattle.std.proofs.Math.Logic.{⊎_elim}
 use Rattle.std.proofs.lemmas.List.{ext_get_or, get_or-map}
 use Rattle.std.proofs.lemmas.List.FromFn.{get_or-map-range_with_len, length-map-range_with_len}
 use Rattle.std.proofs.lemmas.Slice.Eq.{bytes_eq-Decides}
-use Rattle.afl_base.specs.Files.{IsNamed, IsUnnamed, State, bytes_at}
+use Rattle.afl_base.specs.Files.{IsNamed, IsUnnamed, State, Table, bytes_at}
 use Rattle.catalog.specs.CatalogFile.{IsCatalogSize}
 use Rattle.catalog.specs.Rules.{breaks_files, breaks_index, breaks_relation, broken_catalog, catalog_bytes_in, catalog_in, first, first_broken, has_name, is_behind, is_index_form, is_named_among, is_relation_slot, is_same_place, is_schema, is_sound_index, is_sound_relation, is_third_table, is_tree, stands_on}
 use Rattle.catalog.proofs.Breaks.{breaks_none, breaks_nothing, empty_breaks_none}
@@ -73,6 +73,12 @@ listed_by f xs n d long same =
     ext_get_or d (map f (range_with_len 0 n)) xs (many ∙ sym long)
     (λ i h. let below : i < n = omega (arith, h, many) in get_or-map-range_with_len f 0 n i i d below (omega arith) ∙ same i below)
 
+-- the bytes of the catalog, where its file is found by its name
+pub catalog_found : (files : Table) (cat : Option ℕ) → HasCatalogFile files cat → ((id : ℕ) → IsNamed files id catalog_file → bytes_named catalog_file files ≡ bytes_at files id)
+    → catalog_bytes_in files ≡ bytes_of_catalog files cat
+catalog_found files None h found = ap bytes_in_file (named_none files catalog_file h)
+catalog_found files (Some cat) h found = found cat h.0
+
 module _ (state : State) (tables : Tables) (held : Held) (opens : List (Option Open)) (r : IsRunning state tables held opens) (told : IsTrue state.tells) where
   none_asks : ℕ → ℕ → ℕ → ℕ → Type 0
   none_asks id w b n = ⊥
@@ -83,11 +89,7 @@ module _ (state : State) (tables : Tables) (held : Held) (opens : List (Option O
   -- ---- the catalog
 
   catalog_seen : catalog_bytes_in state.files ≡ bytes_of_catalog state.files held.cat
-  catalog_seen = by_cat held.cat r.catalog
-    where
-      by_cat : (o : Option ℕ) → HasCatalogFile state.files o → bytes_named catalog_file state.files ≡ bytes_of_catalog state.files o
-      by_cat None h = ap bytes_in_file (named_none state.files catalog_file h)
-      by_cat (Some cat) h = named_bytes cat catalog_file h.0
+  catalog_seen = catalog_found state.files held.cat r.catalog (λ id named. named_bytes id catalog_file named)
 
   abbrev slots_held : Slots
   slots_held = record { version = held.version; relations = map (option_map schema_in) held.relations; indexes = map (option_map index_known) held.indexes }

@@ -1,13 +1,12 @@
 -- What is held, when all rules are kept: a session that runs, over files that are sound and stand for what is seen.
-use Rattle.std.proofs.Common.{◌≡◌, ℕ, suc, ◌<◌, inl, inr, List, [], ◌∷◌, length, map, get_or, replicate, Option, Some, None, refl, ap, sym, ◌∙◌, subst, arith, IsTrue, ℤ}
+use Rattle.std.proofs.Common.{◌≡◌, ℕ, ◌<◌, inl, inr, List, [], length, map, get_or, replicate, Option, Some, None, refl, ap, sym, ◌∙◌, subst, arith, IsTrue, ℤ}
 use Rattle.std.specs.Prelude.{option_map}
 use Rattle.std.specs.List.{range_with_len}
 use Rattle.std.specs.Option.{option_map_or}
-use Rattle.std.proofs.lemmas.List.{ext_get_or}
+use Rattle.std.proofs.lemmas.List.{ext_get_or, length-map}
 use Rattle.std.proofs.lemmas.List.FromFn.{get_or-map-range_with_len, length-map-range_with_len}
 use Rattle.afl_base.specs.Files.{IsNamed, State, bytes_at}
 use Rattle.catalog.specs.Rules.{catalog_bytes_in, catalog_in, first_broken}
-use Rattle.catalog.proofs.Named.{named_none}
 use Rattle.db_model.specs.declared.schemas.Schema.{Schema}
 use Rattle.db_model.specs.Catalog.{Catalog as Slots, Index, catalog_of}
 use Rattle.db_model.specs.Database.{Database, Relation}
@@ -31,18 +30,13 @@ use Rattle.session_model.specs.declared.held.Indexed.{Indexed}
 use Rattle.session_model.specs.declared.held.Open.{Open}
 use Rattle.session_model.specs.Frames.{schema_in}
 use Rattle.session_model.specs.Indexed.{index_known}
-use Rattle.session_model.specs.Running.{HasCatalogFile, HasFile, IsCursorSlot, IsIndexSlot, IsIndexedOn, IsListed, IsRelationSlot, IsRunning, IsWrittenOrEmpty, bytes_of_catalog}
+use Rattle.session_model.specs.Running.{HasFile, IsCursorSlot, IsIndexSlot, IsIndexedOn, IsListed, IsRelationSlot, IsRunning, IsWrittenOrEmpty, bytes_of_catalog}
 use Rattle.session_model.specs.View.{relation_of_rows, view}
+use Rattle.session_model.proofs.Sound.{catalog_found}
 use Rattle.session_start.specs.Found.{HasRowFile, AreFilesFound, IsPlacedOn, IsPlacedSlot, slots_held}
 use Rattle.session_start.specs.Judged.{AllEight, BreaksHeld, HasRows, HoldsFew, HoldsSlot, IsKept, IsReadyOf, IsReadyOn, IsReadySlot, KeepsSlot, AreRowsOf, IsKeptOf, IsKeptOn}
 use Rattle.session_start.proofs.Slots.{first_as}
 use Rattle.session_start.proofs.Written.{written_of}
-
--- ---- slots that are seen
-
-seen_long : {A B : Type 0} (f : A → B) (xs : List A) → length (map f xs) ≡ length xs
-seen_long f [] = refl
-seen_long f (x ∷ xs) = ap suc (seen_long f xs)
 
 -- ---- bytes by name
 
@@ -51,11 +45,7 @@ module _ (state : State) (held : Held) (f : AreFilesFound state held) where
   named_bytes id name named = ap bytes_in_file (named_found state.files id name f.distinct named)
 
   catalog_seen : catalog_bytes_in state.files ≡ bytes_of_catalog state.files held.cat
-  catalog_seen = by_cat held.cat f.catalog
-    where
-      by_cat : (o : Option ℕ) → HasCatalogFile state.files o → bytes_named catalog_file state.files ≡ bytes_of_catalog state.files o
-      by_cat None h = ap bytes_in_file (named_none state.files catalog_file h)
-      by_cat (Some cat) h = named_bytes cat catalog_file h.0
+  catalog_seen = catalog_found state.files held.cat f.catalog (λ id named. named_bytes id catalog_file named)
 
   relation_bytes : (k : ℕ) (t : Tuples) → k < 8 → get_or held.relations k None ≡ Some t → bytes_named (rows_file k) state.files ≡ bytes_at state.files t.file
   relation_bytes k t below e = let P : Option Tuples → Type 0 = λ o. HasRowFile state.files k o in named_bytes t.file (rows_file k) (subst P e (f.relations k below)).1
@@ -85,7 +75,7 @@ module _ (state : State) (held : Held) (f : AreFilesFound state held) where
     relations_are =
         let g : ℕ → Option Relation = stored.relation_stored state.files (map (option_map schema_in) held.relations) in
         let many : length (map g (range_with_len 0 8)) ≡ 8 = length-map-range_with_len g 0 8 in
-        let long = seen_long (option_map (relation_of_rows state.files)) held.relations in
+        let long = length-map held.relations (option_map (relation_of_rows state.files)) in
         ext_get_or None (map g (range_with_len 0 8)) (map (option_map (relation_of_rows state.files)) held.relations) (many ∙ sym (long ∙ f.eight))
         (λ k h.
         let below : k < 8 = omega (arith, h, many) in

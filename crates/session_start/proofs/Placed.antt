@@ -6,15 +6,15 @@ use Rattle.std.specs.Option.{option_map_or}
 use Rattle.std.proofs.Math.Logic.{⊎_elim}
 use Rattle.std.proofs.lemmas.Bool.{cases_eq, cases_lt}
 use Rattle.std.proofs.lemmas.Bool.Decides.{nat_tests}
-use Rattle.std.proofs.lemmas.List.{ext_get_or, get_or-set_other, get_or-set_same}
+use Rattle.std.proofs.lemmas.List.{ext_get_or, length-map, get_or-set_other, get_or-set_same}
 use Rattle.afl_base.specs.declared.kind.Kind.TheVariants.{Doubling, Fixed}
-use Rattle.afl_base.specs.Files.{AreDistinct, File, IsNamed, IsUnnamed, State, Table, file_at, place}
+use Rattle.afl_base.specs.Files.{AreDistinct, IsNamed, IsUnnamed, State, Table, file_at}
 use Rattle.catalog.specs.declared.types.Catalog.{Catalog}
 use Rattle.catalog.specs.declared.types.IndexEntry.{IndexEntry}
 use Rattle.catalog.specs.CatalogFile.{index_in as index_of_entry, indexes_in}
 use Rattle.catalog.specs.Catalogs.{catalog_slots}
 use Rattle.catalog.specs.Formed.{AreBehind, AreSchemas, HasCatalogSize, IsFormed, is_schema_slot}
-use Rattle.catalog.specs.Rules.{breaks_files, differ, first, how_many, is_behind, is_of_database, is_same_place, is_stranger, is_table, is_third_table, is_tree, stands_on}
+use Rattle.catalog.specs.Rules.{breaks_files, differ, first, how_many, is_behind, is_same_place, is_stranger, is_table, is_third_table, is_tree, stands_on}
 use Rattle.db_model.specs.declared.schemas.Attribute.{Attribute}
 use Rattle.db_model.specs.declared.schemas.IndexKind.{IndexKind}
 use Rattle.db_model.specs.declared.schemas.IndexKind.TheVariants.{Inline, MaxHeap, MemHash}
@@ -33,6 +33,7 @@ use Rattle.padded.proofs.Facts.{both_parts, seen_at, some_inside}
 use Rattle.space_model.specs.FileNames.{catalog_file, is_there, rows_file, tree_file}
 use Rattle.space_model.proofs.NamedFiles.{at_name, named_found}
 use Rattle.stored.proofs.FilesOf.{IsNumbered, by_kind, first_false, in_table, rows_wanted, tree_wanted}
+use Rattle.stored.proofs.HasFiles.{no_stranger}
 use Rattle.stored.proofs.SoundSlots.{sound_schema}
 use Rattle.tuple_file.specs.declared.tuples.Tuples.{Tuples}
 use Rattle.session_model.specs.declared.held.Held.{Held}
@@ -46,18 +47,7 @@ use Rattle.session_start.specs.Found.{ShareNoAccess, HasRowFile, IsAccess, AreFi
 -- ---- files by name and kind
 
 pub known_of : (files : Table) → length files ≡ 32 → first 32 (is_stranger files) ≡ None → AreOfDatabase files
-known_of files size none id f e = by_place (place files id) e (first_false (is_stranger files) 32 id (in_table files size id f e) none)
-  where
-    turned : (b : Bool) → not b ≡ false → b ≡ true
-    turned true e = refl
-    turned false e = absurd (cc)
-
-    by_place : (o : Option File) → o ≡ Some f → elim o [ None ↦ false | Some x ↦ not (is_of_database x.name x.kind) ] ≡ false → is_of_database f.name f.kind ≡ true
-    by_place None e t = absurd (cc)
-    by_place (Some g) e t = let same : g ≡ f = some_file g f e in ap (λ (x : File). is_of_database x.name x.kind) (sym same) ∙ turned (is_of_database g.name g.kind) t
-      where
-        some_file : (g f : File) → Some g ≡ Some f → g ≡ f
-        some_file g f e = cc
+known_of files size none id f e = no_stranger files id f e (first_false (is_stranger files) 32 id (in_table files size id f e) none)
 
 same_of : (a b : Bool) → differ a b ≡ false → a ≡ b
 same_of true true e = refl
@@ -377,19 +367,15 @@ module _ (state : State) (catalog : Catalog) (held : Held) (version : held.versi
   index_seen i before (Some index) None h = absurd h
   index_seen i before (Some index) (Some x) h = ap (λ (z : Index). Some z) h.0
 
-  seen_long : {A B : Type 0} (f : A → B) (xs : List A) → length (map f xs) ≡ length xs
-  seen_long f [] = refl
-  seen_long f (x ∷ xs) = ap suc (seen_long f xs)
-
   pub same_slots : slots_held held ≡ catalog_slots catalog
   same_slots =
       let relations : map (option_map schema_in) held.relations ≡ catalog.relations =
-      ext_get_or None (map (option_map schema_in) held.relations) catalog.relations (seen_long (option_map schema_in) held.relations ∙ eight ∙ sym formed.eight_relations)
-      (λ k h. let long = seen_long (option_map schema_in) held.relations in
+      ext_get_or None (map (option_map schema_in) held.relations) catalog.relations (length-map held.relations (option_map schema_in) ∙ eight ∙ sym formed.eight_relations)
+      (λ k h. let long = length-map held.relations (option_map schema_in) in
       seen_at schema_in held.relations k ∙ relation_seen k (get_or catalog.relations k None) (get_or held.relations k None) (rels k (omega (arith, h, long, eight)))) in
-      let many : length (indexes_in catalog.indexes) ≡ 8 = seen_long _ catalog.indexes ∙ formed.eight_indexes in
+      let many : length (indexes_in catalog.indexes) ≡ 8 = length-map catalog.indexes _ ∙ formed.eight_indexes in
       let indexes : map (option_map index_known) held.indexes ≡ indexes_in catalog.indexes =
-      ext_get_or None (map (option_map index_known) held.indexes) (indexes_in catalog.indexes) (seen_long (option_map index_known) held.indexes ∙ eight_indexes ∙ sym many)
-      (λ i h. let long = seen_long (option_map index_known) held.indexes in
+      ext_get_or None (map (option_map index_known) held.indexes) (indexes_in catalog.indexes) (length-map held.indexes (option_map index_known) ∙ eight_indexes ∙ sym many)
+      (λ i h. let long = length-map held.indexes (option_map index_known) in
       seen_at index_known held.indexes i ∙ index_seen i (take i (indexes_in catalog.indexes)) (get_or (indexes_in catalog.indexes) i None) (get_or held.indexes i None) (inds i (omega (arith, h, long, eight_indexes)))) in
       λ j. record { version = version j; relations = relations j; indexes = indexes j }

@@ -1,28 +1,17 @@
 -- The bytes of a catalog that breaks no rule are those that it is written for.
-use Rattle.std.proofs.Common.{◌≡◌, ℕ, ◌+◌, ◌*◌, ◌<◌, Bool, true, false, not, ◌==◌, List, [], length, take, Option, Some, None, if◌then◌else◌, refl, arith}
+use Rattle.std.proofs.Common.{◌≡◌, ℕ, ◌+◌, ◌*◌, ◌<◌, true, false, not, List, length, take, Option, Some, None, arith}
 use Rattle.std.specs.Prelude.{slice_range}
 use Rattle.std.specs.Str.{bytes_eq}
-use Rattle.std.proofs.lemmas.Bool.Decides.{nat_tests}
 use Rattle.std.proofs.lemmas.Slice.Eq.{bytes_eq-Decides}
 use Rattle.afl_base.specs.Files.{Table}
-use Rattle.catalog.specs.Rules.{breaks_index, breaks_relation, catalog_bytes_in, first, first_broken, first_slot, has_form, is_behind, is_index_form, is_named_among, is_relation_slot, is_schema, is_sound_index, is_sound_relation}
+use Rattle.catalog.specs.Rules.{breaks_index, breaks_relation, catalog_bytes_in, first_broken, has_form, is_behind, is_index_form, is_named_among, is_relation_slot, is_schema, is_sound_index, is_sound_relation}
 use Rattle.db_model.specs.declared.schemas.Schema.{Schema}
 use Rattle.db_model.specs.Catalog.{Index, catalog_of, index_at, index_slot_bytes, relation_at, relation_slot_bytes, version_mark, version_of}
-use Rattle.stored.proofs.FilesOf.{first_false, unbroken}
-use Rattle.stored.proofs.SoundSlots.{unbroken_slots}
+use Rattle.stored.proofs.FilesOf.{unbroken}
+use Rattle.stored.proofs.SoundSlots.{kept, unbroken_slots}
 use Rattle.session_model.specs.Running.{IsWritten}
 use Rattle.padded.proofs.Facts.{not_not, both_parts}
 use Rattle.stored.proofs.HasFiles.{formed}
-
-kept : (bytes : List ℕ) (test : ℕ → Bool) (k : ℕ) → k < 8 → 0 < length bytes → first_slot bytes test ≡ None → test k ≡ false
-kept bytes test k below some e = by_test (length bytes == 0) refl e
-  where
-    no_length : length bytes == 0 ≡ true → ⊥
-    no_length t = let none : length bytes ≡ 0 = grind (arith, nat_tests) in absurd (omega (arith, none, some))
-
-    by_test : (b : Bool) → (length bytes == 0) ≡ b → (if b then None else first 8 test) ≡ None → test k ≡ false
-    by_test true t f = absurd (no_length t)
-    by_test false t f = first_false test 8 k below f
 
 relation_bytes : (version : ℕ) (slot : List ℕ) (o : Option Schema) → is_relation_slot version slot o ≡ true → slot ≡ relation_slot_bytes o
 relation_bytes version slot None e = (bytes_eq-Decides slot (relation_slot_bytes None)).0 e
@@ -56,8 +45,9 @@ written_of files e some =
     let bytes = catalog_bytes_in files in
     let u = unbroken files e in
     let slots = unbroken_slots bytes u.inner in
+    let used : length bytes ≡ 0 → ⊥ = λ none. absurd (omega (arith, none, some)) in
     record {
-      relations = λ k below. relation_written bytes k (kept bytes (breaks_relation bytes) k below some slots.relations);
-      indexes = λ i below. index_written bytes i (kept bytes (breaks_index bytes) i below some slots.indexes);
+      relations = λ k below. relation_written bytes k (kept bytes (breaks_relation bytes) k below used slots.relations);
+      indexes = λ i below. index_written bytes i (kept bytes (breaks_index bytes) i below used slots.indexes);
       mark = marked bytes (formed bytes u.inner);
     }

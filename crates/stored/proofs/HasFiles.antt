@@ -24,9 +24,9 @@ name_here files id f e = ap (option_map (λ (x : File). x.name)) e
 unnamed : (files : Table) (name : List ℕ) → AreDistinct files → file_named name files ≡ None → IsUnnamed files name
 unnamed files name d none id named = let no : None ≡ Some (file_at files id) = sym none ∙ named_found files id name d named in let n : ⊥ = cc in n
 
--- a file of a database, by its kind
-of_database : (files : Table) (id : ℕ) (f : File) → AreInTable files → Unbroken files → place files id ≡ Some f → is_of_database f.name f.kind ≡ true
-of_database files id f few u e = by_place (place files id) e (first_false (is_stranger files) 32 id (few id f e) u.strangers)
+-- a file that is no stranger is one of a database, by its name and kind
+pub no_stranger : (files : Table) (id : ℕ) (f : File) → place files id ≡ Some f → is_stranger files id ≡ false → is_of_database f.name f.kind ≡ true
+no_stranger files id f e = by_place (place files id) e
   where
     turned : (b : Bool) → not b ≡ false → b ≡ true
     turned true e = refl
@@ -35,6 +35,9 @@ of_database files id f few u e = by_place (place files id) e (first_false (is_st
     by_place : (o : Option File) → o ≡ Some f → elim o [ None ↦ false | Some x ↦ not (is_of_database x.name x.kind) ] ≡ false → is_of_database f.name f.kind ≡ true
     by_place None e t = cc
     by_place (Some g) e t = let same : g ≡ f = ap (λ o. unwrap_or o g) e in ap (λ x. is_of_database x.name x.kind) (sym same) ∙ turned (is_of_database g.name g.kind) t
+
+of_database : (files : Table) (id : ℕ) (f : File) → AreInTable files → Unbroken files → place files id ≡ Some f → is_of_database f.name f.kind ≡ true
+of_database files id f few u e = no_stranger files id f e (first_false (is_stranger files) 32 id (few id f e) u.strangers)
 
 -- two letters are no catalog
 not_catalog : (name : List ℕ) → length name ≡ 2 → name ≡ catalog_file → ⊥

@@ -66,7 +66,7 @@ nothing [] e = refl
 nothing (b ∷ bytes) e = absurd (omega (arith, e))
 
 -- a slot of a catalog that is not empty keeps the rule
-kept : (bytes : List ℕ) (test : ℕ → Bool) (k : ℕ) → k < 8 → (length bytes ≡ 0 → ⊥) → first_slot bytes test ≡ None → test k ≡ false
+pub kept : (bytes : List ℕ) (test : ℕ → Bool) (k : ℕ) → k < 8 → (length bytes ≡ 0 → ⊥) → first_slot bytes test ≡ None → test k ≡ false
 kept bytes test k below some e = by_test (length bytes == 0) refl e
   where
     by_test : (b : Bool) → (length bytes == 0) ≡ b → (if b then None else first 8 test) ≡ None → test k ≡ false
