@@ -76,7 +76,7 @@ pub fn carry_out<V: Files, K: Sink>(
 }
 
 // Carries out a command, and writes its reply or that there is no space for it.
-#[tactic(auto, using(answering::proofs::WellFormed::well_formed))]
+#[tactic(auto, using(session_model::proofs::WellFormed::well_formed))]
 fn execute<V: Files, K: Sink>(
     session: &mut Session<V>,
     command: &Command,
