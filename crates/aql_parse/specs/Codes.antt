@@ -67,15 +67,15 @@ abbrev pub symbol_of : ℕ → Symbol
 symbol_of code = symbol_by (code % 64) (code / 64)
 
 -- a symbol has a code: its number is not too large
-abbrev pub Fits : Symbol → Type 0
-Fits (want.MoreNames n) = n < 256
-Fits (want.MoreValues n) = n < 256
-Fits (want.MoreAggregates n) = n < 256
-Fits (want.Inside n) = n < 1024
-Fits (want.Behind n) = n < 1024
-Fits (want.Around n) = n < 1024
-Fits _ = Unit {0}
+abbrev pub FitsSymbol : Symbol → Type 0
+FitsSymbol (want.MoreNames n) = n < 256
+FitsSymbol (want.MoreValues n) = n < 256
+FitsSymbol (want.MoreAggregates n) = n < 256
+FitsSymbol (want.Inside n) = n < 1024
+FitsSymbol (want.Behind n) = n < 1024
+FitsSymbol (want.Around n) = n < 1024
+FitsSymbol _ = Unit {0}
 
 abbrev pub AllFit : List Symbol → Type 0
 AllFit [] = Unit {0}
-AllFit (s ∷ ss) = Fits s × AllFit ss
+AllFit (s ∷ ss) = FitsSymbol s × AllFit ss

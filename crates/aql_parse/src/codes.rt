@@ -3,7 +3,7 @@
 #![tactic(auto)]
 
 ghost use Rattle.std.specs.Prelude.{◌≡◌};
-ghost use Rattle.aql_parse.specs.Codes.{Fits, join_of, symbol_by, symbol_of};
+ghost use Rattle.aql_parse.specs.Codes.{FitsSymbol, join_of, symbol_by, symbol_of};
 
 use crate::symbols::{Joint, Symbol};
 use db_model::Compare;
@@ -11,7 +11,7 @@ use db_model::Compare;
 /// The code of a symbol: its number times 64, and its kind.
 #[inline(always)]
 pub fn code_of(symbol: Symbol) -> u16
-    requires { Fits symbol }
+    requires { FitsSymbol symbol }
     ensures { symbol_of result ≡ symbol }
 {
     match symbol {

@@ -3,7 +3,7 @@
 #![tactic(auto)]
 
 ghost use Rattle.std.specs.Prelude.{◌≡◌, ◌+◌, ◌<◌, ◌≤◌, [], ◌∷◌, ◌++◌, length, MatchOption};
-ghost use Rattle.aql_parse.specs.Codes.{AllFit, Fits};
+ghost use Rattle.aql_parse.specs.Codes.{AllFit, FitsSymbol};
 
 use crate::codes::{code_of, symbol_of};
 use crate::symbols::Symbol;
@@ -48,7 +48,7 @@ impl Stack {
     /// Puts a symbol on top.
     pub fn push(&mut self, symbol: Symbol)
         requires room { length self.old < 2064 }
-        requires fits { Fits symbol }
+        requires fits { FitsSymbol symbol }
         ensures { self.new ≡ symbol ∷ self.old }
     {
         self.codes.push(code_of(symbol));

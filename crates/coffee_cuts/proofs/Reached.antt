@@ -94,8 +94,8 @@ reach image other (v ∷ us) turns from page free u size heads k whole within lo
         let on : unit_begun (units_from m other (from + size_of v)) (from + size_of v) page ≡ Some u =
         sym (begun_there v (units_from m other (from + size_of v)) from page there) ∙ ap (λ vs. unit_begun vs from page) (sym step) ∙ f in
         let next : from + size_of v ≤ page = ⊎_elim
-            (λ (past : page < from + size_of v). no_unit u (sym (begun_past (units_from m other (from + size_of v)) (from + size_of v) page past) ∙ on))
-            (λ (good : from + size_of v ≤ page). good)
-            (cases_lt page (from + size_of v)) in
+        (λ (past : page < from + size_of v). no_unit u (sym (begun_past (units_from m other (from + size_of v)) (from + size_of v) page past) ∙ on))
+        (λ (good : from + size_of v ≤ page). good)
+        (cases_lt page (from + size_of v)) in
         let r = rest m next on in
         record { unit = r.unit; free = r.free; begun = begun_there v us from page there ∙ r.begun; there = r.there; kept = r.kept }

@@ -25,7 +25,7 @@ use Rattle.coffee_merge.proofs.HeaderMarks.{header_ninth, unit_header}
 use Rattle.coffee_merge.proofs.SoundEntries.{IsAt, at_same, one_place}
 use Rattle.coffee_merge.proofs.SoundRules.{KeepsRules, sound_rules}
 use Rattle.padded.specs.Zeros.{is_zeros}
-use Rattle.coffee_cuts.specs.Cuts.{IsActiveAt, IsBlank, IsErasing, IsReplacing, IsTornHeader}
+use Rattle.coffee_cuts.specs.Cuts.{IsActiveAt, IsHeadless, IsErasing, IsReplacing, IsTornHeader}
 use Rattle.coffee_cuts.proofs.Reached.{IsReached, begun_at, kept_at, no_unit, reach, same_unit}
 
 -- images of one length whose pages are the same are one image
@@ -110,7 +110,7 @@ flags_of_zero : (h : Header) → h.flags ≡ 0 → is_flags h.flags ≡ true →
 flags_of_zero h z e = let f : is_flags 0 ≡ true = ap is_flags (sym z) ∙ e in let n : ⊥ = cc in n
 
 -- a unit that keeps the rules at a blank page is a free page
-blank_free : (image : List ℕ) (page : ℕ) (free : Bool) (u : Unit) → IsBlank image page → unit_at image page ≡ Some u → broken_at nowhere image page free ≡ None → u ≡ Free
+blank_free : (image : List ℕ) (page : ℕ) (free : Bool) (u : Unit) → IsHeadless image page → unit_at image page ≡ Some u → broken_at nowhere image page free ≡ None → u ≡ Free
 blank_free image page free u (inr b) is kept =
     let some : 1 ≤ size_of u = kept_some nowhere image page free u is kept in
     let same : u ≡ Extent b.0 = same_unit u (Extent b.0) (sym is ∙ b.1) in

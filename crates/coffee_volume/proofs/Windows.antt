@@ -5,7 +5,7 @@ use Rattle.std.proofs.lemmas.Bool.{cases_lt}
 use Rattle.std.proofs.lemmas.List.{get_or-append_right, get_or-drop, get_or-take, get_or_append_left, length-drop, length-take-le}
 use Rattle.coffee_layout.specs.declared.file.FileAt.{FileAt}
 use Rattle.coffee_volume.specs.Volumes.{EntryTable, IsEntry}
-use Rattle.coffee_volume.specs.Windows.{IsPart, Part, Shows, ShowsFile, content_of}
+use Rattle.coffee_volume.specs.Windows.{IsPart, Part, ShowsContent, ShowsFile, content_of}
 use Rattle.coffee_volume.specs.declared.entry.Entry.{Entry}
 use Rattle.coffee_volume.proofs.Tables.{one_entry}
 
@@ -14,14 +14,14 @@ pub none_held : (bytes : List ℕ) (k : ℕ) → bytes ≡ [] → k < length byt
 none_held bytes k none low = omega (arith, low, ap (λ xs. length xs) none)
 
 -- what is held of a file, and what it is after it was read
-pub shown_here : (image : List ℕ) (table : EntryTable) (part : Part) (e : Entry) (id : ℕ) → ShowsFile image table part → IsEntry table id e → part.file ≡ id → Shows part (content_of image e.at)
+pub shown_here : (image : List ℕ) (table : EntryTable) (part : Part) (e : Entry) (id : ℕ) → ShowsFile image table part → IsEntry table id e → part.file ≡ id → ShowsContent part (content_of image e.at)
 shown_here image table part e id shown entry file = shown e (subst (λ i. IsEntry table i e) (sym file) entry)
 
-pub shown_on : (old new : List ℕ) (table : EntryTable) (e : Entry) (id : ℕ) (part : Part) → new ≡ old → IsEntry table id e → part.file ≡ id → Shows part (content_of old e.at) → ShowsFile new table part
+pub shown_on : (old new : List ℕ) (table : EntryTable) (e : Entry) (id : ℕ) (part : Part) → new ≡ old → IsEntry table id e → part.file ≡ id → ShowsContent part (content_of old e.at) → ShowsFile new table part
 shown_on old new table e id part same entry file shows d is =
     let here : IsEntry table id d = subst (λ i. IsEntry table i d) file is in
     let one : e ≡ d = one_entry table id e d entry here in
-    subst (λ (x : Entry). Shows part (content_of new x.at)) one (subst (λ i. Shows part (content_of i e.at)) (sym same) shows)
+    subst (λ (x : Entry). ShowsContent part (content_of new x.at)) one (subst (λ i. ShowsContent part (content_of i e.at)) (sym same) shows)
 
 -- what is given of what is held
 pub given_part : (bytes new rest : List ℕ) (held before count from at : ℕ) (content : ℕ → ℕ) → new ≡ slice_range bytes before (before + count) → before + count ≤ held → held ≤ length bytes → at ≡ from + before

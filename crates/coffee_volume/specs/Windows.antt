@@ -15,8 +15,8 @@ abbrev pub IsPart : List ℕ → (n at : ℕ) → (ℕ → ℕ) → Type 0
 IsPart bytes n at content = (k : ℕ) → k < n → slice_index bytes k ≡ content (at + k)
 
 -- what is held is part of the content
-abbrev pub Shows : Part → (ℕ → ℕ) → Type 0
-Shows part content = IsPart part.bytes (length part.bytes) part.from content
+abbrev pub ShowsContent : Part → (ℕ → ℕ) → Type 0
+ShowsContent part content = IsPart part.bytes (length part.bytes) part.from content
 
 -- the content of a file, byte by byte
 abbrev pub content_of : List ℕ → FileAt → ℕ → ℕ
@@ -24,4 +24,4 @@ content_of image file = file_byte image file.page.0 file.log
 
 -- what is held is part of the content of the file of its id
 abbrev pub ShowsFile : List ℕ → EntryTable → Part → Type 0
-ShowsFile image table part = AtEntry table part.file (λ file. Shows part (content_of image file))
+ShowsFile image table part = AtEntry table part.file (λ file. ShowsContent part (content_of image file))

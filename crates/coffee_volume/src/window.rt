@@ -3,7 +3,7 @@ ghost use Rattle.afl_base.specs.Keeping.{OnlyReads};
 ghost use Rattle.afl_base.specs.Regions.{regions};
 ghost use Rattle.coffee_layout.specs.Files.{FitsIn};
 ghost use Rattle.coffee_layout.specs.Units.{pages_of};
-ghost use Rattle.coffee_volume.specs.Windows.{IsPart, Shows, content_of};
+ghost use Rattle.coffee_volume.specs.Windows.{IsPart, ShowsContent, content_of};
 
 use afl_base::{Failed, FileId, Flash};
 use coffee_layout::FileAt;
@@ -72,11 +72,11 @@ impl Window {
         requires fits { FitsIn (pages_of (F.image flash.old)) file.now }
         requires range { at + length into.old ≤ file.now.size }
         ensures bytes { IsTrue F.tells
-            → (self.old.file ≡ id → Shows self.old (content_of (F.image flash.old) file.now))
+            → (self.old.file ≡ id → ShowsContent self.old (content_of (F.image flash.old) file.now))
             → OnOk result (IsPart into.new (length into.old) at (content_of (F.image flash.old) file.now)) }
         ensures shows { IsTrue F.tells
-            → (self.old.file ≡ id → Shows self.old (content_of (F.image flash.old) file.now))
-            → Shows self.new (content_of (F.image flash.old) file.now) }
+            → (self.old.file ≡ id → ShowsContent self.old (content_of (F.image flash.old) file.now))
+            → ShowsContent self.new (content_of (F.image flash.old) file.now) }
         ensures file { self.new.file ≡ id }
         ensures reads { F.reads flash.new ≤ F.reads flash.old + 3 * regions at (length into.old) }
         ensures frame { OnlyReads F.image F.lent F.reads F.faults flash.old flash.new result }
@@ -94,8 +94,8 @@ impl Window {
     // Lets go of what is held of another file.
     fn turn_to(&mut self, file: u16)
         ensures file { self.new.file ≡ file }
-        ensures shows { (content : ℕ → ℕ) → (self.old.file ≡ file → Shows self.old content)
-            → Shows self.new content }
+        ensures shows { (content : ℕ → ℕ) → (self.old.file ≡ file → ShowsContent self.old content)
+            → ShowsContent self.new content }
     {
         if self.file == file {
             return;
@@ -108,7 +108,7 @@ impl Window {
     // Fills a front part of `into` with what is held, and answers its length.
     fn give(&self, at: u32, into: &mut [u8]) -> usize
         ensures few { result ≤ length into.old }
-        ensures part { (content : ℕ → ℕ) → Shows self.now content → IsPart into.new result at content }
+        ensures part { (content : ℕ → ℕ) → ShowsContent self.now content → IsPart into.new result at content }
         ensures all { self.now.from ≤ at → at + length into.old ≤ self.now.from + length self.now.bytes
             → result ≡ length into.old }
     {
@@ -137,8 +137,8 @@ impl Window {
         requires range { at + length into.old ≤ file.now.size }
         ensures bytes { IsTrue F.tells
             → OnOk result (IsPart into.new (length into.old) at (content_of (F.image flash.old) file.now)) }
-        ensures shows { IsTrue F.tells → Shows self.old (content_of (F.image flash.old) file.now)
-            → Shows self.new (content_of (F.image flash.old) file.now) }
+        ensures shows { IsTrue F.tells → ShowsContent self.old (content_of (F.image flash.old) file.now)
+            → ShowsContent self.new (content_of (F.image flash.old) file.now) }
         ensures file { self.new.file ≡ self.old.file }
         ensures reads { F.reads flash.new ≤ F.reads flash.old + 3 * regions at (length into.old) }
         ensures frame { OnlyReads F.image F.lent F.reads F.faults flash.old flash.new result }
@@ -170,7 +170,7 @@ impl Window {
         requires page { file.now.log ≡ None → (32 + at) % 256 + count ≤ 256 }
         requires region { IsSome file.now.log → at % 128 + count ≤ 128 }
         ensures shows { IsTrue F.tells
-            → Shows self.new (content_of (F.image flash.old) file.now) }
+            → ShowsContent self.new (content_of (F.image flash.old) file.now) }
         ensures held { OnOk result ((self.new.from ≡ at) × (length self.new.bytes ≡ count)) }
         ensures file { self.new.file ≡ self.old.file }
         ensures reads { F.reads flash.new ≤ F.reads flash.old + 3 }

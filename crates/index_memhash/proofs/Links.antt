@@ -8,7 +8,7 @@ use Rattle.std.proofs.Math.Seq.{get_or-append_seam}
 use Rattle.std.proofs.Math.ListN.{get_or-append}
 use Rattle.std.specs.Prelude.{◌&&◌, nat_le}
 use Rattle.std.specs.Ordering.{int_eq}
-use Rattle.index_memhash.specs.Chains.{IsChained, IsTable, chain_at, entry_from, entry_of, end_of, first_from, hash}
+use Rattle.index_memhash.specs.Chains.{IsChained, IsTable, chain_at, entry_from, entry_held, end_link, first_from, hash}
 use Rattle.afl_base.specs.Keys.{is_key_at, key_in}
 use Rattle.padded.proofs.Facts.{le_true}
 
@@ -162,28 +162,28 @@ stored_other : (links : List ℕ) (q n a b i : ℕ) → i ≢ q → i ≢ n → 
 stored_other links q n a b i x y = get_or-set_other (set links q a) n i b 0 y ∙ get_or-set_other links q i a 0 x
 
 -- an entry as it is held
-held_entry : (entry : ℕ) → entry_of (entry + 1) ≡ entry
-held_entry entry = let next : entry + 1 ≡ suc entry = omega arith in ap entry_of next
+held_entry : (entry : ℕ) → entry_held (entry + 1) ≡ entry
+held_entry entry = let next : entry + 1 ≡ suc entry = omega arith in ap entry_held next
 
-held_end : (chain entry : ℕ) → end_of chain (entry + 1) ≡ 512 + entry
-held_end chain entry = let next : entry + 1 ≡ suc entry = omega arith in ap (end_of chain) next
+held_end : (chain entry : ℕ) → end_link chain (entry + 1) ≡ 512 + entry
+held_end chain entry = let next : entry + 1 ≡ suc entry = omega arith in ap (end_link chain) next
 
 module _ (keys : List ℤ) (links last : List ℕ) (k : ℤ) (few : length keys < 2048) (links_size : length links ≡ 2560) (last_size : length last ≡ 512) (old : IsChained keys links last) where
   abbrev end : ℕ
-  end = end_of (hash k) (get_or last (hash k) 0)
+  end = end_link (hash k) (get_or last (hash k) 0)
 
   abbrev more_keys : List ℤ
   more_keys = keys ++ k ∷ []
 
-  linked_new : entry_of (get_or (set (set links end (length keys + 1)) (512 + length keys) 0) (512 + length keys) 0) ≡ entry_from more_keys (chain_at more_keys (512 + length keys)) (512 + length keys - 511)
+  linked_new : entry_held (get_or (set (set links end (length keys + 1)) (512 + length keys) 0) (512 + length keys) 0) ≡ entry_from more_keys (chain_at more_keys (512 + length keys)) (512 + length keys - 511)
   linked_new =
       let size = length-append keys (k ∷ []) in
-      ap entry_of (stored_last links end (512 + length keys) (length keys + 1) 0 (omega (arith, few, links_size))) ∙ sym (past_end more_keys (chain_at more_keys (512 + length keys)) (512 + length keys - 511) (omega (arith, size)))
+      ap entry_held (stored_last links end (512 + length keys) (length keys + 1) 0 (omega (arith, few, links_size))) ∙ sym (past_end more_keys (chain_at more_keys (512 + length keys)) (512 + length keys - 511) (omega (arith, size)))
 
-  linked_end : entry_of (get_or (set (set links end (length keys + 1)) (512 + length keys) 0) end 0) ≡ entry_from more_keys (chain_at more_keys end) (end - 511)
+  linked_end : entry_held (get_or (set (set links end (length keys + 1)) (512 + length keys) 0) end 0) ≡ entry_from more_keys (chain_at more_keys end) (end - 511)
   linked_end =
       let below = old.within (hash k) (hash_small k) in
-      ap entry_of (stored_first links end (512 + length keys) (length keys + 1) 0 (omega (arith, few, links_size, below)) (omega (arith, below))) ∙ held_entry (length keys)
+      ap entry_held (stored_first links end (512 + length keys) (length keys + 1) 0 (omega (arith, few, links_size, below)) (omega (arith, below))) ∙ held_entry (length keys)
       ∙ sym (ap (λ (c : ℕ). entry_from more_keys c (end - 511)) (chain_stays keys k end below ∙ old.own (hash k) (hash_small k))
       ∙ entry_here keys k (hash k) (end - 511) few (omega (arith, below)) (old.ends (hash k) (hash_small k)) refl)
 
@@ -197,12 +197,12 @@ module _ (keys : List ℤ) (links last : List ℕ) (k : ℤ) (few : length keys 
       (λ (other : hash k ≢ chain_at keys link). entry_other keys k (chain_at keys link) (link - 511) (omega (arith, h)) other)
       (cases_eq (hash k) (chain_at keys link))
 
-  linked_other : (link : ℕ) → link < 512 + length keys → link ≢ end → entry_of (get_or (set (set links end (length keys + 1)) (512 + length keys) 0) link 0) ≡ entry_from more_keys (chain_at more_keys link) (link - 511)
+  linked_other : (link : ℕ) → link < 512 + length keys → link ≢ end → entry_held (get_or (set (set links end (length keys + 1)) (512 + length keys) 0) link 0) ≡ entry_from more_keys (chain_at more_keys link) (link - 511)
   linked_other link h differ =
-      ap entry_of (stored_other links end (512 + length keys) (length keys + 1) 0 link differ (omega (arith, h))) ∙ old.linked link h ∙ sym (leads_on link h differ)
+      ap entry_held (stored_other links end (512 + length keys) (length keys + 1) 0 link differ (omega (arith, h))) ∙ old.linked link h ∙ sym (leads_on link h differ)
       ∙ ap (λ (c : ℕ). entry_from more_keys c (link - 511)) (sym (chain_stays keys k link h))
 
-  linked_all : (link : ℕ) → link < 512 + length more_keys → entry_of (get_or (set (set links end (length keys + 1)) (512 + length keys) 0) link 0) ≡ entry_from more_keys (chain_at more_keys link) (link - 511)
+  linked_all : (link : ℕ) → link < 512 + length more_keys → entry_held (get_or (set (set links end (length keys + 1)) (512 + length keys) 0) link 0) ≡ entry_from more_keys (chain_at more_keys link) (link - 511)
   linked_all link h =
       let size = length-append keys (k ∷ []) in
       ⊎_elim
@@ -213,14 +213,14 @@ module _ (keys : List ℤ) (links last : List ℕ) (k : ℤ) (few : length keys 
       (cases_eq link end))
       (cases_eq link (512 + length keys))
 
-  last_same : end_of (hash k) (get_or (set last (hash k) (length keys + 1)) (hash k) 0) ≡ 512 + length keys
-  last_same = let small = hash_small k in ap (end_of (hash k)) (get_or-set_same last (hash k) (length keys + 1) 0 (omega (arith, small, last_size))) ∙ held_end (hash k) (length keys)
+  last_same : end_link (hash k) (get_or (set last (hash k) (length keys + 1)) (hash k) 0) ≡ 512 + length keys
+  last_same = let small = hash_small k in ap (end_link (hash k)) (get_or-set_same last (hash k) (length keys + 1) 0 (omega (arith, small, last_size))) ∙ held_end (hash k) (length keys)
 
   -- each chain's last link, by cases on whether the key is in the chain
-  at_last : (P : ℕ → ℕ → Type 0) → P (hash k) (512 + length keys) → ((chain : ℕ) → chain < 512 → hash k ≢ chain → P chain (end_of chain (get_or last chain 0))) → (chain : ℕ) → chain < 512 → P chain (end_of chain (get_or (set last (hash k) (length keys + 1)) chain 0))
+  at_last : (P : ℕ → ℕ → Type 0) → P (hash k) (512 + length keys) → ((chain : ℕ) → chain < 512 → hash k ≢ chain → P chain (end_link chain (get_or last chain 0))) → (chain : ℕ) → chain < 512 → P chain (end_link chain (get_or (set last (hash k) (length keys + 1)) chain 0))
   at_last P here there chain h = ⊎_elim
-      (λ (is : hash k ≡ chain). subst (λ (c : ℕ). P c (end_of c (get_or (set last (hash k) (length keys + 1)) c 0))) is (subst (λ (l : ℕ). P (hash k) l) (sym last_same) here))
-      (λ (differ : hash k ≢ chain). subst (λ (l : ℕ). P chain (end_of chain l)) (sym (get_or-set_other last (hash k) chain (length keys + 1) 0 (λ e. differ (sym e)))) (there chain h differ))
+      (λ (is : hash k ≡ chain). subst (λ (c : ℕ). P c (end_link c (get_or (set last (hash k) (length keys + 1)) c 0))) is (subst (λ (l : ℕ). P (hash k) l) (sym last_same) here))
+      (λ (differ : hash k ≢ chain). subst (λ (l : ℕ). P chain (end_link chain l)) (sym (get_or-set_other last (hash k) chain (length keys + 1) 0 (λ e. differ (sym e)))) (there chain h differ))
       (cases_eq (hash k) chain)
 
   chained_more : IsChained more_keys (set (set links end (length keys + 1)) (512 + length keys) 0) (set last (hash k) (length keys + 1))
@@ -229,19 +229,19 @@ module _ (keys : List ℤ) (links last : List ℕ) (k : ℤ) (few : length keys 
       record {
         linked = linked_all;
         within = at_last (λ chain l. l < 512 + length more_keys) (omega (arith, size)) (λ chain h differ. let below = old.within chain h in omega (arith, size, below));
-        own = at_last (λ chain l. chain_at more_keys l ≡ chain) (chain_new keys k) (λ chain h differ. chain_stays keys k (end_of chain (get_or last chain 0)) (old.within chain h) ∙ old.own chain h);
+        own = at_last (λ chain l. chain_at more_keys l ≡ chain) (chain_new keys k) (λ chain h differ. chain_stays keys k (end_link chain (get_or last chain 0)) (old.within chain h) ∙ old.own chain h);
         ends = at_last (λ chain l. entry_from more_keys chain (l - 511) ≡ 2048) (past_end more_keys (hash k) (512 + length keys - 511) (omega (arith, size)))
-            (λ chain h differ. let below = old.within chain h in entry_other keys k chain (end_of chain (get_or last chain 0) - 511) (omega (arith, below)) differ ∙ old.ends chain h);
+            (λ chain h differ. let below = old.within chain h in entry_other keys k chain (end_link chain (get_or last chain 0) - 511) (omega (arith, below)) differ ∙ old.ends chain h);
       }
 
 -- ---- a table with no entries
 
 pub none_chained : (links last : List ℕ) → ((link : ℕ) → link < 512 → get_or links link 0 ≡ 0) → ((chain : ℕ) → chain < 512 → get_or last chain 0 ≡ 0) → IsChained [] links last
 none_chained links last nowhere none = record {
-  linked = λ link h. ap entry_of (nowhere link (omega (arith, h))) ∙ sym (past_end [] (chain_at [] link) (link - 511) (omega arith));
-  within = λ chain h. let is = ap (end_of chain) (none chain h) in omega (arith, is, h);
+  linked = λ link h. ap entry_held (nowhere link (omega (arith, h))) ∙ sym (past_end [] (chain_at [] link) (link - 511) (omega arith));
+  within = λ chain h. let is = ap (end_link chain) (none chain h) in omega (arith, is, h);
   own = λ chain h. rw (none chain h) (chain_head [] chain h);
-  ends = λ chain h. past_end [] chain (end_of chain (get_or last chain 0) - 511) (omega arith);
+  ends = λ chain h. past_end [] chain (end_link chain (get_or last chain 0) - 511) (omega arith);
 }
 
 -- a table of zeros
@@ -261,19 +261,19 @@ is_it key keys i e = ap hash ((Decides-int_eq (key_in keys i) key).0 e)
 
 module _ (keys : List ℤ) (links last : List ℕ) (key : ℤ) (few : length keys ≤ 2048) (chained : IsChained keys links last) where
   -- where a link of the key's chain leads to is an entry of the chain, and all entries of the key behind the link are at it or behind it
-  pub led_own : (link : ℕ) → link < 512 + length keys → chain_at keys link ≡ hash key → entry_of (get_or links link 0) < length keys → hash (key_in keys (entry_of (get_or links link 0))) ≡ hash key
+  pub led_own : (link : ℕ) → link < 512 + length keys → chain_at keys link ≡ hash key → entry_held (get_or links link 0) < length keys → hash (key_in keys (entry_held (get_or links link 0))) ≡ hash key
   led_own link h e low =
       let leads = chained.linked link h in
       let here = subst (λ (n : ℕ). hash (key_in keys n) ≡ chain_at keys link) (sym leads) (own keys (chain_at keys link) (link - 511) few (omega (arith, h)) (omega (arith, leads, low))) in
       here ∙ e
 
-  pub led_rest : (link from : ℕ) → link < 512 + length keys → chain_at keys link ≡ hash key → link - 511 ≤ from → (i : ℕ) → from ≤ i → i < length keys → is_key_at key keys i ≡ true → entry_of (get_or links link 0) ≤ i
+  pub led_rest : (link from : ℕ) → link < 512 + length keys → chain_at keys link ≡ hash key → link - 511 ≤ from → (i : ℕ) → from ≤ i → i < length keys → is_key_at key keys i ≡ true → entry_held (get_or links link 0) ≤ i
   led_rest link from h e before i k below is =
       let leads = chained.linked link h in
       let found = reached keys (chain_at keys link) (link - 511) i (omega (arith, before, k)) below (is_it key keys i is ∙ sym e) in
       omega (arith, leads, found)
 
-  pub led_on : (link : ℕ) → link < 512 + length keys → link - 511 ≤ entry_of (get_or links link 0)
+  pub led_on : (link : ℕ) → link < 512 + length keys → link - 511 ≤ entry_held (get_or links link 0)
   led_on link h =
       let leads = chained.linked link h in
       let after = later keys (chain_at keys link) (link - 511) few (omega (arith, h, few)) in
@@ -292,12 +292,12 @@ module _ (keys : List ℤ) (links last : List ℕ) (len : ℕ) (key : ℤ) (size
   front_size = length-take-le len keys (omega (arith, size, few))
 
   -- the entry n that the link leads to where a search begins
-  pub found_own : (link n : ℕ) → n ≡ entry_of (get_or links link 0) → link < 512 + len → chain_at front link ≡ hash key → n < len → hash (key_in front n) ≡ hash key
+  pub found_own : (link n : ℕ) → n ≡ entry_held (get_or links link 0) → link < 512 + len → chain_at front link ≡ hash key → n < len → hash (key_in front n) ≡ hash key
   found_own link n is h e low =
       let count = front_size in
       rw is (led_own front links last key (omega (arith, count, few)) chained link (omega (arith, count, h)) e (subst (λ (m : ℕ). m < length front) is (omega (arith, count, low))))
 
-  pub found_rest : (link n : ℕ) → n ≡ entry_of (get_or links link 0) → link < 512 + len → chain_at front link ≡ hash key → (from : ℕ) → link - 511 ≤ from → (i : ℕ) → from ≤ i → i < len → is_key_at key front i ≡ true → n ≤ i
+  pub found_rest : (link n : ℕ) → n ≡ entry_held (get_or links link 0) → link < 512 + len → chain_at front link ≡ hash key → (from : ℕ) → link - 511 ≤ from → (i : ℕ) → from ≤ i → i < len → is_key_at key front i ≡ true → n ≤ i
   found_rest link n is h e from before i k below here =
       let count = front_size in
       rw is (led_rest front links last key (omega (arith, count, few)) chained link from (omega (arith, count, h)) e before i k (omega (arith, count, below)) here)
@@ -306,16 +306,16 @@ module _ (keys : List ℤ) (links last : List ℕ) (len : ℕ) (key : ℤ) (size
   chain_of_entry : (entry : ℕ) → hash (key_in front entry) ≡ hash key → chain_at front (512 + entry) ≡ hash key
   chain_of_entry entry e = let back : 512 + entry - 512 ≡ entry = omega arith in chain_entry front (512 + entry) (omega arith) ∙ ap (λ (n : ℕ). hash (key_in front n)) back ∙ e
 
-  pub step_less : (entry n : ℕ) → n ≡ entry_of (get_or links (512 + entry) 0) → entry < len → hash (key_in front entry) ≡ hash key → entry < n
+  pub step_less : (entry n : ℕ) → n ≡ entry_held (get_or links (512 + entry) 0) → entry < len → hash (key_in front entry) ≡ hash key → entry < n
   step_less entry n is h e =
       let count = front_size in
       let on = led_on front links last key (omega (arith, count, few)) chained (512 + entry) (omega (arith, count, h)) in
       rw is (omega (arith, on))
 
-  pub step_own : (entry n : ℕ) → n ≡ entry_of (get_or links (512 + entry) 0) → entry < len → hash (key_in front entry) ≡ hash key → n < len → hash (key_in front n) ≡ hash key
+  pub step_own : (entry n : ℕ) → n ≡ entry_held (get_or links (512 + entry) 0) → entry < len → hash (key_in front entry) ≡ hash key → n < len → hash (key_in front n) ≡ hash key
   step_own entry n is h e low = found_own (512 + entry) n is (omega (arith, h)) (chain_of_entry entry e) low
 
-  pub step_rest : (entry n : ℕ) → n ≡ entry_of (get_or links (512 + entry) 0) → entry < len → hash (key_in front entry) ≡ hash key → (from : ℕ) → (nat_le from entry && is_key_at key keys entry) ≡ false
+  pub step_rest : (entry n : ℕ) → n ≡ entry_held (get_or links (512 + entry) 0) → entry < len → hash (key_in front entry) ≡ hash key → (from : ℕ) → (nat_le from entry && is_key_at key keys entry) ≡ false
       → ((i : ℕ) → from ≤ i → i < len → is_key_at key front i ≡ true → entry ≤ i) → (i : ℕ) → from ≤ i → i < len → is_key_at key front i ≡ true → n ≤ i
   step_rest entry n is h e from missed behind i k below here =
       let reaches = behind i k below here in
@@ -329,16 +329,16 @@ module _ (keys : List ℤ) (links last : List ℕ) (len : ℕ) (key : ℤ) (size
       (cases_eq i entry)
 
 pub table_more : (keys : List ℤ) (links last : List ℕ) (len : ℕ) (k : ℤ) → len < 2048 → IsTable keys links last len
-    → IsTable (set keys len k) (set (set links (end_of (hash k) (get_or last (hash k) 0)) (len + 1)) (512 + len) 0) (set last (hash k) (len + 1)) (len + 1)
+    → IsTable (set keys len k) (set (set links (end_link (hash k) (get_or last (hash k) 0)) (len + 1)) (512 + len) 0) (set last (hash k) (len + 1)) (len + 1)
 table_more keys links last len k h t =
     let size = t.keys_size in
     let count : length (take len keys) ≡ len = length-take-le len keys (omega (arith, size, h)) in
     let more = chained_more (take len keys) links last k (omega (arith, count, h)) t.links_size t.last_size t.chained in
-    let same : IsChained (take len keys ++ k ∷ []) (set (set links (end_of (hash k) (get_or last (hash k) 0)) (len + 1)) (512 + len) 0) (set last (hash k) (len + 1)) = subst (λ (n : ℕ). IsChained (take len keys ++ k ∷ []) (set (set links (end_of (hash k) (get_or last (hash k) 0)) (n + 1)) (512 + n) 0) (set last (hash k) (n + 1))) count more in
+    let same : IsChained (take len keys ++ k ∷ []) (set (set links (end_link (hash k) (get_or last (hash k) 0)) (len + 1)) (512 + len) 0) (set last (hash k) (len + 1)) = subst (λ (n : ℕ). IsChained (take len keys ++ k ∷ []) (set (set links (end_link (hash k) (get_or last (hash k) 0)) (n + 1)) (512 + n) 0) (set last (hash k) (n + 1))) count more in
     record {
       few = omega (arith, h);
       keys_size = length-set keys len k ∙ t.keys_size;
-      links_size = length-set (set links (end_of (hash k) (get_or last (hash k) 0)) (len + 1)) (512 + len) 0 ∙ length-set links (end_of (hash k) (get_or last (hash k) 0)) (len + 1) ∙ t.links_size;
+      links_size = length-set (set links (end_link (hash k) (get_or last (hash k) 0)) (len + 1)) (512 + len) 0 ∙ length-set links (end_link (hash k) (get_or last (hash k) 0)) (len + 1) ∙ t.links_size;
       last_size = length-set last (hash k) (len + 1) ∙ t.last_size;
       chained = rw (take_more_set keys len k (omega (arith, size, h))) same;
     }

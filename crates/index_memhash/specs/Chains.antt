@@ -25,23 +25,23 @@ abbrev pub chain_at : List ℤ → ℕ → ℕ
 chain_at keys link = if nat_lt link 512 then link else hash (key_in keys (link - 512))
 
 -- the arrays hold an entry as its number and 1, so that an array of zeros has none: the entry that is held, 2048 for none
-abbrev pub entry_of : ℕ → ℕ
-entry_of zero = 2048
-entry_of (suc entry) = entry
+abbrev pub entry_held : ℕ → ℕ
+entry_held zero = 2048
+entry_held (suc entry) = entry
 
 -- the last link of a chain, by the last entry that is held: the chain's head where there is none
-abbrev pub end_of : ℕ → ℕ → ℕ
-end_of chain zero = chain
-end_of chain (suc entry) = 512 + entry
+abbrev pub end_link : ℕ → ℕ → ℕ
+end_link chain zero = chain
+end_link chain (suc entry) = 512 + entry
 
 -- The chains of some keys, by the entry that each link leads to and by the last entry of each chain, as they are held.
 pub record IsChained (keys : List ℤ) (links last : List ℕ) : Type 0 where
   -- each link leads to the first entry of its chain behind it
-  pub linked : (link : ℕ) → link < 512 + length keys → entry_of (get_or links link 0) ≡ entry_from keys (chain_at keys link) (link - 511)
+  pub linked : (link : ℕ) → link < 512 + length keys → entry_held (get_or links link 0) ≡ entry_from keys (chain_at keys link) (link - 511)
   -- the last link of a chain is one of its links, and leads nowhere
-  pub within : (chain : ℕ) → chain < 512 → end_of chain (get_or last chain 0) < 512 + length keys
-  pub own : (chain : ℕ) → chain < 512 → chain_at keys (end_of chain (get_or last chain 0)) ≡ chain
-  pub ends : (chain : ℕ) → chain < 512 → entry_from keys chain (end_of chain (get_or last chain 0) - 511) ≡ 2048
+  pub within : (chain : ℕ) → chain < 512 → end_link chain (get_or last chain 0) < 512 + length keys
+  pub own : (chain : ℕ) → chain < 512 → chain_at keys (end_link chain (get_or last chain 0)) ≡ chain
+  pub ends : (chain : ℕ) → chain < 512 → entry_from keys chain (end_link chain (get_or last chain 0) - 511) ≡ 2048
 
 -- the arrays of a table with so many entries
 pub record IsTable (keys : List ℤ) (links last : List ℕ) (len : ℕ) : Type 0 where

@@ -1,5 +1,5 @@
 ghost use Rattle.std.specs.Prelude.{◌≡◌, ◌+◌, ◌*◌, ◌-◌, ◌<◌, ◌≤◌, ◌≢◌, ℕ, get_or, take, length, true, false, nat_le, ◌&&◌};
-ghost use Rattle.index_memhash.specs.Chains.{Finds, IsChained, chain_at, end_of, entry_of, hash};
+ghost use Rattle.index_memhash.specs.Chains.{Finds, IsChained, chain_at, end_link, entry_held, hash};
 ghost use Rattle.afl_base.specs.Keys.{is_key_at, key_in};
 
 use afl_base::SlotNo;
@@ -36,10 +36,10 @@ pub(crate) fn empty(links: &mut [u16; 2560], last: &mut [u16; 512])
 }
 
 /// The last link of a chain, by its last entry as it is held.
-pub(crate) fn end_of(chain: u16, held: u16) -> u16
+pub(crate) fn end_link(chain: u16, held: u16) -> u16
     requires few { chain < 512 }
     requires within { held ≤ 2048 }
-    ensures { result ≡ end_of chain held }
+    ensures { result ≡ end_link chain held }
 {
     if held == 0 { chain } else { 511 + held }
 }
@@ -70,7 +70,7 @@ pub(crate) fn find(
 // The entry that a link leads to, END for none.
 fn led_to(links: &[u16; 2560], link: u16) -> u16
     requires within { link < 2560 }
-    ensures { result ≡ entry_of (get_or links.now link 0) }
+    ensures { result ≡ entry_held (get_or links.now link 0) }
 {
     let held = links[usize::from(link)];
     if held == 0 { END } else { held - 1 }

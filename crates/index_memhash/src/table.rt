@@ -1,7 +1,7 @@
 ghost use Rattle.std.specs.Prelude.{◌++◌, ◌∷◌, ◌≡◌, ◌+◌, ◌<◌, ◌≤◌, [], ℕ, MatchOption, length, nat_eq, ◌==◌};
 ghost use Rattle.afl_base.specs.Keys.{HasNone, IsFirstOf};
 
-use crate::chains::{END, chain_of, empty, end_of, find};
+use crate::chains::{END, chain_of, empty, end_link, find};
 use afl_base::SlotNo;
 use std::marker::Model;
 
@@ -80,7 +80,7 @@ impl HashTable {
     {
         let chain = chain_of(key);
         let entry = usize::from(self.len);
-        let end = end_of(chain, self.last[usize::from(chain)]);
+        let end = end_link(chain, self.last[usize::from(chain)]);
         self.links[usize::from(end)] = self.len + 1;
         self.last[usize::from(chain)] = self.len + 1;
         self.links[512 + entry] = 0;

@@ -19,7 +19,7 @@ use Rattle.db_model.specs.Step.{after_all, key_of, keys}
 use Rattle.db_model.proofs.Buckets.{buckets_bound}
 use Rattle.space_model.specs.Enough.{enough, file_sizes, index_sizes, largest, most, most_of, rows_in, rows_size, tree_size, tree_sizes}
 use Rattle.space_plan.specs.Growth.{HasFewRows, KeepsToPlan, rows_brought}
-use Rattle.space_plan.specs.Planned.{index_planned, name_in, planned, rows_planned, sizes_planned, slots_planned, tree_planned, trees_planned}
+use Rattle.space_plan.specs.Planned.{index_planned, relation_name, planned, rows_planned, sizes_planned, slots_planned, tree_planned, trees_planned}
 use Rattle.space_plan.proofs.Fitting.{AreWithin, enough_within, largest_within, within-append}
 use Rattle.space_plan.proofs.Inserted.{all_grow}
 use Rattle.space_plan.proofs.Longer.{IsGrown, IsLonger, IsLongerIn, grown_most}
@@ -85,10 +85,10 @@ module _ (most : List ℕ → ℕ) where
     where
       by_kind : (kind : IndexKind)
           → AreWithin (elim kind [ Inline ↦ [] | MaxHeap ↦ tree_size (keys index.attribute (rows_in new index.relation)) ∷ [] | MemHash ↦ [] ])
-          (elim kind [ Inline ↦ [] | MaxHeap ↦ tree_planned (most (name_in db index.relation)) (keys index.attribute (rows_in db index.relation)) ∷ [] | MemHash ↦ [] ])
+          (elim kind [ Inline ↦ [] | MaxHeap ↦ tree_planned (most (relation_name db index.relation)) (keys index.attribute (rows_in db index.relation)) ∷ [] | MemHash ↦ [] ])
       by_kind Inline = tt
       by_kind MaxHeap = (
-        tree_few (most (name_in db index.relation)) index.attribute (rows_in db index.relation) (rows_in new index.relation)
+        tree_few (most (relation_name db index.relation)) index.attribute (rows_in db index.relation) (rows_in new index.relation)
             (rows_longer (get_or db.relations index.relation None) (get_or new.relations index.relation None) (h.relations index.relation)),
         tt,
       )

@@ -9,18 +9,18 @@ use Rattle.space_plan.specs.declared.further.FurtherRows.TheVariants.{Each, Name
 use Rattle.space_plan.specs.declared.further.NamedRows.{NamedRows}
 
 -- those of a name, none where it is not among the names
-abbrev pub rows_named : List NamedRows → List ℕ → ℕ
-rows_named [] name = 0
-rows_named (first ∷ others) name = if bytes_eq first.relation name then first.rows else rows_named others name
+abbrev pub rows_for_name : List NamedRows → List ℕ → ℕ
+rows_for_name [] name = 0
+rows_for_name (first ∷ others) name = if bytes_eq first.relation name then first.rows else rows_for_name others name
 
 -- how many come to the relation of a name
 abbrev pub rows_to : FurtherRows → List ℕ → ℕ
 rows_to (Each n) name = n
-rows_to (Named all) name = rows_named all name
+rows_to (Named all) name = rows_for_name all name
 
 -- whether a slot has a relation of this name
-abbrev pub has_name : List ℕ → Option Relation → Bool
-has_name name slot = option_map_or (λ r. bytes_eq r.schema.name name) slot false
+abbrev pub has_relation_name : List ℕ → Option Relation → Bool
+has_relation_name name slot = option_map_or (λ r. bytes_eq r.schema.name name) slot false
 
 -- whether a relation of the database has this name
 abbrev pub is_relation : Database → List ℕ → Bool

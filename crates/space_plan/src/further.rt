@@ -5,7 +5,7 @@
 ghost use Rattle.std.specs.Prelude.{◌≡◌, ◌<◌, ◌≤◌, false, length};
 ghost use Rattle.std.specs.List.{list_all};
 ghost use Rattle.antelope_engine.specs.Reading.{relation_in_slot};
-ghost use Rattle.space_plan.specs.FurtherRows.{are_relations, has_name, is_relation, rows_named, rows_to};
+ghost use Rattle.space_plan.specs.FurtherRows.{are_relations, has_relation_name, is_relation, rows_for_name, rows_to};
 
 use afl_base::{Files, RelationId};
 use antelope_engine::Session;
@@ -42,12 +42,12 @@ pub fn rows_to(rows: &FurtherRows, name: &[u8]) -> u16
 {
     match rows {
         FurtherRows::Each(rows) => *rows,
-        FurtherRows::Named(all) => rows_named(all.as_slice(), name),
+        FurtherRows::Named(all) => rows_for_name(all.as_slice(), name),
     }
 }
 
-fn rows_named(all: &[NamedRows], name: &[u8]) -> u16
-    ensures { result ≡ rows_named all.now name.now }
+fn rows_for_name(all: &[NamedRows], name: &[u8]) -> u16
+    ensures { result ≡ rows_for_name all.now name.now }
 {
     for named in all {
         if named.relation.bytes() == name {
@@ -101,7 +101,7 @@ fn is_relation<V: Files>(session: &Session<V>, name: &[u8]) -> bool
 fn is_in_slot<V: Files>(session: &Session<V>, slot: u16, name: &[u8]) -> bool
     requires running { session.now.stopped ≡ false }
     requires slot { slot < 8 }
-    ensures { result ≡ has_name name.now (relation_in_slot session.now.database slot) }
+    ensures { result ≡ has_relation_name name.now (relation_in_slot session.now.database slot) }
 {
     let Some(id) = RelationId::new(slot) else {
         return false;

@@ -8,7 +8,7 @@ ghost use Rattle.antelope_engine.specs.Reading.{index_in_slot, relation_in_slot}
 ghost use Rattle.db_model.specs.Database.{used_things};
 ghost use Rattle.space_model.specs.Enough.{rows_in};
 ghost use Rattle.space_plan.specs.FurtherRows.{rows_to};
-ghost use Rattle.space_plan.specs.Planned.{name_in, planned, rows_planned, trees_planned};
+ghost use Rattle.space_plan.specs.Planned.{relation_name, planned, rows_planned, trees_planned};
 
 use crate::further::{FurtherRows, rows_to};
 use crate::growth::{rows_size, tree_size};
@@ -44,7 +44,7 @@ fn slots_in<V: Files>(session: &Session<V>, id: RelationId) -> u16
 // How many rows come to the relation in a slot.
 fn rows_in_slot<V: Files>(session: &Session<V>, id: RelationId, rows: &FurtherRows) -> u16
     requires running { session.now.stopped ≡ false }
-    ensures { result ≡ rows_to rows.now (name_in session.now.database id) }
+    ensures { result ≡ rows_to rows.now (relation_name session.now.database id) }
 {
     match session.schema(id) {
         None => rows_to(rows, &[]),

@@ -4,19 +4,19 @@ use Rattle.afl_base.specs.Fields.{put_at}
 use Rattle.afl_base.specs.Files.{State, draft_in}
 
 -- bytes that wait, and where in the draft they belong
-pub record Kept : Type 0 where
+pub record WaitingRows : Type 0 where
   pub at : ℕ
   pub bytes : List ℕ
 
 -- where the bytes behind them belong
-abbrev pub end_of : Kept → ℕ
-end_of waiting = waiting.at + length waiting.bytes
+abbrev pub end_of_waiting : WaitingRows → ℕ
+end_of_waiting waiting = waiting.at + length waiting.bytes
 
 -- the draft as it is once they are written
-abbrev pub gathered : State → Kept → List ℕ
+abbrev pub gathered : State → WaitingRows → List ℕ
 gathered state waiting = put_at (draft_in state).bytes waiting.at waiting.bytes
 
 -- the draft has zeros where they belong, and all the way behind
-abbrev pub IsFree : State → Kept → Type 0
+abbrev pub IsFree : State → WaitingRows → Type 0
 IsFree state waiting =
     drop waiting.at (draft_in state).bytes ≡ replicate (length (draft_in state).bytes - waiting.at) 0

@@ -10,7 +10,7 @@ ghost use Rattle.afl_base.specs.Files.{Commits, Drafts, IsLive, Keeps, draft_in,
 ghost use Rattle.afl_base.specs.Fit.{fit};
 ghost use Rattle.db_model.specs.Row.{AllRowsSuit, AllSuit, Row, row_length, rows_bytes};
 ghost use Rattle.tuple_file.specs.Drafts.{HasSlot, IsZeroDraft, PutsRow};
-ghost use Rattle.tuple_file.specs.Gathered.{IsFree, end_of, gathered};
+ghost use Rattle.tuple_file.specs.Gathered.{IsFree, end_of_waiting, gathered};
 ghost use Rattle.tuple_file.specs.Tuples.{AreAnswered, HoldsRows, IsAnswered, IsLiveTuple, IsRowFile, OnlyDraftChanges, OnlyRowsChange, live_rows, row, rows, slots};
 
 use crate::tuples::Tuples;
@@ -109,7 +109,7 @@ impl Tuples {
         requires begun { IsSome (V.state files.old).draft }
         requires range { HasSlot (V.state files.old) self.now slot }
         requires most { length (draft_in (V.state files.old)).bytes ≤ 4194304 }
-        requires behind { end_of waiting.old ≡ row_length self.now.schema.attributes * slot }
+        requires behind { end_of_waiting waiting.old ≡ row_length self.now.schema.attributes * slot }
         requires free { IsTrue (V.state files.old).tells → IsFree (V.state files.old) waiting.old }
         ensures row { IsTrue (V.state files.old).tells
             → OnOk result ((new : Row)
@@ -119,7 +119,7 @@ impl Tuples {
             self.now slot new) }
         ensures free { IsTrue (V.state files.old).tells
             → OnOk result (IsFree (V.state files.new) waiting.new) }
-        ensures behind { OnOk result (end_of waiting.new
+        ensures behind { OnOk result (end_of_waiting waiting.new
             ≡ row_length self.now.schema.attributes * (slot + 1)) }
         ensures only { OnOk result (OnlyDraftChanges (V.state files.old) (V.state files.new)) }
         ensures frame { Changes V.state V.lent V.reads V.faults files.old files.new result }
@@ -253,7 +253,7 @@ impl Tuples {
         requires size { length (draft_in (V.state files.old)).bytes
             ≡ row_length self.now.schema.attributes * room }
         requires most { length (draft_in (V.state files.old)).bytes ≤ 4194304 }
-        requires behind { end_of waiting.old ≡ row_length self.now.schema.attributes * written }
+        requires behind { end_of_waiting waiting.old ≡ row_length self.now.schema.attributes * written }
         requires free { IsTrue (V.state files.old).tells → IsFree (V.state files.old) waiting.old }
         ensures live { IsTrue (V.state files.old).tells → written < room
             → (row (V.state files.old).files self.now slot).live ≡ true
@@ -267,7 +267,7 @@ impl Tuples {
             × (gathered (V.state files.new) waiting.new ≡ gathered (V.state files.old) waiting.old)) }
         ensures free { IsTrue (V.state files.old).tells
             → OnOk result (IsFree (V.state files.new) waiting.new) }
-        ensures behind { IfOk result (λ now. end_of waiting.new
+        ensures behind { IfOk result (λ now. end_of_waiting waiting.new
             ≡ row_length self.now.schema.attributes * now) }
         ensures few { IfOk result (λ now. now ≤ room) }
         ensures only { OnOk result (OnlyDraftChanges (V.state files.old) (V.state files.new)) }

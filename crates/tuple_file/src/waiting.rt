@@ -7,7 +7,7 @@ ghost use Rattle.afl_base.specs.Fields.{put_at};
 ghost use Rattle.afl_base.specs.Files.{draft_in};
 ghost use Rattle.afl_base.specs.Keeping.{Changes};
 ghost use Rattle.db_model.specs.Row.{AllSuit, row_bytes, row_length};
-ghost use Rattle.tuple_file.specs.Gathered.{IsFree, end_of, gathered};
+ghost use Rattle.tuple_file.specs.Gathered.{IsFree, end_of_waiting, gathered};
 ghost use Rattle.tuple_file.specs.Tuples.{OnlyDraftChanges};
 
 use crate::rows::put_row;
@@ -28,9 +28,9 @@ pub(crate) struct Waiting {
 
 impl Model for Waiting {
     ghost use Rattle.std.specs.Prelude.{◌≤◌, take};
-    ghost use Rattle.tuple_file.specs.Gathered.{Kept};
+    ghost use Rattle.tuple_file.specs.Gathered.{WaitingRows};
 
-    ghost Value = { Kept };
+    ghost Value = { WaitingRows };
 
     ghost view = { λ w. record { at = w.at; bytes = take w.filled w.bytes } };
 
@@ -61,17 +61,17 @@ impl Waiting {
         requires short { row_length attributes.now ≤ 128 }
         requires suits { AllSuit attributes.now tuple.now }
         requires begun { IsSome (V.state files.old).draft }
-        requires range { end_of self.old + row_length attributes.now
+        requires range { end_of_waiting self.old + row_length attributes.now
             ≤ length (draft_in (V.state files.old)).bytes }
         requires most { length (draft_in (V.state files.old)).bytes ≤ 4194304 }
         requires free { IsTrue (V.state files.old).tells → IsFree (V.state files.old) self.old }
         ensures put { IsTrue (V.state files.old).tells
             → OnOk result (gathered (V.state files.new) self.new
-            ≡ put_at (gathered (V.state files.old) self.old) (end_of self.old)
+            ≡ put_at (gathered (V.state files.old) self.old) (end_of_waiting self.old)
             (row_bytes attributes.now (record { tuple = tuple.now; live = live }))) }
         ensures free { IsTrue (V.state files.old).tells
             → OnOk result (IsFree (V.state files.new) self.new) }
-        ensures end { OnOk result (end_of self.new ≡ end_of self.old + row_length attributes.now) }
+        ensures end { OnOk result (end_of_waiting self.new ≡ end_of_waiting self.old + row_length attributes.now) }
         ensures only { OnOk result (OnlyDraftChanges (V.state files.old) (V.state files.new)) }
         ensures frame { Changes V.state V.lent V.reads V.faults files.old files.new result }
     {
@@ -84,14 +84,14 @@ impl Waiting {
     fn make_room<V: Files>(&mut self, files: &mut V, count: usize) -> Result<(), Failed>
         requires count { count ≤ 128 }
         requires begun { IsSome (V.state files.old).draft }
-        requires range { end_of self.old ≤ length (draft_in (V.state files.old)).bytes }
+        requires range { end_of_waiting self.old ≤ length (draft_in (V.state files.old)).bytes }
         requires most { length (draft_in (V.state files.old)).bytes ≤ 4194304 }
         requires free { IsTrue (V.state files.old).tells → IsFree (V.state files.old) self.old }
         ensures same { IsTrue (V.state files.old).tells
             → OnOk result (gathered (V.state files.new) self.new ≡ gathered (V.state files.old) self.old) }
         ensures free { IsTrue (V.state files.old).tells
             → OnOk result (IsFree (V.state files.new) self.new) }
-        ensures end { OnOk result (end_of self.new ≡ end_of self.old) }
+        ensures end { OnOk result (end_of_waiting self.new ≡ end_of_waiting self.old) }
         ensures room { OnOk result (length self.new.bytes + count ≤ 256) }
         ensures only { OnOk result (OnlyDraftChanges (V.state files.old) (V.state files.new)) }
         ensures frame { Changes V.state V.lent V.reads V.faults files.old files.new result }
@@ -119,14 +119,14 @@ impl Waiting {
     /// Writes all that waits.
     pub(crate) fn flush<V: Files>(&mut self, files: &mut V) -> Result<(), Failed>
         requires begun { IsSome (V.state files.old).draft }
-        requires range { end_of self.old ≤ length (draft_in (V.state files.old)).bytes }
+        requires range { end_of_waiting self.old ≤ length (draft_in (V.state files.old)).bytes }
         requires most { length (draft_in (V.state files.old)).bytes ≤ 4194304 }
         requires free { IsTrue (V.state files.old).tells → IsFree (V.state files.old) self.old }
         ensures written { IsTrue (V.state files.old).tells → OnOk result
             ((draft_in (V.state files.new)).bytes ≡ gathered (V.state files.old) self.old) }
         ensures free { IsTrue (V.state files.old).tells
             → OnOk result (IsFree (V.state files.new) self.new) }
-        ensures at { OnOk result (self.new.at ≡ end_of self.old) }
+        ensures at { OnOk result (self.new.at ≡ end_of_waiting self.old) }
         ensures none { OnOk result (self.new.bytes ≡ []) }
         ensures only { OnOk result (OnlyDraftChanges (V.state files.old) (V.state files.new)) }
         ensures frame { Changes V.state V.lent V.reads V.faults files.old files.new result }

@@ -1,7 +1,7 @@
 use Rattle.std.proofs.Common.{◌≡◌, ◌*◌, ◌≤◌, IsTrue, length}
 use Rattle.afl_base.specs.Files.{bytes_at}
 use Rattle.db_model.specs.Row.{row_length}
-use Rattle.tuple_file.specs.Gathered.{IsFree, end_of, gathered}
+use Rattle.tuple_file.specs.Gathered.{IsFree, end_of_waiting, gathered}
 use Rattle.tuple_file.specs.Tuples.{OnlyDraftChanges}
 use Rattle.tuple_file.proofs.Packed.{IsPacked}
 use Rattle.tuple_file.proofs.tuples.Tuples.draft_live.Given as goal
@@ -16,7 +16,7 @@ invariant-loop-slot g l =
       later : g.V.Files.reads l.fn.files ≤ g.V.Files.reads l.files;
       faults : g.V.Files.faults l.fn.files ≤ g.V.Files.faults l.files;
       few : l.written ≤ l.room;
-      behind : end_of l.waiting ≡ row_length l.fn.self.schema.attributes * l.written;
+      behind : end_of_waiting l.waiting ≡ row_length l.fn.self.schema.attributes * l.written;
       free : IsTrue (g.V.Files.state l.fn.files).tells → IsFree (g.V.Files.state l.files) l.waiting;
       packed : IsTrue (g.V.Files.state l.fn.files).tells →
           IsPacked l.fn.self.schema.attributes bytes l.room l.slot l.written (gathered (g.V.Files.state l.files) l.waiting);

@@ -1,6 +1,0 @@
-use Rattle.std.proofs.Common.{◌≡◌, drop}
-use Rattle.antelope_run.specs.Words.{is_among}
-use Rattle.antelope_run.proofs.planned.is_among.Given as goal
-
-abbrev pub invariant-loop-named : goal.invariant-loop-named
-invariant-loop-named l = is_among l.name (drop l.named-index l.all) ≡ is_among l.name l.all
