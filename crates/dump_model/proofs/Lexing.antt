@@ -11,7 +11,7 @@ use Rattle.std.proofs.lemmas.Bool.Decides.{nat_tests}
 use Rattle.std.proofs.Math.Seq.{take-append_seam, get_or-append_seam}
 use Rattle.db_model.specs.Keywords.{keyword_of, keywords, keyword_text}
 use Rattle.db_model.specs.declared.tokens.Keyword.{Keyword}
-use Rattle.db_model.specs.declared.tokens.Keyword.TheVariants.{KCREATE, KRELATION, KATTRIBUTE, KINDEX, KDOMAIN, KINT, KLONG, KSTRING, KIN, KTYPE, KINLINE, KMAXHEAP, KMEMHASH, KINSERT, KINTO, KSELECT, KFROM, KWHERE, KJOIN, KON, KPROJECT, KREMOVE, KPACK, KOPEN, KFETCH, KCLOSE, KAND, KOR, KNOT, KCOUNT, KSUM, KMIN, KMAX, KMEAN, KMEDIAN}
+use Rattle.db_model.specs.declared.tokens.Keyword.TheVariants.{KCREATE}
 use Rattle.db_model.specs.declared.tokens.Sign.TheVariants.{LeftBracket, RightBracket, Comma, Dot, Minus}
 use Rattle.db_model.specs.Names.{is_name, is_text, is_text_byte, is_word, is_word_byte}
 use Rattle.db_model.specs.Tokens.{is_white, word_token, number_token, of_length, quoted_at, sign_of, token_at, tokens_from, token_then, no_tokens, Tokens}
@@ -132,40 +132,7 @@ lexes-word (b ∷ bs) rest t ts word token stop h =
 keyword_read : (k : Keyword) → (word_token (keyword_text k) ≡ Some (Word k)) × IsTrue (is_word (keyword_text k))
 unfolding keyword_of keywords
 keyword_read KCREATE = (refl, refl)
-keyword_read KRELATION = (refl, refl)
-keyword_read KATTRIBUTE = (refl, refl)
-keyword_read KINDEX = (refl, refl)
-keyword_read KDOMAIN = (refl, refl)
-keyword_read KINT = (refl, refl)
-keyword_read KLONG = (refl, refl)
-keyword_read KSTRING = (refl, refl)
-keyword_read KIN = (refl, refl)
-keyword_read KTYPE = (refl, refl)
-keyword_read KINLINE = (refl, refl)
-keyword_read KMAXHEAP = (refl, refl)
-keyword_read KMEMHASH = (refl, refl)
-keyword_read KINSERT = (refl, refl)
-keyword_read KINTO = (refl, refl)
-keyword_read KSELECT = (refl, refl)
-keyword_read KFROM = (refl, refl)
-keyword_read KWHERE = (refl, refl)
-keyword_read KJOIN = (refl, refl)
-keyword_read KON = (refl, refl)
-keyword_read KPROJECT = (refl, refl)
-keyword_read KREMOVE = (refl, refl)
-keyword_read KPACK = (refl, refl)
-keyword_read KOPEN = (refl, refl)
-keyword_read KFETCH = (refl, refl)
-keyword_read KCLOSE = (refl, refl)
-keyword_read KAND = (refl, refl)
-keyword_read KOR = (refl, refl)
-keyword_read KNOT = (refl, refl)
-keyword_read KCOUNT = (refl, refl)
-keyword_read KSUM = (refl, refl)
-keyword_read KMIN = (refl, refl)
-keyword_read KMAX = (refl, refl)
-keyword_read KMEAN = (refl, refl)
-keyword_read KMEDIAN = (refl, refl)
+keyword_read _ = (refl, refl)
 
 pub lexes-keyword : (k : Keyword) (rest : List ℕ) (ts : List Token) → IsTrue (stops is_word_byte rest) → Lexes rest ts → Lexes (keyword_text k ++ rest) (Word k ∷ ts)
 lexes-keyword k rest ts stop h = lexes-word (keyword_text k) rest (Word k) ts (keyword_read k).1 (keyword_read k).0 stop h

@@ -208,8 +208,7 @@ not_refused MemHash slots before place rows rs h =
     let many = length-map (kept_rows rows) (λ row. key_of (slice_get row.tuple place)) in
     let less = filter_few (λ row. row.live) rows in
     let room : nat_lt 2048 (length (keys place (kept_rows rows))) ≡ false = let e = h.1 in grind (arith, nat_tests) in
-    ap (λ t. ◌>>◌ (refuse_if t (no.Full pool.HashTables 2)) (refuse_if (nat_lt 2048 (length (keys place (kept_rows rows)))) (no.Full pool.HashEntries 2048))) few
-    ∙ ap (λ t. refuse_if t (no.Full pool.HashEntries 2048)) room
+    rw (few, room) refl
 
 -- ---- CREATE INDEX
 

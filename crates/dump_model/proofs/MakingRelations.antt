@@ -1,6 +1,6 @@
 -- The commands of a relation make it.
 use Rattle.std.proofs.Common.{◌≡◌, refl, sym, ap, subst, ◌∙◌, ℕ, ◌+◌, ◌-◌, ◌<◌, ◌≤◌, Bool, true, false, List, [], ◌∷◌, ◌++◌, length, map, flat_map, replicate, append_assoc, append-nil, length-append, arith, cond, Option, Some, None}
-use Rattle.std.specs.Prelude.{Ok, Result, IsTrue, is_some, nat_le, nat_lt, slice_get, set}
+use Rattle.std.specs.Prelude.{Ok, Result, IsTrue, nat_le, nat_lt, slice_get}
 use Rattle.std.specs.Str.{bytes_eq}
 use Rattle.std.specs.List.{AllByRecursion}
 use Rattle.std.proofs.lemmas.List.{length-map, map-append}
@@ -8,9 +8,7 @@ use Rattle.std.proofs.lemmas.List.Concat.{flat_map-cons}
 use Rattle.std.proofs.lemmas.Bool.Decides.{nat_tests}
 use Rattle.db_model.specs.declared.commands.Command.{Command}
 use Rattle.db_model.specs.declared.commands.Command.TheVariants.{CreateRelation}
-use Rattle.db_model.specs.declared.refusals.Pool.TheVariants as pool
 use Rattle.db_model.specs.declared.refusals.Refusal.{Refusal}
-use Rattle.db_model.specs.declared.refusals.Refusal.TheVariants as no
 use Rattle.db_model.specs.declared.schemas.Attribute.{Attribute}
 use Rattle.db_model.specs.declared.schemas.Domain.{Domain}
 use Rattle.db_model.specs.declared.schemas.Domain.TheVariants as domain
@@ -18,11 +16,10 @@ use Rattle.db_model.specs.declared.values.Value.{Value}
 use Rattle.db_model.specs.declared.values.Value.TheVariants as value
 use Rattle.db_model.specs.Answers.{live_tuples}
 use Rattle.db_model.specs.Catalog.{IsAttribute, IsDomain}
-use Rattle.db_model.specs.Database.{Relation, Database, free_from, is_among, empty_database}
+use Rattle.db_model.specs.Database.{Relation, Database, is_among, empty_database}
 use Rattle.db_model.specs.Item.{place_from}
-use Rattle.db_model.specs.Refusing.{◌>>=◌, ◌>>◌, refuse_if, refuse_found, found_or}
 use Rattle.db_model.specs.Row.{Row, AllSuit, AllRowsSuit, fields_length, row_length}
-use Rattle.db_model.specs.Step.{Reply, Fine, Outcome, outcome, upgraded, changed_by, add_attribute, domain_asked, insert_into, unsuited, unsuited_from, fallen, fallen_from, is_ordered}
+use Rattle.db_model.specs.Step.{Reply, Fine, outcome, upgraded, changed_by, add_attribute, domain_asked, insert_into, unsuited, unsuited_from, fallen, fallen_from, is_ordered}
 use Rattle.dump_model.specs.Made.{Makes}
 use Rattle.dump_model.specs.Packed.{slots_for, kept_rows, packed_relation}
 use Rattle.dump_model.specs.Script.{domain_named, relation_commands, attribute_command, row_command}
@@ -46,26 +43,14 @@ bare_relation name attributes rows = record { schema = record { name = name; att
 
 makes_relation : (rs : List Relation) (name : List ℕ) → length rs < 8 → is_among name (relation_names rs) ≡ false
     → outcome (with_relations rs) (CreateRelation name) ≡ Ok (with_relations (rs ++ bare_relation name [] [] ∷ []), Fine)
-makes_relation rs name few fresh =
-    let new = bare_relation name [] [] in
-    let made : List (Option Relation) → Outcome = λ slots. Ok (record { version = 2; relations = slots; indexes = replicate 8 None; cursors = replicate 4 None }, Fine) in
-    let at : Result ℕ Refusal → Outcome = λ slot. upgraded (◌>>=◌ slot (λ k. made (set (slots_for 8 rs) k (Some new)))) in
-    ap (λ found. upgraded (◌>>◌ (refuse_if (is_some found) no.Exists) (◌>>=◌ (found_or (free_from 0 (slots_for 8 rs)) (no.Full pool.Relations 8)) (λ k. made (set (slots_for 8 rs) k (Some new)))))) (absent name 8 rs fresh)
-    ∙ ap (λ free. at (found_or free (no.Full pool.Relations 8))) (slot_free 8 rs few)
-    ∙ ap made (slot_taken 8 rs new few)
+makes_relation rs name few fresh = rw (absent name 8 rs fresh, slot_free 8 rs few, slot_taken 8 rs (bare_relation name [] []) few) refl
 
 -- ---- changes of the relation that is made
 
 changed_last : (change : ℕ → Database → Relation → Result (Relation × Reply) Refusal) (rs : List Relation) (r new : Relation) → is_among r.schema.name (relation_names rs) ≡ false
     → change (length rs) (with_relations (rs ++ r ∷ [])) r ≡ Ok (new, Fine)
     → changed_by change (with_relations (rs ++ r ∷ [])) r.schema.name ≡ Ok (with_relations (rs ++ new ∷ []), Fine)
-changed_last change rs r new fresh changed =
-    let db = with_relations (rs ++ r ∷ []) in
-    let made : List (Option Relation) → Outcome = λ slots. Ok (record { version = 2; relations = slots; indexes = replicate 8 None; cursors = replicate 4 None }, Fine) in
-    let put : ℕ → Relation × Reply → Outcome = λ k done. Ok (record { version = 2; relations = set (slots_for 8 (rs ++ r ∷ [])) k (Some done.0); indexes = replicate 8 None; cursors = replicate 4 None }, done.1) in
-    ap (λ found. ◌>>=◌ (found_or found no.NoRelation) (λ s. ◌>>=◌ (change s.0 db s.1) (put s.0))) (found_last 8 rs r fresh)
-    ∙ ap (λ done. ◌>>=◌ done (put (length rs))) changed
-    ∙ ap made (slot_changed 8 rs r new)
+changed_last change rs r new fresh changed = rw (found_last 8 rs r fresh, changed, slot_changed 8 rs r new) refl
 
 -- ---- CREATE ATTRIBUTE
 
@@ -91,17 +76,9 @@ fields_length-append (x ∷ xs) ys = let e = fields_length-append xs ys in omega
 added : (name : List ℕ) (done : List Attribute) (a : Attribute) (slot : ℕ) (db : Database) → is_among a.name (attribute_names done) ≡ false → IsDomain a.domain → length done < 8 → row_length (done ++ a ∷ []) ≤ 128
     → add_attribute a.name (domain_named a.domain) slot db (bare_relation name done []) ≡ Ok (bare_relation name (done ++ a ∷ []) [], Fine)
 added name done a slot db fresh is few short =
-    let new = bare_relation name (done ++ a ∷ []) [] in
     let room : nat_le 8 (length done) ≡ false = grind (arith, nat_tests) in
     let fits : nat_lt 128 (row_length (done ++ a ∷ [])) ≡ false = grind (arith, nat_tests) in
-    let end : Result (Relation × Reply) Refusal = ◌>>◌ (refuse_if (nat_lt 128 (row_length (done ++ a ∷ []))) (no.Full pool.RowBytes 128)) (Ok (new, Fine)) in
-    let rest : Domain → Result (Relation × Reply) Refusal = λ d.
-    ◌>>◌ (refuse_if (nat_le 8 (length done)) (no.Full pool.Attributes 8))
-    (◌>>◌ (refuse_if (nat_lt 128 (row_length (done ++ record { name = a.name; domain = d } ∷ []))) (no.Full pool.RowBytes 128)) (Ok (bare_relation name (done ++ record { name = a.name; domain = d } ∷ []) [], Fine))) in
-    ap (λ place. ◌>>◌ (refuse_if (is_some place) no.Exists) (◌>>=◌ (found_or (domain_asked (domain_named a.domain)) no.Domain) rest)) (absent_attribute a.name 0 done fresh)
-    ∙ ap (λ d. ◌>>=◌ (found_or d no.Domain) rest) (domain_back a.domain is)
-    ∙ ap (λ t. ◌>>◌ (refuse_if t (no.Full pool.Attributes 8)) end) room
-    ∙ ap (λ t. ◌>>◌ (refuse_if t (no.Full pool.RowBytes 128)) (Ok (new, Fine))) fits
+    rw (absent_attribute a.name 0 done fresh, domain_back a.domain is, room, fits) refl
 
 -- the attributes so far, and those still to come
 makes_attributes : (rs : List Relation) (name : List ℕ) (done rest : List Attribute) → is_among name (relation_names rs) ≡ false
@@ -153,11 +130,8 @@ inserted : (rs : List Relation) (name : List ℕ) (attributes : List Attribute) 
     → insert_into values (length rs) (with_relations (rs ++ bare_relation name attributes done ∷ [])) (bare_relation name attributes done)
     ≡ Ok (bare_relation name attributes (done ++ record { tuple = values; live = true } ∷ []), Fine)
 inserted rs name attributes done values some suit few =
-    let end : Result (Relation × Reply) Refusal = Ok (bare_relation name attributes (done ++ record { tuple = values; live = true } ∷ []), Fine) in
     let room : nat_le 32768 (length done) ≡ false = grind (arith, nat_tests) in
-    ap (λ wrong. ◌>>◌ (refuse_found wrong no.Value) (◌>>◌ (refuse_if (nat_le 32768 (length done)) (no.Full pool.Slots 32768)) (◌>>◌ (refuse_found (fallen [] (slice_get done (length done - 1)) values) no.NotOrdered) end))) (suited attributes values some suit)
-    ∙ ap (λ t. ◌>>◌ (refuse_if t (no.Full pool.Slots 32768)) (◌>>◌ (refuse_found (fallen [] (slice_get done (length done - 1)) values) no.NotOrdered) end)) room
-    ∙ ap (λ fall. ◌>>◌ (refuse_found fall no.NotOrdered) end) (not_fallen (slice_get done (length done - 1)) values)
+    rw (suited attributes values some suit, room, not_fallen (slice_get done (length done - 1)) values) refl
 
 -- the rows so far, and those still to come
 makes_rows : (rs : List Relation) (name : List ℕ) (attributes : List Attribute) (done rest : List Row) → is_among name (relation_names rs) ≡ false
