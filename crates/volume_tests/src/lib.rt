@@ -8,6 +8,8 @@ mod calls;
 #[cfg(test)]
 mod catalog_tests;
 #[cfg(test)]
+mod draft_tests;
+#[cfg(test)]
 mod fault_tests;
 #[cfg(test)]
 mod log_tests;
@@ -23,6 +25,8 @@ mod row_tests;
 mod rows;
 #[cfg(test)]
 mod runs;
+#[cfg(test)]
+mod scan_tests;
 #[cfg(test)]
 mod space_tests;
 #[cfg(test)]

@@ -8,8 +8,9 @@ ghost use Rattle.db_model.specs.declared.schemas.Attribute.{Attribute};
 ghost use Rattle.tuple_file.specs.Tuples.{HoldsRows, slots};
 ghost use Rattle.volume_tests.specs.LongRows.{AreLong};
 
-use crate::calls::change;
-use afl_base::{FileError, FileId, Files, Name, SlotNo};
+use crate::calls::{change, live_files, make};
+use crate::mounted::{SIZE, memory, mounted, named};
+use afl_base::{FileError, FileId, Files, Kind, Name, SlotNo};
 use db_model::{Attribute, Attributes, Domain, Ident, Schema, Text, Tuple, Value};
 use tuple_file::Tuples;
 
@@ -147,6 +148,22 @@ pub fn append_short_rows<V: Files>(files: &mut V, name: Name) -> Result<bool, Fi
         }
     }
     Ok(true)
+}
+
+/// Makes a file T0 with the first 300 of these rows on an erased flash. It answers whether it did.
+pub fn make_short_rows(image: &mut [u8; SIZE]) -> bool {
+    let Some(flash) = memory(image) else {
+        return false;
+    };
+    let Some(mut volume) = mounted(flash) else {
+        return false;
+    };
+    let name = named(b"T0");
+    let mut used = live_files(&volume);
+    match make(&mut volume, &mut used, name, Kind::Doubling) {
+        Ok(true) => change(&mut volume, name, 0, &[], &short_row_bytes(0)[..900]) == Ok(true),
+        _ => false,
+    }
 }
 
 // The bytes of the rows of 1,024 numbers.
