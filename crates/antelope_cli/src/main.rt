@@ -28,7 +28,7 @@ use crate::failure::Failure;
 use crate::files::open_script;
 use crate::image::{open_image, remove_new};
 use afl_base::{Flash, Sink, Source};
-use afl_sim::{MemFlash, MemSource, StdSink, StdSource};
+use afl_sim::{MemSource, StdSink, StdSource};
 use antelope_run::{Form, form, top};
 use std::env::Env;
 use std::fs::{File, Files};
@@ -66,7 +66,8 @@ where
             let image = open_image(rt, image.as_str())?;
             Ok(status_in_memory(rt, words, &mut nothing(), &mut out, image.flash))
         }
-        _ => refuse(words, &mut out),
+        // Words of no form name no image: of them `top` answers 1, whatever the flash.
+        _ => Ok(1),
     }
 }
 
@@ -108,16 +109,6 @@ fn words<R: Env + AllocGlobal>(rt: &R) -> Result<Vec<String>, Failure> {
         words.push(word).map_err(|_| Failure::Memory)?;
     }
     Ok(words)
-}
-
-// The status of words of no form, which name no image. What it keeps on the stack is of no other run.
-#[inline(never)]
-fn refuse<K: Sink>(words: &[String], out: &mut K) -> Result<u8, Failure> {
-    let mut erased = [0u8; 16384];
-    let Some(flash) = MemFlash::new(&mut erased) else {
-        return Err(Failure::Length);
-    };
-    Ok(status(words, &mut nothing(), out, flash))
 }
 
 // The input of words that name none.
