@@ -4,10 +4,16 @@ use afl_sim::FileFlash;
 use std::fs;
 use std::fs::{File, Files, OpenOptions};
 use std::io::ErrorKind;
-use std::os::unix::fs::MetadataExt;
+use std::os::unix::fs::{FileExt, MetadataExt};
 
-// 256 sectors of 4,096 bytes
-const NEW_IMAGE: u64 = 1_048_576;
+const SECTOR: u64 = 4096;
+
+const ERASED: [u8; 4096] = [0; 4096];
+
+const NEW_SECTORS: u64 = 256;
+
+// How many names are tried for a file that gets its own later.
+const NAMES: u32 = 1000;
 
 /// A flash in a file that is locked as long as the flash is kept, so that no other run has it.
 #[derive(Drop)]
@@ -23,7 +29,10 @@ pub struct Image {
 ///
 /// `Open` comes where the file cannot be opened or made, and where another run has it; `Length` where
 /// it is not 4 to 4,095 sectors long. A file that was made is removed again.
-pub fn open_image<R: Files<File = File>>(rt: &R, path: &str) -> Result<Image, Failure> {
+pub fn open_image<R>(rt: &R, path: &str) -> Result<Image, Failure>
+where
+    R: Files<File = File> + AllocGlobal,
+{
     match OpenOptions::new().read(true).write(true).open(rt, path) {
         Ok(file) => Ok(Image {
             flash: take_found(rt, path, file)?,
@@ -57,7 +66,57 @@ fn take_found<R: Files<File = File>>(rt: &R, path: &str, file: File) -> Result<F
     FileFlash::new(file, known.len()).ok_or(Failure::Length)
 }
 
-fn make<R: Files<File = File>>(rt: &R, path: &str) -> Result<FileFlash, Failure> {
+// A file takes its name when it is whole and locked, so that no other run finds it before that. Where
+// the file system has no second names, it is made under its own.
+fn make<R>(rt: &R, path: &str) -> Result<FileFlash, Failure>
+where
+    R: Files<File = File> + AllocGlobal,
+{
+    let Some((draft, file)) = begin_draft(rt, path) else {
+        return make_in_place(rt, path);
+    };
+    let made = match erased(file) {
+        Ok(flash) => give_name(rt, draft.as_str(), path, flash),
+        Err(failure) => Err(failure),
+    };
+    let _ = fs::remove_file(rt, draft.as_str());
+    made
+}
+
+fn give_name<R: Files<File = File>>(
+    rt: &R,
+    draft: &str,
+    path: &str,
+    flash: FileFlash,
+) -> Result<FileFlash, Failure> {
+    match fs::hard_link(rt, draft, path) {
+        Ok(()) => Ok(flash),
+        Err(error) if error.kind() == ErrorKind::AlreadyExists => Err(Failure::Open),
+        Err(_) => make_in_place(rt, path),
+    }
+}
+
+// A new file beside `path` and its name, which is that of no other.
+fn begin_draft<R>(rt: &R, path: &str) -> Option<(String, File)>
+where
+    R: Files<File = File> + AllocGlobal,
+{
+    let folder = match path.rsplit_once('/') {
+        Some((folder, _)) => folder,
+        None => ".",
+    };
+    for number in 0..NAMES {
+        let name = format!(in rt.alloc(); "{folder}/.antelope-{number}").ok()?;
+        match File::create_new(rt, name.as_str()) {
+            Ok(file) => return Some((name, file)),
+            Err(error) if error.kind() == ErrorKind::AlreadyExists => {}
+            Err(_) => return None,
+        }
+    }
+    None
+}
+
+fn make_in_place<R: Files<File = File>>(rt: &R, path: &str) -> Result<FileFlash, Failure> {
     let Ok(file) = File::create_new(rt, path) else {
         return Err(Failure::Open);
     };
@@ -68,13 +127,16 @@ fn make<R: Files<File = File>>(rt: &R, path: &str) -> Result<FileFlash, Failure>
     made
 }
 
-// A new flash of zeros in an empty file.
+// A new flash of zeros in an empty file. They are written, so that a disk without room for them is
+// met now and not in the middle of a command.
 fn erased(file: File) -> Result<FileFlash, Failure> {
     let file = lock(file)?;
-    if file.set_len(NEW_IMAGE).is_err() {
-        return Err(Failure::Open);
+    for sector in 0..NEW_SECTORS {
+        if file.write_all_at(&ERASED, SECTOR * sector).is_err() {
+            return Err(Failure::Open);
+        }
     }
-    FileFlash::new(file, NEW_IMAGE).ok_or(Failure::Length)
+    FileFlash::new(file, SECTOR * NEW_SECTORS).ok_or(Failure::Length)
 }
 
 fn lock(file: File) -> Result<File, Failure> {
