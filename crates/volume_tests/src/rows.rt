@@ -159,9 +159,13 @@ pub fn make_short_rows(image: &mut [u8; SIZE]) -> bool {
         return false;
     };
     let name = named(b"T0");
+    let rows = short_row_bytes(0);
+    let Some(front) = rows.get(..900) else {
+        return false;
+    };
     let mut used = live_files(&volume);
     match make(&mut volume, &mut used, name, Kind::Doubling) {
-        Ok(true) => change(&mut volume, name, 0, &[], &short_row_bytes(0)[..900]) == Ok(true),
+        Ok(true) => change(&mut volume, name, 0, &[], front) == Ok(true),
         _ => false,
     }
 }

@@ -21,12 +21,18 @@ fn has_row<V: Files>(files: &mut V, row: u32) -> bool {
     let Some(file) = doubling_file(files, named(b"T0")) else {
         return false;
     };
-    if row >= 300 || files.size(file) != 900 {
+    if row >= 300 {
+        return false;
+    }
+    if files.size(file) != 900 {
         return false;
     }
     let mut bytes = [0; 3];
-    files.read(file, 3 * row, &mut bytes).is_ok()
-        && u32::from(bytes[0]) + 256 * u32::from(bytes[1]) == row
+    if files.read(file, 3 * row, &mut bytes).is_err() {
+        return false;
+    }
+    let [low, high, _] = bytes;
+    u32::from(low) + 256 * u32::from(high) == row
 }
 
 // How many pages are read where all rows are read one by one, from the first or from the last one on.
