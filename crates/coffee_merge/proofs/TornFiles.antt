@@ -1,16 +1,16 @@
 -- What each write that is torn leaves.
-use Rattle.std.proofs.Common.{◌≡◌, ◌⊎◌, inl, inr, ℕ, ◌*◌, List, Option, None, Some, Result, Ok, Err, IsErrOf, OnErr, refl, subst, sym}
+use Rattle.std.proofs.Common.{◌≡◌, inl, inr, ℕ, ◌*◌, ◌<◌, List, Option, None, Some, Result, Ok, Err, IsErrOf, OnErr, refl, subst, sym}
 use Rattle.afl_base.specs.Cuts.{IsCutProgram}
 use Rattle.afl_base.specs.Image.{or_at}
 use Rattle.afl_base.specs.declared.ids.PageId.{PageId}
 use Rattle.coffee_header.specs.Headers.{header_bytes}
 use Rattle.coffee_header.specs.declared.header.Header.{Header}
+use Rattle.coffee_layout.specs.FileBytes.{file_byte}
 use Rattle.coffee_layout.specs.Marks.{IsLowestRun, free_pages}
 use Rattle.coffee_layout.specs.Tiling.{IsTiled, nowhere, units_of}
 use Rattle.coffee_layout.specs.declared.file.FileAt.{FileAt}
 use Rattle.coffee_layout.specs.declared.unit.Unit.{Unit}
-use Rattle.coffee_merge.specs.CutMarks.{IsCutNaming, IsCutReplace, IsOneOf, KeepsHead}
-use Rattle.coffee_merge.specs.Flags.{flagged}
+use Rattle.coffee_merge.specs.CutMarks.{IsCutNaming, IsCutReplace, KeepsHead}
 use Rattle.coffee_merge.specs.Holding.{Entries, HoldsTable, IsIn, KeepsContents, log_header}
 use Rattle.coffee_merge.specs.Takes.{KeepsPagesBut}
 use Rattle.coffee_merge.specs.Torn.{BreaksOff}
@@ -22,15 +22,32 @@ at_error (Ok x) e is holds = absurd (let n : ⊥ = cc in n)
 at_error (Err f) e is holds = holds
 
 module _ (old mid new : List ℕ) (table : Entries) (kept : KeepsContents old mid table) where
-  -- a header in part
-  pub torn_header : (page pages : ℕ) (h : Header) → HoldsTable mid table None → IsLowestRun (free_pages (units_of mid)) pages page → h.max_pages ≡ pages
-      → IsCutProgram mid new (256 * page) (header_bytes h) → BreaksOff old new table
-  torn_header page pages h holds run is cut = record {
+  -- the header of an extent under construction in part
+  pub torn_header : (page pages : ℕ) (h : Header) → HoldsTable mid table None → h.flags ≡ 2 → IsLowestRun (free_pages (units_of mid)) pages page
+      → h.max_pages ≡ pages → IsCutProgram mid new (256 * page) (header_bytes h) → BreaksOff old new table
+  torn_header page pages h holds begun run is cut = record {
     whole = mid;
     draft = None;
     holds = holds;
     kept = kept;
-    torn = inr (inr (inl (record { page = page; header = h; run = subst (λ n. IsLowestRun (free_pages (units_of mid)) n page) (sym is) run; cut = cut })));
+    torn = inr (inr (inl (record {
+      page = page;
+      header = h;
+      begun = begun;
+      run = subst (λ n. IsLowestRun (free_pages (units_of mid)) n page) (sym is) run;
+      cut = cut;
+    })));
+  }
+
+  -- the header of a log in part
+  pub torn_log : (i : ℕ) (e : FileAt) (log : ℕ) → HoldsTable mid table None → IsIn table i e → e.log ≡ None
+      → IsLowestRun (free_pages (units_of mid)) 16 log → IsCutProgram mid new (256 * log) (header_bytes (log_header e.name)) → BreaksOff old new table
+  torn_log i e log holds there none run cut = record {
+    whole = mid;
+    draft = None;
+    holds = holds;
+    kept = kept;
+    torn = inr (inr (inr (inl (record { place = i; e = e; log = log; there = there; none = none; run = run; cut = cut }))));
   }
 
   -- an extent under construction in part
@@ -40,29 +57,29 @@ module _ (old mid new : List ℕ) (table : Entries) (kept : KeepsContents old mi
     draft = Some d;
     holds = holds;
     kept = kept;
-    torn = inr (inr (inr (inl (record { d = d; is = refl; head = head; others = others }))));
-  }
-
-  -- an extent that is made a file, or not yet
-  pub torn_commit : (d : FileAt) → HoldsTable mid table (Some d) → IsOneOf new mid (flagged mid d.page.0 1) → BreaksOff old new table
-  torn_commit d holds (inl is) = record { whole = mid; draft = Some d; holds = holds; kept = kept; torn = inl is }
-  torn_commit d holds (inr done) = record {
-    whole = mid;
-    draft = Some d;
-    holds = holds;
-    kept = kept;
-    torn = inr (inr (inr (inr (inl (record { d = d; is = refl; done = done })))));
+    torn = inr (inr (inr (inr (inl (record { d = d; is = refl; head = head; others = others })))));
   }
 
   -- a file that is replaced in part
   pub torn_replacing : (d : FileAt) (i : ℕ) (e : FileAt) → HoldsTable mid table (Some d) → IsIn table i e → e.name ≡ d.name
+      → d.size ≡ e.size → ((p : ℕ) → p < e.size → file_byte mid d.page.0 None p ≡ file_byte mid e.page.0 e.log p)
       → IsCutReplace mid new d.page.0 e.page.0 e.log → BreaksOff old new table
-  torn_replacing d i e holds there name cut = record {
+  torn_replacing d i e holds there name size same cut = record {
     whole = mid;
     draft = Some d;
     holds = holds;
     kept = kept;
-    torn = inr (inr (inr (inr (inr (inl (record { d = d; place = i; e = e; is = refl; there = there; name = name; cut = cut }))))));
+    torn = inr (inr (inr (inr (inr (inl (record {
+      d = d;
+      place = i;
+      e = e;
+      is = refl;
+      there = there;
+      name = name;
+      size = size;
+      same = same;
+      cut = cut;
+    }))))));
   }
 
   -- a log that is named in part

@@ -1,17 +1,17 @@
 -- What a cut leaves of an image that holds a table of files: one that holds it still, of which one write, or one group of
 -- marks, is torn.
-use Rattle.std.specs.Prelude.{◌≡◌, ◌⊎◌, ℕ, ◌*◌, List, Option, None, Some}
+use Rattle.std.specs.Prelude.{◌≡◌, ◌⊎◌, ℕ, ◌*◌, ◌<◌, List, Option, None, Some}
 use Rattle.afl_base.specs.Cuts.{IsCutProgram}
 use Rattle.afl_base.specs.Image.{or_at}
 use Rattle.afl_base.specs.declared.ids.PageId.{PageId}
 use Rattle.coffee_header.specs.Headers.{header_bytes}
 use Rattle.coffee_header.specs.declared.header.Header.{Header}
+use Rattle.coffee_layout.specs.FileBytes.{file_byte}
 use Rattle.coffee_layout.specs.Marks.{IsLowestRun, free_pages}
 use Rattle.coffee_layout.specs.Tiling.{IsTiled, nowhere, units_of}
 use Rattle.coffee_layout.specs.declared.file.FileAt.{FileAt}
 use Rattle.coffee_layout.specs.declared.unit.Unit.{Unit}
 use Rattle.coffee_merge.specs.CutMarks.{IsCutNaming, IsCutReplace, KeepsHead}
-use Rattle.coffee_merge.specs.Flags.{flagged}
 use Rattle.coffee_merge.specs.Holding.{Entries, HoldsTable, IsIn, KeepsContents, log_header}
 use Rattle.coffee_merge.specs.Takes.{KeepsPagesBut}
 use Rattle.coffee_space.specs.Cutting.{IsCutCollection}
@@ -20,12 +20,23 @@ use Rattle.coffee_space.specs.Cutting.{IsCutCollection}
 pub record TearsCollection (whole new : List ℕ) : Type 0 where
   pub cut : (us : List Unit) → IsTiled nowhere whole us → IsCutCollection nowhere whole new us
 
--- the header of an extent is there in part, at the lowest run of as many free pages
+-- the header of an extent under construction is there in part, at the lowest run of as many free pages
 pub record TearsHeader (whole new : List ℕ) : Type 0 where
   pub page : ℕ
   pub header : Header
+  pub begun : header.flags ≡ 2
   pub run : IsLowestRun (free_pages (units_of whole)) header.max_pages page
   pub cut : IsCutProgram whole new (256 * page) (header_bytes header)
+
+-- the header of the log of a file that has none is there in part, at the lowest run of 16 free pages
+pub record TearsLogHeader (whole new : List ℕ) (table : Entries) : Type 0 where
+  pub place : ℕ
+  pub e : FileAt
+  pub log : ℕ
+  pub there : IsIn table place e
+  pub none : e.log ≡ None
+  pub run : IsLowestRun (free_pages (units_of whole)) 16 log
+  pub cut : IsCutProgram whole new (256 * log) (header_bytes (log_header e.name))
 
 -- the extent under construction was written to: its header stands, and so do all pages of others
 pub record TearsDraft (whole new : List ℕ) (draft : Option FileAt) : Type 0 where
@@ -34,7 +45,7 @@ pub record TearsDraft (whole new : List ℕ) (draft : Option FileAt) : Type 0 wh
   pub head : KeepsHead whole new d.page.0
   pub others : KeepsPagesBut whole new d.page.0 d.pages None
 
--- the extent under construction takes the place of the file of its name, in part
+-- the extent under construction takes the place of the file of its name, whose bytes it has, in part
 pub record TearsReplacing (whole new : List ℕ) (table : Entries) (draft : Option FileAt) : Type 0 where
   pub d : FileAt
   pub place : ℕ
@@ -42,6 +53,8 @@ pub record TearsReplacing (whole new : List ℕ) (table : Entries) (draft : Opti
   pub is : draft ≡ Some d
   pub there : IsIn table place e
   pub name : e.name ≡ d.name
+  pub size : d.size ≡ e.size
+  pub same : (p : ℕ) → p < e.size → file_byte whole d.page.0 None p ≡ file_byte whole e.page.0 e.log p
   pub cut : IsCutReplace whole new d.page.0 e.page.0 e.log
 
 -- a log stands in the lowest run of 16 free pages, and its file, which had none, names it in part or not yet
@@ -54,16 +67,10 @@ pub record TearsNaming (whole new : List ℕ) (table : Entries) : Type 0 where
   pub run : IsLowestRun (free_pages (units_of whole)) 16 log.0
   pub cut : IsCutNaming (or_at whole (256 * log.0) (header_bytes (log_header e.name))) new e.page.0 log.0
 
--- the extent under construction is made a file
-pub record CommitsDraft (whole new : List ℕ) (draft : Option FileAt) : Type 0 where
-  pub d : FileAt
-  pub is : draft ≡ Some d
-  pub done : new ≡ flagged whole d.page.0 1
-
 -- or nothing is torn
 abbrev pub IsTorn : (whole new : List ℕ) → Entries → Option FileAt → Type 0
-IsTorn whole new table draft = (new ≡ whole) ⊎ (TearsCollection whole new ⊎ (TearsHeader whole new ⊎ (TearsDraft whole new draft
-    ⊎ (CommitsDraft whole new draft ⊎ (TearsReplacing whole new table draft ⊎ TearsNaming whole new table)))))
+IsTorn whole new table draft = (new ≡ whole) ⊎ (TearsCollection whole new ⊎ (TearsHeader whole new ⊎ (TearsLogHeader whole new table
+    ⊎ (TearsDraft whole new draft ⊎ (TearsReplacing whole new table draft ⊎ TearsNaming whole new table)))))
 
 -- a call broke off: some image holds the files, with their content, and maybe a draft, and of it this is left
 pub record BreaksOff (old new : List ℕ) (table : Entries) : Type 0 where

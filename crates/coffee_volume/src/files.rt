@@ -19,7 +19,7 @@ impl<F: Flash> Files for Volume<F> {
     ghost use Rattle.coffee_log.specs.FileCuts.{IsFileCut};
     ghost use Rattle.coffee_merge.specs.CutMarks.{IsCutObsolete};
     ghost use Rattle.coffee_merge.specs.Torn.{BreaksOff};
-    ghost use Rattle.coffee_volume.specs.Cuts.{CommitsPart, PreparesPart};
+    ghost use Rattle.coffee_volume.specs.Cuts.{CommitsPart, CreatesPart, PreparesPart};
     ghost use Rattle.coffee_volume.specs.Lowest.{Looks, PlacesDraft, PlacesFile, Provides, Stops};
     ghost use Rattle.coffee_volume.specs.Taking.{KeepsUnits, TakesForDraft, TakesForFile, TakesNone};
     ghost use Rattle.coffee_volume.specs.Volumes.{AtEntry, Asks, Lacks, WhereTold, places, state_seen};
@@ -84,7 +84,7 @@ impl<F: Flash> Files for Volume<F> {
             Keeps (⟦<Self as Files>⟧.state self.old) (⟦<Self as Files>⟧.state self.new)) }
         ensures cut { let old = ⟦<Self as Files>⟧.state self.old in
             IsTrue old.tells → IsTrue F.cuts → IsErrOf result FileError.Failed
-            → BreaksOff old.store (F.image self.new.flash) (places self.old.table) }
+            → CreatesPart old.store (F.image self.new.flash) (places self.old.table) name kind }
         ensures frame { let files = ⟦<Self as Files>⟧ in
             ChangesOrLacks files.state files.lent files.reads files.faults files.lacks self.old self.new result }
     {

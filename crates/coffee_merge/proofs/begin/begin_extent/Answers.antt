@@ -26,4 +26,4 @@ pub returns-in_err-put_file_header-clause-cut : goal.returns-in_err-put_file_hea
 returns-in_err-put_file_header-clause-cut g c = λ t u failed table h.
     let first = c.in_ok-page.ensures.run t table h in
     torn_header (g.F.Flash.image c.args.flash.now) (g.F.Flash.image c.obtain_pages.new.flash) (g.F.Flash.image c.put_file_header.new.flash) table first.stays.kept
-    c.in_ok-page.page.0 c.args.pages _ first.stays.holds first.run refl (c.in_err-put_file_header.ensures.cut t u)
+    c.in_ok-page.page.0 c.args.pages _ first.stays.holds refl first.run refl (c.in_err-put_file_header.ensures.cut t u)

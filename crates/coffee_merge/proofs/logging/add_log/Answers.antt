@@ -2,7 +2,7 @@ use Rattle.std.proofs.Common.{Some, arith, refl, ◌∙◌}
 use Rattle.coffee_merge.proofs.Logged.{has_log, logged, stays_logs}
 use Rattle.coffee_merge.proofs.Lowest.{log_frees, not_extent, takes_by}
 use Rattle.coffee_merge.proofs.Taken.{log_takes, takes_after}
-use Rattle.coffee_merge.proofs.TornFiles.{torn_header, torn_naming}
+use Rattle.coffee_merge.proofs.TornFiles.{torn_log, torn_naming}
 use Rattle.coffee_merge.proofs.logging.add_log.Goals as goal
 
 pub returns-clause-logged : goal.returns-clause-logged
@@ -25,8 +25,8 @@ returns-clause-logged g c = λ t table i h is none.
 pub returns-in_err-put_log_header-clause-cut : goal.returns-in_err-put_log_header-clause-cut
 returns-in_err-put_log_header-clause-cut g c = λ t u failed table i h is none.
     let first = c.in_ok-log.ensures.run t table h in
-    torn_header (g.F.Flash.image c.args.flash.now) (g.F.Flash.image c.obtain_pages.new.flash) (g.F.Flash.image c.put_log_header.new.flash) table first.stays.kept
-    c.in_ok-log.log.0 16 _ first.stays.holds first.run refl (c.in_err-put_log_header.ensures.cut t u)
+    torn_log (g.F.Flash.image c.args.flash.now) (g.F.Flash.image c.obtain_pages.new.flash) (g.F.Flash.image c.put_log_header.new.flash) table first.stays.kept
+    i c.args.file.now c.in_ok-log.log.0 first.stays.holds is none first.run (c.in_err-put_log_header.ensures.cut t u)
 
 pub returns-in_err-name_log-clause-cut : goal.returns-in_err-name_log-clause-cut
 returns-in_err-name_log-clause-cut g c = λ t u failed table i h is none.

@@ -1,4 +1,4 @@
-use Rattle.std.proofs.Common.{refl}
+use Rattle.std.proofs.Common.{◌∙◌, refl, sym, arith}
 use Rattle.coffee_merge.proofs.Drafting.{kept_then}
 use Rattle.coffee_merge.proofs.Moving.{moves_file}
 use Rattle.coffee_merge.proofs.TornFiles.{torn_draft, torn_replacing}
@@ -24,4 +24,6 @@ returns-in_err-replace_file-clause-cut g c = λ t u failed table i h is.
     let b = (c.in_ok-page.ensures.begun t table c.args.file.now.size h c.requires.holds).begins in
     let made = (c.in_ok-copy_file.ensures.copied t table _ i b.holds refl refl refl is b.zeros).copies in
     torn_replacing old copied (g.F.Flash.image c.replace_file.new.flash) table (kept_then old begun copied table b.kept made.kept)
-    _ i c.args.file.now made.holds is refl (c.in_err-replace_file.ensures.cut t u)
+    _ i c.args.file.now made.holds is refl refl
+    (λ p less. made.same p less ∙ sym (made.kept i c.args.file.now is p (omega (arith, c.requires.fits.size, less))))
+    (c.in_err-replace_file.ensures.cut t u)

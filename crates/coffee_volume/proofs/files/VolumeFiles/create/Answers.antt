@@ -1,5 +1,4 @@
-use Rattle.std.proofs.Common.{◌≡◌, ℕ, ◌&&◌, not, None, Some, set, rules, refl, sym, subst, arith}
-use Rattle.coffee_merge.proofs.TornFiles.{torn_commit}
+use Rattle.std.proofs.Common.{◌≡◌, inr, ℕ, ◌&&◌, not, None, Some, set, rules, refl, sym, subst, arith}
 use Rattle.coffee_merge.specs.Holding.{extent_of}
 use Rattle.coffee_volume.specs.Lowest.{PlacesFile}
 use Rattle.coffee_volume.specs.Volumes.{places, roomless}
@@ -143,4 +142,12 @@ returns-in_err-commit_extent-in-Ok-clause-cut g c = λ told u failed.
     let s : Stands g.F.Flash.tells v.failed (g.F.Flash.image v.flash) v.table v.draft = record { count = v.count; big = v.big; regular = v.regular; pending = v.pending; space = v.space; told = v.told } in
     let idle : v.draft ≡ None = none_drafted (g.F.Flash.tells && not v.failed) (g.F.Flash.image v.flash) v.draft c.requires.idle in
     let begun = (c.in-Ok.ensures.begun both.0 (places v.table) 0 (holds_idle g.F.Flash.tells v.failed (g.F.Flash.image v.flash) v.table v.draft s idle both.0 both.1) (omega (arith, first_some c.args.kind c.requires.kind, c.first_pages-pages.ensures))).begins in
-    torn_commit (g.F.Flash.image v.flash) (g.F.Flash.image c.begin_extent.new.flash) (g.F.Flash.image c.commit_extent.new.flash) (places v.table) begun.kept _ begun.holds (c.in_err-commit_extent-in-Ok.ensures.cut both.0 u)
+    inr (record {
+      whole = g.F.Flash.image c.begin_extent.new.flash;
+      d = extent_of c.args.name c.args.kind c.in-Ok.page.0 c.first_pages-pages.result 0;
+      begun = begun;
+      name_is = refl;
+      kind_is = refl;
+      empty = refl;
+      cut = c.in_err-commit_extent-in-Ok.ensures.cut both.0 u;
+    })
