@@ -13,7 +13,7 @@ use Rattle.session_model.specs.Steps.{HasFaultCause, UnlessFlash}
 use Rattle.answering.specs.Carried.{HasHaltCause, Standing}
 use Rattle.answering.specs.Went.{HasRunCause, Reaches}
 use Rattle.workload_run.specs.Summed.{StopsCommands, SummedUp}
-use Rattle.antelope_run.specs.declared.words.Form.{Form}
+use Rattle.run_words.specs.declared.words.Form.{Form}
 use Rattle.antelope_run.specs.Comes.{ReachesBy}
 use Rattle.antelope_run.specs.Does.{Generates, OnlyHalts, WritesText, halted, stopped}
 use Rattle.antelope_run.specs.Statuses.{TakesInput}

@@ -24,8 +24,8 @@ use Rattle.space_plan.specs.Lines.{plan_reply}
 use Rattle.workload_run.specs.Counted as counted
 use Rattle.workload_run.specs.Summed.{summed}
 use Rattle.workload_run.specs.Summed as sums
-use Rattle.antelope_run.specs.declared.words.Form.{Form}
-use Rattle.antelope_run.specs.declared.words.Form.TheVariants.{Run, Gen, Plan, Serve, Dump}
+use Rattle.run_words.specs.declared.words.Form.{Form}
+use Rattle.run_words.specs.declared.words.Form.TheVariants.{Run, Gen, Plan, Serve, Dump}
 use Rattle.antelope_run.specs.Does.{DoesForm, Generates, OnlyTells, TellsOn, WritesText}
 use Rattle.antelope_run.specs.HandedBack.{HandsBack}
 use Rattle.antelope_run.specs.Left as left

@@ -2,9 +2,7 @@ pub mod Bare
 pub mod Finished
 pub mod Fronts
 pub mod Halts
-pub mod ImageLines
 pub mod Leaving
-pub mod Numbers
 pub mod Opened
 pub mod Outcomes
 pub mod PagesRead

@@ -16,8 +16,8 @@ use Rattle.sound_image.specs.Images.{IsSound, base}
 use Rattle.sound_image.proofs.Judged.{sound_unbroken}
 use Rattle.antelope_run.specs.declared.came.Came.{Came}
 use Rattle.antelope_run.specs.declared.came.Came.TheVariants.{Opened, Refused, Unsaid, Failed}
-use Rattle.antelope_run.specs.declared.words.Form.{Form}
-use Rattle.antelope_run.specs.declared.words.Form.TheVariants.{Run, Gen, Plan, Serve, Dump}
+use Rattle.run_words.specs.declared.words.Form.{Form}
+use Rattle.run_words.specs.declared.words.Form.TheVariants.{Run, Gen, Plan, Serve, Dump}
 use Rattle.antelope_run.specs.Comes.{ComesTo, HasCameCause, OnOpened, OnUnopened, ReachesBy, status_by}
 use Rattle.antelope_run.specs.Left.{LeavesBehind}
 use Rattle.antelope_run.specs.Statuses.{CausedBy, LeftBy, TakenBy, RunEnds, FindsNoSpace, HasSpace, InputIsCutOff, IsFaulted, IsWithinLimit, IsTooLong, IsUnsaid, TakesInput, summed_from}

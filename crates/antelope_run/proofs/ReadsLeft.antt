@@ -13,8 +13,8 @@ use Rattle.serve_model.specs.Frames.{frame_line}
 use Rattle.serve_model.specs.Served.{serve_talk}
 use Rattle.sound_image.specs.Images.{IsSound, base}
 use Rattle.space_plan.specs.declared.further.FurtherRows.{FurtherRows}
-use Rattle.antelope_run.specs.declared.words.Form.{Form}
-use Rattle.antelope_run.specs.declared.words.Form.TheVariants.{Run, Gen, Plan, Serve, Dump}
+use Rattle.run_words.specs.declared.words.Form.{Form}
+use Rattle.run_words.specs.declared.words.Form.TheVariants.{Run, Gen, Plan, Serve, Dump}
 use Rattle.antelope_run.specs.Does.{CarriedReads, InputReads}
 use Rattle.antelope_run.specs.Statuses.{DumpsWithin, EntriesReadAtMost, OpensWithin, ReadsAtMost}
 

@@ -10,7 +10,7 @@ use Rattle.run_model.specs.Runs.{World, image_line}
 use Rattle.sound_image.specs.Images.{IsFirstBroken}
 use Rattle.antelope_run.specs.declared.came.Came.{Came}
 use Rattle.antelope_run.specs.declared.came.Came.TheVariants.{Refused, Unsaid}
-use Rattle.antelope_run.specs.declared.words.Form.{Form}
+use Rattle.run_words.specs.declared.words.Form.{Form}
 use Rattle.antelope_run.specs.Comes.{ComesTo, HasCameCause, OnOpened, OnUnopened}
 use Rattle.antelope_run.proofs.Finished.{wrote_within}
 

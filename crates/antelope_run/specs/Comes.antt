@@ -9,7 +9,7 @@ use Rattle.run_model.specs.Runs.{Refuses, RefusalUnsaid, CameToLimit, World}
 use Rattle.sound_image.specs.Images.{IsSound}
 use Rattle.antelope_run.specs.declared.came.Came.{Came}
 use Rattle.antelope_run.specs.declared.came.Came.TheVariants.{Opened, Refused, Unsaid, Failed}
-use Rattle.antelope_run.specs.declared.words.Form.{Form}
+use Rattle.run_words.specs.declared.words.Form.{Form}
 use Rattle.antelope_run.specs.Left.{LeavesBehind, status_of}
 use Rattle.antelope_run.specs.Statuses.{LeavesImage, TakesInput}
 

@@ -20,8 +20,8 @@ use Rattle.run_model.specs.Line.{Line}
 use Rattle.run_model.specs.Talk.{AsksToRead, Talk, talk_costs}
 use Rattle.space_plan.specs.Lines.{plan_reply}
 use Rattle.workload_run.specs.Summed.{StopsCommands, SummedUp}
-use Rattle.antelope_run.specs.declared.words.Form.{Form}
-use Rattle.antelope_run.specs.declared.words.Form.TheVariants.{Run, Gen, Plan, Serve, Dump}
+use Rattle.run_words.specs.declared.words.Form.{Form}
+use Rattle.run_words.specs.declared.words.Form.TheVariants.{Run, Gen, Plan, Serve, Dump}
 use Rattle.antelope_run.specs.Statuses.{OnInput}
 
 module _ (old new : Standing) where

@@ -4,7 +4,7 @@ use Rattle.intake.specs.declared.ending.Ending.TheVariants.{Space, Flash, Sink}
 use Rattle.intake.specs.declared.ending.InputEnding.{InputEnding}
 use Rattle.intake.specs.declared.ending.InputEnding.TheVariants.{Input, Long, Early}
 use Rattle.run_model.specs.Runs.{InputCutOff, InputTooLong, World}
-use Rattle.antelope_run.specs.declared.words.Form.{Form}
+use Rattle.run_words.specs.declared.words.Form.{Form}
 use Rattle.antelope_run.specs.Statuses.{Ended, Faulted, OnInput, Spaceless, Unsaid}
 
 abbrev pub LeavesBehind : Form → World → World → Result ⊤ InputEnding → Type 0

@@ -3,4 +3,3 @@ pub mod Does
 pub mod HandedBack
 pub mod Left
 pub mod Statuses
-pub mod Words

@@ -25,8 +25,8 @@ use Rattle.sound_image.specs.Images.{IsSound, base}
 use Rattle.space_plan.specs.declared.further.FurtherRows.{FurtherRows}
 use Rattle.space_plan.specs.Lines.{plan_reply}
 use Rattle.workload_run.specs.Summed.{summed}
-use Rattle.antelope_run.specs.declared.words.Form.{Form}
-use Rattle.antelope_run.specs.declared.words.Form.TheVariants.{Run, Gen, Plan, Serve, Dump}
+use Rattle.run_words.specs.declared.words.Form.{Form}
+use Rattle.run_words.specs.declared.words.Form.TheVariants.{Run, Gen, Plan, Serve, Dump}
 
 -- ---- inputs: P of how their bytes are cut into entries and how these are answered, whatever reads the bytes of commands as
 -- they are to be read

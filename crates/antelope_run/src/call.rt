@@ -10,19 +10,18 @@ ghost use Rattle.run_model.specs.Runs.{image_line, world};
 ghost use Rattle.sound_image.specs.Images.{IsSound};
 ghost use Rattle.antelope_run.specs.Comes.{ComesTo, HasCameCause, OnOpened, OnUnopened, ReachesBy, status_by};
 ghost use Rattle.antelope_run.specs.Statuses.{CausedBy, HasSpace, IsWithinLimit, IsStatus, BorrowsTheSame, LeftBy, ReadsAtMost, TakenBy, TakesInput};
-ghost use Rattle.antelope_run.specs.Words.{HasFewCommands, form_of};
+ghost use Rattle.run_words.specs.Words.{HasFewCommands, form_of};
 ghost use Rattle.antelope_run.specs.declared.came.Came.TheVariants as AnyCame;
 
 use crate::came::Came;
 use crate::carrying::carry_out;
 use crate::closing::close;
-use crate::image_line::write_image_line;
-use crate::reading::form;
-use crate::words::Form;
 use afl_base::{Failed, Flash, Sink, Source};
+use answering::write_image_line;
 use antelope_engine::Session;
 use coffee_volume::{MountError, Volume};
 use intake::{Ending, InputEnding};
+use run_words::{Form, form};
 use sound_image::mounted_files_are_the_images;
 
 /// Carries out what the words ask for, and answers the status that the program ends with, and the flash.

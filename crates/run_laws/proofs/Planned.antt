@@ -2,7 +2,7 @@
 use Rattle.std.proofs.Common.{◌≡◌, ◌≤◌, ◌⊎◌, ℕ, ◌/◌, List, ◌∷◌, ◌++◌, length, Some, None, sym, subst, ◌∙◌}
 use Rattle.std.specs.Prelude.{◌≢◌, Result, Ok}
 use Rattle.afl_base.specs.Files.{Table}
-use Rattle.antelope_run.specs.declared.words.Form.TheVariants.{Run}
+use Rattle.run_words.specs.declared.words.Form.TheVariants.{Run}
 use Rattle.antelope_run.specs.Statuses.{HasSpace}
 use Rattle.db_model.specs.declared.commands.Command.{Command}
 use Rattle.db_model.specs.declared.refusals.Refusal.{Refusal}

@@ -1,7 +1,7 @@
 -- What a dump writes, a run over an erased flash makes again.
 use Rattle.std.proofs.Common.{◌≡◌, ℕ, ◌*◌, List, replicate, Some, ap, sym, ◌∙◌}
 use Rattle.std.specs.Io.KnownBytes.{append_known}
-use Rattle.antelope_run.specs.declared.words.Form.TheVariants.{Run}
+use Rattle.run_words.specs.declared.words.Form.TheVariants.{Run}
 use Rattle.antelope_run.specs.Statuses.{RunEnds}
 use Rattle.db_model.specs.Database.{Database, empty_database}
 use Rattle.db_model.specs.Sound.{IsSoundDatabase}

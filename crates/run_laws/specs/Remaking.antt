@@ -1,7 +1,7 @@
 -- What the script of a database leaves behind, on an image without relations.
 use Rattle.std.specs.Prelude.{◌≡◌, ℕ, ◌*◌, [], flat_map, replicate, Some}
 use Rattle.std.specs.Io.KnownBytes.{append_known}
-use Rattle.antelope_run.specs.declared.words.Form.TheVariants.{Dump, Run}
+use Rattle.run_words.specs.declared.words.Form.TheVariants.{Dump, Run}
 use Rattle.antelope_run.specs.Statuses.{RunEnds}
 use Rattle.db_model.specs.Database.{Database}
 use Rattle.db_model.specs.ReplyText.{ok_text}

@@ -3,7 +3,7 @@
 #![tactic(auto)]
 
 ghost use Rattle.std.specs.Prelude.{◌≡◌, ◌≤◌, ◌/◌, ℕ, List, length, Some, Result};
-ghost use Rattle.antelope_run.specs.declared.words.Form.TheVariants.{Run};
+ghost use Rattle.run_words.specs.declared.words.Form.TheVariants.{Run};
 ghost use Rattle.antelope_run.specs.Statuses.{RunEnds, HasSpace};
 ghost use Rattle.db_model.specs.declared.commands.Command.{Command};
 ghost use Rattle.db_model.specs.declared.refusals.Refusal.{Refusal};

@@ -1,7 +1,7 @@
 -- Numbers in decimal.
 use Rattle.std.proofs.Common.{◌≡◌, ℕ, ◌+◌, ◌-◌, ◌*◌, ◌<◌, ◌≤◌, List, [], ◌∷◌, None, arith}
 use Rattle.std.proofs.lemmas.Bool.Decides.{nat_tests}
-use Rattle.antelope_run.specs.Words.{at_most, value_from}
+use Rattle.run_words.specs.Words.{at_most, value_from}
 
 -- further digits make a number no less
 value_rises : (n : ℕ) (bs : List ℕ) → n ≤ value_from n bs

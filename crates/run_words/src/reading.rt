@@ -3,7 +3,7 @@
 #![tactic(auto)]
 
 ghost use Rattle.std.specs.Prelude.{◌≡◌, IfSome};
-ghost use Rattle.antelope_run.specs.Words.{HasFewCommands, alone, form_of, generated_by, unplanned, with_one, with_two};
+ghost use Rattle.run_words.specs.Words.{HasFewCommands, alone, form_of, generated_by, unplanned, with_one, with_two};
 
 use crate::digits::number;
 use crate::planned::planned;

@@ -4,7 +4,7 @@
 
 ghost use Rattle.std.specs.Prelude.{◌≡◌, ◌≤◌, IfSome, length};
 ghost use Rattle.std.specs.List.{prefix_len};
-ghost use Rattle.antelope_run.specs.Words.{HasFewCommands, all_named, is_named_among, is_no_sign, named_by, named_rows, names_differ, planned_by, rows_alone, rows_word};
+ghost use Rattle.run_words.specs.Words.{HasFewCommands, all_named, is_named_among, is_no_sign, named_by, named_rows, names_differ, planned_by, rows_alone, rows_word};
 
 use crate::digits::number;
 use crate::words::Form;

@@ -5,7 +5,7 @@
 ghost use Rattle.std.specs.Prelude.{◌≡◌, ◌≤◌, IfSome, IsTrue};
 ghost use Rattle.std.specs.Char.{is_ascii_digit};
 ghost use Rattle.std.specs.List.{list_all};
-ghost use Rattle.antelope_run.specs.Words.{at_most, number_word, value_from};
+ghost use Rattle.run_words.specs.Words.{at_most, number_word, value_from};
 
 /// A number of 1 to so many digits, in this range.
 pub fn number(word: &[u8], digits: usize, least: u32, most: u32) -> Option<u32>

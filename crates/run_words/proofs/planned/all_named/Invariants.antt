@@ -1,7 +1,7 @@
 use Rattle.std.proofs.Common.{◌≡◌, ◌++◌, drop, length}
 use Rattle.std.specs.Prelude.{option_map}
-use Rattle.antelope_run.specs.Words.{all_named}
-use Rattle.antelope_run.proofs.planned.all_named.Given as goal
+use Rattle.run_words.specs.Words.{all_named}
+use Rattle.run_words.proofs.planned.all_named.Given as goal
 
 abbrev pub invariant-loop-word : goal.invariant-loop-word
 invariant-loop-word l = record {

@@ -9,8 +9,8 @@ use Rattle.std.specs.declared.string.String.{String}
 use Rattle.db_model.specs.Names.{is_name}
 use Rattle.space_plan.specs.declared.further.FurtherRows.TheVariants.{Each, Named}
 use Rattle.space_plan.specs.declared.further.NamedRows.{NamedRows}
-use Rattle.antelope_run.specs.declared.words.Form.{Form}
-use Rattle.antelope_run.specs.declared.words.Form.TheVariants.{Run, Gen, Plan, Serve, Dump}
+use Rattle.run_words.specs.declared.words.Form.{Form}
+use Rattle.run_words.specs.declared.words.Form.TheVariants.{Run, Gen, Plan, Serve, Dump}
 
 -- the number that digits behind a number make of it
 abbrev pub value_from : ℕ → List ℕ → ℕ

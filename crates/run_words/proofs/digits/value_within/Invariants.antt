@@ -1,6 +1,6 @@
 use Rattle.std.proofs.Common.{◌≡◌, ◌≤◌, drop}
-use Rattle.antelope_run.specs.Words.{value_from}
-use Rattle.antelope_run.proofs.digits.value_within.Given as goal
+use Rattle.run_words.specs.Words.{value_from}
+use Rattle.run_words.proofs.digits.value_within.Given as goal
 
 abbrev pub invariant-loop-byte : goal.invariant-loop-byte
 invariant-loop-byte l = record {

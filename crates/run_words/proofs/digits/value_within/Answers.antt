@@ -1,9 +1,9 @@
 use Rattle.std.proofs.Common.{◌<◌, ◌∙◌, suc, ap, sym, drop, get_or, length, rules, arith}
 use Rattle.std.proofs.Math.Seq.{drop-cons}
 use Rattle.std.proofs.lemmas.Bool.Decides.{nat_tests}
-use Rattle.antelope_run.specs.Words.{value_from}
-use Rattle.antelope_run.proofs.Numbers.{too_large}
-use Rattle.antelope_run.proofs.digits.value_within.Goals as goal
+use Rattle.run_words.specs.Words.{value_from}
+use Rattle.run_words.proofs.Numbers.{too_large}
+use Rattle.run_words.proofs.digits.value_within.Goals as goal
 
 pub returns-then-next-from-clause-number : goal.returns-then-next-from-clause-number
 returns-then-next-from-clause-number c =

@@ -2,8 +2,8 @@ use Rattle.std.proofs.Common.{◌≡◌, List, ℕ, subst}
 use Rattle.std.specs.Prelude.{OnErr, OnOk}
 use Rattle.std.specs.Io.KnownBytes.{append_known}
 use Rattle.reply_text.specs.WroteLess.{WroteLess}
-use Rattle.antelope_run.proofs.ImageLines.{image_parts}
-use Rattle.antelope_run.proofs.image_line.write_image_line.Goals as goal
+use Rattle.answering.proofs.ImageLines.{image_parts}
+use Rattle.answering.proofs.image_line.write_image_line.Goals as goal
 
 pub returns-clause-written : goal.returns-clause-written
 returns-clause-written g c = subst

@@ -1,0 +1,54 @@
+//! Cuts of commands over relations with indexes.
+
+use crate::scripts::{Case, all_are_put_right};
+use std::test::Fail;
+use test_texts::Part;
+
+const MADE: &[Part] = &[
+    Part::Once("CREATE RELATION n;CREATE ATTRIBUTE v DOMAIN INT IN n;CREATE ATTRIBUTE w DOMAIN LONG IN n;"),
+    Part::Numbered("INSERT (", 70, ",7) INTO n;"),
+];
+
+const INDEXED: &[Part] = &[
+    Part::Once("CREATE INDEX n.v TYPE MAXHEAP;CREATE INDEX n.w TYPE MAXHEAP;"),
+    Part::Numbered("INSERT (", 12, ",7) INTO n;"),
+    Part::Once("OPEN 1 SELECT v FROM n;REMOVE FROM n WHERE v = 5;FETCH 1;INSERT (3,-1) INTO n;"),
+    Part::Once("REMOVE INDEX n.v;CREATE INDEX n.v TYPE MEMHASH;INSERT (-9,9) INTO n;"),
+    Part::Once("REMOVE INDEX n.w;PACK n;CREATE INDEX n.w TYPE MAXHEAP;REMOVE RELATION n;"),
+];
+
+// A tree whose buckets and log fill a small flash again and again.
+const LOADED: &[Part] = &[
+    Part::Once("CREATE RELATION n;CREATE ATTRIBUTE v DOMAIN INT IN n;CREATE ATTRIBUTE w DOMAIN LONG IN n;"),
+    Part::Once("CREATE INDEX n.v TYPE MAXHEAP;"),
+    Part::Numbered("INSERT (", 90, ",7) INTO n;"),
+];
+
+const CASES: &[Case] = &[
+    Case {
+        sectors: 24,
+        before: MADE,
+        script: INDEXED,
+        times: 6,
+        one_in: 32,
+    },
+    Case {
+        sectors: 11,
+        before: MADE,
+        script: INDEXED,
+        times: 6,
+        one_in: 32,
+    },
+    Case {
+        sectors: 12,
+        before: &[],
+        script: LOADED,
+        times: 6,
+        one_in: 64,
+    },
+];
+
+#[test]
+fn indexes_are_put_right(rt: HostRuntime) -> Result<(), Fail> {
+    all_are_put_right(rt.alloc(), CASES, 10_000)
+}
