@@ -1,4 +1,4 @@
-use crate::status;
+use crate::{repair_status, status};
 use afl_base::{Flash, Sink, Source};
 use afl_sim::{CachedFlash, FileFlash};
 
@@ -32,6 +32,21 @@ where
         memory.known.as_mut_slice(),
     );
     status(words, script, out, flash)
+}
+
+/// The status of a repair of an image in a file, of which no page is read from the file twice either.
+pub fn repaired_in_memory<R, K>(rt: &R, out: &mut K, flash: FileFlash) -> u8
+where
+    R: AllocGlobal,
+    K: Sink,
+{
+    let mut memory = memory_for(rt, flash.sectors());
+    let flash = CachedFlash::new(
+        flash,
+        memory.bytes.as_mut_slice(),
+        memory.known.as_mut_slice(),
+    );
+    repair_status(out, flash)
 }
 
 // Memory for so many sectors, or for none where it is wanting.

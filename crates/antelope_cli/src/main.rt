@@ -1,6 +1,6 @@
 //! `antelope`: a relational database on an image of a flash.
 //!
-//! The program writes nothing but what `antelope_run::top` writes, and nothing on standard error;
+//! The program writes nothing but what `antelope_run::top` and `repair_run::repair` write, and nothing on standard error;
 //! README.md lists the statuses that it ends with. What is on the disk then:
 //!
 //! - 0, 3: the image as the run left it.
@@ -23,13 +23,14 @@ mod failure;
 mod files;
 mod image;
 
-use crate::cache::status_in_memory;
+use crate::cache::{repaired_in_memory, status_in_memory};
 use crate::failure::Failure;
 use crate::files::open_script;
 use crate::image::{open_image, remove_new};
 use afl_base::{Flash, Sink, Source};
 use afl_sim::{MemSource, StdSink, StdSource};
 use antelope_run::top;
+use repair_run::repair;
 use run_words::{Form, form};
 use std::env::Env;
 use std::fs::{File, Files};
@@ -66,6 +67,10 @@ where
         (Some(_), [_, image, ..]) => {
             let image = open_image(rt, image.as_str())?;
             Ok(status_in_memory(rt, words, &mut nothing(), &mut out, image.flash))
+        }
+        (None, [word, image]) if word.as_str() == "repair" => {
+            let image = open_image(rt, image.as_str())?;
+            Ok(repaired_in_memory(rt, &mut out, image.flash))
         }
         // Words of no form name no image: of them `top` answers 1, whatever the flash.
         _ => Ok(1),
@@ -125,5 +130,15 @@ where
     K: Sink,
 {
     let (status, _) = top(words, script, out, flash);
+    status
+}
+
+#[inline(never)]
+fn repair_status<F, K>(out: &mut K, flash: F) -> u8
+where
+    F: Flash + Drop,
+    K: Sink,
+{
+    let (status, _) = repair(out, flash);
     status
 }

@@ -1,6 +1,6 @@
 //! Cuts of commands that change the catalog.
 
-use crate::scripts::{Case, all_are_put_right};
+use crate::scripts::{Asks, Case, all_are_put_right};
 use std::test::Fail;
 use test_texts::Part;
 
@@ -28,28 +28,28 @@ const CASES: &[Case] = &[
     Case {
         sectors: 8,
         before: &[],
-        script: MADE,
+        asks: Asks::Script(MADE),
         times: 24,
         one_in: 4,
     },
     Case {
         sectors: 10,
         before: MADE,
-        script: CHANGED,
+        asks: Asks::Script(CHANGED),
         times: 16,
         one_in: 4,
     },
     Case {
         sectors: 6,
         before: OFTEN,
-        script: CHANGED,
+        asks: Asks::Script(CHANGED),
         times: 8,
         one_in: 8,
     },
     Case {
         sectors: 6,
         before: &[],
-        script: OFTEN,
+        asks: Asks::Script(OFTEN),
         times: 4,
         one_in: 16,
     },

@@ -1,25 +1,9 @@
-//! Scripts that are cut at each of their writes.
+//! Stories that are cut at each of their writes.
 
 use crate::random::Random;
-use crate::running::{Cut, Ended, NO_CUT, copied, dumped, enlarged, put_right, run};
-use std::alloc::{AllocError, Global};
-
-/// A script over an image, and what stands behind each of its commands.
-#[derive(Drop)]
-pub struct Story {
-    pub image: Vec<u8>,
-    pub script: Vec<u8>,
-    /// Behind so many commands: how much was written, the script of the database, and whether the next one removes rows.
-    pub marks: Vec<Mark>,
-}
-
-/// What stands behind some commands in front.
-#[derive(Drop)]
-pub struct Mark {
-    pub written: usize,
-    pub database: Vec<u8>,
-    pub removes: bool,
-}
+use crate::running::{Cut, Ended, NO_CUT, copied, dumped, enlarged, put_right};
+use crate::stories::{Mark, Story};
+use std::alloc::Global;
 
 /// How many cut images were put right, and the first that was not.
 #[derive(Drop)]
@@ -46,50 +30,6 @@ pub enum Trouble {
     CutRepair(u8),
     /// The database is none of those that may be.
     Database,
-}
-
-/// The commands of a script, each with its `;`.
-pub fn commands(alloc: Global, script: &[u8]) -> Result<Vec<Vec<u8>>, AllocError> {
-    let mut all = Vec::new(alloc);
-    let mut from = 0;
-    for at in 0..script.len() {
-        if script[at] == b';' {
-            if let Some(piece) = script.get(from..=at) {
-                all.push(Vec::from_slice(alloc, piece)?)?;
-            }
-            from = at + 1;
-        }
-    }
-    Ok(all)
-}
-
-/// What becomes of an image by a script.
-pub fn story(alloc: Global, image: &[u8], script: &[u8]) -> Result<Story, AllocError> {
-    let mut marks = Vec::new(alloc);
-    let mut now = Vec::from_slice(alloc, image)?;
-    let mut written = 0usize;
-    for command in commands(alloc, script)? {
-        let removes = command.as_slice().starts_with(b"REMOVE FROM");
-        let database = dumped(alloc, now.as_mut_slice());
-        marks.push(Mark {
-            written,
-            database,
-            removes,
-        })?;
-        let ended = run(alloc, command.as_slice(), now.as_mut_slice(), NO_CUT);
-        written = written.saturating_add(ended.written.len());
-    }
-    let database = dumped(alloc, now.as_mut_slice());
-    marks.push(Mark {
-        written,
-        database,
-        removes: false,
-    })?;
-    Ok(Story {
-        image: Vec::from_slice(alloc, image)?,
-        script: Vec::from_slice(alloc, script)?,
-        marks,
-    })
 }
 
 // How many bytes two texts have in common at their front.
@@ -125,22 +65,20 @@ fn is_between(text: &[u8], before: &[u8], after: &[u8]) -> bool {
         && text.len() <= front.saturating_add(end)
 }
 
-impl Story {
-    // Whether a database may stand where so much was written when the power went.
-    fn may_be(&self, written: usize, database: &[u8]) -> bool {
-        let marks = self.marks.as_slice();
-        for (at, mark) in marks.iter().enumerate() {
-            let next = marks.get(at.saturating_add(1));
-            let is_last = match next {
-                Some(next) => written < next.written,
-                None => true,
-            };
-            if is_last {
-                return is_allowed(mark, next, database);
-            }
+// Whether a database and so much that was written may stand where the power went behind so many writes.
+fn may_be(story: &Story, cut: Cut, written: usize, database: &[u8]) -> bool {
+    let marks = story.marks.as_slice();
+    for (at, mark) in marks.iter().enumerate() {
+        let next = marks.get(at.saturating_add(1));
+        let is_last = match next {
+            Some(next) => cut.writes < next.writes,
+            None => true,
+        };
+        if is_last {
+            return mark.written <= written && is_allowed(mark, next, database);
         }
-        false
     }
+    false
 }
 
 // Whether a database is that behind some commands, or behind the next one, or between where that removes rows.
@@ -161,11 +99,19 @@ fn is_allowed(mark: &Mark, next: Option<&Mark>, database: &[u8]) -> bool {
 // Whether a repair came to its end, and said so.
 fn is_repaired(ended: &Ended) -> bool {
     let text = ended.written.as_slice();
-    ended.status == 0 && (text == b"sound\n" || text.ends_with(b"repaired\n"))
+    ended.status == 0 && (text == b"sound\n".as_slice() || text.ends_with(b"repaired\n"))
 }
 
-// Repairs an image, on a larger flash where there is no space, and tells whether what stands then may be.
-fn end_repair(alloc: Global, story: &Story, written: usize, image: &[u8]) -> Option<Trouble> {
+// A cut of a story, and how much was written before.
+#[derive(Clone, Copy)]
+struct Place<'a> {
+    story: &'a Story,
+    cut: Cut,
+    written: usize,
+}
+
+// Repairs an image, on a larger flash where there is no space, and tells what is wrong behind it.
+fn end_repair(alloc: Global, place: Place, image: &[u8]) -> Option<Trouble> {
     let mut now = copied(alloc, image);
     let mut ended = put_right(alloc, now.as_mut_slice(), NO_CUT);
     if ended.status == 3 && ended.written.as_slice().starts_with(b"no space ") {
@@ -176,7 +122,7 @@ fn end_repair(alloc: Global, story: &Story, written: usize, image: &[u8]) -> Opt
         return Some(Trouble::Repair(ended.status));
     }
     let database = dumped(alloc, now.as_mut_slice());
-    if story.may_be(written, database.as_slice()) {
+    if may_be(place.story, place.cut, place.written, database.as_slice()) {
         None
     } else {
         Some(Trouble::Database)
@@ -186,8 +132,7 @@ fn end_repair(alloc: Global, story: &Story, written: usize, image: &[u8]) -> Opt
 // Repairs an image by a repair that is cut, at each of its writes, and then by one that is not.
 fn end_cut_repairs(
     alloc: Global,
-    story: &Story,
-    written: usize,
+    place: Place,
     image: &[u8],
     tally: &mut Tally,
     random: &mut Random,
@@ -205,7 +150,7 @@ fn end_cut_repairs(
             other => return Some(Trouble::CutRepair(other)),
         }
         tally.images = tally.images.saturating_add(1);
-        if let Some(trouble) = end_repair(alloc, story, written, now.as_slice()) {
+        if let Some(trouble) = end_repair(alloc, place, now.as_slice()) {
             return Some(trouble);
         }
     }
@@ -215,28 +160,27 @@ fn end_cut_repairs(
 // What is wrong behind a cut that left an image.
 fn first_trouble(
     alloc: Global,
-    story: &Story,
-    ended: &Ended,
+    place: Place,
+    status: u8,
     image: &[u8],
     one_in: u32,
     tally: &mut Tally,
     random: &mut Random,
 ) -> Option<Trouble> {
-    if ended.status != 4 {
-        return Some(Trouble::Run(ended.status));
+    if status != 4 {
+        return Some(Trouble::Run(status));
     }
     tally.images = tally.images.saturating_add(1);
-    let written = ended.written.len();
-    if let Some(trouble) = end_repair(alloc, story, written, image) {
+    if let Some(trouble) = end_repair(alloc, place, image) {
         return Some(trouble);
     }
     if random.is_one_in(one_in) {
-        return end_cut_repairs(alloc, story, written, image, tally, random);
+        return end_cut_repairs(alloc, place, image, tally, random);
     }
     None
 }
 
-// Cuts a story at a write. Whether it came to its end before.
+// Cuts a story at a write. Whether it came to its end before, or to a command for which there is no space.
 fn cut_at(
     alloc: Global,
     story: &Story,
@@ -245,12 +189,16 @@ fn cut_at(
     tally: &mut Tally,
     random: &mut Random,
 ) -> bool {
-    let mut image = copied(alloc, story.image.as_slice());
-    let ended = run(alloc, story.script.as_slice(), image.as_mut_slice(), cut);
-    if ended.status == 0 {
+    let (ended, image) = story.cut(alloc, cut);
+    if ended.status == 0 || ended.status == 3 {
         return true;
     }
-    let trouble = first_trouble(alloc, story, &ended, image.as_slice(), one_in, tally, random);
+    let place = Place {
+        story,
+        cut,
+        written: ended.written.len(),
+    };
+    let trouble = first_trouble(alloc, place, ended.status, image.as_slice(), one_in, tally, random);
     if let Some(what) = trouble {
         tally.wrong = Some(Wrong { cut, what });
     }

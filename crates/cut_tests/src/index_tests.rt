@@ -1,6 +1,6 @@
 //! Cuts of commands over relations with indexes.
 
-use crate::scripts::{Case, all_are_put_right};
+use crate::scripts::{Asks, Case, all_are_put_right};
 use std::test::Fail;
 use test_texts::Part;
 
@@ -28,21 +28,21 @@ const CASES: &[Case] = &[
     Case {
         sectors: 24,
         before: MADE,
-        script: INDEXED,
+        asks: Asks::Script(INDEXED),
         times: 6,
         one_in: 32,
     },
     Case {
         sectors: 11,
         before: MADE,
-        script: INDEXED,
+        asks: Asks::Script(INDEXED),
         times: 6,
         one_in: 32,
     },
     Case {
         sectors: 12,
         before: &[],
-        script: LOADED,
+        asks: Asks::Script(LOADED),
         times: 6,
         one_in: 64,
     },

@@ -9,6 +9,8 @@ mod cutting;
 #[cfg(test)]
 mod index_tests;
 #[cfg(test)]
+mod line_tests;
+#[cfg(test)]
 mod random;
 #[cfg(test)]
 mod row_tests;
@@ -16,3 +18,5 @@ mod row_tests;
 mod running;
 #[cfg(test)]
 mod scripts;
+#[cfg(test)]
+mod stories;

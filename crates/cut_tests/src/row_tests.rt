@@ -1,6 +1,6 @@
 //! Cuts of commands that change rows.
 
-use crate::scripts::{Case, all_are_put_right};
+use crate::scripts::{Asks, Case, all_are_put_right};
 use std::test::Fail;
 use test_texts::Part;
 
@@ -35,21 +35,21 @@ const CASES: &[Case] = &[
     Case {
         sectors: 5,
         before: MADE,
-        script: CHANGED,
+        asks: Asks::Script(CHANGED),
         times: 24,
         one_in: 4,
     },
     Case {
         sectors: 12,
         before: MANY,
-        script: GROWN,
+        asks: Asks::Script(GROWN),
         times: 6,
         one_in: 16,
     },
     Case {
         sectors: 7,
         before: MANY,
-        script: GROWN,
+        asks: Asks::Script(GROWN),
         times: 6,
         one_in: 16,
     },

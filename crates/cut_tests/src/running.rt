@@ -29,8 +29,8 @@ pub struct Ended {
     pub written: Vec<u8>,
 }
 
-// No run.
-fn nothing(alloc: Global) -> Ended {
+/// No run.
+pub fn nothing(alloc: Global) -> Ended {
     Ended {
         status: 255,
         written: Vec::new(alloc),

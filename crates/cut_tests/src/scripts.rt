@@ -1,22 +1,31 @@
 //! Stories that are told, cut and put right.
 
-use crate::cutting::{Story, Tally, Trouble, Wrong, cut_everywhere, story};
+use crate::cutting::{Tally, Trouble, Wrong, cut_everywhere};
 use crate::running::{NO_CUT, erased, run};
+use crate::stories::{Asked, Story, tell};
 use std::alloc::{AllocError, Global};
 use std::test::Fail;
 use test_texts::{Part, joined};
 
-/// A script that is cut, over a flash on which another one was carried out.
+/// What is asked for and cut, over a flash on which a script was carried out.
 #[derive(Drop)]
 pub struct Case {
     pub sectors: usize,
     /// Carried out first, and not cut.
     pub before: &'static [Part],
-    pub script: &'static [Part],
+    pub asks: Asks,
     /// How often each write is cut.
     pub times: u32,
     /// Of so many repairs one is cut at each of its writes.
     pub one_in: u32,
+}
+
+/// What is asked for.
+#[derive(Clone, Copy, Drop)]
+pub enum Asks {
+    Script(&'static [Part]),
+    Frames(&'static [Part]),
+    Generated(&'static str, usize),
 }
 
 /// What a test shows is so.
@@ -24,12 +33,35 @@ pub fn show(holds: bool, shows: &'static str) -> Result<(), Fail> {
     if holds { Ok(()) } else { Err(Fail::new(shows)) }
 }
 
+fn asked(alloc: Global, asks: Asks) -> Result<Asked, AllocError> {
+    Ok(match asks {
+        Asks::Script(parts) => Asked::Script(joined(alloc, parts)?),
+        Asks::Frames(parts) => Asked::Frames(framed(alloc, joined(alloc, parts)?.as_slice())?),
+        Asks::Generated(seed, count) => Asked::Generated { seed, count },
+    })
+}
+
+// The commands of a script, each with its `;`, as frames of four clients in turn.
+fn framed(alloc: Global, script: &[u8]) -> Result<Vec<u8>, AllocError> {
+    let mut frames = Vec::new(alloc);
+    let mut client = 1u8;
+    let mut begins = true;
+    for byte in script {
+        if begins {
+            frames.push(client)?;
+            client = client % 4 + 1;
+        }
+        begins = *byte == b';';
+        frames.push(if begins { 0xc0 } else { *byte })?;
+    }
+    Ok(frames)
+}
+
 fn told(alloc: Global, case: &Case) -> Result<Story, AllocError> {
     let mut image = erased(alloc, case.sectors);
     let before = joined(alloc, case.before)?;
     run(alloc, before.as_slice(), image.as_mut_slice(), NO_CUT);
-    let script = joined(alloc, case.script)?;
-    story(alloc, image.as_slice(), script.as_slice())
+    tell(alloc, image.as_slice(), asked(alloc, case.asks)?)
 }
 
 // Cuts a story everywhere. Where there is no memory for it, none is put right.
@@ -57,15 +89,15 @@ pub fn all_are_put_right(alloc: Global, cases: &[Case], least: u64) -> Result<()
     Ok(())
 }
 
-// Tells the case, the write, how much of it was done and what is wrong behind it, in one number.
+// Tells the case, how much of which write was done, and what is wrong behind it, in the digits of one number.
 fn none_is_wrong(case: u64, wrong: Option<Wrong>) -> Result<(), Fail> {
     match wrong {
         None => Ok(()),
         Some(wrong) => {
-            let place = wrong.cut.writes.saturating_mul(10_000);
-            let place = place.saturating_add(wrong.cut.front as u64);
-            let what = number_of(wrong.what);
-            Err(Fail::new((case, place, what)))
+            let place = case.saturating_mul(1_000_000).saturating_add(wrong.cut.writes);
+            let place = place.saturating_mul(10_000).saturating_add(wrong.cut.front as u64);
+            let place = place.saturating_mul(10_000).saturating_add(number_of(wrong.what));
+            Err(Fail::new(place))
         }
     }
 }

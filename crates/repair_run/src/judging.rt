@@ -1,6 +1,8 @@
-ghost use Rattle.std.specs.Prelude.{◌≡◌, IfErr, IfOk, IsTrue, OnOk};
+ghost use Rattle.std.specs.Prelude.{◌≡◌, IfErr, IfOk, IsTrue, None, OnOk};
 ghost use Rattle.afl_base.specs.Causes.{HasCause};
+ghost use Rattle.afl_base.specs.Keeping.{OnlyReads};
 ghost use Rattle.sound_image.specs.Images.{IsFirstBroken, IsSound};
+ghost use Rattle.stored.specs.Sound.{BreaksFirst, IsSoundTable};
 
 use afl_base::{Failed, Files, Flash};
 use coffee_layout::BadImage;
@@ -31,13 +33,20 @@ pub fn judge_image<F: Flash>(flash: F) -> (F, Result<Result<(), BadImage>, Faile
 
 // Judges the database in files, by the rules 14 to 20.
 fn judge_database<V: Files>(files: &mut V) -> Result<Result<(), BadImage>, Failed>
+    requires idle { (V.state files.old).draft ≡ None }
+    ensures sound { IsTrue (V.state files.old).tells → IfOk result (λ r.
+        OnOk r (IsSoundTable (V.state files.old).files)) }
+    ensures bad { IsTrue (V.state files.old).tells → IfOk result (λ r. IfErr r (λ bad.
+        BreaksFirst (V.state files.old).files bad.rule bad.place)) }
+    ensures frame { OnlyReads V.state V.lent V.reads V.faults files.old files.new result }
 {
     let mut tables = HashTables::new();
-    match open_database(files, &mut tables)? {
-        Ok(_) => Ok(Ok(())),
-        Err(broken) => Ok(Err(BadImage {
+    match open_database(files, &mut tables) {
+        Ok(Ok(_)) => Ok(Ok(())),
+        Ok(Err(broken)) => Ok(Err(BadImage {
             rule: broken.rule,
             place: broken.place,
         })),
+        Err(Failed) => Err(Failed),
     }
 }
