@@ -1,0 +1,3 @@
+mod UnitWalks
+mod FilesThere
+mod ZeroPages
