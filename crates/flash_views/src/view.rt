@@ -27,7 +27,7 @@ impl<F: Flash> Model for View<F> {
 }
 
 impl<F: Flash> View<F> {
-    ghost use Rattle.std.specs.Prelude.{◌≡◌, ℕ, List, ◌++◌, length, is_err, true};
+    ghost use Rattle.std.specs.Prelude.{◌≡◌, ℕ, List, ◌++◌, length, is_err, false, true};
     ghost use Rattle.flash_views.specs.Views.{LiesInside, one_more};
 
     /// A view of `flash`, over which `overlay` is laid.
@@ -58,6 +58,13 @@ impl<F: Flash> View<F> {
             refused: _,
         } = self;
         inner
+    }
+
+    /// Whether a write was refused: a view that was only read and has failed fails for the flash inside.
+    pub fn has_refused(&self) -> bool
+        ensures { result ≡ false → self.now.refused ≡ 0 }
+    {
+        self.refused != 0
     }
 
     // Fails, and counts that.
