@@ -2,9 +2,11 @@
 //! and is never written, and one of which 128 bytes read as zeros.
 #![tactic(auto)]
 
+mod blanked;
 mod over;
 mod overlay;
 mod view;
 
+pub use blanked::Blanked;
 pub use overlay::{Mark, Overlay};
 pub use view::View;
