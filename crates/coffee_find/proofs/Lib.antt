@@ -1,3 +1,4 @@
 mod UnitWalks
 mod FilesThere
 mod ZeroPages
+mod Insides

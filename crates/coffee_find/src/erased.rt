@@ -9,13 +9,12 @@ ghost use Rattle.coffee_layout.specs.Units.{pages_of};
 ghost use Rattle.coffee_layout.specs.declared.unit.Unit.TheVariants.{Free};
 ghost use Rattle.coffee_merge.specs.Begun.{unit_begun};
 
-use crate::overlays::overlay_of;
 use crate::trouble::UnderWay;
 use crate::walks::{begun, is_idle};
 use crate::zeros::are_zero;
 use afl_base::{Failed, Flash, PageId, SectorId};
 use coffee_layout::{Unit, next_unit};
-use flash_views::View;
+use flash_views::{Overlay, View};
 
 /// The sector of a page, where that was being erased.
 pub(crate) fn find_erased<F: Flash>(
@@ -54,16 +53,15 @@ fn erased_front<F: Flash>(flash: F, sector: SectorId) -> (F, Result<Option<PageI
     ensures reads { F.reads result.0 ≤ F.reads flash + 17 * pages_of (F.image flash) }
     ensures frame { OnlyReads F.image F.lent F.reads F.faults flash result.0 result.1 }
 {
-    let page = PageId(16 * sector.0);
-    let erasing = UnderWay::Erasing { sector, page };
-    let mut view = View::new(flash, overlay_of(&erasing, None));
+    let overlay = Overlay {
+        first: None,
+        second: None,
+        sector: Some(sector),
+        blank: None,
+    };
+    let mut view = View::new(flash, overlay);
     let front = idle_front(&mut view, sector);
-    let refused = view.has_refused();
-    let flash = view.into_flash();
-    if refused && front.is_err() {
-        return (flash, Ok(None));
-    }
-    (flash, front)
+    (view.into_flash(), front)
 }
 
 // The first page of a sector at which a free page begins, where the sector has no active page.

@@ -106,12 +106,7 @@ fn settled_verdict<F: Flash>(
 {
     let mut view = View::new(flash, overlay_of(under_way, blank));
     let found = judged(&mut view, table);
-    let refused = view.has_refused();
-    let flash = view.into_flash();
-    if refused && found.is_err() {
-        return (flash, Ok(Verdict::Broken));
-    }
-    (flash, found)
+    (view.into_flash(), found)
 }
 
 /// What a cut left of an image in which this was under way: None where the image is not sound once

@@ -10,13 +10,12 @@ ghost use Rattle.coffee_merge.specs.Begun.{unit_begun};
 ghost use Rattle.coffee_merge.specs.Flags.{flagged};
 ghost use Rattle.padded.specs.Zeros.{is_zeros};
 
-use crate::overlays::overlay_of;
 use crate::trouble::UnderWay;
 use crate::walks::begun;
 use crate::zeros::are_zero;
 use afl_base::{Failed, Flash, PageId};
 use coffee_layout::{Unit, next_unit};
-use flash_views::View;
+use flash_views::{Mark, Overlay, View};
 
 /// A header that was being written at a page.
 pub(crate) fn find_torn_header<F: Flash>(flash: F, page: PageId) -> (F, Result<Option<UnderWay>, Failed>)
@@ -54,21 +53,57 @@ fn is_torn_head<F: Flash>(flash: &mut F, page: PageId) -> Result<bool, Failed>
 
 // The same, once the page is isolated.
 fn find_isolated<F: Flash>(flash: F, page: PageId) -> (F, Result<Option<UnderWay>, Failed>)
-    requires page { HasPage (length (F.image flash)) page.0 }
-    ensures found { IsTrue F.tells → IfOk result.1 (λ o. IfSome o (λ u. (u ≡ Beginning page)
-        × (unit_begun (units_of (flagged (F.image flash) page.0 34)) 0 page.0 ≡ Some Isolated))) }
+    ensures found { IsTrue F.tells → IfOk result.1 (λ o. IfSome o
+        (λ u. unit_begun (units_of (flagged (F.image flash) page.0 34)) 0 page.0 ≡ Some Isolated)) }
     ensures is { IfOk result.1 (λ o. IfSome o (λ u. u ≡ Beginning page)) }
     ensures reads { F.reads result.0 ≤ F.reads flash + pages_of (F.image flash) }
     ensures frame { OnlyReads F.image F.lent F.reads F.faults flash result.0 result.1 }
 {
-    let under_way = UnderWay::Beginning { page };
-    let mut view = View::new(flash, overlay_of(&under_way, None));
-    let unit = begun(&mut view, page);
-    let refused = view.has_refused();
-    let flash = view.into_flash();
+    let (flash, isolated) = is_isolated(flash, page);
+    match isolated {
+        Ok(true) => (flash, Ok(Some(UnderWay::Beginning { page }))),
+        Ok(false) => (flash, Ok(None)),
+        Err(failed) => (flash, Err(failed)),
+    }
+}
+
+// Whether an isolated page begins at a page once it is isolated.
+fn is_isolated<F: Flash>(flash: F, page: PageId) -> (F, Result<bool, Failed>)
+    ensures isolated { IsTrue F.tells → IfOk result.1 (λ r. r ≡ true
+        → unit_begun (units_of (flagged (F.image flash) page.0 34)) 0 page.0 ≡ Some Isolated) }
+    ensures reads { F.reads result.0 ≤ F.reads flash + pages_of (F.image flash) }
+    ensures frame { OnlyReads F.image F.lent F.reads F.faults flash result.0 result.1 }
+{
+    let overlay = Overlay {
+        first: Some(Mark { page, bits: 34 }),
+        second: None,
+        sector: None,
+        blank: None,
+    };
+    let mut view = View::new(flash, overlay);
+    let isolated = begins_isolated(&mut view, page);
+    (view.into_flash(), isolated)
+}
+
+// Whether an isolated page begins at a page.
+fn begins_isolated<F: Flash>(flash: &mut F, page: PageId) -> Result<bool, Failed>
+    ensures isolated { IsTrue F.tells → IfOk result
+        (λ r. r ≡ true → unit_begun (units_of (F.image flash.old)) 0 page.0 ≡ Some Isolated) }
+    ensures reads { F.reads flash.new ≤ F.reads flash.old + pages_of (F.image flash.old) }
+    ensures frame { OnlyReads F.image F.lent F.reads F.faults flash.old flash.new result }
+{
+    match begun(flash, page)? {
+        Some(unit) => Ok(is_isolated_page(&unit)),
+        None => Ok(false),
+    }
+}
+
+fn is_isolated_page(unit: &Unit) -> bool
+    ensures { result ≡ true → unit.now ≡ Isolated }
+{
     match unit {
-        Ok(Some(Unit::Isolated)) => (flash, Ok(Some(under_way))),
-        Ok(_) => (flash, Ok(None)),
-        Err(failed) => if refused { (flash, Ok(None)) } else { (flash, Err(failed)) },
+        Unit::Free => false,
+        Unit::Isolated => true,
+        Unit::Extent(_) => false,
     }
 }
