@@ -14,5 +14,10 @@ returns-clause-inside g c =
 pub returns-clause-reads : goal.returns-clause-reads
 returns-clause-reads g c =
     let image = g.F.Flash.image c.args.flash in
-    omega (arith, c.judged-found.ensures.reads, c.new-view.ensures.reads, c.into_flash.ensures.reads,
-    ap (λ xs. length xs) c.new-view.ensures.image ∙ length_overlaid image c.overlay_of.result (c.overlay_of.ensures.inside (length image) c.requires.lies c.requires.blank))
+    omega (
+      arith,
+      c.judged-found.ensures.reads,
+      c.new-view.ensures.reads,
+      c.into_flash.ensures.reads,
+      ap (λ xs. length xs) c.new-view.ensures.image ∙ length_overlaid image c.overlay_of.result (c.overlay_of.ensures.inside (length image) c.requires.lies c.requires.blank),
+    )
