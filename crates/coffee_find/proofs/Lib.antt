@@ -1,0 +1,4 @@
+mod FilesThere
+mod Insides
+mod UnitWalks
+mod ZeroPages

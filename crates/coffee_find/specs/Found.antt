@@ -1,0 +1,87 @@
+-- What a cut left of an image: what was found, in the words of its definition, and that it lies inside the flash.
+use Rattle.std.specs.Prelude.{◌≡◌, ◌≢◌, ⊤, ◌≤◌, ◌<◌, ℕ, ◌+◌, ◌*◌, List, Option, Some, None}
+use Rattle.afl_base.specs.Image.{zeros_at}
+use Rattle.afl_base.specs.declared.ids.PageId.{PageId}
+use Rattle.coffee_cuts.specs.Cuts.{IsActiveAt, IsFound, UnderWay as CutWay, Beginning as was_beginning, Building as was_building, Erasing as was_erasing, Naming as was_naming, Nothing as was_nothing, Replacing as was_replacing, Unnamed as was_unnamed, next_record, settled}
+use Rattle.coffee_layout.specs.FileBytes.{table_of, used_in}
+use Rattle.coffee_layout.specs.Files.{Placed, log_of}
+use Rattle.coffee_layout.specs.Rules.{broken_image}
+use Rattle.coffee_find.specs.declared.trouble.Judgement.{Judgement}
+use Rattle.coffee_find.specs.declared.trouble.Judgement.TheVariants.{Sound, Cut, Strange}
+use Rattle.coffee_find.specs.declared.trouble.PlacedFile.{PlacedFile}
+use Rattle.coffee_find.specs.declared.trouble.TornRecord.{TornRecord}
+use Rattle.coffee_find.specs.declared.trouble.Trouble.{Trouble}
+use Rattle.coffee_find.specs.declared.trouble.UnderWay.{UnderWay}
+use Rattle.coffee_find.specs.declared.trouble.UnderWay.TheVariants.{Nothing, Beginning, Building, Erasing, Unnamed, Naming, Replacing}
+
+-- a file that was found, as a file of the image
+abbrev pub placed : PlacedFile → Placed
+placed f = record { page = f.page.0; header = f.header }
+
+-- what was under way, in the words of its definition
+abbrev pub meant : UnderWay → CutWay
+meant Nothing = was_nothing
+meant (Beginning page) = was_beginning page.0
+meant (Building page) = was_building page.0
+meant (Erasing sector page) = was_erasing sector.0 page.0
+meant (Unnamed log) = was_unnamed log.0
+meant (Naming page) = was_naming page.0
+meant (Replacing old new) = was_replacing (placed old) (placed new)
+
+-- an image is sound but for the next record of a log, which begins at a place
+pub record IsTorn (image : List ℕ) (log place : ℕ) : Type 0 where
+  pub is_log : IsActiveAt image log 19
+  pub free : used_in (table_of image log) < 30
+  pub next : place ≡ next_record image log
+  pub sound : broken_image (zeros_at image place 128) ≡ None
+
+-- an image is sound, or it is but for a torn record
+abbrev pub IsSoundBut : List ℕ → Option TornRecord → Type 0
+IsSoundBut image None = broken_image image ≡ None
+IsSoundBut image (Some r) = IsTorn image r.log.0 r.place
+
+-- an image is what a cut left: what was under way is found in it, and once that is settled the image is sound, but for a torn record
+pub record IsCutBy (image : List ℕ) (trouble : Trouble) : Type 0 where
+  pub found : IsFound image (meant trouble.under_way)
+  pub settles : IsSoundBut (settled image (meant trouble.under_way)) trouble.torn
+
+-- a page lies inside a flash of so many bytes
+abbrev pub HasPage : (size page : ℕ) → Type 0
+HasPage size page = 256 * page + 256 ≤ size
+
+-- so does the page of a log, if there is one
+abbrev pub HasLogPage : (size : ℕ) → Option PageId → Type 0
+HasLogPage size None = ⊤
+HasLogPage size (Some log) = HasPage size log.0
+
+-- what was under way lies inside the flash
+abbrev pub LiesIn : (size : ℕ) → UnderWay → Type 0
+LiesIn size Nothing = ⊤
+LiesIn size (Beginning page) = HasPage size page.0
+LiesIn size (Building page) = HasPage size page.0
+LiesIn size (Erasing sector page) = 4096 * sector.0 + 4096 ≤ size
+LiesIn size (Unnamed log) = HasPage size log.0
+LiesIn size (Naming page) = HasPage size page.0
+LiesIn size (Replacing old new) = HasPage size old.page.0 × HasLogPage size (log_of old.header)
+
+-- the torn record and its log do
+abbrev pub HasRecord : (size : ℕ) → Option TornRecord → Type 0
+HasRecord size None = ⊤
+HasRecord size (Some r) = HasPage size r.log.0 × (r.place + 128 ≤ size)
+
+-- what a cut left lies inside the flash
+pub record LiesInside (size : ℕ) (trouble : Trouble) : Type 0 where
+  pub under_way : LiesIn size trouble.under_way
+  pub torn : HasRecord size trouble.torn
+
+-- what a judgement says of an image
+abbrev pub IsJudged : List ℕ → Judgement → Type 0
+IsJudged image Sound = broken_image image ≡ None
+IsJudged image (Cut trouble) = (broken_image image ≢ None) × IsCutBy image trouble
+IsJudged image (Strange bad) = broken_image image ≡ Some bad
+
+-- what a judgement names lies inside the flash
+abbrev pub IsInside : (size : ℕ) → Judgement → Type 0
+IsInside size Sound = ⊤
+IsInside size (Cut trouble) = LiesInside size trouble
+IsInside size (Strange bad) = ⊤

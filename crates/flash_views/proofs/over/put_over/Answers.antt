@@ -1,0 +1,13 @@
+use Rattle.std.proofs.Common.{arith}
+use Rattle.flash_views.specs.Views.{emptied, marked}
+use Rattle.flash_views.proofs.Overlays.{length_marks, length_written}
+use Rattle.flash_views.proofs.over.put_over.Goals as goal
+
+pub returns : goal.returns
+returns c = record {
+  over = λ image i s.
+      let o = c.args.overlay.now in
+      c.put_blank.ensures.over (emptied (marked (marked image o.first) o.second) o.sector) (λ p e. let l = i.blank p e in omega (arith, l, length_written image o i))
+      (c.put_sector.ensures.over (marked (marked image o.first) o.second) (λ x e. let l = i.sector x e in omega (arith, l, length_marks image o))
+      (c.put_mark-2.ensures.over (marked image o.first) (c.put_mark.ensures.over image s)));
+}
