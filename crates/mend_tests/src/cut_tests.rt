@@ -1,0 +1,172 @@
+ghost use Rattle.std.specs.Prelude.{◌≡◌, None, OnOk};
+
+use crate::database::{ROWS, no_relation, one_index, one_relation, put_catalog, put_growing};
+use crate::mended::{byte_at, is_mended, size_named};
+use afl_base::{FileError, Files};
+use afl_sim::PlainFiles;
+
+fn takes_a_first_catalog_back<V: Files>(files: &mut V) -> Result<bool, FileError>
+    requires idle { (V.state files.old).draft ≡ None }
+{
+    put_catalog(files, &one_relation(2)[..33])?;
+    put_growing(files, b"T0", b"")?;
+    let lines = b"catalog taken back\nrelation of slot 0 removed\n";
+    let mended = is_mended(files, lines)?;
+    Ok(mended && size_named(files, b"CAT").is_none() && size_named(files, b"T0").is_none())
+}
+
+#[test]
+fn a_first_catalog_that_is_not_whole_is_taken_back(rt: HostRuntime) {
+    let mut files: PlainFiles<4064> = PlainFiles::new();
+    assert!(rt; takes_a_first_catalog_back(&mut files) == Ok(true));
+}
+
+fn completes_a_mark<V: Files>(files: &mut V) -> Result<bool, FileError>
+    requires idle { (V.state files.old).draft ≡ None }
+{
+    put_catalog(files, &one_relation(2)[..1473])?;
+    put_growing(files, b"T0", &ROWS)?;
+    let mended = is_mended(files, b"catalog mark written\n")?;
+    Ok(mended && size_named(files, b"CAT") == Some(1480))
+}
+
+#[test]
+fn a_mark_that_is_not_whole_is_completed(rt: HostRuntime) {
+    let mut files: PlainFiles<4064> = PlainFiles::new();
+    assert!(rt; completes_a_mark(&mut files) == Ok(true));
+}
+
+fn marks_a_time<V: Files>(files: &mut V) -> Result<bool, FileError>
+    requires idle { (V.state files.old).draft ≡ None }
+{
+    put_catalog(files, &one_relation(4)[..1472])?;
+    put_growing(files, b"T0", b"")?;
+    let mended = is_mended(files, b"catalog mark written\n")?;
+    Ok(mended && size_named(files, b"CAT") == Some(1480))
+}
+
+#[test]
+fn a_catalog_with_a_time_gets_its_mark(rt: HostRuntime) {
+    let mut files: PlainFiles<4064> = PlainFiles::new();
+    assert!(rt; marks_a_time(&mut files) == Ok(true));
+}
+
+fn leaves_version_1<V: Files>(files: &mut V) -> Result<bool, FileError>
+    requires idle { (V.state files.old).draft ≡ None }
+{
+    put_catalog(files, &one_relation(2)[..1472])?;
+    put_growing(files, b"T0", &ROWS)?;
+    let mended = is_mended(files, b"")?;
+    Ok(mended && size_named(files, b"CAT") == Some(1472))
+}
+
+#[test]
+fn a_sound_catalog_of_version_1_stays(rt: HostRuntime) {
+    let mut files: PlainFiles<4064> = PlainFiles::new();
+    assert!(rt; leaves_version_1(&mut files) == Ok(true));
+}
+
+fn empties_a_slot<V: Files>(files: &mut V) -> Result<bool, FileError>
+    requires idle { (V.state files.old).draft ≡ None }
+{
+    let mut bytes = one_relation(2);
+    bytes[0] = 0;
+    put_catalog(files, &bytes)?;
+    put_growing(files, b"T0", &ROWS)?;
+    let mended = is_mended(files, b"relation of slot 0 removed\n")?;
+    let emptied = byte_at(files, b"CAT", 160)? == Some(0);
+    Ok(mended && emptied && size_named(files, b"T0").is_none())
+}
+
+#[test]
+fn a_slot_without_a_name_is_emptied(rt: HostRuntime) {
+    let mut files: PlainFiles<4064> = PlainFiles::new();
+    assert!(rt; empties_a_slot(&mut files) == Ok(true));
+}
+
+fn takes_an_attribute_back<V: Files>(files: &mut V) -> Result<bool, FileError>
+    requires idle { (V.state files.old).draft ≡ None }
+{
+    let mut bytes = one_relation(2);
+    bytes[34] = b'a';
+    bytes[50] = 4;
+    put_catalog(files, &bytes[..1472])?;
+    put_growing(files, b"T0", &ROWS)?;
+    let mended = is_mended(files, b"attribute of r taken back\n")?;
+    let zero = byte_at(files, b"CAT", 34)? == Some(0) && byte_at(files, b"CAT", 50)? == Some(0);
+    let kept = byte_at(files, b"CAT", 16)? == Some(b'k');
+    Ok(mended && zero && kept && size_named(files, b"CAT") == Some(1472))
+}
+
+#[test]
+fn an_attribute_that_is_not_counted_is_taken_back(rt: HostRuntime) {
+    let mut files: PlainFiles<4064> = PlainFiles::new();
+    assert!(rt; takes_an_attribute_back(&mut files) == Ok(true));
+}
+
+fn takes_an_index_back<V: Files>(files: &mut V) -> Result<bool, FileError>
+    requires idle { (V.state files.old).draft ≡ None }
+{
+    put_catalog(files, &one_index())?;
+    put_growing(files, b"T0", &ROWS)?;
+    let mended = is_mended(files, b"index on r.k taken back\n")?;
+    let emptied = byte_at(files, b"CAT", 1408)? == Some(0);
+    Ok(mended && emptied && size_named(files, b"T0") == Some(15))
+}
+
+#[test]
+fn an_index_without_its_tree_is_taken_back(rt: HostRuntime) {
+    let mut files: PlainFiles<4064> = PlainFiles::new();
+    assert!(rt; takes_an_index_back(&mut files) == Ok(true));
+}
+
+fn removes_strays<V: Files>(files: &mut V) -> Result<bool, FileError>
+    requires idle { (V.state files.old).draft ≡ None }
+{
+    put_catalog(files, &no_relation())?;
+    put_growing(files, b"T2", &ROWS)?;
+    put_growing(files, b"X3", b"tree")?;
+    let lines = b"relation of slot 2 removed\nindex of slot 3 removed\n";
+    let mended = is_mended(files, lines)?;
+    Ok(mended && size_named(files, b"T2").is_none() && size_named(files, b"X3").is_none())
+}
+
+#[test]
+fn files_that_the_catalog_does_not_ask_for_are_removed(rt: HostRuntime) {
+    let mut files: PlainFiles<4064> = PlainFiles::new();
+    assert!(rt; removes_strays(&mut files) == Ok(true));
+}
+
+fn takes_a_row_back<V: Files>(files: &mut V) -> Result<bool, FileError>
+    requires idle { (V.state files.old).draft ≡ None }
+{
+    put_catalog(files, &one_relation(2))?;
+    put_growing(files, b"T0", &ROWS[..11])?;
+    let mended = is_mended(files, b"row of r taken back\n")?;
+    let kept = byte_at(files, b"T0", 5)? == Some(5) && byte_at(files, b"T0", 9)? == Some(1);
+    Ok(mended && kept && size_named(files, b"T0") == Some(10))
+}
+
+#[test]
+fn a_row_that_is_not_whole_is_taken_back(rt: HostRuntime) {
+    let mut files: PlainFiles<4064> = PlainFiles::new();
+    assert!(rt; takes_a_row_back(&mut files) == Ok(true));
+}
+
+fn builds_a_tree<V: Files>(files: &mut V) -> Result<bool, FileError>
+    requires idle { (V.state files.old).draft ≡ None }
+{
+    put_catalog(files, &one_index())?;
+    put_growing(files, b"T0", &ROWS[..11])?;
+    put_growing(files, b"X0", b"a part of a tree")?;
+    let lines = b"row of r taken back\nindex on r.k built anew\n";
+    let mended = is_mended(files, lines)?;
+    let first_key = byte_at(files, b"X0", 683)? == Some(7);
+    Ok(mended && first_key && size_named(files, b"X0") == Some(878))
+}
+
+#[test]
+fn a_tree_that_lacks_keys_is_built_anew(rt: HostRuntime) {
+    let mut files: PlainFiles<4064> = PlainFiles::new();
+    assert!(rt; builds_a_tree(&mut files) == Ok(true));
+}

@@ -1,0 +1,12 @@
+//! Tests of what is put right in the files of a database behind a cut, over files in memory: one for each
+//! thing that a cut leaves, and files that no cut leaves.
+#![tactic(auto)]
+
+#[cfg(test)]
+mod cut_tests;
+#[cfg(test)]
+mod database;
+#[cfg(test)]
+mod mended;
+#[cfg(test)]
+mod strange_tests;

@@ -1,0 +1,272 @@
+//! The file of the catalog, put right slot by slot.
+
+#![tactic(auto)]
+
+ghost use Rattle.std.specs.Prelude.{◌≡◌, ◌≢◌, ◌≤◌, ◌<◌, ◌+◌, ◌-◌, IfSome, None, OnOk, length, slice_index};
+ghost use Rattle.afl_base.specs.Files.{IsLive, file_at, size_at};
+ghost use Rattle.afl_base.specs.Keeping.{ChangesOrLacks, OnlyReads};
+ghost use Rattle.afl_base.specs.declared.kind.Kind.TheVariants.{Fixed};
+
+use crate::decoding::name_in;
+use crate::listing::{SIZE_OF_VERSION_1, VERSION_MARK, relation_in, whole_catalog};
+use crate::report::{Mended, Report};
+use afl_base::{Failed, FileError, FileId, Files, IndexId, Kind, RelationId, regions};
+use catalog::{catalog_file, rows_file, tree_file};
+use db_model::{Domain, Schema};
+use padded::is_zeros;
+
+// An index slot that is not used.
+const UNUSED_INDEX: [u8; 8] = [0, 0, 0, 0, 0, 0, 0, 1];
+
+/// Takes a catalog back whose first change was not whole: there was no relation.
+pub fn take_back_catalog<V: Files>(files: &mut V, report: &mut Report) -> Result<(), FileError>
+    requires idle { (V.state files.old).draft ≡ None }
+    ensures idle { OnOk result ((V.state files.new).draft ≡ None) }
+    ensures frame { ChangesOrLacks V.state V.lent V.reads V.faults V.lacks files.old files.new result }
+{
+    let Some(cat) = files.find(catalog_file()) else {
+        return Ok(());
+    };
+    let size = files.size(cat);
+    if size == 0 || size >= SIZE_OF_VERSION_1 {
+        return Ok(());
+    }
+    files.remove(cat)?;
+    report.add(Mended::Catalog);
+    Ok(())
+}
+
+// The file of the catalog, where it has a catalog's kind and size.
+fn written_catalog<V: Files>(files: &V) -> Option<FileId>
+    ensures live { IfSome result (λ cat. IsLive (V.state files.now).files cat) }
+    ensures least { IfSome result (λ cat. 1472 ≤ size_at (V.state files.now).files cat) }
+    ensures most { IfSome result (λ cat. size_at (V.state files.now).files cat ≤ 1480) }
+    ensures kind { IfSome result (λ cat. (file_at (V.state files.now).files cat).kind ≡ Fixed 6) }
+{
+    let cat = whole_catalog(files)?;
+    if files.size(cat) > 1_480 || files.kind(cat) != Kind::Fixed(6) {
+        return None;
+    }
+    Some(cat)
+}
+
+/// Completes the mark of version 2, where a part of it is there.
+pub fn complete_mark<V: Files>(files: &mut V, report: &mut Report) -> Result<(), FileError>
+    requires idle { (V.state files.old).draft ≡ None }
+    ensures idle { OnOk result ((V.state files.new).draft ≡ None) }
+    ensures frame { ChangesOrLacks V.state V.lent V.reads V.faults V.lacks files.old files.new result }
+{
+    let Some(cat) = written_catalog(files) else {
+        return Ok(());
+    };
+    if files.size(cat) == SIZE_OF_VERSION_1 {
+        return Ok(());
+    }
+    write_mark(files, cat, report)
+}
+
+// Appends what is missing of the mark.
+fn write_mark<V: Files>(files: &mut V, cat: FileId, report: &mut Report) -> Result<(), FileError>
+    requires idle { (V.state files.old).draft ≡ None }
+    requires live { IsLive (V.state files.old).files cat }
+    requires least { 1472 ≤ size_at (V.state files.old).files cat }
+    requires most { size_at (V.state files.old).files cat ≤ 1480 }
+    requires kind { (file_at (V.state files.old).files cat).kind ≡ Fixed 6 }
+    ensures idle { OnOk result ((V.state files.new).draft ≡ None) }
+    ensures frame { ChangesOrLacks V.state V.lent V.reads V.faults V.lacks files.old files.new result }
+{
+    let written = (files.size(cat) - SIZE_OF_VERSION_1) as usize;
+    if written == 8 {
+        return Ok(());
+    }
+    files.prepare(cat, 0, 8 - written as u32)?;
+    files.append(cat, &VERSION_MARK[written..])?;
+    report.add(Mended::Mark);
+    Ok(())
+}
+
+/// Puts a relation slot right: it is emptied where its name is gone, what stands behind its attributes
+/// is taken back, and a catalog of version 1 gets the mark where it has a TIME.
+pub fn mend_relation<V: Files>(
+    files: &mut V,
+    slot: u16,
+    report: &mut Report,
+) -> Result<(), FileError>
+    requires idle { (V.state files.old).draft ≡ None }
+    requires slot { slot < 8 }
+    ensures idle { OnOk result ((V.state files.new).draft ≡ None) }
+    ensures frame { ChangesOrLacks V.state V.lent V.reads V.faults V.lacks files.old files.new result }
+{
+    let Some(cat) = written_catalog(files) else {
+        return Ok(());
+    };
+    match relation_in(files, cat, slot)? {
+        None => Ok(()),
+        Some(None) => empty_slot(files, cat, slot, report),
+        Some(Some(schema)) => mend_schema(files, cat, slot, &schema, report),
+    }
+}
+
+// Empties a slot without a name.
+fn empty_slot<V: Files>(
+    files: &mut V,
+    cat: FileId,
+    slot: u16,
+    report: &mut Report,
+) -> Result<(), FileError>
+    requires idle { (V.state files.old).draft ≡ None }
+    requires live { IsLive (V.state files.old).files cat }
+    requires least { 1472 ≤ size_at (V.state files.old).files cat }
+    requires most { size_at (V.state files.old).files cat ≤ 1480 }
+    requires kind { (file_at (V.state files.old).files cat).kind ≡ Fixed 6 }
+    requires slot { slot < 8 }
+    ensures idle { OnOk result ((V.state files.new).draft ≡ None) }
+    ensures frame { ChangesOrLacks V.state V.lent V.reads V.faults V.lacks files.old files.new result }
+{
+    let mut bytes = [0; 176];
+    files.read(cat, 176 * u32::from(slot), &mut bytes)?;
+    let mut unused = [0; 176];
+    unused[175] = 1;
+    if bytes == unused {
+        return Ok(());
+    }
+    overwrite(files, cat, 176 * u32::from(slot), &unused)?;
+    report_removed(files, slot, report);
+    Ok(())
+}
+
+// Reports a relation whose slot is emptied, unless its rows are still to be removed.
+fn report_removed<V: Files>(files: &V, slot: u16, report: &mut Report) {
+    if let Some(id) = RelationId::new(slot) {
+        if files.find(rows_file(id)).is_none() {
+            report.add(Mended::Relation(id));
+        }
+    }
+}
+
+// Takes back what stands behind the attributes of a relation, and writes the mark for a TIME.
+fn mend_schema<V: Files>(
+    files: &mut V,
+    cat: FileId,
+    slot: u16,
+    schema: &Schema,
+    report: &mut Report,
+) -> Result<(), FileError>
+    requires idle { (V.state files.old).draft ≡ None }
+    requires live { IsLive (V.state files.old).files cat }
+    requires least { 1472 ≤ size_at (V.state files.old).files cat }
+    requires most { size_at (V.state files.old).files cat ≤ 1480 }
+    requires kind { (file_at (V.state files.old).files cat).kind ≡ Fixed 6 }
+    requires slot { slot < 8 }
+    ensures idle { OnOk result ((V.state files.new).draft ≡ None) }
+    ensures frame { ChangesOrLacks V.state V.lent V.reads V.faults V.lacks files.old files.new result }
+{
+    if has_time(schema) && files.size(cat) == SIZE_OF_VERSION_1 {
+        write_mark(files, cat, report)?;
+    }
+    take_back_attribute(files, slot, schema, report)
+}
+
+fn has_time(schema: &Schema) -> bool {
+    for attribute in schema.attributes.as_slice() {
+        if attribute.domain == Domain::Time {
+            return true;
+        }
+    }
+    false
+}
+
+// Writes zeros behind the attributes of a relation, where there are other bytes.
+fn take_back_attribute<V: Files>(
+    files: &mut V,
+    slot: u16,
+    schema: &Schema,
+    report: &mut Report,
+) -> Result<(), FileError>
+    requires idle { (V.state files.old).draft ≡ None }
+    requires slot { slot < 8 }
+    ensures idle { OnOk result ((V.state files.new).draft ≡ None) }
+    ensures frame { ChangesOrLacks V.state V.lent V.reads V.faults V.lacks files.old files.new result }
+{
+    let Some(cat) = written_catalog(files) else {
+        return Ok(());
+    };
+    let front = 18 * schema.attributes.len();
+    let at = 176 * u32::from(slot) + 16 + front as u32;
+    let mut bytes = [0; 144];
+    let behind = &mut bytes[front..];
+    files.read(cat, at, behind)?;
+    if is_zeros(behind) {
+        return Ok(());
+    }
+    let zeros = [0; 144];
+    overwrite(files, cat, at, &zeros[front..])?;
+    report.add(Mended::Attribute(schema.name));
+    Ok(())
+}
+
+/// Takes back an index whose tree is not there.
+pub fn mend_index<V: Files>(files: &mut V, slot: u16, report: &mut Report) -> Result<(), FileError>
+    requires idle { (V.state files.old).draft ≡ None }
+    requires slot { slot < 8 }
+    ensures idle { OnOk result ((V.state files.new).draft ≡ None) }
+    ensures frame { ChangesOrLacks V.state V.lent V.reads V.faults V.lacks files.old files.new result }
+{
+    let (Some(cat), Some(id)) = (written_catalog(files), IndexId::new(slot)) else {
+        return Ok(());
+    };
+    let at = SIZE_OF_VERSION_1 - 64 + 8 * u32::from(slot);
+    let mut bytes = [0; 8];
+    files.read(cat, at, &mut bytes)?;
+    if bytes[0] != 2 || files.find(tree_file(id)).is_some() {
+        return Ok(());
+    }
+    report_index(files, cat, bytes[1], bytes[2], report)?;
+    overwrite(files, cat, at, &UNUSED_INDEX)?;
+    Ok(())
+}
+
+// Reports an index on an attribute that is taken back.
+fn report_index<V: Files>(
+    files: &mut V,
+    cat: FileId,
+    relation: u8,
+    attribute: u8,
+    report: &mut Report,
+) -> Result<(), Failed>
+    requires live { IsLive (V.state files.old).files cat }
+    requires size { 1472 ≤ size_at (V.state files.old).files cat }
+    ensures frame { OnlyReads V.state V.lent V.reads V.faults files.old files.new result }
+{
+    if relation >= 8 {
+        return Ok(());
+    }
+    if let Some(Some(schema)) = relation_in(files, cat, u16::from(relation))? {
+        if let Some(found) = schema.attributes.as_slice().get(attribute as usize) {
+            report.add(Mended::Index {
+                relation: schema.name,
+                attribute: found.name,
+            });
+        }
+    }
+    Ok(())
+}
+
+// Makes room, and puts these bytes into a slot.
+fn overwrite<V: Files>(files: &mut V, cat: FileId, at: u32, bytes: &[u8]) -> Result<(), FileError>
+    requires idle { (V.state files.old).draft ≡ None }
+    requires live { IsLive (V.state files.old).files cat }
+    requires least { 1472 ≤ size_at (V.state files.old).files cat }
+    requires most { size_at (V.state files.old).files cat ≤ 1480 }
+    requires kind { (file_at (V.state files.old).files cat).kind ≡ Fixed 6 }
+    requires some { 1 ≤ length bytes.now }
+    requires few { length bytes.now ≤ 176 }
+    requires inside { at + length bytes.now ≤ 1472 }
+    requires last { at + length bytes.now ≡ 1472 → slice_index bytes.now (length bytes.now - 1) ≢ 0 }
+    ensures idle { OnOk result ((V.state files.new).draft ≡ None) }
+    ensures frame { ChangesOrLacks V.state V.lent V.reads V.faults V.lacks files.old files.new result }
+{
+    files.prepare(cat, regions(at, bytes.len()), 0)?;
+    files.overwrite(cat, at, bytes)?;
+    Ok(())
+}

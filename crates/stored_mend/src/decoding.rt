@@ -1,0 +1,124 @@
+//! What the slots of a catalog are read as behind a cut.
+
+#![tactic(auto)]
+
+ghost use Rattle.std.specs.Prelude.{◌≡◌, ◌≤◌, ◌<◌, IfSome, length};
+ghost use Rattle.db_model.specs.Row.{row_length};
+
+use afl_base::RelationId;
+use catalog::IndexEntry;
+use db_model::{Attribute, Attributes, Domain, Ident, IndexKind, Schema, row_length, up_to_zero};
+use padded::is_zeros;
+
+/// What a relation slot is read as, None where no cut leaves it. Without a name it was being emptied.
+/// What stands behind its attributes was to be one more, and is none.
+pub fn mended_relation(slot: &[u8]) -> Option<Option<Schema>>
+    requires { length slot.now ≡ 176 }
+    ensures { IfSome result (λ relation. IfSome relation (λ schema. row_length schema.attributes ≤ 128)) }
+{
+    if slot[0] == 0 {
+        return Some(None);
+    }
+    let schema = named_schema(slot)?;
+    let ends_well = is_zeros(&slot[161..175]) && slot[175] == 1;
+    ends_well.then_some(Some(schema))
+}
+
+fn named_schema(slot: &[u8]) -> Option<Schema>
+    requires { length slot.now ≡ 176 }
+    ensures { IfSome result (λ schema. row_length schema.attributes ≤ 128) }
+{
+    let name = name_in(&slot[..16])?;
+    let attributes = attributes_in(slot[160] as usize, &slot[16..160])?;
+    if row_length(&attributes) > 128 || !are_distinct(attributes.as_slice()) {
+        return None;
+    }
+    Some(Schema { name, attributes })
+}
+
+// The first `n` attributes.
+fn attributes_in(n: usize, bytes: &[u8]) -> Option<Attributes>
+    requires { length bytes.now ≡ 144 }
+{
+    if n > 8 {
+        return None;
+    }
+    let mut attributes = Attributes::new();
+    for j in 0..n {
+        attributes.push(attribute_in(&bytes[18 * j..18 * j + 18])?);
+    }
+    Some(attributes)
+}
+
+fn attribute_in(bytes: &[u8]) -> Option<Attribute>
+    requires { length bytes.now ≡ 18 }
+{
+    let name = name_in(&bytes[..16])?;
+    let domain = domain_in(bytes[16], bytes[17])?;
+    Some(Attribute { name, domain })
+}
+
+/// A name with zeros behind it.
+pub fn name_in(field: &[u8]) -> Option<Ident> {
+    let name = up_to_zero(field);
+    if !is_zeros(&field[name.len()..]) {
+        return None;
+    }
+    Ident::new(name)
+}
+
+fn domain_in(code: u8, length: u8) -> Option<Domain> {
+    match (code, length) {
+        (1, 0) => Some(Domain::Int),
+        (2, 0) => Some(Domain::Long),
+        (4, 0) => Some(Domain::Time),
+        (3, _) => (1 <= length && length <= 32).then_some(Domain::Str(length)),
+        _ => None,
+    }
+}
+
+fn are_distinct(attributes: &[Attribute]) -> bool {
+    for (at, attribute) in attributes.iter().enumerate() {
+        if is_among(&attribute.name, &attributes[at + 1..]) {
+            return false;
+        }
+    }
+    true
+}
+
+fn is_among(name: &Ident, attributes: &[Attribute]) -> bool {
+    for attribute in attributes {
+        if attribute.name == *name {
+            return true;
+        }
+    }
+    false
+}
+
+/// What an index slot is read as, None where no cut leaves it: it is written whole or not at all.
+pub fn index_in(slot: &[u8]) -> Option<Option<IndexEntry>>
+    requires { length slot.now ≡ 8 }
+{
+    if !is_zeros(&slot[3..7]) || slot[7] != 1 {
+        return None;
+    }
+    if slot[0] == 0 {
+        return is_zeros(&slot[1..3]).then_some(None);
+    }
+    let kind = kind_in(slot[0])?;
+    let relation = RelationId::new(u16::from(slot[1]))?;
+    Some(Some(IndexEntry {
+        kind,
+        relation,
+        attribute: slot[2],
+    }))
+}
+
+fn kind_in(code: u8) -> Option<IndexKind> {
+    match code {
+        1 => Some(IndexKind::Inline),
+        2 => Some(IndexKind::MaxHeap),
+        3 => Some(IndexKind::MemHash),
+        _ => None,
+    }
+}

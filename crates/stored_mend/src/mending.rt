@@ -1,0 +1,107 @@
+//! All files of a database, put right one after another.
+
+#![tactic(auto)]
+
+ghost use Rattle.std.specs.Prelude.{◌≡◌, IfOk, IfSome, None, OnOk, length};
+ghost use Rattle.afl_base.specs.Keeping.{ChangesOrLacks, OnlyReads};
+
+use crate::catalogs::{complete_mark, mend_index, mend_relation, take_back_catalog};
+use crate::contents::{mend_rows, mend_tree};
+use crate::report::Report;
+use crate::strays::{remove_rows, remove_tree};
+use afl_base::{Failed, FileError, Files};
+use catalog::{Catalog, load};
+
+/// Puts files right in which a cut left a part of a change, as `survey` tells, and reports what it did.
+/// It makes room before each change, and `Space` has the pages that were lacking. Cut itself, or
+/// without space, it leaves files that it puts right when it is begun anew.
+pub fn mend_database<V: Files>(files: &mut V, report: &mut Report) -> Result<(), FileError>
+    requires idle { (V.state files.old).draft ≡ None }
+    ensures idle { OnOk result ((V.state files.new).draft ≡ None) }
+    ensures frame { ChangesOrLacks V.state V.lent V.reads V.faults V.lacks files.old files.new result }
+{
+    mend_catalog(files, report)?;
+    remove_strays(files, report)?;
+    mend_listed(files, report)?;
+    Ok(())
+}
+
+// Puts right what the catalog asks for.
+fn mend_listed<V: Files>(files: &mut V, report: &mut Report) -> Result<(), FileError>
+    requires idle { (V.state files.old).draft ≡ None }
+    ensures idle { OnOk result ((V.state files.new).draft ≡ None) }
+    ensures frame { ChangesOrLacks V.state V.lent V.reads V.faults V.lacks files.old files.new result }
+{
+    match sound_catalog(files)? {
+        Some(catalog) => {
+            mend_contents(files, &catalog, report)?;
+            Ok(())
+        }
+        None => Ok(()),
+    }
+}
+
+// The catalog, None where it breaks a rule.
+fn sound_catalog<V: Files>(files: &mut V) -> Result<Option<Catalog>, Failed>
+    ensures relations { IfOk result (λ r. IfSome r (λ catalog. length catalog.relations ≡ 8)) }
+    ensures indexes { IfOk result (λ r. IfSome r (λ catalog. length catalog.indexes ≡ 8)) }
+    ensures frame { OnlyReads V.state V.lent V.reads V.faults files.old files.new result }
+{
+    match load(files)? {
+        Ok(catalog) => Ok(Some(catalog)),
+        Err(_) => Ok(None),
+    }
+}
+
+// Puts the file of the catalog right.
+fn mend_catalog<V: Files>(files: &mut V, report: &mut Report) -> Result<(), FileError>
+    requires idle { (V.state files.old).draft ≡ None }
+    ensures idle { OnOk result ((V.state files.new).draft ≡ None) }
+    ensures frame { ChangesOrLacks V.state V.lent V.reads V.faults V.lacks files.old files.new result }
+{
+    take_back_catalog(files, report)?;
+    complete_mark(files, report)?;
+    for slot in 0..8u16 {
+        mend_relation(files, slot, report)?;
+    }
+    for slot in 0..8u16 {
+        mend_index(files, slot, report)?;
+    }
+    Ok(())
+}
+
+// Removes the files that the catalog does not ask for.
+fn remove_strays<V: Files>(files: &mut V, report: &mut Report) -> Result<(), FileError>
+    requires idle { (V.state files.old).draft ≡ None }
+    ensures idle { OnOk result ((V.state files.new).draft ≡ None) }
+    ensures frame { ChangesOrLacks V.state V.lent V.reads V.faults V.lacks files.old files.new result }
+{
+    for slot in 0..8u16 {
+        remove_rows(files, slot, report)?;
+    }
+    for slot in 0..8u16 {
+        remove_tree(files, slot, report)?;
+    }
+    Ok(())
+}
+
+// Puts rows and trees right.
+fn mend_contents<V: Files>(
+    files: &mut V,
+    catalog: &Catalog,
+    report: &mut Report,
+) -> Result<(), FileError>
+    requires relations { length catalog.now.relations ≡ 8 }
+    requires indexes { length catalog.now.indexes ≡ 8 }
+    requires idle { (V.state files.old).draft ≡ None }
+    ensures idle { OnOk result ((V.state files.new).draft ≡ None) }
+    ensures frame { ChangesOrLacks V.state V.lent V.reads V.faults V.lacks files.old files.new result }
+{
+    for slot in 0..8u16 {
+        mend_rows(files, slot, catalog, report)?;
+    }
+    for slot in 0..8u16 {
+        mend_tree(files, slot, catalog, report)?;
+    }
+    Ok(())
+}

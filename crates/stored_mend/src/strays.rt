@@ -1,0 +1,68 @@
+//! Files that the catalog does not ask for.
+
+#![tactic(auto)]
+
+ghost use Rattle.std.specs.Prelude.{◌≡◌, ◌<◌, None, OnOk};
+ghost use Rattle.afl_base.specs.Keeping.{Changes, OnlyReads};
+
+use crate::listing::whole_catalog;
+use crate::report::{Mended, Report};
+use afl_base::{Failed, Files, IndexId, RelationId};
+use catalog::{rows_file, tree_file};
+
+/// Removes the rows of a slot without a relation.
+pub fn remove_rows<V: Files>(files: &mut V, slot: u16, report: &mut Report) -> Result<(), Failed>
+    requires idle { (V.state files.old).draft ≡ None }
+    requires slot { slot < 8 }
+    ensures idle { OnOk result ((V.state files.new).draft ≡ None) }
+    ensures frame { Changes V.state V.lent V.reads V.faults files.old files.new result }
+{
+    let first = first_byte(files, 176 * u32::from(slot))?;
+    let Some(id) = RelationId::new(slot) else {
+        return Ok(());
+    };
+    let Some(file) = files.find(rows_file(id)) else {
+        return Ok(());
+    };
+    if first != 0 {
+        return Ok(());
+    }
+    files.remove(file)?;
+    report.add(Mended::Relation(id));
+    Ok(())
+}
+
+/// Removes the tree of a slot without an index that has one.
+pub fn remove_tree<V: Files>(files: &mut V, slot: u16, report: &mut Report) -> Result<(), Failed>
+    requires idle { (V.state files.old).draft ≡ None }
+    requires slot { slot < 8 }
+    ensures idle { OnOk result ((V.state files.new).draft ≡ None) }
+    ensures frame { Changes V.state V.lent V.reads V.faults files.old files.new result }
+{
+    let first = first_byte(files, 1_408 + 8 * u32::from(slot))?;
+    let Some(id) = IndexId::new(slot) else {
+        return Ok(());
+    };
+    let Some(file) = files.find(tree_file(id)) else {
+        return Ok(());
+    };
+    if first == 2 {
+        return Ok(());
+    }
+    files.remove(file)?;
+    report.add(Mended::Stray(id));
+    Ok(())
+}
+
+// The first byte of a slot of the catalog, 0 where there is no catalog.
+fn first_byte<V: Files>(files: &mut V, at: u32) -> Result<u8, Failed>
+    requires inside { at < 1472 }
+    ensures frame { OnlyReads V.state V.lent V.reads V.faults files.old files.new result }
+{
+    let Some(cat) = whole_catalog(files) else {
+        return Ok(0);
+    };
+    let mut byte = [0];
+    files.read(cat, at, &mut byte)?;
+    Ok(byte[0])
+}
