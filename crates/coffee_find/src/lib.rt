@@ -15,4 +15,5 @@ mod zeros;
 
 pub use judging::judge;
 pub use laws::cut_images_mend;
+pub use overlays::overlay_of;
 pub use trouble::{Judgement, PlacedFile, TornRecord, Trouble, UnderWay};

@@ -10,7 +10,7 @@ use coffee_header::Header;
 use flash_views::{Mark, Overlay};
 
 /// The writes that settle what was under way, and 128 bytes that are zero besides.
-pub(crate) fn overlay_of(under_way: &UnderWay, blank: Option<u32>) -> Overlay
+pub fn overlay_of(under_way: &UnderWay, blank: Option<u32>) -> Overlay
     ensures settled { (image : List ℕ)
         → overlaid image result ≡ blanked (settled image (meant under_way.now)) blank }
     ensures inside { (size : ℕ) → LiesIn size under_way.now

@@ -7,10 +7,17 @@ pub enum Came {
     Sound,
     /// It was put right.
     Repaired,
+    /// No cut leaves such an image, of which this is the first broken rule.
+    Strange(BadImage),
+}
+
+/// Why a repair came to no end.
+#[derive(Clone, Copy, PartialEq, Eq, Debug)]
+pub enum Hindrance {
     /// There is no extent of so many pages for what is to be put right.
     Spaceless { need: u16 },
+    /// The image has this first broken rule still, on a flash that answers otherwise at each read.
+    Unsettled(BadImage),
     /// The flash failed.
     Failed,
-    /// The image is not sound, and no cut leaves such a one.
-    Strange(BadImage),
 }

@@ -1,23 +1,38 @@
-use crate::came::Came;
+ghost use Rattle.std.specs.Prelude.{◌≡◌, ◌≤◌, ⊥, Err, IsTrue, OnOk, length};
+ghost use Rattle.afl_base.specs.Causes.{Rose};
+ghost use Rattle.coffee_find.specs.Found.{IsCutBy, LiesInside};
+ghost use Rattle.sound_image.specs.Images.{IsFirstBroken, IsSound};
+ghost use Rattle.repair_run.specs.Repairs.{IsRepairStatus, Leaves, Repairs};
+ghost use Rattle.repair_run.specs.declared.came.Hindrance.TheVariants.{Failed as FaultOfFlash};
+
+use crate::came::{Came, Hindrance};
 use crate::judging::judge_image;
 use crate::lines::say;
 use crate::mending::mend_image;
 use crate::surveying::survey_image;
 use afl_base::{Failed, Flash, Sink};
-use coffee_find::{Judgement, Trouble, judge};
+use coffee_find::{Judgement, Trouble, UnderWay, judge};
 use coffee_layout::BadImage;
 use coffee_mend::{MendError, mend};
+use sound_image::sound_image_breaks_no_rule;
 use stored_mend::Report;
 
 /// Puts an image right that a power cut left, and answers the status that the program ends with, and the flash.
 ///
 /// | status | comes |
 /// |---|---|
-/// | 0 | the image is sound: it was, and `sound` was written; or a line was written for each thing that was put right in its database, and `repaired` |
-/// | 3 | the flash has no room for what is to be put right, and `no space N` was written; the image is still one to be repaired |
+/// | 0 | the image was sound: `sound` was written, and it is as it was; or it was not, and is now: a line was written for each thing that was put right in its database, and `repaired` |
+/// | 3 | the flash has no room for what is to be put right, and `no space N` was written |
 /// | 4, 5 | only where the flash, the sink counted a fault |
-/// | 6 | no cut leaves such an image, which is as it was; `no image RULE PLACE` was written |
+/// | 6 | the image is not sound, and no cut leaves such a one: `no image RULE PLACE` was written |
 pub fn repair<F: Flash, K: Sink>(out: &mut K, flash: F) -> (u8, F)
+    ensures only { IsRepairStatus result.0 }
+    ensures told { IsTrue F.tells → Repairs result.0 (F.image flash) (F.image result.1) (K.held out.old) (K.held out.new) }
+    ensures flash { result.0 ≡ 4 → Rose (F.faults flash) (F.faults result.1) }
+    ensures sink { result.0 ≡ 5 → Rose (K.faults out.old) (K.faults out.new) }
+    ensures size { length (F.image result.1) ≡ length (F.image flash) }
+    ensures lent { F.lent result.1 ≡ F.lent flash }
+    ensures sink_lent { K.lent out.new ≡ K.lent out.old }
 {
     let mut report = Report::new();
     let (flash, came) = put_right(flash, &mut report);
@@ -25,59 +40,138 @@ pub fn repair<F: Flash, K: Sink>(out: &mut K, flash: F) -> (u8, F)
 }
 
 // What a repair comes to.
-fn put_right<F: Flash>(flash: F, report: &mut Report) -> (F, Came) {
+fn put_right<F: Flash>(flash: F, report: &mut Report) -> (F, Result<Came, Hindrance>)
+    ensures leaves { IsTrue F.tells → Leaves (F.image flash) (F.image result.0) result.1 }
+    ensures size { length (F.image result.0) ≡ length (F.image flash) }
+    ensures lent { F.lent result.0 ≡ F.lent flash }
+    ensures cause { result.1 ≡ Err FaultOfFlash → Rose (F.faults flash) (F.faults result.0) }
+{
+    sound_image_breaks_no_rule();
     let (flash, judged) = judge_image(flash);
     match judged {
-        Ok(Ok(())) => (flash, Came::Sound),
+        Ok(Ok(())) => (flash, Ok(Came::Sound)),
         Ok(Err(bad)) => put_broken_right(flash, report, bad),
-        Err(Failed) => (flash, Came::Failed),
+        Err(Failed) => (flash, Err(Hindrance::Failed)),
     }
 }
 
 // The same of an image that is not sound. What is wrong is found by reading alone, before anything is written.
-fn put_broken_right<F: Flash>(flash: F, report: &mut Report, bad: BadImage) -> (F, Came) {
+fn put_broken_right<F: Flash>(
+    flash: F,
+    report: &mut Report,
+    bad: BadImage,
+) -> (F, Result<Came, Hindrance>)
+    ensures leaves { IsTrue F.tells → (IsSound (F.image flash) → ⊥) → IsFirstBroken (F.image flash) bad.rule bad.place
+        → Leaves (F.image flash) (F.image result.0) result.1 }
+    ensures size { length (F.image result.0) ≡ length (F.image flash) }
+    ensures lent { F.lent result.0 ≡ F.lent flash }
+    ensures cause { result.1 ≡ Err FaultOfFlash → Rose (F.faults flash) (F.faults result.0) }
+{
     let (flash, found) = judge(flash);
     match found {
-        Ok(Judgement::Sound) => put_found_right(flash, report, bad, &Trouble::nothing()),
-        Ok(Judgement::Cut(trouble)) => put_found_right(flash, report, bad, &trouble),
-        Ok(Judgement::Strange(_)) => (flash, Came::Strange(bad)),
-        Err(Failed) => (flash, Came::Failed),
+        Ok(Judgement::Sound) => put_database_right(flash, report, bad),
+        Ok(Judgement::Cut(trouble)) => put_files_right(flash, report, bad, &trouble),
+        Ok(Judgement::Strange(_)) => (flash, Ok(Came::Strange(bad))),
+        Err(Failed) => (flash, Err(Hindrance::Failed)),
     }
 }
 
-// The same of an image whose files a cut can have left.
-fn put_found_right<F: Flash>(flash: F, report: &mut Report, bad: BadImage, trouble: &Trouble) -> (F, Came) {
+// The same, where the files are sound.
+fn put_database_right<F: Flash>(
+    flash: F,
+    report: &mut Report,
+    bad: BadImage,
+) -> (F, Result<Came, Hindrance>)
+    ensures leaves { IsTrue F.tells → (IsSound (F.image flash) → ⊥) → IsFirstBroken (F.image flash) bad.rule bad.place
+        → Leaves (F.image flash) (F.image result.0) result.1 }
+    ensures size { length (F.image result.0) ≡ length (F.image flash) }
+    ensures lent { F.lent result.0 ≡ F.lent flash }
+    ensures cause { result.1 ≡ Err FaultOfFlash → Rose (F.faults flash) (F.faults result.0) }
+{
+    let nothing = Trouble {
+        under_way: UnderWay::Nothing,
+        torn: None,
+    };
+    let (flash, surveyed) = survey_image(flash, &nothing);
+    match surveyed {
+        Ok(true) => match end_repair(flash, report) {
+            (flash, Ok(())) => (flash, Ok(Came::Repaired)),
+            (flash, Err(hindrance)) => (flash, Err(hindrance)),
+        },
+        Ok(false) => (flash, Ok(Came::Strange(bad))),
+        Err(Failed) => (flash, Err(Hindrance::Failed)),
+    }
+}
+
+// The same, where a cut left the files: they are put right first, and then the database in them.
+fn put_files_right<F: Flash>(
+    flash: F,
+    report: &mut Report,
+    bad: BadImage,
+    trouble: &Trouble,
+) -> (F, Result<Came, Hindrance>)
+    requires inside { LiesInside (length (F.image flash)) trouble.now }
+    ensures leaves { IsTrue F.tells → (IsSound (F.image flash) → ⊥) → IsFirstBroken (F.image flash) bad.rule bad.place
+        → Leaves (F.image flash) (F.image result.0) result.1 }
+    ensures size { length (F.image result.0) ≡ length (F.image flash) }
+    ensures lent { F.lent result.0 ≡ F.lent flash }
+    ensures cause { result.1 ≡ Err FaultOfFlash → Rose (F.faults flash) (F.faults result.0) }
+{
     let (flash, surveyed) = survey_image(flash, trouble);
     match surveyed {
-        Ok(true) => put_files_right(flash, report, trouble),
-        Ok(false) => (flash, Came::Strange(bad)),
-        Err(Failed) => (flash, Came::Failed),
+        Ok(true) => match mend_files(flash, report, bad, trouble) {
+            (flash, Ok(())) => (flash, Ok(Came::Repaired)),
+            (flash, Err(hindrance)) => (flash, Err(hindrance)),
+        },
+        Ok(false) => (flash, Ok(Came::Strange(bad))),
+        Err(Failed) => (flash, Err(Hindrance::Failed)),
     }
 }
 
-// The files first, and then the database in them.
-fn put_files_right<F: Flash>(flash: F, report: &mut Report, trouble: &Trouble) -> (F, Came) {
+// Puts right what a cut left in the files, and then the database.
+fn mend_files<F: Flash>(
+    flash: F,
+    report: &mut Report,
+    bad: BadImage,
+    trouble: &Trouble,
+) -> (F, Result<(), Hindrance>)
+    requires inside { LiesInside (length (F.image flash)) trouble.now }
+    ensures sound { IsTrue F.tells → OnOk result.1 (IsSound (F.image result.0)) }
+    ensures size { length (F.image result.0) ≡ length (F.image flash) }
+    ensures lent { F.lent result.0 ≡ F.lent flash }
+    ensures cause { result.1 ≡ Err FaultOfFlash → Rose (F.faults flash) (F.faults result.0) }
+{
     match mend(flash, trouble) {
-        Ok(flash) => put_database_right(flash, report),
-        Err(MendError::Space { need, flash }) => (flash, Came::Spaceless { need }),
-        Err(MendError::Failed { flash }) => (flash, Came::Failed),
-        Err(MendError::Unsettled { flash, bad }) => (flash, Came::Strange(bad)),
+        Ok(flash) => end_repair(flash, report),
+        Err(MendError::Space { need, flash }) => (flash, Err(Hindrance::Spaceless { need })),
+        Err(MendError::Failed { flash }) => (flash, Err(Hindrance::Failed)),
+        Err(MendError::Unsettled { flash }) => (flash, Err(Hindrance::Unsettled(bad))),
     }
 }
 
-// The image is judged once more behind it.
-fn put_database_right<F: Flash>(flash: F, report: &mut Report) -> (F, Came) {
+// Puts the database right, and judges the image once more behind it.
+fn end_repair<F: Flash>(flash: F, report: &mut Report) -> (F, Result<(), Hindrance>)
+    ensures sound { IsTrue F.tells → OnOk result.1 (IsSound (F.image result.0)) }
+    ensures size { length (F.image result.0) ≡ length (F.image flash) }
+    ensures lent { F.lent result.0 ≡ F.lent flash }
+    ensures cause { result.1 ≡ Err FaultOfFlash → Rose (F.faults flash) (F.faults result.0) }
+{
     match mend_image(flash, report) {
-        (flash, Came::Repaired) => judge_repaired(flash),
-        other => other,
+        (flash, Ok(())) => judge_repaired(flash),
+        (flash, Err(hindrance)) => (flash, Err(hindrance)),
     }
 }
 
-fn judge_repaired<F: Flash>(flash: F) -> (F, Came) {
+fn judge_repaired<F: Flash>(flash: F) -> (F, Result<(), Hindrance>)
+    ensures sound { IsTrue F.tells → OnOk result.1 (IsSound (F.image result.0)) }
+    ensures size { length (F.image result.0) ≡ length (F.image flash) }
+    ensures lent { F.lent result.0 ≡ F.lent flash }
+    ensures cause { result.1 ≡ Err FaultOfFlash → Rose (F.faults flash) (F.faults result.0) }
+{
     let (flash, judged) = judge_image(flash);
     match judged {
-        Ok(Ok(())) => (flash, Came::Repaired),
-        Ok(Err(bad)) => (flash, Came::Strange(bad)),
-        Err(Failed) => (flash, Came::Failed),
+        Ok(Ok(())) => (flash, Ok(())),
+        Ok(Err(bad)) => (flash, Err(Hindrance::Unsettled(bad))),
+        Err(Failed) => (flash, Err(Hindrance::Failed)),
     }
 }
