@@ -1,4 +1,5 @@
 //! What a power cut left of an image is put right: its files stay those that it mends to.
 #![tactic(auto)]
 
+mod joining;
 mod settling;
