@@ -1,10 +1,14 @@
 -- A file that is put together with its log: a new extent, the copy of the file into it, and three flags.
-use Rattle.std.proofs.Common.{◌≡◌, ◌≢◌, ℕ, ◌+◌, ◌-◌, ◌*◌, ◌≤◌, ◌<◌, ◌==◌, List, Some, None, bit_or, refl, ap, sym, subst, ◌∙◌, arith}
+use Rattle.std.proofs.Common.{length, map, true, ◌++◌, replicate, ⊎_elim, ◌≡◌, ◌≢◌, ℕ, ◌+◌, ◌-◌, ◌*◌, ◌≤◌, ◌<◌, ◌==◌, List, Some, None, bit_or, refl, ap, sym, subst, ◌∙◌, arith}
 use Rattle.afl_base.specs.declared.ids.PageId.{PageId}
 use Rattle.coffee_header.specs.Headers.{is_flags}
 use Rattle.coffee_header.specs.declared.header.Header.{Header}
 use Rattle.coffee_layout.specs.FileBytes.{file_byte}
+use Rattle.coffee_layout.specs.Files.{listed}
+use Rattle.coffee_layout.specs.Rules.{broken_image}
 use Rattle.coffee_layout.specs.Tiling.{IsTiled, nowhere, units_of}
+use Rattle.coffee_layout.specs.Units.{pages_of}
+use Rattle.coffee_layout.specs.Walks.{has_few}
 use Rattle.coffee_layout.specs.declared.file.FileAt.{FileAt}
 use Rattle.coffee_layout.specs.declared.unit.Unit.TheVariants.{Extent}
 use Rattle.coffee_merge.specs.Begun.{unit_begun}
@@ -13,7 +17,14 @@ use Rattle.coffee_merge.specs.Holding.{CommitsExtent, Entries, HoldsTable, IsIn,
 use Rattle.coffee_merge.specs.Outcomes.{BeginsFile, CopiesFile}
 use Rattle.coffee_merge.proofs.Commits.{replaced_file, replaced_log, replaces, valid}
 use Rattle.coffee_merge.proofs.Marked.{flagged_extent}
-use Rattle.coffee_mend.specs.Joined.{JoinsFile, joined_at, old_log_header}
+use Rattle.coffee_merge.proofs.Holdings.{is_in_set}
+use Rattle.coffee_merge.proofs.MovedFiles.{held_listed, moves_files}
+use Rattle.coffee_merge.proofs.SoundTables.{sound_few, sound_held, sound_sparing}
+use Rattle.padded.proofs.Facts.{some_same}
+use Rattle.std.specs.List.{Contains}
+use Rattle.std.specs.Prelude.{set}
+use Rattle.std.proofs.lemmas.List.{length-append, length-map, length-set}
+use Rattle.coffee_mend.specs.Joined.{IsJoined, JoinsFile, joined_at, old_log_header}
 
 same_flags : (g h : Header) → Some (Extent g) ≡ Some (Extent h) → g.flags ≡ h.flags
 same_flags g h e = let same : g ≡ h = cc in ap (λ (x : Header). x.flags) same
@@ -55,4 +66,28 @@ joins_file old begun copied new file page log begins copies written table i h is
       gone = ap (λ image. unit_begun (units_of image) 0 log.0) written
           ∙ log_gone (flagged copied page.0 1) file.page.0 log.0 (file_header file) file.name (valid copied table d c.copies.holds).tiled (replaced_file copied table d file i c.copies.holds is) (ap file_flags logged)
           (replaced_log copied table d file i log c.copies.holds is logged);
+    }
+
+-- of a sound image a file that is listed
+pub joined_log : (old new : List ℕ) (file : FileAt) (page log : PageId) → broken_image old ≡ None → 256 * pages_of old ≡ length old → Contains (listed old) file → file.log ≡ Some log
+    → ((table : Entries) (i : ℕ) → HoldsTable old table None → IsIn table i file → file.log ≡ Some log → JoinsFile old new table i file (joined_at file page) log) → IsJoined old new log.0
+joined_log old new file page log sound whole there logged joins =
+    let table : Entries = map Some (listed old) ++ replicate 0 None in
+    let holds : HoldsTable old (map Some (listed old) ++ replicate 0 None) None = sound_held old 0 sound whole in
+    let few = sound_sparing old 0 in
+    let at = held_listed old (map Some (listed old) ++ replicate 0 None) file holds there in
+    let j = joins (map Some (listed old) ++ replicate 0 None) at.0 holds at.1 logged in
+    record {
+      keeps = record {
+        table = set (map Some (listed old) ++ replicate 0 None) at.0 (Some (joined_at file page));
+        holds = j.moves.sets.holds;
+        short = omega (arith, sound_few old sound whole, length-set (map Some (listed old) ++ replicate 0 None) at.0 (Some (joined_at file page)), length-append (map Some (listed old)) (replicate 0 None), length-map (listed old) Some);
+        few = λ i e is. ⊎_elim
+            (λ here. subst (λ (x : FileAt). has_few x ≡ true) (some_same (joined_at file page) e here.1) (few at.0 file sound whole at.1))
+            (λ there. few i e sound whole there.1)
+            (is_in_set (map Some (listed old) ++ replicate 0 None) at.0 (Some (joined_at file page)) i e is);
+        same = moves_files old new (map Some (listed old) ++ replicate 0 None) at.0 file (joined_at file page) holds at.1 j.moves refl refl refl;
+      };
+      name = file.name;
+      gone = j.gone;
     }

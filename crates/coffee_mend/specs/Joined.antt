@@ -1,12 +1,14 @@
 -- A file that was put together with its log, whose extents are obsolete.
-use Rattle.std.specs.Prelude.{◌≡◌, ℕ, List, None, Some}
+use Rattle.std.specs.Prelude.{◌≡◌, ℕ, ◌≤◌, true, List, length, None, Some}
 use Rattle.afl_base.specs.declared.ids.PageId.{PageId}
 use Rattle.coffee_header.specs.declared.header.Header.{Header}
 use Rattle.coffee_layout.specs.Tiling.{units_of}
+use Rattle.coffee_layout.specs.Walks.{has_few}
 use Rattle.coffee_layout.specs.declared.file.FileAt.{FileAt}
 use Rattle.coffee_layout.specs.declared.unit.Unit.TheVariants.{Extent}
 use Rattle.coffee_merge.specs.Begun.{unit_begun}
-use Rattle.coffee_merge.specs.Holding.{Entries, Moves, log_header}
+use Rattle.coffee_merge.specs.Holding.{Entries, HoldsTable, IsIn, Moves, log_header}
+use Rattle.coffee_merge.specs.TableFiles.{SameFiles}
 
 -- the header of a log that is obsolete
 abbrev pub old_log_header : List ℕ → Header
@@ -20,3 +22,17 @@ joined_at file page = record file { page = page; log = None; used = 0 }
 pub record JoinsFile (old new : List ℕ) (table : Entries) (i : ℕ) (from to : FileAt) (log : PageId) : Type 0 where
   pub moves : Moves old new table i from to
   pub gone : unit_begun (units_of new) 0 log.0 ≡ Some (Extent (old_log_header from.name))
+
+-- an image holds a table by which it is sound, and has the files of another
+pub record KeepsFiles (old new : List ℕ) : Type 0 where
+  pub table : Entries
+  pub holds : HoldsTable new table None
+  pub short : length table ≤ 32
+  pub few : (i : ℕ) (e : FileAt) → IsIn table i e → has_few e ≡ true
+  pub same : SameFiles old new
+
+-- and at a page an obsolete log
+pub record IsJoined (old new : List ℕ) (log : ℕ) : Type 0 where
+  pub keeps : KeepsFiles old new
+  pub name : List ℕ
+  pub gone : unit_begun (units_of new) 0 log ≡ Some (Extent (old_log_header name))

@@ -3,10 +3,11 @@ ghost use Rattle.std.specs.List.{All, Contains};
 ghost use Rattle.afl_base.specs.Keeping.{ChangesFlashOrLacks, Programs};
 ghost use Rattle.coffee_find.specs.Found.{HasPage};
 ghost use Rattle.coffee_layout.specs.Files.{FitsIn};
+ghost use Rattle.coffee_layout.specs.Rules.{broken_image};
 ghost use Rattle.coffee_layout.specs.Units.{pages_of};
 ghost use Rattle.coffee_merge.specs.Flags.{flagged, obsoleted};
 ghost use Rattle.coffee_merge.specs.Holding.{Entries, HoldsTable, IsIn, has_shape};
-ghost use Rattle.coffee_mend.specs.Joined.{JoinsFile, joined_at};
+ghost use Rattle.coffee_mend.specs.Joined.{IsJoined, JoinsFile, joined_at};
 
 use crate::settling::mark;
 use afl_base::{Failed, FileError, Flash, Kind, PageId};
@@ -17,6 +18,8 @@ use coffee_merge::{begin_extent, copy_file};
 /// or no file has the log.
 pub(crate) fn join_log<F: Flash>(flash: &mut F, log: PageId) -> Result<bool, FileError>
     requires log { HasPage (length (F.image flash.old)) log.0 }
+    ensures joined { IsTrue F.tells → broken_image (F.image flash.old) ≡ None
+        → IfOk result (λ done. IsTrue done → IsJoined (F.image flash.old) (F.image flash.new) log.0) }
     ensures frame { ChangesFlashOrLacks F.image F.lent F.reads F.faults flash.old flash.new result }
 {
     flash.sectors();
