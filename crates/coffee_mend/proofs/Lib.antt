@@ -1,1 +1,3 @@
 mod Joins
+mod TornRecords
+mod Unblanked
