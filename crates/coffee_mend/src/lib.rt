@@ -2,4 +2,7 @@
 #![tactic(auto)]
 
 mod joining;
+mod mending;
 mod settling;
+
+pub use mending::{MendError, mend};
