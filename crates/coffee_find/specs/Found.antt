@@ -70,6 +70,11 @@ abbrev pub HasRecord : (size : ℕ) → Option TornRecord → Type 0
 HasRecord size None = ⊤
 HasRecord size (Some r) = HasPage size r.log.0 × (r.place + 128 ≤ size)
 
+-- what a cut left lies inside the flash
+pub record LiesInside (size : ℕ) (trouble : Trouble) : Type 0 where
+  pub under_way : LiesIn size trouble.under_way
+  pub torn : HasRecord size trouble.torn
+
 -- what a judgement says of an image
 abbrev pub IsJudged : List ℕ → Judgement → Type 0
 IsJudged image Sound = broken_image image ≡ None
@@ -79,5 +84,5 @@ IsJudged image (Strange bad) = broken_image image ≡ Some bad
 -- what a judgement names lies inside the flash
 abbrev pub IsInside : (size : ℕ) → Judgement → Type 0
 IsInside size Sound = ⊤
-IsInside size (Cut trouble) = LiesIn size trouble.under_way × HasRecord size trouble.torn
+IsInside size (Cut trouble) = LiesInside size trouble
 IsInside size (Strange bad) = ⊤

@@ -1,13 +1,16 @@
 -- What is laid over an image, byte for byte.
 use Rattle.std.proofs.Common.{◌≡◌, ◌≢◌, ℕ, ◌+◌, ◌-◌, ◌*◌, ◌<◌, ◌≤◌, ◌⊎◌, inl, inr, ⊎_elim, List, [], ◌∷◌, ◌++◌, length, take, drop, get_or, set, slice_range, bit_or, Option, Some, None, refl, sym, ap, ◌∙◌, arith}
 use Rattle.std.proofs.lemmas.Bool.{cases_eq, cases_lt}
-use Rattle.std.proofs.lemmas.List.{ext_get_or, length-set, get_or-set_same, get_or-set_other, take_at, drop_at}
+use Rattle.std.proofs.lemmas.List.{ext_get_or, length-set, get_or-set_same, get_or-set_other, length-append, take_at, drop_at}
 use Rattle.afl_base.specs.Image.{or_at, zeros_at}
+use Rattle.std.specs.Option.{option_or}
+use Rattle.std.specs.Prelude.{false, is_some}
+use Rattle.afl_base.specs.declared.ids.PageId.{PageId}
 use Rattle.afl_base.specs.declared.ids.SectorId.{SectorId}
-use Rattle.afl_base.proofs.Images.{length_or_at, length_range, length_zeros_at, or_at_before, or_at_behind, or_at_inside, range_at, zeros_at_before, zeros_at_behind, zeros_at_inside}
+use Rattle.afl_base.proofs.Images.{length_or_at, length_range, length_zeros_at, or_at_before, or_at_behind, or_at_inside, range_at, range_same, zeros_at_before, zeros_at_behind, zeros_at_inside}
 use Rattle.flash_views.specs.declared.overlay.Mark.{Mark}
 use Rattle.flash_views.specs.declared.overlay.Overlay.{Overlay}
-use Rattle.flash_views.specs.Views.{LiesInside, StandAt, blanked, emptied, marked, overlaid}
+use Rattle.flash_views.specs.Views.{IsView, LiesInside, StandAt, blank_code, blanked, code, emptied, mark_code, marked, overlaid, sector_code, spoilt}
 
 -- ---- lengths
 
@@ -119,3 +122,113 @@ fronts_same a b c d same long = (
   sym (take_at a b (length c) (sym long)) ∙ ap (take (length c)) same ∙ take_at c d (length c) refl,
   sym (drop_at a b (length c) (sym long)) ∙ ap (drop (length c)) same ∙ drop_at c d (length c) refl,
 )
+
+-- ---- views
+
+pub length_spoilt : (image : List ℕ) (o : Option PageId) → length (spoilt image o) ≡ length image
+length_spoilt image None = refl
+length_spoilt image (Some p) = length-set image (256 * p.0) (get_or image (256 * p.0) 0 + 1)
+
+pub length_view : (image : List ℕ) (o : Overlay) (s : Option PageId) → LiesInside (length image) o → length (spoilt (overlaid image o) s) ≡ length image
+length_view image o s inside = length_spoilt (overlaid image o) s ∙ length_overlaid image o inside
+
+-- an image of which a page is spoilt is another one
+pub unspoilt : (image : List ℕ) (o : Option PageId) → ((p : PageId) → o ≡ Some p → 256 * p.0 + 256 ≤ length image) → spoilt image o ≡ image → o ≡ None
+unspoilt image None inside same = refl
+unspoilt image (Some p) inside same =
+    let less = inside p refl in
+    let more : get_or image (256 * p.0) 0 + 1 ≡ get_or image (256 * p.0) 0 =
+    sym (get_or-set_same image (256 * p.0) (get_or image (256 * p.0) 0 + 1) 0 (omega (arith, less))) ∙ ap (λ xs. get_or xs (256 * p.0) 0) same in
+    absurd (omega (arith, more))
+
+pub not_some : {A : Type 0} (o : Option A) → is_some o ≡ false → o ≡ None
+not_some None e = refl
+not_some (Some x) e = cc
+
+-- a range that has no byte of the page's front is as it was
+pub spoilt_range : (image : List ℕ) (o : Option PageId) (page : PageId) (a b : ℕ) → ((k : ℕ) → a ≤ k → k < b → k ≢ 256 * page.0)
+    → slice_range (spoilt image (option_or o (Some page))) a b ≡ slice_range (spoilt image o) a b
+spoilt_range image (Some p) page a b out = refl
+spoilt_range image None page a b out =
+    range_same (set image (256 * page.0) (get_or image (256 * page.0) 0 + 1)) image a b (length-set image (256 * page.0) (get_or image (256 * page.0) 0 + 1))
+    (λ k low high. get_or-set_other image (256 * page.0) k (get_or image (256 * page.0) 0 + 1) 0 (out k low high))
+
+-- ---- overlays as numbers
+
+length_mark : (m : Option Mark) → length (mark_code m) ≡ 3
+length_mark None = refl
+length_mark (Some m) = refl
+
+length_sector : (s : Option SectorId) → length (sector_code s) ≡ 2
+length_sector None = refl
+length_sector (Some s) = refl
+
+mark_same : (m n : Option Mark) → mark_code m ≡ mark_code n → m ≡ n
+mark_same None None e = refl
+mark_same None (Some n) e = cc
+mark_same (Some m) None e = cc
+mark_same (Some m) (Some n) e =
+    let page : m.page.0 ≡ n.page.0 = cc in
+    let bits : m.bits ≡ n.bits = cc in
+    ap (λ x. Some (record { page = record { 0 = x }; bits = m.bits })) page ∙ ap (λ x. Some (record { page = n.page; bits = x })) bits
+
+sector_same : (s t : Option SectorId) → sector_code s ≡ sector_code t → s ≡ t
+sector_same None None e = refl
+sector_same None (Some t) e = cc
+sector_same (Some s) None e = cc
+sector_same (Some s) (Some t) e =
+    let same : s.0 ≡ t.0 = cc in
+    ap (λ x. Some (record { 0 = x })) same
+
+blank_same : (s t : Option ℕ) → blank_code s ≡ blank_code t → s ≡ t
+blank_same None None e = refl
+blank_same None (Some t) e = cc
+blank_same (Some s) None e = cc
+blank_same (Some s) (Some t) e = cc
+
+pub code_same : (o p : Overlay) → code o ≡ code p → o ≡ p
+code_same o p e =
+    let first = fronts_same (mark_code o.first) (mark_code o.second ++ (sector_code o.sector ++ blank_code o.blank)) (mark_code p.first) (mark_code p.second ++ (sector_code p.sector ++ blank_code p.blank)) e (length_mark p.first ∙ sym (length_mark o.first)) in
+    let second = fronts_same (mark_code o.second) (sector_code o.sector ++ blank_code o.blank) (mark_code p.second) (sector_code p.sector ++ blank_code p.blank) first.1 (length_mark p.second ∙ sym (length_mark o.second)) in
+    let sector = fronts_same (sector_code o.sector) (blank_code o.blank) (sector_code p.sector) (blank_code p.blank) second.1 (length_sector p.sector ∙ sym (length_sector o.sector)) in
+    let a : o.first ≡ p.first = mark_same o.first p.first first.0 in
+    let b : o.second ≡ p.second = mark_same o.second p.second second.0 in
+    let c : o.sector ≡ p.sector = sector_same o.sector p.sector sector.0 in
+    let d : o.blank ≡ p.blank = blank_same o.blank p.blank sector.1 in
+    ap (λ x. record { first = x; second = o.second; sector = o.sector; blank = o.blank }) a
+    ∙ ap (λ x. record { first = p.first; second = x; sector = o.sector; blank = o.blank }) b
+    ∙ ap (λ x. record { first = p.first; second = p.second; sector = x; blank = o.blank }) c
+    ∙ ap (λ x. record { first = p.first; second = p.second; sector = p.sector; blank = x }) d
+
+pub length_code : (o p : Overlay) → length (code o) ≡ length (code p)
+length_code o p =
+    omega (arith, length-append (mark_code o.first) (mark_code o.second ++ (sector_code o.sector ++ blank_code o.blank)), length-append (mark_code o.second) (sector_code o.sector ++ blank_code o.blank), length-append (sector_code o.sector) (blank_code o.blank),
+    length-append (mark_code p.first) (mark_code p.second ++ (sector_code p.sector ++ blank_code p.blank)), length-append (mark_code p.second) (sector_code p.sector ++ blank_code p.blank), length-append (sector_code p.sector) (blank_code p.blank),
+    length_mark o.first, length_mark o.second, length_sector o.sector, length_blank o.blank, length_mark p.first, length_mark p.second, length_sector p.sector, length_blank p.blank)
+  where
+    length_blank : (s : Option ℕ) → length (blank_code s) ≡ 2
+    length_blank None = refl
+    length_blank (Some s) = refl
+
+-- ---- the flash in a view
+
+-- what a view shows of its flash and its overlay, where it reads as another flash with an overlay
+pub record IsShown (image lent : List ℕ) (o : Overlay) (s : Option PageId) (refused : ℕ) (other held : List ℕ) : Type 0 where
+  pub image_is : image ≡ other
+  pub lent_is : lent ≡ held
+  pub unrefused : refused ≡ 0
+
+pub shown : (image lent other held : List ℕ) (o p : Overlay) (s : Option PageId) (refused : ℕ) → IsView (length image) o s refused → LiesInside (length other) p
+    → spoilt (overlaid image o) s ≡ overlaid other p → code o ++ (image ++ lent) ≡ code p ++ (other ++ held) → IsShown image lent o s refused other held
+shown image lent other held o p s refused v inside same borrowed =
+    let parts = fronts_same (code o) (image ++ lent) (code p) (other ++ held) borrowed (length_code p o) in
+    let over : o ≡ p = code_same o p parts.0 in
+    let long : length other ≡ length image =
+    sym (length_overlaid other p inside) ∙ ap length (sym same) ∙ length_spoilt (overlaid image o) s ∙ length_overlaid image o v.inside in
+    let both = fronts_same image lent other held parts.1 long in
+    let plain : spoilt (overlaid image o) s ≡ overlaid image o = same ∙ ap (λ i. overlaid i p) (sym both.0) ∙ ap (overlaid image) (sym over) in
+    record {
+      image_is = both.0;
+      lent_is = both.1;
+      unrefused = v.unspoilt (unspoilt (overlaid image o) s (λ q e. let h = v.page q e in omega (arith, h, length_overlaid image o v.inside)) plain);
+    }

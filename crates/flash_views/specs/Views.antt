@@ -1,6 +1,7 @@
 -- What a flash over another one reads, and what is seen of it.
-use Rattle.std.specs.Prelude.{◌≡◌, ℕ, ◌+◌, ◌-◌, ◌*◌, ◌^◌, ◌≤◌, ◌<◌, min, List, [], ◌∷◌, length, Option, None, Some, Bool, ◌&&◌, nat_lt, slice_index}
+use Rattle.std.specs.Prelude.{◌≡◌, ℕ, ◌+◌, ◌-◌, ◌*◌, ◌^◌, ◌≤◌, ◌<◌, min, List, [], ◌∷◌, length, Option, None, Some, Bool, ◌&&◌, nat_lt, slice_index, slice_set, ◌++◌}
 use Rattle.afl_base.specs.Image.{or_at, zeros_at}
+use Rattle.afl_base.specs.declared.ids.PageId.{PageId}
 use Rattle.afl_base.specs.declared.ids.SectorId.{SectorId}
 use Rattle.flash_views.specs.declared.overlay.Mark.{Mark}
 use Rattle.flash_views.specs.declared.overlay.Overlay.{Overlay}
@@ -29,16 +30,49 @@ pub record LiesInside (size : ℕ) (o : Overlay) : Type 0 where
   pub sector : (s : SectorId) → o.sector ≡ Some s → 4096 * s.0 + 4096 ≤ size
   pub blank : (place : ℕ) → o.blank ≡ Some place → place + 128 ≤ size
 
+-- the image of which a page can no longer be read, if any: its first byte is more than it was
+abbrev pub spoilt : List ℕ → Option PageId → List ℕ
+spoilt image None = image
+spoilt image (Some page) = slice_set image (256 * page.0) (slice_index image (256 * page.0) + 1)
+
+-- an overlay as ten numbers
+abbrev pub mark_code : Option Mark → List ℕ
+mark_code None = 0 ∷ 0 ∷ 0 ∷ []
+mark_code (Some m) = 1 ∷ m.page.0 ∷ m.bits ∷ []
+
+abbrev pub sector_code : Option SectorId → List ℕ
+sector_code None = 0 ∷ 0 ∷ []
+sector_code (Some s) = 1 ∷ s.0 ∷ []
+
+abbrev pub blank_code : Option ℕ → List ℕ
+blank_code None = 0 ∷ 0 ∷ []
+blank_code (Some place) = 1 ∷ place ∷ []
+
+abbrev pub code : Overlay → List ℕ
+code o = mark_code o.first ++ (mark_code o.second ++ (sector_code o.sector ++ blank_code o.blank))
+
 -- bytes stand in an image from a place on
 pub record StandAt (image : List ℕ) (place : ℕ) (bytes : List ℕ) : Type 0 where
   pub inside : place + length bytes ≤ length image
   pub same : (k : ℕ) → k < length bytes → slice_index bytes k ≡ slice_index image (place + k)
 
--- a flash, what is laid over it, and how many writes were refused
+-- a flash, what is laid over it, the page at which a write was first refused, and how many were refused
 pub record FlashInView (F : Type 0) : Type 0 where
   pub inner : F
   pub overlay : Overlay
+  pub spoilt : Option PageId
   pub refused : ℕ
+
+-- the overlay lies inside the flash, and so does a page that is spoilt. One is where a write was refused
+pub record IsView (size : ℕ) (overlay : Overlay) (spoilt : Option PageId) (refused : ℕ) : Type 0 where
+  pub inside : LiesInside size overlay
+  pub page : (p : PageId) → spoilt ≡ Some p → 256 * p.0 + 256 ≤ size
+  pub unspoilt : spoilt ≡ None → refused ≡ 0
+
+-- a flash holds and borrows what another does
+pub record IsSameFlash {F : Type 0} (holds borrows : F → List ℕ) (flash other : F) : Type 0 where
+  pub image : holds other ≡ holds flash
+  pub lent : borrows other ≡ borrows flash
 
 -- a flash, where the 128 bytes begin that read as zeros, and how many writes were refused
 pub record FlashWithBlank (F : Type 0) : Type 0 where
@@ -53,6 +87,10 @@ one_more refused = min (refused + 1) (2 ^ 64 - 1)
 -- the refusals and the faults of the flash inside, up to the last number of a u64
 abbrev pub all_faults : (refused faults : ℕ) → ℕ
 all_faults refused faults = min (refused + faults) (2 ^ 64 - 1)
+
+-- the same where none is lost: of a view, whose refusals are known
+abbrev pub view_faults : (refused faults : ℕ) → ℕ
+view_faults refused faults = refused + faults
 
 -- n bytes from a place on have one of 128 bytes
 abbrev pub touches : (blank place n : ℕ) → Bool

@@ -1,0 +1,4 @@
+mod UnitWalks
+mod FilesThere
+mod ZeroPages
+mod Insides

@@ -1,0 +1,93 @@
+-- A walk over the units of an image that may break any rule.
+use Rattle.std.proofs.Common.{◌≡◌, ⊎_elim, ℕ, zero, suc, ◌+◌, ◌*◌, ◌≤◌, ◌<◌, false, List, [], ◌∷◌, ◌++◌, get_or, Some, refl, ap, sym, subst, ◌∙◌, arith, append_assoc}
+use Rattle.std.proofs.lemmas.Bool.{cases_lt}
+use Rattle.std.proofs.lemmas.List.{append-nil}
+use Rattle.coffee_cuts.specs.Cuts.{IsIdle}
+use Rattle.coffee_layout.specs.Marks.{active_pages}
+use Rattle.coffee_layout.specs.Tiling.{units_from, units_of}
+use Rattle.coffee_layout.specs.Units.{is_active, pages_of, size_of, total, unit_at}
+use Rattle.coffee_layout.specs.declared.unit.Unit.{Unit}
+use Rattle.coffee_layout.proofs.Frames.{total-append}
+use Rattle.coffee_layout.proofs.MarkLaws.{mark_past}
+use Rattle.coffee_layout.proofs.Tilings.{units_end, units_step}
+use Rattle.coffee_merge.specs.Begun.{unit_begun}
+use Rattle.coffee_merge.proofs.Begun.{HavePages, begun_here, begun_marks, begun_rest}
+use Rattle.coffee_space.proofs.SectorMarks.{any_none}
+use Rattle.coffee_find.specs.Search.{AreIdle}
+
+-- the walk came to a page, and each unit before it has a page
+pub record Walked (image : List ℕ) (at : ℕ) : Type 0 where
+  pub front : List Unit
+  pub turns : ℕ
+  pub enough : pages_of image ≤ at + turns
+  pub whole : units_of image ≡ front ++ units_from turns image at
+  pub pages : HavePages front
+  pub place : total front ≡ at
+
+pub walked_start : (image : List ℕ) → Walked image 0
+unfolding units_of
+walked_start image = record { front = []; turns = pages_of image; enough = omega arith; whole = refl; pages = tt; place = refl }
+
+begun_turn : (image : List ℕ) (at : ℕ) (u : Unit) (front : List Unit) (turns : ℕ) → at < pages_of image → unit_at image at ≡ Some u → pages_of image ≤ at + turns
+    → units_of image ≡ front ++ units_from turns image at → HavePages front → total front ≡ at → unit_begun (units_of image) 0 at ≡ Some u
+begun_turn image at u front zero before is enough whole pages place = absurd (omega (arith, before, enough))
+begun_turn image at u front (suc turns) before is enough whole pages place =
+    ap (λ us. unit_begun us 0 at) (whole ∙ ap (λ us. front ++ us) (units_step turns image at u before is))
+    ∙ begun_rest front (u ∷ units_from turns image (at + size_of u)) 0 at at pages (omega (arith, place)) (omega arith)
+    ∙ begun_here u (units_from turns image (at + size_of u)) at at refl
+
+-- the unit that stands there begins there
+pub walked_begun : (image : List ℕ) (at : ℕ) (u : Unit) → at < pages_of image → unit_at image at ≡ Some u → Walked image at → unit_begun (units_of image) 0 at ≡ Some u
+walked_begun image at u before is w = begun_turn image at u w.front w.turns before is w.enough w.whole w.pages w.place
+
+pages_push : (front : List Unit) (u : Unit) → HavePages front → 1 ≤ size_of u → HavePages (front ++ (u ∷ []))
+pages_push [] u h some = (some, tt)
+pages_push (v ∷ vs) u h some = (h.0, pages_push vs u h.1 some)
+
+step_turn : (image : List ℕ) (at : ℕ) (u : Unit) (front : List Unit) (turns : ℕ) → at < pages_of image → unit_at image at ≡ Some u → 1 ≤ size_of u → pages_of image ≤ at + turns
+    → units_of image ≡ front ++ units_from turns image at → HavePages front → total front ≡ at → Walked image (at + size_of u)
+step_turn image at u front zero before is some enough whole pages place = absurd (omega (arith, before, enough))
+step_turn image at u front (suc turns) before is some enough whole pages place = record {
+  front = front ++ (u ∷ []);
+  turns = turns;
+  enough = omega (arith, enough, some);
+  whole = whole ∙ ap (λ us. front ++ us) (units_step turns image at u before is) ∙ sym (append_assoc front (u ∷ []) (units_from turns image (at + size_of u)));
+  pages = pages_push front u pages some;
+  place = omega (arith, total-append front (u ∷ []), place);
+}
+
+-- and the walk goes on behind it
+pub walked_step : (image : List ℕ) (at : ℕ) (u : Unit) → at < pages_of image → unit_at image at ≡ Some u → 1 ≤ size_of u → Walked image at → Walked image (at + size_of u)
+walked_step image at u before is some w = step_turn image at u w.front w.turns before is some w.enough w.whole w.pages w.place
+
+-- ---- a sector without active pages
+
+-- no page before that is an active one of a sector
+pub record Quiet (image : List ℕ) (sector at : ℕ) : Type 0 where
+  pub walked : Walked image at
+  pub quiet : (q : ℕ) → q < at → 16 * sector ≤ q → q < 16 * sector + 16 → get_or (active_pages (units_of image)) q false ≡ false
+
+pub quiet_start : (image : List ℕ) (sector : ℕ) → Quiet image sector 0
+quiet_start image sector = record { walked = walked_start image; quiet = λ q less a b. absurd (omega (arith, less)) }
+
+pub quiet_step : (image : List ℕ) (sector at next : ℕ) (u : Unit) → at < pages_of image → unit_at image at ≡ Some u → next ≡ at + size_of u → at < next → AreIdle u at next sector
+    → Quiet image sector at → Quiet image sector next
+quiet_step image sector at next u before is behind onward idle w =
+    let begun : unit_begun (units_of image) 0 at ≡ Some u = walked_begun image at u before is w.walked in
+    record {
+      walked = subst (Walked image) (sym behind) (walked_step image at u before is (omega (arith, behind, onward)) w.walked);
+      quiet = λ q less a b. ⊎_elim
+          (λ (old : q < at). w.quiet q old a b)
+          (λ (new : at ≤ q). begun_marks is_active (units_of image) at u q begun new (omega (arith, less, behind)) ∙ idle q new less a b)
+          (cases_lt q at);
+    }
+
+pub quiet_end : (image : List ℕ) (sector at : ℕ) → pages_of image ≤ at → Quiet image sector at → IsIdle (units_of image) sector
+quiet_end image sector at behind w =
+    let walked = w.walked in
+    let all : units_of image ≡ walked.front = walked.whole ∙ ap (λ us. walked.front ++ us) (units_end walked.turns image at behind) ∙ append-nil walked.front in
+    let pages : total (units_of image) ≡ at = ap total all ∙ walked.place in
+    any_none (active_pages (units_of image)) (16 * sector) (16 * sector + 16) (λ q a b. ⊎_elim
+    (λ (less : q < at). w.quiet q less a b)
+    (λ (past : at ≤ q). mark_past is_active (units_of image) q (omega (arith, pages, past)))
+    (cases_lt q at))

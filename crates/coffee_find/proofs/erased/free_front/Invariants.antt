@@ -1,0 +1,12 @@
+use Rattle.std.proofs.Common.{◌≡◌, ◌+◌, ◌*◌, ◌≤◌}
+use Rattle.coffee_layout.specs.Units.{pages_of}
+use Rattle.coffee_find.proofs.erased.free_front.Given as goal
+
+abbrev pub invariant-loop-k : goal.invariant-loop-k
+invariant-loop-k g l = record {
+  same : g.F.Flash.image l.flash ≡ g.F.Flash.image l.fn.flash;
+  lent : g.F.Flash.lent l.flash ≡ g.F.Flash.lent l.fn.flash;
+  reads : g.F.Flash.reads l.flash ≤ g.F.Flash.reads l.fn.flash + l.k * pages_of (g.F.Flash.image l.fn.flash);
+  later : g.F.Flash.reads l.fn.flash ≤ g.F.Flash.reads l.flash;
+  faults : g.F.Flash.faults l.fn.flash ≤ g.F.Flash.faults l.flash;
+}

@@ -1,0 +1,13 @@
+use Rattle.std.proofs.Common.{sym}
+use Rattle.std.proofs.lemmas.Option.{IfSome_then}
+use Rattle.coffee_find.specs.Search.{IsFileIn}
+use Rattle.coffee_find.proofs.twins.find_replaced.Goals as goal
+
+pub returns-in-Some-2-clause-found : goal.returns-in-Some-2-clause-found
+returns-in-Some-2-clause-found g c = λ t.
+    let image = g.F.Flash.image c.args.flash.now in
+    let first : IsFileIn image c.in-Some.file = (rw (c.loop-turn.invariant.same, c.in-Some.is) at (c.in_ok-file.ensures.file t)) in
+    let second : IsFileIn image c.in-Some-2.twin = (rw (c.file_from.ensures.frame.same, c.loop-turn.invariant.same, c.in-Some-2.is) at (c.in_ok-twin.ensures.file t)) in
+    let behind = (rw c.in-Some-2.is at c.in_ok-twin.ensures.behind) in
+    let named = (rw c.in-Some-2.is at c.in_ok-twin.ensures.named) in
+    IfSome_then c.in_order.result c.in_order.ensures.found (λ u f. f image first second behind (sym named))

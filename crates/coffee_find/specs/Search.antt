@@ -1,0 +1,76 @@
+-- What the steps of the search answer.
+use Rattle.std.specs.Prelude.{◌≡◌, ◌≢◌, ◌≤◌, ◌<◌, ⊤, ℕ, ◌+◌, ◌*◌, true, false, List, Option, Some, None}
+use Rattle.std.specs.List.{Contains}
+use Rattle.coffee_cuts.specs.Cuts.{IsActiveAt, IsIdle, next_record}
+use Rattle.coffee_header.specs.declared.header.Header.{Header}
+use Rattle.coffee_layout.specs.FileBytes.{table_of, used_in}
+use Rattle.coffee_layout.specs.Files.{files_in, is_file}
+use Rattle.coffee_layout.specs.Rules.{broken_image}
+use Rattle.coffee_layout.specs.Tiling.{units_of}
+use Rattle.coffee_layout.specs.Units.{is_active}
+use Rattle.coffee_layout.specs.declared.unit.Unit.{Unit}
+use Rattle.coffee_layout.specs.declared.unit.Unit.TheVariants.{Extent, Free}
+use Rattle.coffee_merge.specs.Begun.{unit_begun}
+use Rattle.coffee_find.specs.Found.{HasRecord, placed}
+use Rattle.coffee_find.specs.declared.trouble.PlacedFile.{PlacedFile}
+use Rattle.coffee_find.specs.declared.settling.Verdict.{Verdict}
+use Rattle.coffee_find.specs.declared.settling.Verdict.TheVariants.{Sound, Torn, Broken}
+
+-- where a unit with these pages has one in a sector, it is not active
+abbrev pub AreIdle : Unit → (page next sector : ℕ) → Type 0
+AreIdle u page next sector = (q : ℕ) → page ≤ q → q < next → 16 * sector ≤ q → q < 16 * sector + 16 → is_active u ≡ false
+
+-- the next record of an active log begins at a place
+pub record IsNextRecord (image : List ℕ) (log place : ℕ) : Type 0 where
+  pub is_log : IsActiveAt image log 19
+  pub free : used_in (table_of image log) < 30
+  pub next : place ≡ next_record image log
+
+-- an image is sound, or a record of it may be torn, or else nothing is known
+abbrev pub IsVerdict : List ℕ → Verdict → Type 0
+IsVerdict image Sound = broken_image image ≡ None
+IsVerdict image (Torn r) = IsNextRecord image r.log.0 r.place
+IsVerdict image Broken = ⊤
+
+-- the record that may be torn lies inside the flash
+abbrev pub HasTorn : (size : ℕ) → Verdict → Type 0
+HasTorn size Sound = ⊤
+HasTorn size (Torn r) = HasRecord size (Some r)
+HasTorn size Broken = ⊤
+
+-- a unit is an extent with these flags
+pub record HasFlags (u : Unit) (flags : ℕ) : Type 0 where
+  pub header : Header
+  pub is : u ≡ Extent header
+  pub flags_are : header.flags ≡ flags
+
+-- an active file stands in an image
+abbrev pub IsFileIn : List ℕ → PlacedFile → Type 0
+IsFileIn image f = Contains (files_in (units_of image)) (placed f)
+
+-- a unit at a page is an active file
+pub record IsFileAt (u : Unit) (page : ℕ) (f : PlacedFile) : Type 0 where
+  pub at : f.page.0 ≡ page
+  pub is : u ≡ Extent f.header
+  pub active : is_file (placed f) ≡ true
+
+-- the first page of a sector at which a unit begins is free, and the sector has no active page
+pub record IsFront (image : List ℕ) (sector page : ℕ) : Type 0 where
+  pub begins : unit_begun (units_of image) 0 page ≡ Some Free
+  pub idle : IsIdle (units_of image) sector
+
+-- a page lies in a sector
+pub record LiesInSector (sector page : ℕ) : Type 0 where
+  pub from : 16 * sector ≤ page
+  pub within : page < 16 * sector + 16
+
+-- a unit is an extent without pages
+pub record IsEmpty (u : Unit) : Type 0 where
+  pub header : Header
+  pub is : u ≡ Extent header
+  pub empty : header.max_pages ≡ 0
+
+-- a name is the one that is looked for, if one is
+abbrev pub IsWanted : Option (List ℕ) → List ℕ → Type 0
+IsWanted None name = ⊤
+IsWanted (Some wanted) name = name ≡ wanted

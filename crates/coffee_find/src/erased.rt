@@ -1,0 +1,164 @@
+ghost use Rattle.std.specs.Prelude.{◌≡◌, ℕ, ◌+◌, ◌*◌, ◌≤◌, ◌<◌, true, length, Some, IsTrue, IfOk, IfSome};
+ghost use Rattle.afl_base.specs.Image.{zeros_at};
+ghost use Rattle.afl_base.specs.Keeping.{OnlyReads};
+ghost use Rattle.coffee_cuts.specs.Cuts.{IsFound, IsHeadless};
+ghost use Rattle.coffee_find.specs.Found.{HasPage, LiesIn, meant};
+ghost use Rattle.coffee_find.specs.Search.{IsEmpty, IsFront, LiesInSector};
+ghost use Rattle.coffee_layout.specs.Tiling.{units_of};
+ghost use Rattle.coffee_layout.specs.Units.{pages_of};
+ghost use Rattle.coffee_layout.specs.declared.unit.Unit.TheVariants.{Free};
+ghost use Rattle.coffee_merge.specs.Begun.{unit_begun};
+
+use crate::trouble::UnderWay;
+use crate::walks::{begun, is_idle};
+use crate::zeros::are_zero;
+use afl_base::{Failed, Flash, PageId, SectorId};
+use coffee_layout::{Unit, next_unit};
+use flash_views::{Overlay, View};
+
+/// The sector of a page, where that was being erased.
+pub(crate) fn find_erased<F: Flash>(
+    flash: F,
+    page: PageId,
+) -> (F, Result<Option<UnderWay>, Failed>)
+    ensures found { IsTrue F.tells → IfOk result.1
+        (λ o. IfSome o (λ u. IsFound (F.image flash) (meant u))) }
+    ensures inside { IfOk result.1 (λ o. IfSome o (λ u. LiesIn (length (F.image flash)) u)) }
+    ensures reads { F.reads result.0 ≤ F.reads flash + 17 * pages_of (F.image flash) + 18 }
+    ensures frame { OnlyReads F.image F.lent F.reads F.faults flash result.0 result.1 }
+{
+    let sector = SectorId(page.0 / 16);
+    if flash.sectors() <= sector.0 {
+        return (flash, Ok(None));
+    }
+    let (flash, front) = erased_front(flash, sector);
+    match front {
+        Ok(Some(page)) => {
+            let mut flash = flash;
+            let found = find_blank(&mut flash, sector, page);
+            (flash, found)
+        }
+        Ok(None) => (flash, Ok(None)),
+        Err(failed) => (flash, Err(failed)),
+    }
+}
+
+// The first page of a sector at which a unit begins once the sector is erased, where no active extent
+// has a page in it then.
+fn erased_front<F: Flash>(flash: F, sector: SectorId) -> (F, Result<Option<PageId>, Failed>)
+    requires sector { 4096 * sector.0 + 4096 ≤ length (F.image flash) }
+    ensures front { IsTrue F.tells → IfOk result.1 (λ o. IfSome o
+        (λ p. IsFront (zeros_at (F.image flash) (4096 * sector.0) 4096) sector.0 p.0)) }
+    ensures inside { IfOk result.1 (λ o. IfSome o (λ p. LiesInSector sector.0 p.0)) }
+    ensures reads { F.reads result.0 ≤ F.reads flash + 17 * pages_of (F.image flash) }
+    ensures frame { OnlyReads F.image F.lent F.reads F.faults flash result.0 result.1 }
+{
+    let overlay = Overlay {
+        first: None,
+        second: None,
+        sector: Some(sector),
+        blank: None,
+    };
+    let mut view = View::new(flash, overlay);
+    let front = idle_front(&mut view, sector);
+    (view.into_flash(), front)
+}
+
+// The first page of a sector at which a free page begins, where the sector has no active page.
+fn idle_front<F: Flash>(flash: &mut F, sector: SectorId) -> Result<Option<PageId>, Failed>
+    requires sector { 4096 * sector.0 + 4096 ≤ length (F.image flash.old) }
+    ensures front { IsTrue F.tells → IfOk result
+        (λ o. IfSome o (λ p. IsFront (F.image flash.old) sector.0 p.0)) }
+    ensures inside { IfOk result (λ o. IfSome o (λ p. LiesInSector sector.0 p.0)) }
+    ensures reads { F.reads flash.new ≤ F.reads flash.old + 17 * pages_of (F.image flash.old) }
+    ensures frame { OnlyReads F.image F.lent F.reads F.faults flash.old flash.new result }
+{
+    let Some(page) = free_front(flash, sector)? else {
+        return Ok(None);
+    };
+    if is_idle(flash, sector)? {
+        Ok(Some(page))
+    } else {
+        Ok(None)
+    }
+}
+
+fn free_front<F: Flash>(flash: &mut F, sector: SectorId) -> Result<Option<PageId>, Failed>
+    requires sector { 4096 * sector.0 + 4096 ≤ length (F.image flash.old) }
+    ensures begins { IsTrue F.tells → IfOk result (λ o. IfSome o
+        (λ p. unit_begun (units_of (F.image flash.old)) 0 p.0 ≡ Some Free)) }
+    ensures inside { IfOk result (λ o. IfSome o (λ p. LiesInSector sector.0 p.0)) }
+    ensures reads { F.reads flash.new ≤ F.reads flash.old + 16 * pages_of (F.image flash.old) }
+    ensures frame { OnlyReads F.image F.lent F.reads F.faults flash.old flash.new result }
+{
+    flash.sectors();
+    for k in 0..16u16 {
+        let page = PageId(16 * sector.0 + k);
+        if is_free_at(flash, page)? {
+            return Ok(Some(page));
+        }
+    }
+    Ok(None)
+}
+
+// Whether a free page begins at a page.
+fn is_free_at<F: Flash>(flash: &mut F, page: PageId) -> Result<bool, Failed>
+    ensures free { IsTrue F.tells → IfOk result
+        (λ r. r ≡ true → unit_begun (units_of (F.image flash.old)) 0 page.0 ≡ Some Free) }
+    ensures reads { F.reads flash.new ≤ F.reads flash.old + pages_of (F.image flash.old) }
+    ensures frame { OnlyReads F.image F.lent F.reads F.faults flash.old flash.new result }
+{
+    match begun(flash, page)? {
+        Some(unit) => Ok(unit.is_free()),
+        None => Ok(false),
+    }
+}
+
+// The sector, where it is zero up to a page in it, and that is blank.
+fn find_blank<F: Flash>(flash: &mut F, sector: SectorId, page: PageId) -> Result<Option<UnderWay>, Failed>
+    requires sector { 4096 * sector.0 + 4096 ≤ length (F.image flash.old) }
+    requires page { LiesInSector sector.0 page.0 }
+    ensures found { IsTrue F.tells → IfOk result (λ o. IfSome o (λ u.
+        IsFront (zeros_at (F.image flash.old) (4096 * sector.0) 4096) sector.0 page.0 → IsFound (F.image flash.old) (meant u))) }
+    ensures inside { IfOk result (λ o. IfSome o (λ u. LiesIn (length (F.image flash.old)) u)) }
+    ensures reads { F.reads flash.new ≤ F.reads flash.old + 18 }
+    ensures frame { OnlyReads F.image F.lent F.reads F.faults flash.old flash.new result }
+{
+    if !are_zero(flash, 16 * sector.0, page.0)? {
+        return Ok(None);
+    }
+    if !is_headless(flash, page)? {
+        return Ok(None);
+    }
+    Ok(Some(UnderWay::Erasing { sector, page }))
+}
+
+// Whether no header of an extent with pages stands at a page: true only where byte 9 is 0, as no
+// header's is, or the extent has no pages.
+fn is_headless<F: Flash>(flash: &mut F, page: PageId) -> Result<bool, Failed>
+    requires page { HasPage (length (F.image flash.old)) page.0 }
+    ensures blank { IsTrue F.tells → IfOk result (λ r. r ≡ true → IsHeadless (F.image flash.old) page.0) }
+    ensures reads { F.reads flash.new ≤ F.reads flash.old + 2 }
+    ensures frame { OnlyReads F.image F.lent F.reads F.faults flash.old flash.new result }
+{
+    let mut ninth = [0; 1];
+    flash.read(page, 9, &mut ninth)?;
+    if ninth[0] == 0 {
+        return Ok(true);
+    }
+    match next_unit(flash, page)? {
+        Some(unit) => Ok(has_no_pages(&unit)),
+        None => Ok(false),
+    }
+}
+
+// Whether a unit is an extent without pages.
+fn has_no_pages(unit: &Unit) -> bool
+    ensures { result ≡ true → IsEmpty unit.now }
+{
+    match unit {
+        Unit::Free => false,
+        Unit::Isolated => false,
+        Unit::Extent(header) => header.max_pages == 0,
+    }
+}

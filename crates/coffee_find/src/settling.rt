@@ -1,0 +1,161 @@
+ghost use Rattle.std.specs.Prelude.{◌≡◌, ℕ, ◌+◌, ◌*◌, ◌≤◌, true, length, Some, None, IsTrue, IfOk, IfSome};
+ghost use Rattle.afl_base.specs.Keeping.{OnlyReads};
+ghost use Rattle.afl_base.specs.Image.{zeros_at};
+ghost use Rattle.coffee_cuts.specs.Cuts.{IsActiveAt, settled};
+ghost use Rattle.coffee_find.specs.Found.{HasPage, HasRecord, IsSoundBut, LiesIn, LiesInside, meant};
+ghost use Rattle.coffee_find.specs.Search.{HasFlags, HasTorn, IsVerdict};
+ghost use Rattle.coffee_layout.specs.Rules.{broken_image};
+ghost use Rattle.coffee_layout.specs.Units.{is_active_flags, pages_of};
+ghost use Rattle.flash_views.specs.Views.{blanked};
+
+use crate::overlays::overlay_of;
+use crate::trouble::{TornRecord, Trouble, UnderWay};
+use crate::walks::begun;
+use afl_base::{Failed, Flash, PageId};
+use coffee_layout::{Table, Unit, check, read_table, records_used};
+use flash_views::View;
+
+// What is said of an image.
+#[derive(Clone, Copy)]
+pub(crate) enum Verdict {
+    Sound,
+    // It breaks a rule, and a record may be torn.
+    Torn(TornRecord),
+    // It breaks a rule.
+    Broken,
+}
+
+// Judges an image, and says which record may be torn where rule 12 is the first that is broken.
+pub(crate) fn judged<F: Flash>(flash: &mut F, table: &mut Table) -> Result<Verdict, Failed>
+    ensures verdict { IsTrue F.tells → IfOk result (λ v. IsVerdict (F.image flash.old) v) }
+    ensures inside { IfOk result (λ v. HasTorn (length (F.image flash.old)) v) }
+    ensures reads { F.reads flash.new ≤ F.reads flash.old + 401 * pages_of (F.image flash.old) + 1 }
+    ensures frame { OnlyReads F.image F.lent F.reads F.faults flash.old flash.new result }
+{
+    match check(flash, table)? {
+        Ok(()) => Ok(Verdict::Sound),
+        Err(bad) => if bad.rule == 12 {
+            torn_record(flash, PageId(bad.place))
+        } else {
+            Ok(Verdict::Broken)
+        },
+    }
+}
+
+// The next record of the active log that begins at a page.
+fn torn_record<F: Flash>(flash: &mut F, log: PageId) -> Result<Verdict, Failed>
+    ensures verdict { IsTrue F.tells → IfOk result (λ v. IsVerdict (F.image flash.old) v) }
+    ensures inside { IfOk result (λ v. HasTorn (length (F.image flash.old)) v) }
+    ensures reads { F.reads flash.new ≤ F.reads flash.old + pages_of (F.image flash.old) + 1 }
+    ensures frame { OnlyReads F.image F.lent F.reads F.faults flash.old flash.new result }
+{
+    if !is_active_at(flash, log, 19)? {
+        return Ok(Verdict::Broken);
+    }
+    let size = 4096 * u32::from(flash.sectors());
+    let mut table = [0; 60];
+    read_table(flash, log.0, &mut table)?;
+    let used = records_used(&table) as u32;
+    let place = 256 * u32::from(log.0) + 96 + 128 * used;
+    if used == 30 || size < place + 128 {
+        return Ok(Verdict::Broken);
+    }
+    Ok(Verdict::Torn(TornRecord { log, place }))
+}
+
+// Whether an active extent with these flags begins at a page.
+fn is_active_at<F: Flash>(flash: &mut F, page: PageId, flags: u8) -> Result<bool, Failed>
+    requires active { is_active_flags flags ≡ true }
+    ensures active { IsTrue F.tells → IfOk result
+        (λ r. r ≡ true → IsActiveAt (F.image flash.old) page.0 flags) }
+    ensures inside { IfOk result (λ r. r ≡ true → HasPage (length (F.image flash.old)) page.0) }
+    ensures reads { F.reads flash.new ≤ F.reads flash.old + pages_of (F.image flash.old) }
+    ensures frame { OnlyReads F.image F.lent F.reads F.faults flash.old flash.new result }
+{
+    match begun(flash, page)? {
+        Some(unit) => Ok(has_flags(&unit, flags)),
+        None => Ok(false),
+    }
+}
+
+// Whether a unit is an extent with these flags.
+fn has_flags(unit: &Unit, flags: u8) -> bool
+    ensures { result ≡ true → HasFlags unit.now flags }
+{
+    match unit {
+        Unit::Free => false,
+        Unit::Isolated => false,
+        Unit::Extent(header) => header.flags == flags,
+    }
+}
+
+// Judges what an image is once what was under way is settled, and 128 bytes are zero besides.
+fn settled_verdict<F: Flash>(
+    flash: F,
+    under_way: &UnderWay,
+    blank: Option<u32>,
+    table: &mut Table,
+) -> (F, Result<Verdict, Failed>)
+    requires lies { LiesIn (length (F.image flash)) under_way.now }
+    requires blank { (p : ℕ) → blank ≡ Some p → p + 128 ≤ length (F.image flash) }
+    ensures verdict { IsTrue F.tells → IfOk result.1
+        (λ v. IsVerdict (blanked (settled (F.image flash) (meant under_way.now)) blank) v) }
+    ensures inside { IfOk result.1 (λ v. HasTorn (length (F.image flash)) v) }
+    ensures reads { F.reads result.0 ≤ F.reads flash + 401 * pages_of (F.image flash) + 1 }
+    ensures frame { OnlyReads F.image F.lent F.reads F.faults flash result.0 result.1 }
+{
+    let mut view = View::new(flash, overlay_of(under_way, blank));
+    let found = judged(&mut view, table);
+    (view.into_flash(), found)
+}
+
+/// What a cut left of an image in which this was under way: None where the image is not sound once
+/// that is settled, a torn record aside.
+pub(crate) fn settle<F: Flash>(
+    flash: F,
+    under_way: UnderWay,
+    table: &mut Table,
+) -> (F, Result<Option<Trouble>, Failed>)
+    requires lies { LiesIn (length (F.image flash)) under_way }
+    ensures settles { IsTrue F.tells → IfOk result.1 (λ o. IfSome o
+        (λ t. (t.under_way ≡ under_way) × IsSoundBut (settled (F.image flash) (meant under_way)) t.torn)) }
+    ensures inside { IfOk result.1 (λ o. IfSome o (λ t. LiesInside (length (F.image flash)) t)) }
+    ensures reads { F.reads result.0 ≤ F.reads flash + 802 * pages_of (F.image flash) + 2 }
+    ensures frame { OnlyReads F.image F.lent F.reads F.faults flash result.0 result.1 }
+{
+    let (flash, judged) = settled_verdict(flash, &under_way, None, table);
+    match judged {
+        Ok(Verdict::Sound) => (flash, Ok(Some(Trouble { under_way, torn: None }))),
+        Ok(Verdict::Torn(record)) => settle_torn(flash, under_way, record, table),
+        Ok(Verdict::Broken) => (flash, Ok(None)),
+        Err(failed) => (flash, Err(failed)),
+    }
+}
+
+// The same, where a record may be torn.
+fn settle_torn<F: Flash>(
+    flash: F,
+    under_way: UnderWay,
+    torn: TornRecord,
+    table: &mut Table,
+) -> (F, Result<Option<Trouble>, Failed>)
+    requires lies { LiesIn (length (F.image flash)) under_way }
+    requires inside { HasRecord (length (F.image flash)) (Some torn) }
+    ensures settles { IsTrue F.tells → IfOk result.1 (λ o. IfSome o
+        (λ t. (t ≡ record { under_way = under_way; torn = Some torn })
+        × (broken_image (zeros_at (settled (F.image flash) (meant under_way)) torn.place 128) ≡ None))) }
+    ensures is { IfOk result.1 (λ o. IfSome o (λ t. t ≡ record { under_way = under_way; torn = Some torn })) }
+    ensures reads { F.reads result.0 ≤ F.reads flash + 401 * pages_of (F.image flash) + 1 }
+    ensures frame { OnlyReads F.image F.lent F.reads F.faults flash result.0 result.1 }
+{
+    let (flash, judged) = settled_verdict(flash, &under_way, Some(torn.place), table);
+    match judged {
+        Ok(Verdict::Sound) => {
+            let torn = Some(torn);
+            (flash, Ok(Some(Trouble { under_way, torn })))
+        }
+        Ok(Verdict::Torn(_)) => (flash, Ok(None)),
+        Ok(Verdict::Broken) => (flash, Ok(None)),
+        Err(failed) => (flash, Err(failed)),
+    }
+}
