@@ -202,9 +202,23 @@ code_same o p e =
 
 pub length_code : (o p : Overlay) → length (code o) ≡ length (code p)
 length_code o p =
-    omega (arith, length-append (mark_code o.first) (mark_code o.second ++ (sector_code o.sector ++ blank_code o.blank)), length-append (mark_code o.second) (sector_code o.sector ++ blank_code o.blank), length-append (sector_code o.sector) (blank_code o.blank),
-    length-append (mark_code p.first) (mark_code p.second ++ (sector_code p.sector ++ blank_code p.blank)), length-append (mark_code p.second) (sector_code p.sector ++ blank_code p.blank), length-append (sector_code p.sector) (blank_code p.blank),
-    length_mark o.first, length_mark o.second, length_sector o.sector, length_blank o.blank, length_mark p.first, length_mark p.second, length_sector p.sector, length_blank p.blank)
+    omega (
+      arith,
+      length-append (mark_code o.first) (mark_code o.second ++ (sector_code o.sector ++ blank_code o.blank)),
+      length-append (mark_code o.second) (sector_code o.sector ++ blank_code o.blank),
+      length-append (sector_code o.sector) (blank_code o.blank),
+      length-append (mark_code p.first) (mark_code p.second ++ (sector_code p.sector ++ blank_code p.blank)),
+      length-append (mark_code p.second) (sector_code p.sector ++ blank_code p.blank),
+      length-append (sector_code p.sector) (blank_code p.blank),
+      length_mark o.first,
+      length_mark o.second,
+      length_sector o.sector,
+      length_blank o.blank,
+      length_mark p.first,
+      length_mark p.second,
+      length_sector p.sector,
+      length_blank p.blank,
+    )
   where
     length_blank : (s : Option ℕ) → length (blank_code s) ≡ 2
     length_blank None = refl

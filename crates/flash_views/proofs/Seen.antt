@@ -1,7 +1,7 @@
 -- What a call that only reads a view keeps of the flash inside.
-use Rattle.std.proofs.Common.{◌≡◌, ℕ, ◌≤◌, List, subst, sym, arith}
+use Rattle.std.proofs.Common.{◌≡◌, ℕ, List, subst, sym, arith}
 use Rattle.std.specs.Prelude.{OnErr, Result}
-use Rattle.afl_base.specs.Causes.{HasCause, Rose}
+use Rattle.afl_base.specs.Causes.{Rose}
 use Rattle.afl_base.specs.Keeping.{OnlyReads}
 use Rattle.flash_views.specs.Views.{IsSameFlash}
 

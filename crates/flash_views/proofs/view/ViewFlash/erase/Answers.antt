@@ -1,5 +1,4 @@
-use Rattle.std.proofs.Common.{◌≡◌, ◌≢◌, ℕ, ◌+◌, ◌*◌, ◌≤◌, ◌<◌, length, arith, rules}
-use Rattle.afl_base.specs.Image.{sector_bytes}
+use Rattle.std.proofs.Common.{◌+◌, ◌*◌, ◌≤◌, ◌<◌, length, arith, rules}
 use Rattle.flash_views.specs.Views.{overlaid, spoilt}
 use Rattle.flash_views.proofs.Overlays.{length_view, spoilt_range}
 use Rattle.flash_views.proofs.view.ViewFlash.erase.Goals as goal

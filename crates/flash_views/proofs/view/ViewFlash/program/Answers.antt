@@ -1,4 +1,4 @@
-use Rattle.std.proofs.Common.{◌≡◌, ◌≢◌, ℕ, ◌+◌, ◌*◌, ◌≤◌, length, arith}
+use Rattle.std.proofs.Common.{◌+◌, ◌*◌, ◌≤◌, length, arith}
 use Rattle.flash_views.specs.Views.{overlaid, spoilt}
 use Rattle.flash_views.proofs.Overlays.{length_view, spoilt_range}
 use Rattle.flash_views.proofs.view.ViewFlash.program.Goals as goal
