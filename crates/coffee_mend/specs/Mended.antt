@@ -40,14 +40,19 @@ OnSpace (Space need flash) P = P need flash
 OnSpace (Failed flash) P = ⊤
 OnSpace (Unsettled flash) P = ⊤
 
--- the count never falls, and the flash failed only where the count rose
+-- P, unless the image is not what was found
+abbrev pub UnlessUnsettled : {F : Type 0} → MendError F → Type 0 → Type 0
+UnlessUnsettled (Space need flash) P = P
+UnlessUnsettled (Failed flash) P = P
+UnlessUnsettled (Unsettled flash) P = ⊤
+
+-- the count of faults has not fallen, unless the image is not what was found, and the flash failed only where it rose
 pub record HasMendCause {F : Type 0} (before now : ℕ) (error : MendError F) : Type 0 where
-  pub later : before ≤ now
+  pub later : UnlessUnsettled error (before ≤ now)
   pub failed : OnFailed error (Rose before now)
 
--- the flash that is handed back is of the size that it had, borrows what it borrowed, and failed only where it counted a fault
-pub record HandsBack {F : Type 0} (image : F → List ℕ) (borrows : F → List ℕ) (reads faults : F → ℕ) (old new : F) : Type 0 where
+-- the flash that is handed back has the size that it had, and borrows what it borrowed
+pub record HandsBack {F : Type 0} (image : F → List ℕ) (borrows : F → List ℕ) (reads : F → ℕ) (old new : F) : Type 0 where
   pub size : length (image new) ≡ length (image old)
   pub lent : borrows new ≡ borrows old
-  pub read_later : reads old ≤ reads new
-  pub fault_later : faults old ≤ faults new
+  pub later : reads old ≤ reads new

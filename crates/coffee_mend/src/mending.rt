@@ -1,8 +1,7 @@
-ghost use Rattle.std.specs.Prelude.{◌≡◌, ℕ, ◌+◌, ◌*◌, ◌≤◌, Some, length, IsTrue, IfOk, IfErr, MatchResult};
-ghost use Rattle.afl_base.specs.Causes.{Rose};
+ghost use Rattle.std.specs.Prelude.{◌≡◌, ℕ, ◌+◌, ◌*◌, ◌≤◌, Some, length, IsTrue, IfOk, MatchResult};
 ghost use Rattle.afl_base.specs.Image.{zeros_at};
 ghost use Rattle.coffee_find.specs.Found.{HasRecord, IsCutBy, IsTorn, LiesIn};
-ghost use Rattle.coffee_mend.specs.Mended.{HandsBack, IsMended, IsSoundAs, OnFailed, flash_of};
+ghost use Rattle.coffee_mend.specs.Mended.{HandsBack, HasMendCause, IsMended, IsSoundAs, flash_of};
 
 use crate::joining::join_log;
 use crate::settling::settle;
@@ -27,9 +26,11 @@ pub fn mend<F: Flash>(mut flash: F, trouble: &Trouble) -> Result<F, MendError<F>
     ensures mended { IsTrue F.tells → IsCutBy (F.image flash) trouble.now
         → IfOk result (λ f. IsMended (F.image flash) (F.image f)) }
     ensures back { MatchResult result
-        (λ f. HandsBack F.image F.lent F.reads F.faults flash f)
-        (λ e. HandsBack F.image F.lent F.reads F.faults flash (flash_of e)) }
-    ensures cause { IfErr result (λ e. OnFailed e (Rose (F.faults flash) (F.faults (flash_of e)))) }
+        (λ f. HandsBack F.image F.lent F.reads flash f)
+        (λ e. HandsBack F.image F.lent F.reads flash (flash_of e)) }
+    ensures cause { MatchResult result
+        (λ f. F.faults flash ≤ F.faults f)
+        (λ e. HasMendCause (F.faults flash) (F.faults (flash_of e)) e) }
 {
     let Ok(()) = settle(&mut flash, &trouble.under_way) else {
         return Err(MendError::Failed { flash });
@@ -46,28 +47,23 @@ fn join_torn<F: Flash>(flash: F, torn: &TornRecord) -> Result<F, MendError<F>>
     ensures joined { IsTrue F.tells → IsTorn (F.image flash) torn.now.log.0 torn.now.place
         → IfOk result (λ f. IsSoundAs (zeros_at (F.image flash) torn.now.place 128) (F.image f)) }
     ensures back { MatchResult result
-        (λ f. HandsBack F.image F.lent F.reads F.faults flash f)
-        (λ e. HandsBack F.image F.lent F.reads F.faults flash (flash_of e)) }
-    ensures cause { IfErr result (λ e. OnFailed e (Rose (F.faults flash) (F.faults (flash_of e)))) }
+        (λ f. HandsBack F.image F.lent F.reads flash f)
+        (λ e. HandsBack F.image F.lent F.reads flash (flash_of e)) }
+    ensures cause { MatchResult result
+        (λ f. F.faults flash ≤ F.faults f)
+        (λ e. HasMendCause (F.faults flash) (F.faults (flash_of e)) e) }
 {
     let mut blanked = Blanked::new(flash, torn.place);
     let joined = join_log(&mut blanked, torn.log);
-    let refused = blanked.refused() != 0;
+    let refused = blanked.has_refused();
     let flash = blanked.into_flash();
+    if refused {
+        return Err(MendError::Unsettled { flash });
+    }
     match joined {
         Ok(true) => Ok(flash),
         Ok(false) => Err(MendError::Unsettled { flash }),
         Err(FileError::Space { need }) => Err(MendError::Space { need, flash }),
-        Err(FileError::Failed) => Err(failed(flash, refused)),
-    }
-}
-
-// The error of a call that failed: the flash failed, or it was asked for bytes that read as zeros.
-fn failed<F>(flash: F, refused: bool) -> MendError<F>
-{
-    if refused {
-        MendError::Unsettled { flash }
-    } else {
-        MendError::Failed { flash }
+        Err(FileError::Failed) => Err(MendError::Failed { flash }),
     }
 }
