@@ -1,5 +1,5 @@
 -- A unit that is an active file is one of the files of its image.
-use Rattle.std.proofs.Common.{◌≡◌, ◌⊎◌, inl, inr, ℕ, suc, List, [], ◌∷◌, Some, ap, sym, subst, ◌∙◌, arith}
+use Rattle.std.proofs.Common.{◌≡◌, inl, inr, ℕ, suc, List, [], ◌∷◌, Some, ap, ◌∙◌, arith}
 use Rattle.std.specs.List.{Contains}
 use Rattle.coffee_layout.specs.Files.{Placed, extents, is_file}
 use Rattle.coffee_layout.specs.Tiling.{units_of}

@@ -1,5 +1,5 @@
 -- That overlays lie inside a flash.
-use Rattle.std.proofs.Common.{◌≡◌, ℕ, ◌+◌, ◌*◌, ◌≤◌, None, Some, subst}
+use Rattle.std.proofs.Common.{ℕ, ◌+◌, ◌*◌, ◌≤◌, None, Some, subst}
 use Rattle.afl_base.specs.declared.ids.SectorId.{SectorId}
 use Rattle.padded.proofs.Facts.{some_same}
 use Rattle.flash_views.specs.Views.{LiesInside}

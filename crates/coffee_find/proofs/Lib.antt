@@ -1,4 +1,4 @@
-mod UnitWalks
 mod FilesThere
-mod ZeroPages
 mod Insides
+mod UnitWalks
+mod ZeroPages

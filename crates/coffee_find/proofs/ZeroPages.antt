@@ -1,5 +1,5 @@
 -- Pages that are all zero, one behind the other.
-use Rattle.std.proofs.Common.{◌≡◌, ℕ, ◌+◌, ◌-◌, ◌*◌, ◌≤◌, true, List, drop, refl, ap, sym, subst, slice_range, take, ◌∙◌, arith}
+use Rattle.std.proofs.Common.{◌≡◌, ℕ, ◌+◌, ◌-◌, ◌*◌, ◌≤◌, true, List, drop, ap, sym, slice_range, take, ◌∙◌, arith}
 use Rattle.padded.specs.Zeros.{is_zeros}
 use Rattle.coffee_layout.proofs.Zeros.{zeros_more}
 

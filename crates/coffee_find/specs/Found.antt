@@ -1,9 +1,8 @@
 -- What a cut left of an image: what was found, in the words of its definition, and that it lies inside the flash.
-use Rattle.std.specs.Prelude.{◌≡◌, ◌≢◌, ⊤, ◌≤◌, ◌<◌, ℕ, ◌+◌, ◌*◌, List, length, Option, Some, None}
+use Rattle.std.specs.Prelude.{◌≡◌, ◌≢◌, ⊤, ◌≤◌, ◌<◌, ℕ, ◌+◌, ◌*◌, List, Option, Some, None}
 use Rattle.afl_base.specs.Image.{zeros_at}
 use Rattle.afl_base.specs.declared.ids.PageId.{PageId}
 use Rattle.coffee_cuts.specs.Cuts.{IsActiveAt, IsFound, UnderWay as CutWay, Beginning as was_beginning, Building as was_building, Erasing as was_erasing, Naming as was_naming, Nothing as was_nothing, Replacing as was_replacing, Unnamed as was_unnamed, next_record, settled}
-use Rattle.coffee_header.specs.declared.header.Header.{Header}
 use Rattle.coffee_layout.specs.FileBytes.{table_of, used_in}
 use Rattle.coffee_layout.specs.Files.{Placed, log_of}
 use Rattle.coffee_layout.specs.Rules.{broken_image}

@@ -1,5 +1,5 @@
 -- What the steps of the search answer.
-use Rattle.std.specs.Prelude.{◌≡◌, ◌≢◌, ◌≤◌, ◌<◌, ⊤, ℕ, ◌+◌, ◌*◌, true, false, List, Option, Some, None}
+use Rattle.std.specs.Prelude.{◌≡◌, ◌≤◌, ◌<◌, ⊤, ℕ, ◌+◌, ◌*◌, true, false, List, Option, Some, None}
 use Rattle.std.specs.List.{Contains}
 use Rattle.coffee_cuts.specs.Cuts.{IsActiveAt, IsIdle, next_record}
 use Rattle.coffee_header.specs.declared.header.Header.{Header}

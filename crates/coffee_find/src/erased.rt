@@ -17,10 +17,7 @@ use coffee_layout::{Unit, next_unit};
 use flash_views::{Overlay, View};
 
 /// The sector of a page, where that was being erased.
-pub(crate) fn find_erased<F: Flash>(
-    flash: F,
-    page: PageId,
-) -> (F, Result<Option<UnderWay>, Failed>)
+pub(crate) fn find_erased<F: Flash>(flash: F, page: PageId) -> (F, Result<Option<UnderWay>, Failed>)
     ensures found { IsTrue F.tells → IfOk result.1
         (λ o. IfSome o (λ u. IsFound (F.image flash) (meant u))) }
     ensures inside { IfOk result.1 (λ o. IfSome o (λ u. LiesIn (length (F.image flash)) u)) }
@@ -115,7 +112,11 @@ fn is_free_at<F: Flash>(flash: &mut F, page: PageId) -> Result<bool, Failed>
 }
 
 // The sector, where it is zero up to a page in it, and that is blank.
-fn find_blank<F: Flash>(flash: &mut F, sector: SectorId, page: PageId) -> Result<Option<UnderWay>, Failed>
+fn find_blank<F: Flash>(
+    flash: &mut F,
+    sector: SectorId,
+    page: PageId,
+) -> Result<Option<UnderWay>, Failed>
     requires sector { 4096 * sector.0 + 4096 ≤ length (F.image flash.old) }
     requires page { LiesInSector sector.0 page.0 }
     ensures found { IsTrue F.tells → IfOk result (λ o. IfSome o (λ u.

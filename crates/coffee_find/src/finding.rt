@@ -7,8 +7,8 @@ ghost use Rattle.coffee_layout.specs.Units.{pages_of};
 ghost use Rattle.coffee_merge.specs.Begun.{unit_begun};
 
 use crate::erased::find_erased;
-use crate::trouble::UnderWay;
 use crate::torn_header::find_torn_header;
+use crate::trouble::UnderWay;
 use crate::twins::find_replaced;
 use crate::walks::begun;
 use afl_base::{Failed, Flash, PageId};

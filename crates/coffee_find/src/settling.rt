@@ -125,7 +125,13 @@ pub(crate) fn settle<F: Flash>(
 {
     let (flash, judged) = settled_verdict(flash, &under_way, None, table);
     match judged {
-        Ok(Verdict::Sound) => (flash, Ok(Some(Trouble { under_way, torn: None }))),
+        Ok(Verdict::Sound) => (
+            flash,
+            Ok(Some(Trouble {
+                under_way,
+                torn: None,
+            })),
+        ),
         Ok(Verdict::Torn(record)) => settle_torn(flash, under_way, record, table),
         Ok(Verdict::Broken) => (flash, Ok(None)),
         Err(failed) => (flash, Err(failed)),

@@ -18,7 +18,10 @@ use coffee_layout::{Unit, next_unit};
 use flash_views::{Mark, Overlay, View};
 
 /// A header that was being written at a page.
-pub(crate) fn find_torn_header<F: Flash>(flash: F, page: PageId) -> (F, Result<Option<UnderWay>, Failed>)
+pub(crate) fn find_torn_header<F: Flash>(
+    flash: F,
+    page: PageId,
+) -> (F, Result<Option<UnderWay>, Failed>)
     ensures found { IsTrue F.tells → IfOk result.1
         (λ o. IfSome o (λ u. IsFound (F.image flash) (meant u))) }
     ensures inside { IfOk result.1 (λ o. IfSome o (λ u. LiesIn (length (F.image flash)) u)) }

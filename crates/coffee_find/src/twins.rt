@@ -90,7 +90,10 @@ fn wanted_file(page: u16, unit: &Unit, from: u16, name: &Option<Name>) -> Option
     match unit {
         Unit::Free => None,
         Unit::Isolated => None,
-        Unit::Extent(header) => if from <= page && is_file(header) && is_wanted(&header.name, name) {
+        Unit::Extent(header) => if from <= page
+            && is_file(header)
+            && is_wanted(&header.name, name)
+        {
             Some(PlacedFile {
                 page: PageId(page),
                 header: *header,

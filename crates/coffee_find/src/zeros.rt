@@ -23,4 +23,3 @@ pub(crate) fn are_zero<F: Flash>(flash: &mut F, from: u16, to: u16) -> Result<bo
     }
     Ok(true)
 }
-

@@ -1,7 +1,4 @@
 use Rattle.std.proofs.Common.{None, Some, length, arith, ap, ◌∙◌}
-use Rattle.afl_base.specs.declared.ids.SectorId.{SectorId}
-use Rattle.padded.proofs.Facts.{some_same}
-use Rattle.flash_views.specs.Views.{LiesInside}
 use Rattle.flash_views.specs.declared.overlay.Overlay.{Overlay}
 use Rattle.flash_views.proofs.Overlays.{length_overlaid}
 use Rattle.coffee_find.proofs.Insides.{sector_inside}

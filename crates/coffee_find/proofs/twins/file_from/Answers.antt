@@ -1,5 +1,5 @@
-use Rattle.std.proofs.Common.{◌≡◌, ◌+◌, ◌*◌, Some, rules, arith, sym, subst}
-use Rattle.coffee_layout.specs.Units.{size_of, unit_at}
+use Rattle.std.proofs.Common.{◌≡◌, Some, rules, arith, sym, subst}
+use Rattle.coffee_layout.specs.Units.{unit_at}
 use Rattle.coffee_find.proofs.FilesThere.{file_there}
 use Rattle.coffee_find.proofs.UnitWalks.{Walked, walked_begun, walked_start, walked_step}
 use Rattle.coffee_find.proofs.twins.file_from.Goals as goal

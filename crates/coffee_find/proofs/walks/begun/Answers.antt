@@ -1,6 +1,6 @@
-use Rattle.std.proofs.Common.{◌≡◌, ◌+◌, ◌*◌, Some, rules, arith, sym, subst}
+use Rattle.std.proofs.Common.{◌≡◌, Some, rules, arith, sym, subst}
 use Rattle.coffee_layout.specs.Tiling.{units_of}
-use Rattle.coffee_layout.specs.Units.{size_of, unit_at}
+use Rattle.coffee_layout.specs.Units.{unit_at}
 use Rattle.coffee_merge.specs.Begun.{unit_begun}
 use Rattle.coffee_find.proofs.UnitWalks.{Walked, walked_begun, walked_start, walked_step}
 use Rattle.coffee_find.proofs.walks.begun.Goals as goal

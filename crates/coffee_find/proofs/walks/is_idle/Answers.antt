@@ -1,6 +1,5 @@
-use Rattle.std.proofs.Common.{◌≡◌, ◌+◌, ◌*◌, Some, refl, rules, arith, sym, subst}
+use Rattle.std.proofs.Common.{◌≡◌, Some, rules, arith, sym}
 use Rattle.coffee_layout.specs.Units.{unit_at}
-use Rattle.coffee_find.specs.Search.{AreIdle}
 use Rattle.coffee_find.proofs.UnitWalks.{quiet_end, quiet_start, quiet_step}
 use Rattle.coffee_find.proofs.walks.is_idle.Goals as goal
 
