@@ -1,17 +1,15 @@
 -- An image that is sound but for a torn record has the files that it has where the record is zero.
-use Rattle.std.proofs.Common.{◌≡◌, ◌≢◌, inl, inr, ⊎_elim, ℕ, ◌+◌, ◌-◌, ◌*◌, ◌/◌, ◌%◌, ◌≤◌, ◌<◌, false, true, List, [], ◌∷◌, length, map, take, get_or, replicate, ◌++◌, Option, Some, None, refl, ap, sym, subst, ◌∙◌, arith}
+use Rattle.std.proofs.Common.{◌≡◌, ◌≢◌, inl, inr, ⊎_elim, ℕ, ◌+◌, ◌*◌, ◌/◌, ◌%◌, ◌≤◌, ◌<◌, false, List, [], ◌∷◌, length, map, take, get_or, Option, Some, None, refl, ap, sym, ◌∙◌, arith}
 use Rattle.std.proofs.lemmas.Bool.{cases_eq, cases_lt}
 use Rattle.afl_base.specs.Image.{page_bytes, zeros_at}
 use Rattle.afl_base.specs.declared.ids.PageId.{PageId}
-use Rattle.afl_base.specs.declared.kind.Kind.{Kind}
 use Rattle.afl_base.proofs.Images.{length_zeros_at, range_in_page, range_same, zeros_at_range}
 use Rattle.coffee_header.specs.declared.header.Header.{Header}
-use Rattle.coffee_layout.specs.FileBytes.{extent_place, file_byte, file_bytes, last_in, number_in, place_or, record_place, table_of, used_in}
-use Rattle.coffee_layout.specs.Files.{NamedFile, Placed, entry_of, extents, files_in, files_of, kind_of, log_of, named_file}
-use Rattle.coffee_layout.specs.Tiling.{IsTiled, nowhere, units_of}
-use Rattle.coffee_layout.specs.Units.{pages_of, total, unit_at, unit_of}
+use Rattle.coffee_layout.specs.FileBytes.{extent_place, file_byte, file_bytes, last_in, place_or, record_place, table_of, used_in}
+use Rattle.coffee_layout.specs.Files.{NamedFile, Placed, entry_of, files_in, files_of, kind_of, named_file}
+use Rattle.coffee_layout.specs.Tiling.{nowhere, units_of}
+use Rattle.coffee_layout.specs.Units.{pages_of, unit_at, unit_of}
 use Rattle.coffee_layout.specs.declared.file.FileAt.{FileAt}
-use Rattle.coffee_layout.specs.declared.unit.Unit.{Unit}
 use Rattle.coffee_layout.specs.declared.unit.Unit.TheVariants.{Extent}
 use Rattle.coffee_layout.proofs.Frames.{unit_at_same}
 use Rattle.coffee_layout.proofs.Spelling.{spells_file, spelt_file}
@@ -26,8 +24,7 @@ use Rattle.coffee_merge.proofs.SoundLogs.{used_is}
 use Rattle.coffee_merge.proofs.SoundRules.{KeepsRules, log_fields, sound_rules}
 use Rattle.coffee_merge.proofs.SoundTables.{sound_held}
 use Rattle.coffee_merge.proofs.SoundUnits.{Among, begun_extent}
-use Rattle.coffee_cuts.specs.Cuts.{next_record}
-use Rattle.coffee_cuts.proofs.Reached.{IsReached, begun_at, reach, same_unit}
+use Rattle.coffee_cuts.proofs.Reached.{IsReached, begun_at, reach}
 use Rattle.coffee_find.specs.Found.{IsTorn}
 use Rattle.padded.proofs.Facts.{eq_true}
 use Rattle.coffee_mend.proofs.Unblanked.{away, others, same_units}

@@ -1,8 +1,7 @@
 -- An image of which 128 bytes of an extent read as zeros, and the image itself.
-use Rattle.std.proofs.Common.{◌≡◌, ◌≢◌, inl, inr, ⊎_elim, ℕ, ◌+◌, ◌*◌, ◌/◌, ◌≤◌, ◌<◌, false, true, List, ◌∷◌, ◌++◌, length, get_or, Some, None, refl, ap, sym, subst, ◌∙◌, arith}
-use Rattle.std.proofs.lemmas.Bool.{cases_eq, cases_lt}
+use Rattle.std.proofs.Common.{◌≡◌, ◌≢◌, ⊎_elim, ℕ, ◌+◌, ◌*◌, ◌/◌, ◌≤◌, ◌<◌, false, List, length, get_or, Some, None, refl, ap, sym, subst, ◌∙◌, arith}
+use Rattle.std.proofs.lemmas.Bool.{cases_lt}
 use Rattle.afl_base.specs.Image.{zeros_at}
-use Rattle.afl_base.specs.declared.ids.PageId.{PageId}
 use Rattle.afl_base.proofs.Images.{length_zeros_at, zeros_at_before, zeros_at_behind}
 use Rattle.coffee_header.specs.declared.header.Header.{Header}
 use Rattle.coffee_layout.specs.Rules.{broken_image}
@@ -14,7 +13,7 @@ use Rattle.coffee_layout.proofs.Frames.{content_stays}
 use Rattle.coffee_merge.specs.Begun.{active_at, unit_begun}
 use Rattle.coffee_merge.specs.Holding.{Entries, HoldsTable, IsIn, Stays, file_header, log_header}
 use Rattle.coffee_merge.specs.TableFiles.{SameFiles}
-use Rattle.coffee_merge.proofs.Begun.{active_begun, begun_apart, begun_split}
+use Rattle.coffee_merge.proofs.Begun.{begun_apart, begun_split}
 use Rattle.coffee_merge.proofs.Holdings.{file_unit, holds_pages, holds_tiled, log_unit}
 use Rattle.coffee_merge.proofs.Kept.{KeepsBody, bodies_kept, body_stored, holds_units}
 use Rattle.coffee_merge.proofs.MovedFiles.{stays_files}

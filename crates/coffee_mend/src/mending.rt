@@ -1,6 +1,6 @@
 ghost use Rattle.std.specs.Prelude.{◌≡◌, ℕ, ◌+◌, ◌*◌, ◌≤◌, Some, length, IsTrue, IfOk, MatchResult};
 ghost use Rattle.afl_base.specs.Image.{zeros_at};
-ghost use Rattle.coffee_find.specs.Found.{HasRecord, IsCutBy, IsTorn, LiesIn};
+ghost use Rattle.coffee_find.specs.Found.{HasRecord, IsCutBy, IsTorn, LiesInside};
 ghost use Rattle.coffee_mend.specs.Mended.{HandsBack, HasMendCause, IsMended, IsSoundAs, flash_of};
 
 use crate::joining::join_log;
@@ -21,8 +21,7 @@ pub enum MendError<F> {
 
 /// Puts right what a cut left of an image: it is sound then, and has just the files that it mends to.
 pub fn mend<F: Flash>(mut flash: F, trouble: &Trouble) -> Result<F, MendError<F>>
-    requires under_way { LiesIn (length (F.image flash)) trouble.now.under_way }
-    requires torn { HasRecord (length (F.image flash)) trouble.now.torn }
+    requires inside { LiesInside (length (F.image flash)) trouble.now }
     ensures mended { IsTrue F.tells → IsCutBy (F.image flash) trouble.now
         → IfOk result (λ f. IsMended (F.image flash) (F.image f)) }
     ensures back { MatchResult result
@@ -32,6 +31,7 @@ pub fn mend<F: Flash>(mut flash: F, trouble: &Trouble) -> Result<F, MendError<F>
         (λ f. F.faults flash ≤ F.faults f)
         (λ e. HasMendCause (F.faults flash) (F.faults (flash_of e)) e) }
 {
+    flash.sectors();
     let Ok(()) = settle(&mut flash, &trouble.under_way) else {
         return Err(MendError::Failed { flash });
     };
