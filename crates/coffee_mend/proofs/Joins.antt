@@ -24,7 +24,14 @@ use Rattle.padded.proofs.Facts.{some_same}
 use Rattle.std.specs.List.{Contains}
 use Rattle.std.specs.Prelude.{set}
 use Rattle.std.proofs.lemmas.List.{length-append, length-map, length-set}
-use Rattle.coffee_mend.specs.Joined.{IsJoined, JoinsFile, joined_at, old_log_header}
+use Rattle.afl_base.specs.FileErrors.{OnSpace}
+use Rattle.afl_base.specs.declared.kind.FileError.{FileError}
+use Rattle.afl_base.specs.declared.kind.FileError.TheVariants.{Space, Failed}
+use Rattle.std.specs.Prelude.{Result, Ok, Err}
+use Rattle.coffee_merge.specs.Outcomes.{LeavesAll}
+use Rattle.coffee_merge.proofs.MovedFiles.{stays_files}
+use Rattle.coffee_merge.proofs.SoundLogs.{used_is}
+use Rattle.coffee_mend.specs.Joined.{LacksRoom, IsJoined, JoinsFile, joined_at, old_log_header}
 
 same_flags : (g h : Header) → Some (Extent g) ≡ Some (Extent h) → g.flags ≡ h.flags
 same_flags g h e = let same : g ≡ h = cc in ap (λ (x : Header). x.flags) same
@@ -90,4 +97,31 @@ joined_log old new file page log sound whole there logged joins =
       };
       name = file.name;
       gone = j.gone;
+    }
+
+-- an error of a call that is handed on
+pub space_on : {T U : Type 0} (r : Result T FileError) (q : Result U FileError) (e : FileError) (P Q : ℕ → Type 0) → r ≡ Err e → q ≡ Err e → ((need : ℕ) → P need → Q need) → OnSpace r P → OnSpace q Q
+space_on r (Ok x) e P Q was is more p = tt
+space_on r (Err Failed) e P Q was is more p = tt
+space_on r (Err (Space need)) e P Q was is more p = let same : e ≡ Space need = cc in more need (rw (was ∙ ap (λ x. Err x) same) at p)
+
+-- of a sound image, where no pages are had for a file that is listed
+pub lacks_room : (old new : List ℕ) (file : FileAt) (log : PageId) (need : ℕ) → broken_image old ≡ None → 256 * pages_of old ≡ length old → Contains (listed old) file → file.log ≡ Some log
+    → ((table : Entries) → HoldsTable old table None → LeavesAll old new table need) → LacksRoom old new log.0 need
+lacks_room old new file log need sound whole there logged leaves =
+    let holds : HoldsTable old (map Some (listed old) ++ replicate 0 None) None = sound_held old 0 sound whole in
+    let at = held_listed old (map Some (listed old) ++ replicate 0 None) file holds there in
+    let l = leaves (map Some (listed old) ++ replicate 0 None) holds in
+    record {
+      keeps = record {
+        table = map Some (listed old) ++ replicate 0 None;
+        holds = l.stays.holds;
+        short = omega (arith, sound_few old sound whole, length-append (map Some (listed old)) (replicate 0 None), length-map (listed old) Some);
+        few = λ i e is. sound_sparing old 0 i e sound whole is;
+        same = stays_files old new (map Some (listed old) ++ replicate 0 None) holds l.stays;
+      };
+      name = file.name;
+      stands = l.stays.holds.logs at.0 file log at.1 logged;
+      used = used_is new log.0 file.used ((l.stays.holds.stored at.0 file at.1).file.logged log logged) ∙ sym (used_is old log.0 file.used ((holds.stored at.0 file at.1).file.logged log logged));
+      cramped = l.cramped;
     }

@@ -1,13 +1,15 @@
 ghost use Rattle.std.specs.Prelude.{◌≡◌, ◌≢◌, ◌+◌, ◌*◌, ◌≤◌, ℕ, true, None, Some, length, IsTrue, IfOk, IfSome, OnOk};
 ghost use Rattle.std.specs.List.{All, Contains};
 ghost use Rattle.afl_base.specs.Keeping.{ChangesFlashOrLacks, Programs};
+ghost use Rattle.afl_base.specs.FileErrors.{OnSpace};
 ghost use Rattle.coffee_find.specs.Found.{HasPage};
 ghost use Rattle.coffee_layout.specs.Files.{FitsIn};
 ghost use Rattle.coffee_layout.specs.Rules.{broken_image};
 ghost use Rattle.coffee_layout.specs.Units.{pages_of};
 ghost use Rattle.coffee_merge.specs.Flags.{flagged, obsoleted};
 ghost use Rattle.coffee_merge.specs.Holding.{Entries, HoldsTable, IsIn, has_shape};
-ghost use Rattle.coffee_mend.specs.Joined.{IsJoined, JoinsFile, joined_at};
+ghost use Rattle.coffee_merge.specs.Outcomes.{LeavesAll};
+ghost use Rattle.coffee_mend.specs.Joined.{IsJoined, JoinsFile, LacksRoom, joined_at};
 
 use crate::settling::mark;
 use afl_base::{Failed, FileError, Flash, Kind, PageId};
@@ -20,6 +22,8 @@ pub(crate) fn join_log<F: Flash>(flash: &mut F, log: PageId) -> Result<bool, Fil
     requires log { HasPage (length (F.image flash.old)) log.0 }
     ensures joined { IsTrue F.tells → broken_image (F.image flash.old) ≡ None
         → IfOk result (λ done. IsTrue done → IsJoined (F.image flash.old) (F.image flash.new) log.0) }
+    ensures left { IsTrue F.tells → broken_image (F.image flash.old) ≡ None
+        → OnSpace result (λ need. LacksRoom (F.image flash.old) (F.image flash.new) log.0 need) }
     ensures frame { ChangesFlashOrLacks F.image F.lent F.reads F.faults flash.old flash.new result }
 {
     flash.sectors();
@@ -67,6 +71,9 @@ fn join_file<F: Flash>(flash: &mut F, file: &FileAt, log: PageId) -> Result<Page
         (λ page. (table : Entries) (i : ℕ) → HoldsTable (F.image flash.old) table None
         → IsIn table i file.now → file.now.log ≡ Some log
         → JoinsFile (F.image flash.old) (F.image flash.new) table i file.now (joined_at file.now page) log) }
+    ensures left { IsTrue F.tells → OnSpace result
+        (λ need. (table : Entries) → HoldsTable (F.image flash.old) table None
+        → LeavesAll (F.image flash.old) (F.image flash.new) table need) }
     ensures frame { ChangesFlashOrLacks F.image F.lent F.reads F.faults flash.old flash.new result }
 {
     let page = begin_extent(flash, &file.name, file.kind, file.pages)?;
