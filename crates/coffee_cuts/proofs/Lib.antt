@@ -1,3 +1,3 @@
-mod Reached
-mod SettledImages
-mod SoundImages
+pub mod Reached
+pub mod SettledImages
+pub mod SoundImages

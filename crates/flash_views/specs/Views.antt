@@ -84,13 +84,9 @@ pub record FlashWithBlank (F : Type 0) : Type 0 where
 abbrev pub one_more : ℕ → ℕ
 one_more refused = min (refused + 1) (2 ^ 64 - 1)
 
--- the refusals and the faults of the flash inside, up to the last number of a u64
+-- the refusals, and the faults of the flash inside
 abbrev pub all_faults : (refused faults : ℕ) → ℕ
-all_faults refused faults = min (refused + faults) (2 ^ 64 - 1)
-
--- the same where none is lost: of a view, whose refusals are known
-abbrev pub view_faults : (refused faults : ℕ) → ℕ
-view_faults refused faults = refused + faults
+all_faults refused faults = refused + faults
 
 -- n bytes from a place on have one of 128 bytes
 abbrev pub touches : (blank place n : ℕ) → Bool

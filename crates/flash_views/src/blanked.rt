@@ -26,7 +26,7 @@ impl<F: Flash> Model for Blanked<F> {
 }
 
 impl<F: Flash> Blanked<F> {
-    ghost use Rattle.std.specs.Prelude.{◌≡◌, ◌+◌, ◌≤◌, length, is_err, true};
+    ghost use Rattle.std.specs.Prelude.{◌≡◌, ◌+◌, ◌≤◌, length, is_err, false, true};
     ghost use Rattle.flash_views.specs.Views.{one_more, touches};
 
     /// A flash over `flash`, of which the 128 bytes from `place` on read as zeros.
@@ -56,11 +56,12 @@ impl<F: Flash> Blanked<F> {
         inner
     }
 
-    /// How many programs were refused, since they asked for one of the 128 bytes.
-    pub fn refused(&self) -> u64
-        ensures { result ≡ self.now.refused }
+    /// Whether a program was refused, since it asked for one of the 128 bytes.
+    pub fn has_refused(&self) -> bool
+        ensures none { result ≡ false → self.now.refused ≡ 0 }
+        ensures some { result ≡ true → 1 ≤ self.now.refused }
     {
-        self.refused
+        self.refused != 0
     }
 
     // Whether `n` bytes from `from` on have one of the 128 bytes.

@@ -89,7 +89,7 @@ impl<F: Flash> View<F> {
 
 impl<F: Flash> Flash for View<F> {
     ghost use Rattle.std.specs.Prelude.{◌++◌, false};
-    ghost use Rattle.flash_views.specs.Views.{code, overlaid, spoilt, view_faults};
+    ghost use Rattle.flash_views.specs.Views.{all_faults, code, overlaid, spoilt};
 
     ghost tells = { F.tells };
 
@@ -97,7 +97,7 @@ impl<F: Flash> Flash for View<F> {
 
     ghost image = { λ f. spoilt (overlaid (F.image f.inner) f.overlay) f.spoilt };
 
-    ghost faults = { λ f. view_faults f.refused (F.faults f.inner) };
+    ghost faults = { λ f. all_faults f.refused (F.faults f.inner) };
 
     ghost reads = { λ f. F.reads f.inner };
 

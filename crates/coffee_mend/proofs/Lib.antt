@@ -1,0 +1,4 @@
+mod Joins
+mod Mends
+mod TornRecords
+mod Unblanked

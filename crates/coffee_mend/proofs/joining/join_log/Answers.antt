@@ -1,0 +1,38 @@
+use Rattle.std.proofs.Common.{◌≡◌, ◌∙◌, length, ap, sym, subst, arith}
+use Rattle.std.specs.List.{Contains}
+use Rattle.coffee_layout.specs.Files.{listed}
+use Rattle.coffee_layout.specs.Rules.{broken_image}
+use Rattle.coffee_mend.specs.Joined.{IsJoined, LacksRoom}
+use Rattle.coffee_mend.proofs.Joins.{joined_log, lacks_room, space_on}
+use Rattle.std.proofs.lemmas.Result.{err_from_is_err_and}
+use Rattle.std.specs.Prelude.{Err, None}
+use Rattle.coffee_merge.specs.Holding.{Entries, HoldsTable}
+use Rattle.coffee_merge.specs.Outcomes.{LeavesAll}
+use Rattle.coffee_mend.proofs.joining.join_log.Goals as goal
+
+pub returns-clause-joined : goal.returns-clause-joined
+returns-clause-joined g c = λ told sound done.
+    let old = g.F.Flash.image c.args.flash.now in
+    let mid = g.F.Flash.image c.check.new.flash in
+    let new = g.F.Flash.image c.join_file.new.flash in
+    let same : mid ≡ old = c.in_ok-check.ensures.frame.same in
+    let judged = rw c.in-Ok.is at (c.in_ok-check.ensures.judged told) in
+    let there : Contains (listed mid) c.in-Some.file = subst (λ xs. Contains xs c.in-Some.file) (c.deref.ensures.0 ∙ judged.1 ∙ ap listed (sym same)) c.in-Some.ensures.listed in
+    subst (λ i. IsJoined i new c.args.log.0) same
+    (joined_log mid new c.in-Some.file c.in_ok-join_file.field-0 c.args.log (ap broken_image same ∙ sound) (omega (arith, ap length same, c.sectors.ensures.size)) there c.in-Some.ensures.log
+    (c.in_ok-join_file.ensures.joined told))
+
+pub returns-in_err-join_file-clause-left : goal.returns-in_err-join_file-clause-left
+returns-in_err-join_file-clause-left g c = λ told sound.
+    let old = g.F.Flash.image c.args.flash.now in
+    let mid = g.F.Flash.image c.check.new.flash in
+    let new = g.F.Flash.image c.join_file.new.flash in
+    let same : mid ≡ old = c.in_ok-check.ensures.frame.same in
+    let judged = rw c.in-Ok.is at (c.in_ok-check.ensures.judged told) in
+    let there : Contains (listed mid) c.in-Some.file = subst (λ xs. Contains xs c.in-Some.file) (c.deref.ensures.0 ∙ judged.1 ∙ ap listed (sym same)) c.in-Some.ensures.listed in
+    let said = err_from_is_err_and c.from_residual-in_err-join_file.result c.from_residual-in_err-join_file.ensures.1 in
+    space_on c.join_file.result c.from_residual-in_err-join_file.result c.in_err-join_file.field-0.0 (λ need. (table : Entries) → HoldsTable mid table None → LeavesAll mid new table need)
+    (λ need. LacksRoom old new c.args.log.0 need) c.in_err-join_file.was (said.1 ∙ ap (λ e. Err e) said.2)
+    (λ need leaves. subst (λ i. LacksRoom i new c.args.log.0 need) same
+    (lacks_room mid new c.in-Some.file c.args.log need (ap broken_image same ∙ sound) (omega (arith, ap length same, c.sectors.ensures.size)) there c.in-Some.ensures.log leaves))
+    (c.join_file.ensures.left told)

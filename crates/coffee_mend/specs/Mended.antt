@@ -1,0 +1,58 @@
+-- What mending makes of an image, and why it could not.
+use Rattle.std.specs.Prelude.{◌≡◌, ⊤, ℕ, ◌≤◌, List, length, None}
+use Rattle.std.specs.List.{Contains}
+use Rattle.afl_base.specs.Causes.{Rose}
+use Rattle.coffee_cuts.specs.Cuts.{MendsTo}
+use Rattle.coffee_layout.specs.Files.{NamedFile, files_of}
+use Rattle.coffee_layout.specs.Rules.{broken_image}
+use Rattle.coffee_merge.specs.TableFiles.{SameFiles}
+use Rattle.coffee_mend.specs.declared.mending.MendError.{MendError}
+use Rattle.coffee_mend.specs.declared.mending.MendError.TheVariants.{Space, Failed, Unsettled}
+
+-- an image is sound, and has the files of another
+pub record IsSoundAs (old new : List ℕ) : Type 0 where
+  pub sound : broken_image new ≡ None
+  pub same : SameFiles old new
+
+-- an image is sound, and has just the files that another mends to
+pub record IsMended (old new : List ℕ) : Type 0 where
+  pub files : List NamedFile
+  pub mends : MendsTo old files
+  pub sound : broken_image new ≡ None
+  pub kept : (f : NamedFile) → Contains files f → Contains (files_of new) f
+  pub only : (f : NamedFile) → Contains (files_of new) f → Contains files f
+
+-- the flash that is handed back
+abbrev pub flash_of : {F : Type 0} → MendError F → F
+flash_of (Space need flash) = flash
+flash_of (Failed flash) = flash
+flash_of (Unsettled flash) = flash
+
+-- P, where the error is that the flash failed
+abbrev pub OnFailed : {F : Type 0} → MendError F → Type 0 → Type 0
+OnFailed (Space need flash) P = ⊤
+OnFailed (Failed flash) P = P
+OnFailed (Unsettled flash) P = ⊤
+
+-- P of the pages that are lacking, and of the flash, where that is the error
+abbrev pub OnSpace : {F : Type 0} → MendError F → (ℕ → F → Type 0) → Type 0
+OnSpace (Space need flash) P = P need flash
+OnSpace (Failed flash) P = ⊤
+OnSpace (Unsettled flash) P = ⊤
+
+-- P, unless the image is not what was found
+abbrev pub UnlessUnsettled : {F : Type 0} → MendError F → Type 0 → Type 0
+UnlessUnsettled (Space need flash) P = P
+UnlessUnsettled (Failed flash) P = P
+UnlessUnsettled (Unsettled flash) P = ⊤
+
+-- the count of faults has not fallen, unless the image is not what was found, and the flash failed only where it rose
+pub record HasMendCause {F : Type 0} (before now : ℕ) (error : MendError F) : Type 0 where
+  pub later : UnlessUnsettled error (before ≤ now)
+  pub failed : OnFailed error (Rose before now)
+
+-- the flash that is handed back has the size that it had, and borrows what it borrowed
+pub record HandsBack {F : Type 0} (image : F → List ℕ) (borrows : F → List ℕ) (reads : F → ℕ) (old new : F) : Type 0 where
+  pub size : length (image new) ≡ length (image old)
+  pub lent : borrows new ≡ borrows old
+  pub later : reads old ≤ reads new

@@ -1,0 +1,69 @@
+ghost use Rattle.std.specs.Prelude.{◌≡◌, ℕ, ◌+◌, ◌*◌, ◌≤◌, Some, length, IsTrue, IfOk, MatchResult};
+ghost use Rattle.afl_base.specs.Image.{zeros_at};
+ghost use Rattle.coffee_find.specs.Found.{HasRecord, IsCutBy, IsTorn, LiesInside};
+ghost use Rattle.coffee_mend.specs.Mended.{HandsBack, HasMendCause, IsMended, IsSoundAs, flash_of};
+
+use crate::joining::join_log;
+use crate::settling::settle;
+use afl_base::{FileError, Flash};
+use coffee_find::{TornRecord, Trouble};
+use flash_views::Blanked;
+
+/// Why an image was not mended. The flash is handed back.
+pub enum MendError<F> {
+    /// No extent of `need` pages can be had for the file whose record is torn.
+    Space { need: u16, flash: F },
+    /// The flash failed, and its count of faults rose.
+    Failed { flash: F },
+    /// The image is not what was found in it: on a flash that answers otherwise at each read.
+    Unsettled { flash: F },
+}
+
+/// Puts right what a cut left of an image: it is sound then, and has just the files that it mends to.
+pub fn mend<F: Flash>(mut flash: F, trouble: &Trouble) -> Result<F, MendError<F>>
+    requires inside { LiesInside (length (F.image flash)) trouble.now }
+    ensures mended { IsTrue F.tells → IsCutBy (F.image flash) trouble.now
+        → IfOk result (λ f. IsMended (F.image flash) (F.image f)) }
+    ensures back { MatchResult result
+        (λ f. HandsBack F.image F.lent F.reads flash f)
+        (λ e. HandsBack F.image F.lent F.reads flash (flash_of e)) }
+    ensures cause { MatchResult result
+        (λ f. F.faults flash ≤ F.faults f)
+        (λ e. HasMendCause (F.faults flash) (F.faults (flash_of e)) e) }
+{
+    flash.sectors();
+    let Ok(()) = settle(&mut flash, &trouble.under_way) else {
+        return Err(MendError::Failed { flash });
+    };
+    match trouble.torn {
+        None => Ok(flash),
+        Some(torn) => join_torn(flash, &torn),
+    }
+}
+
+// Puts a file together with its log, of which a record is torn.
+fn join_torn<F: Flash>(flash: F, torn: &TornRecord) -> Result<F, MendError<F>>
+    requires torn { HasRecord (length (F.image flash)) (Some torn.now) }
+    ensures joined { IsTrue F.tells → IsTorn (F.image flash) torn.now.log.0 torn.now.place
+        → IfOk result (λ f. IsSoundAs (zeros_at (F.image flash) torn.now.place 128) (F.image f)) }
+    ensures back { MatchResult result
+        (λ f. HandsBack F.image F.lent F.reads flash f)
+        (λ e. HandsBack F.image F.lent F.reads flash (flash_of e)) }
+    ensures cause { MatchResult result
+        (λ f. F.faults flash ≤ F.faults f)
+        (λ e. HasMendCause (F.faults flash) (F.faults (flash_of e)) e) }
+{
+    let mut blanked = Blanked::new(flash, torn.place);
+    let joined = join_log(&mut blanked, torn.log);
+    let refused = blanked.has_refused();
+    let flash = blanked.into_flash();
+    if refused {
+        return Err(MendError::Unsettled { flash });
+    }
+    match joined {
+        Ok(true) => Ok(flash),
+        Ok(false) => Err(MendError::Unsettled { flash }),
+        Err(FileError::Space { need }) => Err(MendError::Space { need, flash }),
+        Err(FileError::Failed) => Err(MendError::Failed { flash }),
+    }
+}
