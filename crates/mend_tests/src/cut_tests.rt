@@ -8,7 +8,7 @@ use afl_sim::PlainFiles;
 fn takes_a_first_catalog_back<V: Files>(files: &mut V) -> Result<bool, FileError>
     requires idle { (V.state files.old).draft ≡ None }
 {
-    put_catalog(files, &one_relation(2)[..33])?;
+    put_catalog(files, &one_relation(2), 33)?;
     put_growing(files, b"T0", b"")?;
     let lines = b"catalog taken back\nrelation of slot 0 removed\n";
     let mended = is_mended(files, lines)?;
@@ -24,7 +24,7 @@ fn a_first_catalog_that_is_not_whole_is_taken_back(rt: HostRuntime) {
 fn completes_a_mark<V: Files>(files: &mut V) -> Result<bool, FileError>
     requires idle { (V.state files.old).draft ≡ None }
 {
-    put_catalog(files, &one_relation(2)[..1473])?;
+    put_catalog(files, &one_relation(2), 1473)?;
     put_growing(files, b"T0", &ROWS)?;
     let mended = is_mended(files, b"catalog mark written\n")?;
     Ok(mended && size_named(files, b"CAT") == Some(1480))
@@ -39,7 +39,7 @@ fn a_mark_that_is_not_whole_is_completed(rt: HostRuntime) {
 fn marks_a_time<V: Files>(files: &mut V) -> Result<bool, FileError>
     requires idle { (V.state files.old).draft ≡ None }
 {
-    put_catalog(files, &one_relation(4)[..1472])?;
+    put_catalog(files, &one_relation(4), 1472)?;
     put_growing(files, b"T0", b"")?;
     let mended = is_mended(files, b"catalog mark written\n")?;
     Ok(mended && size_named(files, b"CAT") == Some(1480))
@@ -54,7 +54,7 @@ fn a_catalog_with_a_time_gets_its_mark(rt: HostRuntime) {
 fn leaves_version_1<V: Files>(files: &mut V) -> Result<bool, FileError>
     requires idle { (V.state files.old).draft ≡ None }
 {
-    put_catalog(files, &one_relation(2)[..1472])?;
+    put_catalog(files, &one_relation(2), 1472)?;
     put_growing(files, b"T0", &ROWS)?;
     let mended = is_mended(files, b"")?;
     Ok(mended && size_named(files, b"CAT") == Some(1472))
@@ -71,7 +71,7 @@ fn empties_a_slot<V: Files>(files: &mut V) -> Result<bool, FileError>
 {
     let mut bytes = one_relation(2);
     bytes[0] = 0;
-    put_catalog(files, &bytes)?;
+    put_catalog(files, &bytes, 1480)?;
     put_growing(files, b"T0", &ROWS)?;
     let mended = is_mended(files, b"relation of slot 0 removed\n")?;
     let emptied = byte_at(files, b"CAT", 160)? == Some(0);
@@ -90,7 +90,7 @@ fn takes_an_attribute_back<V: Files>(files: &mut V) -> Result<bool, FileError>
     let mut bytes = one_relation(2);
     bytes[34] = b'a';
     bytes[50] = 4;
-    put_catalog(files, &bytes[..1472])?;
+    put_catalog(files, &bytes, 1472)?;
     put_growing(files, b"T0", &ROWS)?;
     let mended = is_mended(files, b"attribute of r taken back\n")?;
     let zero = byte_at(files, b"CAT", 34)? == Some(0) && byte_at(files, b"CAT", 50)? == Some(0);
@@ -107,7 +107,7 @@ fn an_attribute_that_is_not_counted_is_taken_back(rt: HostRuntime) {
 fn takes_an_index_back<V: Files>(files: &mut V) -> Result<bool, FileError>
     requires idle { (V.state files.old).draft ≡ None }
 {
-    put_catalog(files, &one_index())?;
+    put_catalog(files, &one_index(), 1480)?;
     put_growing(files, b"T0", &ROWS)?;
     let mended = is_mended(files, b"index on r.k taken back\n")?;
     let emptied = byte_at(files, b"CAT", 1408)? == Some(0);
@@ -123,7 +123,7 @@ fn an_index_without_its_tree_is_taken_back(rt: HostRuntime) {
 fn removes_strays<V: Files>(files: &mut V) -> Result<bool, FileError>
     requires idle { (V.state files.old).draft ≡ None }
 {
-    put_catalog(files, &no_relation())?;
+    put_catalog(files, &no_relation(), 1480)?;
     put_growing(files, b"T2", &ROWS)?;
     put_growing(files, b"X3", b"tree")?;
     let lines = b"relation of slot 2 removed\nindex of slot 3 removed\n";
@@ -140,7 +140,7 @@ fn files_that_the_catalog_does_not_ask_for_are_removed(rt: HostRuntime) {
 fn takes_a_row_back<V: Files>(files: &mut V) -> Result<bool, FileError>
     requires idle { (V.state files.old).draft ≡ None }
 {
-    put_catalog(files, &one_relation(2))?;
+    put_catalog(files, &one_relation(2), 1480)?;
     put_growing(files, b"T0", &ROWS[..11])?;
     let mended = is_mended(files, b"row of r taken back\n")?;
     let kept = byte_at(files, b"T0", 5)? == Some(5) && byte_at(files, b"T0", 9)? == Some(1);
@@ -156,7 +156,7 @@ fn a_row_that_is_not_whole_is_taken_back(rt: HostRuntime) {
 fn builds_a_tree<V: Files>(files: &mut V) -> Result<bool, FileError>
     requires idle { (V.state files.old).draft ≡ None }
 {
-    put_catalog(files, &one_index())?;
+    put_catalog(files, &one_index(), 1480)?;
     put_growing(files, b"T0", &ROWS[..11])?;
     put_growing(files, b"X0", b"a part of a tree")?;
     let lines = b"row of r taken back\nindex on r.k built anew\n";

@@ -57,12 +57,15 @@ pub fn put_file<V: Files>(
     appended(files, id, bytes)
 }
 
-/// The file of the catalog.
-pub fn put_catalog<V: Files>(files: &mut V, bytes: &[u8]) -> Result<(), FileError>
+/// The file of the catalog, of the first bytes of these.
+pub fn put_catalog<V: Files>(files: &mut V, bytes: &[u8], size: usize) -> Result<(), FileError>
     requires idle { (V.state files.old).draft ≡ None }
     ensures idle { OnOk result ((V.state files.new).draft ≡ None) }
 {
-    put_file(files, b"CAT", Kind::Fixed(6), bytes)
+    if size > bytes.len() {
+        return Err(FileError::Failed);
+    }
+    put_file(files, b"CAT", Kind::Fixed(6), &bytes[..size])
 }
 
 /// A file of rows or of a tree.

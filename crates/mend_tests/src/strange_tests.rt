@@ -21,7 +21,7 @@ fn names_a_catalog<V: Files>(files: &mut V) -> Result<bool, FileError>
 {
     let mut bytes = one_relation(2);
     bytes[1472] = 3;
-    put_catalog(files, &bytes[..1473])?;
+    put_catalog(files, &bytes, 1473)?;
     put_growing(files, b"T0", &ROWS)?;
     Ok(strange(files)? == Some((15, 0)))
 }
@@ -37,7 +37,7 @@ fn names_a_slot<V: Files>(files: &mut V) -> Result<bool, FileError>
 {
     let mut bytes = one_relation(2);
     bytes[18] = b'x';
-    put_catalog(files, &bytes)?;
+    put_catalog(files, &bytes, 1480)?;
     put_growing(files, b"T0", &ROWS)?;
     Ok(strange(files)? == Some((16, 0)))
 }
@@ -51,7 +51,7 @@ fn a_slot_with_bytes_behind_a_name_is_strange(rt: HostRuntime) {
 fn names_rows<V: Files>(files: &mut V) -> Result<bool, FileError>
     requires idle { (V.state files.old).draft ≡ None }
 {
-    put_catalog(files, &one_index())?;
+    put_catalog(files, &one_index(), 1480)?;
     put_growing(files, b"T0", &[7, 0, 0, 0, 1, 5, 0, 0, 0, 2, 1])?;
     Ok(strange(files)? == Some((18, 8)))
 }
@@ -67,7 +67,7 @@ fn names_an_order<V: Files>(files: &mut V) -> Result<bool, FileError>
 {
     let mut bytes = one_index();
     bytes[1408] = 1;
-    put_catalog(files, &bytes)?;
+    put_catalog(files, &bytes, 1480)?;
     put_growing(files, b"T0", &ROWS)?;
     Ok(strange(files)? == Some((20, 0)))
 }

@@ -1,3 +1,4 @@
 pub mod Copies
 pub mod LineTexts
+pub mod Replaced
 pub mod Slots

@@ -2,11 +2,15 @@
 
 #![tactic(auto)]
 
+ghost use Rattle.std.specs.Bool.{Decides};
 ghost use Rattle.std.specs.Prelude.{◌≡◌, ◌≢◌, ◌≤◌, ◌<◌, ◌+◌, ◌-◌, ℕ, IfOk, IsSome, IsTrue, None, OnOk, length, replicate, slice_index, slice_range, take};
-ghost use Rattle.afl_base.specs.Files.{Drafts, IsLive, IsNamed, WritesDraft, bytes_at, draft_in, file_at, size_at};
+ghost use Rattle.afl_base.specs.Files.{Becomes, Drafts, IsLive, IsNamed, WritesDraft, bytes_at, draft_in, file_at, size_at};
 ghost use Rattle.afl_base.specs.Keeping.{Changes, ChangesOrLacks, OnlyReads};
 ghost use Rattle.afl_base.specs.declared.kind.Kind.TheVariants.{Doubling};
-ghost use Rattle.stored_mend.specs.Keys.{AreKeys};
+ghost use Rattle.afl_base.specs.KeyColumn.{key_of};
+ghost use Rattle.afl_base.specs.Keys.{first_keys};
+ghost use Rattle.stored_mend.specs.Keys.{AreKeys, BuildsTree, HasTree};
+ghost use Rattle.stored_mend.specs.Rows.{ChangesOne, HasWholeRows, MayEndAt};
 
 use crate::keyed::{Keyed, keys_of};
 use crate::report::{Mended, Report};
@@ -45,7 +49,9 @@ fn mend_rows_of<V: Files>(
     report: &mut Report,
 ) -> Result<(), FileError>
     requires idle { (V.state files.old).draft ≡ None }
-    ensures idle { OnOk result ((V.state files.new).draft ≡ None) }
+    ensures rows { IsTrue (V.state files.old).tells → OnOk result
+        (HasWholeRows (V.state files.old).files (V.state files.new).files name schema.now.attributes) }
+    ensures others { OnOk result (ChangesOne (V.state files.old) (V.state files.new) name) }
     ensures frame { ChangesOrLacks V.state V.lent V.reads V.faults V.lacks files.old files.new result }
 {
     let Some(file) = files.find(name) else {
@@ -65,11 +71,11 @@ fn mend_rows_of<V: Files>(
 fn may_end_at<V: Files>(files: &mut V, file: FileId, size: u32) -> Result<bool, Failed>
     requires live { IsLive (V.state files.old).files file }
     requires inside { size ≤ size_at (V.state files.old).files file }
+    ensures may { IsTrue (V.state files.old).tells → IfOk result (λ may.
+        Decides may (MayEndAt (file_at (V.state files.old).files file) size)) }
     ensures kind { IfOk result (λ may. IsTrue may
         → (file_at (V.state files.old).files file).kind ≡ Doubling) }
     ensures most { IfOk result (λ may. IsTrue may → size ≤ 4194304) }
-    ensures last { IsTrue (V.state files.old).tells → IfOk result (λ may. IsTrue may → 1 ≤ size
-        → slice_index (bytes_at (V.state files.old).files file) (size - 1) ≢ 0) }
     ensures frame { OnlyReads V.state V.lent V.reads V.faults files.old files.new result }
 {
     if files.kind(file) != Kind::Doubling || size > 4_194_304 {
@@ -93,7 +99,8 @@ fn cut_file<V: Files>(files: &mut V, file: FileId, name: Name, size: u32) -> Res
     requires most { size ≤ 4194304 }
     requires last { IsTrue (V.state files.old).tells → 1 ≤ size
         → slice_index (bytes_at (V.state files.old).files file) (size - 1) ≢ 0 }
-    ensures idle { OnOk result ((V.state files.new).draft ≡ None) }
+    ensures cut { OnOk result (Becomes (V.state files.old) (V.state files.new) file size
+        (take size (bytes_at (V.state files.old).files file))) }
     ensures frame { ChangesOrLacks V.state V.lent V.reads V.faults V.lacks files.old files.new result }
 {
     files.draft(name, size)?;
@@ -187,7 +194,10 @@ fn report_tree(schema: &Schema, attribute: u8, report: &mut Report) {
 fn mend_tree_of<V: Files>(files: &mut V, name: Name, keys: &Keyed) -> Result<bool, FileError>
     requires keys { AreKeys (V.state files.old) keys.now.column keys.now.slots }
     requires idle { (V.state files.old).draft ≡ None }
-    ensures idle { OnOk result ((V.state files.new).draft ≡ None) }
+    ensures tree { IsTrue (V.state files.old).tells → keys.now.column.width ≢ 8 → OnOk result
+        (HasTree (V.state files.old).files (V.state files.new).files name
+        (first_keys (key_of (V.state files.old) keys.now.column) keys.now.slots)) }
+    ensures others { OnOk result (ChangesOne (V.state files.old) (V.state files.new) name) }
     ensures frame { ChangesOrLacks V.state V.lent V.reads V.faults V.lacks files.old files.new result }
 {
     let Some(tree) = files.find(name) else {
@@ -216,7 +226,8 @@ fn build_tree<V: Files>(
     requires named { IsNamed (V.state files.old).files tree name }
     requires only { (k : ℕ) → IsNamed (V.state files.old).files k name → k ≡ tree }
     requires kind { (file_at (V.state files.old).files tree).kind ≡ Doubling }
-    ensures idle { OnOk result ((V.state files.new).draft ≡ None) }
+    ensures built { OnOk result (BuildsTree (V.state files.old) (V.state files.new) tree
+        (first_keys (key_of (V.state files.old) keys.now.column) keys.now.slots)) }
     ensures frame { ChangesOrLacks V.state V.lent V.reads V.faults V.lacks files.old files.new result }
 {
     let buckets = buckets_for(files, keys.column, keys.slots)?;
