@@ -1,3 +1,5 @@
+mod Drafts
+mod Mended
 mod Reached
 mod SettledImages
 mod SoundImages

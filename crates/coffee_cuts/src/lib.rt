@@ -2,6 +2,10 @@
 //! do nothing, and their contracts are laws of theirs.
 #![tactic(auto)]
 
+mod torn;
+
+pub use torn::{held_images_mend, written_drafts_mend};
+
 ghost use Rattle.std.specs.Prelude.{◌≡◌, ◌*◌, ℕ, List, None, length};
 ghost use Rattle.coffee_cuts.specs.Cuts.{MendsTo};
 ghost use Rattle.coffee_layout.specs.Files.{NamedFile, files_of};

@@ -1,0 +1,29 @@
+-- What it means that an image mends to the files of a table, which another image holds.
+use Rattle.std.specs.Prelude.{◌≡◌, ℕ, ◌*◌, ◌≤◌, true, List, length, Option}
+use Rattle.std.specs.List.{Contains}
+use Rattle.coffee_layout.specs.Files.{NamedFile}
+use Rattle.coffee_layout.specs.Walks.{has_few}
+use Rattle.coffee_layout.specs.declared.file.FileAt.{FileAt}
+use Rattle.coffee_merge.specs.Holding.{Entries, HoldsTable, IsIn}
+use Rattle.coffee_merge.specs.TableFiles.{file_of}
+use Rattle.coffee_cuts.specs.Cuts.{MendsTo}
+
+-- each doubling file has at most twice the pages that its size needs
+abbrev pub AreSparing : Entries → Type 0
+AreSparing table = (i : ℕ) (e : FileAt) → IsIn table i e → has_few e ≡ true
+
+-- an image of whole sectors holds a table of at most 32 places, whose files are sparing
+pub record IsTable (image : List ℕ) (table : Entries) (draft : Option FileAt) : Type 0 where
+  pub holds : HoldsTable image table draft
+  pub few : length table ≤ 32
+  pub sparing : AreSparing table
+  pub sectors : ℕ
+  pub size : length image ≡ 4096 * sectors
+  pub small : sectors ≤ 4096
+
+-- an image mends to just the files of a table, with the bytes that they have in another image
+pub record MendsToTable (new whole : List ℕ) (table : Entries) : Type 0 where
+  pub files : List NamedFile
+  pub mends : MendsTo new files
+  pub each : (i : ℕ) (e : FileAt) → IsIn table i e → Contains files (file_of whole e)
+  pub only : (f : NamedFile) → Contains files f → (i : ℕ) × (e : FileAt) × IsIn table i e × (f ≡ file_of whole e)
