@@ -1,4 +1,7 @@
 mod Drafts
+mod HeaderFronts
+mod Headers
+mod Logs
 mod Mended
 mod Reached
 mod SettledImages
