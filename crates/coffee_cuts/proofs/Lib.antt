@@ -1,3 +1,4 @@
+mod Commits
 mod Drafts
 mod HeaderFronts
 mod Headers

@@ -17,7 +17,7 @@ use Rattle.padded.proofs.Facts.{none_some, some_same}
 use Rattle.coffee_cuts.specs.Cuts.{IsFound, Nothing, UnderWay, settled}
 use Rattle.coffee_cuts.specs.Mending.{AreSparing, IsTable, MendsToTable}
 
-abbrev named : List ℕ → Kind → List ℕ → NamedFile
+abbrev pub named : List ℕ → Kind → List ℕ → NamedFile
 named name kind bytes = record { name = name; kind = kind; bytes = bytes }
 
 -- a file that keeps its content is the same to users

@@ -1,6 +1,7 @@
 -- What it means that an image mends to the files of a table, which another image holds.
-use Rattle.std.specs.Prelude.{◌≡◌, ℕ, ◌*◌, ◌≤◌, true, List, length, Option}
+use Rattle.std.specs.Prelude.{◌≡◌, ◌≢◌, ℕ, ◌-◌, ◌*◌, ◌≤◌, true, List, length, Option, None}
 use Rattle.std.specs.List.{Contains}
+use Rattle.coffee_layout.specs.FileBytes.{file_byte}
 use Rattle.coffee_layout.specs.Files.{NamedFile}
 use Rattle.coffee_layout.specs.Walks.{has_few}
 use Rattle.coffee_layout.specs.declared.file.FileAt.{FileAt}
@@ -27,3 +28,11 @@ pub record MendsToTable (new whole : List ℕ) (table : Entries) : Type 0 where
   pub mends : MendsTo new files
   pub each : (i : ℕ) (e : FileAt) → IsIn table i e → Contains files (file_of whole e)
   pub only : (f : NamedFile) → Contains files f → (i : ℕ) × (e : FileAt) × IsIn table i e × (f ≡ file_of whole e)
+
+-- the last byte of a draft is not zero
+abbrev pub EndsRight : List ℕ → FileAt → Type 0
+EndsRight image d = 1 ≤ d.size → file_byte image d.page.0 None (d.size - 1) ≢ 0
+
+-- a draft as a file
+abbrev pub as_file : FileAt → FileAt
+as_file d = record d { used = 0 }

@@ -4,7 +4,9 @@
 
 mod torn;
 
-pub use torn::{held_images_mend, torn_headers_mend, torn_namings_mend, written_drafts_mend};
+pub use torn::{
+    held_images_mend, torn_commits_mend, torn_headers_mend, torn_namings_mend, torn_removals_mend, torn_replacings_mend, written_drafts_mend,
+};
 
 ghost use Rattle.std.specs.Prelude.{◌≡◌, ◌*◌, ℕ, List, None, length};
 ghost use Rattle.coffee_cuts.specs.Cuts.{MendsTo};

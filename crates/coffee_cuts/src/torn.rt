@@ -1,13 +1,15 @@
 //! Laws: what a call that broke off leaves of an image that holds a table mends to the files of the table.
 
-ghost use Rattle.std.specs.Prelude.{◌≡◌, ◌≤◌, List, length, None, Some, ℕ};
+ghost use Rattle.std.specs.Prelude.{◌≡◌, ◌≤◌, ◌<◌, ◌⊎◌, List, length, None, Option, Some, set, slice_index_or, true, ℕ};
 ghost use Rattle.coffee_header.specs.Headers.{IsValid};
+ghost use Rattle.coffee_layout.specs.Walks.{has_few};
 ghost use Rattle.coffee_layout.specs.declared.file.FileAt.{FileAt};
-ghost use Rattle.coffee_merge.specs.CutMarks.{KeepsHead};
-ghost use Rattle.coffee_merge.specs.Holding.{Entries};
+ghost use Rattle.coffee_merge.specs.CutMarks.{IsCutObsolete, IsCutReplace, IsOneOf, KeepsHead};
+ghost use Rattle.coffee_merge.specs.Flags.{flagged};
+ghost use Rattle.coffee_merge.specs.Holding.{Entries, IsIn, IsNewName};
 ghost use Rattle.coffee_merge.specs.Takes.{KeepsPagesBut};
-ghost use Rattle.coffee_merge.specs.Torn.{TearsHeader, TearsLogHeader, TearsNaming};
-ghost use Rattle.coffee_cuts.specs.Mending.{IsTable, MendsToTable};
+ghost use Rattle.coffee_merge.specs.Torn.{TearsHeader, TearsLogHeader, TearsNaming, TearsReplacing};
+ghost use Rattle.coffee_cuts.specs.Mending.{EndsRight, IsTable, MendsToTable, as_file};
 
 /// An image that holds a table mends to its files, also where a draft stands.
 pub fn held_images_mend()
@@ -37,4 +39,31 @@ pub fn torn_headers_mend()
 pub fn torn_namings_mend()
     ensures mends { (whole new : List ℕ) (table : Entries) → IsTable whole table None
         → TearsNaming whole new table → MendsToTable new whole table }
+{}
+
+/// A draft that is a copy of a file takes its place in part: the two are one to users.
+pub fn torn_replacings_mend()
+    ensures mends { (whole new : List ℕ) (table : Entries) (draft : Option FileAt)
+        (c : TearsReplacing whole new table draft) → IsTable whole table draft → c.d.kind ≡ c.e.kind
+        → has_few c.d ≡ true → MendsToTable new whole table }
+{}
+
+/// A draft that is being made a file, a new one or in place of one that there was: the files before or those
+/// afterwards.
+pub fn torn_commits_mend()
+    ensures added { (whole new : List ℕ) (table : Entries) (d : FileAt) (i : ℕ) → IsTable whole table (Some d)
+        → has_few d ≡ true → EndsRight whole d → i < length table → slice_index_or table i None ≡ None
+        → IsNewName table d.name → IsOneOf new whole (flagged whole d.page.0 1)
+        → MendsToTable new whole table ⊎ MendsToTable new whole (set table i (Some (as_file d))) }
+    ensures replaced { (whole new : List ℕ) (table : Entries) (d e : FileAt) (i : ℕ)
+        → IsTable whole table (Some d) → IsIn table i e → e.name ≡ d.name → has_few d ≡ true → EndsRight whole d
+        → IsCutReplace whole new d.page.0 e.page.0 e.log
+        → MendsToTable new whole table ⊎ MendsToTable new whole (set table i (Some (as_file d))) }
+{}
+
+/// A file that is being removed is there with its bytes or not at all.
+pub fn torn_removals_mend()
+    ensures mends { (whole new : List ℕ) (table : Entries) (e : FileAt) (i : ℕ) → IsTable whole table None
+        → IsIn table i e → IsCutObsolete whole new e.page.0 e.log
+        → MendsToTable new whole table ⊎ MendsToTable new whole (set table i None) }
 {}
