@@ -71,7 +71,7 @@ header_small h v flags =
     (small_append h.name (replicate (22 - length h.name) 0) (small_name h.name (both_parts _ _ v.name).1) (small_zeros (22 - length h.name)))
 
 -- the fields of a header stand in its bytes
-fields_are : (bytes : List ℕ) (h : Header) → header_of bytes ≡ Some h → (is_header bytes ≡ true) × (fields bytes ≡ h)
+pub fields_are : (bytes : List ℕ) (h : Header) → header_of bytes ≡ Some h → (is_header bytes ≡ true) × (fields bytes ≡ h)
 unfolding header_of
 fields_are bytes h e = chosen (is_header bytes) (fields bytes) h e
 

@@ -1,5 +1,9 @@
+mod BrokenOff
+mod Collections
 mod Commits
 mod Drafts
+mod EraseCuts
+mod Fronts
 mod HeaderFronts
 mod Headers
 mod Logs
@@ -7,3 +11,4 @@ mod Mended
 mod Reached
 mod SettledImages
 mod SoundImages
+mod ZeroedHeads

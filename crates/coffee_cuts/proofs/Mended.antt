@@ -90,3 +90,12 @@ mends_same new whole table after there back m = record {
   each = λ i e is. let r = there i e is in subst (Contains m.files) r.3 (m.each r.0 r.1 r.2);
   only = λ f has. let r = m.only f has in let s = back r.0 r.1 r.2 in (s.0, s.1, s.2, r.3 ∙ s.3);
 }
+
+-- the files as another image has them
+pub mends_as : (new old whole : List ℕ) (table : Entries) → ((i : ℕ) (e : FileAt) → IsIn table i e → file_of whole e ≡ file_of old e) → MendsToTable new whole table → MendsToTable new old table
+mends_as new old whole table same m = record {
+  files = m.files;
+  mends = m.mends;
+  each = λ i e is. subst (Contains m.files) (same i e is) (m.each i e is);
+  only = λ f has. let r = m.only f has in (r.0, r.1, r.2, r.3 ∙ same r.0 r.1 r.2);
+}

@@ -5,7 +5,8 @@
 mod torn;
 
 pub use torn::{
-    held_images_mend, torn_commits_mend, torn_headers_mend, torn_namings_mend, torn_removals_mend, torn_replacings_mend, written_drafts_mend,
+    broken_off_files_mend, held_images_mend, torn_collections_mend, torn_commits_mend, torn_headers_mend, torn_namings_mend, torn_removals_mend,
+    torn_replacings_mend, written_drafts_mend,
 };
 
 ghost use Rattle.std.specs.Prelude.{◌≡◌, ◌*◌, ℕ, List, None, length};

@@ -2,14 +2,19 @@
 
 ghost use Rattle.std.specs.Prelude.{◌≡◌, ◌≤◌, ◌<◌, ◌⊎◌, List, length, None, Option, Some, set, slice_index_or, true, ℕ};
 ghost use Rattle.coffee_header.specs.Headers.{IsValid};
+ghost use Rattle.coffee_layout.specs.Tiling.{nowhere, units_of};
 ghost use Rattle.coffee_layout.specs.Walks.{has_few};
 ghost use Rattle.coffee_layout.specs.declared.file.FileAt.{FileAt};
 ghost use Rattle.coffee_merge.specs.CutMarks.{IsCutObsolete, IsCutReplace, IsOneOf, KeepsHead};
 ghost use Rattle.coffee_merge.specs.Flags.{flagged};
 ghost use Rattle.coffee_merge.specs.Holding.{Entries, IsIn, IsNewName};
 ghost use Rattle.coffee_merge.specs.Takes.{KeepsPagesBut};
-ghost use Rattle.coffee_merge.specs.Torn.{TearsHeader, TearsLogHeader, TearsNaming, TearsReplacing};
-ghost use Rattle.coffee_cuts.specs.Mending.{EndsRight, IsTable, MendsToTable, as_file};
+ghost use Rattle.coffee_merge.specs.Torn.{BreaksOff, TearsHeader, TearsLogHeader, TearsNaming, TearsReplacing};
+ghost use Rattle.coffee_space.specs.Collection.{KeepsActive};
+ghost use Rattle.coffee_space.specs.Cutting.{IsCutOff};
+ghost use Rattle.coffee_cuts.specs.Mending.{
+    EndsRight, IsMendable, IsTable, LeavesExtents, MendsToTable, as_file,
+};
 
 /// An image that holds a table mends to its files, also where a draft stands.
 pub fn held_images_mend()
@@ -66,4 +71,20 @@ pub fn torn_removals_mend()
     ensures mends { (whole new : List ℕ) (table : Entries) (e : FileAt) (i : ℕ) → IsTable whole table None
         → IsIn table i e → IsCutObsolete whole new e.page.0 e.log
         → MendsToTable new whole table ⊎ MendsToTable new whole (set table i None) }
+{}
+
+/// A collection that broke off leaves the files, also where it did so in the middle of an erase.
+pub fn torn_collections_mend()
+    ensures kept { (whole new : List ℕ) (table : Entries) → IsTable whole table None
+        → length new ≡ length whole → KeepsActive nowhere whole new (units_of whole) → MendsToTable new whole table }
+    ensures cut_off { (whole new : List ℕ) (table : Entries) → IsTable whole table None
+        → (c : IsCutOff nowhere whole new (units_of whole)) → length c.before ≡ length whole
+        → LeavesExtents whole c.before → MendsToTable new whole table }
+{}
+
+/// What a call that broke off leaves mends to the files of the table, as they were before the call.
+pub fn broken_off_files_mend()
+    ensures mends { (old new : List ℕ) (table : Entries) (b : BreaksOff old new table) → IsTable old table None
+        → length b.whole ≡ length old → length new ≡ length b.whole
+        → IsMendable b.whole new table b.draft b.torn → MendsToTable new old table }
 {}
