@@ -1,3 +1,4 @@
+mod AlikeFiles
 mod BrokenOff
 mod Collections
 mod Commits
@@ -11,4 +12,5 @@ mod Mended
 mod Reached
 mod SettledImages
 mod SoundImages
+mod TornRecords
 mod ZeroedHeads

@@ -1,7 +1,8 @@
 -- What it means that an image mends to the files of a table, which another image holds.
 use mathlib.Core.Logic.{inl, inr}
-use Rattle.std.specs.Prelude.{◌≡◌, ◌≢◌, ⊤, ℕ, ◌-◌, ◌*◌, ◌≤◌, true, List, length, Option, Some, None}
+use Rattle.std.specs.Prelude.{◌≡◌, ◌≢◌, ⊤, ℕ, ◌+◌, ◌-◌, ◌*◌, ◌≤◌, ◌<◌, true, List, length, set, slice_index, take, Option, Some, None}
 use Rattle.std.specs.List.{Contains}
+use Rattle.afl_base.specs.declared.ids.PageId.{PageId}
 use Rattle.coffee_header.specs.Headers.{IsValid}
 use Rattle.coffee_header.specs.declared.header.Header.{Header}
 use Rattle.coffee_layout.specs.FileBytes.{file_byte}
@@ -10,6 +11,7 @@ use Rattle.coffee_layout.specs.Tiling.{IsTiled, nowhere, units_of}
 use Rattle.coffee_layout.specs.Walks.{has_few}
 use Rattle.coffee_layout.specs.declared.file.FileAt.{FileAt}
 use Rattle.coffee_layout.specs.declared.unit.Unit.TheVariants.{Extent}
+use Rattle.coffee_log.specs.FileChanges.{BeginsBelow, Puts}
 use Rattle.coffee_merge.specs.Begun.{unit_begun}
 use Rattle.coffee_merge.specs.Holding.{Entries, HoldsTable, IsIn}
 use Rattle.coffee_merge.specs.TableFiles.{file_of}
@@ -64,3 +66,21 @@ IsMendable whole new table draft (inr (inr (inr (inl c)))) = draft ≡ None
 IsMendable whole new table draft (inr (inr (inr (inr (inl c))))) = ⊤
 IsMendable whole new table draft (inr (inr (inr (inr (inr (inl c)))))) = (c.d.kind ≡ c.e.kind) × (has_few c.d ≡ true)
 IsMendable whole new table draft (inr (inr (inr (inr (inr (inr c)))))) = draft ≡ None
+
+-- an image mends to the files of a table, of which one has a front part of some bytes put into it from a place on
+pub record MendsToPut (whole new : List ℕ) (table : Entries) (i : ℕ) (e : FileAt) (at : ℕ) (bytes : List ℕ) : Type 0 where
+  pub done : ℕ
+  pub size : ℕ
+  pub used : ℕ
+  pub within : done ≤ length bytes
+  pub mends : MendsToTable new new (set table i (Some (record e { size = size; used = used })))
+  pub put : Puts (file_byte whole e.page.0 e.log) (file_byte new e.page.0 e.log) (256 * e.pages - 32) at (take done bytes)
+  pub others : (k : ℕ) (f : FileAt) → k ≢ i → IsIn table k f → file_of new f ≡ file_of whole f
+
+-- a byte that is put on the last place of a file is not zero
+abbrev pub EndsSome : (size at : ℕ) → List ℕ → Type 0
+EndsSome size at bytes = (k : ℕ) → k < length bytes → at + k + 1 ≡ size → slice_index bytes k ≢ 0
+
+-- each region that has a record begins below a size
+abbrev pub KeepsBelow : (put : List ℕ) → Option PageId → (records size : ℕ) → Type 0
+KeepsBelow put log records size = (l : PageId) → log ≡ Some l → BeginsBelow put l.0 records size

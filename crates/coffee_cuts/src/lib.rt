@@ -5,7 +5,7 @@
 mod torn;
 
 pub use torn::{
-    broken_off_files_mend, held_images_mend, torn_collections_mend, torn_commits_mend, torn_headers_mend, torn_namings_mend, torn_removals_mend,
+    broken_off_files_mend, held_images_mend, torn_collections_mend, torn_commits_mend, torn_contents_mend, torn_headers_mend, torn_namings_mend, torn_removals_mend,
     torn_replacings_mend, written_drafts_mend,
 };
 

@@ -1,10 +1,13 @@
 //! Laws: what a call that broke off leaves of an image that holds a table mends to the files of the table.
 
-ghost use Rattle.std.specs.Prelude.{◌≡◌, ◌≤◌, ◌<◌, ◌⊎◌, List, length, None, Option, Some, set, slice_index_or, true, ℕ};
+ghost use Rattle.std.specs.Prelude.{
+    ◌≡◌, ◌≢◌, ◌+◌, ◌-◌, ◌*◌, ◌≤◌, ◌<◌, ◌⊎◌, List, length, None, Option, Some, set, slice_index, slice_index_or, true, ℕ,
+};
 ghost use Rattle.coffee_header.specs.Headers.{IsValid};
 ghost use Rattle.coffee_layout.specs.Tiling.{nowhere, units_of};
 ghost use Rattle.coffee_layout.specs.Walks.{has_few};
 ghost use Rattle.coffee_layout.specs.declared.file.FileAt.{FileAt};
+ghost use Rattle.coffee_log.specs.FileCuts.{IsFileCut};
 ghost use Rattle.coffee_merge.specs.CutMarks.{IsCutObsolete, IsCutReplace, IsOneOf, KeepsHead};
 ghost use Rattle.coffee_merge.specs.Flags.{flagged};
 ghost use Rattle.coffee_merge.specs.Holding.{Entries, IsIn, IsNewName};
@@ -13,7 +16,7 @@ ghost use Rattle.coffee_merge.specs.Torn.{BreaksOff, TearsHeader, TearsLogHeader
 ghost use Rattle.coffee_space.specs.Collection.{KeepsActive};
 ghost use Rattle.coffee_space.specs.Cutting.{IsCutOff};
 ghost use Rattle.coffee_cuts.specs.Mending.{
-    EndsRight, IsMendable, IsTable, LeavesExtents, MendsToTable, as_file,
+    EndsRight, IsMendable, IsTable, KeepsBelow, LeavesExtents, MendsToPut, MendsToTable, as_file,
 };
 
 /// An image that holds a table mends to its files, also where a draft stands.
@@ -71,6 +74,20 @@ pub fn torn_removals_mend()
     ensures mends { (whole new : List ℕ) (table : Entries) (e : FileAt) (i : ℕ) → IsTable whole table None
         → IsIn table i e → IsCutObsolete whole new e.page.0 e.log
         → MendsToTable new whole table ⊎ MendsToTable new whole (set table i None) }
+{}
+
+/// An overwrite or an append that broke off has put a front part of its bytes into the file. A record that was
+/// being written may be torn: then the image is sound but for that.
+pub fn torn_contents_mend()
+    ensures overwritten { (whole new : List ℕ) (table : Entries) (i : ℕ) (e : FileAt) (at : ℕ) (bytes : List ℕ)
+        → IsTable whole table None → IsIn table i e → length new ≡ length whole → at + length bytes ≤ e.size
+        → (at + length bytes ≡ e.size → slice_index bytes (length bytes - 1) ≢ 0)
+        → IsFileCut whole new e.page.0 e.pages e.log e.size at bytes → MendsToPut whole new table i e at bytes }
+    ensures appended { (whole new : List ℕ) (table : Entries) (i : ℕ) (e : FileAt) (bytes : List ℕ)
+        → IsTable whole table None → IsIn table i e → length new ≡ length whole
+        → e.size + length bytes + 32 ≤ 256 * e.pages
+        → (c : IsFileCut whole new e.page.0 e.pages e.log e.size e.size bytes)
+        → KeepsBelow c.put e.log c.records e.size → MendsToPut whole new table i e e.size bytes }
 {}
 
 /// A collection that broke off leaves the files, also where it did so in the middle of an erase.
