@@ -1,14 +1,12 @@
 -- An image that a call left which broke off mends to the files of the table.
-use Rattle.std.proofs.Common.{◌≡◌, ◌⊎◌, inl, inr, ⊎_elim, ℕ, ◌*◌, ◌≤◌, List, length, Option, None, Some, refl, ap, sym, subst, ◌∙◌}
-use Rattle.std.specs.List.{Contains}
-use Rattle.coffee_layout.specs.Tiling.{IsTiled, nowhere, units_of}
+use Rattle.std.proofs.Common.{◌≡◌, inl, inr, ℕ, List, length, Option, None, Some, sym, subst, ◌∙◌}
+use Rattle.coffee_layout.specs.Tiling.{nowhere, units_of}
 use Rattle.coffee_layout.specs.declared.file.FileAt.{FileAt}
-use Rattle.coffee_merge.specs.Holding.{Entries, HoldsTable, IsIn, KeepsContents}
-use Rattle.coffee_merge.specs.TableFiles.{file_of}
-use Rattle.coffee_merge.specs.Torn.{BreaksOff, IsTorn, TearsCollection}
+use Rattle.coffee_merge.specs.Holding.{Entries}
+use Rattle.coffee_merge.specs.Torn.{BreaksOff, IsTorn}
 use Rattle.coffee_merge.proofs.Holdings.{holds_tiled}
 use Rattle.coffee_space.specs.Cutting.{IsCutCollection}
-use Rattle.coffee_cuts.specs.Mending.{AreSparing, IsMendable, IsMendableCut, IsTable, MendsToTable}
+use Rattle.coffee_cuts.specs.Mending.{IsMendable, IsMendableCut, IsTable, MendsToTable}
 use Rattle.coffee_cuts.proofs.Collections.{cut_off_mends, kept_mends}
 use Rattle.coffee_cuts.proofs.Commits.{copied_mends}
 use Rattle.coffee_cuts.proofs.Drafts.{drafted_mends, written_mends}

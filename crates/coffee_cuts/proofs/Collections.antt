@@ -1,12 +1,12 @@
 -- A collection that broke off: the image mends to the files.
-use Rattle.std.proofs.Common.{◌≡◌, ◌≢◌, ◌⊎◌, inl, inr, ⊎_elim, ℕ, ◌+◌, ◌-◌, ◌*◌, ◌/◌, ◌<◌, ◌≤◌, Bool, true, false, ◌==◌, List, [], ◌∷◌, ◌++◌, length, get_or, Some, None, refl, ap, sym, subst, ◌∙◌, arith, append_assoc}
+use Rattle.std.proofs.Common.{◌≡◌, ◌≢◌, inl, inr, ⊎_elim, ℕ, ◌+◌, ◌-◌, ◌*◌, ◌/◌, ◌<◌, ◌≤◌, true, false, ◌==◌, List, [], ◌∷◌, ◌++◌, length, get_or, Some, None, refl, ap, sym, subst, ◌∙◌, arith, append_assoc}
 use Rattle.std.proofs.lemmas.Bool.{cases_eq, cases_lt}
 use Rattle.afl_base.specs.Image.{page_bytes, zeros_at}
 use Rattle.afl_base.proofs.Images.{length_zeros_at, zeros_at_before, zeros_at_behind, zeros_at_inside, zeros_at_range}
 use Rattle.coffee_header.specs.declared.header.Header.{Header}
 use Rattle.coffee_layout.specs.Marks.{active_pages}
 use Rattle.coffee_layout.specs.Tiling.{IsTiled, nowhere, units_of}
-use Rattle.coffee_layout.specs.Units.{pages_of, size_of, total}
+use Rattle.coffee_layout.specs.Units.{size_of, total}
 use Rattle.coffee_layout.specs.declared.unit.Unit.{Unit}
 use Rattle.coffee_layout.specs.declared.unit.Unit.TheVariants.{Extent}
 use Rattle.coffee_layout.proofs.FreeBlocks.{mark_behind, mark_front}

@@ -1,5 +1,5 @@
 -- A draft that takes the place of a file, or is a new one, in part: what the image mends to.
-use Rattle.std.proofs.Common.{◌≡◌, ◌≢◌, ◌⊎◌, inl, inr, ⊎_elim, ℕ, zero, suc, ◌+◌, ◌-◌, ◌*◌, ◌<◌, ◌≤◌, Bool, true, false, ◌||◌, ◌==◌, List, [], ◌∷◌, length, get_or, Option, Some, None, refl, ap, sym, subst, ◌∙◌, arith, bit_or, length-set}
+use Rattle.std.proofs.Common.{◌≡◌, ◌≢◌, ◌⊎◌, inl, inr, ⊎_elim, ℕ, suc, ◌-◌, ◌<◌, ◌≤◌, true, ◌||◌, ◌==◌, List, [], ◌∷◌, length, get_or, Option, Some, None, refl, ap, sym, subst, ◌∙◌, arith, bit_or, length-set}
 use Rattle.std.specs.Prelude.{set}
 use Rattle.std.specs.List.{Contains}
 use Rattle.std.proofs.lemmas.Bool.{cases_eq, cases_lt}
@@ -14,10 +14,10 @@ use Rattle.coffee_layout.specs.declared.file.FileAt.{FileAt}
 use Rattle.coffee_layout.specs.declared.unit.Unit.{Unit}
 use Rattle.coffee_layout.specs.declared.unit.Unit.TheVariants.{Extent}
 use Rattle.coffee_log.specs.FileChanges.{IsFile}
-use Rattle.coffee_merge.specs.Begun.{active_at, active_header, unit_begun}
+use Rattle.coffee_merge.specs.Begun.{active_header, unit_begun}
 use Rattle.coffee_merge.specs.CutMarks.{IsCutObsolete, IsCutReplace, IsOneOf}
 use Rattle.coffee_merge.specs.Flags.{flagged, obsoleted}
-use Rattle.coffee_merge.specs.Holding.{CommitsExtent, Entries, HoldsTable, IsDrafted, IsIn, IsNewName, IsStored, Sets, Stays, draft_header, file_flags, file_header, log_header, log_number}
+use Rattle.coffee_merge.specs.Holding.{CommitsExtent, Entries, IsDrafted, IsIn, IsNewName, IsStored, Sets, Stays, draft_header, file_flags, file_header, log_header, log_number}
 use Rattle.coffee_merge.specs.TableFiles.{file_of}
 use Rattle.coffee_merge.specs.Torn.{TearsReplacing}
 use Rattle.coffee_merge.proofs.Begun.{begun_active}
@@ -30,7 +30,7 @@ use Rattle.coffee_merge.proofs.SoundHolders.{log_is, placed}
 use Rattle.coffee_merge.proofs.SoundUnits.{Among, among_filter, begun_extent}
 use Rattle.coffee_merge.proofs.Turned.{file_body}
 use Rattle.padded.proofs.Facts.{none_some, some_same}
-use Rattle.coffee_cuts.specs.Cuts.{IsActiveAt, IsFound, IsReplacing, Nothing, Replacing, UnderWay, Unnamed, settled}
+use Rattle.coffee_cuts.specs.Cuts.{IsActiveAt, IsFound, Nothing, Replacing, UnderWay, Unnamed, settled}
 use Rattle.coffee_cuts.specs.Mending.{EndsRight, IsTable, MendsToTable, as_file}
 use Rattle.coffee_cuts.proofs.Drafts.{drafted_mends, off_draft, undrafted}
 use Rattle.coffee_cuts.proofs.Mended.{file_stays, mends_after, mends_holding, mends_same, named, sparing_set, sparing_without, whole_mends}
@@ -192,13 +192,13 @@ module _ (whole : List ℕ) (table : Entries) (d e : FileAt) (i : ℕ) (t : IsTa
   -- the old one has a log, or stands behind: it goes
   old_goes : (e.log ≡ None → d.page.0 < e.page.0) → MendsToTable both whole after
   old_goes front = new_mends both (Replacing (placed e) new_placed) (record {
-        old_there = old_found;
-        new_there = new_found;
-        apart = apart;
-        one_name = named_so;
-        new_has_none = ap log_number no_log;
-        before = λ zero. front (none_number e.log zero);
-      }) (ap (obsoleted both e.page.0) (log_is e.log))
+    old_there = old_found;
+    new_there = new_found;
+    apart = apart;
+    one_name = named_so;
+    new_has_none = ap log_number no_log;
+    before = λ zero. front (none_number e.log zero);
+  }) (ap (obsoleted both e.page.0) (log_is e.log))
     where
       none_number : (log : Option PageId) → log_number log ≡ 0 → log ≡ None
       none_number None z = refl

@@ -1,22 +1,19 @@
 -- An image with an extent under construction, whatever stands in that, mends to the files without it.
-use Rattle.std.proofs.Common.{◌≡◌, ◌≢◌, ⊎_elim, ℕ, ◌+◌, ◌-◌, ◌*◌, ◌/◌, ◌%◌, ◌<◌, ◌≤◌, Bool, true, false, List, ◌∷◌, ◌++◌, length, get_or, Option, Some, None, refl, ap, sym, subst, ◌∙◌, arith, bit_or}
+use Rattle.std.proofs.Common.{◌≡◌, ◌≢◌, ⊎_elim, ℕ, ◌+◌, ◌-◌, ◌*◌, ◌/◌, ◌%◌, ◌<◌, ◌≤◌, true, List, length, get_or, Some, None, refl, ap, sym, subst, ◌∙◌, arith, bit_or}
 use Rattle.std.proofs.lemmas.Bool.{cases_eq, cases_lt}
-use Rattle.afl_base.specs.Image.{page_bytes}
-use Rattle.afl_base.specs.declared.ids.PageId.{PageId}
 use Rattle.afl_base.proofs.Images.{byte_in_page}
-use Rattle.coffee_header.specs.Headers.{is_flags}
 use Rattle.coffee_header.specs.declared.header.Header.{Header}
 use Rattle.coffee_layout.specs.Tiling.{IsTiled, nowhere, units_of}
-use Rattle.coffee_layout.specs.Units.{pages_of, total}
+use Rattle.coffee_layout.specs.Units.{total}
 use Rattle.coffee_layout.specs.declared.file.FileAt.{FileAt}
 use Rattle.coffee_layout.specs.declared.unit.Unit.TheVariants.{Extent}
 use Rattle.coffee_layout.proofs.Frames.{content_stays}
 use Rattle.coffee_layout.proofs.Tests.{eq_false}
 use Rattle.coffee_layout.proofs.Tilings.{unbroken_tiled, units_tiled}
-use Rattle.coffee_merge.specs.Begun.{active_at, active_header, unit_begun}
+use Rattle.coffee_merge.specs.Begun.{active_at, active_header}
 use Rattle.coffee_merge.specs.CutMarks.{KeepsHead}
 use Rattle.coffee_merge.specs.Flags.{flagged}
-use Rattle.coffee_merge.specs.Holding.{Entries, HoldsTable, IsDrafted, IsIn, KeepsContents, Stays, building_of, draft_header, file_header, has_extent_at, is_held, log_header}
+use Rattle.coffee_merge.specs.Holding.{Entries, HoldsTable, IsDrafted, IsIn, Stays, building_of, draft_header, has_extent_at}
 use Rattle.coffee_merge.specs.Takes.{KeepsPagesBut}
 use Rattle.coffee_merge.proofs.Begun.{begun_split}
 use Rattle.coffee_merge.proofs.Drafting.{kept_then}

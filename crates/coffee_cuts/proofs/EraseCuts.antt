@@ -1,23 +1,23 @@
 -- An erase of a sector without active pages that broke off: nothing is seen of it, or the sector is to be erased again.
-use Rattle.std.proofs.Common.{◌≡◌, ◌≢◌, ◌⊎◌, inl, inr, ⊎_elim, ℕ, zero, suc, ◌+◌, ◌-◌, ◌*◌, ◌/◌, ◌%◌, ◌<◌, ◌≤◌, Bool, true, false, not, ◌&&◌, ◌||◌, ◌==◌, nat_lt, List, [], ◌∷◌, ◌++◌, length, take, replicate, get_or, Option, Some, None, if◌then◌else◌, refl, ap, sym, subst, ◌∙◌, arith, append_assoc}
+use Rattle.std.proofs.Common.{◌≡◌, ◌≢◌, ◌⊎◌, inl, inr, ⊎_elim, ℕ, zero, suc, ◌+◌, ◌*◌, ◌/◌, ◌<◌, ◌≤◌, Bool, true, false, not, ◌&&◌, ◌||◌, ◌==◌, nat_lt, List, [], ◌∷◌, ◌++◌, length, take, get_or, Some, None, if◌then◌else◌, refl, ap, sym, subst, ◌∙◌, arith}
 use Rattle.std.specs.Prelude.{slice_range}
 use Rattle.std.specs.List.{list_any}
 use Rattle.std.proofs.lemmas.Bool.{cases_eq, cases_lt}
 use Rattle.std.proofs.lemmas.List.{append-nil, get_or-take, get_or_past, length-take-le}
 use Rattle.afl_base.specs.Image.{page_bytes, zeros_at}
-use Rattle.afl_base.proofs.Images.{erased_other_page, erased_page, length_range, length_zeros_at, range_at, range_same, zeros_at_before, zeros_at_behind, zeros_at_inside, zeros_at_range}
+use Rattle.afl_base.proofs.Images.{erased_other_page, erased_page, length_range, length_zeros_at, range_at, range_same, zeros_at_before, zeros_at_inside}
 use Rattle.coffee_header.specs.declared.header.Header.{Header}
 use Rattle.coffee_layout.specs.Marks.{active_pages, in_sector, is_taken, used_pages}
 use Rattle.coffee_layout.specs.Tiling.{IsTiled, KeepRules, StandFrom, broken_at, broken_suffix, broken_unit, nowhere, units_of}
 use Rattle.coffee_layout.specs.Units.{is_active_flags, is_free, pages_of, size_of, total, unit_at, unit_of}
 use Rattle.coffee_layout.specs.declared.unit.Unit.{Unit}
 use Rattle.coffee_layout.specs.declared.unit.Unit.TheVariants.{Extent, Free, Isolated}
-use Rattle.coffee_layout.proofs.Frames.{after_used, content_stays, ends_free, keep-append, keep_front, keep_rest, keep_same, replaced, total-append, unit_at_same}
+use Rattle.coffee_layout.proofs.Frames.{after_used, ends_free, keep-append, keep_front, keep_rest, keep_same, replaced, total-append, unit_at_same}
 use Rattle.coffee_layout.proofs.MarkLaws.{length-pages_by}
 use Rattle.coffee_layout.proofs.Tests.{eq_false, false_lt, none_else}
 use Rattle.coffee_layout.proofs.Tilings.{kept_some, units_tiled}
 use Rattle.coffee_merge.specs.Begun.{active_at, unit_begun}
-use Rattle.coffee_merge.specs.Holding.{Entries, HoldsTable, Stays}
+use Rattle.coffee_merge.specs.Holding.{Entries}
 use Rattle.coffee_merge.proofs.Begun.{HavePages, active_same, begun_active, have_pages, split_begun}
 use Rattle.coffee_merge.proofs.Holdings.{holds_pages, holds_tiled}
 use Rattle.coffee_merge.proofs.Obtained.{active_marks, obtained}
@@ -28,14 +28,14 @@ use Rattle.coffee_space.proofs.SectorMarks.{any_none}
 use Rattle.coffee_space.proofs.UnitsLeft.{erased_unit}
 use Rattle.flash_range.specs.Range.{Outside}
 use Rattle.padded.specs.Zeros.{is_zeros}
-use Rattle.padded.proofs.Facts.{both_parts, false_by, lt_false, neither, true_eq, true_or_false, yes_no}
-use Rattle.coffee_cuts.specs.Cuts.{Erasing, IsErasing, IsHeadless, IsIdle, Nothing}
+use Rattle.padded.proofs.Facts.{both_parts, false_by, lt_false, neither, true_eq, yes_no}
+use Rattle.coffee_cuts.specs.Cuts.{Erasing, IsHeadless, IsIdle, Nothing}
 use Rattle.coffee_cuts.specs.Mending.{IsTable, MendsToTable}
-use Rattle.coffee_cuts.proofs.Fronts.{MarkedBy, actives, actives_append, idle_extent, marked_by, stand_append, stand_kept, walk_front}
+use Rattle.coffee_cuts.proofs.Fronts.{actives, actives_append, idle_extent, marked_by, stand_append, stand_kept, walk_front}
 use Rattle.coffee_cuts.proofs.Mended.{mends_holding}
 use Rattle.coffee_cuts.proofs.Reached.{same_unit}
 use Rattle.coffee_cuts.proofs.SoundImages.{free_page, zero_part, zeros_from}
-use Rattle.coffee_cuts.proofs.ZeroedHeads.{AreLeft, IsZeroed, zeroed_extent, zeroed_isolated}
+use Rattle.coffee_cuts.proofs.ZeroedHeads.{IsZeroed, zeroed_extent, zeroed_isolated}
 
 -- AN EXTENT THAT IS NOT ACTIVE
 

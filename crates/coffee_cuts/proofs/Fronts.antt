@@ -1,5 +1,5 @@
 -- Units of two images that begin alike, and the active extents among units.
-use Rattle.std.proofs.Common.{◌≡◌, ◌⊎◌, inl, inr, ⊎_elim, ℕ, zero, suc, ◌+◌, ◌-◌, ◌*◌, ◌<◌, ◌≤◌, Bool, true, false, List, [], ◌∷◌, ◌++◌, get_or, Some, refl, ap, sym, subst, ◌∙◌, arith, append_assoc}
+use Rattle.std.proofs.Common.{◌≡◌, ◌⊎◌, inl, inr, ⊎_elim, ℕ, zero, suc, ◌+◌, ◌-◌, ◌<◌, ◌≤◌, Bool, true, false, List, [], ◌∷◌, ◌++◌, get_or, Some, refl, ap, sym, subst, ◌∙◌, arith}
 use Rattle.std.specs.Prelude.{cond}
 use Rattle.std.specs.List.{filter}
 use Rattle.std.proofs.lemmas.Bool.{cases_lt}
@@ -7,15 +7,14 @@ use Rattle.coffee_header.specs.declared.header.Header.{Header}
 use Rattle.coffee_layout.specs.Files.{Placed, extents}
 use Rattle.coffee_layout.specs.Marks.{active_pages}
 use Rattle.coffee_layout.specs.Tiling.{KeepRules, StandFrom}
-use Rattle.coffee_layout.specs.Units.{is_active, is_active_flags, is_free, size_of, total, unit_at}
+use Rattle.coffee_layout.specs.Units.{is_active, is_active_flags, is_free, size_of, total}
 use Rattle.coffee_layout.specs.declared.unit.Unit.{Unit}
 use Rattle.coffee_layout.specs.declared.unit.Unit.TheVariants.{Extent, Free, Isolated}
 use Rattle.coffee_layout.proofs.FreeBlocks.{mark_behind, mark_front}
 use Rattle.coffee_layout.proofs.Tilings.{kept_some}
 use Rattle.coffee_merge.specs.Begun.{unit_begun}
 use Rattle.coffee_merge.proofs.Begun.{HavePages, begun_from, begun_here, begun_there}
-use Rattle.coffee_space.specs.Collection.{active_extents, is_active_extent}
-use Rattle.padded.proofs.Facts.{true_or_false, yes_no}
+use Rattle.coffee_space.specs.Collection.{is_active_extent}
 use Rattle.coffee_cuts.proofs.Reached.{same_unit}
 
 -- UNITS THAT STAND IN AN IMAGE

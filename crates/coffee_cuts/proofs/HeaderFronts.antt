@@ -1,5 +1,5 @@
 -- A front part of the bytes of a header, in a page of zeros: if it is a header, it is that header but for its name.
-use Rattle.std.proofs.Common.{◌≡◌, ◌⊎◌, inl, inr, ⊎_elim, ℕ, zero, suc, ◌+◌, ◌-◌, ◌*◌, ◌<◌, ◌≤◌, Bool, true, false, ◌&&◌, ◌||◌, ◌==◌, nat_le, List, [], ◌∷◌, ◌++◌, length, replicate, get_or, slice_index, Option, Some, None, if◌then◌else◌, refl, ap, sym, subst, ◌∙◌, arith, bit_and}
+use Rattle.std.proofs.Common.{◌≡◌, ◌⊎◌, ⊎_elim, ℕ, zero, suc, ◌+◌, ◌-◌, ◌*◌, ◌<◌, ◌≤◌, Bool, true, false, ◌==◌, nat_le, List, [], ◌∷◌, ◌++◌, length, replicate, get_or, slice_index, Option, Some, None, if◌then◌else◌, refl, ap, sym, subst, ◌∙◌, arith, bit_and}
 use Rattle.std.proofs.lemmas.Bool.{cases_lt}
 use Rattle.std.proofs.lemmas.List.{get_or_past}
 use Rattle.std.specs.List.{list_all}
@@ -10,7 +10,6 @@ use Rattle.coffee_header.specs.Headers.{IsValid, fields, header_bytes, header_of
 use Rattle.coffee_header.specs.declared.header.Header.{Header}
 use Rattle.coffee_header.proofs.HeaderLaws.{bytes_back, chosen, header_back}
 use Rattle.coffee_layout.specs.Units.{unit_of}
-use Rattle.coffee_layout.specs.declared.unit.Unit.{Unit}
 use Rattle.coffee_layout.specs.declared.unit.Unit.TheVariants.{Extent, Free, Isolated}
 use Rattle.coffee_log.proofs.RecordLaws.{two_bytes}
 use Rattle.coffee_merge.proofs.HeaderMarks.{header_ninth}

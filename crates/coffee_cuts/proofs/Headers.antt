@@ -1,5 +1,5 @@
 -- A header that was programmed in part into the first of the lowest free pages: what the image mends to.
-use Rattle.std.proofs.Common.{◌≡◌, ◌≢◌, ◌⊎◌, inl, inr, ⊎_elim, ℕ, zero, suc, ◌+◌, ◌-◌, ◌*◌, ◌/◌, ◌%◌, ◌<◌, ◌≤◌, Bool, true, false, not, ◌&&◌, ◌==◌, List, [], ◌∷◌, ◌++◌, length, take, replicate, get_or, Option, Some, None, refl, ap, sym, subst, ◌∙◌, arith, bit_or}
+use Rattle.std.proofs.Common.{◌≡◌, ◌≢◌, ◌⊎◌, inl, inr, ⊎_elim, ℕ, ◌+◌, ◌-◌, ◌*◌, ◌/◌, ◌%◌, ◌<◌, ◌≤◌, Bool, true, false, not, ◌&&◌, ◌==◌, List, [], ◌∷◌, ◌++◌, length, take, get_or, Option, Some, None, refl, ap, sym, subst, ◌∙◌, arith, bit_or}
 use Rattle.std.specs.Prelude.{slice_range}
 use Rattle.std.specs.List.{filter}
 use Rattle.std.proofs.lemmas.Bool.{cases_eq, cases_lt}
@@ -17,7 +17,6 @@ use Rattle.coffee_layout.specs.declared.unit.Unit.{Unit}
 use Rattle.coffee_layout.specs.declared.unit.Unit.TheVariants.{Extent, Free, Isolated}
 use Rattle.coffee_layout.proofs.Frames.{ends_free, keep_rest, replaced, total-append}
 use Rattle.coffee_layout.proofs.FreeSectors.{free_sector}
-use Rattle.coffee_layout.proofs.KeptFiles.{KeepsActive}
 use Rattle.coffee_layout.proofs.MarkLaws.{mark_front, mark_rest, mark_unit, run_inside}
 use Rattle.coffee_layout.proofs.Tests.{eq_false}
 use Rattle.coffee_layout.proofs.Tilings.{unbroken_tiled, units_tiled}
@@ -39,7 +38,7 @@ use Rattle.flash_range.specs.Range.{Outside}
 use Rattle.flash_range.proofs.Ranges.{or_on_zero, or_outside}
 use Rattle.padded.proofs.Facts.{eq_true, false_right, none_some, true_or_false, yes_no}
 use Rattle.padded.specs.Zeros.{is_zeros}
-use Rattle.coffee_cuts.specs.Cuts.{Beginning, Building, IsActiveAt, IsFound, IsTornHeader, Unnamed, UnderWay}
+use Rattle.coffee_cuts.specs.Cuts.{Beginning, Building, IsTornHeader, Unnamed}
 use Rattle.coffee_cuts.specs.Mending.{IsTable, MendsToTable}
 use Rattle.coffee_cuts.proofs.HeaderFronts.{IsFrontOf, free_head, front_whole, part_header}
 use Rattle.coffee_cuts.proofs.Mended.{mends_holding, whole_mends}

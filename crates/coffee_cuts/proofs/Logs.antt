@@ -1,25 +1,21 @@
 -- A log that a file does not name yet, or names in part: what the image mends to.
-use Rattle.std.proofs.Common.{◌≡◌, ◌⊎◌, inr, ⊎_elim, ℕ, ◌+◌, ◌*◌, ◌/◌, ◌<◌, ◌≤◌, true, ◌==◌, List, length, Some, None, refl, ap, sym, subst, ◌∙◌, arith, bit_or}
+use Rattle.std.proofs.Common.{◌≡◌, ◌⊎◌, inr, ⊎_elim, ℕ, ◌+◌, ◌*◌, ◌<◌, ◌≤◌, true, List, length, Some, None, refl, ap, sym, subst, ◌∙◌, arith}
 use Rattle.std.proofs.lemmas.List.{take_all}
-use Rattle.std.specs.Prelude.{set}
 use Rattle.afl_base.specs.Cuts.{IsCutProgram}
-use Rattle.afl_base.specs.Image.{or_at, page_bytes}
+use Rattle.afl_base.specs.Image.{or_at}
 use Rattle.afl_base.specs.Names.{is_file_name}
 use Rattle.afl_base.specs.declared.ids.PageId.{PageId}
-use Rattle.afl_base.proofs.Images.{length_or_at}
 use Rattle.coffee_header.specs.Headers.{IsValid, header_bytes}
-use Rattle.coffee_header.specs.declared.header.Header.{Header}
 use Rattle.coffee_layout.specs.FileBytes.{file_byte}
-use Rattle.coffee_layout.specs.Marks.{IsLowestRun, free_pages}
 use Rattle.coffee_layout.specs.Tiling.{nowhere, units_of}
 use Rattle.coffee_layout.specs.Units.{is_active_flags, is_free, pages_of}
 use Rattle.coffee_layout.specs.declared.file.FileAt.{FileAt}
 use Rattle.coffee_layout.specs.declared.unit.Unit.TheVariants.{Extent}
 use Rattle.coffee_layout.proofs.MarkLaws.{run_inside}
 use Rattle.coffee_merge.specs.Flags.{flagged}
-use Rattle.coffee_merge.specs.Holding.{Entries, HoldsTable, IsIn, Logs, Moves, Stays, file_flags, file_header, log_header, log_number}
+use Rattle.coffee_merge.specs.Holding.{Entries, HoldsTable, IsIn, Logs, Moves, file_flags, file_header, log_header, log_number}
 use Rattle.coffee_merge.specs.Torn.{TearsLogHeader, TearsNaming}
-use Rattle.coffee_merge.proofs.Beginning.{IsBegun, begun_lowest, length-header_bytes}
+use Rattle.coffee_merge.proofs.Beginning.{begun_lowest, length-header_bytes}
 use Rattle.coffee_merge.proofs.Begun.{active_begun, begun_active}
 use Rattle.coffee_merge.proofs.Drafting.{other_place}
 use Rattle.coffee_merge.proofs.HeaderMarks.{unit_header}

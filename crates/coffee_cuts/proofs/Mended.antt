@@ -1,5 +1,5 @@
 -- An image mends to the files of a table where it is settled to one that holds them.
-use Rattle.std.proofs.Common.{◌≡◌, ◌≢◌, inl, ⊎_elim, ℕ, ◌<◌, ◌≤◌, true, List, length, Option, Some, None, refl, ap, subst, ◌∙◌, arith, length-set}
+use Rattle.std.proofs.Common.{◌≡◌, ◌≢◌, inl, ⊎_elim, ℕ, ◌≤◌, true, List, length, Option, Some, None, refl, ap, subst, ◌∙◌, arith, length-set}
 use Rattle.std.specs.Prelude.{set}
 use Rattle.std.specs.List.{Contains}
 use Rattle.afl_base.specs.declared.kind.Kind.{Kind}

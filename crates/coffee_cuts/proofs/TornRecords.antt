@@ -1,23 +1,21 @@
 -- An append or an overwrite that broke off: a front part of its bytes is in the file, and a record may be torn.
-use Rattle.std.proofs.Common.{◌≡◌, ◌≢◌, ◌⊎◌, inl, inr, ⊎_elim, ℕ, ◌+◌, ◌-◌, ◌*◌, ◌/◌, ◌%◌, ◌<◌, ◌≤◌, true, List, [], ◌∷◌, length, map, take, get_or, max, Option, Some, None, refl, ap, sym, subst, ◌∙◌, arith, length-set}
+use Rattle.std.proofs.Common.{◌≡◌, ◌≢◌, inl, inr, ⊎_elim, ℕ, ◌+◌, ◌-◌, ◌*◌, ◌/◌, ◌%◌, ◌<◌, ◌≤◌, List, [], ◌∷◌, length, map, take, get_or, max, Option, Some, None, refl, ap, sym, subst, ◌∙◌, arith, length-set}
 use Rattle.std.specs.Prelude.{set, slice_index}
 use Rattle.std.specs.List.{Contains}
-use Rattle.std.proofs.lemmas.Bool.{cases_eq, cases_lt}
+use Rattle.std.proofs.lemmas.Bool.{cases_lt}
 use Rattle.std.proofs.lemmas.List.{get_or-take, length-take-le}
 use Rattle.afl_base.specs.Image.{zeros_at}
 use Rattle.afl_base.specs.declared.ids.PageId.{PageId}
 use Rattle.afl_base.proofs.Images.{length_zeros_at, range_same, zeros_at_before, zeros_at_behind, zeros_at_inside}
 use Rattle.coffee_layout.specs.FileBytes.{ListsValues, extent_place, file_byte, file_bytes, last_in, number_in, place_or, record_place, table_of, used_in}
-use Rattle.coffee_layout.specs.Files.{NamedFile, Placed, files_in, files_of, kind_of, log_of, named_file}
+use Rattle.coffee_layout.specs.Files.{NamedFile, Placed, files_in, files_of, kind_of, named_file}
 use Rattle.coffee_layout.specs.Rules.{broken_image}
 use Rattle.coffee_layout.specs.Tiling.{nowhere, units_of}
-use Rattle.coffee_layout.specs.Units.{pages_of}
-use Rattle.coffee_layout.specs.Walks.{has_few}
 use Rattle.coffee_layout.specs.declared.file.FileAt.{FileAt}
 use Rattle.coffee_layout.proofs.Frames.{KeepsFile, kept_bytes}
 use Rattle.coffee_layout.proofs.Spelling.{spells_file}
 use Rattle.coffee_layout.proofs.Tilings.{units_tiled}
-use Rattle.coffee_log.specs.FileChanges.{FileBecomes, IsFile, OutsideFile, Puts}
+use Rattle.coffee_log.specs.FileChanges.{FileBecomes, OutsideFile, Puts}
 use Rattle.coffee_log.specs.FileCuts.{IsFileCut}
 use Rattle.coffee_log.specs.Logs.{IsLog, OutsideNext}
 use Rattle.coffee_log.proofs.LastRecords.{last_found}
@@ -33,10 +31,14 @@ use Rattle.coffee_merge.proofs.SoundLogs.{used_is}
 use Rattle.coffee_merge.proofs.SoundUnits.{Among}
 use Rattle.flash_range.specs.Range.{Outside}
 use Rattle.padded.proofs.Facts.{none_some, some_same}
-use Rattle.coffee_cuts.specs.Cuts.{HasTornRecord, IsSettled, Nothing}
-use Rattle.coffee_cuts.specs.Mending.{AreSparing, EndsSome, IsTable, KeepsBelow, MendsToPut, MendsToTable}
+use Rattle.coffee_cuts.specs.Cuts.{HasTornRecord, Nothing}
+use Rattle.coffee_cuts.specs.Mending.{IsTable, KeepsBelow, MendsToPut}
 use Rattle.coffee_cuts.proofs.AlikeFiles.{AreAlike, alike_byte, alike_file, alike_number, bytes_alike, few_more, used_file, used_now}
-use Rattle.coffee_cuts.proofs.Mended.{file_stays, mends_as, named, sparing_set}
+use Rattle.coffee_cuts.proofs.Mended.{file_stays, named, sparing_set}
+
+-- a byte that is put on the last place of a file is not zero
+abbrev EndsSome : (size at : ℕ) → List ℕ → Type 0
+EndsSome size at bytes = (k : ℕ) → k < length bytes → at + k + 1 ≡ size → slice_index bytes k ≢ 0
 
 map_among : (f g : Placed → NamedFile) (es : List Placed) → ((e : Placed) → Among e es → f e ≡ g e) → map f es ≡ map g es
 map_among f g [] same = refl
@@ -113,15 +115,15 @@ module _ (whole new : List ℕ) (table : Entries) (i : ℕ) (e : FileAt) (at : �
         let larger = no_less in
         record {
           kept = used_file clear e.page.0 e.pages e.log c.records size (record {
-                apart = kept.apart;
-                logged = kept.logged;
-                below = λ l named j low.
-                    let few = (kept.logged l named).few in
-                    let n = alike_number clear c.put l.0 j same (omega (arith, low, few)) in
-                    let b = below l named j low in
-                    subst (λ n. 128 * (n - 1) < size) (sym n) (omega (arith, b, larger));
-                zeros = bytes_in.after;
-              });
+            apart = kept.apart;
+            logged = kept.logged;
+            below = λ l named j low.
+                let few = (kept.logged l named).few in
+                let n = alike_number clear c.put l.0 j same (omega (arith, low, few)) in
+                let b = below l named j low in
+                subst (λ n. 128 * (n - 1) < size) (sym n) (omega (arith, b, larger));
+            zeros = bytes_in.after;
+          });
           put = put;
           others = outside;
         }

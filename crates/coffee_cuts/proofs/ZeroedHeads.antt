@@ -1,5 +1,5 @@
 -- The head of a page of which the first bytes are zero now, up to the flags: what unit it begins.
-use Rattle.std.proofs.Common.{◌≡◌, ◌≢◌, ◌⊎◌, inl, inr, ⊎_elim, ℕ, ◌+◌, ◌*◌, ◌<◌, ◌≤◌, Bool, true, false, ◌&&◌, ◌==◌, List, [], length, drop, get_or, slice_index, Option, Some, None, if◌then◌else◌, refl, ap, sym, subst, ◌∙◌, arith, bit_and}
+use Rattle.std.proofs.Common.{◌≡◌, ◌≢◌, ◌⊎◌, inl, inr, ⊎_elim, ℕ, ◌+◌, ◌*◌, ◌<◌, ◌≤◌, Bool, true, false, ◌&&◌, ◌==◌, List, length, drop, get_or, slice_index, Option, Some, None, if◌then◌else◌, refl, ap, sym, ◌∙◌, arith, bit_and}
 use Rattle.std.specs.Option.{option_map}
 use Rattle.std.proofs.lemmas.Bool.{cases_eq, cases_lt}
 use Rattle.std.proofs.lemmas.List.{ext_get_or, get_or-drop, length-drop}
@@ -8,12 +8,11 @@ use Rattle.afl_base.specs.Fields.{u16_at}
 use Rattle.coffee_header.specs.Headers.{fields, header_of, is_flags, is_header, is_kind, is_name_field}
 use Rattle.coffee_header.specs.declared.header.Header.{Header}
 use Rattle.coffee_layout.specs.Units.{unit_of}
-use Rattle.coffee_layout.specs.declared.unit.Unit.{Unit}
 use Rattle.coffee_layout.specs.declared.unit.Unit.TheVariants.{Extent, Free, Isolated}
 use Rattle.coffee_layout.proofs.Tests.{eq_false}
 use Rattle.coffee_log.proofs.RecordLaws.{two_bytes}
 use Rattle.coffee_merge.proofs.HeaderMarks.{header_unit, unit_header}
-use Rattle.padded.proofs.Facts.{both_parts, true_eq}
+use Rattle.padded.proofs.Facts.{both_parts}
 use Rattle.padded.specs.Zeros.{is_zeros}
 use Rattle.coffee_cuts.proofs.HeaderFronts.{fields_are}
 
@@ -88,8 +87,8 @@ zeroed_pages a b c d r pages left p l low high keep_low keep_high = ⊎_elim
 pub zeroed_extent : (old new : List ℕ) (r : ℕ) (h : Header) → r ≤ 9 → IsZeroed old new r → unit_of old ≡ Some (Extent h) → IsZeroedHeader new h
 zeroed_extent old new r h few z is =
     let a = fields_are old h (unit_header old h is) in
-    let parts = both_parts _ _ a.0 in
-    let marks = both_parts _ _ parts.0 in
+    let parts : (is_kind (slice_index old 8) && is_flags (slice_index old 9) ≡ true) × (is_name_field (drop 10 old) ≡ true) = both_parts (is_kind (slice_index old 8) && is_flags (slice_index old 9)) (is_name_field (drop 10 old)) a.0 in
+    let marks : (is_kind (slice_index old 8) ≡ true) × (is_flags (slice_index old 9) ≡ true) = both_parts (is_kind (slice_index old 8)) (is_flags (slice_index old 9)) parts.0 in
     let old_long = z.long_old in
     let new_long = z.long_new in
     let nine : slice_index new 9 ≡ slice_index old 9 = z.same 9 (omega arith) few in

@@ -1,6 +1,6 @@
 -- What it means that an image mends to the files of a table, which another image holds.
 use mathlib.Core.Logic.{inl, inr}
-use Rattle.std.specs.Prelude.{◌≡◌, ◌≢◌, ⊤, ℕ, ◌+◌, ◌-◌, ◌*◌, ◌≤◌, ◌<◌, true, List, length, set, slice_index, take, Option, Some, None}
+use Rattle.std.specs.Prelude.{◌≡◌, ◌≢◌, ⊤, ℕ, ◌-◌, ◌*◌, ◌≤◌, true, List, length, set, take, Option, Some, None}
 use Rattle.std.specs.List.{Contains}
 use Rattle.afl_base.specs.declared.ids.PageId.{PageId}
 use Rattle.coffee_header.specs.Headers.{IsValid}
@@ -76,10 +76,6 @@ pub record MendsToPut (whole new : List ℕ) (table : Entries) (i : ℕ) (e : Fi
   pub mends : MendsToTable new new (set table i (Some (record e { size = size; used = used })))
   pub put : Puts (file_byte whole e.page.0 e.log) (file_byte new e.page.0 e.log) (256 * e.pages - 32) at (take done bytes)
   pub others : (k : ℕ) (f : FileAt) → k ≢ i → IsIn table k f → file_of new f ≡ file_of whole f
-
--- a byte that is put on the last place of a file is not zero
-abbrev pub EndsSome : (size at : ℕ) → List ℕ → Type 0
-EndsSome size at bytes = (k : ℕ) → k < length bytes → at + k + 1 ≡ size → slice_index bytes k ≢ 0
 
 -- each region that has a record begins below a size
 abbrev pub KeepsBelow : (put : List ℕ) → Option PageId → (records size : ℕ) → Type 0

@@ -1,8 +1,6 @@
 //! Laws: what a call that broke off leaves of an image that holds a table mends to the files of the table.
 
-ghost use Rattle.std.specs.Prelude.{
-    ◌≡◌, ◌≢◌, ◌+◌, ◌-◌, ◌*◌, ◌≤◌, ◌<◌, ◌⊎◌, List, length, None, Option, Some, set, slice_index, slice_index_or, true, ℕ,
-};
+ghost use Rattle.std.specs.Prelude.{◌≡◌, ◌≢◌, ◌+◌, ◌-◌, ◌*◌, ◌≤◌, ◌<◌, ◌⊎◌, List, length, None, Option, Some, set, slice_index, slice_index_or, true, ℕ};
 ghost use Rattle.coffee_header.specs.Headers.{IsValid};
 ghost use Rattle.coffee_layout.specs.Tiling.{nowhere, units_of};
 ghost use Rattle.coffee_layout.specs.Walks.{has_few};
@@ -15,9 +13,7 @@ ghost use Rattle.coffee_merge.specs.Takes.{KeepsPagesBut};
 ghost use Rattle.coffee_merge.specs.Torn.{BreaksOff, TearsHeader, TearsLogHeader, TearsNaming, TearsReplacing};
 ghost use Rattle.coffee_space.specs.Collection.{KeepsActive};
 ghost use Rattle.coffee_space.specs.Cutting.{IsCutOff};
-ghost use Rattle.coffee_cuts.specs.Mending.{
-    EndsRight, IsMendable, IsTable, KeepsBelow, LeavesExtents, MendsToPut, MendsToTable, as_file,
-};
+ghost use Rattle.coffee_cuts.specs.Mending.{EndsRight, IsMendable, IsTable, KeepsBelow, LeavesExtents, MendsToPut, MendsToTable, as_file};
 
 /// An image that holds a table mends to its files, also where a draft stands.
 pub fn held_images_mend()
