@@ -8,6 +8,7 @@ ghost use Rattle.afl_base.specs.Causes.{HasCause};
 ghost use Rattle.catalog.specs.CatalogFile.{index_in};
 ghost use Rattle.db_model.specs.Catalog.{Index};
 ghost use Rattle.db_model.specs.HashTree.{buckets};
+ghost use Rattle.db_model.specs.Step.{slots_limit};
 ghost use Rattle.index_set.specs.Plans.{access_kind};
 ghost use Rattle.session_model.specs.Indexed.{index_known as index_held};
 ghost use Rattle.space_model.specs.Enough.{rows_in};
@@ -16,12 +17,15 @@ ghost use Rattle.tuple_file.specs.Tuples.{HoldsRows, row, slots};
 ghost use Rattle.antelope_engine.specs.Reading.{IsTreeAt, index_in_slot, keys_at_index, relation_in_slot, row_in_slot, schema_at, tree_of};
 
 use crate::session::Session;
-use afl_base::{Failed, FileId, Files, IndexId, RelationId, SlotNo};
+use afl_base::{Failed, FileId, Files, IndexId, MOST_SLOTS, RelationId, SlotNo};
 use catalog::IndexEntry;
 use db_model::{IndexKind, Schema, Tuple};
 use index_set::Access;
 use session_model::Indexed;
 use tuple_file::Tuples;
+
+// How many slots a relation may have in a database of version 1.
+const MOST_SLOTS_OF_VERSION_1: u16 = 16_384;
 
 impl<V: Files> Session<V> {
     /// The schema of the relation in a slot, `None` exactly where the slot is unused.
@@ -50,6 +54,14 @@ impl<V: Files> Session<V> {
             None => 0,
             Some(tuples) => tuples.count(&self.base.files),
         }
+    }
+
+    /// The number of slots that a relation may have.
+    pub fn slots_limit(&self) -> u16
+        requires running { self.now.stopped ≡ false }
+        ensures { result ≡ slots_limit self.now.database.version }
+    {
+        slots_limit(self.base.held.version)
     }
 
     /// The number of buckets of the hash tree in an index slot.
@@ -162,6 +174,17 @@ fn tree_of(slot: &Option<Indexed>) -> Option<FileId>
             Access::Order | Access::Table(_) => None,
             Access::Tree(file) => Some(file),
         },
+    }
+}
+
+// The slots that a relation may have in a version.
+fn slots_limit(version: u8) -> u16
+    ensures { result ≡ slots_limit version }
+{
+    if version == 1 {
+        MOST_SLOTS_OF_VERSION_1
+    } else {
+        MOST_SLOTS
     }
 }
 

@@ -1,5 +1,5 @@
 -- From what a session did to what a run leaves behind, by the form of its words.
-use Rattle.std.proofs.Common.{◌≡◌, ◌≢◌, ◌⊎◌, inl, inr, ℕ, ◌/◌, List, [], ◌++◌, length, Option, Some, refl, ap, subst, sym, ◌∙◌}
+use Rattle.std.proofs.Common.{◌≡◌, ◌≢◌, ◌⊎◌, inl, inr, true, false, ℕ, ◌/◌, List, [], ◌++◌, length, Option, Some, refl, ap, subst, sym, ◌∙◌}
 use Rattle.std.specs.Prelude.{⊤, IsTrue, Result, Ok, Err}
 use Rattle.std.specs.Io.KnownBytes.{append_known}
 use Rattle.db_model.specs.declared.commands.Command.{Command}
@@ -8,6 +8,7 @@ use Rattle.db_model.specs.Database.{Database, bare}
 use Rattle.db_model.specs.ReplyText.{refusal_text}
 use Rattle.db_model.specs.Workload.{first_commands}
 use Rattle.dump_model.specs.Script.{script}
+use Rattle.look.specs.Text.{database_lines, flash_line, look_text}
 use Rattle.intake.specs.declared.ending.Ending.TheVariants.{Space, Flash, Sink}
 use Rattle.intake.specs.declared.ending.InputEnding.{InputEnding}
 use Rattle.intake.specs.declared.ending.InputEnding.TheVariants.{Input, Long, Early}
@@ -25,11 +26,13 @@ use Rattle.workload_run.specs.Counted as counted
 use Rattle.workload_run.specs.Summed.{summed}
 use Rattle.workload_run.specs.Summed as sums
 use Rattle.run_words.specs.declared.words.Form.{Form}
-use Rattle.run_words.specs.declared.words.Form.TheVariants.{Run, Gen, Plan, Serve, Dump}
-use Rattle.antelope_run.specs.Does.{DoesForm, Generates, OnlyTells, TellsOn, WritesText}
+use Rattle.run_words.specs.declared.words.Form.TheVariants.{Run, Gen, Plan, Serve, Dump, Look}
+use Rattle.antelope_run.specs.Does.{DoesForm, Generates, OnlyTells, TellsOn, WritesText, Wrote}
+use Rattle.antelope_run.specs.Follows.{WritesBehind, is_look}
 use Rattle.antelope_run.specs.HandedBack.{HandsBack}
 use Rattle.antelope_run.specs.Left as left
 use Rattle.antelope_run.specs.Statuses.{LineUnsaid, OnInput, TellsText, TellsLess, dumped_text, nothing_yet, planned_text, summed_from, TakesInput}
+use Rattle.antelope_run.proofs.Behind.{wrote_on}
 use Rattle.antelope_run.proofs.Finished.{cut_off, ended, faulted, found_no_space, told_on, too_long, unsaid, wrote_within}
 
 -- ---- an input
@@ -176,19 +179,43 @@ module _ (a b : Standing) (image image_now : List ℕ) (before now : Option (Lis
   by_dump unread (Err (Early Flash)) stays w = (record { same = stays; unread = unread }, record { part = w.written; rest = w.left; split = w.whole; held = w.held })
   by_dump unread (Err (Early Sink)) stays w = told_less dumped_text unread stays w
 
-  -- ---- each form
+  by_look : (held : Option (List ℕ)) → now ≡ before → (result : Result ⊤ InputEnding) → Stays → Wrote a.held held (look_text image) result → left.LeavesBehind Look Old (world image_now now held) result
+  by_look held unread (Ok done) stays w = record { leaves = record { same = stays; unread = unread }; written = w }
+  by_look held unread (Err Input) stays w = absurd w
+  by_look held unread (Err Long) stays w = absurd w
+  by_look held unread (Err (Early Space)) stays w = absurd w
+  by_look held unread (Err (Early Flash)) stays w = (record { same = stays; unread = unread }, record { part = w.written; rest = w.left; split = w.whole; held = w.held })
+  by_look held unread (Err (Early Sink)) stays w = record {
+    leaves = record { same = stays; unread = unread };
+    written = wrote_within [] (look_text image) (look_text image) a.held a.held held (sym (append_known-nil a.held)) w refl;
+  }
 
-  pub leaves : (sectors : ℕ) → sectors ≡ length image / 4096 → (form : Form) (result : Result ⊤ InputEnding) → Back result → (OnlyTells form → Stays) → (OnlyTells form → now ≡ before)
-      → DoesForm a b sectors before now Lacks form result → left.LeavesBehind form Old New result
-  leaves sectors many Run result back stays unread d = by_run result (λ read reader. leaves_input _ _ result back (d read reader))
-  leaves sectors many Serve result back stays unread d = by_serve result (λ read reader. leaves_input _ _ result back (d read reader))
-  leaves sectors many (Gen seed count) result back stays unread d = by_gen seed count result back d.0 d.1
-  leaves sectors many (Plan rows) result back stays unread d =
-      by_plan rows (unread tt) result (stays tt)
-      (subst (λ (db : Database). WritesText a b (plan_reply db rows (length image / 4096)) result) start
-      (subst (λ (n : ℕ). WritesText a b (plan_reply a.database rows n) result) many d.1))
-  leaves sectors many Dump result back stays unread d =
-      by_dump (unread tt) result (stays tt) (subst (λ (db : Database). WritesText a b (script db) result) start d.1)
+  -- ---- each form, and what follows once the flash is handed back
+
+  module _ (done result : Result ⊤ InputEnding) (held : Option (List ℕ)) where
+    on_same : (form : Form) → (result ≡ done) × (held ≡ b.held) → left.LeavesBehind form Old New done → left.LeavesBehind form Old (world image_now now held) result
+    on_same form same h =
+        subst (λ r. left.LeavesBehind form Old (world image_now now held) r) (sym same.0)
+        (subst (λ k. left.LeavesBehind form Old (world image_now now k) done) (sym same.1) h)
+
+    pub leaves : (sectors : ℕ) → sectors ≡ length image / 4096 → (form : Form) → Back done → (OnlyTells form → Stays) → (OnlyTells form → now ≡ before)
+        → DoesForm a b sectors before now Lacks form done
+        → (is_look form ≡ false → (result ≡ done) × (held ≡ b.held)) → (is_look form ≡ true → WritesBehind (flash_line image) done result b.held held)
+        → left.LeavesBehind form Old (world image_now now held) result
+    leaves sectors many Run back stays unread d same told = on_same Run (same refl) (by_run done (λ read reader. leaves_input _ _ done back (d read reader)))
+    leaves sectors many Serve back stays unread d same told = on_same Serve (same refl) (by_serve done (λ read reader. leaves_input _ _ done back (d read reader)))
+    leaves sectors many (Gen seed count) back stays unread d same told = on_same (Gen seed count) (same refl) (by_gen seed count done back d.0 d.1)
+    leaves sectors many (Plan rows) back stays unread d same told =
+        on_same (Plan rows) (same refl)
+        (by_plan rows (unread tt) done (stays tt)
+        (subst (λ (db : Database). WritesText a b (plan_reply db rows (length image / 4096)) done) start
+        (subst (λ (n : ℕ). WritesText a b (plan_reply a.database rows n) done) many d.1)))
+    leaves sectors many Dump back stays unread d same told =
+        on_same Dump (same refl) (by_dump (unread tt) done (stays tt) (subst (λ (db : Database). WritesText a b (script db) done) start d.1))
+    leaves sectors many Look back stays unread d same told =
+        by_look held (unread tt) result (stays tt)
+        (wrote_on a.held b.held held (database_lines (base image)) (flash_line image) done result
+        (subst (λ (db : Database). WritesText a b (database_lines db) done) start d.1) (told refl))
 
 -- what only tells of an image takes no input
 pub tells_alone : (form : Form) → OnlyTells form → TakesInput (Some form) → ⊥
@@ -197,3 +224,13 @@ tells_alone Serve h takes = h
 tells_alone (Gen seed count) h takes = h
 tells_alone (Plan rows) h takes = takes
 tells_alone Dump h takes = takes
+tells_alone Look h takes = takes
+
+-- to look at an image only tells of it
+pub look_tells : (form : Form) → is_look form ≡ true → OnlyTells form
+look_tells Run e = absurd (let n : ⊥ = cc in n)
+look_tells Serve e = absurd (let n : ⊥ = cc in n)
+look_tells (Gen seed count) e = absurd (let n : ⊥ = cc in n)
+look_tells (Plan rows) e = absurd (let n : ⊥ = cc in n)
+look_tells Dump e = absurd (let n : ⊥ = cc in n)
+look_tells Look e = tt

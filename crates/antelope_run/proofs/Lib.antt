@@ -1,4 +1,5 @@
 pub mod Bare
+pub mod Behind
 pub mod Finished
 pub mod Fronts
 pub mod Halts

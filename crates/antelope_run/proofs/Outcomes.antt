@@ -17,7 +17,7 @@ use Rattle.sound_image.proofs.Judged.{sound_unbroken}
 use Rattle.antelope_run.specs.declared.came.Came.{Came}
 use Rattle.antelope_run.specs.declared.came.Came.TheVariants.{Opened, Refused, Unsaid, Failed}
 use Rattle.run_words.specs.declared.words.Form.{Form}
-use Rattle.run_words.specs.declared.words.Form.TheVariants.{Run, Gen, Plan, Serve, Dump}
+use Rattle.run_words.specs.declared.words.Form.TheVariants.{Run, Gen, Plan, Serve, Dump, Look}
 use Rattle.antelope_run.specs.Comes.{ComesTo, HasCameCause, OnOpened, OnUnopened, ReachesBy, status_by}
 use Rattle.antelope_run.specs.Left.{LeavesBehind}
 use Rattle.antelope_run.specs.Statuses.{CausedBy, LeftBy, TakenBy, RunEnds, FindsNoSpace, HasSpace, InputIsCutOff, IsFaulted, IsWithinLimit, IsTooLong, IsUnsaid, TakesInput, summed_from}
@@ -240,6 +240,7 @@ takes_by Serve old new h = tt
 takes_by (Gen seed count) old new h = absurd h
 takes_by (Plan rows) old new h = absurd h
 takes_by Dump old new h = absurd h
+takes_by Look old new h = absurd h
 
 module _ (form : Form) (old new : World) (sound : IsSound old.image) (short : IsWithinLimit (Some form) old.left) where
   pub no_fault_by : (came : Came) → ComesTo form old new came → OnOpened came (λ done. ReachesBy form done old.left new.left)
@@ -277,3 +278,4 @@ module _ (old new : World) (size : length new.image ≡ length old.image) where
       stops_nowhere (summed_from (base old.image)) (length old.image / 4096) _ f.1.front f.1.n new.image many f.1.stops has
   suffices_by (Plan rows) f has = f.1
   suffices_by Dump f has = f.1
+  suffices_by Look f has = f.1

@@ -6,6 +6,7 @@ use Rattle.db_model.specs.declared.commands.Command.{Command}
 use Rattle.db_model.specs.Workload.{first_commands}
 use Rattle.dump.specs.Parts.{slots_of_all}
 use Rattle.dump_model.specs.Script.{script}
+use Rattle.look.specs.Text.{database_lines}
 use Rattle.intake.specs.declared.ending.Ending.{Ending}
 use Rattle.intake.specs.declared.ending.Ending.TheVariants.{Space, Flash, Sink}
 use Rattle.intake.specs.declared.ending.InputEnding.{InputEnding}
@@ -21,8 +22,17 @@ use Rattle.run_model.specs.Talk.{AsksToRead, Talk, talk_costs}
 use Rattle.space_plan.specs.Lines.{plan_reply}
 use Rattle.workload_run.specs.Summed.{StopsCommands, SummedUp}
 use Rattle.run_words.specs.declared.words.Form.{Form}
-use Rattle.run_words.specs.declared.words.Form.TheVariants.{Run, Gen, Plan, Serve, Dump}
+use Rattle.run_words.specs.declared.words.Form.TheVariants.{Run, Gen, Plan, Serve, Dump, Look}
 use Rattle.antelope_run.specs.Statuses.{OnInput}
+
+-- a text was written, or what a fault left of it
+abbrev pub Wrote : (held held_now : Option (List ℕ)) → List ℕ → Result ⊤ InputEnding → Type 0
+Wrote held held_now text (Ok done) = held_now ≡ append_known held text
+Wrote held held_now text (Err (Early Sink)) = WroteLess held held_now text
+Wrote held held_now text (Err (Early Flash)) = WrotePart held held_now text
+Wrote held held_now text (Err (Early Space)) = ⊥
+Wrote held held_now text (Err Input) = ⊥
+Wrote held held_now text (Err Long) = ⊥
 
 module _ (old new : Standing) where
   -- given commands were carried out, and one line was written
@@ -34,12 +44,7 @@ module _ (old new : Standing) where
 
   -- a text was written, and the database stays
   abbrev pub WritesText : List ℕ → Result ⊤ InputEnding → Type 0
-  WritesText text (Ok done) = new.held ≡ append_known old.held text
-  WritesText text (Err (Early Sink)) = WroteLess old.held new.held text
-  WritesText text (Err (Early Flash)) = WrotePart old.held new.held text
-  WritesText text (Err (Early Space)) = ⊥
-  WritesText text (Err Input) = ⊥
-  WritesText text (Err Long) = ⊥
+  WritesText text result = Wrote old.held new.held text result
 
   -- the files tell what they told, unless they failed
   abbrev pub TellsOn : Result ⊤ InputEnding → Type 0
@@ -50,6 +55,7 @@ module _ (old new : Standing) where
   DoesForm sectors left left_now Lacks (Gen seed count) result = TellsOn result × Generates Lacks (first_commands seed count) result
   DoesForm sectors left left_now Lacks (Plan rows) result = TellsOn result × WritesText (plan_reply old.database rows sectors) result
   DoesForm sectors left left_now Lacks Dump result = TellsOn result × WritesText (script old.database) result
+  DoesForm sectors left left_now Lacks Look result = TellsOn result × WritesText (database_lines old.database) result
   DoesForm sectors left left_now Lacks form result = OnInput form (λ E line talk. Went line talk old new left left_now Lacks result)
 
 -- what an input whose entries only read makes a session read
@@ -62,12 +68,14 @@ CarriedReads Run old left reads = OnInput Run (InputReads old left reads)
 CarriedReads Serve old left reads = OnInput Serve (InputReads old left reads)
 CarriedReads (Plan rows) old left reads = reads ≡ old.reads
 CarriedReads Dump old left reads = reads ≤ old.reads + 6 * slots_of_all old.database.relations
+CarriedReads Look old left reads = reads ≤ old.reads + 6 * slots_of_all old.database.relations
 CarriedReads _ old left reads = ⊤
 
 -- the words ask for what neither changes files nor reads an input
 abbrev pub OnlyTells : Form → Type 0
 OnlyTells (Plan rows) = ⊤
 OnlyTells Dump = ⊤
+OnlyTells Look = ⊤
 OnlyTells _ = ⊥
 
 -- ---- why a run went no further, of what halts and what stops

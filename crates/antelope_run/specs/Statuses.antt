@@ -15,6 +15,7 @@ use Rattle.db_model.specs.Step.{after_all}
 use Rattle.db_model.specs.Workload.{first_commands}
 use Rattle.dump.specs.Parts.{slots_of_all}
 use Rattle.dump_model.specs.Script.{script}
+use Rattle.look.specs.Text.{look_text}
 use Rattle.run_model.specs.Line.{Line}
 use Rattle.run_model.specs.Runs.{CarriedOut, FoundNoSpace, HasEnough, InputCutOff, InputEnded, InputFaulted, InputFoundNoSpace, InputTooLong, InputUnsaid, Machine, ReadsWithin, RefusalUnsaid, Refuses, SpaceUnsaid, StandsAfter, CameToLimit, World, WroteWithin, WroteInFront, machine_from}
 use Rattle.run_model.specs.Scripts.{script_line, script_talk}
@@ -26,7 +27,7 @@ use Rattle.space_plan.specs.declared.further.FurtherRows.{FurtherRows}
 use Rattle.space_plan.specs.Lines.{plan_reply}
 use Rattle.workload_run.specs.Summed.{summed}
 use Rattle.run_words.specs.declared.words.Form.{Form}
-use Rattle.run_words.specs.declared.words.Form.TheVariants.{Run, Gen, Plan, Serve, Dump}
+use Rattle.run_words.specs.declared.words.Form.TheVariants.{Run, Gen, Plan, Serve, Dump, Look}
 
 -- ---- inputs: P of how their bytes are cut into entries and how these are answered, whatever reads the bytes of commands as
 -- they are to be read
@@ -62,7 +63,7 @@ pub record LineUnsaid (commands : List Command) (old new : World) : Type 0 where
   pub stands : StandsAfter (summed_from (base old.image)) commands new.image
 
 -- ---- what is told of an image: the sectors that are planned for so many rows, or that one of the relations is not there,
--- and the script of its database
+-- and the script of its database; what stands on it is `look_text`
 
 abbrev pub planned_text : FurtherRows → List ℕ → List ℕ
 planned_text rows image = plan_reply (base image) rows (length image / 4096)
@@ -92,6 +93,7 @@ abbrev pub Ended : Form → World → World → Type 0
 Ended (Gen seed count) old new = CarriedOut (summed_from (base old.image)) (first_commands seed count) old new
 Ended (Plan rows) old new = TellsText (planned_text rows) old new
 Ended Dump old new = TellsText dumped_text old new
+Ended Look old new = TellsText look_text old new
 Ended form old new = OnInput form (λ E line talk. InputEnded line talk old new)
 
 -- 3
@@ -104,6 +106,7 @@ abbrev pub Faulted : Form → World → World → Type 0
 Faulted (Gen seed count) old new = new.held ≡ old.held
 Faulted (Plan rows) old new = LeavesImage old new × WroteInFront (planned_text rows old.image) old.held new.held
 Faulted Dump old new = LeavesImage old new × WroteInFront (dumped_text old.image) old.held new.held
+Faulted Look old new = LeavesImage old new × WroteInFront (look_text old.image) old.held new.held
 Faulted form old new = OnInput form (λ E line talk. InputFaulted line talk old new)
 
 -- 5
@@ -113,6 +116,7 @@ Unsaid (Gen seed count) old new =
     ⊎ SpaceUnsaid (summed_from (base old.image)) nothing_yet (first_commands seed count) old new
 Unsaid (Plan rows) old new = TellsLess (planned_text rows) old new
 Unsaid Dump old new = TellsLess dumped_text old new
+Unsaid Look old new = TellsLess look_text old new
 Unsaid form old new = OnInput form (λ E line talk. InputUnsaid line talk old new)
 
 -- ---- of words that may be none
@@ -203,6 +207,7 @@ HasSpace None old = ⊥
 HasSpace (Some (Gen seed count)) old = HasEnough (summed_from (base old.image)) (length old.image / 4096) (first_commands seed count)
 HasSpace (Some (Plan rows)) old = ⊤
 HasSpace (Some Dump) old = ⊤
+HasSpace (Some Look) old = ⊤
 HasSpace (Some Run) old = (old.left ≢ None) × (read : List ℕ → Result Command Refusal) × IsReader read × InputHasEnough old _ script_line (script_talk read)
 HasSpace (Some Serve) old = (old.left ≢ None) × (read : List ℕ → Result Command Refusal) × IsReader read × InputHasEnough old _ frame_line (serve_talk read)
 
@@ -213,6 +218,11 @@ OpensWithin old n = n ≤ opening_cost (base old.image) (length old.image / 256)
 -- to dump its database, six more for each slot of a relation
 abbrev pub DumpsWithin : World → ℕ → Type 0
 DumpsWithin old n = n ≤ opening_cost (base old.image) (length old.image / 256) + 6 * slots_of_all (base old.image).relations
+
+-- to look at it, that and one for each page
+abbrev pub LooksWithin : World → ℕ → Type 0
+LooksWithin old n =
+    n ≤ opening_cost (base old.image) (length old.image / 256) + 6 * slots_of_all (base old.image).relations + length old.image / 256
 
 -- by an input whose entries only read, so many more
 abbrev pub EntriesReadAtMost : Option Form → World → ℕ → Type 0
@@ -226,4 +236,5 @@ pub record ReadsAtMost (words : Option Form) (old : World) (n : ℕ) : Type 0 wh
   pub refused : (IsSound old.image → ⊥) → OpensWithin old n
   pub planned : (rows : FurtherRows) → words ≡ Some (Plan rows) → OpensWithin old n
   pub dumped : words ≡ Some Dump → DumpsWithin old n
+  pub looked : words ≡ Some Look → LooksWithin old n
   pub entries : EntriesReadAtMost words old n

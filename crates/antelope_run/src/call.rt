@@ -16,6 +16,7 @@ ghost use Rattle.antelope_run.specs.declared.came.Came.TheVariants as AnyCame;
 use crate::came::Came;
 use crate::carrying::carry_out;
 use crate::closing::close;
+use crate::following::{is_look, tell_flash};
 use afl_base::{Failed, Flash, Sink, Source};
 use answering::write_image_line;
 use antelope_engine::Session;
@@ -120,8 +121,11 @@ fn run_form<F: Flash, S: Source, K: Sink>(
     let mut session = Session::new(volume);
     match session.begin() {
         Ok(Ok(())) => {
+            let looks = is_look(&form);
             let done = carry_out(form, sectors, &mut session, input, out);
-            (Came::Opened(done), close(session))
+            let mut flash = close(session);
+            let told = tell_flash(looks, done, &mut flash, out);
+            (Came::Opened(told), flash)
         }
         Ok(Err(broken)) => (refuse(out, broken.rule, broken.place), close(session)),
         Err(Failed) => (Came::Failed, close(session)),

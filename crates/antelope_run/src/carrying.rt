@@ -10,6 +10,7 @@ ghost use Rattle.db_model.specs.Workload.{first_commands};
 ghost use Rattle.dump.specs.Parts.{slots_of_all};
 ghost use Rattle.dump.specs.Unchanged.{IsAsBefore};
 ghost use Rattle.dump_model.specs.Script.{script};
+ghost use Rattle.look.specs.Text.{database_lines};
 ghost use Rattle.intake.specs.declared.ending.Ending.TheVariants as Ending;
 ghost use Rattle.intake.specs.declared.ending.InputEnding.TheVariants as InputEnding;
 ghost use Rattle.space_plan.specs.Lines.{plan_reply};
@@ -53,6 +54,7 @@ pub fn carry_out<V: Files, S: Source, K: Sink>(
     ensures unread { (TakesInput (Some form) → ⊥) → input.new ≡ input.old }
     ensures borrows { V.lent session.new.files ≡ V.lent session.old.files }
     ensures lent { K.lent out.new ≡ K.lent out.old }
+    ensures later { OnlyTells form → K.faults out.old ≤ K.faults out.new }
     ensures cause { HasRunCause (S.faults input.old) (S.faults input.new)
         (V.faults session.old.files) (V.faults session.new.files) (K.faults out.old) (K.faults out.new) result }
 {
@@ -62,6 +64,7 @@ pub fn carry_out<V: Files, S: Source, K: Sink>(
         Form::Gen { seed, count } => generate_all(session, seed, count, out),
         Form::Plan { rows } => plan(session, &rows, sectors, out),
         Form::Dump => dump_all(session, out),
+        Form::Look => look_all(session, out),
     }
 }
 
@@ -116,6 +119,7 @@ fn plan<V: Files, K: Sink>(
     ensures same { session.new ≡ session.old }
     ensures halts { OnlyHalts result }
     ensures lent { K.lent out.new ≡ K.lent out.old }
+    ensures later { K.faults out.old ≤ K.faults out.new }
     ensures cause { (inputs : ℕ) → HasRunCause inputs inputs (V.faults session.old.files)
         (V.faults session.new.files) (K.faults out.old) (K.faults out.new) result }
 {
@@ -142,13 +146,38 @@ fn dump_all<V: Files, K: Sink>(session: &mut Session<V>, out: &mut K) -> Result<
     ensures halts { OnlyHalts result }
     ensures borrows { V.lent session.new.files ≡ V.lent session.old.files }
     ensures lent { K.lent out.new ≡ K.lent out.old }
+    ensures later { K.faults out.old ≤ K.faults out.new }
     ensures cause { (inputs : ℕ) → HasRunCause inputs inputs (V.faults session.old.files)
         (V.faults session.new.files) (K.faults out.old) (K.faults out.new) result }
 {
     stopped(dump::write(session, out))
 }
 
-fn stopped(done: Result<(), Fault>) -> Result<(), InputEnding>
+// Writes a line for each relation and each index of the database.
+fn look_all<V: Files, K: Sink>(session: &mut Session<V>, out: &mut K) -> Result<(), InputEnding>
+    requires running { session.old.stopped ≡ false }
+    ensures does { let old = standing_of V.state V.reads session.old (K.held out.old) in
+        let new = standing_of V.state V.reads session.new (K.held out.new) in
+        IsTrue (V.state session.old.files).tells
+        → TellsOn old new result × WritesText old new (database_lines session.old.database) result }
+    ensures same { result ≢ Err (InputEnding.Early Ending.Flash) → IsAsBefore V.state session.old session.new }
+    ensures files { V.state session.new.files ≡ V.state session.old.files }
+    ensures reads { let slots = slots_of_all session.old.database.relations in
+        V.reads session.new.files ≤ V.reads session.old.files + 6 * slots }
+    ensures lost { session.old.lost ≡ false → session.new.lost ≡ true
+        → result ≡ Err (InputEnding.Early Ending.Flash) }
+    ensures store { length (V.state session.new.files).store ≡ length (V.state session.old.files).store }
+    ensures halts { OnlyHalts result }
+    ensures borrows { V.lent session.new.files ≡ V.lent session.old.files }
+    ensures lent { K.lent out.new ≡ K.lent out.old }
+    ensures later { K.faults out.old ≤ K.faults out.new }
+    ensures cause { (inputs : ℕ) → HasRunCause inputs inputs (V.faults session.old.files)
+        (V.faults session.new.files) (K.faults out.old) (K.faults out.new) result }
+{
+    stopped(look::write_database(session, out))
+}
+
+pub fn stopped(done: Result<(), Fault>) -> Result<(), InputEnding>
     ensures { result ≡ stopped done }
 {
     match done {

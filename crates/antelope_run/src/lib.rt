@@ -5,5 +5,6 @@ mod call;
 mod came;
 mod carrying;
 mod closing;
+mod following;
 
 pub use call::top;

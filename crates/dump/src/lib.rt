@@ -1,4 +1,4 @@
-//! Writes the database of a session as a script that makes it again.
+//! Writes the database of a session as a script that makes it again, and pieces of such texts.
 
 #![tactic(auto)]
 
@@ -12,4 +12,7 @@ mod sent;
 mod values;
 mod writing;
 
+pub use lines::{kind_text, write_domain};
+pub use pieces::write_three;
+pub use values::write_comma;
 pub use writing::write;

@@ -50,8 +50,8 @@ pub fn write_attribute_line<K: Sink>(
     write_three(out, b" IN ", relation.bytes(), b";\n")
 }
 
-// Appends a domain.
-fn write_domain<K: Sink>(out: &mut K, domain: &Domain) -> Result<(), Failed>
+/// Appends a domain as AQL spells it. `Failed` leaves a proper prefix of it there.
+pub fn write_domain<K: Sink>(out: &mut K, domain: &Domain) -> Result<(), Failed>
     ensures written { OnOk result (K.held out.new
         ≡ append_known (K.held out.old) (domain_text (domain_named domain.now))) }
     ensures failed { OnErr result
@@ -97,7 +97,8 @@ pub fn write_index_line<K: Sink>(
     write_three(out, b" TYPE ", kind_text(kind), b";\n")
 }
 
-fn kind_text(kind: &IndexKind) -> &'static [u8]
+/// The keyword of a kind of index.
+pub fn kind_text(kind: &IndexKind) -> &'static [u8]
     ensures { result.now ≡ keyword_text (kind_word kind.now) }
 {
     match kind {

@@ -44,7 +44,8 @@ fn write_value<K: Sink>(out: &mut K, at: usize, value: &Value) -> Result<(), Fai
     }
 }
 
-fn write_comma<K: Sink>(out: &mut K, at: usize) -> Result<(), Failed>
+/// Appends `, `, unless the place in the list is the first. `Failed` leaves a proper prefix of it there.
+pub fn write_comma<K: Sink>(out: &mut K, at: usize) -> Result<(), Failed>
     ensures written { OnOk result
         (K.held out.new ≡ append_known (K.held out.old) (comma_and_space at)) }
     ensures failed { OnErr result (WroteLess (K.held out.old) (K.held out.new) (comma_and_space at)) }

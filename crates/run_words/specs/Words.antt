@@ -10,7 +10,7 @@ use Rattle.db_model.specs.Names.{is_name}
 use Rattle.space_plan.specs.declared.further.FurtherRows.TheVariants.{Each, Named}
 use Rattle.space_plan.specs.declared.further.NamedRows.{NamedRows}
 use Rattle.run_words.specs.declared.words.Form.{Form}
-use Rattle.run_words.specs.declared.words.Form.TheVariants.{Run, Gen, Plan, Serve, Dump}
+use Rattle.run_words.specs.declared.words.Form.TheVariants.{Run, Gen, Plan, Serve, Dump, Look}
 
 -- the number that digits behind a number make of it
 abbrev pub value_from : ℕ → List ℕ → ℕ
@@ -84,7 +84,9 @@ planned_by words = elim (rows_alone words) [ Some n ↦ Some (Plan (Each n)) | N
 -- ---- behind the name comes the image, and then none, one or two words, or those of a plan
 
 abbrev pub alone : List ℕ → Option Form
-alone name = if is_literal_word name (codes "dump") then Some Dump else None
+alone name =
+    if is_literal_word name (codes "dump") then Some Dump else
+    (if is_literal_word name (codes "look") then Some Look else None)
 
 abbrev pub with_one : List ℕ → Option Form
 with_one name =

@@ -41,7 +41,10 @@ fn alone(name: &[u8]) -> Option<Form>
     ensures commands { IfSome result (λ form. HasFewCommands form) }
 {
     if name == b"dump".as_slice() {
-        Some(Form::Dump)
+        return Some(Form::Dump);
+    }
+    if name == b"look".as_slice() {
+        Some(Form::Look)
     } else {
         None
     }

@@ -16,4 +16,6 @@ pub enum Form {
     Serve,
     /// `dump IMAGE`: to write the database as a script.
     Dump,
+    /// `look IMAGE`: to tell what stands on the image.
+    Look,
 }

@@ -1,14 +1,21 @@
-use Rattle.std.proofs.Common.{◌≡◌, refl, rules, ◌/◌, ap, subst, ◌∙◌, inl, inr, Err, arith, length}
+use Rattle.std.proofs.Common.{◌≡◌, ◌≤◌, ◌+◌, ◌/◌, ℕ, List, refl, rules, ap, subst, sym, ◌∙◌, inl, inr, Err, arith, length}
 use Rattle.intake.specs.declared.ending.Ending.TheVariants.{Flash, Sink}
 use Rattle.intake.specs.declared.ending.InputEnding.TheVariants.{Input, Early}
+use Rattle.coffee_layout.specs.Rules.{broken_image}
 use Rattle.stored.specs.Base.{base_of}
 use Rattle.stored.specs.Sound.{BreaksFirst, IsSoundTable}
 use Rattle.sound_image.specs.Images.{base, IsSound}
-use Rattle.antelope_run.proofs.Leaving.{leaves, tells_alone}
+use Rattle.antelope_run.proofs.Behind.{reaches_on, rose_by, rose_when}
+use Rattle.antelope_run.proofs.Leaving.{leaves, look_tells, tells_alone}
 use Rattle.run_model.specs.Runs.{world}
 use Rattle.antelope_run.proofs.Opened.{mounted_within, opened_within}
-use Rattle.antelope_run.proofs.ReadsLeft.{not_true, reads_by, unopened_reads}
+use Rattle.antelope_run.proofs.ReadsLeft.{not_true, reads_behind, unopened_reads}
 use Rattle.antelope_run.proofs.Refusals.{none_opened, on_unopened, refused_cause, refused_comes}
+use Rattle.antelope_run.specs.Comes.{ComesTo}
+use Rattle.antelope_run.specs.Does.{OnlyTells}
+use Rattle.antelope_run.specs.Follows.{WritesBehind}
+use Rattle.look.specs.Text.{flash_line}
+use Rattle.antelope_run.specs.declared.came.Came.TheVariants.{Opened}
 use Rattle.antelope_run.proofs.call.run_form.Goals as goal
 
 pub returns-in-Ok-Ok-clause-comes : goal.returns-in-Ok-Ok-clause-comes
@@ -24,15 +31,32 @@ returns-in-Ok-Ok-clause-comes g c = λ told.
     let start : c.begin.new.self.database ≡ base image = (rw c.in-Ok-Ok.field-0-is at (began.base tells)) ∙ ap base_of files in
     let kept = (rw c.in-Ok-Ok.field-0-is at began.running).1 in
     let told_now = ap (λ s. s.tells) began.frame.same ∙ tells in
-    let many : c.sectors-sectors.result ≡ length image / 4096 = (let size = c.sectors-sectors.ensures.size in omega (arith, size)) in (
+    let many : c.sectors-sectors.result ≡ length image / 4096 = (let size = c.sectors-sectors.ensures.size in omega (arith, size)) in
+    let stays : OnlyTells c.args.form → g.F.Flash.image c.close-flash.result ≡ image = λ only. c.close-flash.ensures.image ∙ c.carry_out-done.ensures.same only ∙ ap (λ s. s.store) began.frame.same ∙ store in
+    let follows = c.tell_flash-told.ensures in
+    let left = g.S.Source.left c.carry_out-done.new.input in
+    let held = g.K.Sink.held c.tell_flash-told.new.out in
+    subst (λ (now : List ℕ). ComesTo c.args.form (world image (g.S.Source.left c.args.input.now) (g.K.Sink.held c.args.out.now)) (world now left held) (Opened c.tell_flash-told.result))
+    (sym follows.frame.same) (
       sound,
-      leaves _ _ image (g.F.Flash.image c.close.result) (g.S.Source.left c.args.input.now) (g.S.Source.left c.carry_out-done.new.input) _ start told_now
-          c.sectors-sectors.result many c.args.form c.carry_out-done.result
-          (λ tells_now other. c.close.ensures.back tells_now (not_true _ c.carry_out-done.new.session.lost (c.carry_out-done.ensures.lost kept) other))
-          (λ only. c.close.ensures.image ∙ c.carry_out-done.ensures.same only ∙ ap (λ s. s.store) began.frame.same ∙ store)
+      leaves _ _ image (g.F.Flash.image c.close-flash.result) (g.S.Source.left c.args.input.now) left _ start told_now
+          c.carry_out-done.result c.tell_flash-told.result held c.sectors-sectors.result many c.args.form
+          (λ tells_now other. c.close-flash.ensures.back tells_now (not_true _ c.carry_out-done.new.session.lost (c.carry_out-done.ensures.lost kept) other))
+          stays
           (λ only. ap g.S.Source.left (c.carry_out-done.ensures.unread (tells_alone c.args.form only)))
-          (c.carry_out-done.ensures.does told_now kept),
+          (c.carry_out-done.ensures.does told_now kept)
+          (λ other. let same = follows.others (c.is_look-looks.ensures ∙ other) in (same.0, ap g.K.Sink.held same.2))
+          (λ looks.
+          let same = stays (look_tells c.args.form looks) in
+          subst (λ (i : List ℕ). WritesBehind (flash_line i) c.carry_out-done.result c.tell_flash-told.result (g.K.Sink.held c.carry_out-done.new.out) held) same
+          (follows.wrote (c.is_look-looks.ensures ∙ looks) told (ap broken_image same ∙ sound.volume))),
     )
+
+pub returns-in-Ok-Ok-clause-reaches : goal.returns-in-Ok-Ok-clause-reaches
+returns-in-Ok-Ok-clause-reaches g c =
+    let follows = c.tell_flash-told.ensures in
+    reaches_on (g.S.Source.left c.args.input.now) (g.S.Source.left c.carry_out-done.new.input) c.carry_out-done.result c.tell_flash-told.result c.args.form
+    (λ other. (follows.others (c.is_look-looks.ensures ∙ other)).0) follows.halts c.carry_out-done.ensures.reaches
 
 pub returns-in-Ok-Ok-clause-reads : goal.returns-in-Ok-Ok-clause-reads
 unfolding base
@@ -45,21 +69,34 @@ returns-in-Ok-Ok-clause-reads g c = λ told.
     let sound : IsSound image = record { volume = c.in-Ok.ensures.sound told; database = subst IsSoundTable files (rw c.in-Ok-Ok.field-0-is at (began.sound tells)) } in
     let start : c.begin.new.self.database ≡ base image = (rw c.in-Ok-Ok.field-0-is at (began.base tells)) ∙ ap base_of files in
     let opened = opened_within image _ files _ _ _ c.sectors-sectors.result c.sectors-sectors.ensures.size c.sectors-sectors.ensures.least (rw (← at) at c.in-Ok.ensures.reads) (began.reads tells) in
-    rw c.close.ensures.reads (reads_by image (g.S.Source.left c.args.input.now) (g.K.Sink.held c.args.out.now) (g.F.Flash.reads c.args.flash)
-    _ _ start (rw c.in-Ok-Ok.field-0-is at began.aheads) opened c.args.form sound (c.carry_out-done.ensures.reads (ap (λ s. s.tells) began.frame.same ∙ tells)))
+    let follows = c.tell_flash-told.ensures in
+    let closed = c.close-flash.ensures.reads in
+    let store = rw (← at) at c.in-Ok.ensures.same in
+    let size : length (g.F.Flash.image c.close-flash.result) ≡ length image = ap length c.close-flash.ensures.image ∙ c.carry_out-done.ensures.store ∙ ap (λ s. length s.store) began.frame.same ∙ ap length store in
+    let read = follows.reads in
+    let few : g.F.Flash.reads c.tell_flash-told.new.flash ≤ g.F.Flash.reads c.close-flash.result + length image / 256 = omega (arith, read, size) in
+    reads_behind image (g.S.Source.left c.args.input.now) (g.K.Sink.held c.args.out.now) (g.F.Flash.reads c.args.flash)
+    _ _ start (rw c.in-Ok-Ok.field-0-is at began.aheads) opened (g.F.Flash.reads c.tell_flash-told.new.flash) (rw closed at few) c.args.form
+    (λ other. ap g.F.Flash.reads (follows.others (c.is_look-looks.ensures ∙ other)).1 ∙ closed) sound (c.carry_out-done.ensures.reads (ap (λ s. s.tells) began.frame.same ∙ tells))
 
 pub returns-in-Ok-Ok-clause-cause : goal.returns-in-Ok-Ok-clause-cause
 returns-in-Ok-Ok-clause-cause g c =
     let cause = c.carry_out-done.ensures.cause in
     let mounted = rw (← c.new-session.ensures.files) at c.in-Ok.ensures.cause in
     let later = c.in-Ok-Ok.ensures.frame.cause.later in
+    let follows = c.tell_flash-told.ensures.frame in
+    let files = cause.files_later in
+    let closed = c.close-flash.ensures.faults in
+    let low : g.F.Flash.faults c.args.flash ≤ g.F.Flash.faults c.close-flash.result = omega (arith, closed, files, later, mounted) in
     record {
-      input = λ e. let is : c.carry_out-done.result ≡ Err Input = cc in cause.input is;
+      input = λ e. let is : c.tell_flash-told.result ≡ Err Input = cc in cause.input (follows.input is);
       flash_failed = λ e.
-          let is : c.carry_out-done.result ≡ Err (Early Flash) = cc in
-          let rose = cause.flash is in
-          rw c.close.ensures.faults (omega (arith, rose, later, mounted));
-      sink_failed = λ e. let is : c.carry_out-done.result ≡ Err (Early Sink) = cc in cause.sink is;
+          let is : c.tell_flash-told.result ≡ Err (Early Flash) = cc in
+          rose_by _ _ _ low follows.later (λ was. (let rose = cause.flash was in omega (arith, rose, later, mounted, closed))) (follows.flash is);
+      sink_failed = λ e.
+          let is : c.tell_flash-told.result ≡ Err (Early Sink) = cc in
+          rose_when c.is_look-looks.result _ _ _ (λ looks. c.carry_out-done.ensures.later (look_tells c.args.form (sym c.is_look-looks.ensures ∙ looks)))
+          (λ other. sym (c.tell_flash-told.ensures.others other).0 ∙ is) follows.sink_later cause.sink (follows.sink is);
       unsaid = λ e. absurd (let n : ⊥ = cc in n);
       unopened = λ e. absurd (let n : ⊥ = cc in n);
     }
@@ -105,7 +142,7 @@ returns-in-Ok-Err-clause-reads g c = λ told.
     let tells = (rw (← at) at c.in-Ok.ensures.tells) ∙ told in
     let files = rw (← at) at (ap (λ s. s.files) (c.in-Ok.ensures.files told) ∙ c.mounted_files_are_the_images.ensures image) in
     let opened = opened_within image _ files _ _ _ c.sectors-sectors.result c.sectors-sectors.ensures.size c.sectors-sectors.ensures.least (rw (← at) at c.in-Ok.ensures.reads) (began.reads tells) in
-    rw c.close-in-Ok-Err.ensures.reads (unopened_reads image (g.S.Source.left c.args.input.now) (g.K.Sink.held c.args.out.now) (g.F.Flash.reads c.args.flash) c.args.form _ opened)
+    rw c.close.ensures.reads (unopened_reads image (g.S.Source.left c.args.input.now) (g.K.Sink.held c.args.out.now) (g.F.Flash.reads c.args.flash) c.args.form _ opened)
 
 pub returns-in-Ok-Err-clause-comes : goal.returns-in-Ok-Err-clause-comes
 returns-in-Ok-Err-clause-comes g c = λ told.
@@ -121,8 +158,8 @@ returns-in-Ok-Err-clause-comes g c = λ told.
     let e = c.refuse-in-Ok-Err.ensures in
     refused_comes c.refuse-in-Ok-Err.result c.args.form
     (world image (g.S.Source.left c.args.input.now) (g.K.Sink.held c.args.out.now))
-    (world (g.F.Flash.image c.close-in-Ok-Err.result) (g.S.Source.left c.args.input.now) (g.K.Sink.held c.refuse-in-Ok-Err.new.out))
-    rule place e.only (inr (c.in-Ok.ensures.sound told, bad)) (c.close-in-Ok-Err.ensures.image ∙ ap (λ s. s.store) began.frame.same ∙ store) refl e.written e.unsaid
+    (world (g.F.Flash.image c.close.result) (g.S.Source.left c.args.input.now) (g.K.Sink.held c.refuse-in-Ok-Err.new.out))
+    rule place e.only (inr (c.in-Ok.ensures.sound told, bad)) (c.close.ensures.image ∙ ap (λ s. s.store) began.frame.same ∙ store) refl e.written e.unsaid
 
 pub returns-in-Ok-Err-clause-reaches : goal.returns-in-Ok-Err-clause-reaches
 returns-in-Ok-Err-clause-reaches g c = none_opened c.refuse-in-Ok-Err.result _ c.refuse-in-Ok-Err.ensures.only

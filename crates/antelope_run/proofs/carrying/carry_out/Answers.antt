@@ -32,11 +32,20 @@ returns-in-Plan-clause-cause g c = c.plan.ensures.cause (g.S.Source.faults c.arg
 pub returns-in-Dump-clause-does : goal.returns-in-Dump-clause-does
 returns-in-Dump-clause-does g c = λ told kept. rw c.in-Dump.is (c.dump_all.ensures.does told)
 
+pub returns-in-Look-clause-does : goal.returns-in-Look-clause-does
+returns-in-Look-clause-does g c = λ told kept. rw c.in-Look.is (c.look_all.ensures.does told)
+
 pub returns-in-Dump-clause-same : goal.returns-in-Dump-clause-same
 returns-in-Dump-clause-same g c = λ tells. ap (λ s. s.store) c.dump_all.ensures.files
 
+pub returns-in-Look-clause-same : goal.returns-in-Look-clause-same
+returns-in-Look-clause-same g c = λ tells. ap (λ s. s.store) c.look_all.ensures.files
+
 pub returns-in-Dump-clause-cause : goal.returns-in-Dump-clause-cause
 returns-in-Dump-clause-cause g c = c.dump_all.ensures.cause (g.S.Source.faults c.args.input.now)
+
+pub returns-in-Look-clause-cause : goal.returns-in-Look-clause-cause
+returns-in-Look-clause-cause g c = c.look_all.ensures.cause (g.S.Source.faults c.args.input.now)
 
 pub returns-in-Run-clause-reads : goal.returns-in-Run-clause-reads
 returns-in-Run-clause-reads g c = λ told. rw c.in-Run.is (λ read reader.
@@ -73,6 +82,10 @@ returns-in-Plan-clause-reaches g c =
 pub returns-in-Dump-clause-reaches : goal.returns-in-Dump-clause-reaches
 returns-in-Dump-clause-reaches g c =
     reaches_none c.args.form (g.S.Source.left c.args.input.now) (g.S.Source.left c.args.input.now) (λ takes. (rw c.in-Dump.is at takes)) c.dump_all.result c.dump_all.ensures.halts
+
+pub returns-in-Look-clause-reaches : goal.returns-in-Look-clause-reaches
+returns-in-Look-clause-reaches g c =
+    reaches_none c.args.form (g.S.Source.left c.args.input.now) (g.S.Source.left c.args.input.now) (λ takes. (rw c.in-Look.is at takes)) c.look_all.result c.look_all.ensures.halts
 
 pub returns-in-Run-clause-unread : goal.returns-in-Run-clause-unread
 returns-in-Run-clause-unread g c = λ none. absurd ((rw c.in-Run.is at none) tt)

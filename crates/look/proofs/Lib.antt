@@ -1,0 +1,6 @@
+pub mod Counts
+pub mod Lists
+pub mod LiveRows
+pub mod Places
+pub mod Texts
+pub mod Whole

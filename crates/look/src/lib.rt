@@ -1,0 +1,15 @@
+//! Writes what stands on an image: its relations, its indexes, and how the pages of its flash are used.
+#![tactic(auto)]
+
+mod counting;
+mod flash;
+mod indexes;
+mod lines;
+mod pages;
+mod relations;
+mod rows;
+mod writing;
+
+pub use flash::write_flash;
+pub use pages::PageCounts;
+pub use writing::write_database;
