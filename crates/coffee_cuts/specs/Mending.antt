@@ -1,12 +1,11 @@
 -- What it means that an image mends to the files of a table, which another image holds.
 use Rattle.std.specs.Prelude.{◌≡◌, ◌≢◌, ℕ, ◌-◌, ◌*◌, ◌≤◌, true, List, length, set, take, Option, Some, None}
 use Rattle.std.specs.List.{Contains}
-use Rattle.afl_base.specs.declared.ids.PageId.{PageId}
 use Rattle.coffee_layout.specs.FileBytes.{file_byte}
 use Rattle.coffee_layout.specs.Files.{NamedFile}
 use Rattle.coffee_layout.specs.Walks.{has_few}
 use Rattle.coffee_layout.specs.declared.file.FileAt.{FileAt}
-use Rattle.coffee_log.specs.FileChanges.{BeginsBelow, Puts}
+use Rattle.coffee_log.specs.FileChanges.{Puts}
 use Rattle.coffee_merge.specs.Holding.{Entries, HoldsTable, IsIn}
 use Rattle.coffee_merge.specs.TableFiles.{file_of}
 use Rattle.coffee_cuts.specs.Cuts.{MendsTo}
@@ -48,7 +47,3 @@ pub record MendsToPut (whole new : List ℕ) (table : Entries) (i : ℕ) (e : Fi
   pub mends : MendsToTable new new (set table i (Some (record e { size = size; used = used })))
   pub put : Puts (file_byte whole e.page.0 e.log) (file_byte new e.page.0 e.log) (256 * e.pages - 32) at (take done bytes)
   pub others : (k : ℕ) (f : FileAt) → k ≢ i → IsIn table k f → file_of new f ≡ file_of whole f
-
--- each region that has a record begins below a size
-abbrev pub KeepsBelow : (put : List ℕ) → Option PageId → (records size : ℕ) → Type 0
-KeepsBelow put log records size = (l : PageId) → log ≡ Some l → BeginsBelow put l.0 records size

@@ -9,7 +9,7 @@ ghost use Rattle.coffee_merge.specs.Flags.{flagged};
 ghost use Rattle.coffee_merge.specs.Holding.{Entries, IsIn, IsNewName};
 ghost use Rattle.coffee_merge.specs.Takes.{KeepsPagesBut};
 ghost use Rattle.coffee_merge.specs.Torn.{BreaksOff, TearsCollection, TearsHeader, TearsLogHeader, TearsNaming, TearsReplacing};
-ghost use Rattle.coffee_cuts.specs.Mending.{EndsRight, IsTable, KeepsBelow, MendsToPut, MendsToTable, as_file};
+ghost use Rattle.coffee_cuts.specs.Mending.{EndsRight, IsTable, MendsToPut, MendsToTable, as_file};
 
 /// An image that holds a table mends to its files, also where a draft stands.
 pub fn held_images_mend()
@@ -77,8 +77,7 @@ pub fn torn_contents_mend()
     ensures appended { (whole new : List ℕ) (table : Entries) (i : ℕ) (e : FileAt) (bytes : List ℕ)
         → IsTable whole table None → IsIn table i e → length new ≡ length whole
         → e.size + length bytes + 32 ≤ 256 * e.pages
-        → (c : IsFileCut whole new e.page.0 e.pages e.log e.size e.size bytes)
-        → KeepsBelow c.put e.log c.records e.size → MendsToPut whole new table i e e.size bytes }
+        → IsFileCut whole new e.page.0 e.pages e.log e.size e.size bytes → MendsToPut whole new table i e e.size bytes }
 {}
 
 /// A collection that broke off leaves the files, also where it did so in the middle of an erase.
