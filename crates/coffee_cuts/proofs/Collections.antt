@@ -14,13 +14,12 @@ use Rattle.coffee_layout.proofs.Frames.{content_stays, total-append}
 use Rattle.coffee_merge.specs.Begun.{unit_begun}
 use Rattle.coffee_merge.specs.Holding.{Entries}
 use Rattle.coffee_merge.proofs.Begun.{HavePages, begun_from, begun_here, begun_inside, begun_there, have_pages, split_begun}
-use Rattle.coffee_merge.proofs.Holdings.{holds_pages, holds_tiled}
 use Rattle.coffee_merge.proofs.Obtained.{obtained}
 use Rattle.coffee_space.specs.Collection.{KeepsActive, active_extents}
 use Rattle.coffee_space.specs.Cutting.{IsCutOff, IsLoose, begun_pages}
 use Rattle.padded.proofs.Facts.{eq_true}
 use Rattle.coffee_cuts.specs.Cuts.{Nothing}
-use Rattle.coffee_cuts.specs.Mending.{IsTable, LeavesExtents, MendsToTable}
+use Rattle.coffee_cuts.specs.Mending.{IsTable, MendsToTable}
 use Rattle.coffee_cuts.proofs.EraseCuts.{begun_mends, sector_inside, settled_mends, untaken}
 use Rattle.coffee_cuts.proofs.Fronts.{Boundary, Spanned, bound_or_spanned}
 use Rattle.coffee_cuts.proofs.Mended.{mends_holding}
@@ -47,7 +46,10 @@ begun_mark sector (v ∷ vs) from page i u h is low high = ⊎_elim
     ∙ begun_mark sector vs (from + size_of v) page (i - size_of v) u h.1 on (omega (arith, low, least)) (omega (arith, high, low, least)))
     (cases_eq from page)
 
-module _ (whole new : List ℕ) (table : Entries) (t : IsTable whole table None) (c : IsCutOff nowhere whole new (units_of whole)) (long_before : length c.before ≡ length whole) (left : LeavesExtents whole c.before) where
+module _ (whole new : List ℕ) (table : Entries) (t : IsTable whole table None) (c : IsCutOff nowhere whole new (units_of whole)) where
+  long_before : length c.before ≡ length whole
+  long_before = c.long
+
   abbrev at : ℕ
   at = 4096 * c.sector
 
@@ -90,13 +92,13 @@ module _ (whole new : List ℕ) (table : Entries) (t : IsTable whole table None)
   -- of an extent that begins in the sector free and isolated pages are left behind it
   loose_behind : (page : ℕ) (u : Unit) → page / 16 ≡ c.sector → unit_begun vs 0 page ≡ Some u → (h : Header) → u ≡ Extent h → (p : ℕ) → 16 * c.sector + 16 ≤ p → p < page + h.max_pages → IsLoose new p
   loose_behind page u here begun h is p low high =
-      let was = left page h (begun ∙ ap Some is) in
-      let pages = holds_pages whole table None t.holds in
-      let w = t.holds.whole in
-      let all = (holds_tiled whole table None t.holds).whole in
-      let inside = (begun_inside (units_of whole) page (Extent h) pages was).1 in
-      c.loose p (omega (arith, high, inside, w, all)) (omega (arith, low))
-      (begun_mark c.sector (units_of whole) 0 page p (Extent h) pages was (omega (arith, here, low)) (omega (arith, high)) ∙ eq_true (page / 16) c.sector here)
+      let size = long_before in
+      let all = total_before in
+      let pages = have_pages nowhere c.before vs c.kept.tiled in
+      let extent : unit_begun vs 0 page ≡ Some (Extent h) = begun ∙ ap Some is in
+      let inside = (begun_inside vs page (Extent h) pages extent).1 in
+      c.loose p (omega (arith, high, inside, size, all)) (omega (arith, low))
+      (begun_mark c.sector vs 0 page p (Extent h) pages extent (omega (arith, here, low)) (omega (arith, high)) ∙ eq_true (page / 16) c.sector here)
 
   -- a unit begins at the sector
   bound_mends : Boundary vs (16 * c.sector) → MendsToTable new whole table

@@ -289,13 +289,14 @@ module _ (whole : List ℕ) (table : Entries) (d e : FileAt) (i : ℕ) (t : IsTa
       three p q r = cc
 
 -- a file of which the draft is a copy is replaced
-pub copied_mends : (whole new : List ℕ) (table : Entries) (draft : Option FileAt) (c : TearsReplacing whole new table draft) → IsTable whole table draft → c.d.kind ≡ c.e.kind → has_few c.d ≡ true → MendsToTable new whole table
-copied_mends whole new table draft c t kind few =
+pub copied_mends : (whole new : List ℕ) (table : Entries) (draft : Option FileAt) → IsTable whole table draft → TearsReplacing whole new table draft → MendsToTable new whole table
+copied_mends whole new table draft t c =
+    let few = c.few (t.sparing c.place c.e c.there) in
     let held : IsTable whole table (Some c.d) = subst (IsTable whole table) c.is t in
     let stored = t.holds.stored c.place c.e c.there in
     let size = c.size in
     let last : EndsRight whole c.d = λ some zero. stored.last (omega (arith, some, size)) (sym (c.same (c.e.size - 1) (omega (arith, some, size))) ∙ ap (λ n. file_byte whole c.d.page.0 None (n - 1)) (sym size) ∙ zero) in
     ⊎_elim
     (λ (before : MendsToTable new whole table). before)
-    (λ (m : MendsToTable new whole (set table c.place (Some (as_file c.d)))). same_mends whole table c.d c.e c.place held c.there c.name few last new kind c.size c.same m)
+    (λ (m : MendsToTable new whole (set table c.place (Some (as_file c.d)))). same_mends whole table c.d c.e c.place held c.there c.name few last new c.kind c.size c.same m)
     (replacing_mends whole table c.d c.e c.place held c.there c.name few last new c.cut)

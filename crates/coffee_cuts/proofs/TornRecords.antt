@@ -1,5 +1,5 @@
 -- An append or an overwrite that broke off: a front part of its bytes is in the file, and a record may be torn.
-use Rattle.std.proofs.Common.{◌≡◌, ◌≢◌, inl, inr, ⊎_elim, ℕ, ◌+◌, ◌-◌, ◌*◌, ◌/◌, ◌%◌, ◌<◌, ◌≤◌, List, [], ◌∷◌, length, map, take, get_or, max, Option, Some, None, refl, ap, sym, subst, ◌∙◌, arith, length-set}
+use Rattle.std.proofs.Common.{◌≡◌, ◌≢◌, inl, inr, ⊎_elim, ℕ, ◌+◌, ◌-◌, ◌*◌, ◌/◌, ◌%◌, ◌<◌, ◌≤◌, List, [], ◌∷◌, length, map, take, get_or, Option, Some, None, refl, ap, sym, subst, ◌∙◌, arith, length-set}
 use Rattle.std.specs.Prelude.{set, slice_index}
 use Rattle.std.specs.List.{Contains}
 use Rattle.std.proofs.lemmas.Bool.{cases_lt}
@@ -7,7 +7,7 @@ use Rattle.std.proofs.lemmas.List.{get_or-take, length-take-le}
 use Rattle.afl_base.specs.Image.{zeros_at}
 use Rattle.afl_base.specs.declared.ids.PageId.{PageId}
 use Rattle.afl_base.proofs.Images.{length_zeros_at, range_same, zeros_at_before, zeros_at_behind, zeros_at_inside}
-use Rattle.coffee_layout.specs.FileBytes.{ListsValues, extent_place, file_byte, file_bytes, last_in, number_in, place_or, record_place, table_of, used_in}
+use Rattle.coffee_layout.specs.FileBytes.{ListsValues, extent_place, file_byte, file_bytes, last_in, place_or, record_place, table_of, used_in}
 use Rattle.coffee_layout.specs.Files.{NamedFile, Placed, files_in, files_of, kind_of, named_file}
 use Rattle.coffee_layout.specs.Rules.{broken_image}
 use Rattle.coffee_layout.specs.Tiling.{nowhere, units_of}
@@ -32,7 +32,7 @@ use Rattle.coffee_merge.proofs.SoundUnits.{Among}
 use Rattle.flash_range.specs.Range.{Outside}
 use Rattle.padded.proofs.Facts.{none_some, some_same}
 use Rattle.coffee_cuts.specs.Cuts.{HasTornRecord, Nothing}
-use Rattle.coffee_cuts.specs.Mending.{IsTable, KeepsBelow, MendsToPut}
+use Rattle.coffee_cuts.specs.Mending.{IsTable, MendsToPut}
 use Rattle.coffee_cuts.proofs.AlikeFiles.{AreAlike, alike_byte, alike_file, alike_number, bytes_alike, few_more, used_file, used_now}
 use Rattle.coffee_cuts.proofs.Mended.{file_stays, named, sparing_set}
 
@@ -45,7 +45,7 @@ map_among f g [] same = refl
 map_among f g (e ∷ es) same = ap (λ x. x ∷ map f es) (same e (inl refl)) ∙ ap (λ xs. g e ∷ xs) (map_among f g es (λ x a. same x (inr a)))
 
 module _ (whole new : List ℕ) (table : Entries) (i : ℕ) (e : FileAt) (at : ℕ) (bytes : List ℕ) (t : IsTable whole table None) (is : IsIn table i e) (long : length new ≡ length whole)
-    (c : IsFileCut whole new e.page.0 e.pages e.log e.size at bytes) (below : KeepsBelow c.put e.log c.records e.size) (ends : EndsSome e.size at bytes)
+    (c : IsFileCut whole new e.page.0 e.pages e.log e.size at bytes) (ends : EndsSome e.size at bytes)
     (room : at + length bytes + 32 ≤ 256 * e.pages) where
   abbrev part : List ℕ
   part = take c.done bytes
@@ -120,7 +120,7 @@ module _ (whole new : List ℕ) (table : Entries) (i : ℕ) (e : FileAt) (at : �
             below = λ l named j low.
                 let few = (kept.logged l named).few in
                 let n = alike_number clear c.put l.0 j same (omega (arith, low, few)) in
-                let b = below l named j low in
+                let b = c.below l named j low in
                 subst (λ n. 128 * (n - 1) < size) (sym n) (omega (arith, b, larger));
             zeros = bytes_in.after;
           });
@@ -329,13 +329,10 @@ pub overwritten_mends : (whole new : List ℕ) (table : Entries) (i : ℕ) (e : 
     → (at + length bytes ≡ e.size → slice_index bytes (length bytes - 1) ≢ 0) → IsFileCut whole new e.page.0 e.pages e.log e.size at bytes → MendsToPut whole new table i e at bytes
 overwritten_mends whole new table i e at bytes t is long low last c =
     let room = (t.holds.stored i e is).fits.size in
-    let w = c.within in
-    let most : max e.size (at + c.done) ≡ e.size = omega (arith, w, low) in
     put_mends whole new table i e at bytes t is long c
-    (λ l log j less. subst (λ n. 128 * (number_in (table_of c.put l.0) j - 1) < n) most (c.becomes.kept.below l log j less))
     (λ k less end. let back : length bytes - 1 ≡ k = omega (arith, less, end, low) in subst (λ n. slice_index bytes n ≢ 0) back (last (omega (arith, less, end, low)))) (omega (arith, low, room))
 
 -- an append begins at the size
 pub appended_mends : (whole new : List ℕ) (table : Entries) (i : ℕ) (e : FileAt) (bytes : List ℕ) → IsTable whole table None → IsIn table i e → length new ≡ length whole → e.size + length bytes + 32 ≤ 256 * e.pages
-    → (c : IsFileCut whole new e.page.0 e.pages e.log e.size e.size bytes) → KeepsBelow c.put e.log c.records e.size → MendsToPut whole new table i e e.size bytes
-appended_mends whole new table i e bytes t is long room c below = put_mends whole new table i e e.size bytes t is long c below (λ k less end. absurd (omega (arith, end))) room
+    → IsFileCut whole new e.page.0 e.pages e.log e.size e.size bytes → MendsToPut whole new table i e e.size bytes
+appended_mends whole new table i e bytes t is long room c = put_mends whole new table i e e.size bytes t is long c (λ k less end. absurd (omega (arith, end))) room

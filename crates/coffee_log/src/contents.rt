@@ -383,6 +383,9 @@ fn append_plain<F: Flash>(flash: &mut F, page: PageId, at: u32, bytes: &[u8]) ->
         → IsUnlogged (F.image flash.old) log at (length bytes.now)
         → at + length bytes.now + 32 ≤ 256 * pages → 256 * (page.0 + pages) ≤ length (F.image flash.old)
         → IsFileCut (F.image flash.old) (F.image flash.new) page.0 pages log at at bytes.now) }
+    ensures stays { IsTrue F.tells → IsTrue F.cuts → OnErr result
+        ((k : ℕ) → Outside (256 * page.0 + 32 + at) (length bytes.now) k
+        → slice_index (F.image flash.new) k ≡ slice_index (F.image flash.old) k) }
     ensures frame { Programs F.image F.lent F.reads F.faults flash.old flash.new result }
 {
     flash.sectors();
@@ -414,7 +417,8 @@ fn put_part<F: Flash>(
     ensures adds { IsTrue F.tells → OnOk result (IsLog (F.image flash.old) log.0 used
         → AddsRecords (F.image flash.old) (F.image flash.new) log.0 used (used + 1) (at / 128) (256 * pages - 32)) }
     ensures cut { IsTrue F.tells → IsTrue F.cuts → OnErr result
-        ((size : ℕ) → IsFile (F.image flash.old) page.0 pages (Some log) used size → at ≤ size → size + 32 ≤ 256 * pages
+        ((size : ℕ) → IsFile (F.image flash.old) page.0 pages (Some log) used size → at ≤ size
+        → 128 * (at / 128) < size → size + 32 ≤ 256 * pages
         → IsFileCut (F.image flash.old) (F.image flash.new) page.0 pages (Some log) size at bytes.now) }
     ensures other_pages { IsTrue F.tells → (p : ℕ) → PageOutside (256 * log.0) 4096 p
         → page_bytes (F.image flash.new) p ≡ page_bytes (F.image flash.old) p }

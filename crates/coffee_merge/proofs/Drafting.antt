@@ -50,7 +50,7 @@ is_number : (kind : Kind) → is_kind (kind_number kind) ≡ true
 is_number Doubling = refl
 is_number (Fixed n) = refl
 
-draft_valid : (name : List ℕ) (kind : Kind) (page pages size : ℕ) → is_file_name name ≡ true → pages < 65536 → IsValid (draft_header (extent_of name kind page pages size))
+pub draft_valid : (name : List ℕ) (kind : Kind) (page pages size : ℕ) → is_file_name name ≡ true → pages < 65536 → IsValid (draft_header (extent_of name kind page pages size))
 draft_valid name kind page pages size good small = record { log_page = omega arith; log_records = omega arith; log_record_size = omega arith; max_pages = small; kind = is_number kind; flags = refl; name = good }
 
 draft_allowed : (page : ℕ) → 2 == 2 && not (page == page) ≡ false

@@ -3,6 +3,7 @@ ghost use Rattle.afl_base.specs.FileErrors.{OnSpace};
 ghost use Rattle.afl_base.specs.Keeping.{ChangesFlashOrLacks};
 ghost use Rattle.coffee_layout.specs.Files.{FitsIn};
 ghost use Rattle.coffee_layout.specs.Units.{pages_of};
+ghost use Rattle.coffee_layout.specs.Walks.{has_few};
 ghost use Rattle.coffee_merge.specs.Holding.{Entries, HoldsTable, IsIn, has_shape};
 ghost use Rattle.coffee_merge.specs.Outcomes.{LeavesAll, MovesFile};
 ghost use Rattle.coffee_merge.specs.Torn.{BreaksOff};
@@ -58,7 +59,7 @@ pub fn grow<F: Flash>(flash: &mut F, file: &FileAt) -> Result<FileAt, FileError>
     ensures inside { IfOk result (λ to. FitsIn (pages_of (F.image flash.new)) to) }
     ensures cut { IsTrue F.tells → IsTrue F.cuts → IsErrOf result FileError.Failed
         → (table : Entries) (i : ℕ) → HoldsTable (F.image flash.old) table None
-        → IsIn table i file.now
+        → IsIn table i file.now → has_few (record file.now { pages = 2 * file.now.pages }) ≡ true
         → BreaksOff (F.image flash.old) (F.image flash.new) table }
     ensures frame { ChangesFlashOrLacks F.image F.lent F.reads F.faults flash.old flash.new result }
 {
@@ -82,7 +83,7 @@ fn rewrite<F: Flash>(flash: &mut F, file: &FileAt, pages: u16) -> Result<FileAt,
     ensures inside { IfOk result (λ to. FitsIn (pages_of (F.image flash.new)) to) }
     ensures cut { IsTrue F.tells → IsTrue F.cuts → IsErrOf result FileError.Failed
         → (table : Entries) (i : ℕ) → HoldsTable (F.image flash.old) table None
-        → IsIn table i file.now
+        → IsIn table i file.now → (has_few file.now ≡ true → has_few (record file.now { pages = pages }) ≡ true)
         → BreaksOff (F.image flash.old) (F.image flash.new) table }
     ensures frame { ChangesFlashOrLacks F.image F.lent F.reads F.faults flash.old flash.new result }
 {

@@ -1,16 +1,18 @@
 -- A collection that breaks off: the image is tiled by units of which some have given way, and keeps the active extents.
-use Rattle.std.proofs.Common.{◌≡◌, ℕ, ◌+◌, ◌-◌, ◌*◌, ◌/◌, ◌≤◌, ◌<◌, ◌⊎◌, inl, inr, ⊎_elim, Bool, true, false, not, ◌&&◌, ◌||◌, ◌==◌, nat_lt, List, [], ◌∷◌, ◌++◌, length, replicate, take, get_or, refl, ap, sym, subst, ◌∙◌, arith}
+use Rattle.std.proofs.Common.{◌≡◌, ℕ, zero, suc, ◌+◌, ◌-◌, ◌*◌, ◌/◌, ◌≤◌, ◌<◌, ◌⊎◌, inl, inr, ⊎_elim, Bool, true, false, not, ◌&&◌, ◌||◌, ◌==◌, nat_lt, List, [], ◌∷◌, ◌++◌, length, replicate, take, get_or, if◌then◌else◌, refl, ap, sym, subst, ◌∙◌, arith}
 use Rattle.std.proofs.lemmas.Bool.{cases_lt}
 use Rattle.padded.proofs.Facts.{both_parts, true_or_false, lt_false, true_eq, neither, other_side}
 use Rattle.afl_base.specs.Cuts.{IsCutErase}
 use Rattle.afl_base.specs.Image.{or_at, page_bytes, zeros_at}
 use Rattle.afl_base.proofs.Images.{erased_other_page, erased_page, length_range, length_zeros_at, zeros_at_range}
 use Rattle.coffee_layout.specs.Marks.{active_pages, is_taken}
-use Rattle.coffee_layout.specs.Tiling.{IsTiled}
+use Rattle.coffee_layout.specs.Tiling.{IsTiled, units_of}
 use Rattle.coffee_layout.specs.Units.{pages_of, size_of, total, unit_of}
 use Rattle.coffee_layout.specs.declared.unit.Unit.{Unit}
+use Rattle.coffee_layout.specs.declared.unit.Unit.TheVariants.{Free, Isolated}
 use Rattle.coffee_layout.proofs.Tests.{eq_false, false_eq, false_lt}
-use Rattle.coffee_space.specs.Collection.{KeepsActive, cut_pages, touches}
+use Rattle.coffee_layout.proofs.Tilings.{units_tiled}
+use Rattle.coffee_space.specs.Collection.{KeepsActive, cut_pages, pages_left, touches}
 use Rattle.coffee_space.proofs.ActiveExtents.{keeps_active}
 use Rattle.coffee_space.specs.Cutting.{IsCutOff, IsLoose, begun_pages}
 use Rattle.coffee_space.specs.Steps.{Erases, ErasesFrom, ErasesSome, Isolates, IsolatesSome, StaysOrIsolated, unit_starts, is_chosen}
@@ -272,6 +274,68 @@ loose_behind taken building old mid new us long tiled i e q inside high g =
     inr (ap (λ bytes. unit_of (take 32 bytes)) is ∙ isolated_unit (page_bytes old q) (length_range old (256 * q) (256 * q + 256) exists ∙ omega arith)))
     (true_or_false (taken (q / 16)))
 
+-- WHERE THE UNITS OF THE IMAGE BEFORE AN ERASE BEGIN
+
+one_begun : (t : Bool) (sector page : ℕ) (rest : List Unit) → begun_pages sector page ((if t then Free else Isolated) ∷ rest) ≡ (page / 16 == sector) ∷ begun_pages sector (page + 1) rest
+one_begun true sector page rest = refl
+one_begun false sector page rest = refl
+
+-- the pages that are left of a unit begin each in its own sector
+left_marks : (gone : ℕ → Bool) (sector n page i : ℕ) (rest : List Unit) → i < n → get_or (begun_pages sector page (pages_left gone page n ++ rest)) i false ≡ ((page + i) / 16 == sector)
+left_marks gone sector zero page i rest low = absurd (omega arith)
+left_marks gone sector (suc n) page zero rest low =
+    let e : page ≡ page + 0 = omega arith in
+    ap (λ ms. get_or ms 0 false) (one_begun (gone (page / 16)) sector page (pages_left gone (page + 1) n ++ rest)) ∙ ap (λ p. p / 16 == sector) e
+left_marks gone sector (suc n) page (suc i) rest low =
+    let e : page + 1 + i ≡ page + suc i = omega arith in
+    ap (λ ms. get_or ms (suc i) false) (one_begun (gone (page / 16)) sector page (pages_left gone (page + 1) n ++ rest))
+    ∙ left_marks gone sector n (page + 1) i rest (omega arith) ∙ ap (λ p. p / 16 == sector) e
+
+left_behind : (gone : ℕ → Bool) (sector n page end i : ℕ) (rest : List Unit) → end ≡ page + n → get_or (begun_pages sector page (pages_left gone page n ++ rest)) (n + i) false ≡ get_or (begun_pages sector end rest) i false
+left_behind gone sector zero page end i rest e =
+    let same : page ≡ end = omega arith in
+    let none : 0 + i ≡ i = omega arith in
+    ap (λ k. get_or (begun_pages sector page rest) k false) none ∙ ap (λ p. get_or (begun_pages sector p rest) i false) same
+left_behind gone sector (suc n) page end i rest e =
+    let more : suc n + i ≡ suc (n + i) = omega arith in
+    ap (λ k. get_or (begun_pages sector page (pages_left gone page (suc n) ++ rest)) k false) more
+    ∙ ap (λ ms. get_or ms (suc (n + i)) false) (one_begun (gone (page / 16)) sector page (pages_left gone (page + 1) n ++ rest))
+    ∙ left_behind gone sector n (page + 1) end i rest (omega arith)
+
+begun_turn : (gone : ℕ → Bool) (sector : ℕ) (u : Unit) (us rest : List Unit) (t : Bool) (page i : ℕ) → sector < (page + i) / 16
+    → (size_of u ≤ i → get_or (begun_pages sector (page + size_of u) rest) (i - size_of u) false ≡ true → get_or (begun_pages sector (page + size_of u) us) (i - size_of u) false ≡ true)
+    → get_or (begun_pages sector page ((if t then pages_left gone page (size_of u) else u ∷ []) ++ rest)) i false ≡ true → get_or (begun_pages sector page (u ∷ us)) i false ≡ true
+begun_turn gone sector u us rest t page i high more m = ⊎_elim
+    (λ (here : i < size_of u). front t here m)
+    (λ (behind : size_of u ≤ i).
+    let back : size_of u + (i - size_of u) ≡ i = omega arith in
+    ap (λ k. get_or (begun_pages sector page (u ∷ us)) k false) (sym back) ∙ mark_behind (page / 16 == sector) (begun_pages sector (page + size_of u) us) (size_of u) (i - size_of u)
+    ∙ more behind (sym (rest_at t (i - size_of u)) ∙ ap (λ k. get_or (begun_pages sector page ((if t then pages_left gone page (size_of u) else u ∷ []) ++ rest)) k false) back ∙ m))
+    (cases_lt i (size_of u))
+  where
+    front : (t : Bool) → i < size_of u → get_or (begun_pages sector page ((if t then pages_left gone page (size_of u) else u ∷ []) ++ rest)) i false ≡ true → get_or (begun_pages sector page (u ∷ us)) i false ≡ true
+    front true here m = let e = true_eq ((page + i) / 16) sector (sym (left_marks gone sector (size_of u) page i rest here) ∙ m) in absurd (omega arith)
+    front false here m =
+        mark_front (page / 16 == sector) (begun_pages sector (page + size_of u) us) (size_of u) i here
+        ∙ sym (mark_front (page / 16 == sector) (begun_pages sector (page + size_of u) rest) (size_of u) i here) ∙ m
+
+    rest_at : (t : Bool) (k : ℕ) → get_or (begun_pages sector page ((if t then pages_left gone page (size_of u) else u ∷ []) ++ rest)) (size_of u + k) false ≡ get_or (begun_pages sector (page + size_of u) rest) k false
+    rest_at true k = left_behind gone sector (size_of u) page (page + size_of u) k rest refl
+    rest_at false k = mark_behind (page / 16 == sector) (begun_pages sector (page + size_of u) rest) (size_of u) k
+
+-- what reaches out of a sector when units have given way did so before
+begun_after : (gives : ℕ → ℕ → Bool) (gone : ℕ → Bool) (sector : ℕ) (us : List Unit) (page i : ℕ) → sector < (page + i) / 16
+    → get_or (begun_pages sector page (units_after gives gone page us)) i false ≡ true → get_or (begun_pages sector page us) i false ≡ true
+begun_after gives gone sector [] page i high m = m
+begun_after gives gone sector (u ∷ us) page i high m =
+    begun_turn gone sector u us (units_after gives gone (page + size_of u) us) (gives page (size_of u)) page i high
+    (λ low n. begun_after gives gone sector us (page + size_of u) (i - size_of u) (let e : page + size_of u + (i - size_of u) ≡ page + i = omega arith in subst (λ q. sector < q / 16) (sym e) high) n) m
+
+part_units : (taken gone test building : ℕ → Bool) (old new : List ℕ) (us : List Unit) → length new ≡ length old → IsTiled building old us → PartWay taken gone test old new us → units_of new ≡ units_after (part_way taken test) gone 0 us
+part_units taken gone test building old new us long tiled w =
+    units_tiled building new (units_after (part_way taken test) gone 0 us)
+    (tiled_after (part_way taken test) gone building old new us (giving_part taken gone test old new us w) long tiled (left_part taken gone test old new us w))
+
 pub cut_erasing : (taken building : ℕ → Bool) (old mid new : List ℕ) (us : List Unit) → ((s : ℕ) → taken s ≡ is_taken us s) → length mid ≡ length old → IsTiled building old us → Isolates taken Behind old mid us → ErasesSome taken mid new → IsCutOff building old new us
 cut_erasing taken building old mid new us same long tiled i e =
     let size = e.size in
@@ -282,9 +346,16 @@ cut_erasing taken building old mid new us same long tiled i e =
       sector = e.sector;
       before = e.before;
       is_taken = sym (same e.sector) ∙ e.is_taken;
+      long = omega arith;
       kept = keeps_part taken (gone_from taken (e.sector + 1)) (λ p. gone_from taken (e.sector + 1) (p / 16)) building old e.before us same (omega arith) tiled (erasing_part taken old mid e.before us (e.sector + 1) long i e.from);
       cut = e.cut;
-      loose = loose_behind taken building old mid new us long tiled i e;
+      loose = λ page in_image high mark.
+          let gone = gone_from taken (e.sector + 1) in
+          let part = erasing_part taken old mid e.before us (e.sector + 1) long i e.from in
+          let units = part_units taken gone (λ p. gone (p / 16)) building old e.before us (omega arith) tiled part in
+          let reach : e.sector < (0 + page) / 16 = omega arith in
+          loose_behind taken building old mid new us long tiled i e page in_image high
+          (begun_after (part_way taken (λ p. gone (p / 16))) gone e.sector us 0 page reach (ap (λ vs. get_or (begun_pages e.sector 0 vs) page false) (sym units) ∙ mark));
       again = keeps_part taken (gone_from taken e.sector) (λ p. gone_from taken e.sector (p / 16)) building old (zeros_at new (4096 * e.sector) 4096) us same (omega arith) tiled (erasing_part taken old mid (zeros_at new (4096 * e.sector) 4096) us e.sector long i (again_from taken mid new e));
     }
 

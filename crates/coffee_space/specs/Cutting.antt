@@ -1,8 +1,9 @@
 -- What a cut within a collection leaves.
-use Rattle.std.specs.Prelude.{◌≡◌, ◌⊎◌, ℕ, ◌+◌, ◌*◌, ◌/◌, ◌<◌, ◌==◌, Bool, true, false, List, [], ◌∷◌, ◌++◌, replicate, slice_index_or, Some}
+use Rattle.std.specs.Prelude.{◌≡◌, ◌⊎◌, ℕ, ◌+◌, ◌*◌, ◌/◌, ◌<◌, ◌==◌, Bool, true, false, List, [], ◌∷◌, ◌++◌, length, replicate, slice_index_or, Some}
 use Rattle.afl_base.specs.Cuts.{IsCutErase}
 use Rattle.afl_base.specs.Image.{page_bytes, zeros_at}
 use Rattle.coffee_layout.specs.Marks.{is_taken}
+use Rattle.coffee_layout.specs.Tiling.{units_of}
 use Rattle.coffee_layout.specs.Units.{pages_of, size_of, unit_at}
 use Rattle.coffee_layout.specs.declared.unit.Unit.{Unit}
 use Rattle.coffee_layout.specs.declared.unit.Unit.TheVariants.{Isolated}
@@ -23,9 +24,10 @@ pub record IsCutOff (building : ℕ → Bool) (old new : List ℕ) (us : List Un
   pub sector : ℕ
   pub before : List ℕ
   pub is_taken : is_taken us sector ≡ true
+  pub long : length before ≡ length old
   pub kept : KeepsActive building old before us
   pub cut : IsCutErase before new sector
-  pub loose : (page : ℕ) → page < pages_of old → sector < page / 16 → slice_index_or (begun_pages sector 0 us) page false ≡ true → IsLoose new page
+  pub loose : (page : ℕ) → page < pages_of old → sector < page / 16 → slice_index_or (begun_pages sector 0 (units_of before)) page false ≡ true → IsLoose new page
   pub again : KeepsActive building old (zeros_at new (4096 * sector) 4096) us
 
 -- what a cut leaves: an image of that kind, but for at most one sector whose erase broke off

@@ -1,12 +1,13 @@
-use Rattle.std.proofs.Common.{arith, ◌≡◌, ◌+◌, ◌-◌, ◌*◌, ◌/◌, ◌≤◌, length, take, drop, None, Some, [], refl, ap, sym, subst}
+use Rattle.std.proofs.Common.{arith, ◌≡◌, ◌+◌, ◌-◌, ◌*◌, ◌/◌, ◌≤◌, ◌<◌, ◌∙◌, length, take, drop, None, Some, [], refl, ap, sym, subst}
 use Rattle.std.proofs.lemmas.List.{length-drop, length-take}
-use Rattle.padded.proofs.Facts.{on_err}
+use Rattle.afl_base.specs.declared.ids.PageId.{PageId}
+use Rattle.padded.proofs.Facts.{on_err, some_same}
 use Rattle.coffee_layout.specs.FileBytes.{last_in, table_of}
-use Rattle.coffee_log.specs.FileChanges.{FileBecomes, IsFile}
+use Rattle.coffee_log.specs.FileChanges.{BeginsBelow, FileBecomes, IsFile, one_if}
 use Rattle.coffee_log.specs.Logs.{AddsRecords}
 use Rattle.coffee_log.proofs.AddedRecords.{adds_kept, adds_none, range_apart}
 use Rattle.coffee_log.proofs.Appends.{plain_end}
-use Rattle.coffee_log.proofs.FileCutLaws.{cut_later, cut_same}
+use Rattle.coffee_log.proofs.FileCutLaws.{adds_below, below_kept, cut_later, cut_same, logged_below, table_untorn}
 use Rattle.coffee_log.proofs.FileSteps.{append_two, becomes_nothing}
 use Rattle.coffee_log.proofs.contents.append_logged.Goals as goal
 
@@ -58,8 +59,10 @@ returns-in_err-put_part-clause-cut g c = λ t u. on_err c.from_residual-in_err-p
     let nothing : FileBecomes (g.F.Flash.image c.args.flash.now) (g.F.Flash.image c.is_logged.new.flash) c.args.page.0 c.args.pages (Some c.args.log) c.args.used c.args.at c.args.at [] =
     subst (λ i. FileBecomes (g.F.Flash.image c.args.flash.now) i c.args.page.0 c.args.pages (Some c.args.log) c.args.used c.args.at c.args.at []) (sym same) (becomes_nothing (g.F.Flash.image c.args.flash.now) c.args.page.0 c.args.pages (Some c.args.log) c.args.used c.args.at c.args.at is) in
     let front : length (take c.min-n.result c.args.bytes.now) ≡ c.min-n.result = omega (arith, length-take c.min-n.result c.args.bytes.now) in
+    let begins : 128 * (c.args.at / 128) < c.args.at = logged_below (g.F.Flash.image c.is_logged.new.flash) c.args.page.0 c.args.pages c.args.log c.args.used c.args.at (c.args.at / 128) was (subst (λ i. one_if (last_in (table_of i c.args.log.0) (c.args.at / 128) 30) ≡ 1) (sym same) (c.in_ok-is_logged.ensures.logged t c.if-not-branch.false)) in
+    let cut = c.in_err-put_part.ensures.cut t u c.args.at was (omega arith) begins (omega arith) in
     cut_later (g.F.Flash.image c.args.flash.now) (g.F.Flash.image c.is_logged.new.flash) (g.F.Flash.image c.put_part.new.flash) c.args.bytes.now _ c.args.page.0 c.args.pages (Some c.args.log) c.args.used c.args.at c.args.at c.args.at c.args.at 0 c.min-n.result
-    nothing (c.in_err-put_part.ensures.cut t u c.args.at was (omega arith) (omega arith)) (omega arith) (omega arith) refl (omega arith) (omega arith) (omega arith))
+    nothing cut cut.below (omega arith) (omega arith) refl (omega arith) (omega arith) (omega arith))
 
 pub returns-in_err-append_plain-2-clause-cut : goal.returns-in_err-append_plain-2-clause-cut
 returns-in_err-append_plain-2-clause-cut g c = λ t u. on_err c.from_residual-in_err-append_plain-2.result (λ is.
@@ -70,12 +73,23 @@ returns-in_err-append_plain-2-clause-cut g c = λ t u. on_err c.from_residual-in
     let was : IsFile (g.F.Flash.image c.is_logged.new.flash) c.args.page.0 c.args.pages (Some c.args.log) c.args.used c.args.at = subst (λ i. IsFile i c.args.page.0 c.args.pages (Some c.args.log) c.args.used c.args.at) (sym c.in_ok-is_logged.ensures.frame.same) is in
     let put : FileBecomes (g.F.Flash.image c.is_logged.new.flash) (g.F.Flash.image c.put_part.new.flash) c.args.page.0 c.args.pages (Some c.args.log) (c.args.used + 1) (c.args.at + c.min-n.result) c.args.at (take c.min-n.result c.args.bytes.now) =
     c.in_ok-put_part.ensures.becomes t c.args.at (c.args.at + c.min-n.result) was (omega arith) (omega arith) (omega arith) in
-    cut_later (g.F.Flash.image c.args.flash.now) (g.F.Flash.image c.put_part.new.flash) (g.F.Flash.image c.append_plain-2.new.flash) c.args.bytes.now _ c.args.page.0 c.args.pages (Some c.args.log) (c.args.used + 1) c.args.at (c.args.at + c.min-n.result) c.args.at _ c.min-n.result _
-    (subst (λ i. FileBecomes i (g.F.Flash.image c.put_part.new.flash) c.args.page.0 c.args.pages (Some c.args.log) (c.args.used + 1) (c.args.at + c.min-n.result) c.args.at (take c.min-n.result c.args.bytes.now)) c.in_ok-is_logged.ensures.frame.same put)
-    (c.in_err-append_plain-2.ensures.cut t u c.args.pages (c.args.used + 1) (Some c.args.log) put.kept
+    let same = c.in_ok-is_logged.ensures.frame.same in
+    let begins : 128 * (c.args.at / 128) < c.args.at = logged_below (g.F.Flash.image c.is_logged.new.flash) c.args.page.0 c.args.pages c.args.log c.args.used c.args.at (c.args.at / 128) was (subst (λ i. one_if (last_in (table_of i c.args.log.0) (c.args.at / 128) 30) ≡ 1) (sym same) (c.in_ok-is_logged.ensures.logged t c.if-not-branch.false)) in
+    let adds : BeginsBelow (g.F.Flash.image c.put_part.new.flash) c.args.log.0 (c.args.used + 1) c.args.at =
+    adds_below (g.F.Flash.image c.is_logged.new.flash) (g.F.Flash.image c.put_part.new.flash) c.args.log.0 c.args.used (c.args.at / 128) c.args.at (256 * c.args.pages - 32)
+    (c.in_ok-put_part.ensures.adds t (was.logged c.args.log refl)) (was.below c.args.log refl) begins in
+    let cut = c.in_err-append_plain-2.ensures.cut t u c.args.pages (c.args.used + 1) (Some c.args.log) put.kept
     (λ l e some.
     let same : c.args.log ≡ l = cc in
     subst (λ x. last_in (table_of (g.F.Flash.image c.put_part.new.flash) x.0) ((c.args.at + c.min-n.result) / 128) 30 ≡ None) same
     (plain_end (g.F.Flash.image c.put_part.new.flash) c.args.page.0 c.args.pages c.args.log (c.args.used + 1) (c.args.at + c.min-n.result) put.kept (omega arith)))
-    (omega arith) (omega (arith, size0, c.in_ok-put_part.ensures.frame.size)))
+    (omega arith) (omega (arith, size0, c.in_ok-put_part.ensures.frame.size)) in
+    cut_later (g.F.Flash.image c.args.flash.now) (g.F.Flash.image c.put_part.new.flash) (g.F.Flash.image c.append_plain-2.new.flash) c.args.bytes.now _ c.args.page.0 c.args.pages (Some c.args.log) (c.args.used + 1) c.args.at (c.args.at + c.min-n.result) c.args.at _ c.min-n.result _
+    (subst (λ i. FileBecomes i (g.F.Flash.image c.put_part.new.flash) c.args.page.0 c.args.pages (Some c.args.log) (c.args.used + 1) (c.args.at + c.min-n.result) c.args.at (take c.min-n.result c.args.bytes.now)) same put)
+    cut
+    (λ l named. subst (λ (m : PageId). BeginsBelow cut.put m.0 cut.records c.args.at) (some_same c.args.log l named)
+    (below_kept (g.F.Flash.image c.put_part.new.flash) cut.put c.args.log.0 (c.args.used + 1) cut.records c.args.at
+    (λ k from to. table_untorn cut.put (g.F.Flash.image c.append_plain-2.new.flash) c.args.log cut.records cut.torn k from to
+    ∙ range_apart (g.F.Flash.image c.put_part.new.flash) (g.F.Flash.image c.append_plain-2.new.flash) c.args.page.0 c.args.pages (c.args.at + c.min-n.result) _ c.args.log.0 (is.apart c.args.log refl) (omega arith) (c.in_err-append_plain-2.ensures.stays t u) k from (omega (arith, to)))
+    (put.kept.logged c.args.log refl) (cut.becomes.kept.logged c.args.log refl) adds))
     (omega arith) refl refl (omega arith) (omega arith) (omega arith))

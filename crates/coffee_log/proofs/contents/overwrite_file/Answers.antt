@@ -33,5 +33,6 @@ loop-done-preserved g c =
 pub returns-in_err-put_part-clause-cut : goal.returns-in_err-put_part-clause-cut
 returns-in_err-put_part-clause-cut g c = λ t u. on_err c.from_residual.result (λ size is ends fits.
     let b = c.loop-done.invariant.becomes t size is ends fits in
+    let cut = c.in_err-put_part.ensures.cut t u size b.kept (omega arith) (omega arith) fits in
     cut_later (g.F.Flash.image c.args.flash.now) (g.F.Flash.image c.loop-done.flash) (g.F.Flash.image c.put_part.new.flash) c.args.bytes.now _ c.args.page.0 c.args.pages (Some c.args.log) c.loop-done.records size size c.args.at _ c.loop-done.done _
-    b (c.in_err-put_part.ensures.cut t u size b.kept (omega arith) fits) (omega arith) refl refl (omega arith) (omega arith) (omega arith))
+    b cut cut.below (omega arith) refl refl (omega arith) (omega arith) (omega arith))

@@ -1,5 +1,5 @@
 use Rattle.std.proofs.Common.{None, arith, refl}
-use Rattle.coffee_merge.proofs.Drafting.{draft_begins, stays_begins}
+use Rattle.coffee_merge.proofs.Drafting.{draft_begins, draft_valid, stays_begins}
 use Rattle.coffee_merge.proofs.Lowest.{draft_frees, takes_by}
 use Rattle.coffee_merge.proofs.Taken.{draft_takes, takes_after}
 use Rattle.coffee_merge.proofs.TornFiles.{torn_header}
@@ -25,5 +25,5 @@ returns-clause-begun g c = λ t table size h fits.
 pub returns-in_err-put_file_header-clause-cut : goal.returns-in_err-put_file_header-clause-cut
 returns-in_err-put_file_header-clause-cut g c = λ t u failed table h.
     let first = c.in_ok-page.ensures.run t table h in
-    torn_header (g.F.Flash.image c.args.flash.now) (g.F.Flash.image c.obtain_pages.new.flash) (g.F.Flash.image c.put_file_header.new.flash) table first.stays.kept
-    c.in_ok-page.page.0 c.args.pages _ first.stays.holds refl first.run refl (c.in_err-put_file_header.ensures.cut t u)
+    torn_header (g.F.Flash.image c.args.flash.now) (g.F.Flash.image c.obtain_pages.new.flash) (g.F.Flash.image c.put_file_header.new.flash) table first.stays.kept c.obtain_pages.ensures.frame.size
+    c.in_ok-page.page.0 c.args.pages _ first.stays.holds (draft_valid c.args.name.now c.args.kind c.in_ok-page.page.0 c.args.pages 0 c.put_file_header.ensures.name (omega (arith, c.ranges.pages))) refl c.requires.some first.run refl (c.in_err-put_file_header.ensures.cut t u)

@@ -1,4 +1,4 @@
-use Rattle.std.proofs.Common.{Some, arith, refl, ◌∙◌}
+use Rattle.std.proofs.Common.{Some, arith, ◌∙◌}
 use Rattle.coffee_merge.proofs.Logged.{has_log, logged, stays_logs}
 use Rattle.coffee_merge.proofs.Lowest.{log_frees, not_extent, takes_by}
 use Rattle.coffee_merge.proofs.Taken.{log_takes, takes_after}
@@ -25,11 +25,11 @@ returns-clause-logged g c = λ t table i h is none.
 pub returns-in_err-put_log_header-clause-cut : goal.returns-in_err-put_log_header-clause-cut
 returns-in_err-put_log_header-clause-cut g c = λ t u failed table i h is none.
     let first = c.in_ok-log.ensures.run t table h in
-    torn_log (g.F.Flash.image c.args.flash.now) (g.F.Flash.image c.obtain_pages.new.flash) (g.F.Flash.image c.put_log_header.new.flash) table first.stays.kept
+    torn_log (g.F.Flash.image c.args.flash.now) (g.F.Flash.image c.obtain_pages.new.flash) (g.F.Flash.image c.put_log_header.new.flash) table first.stays.kept c.obtain_pages.ensures.frame.size
     i c.args.file.now c.in_ok-log.log.0 first.stays.holds is none first.run (c.in_err-put_log_header.ensures.cut t u)
 
 pub returns-in_err-name_log-clause-cut : goal.returns-in_err-name_log-clause-cut
 returns-in_err-name_log-clause-cut g c = λ t u failed table i h is none.
     let first = c.in_ok-log.ensures.run t table h in
-    torn_naming (g.F.Flash.image c.args.flash.now) (g.F.Flash.image c.obtain_pages.new.flash) (g.F.Flash.image c.name_log.new.flash) table first.stays.kept
+    torn_naming (g.F.Flash.image c.args.flash.now) (g.F.Flash.image c.obtain_pages.new.flash) (g.F.Flash.image c.name_log.new.flash) table first.stays.kept c.obtain_pages.ensures.frame.size
     (g.F.Flash.image c.put_log_header.new.flash) i c.args.file.now c.in_ok-log.log first.stays.holds is none first.run (c.in_ok-put_log_header.ensures.written t) (c.in_err-name_log.ensures.cut t u)
