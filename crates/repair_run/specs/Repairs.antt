@@ -1,6 +1,9 @@
 -- What a repair leaves of an image, and what it says of it.
-use Rattle.std.specs.Prelude.{◌≡◌, ◌⊎◌, ⊥, ℕ, List, [], ◌++◌, Option, Result, Ok, Err, codes}
+use Rattle.std.specs.Prelude.{◌≡◌, ◌⊎◌, ⊥, ℕ, List, [], ◌++◌, Option, None, Result, Ok, Err, codes}
 use Rattle.std.specs.Io.KnownBytes.{append_known}
+use Rattle.coffee_cuts.specs.Cuts.{MendsTo}
+use Rattle.coffee_layout.specs.Files.{NamedFile}
+use Rattle.coffee_layout.specs.Rules.{broken_image}
 use Rattle.db_model.specs.ReplyText.{line, refusal_text}
 use Rattle.db_model.specs.declared.refusals.Refusal.TheVariants as no
 use Rattle.reply_text.specs.WroteLess.{WroteLess}
@@ -36,16 +39,19 @@ abbrev pub IsSaid : (status : ℕ) → List Mended → Result Came Hindrance →
 IsSaid status mended came held now =
     ((status ≡ status_of came) × (now ≡ append_known held (said mended came))) ⊎ ((status ≡ 5) × WroteLess held now (said mended came))
 
+-- the files of an image are sound, or they are where what a cut left is settled
+abbrev pub IsMendable : List ℕ → Type 0
+IsMendable image = (broken_image image ≡ None) ⊎ ((files : List NamedFile) × MendsTo image files)
+
 -- what is left of an image: it is sound, and as it was; it was not sound, and is; it is as it was, and this is its first
--- broken rule; or, where the repair came to no end, it was not sound, but that a fault may come over a sound one, which is as
--- it was then
+-- broken rule; or the repair came to no end. It is written only where it is not sound, and its files can be put right
 abbrev pub Leaves : (old new : List ℕ) → Result Came Hindrance → Type 0
 Leaves old new (Ok Sound) = IsSound old × (new ≡ old)
-Leaves old new (Ok Repaired) = (IsSound old → ⊥) × IsSound new
+Leaves old new (Ok Repaired) = (IsSound old → ⊥) × IsMendable old × IsSound new
 Leaves old new (Ok (Strange bad)) = (new ≡ old) × IsFirstBroken old bad.rule bad.place
-Leaves old new (Err (Spaceless need)) = IsSound old → ⊥
-Leaves old new (Err (Unsettled bad)) = IsSound old → ⊥
-Leaves old new (Err Failed) = IsSound old → new ≡ old
+Leaves old new (Err (Spaceless need)) = (IsSound old → ⊥) × IsMendable old
+Leaves old new (Err (Unsettled bad)) = (IsSound old → ⊥) × IsMendable old
+Leaves old new (Err Failed) = (new ≡ old) ⊎ ((IsSound old → ⊥) × IsMendable old)
 
 -- what a repair that ended with a status left of an image and of a sink
 pub record Repairs (status : ℕ) (old new : List ℕ) (held now : Option (List ℕ)) : Type 0 where

@@ -1,6 +1,7 @@
-ghost use Rattle.std.specs.Prelude.{◌≡◌, ◌≤◌, ⊥, Err, IsTrue, OnOk, length};
+ghost use Rattle.std.specs.Prelude.{◌≡◌, ⊥, Err, None, IsTrue, OnOk, length};
 ghost use Rattle.afl_base.specs.Causes.{Rose};
 ghost use Rattle.coffee_find.specs.Found.{IsCutBy, LiesInside};
+ghost use Rattle.coffee_layout.specs.Rules.{broken_image};
 ghost use Rattle.sound_image.specs.Images.{IsFirstBroken, IsSound};
 ghost use Rattle.repair_run.specs.Repairs.{IsRepairStatus, Leaves, Repairs};
 ghost use Rattle.repair_run.specs.declared.came.Hindrance.TheVariants.{Failed as FaultOfFlash};
@@ -11,7 +12,7 @@ use crate::lines::say;
 use crate::mending::mend_image;
 use crate::surveying::survey_image;
 use afl_base::{Failed, Flash, Sink};
-use coffee_find::{Judgement, Trouble, UnderWay, judge};
+use coffee_find::{Judgement, Trouble, UnderWay, cut_images_mend, judge};
 use coffee_layout::BadImage;
 use coffee_mend::{MendError, mend};
 use sound_image::sound_image_breaks_no_rule;
@@ -83,7 +84,7 @@ fn put_database_right<F: Flash>(
     bad: BadImage,
 ) -> (F, Result<Came, Hindrance>)
     ensures leaves { IsTrue F.tells → (IsSound (F.image flash) → ⊥) → IsFirstBroken (F.image flash) bad.rule bad.place
-        → Leaves (F.image flash) (F.image result.0) result.1 }
+        → broken_image (F.image flash) ≡ None → Leaves (F.image flash) (F.image result.0) result.1 }
     ensures size { length (F.image result.0) ≡ length (F.image flash) }
     ensures lent { F.lent result.0 ≡ F.lent flash }
     ensures cause { result.1 ≡ Err FaultOfFlash → Rose (F.faults flash) (F.faults result.0) }
@@ -112,11 +113,12 @@ fn put_files_right<F: Flash>(
 ) -> (F, Result<Came, Hindrance>)
     requires inside { LiesInside (length (F.image flash)) trouble.now }
     ensures leaves { IsTrue F.tells → (IsSound (F.image flash) → ⊥) → IsFirstBroken (F.image flash) bad.rule bad.place
-        → Leaves (F.image flash) (F.image result.0) result.1 }
+        → IsCutBy (F.image flash) trouble.now → Leaves (F.image flash) (F.image result.0) result.1 }
     ensures size { length (F.image result.0) ≡ length (F.image flash) }
     ensures lent { F.lent result.0 ≡ F.lent flash }
     ensures cause { result.1 ≡ Err FaultOfFlash → Rose (F.faults flash) (F.faults result.0) }
 {
+    cut_images_mend();
     let (flash, surveyed) = survey_image(flash, trouble);
     match surveyed {
         Ok(true) => match mend_files(flash, report, bad, trouble) {
