@@ -1,9 +1,15 @@
 -- What settling an image, and putting a file together with its log, come to.
 use Rattle.std.proofs.Common.{◌≡◌, inl, inr, ℕ, ◌+◌, ◌*◌, ◌≤◌, List, ◌∷◌, length, Some, None, refl, ap, sym, subst, ◌∙◌, arith}
 use Rattle.std.specs.List.{Contains}
+use Rattle.std.specs.Prelude.{Result, Ok, Err, IfErr}
+use Rattle.afl_base.specs.FileErrors.{OnSpace as on_space}
+use Rattle.afl_base.specs.declared.kind.FileError.{FileError}
+use Rattle.afl_base.specs.declared.kind.FileError.TheVariants.{Space as file_space}
+use Rattle.coffee_mend.specs.declared.mending.MendError.{MendError}
+use Rattle.coffee_mend.specs.declared.mending.MendError.TheVariants.{Space, Failed, Unsettled}
 use Rattle.afl_base.specs.Image.{zeros_at}
 use Rattle.afl_base.proofs.Images.{length_zeros_at}
-use Rattle.coffee_cuts.specs.Cuts.{HasTornRecord, IsSettled, settled}
+use Rattle.coffee_cuts.specs.Cuts.{HasTornRecord, Nothing, IsSettled, settled}
 use Rattle.coffee_find.specs.Found.{HasPage, IsCutBy, IsSoundBut, IsTorn, meant}
 use Rattle.coffee_find.specs.declared.trouble.TornRecord.{TornRecord}
 use Rattle.coffee_find.specs.declared.trouble.Trouble.{Trouble}
@@ -11,9 +17,9 @@ use Rattle.coffee_layout.specs.FileBytes.{table_of, used_in}
 use Rattle.coffee_layout.specs.Files.{NamedFile, files_of}
 use Rattle.coffee_layout.specs.Rules.{broken_image}
 use Rattle.coffee_layout.specs.Units.{pages_of}
-use Rattle.coffee_mend.specs.Joined.{IsJoined}
-use Rattle.coffee_mend.specs.Mended.{HandsBack, IsMended, IsSoundAs}
-use Rattle.coffee_mend.proofs.TornRecords.{torn_files}
+use Rattle.coffee_mend.specs.Joined.{IsJoined, LacksRoom}
+use Rattle.coffee_mend.specs.Mended.{HandsBack, IsCrowded, IsMended, IsSoundAs, IsTornAs, OnSpace}
+use Rattle.coffee_mend.proofs.TornRecords.{still_torn, torn_files}
 use Rattle.coffee_mend.proofs.Unblanked.{unjoined}
 
 -- ---- a flash of which 128 bytes read as zeros
@@ -49,7 +55,36 @@ module _ {F : Type 0} (image lent : F → List ℕ) (reads : F → ℕ) (flash b
       let u = unjoined (zeros_at (image flash) place 128) (image back) place log (omega (arith, there, at)) (omega (arith, record_at)) (omega (arith, record_at, free)) j in
       record { sound = u.0; same = u.1 }
 
+  pub torn_back : (log need : ℕ) → IsTorn (image flash) log place → 256 * pages_of (image flash) ≡ length (image flash) → place + 128 ≤ length (image flash) → to + 128 ≤ length (image back) → to ∷ lent after ≡ from ∷ lent before
+      → (broken_image (zeros_at (image before) from 128) ≡ None → LacksRoom (zeros_at (image before) from 128) (zeros_at (image after) to 128) log need) → IsTornAs (image flash) (image back) log place need
+  torn_back log need t whole inside there borrowed lacks =
+      let is_to : to ≡ from = cc in
+      let at : to ≡ place = is_to ∙ is_from in
+      let new_same : zeros_at (image after) to 128 ≡ zeros_at (image back) place 128 = ap (λ f. zeros_at (image f) to 128) (sym is_back) ∙ ap (λ p. zeros_at (image back) p 128) at in
+      still_torn (image flash) (image back) log place need t whole inside (omega (arith, there, at))
+      (subst (λ i. LacksRoom i (zeros_at (image back) place 128) log need) old_same (subst (λ i. LacksRoom (zeros_at (image before) from 128) i log need) new_same (lacks (ap broken_image old_same ∙ t.sound))))
+
+-- ---- answers
+
+-- what a call says of its error, in a place where that is known
+pub space_known : {T : Type 0} (r : Result T FileError) (e : FileError) (need : ℕ) (P : ℕ → Type 0) → r ≡ Err e → e ≡ file_space need → on_space r P → P need
+space_known r e need P is same p = rw (is ∙ ap (λ x. Err x) same) at p
+
+pub space_more : {F : Type 0} (P Q : ℕ → F → Type 0) (r : Result F (MendError F)) → ((need : ℕ) (f : F) → P need f → Q need f) → IfErr r (λ e. OnSpace e P) → IfErr r (λ e. OnSpace e Q)
+space_more P Q (Ok f) more p = tt
+space_more P Q (Err (Space need f)) more p = more need f p
+space_more P Q (Err (Failed f)) more p = tt
+space_more P Q (Err (Unsettled f)) more p = tt
+
 -- ---- what was found
+
+has_record : (image : List ℕ) (log place : ℕ) → IsTorn image log place → HasTornRecord image
+has_record image log place t = record {
+  log = log;
+  is_log = t.is_log;
+  free = t.free;
+  sound = ap (λ p. broken_image (zeros_at image p 128)) (sym t.next) ∙ t.sound;
+}
 
 -- nothing but what was under way
 pub mended_whole : (old new : List ℕ) (trouble : Trouble) → IsCutBy old trouble → trouble.torn ≡ None → new ≡ settled old (meant trouble.under_way) → IsMended old new
@@ -73,18 +108,27 @@ pub mended_torn : (old mid new : List ℕ) (trouble : Trouble) (r : TornRecord) 
     → r.place + 128 ≤ length mid → IsSoundAs (zeros_at mid r.place 128) new → IsMended old new
 mended_torn old mid new trouble r cut some is whole inside s =
     let t : IsTorn mid r.log.0 r.place = torn_found old mid trouble r cut some is in
-    let torn : HasTornRecord mid = record {
-      log = r.log.0;
-      is_log = t.is_log;
-      free = t.free;
-      sound = ap (λ p. broken_image (zeros_at mid p 128)) (sym t.next) ∙ t.sound;
-    } in
     let same : files_of mid ≡ files_of (zeros_at mid r.place 128) = torn_files mid r.log.0 r.place whole inside t in
     let files : List NamedFile = files_of mid in
     record {
       files = files;
-      mends = record { under_way = meant trouble.under_way; found = cut.found; settles = subst IsSettled is (inr torn); files_are = ap files_of is };
+      mends = record { under_way = meant trouble.under_way; found = cut.found; settles = subst IsSettled is (inr (has_record mid r.log.0 r.place t)); files_are = ap files_of is };
       sound = s.sound;
       kept = λ f has. s.same.kept f (subst (λ fs. Contains fs f) same has);
       only = λ f has. subst (λ fs. Contains fs f) (sym same) (s.same.only f has);
+    }
+
+-- a torn record for whose file no pages are had
+pub mended_crowded : (old mid new : List ℕ) (trouble : Trouble) (r : TornRecord) (need : ℕ) → IsCutBy old trouble → trouble.torn ≡ Some r → mid ≡ settled old (meant trouble.under_way) → IsTornAs mid new r.log.0 r.place need → IsCrowded old new need
+mended_crowded old mid new trouble r need cut some is s =
+    let files : List NamedFile = files_of mid in
+    let others : List NamedFile = files_of new in
+    record {
+      files = files;
+      mends = record { under_way = meant trouble.under_way; found = cut.found; settles = subst IsSettled is (inr (has_record mid r.log.0 r.place (torn_found old mid trouble r cut some is))); files_are = ap files_of is };
+      others = others;
+      still = record { under_way = Nothing; found = tt; settles = inr (has_record new r.log.0 r.place s.torn); files_are = refl };
+      kept = s.same.kept;
+      only = s.same.only;
+      cramped = s.cramped;
     }

@@ -1,5 +1,5 @@
 -- An image that is sound but for a torn record has the files that it has where the record is zero.
-use Rattle.std.proofs.Common.{◌≡◌, ◌≢◌, inl, inr, ⊎_elim, ℕ, ◌+◌, ◌*◌, ◌/◌, ◌%◌, ◌≤◌, ◌<◌, false, List, [], ◌∷◌, length, map, take, get_or, Option, Some, None, refl, ap, sym, ◌∙◌, arith}
+use Rattle.std.proofs.Common.{◌≡◌, ◌≢◌, inl, inr, ⊎_elim, ℕ, ◌+◌, ◌*◌, ◌/◌, ◌%◌, ◌≤◌, ◌<◌, false, List, [], ◌∷◌, length, map, take, get_or, Option, Some, None, refl, ap, sym, subst, ◌∙◌, arith}
 use Rattle.std.proofs.lemmas.Bool.{cases_eq, cases_lt}
 use Rattle.afl_base.specs.Image.{page_bytes, zeros_at}
 use Rattle.afl_base.specs.declared.ids.PageId.{PageId}
@@ -15,10 +15,16 @@ use Rattle.coffee_layout.proofs.Frames.{unit_at_same}
 use Rattle.coffee_layout.proofs.Spelling.{spells_file, spelt_file}
 use Rattle.coffee_layout.proofs.Tilings.{units_tiled}
 use Rattle.coffee_log.proofs.LastRecords.{last_found}
-use Rattle.coffee_merge.specs.Begun.{unit_begun}
+use Rattle.coffee_layout.specs.Marks.{IsCramped}
+use Rattle.std.specs.List.{Contains}
+use Rattle.coffee_merge.specs.Begun.{active_at, unit_begun}
+use Rattle.coffee_merge.specs.TableFiles.{SameFiles}
+use Rattle.coffee_merge.proofs.SoundImages.{held_sound}
+use Rattle.coffee_mend.specs.Joined.{LacksRoom}
+use Rattle.coffee_mend.specs.Mended.{IsTornAs}
 use Rattle.coffee_merge.specs.Holding.{Entries, HoldsTable, IsIn, file_flags, file_header, log_header}
 use Rattle.coffee_merge.proofs.Begun.{active_begun}
-use Rattle.coffee_merge.proofs.Holdings.{file_unit, log_unit}
+use Rattle.coffee_merge.proofs.Holdings.{file_unit, holds_tiled, log_unit}
 use Rattle.coffee_merge.proofs.SoundEntries.{among_at, entry_at, table_by}
 use Rattle.coffee_merge.proofs.SoundLogs.{used_is}
 use Rattle.coffee_merge.proofs.SoundRules.{KeepsRules, log_fields, sound_rules}
@@ -184,3 +190,43 @@ module _ (old : List ℕ) (log place : ℕ) (whole : 256 * pages_of old ≡ leng
   torn_files =
       ap (λ us. map (named_file old) (files_in us)) units
       ∙ map_among (named_file old) (named_file (zeros_at old place 128)) (files_in (units_of (zeros_at old place 128))) named
+
+-- the table of a log has none of its records
+table_same : (image : List ℕ) (log place : ℕ) → place + 128 ≤ length image → 256 * log + 96 ≤ place → table_of image log ≡ table_of (zeros_at image place 128) log
+table_same image log place inside low = sym (zeros_at_range image place 128 (256 * log + 32) (256 * log + 92) inside (inl (omega (arith, low))))
+
+same_by : (a b c d : List ℕ) → files_of a ≡ files_of b → SameFiles b c → files_of d ≡ files_of c → SameFiles a d
+same_by a b c d first s second = record {
+  kept = λ f has. subst (λ fs. Contains fs f) (sym second) (s.kept f (subst (λ fs. Contains fs f) first has));
+  only = λ f has. subst (λ fs. Contains fs f) (sym first) (s.only f (subst (λ fs. Contains fs f) second has));
+}
+
+-- an image that lacks room where the record is zero is torn as before
+pub still_torn : (old new : List ℕ) (log place need : ℕ) → IsTorn old log place → 256 * pages_of old ≡ length old → place + 128 ≤ length old → place + 128 ≤ length new
+    → LacksRoom (zeros_at old place 128) (zeros_at new place 128) log need → IsTornAs old new log place need
+still_torn old new log place need t whole inside there l =
+    let record_is : place ≡ 256 * log + 96 + 128 * used_in (table_of old log) = t.next in
+    let free = t.free in
+    let k = l.keeps in
+    let h : Header = log_header l.name in
+    let begins = (active_begun (units_of (zeros_at new place 128)) log (log_header l.name) l.stands).0 in
+    let tiled = same_units new place log (log_header l.name) there (omega (arith, record_is)) (omega (arith, record_is, free)) begins (holds_tiled (zeros_at new place 128) k.table None k.holds) in
+    let same : units_of new ≡ units_of (zeros_at new place 128) = units_tiled nowhere new (units_of (zeros_at new place 128)) tiled in
+    let used : used_in (table_of new log) ≡ used_in (table_of old log) =
+    ap used_in (table_same new log place there (omega (arith, record_is))) ∙ l.used ∙ sym (ap used_in (table_same old log place inside (omega (arith, record_is)))) in
+    let torn : IsTorn new log place = record {
+      is_log = record { header = log_header l.name; there = ap (λ us. active_at us log) same ∙ l.stands; flags_are = refl };
+      free = omega (arith, used, free);
+      next = record_is ∙ ap (λ n. 256 * log + 96 + 128 * n) (sym used);
+      sound = held_sound (zeros_at new place 128) k.table k.holds k.short k.few;
+    } in
+    let all = k.holds.whole in
+    record {
+      torn = torn;
+      same = same_by old (zeros_at old place 128) (zeros_at new place 128) new (torn_files old log place whole inside t) k.same
+          (torn_files new log place (whole_of new place there all) there torn);
+      cramped = subst (λ us. IsCramped us need) (sym same) l.cramped;
+    }
+  where
+    whole_of : (image : List ℕ) (place : ℕ) → place + 128 ≤ length image → 256 * pages_of (zeros_at image place 128) ≡ length (zeros_at image place 128) → 256 * pages_of image ≡ length image
+    whole_of image place fits is = let long = length_zeros_at image place 128 fits in omega (arith, is, long)

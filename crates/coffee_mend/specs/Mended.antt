@@ -3,8 +3,11 @@ use Rattle.std.specs.Prelude.{◌≡◌, ⊤, ℕ, ◌≤◌, List, length, None
 use Rattle.std.specs.List.{Contains}
 use Rattle.afl_base.specs.Causes.{Rose}
 use Rattle.coffee_cuts.specs.Cuts.{MendsTo}
+use Rattle.coffee_find.specs.Found.{IsTorn}
 use Rattle.coffee_layout.specs.Files.{NamedFile, files_of}
+use Rattle.coffee_layout.specs.Marks.{IsCramped}
 use Rattle.coffee_layout.specs.Rules.{broken_image}
+use Rattle.coffee_layout.specs.Tiling.{units_of}
 use Rattle.coffee_merge.specs.TableFiles.{SameFiles}
 use Rattle.coffee_mend.specs.declared.mending.MendError.{MendError}
 use Rattle.coffee_mend.specs.declared.mending.MendError.TheVariants.{Space, Failed, Unsettled}
@@ -21,6 +24,22 @@ pub record IsMended (old new : List ℕ) : Type 0 where
   pub sound : broken_image new ≡ None
   pub kept : (f : NamedFile) → Contains files f → Contains (files_of new) f
   pub only : (f : NamedFile) → Contains (files_of new) f → Contains files f
+
+-- an image has the files of another and its torn record, and no extent of so many pages can be had in it
+pub record IsTornAs (old new : List ℕ) (log place need : ℕ) : Type 0 where
+  pub torn : IsTorn new log place
+  pub same : SameFiles old new
+  pub cramped : IsCramped (units_of new) need
+
+-- an image mends to just the files that another mends to, and no extent of so many pages can be had in it
+pub record IsCrowded (old new : List ℕ) (need : ℕ) : Type 0 where
+  pub files : List NamedFile
+  pub mends : MendsTo old files
+  pub others : List NamedFile
+  pub still : MendsTo new others
+  pub kept : (f : NamedFile) → Contains files f → Contains others f
+  pub only : (f : NamedFile) → Contains others f → Contains files f
+  pub cramped : IsCramped (units_of new) need
 
 -- the flash that is handed back
 abbrev pub flash_of : {F : Type 0} → MendError F → F

@@ -1,7 +1,7 @@
-ghost use Rattle.std.specs.Prelude.{◌≡◌, ℕ, ◌+◌, ◌*◌, ◌≤◌, Some, length, IsTrue, IfOk, MatchResult};
+ghost use Rattle.std.specs.Prelude.{◌≡◌, ℕ, ◌+◌, ◌*◌, ◌≤◌, Some, length, IsTrue, IfErr, IfOk, MatchResult};
 ghost use Rattle.afl_base.specs.Image.{zeros_at};
 ghost use Rattle.coffee_find.specs.Found.{HasRecord, IsCutBy, IsTorn, LiesInside};
-ghost use Rattle.coffee_mend.specs.Mended.{HandsBack, HasMendCause, IsMended, IsSoundAs, flash_of};
+ghost use Rattle.coffee_mend.specs.Mended.{HandsBack, HasMendCause, IsCrowded, IsMended, IsSoundAs, IsTornAs, OnSpace, flash_of};
 
 use crate::joining::join_log;
 use crate::settling::settle;
@@ -24,6 +24,8 @@ pub fn mend<F: Flash>(mut flash: F, trouble: &Trouble) -> Result<F, MendError<F>
     requires inside { LiesInside (length (F.image flash)) trouble.now }
     ensures mended { IsTrue F.tells → IsCutBy (F.image flash) trouble.now
         → IfOk result (λ f. IsMended (F.image flash) (F.image f)) }
+    ensures space { IsTrue F.tells → IsCutBy (F.image flash) trouble.now
+        → IfErr result (λ e. OnSpace e (λ need f. IsCrowded (F.image flash) (F.image f) need)) }
     ensures back { MatchResult result
         (λ f. HandsBack F.image F.lent F.reads flash f)
         (λ e. HandsBack F.image F.lent F.reads flash (flash_of e)) }
@@ -46,6 +48,9 @@ fn join_torn<F: Flash>(flash: F, torn: &TornRecord) -> Result<F, MendError<F>>
     requires torn { HasRecord (length (F.image flash)) (Some torn.now) }
     ensures joined { IsTrue F.tells → IsTorn (F.image flash) torn.now.log.0 torn.now.place
         → IfOk result (λ f. IsSoundAs (zeros_at (F.image flash) torn.now.place 128) (F.image f)) }
+    ensures space { IsTrue F.tells → IsTorn (F.image flash) torn.now.log.0 torn.now.place
+        → IfErr result (λ e. OnSpace e (λ need f.
+        IsTornAs (F.image flash) (F.image f) torn.now.log.0 torn.now.place need)) }
     ensures back { MatchResult result
         (λ f. HandsBack F.image F.lent F.reads flash f)
         (λ e. HandsBack F.image F.lent F.reads flash (flash_of e)) }
@@ -53,6 +58,7 @@ fn join_torn<F: Flash>(flash: F, torn: &TornRecord) -> Result<F, MendError<F>>
         (λ f. F.faults flash ≤ F.faults f)
         (λ e. HasMendCause (F.faults flash) (F.faults (flash_of e)) e) }
 {
+    flash.sectors();
     let mut blanked = Blanked::new(flash, torn.place);
     let joined = join_log(&mut blanked, torn.log);
     let refused = blanked.has_refused();
