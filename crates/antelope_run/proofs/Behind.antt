@@ -1,7 +1,6 @@
 -- What follows once a session is closed, by what came before.
-use Rattle.std.proofs.Common.{◌≡◌, ◌≤◌, ◌⊎◌, inl, inr, ℕ, Bool, true, false, List, ◌++◌, Option, Some, refl, subst, sym, arith}
+use Rattle.std.proofs.Common.{◌≡◌, ◌≤◌, ◌⊎◌, inl, inr, ℕ, Bool, true, false, List, ◌++◌, Option, refl, subst, sym, arith}
 use Rattle.std.specs.Prelude.{⊤, Result, Ok, Err}
-use Rattle.std.specs.Io.KnownBytes.{append_known}
 use Rattle.afl_base.specs.Causes.{Rose}
 use Rattle.afl_base.specs.declared.fault.Fault.{Fault}
 use Rattle.afl_base.specs.declared.fault.Fault.TheVariants as fault
