@@ -24,38 +24,82 @@ const OFTEN: &[Part] = &[
     Part::Often("CREATE INDEX n.v TYPE INLINE;REMOVE INDEX n.v;", 40),
 ];
 
-const CASES: &[Case] = &[
+// Changes of a catalog of version 1.
+const MARKED: &[Part] = &[
+    Part::Once("INSERT (6) INTO n;CREATE ATTRIBUTE t DOMAIN TIME IN n;CREATE RELATION m;"),
+    Part::Once("CREATE ATTRIBUTE t DOMAIN TIME IN m;INSERT (7) INTO m;REMOVE RELATION n;"),
+];
+
+const INDEXED: &[Part] = &[Part::Once("CREATE INDEX n.v TYPE MAXHEAP;INSERT (6) INTO n;REMOVE INDEX n.v;")];
+
+const OLD: &[Case] = &[
     Case {
+        old: true,
+        sectors: 8,
+        before: &[],
+        asks: Asks::Script(MARKED),
+        times: 64,
+        one_in: 4,
+    },
+    Case {
+        old: true,
+        sectors: 10,
+        before: &[],
+        asks: Asks::Script(INDEXED),
+        times: 64,
+        one_in: 4,
+    },
+];
+
+const CATALOGS: &[Case] = &[
+    Case {
+        old: false,
         sectors: 8,
         before: &[],
         asks: Asks::Script(MADE),
-        times: 24,
+        times: 48,
         one_in: 4,
     },
     Case {
+        old: false,
         sectors: 10,
         before: MADE,
         asks: Asks::Script(CHANGED),
-        times: 16,
+        times: 48,
         one_in: 4,
     },
+];
+
+const OFTEN_CHANGED: &[Case] = &[
     Case {
-        sectors: 6,
+        old: false,
+        sectors: 8,
         before: OFTEN,
         asks: Asks::Script(CHANGED),
-        times: 8,
+        times: 24,
         one_in: 8,
     },
     Case {
+        old: false,
         sectors: 6,
         before: &[],
         asks: Asks::Script(OFTEN),
-        times: 4,
+        times: 16,
         one_in: 16,
     },
 ];
 
 #[test]
 fn catalogs_are_put_right(rt: HostRuntime) -> Result<(), Fail> {
-    all_are_put_right(rt.alloc(), CASES, 10_000)
+    all_are_put_right(rt.alloc(), CATALOGS, 12_000)
+}
+
+#[test]
+fn catalogs_that_move_are_put_right(rt: HostRuntime) -> Result<(), Fail> {
+    all_are_put_right(rt.alloc(), OFTEN_CHANGED, 7_500)
+}
+
+#[test]
+fn catalogs_of_version_1_are_put_right(rt: HostRuntime) -> Result<(), Fail> {
+    all_are_put_right(rt.alloc(), OLD, 6_500)
 }

@@ -24,31 +24,42 @@ const LOADED: &[Part] = &[
     Part::Numbered("INSERT (", 90, ",7) INTO n;"),
 ];
 
-const CASES: &[Case] = &[
+const INDEXES: &[Case] = &[
     Case {
+        old: false,
         sectors: 24,
         before: MADE,
         asks: Asks::Script(INDEXED),
-        times: 6,
+        times: 18,
         one_in: 32,
     },
     Case {
+        old: false,
         sectors: 11,
         before: MADE,
         asks: Asks::Script(INDEXED),
-        times: 6,
+        times: 14,
         one_in: 32,
     },
+];
+
+const LOADS: &[Case] = &[
     Case {
+        old: false,
         sectors: 12,
         before: &[],
         asks: Asks::Script(LOADED),
-        times: 6,
+        times: 24,
         one_in: 64,
     },
 ];
 
 #[test]
 fn indexes_are_put_right(rt: HostRuntime) -> Result<(), Fail> {
-    all_are_put_right(rt.alloc(), CASES, 10_000)
+    all_are_put_right(rt.alloc(), INDEXES, 19_000)
+}
+
+#[test]
+fn loads_of_a_tree_are_put_right(rt: HostRuntime) -> Result<(), Fail> {
+    all_are_put_right(rt.alloc(), LOADS, 15_000)
 }

@@ -11,6 +11,8 @@ mod index_tests;
 #[cfg(test)]
 mod line_tests;
 #[cfg(test)]
+mod old;
+#[cfg(test)]
 mod random;
 #[cfg(test)]
 mod row_tests;

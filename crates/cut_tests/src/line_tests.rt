@@ -15,31 +15,42 @@ const SERVED: &[Part] = &[
     Part::Once("SELECT v FROM n;PACK n;REMOVE INDEX n.v;PACK n;INSERT (9,1) INTO n;REMOVE RELATION m;"),
 ];
 
-const CASES: &[Case] = &[
+const SERVED_LINES: &[Case] = &[
     Case {
+        old: false,
         sectors: 16,
         before: MADE,
         asks: Asks::Frames(SERVED),
-        times: 12,
+        times: 64,
         one_in: 16,
     },
+];
+
+const GENERATED: &[Case] = &[
     Case {
+        old: false,
         sectors: 9,
         before: &[],
         asks: Asks::Generated("7", 40),
-        times: 12,
+        times: 40,
         one_in: 16,
     },
     Case {
+        old: false,
         sectors: 64,
         before: &[],
         asks: Asks::Generated("11", 24),
-        times: 4,
+        times: 24,
         one_in: 64,
     },
 ];
 
 #[test]
-fn lines_and_generated_commands_are_put_right(rt: HostRuntime) -> Result<(), Fail> {
-    all_are_put_right(rt.alloc(), CASES, 10_000)
+fn lines_of_frames_are_put_right(rt: HostRuntime) -> Result<(), Fail> {
+    all_are_put_right(rt.alloc(), SERVED_LINES, 7_500)
+}
+
+#[test]
+fn generated_commands_are_put_right(rt: HostRuntime) -> Result<(), Fail> {
+    all_are_put_right(rt.alloc(), GENERATED, 18_000)
 }

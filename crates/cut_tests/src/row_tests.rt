@@ -31,31 +31,51 @@ const GROWN: &[Part] = &[
     Part::Once("REMOVE FROM s WHERE k = 200;INSERT (4,'v') INTO s;"),
 ];
 
-const CASES: &[Case] = &[
+const FEW: &[Case] = &[
     Case {
-        sectors: 5,
+        old: false,
+        sectors: 8,
         before: MADE,
         asks: Asks::Script(CHANGED),
-        times: 24,
+        times: 64,
         one_in: 4,
     },
+];
+
+const GROWN_FILES: &[Case] = &[
     Case {
+        old: false,
         sectors: 12,
         before: MANY,
         asks: Asks::Script(GROWN),
-        times: 6,
+        times: 40,
         one_in: 16,
     },
+];
+
+// On so few sectors extents are collected meanwhile.
+const COLLECTED: &[Case] = &[
     Case {
-        sectors: 7,
+        old: false,
+        sectors: 9,
         before: MANY,
         asks: Asks::Script(GROWN),
-        times: 6,
+        times: 40,
         one_in: 16,
     },
 ];
 
 #[test]
-fn rows_are_put_right(rt: HostRuntime) -> Result<(), Fail> {
-    all_are_put_right(rt.alloc(), CASES, 10_000)
+fn a_few_rows_are_put_right(rt: HostRuntime) -> Result<(), Fail> {
+    all_are_put_right(rt.alloc(), FEW, 4_500)
+}
+
+#[test]
+fn files_that_grow_are_put_right(rt: HostRuntime) -> Result<(), Fail> {
+    all_are_put_right(rt.alloc(), GROWN_FILES, 14_500)
+}
+
+#[test]
+fn files_that_grow_on_few_sectors_are_put_right(rt: HostRuntime) -> Result<(), Fail> {
+    all_are_put_right(rt.alloc(), COLLECTED, 15_500)
 }

@@ -1,6 +1,7 @@
 //! Stories that are told, cut and put right.
 
 use crate::cutting::{Tally, Trouble, Wrong, cut_everywhere};
+use crate::old::version_1;
 use crate::running::{NO_CUT, erased, run};
 use crate::stories::{Asked, Story, tell};
 use std::alloc::{AllocError, Global};
@@ -10,6 +11,8 @@ use test_texts::{Part, joined};
 /// What is asked for and cut, over a flash on which a script was carried out.
 #[derive(Drop)]
 pub struct Case {
+    /// Whether the flash has a catalog of version 1.
+    pub old: bool,
     pub sectors: usize,
     /// Carried out first, and not cut.
     pub before: &'static [Part],
@@ -58,7 +61,11 @@ fn framed(alloc: Global, script: &[u8]) -> Result<Vec<u8>, AllocError> {
 }
 
 fn told(alloc: Global, case: &Case) -> Result<Story, AllocError> {
-    let mut image = erased(alloc, case.sectors);
+    let mut image = if case.old {
+        version_1(alloc, case.sectors)
+    } else {
+        erased(alloc, case.sectors)
+    };
     let before = joined(alloc, case.before)?;
     run(alloc, before.as_slice(), image.as_mut_slice(), NO_CUT);
     tell(alloc, image.as_slice(), asked(alloc, case.asks)?)

@@ -1,5 +1,5 @@
 -- What a repair leaves of an image, and what it says of it.
-use Rattle.std.specs.Prelude.{◌≡◌, ◌⊎◌, ⊥, ℕ, List, [], ◌++◌, Option, None, Result, Ok, Err, codes}
+use Rattle.std.specs.Prelude.{◌≡◌, ◌⊎◌, ℕ, List, [], ◌++◌, Option, None, Result, Ok, Err, codes}
 use Rattle.std.specs.Io.KnownBytes.{append_known}
 use Rattle.coffee_cuts.specs.Cuts.{MendsTo}
 use Rattle.coffee_layout.specs.Files.{NamedFile}

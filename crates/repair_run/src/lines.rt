@@ -1,6 +1,6 @@
 ghost use Rattle.std.specs.Prelude.{◌≡◌, ◌++◌, codes, Err, OnErr, OnOk};
 ghost use Rattle.std.specs.Io.KnownBytes.{append_known};
-ghost use Rattle.afl_base.specs.Causes.{Rose};
+ghost use Rattle.afl_base.specs.Causes.{HasCause, Rose};
 ghost use Rattle.afl_base.specs.Keeping.{Sends};
 ghost use Rattle.db_model.specs.ReplyText.{line};
 ghost use Rattle.reply_text.specs.WroteLess.{WroteLess};
@@ -40,7 +40,8 @@ fn write_came<K: Sink>(
         OnOk result (K.held out.new ≡ append_known (K.held out.old) all) }
     ensures failed { let all = said report.now.mended came in
         OnErr result (WroteLess (K.held out.old) (K.held out.new) all) }
-    ensures frame { Sends K.lent K.faults out.old out.new result }
+    ensures lent { K.lent out.new ≡ K.lent out.old }
+    ensures cause { HasCause (K.faults out.old) (K.faults out.new) result }
 {
     match came {
         Ok(Came::Sound) => write_all(out, b"sound\n"),
@@ -53,6 +54,7 @@ fn write_came<K: Sink>(
 }
 
 // The lines of a report, and that the image is put right.
+#[tactic(auto, using(reply_text::proofs::Pieces::less_front, reply_text::proofs::Pieces::less_behind))]
 fn write_repaired<K: Sink>(out: &mut K, report: &Report) -> Result<(), Failed>
     ensures written { let all = report_text report.now.mended ++ line (codes "repaired") in
         OnOk result (K.held out.new ≡ append_known (K.held out.old) all) }
@@ -70,7 +72,8 @@ fn write_broken<K: Sink>(out: &mut K, bad: BadImage) -> Result<(), Failed>
         OnOk result (K.held out.new ≡ append_known (K.held out.old) all) }
     ensures failed { let all = image_line bad.rule bad.place in
         OnErr result (WroteLess (K.held out.old) (K.held out.new) all) }
-    ensures frame { Sends K.lent K.faults out.old out.new result }
+    ensures lent { K.lent out.new ≡ K.lent out.old }
+    ensures cause { HasCause (K.faults out.old) (K.faults out.new) result }
 {
     write_image_line(out, bad.rule, bad.place)
 }

@@ -1,4 +1,4 @@
-ghost use Rattle.std.specs.Prelude.{◌≡◌, ⊥, Err, None, IsTrue, OnOk, length};
+ghost use Rattle.std.specs.Prelude.{◌≡◌, Err, None, IsTrue, OnOk, length};
 ghost use Rattle.afl_base.specs.Causes.{Rose};
 ghost use Rattle.coffee_find.specs.Found.{IsCutBy, LiesInside};
 ghost use Rattle.coffee_layout.specs.Rules.{broken_image};

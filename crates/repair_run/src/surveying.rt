@@ -1,6 +1,6 @@
-ghost use Rattle.std.specs.Prelude.{◌≡◌, IfErr, IfOk, None, OnOk, length};
+ghost use Rattle.std.specs.Prelude.{◌≡◌, ℕ, ◌+◌, ◌≤◌, Some, length};
 ghost use Rattle.afl_base.specs.Keeping.{OnlyReads};
-ghost use Rattle.coffee_find.specs.Found.{LiesInside};
+ghost use Rattle.coffee_find.specs.Found.{HasRecord, LiesInside};
 
 use afl_base::{Failed, Flash};
 use coffee_find::{TornRecord, Trouble, overlay_of};
@@ -22,6 +22,7 @@ pub fn survey_image<F: Flash>(flash: F, trouble: &Trouble) -> (F, Result<bool, F
 
 // Where the torn record begins.
 fn torn_place(torn: &Option<TornRecord>) -> Option<u32>
+    ensures inside { (size : ℕ) → HasRecord size torn.now → (p : ℕ) → result ≡ Some p → p + 128 ≤ size }
 {
     match torn {
         Some(record) => Some(record.place),
