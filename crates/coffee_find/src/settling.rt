@@ -148,8 +148,7 @@ fn settle_torn<F: Flash>(
     requires lies { LiesIn (length (F.image flash)) under_way }
     requires inside { HasRecord (length (F.image flash)) (Some torn) }
     ensures settles { IsTrue F.tells → IfOk result.1 (λ o. IfSome o
-        (λ t. (t ≡ record { under_way = under_way; torn = Some torn })
-        × (broken_image (zeros_at (settled (F.image flash) (meant under_way)) torn.place 128) ≡ None))) }
+        (λ t. broken_image (zeros_at (settled (F.image flash) (meant under_way)) torn.place 128) ≡ None)) }
     ensures is { IfOk result.1 (λ o. IfSome o (λ t. t ≡ record { under_way = under_way; torn = Some torn })) }
     ensures reads { F.reads result.0 ≤ F.reads flash + 401 * pages_of (F.image flash) + 1 }
     ensures frame { OnlyReads F.image F.lent F.reads F.faults flash result.0 result.1 }
