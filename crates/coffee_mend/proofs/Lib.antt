@@ -1,4 +1,5 @@
 mod Joins
 mod Mends
+mod Settlings
 mod TornRecords
 mod Unblanked

@@ -124,11 +124,13 @@ mended_crowded old mid new trouble r need cut some is s =
     let files : List NamedFile = files_of mid in
     let others : List NamedFile = files_of new in
     record {
-      files = files;
-      mends = record { under_way = meant trouble.under_way; found = cut.found; settles = subst IsSettled is (inr (has_record mid r.log.0 r.place (torn_found old mid trouble r cut some is))); files_are = ap files_of is };
-      others = others;
-      still = record { under_way = Nothing; found = tt; settles = inr (has_record new r.log.0 r.place s.torn); files_are = refl };
-      kept = s.same.kept;
-      only = s.same.only;
+      alike = record {
+        files = files;
+        mends = record { under_way = meant trouble.under_way; found = cut.found; settles = subst IsSettled is (inr (has_record mid r.log.0 r.place (torn_found old mid trouble r cut some is))); files_are = ap files_of is };
+        others = others;
+        still = record { under_way = Nothing; found = tt; settles = inr (has_record new r.log.0 r.place s.torn); files_are = refl };
+        kept = s.same.kept;
+        only = s.same.only;
+      };
       cramped = s.cramped;
     }

@@ -31,14 +31,18 @@ pub record IsTornAs (old new : List ℕ) (log place need : ℕ) : Type 0 where
   pub same : SameFiles old new
   pub cramped : IsCramped (units_of new) need
 
--- an image mends to just the files that another mends to, and no extent of so many pages can be had in it
-pub record IsCrowded (old new : List ℕ) (need : ℕ) : Type 0 where
+-- an image mends to just the files that another mends to
+pub record MendAlike (old new : List ℕ) : Type 0 where
   pub files : List NamedFile
   pub mends : MendsTo old files
   pub others : List NamedFile
   pub still : MendsTo new others
   pub kept : (f : NamedFile) → Contains files f → Contains others f
   pub only : (f : NamedFile) → Contains others f → Contains files f
+
+-- and no extent of so many pages can be had in it
+pub record IsCrowded (old new : List ℕ) (need : ℕ) : Type 0 where
+  pub alike : MendAlike old new
   pub cramped : IsCramped (units_of new) need
 
 -- the flash that is handed back

@@ -2,7 +2,9 @@
 #![tactic(auto)]
 
 mod joining;
+mod laws;
 mod mending;
 mod settling;
 
+pub use laws::cut_settlings_mend;
 pub use mending::{MendError, mend};

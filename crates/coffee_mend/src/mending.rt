@@ -1,7 +1,8 @@
-ghost use Rattle.std.specs.Prelude.{◌≡◌, ℕ, ◌+◌, ◌*◌, ◌≤◌, Some, length, IsTrue, IfErr, IfOk, MatchResult};
+ghost use Rattle.std.specs.Prelude.{◌≡◌, ℕ, ◌+◌, ◌*◌, ◌≤◌, None, Some, length, IsTrue, IfErr, IfOk, MatchResult};
 ghost use Rattle.afl_base.specs.Image.{zeros_at};
-ghost use Rattle.coffee_find.specs.Found.{HasRecord, IsCutBy, IsTorn, LiesInside};
-ghost use Rattle.coffee_mend.specs.Mended.{HandsBack, HasMendCause, IsCrowded, IsMended, IsSoundAs, IsTornAs, OnSpace, flash_of};
+ghost use Rattle.coffee_find.specs.Found.{HasRecord, IsCutBy, IsTorn, LiesInside, meant};
+ghost use Rattle.coffee_mend.specs.Mended.{HandsBack, HasMendCause, IsCrowded, IsMended, IsSoundAs, IsTornAs, OnFailed, OnSpace, flash_of};
+ghost use Rattle.coffee_mend.specs.Settling.{IsCutSettling};
 
 use crate::joining::join_log;
 use crate::settling::settle;
@@ -26,6 +27,9 @@ pub fn mend<F: Flash>(mut flash: F, trouble: &Trouble) -> Result<F, MendError<F>
         → IfOk result (λ f. IsMended (F.image flash) (F.image f)) }
     ensures space { IsTrue F.tells → IsCutBy (F.image flash) trouble.now
         → IfErr result (λ e. OnSpace e (λ need f. IsCrowded (F.image flash) (F.image f) need)) }
+    ensures cut { IsTrue F.tells → IsTrue F.cuts → trouble.now.torn ≡ None
+        → IfErr result (λ e. OnFailed e
+        (IsCutSettling (F.image flash) (F.image (flash_of e)) (meant trouble.now.under_way))) }
     ensures back { MatchResult result
         (λ f. HandsBack F.image F.lent F.reads flash f)
         (λ e. HandsBack F.image F.lent F.reads flash (flash_of e)) }

@@ -1,8 +1,10 @@
-ghost use Rattle.std.specs.Prelude.{◌≡◌, ◌+◌, ◌*◌, ◌≤◌, length, IsTrue, OnOk};
+ghost use Rattle.std.specs.Prelude.{◌≡◌, ◌+◌, ◌*◌, ◌≤◌, length, IsTrue, OnErr, OnOk};
 ghost use Rattle.afl_base.specs.Keeping.{Programs};
 ghost use Rattle.coffee_cuts.specs.Cuts.{settled};
 ghost use Rattle.coffee_find.specs.Found.{HasLogPage, HasPage, LiesIn, meant};
 ghost use Rattle.coffee_layout.specs.Files.{log_of};
+ghost use Rattle.coffee_mend.specs.Settling.{IsCutSettling};
+ghost use Rattle.coffee_merge.specs.CutMarks.{IsCutObsolete, IsOneOf};
 ghost use Rattle.coffee_merge.specs.Flags.{flagged, obsoleted};
 
 use afl_base::{Failed, Flash, PageId};
@@ -14,6 +16,8 @@ pub(crate) fn settle<F: Flash>(flash: &mut F, under_way: &UnderWay) -> Result<()
     requires inside { LiesIn (length (F.image flash.old)) under_way.now }
     ensures settled { IsTrue F.tells → OnOk result
         (F.image flash.new ≡ settled (F.image flash.old) (meant under_way.now)) }
+    ensures cut { IsTrue F.tells → IsTrue F.cuts → OnErr result
+        (IsCutSettling (F.image flash.old) (F.image flash.new) (meant under_way.now)) }
     ensures frame { Programs F.image F.lent F.reads F.faults flash.old flash.new result }
 {
     match under_way {
@@ -33,6 +37,8 @@ fn retire<F: Flash>(flash: &mut F, old: &PlacedFile) -> Result<(), Failed>
     requires log { HasLogPage (length (F.image flash.old)) (log_of old.now.header) }
     ensures retired { IsTrue F.tells → OnOk result
         (F.image flash.new ≡ obsoleted (F.image flash.old) old.now.page.0 (log_of old.now.header)) }
+    ensures cut { IsTrue F.tells → IsTrue F.cuts → OnErr result
+        (IsCutObsolete (F.image flash.old) (F.image flash.new) old.now.page.0 (log_of old.now.header)) }
     ensures frame { Programs F.image F.lent F.reads F.faults flash.old flash.new result }
 {
     mark(flash, old.page, 4)?;
@@ -57,6 +63,8 @@ fn log_of(header: &Header) -> Option<PageId>
 pub(crate) fn mark<F: Flash>(flash: &mut F, page: PageId, flag: u8) -> Result<(), Failed>
     requires page { HasPage (length (F.image flash.old)) page.0 }
     ensures marked { IsTrue F.tells → OnOk result (F.image flash.new ≡ flagged (F.image flash.old) page.0 flag) }
+    ensures cut { IsTrue F.tells → IsTrue F.cuts → OnErr result
+        (IsOneOf (F.image flash.new) (F.image flash.old) (flagged (F.image flash.old) page.0 flag)) }
     ensures frame { Programs F.image F.lent F.reads F.faults flash.old flash.new result }
 {
     flash.program(page, 9, &[flag])

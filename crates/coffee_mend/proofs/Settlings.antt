@@ -1,0 +1,51 @@
+-- An image that a cut left of a write that settles another one mends to its files.
+use Rattle.std.proofs.Common.{◌≡◌, ⊎_elim, ℕ, List, Option, Some, None, refl, ap, subst, sym, ◌∙◌}
+use Rattle.afl_base.specs.declared.ids.PageId.{PageId}
+use Rattle.coffee_cuts.specs.Cuts.{IsActiveAt, IsFound, IsSettled, UnderWay, Nothing, Beginning, Building, Erasing, Unnamed, Naming, Replacing, settled}
+use Rattle.coffee_layout.specs.Files.{NamedFile, Placed, files_of, log_of}
+use Rattle.coffee_merge.specs.CutMarks.{IsOneOf}
+use Rattle.coffee_merge.specs.Flags.{flagged, obsoleted}
+use Rattle.coffee_mend.specs.Mended.{MendAlike}
+use Rattle.coffee_mend.specs.Settling.{IsByFlags, IsCutSettling}
+
+-- where the images once settled are the same
+alike : (old new : List ℕ) (u v : UnderWay) → IsFound old u → IsSettled (settled old u) → IsFound new v → settled new v ≡ settled old u → MendAlike old new
+alike old new u v found settles there same =
+    let files : List NamedFile = files_of (settled old u) in
+    record {
+      files = files;
+      mends = record { under_way = u; found = found; settles = settles; files_are = refl };
+      others = files;
+      still = record { under_way = v; found = there; settles = subst IsSettled (sym same) settles; files_are = ap files_of (sym same) };
+      kept = λ f has. has;
+      only = λ f has. has;
+    }
+
+-- nothing was done
+undone : (old new : List ℕ) (u : UnderWay) → IsFound old u → IsSettled (settled old u) → new ≡ old → MendAlike old new
+undone old new u found settles is = alike old new u u found settles (subst (λ i. IsFound i u) (sym is) found) (ap (λ i. settled i u) is)
+
+-- or all
+done : (old new : List ℕ) (u : UnderWay) → IsFound old u → IsSettled (settled old u) → new ≡ settled old u → MendAlike old new
+done old new u found settles is = alike old new u Nothing found settles tt is
+
+one : (old new : List ℕ) (u : UnderWay) → IsFound old u → IsSettled (settled old u) → IsOneOf new old (settled old u) → MendAlike old new
+one old new u found settles cut = ⊎_elim (undone old new u found settles) (done old new u found settles) cut
+
+-- the old extent is obsolete, and its log is not
+half : (old new : List ℕ) (from to : Placed) (log : Option PageId) → log_of from.header ≡ log → IsFound old (Replacing from to) → IsSettled (settled old (Replacing from to))
+    → ((l : PageId) → log_of from.header ≡ Some l → IsActiveAt (flagged old from.page 4) l.0 19) → new ≡ flagged old from.page 4 → MendAlike old new
+half old new from to None none found settles log is = done old new (Replacing from to) found settles (is ∙ ap (obsoleted old from.page) (sym none))
+half old new from to (Some l) some found settles log is =
+    alike old new (Replacing from to) (Unnamed l.0) found settles (subst (λ i. IsActiveAt i l.0 19) (sym is) (log l some)) (ap (λ i. flagged i l.0 4) is ∙ ap (obsoleted old from.page) (sym some))
+
+pub settling_mends : (old new : List ℕ) (u : UnderWay) → IsFound old u → IsSettled (settled old u) → IsByFlags old u → IsCutSettling old new u → MendAlike old new
+settling_mends old new Nothing found settles by cut = undone old new Nothing found settles cut
+settling_mends old new (Beginning page) found settles by cut = one old new (Beginning page) found settles cut
+settling_mends old new (Building page) found settles by cut = one old new (Building page) found settles cut
+settling_mends old new (Erasing sector page) found settles by cut = absurd by
+settling_mends old new (Unnamed log) found settles by cut = one old new (Unnamed log) found settles cut
+settling_mends old new (Naming page) found settles by cut = one old new (Naming page) found settles cut
+settling_mends old new (Replacing from to) found settles by cut =
+    ⊎_elim (undone old new (Replacing from to) found settles)
+    (λ more. ⊎_elim (half old new from to (log_of from.header) refl found settles by) (done old new (Replacing from to) found settles) more) cut

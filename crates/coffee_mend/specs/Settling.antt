@@ -1,0 +1,28 @@
+-- What a cut leaves of the write that settles what was under way, or of the two.
+use Rattle.std.specs.Prelude.{◌≡◌, ⊤, ℕ, List, Some}
+use Rattle.afl_base.specs.Cuts.{IsCutErase}
+use Rattle.coffee_cuts.specs.Cuts.{IsActiveAt, UnderWay, Nothing, Beginning, Building, Erasing, Unnamed, Naming, Replacing, settled}
+use Rattle.afl_base.specs.declared.ids.PageId.{PageId}
+use Rattle.coffee_layout.specs.Files.{log_of}
+use Rattle.coffee_merge.specs.CutMarks.{IsCutObsolete, IsOneOf}
+use Rattle.coffee_merge.specs.Flags.{flagged}
+
+-- a flag is there or not, a front part of the sector is erased, the old extent is obsolete or not, or its log too
+abbrev pub IsCutSettling : (old new : List ℕ) → UnderWay → Type 0
+IsCutSettling old new Nothing = new ≡ old
+IsCutSettling old new (Beginning page) = IsOneOf new old (settled old (Beginning page))
+IsCutSettling old new (Building page) = IsOneOf new old (settled old (Building page))
+IsCutSettling old new (Erasing sector page) = IsCutErase old new sector
+IsCutSettling old new (Unnamed log) = IsOneOf new old (settled old (Unnamed log))
+IsCutSettling old new (Naming page) = IsOneOf new old (settled old (Naming page))
+IsCutSettling old new (Replacing from to) = IsCutObsolete old new from.page (log_of from.header)
+
+-- what was under way is settled by flags alone, and the log of an old extent stands once that is obsolete
+abbrev pub IsByFlags : List ℕ → UnderWay → Type 0
+IsByFlags image Nothing = ⊤
+IsByFlags image (Beginning page) = ⊤
+IsByFlags image (Building page) = ⊤
+IsByFlags image (Erasing sector page) = ⊥
+IsByFlags image (Unnamed log) = ⊤
+IsByFlags image (Naming page) = ⊤
+IsByFlags image (Replacing from to) = (l : PageId) → log_of from.header ≡ Some l → IsActiveAt (flagged image from.page 4) l.0 19
