@@ -1,7 +1,7 @@
 -- A walk over the units of a tiled image that counts their pages.
 use Rattle.std.proofs.Common.{◌≡◌, ℕ, ◌+◌, ◌≤◌, ◌<◌, Bool, true, false, List, [], ◌∷◌, filter, Some, None, cond, refl, ap, sym, subst, ◌∙◌, arith}
 use Rattle.coffee_layout.specs.Tiling.{IsTiled, KeepRules}
-use Rattle.coffee_layout.specs.Units.{is_free, pages_of, size_of, total, unit_at}
+use Rattle.coffee_layout.specs.Units.{is_free, pages_of, size_of, total}
 use Rattle.coffee_layout.specs.declared.unit.Unit.{Unit}
 use Rattle.coffee_layout.proofs.Searches.{IsRead}
 use Rattle.coffee_layout.proofs.Tilings.{kept_some}
@@ -27,7 +27,7 @@ none_counted building image us tiled =
     record { after_free = false; rest = us; keep = tiled.keep; whole = omega (arith, whole); free = omega arith; files = omega arith; logs = omega arith; old = omega arith }
 
 -- the first unit passes a test or not
-one_off : (test : Unit → Bool) (u : Unit) (us : List Unit) → total (filter test (u ∷ us)) ≡ pages_if test u + total (filter test us)
+pub one_off : (test : Unit → Bool) (u : Unit) (us : List Unit) → total (filter test (u ∷ us)) ≡ pages_if test u + total (filter test us)
 one_off test u us = by_test (test u)
   where
     by_test : (t : Bool) → total (cond t (u ∷ filter test us) (filter test us)) ≡ cond t (size_of u) 0 + total (filter test us)
