@@ -1,7 +1,7 @@
 -- A walk over the units of a tiled image that counts their pages.
 use Rattle.std.proofs.Common.{◌≡◌, ℕ, ◌+◌, ◌≤◌, ◌<◌, Bool, true, false, List, [], ◌∷◌, filter, Some, None, cond, refl, ap, sym, subst, ◌∙◌, arith}
-use Rattle.coffee_layout.specs.Tiling.{IsTiled, KeepRules}
-use Rattle.coffee_layout.specs.Units.{is_free, pages_of, size_of, total, unit_at}
+use Rattle.coffee_layout.specs.Tiling.{KeepRules}
+use Rattle.coffee_layout.specs.Units.{is_free, pages_of, size_of, total}
 use Rattle.coffee_layout.specs.declared.unit.Unit.{Unit}
 use Rattle.coffee_layout.proofs.Searches.{IsRead}
 use Rattle.coffee_layout.proofs.Tilings.{kept_some}
@@ -20,14 +20,8 @@ pub record Counted (building : ℕ → Bool) (image : List ℕ) (us : List Unit)
   pub logs : counts.logs + total (filter is_log rest) ≡ total (filter is_log us)
   pub old : counts.old + total (filter is_old rest) ≡ total (filter is_old us)
 
--- nothing was counted yet
-pub none_counted : (building : ℕ → Bool) (image : List ℕ) (us : List Unit) → IsTiled building image us → Counted building image us 0 (record { free = 0; files = 0; logs = 0; old = 0 })
-none_counted building image us tiled =
-    let whole = tiled.whole in
-    record { after_free = false; rest = us; keep = tiled.keep; whole = omega (arith, whole); free = omega arith; files = omega arith; logs = omega arith; old = omega arith }
-
 -- the first unit passes a test or not
-one_off : (test : Unit → Bool) (u : Unit) (us : List Unit) → total (filter test (u ∷ us)) ≡ pages_if test u + total (filter test us)
+pub one_off : (test : Unit → Bool) (u : Unit) (us : List Unit) → total (filter test (u ∷ us)) ≡ pages_if test u + total (filter test us)
 one_off test u us = by_test (test u)
   where
     by_test : (t : Bool) → total (cond t (u ∷ filter test us) (filter test us)) ≡ cond t (size_of u) 0 + total (filter test us)

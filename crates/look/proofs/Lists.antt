@@ -4,7 +4,7 @@ use Rattle.std.proofs.lemmas.List.{take-append-drop, take_more}
 use Rattle.std.specs.Io.KnownBytes.{append_known}
 use Rattle.dump.specs.Parts.{comma_and_space}
 use Rattle.look.specs.Text.{listed}
-use Rattle.reply_text.proofs.Pieces.{held_more, less_front, less_behind}
+use Rattle.reply_text.proofs.Pieces.{less_front, less_behind}
 use Rattle.reply_text.specs.WroteLess.{WroteLess}
 
 module _ {A : Type 0} (text : A → List ℕ) where

@@ -1,31 +1,13 @@
 -- The rows of a relation, counted slot by slot.
-use Rattle.std.proofs.Common.{◌≡◌, refl, sym, ap, subst, ◌∙◌, ℕ, ◌+◌, ◌-◌, ◌<◌, ◌≤◌, Bool, true, false, not, List, [], ◌∷◌, ◌++◌, length, take, get_or, filter, arith, cond, Option, Some, None, suc}
+use Rattle.std.proofs.Common.{◌≡◌, refl, sym, ap, ◌∙◌, ℕ, ◌+◌, ◌-◌, Bool, true, false, not, List, [], ◌∷◌, length, filter, arith, cond, Option, Some, None, suc}
 use Rattle.std.specs.Option.{option_map, option_map_or}
-use Rattle.std.proofs.lemmas.List.{take_more}
 use Rattle.db_model.specs.declared.schemas.Schema.{Schema}
 use Rattle.db_model.specs.Database.{Database, Relation}
 use Rattle.db_model.specs.Row.{Row}
 use Rattle.antelope_engine.specs.Reading.{relation_in_slot, schema_at}
-use Rattle.look.specs.Text.{live_rows, mark_of, relation_line, removed_rows, rows_line, slot_text}
+use Rattle.look.specs.Text.{live_rows, relation_line, removed_rows, rows_line, slot_text}
 use Rattle.padded.proofs.Facts.{some_alike}
 use Rattle.space_model.specs.Enough.{rows_in}
-
-live-append : (rows : List Row) (row : Row) → live_rows (rows ++ row ∷ []) ≡ live_rows rows + mark_of row
-live-append [] row = by_mark row.live
-  where
-    by_mark : (t : Bool) → length (cond t (row ∷ []) []) ≡ 0 + cond t 1 0
-    by_mark true = refl
-    by_mark false = refl
-live-append (first ∷ rows) row = by_mark first.live (live-append rows row)
-  where
-    by_mark : (t : Bool) → live_rows (rows ++ row ∷ []) ≡ live_rows rows + mark_of row
-        → length (cond t (first ∷ filter (λ r. r.live) (rows ++ row ∷ [])) (filter (λ r. r.live) (rows ++ row ∷ []))) ≡ length (cond t (first ∷ filter (λ r. r.live) rows) (filter (λ r. r.live) rows)) + mark_of row
-    by_mark true e = omega (arith, e)
-    by_mark false e = e
-
--- one slot more
-pub live_more : (rows : List Row) (i : ℕ) (d : Row) → i < length rows → live_rows (take (i + 1) rows) ≡ live_rows (take i rows) + mark_of (get_or rows i d)
-live_more rows i d h = ap live_rows (take_more rows i d h) ∙ live-append (take i rows) (get_or rows i d)
 
 -- each row is live or removed
 pub both_kinds : (rows : List Row) → live_rows rows + removed_rows rows ≡ length rows

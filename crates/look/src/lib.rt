@@ -4,6 +4,7 @@
 mod counting;
 mod flash;
 mod indexes;
+mod laws;
 mod lines;
 mod pages;
 mod relations;
@@ -11,5 +12,6 @@ mod rows;
 mod writing;
 
 pub use flash::write_flash;
+pub use laws::each_page_is_counted_once;
 pub use pages::PageCounts;
 pub use writing::write_database;
