@@ -29,7 +29,7 @@ use Rattle.coffee_cuts.specs.Cuts.{IsActiveAt, IsHeadless, IsErasing, IsReplacin
 use Rattle.coffee_cuts.proofs.Reached.{IsReached, begun_at, kept_at, no_unit, reach, same_unit}
 
 -- images of one length whose pages are the same are one image
-images_same : (old new : List ℕ) → length new ≡ length old → ((p : ℕ) → page_bytes new p ≡ page_bytes old p) → new ≡ old
+pub images_same : (old new : List ℕ) → length new ≡ length old → ((p : ℕ) → page_bytes new p ≡ page_bytes old p) → new ≡ old
 images_same old new long same =
     ext_get_or 0 new old long (λ k h. byte_in_page new k ∙ ap (λ xs. get_or xs (k % 256) 0) (same (k / 256)) ∙ sym (byte_in_page old k))
 
@@ -45,12 +45,12 @@ all_zero (b ∷ bytes) (suc n) e z =
     ap (λ x. x ∷ bytes) (true_eq b 0 p.0) ∙ ap (λ t. 0 ∷ t) (all_zero bytes n (omega (arith, e)) p.1)
 
 -- a page inside a part that is zero
-zero_part : (xs : List ℕ) (k : ℕ) → is_zeros xs ≡ true → get_or xs k 0 ≡ 0
+pub zero_part : (xs : List ℕ) (k : ℕ) → is_zeros xs ≡ true → get_or xs k 0 ≡ 0
 zero_part [] k z = refl
 zero_part (x ∷ xs) zero z = true_eq x 0 (both_parts (x == 0) (is_zeros xs) z).0
 zero_part (x ∷ xs) (suc k) z = zero_part xs k (both_parts (x == 0) (is_zeros xs) z).1
 
-zeros_from : (xs : List ℕ) → ((k : ℕ) → k < length xs → get_or xs k 0 ≡ 0) → is_zeros xs ≡ true
+pub zeros_from : (xs : List ℕ) → ((k : ℕ) → k < length xs → get_or xs k 0 ≡ 0) → is_zeros xs ≡ true
 zeros_from [] f = refl
 zeros_from (x ∷ xs) f = rw (f 0 (omega arith)) (zeros_from xs (λ k less. f (suc k) (omega (arith, less))))
 
@@ -65,14 +65,14 @@ page_zero image a b page z low high exists =
     ∙ zero_part (slice_range image a b) (256 * page + k - a) z))
 
 -- free units stand in pages that are zero
-free_page : (image : List ℕ) (page : ℕ) (free : Bool) → unit_at image page ≡ Some Free → broken_at nowhere image page free ≡ None → is_zeros (page_bytes image page) ≡ true
+pub free_page : (image : List ℕ) (page : ℕ) (free : Bool) → unit_at image page ≡ Some Free → broken_at nowhere image page free ≡ None → is_zeros (page_bytes image page) ≡ true
 free_page image page free is kept = by_zeros (is_zeros (page_bytes image page)) (sym (ap (broken_unit false (is_zeros (page_bytes image page)) (pages_of image) page free) is) ∙ kept)
   where
     by_zeros : (b : Bool) → ◌≡◌ {A = Option ℕ} (if b then None else Some 3) None → b ≡ true
     by_zeros true e = refl
     by_zeros false e = cc
 
-free_pages_zero : (image : List ℕ) (n page k : ℕ) (free : Bool) (rest : List Unit) → KeepRules nowhere image page free (replicate n Free ++ rest) → k < n → is_zeros (page_bytes image (page + k)) ≡ true
+pub free_pages_zero : (image : List ℕ) (n page k : ℕ) (free : Bool) (rest : List Unit) → KeepRules nowhere image page free (replicate n Free ++ rest) → k < n → is_zeros (page_bytes image (page + k)) ≡ true
 free_pages_zero image zero page k free rest keep less = absurd (omega (arith, less))
 free_pages_zero image (suc n) page zero free rest keep less =
     let here : page ≡ page + 0 = omega arith in
@@ -106,7 +106,7 @@ isolated_ninth bytes z e = by_zeros (is_zeros bytes) (header_of bytes) (rw z at 
     by_zeros false None f = let n : ⊥ = cc in n
     by_zeros false (Some h) f = let n : ⊥ = cc in n
 
-flags_of_zero : (h : Header) → h.flags ≡ 0 → is_flags h.flags ≡ true → ⊥
+pub flags_of_zero : (h : Header) → h.flags ≡ 0 → is_flags h.flags ≡ true → ⊥
 flags_of_zero h z e = let f : is_flags 0 ≡ true = ap is_flags (sym z) ∙ e in let n : ⊥ = cc in n
 
 -- a unit that keeps the rules at a blank page is a free page

@@ -2,10 +2,18 @@
 //! do nothing, and their contracts are laws of theirs.
 #![tactic(auto)]
 
+mod torn;
+
 ghost use Rattle.std.specs.Prelude.{◌≡◌, ◌*◌, ℕ, List, None, length};
 ghost use Rattle.coffee_cuts.specs.Cuts.{MendsTo};
 ghost use Rattle.coffee_layout.specs.Files.{NamedFile, files_of};
 ghost use Rattle.coffee_layout.specs.Rules.{broken_image};
+
+pub use torn::{
+    broken_off_files_mend, held_images_mend, torn_collections_mend, torn_commits_mend,
+    torn_contents_mend, torn_headers_mend, torn_namings_mend, torn_removals_mend,
+    torn_replacings_mend, written_drafts_mend,
+};
 
 /// An image that keeps the rules 1 to 13 mends to its own files, and to no others: what was under way, as far as such an image
 /// shows anything of the kind, changes none of them.
