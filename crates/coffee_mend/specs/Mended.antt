@@ -61,6 +61,12 @@ OnFailed (Space need flash) P = ⊤
 OnFailed (Failed flash) P = P
 OnFailed (Unsettled flash) P = ⊤
 
+-- the error is that the flash failed
+abbrev pub IsFailure : {F : Type 0} → MendError F → Type 0
+IsFailure (Space need flash) = ⊥
+IsFailure (Failed flash) = ⊤
+IsFailure (Unsettled flash) = ⊥
+
 -- P of the pages that are lacking, and of the flash, where that is the error
 abbrev pub OnSpace : {F : Type 0} → MendError F → (ℕ → F → Type 0) → Type 0
 OnSpace (Space need flash) P = P need flash
