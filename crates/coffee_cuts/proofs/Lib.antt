@@ -13,4 +13,4 @@ pub mod Reached
 pub mod SettledImages
 pub mod SoundImages
 mod TornRecords
-mod ZeroedHeads
+pub mod ZeroedHeads

@@ -13,7 +13,7 @@ use Rattle.coffee_layout.specs.declared.file.FileAt.{FileAt}
 use Rattle.coffee_layout.specs.declared.unit.Unit.TheVariants.{Extent}
 use Rattle.coffee_merge.specs.Begun.{unit_begun}
 use Rattle.coffee_merge.specs.Flags.{flagged, obsoleted}
-use Rattle.coffee_merge.specs.Holding.{CommitsExtent, Entries, HoldsTable, IsIn, extent_of, file_flags, file_header, log_header}
+use Rattle.coffee_merge.specs.Holding.{CommitsExtent, Entries, HoldsTable, IsIn, extent_of, file_flags, file_header, log_header, log_number}
 use Rattle.coffee_merge.specs.Outcomes.{BeginsFile, CopiesFile}
 use Rattle.coffee_merge.proofs.Commits.{replaced_file, replaced_log, replaces, valid}
 use Rattle.coffee_merge.proofs.Marked.{flagged_extent}
@@ -105,10 +105,15 @@ space_on r (Ok x) e P Q was is more p = tt
 space_on r (Err Failed) e P Q was is more p = tt
 space_on r (Err (Space need)) e P Q was is more p = let same : e ≡ Space need = cc in more need (rw (was ∙ ap (λ x. Err x) same) at p)
 
+pub space_both : {T : Type 0} (r : Result T FileError) (P Q : ℕ → Type 0) → OnSpace r P → OnSpace r Q → OnSpace r (λ need. P need × Q need)
+space_both (Ok x) P Q p q = tt
+space_both (Err (Space need)) P Q p q = (p, q)
+space_both (Err Failed) P Q p q = tt
+
 -- of a sound image, where no pages are had for a file that is listed
 pub lacks_room : (old new : List ℕ) (file : FileAt) (log : PageId) (need : ℕ) → broken_image old ≡ None → 256 * pages_of old ≡ length old → Contains (listed old) file → file.log ≡ Some log
-    → ((table : Entries) → HoldsTable old table None → LeavesAll old new table need) → LacksRoom old new log.0 need
-lacks_room old new file log need sound whole there logged leaves =
+    → ((table : Entries) → HoldsTable old table None → LeavesAll old new table need) → need ≡ file.pages → LacksRoom old new log.0 need
+lacks_room old new file log need sound whole there logged leaves pages =
     let holds : HoldsTable old (map Some (listed old) ++ replicate 0 None) None = sound_held old 0 sound whole in
     let at = held_listed old (map Some (listed old) ++ replicate 0 None) file holds there in
     let l = leaves (map Some (listed old) ++ replicate 0 None) holds in
@@ -123,5 +128,12 @@ lacks_room old new file log need sound whole there logged leaves =
       name = file.name;
       stands = l.stays.holds.logs at.0 file log at.1 logged;
       used = used_is new log.0 file.used ((l.stays.holds.stored at.0 file at.1).file.logged log logged) ∙ sym (used_is old log.0 file.used ((holds.stored at.0 file at.1).file.logged log logged));
+      wants = record {
+        page = file.page.0;
+        header = file_header file;
+        there = l.stays.holds.files at.0 file at.1;
+        names = ap log_number logged;
+        pages_are = sym pages;
+      };
       cramped = l.cramped;
     }

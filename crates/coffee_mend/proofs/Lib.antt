@@ -1,3 +1,4 @@
+mod Erasures
 mod Joins
 mod Mends
 mod Settlings

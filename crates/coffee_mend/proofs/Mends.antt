@@ -132,5 +132,7 @@ mended_crowded old mid new trouble r need cut some is s =
         kept = s.same.kept;
         only = s.same.only;
       };
+      log = r.log.0;
+      wants = s.wants;
       cramped = s.cramped;
     }

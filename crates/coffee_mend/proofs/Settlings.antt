@@ -1,12 +1,15 @@
 -- An image that a cut left of a write that settles another one mends to its files.
-use Rattle.std.proofs.Common.{◌≡◌, ⊎_elim, ℕ, List, Option, Some, None, refl, ap, subst, sym, ◌∙◌}
+use Rattle.std.proofs.Common.{◌≡◌, ⊎_elim, ℕ, ◌*◌, List, Option, Some, None, refl, ap, subst, sym, ◌∙◌}
 use Rattle.afl_base.specs.declared.ids.PageId.{PageId}
-use Rattle.coffee_cuts.specs.Cuts.{IsActiveAt, IsFound, IsSettled, UnderWay, Nothing, Beginning, Building, Erasing, Unnamed, Naming, Replacing, settled}
+use Rattle.afl_base.specs.Cuts.{IsCutErase}
+use Rattle.afl_base.specs.Image.{zeros_at}
+use Rattle.coffee_cuts.specs.Cuts.{IsActiveAt, IsErasing, IsFound, IsSettled, UnderWay, Nothing, Beginning, Building, Erasing, Unnamed, Naming, Replacing, settled}
 use Rattle.coffee_layout.specs.Files.{NamedFile, Placed, files_of, log_of}
 use Rattle.coffee_merge.specs.CutMarks.{IsOneOf}
 use Rattle.coffee_merge.specs.Flags.{flagged, obsoleted}
+use Rattle.coffee_mend.proofs.Erasures.{erasing_again, whole_same}
 use Rattle.coffee_mend.specs.Mended.{MendAlike}
-use Rattle.coffee_mend.specs.Settling.{IsByFlags, IsCutSettling}
+use Rattle.coffee_mend.specs.Settling.{IsCutSettling, LeavesLog}
 
 -- where the images once settled are the same
 alike : (old new : List ℕ) (u v : UnderWay) → IsFound old u → IsSettled (settled old u) → IsFound new v → settled new v ≡ settled old u → MendAlike old new
@@ -39,11 +42,18 @@ half old new from to None none found settles log is = done old new (Replacing fr
 half old new from to (Some l) some found settles log is =
     alike old new (Replacing from to) (Unnamed l.0) found settles (subst (λ i. IsActiveAt i l.0 19) (sym is) (log l some)) (ap (λ i. flagged i l.0 4) is ∙ ap (obsoleted old from.page) (sym some))
 
-pub settling_mends : (old new : List ℕ) (u : UnderWay) → IsFound old u → IsSettled (settled old u) → IsByFlags old u → IsCutSettling old new u → MendAlike old new
+-- a front part of the sector is erased
+erased : (old new : List ℕ) (sector page : ℕ) → IsFound old (Erasing sector page) → IsSettled (settled old (Erasing sector page)) → IsCutErase old new sector → MendAlike old new
+erased old new sector page found settles cut =
+    alike old new (Erasing sector page) (Erasing sector page) found settles
+    (subst (λ i. IsErasing i sector page) (sym cut.is) (erasing_again old sector page cut.done found cut.within))
+    (ap (λ i. zeros_at i (4096 * sector) 4096) cut.is ∙ whole_same old (4096 * sector) cut.done found.inside cut.within)
+
+pub settling_mends : (old new : List ℕ) (u : UnderWay) → IsFound old u → IsSettled (settled old u) → LeavesLog old u → IsCutSettling old new u → MendAlike old new
 settling_mends old new Nothing found settles by cut = undone old new Nothing found settles cut
 settling_mends old new (Beginning page) found settles by cut = one old new (Beginning page) found settles cut
 settling_mends old new (Building page) found settles by cut = one old new (Building page) found settles cut
-settling_mends old new (Erasing sector page) found settles by cut = absurd by
+settling_mends old new (Erasing sector page) found settles by cut = erased old new sector page found settles cut
 settling_mends old new (Unnamed log) found settles by cut = one old new (Unnamed log) found settles cut
 settling_mends old new (Naming page) found settles by cut = one old new (Naming page) found settles cut
 settling_mends old new (Replacing from to) found settles by cut =

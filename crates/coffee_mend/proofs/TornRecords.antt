@@ -20,7 +20,7 @@ use Rattle.std.specs.List.{Contains}
 use Rattle.coffee_merge.specs.Begun.{active_at, unit_begun}
 use Rattle.coffee_merge.specs.TableFiles.{SameFiles}
 use Rattle.coffee_merge.proofs.SoundImages.{held_sound}
-use Rattle.coffee_mend.specs.Joined.{LacksRoom}
+use Rattle.coffee_mend.specs.Joined.{LacksRoom, OwnsLog}
 use Rattle.coffee_mend.specs.Mended.{IsTornAs}
 use Rattle.coffee_merge.specs.Holding.{Entries, HoldsTable, IsIn, file_flags, file_header, log_header}
 use Rattle.coffee_merge.proofs.Begun.{active_begun}
@@ -225,6 +225,7 @@ still_torn old new log place need t whole inside there l =
       torn = torn;
       same = same_by old (zeros_at old place 128) (zeros_at new place 128) new (torn_files old log place whole inside t) k.same
           (torn_files new log place (whole_of new place there all) there torn);
+      wants = subst (λ us. OwnsLog us log need) (sym same) l.wants;
       cramped = subst (λ us. IsCramped us need) (sym same) l.cramped;
     }
   where

@@ -1,5 +1,5 @@
 -- A file that was put together with its log, whose extents are obsolete.
-use Rattle.std.specs.Prelude.{◌≡◌, ℕ, ◌≤◌, true, List, length, None, Some}
+use Rattle.std.specs.Prelude.{◌≡◌, ℕ, ◌+◌, ◌≤◌, true, List, length, None, Some}
 use Rattle.afl_base.specs.declared.ids.PageId.{PageId}
 use Rattle.coffee_header.specs.declared.header.Header.{Header}
 use Rattle.coffee_layout.specs.FileBytes.{table_of, used_in}
@@ -7,6 +7,7 @@ use Rattle.coffee_layout.specs.Marks.{IsCramped}
 use Rattle.coffee_layout.specs.Tiling.{units_of}
 use Rattle.coffee_layout.specs.Walks.{has_few}
 use Rattle.coffee_layout.specs.declared.file.FileAt.{FileAt}
+use Rattle.coffee_layout.specs.declared.unit.Unit.{Unit}
 use Rattle.coffee_layout.specs.declared.unit.Unit.TheVariants.{Extent}
 use Rattle.coffee_merge.specs.Begun.{active_at, unit_begun}
 use Rattle.coffee_merge.specs.Holding.{Entries, HoldsTable, IsIn, Moves, log_header}
@@ -39,10 +40,19 @@ pub record IsJoined (old new : List ℕ) (log : ℕ) : Type 0 where
   pub name : List ℕ
   pub gone : unit_begun (units_of new) 0 log ≡ Some (Extent (old_log_header name))
 
+-- the file that names the log at a page has so many pages
+pub record OwnsLog (us : List Unit) (log pages : ℕ) : Type 0 where
+  pub page : ℕ
+  pub header : Header
+  pub there : active_at us page ≡ Some header
+  pub names : header.log_page ≡ log + 1
+  pub pages_are : header.max_pages ≡ pages
+
 -- an image keeps the files of another and the log at a page, and no extent of so many pages can be had in it
 pub record LacksRoom (old new : List ℕ) (log need : ℕ) : Type 0 where
   pub keeps : KeepsFiles old new
   pub name : List ℕ
   pub stands : active_at (units_of new) log ≡ Some (log_header name)
   pub used : used_in (table_of new log) ≡ used_in (table_of old log)
+  pub wants : OwnsLog (units_of new) log need
   pub cramped : IsCramped (units_of new) need

@@ -9,6 +9,7 @@ use Rattle.coffee_layout.specs.Marks.{IsCramped}
 use Rattle.coffee_layout.specs.Rules.{broken_image}
 use Rattle.coffee_layout.specs.Tiling.{units_of}
 use Rattle.coffee_merge.specs.TableFiles.{SameFiles}
+use Rattle.coffee_mend.specs.Joined.{OwnsLog}
 use Rattle.coffee_mend.specs.declared.mending.MendError.{MendError}
 use Rattle.coffee_mend.specs.declared.mending.MendError.TheVariants.{Space, Failed, Unsettled}
 
@@ -29,6 +30,7 @@ pub record IsMended (old new : List ℕ) : Type 0 where
 pub record IsTornAs (old new : List ℕ) (log place need : ℕ) : Type 0 where
   pub torn : IsTorn new log place
   pub same : SameFiles old new
+  pub wants : OwnsLog (units_of new) log need
   pub cramped : IsCramped (units_of new) need
 
 -- an image mends to just the files that another mends to
@@ -40,9 +42,11 @@ pub record MendAlike (old new : List ℕ) : Type 0 where
   pub kept : (f : NamedFile) → Contains files f → Contains others f
   pub only : (f : NamedFile) → Contains others f → Contains files f
 
--- and no extent of so many pages can be had in it
+-- and no extent of so many pages can be had in it, as a file with a log has
 pub record IsCrowded (old new : List ℕ) (need : ℕ) : Type 0 where
   pub alike : MendAlike old new
+  pub log : ℕ
+  pub wants : OwnsLog (units_of new) log need
   pub cramped : IsCramped (units_of new) need
 
 -- the flash that is handed back
@@ -56,6 +60,12 @@ abbrev pub OnFailed : {F : Type 0} → MendError F → Type 0 → Type 0
 OnFailed (Space need flash) P = ⊤
 OnFailed (Failed flash) P = P
 OnFailed (Unsettled flash) P = ⊤
+
+-- the error is that the flash failed
+abbrev pub IsFailure : {F : Type 0} → MendError F → Type 0
+IsFailure (Space need flash) = ⊥
+IsFailure (Failed flash) = ⊤
+IsFailure (Unsettled flash) = ⊥
 
 -- P of the pages that are lacking, and of the flash, where that is the error
 abbrev pub OnSpace : {F : Type 0} → MendError F → (ℕ → F → Type 0) → Type 0

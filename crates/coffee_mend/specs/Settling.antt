@@ -17,12 +17,12 @@ IsCutSettling old new (Unnamed log) = IsOneOf new old (settled old (Unnamed log)
 IsCutSettling old new (Naming page) = IsOneOf new old (settled old (Naming page))
 IsCutSettling old new (Replacing from to) = IsCutObsolete old new from.page (log_of from.header)
 
--- what was under way is settled by flags alone, and the log of an old extent stands once that is obsolete
-abbrev pub IsByFlags : List ℕ → UnderWay → Type 0
-IsByFlags image Nothing = ⊤
-IsByFlags image (Beginning page) = ⊤
-IsByFlags image (Building page) = ⊤
-IsByFlags image (Erasing sector page) = ⊥
-IsByFlags image (Unnamed log) = ⊤
-IsByFlags image (Naming page) = ⊤
-IsByFlags image (Replacing from to) = (l : PageId) → log_of from.header ≡ Some l → IsActiveAt (flagged image from.page 4) l.0 19
+-- where a file has an old extent with a log, the log stands once that extent is obsolete
+abbrev pub LeavesLog : List ℕ → UnderWay → Type 0
+LeavesLog image Nothing = ⊤
+LeavesLog image (Beginning page) = ⊤
+LeavesLog image (Building page) = ⊤
+LeavesLog image (Erasing sector page) = ⊤
+LeavesLog image (Unnamed log) = ⊤
+LeavesLog image (Naming page) = ⊤
+LeavesLog image (Replacing from to) = (l : PageId) → log_of from.header ≡ Some l → IsActiveAt (flagged image from.page 4) l.0 19

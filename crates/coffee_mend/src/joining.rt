@@ -74,6 +74,7 @@ fn join_file<F: Flash>(flash: &mut F, file: &FileAt, log: PageId) -> Result<Page
     ensures left { IsTrue F.tells → OnSpace result
         (λ need. (table : Entries) → HoldsTable (F.image flash.old) table None
         → LeavesAll (F.image flash.old) (F.image flash.new) table need) }
+    ensures need { OnSpace result (λ need. need ≡ file.now.pages) }
     ensures frame { ChangesFlashOrLacks F.image F.lent F.reads F.faults flash.old flash.new result }
 {
     let page = begin_extent(flash, &file.name, file.kind, file.pages)?;

@@ -1,7 +1,7 @@
 ghost use Rattle.std.specs.Prelude.{◌≡◌, ℕ, ◌+◌, ◌*◌, ◌≤◌, None, Some, length, IsTrue, IfErr, IfOk, MatchResult};
 ghost use Rattle.afl_base.specs.Image.{zeros_at};
 ghost use Rattle.coffee_find.specs.Found.{HasRecord, IsCutBy, IsTorn, LiesInside, meant};
-ghost use Rattle.coffee_mend.specs.Mended.{HandsBack, HasMendCause, IsCrowded, IsMended, IsSoundAs, IsTornAs, OnFailed, OnSpace, flash_of};
+ghost use Rattle.coffee_mend.specs.Mended.{HandsBack, HasMendCause, IsCrowded, IsFailure, IsMended, IsSoundAs, IsTornAs, OnFailed, OnSpace, flash_of};
 ghost use Rattle.coffee_mend.specs.Settling.{IsCutSettling};
 
 use crate::joining::join_log;
@@ -16,17 +16,20 @@ pub enum MendError<F> {
     Space { need: u16, flash: F },
     /// The flash failed, and its count of faults rose.
     Failed { flash: F },
-    /// The image is not what was found in it: on a flash that answers otherwise at each read.
+    /// The image is not what was found in it, as on a flash that answers otherwise at each read.
     Unsettled { flash: F },
 }
 
-/// Puts right what a cut left of an image: it is sound then, and has just the files that it mends to.
+/// Puts right what a cut left of an image: it is sound then, and has just the files that it mends to. It
+/// asks for pages only where a record is torn. Where the flash fails in the write that settles what was
+/// under way, `cut_settlings_mend` says what it leaves.
 pub fn mend<F: Flash>(mut flash: F, trouble: &Trouble) -> Result<F, MendError<F>>
     requires inside { LiesInside (length (F.image flash)) trouble.now }
     ensures mended { IsTrue F.tells → IsCutBy (F.image flash) trouble.now
         → IfOk result (λ f. IsMended (F.image flash) (F.image f)) }
     ensures space { IsTrue F.tells → IsCutBy (F.image flash) trouble.now
         → IfErr result (λ e. OnSpace e (λ need f. IsCrowded (F.image flash) (F.image f) need)) }
+    ensures failures { trouble.now.torn ≡ None → IfErr result (λ e. IsFailure e) }
     ensures cut { IsTrue F.tells → IsTrue F.cuts → trouble.now.torn ≡ None
         → IfErr result (λ e. OnFailed e
         (IsCutSettling (F.image flash) (F.image (flash_of e)) (meant trouble.now.under_way))) }

@@ -3,7 +3,7 @@ use Rattle.std.specs.List.{Contains}
 use Rattle.coffee_layout.specs.Files.{listed}
 use Rattle.coffee_layout.specs.Rules.{broken_image}
 use Rattle.coffee_mend.specs.Joined.{IsJoined, LacksRoom}
-use Rattle.coffee_mend.proofs.Joins.{joined_log, lacks_room, space_on}
+use Rattle.coffee_mend.proofs.Joins.{joined_log, lacks_room, space_both, space_on}
 use Rattle.std.proofs.lemmas.Result.{err_from_is_err_and}
 use Rattle.std.specs.Prelude.{Err, None}
 use Rattle.coffee_merge.specs.Holding.{Entries, HoldsTable}
@@ -31,8 +31,8 @@ returns-in_err-join_file-clause-left g c = λ told sound.
     let judged = rw c.in-Ok.is at (c.in_ok-check.ensures.judged told) in
     let there : Contains (listed mid) c.in-Some.file = subst (λ xs. Contains xs c.in-Some.file) (c.deref.ensures.0 ∙ judged.1 ∙ ap listed (sym same)) c.in-Some.ensures.listed in
     let said = err_from_is_err_and c.from_residual-in_err-join_file.result c.from_residual-in_err-join_file.ensures.1 in
-    space_on c.join_file.result c.from_residual-in_err-join_file.result c.in_err-join_file.field-0.0 (λ need. (table : Entries) → HoldsTable mid table None → LeavesAll mid new table need)
+    space_on c.join_file.result c.from_residual-in_err-join_file.result c.in_err-join_file.field-0.0 (λ need. ((table : Entries) → HoldsTable mid table None → LeavesAll mid new table need) × (need ≡ c.in-Some.file.pages))
     (λ need. LacksRoom old new c.args.log.0 need) c.in_err-join_file.was (said.1 ∙ ap (λ e. Err e) said.2)
     (λ need leaves. subst (λ i. LacksRoom i new c.args.log.0 need) same
-    (lacks_room mid new c.in-Some.file c.args.log need (ap broken_image same ∙ sound) (omega (arith, ap length same, c.sectors.ensures.size)) there c.in-Some.ensures.log leaves))
-    (c.join_file.ensures.left told)
+    (lacks_room mid new c.in-Some.file c.args.log need (ap broken_image same ∙ sound) (omega (arith, ap length same, c.sectors.ensures.size)) there c.in-Some.ensures.log leaves.0 leaves.1))
+    (space_both c.join_file.result (λ need. (table : Entries) → HoldsTable mid table None → LeavesAll mid new table need) (λ need. need ≡ c.in-Some.file.pages) (c.join_file.ensures.left told) c.join_file.ensures.need)
