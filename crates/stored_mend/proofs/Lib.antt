@@ -1,4 +1,6 @@
 pub mod Copies
+pub mod KeptBase
 pub mod LineTexts
+pub mod NamesStay
 pub mod Replaced
 pub mod Slots
