@@ -14,8 +14,8 @@ use afl_base::{Failed, FileError, Files};
 use catalog::{Catalog, load};
 
 /// Puts files right in which a cut left a part of a change, as `survey` tells, and reports what it did.
-/// It makes room before each change, and `Space` has the pages that were lacking. Cut itself, or
-/// without space, it leaves files that it puts right when it is begun anew.
+/// It makes room before each change, and `Space` has the pages that were lacking. It is made so that it
+/// can be begun anew where it was cut itself, or had no space.
 pub fn mend_database<V: Files>(files: &mut V, report: &mut Report) -> Result<(), FileError>
     requires idle { (V.state files.old).draft ≡ None }
     ensures idle { OnOk result ((V.state files.new).draft ≡ None) }
