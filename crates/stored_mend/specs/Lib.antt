@@ -1,3 +1,4 @@
 pub mod Keys
+pub mod Mending
 pub mod Report
 pub mod Rows

@@ -4,7 +4,8 @@ use Rattle.afl_base.specs.declared.kind.Kind.TheVariants.{Doubling}
 use Rattle.afl_base.specs.Files.{File, IsNamed, State, Table, bytes_at, file_at}
 use Rattle.afl_base.specs.Frames.{SparesOthers}
 use Rattle.db_model.specs.declared.schemas.Attribute.{Attribute}
-use Rattle.db_model.specs.Row.{row_length, slots_in_bytes}
+use Rattle.db_model.specs.Row.{row_length, rows_of, slots_in_bytes}
+use Rattle.space_model.specs.FileNames.{bytes_named}
 
 -- the bytes of whole rows
 abbrev pub whole_length : List Attribute → List ℕ → ℕ
@@ -27,3 +28,7 @@ ChangesOne old new name = SparesOthers old new (λ k. IsNamed old.files k name �
 abbrev pub HasWholeRows : (old new : Table) → List ℕ → List Attribute → Type 0
 HasWholeRows old new name attributes = (k : ℕ) → IsNamed old k name
     → MayEndAt (file_at old k) (whole_length attributes (bytes_at old k)) → bytes_at new k ≡ whole_rows attributes (bytes_at old k)
+
+-- the file of a name has the same rows as before
+abbrev pub AreSameRows : (old new : Table) → List ℕ → List Attribute → Type 0
+AreSameRows old new name attributes = rows_of attributes (bytes_named name new) ≡ rows_of attributes (bytes_named name old)

@@ -6,6 +6,7 @@ ghost use Rattle.std.specs.Prelude.{◌≡◌, ◌≢◌, ◌≤◌, ◌<◌, �
 ghost use Rattle.afl_base.specs.Files.{IsLive, file_at, size_at};
 ghost use Rattle.afl_base.specs.Keeping.{ChangesOrLacks, OnlyReads};
 ghost use Rattle.afl_base.specs.declared.kind.Kind.TheVariants.{Fixed};
+ghost use Rattle.stored_mend.specs.Mending.{mended_base};
 
 use crate::decoding::name_in;
 use crate::listing::{SIZE_OF_VERSION_1, VERSION_MARK, relation_in, whole_catalog};
@@ -22,6 +23,8 @@ const UNUSED_INDEX: [u8; 8] = [0, 0, 0, 0, 0, 0, 0, 1];
 pub fn take_back_catalog<V: Files>(files: &mut V, report: &mut Report) -> Result<(), FileError>
     requires idle { (V.state files.old).draft ≡ None }
     ensures idle { OnOk result ((V.state files.new).draft ≡ None) }
+    ensures base { OnOk result
+        (mended_base (V.state files.new).files ≡ mended_base (V.state files.old).files) }
     ensures frame { ChangesOrLacks V.state V.lent V.reads V.faults V.lacks files.old files.new result }
 {
     let Some(cat) = files.find(catalog_file()) else {

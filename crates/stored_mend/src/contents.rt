@@ -10,12 +10,13 @@ ghost use Rattle.afl_base.specs.declared.kind.Kind.TheVariants.{Doubling};
 ghost use Rattle.afl_base.specs.KeyColumn.{key_of};
 ghost use Rattle.afl_base.specs.Keys.{first_keys};
 ghost use Rattle.stored_mend.specs.Keys.{AreKeys, BuildsTree, HasTree};
-ghost use Rattle.stored_mend.specs.Rows.{ChangesOne, HasWholeRows, MayEndAt};
+ghost use Rattle.stored_mend.specs.Mending.{KeepsBase, mended_catalog};
+ghost use Rattle.stored_mend.specs.Rows.{AreSameRows, ChangesOne, HasWholeRows, MayEndAt};
 
 use crate::keyed::{Keyed, keys_of};
 use crate::report::{Mended, Report};
 use afl_base::{Failed, FileError, FileId, Files, IndexId, Kind, Name, RelationId};
-use catalog::{Catalog, rows_file, tree_file};
+use catalog::{Catalog, IndexEntry, rows_file, tree_file};
 use db_model::{IndexKind, Schema, row_length};
 use index_maxheap::{BUCKET_SIZE, HEAD_SIZE, buckets_for, build, verify};
 use index_tree::a_tree_ends_in_a_mark;
@@ -31,14 +32,40 @@ pub fn mend_rows<V: Files>(
     report: &mut Report,
 ) -> Result<(), FileError>
     requires relations { length catalog.now.relations ≡ 8 }
-    requires slot { slot < 8 }
+    requires listed { IsTrue (V.state files.old).tells
+        → catalog.now.relations ≡ (mended_catalog (V.state files.old).files).relations }
     requires idle { (V.state files.old).draft ≡ None }
-    ensures idle { OnOk result ((V.state files.new).draft ≡ None) }
+    ensures kept { OnOk result (KeepsBase (V.state files.old) (V.state files.new)) }
     ensures frame { ChangesOrLacks V.state V.lent V.reads V.faults V.lacks files.old files.new result }
 {
-    match (&catalog.relations[slot as usize], RelationId::new(slot)) {
-        (Some(schema), Some(id)) => mend_rows_of(files, schema, rows_file(id), report),
-        _ => Ok(()),
+    match RelationId::new(slot) {
+        Some(id) => {
+            mend_relation_rows(files, id, catalog, report)?;
+            Ok(())
+        }
+        None => Ok(()),
+    }
+}
+
+fn mend_relation_rows<V: Files>(
+    files: &mut V,
+    id: RelationId,
+    catalog: &Catalog,
+    report: &mut Report,
+) -> Result<(), FileError>
+    requires relations { length catalog.now.relations ≡ 8 }
+    requires listed { IsTrue (V.state files.old).tells
+        → catalog.now.relations ≡ (mended_catalog (V.state files.old).files).relations }
+    requires idle { (V.state files.old).draft ≡ None }
+    ensures kept { OnOk result (KeepsBase (V.state files.old) (V.state files.new)) }
+    ensures frame { ChangesOrLacks V.state V.lent V.reads V.faults V.lacks files.old files.new result }
+{
+    match &catalog.relations[id.number() as usize] {
+        Some(schema) => {
+            mend_rows_of(files, schema, rows_file(id), report)?;
+            Ok(())
+        }
+        None => Ok(()),
     }
 }
 
@@ -51,6 +78,8 @@ fn mend_rows_of<V: Files>(
     requires idle { (V.state files.old).draft ≡ None }
     ensures rows { IsTrue (V.state files.old).tells → OnOk result
         (HasWholeRows (V.state files.old).files (V.state files.new).files name schema.now.attributes) }
+    ensures same { IsTrue (V.state files.old).tells → OnOk result
+        (AreSameRows (V.state files.old).files (V.state files.new).files name schema.now.attributes) }
     ensures others { OnOk result (ChangesOne (V.state files.old) (V.state files.new) name) }
     ensures frame { ChangesOrLacks V.state V.lent V.reads V.faults V.lacks files.old files.new result }
 {
@@ -160,33 +189,57 @@ pub fn mend_tree<V: Files>(
 ) -> Result<(), FileError>
     requires relations { length catalog.now.relations ≡ 8 }
     requires indexes { length catalog.now.indexes ≡ 8 }
-    requires slot { slot < 8 }
     requires idle { (V.state files.old).draft ≡ None }
-    ensures idle { OnOk result ((V.state files.new).draft ≡ None) }
+    ensures kept { OnOk result (KeepsBase (V.state files.old) (V.state files.new)) }
     ensures frame { ChangesOrLacks V.state V.lent V.reads V.faults V.lacks files.old files.new result }
 {
-    let (Some(entry), Some(id)) = (catalog.indexes[slot as usize], IndexId::new(slot)) else {
+    match IndexId::new(slot) {
+        Some(id) => {
+            mend_index_tree(files, id, catalog, report)?;
+            Ok(())
+        }
+        None => Ok(()),
+    }
+}
+
+fn mend_index_tree<V: Files>(
+    files: &mut V,
+    id: IndexId,
+    catalog: &Catalog,
+    report: &mut Report,
+) -> Result<(), FileError>
+    requires relations { length catalog.now.relations ≡ 8 }
+    requires indexes { length catalog.now.indexes ≡ 8 }
+    requires idle { (V.state files.old).draft ≡ None }
+    ensures kept { OnOk result (KeepsBase (V.state files.old) (V.state files.new)) }
+    ensures frame { ChangesOrLacks V.state V.lent V.reads V.faults V.lacks files.old files.new result }
+{
+    let Some(entry) = catalog.indexes[id.number() as usize] else {
         return Ok(());
     };
+    if entry.kind != IndexKind::MaxHeap {
+        return Ok(());
+    }
     let Some(keys) = keys_of(files, catalog, &entry) else {
         return Ok(());
     };
-    if entry.kind != IndexKind::MaxHeap || !mend_tree_of(files, tree_file(id), &keys)? {
-        return Ok(());
-    }
-    if let Some(schema) = &catalog.relations[entry.relation.number() as usize] {
-        report_tree(schema, entry.attribute, report);
+    if mend_tree_of(files, tree_file(id), &keys)? {
+        report_tree(catalog, &entry, report);
     }
     Ok(())
 }
 
-// Reports that the tree of an attribute is built anew.
-fn report_tree(schema: &Schema, attribute: u8, report: &mut Report) {
-    if let Some(found) = schema.attributes.as_slice().get(attribute as usize) {
-        report.add(Mended::Tree {
-            relation: schema.name,
-            attribute: found.name,
-        });
+// Reports that the tree of an index is built anew.
+fn report_tree(catalog: &Catalog, entry: &IndexEntry, report: &mut Report)
+    requires relations { length catalog.now.relations ≡ 8 }
+{
+    if let Some(schema) = &catalog.relations[entry.relation.number() as usize] {
+        if let Some(found) = schema.attributes.as_slice().get(entry.attribute as usize) {
+            report.add(Mended::Tree {
+                relation: schema.name,
+                attribute: found.name,
+            });
+        }
     }
 }
 

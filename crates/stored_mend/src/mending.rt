@@ -2,8 +2,9 @@
 
 #![tactic(auto)]
 
-ghost use Rattle.std.specs.Prelude.{◌≡◌, IfOk, IfSome, None, OnOk, length};
+ghost use Rattle.std.specs.Prelude.{◌≡◌, IfOk, IfSome, IsTrue, None, OnOk, length};
 ghost use Rattle.afl_base.specs.Keeping.{ChangesOrLacks, OnlyReads};
+ghost use Rattle.stored_mend.specs.Mending.{KeepsBase, mended_catalog};
 
 use crate::catalogs::{complete_mark, mend_index, mend_relation, take_back_catalog};
 use crate::contents::{mend_rows, mend_tree};
@@ -13,8 +14,8 @@ use afl_base::{Failed, FileError, Files};
 use catalog::{Catalog, load};
 
 /// Puts files right in which a cut left a part of a change, as `survey` tells, and reports what it did.
-/// It makes room before each change, and `Space` has the pages that were lacking. Cut itself, or
-/// without space, it leaves files that it puts right when it is begun anew.
+/// It makes room before each change, and `Space` has the pages that were lacking. It is made so that it
+/// can be begun anew where it was cut itself, or had no space.
 pub fn mend_database<V: Files>(files: &mut V, report: &mut Report) -> Result<(), FileError>
     requires idle { (V.state files.old).draft ≡ None }
     ensures idle { OnOk result ((V.state files.new).draft ≡ None) }
@@ -29,7 +30,7 @@ pub fn mend_database<V: Files>(files: &mut V, report: &mut Report) -> Result<(),
 // Puts right what the catalog asks for.
 fn mend_listed<V: Files>(files: &mut V, report: &mut Report) -> Result<(), FileError>
     requires idle { (V.state files.old).draft ≡ None }
-    ensures idle { OnOk result ((V.state files.new).draft ≡ None) }
+    ensures kept { OnOk result (KeepsBase (V.state files.old) (V.state files.new)) }
     ensures frame { ChangesOrLacks V.state V.lent V.reads V.faults V.lacks files.old files.new result }
 {
     match sound_catalog(files)? {
@@ -45,6 +46,8 @@ fn mend_listed<V: Files>(files: &mut V, report: &mut Report) -> Result<(), FileE
 fn sound_catalog<V: Files>(files: &mut V) -> Result<Option<Catalog>, Failed>
     ensures relations { IfOk result (λ r. IfSome r (λ catalog. length catalog.relations ≡ 8)) }
     ensures indexes { IfOk result (λ r. IfSome r (λ catalog. length catalog.indexes ≡ 8)) }
+    ensures listed { IsTrue (V.state files.old).tells → IfOk result (λ r. IfSome r (λ catalog.
+        catalog.relations ≡ (mended_catalog (V.state files.old).files).relations)) }
     ensures frame { OnlyReads V.state V.lent V.reads V.faults files.old files.new result }
 {
     match load(files)? {
@@ -93,13 +96,46 @@ fn mend_contents<V: Files>(
 ) -> Result<(), FileError>
     requires relations { length catalog.now.relations ≡ 8 }
     requires indexes { length catalog.now.indexes ≡ 8 }
+    requires listed { IsTrue (V.state files.old).tells
+        → catalog.now.relations ≡ (mended_catalog (V.state files.old).files).relations }
     requires idle { (V.state files.old).draft ≡ None }
-    ensures idle { OnOk result ((V.state files.new).draft ≡ None) }
+    ensures kept { OnOk result (KeepsBase (V.state files.old) (V.state files.new)) }
+    ensures frame { ChangesOrLacks V.state V.lent V.reads V.faults V.lacks files.old files.new result }
+{
+    mend_all_rows(files, catalog, report)?;
+    mend_all_trees(files, catalog, report)?;
+    Ok(())
+}
+
+fn mend_all_rows<V: Files>(
+    files: &mut V,
+    catalog: &Catalog,
+    report: &mut Report,
+) -> Result<(), FileError>
+    requires relations { length catalog.now.relations ≡ 8 }
+    requires listed { IsTrue (V.state files.old).tells
+        → catalog.now.relations ≡ (mended_catalog (V.state files.old).files).relations }
+    requires idle { (V.state files.old).draft ≡ None }
+    ensures kept { OnOk result (KeepsBase (V.state files.old) (V.state files.new)) }
     ensures frame { ChangesOrLacks V.state V.lent V.reads V.faults V.lacks files.old files.new result }
 {
     for slot in 0..8u16 {
         mend_rows(files, slot, catalog, report)?;
     }
+    Ok(())
+}
+
+fn mend_all_trees<V: Files>(
+    files: &mut V,
+    catalog: &Catalog,
+    report: &mut Report,
+) -> Result<(), FileError>
+    requires relations { length catalog.now.relations ≡ 8 }
+    requires indexes { length catalog.now.indexes ≡ 8 }
+    requires idle { (V.state files.old).draft ≡ None }
+    ensures kept { OnOk result (KeepsBase (V.state files.old) (V.state files.new)) }
+    ensures frame { ChangesOrLacks V.state V.lent V.reads V.faults V.lacks files.old files.new result }
+{
     for slot in 0..8u16 {
         mend_tree(files, slot, catalog, report)?;
     }

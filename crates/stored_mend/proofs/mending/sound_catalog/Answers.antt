@@ -1,0 +1,9 @@
+use Rattle.std.proofs.Common.{ap}
+use Rattle.db_model.specs.Catalog.{Catalog}
+use Rattle.stored_mend.proofs.KeptBase.{relations_listed}
+use Rattle.stored_mend.proofs.mending.sound_catalog.Goals as goal
+
+pub returns-in-Ok-clause-listed : goal.returns-in-Ok-clause-listed
+returns-in-Ok-clause-listed g c = λ told.
+    relations_listed (g.V.Files.state c.args.files.now).files c.in-Ok.catalog.relations (rw c.in-Ok.is at c.in_ok-catalog.ensures.size)
+    (ap (λ (slots : Catalog). slots.relations) ((rw c.in-Ok.is at c.in_ok-catalog.ensures.catalog) told))
