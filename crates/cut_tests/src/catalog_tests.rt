@@ -14,7 +14,9 @@ const MADE: &[Part] = &[
 
 const CHANGED: &[Part] = &[
     Part::Once("REMOVE RELATION p;CREATE RELATION q;CREATE ATTRIBUTE a DOMAIN INT IN q;"),
-    Part::Once("CREATE INDEX q.a TYPE MAXHEAP;REMOVE INDEX q.a;REMOVE RELATION q;REMOVE RELATION m;"),
+    Part::Once(
+        "CREATE INDEX q.a TYPE MAXHEAP;REMOVE INDEX q.a;REMOVE RELATION q;REMOVE RELATION m;",
+    ),
     Part::Once("REMOVE RELATION n;"),
 ];
 
@@ -30,7 +32,9 @@ const MARKED: &[Part] = &[
     Part::Once("CREATE ATTRIBUTE t DOMAIN TIME IN m;INSERT (7) INTO m;REMOVE RELATION n;"),
 ];
 
-const INDEXED: &[Part] = &[Part::Once("CREATE INDEX n.v TYPE MAXHEAP;INSERT (6) INTO n;REMOVE INDEX n.v;")];
+const INDEXED: &[Part] = &[Part::Once(
+    "CREATE INDEX n.v TYPE MAXHEAP;INSERT (6) INTO n;REMOVE INDEX n.v;",
+)];
 
 const OLD: &[Case] = &[
     Case {

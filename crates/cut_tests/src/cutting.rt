@@ -198,7 +198,15 @@ fn cut_at(
         cut,
         written: ended.written.len(),
     };
-    let trouble = first_trouble(alloc, place, ended.status, image.as_slice(), one_in, tally, random);
+    let trouble = first_trouble(
+        alloc,
+        place,
+        ended.status,
+        image.as_slice(),
+        one_in,
+        tally,
+        random,
+    );
     if let Some(what) = trouble {
         tally.wrong = Some(Wrong { cut, what });
     }

@@ -5,7 +5,9 @@ use std::test::Fail;
 use test_texts::Part;
 
 const MADE: &[Part] = &[
-    Part::Once("CREATE RELATION n;CREATE ATTRIBUTE v DOMAIN INT IN n;CREATE ATTRIBUTE w DOMAIN LONG IN n;"),
+    Part::Once(
+        "CREATE RELATION n;CREATE ATTRIBUTE v DOMAIN INT IN n;CREATE ATTRIBUTE w DOMAIN LONG IN n;",
+    ),
     Part::Numbered("INSERT (", 70, ",7) INTO n;"),
 ];
 
@@ -19,7 +21,9 @@ const INDEXED: &[Part] = &[
 
 // A tree whose buckets and log fill a small flash again and again.
 const LOADED: &[Part] = &[
-    Part::Once("CREATE RELATION n;CREATE ATTRIBUTE v DOMAIN INT IN n;CREATE ATTRIBUTE w DOMAIN LONG IN n;"),
+    Part::Once(
+        "CREATE RELATION n;CREATE ATTRIBUTE v DOMAIN INT IN n;CREATE ATTRIBUTE w DOMAIN LONG IN n;",
+    ),
     Part::Once("CREATE INDEX n.v TYPE MAXHEAP;"),
     Part::Numbered("INSERT (", 90, ",7) INTO n;"),
 ];
@@ -43,16 +47,14 @@ const INDEXES: &[Case] = &[
     },
 ];
 
-const LOADS: &[Case] = &[
-    Case {
-        old: false,
-        sectors: 12,
-        before: &[],
-        asks: Asks::Script(LOADED),
-        times: 24,
-        one_in: 64,
-    },
-];
+const LOADS: &[Case] = &[Case {
+    old: false,
+    sectors: 12,
+    before: &[],
+    asks: Asks::Script(LOADED),
+    times: 24,
+    one_in: 64,
+}];
 
 #[test]
 fn indexes_are_put_right(rt: HostRuntime) -> Result<(), Fail> {

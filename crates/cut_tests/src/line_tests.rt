@@ -5,26 +5,32 @@ use std::test::Fail;
 use test_texts::Part;
 
 const MADE: &[Part] = &[
-    Part::Once("CREATE RELATION n;CREATE ATTRIBUTE v DOMAIN INT IN n;CREATE ATTRIBUTE t DOMAIN TIME IN n;"),
+    Part::Once(
+        "CREATE RELATION n;CREATE ATTRIBUTE v DOMAIN INT IN n;CREATE ATTRIBUTE t DOMAIN TIME IN n;",
+    ),
     Part::Numbered("INSERT (", 40, ",5) INTO n;"),
 ];
 
 const SERVED: &[Part] = &[
-    Part::Once("OPEN 1 SELECT v FROM n WHERE v > 3;CREATE INDEX n.v TYPE MAXHEAP;FETCH 1;INSERT (7,140737488355327) INTO n;"),
-    Part::Once("REMOVE FROM n WHERE v = 7;FETCH 1;CREATE RELATION m;INSERT (8,0) INTO n;CLOSE 1;REMOVE FROM n WHERE v > 1;"),
-    Part::Once("SELECT v FROM n;PACK n;REMOVE INDEX n.v;PACK n;INSERT (9,1) INTO n;REMOVE RELATION m;"),
+    Part::Once(
+        "OPEN 1 SELECT v FROM n WHERE v > 3;CREATE INDEX n.v TYPE MAXHEAP;FETCH 1;INSERT (7,140737488355327) INTO n;",
+    ),
+    Part::Once(
+        "REMOVE FROM n WHERE v = 7;FETCH 1;CREATE RELATION m;INSERT (8,0) INTO n;CLOSE 1;REMOVE FROM n WHERE v > 1;",
+    ),
+    Part::Once(
+        "SELECT v FROM n;PACK n;REMOVE INDEX n.v;PACK n;INSERT (9,1) INTO n;REMOVE RELATION m;",
+    ),
 ];
 
-const SERVED_LINES: &[Case] = &[
-    Case {
-        old: false,
-        sectors: 16,
-        before: MADE,
-        asks: Asks::Frames(SERVED),
-        times: 64,
-        one_in: 16,
-    },
-];
+const SERVED_LINES: &[Case] = &[Case {
+    old: false,
+    sectors: 16,
+    before: MADE,
+    asks: Asks::Frames(SERVED),
+    times: 64,
+    one_in: 16,
+}];
 
 const GENERATED: &[Case] = &[
     Case {

@@ -31,39 +31,33 @@ const GROWN: &[Part] = &[
     Part::Once("REMOVE FROM s WHERE k = 200;INSERT (4,'v') INTO s;"),
 ];
 
-const FEW: &[Case] = &[
-    Case {
-        old: false,
-        sectors: 8,
-        before: MADE,
-        asks: Asks::Script(CHANGED),
-        times: 64,
-        one_in: 4,
-    },
-];
+const FEW: &[Case] = &[Case {
+    old: false,
+    sectors: 8,
+    before: MADE,
+    asks: Asks::Script(CHANGED),
+    times: 64,
+    one_in: 4,
+}];
 
-const GROWN_FILES: &[Case] = &[
-    Case {
-        old: false,
-        sectors: 12,
-        before: MANY,
-        asks: Asks::Script(GROWN),
-        times: 40,
-        one_in: 16,
-    },
-];
+const GROWN_FILES: &[Case] = &[Case {
+    old: false,
+    sectors: 12,
+    before: MANY,
+    asks: Asks::Script(GROWN),
+    times: 40,
+    one_in: 16,
+}];
 
 // On so few sectors extents are collected meanwhile.
-const COLLECTED: &[Case] = &[
-    Case {
-        old: false,
-        sectors: 9,
-        before: MANY,
-        asks: Asks::Script(GROWN),
-        times: 40,
-        one_in: 16,
-    },
-];
+const COLLECTED: &[Case] = &[Case {
+    old: false,
+    sectors: 9,
+    before: MANY,
+    asks: Asks::Script(GROWN),
+    times: 40,
+    one_in: 16,
+}];
 
 #[test]
 fn a_few_rows_are_put_right(rt: HostRuntime) -> Result<(), Fail> {

@@ -101,9 +101,15 @@ fn none_is_wrong(case: u64, wrong: Option<Wrong>) -> Result<(), Fail> {
     match wrong {
         None => Ok(()),
         Some(wrong) => {
-            let place = case.saturating_mul(1_000_000).saturating_add(wrong.cut.writes);
-            let place = place.saturating_mul(10_000).saturating_add(wrong.cut.front as u64);
-            let place = place.saturating_mul(10_000).saturating_add(number_of(wrong.what));
+            let place = case
+                .saturating_mul(1_000_000)
+                .saturating_add(wrong.cut.writes);
+            let place = place
+                .saturating_mul(10_000)
+                .saturating_add(wrong.cut.front as u64);
+            let place = place
+                .saturating_mul(10_000)
+                .saturating_add(number_of(wrong.what));
             Err(Fail::new(place))
         }
     }

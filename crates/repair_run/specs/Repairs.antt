@@ -53,6 +53,10 @@ Leaves old new (Err (Spaceless need)) = (IsSound old → ⊥) × IsMendable old
 Leaves old new (Err (Unsettled bad)) = (IsSound old → ⊥) × IsMendable old
 Leaves old new (Err Failed) = (new ≡ old) ⊎ ((IsSound old → ⊥) × IsMendable old)
 
+-- what is left of any image that is not sound and is to be put right, behind its first write
+abbrev pub Ends : (new : List ℕ) → Result Came Hindrance → Type 0
+Ends new came = (old : List ℕ) → (IsSound old → ⊥) → IsMendable old → Leaves old new came
+
 -- what a repair that ended with a status left of an image and of a sink
 pub record Repairs (status : ℕ) (old new : List ℕ) (held now : Option (List ℕ)) : Type 0 where
   pub came : Result Came Hindrance

@@ -1,9 +1,9 @@
-ghost use Rattle.std.specs.Prelude.{◌≡◌, Err, None, IsTrue, OnOk, length};
+ghost use Rattle.std.specs.Prelude.{◌≡◌, Err, IfErr, None, IsTrue, OnOk, length};
 ghost use Rattle.afl_base.specs.Causes.{Rose};
 ghost use Rattle.coffee_find.specs.Found.{IsCutBy, LiesInside};
 ghost use Rattle.coffee_layout.specs.Rules.{broken_image};
 ghost use Rattle.sound_image.specs.Images.{IsFirstBroken, IsSound};
-ghost use Rattle.repair_run.specs.Repairs.{IsRepairStatus, Leaves, Repairs};
+ghost use Rattle.repair_run.specs.Repairs.{Ends, IsRepairStatus, Leaves, Repairs};
 ghost use Rattle.repair_run.specs.declared.came.Hindrance.TheVariants.{Failed as FaultOfFlash};
 
 use crate::came::{Came, Hindrance};
@@ -47,12 +47,30 @@ fn put_right<F: Flash>(flash: F, report: &mut Report) -> (F, Result<Came, Hindra
     ensures lent { F.lent result.0 ≡ F.lent flash }
     ensures cause { result.1 ≡ Err FaultOfFlash → Rose (F.faults flash) (F.faults result.0) }
 {
-    sound_image_breaks_no_rule();
     let (flash, judged) = judge_image(flash);
     match judged {
-        Ok(Ok(())) => (flash, Ok(Came::Sound)),
-        Ok(Err(bad)) => put_broken_right(flash, report, bad),
+        Ok(judged) => put_judged_right(flash, report, judged),
         Err(Failed) => (flash, Err(Hindrance::Failed)),
+    }
+}
+
+// The same of an image of which it is known whether it is sound.
+fn put_judged_right<F: Flash>(
+    flash: F,
+    report: &mut Report,
+    judged: Result<(), BadImage>,
+) -> (F, Result<Came, Hindrance>)
+    ensures leaves { IsTrue F.tells → OnOk judged (IsSound (F.image flash))
+        → IfErr judged (λ bad. IsFirstBroken (F.image flash) bad.rule bad.place)
+        → Leaves (F.image flash) (F.image result.0) result.1 }
+    ensures size { length (F.image result.0) ≡ length (F.image flash) }
+    ensures lent { F.lent result.0 ≡ F.lent flash }
+    ensures cause { result.1 ≡ Err FaultOfFlash → Rose (F.faults flash) (F.faults result.0) }
+{
+    sound_image_breaks_no_rule();
+    match judged {
+        Ok(()) => (flash, Ok(Came::Sound)),
+        Err(bad) => put_broken_right(flash, report, bad),
     }
 }
 
@@ -95,10 +113,7 @@ fn put_database_right<F: Flash>(
     };
     let (flash, surveyed) = survey_image(flash, &nothing);
     match surveyed {
-        Ok(true) => match end_repair(flash, report) {
-            (flash, Ok(())) => (flash, Ok(Came::Repaired)),
-            (flash, Err(hindrance)) => (flash, Err(hindrance)),
-        },
+        Ok(true) => end_repair(flash, report),
         Ok(false) => (flash, Ok(Came::Strange(bad))),
         Err(Failed) => (flash, Err(Hindrance::Failed)),
     }
@@ -121,10 +136,7 @@ fn put_files_right<F: Flash>(
     cut_images_mend();
     let (flash, surveyed) = survey_image(flash, trouble);
     match surveyed {
-        Ok(true) => match mend_files(flash, report, bad, trouble) {
-            (flash, Ok(())) => (flash, Ok(Came::Repaired)),
-            (flash, Err(hindrance)) => (flash, Err(hindrance)),
-        },
+        Ok(true) => mend_files(flash, report, bad, trouble),
         Ok(false) => (flash, Ok(Came::Strange(bad))),
         Err(Failed) => (flash, Err(Hindrance::Failed)),
     }
@@ -136,9 +148,9 @@ fn mend_files<F: Flash>(
     report: &mut Report,
     bad: BadImage,
     trouble: &Trouble,
-) -> (F, Result<(), Hindrance>)
+) -> (F, Result<Came, Hindrance>)
     requires inside { LiesInside (length (F.image flash)) trouble.now }
-    ensures sound { IsTrue F.tells → OnOk result.1 (IsSound (F.image result.0)) }
+    ensures ends { IsTrue F.tells → Ends (F.image result.0) result.1 }
     ensures size { length (F.image result.0) ≡ length (F.image flash) }
     ensures lent { F.lent result.0 ≡ F.lent flash }
     ensures cause { result.1 ≡ Err FaultOfFlash → Rose (F.faults flash) (F.faults result.0) }
@@ -152,27 +164,28 @@ fn mend_files<F: Flash>(
 }
 
 // Puts the database right, and judges the image once more behind it.
-fn end_repair<F: Flash>(flash: F, report: &mut Report) -> (F, Result<(), Hindrance>)
-    ensures sound { IsTrue F.tells → OnOk result.1 (IsSound (F.image result.0)) }
+fn end_repair<F: Flash>(flash: F, report: &mut Report) -> (F, Result<Came, Hindrance>)
+    ensures ends { IsTrue F.tells → Ends (F.image result.0) result.1 }
     ensures size { length (F.image result.0) ≡ length (F.image flash) }
     ensures lent { F.lent result.0 ≡ F.lent flash }
     ensures cause { result.1 ≡ Err FaultOfFlash → Rose (F.faults flash) (F.faults result.0) }
 {
-    match mend_image(flash, report) {
-        (flash, Ok(())) => judge_repaired(flash),
-        (flash, Err(hindrance)) => (flash, Err(hindrance)),
+    let (flash, mended) = mend_image(flash, report);
+    match mended {
+        Ok(()) => judge_repaired(flash),
+        Err(hindrance) => (flash, Err(hindrance)),
     }
 }
 
-fn judge_repaired<F: Flash>(flash: F) -> (F, Result<(), Hindrance>)
-    ensures sound { IsTrue F.tells → OnOk result.1 (IsSound (F.image result.0)) }
+fn judge_repaired<F: Flash>(flash: F) -> (F, Result<Came, Hindrance>)
+    ensures ends { IsTrue F.tells → Ends (F.image result.0) result.1 }
     ensures size { length (F.image result.0) ≡ length (F.image flash) }
     ensures lent { F.lent result.0 ≡ F.lent flash }
     ensures cause { result.1 ≡ Err FaultOfFlash → Rose (F.faults flash) (F.faults result.0) }
 {
     let (flash, judged) = judge_image(flash);
     match judged {
-        Ok(Ok(())) => (flash, Ok(())),
+        Ok(Ok(())) => (flash, Ok(Came::Repaired)),
         Ok(Err(bad)) => (flash, Err(Hindrance::Unsettled(bad))),
         Err(Failed) => (flash, Err(Hindrance::Failed)),
     }
