@@ -28,6 +28,8 @@ mod limit_tests;
 #[cfg(test)]
 mod line_tests;
 #[cfg(test)]
+mod look_tests;
+#[cfg(test)]
 mod noise;
 #[cfg(test)]
 mod noise_tests;
