@@ -39,6 +39,14 @@ const INDEXES: &[Case] = &[
     },
     Case {
         old: false,
+        sectors: 64,
+        before: MADE,
+        asks: Asks::Script(INDEXED),
+        times: 6,
+        one_in: 32,
+    },
+    Case {
+        old: false,
         sectors: 11,
         before: MADE,
         asks: Asks::Script(INDEXED),
@@ -58,7 +66,7 @@ const LOADS: &[Case] = &[Case {
 
 #[test]
 fn indexes_are_put_right(rt: HostRuntime) -> Result<(), Fail> {
-    all_are_put_right(rt.alloc(), INDEXES, 19_000)
+    all_are_put_right(rt.alloc(), INDEXES, 21_000)
 }
 
 #[test]

@@ -9,6 +9,14 @@ const MADE: &[Part] = &[
     Part::Once("CREATE ATTRIBUTE t DOMAIN STRING(3) IN s;"),
 ];
 
+// All that four sectors have room for.
+const FIRST: &[Part] = &[
+    Part::Once(
+        "CREATE RELATION s;CREATE ATTRIBUTE k DOMAIN LONG IN s;INSERT (1) INTO s;INSERT (2) INTO s;",
+    ),
+    Part::Once("REMOVE FROM s WHERE k = 1;INSERT (3) INTO s;PACK s;INSERT (4) INTO s;"),
+];
+
 const CHANGED: &[Part] = &[
     Part::Once("INSERT (1,'a') INTO s;INSERT (2,'') INTO s;INSERT (-3,'abc') INTO s;"),
     Part::Once("INSERT (4,'d') INTO s;INSERT (0,'') INTO s;INSERT (6,'zz') INTO s;"),

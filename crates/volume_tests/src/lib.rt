@@ -8,11 +8,15 @@ mod calls;
 #[cfg(test)]
 mod catalog_tests;
 #[cfg(test)]
+mod cut_tests;
+#[cfg(test)]
 mod draft_tests;
 #[cfg(test)]
 mod fault_tests;
 #[cfg(test)]
 mod log_tests;
+#[cfg(test)]
+mod mending;
 #[cfg(test)]
 mod mounted;
 #[cfg(test)]
