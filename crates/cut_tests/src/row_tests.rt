@@ -39,14 +39,24 @@ const GROWN: &[Part] = &[
     Part::Once("REMOVE FROM s WHERE k = 200;INSERT (4,'v') INTO s;"),
 ];
 
-const FEW: &[Case] = &[Case {
-    old: false,
-    sectors: 8,
-    before: MADE,
-    asks: Asks::Script(CHANGED),
-    times: 64,
-    one_in: 4,
-}];
+const FEW: &[Case] = &[
+    Case {
+        old: false,
+        sectors: 4,
+        before: &[],
+        asks: Asks::Script(FIRST),
+        times: 24,
+        one_in: 4,
+    },
+    Case {
+        old: false,
+        sectors: 8,
+        before: MADE,
+        asks: Asks::Script(CHANGED),
+        times: 64,
+        one_in: 4,
+    },
+];
 
 const GROWN_FILES: &[Case] = &[Case {
     old: false,
