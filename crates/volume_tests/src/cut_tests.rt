@@ -157,25 +157,25 @@ fn front(random: &mut Random) -> usize {
     }
 }
 
-// Takes a step on a flash whose power goes behind so many writes.
-fn cut(image: &mut [u8], step: Step, writes: u64, front: usize) -> Answer {
+// Takes steps on a flash whose power goes behind so many writes.
+fn cut(image: &mut [u8], steps: &[Step], writes: u64, front: usize) -> Answer {
     match CutFlash::new(image, writes, front) {
-        Some(flash) => run(flash, &[step]).1,
+        Some(flash) => run(flash, steps).1,
         None => Answer::Undone,
     }
 }
 
-// Cuts a step at each of its writes, so many times each. How many images were mended, None where one was not.
+// Cuts steps at each of their writes, so many times each. How many images were mended, None where one was not.
 fn cut_everywhere(
     alloc: Global,
     image: &mut Vec<u8>,
-    step: Step,
+    steps: &[Step],
     times: u32,
     random: &mut Random,
 ) -> Result<Option<u64>, AllocError> {
     let old = Vec::from_slice(alloc, image.as_slice())?;
     let before = contents(alloc, image.as_mut_slice())?;
-    if cut(image.as_mut_slice(), step, u64::MAX, 0) != Answer::Done {
+    if cut(image.as_mut_slice(), steps, u64::MAX, 0) != Answer::Done {
         return Ok(None);
     }
     let after = contents(alloc, image.as_mut_slice())?;
@@ -187,7 +187,7 @@ fn cut_everywhere(
     for writes in 0..10_000u64 {
         for _ in 0..times {
             let mut left = Vec::from_slice(alloc, old.as_slice())?;
-            match cut(left.as_mut_slice(), step, writes, front(random)) {
+            match cut(left.as_mut_slice(), steps, writes, front(random)) {
                 Answer::Done => return Ok(Some(case.images)),
                 Answer::Failed => {}
                 _ => return Ok(None),
@@ -200,10 +200,10 @@ fn cut_everywhere(
     Ok(None)
 }
 
-// Whether there is no space for a step.
-fn lacks_space(alloc: Global, image: &[u8], step: Step) -> Result<bool, AllocError> {
+// Whether there is no space for steps.
+fn lacks_space(alloc: Global, image: &[u8], steps: &[Step]) -> Result<bool, AllocError> {
     let mut image = Vec::from_slice(alloc, image)?;
-    let answer = cut(image.as_mut_slice(), step, u64::MAX, 0);
+    let answer = cut(image.as_mut_slice(), steps, u64::MAX, 0);
     Ok(matches!(answer, Answer::Space(_)))
 }
 
@@ -217,11 +217,12 @@ fn cut_all(
     let mut image = vec![in alloc; 0u8; sectors.saturating_mul(4_096)]?;
     let mut random = Random::new(3);
     let mut images = 0u64;
-    for step in steps {
-        if lacks_space(alloc, image.as_slice(), *step)? {
+    for at in 0..steps.len() {
+        let one = &steps[at..at + 1];
+        if lacks_space(alloc, image.as_slice(), one)? {
             return Ok(Some(images));
         }
-        match cut_everywhere(alloc, &mut image, *step, times, &mut random)? {
+        match cut_everywhere(alloc, &mut image, one, times, &mut random)? {
             Some(more) => images = images.saturating_add(more),
             None => return Ok(None),
         }
