@@ -141,7 +141,7 @@ fn writes_to(alloc: Global, image: &[u8], asked: &Asked, end: usize, least: u64)
 }
 
 // What stands behind what ends there.
-fn mark(alloc: Global, image: &[u8], asked: &Asked, end: usize, least: u64) -> Mark {
+fn mark_behind(alloc: Global, image: &[u8], asked: &Asked, end: usize, least: u64) -> Mark {
     let writes = writes_to(alloc, image, asked, end, least);
     let mut image = copied(alloc, image);
     let ended = asked.run_to(alloc, end, image.as_mut_slice(), NO_CUT);
@@ -169,7 +169,7 @@ pub fn tell(alloc: Global, image: &[u8], asked: Asked) -> Result<Story, AllocErr
     })?;
     let mut least = 0;
     for end in asked.ends(alloc)?.iter() {
-        let mark = mark(alloc, image, &asked, *end, least);
+        let mark = mark_behind(alloc, image, &asked, *end, least);
         least = mark.writes;
         marks.push(mark)?;
     }
