@@ -130,12 +130,18 @@ fn is_done(alloc: Global, image: &[u8], asked: &Asked, end: usize, writes: u64) 
 // How many writes what ends there takes, of which so many are done before.
 fn writes_to(alloc: Global, image: &[u8], asked: &Asked, end: usize, least: u64) -> u64 {
     let mut low = least;
-    let mut step = 4_096;
-    while step > 0 {
-        if !is_done(alloc, image, asked, end, low.saturating_add(step - 1)) {
+    for step in [
+        4_096u64, 2_048, 1_024, 512, 256, 128, 64, 32, 16, 8, 4, 2, 1,
+    ] {
+        if !is_done(
+            alloc,
+            image,
+            asked,
+            end,
+            low.saturating_add(step).saturating_sub(1),
+        ) {
             low = low.saturating_add(step);
         }
-        step /= 2;
     }
     low
 }
