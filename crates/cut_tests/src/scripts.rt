@@ -85,8 +85,10 @@ fn cut(alloc: Global, case: &Case, seed: u32) -> Tally {
 /// Cuts each story at each write. All is put right, of so many images at least.
 pub fn all_are_put_right(alloc: Global, cases: &[Case], least: u64) -> Result<(), Fail> {
     let mut images = 0u64;
+    let mut seed = 0u32;
     for (at, case) in cases.iter().enumerate() {
-        let tally = cut(alloc, case, at as u32);
+        let tally = cut(alloc, case, seed);
+        seed = seed.wrapping_add(1);
         none_is_wrong(at as u64, tally.wrong)?;
         images = images.saturating_add(tally.images);
     }
