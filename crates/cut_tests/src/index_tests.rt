@@ -39,14 +39,6 @@ const INDEXES: &[Case] = &[
     },
     Case {
         old: false,
-        sectors: 64,
-        before: MADE,
-        asks: Asks::Script(INDEXED),
-        times: 6,
-        one_in: 32,
-    },
-    Case {
-        old: false,
         sectors: 11,
         before: MADE,
         asks: Asks::Script(INDEXED),
@@ -54,6 +46,16 @@ const INDEXES: &[Case] = &[
         one_in: 32,
     },
 ];
+
+// On as many sectors as are enough no repair lacks space.
+const ROOMY: &[Case] = &[Case {
+    old: false,
+    sectors: 64,
+    before: MADE,
+    asks: Asks::Script(INDEXED),
+    times: 6,
+    one_in: 32,
+}];
 
 const LOADS: &[Case] = &[Case {
     old: false,
@@ -66,10 +68,15 @@ const LOADS: &[Case] = &[Case {
 
 #[test]
 fn indexes_are_put_right(rt: HostRuntime) -> Result<(), Fail> {
-    all_are_put_right(rt.alloc(), INDEXES, 21_000)
+    all_are_put_right(rt.alloc(), INDEXES, 18_500)
 }
 
 #[test]
 fn loads_of_a_tree_are_put_right(rt: HostRuntime) -> Result<(), Fail> {
     all_are_put_right(rt.alloc(), LOADS, 15_000)
+}
+
+#[test]
+fn indexes_on_many_sectors_are_put_right(rt: HostRuntime) -> Result<(), Fail> {
+    all_are_put_right(rt.alloc(), ROOMY, 3_000)
 }
