@@ -78,5 +78,5 @@ fn loads_of_a_tree_are_put_right(rt: HostRuntime) -> Result<(), Fail> {
 
 #[test]
 fn indexes_on_many_sectors_are_put_right(rt: HostRuntime) -> Result<(), Fail> {
-    all_are_put_right(rt.alloc(), ROOMY, 3_000)
+    all_are_put_right(rt.alloc(), ROOMY, 2_500)
 }
