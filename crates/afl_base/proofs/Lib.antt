@@ -1,4 +1,5 @@
 pub mod AskedLaws
+pub mod CutLaws
 pub mod DraftLaws
 pub mod FieldLaws
 pub mod FileLaws

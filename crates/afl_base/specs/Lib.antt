@@ -1,5 +1,6 @@
 pub mod Asked
 pub mod Causes
+pub mod CutFiles
 pub mod Cuts
 pub mod Fields
 pub mod FileErrors

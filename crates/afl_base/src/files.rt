@@ -12,11 +12,13 @@ use crate::name::Name;
 /// An object may tell the bytes of its files, as memory does, or not. What is said of bytes holds
 /// where they are told; names, kinds, sizes and rooms are always known. `read` leaves all as it was,
 /// on `Failed` too. Another call that answers `Failed` leaves nothing known but the counts, the length
-/// of what all is kept in, and what that borrows.
+/// of what all is kept in, and what that borrows. Where its failures are cuts, what all is kept in then
+/// mends to the files as they were before the call, or to what the call might have made of them.
 pub trait Files {
-    ghost use Rattle.std.specs.Prelude.{◌≡◌, ◌≢◌, ℕ, ◌+◌, ◌*◌, ◌-◌, ◌<◌, ◌≤◌, List, length, max, replicate, slice_index, slice_range, IsTrue, IsSome, IfSome, IfNone, IfOk, OnOk};
+    ghost use Rattle.std.specs.Prelude.{◌≡◌, ◌≢◌, ℕ, ◌+◌, ◌*◌, ◌-◌, ◌<◌, ◌≤◌, Bool, List, length, max, replicate, slice_index, slice_range, IsTrue, IsSome, IfSome, IfNone, IfOk, IsErrOf, OnErr, OnOk};
+    ghost use Rattle.afl_base.specs.CutFiles.{AppendsFront, MendsToEither, MendsToState, OverwritesFront};
     ghost use Rattle.afl_base.specs.FileErrors.{OnSpace, UnlessFailed};
-    ghost use Rattle.afl_base.specs.Files.{State, AreDistinct, Appends, Commits, Creates, Drafts, IsKind, IsLive, IsNamed, IsUnnamed, Keeps, KeepsBytes, Overwrites, Removes, WritesDraft, bytes_at, draft_in, file_at, first_pages, is_live, size_at, used};
+    ghost use Rattle.afl_base.specs.Files.{State, Table, AreDistinct, Appends, Commits, Creates, Drafts, IsKind, IsLive, IsNamed, IsUnnamed, Keeps, KeepsBytes, Overwrites, Removes, WritesDraft, bytes_at, draft_in, file_at, first_pages, is_live, size_at, used};
     ghost use Rattle.afl_base.specs.Fit.{fit};
     ghost use Rattle.afl_base.specs.Keeping.{Changes, ChangesOrLacks, OnlyReads};
     ghost use Rattle.afl_base.specs.Regions.{regions};
@@ -33,6 +35,14 @@ pub trait Files {
     ghost lacks: { Self → ℕ → Type 0 };
     // `prepare` of this file for so many overwrites and bytes needs an extent of so many pages.
     ghost asks: { Self → ℕ → ℕ → ℕ → ℕ → Type 0 };
+    // Whether its failures are cuts: a call that failed did a front part of its writes.
+    ghost cuts: { Bool };
+    // Bytes that all is kept in mend to these files, whatever their ids and rooms.
+    ghost mends: { List ℕ → Table → Type 0 };
+
+    // Between calls they mend to the files that there are, also while a draft is begun.
+    ghost mended: { (files : Self) → IsTrue cuts → IsTrue (state files).tells
+        → mends (state files).store (state files).files };
 
     /// Whether the place holds a file. There are 32 places, and no two files have one name.
     fn live(&self, id: FileId) -> bool
@@ -81,6 +91,9 @@ pub trait Files {
         ensures created { IfOk result (λ id. Creates (state self.old) (state self.new) id name kind) }
         ensures need { OnSpace result (λ need. need ≡ first_pages kind) }
         ensures kept { OnSpace result (λ _. Keeps (state self.old) (state self.new)) }
+        ensures cut { IsTrue cuts → IsTrue (state self.old).tells → IsErrOf result FileError.Failed
+            → MendsToEither mends (state self.old).files (state self.new).store
+            (λ after. (id : ℕ) × Creates (state self.old) after id name kind) }
         ensures frame { ChangesOrLacks state lent reads faults lacks self.old self.new result };
 
     /// Takes the file away. All others stay.
@@ -88,6 +101,9 @@ pub trait Files {
         requires live { IsLive (state self.old).files id }
         requires idle { (state self.old).draft ≡ None }
         ensures removed { OnOk result (Removes (state self.old) (state self.new) id) }
+        ensures cut { IsTrue cuts → IsTrue (state self.old).tells → OnErr result
+            (MendsToEither mends (state self.old).files (state self.new).store
+            (λ after. Removes (state self.old) after id)) }
         ensures frame { Changes state lent reads faults self.old self.new result };
 
     /// Makes room in the file for at most 29 overwrites of one region each and for `bytes` more bytes,
@@ -113,6 +129,8 @@ pub trait Files {
             → need ≤ 16) }
         ensures asked { OnSpace result (λ need. asks self.new id overwrites bytes need) }
         ensures unasked { ((n : ℕ) → asks self.old id overwrites bytes n → ⊥) → OnSpace result (λ need. ⊥) }
+        ensures cut { IsTrue cuts → IsTrue (state self.old).tells → IsErrOf result FileError.Failed
+            → mends (state self.new).store (state self.old).files }
         ensures frame { ChangesOrLacks state lent reads faults lacks self.old self.new result };
 
     /// Puts `bytes` in the place of those from byte `at` on. It takes one record of the room for each
@@ -130,6 +148,9 @@ pub trait Files {
             ≡ (file_at (state self.old).files id).records) }
         ensures room { OnOk result
             ((file_at (state self.new).files id).room ≡ (file_at (state self.old).files id).room) }
+        ensures cut { IsTrue cuts → IsTrue (state self.old).tells → OnErr result
+            (MendsToState mends (state self.new).store
+            (λ after. OverwritesFront (state self.old) after id at bytes.now)) }
         ensures frame { Changes state lent reads faults self.old self.new result };
 
     /// Adds `bytes`, whose last is not zero, to the end of the file. All room for bytes is used up by
@@ -143,6 +164,9 @@ pub trait Files {
         ensures records { OnOk result
             ((file_at (state self.new).files id).records ≡ (file_at (state self.old).files id).records) }
         ensures room { OnOk result ((file_at (state self.new).files id).room ≡ 0) }
+        ensures cut { IsTrue cuts → IsTrue (state self.old).tells → OnErr result
+            (MendsToState mends (state self.new).store
+            (λ after. AppendsFront (state self.old) after id bytes.now)) }
         ensures frame { Changes state lent reads faults self.old self.new result };
 
     /// Begins a draft of `size` zero bytes, at most 4,194,304, for a doubling file of this name, new or
@@ -156,6 +180,8 @@ pub trait Files {
         ensures begun { OnOk result (Drafts (state self.old) (state self.new) name size (replicate size 0)) }
         ensures need { OnSpace result (λ need. need ≡ fit size) }
         ensures kept { OnSpace result (λ _. Keeps (state self.old) (state self.new)) }
+        ensures cut { IsTrue cuts → IsTrue (state self.old).tells → IsErrOf result FileError.Failed
+            → mends (state self.new).store (state self.old).files }
         ensures frame { ChangesOrLacks state lent reads faults lacks self.old self.new result };
 
     /// Puts `bytes` into the draft from byte `at` on, where it has zeros.
@@ -165,6 +191,8 @@ pub trait Files {
         requires zeros { IsTrue (state self.old).tells
             → slice_range (draft_in (state self.old)).bytes at (at + length bytes.now) ≡ replicate (length bytes.now) 0 }
         ensures written { OnOk result (WritesDraft (state self.old) (state self.new) at bytes.now) }
+        ensures cut { IsTrue cuts → IsTrue (state self.old).tells → OnErr result
+            (mends (state self.new).store (state self.old).files) }
         ensures frame { Changes state lent reads faults self.old self.new result };
 
     /// Makes the draft, empty or with a last byte that is not zero, the file of its name. A file that
@@ -174,5 +202,8 @@ pub trait Files {
         requires last { IsTrue (state self.old).tells → 1 ≤ length (draft_in (state self.old)).bytes
             → slice_index (draft_in (state self.old)).bytes (length (draft_in (state self.old)).bytes - 1) ≢ 0 }
         ensures committed { IfOk result (λ id. Commits (state self.old) (state self.new) id) }
+        ensures cut { IsTrue cuts → IsTrue (state self.old).tells → OnErr result
+            (MendsToEither mends (state self.old).files (state self.new).store
+            (λ after. (id : ℕ) × Commits (state self.old) after id)) }
         ensures frame { Changes state lent reads faults self.old self.new result };
 }

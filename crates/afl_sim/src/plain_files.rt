@@ -103,7 +103,7 @@ fn is_lacking(cap: usize, pages: u16) -> bool
 }
 
 impl<const CAP: usize> Files for PlainFiles<CAP> {
-    ghost use Rattle.std.specs.Prelude.{◌≡◌, ◌+◌, ◌*◌, ◌<◌, ◌≤◌, ℕ, None, OnOk, max, replicate, []};
+    ghost use Rattle.std.specs.Prelude.{◌≡◌, ◌+◌, ◌*◌, ◌<◌, ◌≤◌, ℕ, ⊤, false, None, IsErrOf, IsTrue, OnOk, max, replicate, []};
     ghost use Rattle.afl_base.specs.FileErrors.{OnSpace, UnlessFailed};
     ghost use Rattle.afl_base.specs.Files.{Drafts, IsLive, IsNamed, IsUnnamed, Keeps, KeepsBytes, file_at, size_at, used};
     ghost use Rattle.afl_base.specs.Fit.{fit};
@@ -121,6 +121,13 @@ impl<const CAP: usize> Files for PlainFiles<CAP> {
     ghost lacks = { λ f n. PlainLacks CAP n };
 
     ghost asks = { λ f id w b n. n ≡ asked_pages f.files id b };
+
+    // It never fails, so nothing is ever to be mended.
+    ghost cuts = { false };
+
+    ghost mends = { λ store files. ⊤ };
+
+    ghost mended = { λ f cuts tells. tt };
 
     fn live(&self, id: FileId) -> bool {
         self.table[id.number() as usize].is_some()
@@ -181,6 +188,8 @@ impl<const CAP: usize> Files for PlainFiles<CAP> {
         ensures unasked { ((n : ℕ) → n ≡ asked_pages self.old.files id bytes → ⊥)
             → OnSpace result (λ need. ⊥) }
         ensures kept { OnSpace result (λ need. self.new ≡ self.old) }
+        ensures cut { let files = ⟦<Self as Files>⟧ in IsTrue files.cuts → IsTrue self.old.tells
+            → IsErrOf result FileError.Failed → files.mends self.new.store self.old.files }
         ensures frame { let files = ⟦<Self as Files>⟧ in
             ChangesOrLacks files.state files.lent files.reads files.faults files.lacks self.old self.new result }
     {
@@ -219,6 +228,8 @@ impl<const CAP: usize> Files for PlainFiles<CAP> {
         ensures begun { OnOk result (Drafts self.old self.new name size (replicate size 0)) }
         ensures need { OnSpace result (λ need. need ≡ fit size) }
         ensures kept { OnSpace result (λ _. Keeps self.old self.new) }
+        ensures cut { let files = ⟦<Self as Files>⟧ in IsTrue files.cuts → IsTrue self.old.tells
+            → IsErrOf result FileError.Failed → files.mends self.new.store self.old.files }
         ensures frame { let files = ⟦<Self as Files>⟧ in
             ChangesOrLacks files.state files.lent files.reads files.faults files.lacks self.old self.new result }
     {

@@ -2,7 +2,6 @@
 use Rattle.std.proofs.Common.{◌≡◌, inl, inr, ℕ, ◌+◌, ◌≤◌, List, [], ◌∷◌, ◌++◌, Option, refl, ap, sym, subst, ◌∙◌, arith, append_assoc}
 use Rattle.std.specs.Io.KnownBytes.{append_known}
 use Rattle.std.specs.List.{AllByRecursion}
-use Rattle.db_model.specs.declared.commands.Command.{Command}
 use Rattle.db_model.specs.Ahead.{Aheads, is_refused}
 use Rattle.db_model.specs.Database.{Database}
 use Rattle.db_model.specs.ReplyText.{text}
@@ -13,7 +12,8 @@ use Rattle.reply_text.proofs.Pieces.{append_known-nil, append_known-twice, held_
 use Rattle.reply_text.specs.WroteLess.{WroteLess}
 use Rattle.run_model.specs.Talk.{AsksToRead, Talk, after_entry, talk_costs, last_database, talk_aheads, talk_output}
 use Rattle.run_model.proofs.Talks.{costs-append, last-append, last_aheads-append, output-append}
-use Rattle.answering.specs.Carried.{Carried, HaltsIn, Standing, Stopped, StopsEntries, no_space}
+use Rattle.session_model.specs.Steps.{WrotePart}
+use Rattle.answering.specs.Carried.{BrokeOff, Carried, HaltsIn, Limits, Standing, Stopped, StopsEntries, no_space}
 use Rattle.padded.proofs.Facts.{all_front}
 
 -- ---- entries that only read
@@ -57,7 +57,7 @@ module _ {E : Type 0} (talk : Talk E) where
 
   -- ---- further entries in front
 
-  module _ (Lacks : Command → ℕ → Type 0) (es fs : List E) (a b c : Standing) (x : Carried talk es a b) where
+  module _ (limits : Limits) (es fs : List E) (a b c : Standing) (x : Carried talk es a b) where
     last_behind : (front : List E) → last_database talk b.database front ≡ last_database talk a.database (es ++ front)
     last_behind front = ap (λ (db : Database). last_database talk db front) x.database ∙ sym (last-append talk a.database es front)
 
@@ -70,7 +70,7 @@ module _ {E : Type 0} (talk : Talk E) where
     split_behind : (front rest : List E) (entry : E) → fs ≡ front ++ entry ∷ rest → es ++ fs ≡ (es ++ front) ++ entry ∷ rest
     split_behind front rest entry e = ap (λ (gs : List E). es ++ gs) e ∙ sym (append_assoc es front (entry ∷ rest))
 
-    stopped_behind : Stopped talk Lacks fs b c → Stopped talk Lacks (es ++ fs) a c
+    stopped_behind : Stopped talk limits fs b c → Stopped talk limits (es ++ fs) a c
     stopped_behind s = record {
       front = es ++ s.front;
       entry = s.entry;
@@ -85,7 +85,7 @@ module _ {E : Type 0} (talk : Talk E) where
       lacks = s.lacks;
     }
 
-    stops_later : (halt : Ending) → StopsEntries talk Lacks fs b c halt → StopsEntries talk Lacks (es ++ fs) a c halt
+    stops_later : (halt : Ending) → StopsEntries talk limits fs b c halt → StopsEntries talk limits (es ++ fs) a c halt
     unfolding stopped_behind
     stops_later Space h = record {
       stopped = stopped_behind h.stopped;
@@ -113,23 +113,45 @@ module _ {E : Type 0} (talk : Talk E) where
       held = h.held;
     })
     stops_later Flash h = record {
-      written = talk_output talk a.database es ++ h.written;
-      left = h.left;
-      whole = output-append talk a.database es fs ∙ ap (λ (db : Database). talk_output talk a.database es ++ talk_output talk db fs) (sym x.database)
-          ∙ ap (λ (bytes : List ℕ). talk_output talk a.database es ++ bytes) h.whole ∙ sym (append_assoc (talk_output talk a.database es) h.written h.left);
-      held = held_more a.held b.held c.held (talk_output talk a.database es) h.written (talk_output talk a.database es ++ h.written) x.held h.held refl;
+      front = es ++ h.front;
+      entry = h.entry;
+      rest = h.rest;
+      split = split_behind h.front h.rest h.entry h.split;
+      command = h.command;
+      asks = h.asks;
+      before = h.before;
+      front_is = output_behind h.front h.before h.front_is;
+      held = subst (λ (db : Database). WrotePart h.before c.held (talk.sent h.entry (text ((after_entry talk db h.entry).1)))) (last_behind h.front) h.held;
+      unsaid = h.unsaid;
+      breaks = subst (λ (db : Database). limits.Breaks db h.command) (last_behind h.front) h.breaks;
     }
 
-    pub halts_later : (halt : Ending) → HaltsIn talk Lacks fs b c halt → HaltsIn talk Lacks (es ++ fs) a c halt
+    pub halts_later : (halt : Ending) → HaltsIn talk limits fs b c halt → HaltsIn talk limits (es ++ fs) a c halt
     halts_later halt h = record { stops = stops_later halt h.stops; reads = reads_then es fs a b x c.reads h.reads }
+
+  -- ---- what was written for entries of which one broke off is a part of what all of them write
+
+  pub part_written : (limits : Limits) (entries : List E) (a b : Standing) → BrokeOff talk limits entries a b → WrotePart a.held b.held (talk_output talk a.database entries)
+  part_written limits entries a b h =
+      let said = talk_output talk a.database h.front in
+      let unsaid = talk_output talk ((after_entry talk (last_database talk a.database h.front) h.entry).0) h.rest in
+      record {
+        written = said ++ h.held.written;
+        left = h.held.left ++ unsaid;
+        whole = ap (talk_output talk a.database) h.split ∙ output-append talk a.database h.front (h.entry ∷ h.rest)
+            ∙ ap (λ (bytes : List ℕ). said ++ (bytes ++ unsaid)) h.held.whole
+            ∙ ap (λ (bytes : List ℕ). said ++ bytes) (append_assoc h.held.written h.held.left unsaid)
+            ∙ sym (append_assoc said h.held.written (h.held.left ++ unsaid));
+        held = held_more a.held h.before b.held said h.held.written (said ++ h.held.written) h.front_is h.held.held refl;
+      }
 
   -- ---- further entries behind
 
-  module _ (Lacks : Command → ℕ → Type 0) (es fs : List E) (a b : Standing) where
+  module _ (limits : Limits) (es fs : List E) (a b : Standing) where
     split_before : (front rest : List E) (entry : E) → es ≡ front ++ entry ∷ rest → es ++ fs ≡ front ++ entry ∷ (rest ++ fs)
     split_before front rest entry e = ap (λ (gs : List E). gs ++ fs) e ∙ append_assoc front (entry ∷ rest) fs
 
-    stopped_before : Stopped talk Lacks es a b → Stopped talk Lacks (es ++ fs) a b
+    stopped_before : Stopped talk limits es a b → Stopped talk limits (es ++ fs) a b
     stopped_before s = record {
       front = s.front;
       entry = s.entry;
@@ -144,7 +166,7 @@ module _ {E : Type 0} (talk : Talk E) where
       lacks = s.lacks;
     }
 
-    stops_sooner : (halt : Ending) → StopsEntries talk Lacks es a b halt → StopsEntries talk Lacks (es ++ fs) a b halt
+    stops_sooner : (halt : Ending) → StopsEntries talk limits es a b halt → StopsEntries talk limits (es ++ fs) a b halt
     unfolding stopped_before
     stops_sooner Space h = record { stopped = stopped_before h.stopped; held = h.held }
     stops_sooner Sink (inl h) = inl (record {
@@ -160,14 +182,20 @@ module _ {E : Type 0} (talk : Talk E) where
     })
     stops_sooner Sink (inr h) = inr (record { stopped = stopped_before h.stopped; before = h.before; front_is = h.front_is; held = h.held })
     stops_sooner Flash h = record {
-      written = h.written;
-      left = h.left ++ talk_output talk (last_database talk a.database es) fs;
-      whole = output-append talk a.database es fs ∙ ap (λ (bytes : List ℕ). bytes ++ talk_output talk (last_database talk a.database es) fs) h.whole
-          ∙ append_assoc h.written h.left (talk_output talk (last_database talk a.database es) fs);
+      front = h.front;
+      entry = h.entry;
+      rest = h.rest ++ fs;
+      split = split_before h.front h.rest h.entry h.split;
+      command = h.command;
+      asks = h.asks;
+      before = h.before;
+      front_is = h.front_is;
       held = h.held;
+      unsaid = h.unsaid;
+      breaks = h.breaks;
     }
 
-    pub halts_sooner : (halt : Ending) → HaltsIn talk Lacks es a b halt → HaltsIn talk Lacks (es ++ fs) a b halt
+    pub halts_sooner : (halt : Ending) → HaltsIn talk limits es a b halt → HaltsIn talk limits (es ++ fs) a b halt
     halts_sooner halt h = record {
       stops = stops_sooner halt h.stops;
       reads = λ all.

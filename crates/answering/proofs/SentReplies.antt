@@ -16,8 +16,7 @@ use Rattle.intake.specs.declared.ending.Ending.TheVariants.{Space, Flash, Sink}
 use Rattle.intake.specs.Sent.{FailsNow, Sent}
 use Rattle.session_model.specs.Steps.{WrotePart}
 use Rattle.run_model.specs.Talk.{Talk, after_entry, last_database, talk_output}
-use Rattle.answering.specs.Carried.{Carried, FoundNoRoom, HaltsIn, SaidLess, SaidNone, Standing, Stopped, no_space, standing_of}
-use Rattle.antelope_engine.specs.Commands.{LacksPages}
+use Rattle.answering.specs.Carried.{Carried, FoundNoRoom, HaltsIn, Limits, SaidLess, SaidNone, Standing, Stopped, limits_of, no_space, standing_of}
 use Rattle.db_model.specs.declared.refusals.Refusal.TheVariants as no
 use Rattle.db_model.proofs.ReplyTexts.{text_refused}
 use Rattle.reply_text.proofs.Pieces.{append_known-nil}
@@ -39,6 +38,16 @@ part_of_part h0 h2 wanted all w l =
       whole = l.whole ∙ ap (λ xs. xs ++ l.left) p.whole ∙ append_assoc p.written p.left l.left;
       held = p.held;
     }
+
+-- of nothing nothing goes out
+no_front : (xs ys : List ℕ) → xs ++ ys ≡ [] → xs ≡ []
+no_front [] ys e = refl
+no_front (x ∷ xs) ys e = absurd (cc)
+
+none_went : (h0 h2 wanted : Option (List ℕ)) → WroteFront h0 h2 wanted → wanted ≡ h0 → h2 ≡ h0
+none_went h0 h2 wanted w same =
+    let p = front_part h0 h2 wanted [] w (same ∙ sym (append_known-nil h0)) in
+    p.held ∙ ap (append_known h0) (no_front p.written p.left (sym p.whole)) ∙ append_known-nil h0
 
 one_front : {E : Type 0} (x y : E) (xs zs : List E) → x ∷ [] ≡ xs ++ y ∷ zs → xs ≡ []
 one_front x y [] zs e = refl
@@ -87,8 +96,8 @@ module _ {E : Type 0} (talk : Talk E) (some : (entry : E) (reply : Reply) → 0 
           database = c.database;
         }
 
-    module _ (Lacks : Command → ℕ → Type 0) where
-      still_stopped : Stopped talk Lacks (entry ∷ []) old (held_by new h1) → Stopped talk Lacks (entry ∷ []) old new
+    module _ (limits : Limits) where
+      still_stopped : Stopped talk limits (entry ∷ []) old (held_by new h1) → Stopped talk limits (entry ∷ []) old new
       still_stopped s = record {
         front = s.front;
         entry = s.entry;
@@ -104,14 +113,14 @@ module _ {E : Type 0} (talk : Talk E) (some : (entry : E) (reply : Reply) → 0 
       }
 
       -- the line that there is no space went out, or less of it
-      found_still : w.left ≡ [] → FoundNoRoom talk Lacks (entry ∷ []) old (held_by new h1) → FoundNoRoom talk Lacks (entry ∷ []) old new
+      found_still : w.left ≡ [] → FoundNoRoom talk limits (entry ∷ []) old (held_by new h1) → FoundNoRoom talk limits (entry ∷ []) old new
       unfolding still_stopped
       found_still none f = record {
         stopped = still_stopped f.stopped;
         held = sym (none_left old.held new.held h1 w none) ∙ f.held;
       }
 
-      unsaid_still : SaidNone talk Lacks (entry ∷ []) old (held_by new h1) → SaidNone talk Lacks (entry ∷ []) old new
+      unsaid_still : SaidNone talk limits (entry ∷ []) old (held_by new h1) → SaidNone talk limits (entry ∷ []) old new
       unfolding still_stopped
       unsaid_still s =
           let t = s.stopped in
@@ -123,7 +132,7 @@ module _ {E : Type 0} (talk : Talk E) (some : (entry : E) (reply : Reply) → 0 
             held = less_of_less old.held new.held h1 line w (subst (λ h. WroteLess h h1 line) (none_before t.front t.rest t.entry s.before t.split s.front_is) s.held);
           }
 
-      unsaid_now : 0 < length w.left → FoundNoRoom talk Lacks (entry ∷ []) old (held_by new h1) → SaidNone talk Lacks (entry ∷ []) old new
+      unsaid_now : 0 < length w.left → FoundNoRoom talk limits (entry ∷ []) old (held_by new h1) → SaidNone talk limits (entry ∷ []) old new
       unfolding still_stopped
       unsaid_now left f =
           let t = f.stopped in
@@ -139,24 +148,40 @@ module _ {E : Type 0} (talk : Talk E) (some : (entry : E) (reply : Reply) → 0 
 
       -- why it went no further, before the reply was handed on and behind
       abbrev Halts : Ending → Type 0
-      Halts halt = HaltsIn talk Lacks (entry ∷ []) old (held_by new h1) halt
+      Halts halt = HaltsIn talk limits (entry ∷ []) old (held_by new h1) halt
 
-      space_still : w.left ≡ [] → Halts Space → HaltsIn talk Lacks (entry ∷ []) old new Space
+      space_still : w.left ≡ [] → Halts Space → HaltsIn talk limits (entry ∷ []) old new Space
       space_still none h = record { stops = found_still none h.stops; reads = h.reads }
 
-      flash_still : Halts Flash → HaltsIn talk Lacks (entry ∷ []) old new Flash
-      flash_still h = record {
-        stops = part_of_part old.held new.held h1 (talk_output talk old.database (entry ∷ [])) w h.stops;
-        reads = h.reads;
-      }
+      flash_still : Halts Flash → HaltsIn talk limits (entry ∷ []) old new Flash
+      flash_still h =
+          let s = h.stops in
+          let reply = talk.sent s.entry (text ((after_entry talk (last_database talk old.database s.front) s.entry).1)) in
+          let none = none_before s.front s.rest s.entry s.before s.split s.front_is in
+          record {
+            stops = record {
+              front = s.front;
+              entry = s.entry;
+              rest = s.rest;
+              split = s.split;
+              command = s.command;
+              asks = s.asks;
+              before = old.held;
+              front_is = said_before s.front s.rest s.entry s.split;
+              held = part_of_part old.held new.held h1 reply w (subst (λ h. WrotePart h h1 reply) none s.held);
+              unsaid = λ changes. none_went old.held new.held h1 w (s.unsaid changes ∙ none);
+              breaks = s.breaks;
+            };
+            reads = h.reads;
+          }
 
-      sink_still : Halts Sink → HaltsIn talk Lacks (entry ∷ []) old new Sink
+      sink_still : Halts Sink → HaltsIn talk limits (entry ∷ []) old new Sink
       sink_still h = record { stops = ⊎_elim (λ s. inl (less_still s)) (λ s. inr (unsaid_still s)) h.stops; reads = h.reads }
 
-      sink_now : 0 < length w.left → Carried talk (entry ∷ []) old (held_by new h1) → HaltsIn talk Lacks (entry ∷ []) old new Sink
+      sink_now : 0 < length w.left → Carried talk (entry ∷ []) old (held_by new h1) → HaltsIn talk limits (entry ∷ []) old new Sink
       sink_now left c = record { stops = inl (less_went left c); reads = c.reads }
 
-      space_now : 0 < length w.left → Halts Space → HaltsIn talk Lacks (entry ∷ []) old new Sink
+      space_now : 0 < length w.left → Halts Space → HaltsIn talk limits (entry ∷ []) old new Sink
       space_now left h = record { stops = inr (unsaid_now left h.stops); reads = h.reads }
 
 -- ---- a session that takes an input
@@ -190,24 +215,24 @@ module _ {E Q P V : Type 0} (input : Input E Q P) (files : FilesOf V)
   abbrev new : Standing
   new = standing_of files.state files.reads b.session held
 
-  abbrev Lacks : Command → ℕ → Type 0
-  Lacks = LacksPages files.state files.asks files.lacks b.session
+  abbrev limits : Limits
+  limits = limits_of files b.session
 
   module _ (entries : Q → List E) (one : HasOne input a.part entries) (w : WroteFront a.held held b.held) (later : b.replies ≤ replies) where
     on_now : KeepsRunning input files a b → KeepsRunning input files a now
     on_now on = record { faults = on.faults; replies = omega (arith, on.replies, later); store = on.store; lent = on.lent }
 
     told_now : (halt halt_now : Ending)
-        → ((read : List ℕ → Result Command Refusal) (entry : E) → HaltsIn (input.talk read) Lacks (entry ∷ []) old (held_by new b.held) halt → HaltsIn (input.talk read) Lacks (entry ∷ []) old new halt_now)
-        → HaltsWithin input files a b entries halt → a.session.stopped ≡ false → Told input files a (λ talk q. HaltsIn talk Lacks (entries q) old new halt_now)
+        → ((read : List ℕ → Result Command Refusal) (entry : E) → HaltsIn (input.talk read) limits (entry ∷ []) old (held_by new b.held) halt → HaltsIn (input.talk read) limits (entry ∷ []) old new halt_now)
+        → HaltsWithin input files a b entries halt → a.session.stopped ≡ false → Told input files a (λ talk q. HaltsIn talk limits (entries q) old new halt_now)
     told_now halt halt_now f h = λ going told read reader q k.
         let entry = (one q k).0 in
         let is : entries q ≡ entry ∷ [] = (one q k).1 in
-        subst (λ (es : List E). HaltsIn (input.talk read) Lacks es old new halt_now) (sym is)
-        (f read entry (subst (λ (es : List E). HaltsIn (input.talk read) Lacks es old (held_by new b.held) halt) is (h.halts going told read reader q k)))
+        subst (λ (es : List E). HaltsIn (input.talk read) limits es old new halt_now) (sym is)
+        (f read entry (subst (λ (es : List E). HaltsIn (input.talk read) limits es old (held_by new b.held) halt) is (h.halts going told read reader q k)))
 
     still : (halt : Ending)
-        → ((read : List ℕ → Result Command Refusal) (entry : E) → HaltsIn (input.talk read) Lacks (entry ∷ []) old (held_by new b.held) halt → HaltsIn (input.talk read) Lacks (entry ∷ []) old new halt)
+        → ((read : List ℕ → Result Command Refusal) (entry : E) → HaltsIn (input.talk read) limits (entry ∷ []) old (held_by new b.held) halt → HaltsIn (input.talk read) limits (entry ∷ []) old new halt)
         → HaltsWithin input files a b entries halt → HaltsWithin input files a now entries halt
     still halt f h = record {
       kept = h.kept;
@@ -218,7 +243,7 @@ module _ {E Q P V : Type 0} (input : Input E Q P) (files : FilesOf V)
     }
 
     still_sink : HaltsWithin input files a b entries Sink → HaltsWithin input files a now entries Sink
-    still_sink h = still Sink (λ read entry. sink_still (input.talk read) (some read) entry old new b.held w Lacks) h
+    still_sink h = still Sink (λ read entry. sink_still (input.talk read) (some read) entry old new b.held w limits) h
 
     fails_now : (answered : Result ⊤ Ending) → FailsNow answered b.replies replies w.left → OnOk answered (CarriesEntries input files a b entries)
         → IfErr answered (λ halt. HaltsWithin input files a b entries halt) → HaltsWithin input files a now entries Sink
@@ -229,8 +254,8 @@ module _ {E Q P V : Type 0} (input : Input E Q P) (files : FilesOf V)
       halts = λ going told read reader q k.
           let entry = (one q k).0 in
           let is : entries q ≡ entry ∷ [] = (one q k).1 in
-          subst (λ (es : List E). HaltsIn (input.talk read) Lacks es old new Sink) (sym is)
-          (sink_now (input.talk read) (some read) entry old new b.held w Lacks fails.some
+          subst (λ (es : List E). HaltsIn (input.talk read) limits es old new Sink) (sym is)
+          (sink_now (input.talk read) (some read) entry old new b.held w limits fails.some
           (subst (λ (es : List E). Carried (input.talk read) es old (held_by new b.held)) is (c.carried going told read reader q k)));
       on = on_now c.on;
     }
@@ -238,7 +263,7 @@ module _ {E Q P V : Type 0} (input : Input E Q P) (files : FilesOf V)
       kept = λ going kept lost. absurd (space_flash (h.kept going kept lost));
       flash = λ going is. absurd (sink_flash is);
       sink = λ going is. rose_later a.replies b.replies replies h.on.replies fails.rose;
-      halts = told_now Space Sink (λ read entry. space_now (input.talk read) (some read) entry old new b.held w Lacks fails.some) h;
+      halts = told_now Space Sink (λ read entry. space_now (input.talk read) (some read) entry old new b.held w limits fails.some) h;
       on = on_now h.on;
     }
     fails_now (Err Flash) fails c h = absurd (fails.fine refl)
@@ -246,8 +271,8 @@ module _ {E Q P V : Type 0} (input : Input E Q P) (files : FilesOf V)
 
     pub sent_reply : (answered : Result ⊤ Ending) (halt : Ending) → OnOk answered (CarriesEntries input files a b entries)
         → IfErr answered (λ h. HaltsWithin input files a b entries h) → Sent answered b.replies replies w.left (Err halt) → HaltsWithin input files a now entries halt
-    sent_reply answered Space c h sent = still Space (λ read entry. space_still (input.talk read) (some read) entry old new b.held w Lacks sent.1) (rw sent.0 at h)
-    sent_reply answered Flash c h sent = still Flash (λ read entry. flash_still (input.talk read) (some read) entry old new b.held w Lacks) (rw sent at h)
+    sent_reply answered Space c h sent = still Space (λ read entry. space_still (input.talk read) (some read) entry old new b.held w limits sent.1) (rw sent.0 at h)
+    sent_reply answered Flash c h sent = still Flash (λ read entry. flash_still (input.talk read) (some read) entry old new b.held w limits) (rw sent at h)
     sent_reply answered Sink c h (inl same) = still_sink (rw same at h)
     sent_reply answered Sink c h (inr fails) = fails_now answered fails c h
 

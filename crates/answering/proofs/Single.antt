@@ -16,7 +16,7 @@ use Rattle.db_model.proofs.ReplyTexts.{text_refused}
 use Rattle.reply_text.proofs.Pieces.{append_known-nil}
 use Rattle.reply_text.specs.WroteLess.{WroteLess}
 use Rattle.run_model.specs.Talk.{AsksToRead, Talk, after_entry, aheads_answered, answered, cost_answered, talk_costs}
-use Rattle.answering.specs.Carried.{Carried, HaltsIn, SaidLess, Standing, Stopped, no_space}
+use Rattle.answering.specs.Carried.{Carried, HaltsIn, Limits, SaidLess, Standing, Stopped, no_space}
 use Rattle.answering.proofs.Accepted.{accepted}
 
 -- ---- an entry that asks for a command: its reply and its cost
@@ -35,12 +35,23 @@ module _ {E : Type 0} (talk : Talk E) (entry : E) (a b : Standing) (c : Command)
       omega (arith, few, cost)
 
   -- a fault of the files amid a command
-  pub command_faulted : (Lacks : Command → ℕ → Type 0) → (Reads c → b.reads ≤ a.reads + cost_of a.database a.aheads c)
-      → WrotePart a.held b.held (talk.sent entry (text ((step a.database c).1))) → HaltsIn talk Lacks (entry ∷ []) a b Flash
+  pub command_faulted : (limits : Limits) → (Reads c → b.reads ≤ a.reads + cost_of a.database a.aheads c)
+      → WrotePart a.held b.held (talk.sent entry (text ((step a.database c).1))) → ((Reads c → ⊥) → b.held ≡ a.held) → limits.Breaks a.database c → HaltsIn talk limits (entry ∷ []) a b Flash
   unfolding sent_is command_reads
-  command_faulted Lacks reads part = record {
-    stops = subst (λ (t : List ℕ). WrotePart a.held b.held t)
-        (sym sent_is ∙ sym (append-nil (talk.sent entry (text ((after_entry talk a.database entry).1))))) part;
+  command_faulted limits reads part unsaid breaks = record {
+    stops = record {
+      front = [];
+      entry = entry;
+      rest = [];
+      split = refl;
+      command = c;
+      asks = is;
+      before = a.held;
+      front_is = sym (append_known-nil a.held);
+      held = subst (λ (t : List ℕ). WrotePart a.held b.held t) (sym sent_is) part;
+      unsaid = unsaid;
+      breaks = breaks;
+    };
     reads = command_reads reads;
   }
 
@@ -76,9 +87,9 @@ module _ {E : Type 0} (talk : Talk E) (entry : E) (a b : Standing) (tells : b.te
       database = database ∙ sym (ap (λ (d : Database × Reply). d.0) refused_is);
     }
 
-    pub refused_halts : (Lacks : Command → ℕ → Type 0) → b.reads ≤ a.reads → WroteLess a.held b.held (talk.sent entry (refusal_text r)) → HaltsIn talk Lacks (entry ∷ []) a b Sink
+    pub refused_halts : (limits : Limits) → b.reads ≤ a.reads → WroteLess a.held b.held (talk.sent entry (refusal_text r)) → HaltsIn talk limits (entry ∷ []) a b Sink
     unfolding refused_less
-    refused_halts Lacks reads less = record { stops = inl (refused_less less); reads = λ all. omega (arith, reads) }
+    refused_halts limits reads less = record { stops = inl (refused_less less); reads = λ all. omega (arith, reads) }
 
   -- ---- an entry that asks for a command
 
@@ -106,13 +117,13 @@ module _ {E : Type 0} (talk : Talk E) (entry : E) (a b : Standing) (tells : b.te
       database = database ∙ sym (ap (λ (d : Database × Reply). d.0) (steps talk entry a b c is));
     }
 
-    module _ (Lacks : Command → ℕ → Type 0) (reads : Reads c → b.reads ≤ a.reads + cost_of a.database a.aheads c) where
-      pub command_halts_less : WroteLess a.held b.held (talk.sent entry (text ((step a.database c).1))) → b.database ≡ (step a.database c).0 → HaltsIn talk Lacks (entry ∷ []) a b Sink
+    module _ (limits : Limits) (reads : Reads c → b.reads ≤ a.reads + cost_of a.database a.aheads c) where
+      pub command_halts_less : WroteLess a.held b.held (talk.sent entry (text ((step a.database c).1))) → b.database ≡ (step a.database c).0 → HaltsIn talk limits (entry ∷ []) a b Sink
       unfolding command_less command_reads
       command_halts_less less database = record { stops = inl (command_less less database); reads = command_reads talk entry a b c is reads }
 
-      module _ (n : ℕ) (database : b.database ≡ a.database) (ok : IsOk (outcome a.database c)) (lacks : Lacks c n) where
-        command_stopped : Stopped talk Lacks (entry ∷ []) a b
+      module _ (n : ℕ) (database : b.database ≡ a.database) (ok : IsOk (outcome a.database c)) (lacks : limits.Lacks c n) where
+        command_stopped : Stopped talk limits (entry ∷ []) a b
         command_stopped = record {
           front = [];
           entry = entry;
@@ -127,11 +138,11 @@ module _ {E : Type 0} (talk : Talk E) (entry : E) (a b : Standing) (tells : b.te
           lacks = lacks;
         }
 
-        pub command_found : b.held ≡ append_known a.held (no_space talk entry n) → HaltsIn talk Lacks (entry ∷ []) a b Space
+        pub command_found : b.held ≡ append_known a.held (no_space talk entry n) → HaltsIn talk limits (entry ∷ []) a b Space
         unfolding command_stopped command_reads
         command_found held = record { stops = record { stopped = command_stopped; held = held }; reads = command_reads talk entry a b c is reads }
 
-        pub command_unsaid : (before : Option (List ℕ)) → before ≡ a.held → WroteLess before b.held (no_space talk entry n) → HaltsIn talk Lacks (entry ∷ []) a b Sink
+        pub command_unsaid : (before : Option (List ℕ)) → before ≡ a.held → WroteLess before b.held (no_space talk entry n) → HaltsIn talk limits (entry ∷ []) a b Sink
         unfolding command_stopped command_reads
         command_unsaid before same held = record {
           stops = inr (record {

@@ -8,8 +8,7 @@ use Rattle.db_model.specs.declared.refusals.Refusal.{Refusal}
 use Rattle.db_model.specs.Reading.{IsReader}
 use Rattle.intake.specs.declared.ending.Ending.{Ending}
 use Rattle.run_model.specs.Line.{ComesInParts, Line}
-use Rattle.answering.specs.Carried.{Carried, HaltsIn, standing_of}
-use Rattle.antelope_engine.specs.Commands.{LacksPages}
+use Rattle.answering.specs.Carried.{Carried, HaltsIn, limits_of, standing_of}
 use Rattle.answering.specs.Taking.{CarriesEntries, KeepsRunning, HaltsInBytes, Input, Running, TakesBytes}
 use Rattle.answering.proofs.Composed.{carried_none, carried_then, halts_later, halts_sooner}
 
@@ -71,10 +70,10 @@ module _ {E Q P V : Type 0} (input : Input E Q P) (files : FilesOf V) (line : Li
         let first = x.carries.carried going told read reader q k in
         let second = h.halts (x.carries.going going) (told_on a b (λ p. input.cut.ended p xs) x.carries going told read reader q k) read reader
         (input.cut.begun q xs) (x.keeps q k) in
-        let Lacks = LacksPages files.state files.asks files.lacks c.session in
-        let Goal : List E → Type 0 = λ es. HaltsIn (input.talk read) Lacks es (standing_of files.state files.reads a.session a.held) (standing_of files.state files.reads c.session c.held) halt in
+        let limits = limits_of files c.session in
+        let Goal : List E → Type 0 = λ es. HaltsIn (input.talk read) limits es (standing_of files.state files.reads a.session a.held) (standing_of files.state files.reads c.session c.held) halt in
         subst Goal (sym (parts.ended_on q xs ys))
-        (halts_later (input.talk read) Lacks (input.cut.ended q xs) (input.cut.ended (input.cut.begun q xs) ys)
+        (halts_later (input.talk read) limits (input.cut.ended q xs) (input.cut.ended (input.cut.begun q xs) ys)
         (standing_of files.state files.reads a.session a.held) (standing_of files.state files.reads b.session b.held)
         (standing_of files.state files.reads c.session c.held) first halt second);
     on = on_then a b c x.carries.on h.on;
@@ -86,10 +85,10 @@ module _ {E Q P V : Type 0} (input : Input E Q P) (files : FilesOf V) (line : Li
     flash = h.flash;
     sink = h.sink;
     halts = λ going told read reader q k.
-        let Lacks = LacksPages files.state files.asks files.lacks b.session in
-        let Goal : List E → Type 0 = λ es. HaltsIn (input.talk read) Lacks es (standing_of files.state files.reads a.session a.held) (standing_of files.state files.reads b.session b.held) halt in
+        let limits = limits_of files b.session in
+        let Goal : List E → Type 0 = λ es. HaltsIn (input.talk read) limits es (standing_of files.state files.reads a.session a.held) (standing_of files.state files.reads b.session b.held) halt in
         subst Goal (sym (parts.ended_on q xs ys))
-        (halts_sooner (input.talk read) Lacks (input.cut.ended q xs) (input.cut.ended (input.cut.begun q xs) ys)
+        (halts_sooner (input.talk read) limits (input.cut.ended q xs) (input.cut.ended (input.cut.begun q xs) ys)
         (standing_of files.state files.reads a.session a.held) (standing_of files.state files.reads b.session b.held) halt (h.halts going told read reader q k));
     on = h.on;
   }

@@ -12,8 +12,7 @@ use Rattle.intake.specs.declared.ending.InputEnding.{InputEnding}
 use Rattle.intake.specs.declared.ending.InputEnding.TheVariants.{Input as BadInput, Long, Early}
 use Rattle.intake.specs.Through.{Through}
 use Rattle.run_model.specs.Line.{ComesInParts, Line}
-use Rattle.answering.specs.Carried.{Carried, HaltsIn, standing_of}
-use Rattle.antelope_engine.specs.Commands.{LacksPages}
+use Rattle.answering.specs.Carried.{Carried, HaltsIn, limits_of, standing_of}
 use Rattle.answering.specs.Taking.{EndsInput, KeepsRunning, HaltsAtLast, HaltsInBytes, Input, Running, TakesBytes}
 use Rattle.answering.specs.Went.{Reaches, Went}
 use Rattle.answering.proofs.Composed.{carried_then, halts_later}
@@ -104,7 +103,7 @@ module _ {E Q P V T : Type 0} (input : Input E Q P) (files : FilesOf V) (line : 
 
       pub went : (result : Result ⊤ InputEnding) → Through Takes Ends Halts HaltsAtEnd result a b left left_now reads reads_now
           → Went line (input.talk read) (standing_of files.state files.reads (seen a).session (seen a).held) (standing_of files.state files.reads (seen b).session (seen b).held)
-          left left_now (LacksPages files.state files.asks files.lacks (seen b).session) result
+          left left_now (limits_of files (seen b).session) result
       unfolding told_then
       went (Ok done) t =
           let old = standing_of files.state files.reads (seen a).session (seen a).held in
@@ -145,21 +144,21 @@ module _ {E Q P V T : Type 0} (input : Input E Q P) (files : FilesOf V) (line : 
       went (Err (Early h)) (inl t) =
           let old = standing_of files.state files.reads (seen a).session (seen a).held in
           let new = standing_of files.state files.reads (seen b).session (seen b).held in
-          let Lacks = LacksPages files.state files.asks files.lacks (seen b).session in
+          let limits = limits_of files (seen b).session in
           record {
             bytes = t.came;
             entries = line.whole t.came;
             came = t.left;
             few = t.few;
             are = inl refl;
-            halts = subst (λ (es : List E). HaltsIn (input.talk read) Lacks es old new h) (sym (parts.whole_is t.came))
+            halts = subst (λ (es : List E). HaltsIn (input.talk read) limits es old new h) (sym (parts.whole_is t.came))
                 (t.halts.halts going told read reader input.cut.start keeps);
           }
       went (Err (Early h)) (inr t) =
           let old = standing_of files.state files.reads (seen a).session (seen a).held in
           let mid = standing_of files.state files.reads (seen t.last).session (seen t.last).held in
           let new = standing_of files.state files.reads (seen b).session (seen b).held in
-          let Lacks = LacksPages files.state files.asks files.lacks (seen b).session in
+          let limits = limits_of files (seen b).session in
           let first = t.takes.carries.carried going told read reader input.cut.start keeps in
           let second = t.halts.halts (t.takes.carries.going going) (told_then t.last t.came t.takes) read reader (input.cut.begun input.cut.start t.came) (t.takes.keeps input.cut.start keeps) in
           record {
@@ -168,6 +167,6 @@ module _ {E Q P V T : Type 0} (input : Input E Q P) (files : FilesOf V) (line : 
             came = t.left;
             few = t.few;
             are = inr (refl, t.at_end);
-            halts = subst (λ (es : List E). HaltsIn (input.talk read) Lacks es old new h) (sym (parts.all_is t.came))
-                (halts_later (input.talk read) Lacks (input.cut.ended input.cut.start t.came) (input.cut.left (input.cut.begun input.cut.start t.came)) old mid new first h second);
+            halts = subst (λ (es : List E). HaltsIn (input.talk read) limits es old new h) (sym (parts.all_is t.came))
+                (halts_later (input.talk read) limits (input.cut.ended input.cut.start t.came) (input.cut.left (input.cut.begun input.cut.start t.came)) old mid new first h second);
           }

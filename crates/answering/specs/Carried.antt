@@ -1,22 +1,24 @@
 -- What a session makes of the entries of an input.
-use Rattle.std.specs.Prelude.{◌≡◌, ◌⊎◌, ℕ, ◌+◌, ◌≤◌, Bool, false, List, [], ◌∷◌, ◌++◌, length, Option, IsErrOf, Result}
+use Rattle.std.specs.Prelude.{◌≡◌, ◌⊎◌, ℕ, ◌+◌, ◌≤◌, Bool, false, List, [], ◌∷◌, ◌++◌, length, Option, IsErrOf, IsTrue, Result}
 use Rattle.std.specs.Io.KnownBytes.{append_known}
 use Rattle.std.specs.List.{AllByRecursion}
 use Rattle.afl_base.specs.Causes.{Rose}
 use Rattle.afl_base.specs.declared.files.Files.{Ghosts as FilesOf}
 use Rattle.afl_base.specs.declared.stream.Sink.{Ghosts as SinkOf}
 use Rattle.afl_base.specs.Files.{State}
+use Rattle.antelope_engine.specs.Commands.{LacksPages}
 use Rattle.antelope_engine.specs.Seen.{Seen}
 use Rattle.db_model.specs.declared.commands.Command.{Command}
 use Rattle.db_model.specs.declared.refusals.Refusal.TheVariants as no
 use Rattle.db_model.specs.Ahead.{Aheads, is_refused}
 use Rattle.db_model.specs.Database.{Database}
 use Rattle.db_model.specs.ReplyText.{refusal_text, text}
-use Rattle.db_model.specs.Step.{step}
+use Rattle.db_model.specs.Step.{Reads, step}
 use Rattle.intake.specs.declared.ending.Ending.{Ending}
 use Rattle.intake.specs.declared.ending.Ending.TheVariants.{Space, Flash, Sink}
 use Rattle.reply_text.specs.WroteLess.{WroteLess}
 use Rattle.run_model.specs.Talk.{AsksCommand, AsksToRead, Talk, after_entry, talk_costs, last_database, talk_aheads, talk_output}
+use Rattle.session_model.specs.Carried.{MendsBetween}
 use Rattle.session_model.specs.Steps.{WrotePart}
 
 -- how a run stands: the database, what its cursors have ahead, what the sink holds, and the count of reads
@@ -26,6 +28,11 @@ pub record Standing : Type 0 where
   pub aheads : Aheads
   pub held : Option (List ℕ)
   pub reads : ℕ
+
+-- what is so of a command that goes no further: it lacks so many pages; or it broke off at a database
+pub record Limits : Type 1 where
+  pub Lacks : Command → ℕ → Type 0
+  pub Breaks : Database → Command → Type 0
 
 -- what is written where an entry finds no space
 abbrev pub no_space : {E : Type 0} → Talk E → E → ℕ → List ℕ
@@ -41,7 +48,7 @@ module _ {E : Type 0} (talk : Talk E) where
     pub reads : AllByRecursion (AsksToRead talk) entries → new.reads ≤ old.reads + talk_costs talk old.database old.aheads entries
 
   -- those in front were carried out, and the next is a command that is not refused and lacks n pages
-  pub record Stopped (Lacks : Command → ℕ → Type 0) (entries : List E) (old new : Standing) : Type 0 where
+  pub record Stopped (limits : Limits) (entries : List E) (old new : Standing) : Type 0 where
     pub front : List E
     pub entry : E
     pub rest : List E
@@ -52,16 +59,16 @@ module _ {E : Type 0} (talk : Talk E) where
     pub tells : new.tells ≡ old.tells
     pub database : new.database ≡ last_database talk old.database front
     pub accepted : is_refused ((step (last_database talk old.database front) command).1) ≡ false
-    pub lacks : Lacks command n
+    pub lacks : limits.Lacks command n
 
   -- and what was written is this
-  pub record FoundNoRoom (Lacks : Command → ℕ → Type 0) (entries : List E) (old new : Standing) : Type 0 where
-    pub stopped : Stopped Lacks entries old new
+  pub record FoundNoRoom (limits : Limits) (entries : List E) (old new : Standing) : Type 0 where
+    pub stopped : Stopped limits entries old new
     pub held : new.held ≡ append_known old.held (talk_output talk old.database stopped.front ++ no_space talk stopped.entry stopped.n)
 
   -- or less than the last line of it
-  pub record SaidNone (Lacks : Command → ℕ → Type 0) (entries : List E) (old new : Standing) : Type 0 where
-    pub stopped : Stopped Lacks entries old new
+  pub record SaidNone (limits : Limits) (entries : List E) (old new : Standing) : Type 0 where
+    pub stopped : Stopped limits entries old new
     pub before : Option (List ℕ)
     pub front_is : before ≡ append_known old.held (talk_output talk old.database stopped.front)
     pub held : WroteLess before new.held (no_space talk stopped.entry stopped.n)
@@ -78,15 +85,30 @@ module _ {E : Type 0} (talk : Talk E) where
     pub held : WroteLess before new.held (talk.sent entry (text ((after_entry talk (last_database talk old.database front) entry).1)))
     pub database : new.database ≡ last_database talk old.database (front ++ entry ∷ [])
 
+  -- those in front were carried out, and the next is a command that broke off: a part of its reply was written, and nothing
+  -- where it changes more than a cursor
+  pub record BrokeOff (limits : Limits) (entries : List E) (old new : Standing) : Type 0 where
+    pub front : List E
+    pub entry : E
+    pub rest : List E
+    pub split : entries ≡ front ++ entry ∷ rest
+    pub command : Command
+    pub asks : AsksCommand talk entry command
+    pub before : Option (List ℕ)
+    pub front_is : before ≡ append_known old.held (talk_output talk old.database front)
+    pub held : WrotePart before new.held (talk.sent entry (text ((after_entry talk (last_database talk old.database front) entry).1)))
+    pub unsaid : (Reads command → ⊥) → new.held ≡ before
+    pub breaks : limits.Breaks (last_database talk old.database front) command
+
   -- why no more of these entries was carried out
-  abbrev pub StopsEntries : (Command → ℕ → Type 0) → List E → Standing → Standing → Ending → Type 0
-  StopsEntries Lacks entries old new Space = FoundNoRoom Lacks entries old new
-  StopsEntries Lacks entries old new Sink = SaidLess entries old new ⊎ SaidNone Lacks entries old new
-  StopsEntries Lacks entries old new Flash = WrotePart old.held new.held (talk_output talk old.database entries)
+  abbrev pub StopsEntries : Limits → List E → Standing → Standing → Ending → Type 0
+  StopsEntries limits entries old new Space = FoundNoRoom limits entries old new
+  StopsEntries limits entries old new Sink = SaidLess entries old new ⊎ SaidNone limits entries old new
+  StopsEntries limits entries old new Flash = BrokeOff limits entries old new
 
   -- it went no further within these entries
-  pub record HaltsIn (Lacks : Command → ℕ → Type 0) (entries : List E) (old new : Standing) (halt : Ending) : Type 0 where
-    pub stops : StopsEntries Lacks entries old new halt
+  pub record HaltsIn (limits : Limits) (entries : List E) (old new : Standing) (halt : Ending) : Type 0 where
+    pub stops : StopsEntries limits entries old new halt
     pub reads : AllByRecursion (AsksToRead talk) entries → new.reads ≤ old.reads + talk_costs talk old.database old.aheads entries
 
 -- ---- a session and a sink
@@ -98,6 +120,14 @@ standing_of state reads session held = record {
   aheads = session.aheads;
   held = held;
   reads = reads session.files;
+}
+
+-- what stops a command of a session: pages that its files lack; or a failure of the files, where failures are cuts, behind which they
+-- mend to a database between that before the command and that after it
+abbrev pub limits_of : {V : Type 0} → FilesOf V → Seen V → Limits
+limits_of files session = record {
+  Lacks = LacksPages files.state files.asks files.lacks session;
+  Breaks = λ before command. IsTrue files.cuts → MendsBetween files session.files before command;
 }
 
 -- what failed has counted it, and no count falls

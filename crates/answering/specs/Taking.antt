@@ -10,8 +10,7 @@ use Rattle.intake.specs.declared.ending.Ending.{Ending}
 use Rattle.intake.specs.declared.ending.Ending.TheVariants.{Flash, Sink}
 use Rattle.run_model.specs.Line.{Cut}
 use Rattle.run_model.specs.Talk.{Talk}
-use Rattle.answering.specs.Carried.{Carried, HaltsIn, standing_of}
-use Rattle.antelope_engine.specs.Commands.{LacksPages}
+use Rattle.answering.specs.Carried.{Carried, HaltsIn, limits_of, standing_of}
 
 -- a session, what is kept of the entry at hand, what the sink holds, and how many of its calls failed
 pub record Running (V P : Type 0) : Type 0 where
@@ -70,7 +69,7 @@ module _ {E Q P V : Type 0} (input : Input E Q P) (files : FilesOf V) where
     pub flash : a.session.stopped ≡ false → halt ≡ Flash → Rose (files.faults a.session.files) (files.faults b.session.files)
     pub sink : a.session.stopped ≡ false → halt ≡ Sink → Rose a.replies b.replies
     pub halts : a.session.stopped ≡ false
-        → Told a (λ talk q. HaltsIn talk (LacksPages files.state files.asks files.lacks b.session) (entries q)
+        → Told a (λ talk q. HaltsIn talk (limits_of files b.session) (entries q)
         (standing_of files.state files.reads a.session a.held) (standing_of files.state files.reads b.session b.held) halt)
     pub on : KeepsRunning a b
 

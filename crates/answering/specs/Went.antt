@@ -2,7 +2,6 @@
 use Rattle.std.specs.Prelude.{◌≡◌, ◌⊎◌, ⊤, ℕ, ◌≤◌, List, ◌++◌, length, Option, Result, Ok, Err}
 use Rattle.std.specs.Io.KnownBytes.{prepend_known, IsAtEnd}
 use Rattle.afl_base.specs.Causes.{Rose}
-use Rattle.db_model.specs.declared.commands.Command.{Command}
 use Rattle.intake.specs.declared.ending.Ending.{Ending}
 use Rattle.intake.specs.declared.ending.Ending.TheVariants.{Flash, Sink}
 use Rattle.intake.specs.declared.ending.InputEnding.{InputEnding}
@@ -10,7 +9,7 @@ use Rattle.intake.specs.declared.ending.InputEnding.TheVariants.{Input, Long, Ea
 use Rattle.run_model.specs.Line.{Line}
 use Rattle.run_model.specs.Runs.{CameToLimit}
 use Rattle.run_model.specs.Talk.{Talk}
-use Rattle.answering.specs.Carried.{Carried, HaltsIn, Standing}
+use Rattle.answering.specs.Carried.{Carried, HaltsIn, Limits, Standing}
 
 module _ {E : Type 0} (line : Line E) (talk : Talk E) (old new : Standing) (left left_now : Option (List ℕ)) where
   -- all bytes came, and all their entries were carried out
@@ -38,19 +37,19 @@ module _ {E : Type 0} (line : Line E) (talk : Talk E) (old new : Standing) (left
     pub carried : Carried talk (line.whole bytes) old new
 
   -- it went no further within the entries of the bytes that came
-  pub record StoppedWithin (Lacks : Command → ℕ → Type 0) (halt : Ending) : Type 0 where
+  pub record StoppedWithin (limits : Limits) (halt : Ending) : Type 0 where
     pub bytes : List ℕ
     pub entries : List E
     pub came : left ≡ prepend_known bytes left_now
     pub few : length bytes ≤ 16777216
     pub are : (entries ≡ line.whole bytes) ⊎ ((entries ≡ line.all bytes) × IsAtEnd left_now)
-    pub halts : HaltsIn talk Lacks entries old new halt
+    pub halts : HaltsIn talk limits entries old new halt
 
-  abbrev pub Went : (Command → ℕ → Type 0) → Result ⊤ InputEnding → Type 0
-  Went Lacks (Ok done) = CarriedAll
-  Went Lacks (Err Input) = TookSome
-  Went Lacks (Err Long) = ReachedLimit
-  Went Lacks (Err (Early halt)) = StoppedWithin Lacks halt
+  abbrev pub Went : Limits → Result ⊤ InputEnding → Type 0
+  Went limits (Ok done) = CarriedAll
+  Went limits (Err Input) = TookSome
+  Went limits (Err Long) = ReachedLimit
+  Went limits (Err (Early halt)) = StoppedWithin limits halt
 
 -- how far the bytes of the input came, whether the files tell or not: to their end, or one byte past the limit
 abbrev pub Reaches : Result ⊤ InputEnding → (left left_now : Option (List ℕ)) → Type 0

@@ -1,6 +1,6 @@
-use crate::{repair_status, status};
 use afl_base::{Flash, Sink, Source};
 use afl_sim::{CachedFlash, FileFlash};
+use program_run::carry_out;
 
 const SECTOR: usize = 4096;
 
@@ -11,7 +11,7 @@ struct Memory {
     known: Vec<bool>,
 }
 
-/// The status of a run on an image in a file, of which no page is read from the file twice. Where
+/// The status of a run, or of a repair, on an image in a file, of which no page is read from the file twice. Where
 /// memory as long as the image is not to be had, the run does without it, and ends with the same.
 pub fn status_in_memory<R, S, K>(
     rt: &R,
@@ -31,22 +31,7 @@ where
         memory.bytes.as_mut_slice(),
         memory.known.as_mut_slice(),
     );
-    status(words, script, out, flash)
-}
-
-/// The status of a repair of an image in a file, of which no page is read from the file twice either.
-pub fn repaired_in_memory<R, K>(rt: &R, out: &mut K, flash: FileFlash) -> u8
-where
-    R: AllocGlobal,
-    K: Sink,
-{
-    let mut memory = memory_for(rt, flash.sectors());
-    let flash = CachedFlash::new(
-        flash,
-        memory.bytes.as_mut_slice(),
-        memory.known.as_mut_slice(),
-    );
-    repair_status(out, flash)
+    carry_out(words, script, out, flash)
 }
 
 // Memory for so many sectors, or for none where it is wanting.

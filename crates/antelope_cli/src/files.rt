@@ -1,4 +1,4 @@
-use crate::failure::Failure;
+use program_run::Failure;
 use std::fs::{File, Files};
 
 /// The same file under a number of its own. Where the caller has closed a standard stream, a file

@@ -1,6 +1,6 @@
-use crate::failure::Failure;
 use crate::files::apart;
 use afl_sim::FileFlash;
+use program_run::Failure;
 use std::fs;
 use std::fs::{File, Files, OpenOptions};
 use std::io::ErrorKind;

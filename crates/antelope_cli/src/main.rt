@@ -19,24 +19,19 @@
 #![tactic(auto)]
 
 mod cache;
-mod failure;
 mod files;
 mod image;
 
-use crate::cache::{repaired_in_memory, status_in_memory};
-use crate::failure::Failure;
+use crate::cache::status_in_memory;
 use crate::files::open_script;
 use crate::image::{open_image, remove_new};
-use afl_base::{Flash, Sink, Source};
-use afl_sim::{MemSource, StdSink, StdSource};
-use antelope_run::top;
-use repair_run::repair;
-use run_words::{Form, form};
+use afl_base::Sink;
+use afl_sim::{StdSink, StdSource};
+use program_run::{Failure, names, words};
 use std::env::Env;
 use std::fs::{File, Files};
-use std::io::{ErrorKind, Read, Write};
+use std::io::{Read, Write};
 use std::process::ExitCode;
-use std::{env, io};
 
 fn main(rt: HostRuntime) -> ExitCode {
     ExitCode::from(match start(&rt, rt.stdin(), rt.stdout()) {
@@ -55,25 +50,15 @@ where
     let words = words(rt)?;
     let words = words.as_slice();
     let mut out = StdSink::new(stdout);
-    match (form(words), words) {
-        (Some(Form::Run | Form::Serve), [_, image, input]) if input.as_str() == "-" => {
-            let image = open_image(rt, image.as_str())?;
+    match names(words) {
+        Some(names) if names.input == "-" => {
+            let image = open_image(rt, names.image)?;
             let mut source = StdSource::new(stdin);
             Ok(status_in_memory(rt, words, &mut source, &mut out, image.flash))
         }
-        (Some(Form::Run | Form::Serve), [_, image, input]) => {
-            with_script(rt, words, image.as_str(), input.as_str(), &mut out)
-        }
-        (Some(_), [_, image, ..]) => {
-            let image = open_image(rt, image.as_str())?;
-            Ok(status_in_memory(rt, words, &mut nothing(), &mut out, image.flash))
-        }
-        (None, [word, image]) if word.as_str() == "repair" => {
-            let image = open_image(rt, image.as_str())?;
-            Ok(repaired_in_memory(rt, &mut out, image.flash))
-        }
+        Some(names) => with_script(rt, words, names.image, names.input, &mut out),
         // Words of no form name no image: of them `top` answers 1, whatever the flash.
-        _ => Ok(1),
+        None => Ok(1),
     }
 }
 
@@ -100,45 +85,4 @@ where
             Err(failure)
         }
     }
-}
-
-// The words behind the program's name. Where one of them is no text, there are none, so that they
-// are words of no form.
-fn words<R: Env + AllocGlobal>(rt: &R) -> Result<Vec<String>, Failure> {
-    let mut words = Vec::new(rt.alloc());
-    let args = match env::args(rt) {
-        Ok(args) => args,
-        Err(error) if error.kind() == ErrorKind::OutOfMemory => return Err(Failure::Memory),
-        Err(_) => return Ok(words),
-    };
-    for word in args.skip(1) {
-        words.push(word).map_err(|_| Failure::Memory)?;
-    }
-    Ok(words)
-}
-
-// The input of words that name none.
-fn nothing() -> MemSource<'static> {
-    MemSource::new(b"", None)
-}
-
-#[inline(never)]
-fn status<F, S, K>(words: &[String], script: &mut S, out: &mut K, flash: F) -> u8
-where
-    F: Flash + Drop,
-    S: Source,
-    K: Sink,
-{
-    let (status, _) = top(words, script, out, flash);
-    status
-}
-
-#[inline(never)]
-fn repair_status<F, K>(out: &mut K, flash: F) -> u8
-where
-    F: Flash + Drop,
-    K: Sink,
-{
-    let (status, _) = repair(out, flash);
-    status
 }

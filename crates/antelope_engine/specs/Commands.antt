@@ -1,12 +1,18 @@
 -- What is said of a session behind a command.
-use Rattle.std.specs.Prelude.{◌≡◌, ◌≤◌, ℕ, true, false, IsTrue, IsErrOf, OnErr, OnOk, Result}
+use Rattle.std.specs.Prelude.{◌≡◌, ◌≤◌, ℕ, true, false, List, IsTrue, IsErrOf, OnErr, OnOk, Option, Result}
+use Rattle.afl_base.specs.declared.files.Files.{Ghosts as FilesOf}
+use Rattle.afl_base.specs.declared.stream.Sink.{Ghosts as SinkOf}
 use Rattle.afl_base.specs.Files.{State}
 use Rattle.db_model.specs.declared.commands.Command.{Command}
 use Rattle.db_model.specs.Ahead.{aheads_after}
-use Rattle.db_model.specs.Step.{Reads}
+use Rattle.db_model.specs.Database.{Database}
+use Rattle.db_model.specs.ReplyText.{text}
+use Rattle.db_model.specs.Step.{Reads, step}
 use Rattle.session_model.specs.declared.step.Step.{Step}
 use Rattle.afl_base.specs.declared.fault.Fault.{Fault}
 use Rattle.afl_base.specs.declared.fault.Fault.TheVariants.{Flash}
+use Rattle.session_model.specs.Carried.{MendsBetween}
+use Rattle.session_model.specs.Steps.{WrotePart}
 use Rattle.session_model.specs.Wanted.{WantsOver}
 use Rattle.space_model.specs.Enough.{most}
 use Rattle.antelope_engine.specs.Seen.{OnNothingDone, Seen}
@@ -32,3 +38,10 @@ pub record StopsAtFault {V : Type 0} (result : Result Step Fault) (session : See
 pub record LeavesFiles {V : Type 0} (state : V → State) (command : Command) (result : Result Step Fault) (old new : V) : Type 0 where
   pub untouched : OnNothingDone result (state new ≡ state old)
   pub same : Reads command → state new ≡ state old
+
+-- a command broke off: a part of its reply was written, and nothing where it changes more than a cursor; and where failures are
+-- cuts, what the files are kept in mends to a database between that before the command and that after it
+pub record IsBrokenOff {V K : Type 0} (v : FilesOf V) (k : SinkOf K) (command : Command) (before : Database) (files : V) (held now : K) : Type 0 where
+  pub part : WrotePart (k.held held) (k.held now) (text (step before command).1)
+  pub unsaid : (Reads command → ⊥) → now ≡ held
+  pub mends : IsTrue v.cuts → MendsBetween v files before command

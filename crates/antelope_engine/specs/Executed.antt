@@ -1,5 +1,5 @@
 -- What a session makes of a command and its reply.
-use Rattle.std.specs.Prelude.{◌≡◌, ◌+◌, ◌≤◌, IfOk, IsErrOf, Result}
+use Rattle.std.specs.Prelude.{◌≡◌, ◌+◌, ◌≤◌, IfOk, IsErrOf, IsTrue, Result}
 use Rattle.afl_base.specs.declared.files.Files.{Ghosts as FilesOf}
 use Rattle.afl_base.specs.declared.stream.Sink.{Ghosts as SinkOf}
 use Rattle.db_model.specs.declared.commands.Command.{Command}
@@ -12,9 +12,10 @@ use Rattle.session_model.specs.declared.step.Step.{Step}
 use Rattle.afl_base.specs.declared.fault.Fault.{Fault}
 use Rattle.afl_base.specs.declared.fault.Fault.TheVariants.{Flash, Sink}
 use Rattle.session_model.specs.Carried.{ChangesAndSends, Runs, Tells, aheads, database}
-use Rattle.session_model.specs.Steps.{Does, UnlessFlash, WrotePart}
+use Rattle.session_model.specs.Steps.{Does, UnlessFlash}
 use Rattle.session_model.specs.Wanted.{WantsOver}
 use Rattle.space_model.specs.Enough.{most}
+use Rattle.antelope_engine.specs.Commands.{IsBrokenOff}
 use Rattle.antelope_engine.specs.Seen.{WhereNoSpace, OnNothingDone}
 
 -- a command was carried out and its reply written; or there was no space for it, and nothing was written; or what of the
@@ -24,8 +25,7 @@ pub record Executes {V K : Type 0} (v : FilesOf V) (k : SinkOf K) (command : Com
       Does (outcome (database v old) command) (database v old) (database v new) came (k.held before) (k.held now))
   pub sink : Tells v old → IsErrOf result Sink → (database v new ≡ (step (database v old) command).0)
       × WroteLess (k.held before) (k.held now) (text (step (database v old) command).1)
-  pub flash : Tells v old → IsErrOf result Flash
-      → WrotePart (k.held before) (k.held now) (text (step (database v old) command).1)
+  pub flash : Tells v old → IsErrOf result Flash → IsBrokenOff v k command (database v old) new.files before now
   pub silent : WhereNoSpace result (λ need. k.held now ≡ k.held before)
   pub wants : Tells v old → WhereNoSpace result (λ need.
       WantsOver (v.asks new.files) (v.state new.files).files (database v old) command need)

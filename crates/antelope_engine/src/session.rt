@@ -15,11 +15,11 @@ ghost use Rattle.reply_text.specs.WroteLess.{WroteLess};
 ghost use Rattle.afl_base.specs.declared.fault.Fault.TheVariants.{Flash, Sink as OfSink};
 ghost use Rattle.session_model.specs.Queries.{IsWellFormed};
 ghost use Rattle.session_model.specs.Carried.{ChangesAndSends};
-ghost use Rattle.session_model.specs.Steps.{Does, WrotePart};
+ghost use Rattle.session_model.specs.Steps.{Does};
 ghost use Rattle.stored.specs.Base.{base_of};
 ghost use Rattle.stored.specs.Sound.{BreaksFirst, IsSoundTable};
 ghost use Rattle.db_model.specs.Database.{bare};
-ghost use Rattle.antelope_engine.specs.Commands.{GoesOn, LacksPages, LeavesFiles, StopsAtFault};
+ghost use Rattle.antelope_engine.specs.Commands.{GoesOn, IsBrokenOff, LacksPages, LeavesFiles, StopsAtFault};
 ghost use Rattle.antelope_engine.specs.Seen.{WhereNoSpace, is_flash};
 ghost use Rattle.antelope_engine.specs.Started.{HasStartCause, OnBroken, UnlessBegun, files_after, files_left};
 
@@ -162,8 +162,10 @@ impl<V: Files> Session<V> {
     ///
     /// # Errors
     ///
-    /// `Flash` comes only where a file failed: a part of the reply is written, and no more is said
-    /// of the files. `Sink` comes only where the reply could not be written to its end: the command
+    /// `Flash` comes only where a file failed: a part of the reply is written, and nothing where the
+    /// command changes more than a cursor. Where failures are cuts, what the files are kept in mends to
+    /// a database between that before the command and that after it; else no more is said of the files.
+    /// `Sink` comes only where the reply could not be written to its end: the command
     /// is carried out. After either the session is stopped.
     pub fn exec<K: Sink>(&mut self, command: &Command, out: &mut K) -> Result<Step, Fault>
         requires running { self.old.stopped ≡ false }
@@ -176,8 +178,7 @@ impl<V: Files> Session<V> {
             × WroteLess (K.held out.old) (K.held out.new)
             (text (step self.old.database command.now).1) }
         ensures flash { IsTrue (V.state self.old.files).tells → IsErrOf result Flash
-            → WrotePart (K.held out.old) (K.held out.new)
-            (text (step self.old.database command.now).1) }
+            → IsBrokenOff V.Files K.Sink command.now self.old.database self.new.files out.old out.new }
         ensures space { IsTrue (V.state self.old.files).tells → WhereNoSpace result (λ need.
             LacksPages V.state V.asks V.lacks self.new command.now need) }
         ensures silent { WhereNoSpace result (λ need.

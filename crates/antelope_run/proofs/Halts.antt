@@ -10,7 +10,7 @@ use Rattle.intake.specs.declared.ending.InputEnding.TheVariants.{Input, Long, Ea
 use Rattle.afl_base.specs.declared.fault.Fault.{Fault}
 use Rattle.afl_base.specs.declared.fault.Fault.TheVariants as fault
 use Rattle.session_model.specs.Steps.{HasFaultCause, UnlessFlash}
-use Rattle.answering.specs.Carried.{HasHaltCause, Standing}
+use Rattle.answering.specs.Carried.{HasHaltCause, Limits, Standing}
 use Rattle.answering.specs.Went.{HasRunCause, Reaches}
 use Rattle.workload_run.specs.Summed.{StopsCommands, SummedUp}
 use Rattle.run_words.specs.declared.words.Form.{Form}
@@ -23,12 +23,12 @@ clash e = absurd (let n : ⊥ = cc in n)
 
 -- ---- generated commands
 
-pub generated : (old new : Standing) (Lacks : Command → ℕ → Type 0) (commands : List Command) (done : Result ⊤ Ending)
+pub generated : (old new : Standing) (limits : Limits) (commands : List Command) (done : Result ⊤ Ending)
     → OnOk done (SummedUp commands old.database new.database old.held new.held)
-    → IfErr done (λ h. StopsCommands Lacks commands old.database new.database old.held new.held h)
-    → Generates old new Lacks commands (halted done)
-generated old new Lacks commands (Ok x) ok err = ok
-generated old new Lacks commands (Err h) ok err = err
+    → IfErr done (λ h. StopsCommands limits commands old.database new.database old.held new.held h)
+    → Generates old new limits commands (halted done)
+generated old new limits commands (Ok x) ok err = ok
+generated old new limits commands (Err h) ok err = err
 
 is_halt : (done : Result ⊤ Ending) → IsErrOf done halt.Flash → halted done ≡ Err (Early halt.Flash)
 is_halt done h = ap halted h

@@ -4,8 +4,10 @@ use Rattle.std.specs.Prelude.{⊤, IsTrue, Result, Ok, Err}
 use Rattle.std.specs.Io.KnownBytes.{append_known}
 use Rattle.db_model.specs.declared.commands.Command.{Command}
 use Rattle.db_model.specs.declared.refusals.Refusal.TheVariants as no
+use Rattle.db_model.specs.Between.{IsBetween}
 use Rattle.db_model.specs.Database.{Database, bare}
 use Rattle.db_model.specs.ReplyText.{refusal_text}
+use Rattle.db_model.specs.Step.{after_all}
 use Rattle.db_model.specs.Workload.{first_commands}
 use Rattle.dump_model.specs.Script.{script}
 use Rattle.look.specs.Text.{database_lines, flash_line, look_text}
@@ -14,8 +16,9 @@ use Rattle.intake.specs.declared.ending.InputEnding.{InputEnding}
 use Rattle.intake.specs.declared.ending.InputEnding.TheVariants.{Input, Long, Early}
 use Rattle.reply_text.proofs.Pieces.{append_known-nil}
 use Rattle.reply_text.specs.WroteLess.{WroteLess}
-use Rattle.sound_image.specs.Images.{base}
-use Rattle.answering.specs.Carried.{Standing}
+use Rattle.sound_image.specs.Images.{IsSound, base}
+use Rattle.sound_image.specs.Mending.{ImageMendsTo}
+use Rattle.answering.specs.Carried.{Limits, Standing}
 use Rattle.answering.specs.Went.{Went}
 use Rattle.run_model.specs.Line.{Line}
 use Rattle.run_model.specs.Runs.{CarriedOut, FoundNoSpace, InputCutOff, InputEnded, InputFaulted, InputFoundNoSpace, InputTooLong, InputUnsaid, SpaceUnsaid, StandsAfter, StopsAt, World, WroteWithin, world}
@@ -27,13 +30,15 @@ use Rattle.workload_run.specs.Summed.{summed}
 use Rattle.workload_run.specs.Summed as sums
 use Rattle.run_words.specs.declared.words.Form.{Form}
 use Rattle.run_words.specs.declared.words.Form.TheVariants.{Run, Gen, Plan, Serve, Dump, Look}
+use Rattle.antelope_run.specs.Comes.{BreaksBy}
+use Rattle.antelope_run.specs.declared.came.Came.TheVariants.{Opened}
 use Rattle.antelope_run.specs.Does.{DoesForm, Generates, OnlyTells, TellsOn, WritesText, Wrote}
 use Rattle.antelope_run.specs.Follows.{WritesBehind, is_look}
 use Rattle.antelope_run.specs.HandedBack.{HandsBack}
 use Rattle.antelope_run.specs.Left as left
-use Rattle.antelope_run.specs.Statuses.{LineUnsaid, OnInput, TellsText, TellsLess, dumped_text, nothing_yet, planned_text, summed_from, TakesInput}
+use Rattle.antelope_run.specs.Statuses.{BrokenOff, LeavesImage, LineBrokenOff, LineUnsaid, OnInput, TellsText, TellsLess, dumped_text, nothing_yet, planned_text, summed_from, TakesInput}
 use Rattle.antelope_run.proofs.Behind.{wrote_on}
-use Rattle.antelope_run.proofs.Finished.{cut_off, ended, faulted, found_no_space, told_on, too_long, unsaid, wrote_within}
+use Rattle.antelope_run.proofs.Finished.{broken_off, cut_off, ended, faulted, found_no_space, told_on, too_long, unsaid, wrote_within}
 
 -- ---- an input
 
@@ -45,7 +50,7 @@ LeavesInput line talk old new (Err (Early Space)) = InputFoundNoSpace line talk 
 LeavesInput line talk old new (Err (Early Flash)) = InputFaulted line talk old new
 LeavesInput line talk old new (Err (Early Sink)) = InputUnsaid line talk old new
 
-module _ (a b : Standing) (image image_now : List ℕ) (before now : Option (List ℕ)) (Lacks : Command → ℕ → Type 0) (start : a.database ≡ base image) (told : IsTrue a.tells) where
+module _ (a b : Standing) (image image_now : List ℕ) (before now : Option (List ℕ)) (limits : Limits) (start : a.database ≡ base image) (told : IsTrue a.tells) where
   abbrev Old : World
   Old = world image before a.held
 
@@ -53,25 +58,25 @@ module _ (a b : Standing) (image image_now : List ℕ) (before now : Option (Lis
   New = world image_now now b.held
 
   abbrev pub Back : Result ⊤ InputEnding → Type 0
-  Back result = IsTrue b.tells → result ≢ Err (Early Flash) → HandsBack b.database Lacks image_now
+  Back result = IsTrue b.tells → result ≢ Err (Early Flash) → HandsBack b.database limits.Lacks image_now
 
-  leaves_input : {E : Type 0} (line : Line E) (talk : Talk E) (result : Result ⊤ InputEnding) → Back result → Went line talk a b before now Lacks result → LeavesInput line talk Old New result
+  leaves_input : {E : Type 0} (line : Line E) (talk : Talk E) (result : Result ⊤ InputEnding) → Back result → Went line talk a b before now limits result → LeavesInput line talk Old New result
   leaves_input line talk (Ok done) back w =
       let other : ◌≢◌ {A = Result ⊤ InputEnding} (Ok done) (Err (Early Flash)) = λ e. (let n : ⊥ = cc in n) in
-      ended line talk a b image image_now before now start Lacks (back (w.carried.tells ∙ told) other) w
+      ended line talk a b image image_now before now start limits (back (w.carried.tells ∙ told) other) w
   leaves_input line talk (Err Input) back w =
       let other : ◌≢◌ {A = Result ⊤ InputEnding} (Err Input) (Err (Early Flash)) = λ e. (let n : ⊥ = cc in n) in
-      cut_off line talk a b image image_now before now start Lacks (back (w.carried.tells ∙ told) other) w
+      cut_off line talk a b image image_now before now start limits (back (w.carried.tells ∙ told) other) w
   leaves_input line talk (Err Long) back w =
       let other : ◌≢◌ {A = Result ⊤ InputEnding} (Err Long) (Err (Early Flash)) = λ e. (let n : ⊥ = cc in n) in
-      too_long line talk a b image image_now before now start Lacks (back (w.carried.tells ∙ told) other) w
+      too_long line talk a b image image_now before now start limits (back (w.carried.tells ∙ told) other) w
   leaves_input line talk (Err (Early Space)) back w =
       let other : ◌≢◌ {A = Result ⊤ InputEnding} (Err (Early Space)) (Err (Early Flash)) = λ e. (let n : ⊥ = cc in n) in
-      found_no_space line talk a b image image_now before now start Lacks (back (told_on line talk a b before now Lacks (Err (Early Space)) w other ∙ told) other) w
-  leaves_input line talk (Err (Early Flash)) back w = faulted line talk a b image image_now before now start Lacks w
+      found_no_space line talk a b image image_now before now start limits (back (told_on line talk a b before now limits (Err (Early Space)) w other ∙ told) other) w
+  leaves_input line talk (Err (Early Flash)) back w = faulted line talk a b image image_now before now start limits w
   leaves_input line talk (Err (Early Sink)) back w =
       let other : ◌≢◌ {A = Result ⊤ InputEnding} (Err (Early Sink)) (Err (Early Flash)) = λ e. (let n : ⊥ = cc in n) in
-      unsaid line talk a b image image_now before now start Lacks (back (told_on line talk a b before now Lacks (Err (Early Sink)) w other ∙ told) other) w
+      unsaid line talk a b image image_now before now start limits (back (told_on line talk a b before now limits (Err (Early Sink)) w other ∙ told) other) w
 
   by_run : (result : Result ⊤ InputEnding) → OnInput Run (λ E line talk. LeavesInput line talk Old New result) → left.LeavesBehind Run Old New result
   by_run (Ok done) h = h
@@ -94,11 +99,11 @@ module _ (a b : Standing) (image image_now : List ℕ) (before now : Option (Lis
   less_of : (all : List ℕ) → WroteLess a.held b.held all → WroteWithin [] all a.held b.held
   less_of all w = wrote_within [] all all a.held a.held b.held (sym (append_known-nil a.held)) w refl
 
-  module _ (commands : List Command) (back : HandsBack b.database Lacks image_now) where
+  module _ (commands : List Command) (back : HandsBack b.database limits.Lacks image_now) where
     all_made : sums.SummedUp commands a.database b.database a.held b.held → CarriedOut (summed_from a.database) commands Old New
     all_made s = record { written = s.held; stands = record { sound = back.sound; base_is = back.base_is ∙ ap bare s.database } }
 
-    stops_at : (n : ℕ) (s : counted.StopsAtCommand Lacks commands a.database b.database n) → StopsAt (summed_from a.database) commands s.front n image_now
+    stops_at : (n : ℕ) (s : counted.StopsAtCommand limits commands a.database b.database n) → StopsAt (summed_from a.database) commands s.front n image_now
     stops_at n s = record {
       entry = s.command;
       rest = s.rest;
@@ -110,11 +115,11 @@ module _ (a b : Standing) (image image_now : List ℕ) (before now : Option (Lis
       stands = record { sound = back.sound; base_is = back.base_is ∙ ap bare s.database };
     }
 
-    found_at : sums.SaidNoRoom Lacks commands a.database b.database a.held b.held → FoundNoSpace (summed_from a.database) commands Old New
+    found_at : sums.SaidNoRoom limits commands a.database b.database a.held b.held → FoundNoSpace (summed_from a.database) commands Old New
     unfolding stops_at
     found_at f = record { front = f.stops.front; n = f.n; stops = stops_at f.n f.stops; written = f.held }
 
-    space_unsaid_at : sums.LeftSpaceUnsaid Lacks commands a.database b.database a.held b.held → SpaceUnsaid (summed_from a.database) nothing_yet commands Old New
+    space_unsaid_at : sums.LeftSpaceUnsaid limits commands a.database b.database a.held b.held → SpaceUnsaid (summed_from a.database) nothing_yet commands Old New
     unfolding stops_at
     space_unsaid_at f = record {
       front = f.stops.front;
@@ -130,12 +135,12 @@ module _ (a b : Standing) (image image_now : List ℕ) (before now : Option (Lis
           (record { sound = back.sound; base_is = back.base_is ∙ ap bare s.database });
     }
 
-    unsaid_by : (sums.LeftLineUnsaid commands a.database b.database a.held b.held ⊎ sums.LeftSpaceUnsaid Lacks commands a.database b.database a.held b.held)
+    unsaid_by : (sums.LeftLineUnsaid commands a.database b.database a.held b.held ⊎ sums.LeftSpaceUnsaid limits commands a.database b.database a.held b.held)
         → (LineUnsaid commands Old New ⊎ SpaceUnsaid (summed_from (base image)) nothing_yet commands Old New)
     unsaid_by (inl s) = inl (line_unsaid s)
     unsaid_by (inr s) = inr (subst (λ (db : Database). SpaceUnsaid (summed_from db) nothing_yet commands Old New) start (space_unsaid_at s))
 
-  by_gen : (seed count : ℕ) (result : Result ⊤ InputEnding) → Back result → TellsOn a b result → Generates a b Lacks (first_commands seed count) result → left.LeavesBehind (Gen seed count) Old New result
+  by_gen : (seed count : ℕ) (result : Result ⊤ InputEnding) → Back result → TellsOn a b result → Generates a b limits (first_commands seed count) result → left.LeavesBehind (Gen seed count) Old New result
   by_gen seed count (Ok done) back tells g =
       let other : ◌≢◌ {A = Result ⊤ InputEnding} (Ok done) (Err (Early Flash)) = λ e. (let n : ⊥ = cc in n) in
       subst (λ (db : Database). CarriedOut (summed_from db) (first_commands seed count) Old New) start
@@ -146,10 +151,38 @@ module _ (a b : Standing) (image image_now : List ℕ) (before now : Option (Lis
       let other : ◌≢◌ {A = Result ⊤ InputEnding} (Err (Early Space)) (Err (Early Flash)) = λ e. (let n : ⊥ = cc in n) in
       subst (λ (db : Database). FoundNoSpace (summed_from db) (first_commands seed count) Old New) start
       (found_at (first_commands seed count) (back (tells other ∙ told) other) g)
-  by_gen seed count (Err (Early Flash)) back tells g = g
+  by_gen seed count (Err (Early Flash)) back tells g = g.0
   by_gen seed count (Err (Early Sink)) back tells g =
       let other : ◌≢◌ {A = Result ⊤ InputEnding} (Err (Early Sink)) (Err (Early Flash)) = λ e. (let n : ⊥ = cc in n) in
       unsaid_by (first_commands seed count) (back (tells other ∙ told) other) g
+
+  -- ---- a command broke off
+
+  module _ (mends : (db : Database) (command : Command) → limits.Breaks db command → ImageMendsTo image_now (IsBetween db command)) where
+    gen_broken : (commands : List Command) → Generates a b limits commands (Err (Early Flash)) → LineBrokenOff commands Old New
+    gen_broken commands g =
+        let s = g.1 in
+        record {
+          front = s.front;
+          breaks = record {
+            entry = s.command;
+            rest = s.rest;
+            split = s.split;
+            command = s.command;
+            asks = refl;
+            mends = subst (λ (db : Database). ImageMendsTo image_now (IsBetween (after_all db s.front) s.command)) start (mends (after_all a.database s.front) s.command s.breaks);
+          };
+          unsaid = g.0;
+        }
+
+    pub breaks : (sectors : ℕ) (form : Form) → (OnlyTells form → image_now ≡ image) → (OnlyTells form → now ≡ before)
+        → DoesForm a b sectors before now limits form (Err (Early Flash)) → BrokenOff form Old New
+    breaks sectors Run stays unread d = λ read reader. broken_off _ _ a b image image_now before now start limits mends (d read reader)
+    breaks sectors Serve stays unread d = λ read reader. broken_off _ _ a b image image_now before now start limits mends (d read reader)
+    breaks sectors (Gen seed count) stays unread d = gen_broken (first_commands seed count) d.1
+    breaks sectors (Plan rows) stays unread d = record { same = stays tt; unread = unread tt }
+    breaks sectors Dump stays unread d = record { same = stays tt; unread = unread tt }
+    breaks sectors Look stays unread d = record { same = stays tt; unread = unread tt }
 
   -- ---- what is told of an image
 
@@ -199,7 +232,7 @@ module _ (a b : Standing) (image image_now : List ℕ) (before now : Option (Lis
         (subst (λ k. left.LeavesBehind form Old (world image_now now k) done) (sym same.1) h)
 
     pub leaves : (sectors : ℕ) → sectors ≡ length image / 4096 → (form : Form) → Back done → (OnlyTells form → Stays) → (OnlyTells form → now ≡ before)
-        → DoesForm a b sectors before now Lacks form done
+        → DoesForm a b sectors before now limits form done
         → (is_look form ≡ false → (result ≡ done) × (held ≡ b.held)) → (is_look form ≡ true → WritesBehind (flash_line image) done result b.held held)
         → left.LeavesBehind form Old (world image_now now held) result
     leaves sectors many Run back stays unread d same told = on_same Run (same refl) (by_run done (λ read reader. leaves_input _ _ done back (d read reader)))
@@ -234,3 +267,29 @@ look_tells (Gen seed count) e = absurd (let n : ⊥ = cc in n)
 look_tells (Plan rows) e = absurd (let n : ⊥ = cc in n)
 look_tells Dump e = absurd (let n : ⊥ = cc in n)
 look_tells Look e = tt
+
+-- it broke off where no more follows, or in what follows where it only tells of an image
+module _ (form : Form) (old mid new : World) (done result : Result ⊤ InputEnding) where
+  pub breaks_by : (done ≡ Err (Early Flash) → BrokenOff form old mid) → (OnlyTells form → LeavesImage old new) → (is_look form ≡ false → (result ≡ done) × (new ≡ mid))
+      → result ≡ Err (Early Flash) → BrokenOff form old new
+  breaks_by = by_form form
+    where
+      carried : (f : Form) → (done ≡ Err (Early Flash) → BrokenOff f old mid) → (result ≡ done) × (new ≡ mid) → result ≡ Err (Early Flash) → BrokenOff f old new
+      carried f broke same is = subst (BrokenOff f old) (sym same.1) (broke (sym same.0 ∙ is))
+
+      by_form : (f : Form) → (done ≡ Err (Early Flash) → BrokenOff f old mid) → (OnlyTells f → LeavesImage old new) → (is_look f ≡ false → (result ≡ done) × (new ≡ mid))
+          → result ≡ Err (Early Flash) → BrokenOff f old new
+      by_form Run broke tells same is = carried Run broke (same refl) is
+      by_form Serve broke tells same is = carried Serve broke (same refl) is
+      by_form (Gen seed count) broke tells same is = carried (Gen seed count) broke (same refl) is
+      by_form (Plan rows) broke tells same is = tells tt
+      by_form Dump broke tells same is = tells tt
+      by_form Look broke tells same is = tells tt
+
+pub broken_opened : (form : Form) (old new : World) (result : Result ⊤ InputEnding) → IsSound old.image → (result ≡ Err (Early Flash) → BrokenOff form old new) → BreaksBy form old new (Opened result)
+broken_opened form old new (Ok done) sound h = tt
+broken_opened form old new (Err Input) sound h = tt
+broken_opened form old new (Err Long) sound h = tt
+broken_opened form old new (Err (Early Space)) sound h = tt
+broken_opened form old new (Err (Early Sink)) sound h = tt
+broken_opened form old new (Err (Early Flash)) sound h = (sound, h refl)

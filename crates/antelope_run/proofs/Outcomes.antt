@@ -18,9 +18,9 @@ use Rattle.antelope_run.specs.declared.came.Came.{Came}
 use Rattle.antelope_run.specs.declared.came.Came.TheVariants.{Opened, Refused, Unsaid, Failed}
 use Rattle.run_words.specs.declared.words.Form.{Form}
 use Rattle.run_words.specs.declared.words.Form.TheVariants.{Run, Gen, Plan, Serve, Dump, Look}
-use Rattle.antelope_run.specs.Comes.{ComesTo, HasCameCause, OnOpened, OnUnopened, ReachesBy, status_by}
+use Rattle.antelope_run.specs.Comes.{BreaksBy, ComesTo, HasCameCause, OnOpened, OnUnopened, ReachesBy, status_by}
 use Rattle.antelope_run.specs.Left.{LeavesBehind}
-use Rattle.antelope_run.specs.Statuses.{CausedBy, LeftBy, TakenBy, RunEnds, FindsNoSpace, HasSpace, InputIsCutOff, IsFaulted, IsWithinLimit, IsTooLong, IsUnsaid, TakesInput, summed_from}
+use Rattle.antelope_run.specs.Statuses.{CausedBy, EndsBrokenOff, LeftBy, TakenBy, RunEnds, FindsNoSpace, HasSpace, InputIsCutOff, IsFaulted, IsWithinLimit, IsTooLong, IsUnsaid, TakesInput, summed_from}
 use Rattle.antelope_run.proofs.Fronts.{has_fronts}
 use Rattle.antelope_run.proofs.Space.{input_has_space, stops_nowhere}
 
@@ -184,6 +184,13 @@ module _ (form : Form) (came : Came) (old new : World) (comes : ComesTo form old
       by_case : ((came ≡ Opened (Err (Early Flash))) ⊎ (came ≡ Failed)) → IsFaulted (Some form) old new
       by_case (inl h) = inr (subst (ComesTo form old new) h comes)
       by_case (inr h) = inl (subst (ComesTo form old new) h comes)
+
+  pub broken_at : BreaksBy form old new came → (status : ℕ) → status ≡ status_by came → status ≡ 4 → EndsBrokenOff (Some form) old new
+  broken_at breaks status is e = by_case (is_faulted came (sym is ∙ e))
+    where
+      by_case : ((came ≡ Opened (Err (Early Flash))) ⊎ (came ≡ Failed)) → EndsBrokenOff (Some form) old new
+      by_case (inl h) = inr (subst (BreaksBy form old new) h breaks)
+      by_case (inr h) = inl (subst (BreaksBy form old new) h breaks)
 
   pub unsaid_at : status_by came ≡ 5 → IsUnsaid (Some form) old new
   unsaid_at e = by_case (is_unsaid came e)

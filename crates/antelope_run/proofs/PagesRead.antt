@@ -5,7 +5,7 @@ use Rattle.std.specs.List.{AllByRecursion}
 use Rattle.db_model.specs.declared.commands.Command.{Command}
 use Rattle.intake.specs.declared.ending.InputEnding.{InputEnding}
 use Rattle.intake.specs.declared.ending.InputEnding.TheVariants.{Input, Long, Early}
-use Rattle.answering.specs.Carried.{Standing}
+use Rattle.answering.specs.Carried.{Limits, Standing}
 use Rattle.answering.specs.Went.{Went}
 use Rattle.run_model.specs.Line.{Line}
 use Rattle.run_model.specs.Talk.{AsksToRead, Talk, talk_costs}
@@ -13,7 +13,7 @@ use Rattle.run_model.proofs.Talks.{costs-append}
 use Rattle.antelope_run.proofs.Fronts.{HasFronts, all_front, entries_front, longer_front, whole_front}
 use Rattle.padded.proofs.Facts.{all_front as all_first}
 
-module _ {E : Type 0} (line : Line E) (has : HasFronts line) (talk : Talk E) (a b : Standing) (left left_now : Option (List ℕ)) (Lacks : Command → ℕ → Type 0) where
+module _ {E : Type 0} (line : Line E) (has : HasFronts line) (talk : Talk E) (a b : Standing) (left left_now : Option (List ℕ)) (limits : Limits) where
   -- the first entries cost no more than all
   first_cost : (entries rest all : List E) → all ≡ entries ++ rest → AllByRecursion (AsksToRead talk) all
       → (AllByRecursion (AsksToRead talk) entries → b.reads ≤ a.reads + talk_costs talk a.database a.aheads entries)
@@ -23,7 +23,7 @@ module _ {E : Type 0} (line : Line E) (has : HasFronts line) (talk : Talk E) (a 
       let sum = costs-append talk a.database a.aheads entries rest in
       subst (λ (es : List E). b.reads ≤ a.reads + talk_costs talk a.database a.aheads es) (sym is) (omega (arith, few, sum))
 
-  pub reads_few : (result : Result ⊤ InputEnding) → Went line talk a b left left_now Lacks result → (text : List ℕ) → left ≡ Some text → AllByRecursion (AsksToRead talk) (line.all text)
+  pub reads_few : (result : Result ⊤ InputEnding) → Went line talk a b left left_now limits result → (text : List ℕ) → left ≡ Some text → AllByRecursion (AsksToRead talk) (line.all text)
       → b.reads ≤ a.reads + talk_costs talk a.database a.aheads (line.all text)
   reads_few (Ok done) w text told all =
       let f = all_front line has text left left_now told w.bytes w.came w.at_end in

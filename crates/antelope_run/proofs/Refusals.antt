@@ -11,7 +11,7 @@ use Rattle.sound_image.specs.Images.{IsFirstBroken}
 use Rattle.antelope_run.specs.declared.came.Came.{Came}
 use Rattle.antelope_run.specs.declared.came.Came.TheVariants.{Refused, Unsaid}
 use Rattle.run_words.specs.declared.words.Form.{Form}
-use Rattle.antelope_run.specs.Comes.{ComesTo, HasCameCause, OnOpened, OnUnopened}
+use Rattle.antelope_run.specs.Comes.{BreaksBy, ComesTo, HasCameCause, OnOpened, OnUnopened}
 use Rattle.antelope_run.proofs.Finished.{wrote_within}
 
 module _ (came : Came) where
@@ -34,6 +34,10 @@ module _ (came : Came) where
         },
         unread,
       )
+
+  pub nothing_broken : (form : Form) (old new : World) → IsUnopened → BreaksBy form old new came
+  nothing_broken form old new (inl e) = subst (BreaksBy form old new) (sym e) tt
+  nothing_broken form old new (inr e) = subst (BreaksBy form old new) (sym e) tt
 
   pub none_opened : (P : Result ⊤ InputEnding → Type 0) → IsUnopened → OnOpened came P
   none_opened P (inl e) = subst (λ (k : Came). OnOpened k P) (sym e) tt

@@ -11,7 +11,7 @@ use Rattle.antelope_run.specs.declared.came.Came.{Came}
 use Rattle.antelope_run.specs.declared.came.Came.TheVariants.{Opened, Refused, Unsaid, Failed}
 use Rattle.run_words.specs.declared.words.Form.{Form}
 use Rattle.antelope_run.specs.Left.{LeavesBehind, status_of}
-use Rattle.antelope_run.specs.Statuses.{LeavesImage, TakesInput}
+use Rattle.antelope_run.specs.Statuses.{BrokenOff, LeavesImage, TakesInput}
 
 abbrev pub status_by : Came → ℕ
 status_by (Opened done) = status_of done
@@ -24,6 +24,12 @@ ComesTo form old new (Opened done) = IsSound old.image × LeavesBehind form old 
 ComesTo form old new Refused = Refuses old new
 ComesTo form old new Unsaid = RefusalUnsaid old new × (new.left ≡ old.left)
 ComesTo form old new Failed = LeavesImage old new × (new.held ≡ old.held)
+
+-- where failures are cuts: what is left where the flash failed
+abbrev pub BreaksBy : Form → World → World → Came → Type 0
+BreaksBy form old new (Opened (Err (Early Flash))) = IsSound old.image × BrokenOff form old new
+BreaksBy form old new Failed = LeavesImage old new
+BreaksBy form old new _ = ⊤
 
 -- how far the bytes of an input came: to their end, or one byte past the limit
 abbrev pub ReachesBy : Form → Result ⊤ InputEnding → (left left_now : Option (List ℕ)) → Type 0

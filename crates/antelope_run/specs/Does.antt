@@ -15,7 +15,7 @@ use Rattle.reply_text.specs.WroteLess.{WroteLess}
 use Rattle.afl_base.specs.declared.fault.Fault.{Fault}
 use Rattle.afl_base.specs.declared.fault.Fault.TheVariants as fault
 use Rattle.session_model.specs.Steps.{WrotePart}
-use Rattle.answering.specs.Carried.{Standing}
+use Rattle.answering.specs.Carried.{Limits, Standing}
 use Rattle.answering.specs.Went.{Went}
 use Rattle.run_model.specs.Line.{Line}
 use Rattle.run_model.specs.Talk.{AsksToRead, Talk, talk_costs}
@@ -36,11 +36,11 @@ Wrote held held_now text (Err Long) = ⊥
 
 module _ (old new : Standing) where
   -- given commands were carried out, and one line was written
-  abbrev pub Generates : (Command → ℕ → Type 0) → List Command → Result ⊤ InputEnding → Type 0
-  Generates Lacks commands (Ok done) = SummedUp commands old.database new.database old.held new.held
-  Generates Lacks commands (Err (Early halt)) = StopsCommands Lacks commands old.database new.database old.held new.held halt
-  Generates Lacks commands (Err Input) = ⊥
-  Generates Lacks commands (Err Long) = ⊥
+  abbrev pub Generates : Limits → List Command → Result ⊤ InputEnding → Type 0
+  Generates limits commands (Ok done) = SummedUp commands old.database new.database old.held new.held
+  Generates limits commands (Err (Early halt)) = StopsCommands limits commands old.database new.database old.held new.held halt
+  Generates limits commands (Err Input) = ⊥
+  Generates limits commands (Err Long) = ⊥
 
   -- a text was written, and the database stays
   abbrev pub WritesText : List ℕ → Result ⊤ InputEnding → Type 0
@@ -51,12 +51,12 @@ module _ (old new : Standing) where
   TellsOn result = result ≢ Err (Early Flash) → new.tells ≡ old.tells
 
   -- what was done of a form, on a flash of so many sectors
-  abbrev pub DoesForm : (sectors : ℕ) → (left left_now : Option (List ℕ)) → (Command → ℕ → Type 0) → Form → Result ⊤ InputEnding → Type 0
-  DoesForm sectors left left_now Lacks (Gen seed count) result = TellsOn result × Generates Lacks (first_commands seed count) result
-  DoesForm sectors left left_now Lacks (Plan rows) result = TellsOn result × WritesText (plan_reply old.database rows sectors) result
-  DoesForm sectors left left_now Lacks Dump result = TellsOn result × WritesText (script old.database) result
-  DoesForm sectors left left_now Lacks Look result = TellsOn result × WritesText (database_lines old.database) result
-  DoesForm sectors left left_now Lacks form result = OnInput form (λ E line talk. Went line talk old new left left_now Lacks result)
+  abbrev pub DoesForm : (sectors : ℕ) → (left left_now : Option (List ℕ)) → Limits → Form → Result ⊤ InputEnding → Type 0
+  DoesForm sectors left left_now limits (Gen seed count) result = TellsOn result × Generates limits (first_commands seed count) result
+  DoesForm sectors left left_now limits (Plan rows) result = TellsOn result × WritesText (plan_reply old.database rows sectors) result
+  DoesForm sectors left left_now limits Dump result = TellsOn result × WritesText (script old.database) result
+  DoesForm sectors left left_now limits Look result = TellsOn result × WritesText (database_lines old.database) result
+  DoesForm sectors left left_now limits form result = OnInput form (λ E line talk. Went line talk old new left left_now limits result)
 
 -- what an input whose entries only read makes a session read
 abbrev pub InputReads : Standing → Option (List ℕ) → ℕ → (E : Type 0) → Line E → Talk E → Type 0

@@ -17,7 +17,7 @@ use Rattle.dump.specs.Parts.{slots_of_all}
 use Rattle.dump_model.specs.Script.{script}
 use Rattle.look.specs.Text.{look_text}
 use Rattle.run_model.specs.Line.{Line}
-use Rattle.run_model.specs.Runs.{CarriedOut, FoundNoSpace, HasEnough, InputCutOff, InputEnded, InputFaulted, InputFoundNoSpace, InputTooLong, InputUnsaid, Machine, ReadsWithin, RefusalUnsaid, Refuses, SpaceUnsaid, StandsAfter, CameToLimit, World, WroteWithin, WroteInFront, machine_from}
+use Rattle.run_model.specs.Runs.{BreaksOffAt, CarriedOut, FoundNoSpace, HasEnough, InputBrokenOff, InputCutOff, InputEnded, InputFaulted, InputFoundNoSpace, InputTooLong, InputUnsaid, Machine, ReadsWithin, RefusalUnsaid, Refuses, SpaceUnsaid, StandsAfter, CameToLimit, World, WroteWithin, WroteInFront, machine_from}
 use Rattle.run_model.specs.Scripts.{script_line, script_talk}
 use Rattle.run_model.specs.Talk.{Talk}
 use Rattle.serve_model.specs.Frames.{frame_line}
@@ -109,6 +109,19 @@ Faulted Dump old new = LeavesImage old new × WroteInFront (dumped_text old.imag
 Faulted Look old new = LeavesImage old new × WroteInFront (look_text old.image) old.held new.held
 Faulted form old new = OnInput form (λ E line talk. InputFaulted line talk old new)
 
+-- 4, where failures are cuts: nothing was written of the line behind generated commands
+pub record LineBrokenOff (commands : List Command) (old new : World) : Type 0 where
+  pub front : List Command
+  pub breaks : BreaksOffAt (summed_from (base old.image)) commands front new.image
+  pub unsaid : new.held ≡ old.held
+
+abbrev pub BrokenOff : Form → World → World → Type 0
+BrokenOff (Gen seed count) old new = LineBrokenOff (first_commands seed count) old new
+BrokenOff (Plan rows) old new = LeavesImage old new
+BrokenOff Dump old new = LeavesImage old new
+BrokenOff Look old new = LeavesImage old new
+BrokenOff form old new = OnInput form (λ E line talk. InputBrokenOff line talk old new)
+
 -- 5
 abbrev pub Unsaid : Form → World → World → Type 0
 Unsaid (Gen seed count) old new =
@@ -144,6 +157,10 @@ FindsNoSpace words old new = IsSound old.image × OnForm words (λ form. Spacele
 -- 4: image, input and sink are as they were where no session was opened
 abbrev pub IsFaulted : Option Form → World → World → Type 0
 IsFaulted words old new = (LeavesImage old new × (new.held ≡ old.held)) ⊎ (IsSound old.image × OnForm words (λ form. Faulted form old new))
+
+-- 4, where failures are cuts
+abbrev pub EndsBrokenOff : Option Form → World → World → Type 0
+EndsBrokenOff words old new = LeavesImage old new ⊎ (IsSound old.image × OnForm words (λ form. BrokenOff form old new))
 
 -- 5: of the line of an image that is not sound, the input unread, or of what is written of a sound one
 abbrev pub IsUnsaid : Option Form → World → World → Type 0

@@ -8,8 +8,8 @@ ghost use Rattle.afl_base.specs.Causes.{Rose};
 ghost use Rattle.reply_text.specs.WroteLess.{WroteLess};
 ghost use Rattle.run_model.specs.Runs.{image_line, world};
 ghost use Rattle.sound_image.specs.Images.{IsSound};
-ghost use Rattle.antelope_run.specs.Comes.{ComesTo, HasCameCause, OnOpened, OnUnopened, ReachesBy, status_by};
-ghost use Rattle.antelope_run.specs.Statuses.{CausedBy, HasSpace, IsWithinLimit, IsStatus, BorrowsTheSame, LeftBy, ReadsAtMost, TakenBy, TakesInput};
+ghost use Rattle.antelope_run.specs.Comes.{BreaksBy, ComesTo, HasCameCause, OnOpened, OnUnopened, ReachesBy, status_by};
+ghost use Rattle.antelope_run.specs.Statuses.{CausedBy, EndsBrokenOff, HasSpace, IsWithinLimit, IsStatus, BorrowsTheSame, LeftBy, ReadsAtMost, TakenBy, TakesInput};
 ghost use Rattle.run_words.specs.Words.{HasFewCommands, form_of};
 ghost use Rattle.antelope_run.specs.declared.came.Came.TheVariants as AnyCame;
 
@@ -55,6 +55,9 @@ pub fn top<F: Flash, S: Source, K: Sink>(
     ensures told { IsTrue F.tells → LeftBy result.0 (form_of words.now)
         (world (F.image flash) (S.left script.old) (K.held out.old))
         (world (F.image result.1) (S.left script.new) (K.held out.new)) }
+    ensures broken_off { IsTrue F.tells → IsTrue F.cuts → result.0 ≡ 4 → EndsBrokenOff (form_of words.now)
+        (world (F.image flash) (S.left script.old) (K.held out.old))
+        (world (F.image result.1) (S.left script.new) (K.held out.new)) }
     ensures unsound { IsTrue F.tells → form_of words.now ≢ None → (IsSound (F.image flash) → ⊥)
         → (result.0 ≡ 4) ⊎ (result.0 ≡ 5) ⊎ (result.0 ≡ 6) }
     ensures no_fault { IsTrue F.tells → IsSound (F.image flash)
@@ -67,12 +70,42 @@ pub fn top<F: Flash, S: Source, K: Sink>(
         (world (F.image flash) (S.left script.old) (K.held out.old)) (F.reads result.1 - F.reads flash) }
 {
     match form(words) {
-        Some(form) => {
-            let (came, flash) = run_form(form, script, out, flash);
-            (status(came), flash)
-        }
+        Some(form) => carry(form, script, out, flash),
         None => (1, flash),
     }
+}
+
+/// Does what `top` does behind its words: carries out a form, and answers the status and the flash.
+pub fn carry<F: Flash, S: Source, K: Sink>(
+    form: Form,
+    input: &mut S,
+    out: &mut K,
+    flash: F,
+) -> (u8, F)
+    requires commands { HasFewCommands form }
+    ensures only { IsStatus result.0 × (result.0 ≢ 1) }
+    ensures caused { CausedBy result.0 (S.faults input.old) (S.faults input.new) (F.faults flash)
+        (F.faults result.1) (K.faults out.old) (K.faults out.new) }
+    ensures taken { TakenBy S.left result.0 (Some form) input.old input.new }
+    ensures kept { BorrowsTheSame F.Flash K.Sink flash result.1 out.old out.new }
+    ensures told { IsTrue F.tells → LeftBy result.0 (Some form)
+        (world (F.image flash) (S.left input.old) (K.held out.old))
+        (world (F.image result.1) (S.left input.new) (K.held out.new)) }
+    ensures broken_off { IsTrue F.tells → IsTrue F.cuts → result.0 ≡ 4 → EndsBrokenOff (Some form)
+        (world (F.image flash) (S.left input.old) (K.held out.old))
+        (world (F.image result.1) (S.left input.new) (K.held out.new)) }
+    ensures unsound { IsTrue F.tells → (IsSound (F.image flash) → ⊥)
+        → (result.0 ≡ 4) ⊎ (result.0 ≡ 5) ⊎ (result.0 ≡ 6) }
+    ensures no_fault { IsTrue F.tells → IsSound (F.image flash) → IsWithinLimit (Some form) (S.left input.old)
+        → (Rose (S.faults input.old) (S.faults input.new) → ⊥) → (Rose (F.faults flash) (F.faults result.1) → ⊥)
+        → (Rose (K.faults out.old) (K.faults out.new) → ⊥) → (result.0 ≡ 0) ⊎ (result.0 ≡ 3) }
+    ensures suffices { IsTrue F.tells → IsSound (F.image flash)
+        → HasSpace (Some form) (world (F.image flash) (S.left input.old) (K.held out.old)) → result.0 ≢ 3 }
+    ensures reads { IsTrue F.tells → ReadsAtMost (Some form)
+        (world (F.image flash) (S.left input.old) (K.held out.old)) (F.reads result.1 - F.reads flash) }
+{
+    let (came, flash) = run_form(form, input, out, flash);
+    (status(came), flash)
 }
 
 // The status that the program ends with.
@@ -99,6 +132,9 @@ fn run_form<F: Flash, S: Source, K: Sink>(
 ) -> (Came, F)
     requires commands { HasFewCommands form }
     ensures comes { IsTrue F.tells → ComesTo form
+        (world (F.image flash) (S.left input.old) (K.held out.old))
+        (world (F.image result.1) (S.left input.new) (K.held out.new)) result.0 }
+    ensures broken { IsTrue F.tells → IsTrue F.cuts → BreaksBy form
         (world (F.image flash) (S.left input.old) (K.held out.old))
         (world (F.image result.1) (S.left input.new) (K.held out.new)) result.0 }
     ensures reaches { OnOpened result.0 (λ done. ReachesBy form done (S.left input.old) (S.left input.new)) }

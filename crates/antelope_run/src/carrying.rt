@@ -3,8 +3,7 @@
 #![tactic(auto)]
 
 ghost use Rattle.std.specs.Prelude.{◌≡◌, ◌≢◌, ◌≤◌, ◌+◌, ◌*◌, false, true, ℕ, Err, IsTrue, Some, length};
-ghost use Rattle.answering.specs.Carried.{standing_of};
-ghost use Rattle.antelope_engine.specs.Commands.{LacksPages};
+ghost use Rattle.answering.specs.Carried.{limits_of, standing_of};
 ghost use Rattle.answering.specs.Went.{HasRunCause};
 ghost use Rattle.db_model.specs.Workload.{first_commands};
 ghost use Rattle.dump.specs.Parts.{slots_of_all};
@@ -42,7 +41,7 @@ pub fn carry_out<V: Files, S: Source, K: Sink>(
     ensures does { IsTrue (V.state session.old.files).tells → session.old.lost ≡ false
         → DoesForm (standing_of V.state V.reads session.old (K.held out.old))
         (standing_of V.state V.reads session.new (K.held out.new)) sectors (S.left input.old) (S.left input.new)
-        (LacksPages V.state V.asks V.lacks session.new) form result }
+        (limits_of V.Files session.new) form result }
     ensures reaches { ReachesBy form result (S.left input.old) (S.left input.new) }
     ensures lost { session.old.lost ≡ false → session.new.lost ≡ true
         → result ≡ Err (InputEnding.Early Ending.Flash) }
@@ -80,7 +79,7 @@ fn generate_all<V: Files, K: Sink>(
     ensures does { let old = standing_of V.state V.reads session.old (K.held out.old) in
         let new = standing_of V.state V.reads session.new (K.held out.new) in
         IsTrue (V.state session.old.files).tells → session.old.lost ≡ false → TellsOn old new result × Generates old new
-        (LacksPages V.state V.asks V.lacks session.new) (first_commands seed count) result }
+        (limits_of V.Files session.new) (first_commands seed count) result }
     ensures lost { session.old.lost ≡ false → session.new.lost ≡ true
         → result ≡ Err (InputEnding.Early Ending.Flash) }
     ensures store { length (V.state session.new.files).store ≡ length (V.state session.old.files).store }

@@ -7,4 +7,4 @@ mod carrying;
 mod closing;
 mod following;
 
-pub use call::top;
+pub use call::{carry, top};

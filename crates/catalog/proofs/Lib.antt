@@ -1,6 +1,7 @@
 pub mod Breaks
 pub mod Changes
 pub mod Choices
+pub mod Cuts
 pub mod Decoding
 pub mod Firsts
 pub mod Forming

@@ -1,9 +1,11 @@
 -- The file of the catalog, and what a change of it asks for.
-use Rattle.std.specs.Prelude.{◌≡◌, ℕ, ◌≤◌, ◌⊎◌, List, length, map, Option, option_map}
+use Rattle.std.specs.Prelude.{◌≡◌, ◌≢◌, ℕ, ◌+◌, ◌%◌, ◌≤◌, ◌⊎◌, List, length, map, take, Option, option_map}
+use Rattle.afl_base.specs.Fields.{put_at}
 use Rattle.afl_base.specs.Files.{Becomes, File, State, bytes_at}
+use Rattle.afl_base.specs.Frames.{SparesOthers}
 use Rattle.catalog.specs.declared.types.IndexEntry.{IndexEntry}
 use Rattle.db_model.specs.declared.schemas.Schema.{Schema}
-use Rattle.db_model.specs.Catalog.{Index, with_index_slot, with_relation_slot}
+use Rattle.db_model.specs.Catalog.{Index, with_index_slot, with_relation_slot, with_slot}
 use Rattle.space_model.specs.Wants.{room_for}
 
 -- ---- changes
@@ -23,6 +25,36 @@ PutsRelation old new cat slot relation = Becomes old new cat 1480 (with_relation
 
 abbrev pub PutsIndex : (old new : State) (cat slot : ℕ) → Option Index → Type 0
 PutsIndex old new cat slot index = Becomes old new cat 1480 (with_index_slot (bytes_at old.files cat) slot index)
+
+-- ---- changes that broke off
+
+-- the bytes are the first ones of the catalog with the slot: it was empty, or no more than its mark
+-- was to come
+pub record IsFrontOfCatalog (old : List ℕ) (at : ℕ) (slot now : List ℕ) : Type 0 where
+  pub done : ℕ
+  pub first : (length old ≡ 0) ⊎ (1472 ≤ done)
+  pub is : now ≡ take done (with_slot old at slot)
+
+-- of the slot a front part stands in a catalog that was not empty: none, all, or the bytes up to where
+-- a region ends
+pub record HasFrontOfSlot (old : List ℕ) (at : ℕ) (slot now : List ℕ) : Type 0 where
+  pub done : ℕ
+  pub within : done ≤ length slot
+  pub whole : (done ≡ 0) ⊎ ((done ≡ length slot) ⊎ ((at + done) % 128 ≡ 0))
+  pub some : 1472 ≤ length old
+  pub is : now ≡ put_at old at (take done slot)
+
+-- what a change of a slot that broke off leaves of the bytes of a catalog
+abbrev pub ReplacesFront : (old : List ℕ) (at : ℕ) (slot now : List ℕ) → Type 0
+ReplacesFront old at slot now = IsFrontOfCatalog old at slot now ⊎ HasFrontOfSlot old at slot now
+
+-- the file of the catalog has such bytes, and no other file has changed
+abbrev pub MayReplace : (old after : State) (cat at : ℕ) (slot : List ℕ) → Type 0
+MayReplace old after cat at slot =
+    SparesOthers old after (λ k. k ≢ cat)
+    × ReplacesFront (bytes_at old.files cat) at slot (bytes_at after.files cat)
+
+-- ---- what entries say
 
 -- what an entry says of an index
 abbrev pub index_in : IndexEntry → Index

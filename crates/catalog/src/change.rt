@@ -1,8 +1,9 @@
-ghost use Rattle.std.specs.Prelude.{◌≡◌, ◌+◌, ◌-◌, ◌*◌, ◌≤◌, OnOk, Some, None, length, slice_index};
+ghost use Rattle.std.specs.Prelude.{◌≡◌, ◌+◌, ◌-◌, ◌*◌, ◌≤◌, IsTrue, OnErr, OnOk, Some, None, length, slice_index};
+ghost use Rattle.afl_base.specs.CutFiles.{MendsToState};
 ghost use Rattle.afl_base.specs.Keeping.{Changes};
 ghost use Rattle.afl_base.specs.Files.{Becomes, IsLive, bytes_at, file_at};
-ghost use Rattle.db_model.specs.Catalog.{with_slot};
-ghost use Rattle.catalog.specs.CatalogFile.{IsCatalogSize, IsPrepared, PutsIndex, PutsRelation, index_in};
+ghost use Rattle.db_model.specs.Catalog.{index_slot_bytes, relation_slot_bytes, with_slot};
+ghost use Rattle.catalog.specs.CatalogFile.{IsCatalogSize, IsPrepared, MayReplace, PutsIndex, PutsRelation, index_in};
 ghost use Rattle.space_model.specs.Wants.{room_for};
 
 use crate::slots::{
@@ -29,7 +30,7 @@ pub fn room_for(size: u32, at: u32, len: u32) -> (u16, u32)
 }
 
 /// Puts the schema into a relation slot. All other slots stay. A catalog that was empty or of version
-/// 1 is of version 2 afterwards. After `Failed` nothing is known of the files.
+/// 1 is of version 2 afterwards. After `Failed` nothing is known of the files but what a cut leaves.
 pub fn put_relation<V: Files>(
     files: &mut V,
     cat: FileId,
@@ -41,6 +42,10 @@ pub fn put_relation<V: Files>(
     requires prepared { IsPrepared (file_at (V.state files.old).files cat) (176 * id) 176 }
     ensures put { OnOk result
         (PutsRelation (V.state files.old) (V.state files.new) cat id (Some schema.now)) }
+    ensures cut { IsTrue V.cuts → IsTrue (V.state files.old).tells → OnErr result
+        (MendsToState V.mends (V.state files.new).store
+        (λ after. MayReplace (V.state files.old) after cat (176 * id)
+        (relation_slot_bytes (Some schema.now)))) }
     ensures frame { Changes V.state V.lent V.reads V.faults files.old files.new result }
 {
     replace(
@@ -52,12 +57,15 @@ pub fn put_relation<V: Files>(
 }
 
 /// Empties a relation slot. All other slots stay. A catalog that was empty or of version 1 is of
-/// version 2 afterwards. After `Failed` nothing is known of the files.
+/// version 2 afterwards. After `Failed` nothing is known of the files but what a cut leaves.
 pub fn clear_relation<V: Files>(files: &mut V, cat: FileId, id: RelationId) -> Result<(), Failed>
     requires live { IsLive (V.state files.old).files cat }
     requires form { IsCatalogSize (length (bytes_at (V.state files.old).files cat)) }
     requires prepared { IsPrepared (file_at (V.state files.old).files cat) (176 * id) 176 }
     ensures cleared { OnOk result (PutsRelation (V.state files.old) (V.state files.new) cat id None) }
+    ensures cut { IsTrue V.cuts → IsTrue (V.state files.old).tells → OnErr result
+        (MendsToState V.mends (V.state files.new).store
+        (λ after. MayReplace (V.state files.old) after cat (176 * id) (relation_slot_bytes None))) }
     ensures frame { Changes V.state V.lent V.reads V.faults files.old files.new result }
 {
     let slot: [u8; 176] = unused_slot();
@@ -65,7 +73,7 @@ pub fn clear_relation<V: Files>(files: &mut V, cat: FileId, id: RelationId) -> R
 }
 
 /// Puts the entry into an index slot. All other slots stay. A catalog that was empty or of version 1
-/// is of version 2 afterwards. After `Failed` nothing is known of the files.
+/// is of version 2 afterwards. After `Failed` nothing is known of the files but what a cut leaves.
 pub fn put_index<V: Files>(
     files: &mut V,
     cat: FileId,
@@ -77,6 +85,10 @@ pub fn put_index<V: Files>(
     requires prepared { IsPrepared (file_at (V.state files.old).files cat) (1408 + 8 * id) 8 }
     ensures put { OnOk result
         (PutsIndex (V.state files.old) (V.state files.new) cat id (Some (index_in entry.now))) }
+    ensures cut { IsTrue V.cuts → IsTrue (V.state files.old).tells → OnErr result
+        (MendsToState V.mends (V.state files.new).store
+        (λ after. MayReplace (V.state files.old) after cat (1408 + 8 * id)
+        (index_slot_bytes (Some (index_in entry.now))))) }
     ensures frame { Changes V.state V.lent V.reads V.faults files.old files.new result }
 {
     replace(
@@ -88,12 +100,16 @@ pub fn put_index<V: Files>(
 }
 
 /// Empties an index slot. All other slots stay. A catalog that was empty or of version 1 is of version
-/// 2 afterwards. After `Failed` nothing is known of the files.
+/// 2 afterwards. After `Failed` nothing is known of the files but what a cut leaves.
 pub fn clear_index<V: Files>(files: &mut V, cat: FileId, id: IndexId) -> Result<(), Failed>
     requires live { IsLive (V.state files.old).files cat }
     requires form { IsCatalogSize (length (bytes_at (V.state files.old).files cat)) }
     requires prepared { IsPrepared (file_at (V.state files.old).files cat) (1408 + 8 * id) 8 }
     ensures cleared { OnOk result (PutsIndex (V.state files.old) (V.state files.new) cat id None) }
+    ensures cut { IsTrue V.cuts → IsTrue (V.state files.old).tells → OnErr result
+        (MendsToState V.mends (V.state files.new).store
+        (λ after. MayReplace (V.state files.old) after cat (1408 + 8 * id)
+        (index_slot_bytes None))) }
     ensures frame { Changes V.state V.lent V.reads V.faults files.old files.new result }
 {
     let slot: [u8; 8] = unused_slot();
@@ -110,6 +126,9 @@ fn replace<V: Files>(files: &mut V, cat: FileId, at: u32, slot: &[u8]) -> Result
     requires prepared { IsPrepared (file_at (V.state files.old).files cat) at (length slot.now) }
     ensures replaced { OnOk result (Becomes (V.state files.old) (V.state files.new) cat 1480
         (with_slot (bytes_at (V.state files.old).files cat) at slot.now)) }
+    ensures cut { IsTrue V.cuts → IsTrue (V.state files.old).tells → OnErr result
+        (MendsToState V.mends (V.state files.new).store
+        (λ after. MayReplace (V.state files.old) after cat at slot.now)) }
     ensures frame { Changes V.state V.lent V.reads V.faults files.old files.new result }
 {
     let size = files.size(cat);

@@ -34,7 +34,7 @@ use Rattle.coffee_cuts.specs.Mending.{IsTable, MendsToTable}
 use Rattle.coffee_cuts.proofs.Fronts.{actives, actives_append, idle_extent, marked_by, stand_append, stand_kept, walk_front}
 use Rattle.coffee_cuts.proofs.Mended.{mends_holding}
 use Rattle.coffee_cuts.proofs.Reached.{same_unit}
-use Rattle.coffee_cuts.proofs.SoundImages.{free_page, zero_part, zeros_from}
+use Rattle.coffee_cuts.proofs.ZeroPages.{free_page, zero_part, zeros_from}
 use Rattle.coffee_cuts.proofs.ZeroedHeads.{IsZeroed, zeroed_extent, zeroed_isolated}
 
 -- AN EXTENT THAT IS NOT ACTIVE

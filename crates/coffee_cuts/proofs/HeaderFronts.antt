@@ -16,7 +16,7 @@ use Rattle.coffee_merge.proofs.HeaderMarks.{header_ninth}
 use Rattle.padded.specs.Padded.{padded}
 use Rattle.padded.specs.Zeros.{is_zeros}
 use Rattle.padded.proofs.Facts.{both_parts, either_part, true_eq, true_le}
-use Rattle.coffee_cuts.proofs.SoundImages.{flags_of_zero}
+use Rattle.coffee_cuts.proofs.ZeroPages.{flags_of_zero}
 
 -- BYTES OF A HEADER
 

@@ -42,7 +42,7 @@ use Rattle.coffee_cuts.specs.Cuts.{Beginning, Building, IsTornHeader, Unnamed}
 use Rattle.coffee_cuts.specs.Mending.{IsTable, MendsToTable}
 use Rattle.coffee_cuts.proofs.HeaderFronts.{IsFrontOf, free_head, front_whole, part_header}
 use Rattle.coffee_cuts.proofs.Mended.{mends_holding, whole_mends}
-use Rattle.coffee_cuts.proofs.SoundImages.{free_pages_zero, zero_part, zeros_from}
+use Rattle.coffee_cuts.proofs.ZeroPages.{free_pages_zero, zero_part, zeros_from}
 
 -- AN EXTENT THAT BEGAN
 

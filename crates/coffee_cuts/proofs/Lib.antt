@@ -1,16 +1,21 @@
 mod AlikeFiles
-mod BrokenOff
+pub mod BrokenOff
 mod Collections
-mod Commits
-mod Drafts
+pub mod Commits
+pub mod Drafts
 mod EraseCuts
 mod Fronts
 mod HeaderFronts
 mod Headers
 mod Logs
-mod Mended
+pub mod MarkedPages
+pub mod Mended
+pub mod OneSettling
 pub mod Reached
-pub mod SettledImages
-pub mod SoundImages
+pub mod SettledRules
+pub mod TornBeginnings
+pub mod TornContents
 mod TornRecords
+pub mod TwoMarks
+pub mod ZeroPages
 pub mod ZeroedHeads

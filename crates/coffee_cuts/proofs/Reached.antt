@@ -16,7 +16,7 @@ pub same_unit : (u v : Unit) → Some u ≡ Some v → u ≡ v
 same_unit u v e = cc
 
 -- a walk ends where no unit begins
-units_stop : (turns : ℕ) (image : List ℕ) (page : ℕ) → page < pages_of image → unit_at image page ≡ None → units_from (suc turns) image page ≡ []
+pub units_stop : (turns : ℕ) (image : List ℕ) (page : ℕ) → page < pages_of image → unit_at image page ≡ None → units_from (suc turns) image page ≡ []
 units_stop turns image page before e = rw (lt_true page (pages_of image) before, e) refl
 
 -- nothing begins before the first
@@ -68,12 +68,12 @@ kept_at image (v ∷ us) from page free u k e = ⊎_elim
     (λ (there : from ≢ page). kept_at image us (from + size_of v) page (is_free v) u k.2 (sym (begun_there v us from page there) ∙ e))
     (cases_eq from page)
 
--- where all heads before a page agree, and a unit of the other image begins there, so does one of a tiled image
-pub reach : (image other : List ℕ) (us : List Unit) (turns from page : ℕ) (free : Bool) (u : Unit) → pages_of other ≡ pages_of image
-    → ((p : ℕ) → p < page → unit_at other p ≡ unit_at image p) → KeepRules nowhere image from free us → from + total us ≡ pages_of image
+-- where the units at all pages before one have the same sizes, and a unit of the other image begins there, so does one of a tiled image
+pub sizes_reach : (image other : List ℕ) (us : List Unit) (turns from page : ℕ) (free : Bool) (u : Unit) → page < pages_of other
+    → ((p : ℕ) (v w : Unit) → p < page → unit_at other p ≡ Some v → unit_at image p ≡ Some w → size_of v ≡ size_of w) → KeepRules nowhere image from free us → from + total us ≡ pages_of image
     → page < pages_of image → from ≤ page → unit_begun (units_from turns other from) from page ≡ Some u → IsReached image us from page
-reach image other [] turns from page free u size heads k whole within low e = absurd (omega (arith, whole, within, low))
-reach image other (v ∷ us) turns from page free u size heads k whole within low e = ⊎_elim
+sizes_reach image other [] turns from page free u size heads k whole within low e = absurd (omega (arith, whole, within, low))
+sizes_reach image other (v ∷ us) turns from page free u size heads k whole within low e = ⊎_elim
     (λ (here : from ≡ page). record {
       unit = v;
       free = free;
@@ -81,21 +81,37 @@ reach image other (v ∷ us) turns from page free u size heads k whole within lo
       there = ap (unit_at image) (sym here) ∙ k.0;
       kept = ap (λ p. broken_at nowhere image p free) (sym here) ∙ k.1;
     })
-    (λ (there : from ≢ page). by_turns turns there e (λ n low f. reach image other us n (from + size_of v) page (is_free v) u size heads k.2 (omega (arith, whole)) within low f))
+    (λ (there : from ≢ page). by_turns turns there e (λ n low f. sizes_reach image other us n (from + size_of v) page (is_free v) u size heads k.2 (omega (arith, whole)) within low f))
     (cases_eq from page)
   where
+    by_unit : (m : ℕ) → from ≢ page → (o : Option Unit) → unit_at other from ≡ o → unit_begun (units_from (suc m) other from) from page ≡ Some u
+        → ((n : ℕ) → from + size_of v ≤ page → unit_begun (units_from n other (from + size_of v)) (from + size_of v) page ≡ Some u → IsReached image us (from + size_of v) page)
+        → IsReached image (v ∷ us) from page
+    by_unit m there None is f rest = no_unit u (sym (ap (λ vs. unit_begun vs from page) (units_stop m other from (omega (arith, low, there, size)) is)) ∙ f)
+    by_unit m there (Some w) is f rest =
+        let less : from < page = omega (arith, low, there) in
+        let same : size_of w ≡ size_of v = heads from w v less is k.0 in
+        let step = units_step m other from w (omega (arith, size, less)) is in
+        let on : unit_begun (units_from m other (from + size_of w)) (from + size_of w) page ≡ Some u =
+        sym (begun_there w (units_from m other (from + size_of w)) from page there) ∙ ap (λ vs. unit_begun vs from page) (sym step) ∙ f in
+        let moved : unit_begun (units_from m other (from + size_of v)) (from + size_of v) page ≡ Some u = subst (λ n. unit_begun (units_from m other (from + n)) (from + n) page ≡ Some u) same on in
+        let next : from + size_of v ≤ page = ⊎_elim
+        (λ (past : page < from + size_of v). no_unit u (sym (begun_past (units_from m other (from + size_of v)) (from + size_of v) page past) ∙ moved))
+        (λ (good : from + size_of v ≤ page). good)
+        (cases_lt page (from + size_of v)) in
+        let r = rest m next moved in
+        record { unit = r.unit; free = r.free; begun = begun_there v us from page there ∙ r.begun; there = r.there; kept = r.kept }
+
     by_turns : (n : ℕ) → from ≢ page → unit_begun (units_from n other from) from page ≡ Some u
         → ((m : ℕ) → from + size_of v ≤ page → unit_begun (units_from m other (from + size_of v)) (from + size_of v) page ≡ Some u → IsReached image us (from + size_of v) page)
         → IsReached image (v ∷ us) from page
     by_turns zero there f rest = no_unit u f
-    by_turns (suc m) there f rest =
-        let less : from < page = omega (arith, low, there) in
-        let step = units_step m other from v (omega (arith, size, within, less)) (heads from less ∙ k.0) in
-        let on : unit_begun (units_from m other (from + size_of v)) (from + size_of v) page ≡ Some u =
-        sym (begun_there v (units_from m other (from + size_of v)) from page there) ∙ ap (λ vs. unit_begun vs from page) (sym step) ∙ f in
-        let next : from + size_of v ≤ page = ⊎_elim
-        (λ (past : page < from + size_of v). no_unit u (sym (begun_past (units_from m other (from + size_of v)) (from + size_of v) page past) ∙ on))
-        (λ (good : from + size_of v ≤ page). good)
-        (cases_lt page (from + size_of v)) in
-        let r = rest m next on in
-        record { unit = r.unit; free = r.free; begun = begun_there v us from page there ∙ r.begun; there = r.there; kept = r.kept }
+    by_turns (suc m) there f rest = by_unit m there (unit_at other from) refl f rest
+
+-- where all heads before a page agree, and a unit of the other image begins there, so does one of a tiled image
+pub reach : (image other : List ℕ) (us : List Unit) (turns from page : ℕ) (free : Bool) (u : Unit) → pages_of other ≡ pages_of image
+    → ((p : ℕ) → p < page → unit_at other p ≡ unit_at image p) → KeepRules nowhere image from free us → from + total us ≡ pages_of image
+    → page < pages_of image → from ≤ page → unit_begun (units_from turns other from) from page ≡ Some u → IsReached image us from page
+reach image other us turns from page free u size heads k whole within low e =
+    sizes_reach image other us turns from page free u (omega (arith, size, within))
+    (λ p v w less is there. ap size_of (same_unit v w (sym is ∙ heads p less ∙ there))) k whole within low e

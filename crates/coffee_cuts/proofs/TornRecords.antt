@@ -31,16 +31,26 @@ use Rattle.coffee_merge.proofs.SoundLogs.{used_is}
 use Rattle.coffee_merge.proofs.SoundUnits.{Among}
 use Rattle.flash_range.specs.Range.{Outside}
 use Rattle.padded.proofs.Facts.{none_some, some_same}
-use Rattle.coffee_cuts.specs.Cuts.{HasTornRecord, Nothing}
-use Rattle.coffee_cuts.specs.Mending.{IsTable, MendsToPut}
+use Rattle.coffee_cuts.specs.Cuts.{HasTornRecord, IsSettled}
+use Rattle.coffee_cuts.specs.Mending.{IsTable}
 use Rattle.coffee_cuts.proofs.AlikeFiles.{AreAlike, alike_byte, alike_file, alike_number, bytes_alike, few_more, used_file, used_now}
 use Rattle.coffee_cuts.proofs.Mended.{file_stays, named, sparing_set}
 
 -- a byte that is put on the last place of a file is not zero
-abbrev EndsSome : (size at : ℕ) → List ℕ → Type 0
+abbrev pub EndsSome : (size at : ℕ) → List ℕ → Type 0
 EndsSome size at bytes = (k : ℕ) → k < length bytes → at + k + 1 ≡ size → slice_index bytes k ≢ 0
 
-map_among : (f g : Placed → NamedFile) (es : List Placed) → ((e : Placed) → Among e es → f e ≡ g e) → map f es ≡ map g es
+-- an image is settled, and has just the files of a table, of which one has some bytes put into it from a place on
+pub record SettlesPut (whole new : List ℕ) (table : Entries) (i : ℕ) (e : FileAt) (at : ℕ) (bytes : List ℕ) : Type 0 where
+  pub size : ℕ
+  pub used : ℕ
+  pub settles : IsSettled new
+  pub each : (k : ℕ) (f : FileAt) → IsIn (set table i (Some (record e { size = size; used = used }))) k f → Contains (files_of new) (file_of new f)
+  pub only : (f : NamedFile) → Contains (files_of new) f → (k : ℕ) × (g : FileAt) × IsIn (set table i (Some (record e { size = size; used = used }))) k g × (f ≡ file_of new g)
+  pub put : Puts (file_byte whole e.page.0 e.log) (file_byte new e.page.0 e.log) (256 * e.pages - 32) at bytes
+  pub others : (k : ℕ) (f : FileAt) → k ≢ i → IsIn table k f → file_of new f ≡ file_of whole f
+
+pub map_among : (f g : Placed → NamedFile) (es : List Placed) → ((e : Placed) → Among e es → f e ≡ g e) → map f es ≡ map g es
 map_among f g [] same = refl
 map_among f g (e ∷ es) same = ap (λ x. x ∷ map f es) (same e (inl refl)) ∙ ap (λ xs. g e ∷ xs) (map_among f g es (λ x a. same x (inr a)))
 
@@ -143,18 +153,13 @@ module _ (whole new : List ℕ) (table : Entries) (i : ℕ) (e : FileAt) (at : �
     clear_others k f other there = file_stays whole clear f (t.holds.stored k f there) (sets.holds.stored k f (is_in_there table i (Some now) k f other there)) (sets.others k f other there)
 
     -- no record is torn
-    whole_put : new ≡ clear → MendsToPut whole new table i e at bytes
-    whole_put none = subst (λ image. MendsToPut whole image table i e at bytes) (sym none) (record {
-      done = c.done;
+    whole_put : new ≡ clear → SettlesPut whole new table i e at part
+    whole_put none = subst (λ image. SettlesPut whole image table i e at part) (sym none) (record {
       size = size;
       used = used;
-      within = c.within;
-      mends = record {
-        files = files_of clear;
-        mends = record { under_way = Nothing; found = tt; settles = inl clear_sound; files_are = refl };
-        each = λ k f there. entry_file clear after k f sets.holds there;
-        only = λ f has. file_entry clear after f sets.holds has;
-      };
+      settles = inl clear_sound;
+      each = λ k f there. entry_file clear after k f sets.holds there;
+      only = λ f has. file_entry clear after f sets.holds has;
       put = put;
       others = clear_others;
     })
@@ -286,22 +291,17 @@ module _ (whole new : List ℕ) (table : Entries) (i : ℕ) (e : FileAt) (at : �
           sound = ap (λ n. broken_image (zeros_at new (record_place l.0 n) 128)) in_use ∙ clear_sound zeroed alike zeroed_long;
         }
 
-    torn_put : MendsToPut whole new table i e at bytes
+    torn_put : SettlesPut whole new table i e at part
     torn_put =
         let p = put zeroed alike zeroed_long in
         let n = part_long in
         let w = c.within in
         record {
-          done = c.done;
           size = size zeroed alike zeroed_long;
           used = used zeroed alike zeroed_long;
-          within = c.within;
-          mends = record {
-            files = files_of new;
-            mends = record { under_way = Nothing; found = tt; settles = inr torn_record; files_are = refl };
-            each = λ k f there. subst (Contains (files_of new)) (sym (same_file k f there)) (subst (λ fs. Contains fs (file_of zeroed f)) (sym files_same) (entry_file zeroed all k f holds there));
-            only = λ f has. let r = file_entry zeroed all f holds (subst (λ fs. Contains fs f) files_same has) in (r.0, r.1, r.2, r.3 ∙ sym (same_file r.0 r.1 r.2));
-          };
+          settles = inr torn_record;
+          each = λ k f there. subst (Contains (files_of new)) (sym (same_file k f there)) (subst (λ fs. Contains fs (file_of zeroed f)) (sym files_same) (entry_file zeroed all k f holds there));
+          only = λ f has. let r = file_entry zeroed all f holds (subst (λ fs. Contains fs f) files_same has) in (r.0, r.1, r.2, r.3 ∙ sym (same_file r.0 r.1 r.2));
           put = record {
             here = λ k low. same_byte (at + k) (omega (arith, low, n, w, room)) ∙ p.here k low;
             others = λ q low out. same_byte q (omega (arith, low)) ∙ p.others q low out;
@@ -310,10 +310,10 @@ module _ (whole new : List ℕ) (table : Entries) (i : ℕ) (e : FileAt) (at : �
         }
 
   -- nothing is torn where there is no record left, or no log
-  untorn_put : ((k : ℕ) → OutsideNext e.log c.records k) → MendsToPut whole new table i e at bytes
+  untorn_put : ((k : ℕ) → OutsideNext e.log c.records k) → SettlesPut whole new table i e at part
   untorn_put out = whole_put new (λ k. c.torn k (out k)) long refl
 
-  by_log : (o : Option PageId) → e.log ≡ o → MendsToPut whole new table i e at bytes
+  by_log : (o : Option PageId) → e.log ≡ o → SettlesPut whole new table i e at part
   by_log None none = untorn_put (λ k l named few. absurd (none_some l (sym none ∙ named)))
   by_log (Some l) log = ⊎_elim
       (λ (few : c.records < 30). torn_put l log few)
@@ -321,18 +321,5 @@ module _ (whole new : List ℕ) (table : Entries) (i : ℕ) (e : FileAt) (at : �
       (cases_lt c.records 30)
 
   -- the file has a front part of the bytes, and all others are as they were
-  pub put_mends : MendsToPut whole new table i e at bytes
-  put_mends = by_log e.log refl
-
--- an overwrite stays below the size
-pub overwritten_mends : (whole new : List ℕ) (table : Entries) (i : ℕ) (e : FileAt) (at : ℕ) (bytes : List ℕ) → IsTable whole table None → IsIn table i e → length new ≡ length whole → at + length bytes ≤ e.size
-    → (at + length bytes ≡ e.size → slice_index bytes (length bytes - 1) ≢ 0) → IsFileCut whole new e.page.0 e.pages e.log e.size at bytes → MendsToPut whole new table i e at bytes
-overwritten_mends whole new table i e at bytes t is long low last c =
-    let room = (t.holds.stored i e is).fits.size in
-    put_mends whole new table i e at bytes t is long c
-    (λ k less end. let back : length bytes - 1 ≡ k = omega (arith, less, end, low) in subst (λ n. slice_index bytes n ≢ 0) back (last (omega (arith, less, end, low)))) (omega (arith, low, room))
-
--- an append begins at the size
-pub appended_mends : (whole new : List ℕ) (table : Entries) (i : ℕ) (e : FileAt) (bytes : List ℕ) → IsTable whole table None → IsIn table i e → length new ≡ length whole → e.size + length bytes + 32 ≤ 256 * e.pages
-    → IsFileCut whole new e.page.0 e.pages e.log e.size e.size bytes → MendsToPut whole new table i e e.size bytes
-appended_mends whole new table i e bytes t is long room c = put_mends whole new table i e e.size bytes t is long c (λ k less end. absurd (omega (arith, end))) room
+  pub put_settles : SettlesPut whole new table i e at part
+  put_settles = by_log e.log refl

@@ -25,7 +25,7 @@ pub record IsZeroed (old new : List ℕ) (r : ℕ) : Type 0 where
 
 -- ISOLATED PAGES
 
-marked_ninth : (bytes : List ℕ) → unit_of bytes ≡ Some Isolated → bit_and (slice_index bytes 9) 34 == 34 ≡ true
+pub marked_ninth : (bytes : List ℕ) → unit_of bytes ≡ Some Isolated → bit_and (slice_index bytes 9) 34 == 34 ≡ true
 unfolding unit_of
 marked_ninth bytes e = turn (is_zeros bytes) (bit_and (slice_index bytes 9) 34 == 34) (header_of bytes) e
   where

@@ -1,5 +1,5 @@
 -- What it means that an image mends to the files of a table, which another image holds.
-use Rattle.std.specs.Prelude.{◌≡◌, ◌≢◌, ℕ, ◌-◌, ◌*◌, ◌≤◌, true, List, length, set, take, Option, Some, None}
+use Rattle.std.specs.Prelude.{◌≡◌, ◌≢◌, ℕ, ◌-◌, ◌*◌, ◌≤◌, true, List, length, set, Option, Some, None}
 use Rattle.std.specs.List.{Contains}
 use Rattle.coffee_layout.specs.FileBytes.{file_byte}
 use Rattle.coffee_layout.specs.Files.{NamedFile}
@@ -38,12 +38,10 @@ EndsRight image d = 1 ≤ d.size → file_byte image d.page.0 None (d.size - 1) 
 abbrev pub as_file : FileAt → FileAt
 as_file d = record d { used = 0 }
 
--- an image mends to the files of a table, of which one has a front part of some bytes put into it from a place on
+-- an image mends to the files of a table, of which one has some bytes put into it from a place on
 pub record MendsToPut (whole new : List ℕ) (table : Entries) (i : ℕ) (e : FileAt) (at : ℕ) (bytes : List ℕ) : Type 0 where
-  pub done : ℕ
   pub size : ℕ
   pub used : ℕ
-  pub within : done ≤ length bytes
   pub mends : MendsToTable new new (set table i (Some (record e { size = size; used = used })))
-  pub put : Puts (file_byte whole e.page.0 e.log) (file_byte new e.page.0 e.log) (256 * e.pages - 32) at (take done bytes)
+  pub put : Puts (file_byte whole e.page.0 e.log) (file_byte new e.page.0 e.log) (256 * e.pages - 32) at bytes
   pub others : (k : ℕ) (f : FileAt) → k ≢ i → IsIn table k f → file_of new f ≡ file_of whole f

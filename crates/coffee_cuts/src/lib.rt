@@ -6,8 +6,12 @@ mod torn;
 
 ghost use Rattle.std.specs.Prelude.{◌≡◌, ◌*◌, ℕ, List, None, length};
 ghost use Rattle.coffee_cuts.specs.Cuts.{MendsTo};
+ghost use Rattle.coffee_cuts.specs.Mending.{MendsToTable};
 ghost use Rattle.coffee_layout.specs.Files.{NamedFile, files_of};
 ghost use Rattle.coffee_layout.specs.Rules.{broken_image};
+ghost use Rattle.coffee_layout.specs.declared.file.FileAt.{FileAt};
+ghost use Rattle.coffee_merge.specs.Holding.{Entries, IsIn};
+ghost use Rattle.coffee_merge.specs.TableFiles.{file_of};
 
 pub use torn::{
     broken_off_files_mend, held_images_mend, torn_collections_mend, torn_commits_mend,
@@ -21,4 +25,14 @@ pub fn sound_images_mend_to_their_files()
     ensures mends { (image : List ℕ) → broken_image image ≡ None → MendsTo image (files_of image) }
     ensures only { (image : List ℕ) (files : List NamedFile) (sectors : ℕ) → length image ≡ 4096 * sectors
         → broken_image image ≡ None → MendsTo image files → files ≡ files_of image }
+{}
+
+/// An image of whole sectors mends to one list of files at most, in page order, whatever is found in it of what was
+/// under way. So each file of a table that it mends to is one of any other such table.
+pub fn cut_images_mend_to_one_list()
+    ensures files { (image : List ℕ) (files others : List NamedFile) (sectors : ℕ) → length image ≡ 4096 * sectors
+        → MendsTo image files → MendsTo image others → files ≡ others }
+    ensures tables { (image first second : List ℕ) (table other : Entries) (sectors : ℕ) → length image ≡ 4096 * sectors
+        → MendsToTable image first table → MendsToTable image second other
+        → (i : ℕ) (e : FileAt) → IsIn table i e → (k : ℕ) × (f : FileAt) × IsIn other k f × (file_of first e ≡ file_of second f) }
 {}

@@ -1,6 +1,6 @@
 //! Laws: what a call that broke off leaves of an image that holds a table mends to the files of the table.
 
-ghost use Rattle.std.specs.Prelude.{◌≡◌, ◌≢◌, ◌+◌, ◌-◌, ◌*◌, ◌≤◌, ◌<◌, ◌⊎◌, List, length, None, Option, Some, set, slice_index, slice_index_or, true, ℕ};
+ghost use Rattle.std.specs.Prelude.{◌≡◌, ◌≢◌, ◌+◌, ◌-◌, ◌*◌, ◌≤◌, ◌<◌, ◌⊎◌, List, length, None, Option, Some, set, slice_index, slice_index_or, take, true, ℕ};
 ghost use Rattle.coffee_layout.specs.Walks.{has_few};
 ghost use Rattle.coffee_layout.specs.declared.file.FileAt.{FileAt};
 ghost use Rattle.coffee_log.specs.FileCuts.{IsFileCut};
@@ -70,14 +70,16 @@ pub fn torn_removals_mend()
 /// An overwrite or an append that broke off has put a front part of its bytes into the file. A record that was
 /// being written may be torn: then the image is sound but for that.
 pub fn torn_contents_mend()
-    ensures overwritten { (whole new : List ℕ) (table : Entries) (i : ℕ) (e : FileAt) (at : ℕ) (bytes : List ℕ)
-        → IsTable whole table None → IsIn table i e → length new ≡ length whole → at + length bytes ≤ e.size
+    ensures overwritten { (whole new : List ℕ) (table : Entries) (draft : Option FileAt) (i : ℕ) (e : FileAt)
+        (at : ℕ) (bytes : List ℕ) → IsTable whole table draft → IsIn table i e → length new ≡ length whole → at + length bytes ≤ e.size
         → (at + length bytes ≡ e.size → slice_index bytes (length bytes - 1) ≢ 0)
-        → IsFileCut whole new e.page.0 e.pages e.log e.size at bytes → MendsToPut whole new table i e at bytes }
-    ensures appended { (whole new : List ℕ) (table : Entries) (i : ℕ) (e : FileAt) (bytes : List ℕ)
-        → IsTable whole table None → IsIn table i e → length new ≡ length whole
+        → (cut : IsFileCut whole new e.page.0 e.pages e.log e.size at bytes)
+        → MendsToPut whole new table i e at (take cut.done bytes) }
+    ensures appended { (whole new : List ℕ) (table : Entries) (draft : Option FileAt) (i : ℕ) (e : FileAt)
+        (bytes : List ℕ) → IsTable whole table draft → IsIn table i e → length new ≡ length whole
         → e.size + length bytes + 32 ≤ 256 * e.pages
-        → IsFileCut whole new e.page.0 e.pages e.log e.size e.size bytes → MendsToPut whole new table i e e.size bytes }
+        → (cut : IsFileCut whole new e.page.0 e.pages e.log e.size e.size bytes)
+        → MendsToPut whole new table i e e.size (take cut.done bytes) }
 {}
 
 /// A collection that broke off leaves the files, also where it did so in the middle of an erase.

@@ -7,7 +7,7 @@ use Rattle.coffee_layout.specs.declared.unit.Unit.{Unit}
 use Rattle.coffee_layout.specs.declared.unit.Unit.TheVariants.{Extent}
 use Rattle.coffee_merge.specs.Begun.{unit_begun}
 use Rattle.coffee_merge.proofs.SoundUnits.{Among, among_filter, begun_extent}
-use Rattle.coffee_find.specs.Found.{placed}
+use Rattle.coffee_find.specs.Found.{placed_of}
 use Rattle.coffee_find.specs.Search.{IsFileAt, IsFileIn}
 use Rattle.coffee_find.specs.declared.trouble.PlacedFile.{PlacedFile}
 
@@ -19,4 +19,4 @@ among_contains e (x ∷ xs) (inr a) = let r = among_contains e xs a in (suc r.0,
 pub file_there : (image : List ℕ) (page : ℕ) (u : Unit) (f : PlacedFile) → unit_begun (units_of image) 0 page ≡ Some u → IsFileAt u page f → IsFileIn image f
 file_there image page u f begun is =
     let here : unit_begun (units_of image) 0 f.page.0 ≡ Some (Extent f.header) = ap (unit_begun (units_of image) 0) is.at ∙ begun ∙ ap Some is.is in
-    among_contains (placed f) _ (among_filter is_file (placed f) (extents 0 (units_of image)) (begun_extent (units_of image) 0 f.page.0 f.header here) is.active)
+    among_contains (placed_of f) _ (among_filter is_file (placed_of f) (extents 0 (units_of image)) (begun_extent (units_of image) 0 f.page.0 f.header here) is.active)

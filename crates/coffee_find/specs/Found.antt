@@ -15,8 +15,8 @@ use Rattle.coffee_find.specs.declared.trouble.UnderWay.{UnderWay}
 use Rattle.coffee_find.specs.declared.trouble.UnderWay.TheVariants.{Nothing, Beginning, Building, Erasing, Unnamed, Naming, Replacing}
 
 -- a file that was found, as a file of the image
-abbrev pub placed : PlacedFile → Placed
-placed f = record { page = f.page.0; header = f.header }
+abbrev pub placed_of : PlacedFile → Placed
+placed_of f = record { page = f.page.0; header = f.header }
 
 -- what was under way, in the words of its definition
 abbrev pub meant : UnderWay → CutWay
@@ -26,10 +26,10 @@ meant (Building page) = was_building page.0
 meant (Erasing sector page) = was_erasing sector.0 page.0
 meant (Unnamed log) = was_unnamed log.0
 meant (Naming page) = was_naming page.0
-meant (Replacing old new) = was_replacing (placed old) (placed new)
+meant (Replacing old new) = was_replacing (placed_of old) (placed_of new)
 
 -- an image is sound but for the next record of a log, which begins at a place
-pub record IsTorn (image : List ℕ) (log place : ℕ) : Type 0 where
+pub record IsTornAt (image : List ℕ) (log place : ℕ) : Type 0 where
   pub is_log : IsActiveAt image log 19
   pub free : used_in (table_of image log) < 30
   pub next : place ≡ next_record image log
@@ -38,7 +38,7 @@ pub record IsTorn (image : List ℕ) (log place : ℕ) : Type 0 where
 -- an image is sound, or it is but for a torn record
 abbrev pub IsSoundBut : List ℕ → Option TornRecord → Type 0
 IsSoundBut image None = broken_image image ≡ None
-IsSoundBut image (Some r) = IsTorn image r.log.0 r.place
+IsSoundBut image (Some r) = IsTornAt image r.log.0 r.place
 
 -- an image is what a cut left: what was under way is found in it, and once that is settled the image is sound, but for a torn record
 pub record IsCutBy (image : List ℕ) (trouble : Trouble) : Type 0 where
@@ -55,14 +55,14 @@ HasLogPage size None = ⊤
 HasLogPage size (Some log) = HasPage size log.0
 
 -- what was under way lies inside the flash
-abbrev pub LiesIn : (size : ℕ) → UnderWay → Type 0
-LiesIn size Nothing = ⊤
-LiesIn size (Beginning page) = HasPage size page.0
-LiesIn size (Building page) = HasPage size page.0
-LiesIn size (Erasing sector page) = 4096 * sector.0 + 4096 ≤ size
-LiesIn size (Unnamed log) = HasPage size log.0
-LiesIn size (Naming page) = HasPage size page.0
-LiesIn size (Replacing old new) = HasPage size old.page.0 × HasLogPage size (log_of old.header)
+abbrev pub IsInFlash : (size : ℕ) → UnderWay → Type 0
+IsInFlash size Nothing = ⊤
+IsInFlash size (Beginning page) = HasPage size page.0
+IsInFlash size (Building page) = HasPage size page.0
+IsInFlash size (Erasing sector page) = 4096 * sector.0 + 4096 ≤ size
+IsInFlash size (Unnamed log) = HasPage size log.0
+IsInFlash size (Naming page) = HasPage size page.0
+IsInFlash size (Replacing old new) = HasPage size old.page.0 × HasLogPage size (log_of old.header)
 
 -- the torn record and its log do
 abbrev pub HasRecord : (size : ℕ) → Option TornRecord → Type 0
@@ -70,8 +70,8 @@ HasRecord size None = ⊤
 HasRecord size (Some r) = HasPage size r.log.0 × (r.place + 128 ≤ size)
 
 -- what a cut left lies inside the flash
-pub record LiesInside (size : ℕ) (trouble : Trouble) : Type 0 where
-  pub under_way : LiesIn size trouble.under_way
+pub record IsTroubleInside (size : ℕ) (trouble : Trouble) : Type 0 where
+  pub under_way : IsInFlash size trouble.under_way
   pub torn : HasRecord size trouble.torn
 
 -- what a judgement says of an image
@@ -81,7 +81,7 @@ IsJudged image (Cut trouble) = (broken_image image ≢ None) × IsCutBy image tr
 IsJudged image (Strange bad) = broken_image image ≡ Some bad
 
 -- what a judgement names lies inside the flash
-abbrev pub IsInside : (size : ℕ) → Judgement → Type 0
-IsInside size Sound = ⊤
-IsInside size (Cut trouble) = LiesInside size trouble
-IsInside size (Strange bad) = ⊤
+abbrev pub IsJudgedInside : (size : ℕ) → Judgement → Type 0
+IsJudgedInside size Sound = ⊤
+IsJudgedInside size (Cut trouble) = IsTroubleInside size trouble
+IsJudgedInside size (Strange bad) = ⊤

@@ -11,7 +11,7 @@ use Rattle.coffee_layout.specs.Units.{is_active}
 use Rattle.coffee_layout.specs.declared.unit.Unit.{Unit}
 use Rattle.coffee_layout.specs.declared.unit.Unit.TheVariants.{Extent, Free}
 use Rattle.coffee_merge.specs.Begun.{unit_begun}
-use Rattle.coffee_find.specs.Found.{HasRecord, placed}
+use Rattle.coffee_find.specs.Found.{HasRecord, placed_of}
 use Rattle.coffee_find.specs.declared.trouble.PlacedFile.{PlacedFile}
 use Rattle.coffee_find.specs.declared.settling.Verdict.{Verdict}
 use Rattle.coffee_find.specs.declared.settling.Verdict.TheVariants.{Sound, Torn, Broken}
@@ -46,16 +46,16 @@ pub record HasFlags (u : Unit) (flags : ℕ) : Type 0 where
 
 -- an active file stands in an image
 abbrev pub IsFileIn : List ℕ → PlacedFile → Type 0
-IsFileIn image f = Contains (files_in (units_of image)) (placed f)
+IsFileIn image f = Contains (files_in (units_of image)) (placed_of f)
 
 -- a unit at a page is an active file
 pub record IsFileAt (u : Unit) (page : ℕ) (f : PlacedFile) : Type 0 where
   pub at : f.page.0 ≡ page
   pub is : u ≡ Extent f.header
-  pub active : is_file (placed f) ≡ true
+  pub active : is_file (placed_of f) ≡ true
 
 -- the first page of a sector at which a unit begins is free, and the sector has no active page
-pub record IsFront (image : List ℕ) (sector page : ℕ) : Type 0 where
+pub record IsFreeFront (image : List ℕ) (sector page : ℕ) : Type 0 where
   pub begins : unit_begun (units_of image) 0 page ≡ Some Free
   pub idle : IsIdle (units_of image) sector
 

@@ -2,8 +2,8 @@ ghost use Rattle.std.specs.Prelude.{◌≡◌, ℕ, ◌+◌, ◌*◌, ◌≤◌,
 ghost use Rattle.afl_base.specs.Image.{zeros_at};
 ghost use Rattle.afl_base.specs.Keeping.{OnlyReads};
 ghost use Rattle.coffee_cuts.specs.Cuts.{IsFound, IsHeadless};
-ghost use Rattle.coffee_find.specs.Found.{HasPage, LiesIn, meant};
-ghost use Rattle.coffee_find.specs.Search.{IsEmpty, IsFront, LiesInSector};
+ghost use Rattle.coffee_find.specs.Found.{HasPage, IsInFlash, meant};
+ghost use Rattle.coffee_find.specs.Search.{IsEmpty, IsFreeFront, LiesInSector};
 ghost use Rattle.coffee_layout.specs.Tiling.{units_of};
 ghost use Rattle.coffee_layout.specs.Units.{pages_of};
 ghost use Rattle.coffee_layout.specs.declared.unit.Unit.TheVariants.{Free};
@@ -20,7 +20,7 @@ use flash_views::{Overlay, View};
 pub(crate) fn find_erased<F: Flash>(flash: F, page: PageId) -> (F, Result<Option<UnderWay>, Failed>)
     ensures found { IsTrue F.tells → IfOk result.1
         (λ o. IfSome o (λ u. IsFound (F.image flash) (meant u))) }
-    ensures inside { IfOk result.1 (λ o. IfSome o (λ u. LiesIn (length (F.image flash)) u)) }
+    ensures inside { IfOk result.1 (λ o. IfSome o (λ u. IsInFlash (length (F.image flash)) u)) }
     ensures reads { F.reads result.0 ≤ F.reads flash + 17 * pages_of (F.image flash) + 18 }
     ensures frame { OnlyReads F.image F.lent F.reads F.faults flash result.0 result.1 }
 {
@@ -45,7 +45,7 @@ pub(crate) fn find_erased<F: Flash>(flash: F, page: PageId) -> (F, Result<Option
 fn erased_front<F: Flash>(flash: F, sector: SectorId) -> (F, Result<Option<PageId>, Failed>)
     requires sector { 4096 * sector.0 + 4096 ≤ length (F.image flash) }
     ensures front { IsTrue F.tells → IfOk result.1 (λ o. IfSome o
-        (λ p. IsFront (zeros_at (F.image flash) (4096 * sector.0) 4096) sector.0 p.0)) }
+        (λ p. IsFreeFront (zeros_at (F.image flash) (4096 * sector.0) 4096) sector.0 p.0)) }
     ensures inside { IfOk result.1 (λ o. IfSome o (λ p. LiesInSector sector.0 p.0)) }
     ensures reads { F.reads result.0 ≤ F.reads flash + 17 * pages_of (F.image flash) }
     ensures frame { OnlyReads F.image F.lent F.reads F.faults flash result.0 result.1 }
@@ -65,7 +65,7 @@ fn erased_front<F: Flash>(flash: F, sector: SectorId) -> (F, Result<Option<PageI
 fn idle_front<F: Flash>(flash: &mut F, sector: SectorId) -> Result<Option<PageId>, Failed>
     requires sector { 4096 * sector.0 + 4096 ≤ length (F.image flash.old) }
     ensures front { IsTrue F.tells → IfOk result
-        (λ o. IfSome o (λ p. IsFront (F.image flash.old) sector.0 p.0)) }
+        (λ o. IfSome o (λ p. IsFreeFront (F.image flash.old) sector.0 p.0)) }
     ensures inside { IfOk result (λ o. IfSome o (λ p. LiesInSector sector.0 p.0)) }
     ensures reads { F.reads flash.new ≤ F.reads flash.old + 17 * pages_of (F.image flash.old) }
     ensures frame { OnlyReads F.image F.lent F.reads F.faults flash.old flash.new result }
@@ -120,8 +120,8 @@ fn find_blank<F: Flash>(
     requires sector { 4096 * sector.0 + 4096 ≤ length (F.image flash.old) }
     requires page { LiesInSector sector.0 page.0 }
     ensures found { IsTrue F.tells → IfOk result (λ o. IfSome o (λ u.
-        IsFront (zeros_at (F.image flash.old) (4096 * sector.0) 4096) sector.0 page.0 → IsFound (F.image flash.old) (meant u))) }
-    ensures inside { IfOk result (λ o. IfSome o (λ u. LiesIn (length (F.image flash.old)) u)) }
+        IsFreeFront (zeros_at (F.image flash.old) (4096 * sector.0) 4096) sector.0 page.0 → IsFound (F.image flash.old) (meant u))) }
+    ensures inside { IfOk result (λ o. IfSome o (λ u. IsInFlash (length (F.image flash.old)) u)) }
     ensures reads { F.reads flash.new ≤ F.reads flash.old + 18 }
     ensures frame { OnlyReads F.image F.lent F.reads F.faults flash.old flash.new result }
 {

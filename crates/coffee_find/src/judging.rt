@@ -1,6 +1,6 @@
 ghost use Rattle.std.specs.Prelude.{◌≡◌, ◌≢◌, ◌+◌, ◌*◌, ◌≤◌, length, None, IsTrue, IfOk, IfSome, Some};
 ghost use Rattle.afl_base.specs.Keeping.{OnlyReads};
-ghost use Rattle.coffee_find.specs.Found.{IsCutBy, IsInside, IsJudged, LiesInside};
+ghost use Rattle.coffee_find.specs.Found.{IsCutBy, IsJudgedInside, IsJudged, IsTroubleInside};
 ghost use Rattle.coffee_layout.specs.Rules.{broken_image};
 ghost use Rattle.coffee_layout.specs.Units.{pages_of};
 
@@ -15,7 +15,7 @@ use coffee_layout::{BadImage, Table, check};
 /// which record is torn: once that is settled, the image is sound. At most 4,000 reads for each page.
 pub fn judge<F: Flash>(flash: F) -> (F, Result<Judgement, Failed>)
     ensures judged { IsTrue F.tells → IfOk result.1 (λ j. IsJudged (F.image flash) j) }
-    ensures inside { IfOk result.1 (λ j. IsInside (length (F.image flash)) j) }
+    ensures inside { IfOk result.1 (λ j. IsJudgedInside (length (F.image flash)) j) }
     ensures reads { F.reads result.0 ≤ F.reads flash + 4000 * pages_of (F.image flash) }
     ensures frame { OnlyReads F.image F.lent F.reads F.faults flash result.0 result.1 }
 {
@@ -37,7 +37,7 @@ fn judge_broken<F: Flash>(
 ) -> (F, Result<Judgement, Failed>)
     ensures judged { IsTrue F.tells → broken_image (F.image flash) ≡ Some bad
         → IfOk result.1 (λ j. IsJudged (F.image flash) j) }
-    ensures inside { IfOk result.1 (λ j. IsInside (length (F.image flash)) j) }
+    ensures inside { IfOk result.1 (λ j. IsJudgedInside (length (F.image flash)) j) }
     ensures reads { F.reads result.0 ≤ F.reads flash + 2604 * pages_of (F.image flash) + 60 }
     ensures frame { OnlyReads F.image F.lent F.reads F.faults flash result.0 result.1 }
 {
@@ -56,7 +56,7 @@ fn search<F: Flash>(
     table: &mut Table,
 ) -> (F, Result<Option<Trouble>, Failed>)
     ensures found { IsTrue F.tells → IfOk result.1 (λ o. IfSome o (λ t. IsCutBy (F.image flash) t)) }
-    ensures inside { IfOk result.1 (λ o. IfSome o (λ t. LiesInside (length (F.image flash)) t)) }
+    ensures inside { IfOk result.1 (λ o. IfSome o (λ t. IsTroubleInside (length (F.image flash)) t)) }
     ensures reads { F.reads result.0 ≤ F.reads flash + 2604 * pages_of (F.image flash) + 60 }
     ensures frame { OnlyReads F.image F.lent F.reads F.faults flash result.0 result.1 }
 {
@@ -79,7 +79,7 @@ fn search_head<F: Flash>(
     table: &mut Table,
 ) -> (F, Result<Option<Trouble>, Failed>)
     ensures found { IsTrue F.tells → IfOk result.1 (λ o. IfSome o (λ t. IsCutBy (F.image flash) t)) }
-    ensures inside { IfOk result.1 (λ o. IfSome o (λ t. LiesInside (length (F.image flash)) t)) }
+    ensures inside { IfOk result.1 (λ o. IfSome o (λ t. IsTroubleInside (length (F.image flash)) t)) }
     ensures reads { F.reads result.0 ≤ F.reads flash + 2604 * pages_of (F.image flash) + 60 }
     ensures frame { OnlyReads F.image F.lent F.reads F.faults flash result.0 result.1 }
 {
@@ -102,7 +102,7 @@ fn search_for<F: Flash>(
     table: &mut Table,
 ) -> (F, Result<Option<Trouble>, Failed>)
     ensures found { IsTrue F.tells → IfOk result.1 (λ o. IfSome o (λ t. IsCutBy (F.image flash) t)) }
-    ensures inside { IfOk result.1 (λ o. IfSome o (λ t. LiesInside (length (F.image flash)) t)) }
+    ensures inside { IfOk result.1 (λ o. IfSome o (λ t. IsTroubleInside (length (F.image flash)) t)) }
     ensures reads { F.reads result.0 ≤ F.reads flash + 868 * pages_of (F.image flash) + 20 }
     ensures frame { OnlyReads F.image F.lent F.reads F.faults flash result.0 result.1 }
 {

@@ -1,8 +1,8 @@
 ghost use Rattle.std.specs.Prelude.{◌≡◌, ℕ, ◌+◌, ◌≤◌, List, Some, option_map};
 ghost use Rattle.coffee_cuts.specs.Cuts.{settled};
-ghost use Rattle.coffee_find.specs.Found.{LiesIn, meant};
+ghost use Rattle.coffee_find.specs.Found.{IsInFlash, meant};
 ghost use Rattle.coffee_layout.specs.Files.{log_of};
-ghost use Rattle.flash_views.specs.Views.{LiesInside, blanked, overlaid};
+ghost use Rattle.flash_views.specs.Views.{FitsImage, blanked, overlaid};
 
 use crate::trouble::UnderWay;
 use afl_base::PageId;
@@ -13,8 +13,8 @@ use flash_views::{Mark, Overlay};
 pub fn overlay_of(under_way: &UnderWay, blank: Option<u32>) -> Overlay
     ensures settled { (image : List ℕ)
         → overlaid image result ≡ blanked (settled image (meant under_way.now)) blank }
-    ensures inside { (size : ℕ) → LiesIn size under_way.now
-        → ((p : ℕ) → blank ≡ Some p → p + 128 ≤ size) → LiesInside size result }
+    ensures inside { (size : ℕ) → IsInFlash size under_way.now
+        → ((p : ℕ) → blank ≡ Some p → p + 128 ≤ size) → FitsImage size result }
 {
     let mut overlay = Overlay::nothing();
     overlay.blank = blank;

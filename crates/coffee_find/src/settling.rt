@@ -2,7 +2,7 @@ ghost use Rattle.std.specs.Prelude.{◌≡◌, ℕ, ◌+◌, ◌*◌, ◌≤◌,
 ghost use Rattle.afl_base.specs.Keeping.{OnlyReads};
 ghost use Rattle.afl_base.specs.Image.{zeros_at};
 ghost use Rattle.coffee_cuts.specs.Cuts.{IsActiveAt, settled};
-ghost use Rattle.coffee_find.specs.Found.{HasPage, HasRecord, IsSoundBut, LiesIn, LiesInside, meant};
+ghost use Rattle.coffee_find.specs.Found.{HasPage, HasRecord, IsSoundBut, IsInFlash, IsTroubleInside, meant};
 ghost use Rattle.coffee_find.specs.Search.{HasFlags, HasTorn, IsVerdict};
 ghost use Rattle.coffee_layout.specs.Rules.{broken_image};
 ghost use Rattle.coffee_layout.specs.Units.{is_active_flags, pages_of};
@@ -96,7 +96,7 @@ fn settled_verdict<F: Flash>(
     blank: Option<u32>,
     table: &mut Table,
 ) -> (F, Result<Verdict, Failed>)
-    requires lies { LiesIn (length (F.image flash)) under_way.now }
+    requires lies { IsInFlash (length (F.image flash)) under_way.now }
     requires blank { (p : ℕ) → blank ≡ Some p → p + 128 ≤ length (F.image flash) }
     ensures verdict { IsTrue F.tells → IfOk result.1
         (λ v. IsVerdict (blanked (settled (F.image flash) (meant under_way.now)) blank) v) }
@@ -116,10 +116,10 @@ pub(crate) fn settle<F: Flash>(
     under_way: UnderWay,
     table: &mut Table,
 ) -> (F, Result<Option<Trouble>, Failed>)
-    requires lies { LiesIn (length (F.image flash)) under_way }
+    requires lies { IsInFlash (length (F.image flash)) under_way }
     ensures settles { IsTrue F.tells → IfOk result.1 (λ o. IfSome o
         (λ t. (t.under_way ≡ under_way) × IsSoundBut (settled (F.image flash) (meant under_way)) t.torn)) }
-    ensures inside { IfOk result.1 (λ o. IfSome o (λ t. LiesInside (length (F.image flash)) t)) }
+    ensures inside { IfOk result.1 (λ o. IfSome o (λ t. IsTroubleInside (length (F.image flash)) t)) }
     ensures reads { F.reads result.0 ≤ F.reads flash + 802 * pages_of (F.image flash) + 2 }
     ensures frame { OnlyReads F.image F.lent F.reads F.faults flash result.0 result.1 }
 {
@@ -145,7 +145,7 @@ fn settle_torn<F: Flash>(
     torn: TornRecord,
     table: &mut Table,
 ) -> (F, Result<Option<Trouble>, Failed>)
-    requires lies { LiesIn (length (F.image flash)) under_way }
+    requires lies { IsInFlash (length (F.image flash)) under_way }
     requires inside { HasRecord (length (F.image flash)) (Some torn) }
     ensures settles { IsTrue F.tells → IfOk result.1 (λ o. IfSome o
         (λ t. broken_image (zeros_at (settled (F.image flash) (meant under_way)) torn.place 128) ≡ None)) }

@@ -1,7 +1,7 @@
 ghost use Rattle.std.specs.Prelude.{◌≡◌, ℕ, ◌+◌, ◌*◌, ◌/◌, ◌≤◌, ◌<◌, true, length, Some, None, IsTrue, IfOk, IfSome, slice_range};
 ghost use Rattle.afl_base.specs.Keeping.{OnlyReads};
 ghost use Rattle.coffee_cuts.specs.Cuts.{IsFound};
-ghost use Rattle.coffee_find.specs.Found.{HasPage, LiesIn, meant};
+ghost use Rattle.coffee_find.specs.Found.{HasPage, IsInFlash, meant};
 ghost use Rattle.coffee_find.specs.declared.trouble.UnderWay.TheVariants.{Beginning};
 ghost use Rattle.coffee_layout.specs.Tiling.{units_of};
 ghost use Rattle.coffee_layout.specs.Units.{pages_of, unit_at};
@@ -24,7 +24,7 @@ pub(crate) fn find_torn_header<F: Flash>(
 ) -> (F, Result<Option<UnderWay>, Failed>)
     ensures found { IsTrue F.tells → IfOk result.1
         (λ o. IfSome o (λ u. IsFound (F.image flash) (meant u))) }
-    ensures inside { IfOk result.1 (λ o. IfSome o (λ u. LiesIn (length (F.image flash)) u)) }
+    ensures inside { IfOk result.1 (λ o. IfSome o (λ u. IsInFlash (length (F.image flash)) u)) }
     ensures reads { F.reads result.0 ≤ F.reads flash + pages_of (F.image flash) + 17 }
     ensures frame { OnlyReads F.image F.lent F.reads F.faults flash result.0 result.1 }
 {

@@ -1,7 +1,7 @@
 ghost use Rattle.std.specs.Prelude.{◌≡◌, ℕ, ◌+◌, ◌*◌, ◌≤◌, ◌<◌, true, List, length, IsTrue, IfOk, IfSome};
 ghost use Rattle.afl_base.specs.Keeping.{OnlyReads};
 ghost use Rattle.coffee_cuts.specs.Cuts.{IsFound};
-ghost use Rattle.coffee_find.specs.Found.{HasPage, LiesIn, meant};
+ghost use Rattle.coffee_find.specs.Found.{HasPage, IsInFlash, meant};
 ghost use Rattle.coffee_find.specs.Search.{IsFileAt, IsFileIn, IsWanted};
 ghost use Rattle.coffee_find.specs.declared.trouble.UnderWay.TheVariants.{Replacing};
 ghost use Rattle.coffee_layout.specs.Files.{is_file};
@@ -17,7 +17,7 @@ use coffee_layout::{Unit, next_unit};
 pub(crate) fn find_replaced<F: Flash>(flash: &mut F) -> Result<Option<UnderWay>, Failed>
     ensures found { IsTrue F.tells → IfOk result
         (λ o. IfSome o (λ u. IsFound (F.image flash.old) (meant u))) }
-    ensures inside { IfOk result (λ o. IfSome o (λ u. LiesIn (length (F.image flash.old)) u)) }
+    ensures inside { IfOk result (λ o. IfSome o (λ u. IsInFlash (length (F.image flash.old)) u)) }
     ensures reads { F.reads flash.new ≤ F.reads flash.old + 66 * pages_of (F.image flash.old) }
     ensures frame { OnlyReads F.image F.lent F.reads F.faults flash.old flash.new result }
 {
@@ -127,7 +127,7 @@ fn in_order(first: &PlacedFile, second: &PlacedFile, pages: u16) -> Option<Under
         → first.now.page.0 < second.now.page.0 → first.now.header.name ≡ second.now.header.name
         → IsFound image (meant u)) }
     ensures inside { IfSome result (λ u. (size : ℕ) → size ≡ 256 * pages → HasPage size first.now.page.0
-        → HasPage size second.now.page.0 → LiesIn size u) }
+        → HasPage size second.now.page.0 → IsInFlash size u) }
 {
     if first.header.log_page == 0 {
         replacing(second, first, pages)

@@ -7,7 +7,7 @@ ghost use Rattle.coffee_layout.specs.FileBytes.{file_byte, last_in, table_of};
 ghost use Rattle.coffee_layout.specs.Units.{pages_of};
 ghost use Rattle.coffee_layout.specs.Walks.{LogFits};
 ghost use Rattle.coffee_log.specs.FileChanges.{FileBecomes, IsFile, IsUnlogged, one_if, records_for};
-ghost use Rattle.coffee_log.specs.FileCuts.{IsFileCut};
+ghost use Rattle.coffee_log.specs.FileCuts.{IsFileCut, IsOverwriteCut};
 ghost use Rattle.coffee_log.specs.Logs.{AddsRecords, IsLog};
 
 use crate::records::log_put;
@@ -234,7 +234,7 @@ pub fn overwrite_file<F: Flash>(
     ensures cut { IsTrue F.tells → IsTrue F.cuts → OnErr result
         ((size : ℕ) → IsFile (F.image flash.old) page.0 pages (Some log) used size
         → at + length bytes.now ≤ size → size + 32 ≤ 256 * pages
-        → IsFileCut (F.image flash.old) (F.image flash.new) page.0 pages (Some log) size at bytes.now) }
+        → IsOverwriteCut (F.image flash.old) (F.image flash.new) page.0 pages (Some log) size at bytes.now) }
     ensures other_pages { IsTrue F.tells → (p : ℕ) → PageOutside (256 * log.0) 4096 p
         → page_bytes (F.image flash.new) p ≡ page_bytes (F.image flash.old) p }
     ensures reads { F.reads flash.new ≤ F.reads flash.old + 3 * regions at (length bytes.now) }
@@ -419,7 +419,7 @@ fn put_part<F: Flash>(
     ensures cut { IsTrue F.tells → IsTrue F.cuts → OnErr result
         ((size : ℕ) → IsFile (F.image flash.old) page.0 pages (Some log) used size → at ≤ size
         → 128 * (at / 128) < size → size + 32 ≤ 256 * pages
-        → IsFileCut (F.image flash.old) (F.image flash.new) page.0 pages (Some log) size at bytes.now) }
+        → IsOverwriteCut (F.image flash.old) (F.image flash.new) page.0 pages (Some log) size at bytes.now) }
     ensures other_pages { IsTrue F.tells → (p : ℕ) → PageOutside (256 * log.0) 4096 p
         → page_bytes (F.image flash.new) p ≡ page_bytes (F.image flash.old) p }
     ensures reads { F.reads flash.new ≤ F.reads flash.old + 3 }

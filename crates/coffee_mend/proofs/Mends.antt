@@ -10,7 +10,7 @@ use Rattle.coffee_mend.specs.declared.mending.MendError.TheVariants.{Space, Fail
 use Rattle.afl_base.specs.Image.{zeros_at}
 use Rattle.afl_base.proofs.Images.{length_zeros_at}
 use Rattle.coffee_cuts.specs.Cuts.{HasTornRecord, Nothing, IsSettled, settled}
-use Rattle.coffee_find.specs.Found.{HasPage, IsCutBy, IsSoundBut, IsTorn, meant}
+use Rattle.coffee_find.specs.Found.{HasPage, IsCutBy, IsSoundBut, IsTornAt, meant}
 use Rattle.coffee_find.specs.declared.trouble.TornRecord.{TornRecord}
 use Rattle.coffee_find.specs.declared.trouble.Trouble.{Trouble}
 use Rattle.coffee_layout.specs.FileBytes.{table_of, used_in}
@@ -18,7 +18,7 @@ use Rattle.coffee_layout.specs.Files.{NamedFile, files_of}
 use Rattle.coffee_layout.specs.Rules.{broken_image}
 use Rattle.coffee_layout.specs.Units.{pages_of}
 use Rattle.coffee_mend.specs.Joined.{IsJoined, LacksRoom}
-use Rattle.coffee_mend.specs.Mended.{HandsBack, IsCrowded, IsMended, IsSoundAs, IsTornAs, OnSpace}
+use Rattle.coffee_mend.specs.Mended.{ReturnsFlash, IsCrowded, IsMended, IsSoundAs, IsTornAs, OnLacking}
 use Rattle.coffee_mend.proofs.TornRecords.{still_torn, torn_files}
 use Rattle.coffee_mend.proofs.Unblanked.{unjoined}
 
@@ -32,7 +32,7 @@ module _ {F : Type 0} (image lent : F → List ℕ) (reads : F → ℕ) (flash b
   has_page page inside h = omega (arith, h, ap length old_same, length_zeros_at (image flash) place 128 inside)
 
   pub handed_back : place + 128 ≤ length (image flash) → to + 128 ≤ length (image back) → length (zeros_at (image after) to 128) ≡ length (zeros_at (image before) from 128)
-      → to ∷ lent after ≡ from ∷ lent before → reads before ≤ reads after → HandsBack image lent reads flash back
+      → to ∷ lent after ≡ from ∷ lent before → reads before ≤ reads after → ReturnsFlash image lent reads flash back
   handed_back inside there long borrowed later =
       let held : lent after ≡ lent before = cc in
       let new : length (zeros_at (image after) to 128) ≡ length (image back) = ap (λ f. length (zeros_at (image f) to 128)) (sym is_back) ∙ length_zeros_at (image back) to 128 there in
@@ -42,7 +42,7 @@ module _ {F : Type 0} (image lent : F → List ℕ) (reads : F → ℕ) (flash b
         later = omega (arith, later, ap reads is_back, ap reads is_before);
       }
 
-  pub joined_back : (log : ℕ) → IsTorn (image flash) log place → to + 128 ≤ length (image back) → to ∷ lent after ≡ from ∷ lent before
+  pub joined_back : (log : ℕ) → IsTornAt (image flash) log place → to + 128 ≤ length (image back) → to ∷ lent after ≡ from ∷ lent before
       → (broken_image (zeros_at (image before) from 128) ≡ None → IsJoined (zeros_at (image before) from 128) (zeros_at (image after) to 128) log) → IsSoundAs (zeros_at (image flash) place 128) (image back)
   joined_back log t there borrowed joins =
       let is_to : to ≡ from = cc in
@@ -55,7 +55,7 @@ module _ {F : Type 0} (image lent : F → List ℕ) (reads : F → ℕ) (flash b
       let u = unjoined (zeros_at (image flash) place 128) (image back) place log (omega (arith, there, at)) (omega (arith, record_at)) (omega (arith, record_at, free)) j in
       record { sound = u.0; same = u.1 }
 
-  pub torn_back : (log need : ℕ) → IsTorn (image flash) log place → 256 * pages_of (image flash) ≡ length (image flash) → place + 128 ≤ length (image flash) → to + 128 ≤ length (image back) → to ∷ lent after ≡ from ∷ lent before
+  pub torn_back : (log need : ℕ) → IsTornAt (image flash) log place → 256 * pages_of (image flash) ≡ length (image flash) → place + 128 ≤ length (image flash) → to + 128 ≤ length (image back) → to ∷ lent after ≡ from ∷ lent before
       → (broken_image (zeros_at (image before) from 128) ≡ None → LacksRoom (zeros_at (image before) from 128) (zeros_at (image after) to 128) log need) → IsTornAs (image flash) (image back) log place need
   torn_back log need t whole inside there borrowed lacks =
       let is_to : to ≡ from = cc in
@@ -70,7 +70,7 @@ module _ {F : Type 0} (image lent : F → List ℕ) (reads : F → ℕ) (flash b
 pub space_known : {T : Type 0} (r : Result T FileError) (e : FileError) (need : ℕ) (P : ℕ → Type 0) → r ≡ Err e → e ≡ file_space need → on_space r P → P need
 space_known r e need P is same p = rw (is ∙ ap (λ x. Err x) same) at p
 
-pub space_more : {F : Type 0} (P Q : ℕ → F → Type 0) (r : Result F (MendError F)) → ((need : ℕ) (f : F) → P need f → Q need f) → IfErr r (λ e. OnSpace e P) → IfErr r (λ e. OnSpace e Q)
+pub space_more : {F : Type 0} (P Q : ℕ → F → Type 0) (r : Result F (MendError F)) → ((need : ℕ) (f : F) → P need f → Q need f) → IfErr r (λ e. OnLacking e P) → IfErr r (λ e. OnLacking e Q)
 space_more P Q (Ok f) more p = tt
 space_more P Q (Err (Space need f)) more p = more need f p
 space_more P Q (Err (Failed f)) more p = tt
@@ -78,7 +78,7 @@ space_more P Q (Err (Unsettled f)) more p = tt
 
 -- ---- what was found
 
-has_record : (image : List ℕ) (log place : ℕ) → IsTorn image log place → HasTornRecord image
+has_record : (image : List ℕ) (log place : ℕ) → IsTornAt image log place → HasTornRecord image
 has_record image log place t = record {
   log = log;
   is_log = t.is_log;
@@ -100,14 +100,14 @@ mended_whole old new trouble cut none is =
     }
 
 -- a torn record is found once that is settled
-pub torn_found : (old mid : List ℕ) (trouble : Trouble) (r : TornRecord) → IsCutBy old trouble → trouble.torn ≡ Some r → mid ≡ settled old (meant trouble.under_way) → IsTorn mid r.log.0 r.place
+pub torn_found : (old mid : List ℕ) (trouble : Trouble) (r : TornRecord) → IsCutBy old trouble → trouble.torn ≡ Some r → mid ≡ settled old (meant trouble.under_way) → IsTornAt mid r.log.0 r.place
 torn_found old mid trouble r cut some is = subst (λ i. IsSoundBut i (Some r)) (sym is) (subst (λ o. IsSoundBut (settled old (meant trouble.under_way)) o) some cut.settles)
 
 -- and put right
 pub mended_torn : (old mid new : List ℕ) (trouble : Trouble) (r : TornRecord) → IsCutBy old trouble → trouble.torn ≡ Some r → mid ≡ settled old (meant trouble.under_way) → 256 * pages_of mid ≡ length mid
     → r.place + 128 ≤ length mid → IsSoundAs (zeros_at mid r.place 128) new → IsMended old new
 mended_torn old mid new trouble r cut some is whole inside s =
-    let t : IsTorn mid r.log.0 r.place = torn_found old mid trouble r cut some is in
+    let t : IsTornAt mid r.log.0 r.place = torn_found old mid trouble r cut some is in
     let same : files_of mid ≡ files_of (zeros_at mid r.place 128) = torn_files mid r.log.0 r.place whole inside t in
     let files : List NamedFile = files_of mid in
     record {

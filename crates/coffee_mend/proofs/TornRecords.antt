@@ -31,7 +31,7 @@ use Rattle.coffee_merge.proofs.SoundRules.{KeepsRules, log_fields, sound_rules}
 use Rattle.coffee_merge.proofs.SoundTables.{sound_held}
 use Rattle.coffee_merge.proofs.SoundUnits.{Among, begun_extent}
 use Rattle.coffee_cuts.proofs.Reached.{IsReached, begun_at, reach}
-use Rattle.coffee_find.specs.Found.{IsTorn}
+use Rattle.coffee_find.specs.Found.{IsTornAt}
 use Rattle.padded.proofs.Facts.{eq_true}
 use Rattle.coffee_mend.proofs.Unblanked.{away, others, same_units}
 
@@ -46,7 +46,7 @@ file_not_log : (log : Option PageId) → file_flags log ≡ 19 → ⊥
 file_not_log None e = absurd (omega (arith, e))
 file_not_log (Some l) e = absurd (omega (arith, e))
 
-module _ (old : List ℕ) (log place : ℕ) (whole : 256 * pages_of old ≡ length old) (inside : place + 128 ≤ length old) (t : IsTorn old log place) where
+module _ (old : List ℕ) (log place : ℕ) (whole : 256 * pages_of old ≡ length old) (inside : place + 128 ≤ length old) (t : IsTornAt old log place) where
   size : length (zeros_at old place 128) ≡ length old
   size = length_zeros_at old place 128 inside
 
@@ -202,7 +202,7 @@ same_by a b c d first s second = record {
 }
 
 -- an image that lacks room where the record is zero is torn as before
-pub still_torn : (old new : List ℕ) (log place need : ℕ) → IsTorn old log place → 256 * pages_of old ≡ length old → place + 128 ≤ length old → place + 128 ≤ length new
+pub still_torn : (old new : List ℕ) (log place need : ℕ) → IsTornAt old log place → 256 * pages_of old ≡ length old → place + 128 ≤ length old → place + 128 ≤ length new
     → LacksRoom (zeros_at old place 128) (zeros_at new place 128) log need → IsTornAs old new log place need
 still_torn old new log place need t whole inside there l =
     let record_is : place ≡ 256 * log + 96 + 128 * used_in (table_of old log) = t.next in
@@ -214,7 +214,7 @@ still_torn old new log place need t whole inside there l =
     let same : units_of new ≡ units_of (zeros_at new place 128) = units_tiled nowhere new (units_of (zeros_at new place 128)) tiled in
     let used : used_in (table_of new log) ≡ used_in (table_of old log) =
     ap used_in (table_same new log place there (omega (arith, record_is))) ∙ l.used ∙ sym (ap used_in (table_same old log place inside (omega (arith, record_is)))) in
-    let torn : IsTorn new log place = record {
+    let torn : IsTornAt new log place = record {
       is_log = record { header = log_header l.name; there = ap (λ us. active_at us log) same ∙ l.stands; flags_are = refl };
       free = omega (arith, used, free);
       next = record_is ∙ ap (λ n. 256 * log + 96 + 128 * n) (sym used);

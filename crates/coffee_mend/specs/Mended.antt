@@ -3,7 +3,7 @@ use Rattle.std.specs.Prelude.{◌≡◌, ⊤, ℕ, ◌≤◌, List, length, None
 use Rattle.std.specs.List.{Contains}
 use Rattle.afl_base.specs.Causes.{Rose}
 use Rattle.coffee_cuts.specs.Cuts.{MendsTo}
-use Rattle.coffee_find.specs.Found.{IsTorn}
+use Rattle.coffee_find.specs.Found.{IsTornAt}
 use Rattle.coffee_layout.specs.Files.{NamedFile, files_of}
 use Rattle.coffee_layout.specs.Marks.{IsCramped}
 use Rattle.coffee_layout.specs.Rules.{broken_image}
@@ -28,7 +28,7 @@ pub record IsMended (old new : List ℕ) : Type 0 where
 
 -- an image has the files of another and its torn record, and no extent of so many pages can be had in it
 pub record IsTornAs (old new : List ℕ) (log place need : ℕ) : Type 0 where
-  pub torn : IsTorn new log place
+  pub torn : IsTornAt new log place
   pub same : SameFiles old new
   pub wants : OwnsLog (units_of new) log need
   pub cramped : IsCramped (units_of new) need
@@ -50,16 +50,16 @@ pub record IsCrowded (old new : List ℕ) (need : ℕ) : Type 0 where
   pub cramped : IsCramped (units_of new) need
 
 -- the flash that is handed back
-abbrev pub flash_of : {F : Type 0} → MendError F → F
-flash_of (Space need flash) = flash
-flash_of (Failed flash) = flash
-flash_of (Unsettled flash) = flash
+abbrev pub flash_behind : {F : Type 0} → MendError F → F
+flash_behind (Space need flash) = flash
+flash_behind (Failed flash) = flash
+flash_behind (Unsettled flash) = flash
 
 -- P, where the error is that the flash failed
-abbrev pub OnFailed : {F : Type 0} → MendError F → Type 0 → Type 0
-OnFailed (Space need flash) P = ⊤
-OnFailed (Failed flash) P = P
-OnFailed (Unsettled flash) P = ⊤
+abbrev pub OnFlashFailed : {F : Type 0} → MendError F → Type 0 → Type 0
+OnFlashFailed (Space need flash) P = ⊤
+OnFlashFailed (Failed flash) P = P
+OnFlashFailed (Unsettled flash) P = ⊤
 
 -- the error is that the flash failed
 abbrev pub IsFailure : {F : Type 0} → MendError F → Type 0
@@ -68,10 +68,10 @@ IsFailure (Failed flash) = ⊤
 IsFailure (Unsettled flash) = ⊥
 
 -- P of the pages that are lacking, and of the flash, where that is the error
-abbrev pub OnSpace : {F : Type 0} → MendError F → (ℕ → F → Type 0) → Type 0
-OnSpace (Space need flash) P = P need flash
-OnSpace (Failed flash) P = ⊤
-OnSpace (Unsettled flash) P = ⊤
+abbrev pub OnLacking : {F : Type 0} → MendError F → (ℕ → F → Type 0) → Type 0
+OnLacking (Space need flash) P = P need flash
+OnLacking (Failed flash) P = ⊤
+OnLacking (Unsettled flash) P = ⊤
 
 -- P, unless the image is not what was found
 abbrev pub UnlessUnsettled : {F : Type 0} → MendError F → Type 0 → Type 0
@@ -82,10 +82,10 @@ UnlessUnsettled (Unsettled flash) P = ⊤
 -- the count of faults has not fallen, unless the image is not what was found, and the flash failed only where it rose
 pub record HasMendCause {F : Type 0} (before now : ℕ) (error : MendError F) : Type 0 where
   pub later : UnlessUnsettled error (before ≤ now)
-  pub failed : OnFailed error (Rose before now)
+  pub failed : OnFlashFailed error (Rose before now)
 
 -- the flash that is handed back has the size that it had, and borrows what it borrowed
-pub record HandsBack {F : Type 0} (image : F → List ℕ) (borrows : F → List ℕ) (reads : F → ℕ) (old new : F) : Type 0 where
+pub record ReturnsFlash {F : Type 0} (image : F → List ℕ) (borrows : F → List ℕ) (reads : F → ℕ) (old new : F) : Type 0 where
   pub size : length (image new) ≡ length (image old)
   pub lent : borrows new ≡ borrows old
   pub later : reads old ≤ reads new

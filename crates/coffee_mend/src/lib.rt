@@ -6,5 +6,5 @@ mod laws;
 mod mending;
 mod settling;
 
-pub use laws::cut_settlings_mend;
+pub use laws::{cut_settlings_mend, mended_images_keep_their_files};
 pub use mending::{MendError, mend};

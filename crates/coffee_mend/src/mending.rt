@@ -1,7 +1,7 @@
 ghost use Rattle.std.specs.Prelude.{◌≡◌, ℕ, ◌+◌, ◌*◌, ◌≤◌, None, Some, length, IsTrue, IfErr, IfOk, MatchResult};
 ghost use Rattle.afl_base.specs.Image.{zeros_at};
-ghost use Rattle.coffee_find.specs.Found.{HasRecord, IsCutBy, IsTorn, LiesInside, meant};
-ghost use Rattle.coffee_mend.specs.Mended.{HandsBack, HasMendCause, IsCrowded, IsFailure, IsMended, IsSoundAs, IsTornAs, OnFailed, OnSpace, flash_of};
+ghost use Rattle.coffee_find.specs.Found.{HasRecord, IsCutBy, IsTornAt, IsTroubleInside, meant};
+ghost use Rattle.coffee_mend.specs.Mended.{ReturnsFlash, HasMendCause, IsCrowded, IsFailure, IsMended, IsSoundAs, IsTornAs, OnFlashFailed, OnLacking, flash_behind};
 ghost use Rattle.coffee_mend.specs.Settling.{IsCutSettling};
 
 use crate::joining::join_log;
@@ -24,21 +24,21 @@ pub enum MendError<F> {
 /// asks for pages only where a record is torn. Where the flash fails in the write that settles what was
 /// under way, `cut_settlings_mend` says what it leaves.
 pub fn mend<F: Flash>(mut flash: F, trouble: &Trouble) -> Result<F, MendError<F>>
-    requires inside { LiesInside (length (F.image flash)) trouble.now }
+    requires inside { IsTroubleInside (length (F.image flash)) trouble.now }
     ensures mended { IsTrue F.tells → IsCutBy (F.image flash) trouble.now
         → IfOk result (λ f. IsMended (F.image flash) (F.image f)) }
     ensures space { IsTrue F.tells → IsCutBy (F.image flash) trouble.now
-        → IfErr result (λ e. OnSpace e (λ need f. IsCrowded (F.image flash) (F.image f) need)) }
+        → IfErr result (λ e. OnLacking e (λ need f. IsCrowded (F.image flash) (F.image f) need)) }
     ensures failures { trouble.now.torn ≡ None → IfErr result (λ e. IsFailure e) }
     ensures cut { IsTrue F.tells → IsTrue F.cuts → trouble.now.torn ≡ None
-        → IfErr result (λ e. OnFailed e
-        (IsCutSettling (F.image flash) (F.image (flash_of e)) (meant trouble.now.under_way))) }
+        → IfErr result (λ e. OnFlashFailed e
+        (IsCutSettling (F.image flash) (F.image (flash_behind e)) (meant trouble.now.under_way))) }
     ensures back { MatchResult result
-        (λ f. HandsBack F.image F.lent F.reads flash f)
-        (λ e. HandsBack F.image F.lent F.reads flash (flash_of e)) }
+        (λ f. ReturnsFlash F.image F.lent F.reads flash f)
+        (λ e. ReturnsFlash F.image F.lent F.reads flash (flash_behind e)) }
     ensures cause { MatchResult result
         (λ f. F.faults flash ≤ F.faults f)
-        (λ e. HasMendCause (F.faults flash) (F.faults (flash_of e)) e) }
+        (λ e. HasMendCause (F.faults flash) (F.faults (flash_behind e)) e) }
 {
     flash.sectors();
     let Ok(()) = settle(&mut flash, &trouble.under_way) else {
@@ -53,17 +53,17 @@ pub fn mend<F: Flash>(mut flash: F, trouble: &Trouble) -> Result<F, MendError<F>
 // Puts a file together with its log, of which a record is torn.
 fn join_torn<F: Flash>(flash: F, torn: &TornRecord) -> Result<F, MendError<F>>
     requires torn { HasRecord (length (F.image flash)) (Some torn.now) }
-    ensures joined { IsTrue F.tells → IsTorn (F.image flash) torn.now.log.0 torn.now.place
+    ensures joined { IsTrue F.tells → IsTornAt (F.image flash) torn.now.log.0 torn.now.place
         → IfOk result (λ f. IsSoundAs (zeros_at (F.image flash) torn.now.place 128) (F.image f)) }
-    ensures space { IsTrue F.tells → IsTorn (F.image flash) torn.now.log.0 torn.now.place
-        → IfErr result (λ e. OnSpace e (λ need f.
+    ensures space { IsTrue F.tells → IsTornAt (F.image flash) torn.now.log.0 torn.now.place
+        → IfErr result (λ e. OnLacking e (λ need f.
         IsTornAs (F.image flash) (F.image f) torn.now.log.0 torn.now.place need)) }
     ensures back { MatchResult result
-        (λ f. HandsBack F.image F.lent F.reads flash f)
-        (λ e. HandsBack F.image F.lent F.reads flash (flash_of e)) }
+        (λ f. ReturnsFlash F.image F.lent F.reads flash f)
+        (λ e. ReturnsFlash F.image F.lent F.reads flash (flash_behind e)) }
     ensures cause { MatchResult result
         (λ f. F.faults flash ≤ F.faults f)
-        (λ e. HasMendCause (F.faults flash) (F.faults (flash_of e)) e) }
+        (λ e. HasMendCause (F.faults flash) (F.faults (flash_behind e)) e) }
 {
     flash.sectors();
     let mut blanked = Blanked::new(flash, torn.place);

@@ -1,7 +1,7 @@
 ghost use Rattle.std.specs.Prelude.{◌≡◌, ◌+◌, ◌*◌, ◌≤◌, length, IsTrue, OnErr, OnOk};
 ghost use Rattle.afl_base.specs.Keeping.{Programs};
 ghost use Rattle.coffee_cuts.specs.Cuts.{settled};
-ghost use Rattle.coffee_find.specs.Found.{HasLogPage, HasPage, LiesIn, meant};
+ghost use Rattle.coffee_find.specs.Found.{HasLogPage, HasPage, IsInFlash, meant};
 ghost use Rattle.coffee_layout.specs.Files.{log_of};
 ghost use Rattle.coffee_mend.specs.Settling.{IsCutSettling};
 ghost use Rattle.coffee_merge.specs.CutMarks.{IsCutObsolete, IsOneOf};
@@ -13,7 +13,7 @@ use coffee_header::Header;
 
 /// Puts in order what was under way: by one write, or by two where a file has an old extent with a log.
 pub(crate) fn settle<F: Flash>(flash: &mut F, under_way: &UnderWay) -> Result<(), Failed>
-    requires inside { LiesIn (length (F.image flash.old)) under_way.now }
+    requires inside { IsInFlash (length (F.image flash.old)) under_way.now }
     ensures settled { IsTrue F.tells → OnOk result
         (F.image flash.new ≡ settled (F.image flash.old) (meant under_way.now)) }
     ensures cut { IsTrue F.tells → IsTrue F.cuts → OnErr result

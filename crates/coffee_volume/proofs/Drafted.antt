@@ -46,7 +46,7 @@ least_fit size room =
     let some : 1 ≤ 2 ^ j = one-le-pow j 2 (omega arith) in
     omega arith
 
-first_few : (kind : Kind) → has_few_of kind (first_pages kind) 0 ≡ true
+pub first_few : (kind : Kind) → has_few_of kind (first_pages kind) 0 ≡ true
 first_few Doubling = sixteen_few (fit 0) (least_fit 0 (omega arith))
 first_few (Fixed n) = refl
 
@@ -103,7 +103,7 @@ begun_sets old mid new table i name kind page pages begins commits = record {
 pub pending_regular : (pages : ℕ) (d : FileAt) → IsPending pages d → IsRegular pages (roomless d)
 pending_regular pages d is = record { fits = is.fits; shape = is.shape; few = is.few; room = roomless_room pages d is.fits }
 
-same_used : (d : FileAt) → d.used ≡ 0 → record d { used = 0 } ≡ d
+pub same_used : (d : FileAt) → d.used ≡ 0 → record d { used = 0 } ≡ d
 same_used d none = ap (λ (n : ℕ). let f : FileAt = record d { used = n } in f) (sym none)
 
 pub commit_holds : (old new : List ℕ) (table : Entries) (i : ℕ) (d : FileAt) → d.used ≡ 0 → CommitsExtent old new table i d → HoldsTable new (set table i (Some d)) None

@@ -14,4 +14,4 @@ pub mod Tables
 pub mod Takings
 pub mod Written
 pub mod Windows
-pub mod CutCommits
+pub mod MendedFiles

@@ -2,7 +2,7 @@
 use Rattle.std.proofs.Common.{◌≡◌, ℕ, ◌<◌, Bool, true, false, List, length, set, Option, Some, None, IsTrue, refl, sym, ap, ◌∙◌, subst}
 use Rattle.std.specs.Prelude.{option_map}
 use Rattle.std.proofs.lemmas.List.{set-get_or}
-use Rattle.afl_base.specs.Files.{Becomes, File, IsLive, KeepsBytes, IsUnnamed, State, bytes_at, size_at}
+use Rattle.afl_base.specs.Files.{Becomes, File, IsLive, IsUnnamed, State, bytes_at, size_at}
 use Rattle.coffee_layout.specs.FileBytes.{file_byte}
 use Rattle.coffee_layout.specs.declared.file.FileAt.{FileAt}
 use Rattle.coffee_merge.specs.Holding.{HoldsTable, IsIn, IsStored, KeepsContents, Moves, Entries}
@@ -77,18 +77,3 @@ none_of (Some n) never = absurd (never n refl)
 pub none_wanted : (table : EntryTable) (i : ℕ) (e : Entry) (overwrites bytes : ℕ) → IsEntry table i e → ((need : ℕ) → Asks table i overwrites bytes need → ⊥) → pages_asked e.at overwrites bytes ≡ None
 none_wanted table i e overwrites bytes is never =
     none_of (pages_asked e.at overwrites bytes) (λ n asks. never n (λ d there. ap (λ (x : Entry). pages_asked x.at overwrites bytes) (one_entry table i d e there is) ∙ asks))
-
--- where nothing was done, a file keeps its bytes
-pub keeps_itself : (state : State) (id : ℕ) → IsLive state.files id → KeepsBytes state state id
-keeps_itself state id live = record {
-  live = live;
-  name = refl;
-  kind = refl;
-  size = refl;
-  bytes = λ told. refl;
-  others = λ k apart. refl;
-  names = λ n none. none;
-  used = refl;
-  draft = refl;
-  tells = refl;
-}

@@ -1,5 +1,5 @@
 -- What a volume keeps from one call to the next, on every flash and on one that tells its image.
-use Rattle.std.proofs.Common.{◌≡◌, ℕ, ◌/◌, ◌<◌, ◌≤◌, Bool, true, false, not, ◌&&◌, List, length, set, Option, Some, None, IsTrue, refl, sym, ap, ◌∙◌, subst, arith}
+use Rattle.std.proofs.Common.{◌≡◌, ℕ, ◌*◌, ◌/◌, ◌<◌, ◌≤◌, Bool, true, false, not, ◌&&◌, List, length, set, Option, Some, None, IsTrue, refl, sym, ap, ◌∙◌, subst, arith}
 use Rattle.std.specs.Prelude.{option_map}
 use Rattle.std.proofs.lemmas.List.{get_or-set_same, length-set}
 use Rattle.afl_base.specs.Files.{IsUnnamed, used}
@@ -15,6 +15,7 @@ use Rattle.coffee_volume.proofs.Tables.{length_places, places_set, regular_same}
 pub record Stands (tells failed : Bool) (image : List ℕ) (table : EntryTable) (draft : Option FileAt) : Type 0 where
   pub count : length table ≡ 32
   pub big : length image ≤ 16773120
+  pub whole : length image ≡ 4096 * (length image / 4096)
   pub regular : AreRegular (pages_of image) table
   pub pending : (d : FileAt) → draft ≡ Some d → IsPending (pages_of image) d
   pub space : (d : FileAt) → draft ≡ Some d → IsUnnamed (files_seen false image table) d.name → used (files_seen false image table) < 32
@@ -22,6 +23,9 @@ pub record Stands (tells failed : Bool) (image : List ℕ) (table : EntryTable) 
 
 pub same_pages : (old new : List ℕ) → length new ≡ length old → pages_of new ≡ pages_of old
 same_pages old new long = ap (λ (n : ℕ). n / 256) long
+
+pub same_whole : (old new : List ℕ) → length old ≡ 4096 * (length old / 4096) → length new ≡ length old → length new ≡ 4096 * (length new / 4096)
+same_whole old new whole long = omega (arith, whole, long)
 
 -- while a call is under way, and after one that failed
 pub stands_failed : (tells failed : Bool) (old new : List ℕ) (table : EntryTable) (draft : Option FileAt) → Stands tells failed old table draft → length new ≡ length old → Stands tells true new table draft
@@ -31,6 +35,7 @@ stands_failed tells failed old new table draft s long =
     record {
       count = s.count;
       big = omega arith;
+      whole = same_whole old new s.whole long;
       regular = subst (λ (n : ℕ). AreRegular n table) (sym pages) s.regular;
       pending = λ d is. subst (λ (n : ℕ). IsPending n d) (sym pages) (s.pending d is);
       space = s.space;
@@ -45,6 +50,7 @@ stands_kept tells failed old new table draft s long holds =
     record {
       count = s.count;
       big = omega arith;
+      whole = same_whole old new s.whole long;
       regular = subst (λ (n : ℕ). AreRegular n table) (sym pages) s.regular;
       pending = λ d is. subst (λ (n : ℕ). IsPending n d) (sym pages) (s.pending d is);
       space = s.space;
@@ -62,6 +68,7 @@ stands_set tells failed old new table draft now i o s long regular pending space
     record {
       count = length-set table i o ∙ s.count;
       big = omega arith;
+      whole = same_whole old new s.whole long;
       regular = subst (λ (n : ℕ). AreRegular n (set table i o)) (sym pages) regular;
       pending = λ d is. subst (λ (n : ℕ). IsPending n d) (sym pages) (pending d is);
       space = space;
@@ -86,6 +93,7 @@ stands_draft tells failed old new table d s long pending space holds =
     record {
       count = s.count;
       big = omega arith;
+      whole = same_whole old new s.whole long;
       regular = subst (λ (n : ℕ). AreRegular n table) (sym pages) s.regular;
       pending = λ c is. let same : d ≡ c = cc in subst (λ (x : FileAt). IsPending (pages_of new) x) same (subst (λ (n : ℕ). IsPending n d) (sym pages) pending);
       space = λ c is. let same : d ≡ c = cc in subst (λ (x : FileAt). IsUnnamed (files_seen false old table) x.name → used (files_seen false old table) < 32) same space;

@@ -1,60 +1,37 @@
 -- The table of a volume, its files without their room, and what callers see of it.
-use Rattle.std.proofs.Common.{◌≡◌, ◌≢◌, ℕ, ◌+◌, ◌<◌, ◌≤◌, Bool, true, false, not, ◌&&◌, List, [], ◌∷◌, length, set, get_or, slice_range, Option, Some, None, IsTrue, refl, sym, ap, ◌∙◌, subst, arith}
+pub use Rattle.coffee_volume.specs.KeptTables.{place_is, in_places, entry_of_place, length_places, seen_is, seen_here, entry_seen, seen_live, file_of, told_by}
+use Rattle.std.proofs.Common.{◌≡◌, ◌≢◌, ℕ, ◌+◌, ◌<◌, ◌≤◌, Bool, true, false, List, [], ◌∷◌, length, set, get_or, slice_range, Option, Some, None, IsTrue, refl, sym, ap, ◌∙◌, subst, arith}
 use Rattle.std.specs.Prelude.{option_map, is_some, IfNone, IfSome}
-use Rattle.std.proofs.Math.ListN.{get_or-map}
 use Rattle.std.proofs.lemmas.List.{ext_get_or, get_or-set_same, get_or-set_other, length-map, length-set, length-replicate, map-set}
-use Rattle.std.proofs.lemmas.Bool.{cases_eq}
+use Rattle.std.proofs.lemmas.Bool.{cases_eq, cases_lt}
 use Rattle.std.proofs.Math.Logic.{⊎_elim}
 use Rattle.std.specs.Prelude.{Result, Ok, Err}
 use Rattle.padded.proofs.Facts.{some_same}
 use Rattle.afl_base.specs.FileErrors.{OnSpace}
 use Rattle.afl_base.specs.declared.kind.FileError.{FileError}
 use Rattle.afl_base.specs.declared.kind.FileError.TheVariants.{Space, Failed}
-use Rattle.afl_base.specs.Files.{AreDistinct, File, IsLive, IsNamed, IsUnnamed, bytes_at, file_at, name_at, place, used}
+use Rattle.afl_base.specs.Files.{AreDistinct, File, IsLive, IsNamed, IsUnnamed, bytes_at, name_at, place, used}
 use Rattle.afl_base.specs.Places.{AreTaken}
-use Rattle.afl_base.proofs.FileLaws.{file_here, named_here, some_free}
+use Rattle.afl_base.proofs.FileLaws.{named_here, some_free}
 use Rattle.coffee_layout.specs.FileBytes.{file_byte, file_bytes}
 use Rattle.coffee_layout.specs.declared.file.FileAt.{FileAt}
 use Rattle.coffee_layout.proofs.Spelling.{spells_file, spelt_file}
 use Rattle.coffee_log.proofs.ContentLaws.{read_bytes}
-use Rattle.coffee_merge.specs.Holding.{HoldsTable, IsIn, IsNewName, IsStored, KeepsContents, KeepsContent, KeepsOthers}
+use Rattle.coffee_merge.specs.Holding.{HoldsTable, IsNewName, IsStored, KeepsContents, KeepsContent, KeepsOthers}
 use Rattle.coffee_volume.specs.Volumes.{AreRegular, EntryTable, IsEntry, IsRegular, bytes_seen, entry_name, file_seen, files_seen, places}
 use Rattle.coffee_volume.specs.declared.entry.Entry.{Entry}
 use Rattle.coffee_merge.proofs.SoundHolders.{stored_size}
 
 -- ENTRIES AND PLACES
 
-pub place_is : (table : EntryTable) (i : ℕ) → get_or (places table) i None ≡ option_map (λ (e : Entry). e.at) (get_or table i None)
-place_is table i = get_or-map (option_map (λ (e : Entry). e.at)) table i None
-
-pub in_places : (table : EntryTable) (i : ℕ) (e : Entry) → IsEntry table i e → IsIn (places table) i e.at
-in_places table i e is = place_is table i ∙ ap (option_map (λ (d : Entry). d.at)) is
-
--- the entry that an option of one holds
-held : (o : Option Entry) (d : FileAt) → option_map (λ (e : Entry). e.at) o ≡ Some d → (e : Entry) × (o ≡ Some e) × (e.at ≡ d)
-held None d is = absurd (cc)
-held (Some e) d is = (e, refl, cc)
-
-pub entry_of_place : (table : EntryTable) (i : ℕ) (d : FileAt) → IsIn (places table) i d → (e : Entry) × IsEntry table i e × (e.at ≡ d)
-entry_of_place table i d is = held (get_or table i None) d (sym (place_is table i) ∙ is)
-
 pub places_set : (table : EntryTable) (i : ℕ) (o : Option Entry) → places (set table i o) ≡ set (places table) i (option_map (λ (e : Entry). e.at) o)
 places_set table i o = map-set (option_map (λ (e : Entry). e.at)) table i o
-
-pub length_places : (table : EntryTable) → length (places table) ≡ length table
-length_places table = length-map table (option_map (λ (e : Entry). e.at))
 
 -- a place holds one entry
 pub one_entry : (table : EntryTable) (i : ℕ) (e d : Entry) → IsEntry table i e → IsEntry table i d → e ≡ d
 one_entry table i e d first second = some_same e d (sym first ∙ second)
 
 -- WHAT CALLERS SEE
-
-pub seen_is : (tells : Bool) (image : List ℕ) (table : EntryTable) (i : ℕ) → place (files_seen tells image table) i ≡ option_map (file_seen tells image) (get_or table i None)
-seen_is tells image table i = get_or-map (option_map (file_seen tells image)) table i None
-
-pub seen_here : (tells : Bool) (image : List ℕ) (table : EntryTable) (i : ℕ) (e : Entry) → IsEntry table i e → place (files_seen tells image table) i ≡ Some (file_seen tells image e)
-seen_here tells image table i e is = seen_is tells image table i ∙ ap (option_map (file_seen tells image)) is
 
 pub seen_none : (tells : Bool) (image : List ℕ) (table : EntryTable) (i : ℕ) → get_or table i None ≡ None → place (files_seen tells image table) i ≡ None
 seen_none tells image table i is = seen_is tells image table i ∙ ap (option_map (file_seen tells image)) is
@@ -64,17 +41,6 @@ length_seen tells image table = length-map table (option_map (file_seen tells im
 
 pub seen_set : (tells : Bool) (image : List ℕ) (table : EntryTable) (i : ℕ) (o : Option Entry) → files_seen tells image (set table i o) ≡ set (files_seen tells image table) i (option_map (file_seen tells image) o)
 seen_set tells image table i o = map-set (option_map (file_seen tells image)) table i o
-
--- an entry stands where a file is seen, and under its name
-live_entry : (tells : Bool) (image : List ℕ) (o : Option Entry) → is_some (option_map (file_seen tells image) o) ≡ true → (e : Entry) × (o ≡ Some e)
-live_entry tells image None live = absurd (cc)
-live_entry tells image (Some e) live = (e, refl)
-
-pub entry_seen : (tells : Bool) (image : List ℕ) (table : EntryTable) (i : ℕ) → IsLive (files_seen tells image table) i → (e : Entry) × IsEntry table i e
-entry_seen tells image table i live = live_entry tells image (get_or table i None) (ap is_some (sym (seen_is tells image table i)) ∙ live)
-
-pub seen_live : (tells : Bool) (image : List ℕ) (table : EntryTable) (i : ℕ) (e : Entry) → IsEntry table i e → IsLive (files_seen tells image table) i
-seen_live tells image table i e is = rw (seen_here tells image table i e is) refl
 
 same_live : (tells : Bool) (image : List ℕ) (o : Option Entry) → is_some (option_map (file_seen tells image) o) ≡ is_some o
 same_live tells image None = refl
@@ -91,6 +57,13 @@ taken_live tells image table i taken k low = seen_is_live tells image table k �
 pub free_entry : (tells : Bool) (image : List ℕ) (table : EntryTable) → length table ≡ 32 → used (files_seen tells image table) < 32 → AreTaken table 32 → ⊥
 free_entry tells image table long few taken =
     some_free (files_seen tells image table) (length_seen tells image table ∙ long) few (taken_live tells image table 32 taken)
+
+-- then the places below the lowest free one are not all places
+pub lowest_inside : (tells : Bool) (image : List ℕ) (table : EntryTable) (i : ℕ) → length table ≡ 32 → used (files_seen tells image table) < 32 → AreTaken table i → i < length table
+lowest_inside tells image table i long few taken = ⊎_elim
+    (λ (inside : i < 32). omega (arith, inside, long))
+    (λ (past : 32 ≤ i). absurd (free_entry tells image table long few (λ k low. taken k (omega (arith, low, past)))))
+    (cases_lt i 32)
 
 named_entry : (tells : Bool) (image : List ℕ) (o : Option Entry) (n : List ℕ) → option_map (λ (f : File). f.name) (option_map (file_seen tells image) o) ≡ Some n → (e : Entry) × (o ≡ Some e) × (e.at.name ≡ n)
 named_entry tells image None n named = absurd (cc)
@@ -111,10 +84,6 @@ name_seen tells image table i = ap (option_map (λ (f : File). f.name)) (seen_is
 
 pub unnamed_entries : (tells : Bool) (image : List ℕ) (table : EntryTable) (n : List ℕ) → ((k : ℕ) → entry_name table k ≢ Some n) → IsUnnamed (files_seen tells image table) n
 unnamed_entries tells image table n none k named = none k (sym (name_seen tells image table k) ∙ named)
-
--- the file under a live id
-pub file_of : (tells : Bool) (image : List ℕ) (table : EntryTable) (i : ℕ) (e : Entry) → IsEntry table i e → file_at (files_seen tells image table) i ≡ file_seen tells image e
-file_of tells image table i e is = file_here (files_seen tells image table) i (file_seen tells image e) (seen_here tells image table i e is)
 
 pub only_named : (tells : Bool) (image : List ℕ) (pages : ℕ) (table : EntryTable) (i : ℕ) (e : Entry) → AreRegular pages table → IsEntry table i e → (k : ℕ) → IsNamed (files_seen tells image table) k e.at.name → k ≡ i
 only_named tells image pages table i e regular is k named =
@@ -201,20 +170,20 @@ kept_seen true old new e kept =
     ap (λ (bytes : List ℕ). let f : File = record { name = e.at.name; kind = e.at.kind; bytes = bytes; records = e.records; room = e.room } in f) (kept_bytes old new e.at (kept refl))
 kept_seen false old new e kept = refl
 
-same_seen : (tells : Bool) (old new : List ℕ) (o : Option Entry) → ((e : Entry) → o ≡ Some e → IsTrue tells → KeepsContent old new e.at) → option_map (file_seen tells new) o ≡ option_map (file_seen tells old) o
-same_seen tells old new None kept = refl
-same_seen tells old new (Some e) kept = ap (λ (f : File). Some f) (kept_seen tells old new e (kept e refl))
+same_option : (tells : Bool) (old new : List ℕ) (o : Option Entry) → ((e : Entry) → o ≡ Some e → file_seen tells new e ≡ file_seen tells old e) → option_map (file_seen tells new) o ≡ option_map (file_seen tells old) o
+same_option tells old new None same = refl
+same_option tells old new (Some e) same = ap (λ (f : File). Some f) (same e refl)
 
 -- where all files of the table kept their content, callers see the same
 pub seen_kept : (tells : Bool) (old new : List ℕ) (table : EntryTable) → (IsTrue tells → KeepsContents old new (places table)) → files_seen tells new table ≡ files_seen tells old table
 seen_kept tells old new table kept =
     ext_get_or None (files_seen tells new table) (files_seen tells old table) (length_seen tells new table ∙ sym (length_seen tells old table))
-    (λ k low. seen_is tells new table k ∙ same_seen tells old new (get_or table k None) (λ e is told. kept told k e.at (in_places table k e is)) ∙ sym (seen_is tells old table k))
+    (λ k low. seen_is tells new table k ∙ same_option tells old new (get_or table k None) (λ e is. kept_seen tells old new e (λ told. kept told k e.at (in_places table k e is))) ∙ sym (seen_is tells old table k))
 
--- where all but one did, that one is set
-pub seen_others : (tells : Bool) (old new : List ℕ) (table : EntryTable) (i : ℕ) (o : Option Entry) → i < length table → (IsTrue tells → KeepsOthers old new (places table) i)
+-- where all but one are seen as before, that one is set
+pub others_seen : (tells : Bool) (old new : List ℕ) (table : EntryTable) (i : ℕ) (o : Option Entry) → i < length table → ((k : ℕ) (e : Entry) → k ≢ i → IsEntry table k e → file_seen tells new e ≡ file_seen tells old e)
     → files_seen tells new (set table i o) ≡ set (files_seen tells old table) i (option_map (file_seen tells new) o)
-seen_others tells old new table i o inside kept =
+others_seen tells old new table i o inside same =
     seen_set tells new table i o
     ∙ ext_get_or None (set (files_seen tells new table) i (option_map (file_seen tells new) o)) (set (files_seen tells old table) i (option_map (file_seen tells new) o))
     (length-set (files_seen tells new table) i (option_map (file_seen tells new) o) ∙ length_seen tells new table ∙ sym (length_seen tells old table) ∙ sym (length-set (files_seen tells old table) i (option_map (file_seen tells new) o)))
@@ -225,9 +194,14 @@ seen_others tells old new table i o inside kept =
     rw here (get_or-set_same (files_seen tells new table) i (option_map (file_seen tells new) o) None first ∙ sym (get_or-set_same (files_seen tells old table) i (option_map (file_seen tells new) o) None second)))
     (λ (there : k ≢ i).
     get_or-set_other (files_seen tells new table) i k (option_map (file_seen tells new) o) None there
-    ∙ seen_is tells new table k ∙ same_seen tells old new (get_or table k None) (λ e is told. kept told k e.at there (in_places table k e is)) ∙ sym (seen_is tells old table k)
+    ∙ seen_is tells new table k ∙ same_option tells old new (get_or table k None) (λ e is. same k e there is) ∙ sym (seen_is tells old table k)
     ∙ sym (get_or-set_other (files_seen tells old table) i k (option_map (file_seen tells new) o) None there))
     (cases_eq k i))
+
+-- where all but one kept their content, too
+pub seen_others : (tells : Bool) (old new : List ℕ) (table : EntryTable) (i : ℕ) (o : Option Entry) → i < length table → (IsTrue tells → KeepsOthers old new (places table) i)
+    → files_seen tells new (set table i o) ≡ set (files_seen tells old table) i (option_map (file_seen tells new) o)
+seen_others tells old new table i o inside kept = others_seen tells old new table i o inside (λ k e there is. kept_seen tells old new e (λ told. kept told k e.at there (in_places table k e is)))
 
 -- what was read byte by byte is a part of the file's bytes
 pub read_seen : (tells : Bool) (image : List ℕ) (table : EntryTable) (i : ℕ) (e : Entry) (at : ℕ) (old into : List ℕ) → IsTrue tells → IsEntry table i e → at + length old ≤ length (bytes_at (files_seen tells image table) i) → length into ≡ length old
@@ -293,11 +267,3 @@ pub space_with : {T : Type 0} (r : Result T FileError) (P Q R : ℕ → Type 0) 
 space_with (Ok x) P Q R more first second = tt
 space_with (Err (Space n)) P Q R more first second = more n first second
 space_with (Err Failed) P Q R more first second = tt
-
--- THE FLAG OF A FAILED CALL
-
--- what a volume tells
-pub told_by : (tells failed : Bool) → IsTrue (tells && not failed) → IsTrue tells × (failed ≡ false)
-told_by true true told = absurd (cc)
-told_by true false told = (refl, refl)
-told_by false failed told = absurd (cc)

@@ -1,6 +1,7 @@
 pub mod Asking
 pub mod Choices
 pub mod Cuts
+pub mod KeptTables
 pub mod Lowest
 pub mod Mounting
 pub mod Rooms

@@ -1,12 +1,11 @@
 ghost use Rattle.std.specs.Prelude.{◌≡◌, ◌≢◌, ◌-◌, ◌≤◌, ℕ, Some, None, get_or, IsTrue, OnErr, OnOk};
+ghost use Rattle.afl_base.specs.CutFiles.{MendsToEither};
 ghost use Rattle.afl_base.specs.Files.{Commits};
 ghost use Rattle.afl_base.specs.Keeping.{Changes};
 ghost use Rattle.afl_base.specs.Places.{AreTaken};
 ghost use Rattle.coffee_layout.specs.FileBytes.{file_byte};
-ghost use Rattle.coffee_merge.specs.CutMarks.{IsCutReplace, IsOneOf};
-ghost use Rattle.coffee_merge.specs.Flags.{flagged};
 ghost use Rattle.coffee_volume.specs.Taking.{TakesNone};
-ghost use Rattle.coffee_volume.specs.Volumes.{AtEntry, WhereTold, entry_name};
+ghost use Rattle.coffee_volume.specs.Volumes.{WhereTold, entry_name};
 
 use crate::entry::Entry;
 use crate::volume::Volume;
@@ -25,9 +24,10 @@ impl<F: Flash> Volume<F> {
             Commits (⟦<Self as Files>⟧.state self.old) (⟦<Self as Files>⟧.state self.new) id) }
         ensures taken { OnOk result (
             WhereTold (⟦<Self as Files>⟧.state self.old) (⟦<Self as Files>⟧.state self.new) TakesNone) }
-        ensures cut { let old = ⟦<Self as Files>⟧.state self.old in IsTrue old.tells → IsTrue F.cuts
-            → OnErr result (AtEntry self.old.table id (λ e.
-            IsCutReplace old.store (F.image self.new.flash) draft.page.0 e.page.0 e.log)) }
+        ensures cut { let files = ⟦<Self as Files>⟧ in let old = files.state self.old in
+            IsTrue files.cuts → IsTrue old.tells → OnErr result
+            (MendsToEither files.mends old.files (files.state self.new).store
+            (λ after. (id : ℕ) × Commits old after id)) }
         ensures frame { let files = ⟦<Self as Files>⟧ in
             Changes files.state files.lent files.reads files.faults self.old self.new result }
     {
@@ -58,8 +58,10 @@ impl<F: Flash> Volume<F> {
             Commits (⟦<Self as Files>⟧.state self.old) (⟦<Self as Files>⟧.state self.new) id) }
         ensures taken { OnOk result (
             WhereTold (⟦<Self as Files>⟧.state self.old) (⟦<Self as Files>⟧.state self.new) TakesNone) }
-        ensures cut { let old = ⟦<Self as Files>⟧.state self.old in IsTrue old.tells → IsTrue F.cuts
-            → OnErr result (IsOneOf (F.image self.new.flash) old.store (flagged old.store draft.page.0 1)) }
+        ensures cut { let files = ⟦<Self as Files>⟧ in let old = files.state self.old in
+            IsTrue files.cuts → IsTrue old.tells → OnErr result
+            (MendsToEither files.mends old.files (files.state self.new).store
+            (λ after. (id : ℕ) × Commits old after id)) }
         ensures frame { let files = ⟦<Self as Files>⟧ in
             Changes files.state files.lent files.reads files.faults self.old self.new result }
     {

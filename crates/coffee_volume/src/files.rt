@@ -11,18 +11,17 @@ use coffee_merge::{begin_extent, commit_extent, retire_file, write_extent};
 
 impl<F: Flash> Files for Volume<F> {
     ghost use Rattle.std.specs.Prelude.{◌≡◌, ◌≢◌, ℕ, ◌+◌, ◌-◌, ◌*◌, ◌<◌, ◌≤◌, max, ◌&&◌, not, None, length, replicate, slice_index, slice_range, IfOk, IsErrOf, IsSome, IsTrue, OnErr, OnOk};
+    ghost use Rattle.afl_base.specs.CutFiles.{AppendsFront, MendsToEither, MendsToState, OverwritesFront};
     ghost use Rattle.afl_base.specs.FileErrors.{OnSpace, UnlessFailed};
     ghost use Rattle.afl_base.specs.Files.{Appends, Commits, Creates, Drafts, IsKind, IsLive, IsNamed, IsUnnamed, Keeps, KeepsBytes, Overwrites, Removes, WritesDraft, draft_in, file_at, first_pages, size_at, used};
     ghost use Rattle.afl_base.specs.Fit.{fit};
     ghost use Rattle.afl_base.specs.Keeping.{Changes, ChangesOrLacks};
     ghost use Rattle.afl_base.specs.Regions.{regions};
-    ghost use Rattle.coffee_log.specs.FileCuts.{IsFileCut};
-    ghost use Rattle.coffee_merge.specs.CutMarks.{IsCutObsolete};
-    ghost use Rattle.coffee_merge.specs.Torn.{BreaksOff};
-    ghost use Rattle.coffee_volume.specs.Cuts.{CommitsPart, CreatesPart, PreparesPart};
+    ghost use Rattle.coffee_volume.specs.Cuts.{MendsToFiles};
+    ghost use Rattle.coffee_volume.specs.KeptTables.{kept_mend};
     ghost use Rattle.coffee_volume.specs.Lowest.{Looks, PlacesDraft, PlacesFile, Provides, Stops};
     ghost use Rattle.coffee_volume.specs.Taking.{KeepsUnits, TakesForDraft, TakesForFile, TakesNone};
-    ghost use Rattle.coffee_volume.specs.Volumes.{AtEntry, Asks, Lacks, WhereTold, places, state_seen};
+    ghost use Rattle.coffee_volume.specs.Volumes.{Asks, Lacks, WhereTold, state_seen};
 
     ghost state = { λ v. state_seen (F.tells && not v.failed) (F.image v.flash) v.table v.draft };
 
@@ -35,6 +34,13 @@ impl<F: Flash> Files for Volume<F> {
     ghost lacks = { λ v n. Lacks (F.tells && not v.failed) (F.image v.flash) n };
 
     ghost asks = { λ v id w b n. Asks v.table id w b n };
+
+    ghost cuts = { F.cuts };
+
+    ghost mends = { λ store files. MendsToFiles store files };
+
+    ghost mended = { λ v cuts tells. kept_mend F.tells v.failed (F.image v.flash) v.table v.draft
+        v.count v.big v.whole v.regular v.told tells };
 
     fn live(&self, id: FileId) -> bool {
         self.table[id.number() as usize].is_some()
@@ -82,9 +88,10 @@ impl<F: Flash> Files for Volume<F> {
         ensures need { OnSpace result (λ need. need ≡ first_pages kind) }
         ensures kept { OnSpace result (λ _.
             Keeps (⟦<Self as Files>⟧.state self.old) (⟦<Self as Files>⟧.state self.new)) }
-        ensures cut { let old = ⟦<Self as Files>⟧.state self.old in
-            IsTrue old.tells → IsTrue F.cuts → IsErrOf result FileError.Failed
-            → CreatesPart old.store (F.image self.new.flash) (places self.old.table) name kind }
+        ensures cut { let files = ⟦<Self as Files>⟧ in let old = files.state self.old in
+            IsTrue files.cuts → IsTrue old.tells → IsErrOf result FileError.Failed
+            → MendsToEither files.mends old.files (files.state self.new).store
+            (λ after. (id : ℕ) × Creates old after id name kind) }
         ensures frame { let files = ⟦<Self as Files>⟧ in
             ChangesOrLacks files.state files.lent files.reads files.faults files.lacks self.old self.new result }
     {
@@ -128,8 +135,9 @@ impl<F: Flash> Files for Volume<F> {
             Removes (⟦<Self as Files>⟧.state self.old) (⟦<Self as Files>⟧.state self.new) id) }
         ensures taken { OnOk result (
             WhereTold (⟦<Self as Files>⟧.state self.old) (⟦<Self as Files>⟧.state self.new) TakesNone) }
-        ensures cut { let old = ⟦<Self as Files>⟧.state self.old in IsTrue old.tells → IsTrue F.cuts
-            → OnErr result (AtEntry self.old.table id (λ e. IsCutObsolete old.store (F.image self.new.flash) e.page.0 e.log)) }
+        ensures cut { let files = ⟦<Self as Files>⟧ in let old = files.state self.old in
+            IsTrue files.cuts → IsTrue old.tells → OnErr result
+            (MendsToEither files.mends old.files (files.state self.new).store (λ after. Removes old after id)) }
         ensures frame { let files = ⟦<Self as Files>⟧ in
             Changes files.state files.lent files.reads files.faults self.old self.new result }
     {
@@ -178,9 +186,9 @@ impl<F: Flash> Files for Volume<F> {
         ensures need_fixed { OnSpace result (λ need. (n : ℕ)
             → (file_at (⟦<Self as Files>⟧.state self.old).files id).kind ≡ Kind.Fixed n → need ≤ 16) }
         ensures asked { OnSpace result (λ need. ⟦<Self as Files>⟧.asks self.new id overwrites bytes need) }
-        ensures cut { let old = ⟦<Self as Files>⟧.state self.old in
-            IsTrue old.tells → IsTrue F.cuts → IsErrOf result FileError.Failed
-            → PreparesPart old (F.image self.new.flash) id }
+        ensures cut { let files = ⟦<Self as Files>⟧ in let old = files.state self.old in
+            IsTrue files.cuts → IsTrue old.tells → IsErrOf result FileError.Failed
+            → files.mends (files.state self.new).store old.files }
         ensures frame { let files = ⟦<Self as Files>⟧ in
             ChangesOrLacks files.state files.lent files.reads files.faults files.lacks self.old self.new result }
     {
@@ -207,9 +215,9 @@ impl<F: Flash> Files for Volume<F> {
             ≡ (file_at (⟦<Self as Files>⟧.state self.old).files id).room) }
         ensures units { OnOk result (
             WhereTold (⟦<Self as Files>⟧.state self.old) (⟦<Self as Files>⟧.state self.new) KeepsUnits) }
-        ensures cut { let old = ⟦<Self as Files>⟧.state self.old in IsTrue old.tells → IsTrue F.cuts
-            → OnErr result (AtEntry self.old.table id (λ e.
-            IsFileCut old.store (F.image self.new.flash) e.page.0 e.pages e.log e.size at bytes.now)) }
+        ensures cut { let files = ⟦<Self as Files>⟧ in let old = files.state self.old in
+            IsTrue files.cuts → IsTrue old.tells → OnErr result
+            (MendsToState files.mends (files.state self.new).store (λ after. OverwritesFront old after id at bytes.now)) }
         ensures frame { let files = ⟦<Self as Files>⟧ in
             Changes files.state files.lent files.reads files.faults self.old self.new result }
     {
@@ -254,9 +262,9 @@ impl<F: Flash> Files for Volume<F> {
         ensures room { OnOk result ((file_at (⟦<Self as Files>⟧.state self.new).files id).room ≡ 0) }
         ensures units { OnOk result (
             WhereTold (⟦<Self as Files>⟧.state self.old) (⟦<Self as Files>⟧.state self.new) KeepsUnits) }
-        ensures cut { let old = ⟦<Self as Files>⟧.state self.old in IsTrue old.tells → IsTrue F.cuts
-            → OnErr result (AtEntry self.old.table id (λ e.
-            IsFileCut old.store (F.image self.new.flash) e.page.0 e.pages e.log e.size e.size bytes.now)) }
+        ensures cut { let files = ⟦<Self as Files>⟧ in let old = files.state self.old in
+            IsTrue files.cuts → IsTrue old.tells → OnErr result
+            (MendsToState files.mends (files.state self.new).store (λ after. AppendsFront old after id bytes.now)) }
         ensures frame { let files = ⟦<Self as Files>⟧ in
             Changes files.state files.lent files.reads files.faults self.old self.new result }
     {
@@ -306,9 +314,9 @@ impl<F: Flash> Files for Volume<F> {
         ensures need { OnSpace result (λ need. need ≡ fit size) }
         ensures kept { OnSpace result (λ _.
             Keeps (⟦<Self as Files>⟧.state self.old) (⟦<Self as Files>⟧.state self.new)) }
-        ensures cut { let old = ⟦<Self as Files>⟧.state self.old in
-            IsTrue old.tells → IsTrue F.cuts → IsErrOf result FileError.Failed
-            → BreaksOff old.store (F.image self.new.flash) (places self.old.table) }
+        ensures cut { let files = ⟦<Self as Files>⟧ in let old = files.state self.old in
+            IsTrue files.cuts → IsTrue old.tells → IsErrOf result FileError.Failed
+            → files.mends (files.state self.new).store old.files }
         ensures frame { let files = ⟦<Self as Files>⟧ in
             ChangesOrLacks files.state files.lent files.reads files.faults files.lacks self.old self.new result }
     {
@@ -349,8 +357,8 @@ impl<F: Flash> Files for Volume<F> {
             WritesDraft (⟦<Self as Files>⟧.state self.old) (⟦<Self as Files>⟧.state self.new) at bytes.now) }
         ensures taken { OnOk result (
             WhereTold (⟦<Self as Files>⟧.state self.old) (⟦<Self as Files>⟧.state self.new) TakesNone) }
-        ensures cut { let old = ⟦<Self as Files>⟧.state self.old in IsTrue old.tells → IsTrue F.cuts
-            → OnErr result (BreaksOff old.store (F.image self.new.flash) (places self.old.table)) }
+        ensures cut { let files = ⟦<Self as Files>⟧ in let old = files.state self.old in
+            IsTrue files.cuts → IsTrue old.tells → OnErr result (files.mends (files.state self.new).store old.files) }
         ensures frame { let files = ⟦<Self as Files>⟧ in
             Changes files.state files.lent files.reads files.faults self.old self.new result }
     {
@@ -374,9 +382,10 @@ impl<F: Flash> Files for Volume<F> {
             Commits (⟦<Self as Files>⟧.state self.old) (⟦<Self as Files>⟧.state self.new) id) }
         ensures taken { OnOk result (
             WhereTold (⟦<Self as Files>⟧.state self.old) (⟦<Self as Files>⟧.state self.new) TakesNone) }
-        ensures cut { let old = ⟦<Self as Files>⟧.state self.old in IsTrue old.tells → IsTrue F.cuts → OnErr result
-            ((d : FileAt) → self.old.draft ≡ Some d
-            → CommitsPart old.store (F.image self.new.flash) self.old.table d) }
+        ensures cut { let files = ⟦<Self as Files>⟧ in let old = files.state self.old in
+            IsTrue files.cuts → IsTrue old.tells → OnErr result
+            (MendsToEither files.mends old.files (files.state self.new).store
+            (λ after. (id : ℕ) × Commits old after id)) }
         ensures frame { let files = ⟦<Self as Files>⟧ in
             Changes files.state files.lent files.reads files.faults self.old self.new result }
     {

@@ -11,6 +11,6 @@ mod step;
 mod volume;
 mod window;
 
-pub use laws::cramped_volume_is_small;
+pub use laws::{cramped_volume_is_small, images_mend_to_one_set_of_files};
 pub use mount::MountError;
 pub use volume::Volume;

@@ -3,13 +3,12 @@ ghost use Rattle.afl_base.specs.FileErrors.{OnSpace, UnlessFailed};
 ghost use Rattle.afl_base.specs.Files.{IsLive, KeepsBytes, file_at, size_at};
 ghost use Rattle.afl_base.specs.Fit.{fit};
 ghost use Rattle.afl_base.specs.Keeping.{ChangesOrLacks};
-ghost use Rattle.coffee_merge.specs.Torn.{BreaksOff};
 ghost use Rattle.coffee_volume.specs.Choices.{ChoosesPages};
 ghost use Rattle.coffee_volume.specs.Lowest.{log_for};
 ghost use Rattle.coffee_volume.specs.Rooms.{pages_asked};
 ghost use Rattle.coffee_volume.specs.Steps.{IsAfter, MayTake, need_of, step_for};
 ghost use Rattle.coffee_volume.specs.Taking.{LiesIn};
-ghost use Rattle.coffee_volume.specs.Volumes.{AtEntry, FromTo, places};
+ghost use Rattle.coffee_volume.specs.Volumes.{AtEntry, FromTo};
 
 use crate::entry::Entry;
 use crate::step::{Step, lacks_log, step_for, take_step};
@@ -49,9 +48,9 @@ impl<F: Flash> Volume<F> {
         ensures chooses { let state = ⟦<Self as Files>⟧.state in
             ChoosesPages (λ e. step_for e overwrites bytes) id self.old.table self.new.table
             (state self.old) (state self.new) result }
-        ensures cut { let old = ⟦<Self as Files>⟧.state self.old in
-            IsTrue old.tells → IsTrue F.cuts → IsErrOf result FileError.Failed
-            → BreaksOff old.store (F.image self.new.flash) (places self.old.table) }
+        ensures cut { let files = ⟦<Self as Files>⟧ in let old = files.state self.old in
+            IsTrue files.cuts → IsTrue old.tells → IsErrOf result FileError.Failed
+            → files.mends (files.state self.new).store old.files }
         ensures frame { let files = ⟦<Self as Files>⟧ in
             ChangesOrLacks files.state files.lent files.reads files.faults files.lacks self.old self.new result }
     {
@@ -89,9 +88,9 @@ impl<F: Flash> Volume<F> {
         ensures chooses { let state = ⟦<Self as Files>⟧.state in
             ChoosesPages (λ e. log_for e overwrites bytes) id self.old.table self.new.table
             (state self.old) (state self.new) result }
-        ensures cut { let old = ⟦<Self as Files>⟧.state self.old in
-            IsTrue old.tells → IsTrue F.cuts → IsErrOf result FileError.Failed
-            → BreaksOff old.store (F.image self.new.flash) (places self.old.table) }
+        ensures cut { let files = ⟦<Self as Files>⟧ in let old = files.state self.old in
+            IsTrue files.cuts → IsTrue old.tells → IsErrOf result FileError.Failed
+            → files.mends (files.state self.new).store old.files }
         ensures frame { let files = ⟦<Self as Files>⟧ in
             ChangesOrLacks files.state files.lent files.reads files.faults files.lacks self.old self.new result }
     {
@@ -115,9 +114,9 @@ impl<F: Flash> Volume<F> {
         ensures chooses { let state = ⟦<Self as Files>⟧.state in
             ChoosesPages (λ _. Some step) id self.old.table self.new.table
             (state self.old) (state self.new) result }
-        ensures cut { let old = ⟦<Self as Files>⟧.state self.old in
-            IsTrue old.tells → IsTrue F.cuts → IsErrOf result FileError.Failed
-            → BreaksOff old.store (F.image self.new.flash) (places self.old.table) }
+        ensures cut { let files = ⟦<Self as Files>⟧ in let old = files.state self.old in
+            IsTrue files.cuts → IsTrue old.tells → IsErrOf result FileError.Failed
+            → files.mends (files.state self.new).store old.files }
         ensures frame { let files = ⟦<Self as Files>⟧ in
             ChangesOrLacks files.state files.lent files.reads files.faults files.lacks self.old self.new result }
     {

@@ -1,4 +1,4 @@
-ghost use Rattle.std.specs.Prelude.{◌≡◌, ◌*◌, ◌<◌, ◌≤◌, ℕ, false, max, Some, length, IsTrue};
+ghost use Rattle.std.specs.Prelude.{◌≡◌, ◌*◌, ◌/◌, ◌<◌, ◌≤◌, ℕ, false, max, Some, length, IsTrue};
 ghost use Rattle.afl_base.specs.Files.{IsLive, IsNamed, IsUnnamed, file_at, size_at, used};
 ghost use Rattle.afl_base.specs.Fit.{fit};
 ghost use Rattle.coffee_layout.specs.Units.{pages_of};
@@ -27,6 +27,7 @@ pub struct Volume<F: Flash> {
 
     ghost count: { length table ≡ 32 },
     ghost big: { length (F.image flash) ≤ 16773120 },
+    ghost whole: { length (F.image flash) ≡ 4096 * (length (F.image flash) / 4096) },
     ghost regular: { AreRegular (pages_of (F.image flash)) table },
     ghost pending: { (d : FileAt) → draft ≡ Some d → IsPending (pages_of (F.image flash)) d },
     ghost space: { (d : FileAt) → draft ≡ Some d → IsUnnamed (files_seen false (F.image flash) table) d.name

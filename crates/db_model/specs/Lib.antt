@@ -1,5 +1,6 @@
 pub mod Ahead
 pub mod Answers
+pub mod Between
 pub mod Catalog
 pub mod Cond
 pub mod Cost

@@ -7,7 +7,7 @@ use Rattle.afl_base.specs.Cuts.{IsCutErase, IsCutProgram}
 use Rattle.afl_base.specs.Image.{or_at, page_bytes, zeros_at}
 use Rattle.afl_base.proofs.Bits.{or_at_nothing}
 use Rattle.afl_base.proofs.Images.{length_or_at, length_zeros_at, or_at_before, or_at_behind, or_at_inside, or_at_page, range_at, range_same, zeros_at_before, zeros_at_behind, zeros_at_inside}
-use Rattle.flash_views.specs.Views.{touches}
+use Rattle.flash_views.specs.Views.{meets_blank}
 use Rattle.padded.proofs.Facts.{lt_true}
 
 -- ---- bytes that are alike stay alike
@@ -106,7 +106,7 @@ module _ (image : List ℕ) (place n : ℕ) (fits : place + n ≤ length image) 
 -- ---- calls
 
 -- a program that is let through has none of the bytes
-pub let_through : (place at n : ℕ) → touches place at n ≡ false → (at + n ≤ place) ⊎ (place + 128 ≤ at)
+pub let_through : (place at n : ℕ) → meets_blank place at n ≡ false → (at + n ≤ place) ⊎ (place + 128 ≤ at)
 let_through place at n e =
     ⊎_elim
     (λ (l : at < place + 128). ⊎_elim
@@ -126,16 +126,16 @@ fewer : (place at n m : ℕ) → m ≤ n → (at + n ≤ place) ⊎ (place + 128
 fewer place at n m less apart = ⊎_elim (λ (l : at + n ≤ place). inl (omega (arith, l, less))) (λ (l : place + 128 ≤ at). inr l) apart
 
 module _ (old new : List ℕ) (place : ℕ) (fits : place + 128 ≤ length old) where
-  pub programmed_blank : (at : ℕ) (bytes : List ℕ) → touches place at (length bytes) ≡ false → new ≡ or_at old at bytes → zeros_at new place 128 ≡ or_at (zeros_at old place 128) at bytes
+  pub programmed_blank : (at : ℕ) (bytes : List ℕ) → meets_blank place at (length bytes) ≡ false → new ≡ or_at old at bytes → zeros_at new place 128 ≡ or_at (zeros_at old place 128) at bytes
   programmed_blank at bytes e is = ap (λ i. zeros_at i place 128) is ∙ blank_program old place 128 fits at bytes (let_through place at (length bytes) e)
 
-  pub page_blank : (page at : ℕ) (bytes : List ℕ) → touches place (256 * page + at) (length bytes) ≡ false → 256 * page + 256 ≤ length old → at + length bytes ≤ 256 → new ≡ or_at old (256 * page + at) bytes
+  pub page_blank : (page at : ℕ) (bytes : List ℕ) → meets_blank place (256 * page + at) (length bytes) ≡ false → 256 * page + 256 ≤ length old → at + length bytes ≤ 256 → new ≡ or_at old (256 * page + at) bytes
       → page_bytes (zeros_at new place 128) page ≡ or_at (page_bytes (zeros_at old place 128) page) at bytes
   page_blank page at bytes e exists range is =
       ap (λ i. page_bytes i page) (programmed_blank (256 * page + at) bytes e is)
       ∙ or_at_page (zeros_at old place 128) page at bytes (omega (arith, exists, length_zeros_at old place 128 fits)) range
 
-  pub cut_program_blank : (at : ℕ) (bytes : List ℕ) → touches place at (length bytes) ≡ false → IsCutProgram old new at bytes → IsCutProgram (zeros_at old place 128) (zeros_at new place 128) at bytes
+  pub cut_program_blank : (at : ℕ) (bytes : List ℕ) → meets_blank place at (length bytes) ≡ false → IsCutProgram old new at bytes → IsCutProgram (zeros_at old place 128) (zeros_at new place 128) at bytes
   cut_program_blank at bytes e cut = record {
     done = cut.done;
     front = cut.front;

@@ -10,11 +10,11 @@ use Rattle.afl_base.specs.declared.ids.SectorId.{SectorId}
 use Rattle.afl_base.proofs.Images.{length_or_at, length_range, length_zeros_at, or_at_before, or_at_behind, or_at_inside, range_at, range_same, zeros_at_before, zeros_at_behind, zeros_at_inside}
 use Rattle.flash_views.specs.declared.overlay.Mark.{Mark}
 use Rattle.flash_views.specs.declared.overlay.Overlay.{Overlay}
-use Rattle.flash_views.specs.Views.{IsView, LiesInside, StandAt, blank_code, blanked, code, emptied, mark_code, marked, overlaid, sector_code, spoilt}
+use Rattle.flash_views.specs.Views.{IsView, FitsImage, StandAt, blank_code, blanked, code, emptied, mark_code, with_mark, overlaid, sector_code, spoilt}
 
 -- ---- lengths
 
-pub length_marked : (image : List ℕ) (m : Option Mark) → length (marked image m) ≡ length image
+pub length_marked : (image : List ℕ) (m : Option Mark) → length (with_mark image m) ≡ length image
 length_marked image None = refl
 length_marked image (Some m) = length_or_at image (256 * m.page.0 + 9) (m.bits ∷ [])
 
@@ -26,16 +26,16 @@ pub length_blanked : (image : List ℕ) (b : Option ℕ) → ((x : ℕ) → b �
 length_blanked image None inside = refl
 length_blanked image (Some p) inside = length_zeros_at image p 128 (inside p refl)
 
-pub length_marks : (image : List ℕ) (o : Overlay) → length (marked (marked image o.first) o.second) ≡ length image
-length_marks image o = length_marked (marked image o.first) o.second ∙ length_marked image o.first
+pub length_marks : (image : List ℕ) (o : Overlay) → length (with_mark (with_mark image o.first) o.second) ≡ length image
+length_marks image o = length_marked (with_mark image o.first) o.second ∙ length_marked image o.first
 
-pub length_written : (image : List ℕ) (o : Overlay) → LiesInside (length image) o → length (emptied (marked (marked image o.first) o.second) o.sector) ≡ length image
+pub length_written : (image : List ℕ) (o : Overlay) → FitsImage (length image) o → length (emptied (with_mark (with_mark image o.first) o.second) o.sector) ≡ length image
 length_written image o i =
-    length_emptied (marked (marked image o.first) o.second) o.sector (λ s e. let l = i.sector s e in omega (arith, l, length_marks image o)) ∙ length_marks image o
+    length_emptied (with_mark (with_mark image o.first) o.second) o.sector (λ s e. let l = i.sector s e in omega (arith, l, length_marks image o)) ∙ length_marks image o
 
-pub length_overlaid : (image : List ℕ) (o : Overlay) → LiesInside (length image) o → length (overlaid image o) ≡ length image
+pub length_overlaid : (image : List ℕ) (o : Overlay) → FitsImage (length image) o → length (overlaid image o) ≡ length image
 length_overlaid image o i =
-    length_blanked (emptied (marked (marked image o.first) o.second) o.sector) o.blank (λ p e. let l = i.blank p e in omega (arith, l, length_written image o i)) ∙ length_written image o i
+    length_blanked (emptied (with_mark (with_mark image o.first) o.second) o.sector) o.blank (λ p e. let l = i.blank p e in omega (arith, l, length_written image o i)) ∙ length_written image o i
 
 -- ---- bytes that stand in an image
 
@@ -129,7 +129,7 @@ pub length_spoilt : (image : List ℕ) (o : Option PageId) → length (spoilt im
 length_spoilt image None = refl
 length_spoilt image (Some p) = length-set image (256 * p.0) (get_or image (256 * p.0) 0 + 1)
 
-pub length_view : (image : List ℕ) (o : Overlay) (s : Option PageId) → LiesInside (length image) o → length (spoilt (overlaid image o) s) ≡ length image
+pub length_view : (image : List ℕ) (o : Overlay) (s : Option PageId) → FitsImage (length image) o → length (spoilt (overlaid image o) s) ≡ length image
 length_view image o s inside = length_spoilt (overlaid image o) s ∙ length_overlaid image o inside
 
 -- an image of which a page is spoilt is another one
@@ -232,7 +232,7 @@ pub record IsShown (image lent : List ℕ) (o : Overlay) (s : Option PageId) (re
   pub lent_is : lent ≡ held
   pub unrefused : refused ≡ 0
 
-pub shown : (image lent other held : List ℕ) (o p : Overlay) (s : Option PageId) (refused : ℕ) → IsView (length image) o s refused → LiesInside (length other) p
+pub shown : (image lent other held : List ℕ) (o p : Overlay) (s : Option PageId) (refused : ℕ) → IsView (length image) o s refused → FitsImage (length other) p
     → spoilt (overlaid image o) s ≡ overlaid other p → code o ++ (image ++ lent) ≡ code p ++ (other ++ held) → IsShown image lent o s refused other held
 shown image lent other held o p s refused v inside same borrowed =
     let parts = fronts_same (code o) (image ++ lent) (code p) (other ++ held) borrowed (length_code p o) in

@@ -7,9 +7,9 @@ use Rattle.flash_views.specs.declared.overlay.Mark.{Mark}
 use Rattle.flash_views.specs.declared.overlay.Overlay.{Overlay}
 
 -- the image with a mark, if any
-abbrev pub marked : List ℕ → Option Mark → List ℕ
-marked image None = image
-marked image (Some m) = or_at image (256 * m.page.0 + 9) (m.bits ∷ [])
+abbrev pub with_mark : List ℕ → Option Mark → List ℕ
+with_mark image None = image
+with_mark image (Some m) = or_at image (256 * m.page.0 + 9) (m.bits ∷ [])
 
 -- the image with a sector erased, if any
 abbrev pub emptied : List ℕ → Option SectorId → List ℕ
@@ -23,10 +23,10 @@ blanked image (Some place) = zeros_at image place 128
 
 -- the image as if the writes of an overlay had been done
 abbrev pub overlaid : List ℕ → Overlay → List ℕ
-overlaid image o = blanked (emptied (marked (marked image o.first) o.second) o.sector) o.blank
+overlaid image o = blanked (emptied (with_mark (with_mark image o.first) o.second) o.sector) o.blank
 
 -- the sector and the bytes of an overlay lie inside an image of so many bytes
-pub record LiesInside (size : ℕ) (o : Overlay) : Type 0 where
+pub record FitsImage (size : ℕ) (o : Overlay) : Type 0 where
   pub sector : (s : SectorId) → o.sector ≡ Some s → 4096 * s.0 + 4096 ≤ size
   pub blank : (place : ℕ) → o.blank ≡ Some place → place + 128 ≤ size
 
@@ -65,7 +65,7 @@ pub record FlashInView (F : Type 0) : Type 0 where
 
 -- the overlay lies inside the flash, and so does a page that is spoilt. One is where a write was refused
 pub record IsView (size : ℕ) (overlay : Overlay) (spoilt : Option PageId) (refused : ℕ) : Type 0 where
-  pub inside : LiesInside size overlay
+  pub inside : FitsImage size overlay
   pub page : (p : PageId) → spoilt ≡ Some p → 256 * p.0 + 256 ≤ size
   pub unspoilt : spoilt ≡ None → refused ≡ 0
 
@@ -81,13 +81,13 @@ pub record FlashWithBlank (F : Type 0) : Type 0 where
   pub refused : ℕ
 
 -- one refusal more, up to the last number of a u64
-abbrev pub one_more : ℕ → ℕ
-one_more refused = min (refused + 1) (2 ^ 64 - 1)
+abbrev pub refusals_after : ℕ → ℕ
+refusals_after refused = min (refused + 1) (2 ^ 64 - 1)
 
 -- the refusals, and the faults of the flash inside
-abbrev pub all_faults : (refused faults : ℕ) → ℕ
-all_faults refused faults = refused + faults
+abbrev pub faults_in_all : (refused faults : ℕ) → ℕ
+faults_in_all refused faults = refused + faults
 
 -- n bytes from a place on have one of 128 bytes
-abbrev pub touches : (blank place n : ℕ) → Bool
-touches blank place n = nat_lt place (blank + 128) && nat_lt blank (place + n)
+abbrev pub meets_blank : (blank place n : ℕ) → Bool
+meets_blank blank place n = nat_lt place (blank + 128) && nat_lt blank (place + n)

@@ -27,7 +27,7 @@ impl<F: Flash> Model for Blanked<F> {
 
 impl<F: Flash> Blanked<F> {
     ghost use Rattle.std.specs.Prelude.{◌≡◌, ◌+◌, ◌≤◌, length, is_err, false, true};
-    ghost use Rattle.flash_views.specs.Views.{one_more, touches};
+    ghost use Rattle.flash_views.specs.Views.{refusals_after, meets_blank};
 
     /// A flash over `flash`, of which the 128 bytes from `place` on read as zeros.
     pub fn new(flash: F, place: u32) -> Blanked<F>
@@ -67,7 +67,7 @@ impl<F: Flash> Blanked<F> {
     // Whether `n` bytes from `from` on have one of the 128 bytes.
     fn touches(&self, from: usize, n: usize) -> bool
         requires fits { from + n ≤ 16777216 }
-        ensures { result ≡ touches self.now.place from n }
+        ensures { result ≡ meets_blank self.now.place from n }
     {
         let place = self.place as usize;
         from < place + 128 && place < from + n
@@ -76,7 +76,7 @@ impl<F: Flash> Blanked<F> {
     // Fails, and counts that.
     fn refuse(&mut self) -> Result<(), Failed>
         ensures fails { is_err result ≡ true }
-        ensures counts { self.new ≡ record self.old { refused = one_more self.old.refused } }
+        ensures counts { self.new ≡ record self.old { refused = refusals_after self.old.refused } }
     {
         self.refused = self.refused.saturating_add(1);
         Err(Failed)
@@ -86,7 +86,7 @@ impl<F: Flash> Blanked<F> {
 impl<F: Flash> Flash for Blanked<F> {
     ghost use Rattle.std.specs.Prelude.{◌∷◌};
     ghost use Rattle.afl_base.specs.Image.{zeros_at};
-    ghost use Rattle.flash_views.specs.Views.{all_faults};
+    ghost use Rattle.flash_views.specs.Views.{faults_in_all};
 
     ghost tells = { F.tells };
 
@@ -94,7 +94,7 @@ impl<F: Flash> Flash for Blanked<F> {
 
     ghost image = { λ f. zeros_at (F.image f.inner) f.place 128 };
 
-    ghost faults = { λ f. all_faults f.refused (F.faults f.inner) };
+    ghost faults = { λ f. faults_in_all f.refused (F.faults f.inner) };
 
     ghost reads = { λ f. F.reads f.inner };
 

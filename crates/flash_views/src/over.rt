@@ -1,7 +1,7 @@
 ghost use Rattle.std.specs.Prelude.{◌≡◌, ℕ, ◌+◌, ◌*◌, ◌≤◌, List, [], ◌∷◌, length, Some};
 ghost use Rattle.afl_base.specs.Image.{or_at, zeros_at};
 ghost use Rattle.afl_base.specs.declared.ids.SectorId.{SectorId as Sector};
-ghost use Rattle.flash_views.specs.Views.{LiesInside, StandAt, blanked, emptied, marked, overlaid};
+ghost use Rattle.flash_views.specs.Views.{FitsImage, StandAt, blanked, emptied, with_mark, overlaid};
 
 use crate::overlay::{Mark, Overlay};
 use afl_base::SectorId;
@@ -12,7 +12,7 @@ use afl_base::SectorId;
 // All that is laid over an image.
 pub(crate) fn put_over(overlay: &Overlay, place: usize, into: &mut [u8])
     requires fits { place + length into.old ≤ 16777216 }
-    ensures over { (image : List ℕ) → LiesInside (length image) overlay.now
+    ensures over { (image : List ℕ) → FitsImage (length image) overlay.now
         → StandAt image place into.old → StandAt (overlaid image overlay.now) place into.new }
 {
     put_mark(overlay.first, place, into);
@@ -24,7 +24,7 @@ pub(crate) fn put_over(overlay: &Overlay, place: usize, into: &mut [u8])
 // A mark.
 fn put_mark(mark: Option<Mark>, place: usize, into: &mut [u8])
     ensures over { (image : List ℕ) → StandAt image place into.old
-        → StandAt (marked image mark) place into.new }
+        → StandAt (with_mark image mark) place into.new }
 {
     if let Some(mark) = mark {
         put_bits(256 * usize::from(mark.page.0) + 9, mark.bits, place, into);

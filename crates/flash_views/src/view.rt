@@ -33,12 +33,12 @@ impl<F: Flash> Model for View<F> {
 impl<F: Flash> View<F> {
     ghost use Rattle.std.specs.Prelude.{◌≡◌, ℕ, ◌+◌, ◌*◌, ◌≤◌, List, ◌++◌, length, is_err, true, None, Some};
     ghost use Rattle.std.specs.Option.{option_or};
-    ghost use Rattle.flash_views.specs.Views.{IsSameFlash, LiesInside, code, one_more, overlaid};
+    ghost use Rattle.flash_views.specs.Views.{IsSameFlash, FitsImage, code, refusals_after, overlaid};
     ghost use Rattle.flash_views.specs.declared.overlay.Overlay.{Overlay as Laid};
 
     /// A view of `flash`, over which `overlay` is laid.
     pub fn new(flash: F, overlay: Overlay) -> View<F>
-        requires inside { LiesInside (length (F.image flash)) overlay }
+        requires inside { FitsImage (length (F.image flash)) overlay }
         ensures image { ⟦<Self as Flash>⟧.image result ≡ overlaid (F.image flash) overlay }
         ensures lent { ⟦<Self as Flash>⟧.lent result ≡ code overlay ++ (F.image flash ++ F.lent flash) }
         ensures reads { ⟦<Self as Flash>⟧.reads result ≡ F.reads flash }
@@ -56,11 +56,11 @@ impl<F: Flash> View<F> {
     /// that does, it is as that flash, and each of its faults is one of the view.
     pub fn into_flash(self) -> F
         ensures reads { F.reads result ≡ ⟦<Self as Flash>⟧.reads self }
-        ensures same { (flash : F) (overlay : Laid) → LiesInside (length (F.image flash)) overlay
+        ensures same { (flash : F) (overlay : Laid) → FitsImage (length (F.image flash)) overlay
             → ⟦<Self as Flash>⟧.image self ≡ overlaid (F.image flash) overlay
             → ⟦<Self as Flash>⟧.lent self ≡ code overlay ++ (F.image flash ++ F.lent flash)
             → IsSameFlash F.image F.lent flash result }
-        ensures faults { (flash : F) (overlay : Laid) → LiesInside (length (F.image flash)) overlay
+        ensures faults { (flash : F) (overlay : Laid) → FitsImage (length (F.image flash)) overlay
             → ⟦<Self as Flash>⟧.image self ≡ overlaid (F.image flash) overlay
             → ⟦<Self as Flash>⟧.lent self ≡ code overlay ++ (F.image flash ++ F.lent flash)
             → F.faults result ≡ ⟦<Self as Flash>⟧.faults self }
@@ -79,7 +79,7 @@ impl<F: Flash> View<F> {
         requires page { 256 * page.0 + 256 ≤ length (F.image self.old.inner) }
         ensures fails { is_err result ≡ true }
         ensures counts { self.new
-            ≡ record self.old { spoilt = option_or self.old.spoilt (Some page); refused = one_more self.old.refused } }
+            ≡ record self.old { spoilt = option_or self.old.spoilt (Some page); refused = refusals_after self.old.refused } }
     {
         self.refused = self.refused.saturating_add(1);
         self.spoilt = self.spoilt.or(Some(page));
@@ -89,7 +89,7 @@ impl<F: Flash> View<F> {
 
 impl<F: Flash> Flash for View<F> {
     ghost use Rattle.std.specs.Prelude.{◌++◌, false};
-    ghost use Rattle.flash_views.specs.Views.{all_faults, code, overlaid, spoilt};
+    ghost use Rattle.flash_views.specs.Views.{faults_in_all, code, overlaid, spoilt};
 
     ghost tells = { F.tells };
 
@@ -97,7 +97,7 @@ impl<F: Flash> Flash for View<F> {
 
     ghost image = { λ f. spoilt (overlaid (F.image f.inner) f.overlay) f.spoilt };
 
-    ghost faults = { λ f. all_faults f.refused (F.faults f.inner) };
+    ghost faults = { λ f. faults_in_all f.refused (F.faults f.inner) };
 
     ghost reads = { λ f. F.reads f.inner };
 

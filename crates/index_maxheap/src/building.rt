@@ -2,7 +2,7 @@
 
 #![tactic(auto)]
 
-ghost use Rattle.std.specs.Prelude.{◌≡◌, ◌≢◌, ◌+◌, ◌*◌, ◌^◌, ◌<◌, ◌≤◌, ℕ, List, IfOk, IsSome, IsTrue, OnOk, length, replicate};
+ghost use Rattle.std.specs.Prelude.{◌≡◌, ◌≢◌, ◌+◌, ◌*◌, ◌^◌, ◌<◌, ◌≤◌, ℕ, List, IfOk, IsSome, IsTrue, OnErr, OnOk, length, replicate};
 ghost use Rattle.afl_base.specs.Keeping.{Changes};
 ghost use Rattle.afl_base.specs.Files.{draft_in};
 ghost use Rattle.afl_base.specs.KeyColumn.{HasField, IsWidth, key_of};
@@ -28,6 +28,8 @@ fn write_pair<V: Files>(files: &mut V, at: u32, key: &i32, slot: SlotNo) -> Resu
         → HasZeros (draft_in (V.state files.old)).bytes at 6 }
     ensures written { OnOk result
         (DraftsPair (V.state files.old) (V.state files.new) at (pair key.now slot)) }
+    ensures cut { IsTrue V.cuts → IsTrue (V.state files.old).tells → OnErr result
+        (V.mends (V.state files.new).store (V.state files.old).files) }
     ensures frame { Changes V.state V.lent V.reads V.faults files.old files.new result }
 {
     let bytes = pair_bytes(key, slot);
@@ -53,6 +55,8 @@ fn write_bucket<V: Files>(
         → HasZeros (draft_in (V.state files.old)).bytes at 2 }
     ensures written { OnOk result
         (DraftsBucket (V.state files.old) (V.state files.new) at opened (pair key.now slot)) }
+    ensures cut { IsTrue V.cuts → IsTrue (V.state files.old).tells → OnErr result
+        (V.mends (V.state files.new).store (V.state files.old).files) }
     ensures frame { Changes V.state V.lent V.reads V.faults files.old files.new result }
 {
     let bucket = first_bucket(key, slot);
@@ -102,6 +106,8 @@ fn build_slot<V: Files>(
         IfOk result (λ opens. Builds loads.new places.new (opened + opens) (draft_in (V.state files.new)).bytes (with_pair ps key.now slot)) }
     ensures safe { IfOk result (λ opens. IsSafeBuild loads.new places.new (opened + opens) most (slot + 1)) }
     ensures only { OnOk result (HasOtherDraft (V.state files.old) (V.state files.new)) }
+    ensures cut { IsTrue V.cuts → IsTrue (V.state files.old).tells → OnErr result
+        (V.mends (V.state files.new).store (V.state files.old).files) }
     ensures frame { Changes V.state V.lent V.reads V.faults files.old files.new result }
 {
     let level = level_with_room(loads, key);
@@ -145,6 +151,8 @@ pub fn build<V: Files>(
     ensures tree { IsTrue (V.state files.old).tells
         → OnOk result (IsTreeOf (draft_in (V.state files.new)).bytes (first_keys (key_of (V.state files.old) column) slots)) }
     ensures only { OnOk result (HasOtherDraft (V.state files.old) (V.state files.new)) }
+    ensures cut { IsTrue V.cuts → IsTrue (V.state files.old).tells → OnErr result
+        (V.mends (V.state files.new).store (V.state files.old).files) }
     ensures frame { Changes V.state V.lent V.reads V.faults files.old files.new result }
 {
     files.draft_write(HEAD_SIZE as u32 - 1, &[1])?;

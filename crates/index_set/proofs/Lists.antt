@@ -1,13 +1,13 @@
 -- Indexes of a list one by one, and the rooms of their trees.
 use Rattle.std.proofs.Common.{length-append, ◌≡◌, ◌≢◌, ℕ, ℤ, ◌+◌, ◌<◌, ◌≤◌, List, [], ◌∷◌, ◌++◌, length, take, get_or, zero, suc, add-one, Option, unwrap_or, refl, ap, sym, ◌∙◌, subst, arith, inl, inr, IsTrue}
-use Rattle.std.specs.Prelude.{Err, slice_get}
+use Rattle.std.specs.Prelude.{Err, IsErrOf, slice_get}
 use Rattle.std.specs.List.{AllByRecursion}
 use Rattle.afl_base.specs.declared.kind.FileError.{FileError}
 use Rattle.afl_base.specs.declared.kind.FileError.TheVariants.{Space, Failed}
 use Rattle.afl_base.specs.FileErrors.{OnSpace, UnlessFailed}
 use Rattle.afl_base.specs.Files.{File, IsLive, State, bytes_at, file_at, no_file, place, size_at}
 use Rattle.afl_base.specs.Frames.{Prepares, SparesOthers}
-use Rattle.afl_base.proofs.FrameLaws.{becomes_spares, live_by_name, prepares_then}
+use Rattle.afl_base.proofs.FrameLaws.{becomes_spares, live_by_name, prepares_then, spares_then}
 use Rattle.db_model.specs.declared.values.Value.{Value}
 use Rattle.db_model.specs.Step.{key_of}
 use Rattle.index_maxheap.specs.declared.rooms.End.{End}
@@ -150,6 +150,10 @@ module _ (xs : List IndexInfo) (n : ℕ) (y : IndexInfo) (h : n < length xs) (e 
   pub before_it : AreApart xs → AllByRecursion (λ x. IsElsewhere x.access y.access) (take n xs)
   before_it apart = let P : IndexInfo → Type 0 = λ i. AllByRecursion (λ x. IsElsewhere x.access i.access) (take n xs) in subst P (sym e) (apart_before xs n y h apart)
 
+  pub spares_all : (a b c : State) → SparesOthers a b (IsNoTree (take n xs)) → SparesOthers b c (λ k. IsApart k y.access) → SparesOthers a c (IsNoTree xs)
+  spares_all a b c f g = spares_then a b c (IsNoTree (take n xs)) (λ k. IsApart k y.access) (IsNoTree xs) f g
+      (λ k all. (take_of (λ info. IsApart k info.access) xs n all, here_of (λ info. IsApart k info.access) all))
+
   module _ (a b c : State) (f : Prepares a b (IsNoTree (take n xs))) (g : Prepares b c (λ k. IsApart k y.access)) where
     pub prepares_all : Prepares a c (IsNoTree xs)
     prepares_all = prepares_then a b c (IsNoTree (take n xs)) (λ k. IsApart k y.access) (IsNoTree xs) f g
@@ -182,6 +186,10 @@ asks_key asks value key s need (InTable number) has is h = h
 pub unless_failed : (A B : Type 0) {X Y : Type 0} (error : FileError) → (X → Y) → UnlessFailed {T = A} (Err error) X → UnlessFailed {T = B} (Err error) Y
 unless_failed A B (Space need) f h = f h
 unless_failed A B Failed f h = tt
+
+pub same_failure : (A B : Type 0) (error : FileError) → IsErrOf {T = A} (Err error) Failed → IsErrOf {T = B} (Err error) Failed
+same_failure A B (Space need) h = absurd (cc)
+same_failure A B Failed h = refl
 
 pub on_space : (A B : Type 0) (error : FileError) (P Q : ℕ → Type 0) → ((n : ℕ) → P n → Q n) → OnSpace {T = A} (Err error) P → OnSpace {T = B} (Err error) Q
 on_space A B (Space need) P Q f h = f need h

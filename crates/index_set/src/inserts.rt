@@ -2,7 +2,8 @@
 
 #![tactic(auto)]
 
-ghost use Rattle.std.specs.Prelude.{◌≡◌, ◌≢◌, ◌+◌, ◌<◌, ◌++◌, ◌∷◌, [], ℤ, pos, negsuc, List, None, IsTrue, OnOk, IfOk, length, slice_get};
+ghost use Rattle.std.specs.Prelude.{◌≡◌, ◌≢◌, ◌+◌, ◌<◌, ◌++◌, ◌∷◌, [], ℤ, pos, negsuc, List, None, IsErrOf, IsTrue, OnErr, OnOk, IfOk, length, slice_get};
+ghost use Rattle.afl_base.specs.CutFiles.{MendsToState};
 ghost use Rattle.afl_base.specs.Keeping.{Changes, ChangesOrLacks};
 ghost use Rattle.afl_base.specs.declared.kind.Kind.TheVariants as Kind;
 ghost use Rattle.afl_base.specs.Asked.{asks_few};
@@ -42,6 +43,9 @@ pub fn prepare_all<V: Files>(
     ensures asked { IsTrue (V.state files.old).tells → OnSpace result (λ need.
         OneAsksFor (asks_few (V.asks files.new) (V.state files.new).files) (V.state files.new) tuple.now need
         indexes.now) }
+    ensures cut { IsTrue V.cuts → IsTrue (V.state files.old).tells → IsErrOf result FileError.Failed
+        → MendsToState V.mends (V.state files.new).store
+        (λ after. Prepares (V.state files.old) after (IsNoTree indexes.now)) }
     ensures frame { ChangesOrLacks V.state V.lent V.reads V.faults V.lacks files.old files.new result }
 {
     let mut rooms = Rooms::new();
@@ -92,6 +96,9 @@ fn prepare_one<V: Files>(files: &mut V, access: Access, key: &i32) -> Result<Roo
         IsRoomFor (V.state files.old) key.now room access) }
     ensures asked { IsTrue (V.state files.old).tells → OnSpace result (λ need.
         AsksFor (asks_few (V.asks files.new) (V.state files.new).files) (V.state files.new) key.now need access) }
+    ensures cut { IsTrue V.cuts → IsTrue (V.state files.old).tells → IsErrOf result FileError.Failed
+        → MendsToState V.mends (V.state files.new).store
+        (λ after. Prepares (V.state files.old) after (λ id. IsApart id access)) }
     ensures frame { ChangesOrLacks V.state V.lent V.reads V.faults V.lacks files.old files.new result }
 {
     match access {
@@ -102,7 +109,7 @@ fn prepare_one<V: Files>(files: &mut V, access: Access, key: &i32) -> Result<Roo
 }
 
 // Makes room in a tree for a key. Where the file is no tree, nothing is needed.
-#[tactic(auto, using(afl_base::proofs::AskedLaws::asked_few, afl_base::proofs::FrameLaws::keeps_prepares, afl_base::proofs::FrameLaws::prepares_same, crate::proofs::Lists::room_made, crate::proofs::Lists::nothing_needed))]
+#[tactic(auto, using(afl_base::proofs::AskedLaws::asked_few, afl_base::proofs::CutLaws::mends_now, afl_base::proofs::FrameLaws::keeps_prepares, afl_base::proofs::FrameLaws::prepares_same, crate::proofs::Lists::room_made, crate::proofs::Lists::nothing_needed))]
 fn prepare_tree<V: Files>(files: &mut V, file: FileId, key: &i32) -> Result<Room, FileError>
     requires idle { (V.state files.old).draft ≡ None }
     requires live { IsLive (V.state files.old).files file }
@@ -116,6 +123,9 @@ fn prepare_tree<V: Files>(files: &mut V, file: FileId, key: &i32) -> Result<Room
         → (keys : List ℤ) → IsTreeOf bytes keys → OnSpace result (λ need.
         asks_few (V.asks files.new) (V.state files.new).files file
         ((room_of bytes key.now).overwrites) ((room_of bytes key.now).bytes) need) }
+    ensures cut { IsTrue V.cuts → IsTrue (V.state files.old).tells → IsErrOf result FileError.Failed
+        → MendsToState V.mends (V.state files.new).store
+        (λ after. Prepares (V.state files.old) after (λ id. id ≢ file)) }
     ensures frame { ChangesOrLacks V.state V.lent V.reads V.faults V.lacks files.old files.new result }
 {
     let room = room(files, file, key)?;
@@ -156,6 +166,9 @@ pub fn insert_all<V: Files>(
     ensures others { OnOk result
         (SparesOthers (V.state files.old) (V.state files.new) (IsNoTree indexes.now)) }
     ensures tables { OnOk result (KeepsTables tables.old tables.new indexes.now) }
+    ensures cut { IsTrue V.cuts → IsTrue (V.state files.old).tells → OnErr result
+        (MendsToState V.mends (V.state files.new).store
+        (λ after. SparesOthers (V.state files.old) after (IsNoTree indexes.now))) }
     ensures frame { Changes V.state V.lent V.reads V.faults files.old files.new result }
 {
     let count = indexes.len();
@@ -192,6 +205,9 @@ fn insert_one<V: Files>(
     ensures others { OnOk result
         (SparesOthers (V.state files.old) (V.state files.new) (λ id. IsApart id access)) }
     ensures tables { OnOk result (KeepsTablesBeside access tables.old tables.new) }
+    ensures cut { IsTrue V.cuts → IsTrue (V.state files.old).tells → OnErr result
+        (MendsToState V.mends (V.state files.new).store
+        (λ after. SparesOthers (V.state files.old) after (λ id. IsApart id access))) }
     ensures frame { Changes V.state V.lent V.reads V.faults files.old files.new result }
 {
     match access {

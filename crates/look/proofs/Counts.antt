@@ -6,7 +6,7 @@ use Rattle.coffee_layout.specs.declared.unit.Unit.{Unit}
 use Rattle.coffee_layout.proofs.Searches.{IsRead}
 use Rattle.coffee_layout.proofs.Tilings.{kept_some}
 use Rattle.look.specs.declared.pages.PageCounts.{PageCounts}
-use Rattle.look.specs.Pages.{CountsMore, is_file, is_log, is_old, page_counts, pages_if}
+use Rattle.look.specs.Pages.{CountsMore, holds_file, holds_log, is_old, page_counts, pages_if}
 use Rattle.padded.proofs.Facts.{some_same}
 
 -- the units from a page on are still to be counted
@@ -16,8 +16,8 @@ pub record Counted (building : ℕ → Bool) (image : List ℕ) (us : List Unit)
   pub keep : KeepRules building image page after_free rest
   pub whole : page + total rest ≡ pages_of image
   pub free : counts.free + total (filter is_free rest) ≡ total (filter is_free us)
-  pub files : counts.files + total (filter is_file rest) ≡ total (filter is_file us)
-  pub logs : counts.logs + total (filter is_log rest) ≡ total (filter is_log us)
+  pub files : counts.files + total (filter holds_file rest) ≡ total (filter holds_file us)
+  pub logs : counts.logs + total (filter holds_log rest) ≡ total (filter holds_log us)
   pub old : counts.old + total (filter is_old rest) ≡ total (filter is_old us)
 
 -- the first unit passes a test or not
@@ -34,13 +34,13 @@ same_counts x y a b c d =
     ap (λ n. counts n x.files x.logs x.old) a ∙ ap (λ n. counts y.free n x.logs x.old) b ∙ ap (λ n. counts y.free y.files n x.old) c ∙ ap (counts y.free y.files y.logs) d
 
 counted_first : (building : ℕ → Bool) (image : List ℕ) (us : List Unit) (page : ℕ) (old new : PageCounts) (u : Unit) (after_free : Bool) (rest : List Unit) → KeepRules building image page after_free (u ∷ rest) → page + total (u ∷ rest) ≡ pages_of image
-    → old.free + total (filter is_free (u ∷ rest)) ≡ total (filter is_free us) → old.files + total (filter is_file (u ∷ rest)) ≡ total (filter is_file us)
-    → old.logs + total (filter is_log (u ∷ rest)) ≡ total (filter is_log us) → old.old + total (filter is_old (u ∷ rest)) ≡ total (filter is_old us)
+    → old.free + total (filter is_free (u ∷ rest)) ≡ total (filter is_free us) → old.files + total (filter holds_file (u ∷ rest)) ≡ total (filter holds_file us)
+    → old.logs + total (filter holds_log (u ∷ rest)) ≡ total (filter holds_log us) → old.old + total (filter is_old (u ∷ rest)) ≡ total (filter is_old us)
     → CountsMore old new u → Counted building image us (page + size_of u) new
 counted_first building image us page old new u after_free rest keep whole free files logs others more =
     let a = one_off is_free u rest in
-    let b = one_off is_file u rest in
-    let c = one_off is_log u rest in
+    let b = one_off holds_file u rest in
+    let c = one_off holds_log u rest in
     let d = one_off is_old u rest in
     let a2 = more.free in
     let b2 = more.files in
@@ -63,8 +63,8 @@ module _ (building : ℕ → Bool) (image : List ℕ) (us : List Unit) (page : �
   counted_next new u before c is more = at c.after_free c.rest c.keep c.whole c.free c.files c.logs c.old
     where
       at : (after_free : Bool) (rest : List Unit) → KeepRules building image page after_free rest → page + total rest ≡ pages_of image
-          → counts.free + total (filter is_free rest) ≡ total (filter is_free us) → counts.files + total (filter is_file rest) ≡ total (filter is_file us)
-          → counts.logs + total (filter is_log rest) ≡ total (filter is_log us) → counts.old + total (filter is_old rest) ≡ total (filter is_old us)
+          → counts.free + total (filter is_free rest) ≡ total (filter is_free us) → counts.files + total (filter holds_file rest) ≡ total (filter holds_file us)
+          → counts.logs + total (filter holds_log rest) ≡ total (filter holds_log us) → counts.old + total (filter is_old rest) ≡ total (filter is_old us)
           → Counted building image us (page + size_of u) new
       at after_free [] keep whole free files logs old = absurd (omega (arith, whole, before))
       at after_free (v ∷ rest) keep whole free files logs old =
@@ -85,13 +85,13 @@ module _ (building : ℕ → Bool) (image : List ℕ) (us : List Unit) (page : �
   counted_all behind c = at c.after_free c.rest c.keep c.whole c.free c.files c.logs c.old
     where
       at : (after_free : Bool) (rest : List Unit) → KeepRules building image page after_free rest → page + total rest ≡ pages_of image
-          → counts.free + total (filter is_free rest) ≡ total (filter is_free us) → counts.files + total (filter is_file rest) ≡ total (filter is_file us)
-          → counts.logs + total (filter is_log rest) ≡ total (filter is_log us) → counts.old + total (filter is_old rest) ≡ total (filter is_old us)
+          → counts.free + total (filter is_free rest) ≡ total (filter is_free us) → counts.files + total (filter holds_file rest) ≡ total (filter holds_file us)
+          → counts.logs + total (filter holds_log rest) ≡ total (filter holds_log us) → counts.old + total (filter is_old rest) ≡ total (filter is_old us)
           → counts ≡ page_counts us
       at after_free [] keep whole free files logs old =
           let a : counts.free ≡ total (filter is_free us) = omega (arith, free) in
-          let b : counts.files ≡ total (filter is_file us) = omega (arith, files) in
-          let c : counts.logs ≡ total (filter is_log us) = omega (arith, logs) in
+          let b : counts.files ≡ total (filter holds_file us) = omega (arith, files) in
+          let c : counts.logs ≡ total (filter holds_log us) = omega (arith, logs) in
           let d : counts.old ≡ total (filter is_old us) = omega (arith, old) in
           same_counts counts (page_counts us) a b c d
       at after_free (v ∷ rest) keep whole free files logs old = absurd (omega (arith, kept_some building image page after_free v keep.0 keep.1, whole, behind))

@@ -4,7 +4,7 @@ use Rattle.std.proofs.lemmas.Bool.Decides.{nat_tests}
 use Rattle.coffee_layout.specs.Units.{is_free, size_of, total}
 use Rattle.coffee_layout.specs.declared.unit.Unit.{Unit}
 use Rattle.coffee_layout.specs.declared.unit.Unit.TheVariants.{Free, Isolated, Extent}
-use Rattle.look.specs.Pages.{all_pages, is_file, is_log, is_old, page_counts, pages_if}
+use Rattle.look.specs.Pages.{all_pages, holds_file, holds_log, is_old, page_counts, pages_if}
 use Rattle.look.proofs.Counts.{one_off}
 
 -- what is a log is no file
@@ -17,7 +17,7 @@ one_use true false n h = omega arith
 one_use false true n h = omega arith
 one_use false false n h = omega arith
 
-unit_once : (u : Unit) → pages_if is_free u + pages_if is_file u + pages_if is_log u + pages_if is_old u ≡ size_of u
+unit_once : (u : Unit) → pages_if is_free u + pages_if holds_file u + pages_if holds_log u + pages_if is_old u ≡ size_of u
 unit_once Free = omega arith
 unit_once Isolated = omega arith
 unit_once (Extent h) =
@@ -28,8 +28,8 @@ pub all_once : (us : List Unit) → all_pages (page_counts us) ≡ total us
 all_once [] = omega arith
 all_once (u ∷ us) =
     let a = one_off is_free u us in
-    let b = one_off is_file u us in
-    let c = one_off is_log u us in
+    let b = one_off holds_file u us in
+    let c = one_off holds_log u us in
     let d = one_off is_old u us in
     let one = unit_once u in
     let rest = all_once us in

@@ -9,7 +9,7 @@ ghost use Rattle.coffee_layout.specs.Rules.{broken_image};
 ghost use Rattle.coffee_layout.specs.Units.{pages_of};
 ghost use Rattle.dump.specs.Appends.{AppendsText};
 ghost use Rattle.look.specs.Looking.{OnlyLooks};
-ghost use Rattle.look.specs.Text.{counted, flash_line, pages_line};
+ghost use Rattle.look.specs.Text.{counted_words, flash_line, pages_line};
 ghost use Rattle.reply_text.specs.WroteLess.{WroteLess};
 
 use crate::counting::count_pages;
@@ -62,9 +62,9 @@ fn write_pages_line<K: Sink>(out: &mut K, sectors: u16, counts: &PageCounts) -> 
 
 #[tactic(auto, using(reply_text::proofs::Pieces::less_front, reply_text::proofs::Pieces::less_behind))]
 fn write_sectors<K: Sink>(out: &mut K, sectors: u16, free: u16) -> Result<(), Failed>
-    ensures written { let text = counted (codes "flash sectors ") sectors ++ counted (codes " pages free ") free in
+    ensures written { let text = counted_words (codes "flash sectors ") sectors ++ counted_words (codes " pages free ") free in
         OnOk result (K.held out.new ≡ append_known (K.held out.old) text) }
-    ensures failed { let text = counted (codes "flash sectors ") sectors ++ counted (codes " pages free ") free in
+    ensures failed { let text = counted_words (codes "flash sectors ") sectors ++ counted_words (codes " pages free ") free in
         OnErr result (WroteLess (K.held out.old) (K.held out.new) text) }
     ensures frame { Sends K.lent K.faults out.old out.new result }
 {

@@ -7,7 +7,7 @@ ghost use Rattle.std.specs.Io.KnownBytes.{append_known};
 ghost use Rattle.afl_base.specs.Keeping.{Sends};
 ghost use Rattle.antelope_engine.specs.Reading.{index_in_slot};
 ghost use Rattle.db_model.specs.Sound.{IsSoundDatabase};
-ghost use Rattle.look.specs.Text.{index_at, index_line, index_lines, slot_text};
+ghost use Rattle.look.specs.Text.{index_placed_text, index_line_text, index_texts, slot_text};
 ghost use Rattle.reply_text.specs.WroteLess.{WroteLess};
 
 use crate::lines::write_index_line;
@@ -19,9 +19,9 @@ use db_model::{IndexKind, Schema};
 pub fn write_indexes<V: Files, K: Sink>(session: &Session<V>, out: &mut K) -> Result<(), Failed>
     requires running { session.now.stopped ≡ false }
     ensures written { let db = session.now.database in IsSoundDatabase db
-        → OnOk result (K.held out.new ≡ append_known (K.held out.old) (index_lines db)) }
+        → OnOk result (K.held out.new ≡ append_known (K.held out.old) (index_texts db)) }
     ensures failed { let db = session.now.database in IsSoundDatabase db
-        → OnErr result (WroteLess (K.held out.old) (K.held out.new) (index_lines db)) }
+        → OnErr result (WroteLess (K.held out.old) (K.held out.new) (index_texts db)) }
     ensures frame { Sends K.lent K.faults out.old out.new result }
 {
     for slot in 0..8u16 {
@@ -48,10 +48,10 @@ fn write_index<V: Files, K: Sink>(
 ) -> Result<(), Failed>
     requires running { session.now.stopped ≡ false }
     ensures written { let db = session.now.database in
-        let line = slot_text (index_line db.relations) (index_in_slot db id) in
+        let line = slot_text (index_line_text db.relations) (index_in_slot db id) in
         OnOk result (K.held out.new ≡ append_known (K.held out.old) line) }
     ensures failed { let db = session.now.database in
-        let line = slot_text (index_line db.relations) (index_in_slot db id) in
+        let line = slot_text (index_line_text db.relations) (index_in_slot db id) in
         OnErr result (WroteLess (K.held out.old) (K.held out.new) line) }
     ensures frame { Sends K.lent K.faults out.old out.new result }
 {
@@ -72,9 +72,9 @@ fn write_index_at<K: Sink>(
     place: u8,
     kind: &IndexKind,
 ) -> Result<(), Failed>
-    ensures written { let line = index_at schema.now place kind.now in
+    ensures written { let line = index_placed_text schema.now place kind.now in
         OnOk result (K.held out.new ≡ append_known (K.held out.old) line) }
-    ensures failed { let line = index_at schema.now place kind.now in
+    ensures failed { let line = index_placed_text schema.now place kind.now in
         OnErr result (WroteLess (K.held out.old) (K.held out.new) line) }
     ensures frame { Sends K.lent K.faults out.old out.new result }
 {

@@ -6,7 +6,7 @@ ghost use Rattle.std.specs.Prelude.{◌≡◌, ◌++◌, OnErr, OnOk};
 ghost use Rattle.std.specs.Io.KnownBytes.{append_known};
 ghost use Rattle.afl_base.specs.Keeping.{Sends};
 ghost use Rattle.dump.specs.Parts.{comma_and_space};
-ghost use Rattle.look.specs.Text.{attribute_text, index_text, listed, rows_line, schema_text};
+ghost use Rattle.look.specs.Text.{attribute_text, index_text, list_text, rows_line, schema_text};
 ghost use Rattle.reply_text.specs.WroteLess.{WroteLess};
 
 use afl_base::{Failed, Sink};
@@ -51,9 +51,9 @@ fn write_schema<K: Sink>(out: &mut K, schema: &Schema) -> Result<(), Failed>
 }
 
 fn write_attributes<K: Sink>(out: &mut K, attributes: &[Attribute]) -> Result<(), Failed>
-    ensures written { let text = listed attribute_text attributes.now in
+    ensures written { let text = list_text attribute_text attributes.now in
         OnOk result (K.held out.new ≡ append_known (K.held out.old) text) }
-    ensures failed { let text = listed attribute_text attributes.now in
+    ensures failed { let text = list_text attribute_text attributes.now in
         OnErr result (WroteLess (K.held out.old) (K.held out.new) text) }
     ensures frame { Sends K.lent K.faults out.old out.new result }
 {

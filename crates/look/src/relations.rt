@@ -10,7 +10,7 @@ ghost use Rattle.db_model.specs.Step.{slots_limit};
 ghost use Rattle.dump.specs.Appends.{AppendsText};
 ghost use Rattle.dump.specs.Parts.{slots_of_all};
 ghost use Rattle.dump.specs.Unchanged.{IsAsBefore};
-ghost use Rattle.look.specs.Text.{relation_line, relation_lines, slot_text};
+ghost use Rattle.look.specs.Text.{relation_line, relation_texts, slot_text};
 ghost use Rattle.session_model.specs.Carried.{Recites};
 ghost use Rattle.session_model.specs.Steps.{UnlessFlash};
 ghost use Rattle.space_model.specs.Enough.{rows_in};
@@ -29,7 +29,7 @@ pub fn write_relations<V: Files, K: Sink>(
     requires running { session.old.stopped ≡ false }
     ensures wrote { let db = session.old.database in
         IsTrue (V.state session.old.files).tells → IsSoundDatabase db
-        → AppendsText result (K.held out.old) (K.held out.new) (relation_lines db) }
+        → AppendsText result (K.held out.old) (K.held out.new) (relation_texts db) }
     ensures same { UnlessFlash result (IsAsBefore V.state session.old session.new) }
     ensures lost { IsErrOf result Flash
         → (session.new.stopped ≡ true) × (session.new.lost ≡ true) }

@@ -7,7 +7,7 @@ ghost use Rattle.afl_base.specs.Keeping.{OnlyReads};
 ghost use Rattle.antelope_engine.specs.Reading.{relation_in_slot, row_in_slot};
 ghost use Rattle.db_model.specs.Sound.{IsSoundDatabase};
 ghost use Rattle.dump.specs.Unchanged.{IsAsBefore};
-ghost use Rattle.look.specs.Text.{live_rows, mark_of};
+ghost use Rattle.look.specs.Text.{live_count, mark_of};
 ghost use Rattle.space_model.specs.Enough.{rows_in};
 
 use afl_base::{Failed, Files, RelationId, SlotNo};
@@ -20,7 +20,7 @@ pub fn count_live<V: Files>(session: &mut Session<V>, id: RelationId) -> Result<
     requires used { IsSome (relation_in_slot session.old.database id) }
     ensures live { let db = session.old.database in
         IsTrue (V.state session.old.files).tells → IsSoundDatabase db
-        → IfOk result (λ live. live ≡ live_rows (rows_in db id)) }
+        → IfOk result (λ live. live ≡ live_count (rows_in db id)) }
     ensures few { IfOk result (λ live. live ≤ length (rows_in session.old.database id)) }
     ensures same { OnOk result (IsAsBefore V.state session.old session.new) }
     ensures lost { OnErr result ((session.new.stopped ≡ true) × (session.new.lost ≡ true)) }

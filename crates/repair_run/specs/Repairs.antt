@@ -4,11 +4,14 @@ use Rattle.std.specs.Io.KnownBytes.{append_known}
 use Rattle.coffee_cuts.specs.Cuts.{MendsTo}
 use Rattle.coffee_layout.specs.Files.{NamedFile}
 use Rattle.coffee_layout.specs.Rules.{broken_image}
+use Rattle.db_model.specs.Database.{Database}
 use Rattle.db_model.specs.ReplyText.{line, refusal_text}
 use Rattle.db_model.specs.declared.refusals.Refusal.TheVariants as no
 use Rattle.reply_text.specs.WroteLess.{WroteLess}
 use Rattle.run_model.specs.Runs.{image_line}
-use Rattle.sound_image.specs.Images.{IsFirstBroken, IsSound}
+use Rattle.sound_image.specs.Images.{IsFirstBroken, IsSound, base, files_of_image}
+use Rattle.sound_image.specs.Mending.{ImageMendsTo}
+use Rattle.stored.specs.Mended.{mended_base}
 use Rattle.stored_mend.specs.Report.{report_text}
 use Rattle.stored_mend.specs.declared.report.Mended.{Mended}
 use Rattle.repair_run.specs.declared.came.Came.{Came}
@@ -26,36 +29,41 @@ said mended (Err (Unsettled bad)) = image_line bad.rule bad.place
 said mended (Err Failed) = []
 
 -- the status, where all of it is said
-abbrev pub status_of : Result Came Hindrance → ℕ
-status_of (Ok Sound) = 0
-status_of (Ok Repaired) = 0
-status_of (Ok (Strange bad)) = 6
-status_of (Err (Spaceless need)) = 3
-status_of (Err (Unsettled bad)) = 6
-status_of (Err Failed) = 4
+abbrev pub status_after : Result Came Hindrance → ℕ
+status_after (Ok Sound) = 0
+status_after (Ok Repaired) = 0
+status_after (Ok (Strange bad)) = 6
+status_after (Err (Spaceless need)) = 3
+status_after (Err (Unsettled bad)) = 6
+status_after (Err Failed) = 4
 
 -- all was said, or less than that
 abbrev pub IsSaid : (status : ℕ) → List Mended → Result Came Hindrance → (held now : Option (List ℕ)) → Type 0
 IsSaid status mended came held now =
-    ((status ≡ status_of came) × (now ≡ append_known held (said mended came))) ⊎ ((status ≡ 5) × WroteLess held now (said mended came))
+    ((status ≡ status_after came) × (now ≡ append_known held (said mended came))) ⊎ ((status ≡ 5) × WroteLess held now (said mended came))
 
 -- the files of an image are sound, or they are where what a cut left is settled
 abbrev pub IsMendable : List ℕ → Type 0
 IsMendable image = (broken_image image ≡ None) ⊎ ((files : List NamedFile) × MendsTo image files)
 
--- what is left of an image: it is sound, and as it was; it was not sound, and is; it is as it was, and this is its first
--- broken rule; or the repair came to no end. It is written only where it is not sound, and its files can be put right
+-- what is left of an image: it is sound, and as it was; it was not sound, and is, and stands for the database that it
+-- mended to; it is as it was, and this is its first broken rule; or the repair came to no end. It is written only where it is
+-- not sound, and its files can be put right
 abbrev pub Leaves : (old new : List ℕ) → Result Came Hindrance → Type 0
 Leaves old new (Ok Sound) = IsSound old × (new ≡ old)
-Leaves old new (Ok Repaired) = (IsSound old → ⊥) × IsMendable old × IsSound new
+Leaves old new (Ok Repaired) = (IsSound old → ⊥) × IsMendable old × IsSound new × ImageMendsTo old (λ db. base new ≡ db)
 Leaves old new (Ok (Strange bad)) = (new ≡ old) × IsFirstBroken old bad.rule bad.place
 Leaves old new (Err (Spaceless need)) = (IsSound old → ⊥) × IsMendable old
 Leaves old new (Err (Unsettled bad)) = (IsSound old → ⊥) × IsMendable old
 Leaves old new (Err Failed) = (new ≡ old) ⊎ ((IsSound old → ⊥) × IsMendable old)
 
--- what is left of any image that is not sound and is to be put right, behind its first write
-abbrev pub Ends : (new : List ℕ) → Result Came Hindrance → Type 0
-Ends new came = (old : List ℕ) → (IsSound old → ⊥) → IsMendable old → Leaves old new came
+-- the database that the files of an image mend to
+abbrev pub database_in : List ℕ → Database
+database_in image = mended_base (files_of_image image)
+
+-- what is left of any image that is not sound and mends to a database, behind its first write
+abbrev pub Ends : Database → (new : List ℕ) → Result Came Hindrance → Type 0
+Ends db new came = (old : List ℕ) → (IsSound old → ⊥) → ImageMendsTo old (λ mended. mended ≡ db) → Leaves old new came
 
 -- what a repair that ended with a status left of an image and of a sink
 pub record Repairs (status : ℕ) (old new : List ℕ) (held now : Option (List ℕ)) : Type 0 where

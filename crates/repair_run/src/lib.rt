@@ -3,10 +3,12 @@
 
 mod came;
 mod judging;
+mod laws;
 mod lines;
 mod mending;
 mod repairing;
 mod surveying;
 
 pub use judging::judge_image;
+pub use laws::repaired_images_stand_for_what_they_mended_to;
 pub use repairing::repair;

@@ -6,7 +6,7 @@ ghost use Rattle.db_model.specs.ReplyText.{line};
 ghost use Rattle.reply_text.specs.WroteLess.{WroteLess};
 ghost use Rattle.run_model.specs.Runs.{image_line};
 ghost use Rattle.stored_mend.specs.Report.{report_text};
-ghost use Rattle.repair_run.specs.Repairs.{IsRepairStatus, IsSaid, said, status_of};
+ghost use Rattle.repair_run.specs.Repairs.{IsRepairStatus, IsSaid, said, status_after};
 ghost use Rattle.repair_run.specs.declared.came.Hindrance.TheVariants.{Failed as FaultOfFlash};
 
 use crate::came::{Came, Hindrance};
@@ -79,7 +79,7 @@ fn write_broken<K: Sink>(out: &mut K, bad: BadImage) -> Result<(), Failed>
 }
 
 fn status(came: Result<Came, Hindrance>) -> u8
-    ensures { result ≡ status_of came }
+    ensures { result ≡ status_after came }
 {
     match came {
         Ok(Came::Sound) | Ok(Came::Repaired) => 0,

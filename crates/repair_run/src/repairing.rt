@@ -1,9 +1,9 @@
 ghost use Rattle.std.specs.Prelude.{◌≡◌, Err, IfErr, None, IsTrue, OnOk, length};
 ghost use Rattle.afl_base.specs.Causes.{Rose};
-ghost use Rattle.coffee_find.specs.Found.{IsCutBy, LiesInside};
+ghost use Rattle.coffee_find.specs.Found.{IsCutBy, IsTroubleInside};
 ghost use Rattle.coffee_layout.specs.Rules.{broken_image};
 ghost use Rattle.sound_image.specs.Images.{IsFirstBroken, IsSound};
-ghost use Rattle.repair_run.specs.Repairs.{Ends, IsRepairStatus, Leaves, Repairs};
+ghost use Rattle.repair_run.specs.Repairs.{Ends, IsRepairStatus, Leaves, Repairs, database_in};
 ghost use Rattle.repair_run.specs.declared.came.Hindrance.TheVariants.{Failed as FaultOfFlash};
 
 use crate::came::{Came, Hindrance};
@@ -22,7 +22,7 @@ use stored_mend::Report;
 ///
 /// | status | comes |
 /// |---|---|
-/// | 0 | the image was sound: `sound` was written, and it is as it was; or it was not, and is now: a line was written for each thing that was put right in its database, and `repaired` |
+/// | 0 | the image was sound: `sound` was written, and it is as it was; or it was not, and is now, and stands for the database that it mended to: a line was written for each thing that was put right in its database, and `repaired` |
 /// | 3 | the flash has no room for what is to be put right, and `no space N` was written |
 /// | 4, 5 | only where the flash, the sink counted a fault |
 /// | 6 | the image is not sound, and no cut leaves such a one: `no image RULE PLACE` was written |
@@ -126,14 +126,13 @@ fn put_files_right<F: Flash>(
     bad: BadImage,
     trouble: &Trouble,
 ) -> (F, Result<Came, Hindrance>)
-    requires inside { LiesInside (length (F.image flash)) trouble.now }
+    requires inside { IsTroubleInside (length (F.image flash)) trouble.now }
     ensures leaves { IsTrue F.tells → (IsSound (F.image flash) → ⊥) → IsFirstBroken (F.image flash) bad.rule bad.place
         → IsCutBy (F.image flash) trouble.now → Leaves (F.image flash) (F.image result.0) result.1 }
     ensures size { length (F.image result.0) ≡ length (F.image flash) }
     ensures lent { F.lent result.0 ≡ F.lent flash }
     ensures cause { result.1 ≡ Err FaultOfFlash → Rose (F.faults flash) (F.faults result.0) }
 {
-    cut_images_mend();
     let (flash, surveyed) = survey_image(flash, trouble);
     match surveyed {
         Ok(true) => mend_files(flash, report, bad, trouble),
@@ -149,12 +148,14 @@ fn mend_files<F: Flash>(
     bad: BadImage,
     trouble: &Trouble,
 ) -> (F, Result<Came, Hindrance>)
-    requires inside { LiesInside (length (F.image flash)) trouble.now }
-    ensures ends { IsTrue F.tells → Ends (F.image result.0) result.1 }
+    requires inside { IsTroubleInside (length (F.image flash)) trouble.now }
+    ensures leaves { IsTrue F.tells → (IsSound (F.image flash) → ⊥) → IsCutBy (F.image flash) trouble.now
+        → Leaves (F.image flash) (F.image result.0) result.1 }
     ensures size { length (F.image result.0) ≡ length (F.image flash) }
     ensures lent { F.lent result.0 ≡ F.lent flash }
     ensures cause { result.1 ≡ Err FaultOfFlash → Rose (F.faults flash) (F.faults result.0) }
 {
+    cut_images_mend();
     match mend(flash, trouble) {
         Ok(flash) => end_repair(flash, report),
         Err(MendError::Space { need, flash }) => (flash, Err(Hindrance::Spaceless { need })),
@@ -165,7 +166,7 @@ fn mend_files<F: Flash>(
 
 // Puts the database right, and judges the image once more behind it.
 fn end_repair<F: Flash>(flash: F, report: &mut Report) -> (F, Result<Came, Hindrance>)
-    ensures ends { IsTrue F.tells → Ends (F.image result.0) result.1 }
+    ensures ends { IsTrue F.tells → Ends (database_in (F.image flash)) (F.image result.0) result.1 }
     ensures size { length (F.image result.0) ≡ length (F.image flash) }
     ensures lent { F.lent result.0 ≡ F.lent flash }
     ensures cause { result.1 ≡ Err FaultOfFlash → Rose (F.faults flash) (F.faults result.0) }
@@ -178,7 +179,7 @@ fn end_repair<F: Flash>(flash: F, report: &mut Report) -> (F, Result<Came, Hindr
 }
 
 fn judge_repaired<F: Flash>(flash: F) -> (F, Result<Came, Hindrance>)
-    ensures ends { IsTrue F.tells → Ends (F.image result.0) result.1 }
+    ensures ends { IsTrue F.tells → Ends (database_in (F.image flash)) (F.image result.0) result.1 }
     ensures size { length (F.image result.0) ≡ length (F.image flash) }
     ensures lent { F.lent result.0 ≡ F.lent flash }
     ensures cause { result.1 ≡ Err FaultOfFlash → Rose (F.faults flash) (F.faults result.0) }

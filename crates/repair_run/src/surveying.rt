@@ -1,6 +1,6 @@
 ghost use Rattle.std.specs.Prelude.{◌≡◌, ℕ, ◌+◌, ◌≤◌, Some, length};
 ghost use Rattle.afl_base.specs.Keeping.{OnlyReads};
-ghost use Rattle.coffee_find.specs.Found.{HasRecord, LiesInside};
+ghost use Rattle.coffee_find.specs.Found.{HasRecord, IsTroubleInside};
 
 use afl_base::{Failed, Flash};
 use coffee_find::{TornRecord, Trouble, overlay_of};
@@ -12,7 +12,7 @@ use stored_mend::survey;
 /// Nothing is written, where it fails too.
 #[inline(never)]
 pub fn survey_image<F: Flash>(flash: F, trouble: &Trouble) -> (F, Result<bool, Failed>)
-    requires inside { LiesInside (length (F.image flash)) trouble.now }
+    requires inside { IsTroubleInside (length (F.image flash)) trouble.now }
     ensures frame { OnlyReads F.image F.lent F.reads F.faults flash result.0 result.1 }
 {
     let overlay = overlay_of(&trouble.under_way, torn_place(&trouble.torn));

@@ -5,13 +5,15 @@ use Rattle.std.specs.List.{AllByRecursion}
 use Rattle.db_model.specs.declared.commands.Command.{Command}
 use Rattle.db_model.specs.declared.refusals.Refusal.TheVariants as no
 use Rattle.db_model.specs.Ahead.{is_refused, no_cursors}
+use Rattle.db_model.specs.Between.{IsBetween}
 use Rattle.db_model.specs.Database.{Database, bare}
 use Rattle.db_model.specs.ReplyText.{refusal_text}
 use Rattle.db_model.specs.RunCost.{opening_cost}
-use Rattle.db_model.specs.Step.{step}
+use Rattle.db_model.specs.Step.{Reads, step}
 use Rattle.space_model.specs.Enough.{enough, most}
 use Rattle.sound_image.specs.Images.{IsFirstBroken, IsSound, base}
 use Rattle.sound_image.specs.Lacking.{LacksFor}
+use Rattle.sound_image.specs.Mending.{ImageMendsTo}
 use Rattle.run_model.specs.Line.{Line}
 use Rattle.run_model.specs.Talk.{AsksCommand, AsksToRead, Talk, talk_costs, last_database, talk_output}
 
@@ -32,6 +34,13 @@ pub record WroteInFront (all : List ℕ) (old new : Option (List ℕ)) : Type 0 
   pub rest : List ℕ
   pub split : all ≡ part ++ rest
   pub held : new ≡ append_known old part
+
+-- some bytes, and then a part of what follows them, or all of it
+pub record WroteFrom (least all : List ℕ) (old new : Option (List ℕ)) : Type 0 where
+  pub part : List ℕ
+  pub rest : List ℕ
+  pub split : all ≡ least ++ part ++ rest
+  pub held : new ≡ append_known old (least ++ part)
 
 -- some bytes, and then less than all of what follows them
 pub record WroteWithin (least all : List ℕ) (old new : Option (List ℕ)) : Type 0 where
@@ -94,6 +103,16 @@ module _ {E : Type 0} (m : Machine E) where
     pub split : entries ≡ front ++ entry ∷ rest
     pub written : WroteWithin (m.written front) (m.written (front ++ entry ∷ [])) old.held new.held
     pub stands : StandsAfter (front ++ entry ∷ []) new.image
+
+  -- those in front were carried out, and the next is a command that broke off: the image mends to a database between that before
+  -- it and that after it
+  pub record BreaksOffAt (entries front : List E) (image : List ℕ) : Type 0 where
+    pub entry : E
+    pub rest : List E
+    pub split : entries ≡ front ++ entry ∷ rest
+    pub command : Command
+    pub asks : m.Asks entry command
+    pub mends : ImageMendsTo image (IsBetween (m.last front) command)
 
   -- before each command there are enough sectors for what it may ask for, or it asks for nothing
   abbrev pub HasEnough : ℕ → List E → Type 0
@@ -158,6 +177,18 @@ module _ {E : Type 0} (line : Line E) (talk : Talk E) where
     pub came : Came bytes old new
     pub are : AreEntries bytes entries new
     pub written : WroteInFront (talk_output talk (base old.image) entries) old.held new.held
+
+  -- 4, where failures are cuts: the replies to the entries in front were written, and a part of that to the next, which broke off;
+  -- nothing of it where that changes more than a cursor
+  pub record InputBrokenOff (old new : World) : Type 0 where
+    pub bytes : List ℕ
+    pub entries : List E
+    pub came : Came bytes old new
+    pub are : AreEntries bytes entries new
+    pub front : List E
+    pub breaks : BreaksOffAt (machine_from talk (base old.image)) entries front new.image
+    pub written : WroteFrom (talk_output talk (base old.image) front) (talk_output talk (base old.image) (front ++ breaks.entry ∷ [])) old.held new.held
+    pub unsaid : (Reads breaks.command → ⊥) → new.held ≡ append_known old.held (talk_output talk (base old.image) front)
 
   -- 5: a reply, or that there is no space, was not wholly written
   pub record InputUnsaid (old new : World) : Type 0 where

@@ -14,8 +14,7 @@ ghost use Rattle.db_model.specs.Script.{Bytes};
 ghost use Rattle.db_model.specs.Spelling.{nodes_of};
 ghost use Rattle.intake.specs.declared.ending.Ending.TheVariants as Ending;
 ghost use Rattle.reply_text.specs.WroteLess.{WroteLess};
-ghost use Rattle.answering.specs.Carried.{Carried, HaltsIn, ChangesOrHalts, standing_of};
-ghost use Rattle.antelope_engine.specs.Commands.{LacksPages};
+ghost use Rattle.answering.specs.Carried.{Carried, HaltsIn, ChangesOrHalts, standing_of, limits_of};
 ghost use Rattle.run_model.specs.Scripts.{script_talk};
 
 use afl_base::{Failed, Fault, Files, Sink};
@@ -57,7 +56,7 @@ pub fn carry_out<V: Files, K: Sink>(
         (standing_of V.state V.reads session.new (K.held out.new))) }
     ensures halts { IsTrue (V.state session.old.files).tells → IfErr result (λ halt.
         (read : List ℕ → Result AnyCommand AnyRefusal) → IsReader read
-        → HaltsIn (script_talk read) (LacksPages V.state V.asks V.lacks session.new) (Bytes bytes.now ∷ [])
+        → HaltsIn (script_talk read) (limits_of V.Files session.new) (Bytes bytes.now ∷ [])
         (standing_of V.state V.reads session.old (K.held out.old))
         (standing_of V.state V.reads session.new (K.held out.new)) halt) }
     ensures running { OnOk result (session.new.stopped ≡ false) }
@@ -90,7 +89,7 @@ fn execute<V: Files, K: Sink>(
         (standing_of V.state V.reads session.new (K.held out.new))) }
     ensures halts { IsTrue (V.state session.old.files).tells → IfErr result (λ halt.
         (read : List ℕ → Result AnyCommand AnyRefusal) (bytes : List ℕ) → read bytes ≡ Ok command.now
-        → HaltsIn (script_talk read) (LacksPages V.state V.asks V.lacks session.new) (Bytes bytes ∷ [])
+        → HaltsIn (script_talk read) (limits_of V.Files session.new) (Bytes bytes ∷ [])
         (standing_of V.state V.reads session.old (K.held out.old))
         (standing_of V.state V.reads session.new (K.held out.new)) halt) }
     ensures running { OnOk result (session.new.stopped ≡ false) }

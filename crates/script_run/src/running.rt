@@ -8,8 +8,7 @@ ghost use Rattle.db_model.specs.declared.refusals.Refusal.{Refusal as AnyRefusal
 ghost use Rattle.db_model.specs.Reading.{IsReader};
 ghost use Rattle.db_model.specs.Script.{ended, past_white, unended};
 ghost use Rattle.intake.specs.declared.ending.Ending.TheVariants as Ending;
-ghost use Rattle.answering.specs.Carried.{Carried, ChangesOrHalts, HaltsIn, HasHaltCause, standing_of};
-ghost use Rattle.antelope_engine.specs.Commands.{LacksPages};
+ghost use Rattle.answering.specs.Carried.{Carried, ChangesOrHalts, HaltsIn, HasHaltCause, standing_of, limits_of};
 ghost use Rattle.answering.specs.Taking.{EndsInput, HaltsAtLast, HaltsInBytes, HasOne, TakesBytes, running};
 ghost use Rattle.run_model.specs.Scripts.{script_cut, script_talk};
 ghost use Rattle.script_run.specs.Gathers.{AsksOne, GathersPiece};
@@ -182,7 +181,7 @@ fn answer_ended<V: Files, K: Sink>(
     ensures halts { IsTrue (V.state session.old.files).tells → IfErr result (λ halt.
         (read : List ℕ → Result AnyCommand AnyRefusal) → IsReader read
         → (p : List ℕ) → GathersPiece p piece.now.bytes.items piece.now.long
-        → HaltsIn (script_talk read) (LacksPages V.state V.asks V.lacks session.new) (ended (past_white p))
+        → HaltsIn (script_talk read) (limits_of V.Files session.new) (ended (past_white p))
         (standing_of V.state V.reads session.old (K.held out.old))
         (standing_of V.state V.reads session.new (K.held out.new)) halt) }
     ensures running { OnOk result (session.new.stopped ≡ false) }
@@ -218,7 +217,7 @@ fn answer_unended<V: Files, K: Sink>(
     ensures halts { IsTrue (V.state session.old.files).tells → IfErr result (λ halt.
         (read : List ℕ → Result AnyCommand AnyRefusal) → IsReader read
         → (p : List ℕ) → GathersPiece p piece.now.bytes.items piece.now.long
-        → HaltsIn (script_talk read) (LacksPages V.state V.asks V.lacks session.new) (unended (past_white p))
+        → HaltsIn (script_talk read) (limits_of V.Files session.new) (unended (past_white p))
         (standing_of V.state V.reads session.old (K.held out.old))
         (standing_of V.state V.reads session.new (K.held out.new)) halt) }
     ensures same { session.new ≡ session.old }

@@ -3,8 +3,7 @@
 #![tactic(auto)]
 
 ghost use Rattle.std.specs.Prelude.{◌≡◌, [], false, true, ℕ, List, Result, Err, IsTrue, length};
-ghost use Rattle.answering.specs.Carried.{standing_of};
-ghost use Rattle.antelope_engine.specs.Commands.{LacksPages};
+ghost use Rattle.answering.specs.Carried.{standing_of, limits_of};
 ghost use Rattle.answering.specs.Went.{HasRunCause, Reaches, Went};
 ghost use Rattle.db_model.specs.declared.commands.Command.{Command as AnyCommand};
 ghost use Rattle.db_model.specs.declared.refusals.Refusal.{Refusal as AnyRefusal};
@@ -35,7 +34,7 @@ pub fn run_script<V: Files, S: Source, K: Sink>(
         → (read : List ℕ → Result AnyCommand AnyRefusal) → IsReader read
         → Went script_line (script_talk read) (standing_of V.state V.reads session.old (K.held out.old))
         (standing_of V.state V.reads session.new (K.held out.new)) (S.left script.old) (S.left script.new)
-        (LacksPages V.state V.asks V.lacks session.new) result }
+        (limits_of V.Files session.new) result }
     ensures reaches { Reaches result (S.left script.old) (S.left script.new) }
     ensures lost { session.old.lost ≡ false → session.new.lost ≡ true
         → result ≡ Err (InputEnding.Early Ending.Flash) }
@@ -67,7 +66,7 @@ fn run_through<'a, V: Files, S: Source, K: Sink>(
         → Went script_line (script_talk read)
         (standing_of V.state V.reads runner.old.session.now (K.held out.old))
         (standing_of V.state V.reads runner.new.session.now (K.held out.new))
-        (S.left script.old) (S.left script.new) (LacksPages V.state V.asks V.lacks runner.new.session.now) result }
+        (S.left script.old) (S.left script.new) (limits_of V.Files runner.new.session.now) result }
     ensures reaches { Reaches result (S.left script.old) (S.left script.new) }
     ensures lost { runner.old.session.now.lost ≡ false → runner.new.session.now.lost ≡ true
         → result ≡ Err (InputEnding.Early Ending.Flash) }

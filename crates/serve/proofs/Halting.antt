@@ -3,8 +3,7 @@ use Rattle.std.proofs.Common.{◌≡◌, inl, ℕ, List, [], ◌∷◌, Option, 
 use Rattle.std.specs.Io.KnownBytes.{append_known}
 use Rattle.std.proofs.lemmas.List.{append-nil}
 use Rattle.answering.proofs.Single.{command_found, command_unsaid}
-use Rattle.answering.specs.Carried.{HaltsIn, Standing, no_space}
-use Rattle.db_model.specs.declared.commands.Command.{Command}
+use Rattle.answering.specs.Carried.{HaltsIn, Limits, Standing, no_space}
 use Rattle.db_model.specs.ReplyText.{text}
 use Rattle.intake.specs.declared.ending.Ending.TheVariants.{Space, Flash, Sink}
 use Rattle.reply_text.proofs.Pieces.{append_known-nil}
@@ -13,8 +12,8 @@ use Rattle.run_model.specs.Talk.{Talk, after_entry}
 use Rattle.session_model.specs.Steps.{WrotePart}
 use Rattle.serve.specs.Answered.{FindsNone, SaysLess, SaysPart}
 
-module _ {E : Type 0} (talk : Talk E) (entry : E) (Lacks : Command → ℕ → Type 0) (a b : Standing) where
-  pub less_halts : SaysLess talk entry a b → HaltsIn talk Lacks (entry ∷ []) a b Sink
+module _ {E : Type 0} (talk : Talk E) (entry : E) (limits : Limits) (a b : Standing) where
+  pub less_halts : SaysLess talk entry a b → HaltsIn talk limits (entry ∷ []) a b Sink
   less_halts s = record {
     stops = inl (record {
       front = [];
@@ -30,17 +29,29 @@ module _ {E : Type 0} (talk : Talk E) (entry : E) (Lacks : Command → ℕ → T
     reads = s.reads;
   }
 
-  pub part_halts : SaysPart talk entry a b → HaltsIn talk Lacks (entry ∷ []) a b Flash
+  pub part_halts : SaysPart talk entry limits a b → HaltsIn talk limits (entry ∷ []) a b Flash
   part_halts s = record {
-    stops = subst (λ (t : List ℕ). WrotePart a.held b.held t) (sym (append-nil (talk.sent entry (text ((after_entry talk a.database entry).1))))) s.held;
+    stops = record {
+      front = [];
+      entry = entry;
+      rest = [];
+      split = refl;
+      command = s.command;
+      asks = s.asks;
+      before = a.held;
+      front_is = sym (append_known-nil a.held);
+      held = s.held;
+      unsaid = s.unsaid;
+      breaks = s.breaks;
+    };
     reads = s.reads;
   }
 
-  pub none_halts : (n : ℕ) (held : Option (List ℕ)) → FindsNone talk entry Lacks n a b → held ≡ append_known b.held (no_space talk entry n) → HaltsIn talk Lacks (entry ∷ []) a (record b { held = held }) Space
+  pub none_halts : (n : ℕ) (held : Option (List ℕ)) → FindsNone talk entry limits n a b → held ≡ append_known b.held (no_space talk entry n) → HaltsIn talk limits (entry ∷ []) a (record b { held = held }) Space
   none_halts n held f wrote =
-      command_found talk entry a (record b { held = held }) f.tells f.command f.asks Lacks f.reads n f.database f.accepted f.lacks
+      command_found talk entry a (record b { held = held }) f.tells f.command f.asks limits f.reads n f.database f.accepted f.lacks
       (wrote ∙ ap (λ (h : Option (List ℕ)). append_known h (no_space talk entry n)) f.held)
 
-  pub unsaid_halts : (n : ℕ) (held : Option (List ℕ)) → FindsNone talk entry Lacks n a b → WroteLess b.held held (no_space talk entry n) → HaltsIn talk Lacks (entry ∷ []) a (record b { held = held }) Sink
+  pub unsaid_halts : (n : ℕ) (held : Option (List ℕ)) → FindsNone talk entry limits n a b → WroteLess b.held held (no_space talk entry n) → HaltsIn talk limits (entry ∷ []) a (record b { held = held }) Sink
   unsaid_halts n held f less =
-      command_unsaid talk entry a (record b { held = held }) f.tells f.command f.asks Lacks f.reads n f.database f.accepted f.lacks b.held f.held less
+      command_unsaid talk entry a (record b { held = held }) f.tells f.command f.asks limits f.reads n f.database f.accepted f.lacks b.held f.held less

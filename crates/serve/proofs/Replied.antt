@@ -1,7 +1,7 @@
 -- What comes of one entry, by the command that it asks for or its refusal.
 use Rattle.std.proofs.Common.{◌≡◌, ℕ, ◌+◌, ◌≤◌, ap, sym, subst, ◌∙◌, arith}
 use Rattle.std.specs.Prelude.{IsOk, Ok, Err}
-use Rattle.answering.specs.Carried.{Standing}
+use Rattle.answering.specs.Carried.{Limits, Standing}
 use Rattle.db_model.specs.declared.commands.Command.{Command}
 use Rattle.db_model.specs.declared.refusals.Refusal.{Refusal}
 use Rattle.db_model.specs.Ahead.{cost_of}
@@ -39,12 +39,19 @@ module _ {E : Type 0} (talk : Talk E) (entry : E) (a b : Standing) where
       reads = reads_few;
     }
 
-    pub says_part : WrotePart a.held b.held (talk.sent entry (text ((step a.database c).1))) → SaysPart talk entry a b
+    pub says_part : (limits : Limits) → WrotePart a.held b.held (talk.sent entry (text ((step a.database c).1))) → ((Reads c → ⊥) → b.held ≡ a.held) → limits.Breaks a.database c → SaysPart talk entry limits a b
     unfolding sent_is reads_few steps
-    says_part held = record { held = subst (WrotePart a.held b.held) sent_is held; reads = reads_few }
+    says_part limits held unsaid breaks = record {
+      command = c;
+      asks = is;
+      unsaid = unsaid;
+      breaks = breaks;
+      held = subst (WrotePart a.held b.held) sent_is held;
+      reads = reads_few;
+    }
 
-    pub finds_none : (Lacks : Command → ℕ → Type 0) (n : ℕ) → IsOk (outcome a.database c) → Lacks c n → b.tells ≡ a.tells → b.database ≡ a.database → b.held ≡ a.held → FindsNone talk entry Lacks n a b
-    finds_none Lacks n accepted lacks tells database held = record {
+    pub finds_none : (limits : Limits) (n : ℕ) → IsOk (outcome a.database c) → limits.Lacks c n → b.tells ≡ a.tells → b.database ≡ a.database → b.held ≡ a.held → FindsNone talk entry limits n a b
+    finds_none limits n accepted lacks tells database held = record {
       command = c;
       asks = is;
       accepted = accepted;

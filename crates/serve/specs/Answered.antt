@@ -1,7 +1,7 @@
 -- What comes of an entry that a session is asked to answer.
 use Rattle.std.specs.Prelude.{◌≡◌, ◌≤◌, ℕ, ◌+◌, [], ◌∷◌, IsOk, Result, Ok, Err}
 use Rattle.std.specs.List.{AllByRecursion}
-use Rattle.answering.specs.Carried.{Carried, Standing}
+use Rattle.answering.specs.Carried.{Carried, Limits, Standing}
 use Rattle.db_model.specs.declared.commands.Command.{Command}
 use Rattle.db_model.specs.Ahead.{cost_of}
 use Rattle.db_model.specs.ReplyText.{text}
@@ -20,11 +20,11 @@ module _ {E : Type 0} (talk : Talk E) (entry : E) where
   ReadsFew old new = AllByRecursion (AsksToRead talk) (entry ∷ []) → new.reads ≤ old.reads + talk_costs talk old.database old.aheads (entry ∷ [])
 
   -- it asks for a command that is not refused and finds no space: nothing was written, and the database is as before
-  pub record FindsNone (Lacks : Command → ℕ → Type 0) (n : ℕ) (old new : Standing) : Type 0 where
+  pub record FindsNone (limits : Limits) (n : ℕ) (old new : Standing) : Type 0 where
     pub command : Command
     pub asks : AsksCommand talk entry command
     pub accepted : IsOk (outcome old.database command)
-    pub lacks : Lacks command n
+    pub lacks : limits.Lacks command n
     pub tells : new.tells ≡ old.tells
     pub database : new.database ≡ old.database
     pub held : new.held ≡ old.held
@@ -37,14 +37,18 @@ module _ {E : Type 0} (talk : Talk E) (entry : E) where
     pub held : WroteLess old.held new.held (talk.sent entry (text ((after_entry talk old.database entry).1)))
     pub reads : ReadsFew old new
 
-  -- a part of the reply was written, or all
-  pub record SaysPart (old new : Standing) : Type 0 where
+  -- it asks for a command that broke off: a part of the reply was written, and nothing where it changes more than a cursor
+  pub record SaysPart (limits : Limits) (old new : Standing) : Type 0 where
+    pub command : Command
+    pub asks : AsksCommand talk entry command
+    pub unsaid : (Reads command → ⊥) → new.held ≡ old.held
+    pub breaks : limits.Breaks old.database command
     pub held : WrotePart old.held new.held (talk.sent entry (text ((after_entry talk old.database entry).1)))
     pub reads : ReadsFew old new
 
   -- by the answer to it
-  abbrev pub Answered : (Command → ℕ → Type 0) → Result Step Fault → Standing → Standing → Type 0
-  Answered Lacks (Ok (Done came)) old new = Carried talk (entry ∷ []) old new × (outcome_of ((after_entry talk old.database entry).1) ≡ came)
-  Answered Lacks (Ok (NoSpace n)) old new = FindsNone Lacks n old new
-  Answered Lacks (Err Sink) old new = SaysLess old new
-  Answered Lacks (Err Flash) old new = SaysPart old new
+  abbrev pub Answered : Limits → Result Step Fault → Standing → Standing → Type 0
+  Answered limits (Ok (Done came)) old new = Carried talk (entry ∷ []) old new × (outcome_of ((after_entry talk old.database entry).1) ≡ came)
+  Answered limits (Ok (NoSpace n)) old new = FindsNone limits n old new
+  Answered limits (Err Sink) old new = SaysLess old new
+  Answered limits (Err Flash) old new = SaysPart limits old new

@@ -3,8 +3,7 @@
 #![tactic(auto)]
 
 ghost use Rattle.std.specs.Prelude.{◌≡◌, ◌≤◌, false, true, ℕ, List, Result, Ok, Some, IsErrOf, IsTrue, OnOk, length};
-ghost use Rattle.answering.specs.Carried.{standing_of};
-ghost use Rattle.antelope_engine.specs.Commands.{LacksPages};
+ghost use Rattle.answering.specs.Carried.{standing_of, limits_of};
 ghost use Rattle.antelope_engine.specs.Seen.{WhereNoSpace};
 ghost use Rattle.db_model.specs.declared.commands.Command.{Command as AnyCommand};
 ghost use Rattle.db_model.specs.declared.refusals.Refusal.{Refusal as AnyRefusal};
@@ -49,7 +48,7 @@ pub fn answer<V: Files, K: Sink>(
     ensures answered { IsTrue (V.state session.old.files).tells
         → (read : List ℕ → Result AnyCommand AnyRefusal) → IsReader read
         → Answered (serve_talk read) (Asked client bytes.now)
-        (LacksPages V.state V.asks V.lacks session.new) result
+        (limits_of V.Files session.new) result
         (standing_of V.state V.reads session.old (K.held out.old))
         (standing_of V.state V.reads session.new (K.held out.new)) }
     ensures silent { WhereNoSpace result (λ need. K.held out.new ≡ K.held out.old) }
@@ -81,7 +80,7 @@ fn reply<V: Files, K: Sink>(
         → (read : List ℕ → Result AnyCommand AnyRefusal) (bytes : List ℕ)
         → heard read (Asked client bytes) ≡ Ok command.now
         → Answered (serve_talk read) (Asked client bytes)
-        (LacksPages V.state V.asks V.lacks session.new) result
+        (limits_of V.Files session.new) result
         (standing_of V.state V.reads session.old (K.held out.old))
         (standing_of V.state V.reads session.new (K.held out.new)) }
     ensures silent { WhereNoSpace result (λ need. K.held out.new ≡ K.held out.old) }
@@ -109,7 +108,7 @@ fn reply_since<V: Files, K: Sink, B: Begun>(
         → (read : List ℕ → Result AnyCommand AnyRefusal) (bytes : List ℕ)
         → heard read (Asked client bytes) ≡ Ok command.now
         → Answered (serve_talk read) (Asked client bytes)
-        (LacksPages V.state V.asks V.lacks session.new) result
+        (limits_of V.Files session.new) result
         (standing_of V.state V.reads session.old (K.held out.old))
         (standing_of V.state V.reads session.new (K.held out.new)) }
     ensures silent { WhereNoSpace result (λ need. K.held out.new ≡ K.held out.old) }

@@ -3,8 +3,7 @@
 #![tactic(auto)]
 
 ghost use Rattle.std.specs.Prelude.{◌≡◌, ◌⊎◌, ◌≤◌, ◌∷◌, [], false, true, ℕ, List, Result, IfErr, IsErrOf, IsTrue, OnOk, length};
-ghost use Rattle.answering.specs.Carried.{Carried, ChangesOrHalts, HaltsIn, HasHaltCause, standing_of};
-ghost use Rattle.antelope_engine.specs.Commands.{LacksPages};
+ghost use Rattle.answering.specs.Carried.{Carried, ChangesOrHalts, HaltsIn, HasHaltCause, standing_of, limits_of};
 ghost use Rattle.answering.specs.Taking.{EndsInput, HaltsAtLast, HaltsInBytes, HasOne, TakesBytes, running};
 ghost use Rattle.db_model.specs.declared.commands.Command.{Command as AnyCommand};
 ghost use Rattle.db_model.specs.declared.refusals.Refusal.{Refusal as AnyRefusal};
@@ -186,7 +185,7 @@ fn answer_fed<V: Files, K: Sink>(
         (standing_of V.state V.reads session.new (K.held out.new))) }
     ensures halts { IsTrue (V.state session.old.files).tells → IfErr result (λ halt.
         (read : List ℕ → Result AnyCommand AnyRefusal) → IsReader read
-        → HaltsIn (serve_talk read) (LacksPages V.state V.asks V.lacks session.new) (told fed decoder.now)
+        → HaltsIn (serve_talk read) (limits_of V.Files session.new) (told fed decoder.now)
         (standing_of V.state V.reads session.old (K.held out.old))
         (standing_of V.state V.reads session.new (K.held out.new)) halt) }
     ensures running { OnOk result (session.new.stopped ≡ false) }

@@ -3,8 +3,7 @@
 #![tactic(auto)]
 
 ghost use Rattle.std.specs.Prelude.{◌≡◌, [], false, true, ℕ, List, Result, Err, IsTrue, length};
-ghost use Rattle.answering.specs.Carried.{standing_of};
-ghost use Rattle.antelope_engine.specs.Commands.{LacksPages};
+ghost use Rattle.answering.specs.Carried.{standing_of, limits_of};
 ghost use Rattle.answering.specs.Went.{HasRunCause, Reaches, Went};
 ghost use Rattle.db_model.specs.declared.commands.Command.{Command as AnyCommand};
 ghost use Rattle.db_model.specs.declared.refusals.Refusal.{Refusal as AnyRefusal};
@@ -36,7 +35,7 @@ pub fn serve_line<V: Files, S: Source, K: Sink>(
         → (read : List ℕ → Result AnyCommand AnyRefusal) → IsReader read
         → Went frame_line (serve_talk read) (standing_of V.state V.reads session.old (K.held out.old))
         (standing_of V.state V.reads session.new (K.held out.new)) (S.left line.old) (S.left line.new)
-        (LacksPages V.state V.asks V.lacks session.new) result }
+        (limits_of V.Files session.new) result }
     ensures reaches { Reaches result (S.left line.old) (S.left line.new) }
     ensures lost { session.old.lost ≡ false → session.new.lost ≡ true
         → result ≡ Err (InputEnding.Early Ending.Flash) }
@@ -68,7 +67,7 @@ fn serve_through<'a, V: Files, S: Source, K: Sink>(
         → Went frame_line (serve_talk read)
         (standing_of V.state V.reads server.old.session.now (K.held out.old))
         (standing_of V.state V.reads server.new.session.now (K.held out.new))
-        (S.left line.old) (S.left line.new) (LacksPages V.state V.asks V.lacks server.new.session.now) result }
+        (S.left line.old) (S.left line.new) (limits_of V.Files server.new.session.now) result }
     ensures reaches { Reaches result (S.left line.old) (S.left line.new) }
     ensures lost { server.old.session.now.lost ≡ false → server.new.session.now.lost ≡ true
         → result ≡ Err (InputEnding.Early Ending.Flash) }

@@ -22,9 +22,10 @@ use Rattle.session_model.specs.declared.base.Base.{Base}
 use Rattle.session_model.specs.declared.held.Held.{Held}
 use Rattle.session_model.specs.declared.held.Open.{Open}
 use Rattle.session_model.specs.Aheads.{ahead_in, aheads_of}
-use Rattle.session_model.specs.Carried.{Carries, Tells, aheads, database}
+use Rattle.session_model.specs.Carried.{Carries, Runs, Tells, aheads, database}
 use Rattle.session_model.specs.View.{cursor_in, view}
 use Rattle.session_model.proofs.Opens.{cursor_view}
+use Rattle.session_model.proofs.ReadAs.{same_between}
 use Rattle.session_cursors.specs.Opened.{BeginsAnswer}
 use Rattle.session_cursors.proofs.Places.{ahead_set, aheads_put, done_costs, done_moves, mapped_at, refused_stays}
 
@@ -86,16 +87,17 @@ module _ (files : Table) (held : Held) (opens : List (Option Open)) (number : �
   open_stays refusal h = sym (refused_stays db (aheads_of files opens) (command.OpenCursor number query) refusal h)
 
 -- a file failed while it was opened
-pub failed_open : {V T E : Type 0} (v : FilesOf V) (c : Command) (old new : Base V) (e : E) (result : Result Answer Failed) → IsErr result → (Tells v old → v.reads new.files ≤ v.reads old.files + cost_of (database v old) (aheads v old) c)
+pub failed_open : {V T E : Type 0} (v : FilesOf V) (c : Command) (old new : Base V) (e : E) (result : Result Answer Failed) → Runs v old → IsErr result → (Tells v old → v.reads new.files ≤ v.reads old.files + cost_of (database v old) (aheads v old) c)
     → OnlyReads {T = T} {E = E} v.state v.lent v.reads v.faults old.files new.files (Err e) → Carries v c old new result
-failed_open v c old new e (Ok answer) is reads frame = absurd (false≢true is)
-failed_open v c old new e (Err failed) is reads frame = record {
+failed_open v c old new e (Ok answer) runs is reads frame = absurd (false≢true is)
+failed_open v c old new e (Err failed) runs is reads frame = record {
   done = λ told. tt;
   running = tt;
   ahead = λ told. tt;
   tells = tt;
   wants = λ told. tt;
   lacks = tt;
+  cut = λ cuts told. same_between v c old new.files runs cuts told frame.same;
   untouched = tt;
   same = λ r. frame.same;
   reads = λ told r. reads told;

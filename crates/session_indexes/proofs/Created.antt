@@ -1,13 +1,16 @@
 -- CREATE INDEX on what a session keeps.
 use Rattle.std.proofs.Common.{◌≡◌, ◌≢◌, ℕ, zero, suc, ◌+◌, ◌*◌, inl, inr, List, [], ◌∷◌, map, get_or, replicate, Option, Some, None, refl, ap, sym, ◌∙◌, subst, Ok, Err, IsTrue, ℤ}
 use Rattle.std.specs.Prelude.{IsOk, IsSomeAnd, Result, ⊤, option_map, slice_get}
+use Rattle.std.proofs.Math.Logic.{⊎_elim}
 use Rattle.afl_base.specs.Asked.{asks_few}
-use Rattle.afl_base.specs.Files.{KeepsBytes, State}
+use Rattle.afl_base.specs.CutFiles.{MendsToEither, MendsToState}
+use Rattle.afl_base.specs.Files.{KeepsBytes, State, Table}
 use Rattle.db_model.specs.declared.commands.Command.TheVariants as command
 use Rattle.db_model.specs.declared.refusals.Refusal.{Refusal}
 use Rattle.db_model.specs.declared.schemas.IndexKind.{IndexKind}
 use Rattle.db_model.specs.declared.schemas.Schema.{Schema}
 use Rattle.db_model.specs.declared.schemas.IndexKind.TheVariants.{Inline, MaxHeap, MemHash}
+use Rattle.db_model.specs.Between.{IsBetween}
 use Rattle.db_model.specs.Catalog.{Catalog as Slots, catalog_of}
 use Rattle.db_model.specs.Database.{Database, with_index}
 use Rattle.db_model.specs.Refusing.{◌>>◌}
@@ -22,6 +25,7 @@ use Rattle.index_set.specs.Tables.{Tables}
 use Rattle.space_model.specs.Enough.{keys_named}
 use Rattle.space_model.specs.FileNames.{asks_in, catalog_file, rows_file, size_in}
 use Rattle.space_model.specs.Wants.{WantsIndex}
+use Rattle.stored.specs.Mended.{MendsToDatabase}
 use Rattle.tuple_file.specs.declared.tuples.Tuples.{Tuples}
 use Rattle.tuple_file.specs.Tuples.{rows}
 use Rattle.session_model.specs.declared.held.Held.{Held}
@@ -36,12 +40,16 @@ use Rattle.session_model.specs.View.{view}
 use Rattle.session_model.specs.Wanted.{WantsFew, room_in}
 use Rattle.session_model.proofs.Aheads.{catalog_aheads, index_aheads}
 use Rattle.session_model.proofs.Catalogs.{IndexChanges, catalog_there, index_running, index_view, kept_index, room_running, room_view}
+use Rattle.session_model.proofs.CutCatalogs.{either_mends}
 use Rattle.session_model.proofs.Leaves.{leaves_becomes, leaves_same}
+use Rattle.session_model.proofs.ReadAs.{running_alike}
 use Rattle.session_model.proofs.Running.{bytes_by, catalog_no_rows, catalog_no_tree, differ, relation_there}
 use Rattle.session_model.proofs.Wanted.{relation_seen, wants_catalog}
 use Rattle.session_indexes.specs.declared.sites.Site.{Site}
 use Rattle.session_indexes.specs.Made.{AsksIndex, IsMade, IsReadyFor, IsTried, IsUnrefused, KeepsTaken, index_for, indexed_for, keys_at}
+use Rattle.session_indexes.specs.Parts.{IsMadeInPart}
 use Rattle.session_indexes.specs.Sites.{IsSite}
+use Rattle.session_indexes.proofs.MendedIndexes.{make_between}
 use Rattle.session_indexes.proofs.Refused.{free_seen, placed}
 use Rattle.db_model.proofs.Standing.{nothing_free}
 use Rattle.session_model.proofs.Cells.{found_allowed}
@@ -111,10 +119,12 @@ module _ (s0 : State) (before : Tables) (held : Held) (opens : List (Option Open
       let found = found_allowed kind (slice_get t.schema.attributes site.attribute) is.allowed in
       placed s0.files held opens name attribute kind site.relation t cell_there site.attribute found.0 is.place found.1 found.2 is.new site.slot is.free
 
+  done : IsUnrefused kind held.indexes (keys_at s0 t site) → create_index (view s0.files held opens) name attribute kind ≡ Ok (with_index (view s0.files held opens) site.slot (Some (index_for site kind)), Fine)
+  done h = tried ∙ ap (λ (z : Result ⊤ Refusal). ◌>>◌ z (Ok (with_index (view s0.files held opens) site.slot (Some (index_for site kind)), Fine))) (h (view s0.files held opens) refl)
+
   unrefused : IsUnrefused kind held.indexes (keys_at s0 t site) → outcome (view s0.files held opens) (command.CreateIndex name attribute kind) ≡ Ok (after_it (view s0.files held opens) kind, Fine)
   unfolding after_it
-  unrefused h =
-      ap upgraded (tried ∙ ap (λ (z : Result ⊤ Refusal). ◌>>◌ z (Ok (with_index (view s0.files held opens) site.slot (Some (index_for site kind)), Fine))) (h (view s0.files held opens) refl))
+  unrefused h = ap upgraded (done h)
 
   pub refused_so : (refusal : Refusal) → IsTried kind held.indexes (keys_at s0 t site) (Err refusal) → outcome (view s0.files held opens) (command.CreateIndex name attribute kind) ≡ Err refusal
   refused_so refusal h =
@@ -126,6 +136,17 @@ module _ (s0 : State) (before : Tables) (held : Held) (opens : List (Option Open
   pub may_be : IsUnrefused kind held.indexes (keys_at s0 t site) → IsOk (outcome (view s0.files held opens) (command.CreateIndex name attribute kind))
   unfolding unrefused
   may_be h = ok_by _ (after_it (view s0.files held opens) kind) Fine (unrefused h)
+
+  -- ---- it broke off
+
+  pub made_in_part : {mends : List ℕ → Table → Type 0} {store : List ℕ} → IsTrue s0.tells → MendsToEither mends s0.files store (λ after. IsMadeInPart s0 after held.indexes cat t site kind)
+      → MendsToDatabase mends store (IsBetween (view s0.files held opens) (command.CreateIndex name attribute kind))
+  made_in_part {mends} {store} told = ⊎_elim
+      (λ (same : mends store s0.files). record { files = s0.files; mends_to = same; is = inl (running_alike s0 before held opens r told) })
+      (λ (m : MendsToState mends store (λ after. IsMadeInPart s0 after held.indexes cat t site kind)).
+      let db : Database = view s0.files held opens in
+      either_mends (command.CreateIndex name attribute kind) (create_index db name attribute kind) db (with_index db site.slot (Some (index_for site kind))) refl (done m.is.unrefused)
+      (record { files = m.after.files; mends_to = m.mends_to; is = make_between s0 before held opens r told cat has m.after t site kind ready_for empty m.is.left }))
 
   -- ---- it is made
 

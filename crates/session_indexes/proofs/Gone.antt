@@ -1,17 +1,20 @@
 -- REMOVE INDEX on what a session keeps.
-use Rattle.std.proofs.Common.{◌≡◌, ℕ, ◌+◌, ◌*◌, List, [], length, map, get_or, Option, Some, None, refl, ap, sym, ◌∙◌, subst, Ok, IsTrue}
+use Rattle.std.proofs.Common.{◌≡◌, ℕ, ◌+◌, ◌*◌, List, length, map, get_or, Option, Some, None, refl, ap, sym, ◌∙◌, subst, Ok, IsTrue}
 use Rattle.std.specs.Prelude.{IsOk, option_map, unwrap_or}
 use Rattle.afl_base.specs.Asked.{asks_few}
-use Rattle.afl_base.specs.Files.{File, IsNamed, IsUnnamed, KeepsBytes, Removes, State, file_at, no_file, place}
+use Rattle.afl_base.specs.CutFiles.{MendsToState}
+use Rattle.afl_base.specs.Files.{File, IsNamed, IsUnnamed, KeepsBytes, Removes, State, Table, file_at, no_file, place}
 use Rattle.afl_base.proofs.FileLaws.{named_live, named_here, place_live}
 use Rattle.afl_base.proofs.FrameLaws.{becomes_spares}
 use Rattle.catalog.specs.CatalogFile.{PutsIndex}
 use Rattle.db_model.specs.declared.commands.Command.TheVariants as command
+use Rattle.db_model.specs.Between.{IsBetween}
 use Rattle.db_model.specs.Database.{Database, reader_from, with_index}
-use Rattle.db_model.specs.Step.{Fine, Outcome, Reply, outcome, upgraded}
+use Rattle.db_model.specs.Step.{Fine, Outcome, Reply, outcome, remove_index, upgraded}
 use Rattle.index_set.specs.declared.info.Access.{Access}
 use Rattle.index_set.specs.Tables.{Tables}
 use Rattle.space_model.specs.FileNames.{catalog_file, tree_file}
+use Rattle.stored.specs.Mended.{MendsToDatabase}
 use Rattle.tuple_file.specs.declared.tuples.Tuples.{Tuples}
 use Rattle.session_model.specs.declared.held.Held.{Held}
 use Rattle.session_model.specs.declared.held.Indexed.{Indexed}
@@ -24,12 +27,15 @@ use Rattle.session_model.specs.View.{cursor_in, view}
 use Rattle.session_model.specs.Wanted.{WantsFew}
 use Rattle.session_model.proofs.Aheads.{catalog_aheads, index_aheads}
 use Rattle.session_model.proofs.Catalogs.{IndexChanges, catalog_there, index_running, index_view, room_running, room_view}
+use Rattle.session_model.proofs.CutCatalogs.{database_of, either_mends}
 use Rattle.session_model.proofs.Leaves.{leaves_becomes, leaves_removes, leaves_then}
 use Rattle.session_model.proofs.Running.{catalog_no_tree, differ, index_there, reads_other, some_same}
 use Rattle.session_model.proofs.Wanted.{relation_seen, wants_catalog}
 use Rattle.session_indexes.specs.declared.removing.Standing.{Standing}
 use Rattle.session_indexes.specs.Made.{AsksIndexSlot}
+use Rattle.session_indexes.specs.Parts.{MayTake}
 use Rattle.session_indexes.specs.Removed.{IsRemovable, IsTaken}
+use Rattle.session_indexes.proofs.MendedIndexes.{take_between}
 use Rattle.session_indexes.proofs.Refused.{removed, slot_seen}
 use Rattle.session_indexes.proofs.Puts.{live_catalog}
 use Rattle.session_model.proofs.Cells.{cell_named}
@@ -94,6 +100,14 @@ module _ (s0 : State) (tables : Tables) (held : Held) (opens : List (Option Open
   pub may_go : IsOk (outcome (view s0.files held opens) (command.RemoveIndex name attribute))
   unfolding made
   may_go = ok_by _ (record (with_index (view s0.files held opens) standing.slot None) { version = 2 }) Fine made
+
+  pub taken_in_part : {mends : List ℕ → Table → Type 0} {store : List ℕ} → IsTrue s0.tells → MendsToState mends store (λ after. MayTake s0 after cat standing.slot)
+      → MendsToDatabase mends store (IsBetween (view s0.files held opens) (command.RemoveIndex name attribute))
+  taken_in_part told m =
+      let db : Database = view s0.files held opens in
+      either_mends (command.RemoveIndex name attribute) (remove_index db name attribute) db (with_index db standing.slot None) refl
+      (removed s0.files held opens name attribute k t cell is.at is.place standing.slot is.found (is.unread s0.files))
+      (database_of m (λ after p. take_between s0 tables held opens r told cat has after standing.slot is.below p))
 
   module _ (s1 : State) (u : IsTaken s0 s1 cat standing.slot) where
     pub gone_changes : IndexChanges s0 s1 tables tables held opens standing.slot None cat

@@ -1,5 +1,7 @@
 pub mod Refused
 pub mod Puts
+pub mod PutParts
+pub mod MendedIndexes
 pub mod Keyed
 pub mod Planted
 pub mod Free

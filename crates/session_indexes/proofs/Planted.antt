@@ -1,16 +1,19 @@
 -- A tree is built in a draft, its index put into the catalog, and the draft becomes its file.
-use Rattle.std.proofs.Common.{◌≡◌, ◌≢◌, ℕ, zero, suc, ◌-◌, ◌<◌, inr, true, List, length, Option, Some, None, refl, ap, sym, ◌∙◌, subst, arith, IsTrue, ℤ}
+use Rattle.std.proofs.Common.{◌≡◌, ◌≢◌, ℕ, zero, suc, ◌-◌, ◌<◌, inl, inr, true, List, length, Option, Some, None, refl, ap, sym, ◌∙◌, subst, arith, IsTrue, ℤ}
 use Rattle.std.specs.Prelude.{option_map, slice_get, slice_index, unwrap_or}
+use Rattle.std.proofs.Math.Logic.{⊎_elim}
+use Rattle.afl_base.specs.CutFiles.{MendsToEither, MendsToState}
 use Rattle.afl_base.specs.declared.kind.Kind.TheVariants.{Doubling}
 use Rattle.afl_base.specs.Files.{Commits, Draft, File, IsLive, IsNamed, IsUnnamed, Keeps, KeepsBytes, State, Table, bytes_at, draft_in, file_at, no_file, place, used}
 use Rattle.afl_base.specs.Fit.{fit}
+use Rattle.afl_base.proofs.CutLaws.{mends_as, mends_now}
 use Rattle.afl_base.proofs.FileLaws.{named_here, place_live}
 use Rattle.afl_base.proofs.FrameLaws.{becomes_spares}
 use Rattle.catalog.specs.CatalogFile.{PutsIndex}
 use Rattle.catalog.specs.Rules.{is_of_database}
 use Rattle.db_model.specs.declared.schemas.IndexKind.{IndexKind}
 use Rattle.db_model.specs.declared.schemas.IndexKind.TheVariants.{MaxHeap}
-use Rattle.db_model.specs.Catalog.{with_index_slot}
+use Rattle.db_model.specs.Catalog.{Index, with_index_slot}
 use Rattle.db_model.specs.Row.{rows_of}
 use Rattle.db_model.specs.Step.{keys}
 use Rattle.index_tree.specs.Trees.{IsTreeOf}
@@ -28,7 +31,9 @@ use Rattle.session_model.proofs.Leaves.{leaves_becomes, leaves_commits, leaves_s
 use Rattle.session_model.proofs.Running.{bytes_by, catalog_no_rows, differ}
 use Rattle.session_indexes.specs.declared.sites.Site.{Site}
 use Rattle.session_indexes.specs.Made.{AsksIndex, IsReadyFor, index_for, keys_at}
+use Rattle.session_indexes.specs.Parts.{MayPut, MayPutTree}
 use Rattle.session_indexes.specs.Trees.{DraftsTree, PutsTree}
+use Rattle.session_indexes.proofs.PutParts.{files_under, may_later, may_whole, mends_later}
 use Rattle.session_indexes.proofs.Puts.{catalog_stays, live_catalog}
 use Rattle.session_model.proofs.Readable.{number_at}
 use Rattle.tuple_file.proofs.Holding.{holds_by}
@@ -93,6 +98,11 @@ kept_again s0 s1 s2 cat u k = record {
 }
 
 module _ (s0 s1 s2 : State) (cat : ℕ) (t : Tuples) (site : Site) (ready : IsReadyFor s0 cat t site) (u : KeepsBytes s0 s1 cat) (d : DraftsTree s1 s2 (tree_file site.slot) (keys_at s1 t site)) where
+  -- the catalog was being changed
+  pub put_part : {mends : List ℕ → Table → Type 0} {store : List ℕ} → IsTrue s0.tells → MendsToState mends store (λ after. MayPut s2 after cat site.slot (Some (index_for site MaxHeap)))
+      → MendsToState mends store (λ after. MayPutTree s0 after cat t site)
+  put_part told m = mends_as (mends_later s0 cat site.slot (Some (index_for site MaxHeap)) ready.catalog told s1 s2 u d.files m) (λ after p. inl p)
+
   module _ (s3 : State) (p : PutsIndex s2 s3 cat site.slot (Some (index_for site MaxHeap))) where
     same_draft : draft_in s3 ≡ draft_in s2
     same_draft = ap (λ (o : Option Draft). draft_of o) p.draft
@@ -157,3 +167,14 @@ module _ (s0 s1 s2 : State) (cat : ℕ) (t : Tuples) (site : Site) (ready : IsRe
             subst (λ (ks : List ℤ). IsTreeOf (bytes_at s4.files file) ks) (keys_stay s0 s1 cat t site ready u)
             (subst (λ (bytes : List ℕ). IsTreeOf bytes (keys_at s1 t site)) (sym here) (d.tree (u.tells ∙ told)));
       }
+
+    -- the tree was being made its file
+    pub tree_part : {mends : List ℕ → Table → Type 0} {store : List ℕ} → IsTrue s0.tells → MendsToEither mends s3.files store (λ after. (file : ℕ) × Commits s3 after file)
+        → MendsToState mends store (λ after. MayPutTree s0 after cat t site)
+    tree_part {mends} {store} told = ⊎_elim
+        (λ (same : mends store s3.files).
+        let o : Option Index = Some (index_for site MaxHeap) in
+        let has : HasCatalogFile s2.files (Some cat) = subst (λ (f : Table). HasCatalogFile f (Some cat)) (sym d.files) (catalog_stays s0 s1 cat u ready.catalog) in
+        let part = may_later s0 cat site.slot o ready.catalog told s1 s2 u d.files s3 (may_whole s2 cat site.slot o has (d.tells ∙ u.tells ∙ told) s3 p) in
+        mends_now (files_under s1 s3) same (inl part))
+        (λ (m : MendsToState mends store (λ after. (file : ℕ) × Commits s3 after file)). mends_as m (λ after k. inr (k.0, tree_put after k.0 k.1)))

@@ -1,4 +1,5 @@
 pub mod Made
+pub mod Parts
 pub mod Removed
 pub mod Sites
 pub mod Trees

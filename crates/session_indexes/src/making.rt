@@ -2,7 +2,8 @@
 
 #![tactic(auto)]
 
-ghost use Rattle.std.specs.Prelude.{◌≡◌, List, Option, IfOk, IsTrue, OnErr, OnOk, length};
+ghost use Rattle.std.specs.Prelude.{◌≡◌, List, Option, IfOk, IsErrOf, IsTrue, OnErr, OnOk, length};
+ghost use Rattle.afl_base.specs.CutFiles.{MendsToEither};
 ghost use Rattle.afl_base.specs.Keeping.{ChangesOrLacks, OnlyReads};
 ghost use Rattle.afl_base.specs.Causes.{HasCause};
 ghost use Rattle.afl_base.specs.FileErrors.{HasFileCause, OnSpace, UnlessFailed};
@@ -17,6 +18,7 @@ ghost use Rattle.tuple_file.specs.Column.{IsNumber};
 ghost use Rattle.tuple_file.specs.Tuples.{HoldsRows, rows};
 ghost use Rattle.session_indexes.specs.Made.{AreElsewhere, AsksIndex, AsksIndexSlot, IsMade, IsReadyFor};
 ghost use Rattle.session_indexes.specs.Made.{IsTried, IsUnrefused, KeepsTaken, keys_at};
+ghost use Rattle.session_indexes.specs.Parts.{IsMadeInPart};
 
 use crate::sites::Site;
 use crate::slots::put_entry;
@@ -67,6 +69,11 @@ fn make_order<V: Files>(
         OnSpace result (λ need. KeepsBytes old new cat) }
     ensures asked { OnSpace result (λ need.
         AsksIndexSlot (V.asks files.new) (V.state files.new) cat site.now.slot need) }
+    ensures cut { let old = V.state files.old in let store = (V.state files.new).store in
+        IsTrue V.cuts → IsTrue old.tells → IsErrOf result FileError.Failed
+        → MendsToEither V.mends old.files store
+        (λ after. (xs : List (Option AnyIndexed))
+        → IsMadeInPart old after xs cat tuples.now site.now Inline) }
     ensures frame { ChangesOrLacks V.state V.lent V.reads V.faults V.lacks files.old files.new result }
 {
     match fall(files, tuples, site.attribute) {
@@ -101,6 +108,11 @@ fn make_tree<V: Files>(
     ensures asked { let old = V.state files.old in let ks = keys_at old tuples.now site.now in
         IsTrue old.tells → OnSpace result (λ need.
         AsksIndex (V.asks files.new) (V.state files.new) cat site.now.slot MaxHeap ks need) }
+    ensures cut { let old = V.state files.old in let store = (V.state files.new).store in
+        IsTrue V.cuts → IsTrue old.tells → IsErrOf result FileError.Failed
+        → MendsToEither V.mends old.files store
+        (λ after. (xs : List (Option AnyIndexed))
+        → IsMadeInPart old after xs cat tuples.now site.now MaxHeap) }
     ensures frame { ChangesOrLacks V.state V.lent V.reads V.faults V.lacks files.old files.new result }
 {
     let file = add_tree(files, cat, tuples, site)?;
@@ -133,6 +145,10 @@ fn make_table<V: Files>(
         OnSpace result (λ need. KeepsBytes old new cat) }
     ensures asked { OnSpace result (λ need.
         AsksIndexSlot (V.asks files.new) (V.state files.new) cat site.now.slot need) }
+    ensures cut { let old = V.state files.old in let store = (V.state files.new).store in
+        IsTrue V.cuts → IsTrue old.tells → IsErrOf result FileError.Failed
+        → MendsToEither V.mends old.files store
+        (λ after. IsMadeInPart old after indexes.now cat tuples.now site.now MemHash) }
     ensures frame { ChangesOrLacks V.state V.lent V.reads V.faults V.lacks files.old files.new result }
 {
     let Some(table) = free_table(indexes) else {
@@ -187,6 +203,10 @@ pub fn make_index<V: Files>(
     ensures asked { let old = V.state files.old in let ks = keys_at old tuples.now site.now in
         IsTrue old.tells → OnSpace result (λ need.
         AsksIndex (V.asks files.new) (V.state files.new) cat site.now.slot kind ks need) }
+    ensures cut { let old = V.state files.old in let store = (V.state files.new).store in
+        IsTrue V.cuts → IsTrue old.tells → IsErrOf result FileError.Failed
+        → MendsToEither V.mends old.files store
+        (λ after. IsMadeInPart old after held.now.indexes cat tuples.now site.now kind) }
     ensures frame { ChangesOrLacks V.state V.lent V.reads V.faults V.lacks files.old files.new result }
 {
     match kind {

@@ -2,7 +2,8 @@
 
 #![tactic(auto)]
 
-ghost use Rattle.std.specs.Prelude.{◌≡◌, Err, IfErr, IfOk, IsTrue, None, OnOk, Some, length};
+ghost use Rattle.std.specs.Prelude.{◌≡◌, Err, IfErr, IfOk, IsErrOf, IsTrue, None, OnOk, Some, length};
+ghost use Rattle.afl_base.specs.CutFiles.{MendsToState};
 ghost use Rattle.afl_base.specs.Keeping.{Changes, ChangesOrLacks};
 ghost use Rattle.afl_base.specs.Causes.{HasCause};
 ghost use Rattle.afl_base.specs.FileErrors.{HasFileCause, OnSpace};
@@ -18,6 +19,7 @@ ghost use Rattle.session_model.specs.Steps.{Answers};
 ghost use Rattle.session_model.specs.View.{view};
 ghost use Rattle.session_model.specs.Wanted.{WantsFew};
 ghost use Rattle.session_indexes.specs.Made.{AsksIndexSlot};
+ghost use Rattle.session_indexes.specs.Parts.{MayTake};
 ghost use Rattle.session_indexes.specs.Removed.{IsRemovable, IsTaken};
 
 use crate::relations::relation_named;
@@ -86,6 +88,9 @@ fn take_index<V: Files>(
         OnSpace result (λ need. KeepsBytes old new cat) }
     ensures asked { OnSpace result (λ need.
         AsksIndexSlot (V.asks files.new) (V.state files.new) cat slot need) }
+    ensures cut { let old = V.state files.old in let store = (V.state files.new).store in
+        IsTrue V.cuts → IsTrue old.tells → IsErrOf result FileError.Failed
+        → MendsToState V.mends store (λ after. MayTake old after cat slot) }
     ensures frame { ChangesOrLacks V.state V.lent V.reads V.faults V.lacks files.old files.new result }
 {
     match clear_entry(files, cat, slot) {

@@ -2,7 +2,8 @@
 
 #![tactic(auto)]
 
-ghost use Rattle.std.specs.Prelude.{◌≡◌, ◌+◌, ◌*◌, None, Some, OnOk, length};
+ghost use Rattle.std.specs.Prelude.{◌≡◌, ◌+◌, ◌*◌, None, Some, IsErrOf, IsTrue, OnErr, OnOk, length};
+ghost use Rattle.afl_base.specs.CutFiles.{MendsToState};
 ghost use Rattle.afl_base.specs.Keeping.{Changes, ChangesOrLacks};
 ghost use Rattle.afl_base.specs.Causes.{HasCause};
 ghost use Rattle.afl_base.specs.FileErrors.{HasFileCause, OnSpace, UnlessFailed};
@@ -11,6 +12,7 @@ ghost use Rattle.catalog.specs.CatalogFile.{IsPrepared, PutsIndex};
 ghost use Rattle.session_model.specs.Frames.{with_indexed};
 ghost use Rattle.session_model.specs.Running.{HasCatalogFile};
 ghost use Rattle.session_indexes.specs.Made.{AsksIndexSlot, index_for};
+ghost use Rattle.session_indexes.specs.Parts.{MayPut};
 
 use crate::sites::Site;
 use afl_base::{Failed, FileError, FileId, Files, IndexId};
@@ -28,6 +30,8 @@ pub fn prepare_slot<V: Files>(files: &mut V, cat: FileId, slot: IndexId) -> Resu
         OnOk result (IsPrepared file (1408 + 8 * slot) 8) }
     ensures asked { OnSpace result (λ need.
         AsksIndexSlot (V.asks files.new) (V.state files.new) cat slot need) }
+    ensures cut { IsTrue V.cuts → IsTrue (V.state files.old).tells → IsErrOf result FileError.Failed
+        → V.mends (V.state files.new).store (V.state files.old).files }
     ensures frame { ChangesOrLacks V.state V.lent V.reads V.faults V.lacks files.old files.new result }
 {
     prepare_catalog(files, cat, 1408 + 8 * u32::from(slot.number()), 8)?;
@@ -46,6 +50,9 @@ pub fn put_site<V: Files>(
         IsPrepared file (1408 + 8 * site.now.slot) 8 }
     ensures put { let old = V.state files.old in let new = V.state files.new in
         OnOk result (PutsIndex old new cat site.now.slot (Some (index_for site.now kind))) }
+    ensures cut { let old = V.state files.old in let store = (V.state files.new).store in
+        IsTrue V.cuts → IsTrue old.tells → OnErr result (MendsToState V.mends store
+        (λ after. MayPut old after cat site.now.slot (Some (index_for site.now kind)))) }
     ensures frame { Changes V.state V.lent V.reads V.faults files.old files.new result }
 {
     let entry = IndexEntry {
@@ -72,6 +79,10 @@ pub fn put_entry<V: Files>(
         OnSpace result (λ need. KeepsBytes old new cat) }
     ensures asked { OnSpace result (λ need.
         AsksIndexSlot (V.asks files.new) (V.state files.new) cat site.now.slot need) }
+    ensures cut { let old = V.state files.old in let store = (V.state files.new).store in
+        IsTrue V.cuts → IsTrue old.tells → IsErrOf result FileError.Failed
+        → MendsToState V.mends store
+        (λ after. MayPut old after cat site.now.slot (Some (index_for site.now kind))) }
     ensures frame { ChangesOrLacks V.state V.lent V.reads V.faults V.lacks files.old files.new result }
 {
     prepare_slot(files, cat, site.slot)?;
@@ -89,6 +100,9 @@ pub fn clear_entry<V: Files>(files: &mut V, cat: FileId, slot: IndexId) -> Resul
         OnSpace result (λ need. KeepsBytes old new cat) }
     ensures asked { OnSpace result (λ need.
         AsksIndexSlot (V.asks files.new) (V.state files.new) cat slot need) }
+    ensures cut { let old = V.state files.old in let store = (V.state files.new).store in
+        IsTrue V.cuts → IsTrue old.tells → IsErrOf result FileError.Failed
+        → MendsToState V.mends store (λ after. MayPut old after cat slot None) }
     ensures frame { ChangesOrLacks V.state V.lent V.reads V.faults V.lacks files.old files.new result }
 {
     prepare_slot(files, cat, slot)?;

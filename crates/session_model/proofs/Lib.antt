@@ -2,6 +2,7 @@ pub mod Aheads
 pub mod Answered
 pub mod Catalogs
 pub mod Cursors
+pub mod CutCatalogs
 pub mod Frames
 pub mod Grown
 pub mod Inserted
@@ -10,6 +11,7 @@ pub mod Kept
 pub mod LeastReader
 pub mod Leaves
 pub mod Opens
+pub mod ReadAs
 pub mod Readable
 pub mod Rules
 pub mod Running

@@ -195,7 +195,7 @@ module _ (state : State) (tables : Tables) (held : Held) (opens : List (Option O
   pub away : (k : ℕ) (t : Tuples) → get_or held.relations k None ≡ Some t → IsNoTree (infos_of k t held.indexes) t.file
   away k t e = no_tree k t t.file (rows_file k) (relation_there k t e).named (λ i x e2 rel. row_no_tree k i)
 
-  rows_stay : (j k : ℕ) (s t : Tuples) → j ≢ k → get_or held.relations j None ≡ Some s → get_or held.relations k None ≡ Some t → StaysAt t.file (infos_of k t held.indexes) s.file
+  pub rows_stay : (j k : ℕ) (s t : Tuples) → j ≢ k → get_or held.relations j None ≡ Some s → get_or held.relations k None ≡ Some t → StaysAt t.file (infos_of k t held.indexes) s.file
   rows_stay j k s t other e there = (
     differ state.files s.file t.file (rows_file j) (rows_file k) (relation_there j s e).named (relation_there k t there).named (rows_apart j k other),
     no_tree k t s.file (rows_file j) (relation_there j s e).named (λ i x e2 rel. row_no_tree j i),
@@ -213,7 +213,7 @@ module _ (state : State) (tables : Tables) (held : Held) (opens : List (Option O
     no_tree k t g (tree_file i) named (λ j y e2 rel. trees_apart i j (apart_slots k i j x y e e2 other rel)),
   )
 
-  cat_stays : (k cat : ℕ) (t : Tuples) → get_or held.relations k None ≡ Some t → IsNamed state.files cat catalog_file → StaysAt t.file (infos_of k t held.indexes) cat
+  pub cat_stays : (k cat : ℕ) (t : Tuples) → get_or held.relations k None ≡ Some t → IsNamed state.files cat catalog_file → StaysAt t.file (infos_of k t held.indexes) cat
   cat_stays k cat t there named = (
     differ state.files cat t.file catalog_file (rows_file k) named (relation_there k t there).named (catalog_no_rows k),
     no_tree k t cat catalog_file named (λ i x e rel. catalog_no_tree i),

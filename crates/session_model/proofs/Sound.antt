@@ -67,7 +67,7 @@ seen_back f (Some x ∷ xs) zero y e = record { from = x; there = refl; is = som
 seen_back f (o ∷ xs) (suc i) y e = let s = seen_back f xs i y e in record { from = s.from; there = s.there; is = s.is }
 
 -- a list is what its places say
-listed_by : {X : Type 0} (f : ℕ → X) (xs : List X) (n : ℕ) (d : X) → length xs ≡ n → ((j : ℕ) → j < n → f j ≡ get_or xs j d) → map f (range_with_len 0 n) ≡ xs
+pub listed_by : {X : Type 0} (f : ℕ → X) (xs : List X) (n : ℕ) (d : X) → length xs ≡ n → ((j : ℕ) → j < n → f j ≡ get_or xs j d) → map f (range_with_len 0 n) ≡ xs
 listed_by f xs n d long same =
     let many : length (map f (range_with_len 0 n)) ≡ n = length-map-range_with_len f 0 n in
     ext_get_or d (map f (range_with_len 0 n)) xs (many ∙ sym long)

@@ -1,12 +1,13 @@
 -- What a command makes of the database of a session, and which calls leave its files.
-use Rattle.std.specs.Prelude.{◌≡◌, ◌+◌, ◌≤◌, IfOk, IsTrue, OnOk, Result, length}
+use Rattle.std.specs.Prelude.{◌≡◌, ◌⊎◌, ◌+◌, ◌≤◌, IfOk, IsTrue, OnErr, OnOk, Result, length}
 use Rattle.afl_base.specs.declared.failed.Failed.{Failed}
 use Rattle.afl_base.specs.declared.files.Files.{Ghosts as FilesOf}
 use Rattle.afl_base.specs.declared.stream.Sink.{Ghosts as SinkOf}
 use Rattle.afl_base.specs.Keeping.{Changes}
 use Rattle.db_model.specs.declared.commands.Command.{Command}
 use Rattle.db_model.specs.Ahead.{Aheads, aheads_after, cost_of}
-use Rattle.db_model.specs.Database.{Database}
+use Rattle.db_model.specs.Between.{AreAlike, IsBetween}
+use Rattle.db_model.specs.Database.{Database, bare}
 use Rattle.db_model.specs.Sound.{IsSoundDatabase}
 use Rattle.db_model.specs.Step.{Reads, step}
 use Rattle.session_model.specs.declared.answer.Answer.{Answer}
@@ -19,6 +20,7 @@ use Rattle.session_model.specs.Running.{IsRunning}
 use Rattle.session_model.specs.Steps.{Answers, HasFaultCause, Replies, UnlessFlash}
 use Rattle.session_model.specs.View.{view}
 use Rattle.session_model.specs.Wanted.{WantsFew}
+use Rattle.stored.specs.Mended.{MendsToDatabase}
 
 -- ---- what a base is seen as
 
@@ -37,9 +39,17 @@ database v base = view (v.state base.files).files base.held base.opens
 abbrev pub aheads : {V : Type 0} → FilesOf V → Base V → Aheads
 aheads v base = aheads_of (v.state base.files).files base.opens
 
+-- what its files are kept in mends to a database between one and what a command makes of that
+abbrev pub MendsBetween : {V : Type 0} → FilesOf V → (files : V) → Database → Command → Type 0
+MendsBetween v files before command = MendsToDatabase v.mends (v.state files).store (IsBetween before command)
+
+-- one of two databases, but for its version, and without its cursors
+abbrev pub IsEither : (before after : Database) → Database → Type 0
+IsEither before after now = AreAlike now (bare before) ⊎ AreAlike now (bare after)
+
 -- ---- commands that answer in one line
 
--- a command was carried out, by its answer; of a failure only `same`, `reads` and the frame say something
+-- a command was carried out, by its answer; of a failure only `cut`, `same`, `reads` and the frame say something
 pub record Carries {V : Type 0} (v : FilesOf V) (command : Command) (old new : Base V) (result : Result Answer Failed) : Type 0 where
   pub done : Tells v old → IfOk result (λ answer. Answers command (database v old) (database v new) answer)
   pub running : OnOk result (Runs v new)
@@ -48,6 +58,8 @@ pub record Carries {V : Type 0} (v : FilesOf V) (command : Command) (old new : B
   pub wants : Tells v old → OnNoSpace result (λ need.
       WantsFew (v.asks new.files) (v.state new.files).files (database v new) command need)
   pub lacks : OnNoSpace result (λ need. v.lacks new.files need)
+  -- where failures are cuts, the database before or after it, or, of a removal, one with some of the rows removed
+  pub cut : IsTrue v.cuts → Tells v old → OnErr result (MendsBetween v new.files (database v old) command)
   -- a refusal, and a removal of no row, leave the files and what they are kept in
   pub untouched : OnNothing result (v.state new.files ≡ v.state old.files)
   -- and so does a command that changes at most a cursor, where it fails, too

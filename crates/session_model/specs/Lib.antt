@@ -5,6 +5,7 @@ pub mod Cells
 pub mod Frames
 pub mod Indexed
 pub mod Queries
+pub mod ReadAs
 pub mod Readers
 pub mod Running
 pub mod Steps

@@ -2,7 +2,7 @@
 
 #![tactic(auto)]
 
-ghost use Rattle.std.specs.Prelude.{◌≡◌, ◌+◌, ◌≤◌, None, OnOk};
+ghost use Rattle.std.specs.Prelude.{◌≡◌, ◌+◌, ◌≤◌, None, IsErrOf, IsTrue, OnOk};
 ghost use Rattle.afl_base.specs.Keeping.{ChangesOrLacks};
 ghost use Rattle.afl_base.specs.declared.kind.Kind.TheVariants.{Fixed};
 ghost use Rattle.afl_base.specs.Asked.{asks_few};
@@ -32,6 +32,8 @@ pub fn prepare_catalog<V: Files>(
     ensures prepared { OnOk result (IsPrepared (file_at (V.state files.new).files cat) at len) }
     ensures asked { let size = size_at (V.state files.old).files cat in OnSpace result (λ need.
         asks_few (V.asks files.new) (V.state files.new).files cat ((room_for size at len).0) ((room_for size at len).1) need) }
+    ensures cut { IsTrue V.cuts → IsTrue (V.state files.old).tells → IsErrOf result FileError.Failed
+        → V.mends (V.state files.new).store (V.state files.old).files }
     ensures frame { ChangesOrLacks V.state V.lent V.reads V.faults V.lacks files.old files.new result }
 {
     let (overwrites, bytes) = room_for(files.size(cat), at, len);

@@ -1,6 +1,6 @@
 -- What a command makes of the database of a session: a refusal, a change of the catalog, or a failure.
 use Rattle.std.proofs.Common.{◌≡◌, ℕ, Ok, Err, refl, sym, ◌∙◌, subst}
-use Rattle.std.specs.Prelude.{Result}
+use Rattle.std.specs.Prelude.{IsTrue, Result}
 use Rattle.afl_base.specs.declared.failed.Failed.{Failed}
 use Rattle.afl_base.specs.declared.files.Files.{Ghosts as FilesOf}
 use Rattle.afl_base.specs.declared.kind.FileError.{FileError}
@@ -14,14 +14,14 @@ use Rattle.session_model.specs.declared.answer.Answer.TheVariants as answer
 use Rattle.session_model.specs.declared.base.Base.{Base}
 use Rattle.session_model.specs.declared.held.Held.{Held}
 use Rattle.session_model.specs.Answers.{Changed}
-use Rattle.session_model.specs.Carried.{Carries, Tells, aheads, database}
+use Rattle.session_model.specs.Carried.{Carries, IsEither, Tells, aheads, database}
 use Rattle.session_model.specs.View.{view}
 use Rattle.session_model.specs.Wanted.{WantsFew}
+use Rattle.stored.specs.Mended.{MendsToDatabase}
 use Rattle.session_relations.specs.Changes.{Shows}
 use Rattle.session_relations.proofs.Answered.{answers_fine, answers_space}
 use Rattle.session_model.proofs.Carrying.{ahead_stays}
-
--- ---- a change of the catalog
+use Rattle.session_model.proofs.CutCatalogs.{either_mends}
 
 -- of a base whose files have changed, and what is known of them
 module _ {V : Type 0} (v : FilesOf V) (command : Command) (made : Outcome) (old : Base V) (files : V) (held : Held)
@@ -35,6 +35,7 @@ module _ {V : Type 0} (v : FilesOf V) (command : Command) (made : Outcome) (old 
     tells = shows.tells;
     wants = λ told. tt;
     lacks = tt;
+    cut = λ cuts told. tt;
     untouched = tt;
     same = λ reads. absurd (changes reads);
     reads = λ told reads. absurd (changes reads);
@@ -51,25 +52,27 @@ module _ {V : Type 0} (v : FilesOf V) (command : Command) (made : Outcome) (old 
     tells = shows.tells;
     wants = wants;
     lacks = frame.lacks;
+    cut = λ cuts told. tt;
     untouched = tt;
     same = λ reads. absurd (changes reads);
     reads = λ told reads. absurd (changes reads);
     frame = record { store = frame.store; lent = frame.lent; later = frame.later; cause = record { later = frame.cause.later; failed = tt } };
   }
 
--- ---- a failure
-
-pub carries_failed : {V T : Type 0} (v : FilesOf V) (command : Command) (old new : Base V) (failed : Failed) → (Reads command → ⊥)
-    → ChangesOrLacks {T = T} v.state v.lent v.reads v.faults v.lacks old.files new.files (Err FileFailed) → Carries v command old new (Err failed)
-carries_failed v command old new failed changes frame = record {
-  done = λ told. tt;
-  running = tt;
-  ahead = λ told. tt;
-  tells = tt;
-  wants = λ told. tt;
-  lacks = tt;
-  untouched = tt;
-  same = λ reads. absurd (changes reads);
-  reads = λ told reads. absurd (changes reads);
-  frame = record { store = frame.store; lent = frame.lent; later = frame.later; cause = record { later = frame.cause.later; failed = frame.cause.failed refl } };
-}
+  -- where the files failed
+  pub carries_failed : {T : Type 0} (db : Database) (failed : Failed) → made ≡ Ok (db, Fine)
+      → (IsTrue v.cuts → Tells v old → MendsToDatabase v.mends (v.state files).store (IsEither (database v old) db))
+      → ChangesOrLacks {T = T} v.state v.lent v.reads v.faults v.lacks old.files files (Err FileFailed) → Carries v command old (record old { files = files; held = held }) (Err failed)
+  carries_failed db failed e cut frame = record {
+    done = λ told. tt;
+    running = tt;
+    ahead = λ told. tt;
+    tells = tt;
+    wants = λ told. tt;
+    lacks = tt;
+    cut = λ cuts told. either_mends command made (database v old) db is e (cut cuts told);
+    untouched = tt;
+    same = λ reads. absurd (changes reads);
+    reads = λ told reads. absurd (changes reads);
+    frame = record { store = frame.store; lent = frame.lent; later = frame.later; cause = record { later = frame.cause.later; failed = frame.cause.failed refl } };
+  }

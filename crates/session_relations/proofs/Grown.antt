@@ -61,7 +61,7 @@ no_slot [] k s below none is =
 no_slot (b ∷ bytes) k s below none is = absurd (omega (arith, none))
 
 -- the relation in a slot of a catalog that is told
-held_back : (state : State) (tables : Tables) (held : Held) (opens : List (Option Open)) (k cat : ℕ) (t : Tuples) → IsRunning state tables held opens → held.cat ≡ Some cat → k < 8
+pub held_back : (state : State) (tables : Tables) (held : Held) (opens : List (Option Open)) (k cat : ℕ) (t : Tuples) → IsRunning state tables held opens → held.cat ≡ Some cat → k < 8
     → get_or held.relations k None ≡ Some t → IsTrue state.tells → IsReadBack (Some t.schema)
 held_back state tables held opens k cat t r has below there told =
     let bytes : List ℕ = bytes_at state.files cat in
@@ -81,6 +81,14 @@ held_back state tables held opens k cat t r has below there told =
 alone_back : (a : Attribute) → IsAttribute a → IsReadBack (Some (alone a))
 alone_back a good =
     read_back (Some (alone a)) (good.0, omega arith, (good, tt))
+
+-- and so would it be with one attribute more
+pub longer_back : (was is : Tuples) → IsLonger was is → IsReadBack (Some was.schema) → IsReadBack (Some is.schema)
+longer_back was is more back =
+    let same : is.schema ≡ longer was.schema more.attribute = λ i. record { name = more.name i; attributes = more.attributes i } in
+    let few : length was.schema.attributes < 8 =
+    omega (arith, more.few, ap (λ (xs : List Attribute). length xs) more.attributes, length-append was.schema.attributes (more.attribute ∷ [])) in
+    subst (λ (s : Schema). IsReadBack (Some s)) (sym same) (read_back_more was.schema more.attribute back (alone_back more.attribute more.good) few)
 
 -- ---- the relation grows
 
@@ -108,12 +116,7 @@ module _ (old new : State) (tables : Tables) (held : Held) (opens : List (Option
       ap (λ (id : ℕ). name_at new.files id) more.file ∙ ap (option_map (λ (f : File). f.name)) same_place ∙ (relation_there old tables held opens r k was there).named
 
   grown_back : IsTrue old.tells → IsReadBack (Some is.schema)
-  grown_back told =
-      let same : is.schema ≡ longer was.schema more.attribute = λ i. record { name = more.name i; attributes = more.attributes i } in
-      let few : length was.schema.attributes < 8 =
-      omega (arith, more.few, ap (λ (xs : List Attribute). length xs) more.attributes, length-append was.schema.attributes (more.attribute ∷ [])) in
-      subst (λ (s : Schema). IsReadBack (Some s)) (sym same)
-      (read_back_more was.schema more.attribute (held_back old tables held opens k cat was r has below there told) (alone_back more.attribute more.good) few)
+  grown_back told = longer_back was is more (held_back old tables held opens k cat was r has below there told)
 
   grown : RelationChanges old new tables held opens k (Some is) cat
   grown =

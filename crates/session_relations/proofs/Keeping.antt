@@ -1,6 +1,6 @@
 -- Errors that are handed on, and what calls keep that come one behind another.
 use Rattle.std.proofs.Common.{◌≡◌, ℕ, ◌+◌, ◌≤◌, min, refl, ap, sym, subst, ◌∙◌, arith, Ok, Err}
-use Rattle.std.specs.Prelude.{Result, IsErrAnd}
+use Rattle.std.specs.Prelude.{Result, IsErrAnd, IsErrOf}
 use Rattle.std.proofs.lemmas.Result.{err_from_is_err_and}
 use Rattle.afl_base.specs.declared.files.Files.{Ghosts as FilesOf}
 use Rattle.afl_base.specs.declared.kind.FileError.{FileError}
@@ -29,6 +29,16 @@ space_handed {T = T} {U = U} r q e P Q was is follows h =
     by_error : (e : FileError) → OnSpace {T = T} (Err e) P → OnSpace {T = U} (Err e) Q
     by_error (Space need) p = follows need p
     by_error Failed p = tt
+
+-- it is Failed where that was
+pub failed_handed : {T U : Type 0} (r : Result T FileError) (q : Result U FileError) (e : FileError) → r ≡ Err e → IsErrAnd q (λ y. y ≡ e) → IsErrOf q Failed → IsErrOf r Failed
+failed_handed {U = U} r q e was is failed =
+    let said = err_from_is_err_and q is in
+    let same : said.0 ≡ Failed = err_same said.0 Failed (sym said.1 ∙ failed) in
+    was ∙ ap (λ (y : FileError). Err y) (sym said.2 ∙ same)
+  where
+    err_same : (x y : FileError) → ◌≡◌ {A = Result U FileError} (Err x) (Err y) → x ≡ y
+    err_same x y e = cc
 
 pub both_spaces : {T : Type 0} (r : Result T FileError) (P Q : ℕ → Type 0) → OnSpace r P → OnSpace r Q → OnSpace r (λ need. P need × Q need)
 both_spaces (Ok x) P Q p q = tt

@@ -1,10 +1,13 @@
 pub mod Answered
 pub mod Carried
 pub mod Created
+pub mod CutViews
+pub mod Cuts
 pub mod Found
 pub mod Gone
 pub mod Grown
 pub mod Keeping
+pub mod Parts
 pub mod ReadBack
 pub mod Shown
 pub mod Slots

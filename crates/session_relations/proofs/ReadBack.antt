@@ -1,5 +1,5 @@
 -- A relation slot that reads back what was written goes on doing so where an attribute comes behind the others.
-use Rattle.std.proofs.Common.{◌≡◌, ℕ, ◌+◌, ◌-◌, ◌*◌, ◌<◌, ◌≤◌, Bool, true, false, cond, List, [], ◌∷◌, ◌++◌, length, take, drop, map, replicate, flat_map, Option, Some, None, refl, ap, sym, ◌∙◌, subst, arith, append_assoc, length-append}
+use Rattle.std.proofs.Common.{◌≡◌, ℕ, ◌+◌, ◌-◌, ◌*◌, ◌<◌, ◌≤◌, Bool, true, false, cond, List, [], ◌∷◌, ◌++◌, length, take, drop, map, replicate, flat_map, Some, None, refl, ap, sym, ◌∙◌, subst, arith, append_assoc, length-append}
 use Rattle.std.specs.Prelude.{slice_index, slice_range, ◌==◌}
 use Rattle.std.specs.List.{AllByRecursion, range_with_len}
 use Rattle.std.proofs.lemmas.List.{get_or-append-add, get_or_append_left, flat_map_more, length-take, length_push}
@@ -13,6 +13,7 @@ use Rattle.db_model.proofs.Rows.{drop_front, length-padded, take_front, map_rang
 use Rattle.padded.proofs.Facts.{slice_of_front}
 use Rattle.db_model.proofs.SoundSteps.{all_more}
 use Rattle.db_model.proofs.Decoded.{cut}
+use Rattle.stored.proofs.CatalogParts.{FitsSlot}
 
 -- bytes with zeros behind them
 abbrev padded : ℕ → List ℕ → List ℕ
@@ -150,6 +151,11 @@ fits_of s back few =
     let bytes = relation_slot_bytes (Some s) in
     let read = read_of bytes s back in
     record { name = short_name s.name bytes (ap (λ (z : Schema). z.name) read.is); attributes = long_attributes s.attributes (names_short s back); few = few }
+
+pub short_of : (s : Schema) → IsReadBack (Some s) → length s.attributes ≤ 8 → FitsSlot s
+short_of s back few =
+    let fits = fits_of s back.1 few in
+    record { name = fits.name; attributes = fits.attributes; few = few; back = back }
 
 -- ---- an attribute more
 

@@ -19,7 +19,7 @@ use Rattle.session_relations.specs.Changes.{PutsSlot}
 use Rattle.session_model.proofs.Catalogs.{named_at}
 
 -- the file of a slot's rows is one of the database
-rows_known : (slot : ℕ) → slot < 8 → is_of_database (rows_file slot) Doubling ≡ true
+pub rows_known : (slot : ℕ) → slot < 8 → is_of_database (rows_file slot) Doubling ≡ true
 rows_known slot h = grind (arith, nat_tests)
 
 -- the catalog's file keeps its name
@@ -48,7 +48,7 @@ slot_put a b cat slot schema idle has u = record {
 }
 
 -- a place without a file is not that of a name
-not_free : (files : Table) (id free : ℕ) (n : List ℕ) → IsNamed files id n → place files free ≡ None → id ≢ free
+pub not_free : (files : Table) (id free : ℕ) (n : List ℕ) → IsNamed files id n → place files free ≡ None → id ≢ free
 not_free files id free n named none e =
     let gone : name_at files free ≡ None = ap (option_map (λ (f : File). f.name)) none in
     none_some n (sym gone ∙ ap (name_at files) (sym e) ∙ named)

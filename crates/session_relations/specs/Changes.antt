@@ -1,17 +1,18 @@
 -- What a change of the catalog makes of a session.
-use Rattle.std.specs.Prelude.{◌≡◌, ◌≤◌, ◌*◌, ℕ, Bool, false, ◌==◌, List, [], ◌∷◌, ◌++◌, length, filter, map, get_or, Option, Some, None, option_map, Result, IsTrue, ⊤}
+use Rattle.std.specs.Prelude.{◌≡◌, ◌⊎◌, ◌≤◌, ◌*◌, ℕ, Bool, false, ◌==◌, List, [], ◌∷◌, ◌++◌, length, filter, map, get_or, Option, Some, None, option_map, Result, IsTrue, ⊤}
 use Rattle.afl_base.specs.Asked.{asks_few}
-use Rattle.afl_base.specs.Files.{State, Table, bytes_at, size_at}
+use Rattle.afl_base.specs.Files.{IsNamed, State, Table, bytes_at, size_at}
+use Rattle.catalog.specs.CatalogFile.{MayReplace, ReplacesFront}
 use Rattle.db_model.specs.declared.refusals.Refusal.{Refusal}
 use Rattle.db_model.specs.declared.schemas.Attribute.{Attribute}
 use Rattle.db_model.specs.declared.schemas.Schema.{Schema}
-use Rattle.db_model.specs.Catalog.{Index, IsAttribute, with_relation_slot}
+use Rattle.db_model.specs.Catalog.{Index, IsAttribute, relation_slot_bytes, with_relation_slot}
 use Rattle.db_model.specs.Database.{Database, Relation, used_things, with_relation}
 use Rattle.db_model.specs.Refusing.{◌>>◌}
 use Rattle.db_model.specs.Row.{row_length}
 use Rattle.db_model.specs.Step.{refuse_indexed, refuse_read}
 use Rattle.index_set.specs.Tables.{Tables}
-use Rattle.space_model.specs.FileNames.{rows_file}
+use Rattle.space_model.specs.FileNames.{catalog_file, rows_file}
 use Rattle.space_model.specs.Wants.{room_for}
 use Rattle.tuple_file.specs.declared.tuples.Tuples.{Tuples}
 use Rattle.tuple_file.specs.Tuples.{slots}
@@ -51,6 +52,21 @@ pub record PutsSlot (old new : State) (cat slot : ℕ) (schema : Option Schema) 
   pub leaves : LeavesOthers old new (rows_file slot)
   pub bytes : HasBytes old new cat (with_relation_slot (bytes_at old.files cat) slot schema)
   pub idle : new.draft ≡ None
+
+-- the catalog was being changed in a relation slot, and no other file has changed
+abbrev pub MayPutSlot : (old after : State) (cat slot : ℕ) → Option Schema → Type 0
+MayPutSlot old after cat slot schema = MayReplace old after cat (176 * slot) (relation_slot_bytes schema)
+
+-- the catalog was being changed in the slot of a new relation, whose file is there and empty, or not yet there
+pub record MayMakeSlot (old after : State) (cat slot : ℕ) (schema : Schema) : Type 0 where
+  pub leaves : LeavesOthers old after (rows_file slot)
+  pub named : IsNamed after.files cat catalog_file
+  pub bytes : ReplacesFront (bytes_at old.files cat) (176 * slot) (relation_slot_bytes (Some schema)) (bytes_at after.files cat)
+  pub empty : (id : ℕ) → IsNamed after.files id (rows_file slot) → bytes_at after.files id ≡ []
+
+-- the catalog was being changed, or the slot is unused, and the file of its rows is there still or gone
+abbrev pub MayTakeSlot : (old after : State) (cat slot : ℕ) → Type 0
+MayTakeSlot old after cat slot = MayPutSlot old after cat slot None ⊎ PutsSlot old after cat slot None
 
 -- an extent is asked for, for a change of a relation slot in a catalog
 abbrev pub AsksRelationSlot : (ℕ → ℕ → ℕ → ℕ → Type 0) → Table → ℕ → ℕ → ℕ → Type 0

@@ -2,23 +2,26 @@
 
 #![tactic(auto)]
 
-ghost use Rattle.std.specs.Prelude.{◌≡◌, ◌<◌, ◌⊎◌, List, Option, Err, IfErr, IfOk, IsTrue, None, Ok, OnOk, Some, length};
+ghost use Rattle.std.specs.Prelude.{◌≡◌, ◌<◌, ◌⊎◌, List, Option, Err, IfErr, IfOk, IsErrOf, IsTrue, None, Ok, OnOk, Some, length};
+ghost use Rattle.afl_base.specs.CutFiles.{MendsToState};
 ghost use Rattle.afl_base.specs.Keeping.{ChangesOrLacks};
 ghost use Rattle.afl_base.specs.declared.kind.Kind.TheVariants.{Doubling};
 ghost use Rattle.afl_base.specs.FileErrors.{OnSpace};
 ghost use Rattle.afl_base.specs.Files.{IsUnnamed, Keeps, KeepsBytes, Table, new_file, place, used};
 ghost use Rattle.db_model.specs.declared.commands.Command.TheVariants as command;
-ghost use Rattle.db_model.specs.Database.{free_from, with_relation};
+ghost use Rattle.db_model.specs.Between.{AreAlike};
+ghost use Rattle.db_model.specs.Database.{bare, free_from, with_relation};
 ghost use Rattle.db_model.specs.Names.{is_name};
 ghost use Rattle.db_model.specs.Step as machine;
 ghost use Rattle.db_model.specs.Step.{Fine};
 ghost use Rattle.space_model.specs.FileNames.{rows_file};
 ghost use Rattle.session_model.specs.declared.held.Open.{Open as AnyOpen};
-ghost use Rattle.session_model.specs.Carried.{Carries, Runs};
+ghost use Rattle.session_model.specs.Carried.{Carries, IsEither, Runs};
 ghost use Rattle.session_model.specs.Running.{HasCatalogFile, IsRunning};
 ghost use Rattle.session_model.specs.View.{view};
 ghost use Rattle.session_model.specs.Wanted.{WantsFew};
-ghost use Rattle.session_relations.specs.Changes.{AsksRelationSlot, PutsSlot, Shows, bare_relation, bare_schema, changed_at};
+ghost use Rattle.session_relations.specs.Changes.{AsksRelationSlot, MayMakeSlot, PutsSlot, Shows, bare_relation, bare_schema, changed_at};
+ghost use Rattle.stored.specs.Mended.{MendsToDatabase};
 
 use crate::finding::{Place, free_slot};
 use afl_base::{Failed, FileError, FileId, Files, Kind, RelationId};
@@ -99,6 +102,10 @@ fn add_relation<V: Files>(
         IsTrue (V.state files.old).tells → OnSpace result (λ need.
         WantsFew (V.asks files.new) (V.state files.new).files new
         (command.CreateRelation name.now) need) }
+    ensures cut { let old = view (V.state files.old).files held.old opens.now in IsTrue V.cuts
+        → IsTrue (V.state files.old).tells → IsErrOf result FileError.Failed
+        → MendsToDatabase V.mends (V.state files.new).store
+        (IsEither old (with_relation old slot (Some (bare_relation name.now)))) }
     ensures frame { ChangesOrLacks V.state V.lent V.reads V.faults V.lacks files.old files.new result }
 {
     let cat = make_catalog(files, tables, held, opens)?;
@@ -137,6 +144,9 @@ fn make_catalog<V: Files>(
     ensures kept { OnSpace result (λ _. Keeps (V.state files.old) (V.state files.new)
         × (held.new ≡ held.old) × (held.old.cat ≡ None)) }
     ensures need { OnSpace result (λ need. need ≡ 6) }
+    ensures cut { let old = view (V.state files.old).files held.old opens.now in IsTrue V.cuts
+        → IsTrue (V.state files.old).tells → IsErrOf result FileError.Failed
+        → MendsToDatabase V.mends (V.state files.new).store (λ now. AreAlike now (bare old)) }
     ensures frame { ChangesOrLacks V.state V.lent V.reads V.faults V.lacks files.old files.new result }
 {
     if let Some(cat) = held.cat {
@@ -163,6 +173,9 @@ fn make_rows<V: Files>(files: &mut V, at: &Place, schema: &Schema) -> Result<Fil
     ensures asked { OnSpace result (λ need.
         AsksRelationSlot (V.asks files.new) (V.state files.new).files at.now.cat at.now.slot need
         ⊎ (need ≡ 16)) }
+    ensures cut { IsTrue V.cuts → IsTrue (V.state files.old).tells → IsErrOf result FileError.Failed
+        → MendsToState V.mends (V.state files.new).store
+        (λ after. MayMakeSlot (V.state files.old) after at.now.cat at.now.slot schema.now) }
     ensures frame { ChangesOrLacks V.state V.lent V.reads V.faults V.lacks files.old files.new result }
 {
     prepare_catalog(files, at.cat, 176 * u32::from(at.slot.number()), 176)?;

@@ -2,21 +2,23 @@
 
 #![tactic(auto)]
 
-ghost use Rattle.std.specs.Prelude.{◌≡◌, ◌<◌, ℕ, List, Option, [], Err, IfErr, IfOk, IfSome, IsSome, None, Ok, OnOk, Some, get_or, length};
+ghost use Rattle.std.specs.Prelude.{◌≡◌, ◌<◌, ℕ, List, Option, [], Err, IfErr, IfOk, IfSome, IsErrOf, IsSome, IsTrue, None, Ok, OnOk, Some, get_or, length};
+ghost use Rattle.afl_base.specs.CutFiles.{MendsToState};
 ghost use Rattle.afl_base.specs.Keeping.{ChangesOrLacks};
 ghost use Rattle.afl_base.specs.FileErrors.{OnSpace};
 ghost use Rattle.afl_base.specs.Files.{KeepsBytes};
 ghost use Rattle.catalog.specs.CatalogFile.{PutsRelation};
 ghost use Rattle.db_model.specs.declared.commands.Command.TheVariants as command;
 ghost use Rattle.db_model.specs.Catalog.{IsDomain};
-ghost use Rattle.db_model.specs.Database.{Database};
+ghost use Rattle.db_model.specs.Database.{Database, with_relation};
 ghost use Rattle.db_model.specs.Row.{Row};
 ghost use Rattle.db_model.specs.Step.{Fine, add_attribute, domain_asked};
 ghost use Rattle.db_model.specs.Typing.{is_attribute};
-ghost use Rattle.session_model.specs.Carried.{Carries, Runs};
+ghost use Rattle.session_model.specs.Carried.{Carries, IsEither, Runs};
 ghost use Rattle.session_model.specs.Running.{HasCatalogFile, IsRunning};
 ghost use Rattle.session_model.specs.View.{view};
-ghost use Rattle.session_relations.specs.Changes.{AsksRelationSlot, Grows, IsLonger, Shows, changed_at};
+ghost use Rattle.session_relations.specs.Changes.{AsksRelationSlot, Grows, IsLonger, MayPutSlot, Shows, changed_at};
+ghost use Rattle.stored.specs.Mended.{MendsToDatabase};
 ghost use Rattle.tuple_file.specs.declared.tuples.Tuples.{Tuples as AnyTuples};
 ghost use Rattle.tuple_file.specs.Tuples.{HoldsRows, rows};
 
@@ -193,6 +195,10 @@ fn grow_relation<V: Files>(
     ensures held { OnSpace result (λ _. held.new ≡ held.old) }
     ensures asked { OnSpace result (λ need.
         AsksRelationSlot (V.asks files.new) (V.state files.new).files at.now.cat at.now.slot need) }
+    ensures cut { let old = view (V.state files.old).files held.old opens.now in IsTrue V.cuts
+        → IsTrue (V.state files.old).tells → IsErrOf result FileError.Failed
+        → MendsToDatabase V.mends (V.state files.new).store (IsEither old
+        (with_relation old at.now.slot (Some (record { schema = grown.schema; rows = [] })))) }
     ensures frame { ChangesOrLacks V.state V.lent V.reads V.faults V.lacks files.old files.new result }
 {
     put_slot(files, at, &grown.schema)?;
@@ -212,6 +218,9 @@ fn put_slot<V: Files>(files: &mut V, at: &Place, schema: &Schema) -> Result<(), 
         KeepsBytes (V.state files.old) (V.state files.new) at.now.cat) }
     ensures asked { OnSpace result (λ need.
         AsksRelationSlot (V.asks files.new) (V.state files.new).files at.now.cat at.now.slot need) }
+    ensures cut { IsTrue V.cuts → IsTrue (V.state files.old).tells → IsErrOf result FileError.Failed
+        → MendsToState V.mends (V.state files.new).store
+        (λ after. MayPutSlot (V.state files.old) after at.now.cat at.now.slot (Some schema.now)) }
     ensures frame { ChangesOrLacks V.state V.lent V.reads V.faults V.lacks files.old files.new result }
 {
     prepare_catalog(files, at.cat, 176 * u32::from(at.slot.number()), 176)?;

@@ -2,17 +2,19 @@
 
 #![tactic(auto)]
 
-ghost use Rattle.std.specs.Prelude.{◌≡◌, ◌≤◌, Err, IfNone, IfSome, IsSome, None, Ok, OnOk, Some, [], get_or, length, map, option_map};
+ghost use Rattle.std.specs.Prelude.{◌≡◌, ◌≤◌, Err, IfNone, IfSome, IsErrOf, IsSome, IsTrue, None, Ok, OnOk, Some, [], get_or, length, map, option_map};
+ghost use Rattle.afl_base.specs.CutFiles.{MendsToState};
 ghost use Rattle.afl_base.specs.Keeping.{ChangesOrLacks};
 ghost use Rattle.afl_base.specs.FileErrors.{OnSpace};
 ghost use Rattle.afl_base.specs.Files.{IsNamed, IsUnnamed, KeepsBytes, Table};
 ghost use Rattle.db_model.specs.declared.commands.Command.TheVariants as command;
-ghost use Rattle.db_model.specs.Database.{reader_from};
-ghost use Rattle.session_model.specs.Carried.{Carries, Runs};
+ghost use Rattle.db_model.specs.Database.{reader_from, with_relation};
+ghost use Rattle.session_model.specs.Carried.{Carries, IsEither, Runs};
 ghost use Rattle.session_model.specs.Running.{HasCatalogFile, IsRunning};
 ghost use Rattle.session_model.specs.View.{cursor_in, view};
-ghost use Rattle.session_relations.specs.Changes.{AsksRelationSlot, PutsSlot, Shows, changed_at, indexes_on, refuse_removal};
+ghost use Rattle.session_relations.specs.Changes.{AsksRelationSlot, MayTakeSlot, PutsSlot, Shows, changed_at, indexes_on, refuse_removal};
 ghost use Rattle.space_model.specs.FileNames.{rows_file};
+ghost use Rattle.stored.specs.Mended.{MendsToDatabase};
 ghost use Rattle.tuple_file.specs.declared.tuples.Tuples.{Tuples as AnyTuples};
 
 use crate::finding::{Place, find_place, has_index};
@@ -91,6 +93,10 @@ fn take_relation<V: Files>(
     ensures held { OnSpace result (λ _. held.new ≡ held.old) }
     ensures asked { OnSpace result (λ need.
         AsksRelationSlot (V.asks files.new) (V.state files.new).files at.now.cat at.now.slot need) }
+    ensures cut { let old = view (V.state files.old).files held.old opens.now in IsTrue V.cuts
+        → IsTrue (V.state files.old).tells → IsErrOf result FileError.Failed
+        → MendsToDatabase V.mends (V.state files.new).store
+        (IsEither old (with_relation old at.now.slot None)) }
     ensures frame { ChangesOrLacks V.state V.lent V.reads V.faults V.lacks files.old files.new result }
 {
     let rows = match &held.relations[at.slot.number() as usize] {
@@ -116,6 +122,9 @@ fn take_slot<V: Files>(files: &mut V, at: &Place, rows: FileId) -> Result<(), Fi
         KeepsBytes (V.state files.old) (V.state files.new) at.now.cat) }
     ensures asked { OnSpace result (λ need.
         AsksRelationSlot (V.asks files.new) (V.state files.new).files at.now.cat at.now.slot need) }
+    ensures cut { IsTrue V.cuts → IsTrue (V.state files.old).tells → IsErrOf result FileError.Failed
+        → MendsToState V.mends (V.state files.new).store
+        (λ after. MayTakeSlot (V.state files.old) after at.now.cat at.now.slot) }
     ensures frame { ChangesOrLacks V.state V.lent V.reads V.faults V.lacks files.old files.new result }
 {
     prepare_catalog(files, at.cat, 176 * u32::from(at.slot.number()), 176)?;

@@ -1,29 +1,47 @@
 -- What a command on the rows of one relation makes of the database of a session.
-use Rattle.std.proofs.Common.{◌≡◌, ℕ, List, get_or, Option, Some, None, Ok, Err, refl, sym, subst}
-use Rattle.std.specs.Prelude.{Result, IfSome, IsErrAnd, OnOk}
+use Rattle.std.proofs.Common.{◌≡◌, ◌≢◌, ℕ, List, ◌++◌, map, take, drop, get_or, Option, Some, None, Ok, Err, refl, ap, sym, subst, ◌∙◌, inl, inr, IsTrue}
+use Rattle.std.specs.Prelude.{Result, IfSome, IsErrAnd, IsOk, OnErr, OnOk}
+use Rattle.std.proofs.Math.Logic.{⊎_elim}
 use Rattle.std.proofs.lemmas.Result.{err_from_is_err_and}
 use Rattle.afl_base.specs.declared.failed.Failed.{Failed}
 use Rattle.afl_base.specs.declared.files.Files.{Ghosts as FilesOf}
 use Rattle.afl_base.specs.declared.kind.FileError.TheVariants.{Failed as FileFailed}
+use Rattle.afl_base.specs.CutFiles.{MendsToState}
+use Rattle.afl_base.specs.Files.{Table}
 use Rattle.afl_base.specs.Keeping.{Changes, ChangesOrLacks}
+use Rattle.afl_base.proofs.FrameLaws.{spares_fewer}
 use Rattle.db_model.specs.declared.commands.Command.{Command}
+use Rattle.db_model.specs.declared.commands.Command.TheVariants as command
+use Rattle.db_model.specs.declared.commands.Node.{Node}
 use Rattle.db_model.specs.declared.refusals.Refusal.{Refusal}
 use Rattle.db_model.specs.Ahead.{is_refused, moved}
-use Rattle.db_model.specs.Database.{Database, Relation}
-use Rattle.db_model.specs.Step.{Reads, Reply, changed_by, outcome, step}
+use Rattle.db_model.specs.Between.{AreAlike}
+use Rattle.db_model.specs.Cond.{condition_of}
+use Rattle.db_model.specs.Database.{Database, Relation, bare, with_relation}
+use Rattle.db_model.specs.Row.{Row}
+use Rattle.db_model.specs.Step.{Outcome, Reads, Reply, changed_by, outcome, remove_from, removed_row, replied, step}
 use Rattle.index_set.specs.Tables.{Tables}
 use Rattle.tuple_file.specs.declared.tuples.Tuples.{Tuples}
+use Rattle.tuple_file.specs.Tuples.{rows}
 use Rattle.session_model.specs.declared.answer.Answer.{Answer}
-use Rattle.session_model.specs.declared.answer.Answer.TheVariants as answer
 use Rattle.session_model.specs.declared.base.Base.{Base}
+use Rattle.session_model.specs.declared.held.Held.{Held}
+use Rattle.session_model.specs.declared.held.Open.{Open}
 use Rattle.session_model.specs.Answers.{Changed, OnNoSpace, OnNothing}
-use Rattle.session_model.specs.Carried.{Carries, Tells, aheads, database}
+use Rattle.session_model.specs.Carried.{Carries, MendsBetween, Runs, Tells, aheads, database}
 use Rattle.session_model.specs.Cells.{cell_from}
+use Rattle.session_model.specs.Frames.{StaysAt}
+use Rattle.session_model.specs.Indexed.{infos_of}
 use Rattle.session_model.specs.View.{relation_of_rows, view}
 use Rattle.session_model.specs.Wanted.{WantsFew}
-use Rattle.session_model.proofs.Views.{gives_of_one}
+use Rattle.session_model.proofs.ReadAs.{rows_alike}
+use Rattle.session_model.proofs.Views.{gives_of_one, named_some, view_set}
+use Rattle.session_model.proofs.Wanted.{relation_seen}
 use Rattle.session_rows.specs.Changes.{RunsOn}
+use Rattle.session_rows.specs.CutRows.{MayChange, MayRemove}
 use Rattle.session_rows.proofs.Changes.{one_of}
+use Rattle.session_rows.proofs.Cuts.{map_whole}
+use Rattle.session_rows.proofs.Refusals.{accepted_removal}
 use Rattle.session_model.proofs.Carrying.{ahead_stays}
 
 pub carries_of_one : {V : Type 0} (v : FilesOf V) (command : Command) (change : ℕ → Database → Relation → Result (Relation × Reply) Refusal) (name : List ℕ) (old : Base V) (files : V) (tables : Tables)
@@ -42,6 +60,7 @@ carries_of_one v command change name old files tables k t a is stays changes cel
   tells = runs.tells;
   wants = wants;
   lacks = lacks;
+  cut = λ cuts told. tt;
   untouched = untouched;
   same = λ reads. absurd (changes reads);
   reads = λ told reads. absurd (changes reads);
@@ -50,9 +69,11 @@ carries_of_one v command change name old files tables k t a is stays changes cel
 
 -- a failure
 pub carries_failed : {V T : Type 0} (v : FilesOf V) (command : Command) (old new : Base V) (r : Result T Failed) (e : Failed) (q : Result Answer Failed) → r ≡ Err e → IsErrAnd q (λ y. y ≡ e)
-    → (Reads command → ⊥) → Changes v.state v.lent v.reads v.faults old.files new.files r → Carries v command old new q
-carries_failed {T = T} v command old new r e q was is changes frame =
+    → (Reads command → ⊥) → (IsTrue v.cuts → Tells v old → OnErr r (MendsBetween v new.files (database v old) command))
+    → Changes v.state v.lent v.reads v.faults old.files new.files r → Carries v command old new q
+carries_failed {T = T} v command old new r e q was is changes cut frame =
     let said = err_from_is_err_and q is in
+    let left = subst (λ (z : Result T Failed). IsTrue v.cuts → Tells v old → OnErr z (MendsBetween v new.files (database v old) command)) was cut in
     let f = subst (λ (z : Result T Failed). Changes v.state v.lent v.reads v.faults old.files new.files z) was frame in
     subst (λ (z : Result Answer Failed). Carries v command old new z) (sym said.1) (record {
       done = λ told. tt;
@@ -61,11 +82,94 @@ carries_failed {T = T} v command old new r e q was is changes frame =
       tells = tt;
       wants = λ told. tt;
       lacks = tt;
+      cut = left;
       untouched = tt;
       same = λ reads. absurd (changes reads);
       reads = λ told reads. absurd (changes reads);
       frame = record { store = f.store; lent = f.lent; later = f.later; cause = record { later = f.cause.later; failed = f.cause.failed } };
     })
+
+-- ---- a command that broke off
+
+-- what is made of the relation of a name is made of the database
+made_of_one : (change : ℕ → Database → Relation → Result (Relation × Reply) Refusal) (files : Table) (held : Held) (opens : List (Option Open)) (name : List ℕ) (k : ℕ) (t : Tuples) (now : Relation) (reply : Reply)
+    → cell_from name 0 held.relations ≡ Some (k, t) → change k (view files held opens) (relation_of_rows files t) ≡ Ok (now, reply)
+    → changed_by change (view files held opens) name ≡ Ok (with_relation (view files held opens) k (Some now), reply)
+made_of_one change files held opens name k t now reply cell made = rw (named_some files held opens name k t cell, made) refl
+
+-- a relation is put where it stands
+put_same : (files : Table) (held : Held) (opens : List (Option Open)) (k : ℕ) (t : Tuples) → get_or held.relations k None ≡ Some t
+    → with_relation (view files held opens) k (Some (relation_of_rows files t)) ≡ view files held opens
+put_same files held opens k t there =
+    sym (view_set files files held held opens k t (record { there = there; version = refl; relations = refl; indexes = refl; others = λ j s other e. refl; cursors = λ n o e. refl }))
+
+-- what is like a database is like one that is the same
+alike : {now a b : Database} → AreAlike now (bare a) → a ≡ b → AreAlike now (bare b)
+alike {now} h e = subst (λ (z : Database). AreAlike now (bare z)) e h
+
+module _ {V : Type 0} (v : FilesOf V) (base : Base V) (files : V) (k : ℕ) (t : Tuples) (runs : Runs v base) (told : Tells v base) (there : get_or base.held.relations k None ≡ Some t) where
+  -- a relation of which all or nothing was changed
+  pub between_one : (command : Command) (change : ℕ → Database → Relation → Result (Relation × Reply) Refusal) (name : List ℕ) → outcome (database v base) command ≡ changed_by change (database v base) name
+      → cell_from name 0 base.held.relations ≡ Some (k, t)
+      → MendsToState v.mends (v.state files).store (λ after. MayChange (v.state base.files) after t (infos_of k t base.held.indexes) (change k (database v base) (relation_of_rows (v.state base.files).files t)))
+      → MendsBetween v files (database v base) command
+  between_one command change name is cell m =
+      let old = v.state base.files in
+      let db = database v base in
+      let after = m.after in
+      let now = relation_of_rows after.files t in
+      let put = rows_alike old after base.tables base.held base.opens runs told k t there m.is.others in record {
+        files = after.files;
+        mends_to = m.mends_to;
+        is = ⊎_elim
+            (λ e. inl (alike (put (rows old.files t) (ap (λ (r : Relation). r.rows) e)) (put_same old.files base.held base.opens k t there)))
+            (λ s. inr (inl (alike (put (rows after.files t) refl)
+            (sym (ap (λ (o : Outcome). (replied db o).0) (is ∙ made_of_one change old.files base.held base.opens name k t now s.0 cell s.1))))))
+            m.is.relation;
+      }
+
+  -- rows of which those in the first slots are removed
+  pub between_removed : (name : List ℕ) (nodes : List Node) → cell_from name 0 base.held.relations ≡ Some (k, t) → IsOk (remove_from (condition_of nodes) k (database v base) (relation_of_rows (v.state base.files).files t))
+      → MendsToState v.mends (v.state files).store (λ after. MayRemove (v.state base.files) after t (condition_of nodes)) → MendsBetween v files (database v base) (command.RemoveFrom name nodes)
+  between_removed name nodes cell accepted m =
+      let old = v.state base.files in
+      let db = database v base in
+      let after = m.after in
+      let condition = condition_of nodes in
+      let all : List Row = rows old.files t in
+      let change : Row → Row = removed_row t.schema.attributes condition in
+      let front = m.is.rows in
+      let spared = spares_fewer old after (λ j. j ≢ t.file) (StaysAt t.file (infos_of k t base.held.indexes)) m.is.others (λ j stays. stays.0) in
+      let put = rows_alike old after base.tables base.held base.opens runs told k t there spared in
+      let made = made_of_one (remove_from condition) old.files base.held base.opens name k t _ _ cell (accepted_removal condition k db (relation_of_rows old.files t) accepted) in record {
+        files = after.files;
+        mends_to = m.mends_to;
+        is = ⊎_elim
+            (λ none. inl (alike (put all (front.is ∙ ap (λ (n : ℕ). map change (take n all) ++ drop n all) none)) (put_same old.files base.held base.opens k t there)))
+            (λ some. inr (⊎_elim
+            (λ whole. inl (alike (put (map change all) (front.is ∙ ap (λ (n : ℕ). map change (take n all) ++ drop n all) whole ∙ map_whole change all))
+            (sym (ap (λ (o : Outcome). (replied db o).0) made))))
+            (λ few. inr (
+              rw made refl,
+              record {
+                slot = k;
+                r = relation_of_rows old.files t;
+                named = relation_seen old.files base.held base.opens name k t cell;
+                few = few;
+                slots = front.done;
+                is = put (map change (take front.done all) ++ drop front.done all) front.is;
+              },
+            ))
+            some))
+            front.whole;
+      }
+
+-- ---- failures
+
+-- two things that are so of a failure
+pub on_both : {T E P Q R : Type 0} (r : Result T E) → (P → Q → R) → OnErr r P → OnErr r Q → OnErr r R
+on_both (Ok x) f p q = tt
+on_both (Err e) f p q = f p q
 
 -- a call that asks for space failed
 pub changes_failed : {V T U : Type 0} (v : FilesOf V) (old new : V) (failed : Failed) → ChangesOrLacks {T = T} v.state v.lent v.reads v.faults v.lacks old new (Err FileFailed)

@@ -1,6 +1,7 @@
 -- REMOVE FROM in a session, refusal by refusal.
-use Rattle.std.proofs.Common.{◌≡◌, ℕ, List, [], length, map, Option, Some, None, refl, ap, sym, ◌∙◌, Ok, Err}
-use Rattle.std.specs.Prelude.{Result}
+use Rattle.std.proofs.Common.{◌≡◌, ℕ, List, [], length, map, Option, Some, None, refl, ap, sym, subst, ◌∙◌, Ok, Err}
+use Rattle.std.specs.Prelude.{IsOk, Result}
+use Rattle.std.proofs.lemmas.Bool.{false≢true}
 use Rattle.afl_base.specs.Files.{Table}
 use Rattle.db_model.specs.declared.refusals.Refusal.{Refusal}
 use Rattle.db_model.specs.declared.refusals.Refusal.TheVariants as no
@@ -12,6 +13,7 @@ use Rattle.db_model.specs.Refusing.{◌>>◌, refuse_found}
 use Rattle.db_model.specs.Row.{Row}
 use Rattle.db_model.specs.Step.{Reply, Removed, keys, remove_from, removed_row}
 use Rattle.db_model.proofs.SoundRows.{keys_removed}
+use Rattle.db_model.specs.Typing.{ill_typed, missing_name}
 use Rattle.lvm.specs.Code.{first_refusal, first_ill_typed, first_missing_name, refusal}
 use Rattle.lvm.proofs.Counting.{ill_typed-behind, missing_name-behind}
 use Rattle.tuple_file.specs.declared.tuples.Tuples.{Tuples}
@@ -58,6 +60,22 @@ module _ (condition : Option Cond) (k : ℕ) (db : Database) (r : Relation) wher
   by_none : refusal 0 r.schema.attributes condition ≡ None → reader_of db r.schema.name ≡ None → remove_from condition k db r ≡ removed_all
   by_none e reads = by_turns ∙ tried_none (first_missing_name 0 r.schema.attributes condition) (first_ill_typed 0 r.schema.attributes condition) in_turn e ∙ ap (λ (o : Option ℕ). ◌>>◌ (refuse_found o no.InUse) removed_all) reads
 
+-- one that is not refused
+passed : {A : Type 0} (o : Option ℕ) (f : ℕ → Refusal) (rest : Result A Refusal) → IsOk (◌>>◌ (refuse_found o f) rest) → ◌>>◌ (refuse_found o f) rest ≡ rest
+passed None f rest ok = refl
+passed (Some n) f rest ok = absurd (false≢true ok)
+
+pub accepted_removal : (condition : Option Cond) (k : ℕ) (db : Database) (r : Relation) → IsOk (remove_from condition k db r)
+    → remove_from condition k db r ≡ Ok (record { schema = r.schema; rows = map (removed_row r.schema.attributes condition) r.rows }, Removed (length (selected r.schema.attributes condition r.rows)))
+accepted_removal condition k db r ok =
+    let all = removed_all condition k db r in
+    let ill = ill_typed r.schema.attributes [] condition in
+    let reads = reader_of db r.schema.name in
+    let first = passed (missing_name r.schema.attributes [] condition) no.NoAttribute (◌>>◌ (refuse_found ill no.IllTyped) (◌>>◌ (refuse_found reads no.InUse) all)) ok in
+    let second = passed ill no.IllTyped (◌>>◌ (refuse_found reads no.InUse) all) (subst (λ (o : Result (Relation × Reply) Refusal). IsOk o) first ok) in
+    let third = passed reads no.InUse all (subst (λ (o : Result (Relation × Reply) Refusal). IsOk o) (first ∙ second) ok) in
+    first ∙ second ∙ third
+
 -- ---- in a session
 
 module _ (condition : Option Cond) (files : Table) (held : Held) (opens : List (Option Open)) (k : ℕ) (t : Tuples) where
@@ -78,6 +96,9 @@ module _ (condition : Option Cond) (files : Table) (held : Held) (opens : List (
     rw (by_none condition k (view files held opens) (relation_of_rows files t) e reads) refl,
     ap (λ (rs : List Row). record { schema = t.schema; rows = rs }) h,
   )
+
+  pub may_remove : refusal 0 t.schema.attributes condition ≡ None → reader_of (view files held opens) t.schema.name ≡ None → IsOk (remove_from condition k (view files held opens) (relation_of_rows files t))
+  may_remove e reads = rw (by_none condition k (view files held opens) (relation_of_rows files t) e reads) refl
 
 -- removed rows keep their keys
 pub removal_keys : (attributes : List Attribute) (condition : Option Cond) (old new : List Row) (a : Answer) → IsRemoval attributes condition old new a → (place : ℕ) → keys place new ≡ keys place old

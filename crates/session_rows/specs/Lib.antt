@@ -1,4 +1,5 @@
 pub mod Changes
+pub mod CutRows
 pub mod Wanted
 pub mod Refused
 pub mod Marking

@@ -2,7 +2,8 @@
 
 #![tactic(auto)]
 
-ghost use Rattle.std.specs.Prelude.{◌≡◌, ◌<◌, ◌≤◌, None, IsTrue, IfOk, OnOk};
+ghost use Rattle.std.specs.Prelude.{◌≡◌, ◌<◌, ◌≤◌, None, IsErrOf, IsTrue, IfOk, OnErr, OnOk};
+ghost use Rattle.afl_base.specs.CutFiles.{MendsToState};
 ghost use Rattle.afl_base.specs.Keeping.{Changes, ChangesOrLacks};
 ghost use Rattle.afl_base.specs.Asked.{asks_few};
 ghost use Rattle.afl_base.specs.FileErrors.{OnSpace, UnlessFailed};
@@ -14,6 +15,7 @@ ghost use Rattle.index_set.specs.Inserts.{AreApart, AreOpenFor, AreRoomFor, Have
 ghost use Rattle.tuple_file.specs.Tuples.{HoldsRows, rows, slots};
 ghost use Rattle.session_model.specs.Frames.{StaysAt, WantsRow};
 ghost use Rattle.session_rows.specs.Changes.{AddsRow};
+ghost use Rattle.session_rows.specs.CutRows.{MayAddRow};
 
 use afl_base::{Failed, FileError, Files, SlotNo};
 use db_model::{Tuple, row_length};
@@ -53,6 +55,9 @@ pub(crate) fn add_row<V: Files>(
     ensures wants { let asks = asks_few (V.asks files.new) (V.state files.new).files in
         IsTrue (V.state files.old).tells → OnSpace result (λ need.
         WantsRow asks (V.state files.new) tuples.now indexes.now values.now need) }
+    ensures cut { IsTrue V.cuts → IsTrue (V.state files.old).tells → IsErrOf result FileError.Failed
+        → MendsToState V.mends (V.state files.new).store
+        (λ after. MayAddRow (V.state files.old) after tuples.now indexes.now values.now) }
     ensures frame { ChangesOrLacks V.state V.lent V.reads V.faults V.lacks files.old files.new result }
 {
     let rooms = prepare_row(files, tables, tuples, indexes, values, slot)?;
@@ -86,6 +91,10 @@ fn prepare_row<V: Files>(
     ensures wants { let asks = asks_few (V.asks files.new) (V.state files.new).files in
         IsTrue (V.state files.old).tells → OnSpace result (λ need.
         WantsRow asks (V.state files.new) tuples.now indexes.now values.now need) }
+    ensures cut { let stays = StaysAt tuples.now.file indexes.now in
+        IsTrue V.cuts → IsTrue (V.state files.old).tells → IsErrOf result FileError.Failed
+        → MendsToState V.mends (V.state files.new).store
+        (λ after. Prepares (V.state files.old) after stays) }
     ensures frame { ChangesOrLacks V.state V.lent V.reads V.faults V.lacks files.old files.new result }
 {
     files.prepare(tuples.file, 0, row_length(&tuples.schema.attributes) as u32)?;
@@ -124,6 +133,9 @@ fn write_row<V: Files>(
         → AreRoomFor (V.state files.old) values.now rooms.now indexes.now
         → MayAllFollow all values.now indexes.now
         → AreComplete (V.state files.new) tables.new now indexes.now) }
+    ensures cut { IsTrue V.cuts → IsTrue (V.state files.old).tells → OnErr result
+        (MendsToState V.mends (V.state files.new).store
+        (λ after. MayAddRow (V.state files.old) after tuples.now indexes.now values.now)) }
     ensures frame { Changes V.state V.lent V.reads V.faults files.old files.new result }
 {
     tuples.append(files, values)?;

@@ -2,7 +2,8 @@
 
 #![tactic(auto)]
 
-ghost use Rattle.std.specs.Prelude.{◌≡◌, ◌≤◌, ◌⊎◌, ℕ, IfOk, IsTrue, None, OnOk, Some, get_or, map};
+ghost use Rattle.std.specs.Prelude.{◌≡◌, ◌≤◌, ◌⊎◌, ℕ, IfOk, IsTrue, None, OnErr, OnOk, Some, get_or, map};
+ghost use Rattle.afl_base.specs.CutFiles.{MendsToState};
 ghost use Rattle.afl_base.specs.Keeping.{Changes};
 ghost use Rattle.afl_base.specs.Asked.{asks_few};
 ghost use Rattle.db_model.specs.declared.commands.Command.TheVariants as command;
@@ -18,6 +19,7 @@ ghost use Rattle.session_model.specs.Carried.{Carries, Runs};
 ghost use Rattle.session_model.specs.Running.{IsRunning};
 ghost use Rattle.session_model.specs.View.{relation_of_rows, view};
 ghost use Rattle.session_rows.specs.Changes.{RelationGrows, RunsOn};
+ghost use Rattle.session_rows.specs.CutRows.{MayChange};
 
 use crate::adding::add_row;
 use crate::finding::relation_at;
@@ -29,7 +31,7 @@ use session_model::{Answer, Base, Held, Open, find_relation, indexes_of};
 use tuple_file::Tuples;
 
 /// Puts a row behind the others of a relation: room for it and for its keys is made before any of it
-/// is written.
+/// is written. What a cut leaves mends to a database with the row or without it.
 pub fn insert<V: Files>(
     base: &mut Base<V>,
     values: &Tuple,
@@ -79,6 +81,12 @@ fn insert_at<V: Files>(
         IsTrue (V.state files.old).tells → OnNoSpace result (λ need.
         WantsRow asks (V.state files.new) tuples.now infos values.now need) }
     ensures lacks { OnNoSpace result (λ need. V.lacks files.new need) }
+    ensures cut { let old = V.state files.old in let r = relation_of_rows old.files tuples.now in
+        let infos = infos_of k tuples.now held.now.indexes in
+        let made = insert_into values.now k (view old.files held.now opens.now) r in
+        IsTrue V.cuts → IsTrue old.tells → OnErr result
+        (MendsToState V.mends (V.state files.new).store
+        (λ after. MayChange old after tuples.now infos made)) }
     ensures untouched { OnNothing result (V.state files.new ≡ V.state files.old) }
     ensures frame { Changes V.state V.lent V.reads V.faults files.old files.new result }
 {
@@ -117,6 +125,11 @@ fn insert_row<V: Files>(
         IsTrue (V.state files.old).tells → OnNoSpace result (λ need.
         WantsRow asks (V.state files.new) tuples.now indexes.now values.now need) }
     ensures lacks { OnNoSpace result (λ need. V.lacks files.new need) }
+    ensures cut { let old = V.state files.old in let r = relation_of_rows old.files tuples.now in
+        IsTrue V.cuts → IsTrue old.tells → OnErr result ((k : ℕ) (db : Database)
+        → db.version ≡ version → indexes_of db k ≡ map (index_of_info k) indexes.now
+        → MendsToState V.mends (V.state files.new).store
+        (λ after. MayChange old after tuples.now indexes.now (insert_into values.now k db r))) }
     ensures untouched { OnNothing result (V.state files.new ≡ V.state files.old) }
     ensures frame { Changes V.state V.lent V.reads V.faults files.old files.new result }
 {

@@ -2,7 +2,8 @@
 
 #![tactic(auto)]
 
-ghost use Rattle.std.specs.Prelude.{◌≡◌, ◌≢◌, ◌<◌, ◌≤◌, [], IsTrue, None, OnOk, Option, length, map};
+ghost use Rattle.std.specs.Prelude.{◌≡◌, ◌≢◌, ◌<◌, ◌≤◌, [], IsErrOf, IsTrue, None, OnErr, OnOk, Option, length, map};
+ghost use Rattle.afl_base.specs.CutFiles.{MendsToState};
 ghost use Rattle.afl_base.specs.Keeping.{Changes, ChangesOrLacks};
 ghost use Rattle.afl_base.specs.Asked.{asks_few};
 ghost use Rattle.afl_base.specs.FileErrors.{OnSpace};
@@ -16,6 +17,7 @@ ghost use Rattle.lvm.specs.Evaluate.{evaluated, verdict};
 ghost use Rattle.tuple_file.specs.Tuples.{HoldsRows, rows, slots as slots_of};
 ghost use Rattle.cursor.specs.Remaining.{selected_slots};
 ghost use Rattle.session_rows.specs.Changes.{ReplacesRows};
+ghost use Rattle.session_rows.specs.CutRows.{MayMarkRows, MayRemove};
 ghost use Rattle.session_rows.specs.Marking.{AreBelow, IsSelected, marked};
 ghost use Rattle.session_rows.specs.Wanted.{WantsRemoval};
 
@@ -53,6 +55,13 @@ pub(crate) fn remove_selected<V: Files>(
         WantsRemoval asks tuples.now.file selected.now.count records size need) }
     ensures none { selected.now.count ≡ 0 → length selected.now.first ≡ 0
         → OnOk result (V.state files.new ≡ V.state files.old) }
+    ensures cut { let attributes = tuples.now.schema.attributes in
+        let all = rows (V.state files.old).files tuples.now in
+        IsTrue V.cuts → IsTrue (V.state files.old).tells → IsErrOf result FileError.Failed
+        → (condition : Option Cond) → IsCodeOf attributes condition code.now
+        → IsSelected selected.now (selected_slots attributes condition all)
+        → MendsToState V.mends (V.state files.new).store
+        (λ after. MayRemove (V.state files.old) after tuples.now condition) }
     ensures frame { ChangesOrLacks V.state V.lent V.reads V.faults V.lacks files.old files.new result }
 {
     if selected.count > 29 {
@@ -83,6 +92,9 @@ fn mark_slots<V: Files>(
     ensures asked { let asks = asks_few (V.asks files.new) (V.state files.new).files in
         OnSpace result (λ need. asks tuples.now.file (length slots.now) 0 need) }
     ensures none { length slots.now ≡ 0 → OnOk result (V.state files.new ≡ V.state files.old) }
+    ensures cut { IsTrue V.cuts → IsTrue (V.state files.old).tells → IsErrOf result FileError.Failed
+        → MendsToState V.mends (V.state files.new).store
+        (λ after. MayMarkRows (V.state files.old) after tuples.now slots.now) }
     ensures frame { ChangesOrLacks V.state V.lent V.reads V.faults V.lacks files.old files.new result }
 {
     if slots.is_empty() {
@@ -108,6 +120,9 @@ fn mark_rows<V: Files>(
         (rows (V.state files.new).files tuples.now ≡ marked slots.now all) }
     ensures replaces { OnOk result
         (ReplacesRows (V.state files.old) (V.state files.new) tuples.now) }
+    ensures cut { IsTrue V.cuts → IsTrue (V.state files.old).tells → OnErr result
+        (MendsToState V.mends (V.state files.new).store
+        (λ after. MayMarkRows (V.state files.old) after tuples.now slots.now)) }
     ensures frame { Changes V.state V.lent V.reads V.faults files.old files.new result }
 {
     for slot in slots.as_slice() {
@@ -131,6 +146,11 @@ fn rewrite_rows<V: Files>(files: &mut V, tuples: &Tuples, code: &Code) -> Result
         Prepares (V.state files.old) (V.state files.new) (λ id. id ≢ tuples.now.file)) }
     ensures need { let size = size_at (V.state files.new).files tuples.now.file in
         OnSpace result (λ need. need ≡ fit size) }
+    ensures cut { let attributes = tuples.now.schema.attributes in
+        IsTrue V.cuts → IsTrue (V.state files.old).tells → IsErrOf result FileError.Failed
+        → (condition : Option Cond) → IsCodeOf attributes condition code.now
+        → MendsToState V.mends (V.state files.new).store
+        (λ after. MayRemove (V.state files.old) after tuples.now condition) }
     ensures frame { ChangesOrLacks V.state V.lent V.reads V.faults V.lacks files.old files.new result }
 {
     tuples.rewrite(

@@ -2,16 +2,19 @@
 
 #![tactic(auto)]
 
-ghost use Rattle.std.specs.Prelude.{◌≡◌, IfOk, IfSome, IsTrue, None, OnOk, Some, get_or};
+ghost use Rattle.std.specs.Prelude.{◌≡◌, IfOk, IfSome, IsTrue, None, OnErr, OnOk, Some, get_or};
+ghost use Rattle.afl_base.specs.CutFiles.{MendsToState};
 ghost use Rattle.afl_base.specs.Keeping.{Changes};
 ghost use Rattle.db_model.specs.declared.commands.Command.TheVariants as command;
 ghost use Rattle.db_model.specs.Database.{relation_named};
 ghost use Rattle.db_model.specs.Step.{pack as pack_in};
 ghost use Rattle.session_model.specs.Answers.{Changed, OnNoSpace, OnNothing};
 ghost use Rattle.session_model.specs.Carried.{Carries, Runs, Tells, database};
+ghost use Rattle.session_model.specs.Indexed.{infos_of};
 ghost use Rattle.session_model.specs.Running.{IsRunning};
 ghost use Rattle.session_model.specs.View.{relation_of_rows, view};
 ghost use Rattle.session_rows.specs.Changes.{HasOnlyLiveRows, RunsOn};
+ghost use Rattle.session_rows.specs.CutRows.{MayChange};
 ghost use Rattle.session_rows.specs.Wanted.{WantsPackedRows};
 
 use crate::finding::relation_at;
@@ -21,7 +24,8 @@ use index_set::HashTables;
 use session_model::{Answer, Base, Held, Open, find_relation, indexes_of, least_reader};
 use tuple_file::Tuples;
 
-/// Drops the removed rows of a relation. Where no row is removed, the files are left as they are.
+/// Drops the removed rows of a relation. Where no row is removed, the files are left as they are. What
+/// a cut leaves mends to a database with all of the removed rows or with none.
 pub fn pack<V: Files>(base: &mut Base<V>, relation: &Ident) -> Result<Answer, Failed>
     requires running { Runs V.Files base.old }
     ensures carried { Carries V.Files (command.Pack relation.now) base.old base.new result }
@@ -65,6 +69,12 @@ fn pack_at<V: Files>(
     ensures wants { let new = relation_of_rows (V.state files.new).files tuples.now in
         IsTrue (V.state files.old).tells → OnNoSpace result (λ need. WantsPackedRows new need) }
     ensures lacks { OnNoSpace result (λ need. V.lacks files.new need) }
+    ensures cut { let old = V.state files.old in let r = relation_of_rows old.files tuples.now in
+        let infos = infos_of k tuples.now held.now.indexes in
+        let made = pack_in k (view old.files held.now opens.now) r in
+        IsTrue V.cuts → IsTrue old.tells → OnErr result
+        (MendsToState V.mends (V.state files.new).store
+        (λ after. MayChange old after tuples.now infos made)) }
     ensures untouched { OnNothing result (V.state files.new ≡ V.state files.old) }
     ensures idle { IsTrue (V.state files.old).tells
         → HasOnlyLiveRows (relation_of_rows (V.state files.old).files tuples.now)

@@ -2,7 +2,8 @@
 
 #![tactic(auto)]
 
-ghost use Rattle.std.specs.Prelude.{◌≡◌, IfOk, IsTrue, None, OnOk, Option, Some, get_or, length};
+ghost use Rattle.std.specs.Prelude.{◌≡◌, IfOk, IsOk, IsTrue, None, OnErr, OnOk, Option, Some, get_or, length};
+ghost use Rattle.afl_base.specs.CutFiles.{MendsToState};
 ghost use Rattle.afl_base.specs.Keeping.{Changes};
 ghost use Rattle.afl_base.specs.Asked.{asks_few};
 ghost use Rattle.afl_base.specs.Files.{size_at};
@@ -19,6 +20,7 @@ ghost use Rattle.session_model.specs.Carried.{Carries, Runs};
 ghost use Rattle.session_model.specs.Running.{IsRunning};
 ghost use Rattle.session_model.specs.View.{relation_of_rows, view};
 ghost use Rattle.session_rows.specs.Changes.{ReplacesRows, RunsOn};
+ghost use Rattle.session_rows.specs.CutRows.{MayRemove};
 ghost use Rattle.session_rows.specs.Removals.{IsRemoval};
 ghost use Rattle.session_rows.specs.Wanted.{WantsRemoval};
 
@@ -34,7 +36,8 @@ use session_model::{Answer, Base, Held, Open, find_relation, indexes_of, least_r
 use tuple_file::Tuples;
 
 /// Removes the live rows that satisfy a condition: up to 29 are marked one by one, and more are
-/// written anew in one draft.
+/// written anew in one draft. What a cut leaves mends to a database in which all of them are removed
+/// or none, or, of up to 29, those in the first slots.
 pub fn remove_from<V: Files>(
     base: &mut Base<V>,
     relation: &Ident,
@@ -90,6 +93,12 @@ fn remove_at<V: Files>(
         IsTrue (V.state files.old).tells → OnNoSpace result (λ need.
         WantsRemoval asks tuples.now.file count count size need) }
     ensures lacks { OnNoSpace result (λ need. V.lacks files.new need) }
+    ensures accepted { let old = (V.state files.old).files in
+        let made = remove_in (condition_of condition.now) k in
+        OnErr result (IsOk (made (view old held.now opens.now) (relation_of_rows old tuples.now))) }
+    ensures cut { IsTrue V.cuts → IsTrue (V.state files.old).tells → OnErr result
+        (MendsToState V.mends (V.state files.new).store
+        (λ after. MayRemove (V.state files.old) after tuples.now (condition_of condition.now))) }
     ensures untouched { OnNothing result (V.state files.new ≡ V.state files.old) }
     ensures frame { Changes V.state V.lent V.reads V.faults files.old files.new result }
 {
@@ -138,6 +147,13 @@ fn remove_rows<V: Files>(
         → WantsRemoval asks tuples.now.file (length (selected attributes condition all))
         (length (selected attributes condition all)) size need) }
     ensures lacks { OnNoSpace result (λ need. V.lacks files.new need) }
+    ensures cut { let attributes = tuples.now.schema.attributes in
+        let all = rows (V.state files.old).files tuples.now in
+        IsTrue V.cuts → IsTrue (V.state files.old).tells → OnErr result ((condition : Option Cond)
+        → IsCodeOf attributes condition code
+        → AreIndexesOf (V.state files.old) tables.now all indexes.now
+        → MendsToState V.mends (V.state files.new).store
+        (λ after. MayRemove (V.state files.old) after tuples.now condition)) }
     ensures untouched { OnNothing result (V.state files.new ≡ V.state files.old) }
     ensures frame { Changes V.state V.lent V.reads V.faults files.old files.new result }
 {

@@ -53,7 +53,7 @@ module _ (image : List ℕ) where
       let less : c.0 < length (map (named_file image) ps) = c.1 in
       (suc c.0, omega (arith, less), c.2)
 
-live_there : (files : Table) (id : ℕ) (f : File) → place files id ≡ Some f → IsLive files id × (file_at files id ≡ f)
+pub live_there : (files : Table) (id : ℕ) (f : File) → place files id ≡ Some f → IsLive files id × (file_at files id ≡ f)
 live_there files id f e = (subst (λ o. IsTrue (is_some o)) (sym e) refl, ap (λ o. unwrap_or o no_file) e)
 
 -- as a volume says it when it hands back its flash

@@ -2,15 +2,22 @@
 
 #![tactic(auto)]
 
-ghost use Rattle.std.specs.Prelude.{◌≡◌, ◌≤◌, ℕ, ◌*◌, List, replicate};
+ghost use Rattle.std.specs.Prelude.{◌≡◌, ◌≤◌, ℕ, ◌*◌, List, length, replicate};
+ghost use Rattle.std.specs.List.{Contains};
+ghost use Rattle.afl_base.specs.Files.{Table};
+ghost use Rattle.coffee_cuts.specs.Cuts.{MendsTo};
+ghost use Rattle.coffee_layout.specs.Files.{NamedFile, files_of};
+ghost use Rattle.coffee_volume.specs.Cuts.{MendsToFiles};
 ghost use Rattle.coffee_volume.specs.Mounting.{mounted_state};
 ghost use Rattle.db_model.specs.declared.commands.Command.{Command};
-ghost use Rattle.db_model.specs.Database.{empty_database};
+ghost use Rattle.db_model.specs.Database.{Database, empty_database};
 ghost use Rattle.session_model.specs.Wanted.{WantsOver};
 ghost use Rattle.sound_image.specs.Images.{IsFirstBroken, IsSound, base, files_of_image};
+ghost use Rattle.sound_image.specs.Mending.{ImageMendsTo};
 ghost use Rattle.space_model.specs.Enough.{most};
 ghost use Rattle.space_model.specs.Wants.{AsksLittle};
 ghost use Rattle.stored.specs.Base.{base_of};
+ghost use Rattle.stored.specs.Mended.{mended_base};
 ghost use Rattle.stored.specs.Sound.{IsSoundTable};
 
 use crate::returned::tell_places;
@@ -61,4 +68,20 @@ fn little_is_wanted<V: Files>(files: &V)
 #[tactic(auto, using(crate::proofs::Mounted::mounted_files))]
 pub fn mounted_files_are_the_images()
     ensures { (image : List ℕ) → (mounted_state image).files ≡ files_of_image image }
+{}
+
+/// An image of whole sectors mends to one database, whichever of the tables that it mends to is taken: of a sound
+/// image that is the database that it stands for. And an image mends to the files of one that has just the files
+/// that it mends to.
+#[tactic(auto, using(crate::proofs::OneBase::sound_base))]
+pub fn images_mend_to_one_database()
+    ensures one { (image : List ℕ) (files others : Table) (sectors : ℕ) → length image ≡ 4096 * sectors
+        → MendsToFiles image files → MendsToFiles image others → mended_base files ≡ mended_base others }
+    ensures sound { (image : List ℕ) (db : Database) (sectors : ℕ) → length image ≡ 4096 * sectors
+        → IsSound image → ImageMendsTo image (λ mended. mended ≡ db) → base image ≡ db }
+    ensures own { (image : List ℕ) → IsSound image → mended_base (files_of_image image) ≡ base image }
+    ensures files { (old new : List ℕ) (named : List NamedFile) → MendsTo old named
+        → ((f : NamedFile) → Contains named f → Contains (files_of new) f)
+        → ((f : NamedFile) → Contains (files_of new) f → Contains named f)
+        → MendsToFiles old (files_of_image new) }
 {}

@@ -1,9 +1,14 @@
+pub mod CatalogParts
 pub mod Crowded
-pub mod Empty
 pub mod DatabaseShares
+pub mod Empty
 pub mod FewFiles
 pub mod FilesOf
 pub mod HasFiles
+pub mod MendedBase
+pub mod MendedSound
+pub mod MendedTables
+pub mod NamesStay
 pub mod SameBase
 pub mod SoundBase
 pub mod SoundSlots

@@ -1,6 +1,6 @@
 -- What files mend to does not change where a tree is built, and where a relation keeps its whole rows.
-use Rattle.std.proofs.Common.{◌≡◌, ℕ, ◌+◌, ◌-◌, ◌*◌, ◌/◌, ◌%◌, ◌<◌, ◌≤◌, Bool, not, ◌&&◌, if◌then◌else◌, List, [], ◌∷◌, replicate, map, get_or, length, take, drop, Option, Some, None, IsTrue, refl, ap, sym, subst, ◌∙◌, arith, mul_comm, ⊎_elim}
-use Rattle.std.specs.Prelude.{nat_lt, option_map, slice_range, unwrap_or}
+use Rattle.std.proofs.Common.{◌≡◌, ℕ, ◌+◌, ◌-◌, ◌*◌, ◌/◌, ◌%◌, ◌<◌, ◌≤◌, List, map, get_or, length, take, drop, Option, Some, None, IsTrue, refl, ap, sym, subst, ◌∙◌, arith, mul_comm, ⊎_elim}
+use Rattle.std.specs.Prelude.{option_map, slice_range, unwrap_or}
 use Rattle.std.specs.List.{range_with_len}
 use Rattle.std.proofs.Math.Nat.{div-mul-le_self, mod-eq-sub-div-mul, mul-div_cancel_left, mul-div-le}
 use Rattle.std.proofs.lemmas.Bool.{cases_eq}
@@ -9,51 +9,24 @@ use Rattle.afl_base.proofs.FileLaws.{named_live, place_live}
 use Rattle.afl_base.specs.Files.{Becomes, File, IsNamed, State, Table, bytes_at, no_file}
 use Rattle.catalog.specs.CatalogFile.{IsCatalogSize}
 use Rattle.catalog.specs.Formed.{HasCatalogSize}
-use Rattle.catalog.specs.Rules.{catalog_bytes_in, catalog_in, is_tree}
+use Rattle.catalog.specs.Rules.{catalog_bytes_in, catalog_in}
 use Rattle.db_model.specs.declared.schemas.Attribute.{Attribute}
 use Rattle.db_model.specs.declared.schemas.Schema.{Schema}
-use Rattle.db_model.specs.Catalog.{Index, catalog_of}
-use Rattle.db_model.specs.Database.{Database, Relation}
+use Rattle.db_model.specs.Catalog.{catalog_of}
 use Rattle.db_model.specs.Row.{Row, row_at, row_length, row_of, rows_of}
 use Rattle.db_model.proofs.Rows.{map_range_same, slot_inside}
-use Rattle.space_model.specs.FileNames.{bytes_in_file, bytes_named, catalog_file, file_named, is_there, rows_file, tree_file}
+use Rattle.space_model.specs.FileNames.{bytes_in_file, bytes_named, catalog_file, file_named, rows_file, tree_file}
 use Rattle.space_model.proofs.NamedFiles.{named_place}
 use Rattle.stored.specs.Base.{relation_stored}
-use Rattle.stored_mend.specs.Mending.{KeepsBase, mended_base, mended_catalog, mended_version, standing, whole_bytes, whole_catalog}
+use Rattle.stored.specs.Mended.{mended_base, mended_catalog, whole_bytes, whole_catalog}
+use Rattle.stored.proofs.MendedBase.{whole_sized}
+use Rattle.stored.proofs.MendedTables.{mended_by, relation_by}
+use Rattle.stored_mend.specs.Mending.{KeepsBase}
 use Rattle.stored_mend.specs.Rows.{AreSameRows, ChangesOne, whole_length, whole_rows}
 use Rattle.catalog.proofs.Named.{named_found}
+use Rattle.stored_mend.proofs.OneFile.{catalog_no_rows, catalog_no_tree, rows_no_tree, same_rows_slot}
 use Rattle.stored_mend.proofs.Replaced.{becomes_spares_others}
-use Rattle.stored_mend.proofs.NamesStay.{file_stays, there_stays}
-
--- ---- slot by slot
-
-map_same : {X : Type 0} (f g : ℕ → X) → ((k : ℕ) → f k ≡ g k) → (ks : List ℕ) → map f ks ≡ map g ks
-map_same f g h [] = refl
-map_same f g h (k ∷ ks) = ap (λ x. x ∷ map f ks) (h k) ∙ ap (λ rest. g k ∷ rest) (map_same f g h ks)
-
-standing_same : (old new : Table) (slot : ℕ) (index : Option Index) → is_there (tree_file slot) new ≡ is_there (tree_file slot) old → standing new slot index ≡ standing old slot index
-standing_same old new slot index e = ap (λ (b : Bool). if is_tree index && not b then None else index) e
-
--- the same catalog, relations and trees: the same database
-base_by : (old new : Table) → bytes_named catalog_file new ≡ bytes_named catalog_file old
-    → ((k : ℕ) → relation_stored new (mended_catalog old).relations k ≡ relation_stored old (mended_catalog old).relations k)
-    → ((i : ℕ) → is_there (tree_file i) new ≡ is_there (tree_file i) old) → mended_base new ≡ mended_base old
-unfolding mended_base mended_catalog
-base_by old new catalog relations trees =
-    let whole : whole_catalog new ≡ whole_catalog old = ap whole_bytes catalog in
-    let slots = range_with_len 0 8 in
-    let made : List ℕ → List (Option Relation) → List (Option Index) → Database = λ bytes rs is. record {
-      version = mended_version bytes;
-      relations = rs;
-      indexes = is;
-      cursors = replicate 4 None;
-    } in
-    let index_in : Table → List ℕ → ℕ → Option Index = λ files bytes slot. standing files slot (get_or (catalog_of bytes).indexes slot None) in
-    ap (λ (bytes : List ℕ). made bytes (map (relation_stored new (catalog_of bytes).relations) slots) (map (index_in new bytes) slots)) whole
-    ∙ ap (λ (rs : List (Option Relation)). made (whole_catalog old) rs (map (index_in new (whole_catalog old)) slots))
-    (map_same (relation_stored new (mended_catalog old).relations) (relation_stored old (mended_catalog old).relations) relations slots)
-    ∙ ap (made (whole_catalog old) (map (relation_stored old (mended_catalog old).relations) slots))
-    (map_same (index_in new (whole_catalog old)) (index_in old (whole_catalog old)) (λ i. standing_same old new i (get_or (catalog_of (whole_catalog old)).indexes i None) (trees i)) slots)
+use Rattle.stored.proofs.NamesStay.{file_stays, there_stays}
 
 -- ---- one file
 
@@ -65,26 +38,10 @@ pub bytes_stay : (old new : State) (name n : List ℕ) → ChangesOne old new na
 bytes_stay old new name n c differs =
     ap bytes_in_file (file_stays old.files new.files n c.named (λ k is. c.others k (λ other. differs (same_name old.files k n name is other))))
 
-catalog_no_tree : (i : ℕ) → catalog_file ≡ tree_file i → ⊥
-catalog_no_tree i e = let h : 67 ≡ 88 = ap (λ (xs : List ℕ). get_or xs 0 0) e in absurd (omega (arith, h))
-
-catalog_no_rows : (k : ℕ) → catalog_file ≡ rows_file k → ⊥
-catalog_no_rows k e = let h : 67 ≡ 84 = ap (λ (xs : List ℕ). get_or xs 0 0) e in absurd (omega (arith, h))
-
-rows_no_tree : (k i : ℕ) → rows_file k ≡ tree_file i → ⊥
-rows_no_tree k i e = let h : 84 ≡ 88 = ap (λ (xs : List ℕ). get_or xs 0 0) e in absurd (omega (arith, h))
-
-same_slot : (j k : ℕ) → rows_file j ≡ rows_file k → j ≡ k
-same_slot j k e = let h : 48 + j ≡ 48 + k = ap (λ (xs : List ℕ). get_or xs 1 0) e in omega (arith, h)
-
-relation_by : (old new : Table) (schemas : List (Option Schema)) (k : ℕ) → bytes_named (rows_file k) new ≡ bytes_named (rows_file k) old → relation_stored new schemas k ≡ relation_stored old schemas k
-relation_by old new schemas k e =
-    ap (λ (bytes : List ℕ). option_map (λ (schema : Schema). record { schema = schema; rows = rows_of schema.attributes bytes }) (get_or schemas k None)) e
-
 -- a tree counts for nothing
 pub tree_keeps : (old new : State) (i : ℕ) → ChangesOne old new (tree_file i) → mended_base new.files ≡ mended_base old.files
 tree_keeps old new i c =
-    base_by old.files new.files (bytes_stay old new (tree_file i) catalog_file c (catalog_no_tree i))
+    mended_by old.files new.files (bytes_stay old new (tree_file i) catalog_file c (catalog_no_tree i))
     (λ k. relation_by old.files new.files (mended_catalog old.files).relations k (bytes_stay old new (tree_file i) (rows_file k) c (rows_no_tree k i)))
     (λ j. there_stays old.files new.files (tree_file j) c.named)
 
@@ -118,7 +75,7 @@ module _ (attributes : List Attribute) (bytes : List ℕ) where
 pub rows_keep : (old new : State) (k : ℕ) (schema : Schema) → ChangesOne old new (rows_file k) → get_or (mended_catalog old.files).relations k None ≡ Some schema
     → rows_of schema.attributes (bytes_named (rows_file k) new.files) ≡ rows_of schema.attributes (bytes_named (rows_file k) old.files) → mended_base new.files ≡ mended_base old.files
 rows_keep old new k schema c is same =
-    base_by old.files new.files (bytes_stay old new (rows_file k) catalog_file c (catalog_no_rows k)) relations (λ j. there_stays old.files new.files (tree_file j) c.named)
+    mended_by old.files new.files (bytes_stay old new (rows_file k) catalog_file c (catalog_no_rows k)) relations (λ j. there_stays old.files new.files (tree_file j) c.named)
   where
     schemas : List (Option Schema)
     schemas = (mended_catalog old.files).relations
@@ -130,7 +87,7 @@ rows_keep old new k schema c is same =
     relations j =
         ⊎_elim
         (λ e. subst (λ (i : ℕ). relation_stored new.files schemas i ≡ relation_stored old.files schemas i) (sym e) here)
-        (λ other. relation_by old.files new.files schemas j (bytes_stay old new (rows_file k) (rows_file j) c (λ e. other (same_slot j k e))))
+        (λ other. relation_by old.files new.files schemas j (bytes_stay old new (rows_file k) (rows_file j) c (λ e. other (same_rows_slot j k e))))
         (cases_eq j k)
 
 -- a file that was cut behind its whole rows
@@ -189,25 +146,12 @@ kept_rows old new k schema c is same = record {
 pub sized_whole : (files : Table) → HasCatalogSize files → whole_catalog files ≡ catalog_bytes_in files
 sized_whole files sized = by_file (file_named catalog_file files) refl
   where
-    none_of : (xs : List ℕ) → length xs ≡ 0 → xs ≡ []
-    none_of [] e = refl
-    none_of (x ∷ xs) e = absurd (omega (arith, e))
-
-    by_size : (bytes : List ℕ) → IsCatalogSize (length bytes) → whole_bytes bytes ≡ bytes
-    by_size bytes size =
-        ⊎_elim
-        (λ e. subst (λ (xs : List ℕ). whole_bytes xs ≡ xs) (sym (none_of bytes e)) refl)
-        (λ more. ⊎_elim
-        (λ e. ap (λ (n : ℕ). if nat_lt n 1472 then [] else bytes) e)
-        (λ e. ap (λ (n : ℕ). if nat_lt n 1472 then [] else bytes) e) more)
-        size
-
     by_file : (o : Option File) → file_named catalog_file files ≡ o → whole_bytes (bytes_in_file o) ≡ bytes_in_file o
     by_file None e = refl
     by_file (Some f) e =
         let at = named_place files catalog_file f e in
         let named : IsNamed files at.0 catalog_file = ap (option_map (λ (x : File). x.name)) at.1 ∙ ap (λ (n : List ℕ). Some n) at.2 in
-        by_size f.bytes (subst (λ (o : Option File). IsCatalogSize (length (unwrap_or o no_file).bytes)) at.1 (sized at.0 named))
+        whole_sized f.bytes (subst (λ (o : Option File). IsCatalogSize (length (unwrap_or o no_file).bytes)) at.1 (sized at.0 named))
 
 -- the relations of a catalog that breaks no rule
 pub relations_listed : (files : Table) (relations : List (Option Schema)) → HasCatalogSize files → relations ≡ (catalog_in files).relations → relations ≡ (mended_catalog files).relations

@@ -1,7 +1,11 @@
+pub mod CatalogKept
+pub mod CatalogRead
 pub mod Copies
 pub mod KeptBase
 pub mod LineTexts
-pub mod NamesStay
 pub mod NoCatalog
+pub mod OneFile
 pub mod Replaced
 pub mod Slots
+pub mod Together
+pub mod Unasked

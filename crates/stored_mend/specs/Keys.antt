@@ -19,5 +19,5 @@ pub record BuildsTree (old new : State) (file : ℕ) (keys : List ℤ) : Type 0 
   pub tree : IsTrue old.tells → IsTreeOf bytes keys
 
 -- the file of a name, where it doubles, is the tree of some keys
-abbrev pub HasTree : (old new : Table) → List ℕ → List ℤ → Type 0
-HasTree old new name keys = (k : ℕ) → IsNamed old k name → (file_at old k).kind ≡ Doubling → IsTreeOf (bytes_at new k) keys
+abbrev pub HasTreeNow : (old new : Table) → List ℕ → List ℤ → Type 0
+HasTreeNow old new name keys = (k : ℕ) → IsNamed old k name → (file_at old k).kind ≡ Doubling → IsTreeOf (bytes_at new k) keys

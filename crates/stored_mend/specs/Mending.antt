@@ -1,62 +1,41 @@
--- The database that files mend to: that which they are read as, slot by slot, whatever a cut left of a change.
-use Rattle.std.specs.Prelude.{◌≡◌, ℕ, Bool, IsTrue, true, false, not, ◌&&◌, List, [], get_or, length, map, nat_lt, replicate, Option, Some, None, if◌then◌else◌}
-use Rattle.std.specs.List.{list_any, range_with_len}
-use Rattle.afl_base.specs.Files.{State, Table}
-use Rattle.catalog.specs.Rules.{catalog_bytes_in, is_tree}
-use Rattle.db_model.specs.declared.schemas.Domain.{Domain}
-use Rattle.db_model.specs.declared.schemas.Domain.TheVariants.{Time}
+-- What a step of mending keeps.
+use Rattle.std.specs.Prelude.{◌≡◌, ℕ, ◌≤◌, IsTrue, Option}
+use Rattle.afl_base.specs.Files.{IsNamed, State, Table, size_at}
+use Rattle.catalog.specs.Rules.{catalog_bytes_in}
 use Rattle.db_model.specs.declared.schemas.Schema.{Schema}
-use Rattle.db_model.specs.Catalog.{Catalog, Index, catalog_of, version_of}
-use Rattle.db_model.specs.Database.{Database}
-use Rattle.space_model.specs.FileNames.{is_there, tree_file}
-use Rattle.stored.specs.Base.{relation_stored}
+use Rattle.db_model.specs.Catalog.{relation_at}
+use Rattle.space_model.specs.FileNames.{catalog_file}
+use Rattle.stored.specs.Base.{base_of}
+use Rattle.stored.specs.Mended.{mended_base, mended_version, whole_catalog}
+use Rattle.stored.specs.Sound.{IsSoundTable}
 
--- the bytes of a catalog, none where they are fewer than those of version 1: then there was no relation
-abbrev pub whole_bytes : List ℕ → List ℕ
-whole_bytes bytes = if nat_lt (length bytes) 1472 then [] else bytes
+-- what the files mend to stays, where bytes are told
+pub record MendsAsBefore (old new : State) : Type 0 where
+  pub base : IsTrue old.tells → mended_base new.files ≡ mended_base old.files
+  pub draft : new.draft ≡ old.draft
+  pub tells : new.tells ≡ old.tells
 
-abbrev pub whole_catalog : Table → List ℕ
-whole_catalog files = whole_bytes (catalog_bytes_in files)
+-- files that are sound behind it stand for what they mended to before it
+pub record StandsForMended (old new : Table) : Type 0 where
+  pub base : IsSoundTable new → base_of new ≡ mended_base old
 
-abbrev pub is_time : Domain → Bool
-is_time Time = true
-is_time _ = false
-
--- whether a relation has an attribute that only version 2 has
-abbrev pub has_time : Option Schema → Bool
-has_time None = false
-has_time (Some schema) = list_any (λ a. is_time a.domain) schema.attributes
-
--- version 2 too where a relation wants it and the mark is not there yet
-abbrev pub mended_version : List ℕ → ℕ
-mended_version bytes = if list_any has_time (catalog_of bytes).relations then 2 else version_of bytes
-
--- an index, where its tree is there if it has one
-abbrev pub standing : Table → ℕ → Option Index → Option Index
-standing files slot index = if is_tree index && not (is_there (tree_file slot) files) then None else index
-
--- relations and indexes as their slots are read: a slot without a name is unused, and an attribute behind their number is none
-unfoldable pub mended_catalog : Table → Catalog
-mended_catalog files = let read = catalog_of (whole_catalog files) in record {
-  version = mended_version (whole_catalog files);
-  relations = read.relations;
-  indexes = map (λ slot. standing files slot (get_or read.indexes slot None)) (range_with_len 0 8);
-}
-
--- the whole rows of each relation, and no cursors
-unfoldable pub mended_base : Table → Database
-mended_base files = let catalog = mended_catalog files in record {
-  version = catalog.version;
-  relations = map (relation_stored files catalog.relations) (range_with_len 0 8);
-  indexes = catalog.indexes;
-  cursors = replicate 4 None;
-}
-
--- ---- what a step keeps
-
--- the catalog stays, and so does what the files mend to, where bytes are told
+-- the catalog stays too
 pub record KeepsBase (old new : State) : Type 0 where
   pub catalog : catalog_bytes_in new.files ≡ catalog_bytes_in old.files
   pub base : IsTrue old.tells → mended_base new.files ≡ mended_base old.files
   pub draft : new.draft ≡ old.draft
   pub tells : new.tells ≡ old.tells
+
+-- the one file of the catalog, which has all slots
+pub record IsWholeCatalog (files : Table) (cat : ℕ) : Type 0 where
+  pub named : IsNamed files cat catalog_file
+  pub only : (k : ℕ) → IsNamed files k catalog_file → k ≡ cat
+  pub long : 1472 ≤ size_at files cat
+
+-- what the slot of a relation is read as, where bytes are told
+abbrev pub HasInSlot : State → ℕ → Option Schema → Type 0
+HasInSlot state slot relation = IsTrue state.tells → relation_at (whole_catalog state.files) slot ≡ relation
+
+-- the catalog mends to one of version 2, where bytes are told
+abbrev pub WantsMark : State → Type 0
+WantsMark state = IsTrue state.tells → mended_version (whole_catalog state.files) ≡ 2

@@ -2,11 +2,13 @@
 
 #![tactic(auto)]
 
-ghost use Rattle.std.specs.Prelude.{◌≡◌, ◌≢◌, ◌≤◌, ◌<◌, ◌+◌, ◌-◌, IfSome, None, OnOk, length, slice_index};
-ghost use Rattle.afl_base.specs.Files.{IsLive, file_at, size_at};
+ghost use Rattle.std.specs.Prelude.{◌≡◌, ◌≢◌, ◌≤◌, ◌<◌, ◌+◌, ◌-◌, IfSome, IsTrue, None, OnOk, Some, length, slice_index};
+ghost use Rattle.afl_base.specs.Files.{IsLive, Overwrites, file_at, size_at};
 ghost use Rattle.afl_base.specs.Keeping.{ChangesOrLacks, OnlyReads};
 ghost use Rattle.afl_base.specs.declared.kind.Kind.TheVariants.{Fixed};
-ghost use Rattle.stored_mend.specs.Mending.{mended_base};
+ghost use Rattle.db_model.specs.Catalog.{relation_slot_bytes};
+ghost use Rattle.stored.specs.Mended.{has_time, mended_base};
+ghost use Rattle.stored_mend.specs.Mending.{HasInSlot, IsWholeCatalog, MendsAsBefore, WantsMark};
 
 use crate::decoding::name_in;
 use crate::listing::{SIZE_OF_VERSION_1, VERSION_MARK, relation_in, whole_catalog};
@@ -25,6 +27,7 @@ pub fn take_back_catalog<V: Files>(files: &mut V, report: &mut Report) -> Result
     ensures idle { OnOk result ((V.state files.new).draft ≡ None) }
     ensures base { OnOk result
         (mended_base (V.state files.new).files ≡ mended_base (V.state files.old).files) }
+    ensures kept { OnOk result (MendsAsBefore (V.state files.old) (V.state files.new)) }
     ensures frame { ChangesOrLacks V.state V.lent V.reads V.faults V.lacks files.old files.new result }
 {
     let Some(cat) = files.find(catalog_file()) else {
@@ -45,6 +48,7 @@ fn written_catalog<V: Files>(files: &V) -> Option<FileId>
     ensures least { IfSome result (λ cat. 1472 ≤ size_at (V.state files.now).files cat) }
     ensures most { IfSome result (λ cat. size_at (V.state files.now).files cat ≤ 1480) }
     ensures kind { IfSome result (λ cat. (file_at (V.state files.now).files cat).kind ≡ Fixed 6) }
+    ensures found { IfSome result (λ cat. IsWholeCatalog (V.state files.now).files cat) }
 {
     let cat = whole_catalog(files)?;
     if files.size(cat) > 1_480 || files.kind(cat) != Kind::Fixed(6) {
@@ -57,6 +61,7 @@ fn written_catalog<V: Files>(files: &V) -> Option<FileId>
 pub fn complete_mark<V: Files>(files: &mut V, report: &mut Report) -> Result<(), FileError>
     requires idle { (V.state files.old).draft ≡ None }
     ensures idle { OnOk result ((V.state files.new).draft ≡ None) }
+    ensures kept { OnOk result (MendsAsBefore (V.state files.old) (V.state files.new)) }
     ensures frame { ChangesOrLacks V.state V.lent V.reads V.faults V.lacks files.old files.new result }
 {
     let Some(cat) = written_catalog(files) else {
@@ -65,7 +70,8 @@ pub fn complete_mark<V: Files>(files: &mut V, report: &mut Report) -> Result<(),
     if files.size(cat) == SIZE_OF_VERSION_1 {
         return Ok(());
     }
-    write_mark(files, cat, report)
+    write_mark(files, cat, report)?;
+    Ok(())
 }
 
 // Appends what is missing of the mark.
@@ -76,6 +82,8 @@ fn write_mark<V: Files>(files: &mut V, cat: FileId, report: &mut Report) -> Resu
     requires most { size_at (V.state files.old).files cat ≤ 1480 }
     requires kind { (file_at (V.state files.old).files cat).kind ≡ Fixed 6 }
     ensures idle { OnOk result ((V.state files.new).draft ≡ None) }
+    ensures kept { IsWholeCatalog (V.state files.old).files cat → WantsMark (V.state files.old)
+        → OnOk result (MendsAsBefore (V.state files.old) (V.state files.new)) }
     ensures frame { ChangesOrLacks V.state V.lent V.reads V.faults V.lacks files.old files.new result }
 {
     let written = (files.size(cat) - SIZE_OF_VERSION_1) as usize;
@@ -98,6 +106,7 @@ pub fn mend_relation<V: Files>(
     requires idle { (V.state files.old).draft ≡ None }
     requires slot { slot < 8 }
     ensures idle { OnOk result ((V.state files.new).draft ≡ None) }
+    ensures kept { OnOk result (MendsAsBefore (V.state files.old) (V.state files.new)) }
     ensures frame { ChangesOrLacks V.state V.lent V.reads V.faults V.lacks files.old files.new result }
 {
     let Some(cat) = written_catalog(files) else {
@@ -105,8 +114,14 @@ pub fn mend_relation<V: Files>(
     };
     match relation_in(files, cat, slot)? {
         None => Ok(()),
-        Some(None) => empty_slot(files, cat, slot, report),
-        Some(Some(schema)) => mend_schema(files, cat, slot, &schema, report),
+        Some(None) => {
+            empty_slot(files, cat, slot, report)?;
+            Ok(())
+        }
+        Some(Some(schema)) => {
+            mend_schema(files, cat, slot, &schema, report)?;
+            Ok(())
+        }
     }
 }
 
@@ -124,18 +139,29 @@ fn empty_slot<V: Files>(
     requires kind { (file_at (V.state files.old).files cat).kind ≡ Fixed 6 }
     requires slot { slot < 8 }
     ensures idle { OnOk result ((V.state files.new).draft ≡ None) }
+    ensures kept { IsWholeCatalog (V.state files.old).files cat
+        → HasInSlot (V.state files.old) slot None
+        → OnOk result (MendsAsBefore (V.state files.old) (V.state files.new)) }
     ensures frame { ChangesOrLacks V.state V.lent V.reads V.faults V.lacks files.old files.new result }
 {
     let mut bytes = [0; 176];
     files.read(cat, 176 * u32::from(slot), &mut bytes)?;
-    let mut unused = [0; 176];
-    unused[175] = 1;
+    let unused = unused_relation();
     if bytes == unused {
         return Ok(());
     }
     overwrite(files, cat, 176 * u32::from(slot), &unused)?;
     report_removed(files, slot, report);
     Ok(())
+}
+
+// The slot of a relation that is not used.
+fn unused_relation() -> [u8; 176]
+    ensures { result ≡ relation_slot_bytes None }
+{
+    let mut unused = [0; 176];
+    unused[175] = 1;
+    unused
 }
 
 // Reports a relation whose slot is emptied, unless its rows are still to be removed.
@@ -162,15 +188,46 @@ fn mend_schema<V: Files>(
     requires kind { (file_at (V.state files.old).files cat).kind ≡ Fixed 6 }
     requires slot { slot < 8 }
     ensures idle { OnOk result ((V.state files.new).draft ≡ None) }
+    ensures kept { IsWholeCatalog (V.state files.old).files cat
+        → HasInSlot (V.state files.old) slot (Some schema.now)
+        → OnOk result (MendsAsBefore (V.state files.old) (V.state files.new)) }
     ensures frame { ChangesOrLacks V.state V.lent V.reads V.faults V.lacks files.old files.new result }
 {
-    if has_time(schema) && files.size(cat) == SIZE_OF_VERSION_1 {
-        write_mark(files, cat, report)?;
-    }
+    mark_time(files, cat, schema, report)?;
     take_back_attribute(files, slot, schema, report)
 }
 
-fn has_time(schema: &Schema) -> bool {
+// Writes the mark where a relation has a TIME and the catalog is of version 1.
+fn mark_time<V: Files>(
+    files: &mut V,
+    cat: FileId,
+    schema: &Schema,
+    report: &mut Report,
+) -> Result<(), FileError>
+    requires idle { (V.state files.old).draft ≡ None }
+    requires live { IsLive (V.state files.old).files cat }
+    requires least { 1472 ≤ size_at (V.state files.old).files cat }
+    requires most { size_at (V.state files.old).files cat ≤ 1480 }
+    requires kind { (file_at (V.state files.old).files cat).kind ≡ Fixed 6 }
+    ensures idle { OnOk result ((V.state files.new).draft ≡ None) }
+    ensures kept { IsWholeCatalog (V.state files.old).files cat
+        → (IsTrue (has_time (Some schema.now)) → WantsMark (V.state files.old))
+        → OnOk result (MendsAsBefore (V.state files.old) (V.state files.new)) }
+    ensures frame { ChangesOrLacks V.state V.lent V.reads V.faults V.lacks files.old files.new result }
+{
+    if files.size(cat) != SIZE_OF_VERSION_1 {
+        return Ok(());
+    }
+    if !has_time(schema) {
+        return Ok(());
+    }
+    write_mark(files, cat, report)?;
+    Ok(())
+}
+
+fn has_time(schema: &Schema) -> bool
+    ensures { IsTrue result → IsTrue (has_time (Some schema.now)) }
+{
     for attribute in schema.attributes.as_slice() {
         if attribute.domain == Domain::Time {
             return true;
@@ -189,6 +246,8 @@ fn take_back_attribute<V: Files>(
     requires idle { (V.state files.old).draft ≡ None }
     requires slot { slot < 8 }
     ensures idle { OnOk result ((V.state files.new).draft ≡ None) }
+    ensures kept { HasInSlot (V.state files.old) slot (Some schema.now)
+        → OnOk result (MendsAsBefore (V.state files.old) (V.state files.new)) }
     ensures frame { ChangesOrLacks V.state V.lent V.reads V.faults V.lacks files.old files.new result }
 {
     let Some(cat) = written_catalog(files) else {
@@ -213,16 +272,24 @@ pub fn mend_index<V: Files>(files: &mut V, slot: u16, report: &mut Report) -> Re
     requires idle { (V.state files.old).draft ≡ None }
     requires slot { slot < 8 }
     ensures idle { OnOk result ((V.state files.new).draft ≡ None) }
+    ensures kept { OnOk result (MendsAsBefore (V.state files.old) (V.state files.new)) }
     ensures frame { ChangesOrLacks V.state V.lent V.reads V.faults V.lacks files.old files.new result }
 {
-    let (Some(cat), Some(id)) = (written_catalog(files), IndexId::new(slot)) else {
+    let Some(cat) = written_catalog(files) else {
+        return Ok(());
+    };
+    let Some(id) = IndexId::new(slot) else {
         return Ok(());
     };
     let at = SIZE_OF_VERSION_1 - 64 + 8 * u32::from(slot);
     let mut bytes = [0; 8];
     files.read(cat, at, &mut bytes)?;
-    if bytes[0] != 2 || files.find(tree_file(id)).is_some() {
+    if bytes[0] != 2 {
         return Ok(());
+    }
+    match files.find(tree_file(id)) {
+        Some(_) => return Ok(()),
+        None => {}
     }
     report_index(files, cat, bytes[1], bytes[2], report)?;
     overwrite(files, cat, at, &UNUSED_INDEX)?;
@@ -267,6 +334,7 @@ fn overwrite<V: Files>(files: &mut V, cat: FileId, at: u32, bytes: &[u8]) -> Res
     requires inside { at + length bytes.now ≤ 1472 }
     requires last { at + length bytes.now ≡ 1472 → slice_index bytes.now (length bytes.now - 1) ≢ 0 }
     ensures idle { OnOk result ((V.state files.new).draft ≡ None) }
+    ensures put { OnOk result (Overwrites (V.state files.old) (V.state files.new) cat at bytes.now) }
     ensures frame { ChangesOrLacks V.state V.lent V.reads V.faults V.lacks files.old files.new result }
 {
     files.prepare(cat, regions(at, bytes.len()), 0)?;

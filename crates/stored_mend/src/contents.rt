@@ -9,8 +9,9 @@ ghost use Rattle.afl_base.specs.Keeping.{Changes, ChangesOrLacks, OnlyReads};
 ghost use Rattle.afl_base.specs.declared.kind.Kind.TheVariants.{Doubling};
 ghost use Rattle.afl_base.specs.KeyColumn.{key_of};
 ghost use Rattle.afl_base.specs.Keys.{first_keys};
-ghost use Rattle.stored_mend.specs.Keys.{AreKeys, BuildsTree, HasTree};
-ghost use Rattle.stored_mend.specs.Mending.{KeepsBase, mended_catalog};
+ghost use Rattle.stored.specs.Mended.{mended_catalog};
+ghost use Rattle.stored_mend.specs.Keys.{AreKeys, BuildsTree, HasTreeNow};
+ghost use Rattle.stored_mend.specs.Mending.{KeepsBase};
 ghost use Rattle.stored_mend.specs.Rows.{AreSameRows, ChangesOne, HasWholeRows, MayEndAt};
 
 use crate::keyed::{Keyed, keys_of};
@@ -248,7 +249,7 @@ fn mend_tree_of<V: Files>(files: &mut V, name: Name, keys: &Keyed) -> Result<boo
     requires keys { AreKeys (V.state files.old) keys.now.column keys.now.slots }
     requires idle { (V.state files.old).draft ≡ None }
     ensures tree { IsTrue (V.state files.old).tells → keys.now.column.width ≢ 8 → OnOk result
-        (HasTree (V.state files.old).files (V.state files.new).files name
+        (HasTreeNow (V.state files.old).files (V.state files.new).files name
         (first_keys (key_of (V.state files.old) keys.now.column) keys.now.slots)) }
     ensures others { OnOk result (ChangesOne (V.state files.old) (V.state files.new) name) }
     ensures frame { ChangesOrLacks V.state V.lent V.reads V.faults V.lacks files.old files.new result }

@@ -3,7 +3,8 @@
 #![tactic(auto)]
 
 ghost use Rattle.std.specs.Prelude.{◌≡◌, ◌≤◌, ◌<◌, IfSome, length};
-ghost use Rattle.db_model.specs.Row.{row_length};
+ghost use Rattle.db_model.specs.Catalog.{attribute_of, attributes_of, domain_from, relation_slot_of, schema_of};
+ghost use Rattle.db_model.specs.Row.{row_length, up_to_zero};
 
 use afl_base::RelationId;
 use catalog::IndexEntry;
@@ -14,7 +15,8 @@ use padded::is_zeros;
 /// What stands behind its attributes was to be one more, and is none.
 pub fn mended_relation(slot: &[u8]) -> Option<Option<Schema>>
     requires { length slot.now ≡ 176 }
-    ensures { IfSome result (λ relation. IfSome relation (λ schema. row_length schema.attributes ≤ 128)) }
+    ensures short { IfSome result (λ relation. IfSome relation (λ schema. row_length schema.attributes ≤ 128)) }
+    ensures read { IfSome result (λ relation. relation ≡ relation_slot_of slot.now) }
 {
     if slot[0] == 0 {
         return Some(None);
@@ -26,10 +28,11 @@ pub fn mended_relation(slot: &[u8]) -> Option<Option<Schema>>
 
 fn named_schema(slot: &[u8]) -> Option<Schema>
     requires { length slot.now ≡ 176 }
-    ensures { IfSome result (λ schema. row_length schema.attributes ≤ 128) }
+    ensures short { IfSome result (λ schema. row_length schema.attributes ≤ 128) }
+    ensures read { IfSome result (λ schema. schema ≡ schema_of slot.now) }
 {
     let name = name_in(&slot[..16])?;
-    let attributes = attributes_in(slot[160] as usize, &slot[16..160])?;
+    let attributes = attributes_in(slot[160] as usize, &slot[16..])?;
     if row_length(&attributes) > 128 || !are_distinct(attributes.as_slice()) {
         return None;
     }
@@ -38,7 +41,8 @@ fn named_schema(slot: &[u8]) -> Option<Schema>
 
 // The first `n` attributes.
 fn attributes_in(n: usize, bytes: &[u8]) -> Option<Attributes>
-    requires { length bytes.now ≡ 144 }
+    requires { 144 ≤ length bytes.now }
+    ensures { IfSome result (λ attributes. attributes ≡ attributes_of n bytes.now) }
 {
     if n > 8 {
         return None;
@@ -52,6 +56,7 @@ fn attributes_in(n: usize, bytes: &[u8]) -> Option<Attributes>
 
 fn attribute_in(bytes: &[u8]) -> Option<Attribute>
     requires { length bytes.now ≡ 18 }
+    ensures { IfSome result (λ attribute. attribute ≡ attribute_of bytes.now) }
 {
     let name = name_in(&bytes[..16])?;
     let domain = domain_in(bytes[16], bytes[17])?;
@@ -59,7 +64,9 @@ fn attribute_in(bytes: &[u8]) -> Option<Attribute>
 }
 
 /// A name with zeros behind it.
-pub fn name_in(field: &[u8]) -> Option<Ident> {
+pub fn name_in(field: &[u8]) -> Option<Ident>
+    ensures { IfSome result (λ name. name ≡ up_to_zero field.now) }
+{
     let name = up_to_zero(field);
     if !is_zeros(&field[name.len()..]) {
         return None;
@@ -67,7 +74,9 @@ pub fn name_in(field: &[u8]) -> Option<Ident> {
     Ident::new(name)
 }
 
-fn domain_in(code: u8, length: u8) -> Option<Domain> {
+fn domain_in(code: u8, length: u8) -> Option<Domain>
+    ensures { IfSome result (λ domain. domain ≡ domain_from code length) }
+{
     match (code, length) {
         (1, 0) => Some(Domain::Int),
         (2, 0) => Some(Domain::Long),

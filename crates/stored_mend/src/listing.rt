@@ -2,9 +2,11 @@
 
 #![tactic(auto)]
 
-ghost use Rattle.std.specs.Prelude.{◌≡◌, ◌≤◌, ◌<◌, ◌+◌, IfOk, IfSome, get_or, length};
+ghost use Rattle.std.specs.Prelude.{◌≡◌, ◌≤◌, ◌<◌, ◌+◌, [], IfNone, IfOk, IfSome, get_or, length};
 ghost use Rattle.afl_base.specs.Files.{IsLive, size_at};
 ghost use Rattle.afl_base.specs.Keeping.{OnlyReads};
+ghost use Rattle.stored.specs.Mended.{whole_catalog};
+ghost use Rattle.stored_mend.specs.Mending.{HasInSlot, IsWholeCatalog};
 
 use crate::decoding::{index_in, mended_relation};
 use afl_base::{Failed, FileId, Files, IndexId, RelationId};
@@ -48,6 +50,8 @@ pub fn cut_catalog<V: Files>(files: &mut V) -> Result<Option<Catalog>, Failed>
 pub fn whole_catalog<V: Files>(files: &V) -> Option<FileId>
     ensures live { IfSome result (λ cat. IsLive (V.state files.now).files cat) }
     ensures size { IfSome result (λ cat. 1472 ≤ size_at (V.state files.now).files cat) }
+    ensures found { IfSome result (λ cat. IsWholeCatalog (V.state files.now).files cat) }
+    ensures none { IfNone result (whole_catalog (V.state files.now).files ≡ []) }
 {
     let cat = files.find(catalog_file())?;
     if files.size(cat) < SIZE_OF_VERSION_1 {
@@ -129,6 +133,8 @@ pub fn relation_in<V: Files>(
     requires live { IsLive (V.state files.old).files cat }
     requires size { 1472 ≤ size_at (V.state files.old).files cat }
     requires slot { slot < 8 }
+    ensures read { IsWholeCatalog (V.state files.old).files cat
+        → IfOk result (λ r. IfSome r (HasInSlot (V.state files.old) slot)) }
     ensures frame { OnlyReads V.state V.lent V.reads V.faults files.old files.new result }
 {
     let mut bytes = [0; 176];

@@ -4,7 +4,8 @@
 
 ghost use Rattle.std.specs.Prelude.{◌≡◌, IfOk, IfSome, IsTrue, None, OnOk, length};
 ghost use Rattle.afl_base.specs.Keeping.{ChangesOrLacks, OnlyReads};
-ghost use Rattle.stored_mend.specs.Mending.{KeepsBase, mended_catalog};
+ghost use Rattle.stored.specs.Mended.{mended_catalog};
+ghost use Rattle.stored_mend.specs.Mending.{KeepsBase, MendsAsBefore, StandsForMended};
 
 use crate::catalogs::{complete_mark, mend_index, mend_relation, take_back_catalog};
 use crate::contents::{mend_rows, mend_tree};
@@ -19,6 +20,9 @@ use catalog::{Catalog, load};
 pub fn mend_database<V: Files>(files: &mut V, report: &mut Report) -> Result<(), FileError>
     requires idle { (V.state files.old).draft ≡ None }
     ensures idle { OnOk result ((V.state files.new).draft ≡ None) }
+    ensures kept { OnOk result (MendsAsBefore (V.state files.old) (V.state files.new)) }
+    ensures sound { IsTrue (V.state files.old).tells → OnOk result
+        (StandsForMended (V.state files.old).files (V.state files.new).files) }
     ensures frame { ChangesOrLacks V.state V.lent V.reads V.faults V.lacks files.old files.new result }
 {
     mend_catalog(files, report)?;
@@ -60,6 +64,7 @@ fn sound_catalog<V: Files>(files: &mut V) -> Result<Option<Catalog>, Failed>
 fn mend_catalog<V: Files>(files: &mut V, report: &mut Report) -> Result<(), FileError>
     requires idle { (V.state files.old).draft ≡ None }
     ensures idle { OnOk result ((V.state files.new).draft ≡ None) }
+    ensures kept { OnOk result (MendsAsBefore (V.state files.old) (V.state files.new)) }
     ensures frame { ChangesOrLacks V.state V.lent V.reads V.faults V.lacks files.old files.new result }
 {
     take_back_catalog(files, report)?;
@@ -77,6 +82,7 @@ fn mend_catalog<V: Files>(files: &mut V, report: &mut Report) -> Result<(), File
 fn remove_strays<V: Files>(files: &mut V, report: &mut Report) -> Result<(), FileError>
     requires idle { (V.state files.old).draft ≡ None }
     ensures idle { OnOk result ((V.state files.new).draft ≡ None) }
+    ensures kept { OnOk result (MendsAsBefore (V.state files.old) (V.state files.new)) }
     ensures frame { ChangesOrLacks V.state V.lent V.reads V.faults V.lacks files.old files.new result }
 {
     for slot in 0..8u16 {

@@ -6,7 +6,7 @@ ghost use Rattle.std.specs.Prelude.{◌≡◌, ◌++◌, decimal, OnErr, OnOk};
 ghost use Rattle.afl_base.specs.Keeping.{Sends};
 ghost use Rattle.std.specs.Io.KnownBytes.{append_known};
 ghost use Rattle.reply_text.specs.WroteLess.{WroteLess};
-ghost use Rattle.stored_mend.specs.Report.{index_line};
+ghost use Rattle.stored_mend.specs.Report.{index_report};
 
 use afl_base::{Failed, Sink};
 use reply_text::{write_all, write_count};
@@ -48,9 +48,9 @@ pub fn write_index<K: Sink>(
     attribute: &[u8],
     last: &[u8],
 ) -> Result<(), Failed>
-    ensures written { let all = index_line relation.now attribute.now last.now in
+    ensures written { let all = index_report relation.now attribute.now last.now in
         OnOk result (K.held out.new ≡ append_known (K.held out.old) all) }
-    ensures failed { let all = index_line relation.now attribute.now last.now in
+    ensures failed { let all = index_report relation.now attribute.now last.now in
         OnErr result (WroteLess (K.held out.old) (K.held out.new) all) }
     ensures frame { Sends K.lent K.faults out.old out.new result }
 {

@@ -2,8 +2,10 @@
 
 #![tactic(auto)]
 
-ghost use Rattle.std.specs.Prelude.{◌≡◌, ◌<◌, None, OnOk};
+ghost use Rattle.std.specs.Prelude.{◌≡◌, ◌<◌, IfOk, IsTrue, None, OnOk, slice_index};
 ghost use Rattle.afl_base.specs.Keeping.{Changes, OnlyReads};
+ghost use Rattle.stored.specs.Mended.{whole_catalog};
+ghost use Rattle.stored_mend.specs.Mending.{MendsAsBefore};
 
 use crate::listing::whole_catalog;
 use crate::report::{Mended, Report};
@@ -15,6 +17,7 @@ pub fn remove_rows<V: Files>(files: &mut V, slot: u16, report: &mut Report) -> R
     requires idle { (V.state files.old).draft ≡ None }
     requires slot { slot < 8 }
     ensures idle { OnOk result ((V.state files.new).draft ≡ None) }
+    ensures kept { OnOk result (MendsAsBefore (V.state files.old) (V.state files.new)) }
     ensures frame { Changes V.state V.lent V.reads V.faults files.old files.new result }
 {
     let first = first_byte(files, 176 * u32::from(slot))?;
@@ -37,6 +40,7 @@ pub fn remove_tree<V: Files>(files: &mut V, slot: u16, report: &mut Report) -> R
     requires idle { (V.state files.old).draft ≡ None }
     requires slot { slot < 8 }
     ensures idle { OnOk result ((V.state files.new).draft ≡ None) }
+    ensures kept { OnOk result (MendsAsBefore (V.state files.old) (V.state files.new)) }
     ensures frame { Changes V.state V.lent V.reads V.faults files.old files.new result }
 {
     let first = first_byte(files, 1_408 + 8 * u32::from(slot))?;
@@ -57,6 +61,8 @@ pub fn remove_tree<V: Files>(files: &mut V, slot: u16, report: &mut Report) -> R
 // The first byte of a slot of the catalog, 0 where there is no catalog.
 fn first_byte<V: Files>(files: &mut V, at: u32) -> Result<u8, Failed>
     requires inside { at < 1472 }
+    ensures byte { IsTrue (V.state files.old).tells → IfOk result (λ byte.
+        byte ≡ slice_index (whole_catalog (V.state files.old).files) at) }
     ensures frame { OnlyReads V.state V.lent V.reads V.faults files.old files.new result }
 {
     let Some(cat) = whole_catalog(files) else {

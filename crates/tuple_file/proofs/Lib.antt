@@ -1,5 +1,6 @@
 pub mod Answered
 pub mod Columns
+pub mod Cuts
 pub mod Drafted
 pub mod Gathered
 pub mod Judged

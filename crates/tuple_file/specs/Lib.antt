@@ -1,4 +1,5 @@
 pub mod Column
+pub mod CutRows
 pub mod Drafts
 pub mod Gathered
 pub mod Tuples

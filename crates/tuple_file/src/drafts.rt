@@ -2,9 +2,10 @@
 
 #![tactic(auto)]
 
-ghost use Rattle.std.specs.Prelude.{◌≡◌, ◌≢◌, ◌+◌, ◌-◌, ◌*◌, ◌≤◌, ◌<◌, Bool, IfOk, IsOkUnless, IsSome, IsTrue, List, MatchBool, None, OnOk, false, length, not, replicate, slice_index, true};
+ghost use Rattle.std.specs.Prelude.{◌≡◌, ◌≢◌, ◌+◌, ◌-◌, ◌*◌, ◌≤◌, ◌<◌, Bool, IfOk, IsErrOf, IsOkUnless, IsSome, IsTrue, List, MatchBool, None, OnErr, OnOk, false, length, not, replicate, slice_index, true};
 ghost use Rattle.afl_base.specs.Keeping.{Changes, ChangesOrLacks, OnlyReads};
 ghost use Rattle.std.specs.Fn.{FnReturnsAt};
+ghost use Rattle.afl_base.specs.CutFiles.{MendsToEither};
 ghost use Rattle.afl_base.specs.FileErrors.{OnSpace};
 ghost use Rattle.afl_base.specs.Files.{Commits, Drafts, IsLive, Keeps, draft_in, file_at, size_at};
 ghost use Rattle.afl_base.specs.Fit.{fit};
@@ -47,6 +48,13 @@ impl Tuples {
         ensures need { OnSpace result (λ need. need
             ≡ fit (size_at (V.state files.old).files self.now.file)) }
         ensures kept { OnSpace result (λ _. Keeps (V.state files.old) (V.state files.new)) }
+        ensures cut { IsTrue V.cuts → IsTrue (V.state files.old).tells
+            → IsErrOf result FileError.Failed
+            → MendsToEither V.mends (V.state files.old).files (V.state files.new).store
+            (λ after. OnlyRowsChange (V.state files.old) after self.now
+            × AreAnswered (FnReturnsAt F.Fn removed) (rows (V.state files.old).files self.now)
+            (rows after.files self.now)
+            × AllRowsSuit self.now.schema.attributes (rows after.files self.now)) }
         ensures frame { ChangesOrLacks V.state V.lent V.reads V.faults V.lacks files.old files.new result }
     {
         let slots = self.count(files);
@@ -82,6 +90,8 @@ impl Tuples {
             × AllRowsSuit self.now.schema.attributes news
             × ((draft_in (V.state files.new)).bytes ≡ rows_bytes self.now.schema.attributes news)) }
         ensures only { OnOk result (OnlyDraftChanges (V.state files.old) (V.state files.new)) }
+        ensures cut { IsTrue V.cuts → IsTrue (V.state files.old).tells → OnErr result
+            (V.mends (V.state files.new).store (V.state files.old).files) }
         ensures frame { Changes V.state V.lent V.reads V.faults files.old files.new result }
     {
         let mut waiting = Waiting::new();
@@ -122,6 +132,8 @@ impl Tuples {
         ensures behind { OnOk result (end_of_waiting waiting.new
             ≡ row_length self.now.schema.attributes * (slot + 1)) }
         ensures only { OnOk result (OnlyDraftChanges (V.state files.old) (V.state files.new)) }
+        ensures cut { IsTrue V.cuts → IsTrue (V.state files.old).tells → OnErr result
+            (V.mends (V.state files.new).store (V.state files.old).files) }
         ensures frame { Changes V.state V.lent V.reads V.faults files.old files.new result }
     {
         let mut tuple = Tuple::new();
@@ -155,6 +167,11 @@ impl Tuples {
             → OnSpace result (λ need. need ≡ fit (row_length self.now.schema.attributes
             * length (live_rows (V.state files.old).files self.now))) }
         ensures kept { OnSpace result (λ _. Keeps (V.state files.old) (V.state files.new)) }
+        ensures cut { IsTrue V.cuts → IsTrue (V.state files.old).tells
+            → IsErrOf result FileError.Failed
+            → MendsToEither V.mends (V.state files.old).files (V.state files.new).store
+            (λ after. OnlyRowsChange (V.state files.old) after self.now
+            × (rows after.files self.now ≡ live_rows (V.state files.old).files self.now)) }
         ensures frame { ChangesOrLacks V.state V.lent V.reads V.faults V.lacks files.old files.new result }
     {
         let slots = self.count(files);
@@ -223,6 +240,8 @@ impl Tuples {
             → OnOk result ((draft_in (V.state files.new)).bytes
             ≡ rows_bytes self.now.schema.attributes (live_rows (V.state files.old).files self.now)) }
         ensures only { OnOk result (OnlyDraftChanges (V.state files.old) (V.state files.new)) }
+        ensures cut { IsTrue V.cuts → IsTrue (V.state files.old).tells → OnErr result
+            (V.mends (V.state files.new).store (V.state files.old).files) }
         ensures frame { Changes V.state V.lent V.reads V.faults files.old files.new result }
     {
         let mut waiting = Waiting::new();
@@ -271,6 +290,8 @@ impl Tuples {
             ≡ row_length self.now.schema.attributes * now) }
         ensures few { IfOk result (λ now. now ≤ room) }
         ensures only { OnOk result (OnlyDraftChanges (V.state files.old) (V.state files.new)) }
+        ensures cut { IsTrue V.cuts → IsTrue (V.state files.old).tells → OnErr result
+            (V.mends (V.state files.new).store (V.state files.old).files) }
         ensures frame { Changes V.state V.lent V.reads V.faults files.old files.new result }
     {
         let mut tuple = Tuple::new();
@@ -291,6 +312,9 @@ impl Tuples {
             (file_at (V.state files.old).files self.now.file).name size (replicate size 0)) }
         ensures need { OnSpace result (λ need. need ≡ fit size) }
         ensures kept { OnSpace result (λ _. Keeps (V.state files.old) (V.state files.new)) }
+        ensures cut { IsTrue V.cuts → IsTrue (V.state files.old).tells
+            → IsErrOf result FileError.Failed
+            → V.mends (V.state files.new).store (V.state files.old).files }
         ensures frame { ChangesOrLacks V.state V.lent V.reads V.faults V.lacks files.old files.new result }
     {
         let name = files.name(self.file);
@@ -309,6 +333,9 @@ impl Tuples {
             → slice_index (draft_in (V.state files.old)).bytes (length (draft_in (V.state files.old)).bytes - 1)
             ≢ 0 }
         ensures committed { OnOk result (Commits (V.state files.old) (V.state files.new) self.now.file) }
+        ensures cut { IsTrue V.cuts → IsTrue (V.state files.old).tells → OnErr result
+            (MendsToEither V.mends (V.state files.old).files (V.state files.new).store
+            (λ after. Commits (V.state files.old) after self.now.file)) }
         ensures frame { Changes V.state V.lent V.reads V.faults files.old files.new result }
     {
         files.draft_commit()?;

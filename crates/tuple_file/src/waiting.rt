@@ -2,7 +2,7 @@
 
 #![tactic(auto)]
 
-ghost use Rattle.std.specs.Prelude.{◌≡◌, ◌+◌, ◌≤◌, ◌++◌, [], IsSome, IsTrue, OnOk, length};
+ghost use Rattle.std.specs.Prelude.{◌≡◌, ◌+◌, ◌≤◌, ◌++◌, [], IsSome, IsTrue, OnErr, OnOk, length};
 ghost use Rattle.afl_base.specs.Fields.{put_at};
 ghost use Rattle.afl_base.specs.Files.{draft_in};
 ghost use Rattle.afl_base.specs.Keeping.{Changes};
@@ -73,6 +73,8 @@ impl Waiting {
             → OnOk result (IsFree (V.state files.new) self.new) }
         ensures end { OnOk result (end_of_waiting self.new ≡ end_of_waiting self.old + row_length attributes.now) }
         ensures only { OnOk result (OnlyDraftChanges (V.state files.old) (V.state files.new)) }
+        ensures cut { IsTrue V.cuts → IsTrue (V.state files.old).tells → OnErr result
+            (V.mends (V.state files.new).store (V.state files.old).files) }
         ensures frame { Changes V.state V.lent V.reads V.faults files.old files.new result }
     {
         self.make_room(files, row_length(attributes))?;
@@ -94,6 +96,8 @@ impl Waiting {
         ensures end { OnOk result (end_of_waiting self.new ≡ end_of_waiting self.old) }
         ensures room { OnOk result (length self.new.bytes + count ≤ 256) }
         ensures only { OnOk result (OnlyDraftChanges (V.state files.old) (V.state files.new)) }
+        ensures cut { IsTrue V.cuts → IsTrue (V.state files.old).tells → OnErr result
+            (V.mends (V.state files.new).store (V.state files.old).files) }
         ensures frame { Changes V.state V.lent V.reads V.faults files.old files.new result }
     {
         if self.filled + count <= WAITING_SIZE {
@@ -129,6 +133,8 @@ impl Waiting {
         ensures at { OnOk result (self.new.at ≡ end_of_waiting self.old) }
         ensures none { OnOk result (self.new.bytes ≡ []) }
         ensures only { OnOk result (OnlyDraftChanges (V.state files.old) (V.state files.new)) }
+        ensures cut { IsTrue V.cuts → IsTrue (V.state files.old).tells → OnErr result
+            (V.mends (V.state files.new).store (V.state files.old).files) }
         ensures frame { Changes V.state V.lent V.reads V.faults files.old files.new result }
     {
         files.draft_write(self.at, &self.bytes[..self.filled])?;

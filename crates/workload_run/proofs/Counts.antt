@@ -7,10 +7,11 @@ use Rattle.db_model.specs.Database.{Database}
 use Rattle.db_model.specs.Ahead.{is_refused}
 use Rattle.db_model.specs.Step.{Reply, after_all, outcome, replies, step}
 use Rattle.db_model.specs.Workload.{Tally, counted, first_commands, command_at, nothing, tally}
+use Rattle.answering.specs.Carried.{Limits}
 use Rattle.answering.proofs.Accepted.{accepted}
 use Rattle.session_model.specs.declared.step.Outcome.{Outcome}
 use Rattle.session_model.specs.Steps.{outcome_of}
-use Rattle.workload_run.specs.Counted.{Counted, CountedUntil}
+use Rattle.workload_run.specs.Counted.{BreaksAtCommand, Counted, CountedUntil}
 use Rattle.workload_run.proofs.FewRows.{one_row}
 
 -- ---- at the end of a list
@@ -84,9 +85,9 @@ module _ (seed k : ℕ) (c : Command) (is : c ≡ command_at seed k) (a b d : Da
       omega (arith, row, few, same)
 
 -- the next found no space
-pub stops_here : (Lacks : Command → ℕ → Type 0) (seed k count n : ℕ) (c : Command) (a b d : Database) (t : Tally) → c ≡ command_at seed k
-    → Counted (first_commands seed k) a b t → k < count → d ≡ b → IsOk (outcome b c) → Lacks c n → CountedUntil Lacks (first_commands seed count) a d t n
-stops_here Lacks seed k count n c a b d t is so_far below same ok lacks =
+pub stops_here : (limits : Limits) (seed k count n : ℕ) (c : Command) (a b d : Database) (t : Tally) → c ≡ command_at seed k
+    → Counted (first_commands seed k) a b t → k < count → d ≡ b → IsOk (outcome b c) → limits.Lacks c n → CountedUntil limits (first_commands seed count) a d t n
+stops_here limits seed k count n c a b d t is so_far below same ok lacks =
     let more = behind seed k count below in
     record {
       stops = record {
@@ -99,4 +100,17 @@ stops_here Lacks seed k count n c a b d t is so_far below same ok lacks =
         lacks = lacks;
       };
       tally_is = so_far.tally_is;
+    }
+
+-- the next broke off
+pub breaks_here : (limits : Limits) (seed k count : ℕ) (c : Command) (a b : Database) (t : Tally) → c ≡ command_at seed k
+    → Counted (first_commands seed k) a b t → k < count → limits.Breaks b c → BreaksAtCommand limits (first_commands seed count) a
+breaks_here limits seed k count c a b t is so_far below breaks =
+    let more = behind seed k count below in
+    record {
+      front = first_commands seed k;
+      command = c;
+      rest = more.rest;
+      split = more.split ∙ ap (λ (x : Command). first_commands seed k ++ x ∷ more.rest) (sym is);
+      breaks = subst (λ (db : Database). limits.Breaks db c) so_far.database breaks;
     }

@@ -1,6 +1,7 @@
 -- The line over what was counted.
 use Rattle.std.proofs.Common.{◌≡◌, ℕ, List, ◌++◌, Option, ap, ◌∙◌, subst}
 use Rattle.std.specs.Io.KnownBytes.{append_known}
+use Rattle.answering.specs.Carried.{Limits}
 use Rattle.db_model.specs.declared.commands.Command.{Command}
 use Rattle.db_model.specs.declared.refusals.Refusal.TheVariants as no
 use Rattle.db_model.specs.Database.{Database}
@@ -17,15 +18,15 @@ module _ (cs : List Command) (a b : Database) (t : Tally) (before now : Option (
   pub line_unsaid : Counted cs a b t → WroteLess before now (tally_text t) → LeftLineUnsaid cs a b before now
   line_unsaid c w = record { database = c.database; held = subst (λ (s : Tally). WroteLess before now (tally_text s)) c.tally_is w }
 
-  module _ (Lacks : Command → ℕ → Type 0) (n : ℕ) (c : CountedUntil Lacks cs a b t n) where
-    pub found_none : now ≡ append_known before (tally_text t ++ refusal_text (no.Space n)) → SaidNoRoom Lacks cs a b before now
+  module _ (limits : Limits) (n : ℕ) (c : CountedUntil limits cs a b t n) where
+    pub found_none : now ≡ append_known before (tally_text t ++ refusal_text (no.Space n)) → SaidNoRoom limits cs a b before now
     found_none e = record {
       n = n;
       stops = c.stops;
       held = e ∙ ap (λ (s : Tally). append_known before (tally_text s ++ refusal_text (no.Space n))) c.tally_is;
     }
 
-    pub space_unsaid : WroteLess before now (tally_text t ++ refusal_text (no.Space n)) → LeftSpaceUnsaid Lacks cs a b before now
+    pub space_unsaid : WroteLess before now (tally_text t ++ refusal_text (no.Space n)) → LeftSpaceUnsaid limits cs a b before now
     space_unsaid w = record {
       n = n;
       stops = c.stops;

@@ -1,5 +1,6 @@
 -- What given commands come to where their replies are only counted.
 use Rattle.std.specs.Prelude.{◌≡◌, ⊤, ℕ, false, List, ◌∷◌, ◌++◌, Result, Ok, Err}
+use Rattle.answering.specs.Carried.{Limits}
 use Rattle.db_model.specs.declared.commands.Command.{Command}
 use Rattle.db_model.specs.Ahead.{is_refused}
 use Rattle.db_model.specs.Database.{Database}
@@ -14,18 +15,26 @@ pub record Counted (commands : List Command) (old new : Database) (t : Tally) : 
   pub tally_is : t ≡ tally nothing (replies old commands)
 
 -- those in front were carried out, and the next is not refused and lacks n pages
-pub record StopsAtCommand (Lacks : Command → ℕ → Type 0) (commands : List Command) (old new : Database) (n : ℕ) : Type 0 where
+pub record StopsAtCommand (limits : Limits) (commands : List Command) (old new : Database) (n : ℕ) : Type 0 where
   pub front : List Command
   pub command : Command
   pub rest : List Command
   pub split : commands ≡ front ++ command ∷ rest
   pub database : new ≡ after_all old front
   pub accepted : is_refused ((step (after_all old front) command).1) ≡ false
-  pub lacks : Lacks command n
+  pub lacks : limits.Lacks command n
+
+-- those in front were carried out, and the next broke off
+pub record BreaksAtCommand (limits : Limits) (commands : List Command) (old : Database) : Type 0 where
+  pub front : List Command
+  pub command : Command
+  pub rest : List Command
+  pub split : commands ≡ front ++ command ∷ rest
+  pub breaks : limits.Breaks (after_all old front) command
 
 -- and the replies to those in front were counted
-pub record CountedUntil (Lacks : Command → ℕ → Type 0) (commands : List Command) (old new : Database) (t : Tally) (n : ℕ) : Type 0 where
-  pub stops : StopsAtCommand Lacks commands old new n
+pub record CountedUntil (limits : Limits) (commands : List Command) (old new : Database) (t : Tally) (n : ℕ) : Type 0 where
+  pub stops : StopsAtCommand limits commands old new n
   pub tally_is : t ≡ tally nothing (replies old stops.front)
 
 -- P of the pages, where there was no space

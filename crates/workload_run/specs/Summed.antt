@@ -1,6 +1,7 @@
 -- What a run makes of given commands, behind which it writes one line.
 use Rattle.std.specs.Prelude.{◌≡◌, ◌⊎◌, ℕ, List, ◌++◌, Option}
 use Rattle.std.specs.Io.KnownBytes.{append_known}
+use Rattle.answering.specs.Carried.{Limits}
 use Rattle.db_model.specs.declared.commands.Command.{Command}
 use Rattle.db_model.specs.declared.refusals.Refusal.TheVariants as no
 use Rattle.db_model.specs.Database.{Database}
@@ -10,7 +11,7 @@ use Rattle.db_model.specs.Workload.{nothing, tally, tally_text}
 use Rattle.intake.specs.declared.ending.Ending.{Ending}
 use Rattle.intake.specs.declared.ending.Ending.TheVariants.{Space, Flash, Sink}
 use Rattle.reply_text.specs.WroteLess.{WroteLess}
-use Rattle.workload_run.specs.Counted.{StopsAtCommand}
+use Rattle.workload_run.specs.Counted.{BreaksAtCommand, StopsAtCommand}
 
 -- the line over commands
 abbrev pub summed : Database → List Command → List ℕ
@@ -30,21 +31,21 @@ pub record LeftLineUnsaid (commands : List Command) (old new : Database) (before
   pub database : new ≡ after_all old commands
   pub held : WroteLess before now (summed old commands)
 
-module _ (Lacks : Command → ℕ → Type 0) where
+module _ (limits : Limits) where
   -- they stopped where there was no space, and that was written
   pub record SaidNoRoom (commands : List Command) (old new : Database) (before now : Option (List ℕ)) : Type 0 where
     pub n : ℕ
-    pub stops : StopsAtCommand Lacks commands old new n
+    pub stops : StopsAtCommand limits commands old new n
     pub held : now ≡ append_known before (summed_until old stops.front n)
 
   -- or less than that
   pub record LeftSpaceUnsaid (commands : List Command) (old new : Database) (before now : Option (List ℕ)) : Type 0 where
     pub n : ℕ
-    pub stops : StopsAtCommand Lacks commands old new n
+    pub stops : StopsAtCommand limits commands old new n
     pub held : WroteLess before now (summed_until old stops.front n)
 
   -- why no more of them was carried out
   abbrev pub StopsCommands : List Command → Database → Database → Option (List ℕ) → Option (List ℕ) → Ending → Type 0
   StopsCommands commands old new before now Space = SaidNoRoom commands old new before now
   StopsCommands commands old new before now Sink = LeftLineUnsaid commands old new before now ⊎ LeftSpaceUnsaid commands old new before now
-  StopsCommands commands old new before now Flash = now ≡ before
+  StopsCommands commands old new before now Flash = (now ≡ before) × BreaksAtCommand limits commands old

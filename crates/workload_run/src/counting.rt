@@ -4,10 +4,10 @@
 
 ghost use Rattle.std.specs.Prelude.{◌≡◌, ◌≤◌, false, true, IsErrOf, IsTrue, OnOk, length};
 ghost use Rattle.afl_base.specs.Causes.{Rose};
-ghost use Rattle.antelope_engine.specs.Commands.{LacksPages};
+ghost use Rattle.answering.specs.Carried.{limits_of};
 ghost use Rattle.db_model.specs.Workload.{first_commands, nothing};
 ghost use Rattle.workload_run.specs.declared.counting.Failure.TheVariants.{Flash};
-ghost use Rattle.workload_run.specs.Counted.{Counted, CountedUntil, OnSpaceFailure};
+ghost use Rattle.workload_run.specs.Counted.{BreaksAtCommand, Counted, CountedUntil, OnSpaceFailure};
 
 use crate::discard::Discard;
 use crate::tally::Tally;
@@ -37,8 +37,10 @@ pub fn carry_out<V: Files>(
     ensures done { IsTrue (V.state session.old.files).tells → OnOk result
         (Counted (first_commands seed count) session.old.database session.new.database tally.new) }
     ensures space { IsTrue (V.state session.old.files).tells → OnSpaceFailure result (λ need.
-        CountedUntil (LacksPages V.state V.asks V.lacks session.new) (first_commands seed count)
+        CountedUntil (limits_of V.Files session.new) (first_commands seed count)
         session.old.database session.new.database tally.new need) }
+    ensures broken { IsTrue (V.state session.old.files).tells → IsErrOf result Flash → BreaksAtCommand
+        (limits_of V.Files session.new) (first_commands seed count) session.old.database }
     ensures running { OnOk result (session.new.stopped ≡ false) }
     ensures lost { session.old.lost ≡ false → session.new.lost ≡ true → IsErrOf result Flash }
     ensures tells { session.new.lost ≡ false

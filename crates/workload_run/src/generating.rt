@@ -3,8 +3,7 @@
 #![tactic(auto)]
 
 ghost use Rattle.std.specs.Prelude.{◌≡◌, ◌≤◌, false, true, IfErr, IsErrOf, IsTrue, OnOk};
-ghost use Rattle.answering.specs.Carried.{ChangesOrHalts};
-ghost use Rattle.antelope_engine.specs.Commands.{LacksPages};
+ghost use Rattle.answering.specs.Carried.{ChangesOrHalts, limits_of};
 ghost use Rattle.db_model.specs.Workload.{first_commands};
 ghost use Rattle.intake.specs.declared.ending.Ending.TheVariants as Ending;
 ghost use Rattle.workload_run.specs.Summed.{StopsCommands, SummedUp};
@@ -36,7 +35,7 @@ pub fn generate<V: Files, K: Sink>(
         (SummedUp (first_commands seed count) session.old.database session.new.database
         (K.held out.old) (K.held out.new)) }
     ensures halts { IsTrue (V.state session.old.files).tells → IfErr result (λ halt.
-        StopsCommands (LacksPages V.state V.asks V.lacks session.new) (first_commands seed count)
+        StopsCommands (limits_of V.Files session.new) (first_commands seed count)
         session.old.database session.new.database (K.held out.old) (K.held out.new) halt) }
     ensures silent { IsErrOf result Ending.Flash → K.held out.new ≡ K.held out.old }
     ensures running { OnOk result (session.new.stopped ≡ false) }

@@ -1,9 +1,13 @@
 use Rattle.std.proofs.Common.{◌≡◌, ◌≤◌, Bool, ap, length, refl, sym, subst, IsTrue, rules}
 use Rattle.afl_base.specs.Files.{State}
+use Rattle.db_model.specs.declared.commands.Command.{Command}
+use Rattle.db_model.specs.declared.commands.Command.TheVariants as command
+use Rattle.db_model.specs.Step.{Reads}
 use Rattle.session_model.specs.declared.step.Outcome.{Outcome}
 use Rattle.session_model.specs.declared.step.Step.{Step}
 use Rattle.session_model.specs.Carried.{database}
 use Rattle.session_model.specs.Wanted.{WantsOver}
+use Rattle.session_model.proofs.ReadAs.{same_between}
 use Rattle.space_model.specs.Enough.{most}
 use Rattle.antelope_engine.proofs.Asked.{at_sink, replied_flash, replied_sink, unless_any, unless_err}
 use Rattle.antelope_engine.proofs.Causes.{cause_done, cause_failed, cause_replied, cause_stopped, cause_unreplied}
@@ -11,7 +15,23 @@ use Rattle.antelope_engine.proofs.Replies.{part_same}
 use Rattle.antelope_engine.proofs.Spaces.{err_moved, space_before, space_map, space_told}
 use Rattle.antelope_engine.proofs.Store.{few_at_most, few_wanted}
 use Rattle.antelope_engine.proofs.Untouched.{untouched_always, untouched_done}
+use Rattle.antelope_engine.specs.Writes.{WritesRows}
 use Rattle.antelope_engine.proofs.executing.carry_out.Goals as goal
+
+rows_read : (c : Command) → WritesRows c → Reads c
+rows_read (command.Ask _) w = tt
+rows_read (command.Aggregate _ _ _) w = tt
+rows_read (command.FetchCursor _) w = tt
+rows_read (command.CreateRelation _) w = absurd w
+rows_read (command.CreateAttribute _ _ _) w = absurd w
+rows_read (command.CreateIndex _ _ _) w = absurd w
+rows_read (command.Insert _ _) w = absurd w
+rows_read (command.RemoveFrom _ _) w = absurd w
+rows_read (command.RemoveRelation _) w = absurd w
+rows_read (command.RemoveIndex _ _) w = absurd w
+rows_read (command.Pack _) w = absurd w
+rows_read (command.OpenCursor _ _) w = absurd w
+rows_read (command.CloseCursor _) w = absurd w
 
 pub returns-in-Ok : goal.returns-in-Ok
 returns-in-Ok g c =
@@ -50,7 +70,11 @@ returns-in-Err g c =
         sink = λ told is.
             let sink = err_moved Step Outcome stop _ is in
             (at_sink _ stop _ sink (e.seen told), replied_sink _ stop _ _ sink (e.reply told));
-        flash = λ told is. replied_flash _ stop _ _ (err_moved Step Outcome stop _ is) (e.reply told);
+        flash = λ told is. record {
+          part = replied_flash _ stop _ _ (err_moved Step Outcome stop _ is) (e.reply told);
+          mends = λ cuts. same_between g.V.Files c.args.command.now c.args.base.now c.write.new.base.files c.requires.running cuts told e.frame.same;
+          unsaid = λ changes. absurd (changes (rows_read c.args.command.now c.if-writes_rows.ensures));
+        };
         silent = search rules;
         wants = search rules;
         fewest = search rules;
@@ -147,7 +171,7 @@ returns-in-Err-answer g c =
       executed = record {
         done = search rules;
         sink = search rules;
-        flash = λ told is. part_same _ _ _ refl;
+        flash = λ told is. record { part = part_same _ _ _ refl; mends = λ cuts. e.cut cuts told; unsaid = λ changes. refl };
         silent = search rules;
         wants = search rules;
         fewest = search rules;

@@ -6,11 +6,13 @@ use Rattle.stored.specs.Base.{base_of}
 use Rattle.stored.specs.Sound.{BreaksFirst, IsSoundTable}
 use Rattle.sound_image.specs.Images.{base, IsSound}
 use Rattle.antelope_run.proofs.Behind.{reaches_on, rose_by, rose_when}
-use Rattle.antelope_run.proofs.Leaving.{leaves, look_tells, tells_alone}
+use Rattle.db_model.specs.Between.{IsBetween}
+use Rattle.sound_image.specs.Mending.{ImageMendsTo}
+use Rattle.antelope_run.proofs.Leaving.{breaks, breaks_by, broken_opened, leaves, look_tells, tells_alone}
 use Rattle.run_model.specs.Runs.{world}
 use Rattle.antelope_run.proofs.Opened.{mounted_within, opened_within}
 use Rattle.antelope_run.proofs.ReadsLeft.{not_true, reads_behind, unopened_reads}
-use Rattle.antelope_run.proofs.Refusals.{none_opened, on_unopened, refused_cause, refused_comes}
+use Rattle.antelope_run.proofs.Refusals.{none_opened, nothing_broken, on_unopened, refused_cause, refused_comes}
 use Rattle.antelope_run.specs.Comes.{ComesTo}
 use Rattle.antelope_run.specs.Does.{OnlyTells}
 use Rattle.antelope_run.specs.Follows.{WritesBehind}
@@ -51,6 +53,36 @@ returns-in-Ok-Ok-clause-comes g c = λ told.
           subst (λ (i : List ℕ). WritesBehind (flash_line i) c.carry_out-done.result c.tell_flash-told.result (g.K.Sink.held c.carry_out-done.new.out) held) same
           (follows.wrote (c.is_look-looks.ensures ∙ looks) told (ap broken_image same ∙ sound.volume))),
     )
+
+pub returns-in-Ok-Ok-clause-broken : goal.returns-in-Ok-Ok-clause-broken
+unfolding base
+returns-in-Ok-Ok-clause-broken g c = λ told cuts.
+    let image = g.F.Flash.image c.args.flash in
+    let at = c.new-session.ensures.files in
+    let began = c.in-Ok-Ok.ensures in
+    let tells = (rw (← at) at c.in-Ok.ensures.tells) ∙ told in
+    let files = rw (← at) at (ap (λ s. s.files) (c.in-Ok.ensures.files told) ∙ c.mounted_files_are_the_images.ensures image) in
+    let store = rw (← at) at c.in-Ok.ensures.same in
+    let sound : IsSound image = record { volume = c.in-Ok.ensures.sound told; database = subst IsSoundTable files (rw c.in-Ok-Ok.field-0-is at (began.sound tells)) } in
+    let start : c.begin.new.self.database ≡ base image = (rw c.in-Ok-Ok.field-0-is at (began.base tells)) ∙ ap base_of files in
+    let kept = (rw c.in-Ok-Ok.field-0-is at began.running).1 in
+    let told_now = ap (λ s. s.tells) began.frame.same ∙ tells in
+    let closed = c.close-flash.ensures.image in
+    let stays : OnlyTells c.args.form → g.F.Flash.image c.close-flash.result ≡ image = λ only. closed ∙ c.carry_out-done.ensures.same only ∙ ap (λ s. s.store) began.frame.same ∙ store in
+    let unread : OnlyTells c.args.form → g.S.Source.left c.carry_out-done.new.input ≡ g.S.Source.left c.args.input.now = λ only. ap g.S.Source.left (c.carry_out-done.ensures.unread (tells_alone c.args.form only)) in
+    let follows = c.tell_flash-told.ensures in
+    let left = g.S.Source.left c.carry_out-done.new.input in
+    let was = world image (g.S.Source.left c.args.input.now) (g.K.Sink.held c.args.out.now) in
+    let mid = world (g.F.Flash.image c.close-flash.result) left (g.K.Sink.held c.carry_out-done.new.out) in
+    let new = world (g.F.Flash.image c.tell_flash-told.new.flash) left (g.K.Sink.held c.tell_flash-told.new.out) in
+    broken_opened c.args.form was new c.tell_flash-told.result sound
+    (breaks_by c.args.form was mid new c.carry_out-done.result c.tell_flash-told.result
+    (λ failed. breaks _ _ image (g.F.Flash.image c.close-flash.result) (g.S.Source.left c.args.input.now) left _ start told_now
+    (λ db command b. subst (λ (i : List ℕ). ImageMendsTo i (IsBetween db command)) (sym closed) (b cuts))
+    c.sectors-sectors.result c.args.form stays unread (rw failed at (c.carry_out-done.ensures.does told_now kept)))
+    (λ only. record { same = follows.frame.same ∙ stays only; unread = unread only })
+    (λ other. let same = follows.others (c.is_look-looks.ensures ∙ other) in
+    (same.0, λ i. world (g.F.Flash.image (same.1 i)) left (g.K.Sink.held (same.2 i)))))
 
 pub returns-in-Ok-Ok-clause-reaches : goal.returns-in-Ok-Ok-clause-reaches
 returns-in-Ok-Ok-clause-reaches g c =
@@ -117,6 +149,9 @@ returns-in-Err-Bad-clause-comes g c = λ told.
     (world _ (g.S.Source.left c.args.input.now) (g.K.Sink.held c.refuse.new.out))
     c.in-Err-Bad.bad.rule c.in-Err-Bad.bad.place e.only (inl (rw c.in-Err-Bad.field-0-is at (c.in-Err-Bad.ensures.bad told))) (search rules) refl (rw c.in-Err-Bad.field-0-is at e.written) (rw c.in-Err-Bad.field-0-is at e.unsaid)
 
+pub returns-in-Err-Bad-clause-broken : goal.returns-in-Err-Bad-clause-broken
+returns-in-Err-Bad-clause-broken g c = λ told cuts. nothing_broken c.refuse.result c.args.form _ _ c.refuse.ensures.only
+
 pub returns-in-Err-Bad-clause-reaches : goal.returns-in-Err-Bad-clause-reaches
 returns-in-Err-Bad-clause-reaches g c = none_opened c.refuse.result _ c.refuse.ensures.only
 
@@ -161,6 +196,9 @@ returns-in-Ok-Err-clause-comes g c = λ told.
     (world (g.F.Flash.image c.close.result) (g.S.Source.left c.args.input.now) (g.K.Sink.held c.refuse-in-Ok-Err.new.out))
     rule place e.only (inr (c.in-Ok.ensures.sound told, bad)) (c.close.ensures.image ∙ ap (λ s. s.store) began.frame.same ∙ store) refl e.written e.unsaid
 
+pub returns-in-Ok-Err-clause-broken : goal.returns-in-Ok-Err-clause-broken
+returns-in-Ok-Err-clause-broken g c = λ told cuts. nothing_broken c.refuse-in-Ok-Err.result c.args.form _ _ c.refuse-in-Ok-Err.ensures.only
+
 pub returns-in-Ok-Err-clause-reaches : goal.returns-in-Ok-Err-clause-reaches
 returns-in-Ok-Err-clause-reaches g c = none_opened c.refuse-in-Ok-Err.result _ c.refuse-in-Ok-Err.ensures.only
 
@@ -175,10 +213,18 @@ returns-in-Ok-Err-clause-cause g c = refused_cause c.refuse-in-Ok-Err.result _ _
 pub returns-in-Err-Failed-clause-comes : goal.returns-in-Err-Failed-clause-comes
 returns-in-Err-Failed-clause-comes g c = λ told. (record { same = search rules; unread = refl }, refl)
 
+pub returns-in-Err-Failed-clause-broken : goal.returns-in-Err-Failed-clause-broken
+returns-in-Err-Failed-clause-broken g c = λ told cuts. record { same = search rules; unread = refl }
+
 pub returns-in-Err-clause-comes : goal.returns-in-Err-clause-comes
 returns-in-Err-clause-comes g c = λ told.
     let same = c.close-in-Err.ensures.image ∙ ap (λ s. s.store) c.in-Err.ensures.frame.same ∙ rw (← c.new-session.ensures.files) at c.in-Ok.ensures.same in
     (record { same = same; unread = refl }, refl)
+
+pub returns-in-Err-clause-broken : goal.returns-in-Err-clause-broken
+returns-in-Err-clause-broken g c = λ told cuts.
+    let same = c.close-in-Err.ensures.image ∙ ap (λ s. s.store) c.in-Err.ensures.frame.same ∙ rw (← c.new-session.ensures.files) at c.in-Ok.ensures.same in
+    record { same = same; unread = refl }
 
 pub returns-in-Err-clause-reads : goal.returns-in-Err-clause-reads
 returns-in-Err-clause-reads g c = λ told.

@@ -1,6 +1,5 @@
 use Rattle.std.proofs.Common.{ap}
-use Rattle.answering.specs.Carried.{standing_of}
-use Rattle.antelope_engine.specs.Commands.{LacksPages}
+use Rattle.answering.specs.Carried.{limits_of, standing_of}
 use Rattle.run_model.proofs.Parts.{script_parts}
 use Rattle.run_model.specs.Scripts.{script_cut, script_line, script_talk}
 use Rattle.serve_model.proofs.Ending.{frame_parts}
@@ -53,7 +52,7 @@ returns-in-Run-clause-reads g c = λ told. rw c.in-Run.is (λ read reader.
     (standing_of g.V.Files.state g.V.Files.reads c.args.session.now (g.K.Sink.held c.args.out.now))
     (standing_of g.V.Files.state g.V.Files.reads c.run_script.new.session (g.K.Sink.held c.run_script.new.out))
     (g.S.Source.left c.args.input.now) (g.S.Source.left c.run_script.new.script)
-    (LacksPages g.V.Files.state g.V.Files.asks g.V.Files.lacks c.run_script.new.session) c.run_script.result (c.run_script.ensures.went told read reader))
+    (limits_of g.V.Files c.run_script.new.session) c.run_script.result (c.run_script.ensures.went told read reader))
 
 pub returns-in-Serve-clause-reads : goal.returns-in-Serve-clause-reads
 returns-in-Serve-clause-reads g c = λ told. rw c.in-Serve.is (λ read reader.
@@ -61,7 +60,7 @@ returns-in-Serve-clause-reads g c = λ told. rw c.in-Serve.is (λ read reader.
     (standing_of g.V.Files.state g.V.Files.reads c.args.session.now (g.K.Sink.held c.args.out.now))
     (standing_of g.V.Files.state g.V.Files.reads c.serve_line.new.session (g.K.Sink.held c.serve_line.new.out))
     (g.S.Source.left c.args.input.now) (g.S.Source.left c.serve_line.new.line)
-    (LacksPages g.V.Files.state g.V.Files.asks g.V.Files.lacks c.serve_line.new.session) c.serve_line.result (c.serve_line.ensures.went told read reader))
+    (limits_of g.V.Files c.serve_line.new.session) c.serve_line.result (c.serve_line.ensures.went told read reader))
 
 pub returns-in-Run-clause-reaches : goal.returns-in-Run-clause-reaches
 returns-in-Run-clause-reaches g c =

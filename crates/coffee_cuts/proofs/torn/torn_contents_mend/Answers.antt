@@ -1,4 +1,4 @@
-use Rattle.coffee_cuts.proofs.TornRecords.{appended_mends, overwritten_mends}
+use Rattle.coffee_cuts.proofs.TornContents.{appended_mends, overwritten_mends}
 use Rattle.coffee_cuts.proofs.torn.torn_contents_mend.Goals as goal
 
 pub returns : goal.returns

@@ -60,9 +60,10 @@ returns-in_err-put_part-clause-cut g c = λ t u. on_err c.from_residual-in_err-p
     subst (λ i. FileBecomes (g.F.Flash.image c.args.flash.now) i c.args.page.0 c.args.pages (Some c.args.log) c.args.used c.args.at c.args.at []) (sym same) (becomes_nothing (g.F.Flash.image c.args.flash.now) c.args.page.0 c.args.pages (Some c.args.log) c.args.used c.args.at c.args.at is) in
     let front : length (take c.min-n.result c.args.bytes.now) ≡ c.min-n.result = omega (arith, length-take c.min-n.result c.args.bytes.now) in
     let begins : 128 * (c.args.at / 128) < c.args.at = logged_below (g.F.Flash.image c.is_logged.new.flash) c.args.page.0 c.args.pages c.args.log c.args.used c.args.at (c.args.at / 128) was (subst (λ i. one_if (last_in (table_of i c.args.log.0) (c.args.at / 128) 30) ≡ 1) (sym same) (c.in_ok-is_logged.ensures.logged t c.if-not-branch.false)) in
-    let cut = c.in_err-put_part.ensures.cut t u c.args.at was (omega arith) begins (omega arith) in
+    let front_cut = c.in_err-put_part.ensures.cut t u c.args.at was (omega arith) begins (omega arith) in
+    let cut = front_cut.cut in
     cut_later (g.F.Flash.image c.args.flash.now) (g.F.Flash.image c.is_logged.new.flash) (g.F.Flash.image c.put_part.new.flash) c.args.bytes.now _ c.args.page.0 c.args.pages (Some c.args.log) c.args.used c.args.at c.args.at c.args.at c.args.at 0 c.min-n.result
-    nothing cut cut.below (omega arith) (omega arith) refl (omega arith) (omega arith) (omega arith))
+    nothing cut cut.below (omega arith) (omega arith) refl (omega arith) (omega arith) (omega arith) (ap length same))
 
 pub returns-in_err-append_plain-2-clause-cut : goal.returns-in_err-append_plain-2-clause-cut
 returns-in_err-append_plain-2-clause-cut g c = λ t u. on_err c.from_residual-in_err-append_plain-2.result (λ is.
@@ -92,4 +93,4 @@ returns-in_err-append_plain-2-clause-cut g c = λ t u. on_err c.from_residual-in
     (λ k from to. table_untorn cut.put (g.F.Flash.image c.append_plain-2.new.flash) c.args.log cut.records cut.torn k from to
     ∙ range_apart (g.F.Flash.image c.put_part.new.flash) (g.F.Flash.image c.append_plain-2.new.flash) c.args.page.0 c.args.pages (c.args.at + c.min-n.result) _ c.args.log.0 (is.apart c.args.log refl) (omega arith) (c.in_err-append_plain-2.ensures.stays t u) k from (omega (arith, to)))
     (put.kept.logged c.args.log refl) (cut.becomes.kept.logged c.args.log refl) adds))
-    (omega arith) refl refl (omega arith) (omega arith) (omega arith))
+    (omega arith) refl refl (omega arith) (omega arith) (omega arith) (c.in_ok-put_part.ensures.frame.size ∙ size0))

@@ -1,7 +1,7 @@
 use Rattle.std.proofs.Common.{rules, arith, ◌≡◌, ◌+◌, ◌-◌, ◌*◌, ◌/◌, ◌∙◌, Some, refl}
 use Rattle.padded.proofs.Facts.{on_err}
 use Rattle.afl_base.specs.Regions.{regions}
-use Rattle.coffee_log.proofs.FileCutLaws.{cut_later}
+use Rattle.coffee_log.proofs.FileCutLaws.{overwrite_later}
 use Rattle.coffee_log.proofs.AddedRecords.{adds_more, next_region}
 use Rattle.coffee_log.proofs.FileSteps.{becomes_more, regions_more}
 use Rattle.coffee_log.proofs.contents.overwrite_file.Goals as goal
@@ -33,6 +33,6 @@ loop-done-preserved g c =
 pub returns-in_err-put_part-clause-cut : goal.returns-in_err-put_part-clause-cut
 returns-in_err-put_part-clause-cut g c = λ t u. on_err c.from_residual.result (λ size is ends fits.
     let b = c.loop-done.invariant.becomes t size is ends fits in
-    let cut = c.in_err-put_part.ensures.cut t u size b.kept (omega arith) (omega arith) fits in
-    cut_later (g.F.Flash.image c.args.flash.now) (g.F.Flash.image c.loop-done.flash) (g.F.Flash.image c.put_part.new.flash) c.args.bytes.now _ c.args.page.0 c.args.pages (Some c.args.log) c.loop-done.records size size c.args.at _ c.loop-done.done _
-    b cut cut.below (omega arith) refl refl (omega arith) (omega arith) (omega arith))
+    let part = c.in_err-put_part.ensures.cut t u size b.kept (omega arith) (omega arith) fits in
+    overwrite_later (g.F.Flash.image c.args.flash.now) (g.F.Flash.image c.loop-done.flash) (g.F.Flash.image c.put_part.new.flash) c.args.bytes.now _ c.args.page.0 c.args.pages (Some c.args.log) c.loop-done.records size c.args.at _ c.loop-done.done _
+    b part ends refl refl (omega arith) (omega arith) (λ some. c.loop-done.invariant.turn some (omega arith)) fits c.loop-done.invariant.size)

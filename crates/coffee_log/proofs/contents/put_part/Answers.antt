@@ -3,7 +3,7 @@ use Rattle.std.proofs.lemmas.List.{get_or-replicate, take_all}
 use Rattle.afl_base.specs.declared.ids.PageId.{PageId}
 use Rattle.padded.proofs.Facts.{on_err, some_same}
 use Rattle.coffee_log.proofs.AddedRecords.{part_adds}
-use Rattle.coffee_log.proofs.FileCutLaws.{cut_before, cut_behind, cut_same, puts_below}
+use Rattle.coffee_log.proofs.FileCutLaws.{overwrite_before, overwrite_behind, overwrite_same, puts_below}
 use Rattle.coffee_log.specs.Logs.{IsLog}
 use Rattle.coffee_log.specs.FileChanges.{BeginsBelow, FileBecomes}
 use Rattle.coffee_log.proofs.ContentLaws.{put_here, put_outside}
@@ -25,7 +25,7 @@ returns-clause-adds g c = λ t was.
 
 pub returns-in_err-load_front-clause-cut : goal.returns-in_err-load_front-clause-cut
 returns-in_err-load_front-clause-cut g c = λ t u. on_err c.from_residual.result (λ size is low begins fits.
-    cut_same (g.F.Flash.image c.args.flash.now) (g.F.Flash.image c.load_front.new.flash) c.args.bytes.now c.args.page.0 c.args.pages (Some c.args.log) c.args.used size c.args.at is low c.load_front.ensures.frame.same)
+    overwrite_same (g.F.Flash.image c.args.flash.now) (g.F.Flash.image c.load_front.new.flash) c.args.bytes.now c.args.page.0 c.args.pages (Some c.args.log) c.args.used size c.args.at is low c.load_front.ensures.frame.same)
 
 pub returns-in_err-log_put-clause-cut : goal.returns-in_err-log_put-clause-cut
 returns-in_err-log_put-clause-cut g c = λ t u. on_err c.from_residual-in_err-log_put.result (λ size is low begins fits.
@@ -33,16 +33,16 @@ returns-in_err-log_put-clause-cut g c = λ t u. on_err c.from_residual-in_err-lo
     let was : IsLog (g.F.Flash.image c.load_front.new.flash) c.args.log.0 c.args.used = subst (λ i. IsLog i c.args.log.0 c.args.used) (sym same) (is.logged c.args.log refl) in
     let all : take (length c.args.bytes.now) c.args.bytes.now ≡ c.args.bytes.now = take_all (length c.args.bytes.now) c.args.bytes.now (omega arith) in
     ⊎_elim
-    (λ torn. cut_before (g.F.Flash.image c.args.flash.now) (g.F.Flash.image c.log_put.new.flash) c.args.bytes.now c.args.page.0 c.args.pages (Some c.args.log) c.args.used size c.args.at is low
+    (λ torn. overwrite_before (g.F.Flash.image c.args.flash.now) (g.F.Flash.image c.log_put.new.flash) c.args.bytes.now c.args.page.0 c.args.pages (Some c.args.log) c.args.used size c.args.at is low
     (λ k out. torn k out ∙ ap (λ i. get_or i k 0) same))
-    (λ puts. cut_behind (g.F.Flash.image c.args.flash.now) (g.F.Flash.image c.log_put.new.flash) c.args.bytes.now c.args.page.0 c.args.pages (Some c.args.log) (c.args.used + 1) size c.args.at (length c.args.bytes.now)
+    (λ puts. overwrite_behind (g.F.Flash.image c.args.flash.now) (g.F.Flash.image c.log_put.new.flash) c.args.bytes.now c.args.page.0 c.args.pages (Some c.args.log) (c.args.used + 1) size c.args.at
     (subst (λ xs. FileBecomes (g.F.Flash.image c.args.flash.now) (g.F.Flash.image c.log_put.new.flash) c.args.page.0 c.args.pages (Some c.args.log) (c.args.used + 1) (max size (c.args.at + length c.args.bytes.now)) c.args.at xs) (sym all)
     (part_becomes (g.F.Flash.image c.args.flash.now) (g.F.Flash.image c.load_front.new.flash) (g.F.Flash.image c.log_put.new.flash) c.put_bytes.new.bytes c.args.bytes.now c.args.page.0 c.args.pages c.args.log c.args.used size (max size (c.args.at + length c.args.bytes.now)) c.args.at _ is
     same (omega arith) (λ was. puts) (omega arith) (omega arith) (omega arith) (omega arith) (omega arith)
     (λ k low within out. put_outside c.load_front.new.buffer c.put_bytes.new.bytes c.args.bytes.now _ k c.put_bytes.ensures (omega arith) (λ a b. out (omega arith) (omega arith)) ∙ c.in_ok-load_front.ensures.bytes t k (omega arith))
     (λ k low. put_here c.load_front.new.buffer c.put_bytes.new.bytes c.args.bytes.now _ k c.put_bytes.ensures (omega arith) low)))
-    (omega arith)
     (λ l named. subst (λ (m : PageId). BeginsBelow (g.F.Flash.image c.log_put.new.flash) m.0 (c.args.used + 1) size) (some_same c.args.log l named)
     (puts_below (g.F.Flash.image c.load_front.new.flash) (g.F.Flash.image c.log_put.new.flash) c.args.log.0 c.args.used _ size c.put_bytes.new.bytes puts (omega arith)
-    (subst (λ i. BeginsBelow i c.args.log.0 c.args.used size) (sym same) (is.below c.args.log refl)) (omega arith))))
+    (subst (λ i. BeginsBelow i c.args.log.0 c.args.used size) (sym same) (is.below c.args.log refl)) (omega arith)))
+    (c.log_put.ensures.frame.size ∙ ap length same))
     (c.in_err-log_put.ensures.cut t u was))

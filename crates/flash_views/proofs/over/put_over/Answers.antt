@@ -1,5 +1,5 @@
 use Rattle.std.proofs.Common.{arith}
-use Rattle.flash_views.specs.Views.{emptied, marked}
+use Rattle.flash_views.specs.Views.{emptied, with_mark}
 use Rattle.flash_views.proofs.Overlays.{length_marks, length_written}
 use Rattle.flash_views.proofs.over.put_over.Goals as goal
 
@@ -7,7 +7,7 @@ pub returns : goal.returns
 returns c = record {
   over = λ image i s.
       let o = c.args.overlay.now in
-      c.put_blank.ensures.over (emptied (marked (marked image o.first) o.second) o.sector) (λ p e. let l = i.blank p e in omega (arith, l, length_written image o i))
-      (c.put_sector.ensures.over (marked (marked image o.first) o.second) (λ x e. let l = i.sector x e in omega (arith, l, length_marks image o))
-      (c.put_mark-2.ensures.over (marked image o.first) (c.put_mark.ensures.over image s)));
+      c.put_blank.ensures.over (emptied (with_mark (with_mark image o.first) o.second) o.sector) (λ p e. let l = i.blank p e in omega (arith, l, length_written image o i))
+      (c.put_sector.ensures.over (with_mark (with_mark image o.first) o.second) (λ x e. let l = i.sector x e in omega (arith, l, length_marks image o))
+      (c.put_mark-2.ensures.over (with_mark image o.first) (c.put_mark.ensures.over image s)));
 }

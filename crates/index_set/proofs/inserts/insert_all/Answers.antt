@@ -3,7 +3,9 @@ use Rattle.std.specs.Prelude.{FitsSigned, slice_get}
 use Rattle.std.specs.Int.{w32}
 use Rattle.std.proofs.lemmas.Int.{to_z-of_z}
 use Rattle.index_set.specs.Inserts.{HasKeyFor, KeepsBuckets}
-use Rattle.index_set.proofs.Lists.{here_of}
+use Rattle.afl_base.proofs.CutLaws.{mends_as}
+use Rattle.padded.proofs.Facts.{on_err}
+use Rattle.index_set.proofs.Lists.{here_of, spares_all}
 use Rattle.index_set.proofs.Inserted.{all_whole, complete_all, complete_next, enough_rooms, held_next, keeps_next, ready_next, room_next, spares_next, tables_next}
 use Rattle.index_set.proofs.inserts.insert_all.Goals as goal
 
@@ -70,6 +72,17 @@ loop-nth-preserved g c =
       faults = search rules;
       reads = search rules;
     }
+
+pub returns-in_err-insert_one-clause-cut : goal.returns-in_err-insert_one-clause-cut
+returns-in_err-insert_one-clause-cut g c = λ cuts told.
+    let xs = c.args.indexes.now in
+    let y = c.get-info.result.now in
+    let n = c.loop-nth.nth in
+    let inv = c.loop-nth.invariant in
+    let below : n < length xs = search rules in
+    let e : y ≡ get_or xs n y = c.get-info.ensures in
+    on_err c.from_residual.result (mends_as (c.in_err-insert_one.ensures.cut cuts (inv.spares.tells ∙ told))
+    (λ after spared. spares_all xs n y below e _ _ after inv.spares spared))
 
 pub returns-clause-complete : goal.returns-clause-complete
 returns-clause-complete g c = λ told rows row count is all exact may.

@@ -3,10 +3,11 @@ use Rattle.std.specs.Prelude.{FitsSigned, slice_get}
 use Rattle.std.specs.Int.{w32}
 use Rattle.std.proofs.lemmas.Int.{to_z-of_z}
 use Rattle.afl_base.specs.Asked.{asks_few}
+use Rattle.afl_base.proofs.CutLaws.{mends_as}
 use Rattle.db_model.specs.Step.{key_of}
 use Rattle.index_maxheap.specs.declared.rooms.Room.{Room}
 use Rattle.index_set.specs.Inserts.{AsksFor, HasKeyFor, SomeOf}
-use Rattle.index_set.proofs.Lists.{asks_key, count_more, exact_next, here_of, key_for, on_space, prepares_all, prepares_more, room_for, rooms_next, some_of, unless_failed}
+use Rattle.index_set.proofs.Lists.{asks_key, count_more, exact_next, here_of, key_for, on_space, prepares_all, prepares_more, room_for, rooms_next, same_failure, some_of, unless_failed}
 use Rattle.index_set.proofs.inserts.prepare_all.Goals as goal
 
 pub returns-in-Err-clause-contents : goal.returns-in-Err-clause-contents
@@ -17,6 +18,17 @@ returns-in-Err-clause-contents g c =
     let below : n < length xs = search rules in
     let e : y ≡ get_or xs n y = c.get-info.ensures in
     unless_failed Room (List Room) c.in-Err.error (prepares_all xs n y below e _ _ _ c.loop-nth.invariant.prepares) c.in-Err.ensures.contents
+
+pub returns-in-Err-clause-cut : goal.returns-in-Err-clause-cut
+returns-in-Err-clause-cut g c = λ cuts told failed.
+    let xs = c.args.indexes.now in
+    let y = c.get-info.result.now in
+    let n = c.loop-nth.nth in
+    let inv = c.loop-nth.invariant in
+    let below : n < length xs = search rules in
+    let e : y ≡ get_or xs n y = c.get-info.ensures in
+    mends_as (c.in-Err.ensures.cut cuts (inv.prepares.spares.tells ∙ told) (same_failure (List Room) Room c.in-Err.error failed))
+    (λ after prepared. prepares_all xs n y below e _ _ _ inv.prepares prepared)
 
 pub returns-in-Err-clause-asked : goal.returns-in-Err-clause-asked
 returns-in-Err-clause-asked g c = λ told.

@@ -1,6 +1,6 @@
 use Rattle.std.proofs.Common.{rules, ◌∙◌, ◌++◌, get_or, take}
 use Rattle.dump.specs.Parts.{comma_and_space}
-use Rattle.look.specs.Text.{attribute_text, listed}
+use Rattle.look.specs.Text.{attribute_text, list_text}
 use Rattle.look.proofs.Lists.{less_listed, listed_more}
 use Rattle.look.proofs.lines.write_attributes.Goals as goal
 use Rattle.reply_text.proofs.Pieces.{held_more}
@@ -11,7 +11,7 @@ loop-at-preserved g c =
     let xs = c.args.attributes.now in
     let at = c.loop-at.at in
     record {
-      held = held_more (g.K.Sink.held c.args.out.now) (g.K.Sink.held c.loop-at.out) _ (listed attribute_text (take at xs)) (comma_and_space at ++ attribute_text (get_or xs at item.result)) _ c.loop-at.invariant.held
+      held = held_more (g.K.Sink.held c.args.out.now) (g.K.Sink.held c.loop-at.out) _ (list_text attribute_text (take at xs)) (comma_and_space at ++ attribute_text (get_or xs at item.result)) _ c.loop-at.invariant.held
           (rw item.is at c.in_ok-write_attribute.ensures.written) (listed_more attribute_text xs at item.result c.loop-at-test.true);
       lent = c.in_ok-write_attribute.ensures.frame.lent ∙ c.loop-at.invariant.lent;
       faults = search rules;

@@ -1,14 +1,14 @@
 use Rattle.std.proofs.Common.{◌≡◌, ◌+◌, ◌*◌, ◌≤◌, IsTrue, take}
 use Rattle.db_model.specs.Sound.{IsSoundDatabase}
 use Rattle.dump.specs.Unchanged.{IsAsBefore}
-use Rattle.look.specs.Text.{live_rows}
+use Rattle.look.specs.Text.{live_count}
 use Rattle.look.proofs.rows.count_live.Given as goal
 use Rattle.space_model.specs.Enough.{rows_in}
 
 abbrev pub invariant-loop-at : goal.invariant-loop-at
 invariant-loop-at g l = record {
   counted : IsTrue (g.V.Files.state l.fn.session.files).tells → IsSoundDatabase l.fn.session.database
-      → l.live ≡ live_rows (take l.at (rows_in l.fn.session.database l.id));
+      → l.live ≡ live_count (take l.at (rows_in l.fn.session.database l.id));
   few : l.live ≤ l.at;
   same : IsAsBefore g.V.Files.state l.fn.session l.session;
   reads : g.V.Files.reads l.session.files ≤ g.V.Files.reads l.fn.session.files + 6 * l.at;

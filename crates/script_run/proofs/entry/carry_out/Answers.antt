@@ -7,8 +7,7 @@ use Rattle.intake.specs.declared.ending.Ending.{Ending}
 use Rattle.intake.specs.declared.ending.Ending.TheVariants.{Sink}
 use Rattle.reply_text.specs.WroteLess.{WroteLess}
 use Rattle.answering.proofs.Single.{refused_carried, refused_halts}
-use Rattle.answering.specs.Carried.{HaltsIn, standing_of}
-use Rattle.antelope_engine.specs.Commands.{LacksPages}
+use Rattle.answering.specs.Carried.{HaltsIn, standing_of, limits_of}
 use Rattle.run_model.specs.Scripts.{script_talk}
 use Rattle.script_run.proofs.entry.carry_out.Goals as goal
 
@@ -44,5 +43,5 @@ returns-in_err-refuse-in-Err-clause-halts g c = λ told. rw (err_is c.from_resid
     let is = c.readings_are_unique.ensures.reading bytes (read bytes) (Err r) (reader.reads bytes) c.in-Err.ensures.reading in
     let less : WroteLess (g.K.Sink.held c.args.out.now) (g.K.Sink.held c.refuse.new.out) (refusal_text r) = search rules in
     let sink : c.in_err-refuse-in-Err.field-0.0 ≡ Sink = search rules in
-    let R : Ending → Type 0 = λ halt. HaltsIn (script_talk read) (LacksPages g.V.Files.state g.V.Files.asks g.V.Files.lacks c.args.session.now) (Bytes bytes ∷ []) a b halt in
-    subst R (sym sink) (refused_halts (script_talk read) (Bytes bytes) a b refl r is refl (LacksPages g.V.Files.state g.V.Files.asks g.V.Files.lacks c.args.session.now) (omega arith) less))
+    let R : Ending → Type 0 = λ halt. HaltsIn (script_talk read) (limits_of g.V.Files c.args.session.now) (Bytes bytes ∷ []) a b halt in
+    subst R (sym sink) (refused_halts (script_talk read) (Bytes bytes) a b refl r is refl (limits_of g.V.Files c.args.session.now) (omega arith) less))

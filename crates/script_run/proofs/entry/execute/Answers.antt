@@ -9,9 +9,8 @@ use Rattle.std.specs.Prelude.{◌≤◌, ℕ, List, Option}
 use Rattle.intake.specs.declared.ending.Ending.TheVariants.{Sink}
 use Rattle.padded.proofs.Facts.{err_is}
 use Rattle.reply_text.specs.WroteLess.{WroteLess}
-use Rattle.answering.proofs.Single.{command_found, command_halts_less, command_unsaid}
-use Rattle.answering.specs.Carried.{HaltsIn, standing_of}
-use Rattle.antelope_engine.specs.Commands.{LacksPages}
+use Rattle.answering.proofs.Single.{command_faulted, command_found, command_halts_less, command_unsaid}
+use Rattle.answering.specs.Carried.{HaltsIn, standing_of, limits_of}
 use Rattle.script_run.proofs.entry.execute.Goals as goal
 
 pub returns-in_ok-refuse-in-Ok-NoSpace-clause-halts : goal.returns-in_ok-refuse-in-Ok-NoSpace-clause-halts
@@ -24,7 +23,7 @@ returns-in_ok-refuse-in-Ok-NoSpace-clause-halts g c = λ told read bytes is.
     let a = standing_of state g.V.Files.reads c.args.session.now (g.K.Sink.held c.args.out.now) in
     let b = standing_of state g.V.Files.reads s (g.K.Sink.held c.refuse.new.out) in
     let kept : s.lost ≡ false = search (rules, e.stops.lost) in
-    command_found (script_talk read) (Bytes bytes) a b (e.goes_on kept).tells c.args.command.now is (LacksPages state g.V.Files.asks g.V.Files.lacks s) (e.reads told) n does.0 does.2
+    command_found (script_talk read) (Bytes bytes) a b (e.goes_on kept).tells c.args.command.now is (limits_of g.V.Files s) (e.reads told) n does.0 does.2
     (rw c.in-Ok-NoSpace.field-0-is at (e.space told))
     (c.in_ok-refuse-in-Ok-NoSpace.ensures.written ∙ ap (λ (h : Option (List ℕ)). append_known h (refusal_text (no.Space n))) does.1)
 
@@ -38,11 +37,11 @@ returns-in_err-refuse-in-Ok-NoSpace-clause-halts g c = λ told. rw (err_is c.fro
     let a = standing_of state g.V.Files.reads c.args.session.now (g.K.Sink.held c.args.out.now) in
     let b = standing_of state g.V.Files.reads s (g.K.Sink.held c.refuse.new.out) in
     let kept : s.lost ≡ false = search (rules, e.stops.lost) in
-    let R : Ending → Type 0 = λ halt. HaltsIn (script_talk read) (LacksPages state g.V.Files.asks g.V.Files.lacks s) (Bytes bytes ∷ []) a b halt in
+    let R : Ending → Type 0 = λ halt. HaltsIn (script_talk read) (limits_of g.V.Files s) (Bytes bytes ∷ []) a b halt in
     let less : WroteLess (g.K.Sink.held c.exec.new.out) (g.K.Sink.held c.refuse.new.out) (refusal_text (no.Space n)) = search rules in
     let sink : c.in_err-refuse-in-Ok-NoSpace.field-0.0 ≡ Sink = search rules in
     subst R (sym sink)
-    (command_unsaid (script_talk read) (Bytes bytes) a b (e.goes_on kept).tells c.args.command.now is (LacksPages state g.V.Files.asks g.V.Files.lacks s) (e.reads told) n does.0 does.2
+    (command_unsaid (script_talk read) (Bytes bytes) a b (e.goes_on kept).tells c.args.command.now is (limits_of g.V.Files s) (e.reads told) n does.0 does.2
     (rw c.in-Ok-NoSpace.field-0-is at (e.space told)) (g.K.Sink.held c.exec.new.out) does.1 less))
 
 pub returns-in-Err-Sink-clause-halts : goal.returns-in-Err-Sink-clause-halts
@@ -53,4 +52,13 @@ returns-in-Err-Sink-clause-halts g c = λ told read bytes is.
     let b = standing_of g.V.Files.state g.V.Files.reads s (g.K.Sink.held c.exec.new.out) in
     let kept : s.lost ≡ false = search (rules, e.stops.lost) in
     let less = e.sink told (search rules) in
-    command_halts_less (script_talk read) (Bytes bytes) a b (e.goes_on kept).tells c.args.command.now is (LacksPages g.V.Files.state g.V.Files.asks g.V.Files.lacks s) (e.reads told) less.1 less.0
+    command_halts_less (script_talk read) (Bytes bytes) a b (e.goes_on kept).tells c.args.command.now is (limits_of g.V.Files s) (e.reads told) less.1 less.0
+
+pub returns-in-Err-Flash-clause-halts : goal.returns-in-Err-Flash-clause-halts
+returns-in-Err-Flash-clause-halts g c = λ told read bytes is.
+    let e = c.in-Err-Flash.ensures in
+    let s = c.exec.new.self in
+    let a = standing_of g.V.Files.state g.V.Files.reads c.args.session.now (g.K.Sink.held c.args.out.now) in
+    let b = standing_of g.V.Files.state g.V.Files.reads s (g.K.Sink.held c.exec.new.out) in
+    let off = e.flash told (search rules) in
+    command_faulted (script_talk read) (Bytes bytes) a b c.args.command.now is (limits_of g.V.Files s) (e.reads told) off.part (λ changes. ap g.K.Sink.held (off.unsaid changes)) off.mends

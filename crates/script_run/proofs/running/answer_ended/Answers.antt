@@ -9,8 +9,7 @@ use Rattle.padded.proofs.Facts.{err_is}
 use Rattle.reply_text.specs.WroteLess.{WroteLess}
 use Rattle.script_run.proofs.Gathering.{said_long, said_some}
 use Rattle.answering.proofs.Single.{refused_carried, refused_halts}
-use Rattle.answering.specs.Carried.{Carried, HaltsIn, standing_of}
-use Rattle.antelope_engine.specs.Commands.{LacksPages}
+use Rattle.answering.specs.Carried.{Carried, HaltsIn, standing_of, limits_of}
 use Rattle.script_run.specs.Gathers.{GathersPiece}
 use Rattle.run_model.specs.Scripts.{script_talk}
 use Rattle.script_run.proofs.running.answer_ended.Goals as goal
@@ -31,10 +30,10 @@ returns-in_err-refuse-clause-halts g c = λ told. rw (err_is c.from_residual.res
     let b = standing_of g.V.Files.state g.V.Files.reads c.args.session.now (g.K.Sink.held c.refuse.new.out) in
     let less : WroteLess (g.K.Sink.held c.args.out.now) (g.K.Sink.held c.refuse.new.out) (refusal_text no.Long) = search rules in
     let sink : c.in_err-refuse.field-0.0 ≡ Sink = search rules in
-    let R : Ending → Type 0 = λ halt. HaltsIn (script_talk read) (LacksPages g.V.Files.state g.V.Files.asks g.V.Files.lacks c.args.session.now) (ended (past_white p)) a b halt in
-    let P : List Entry → Type 0 = λ es. HaltsIn (script_talk read) (LacksPages g.V.Files.state g.V.Files.asks g.V.Files.lacks c.args.session.now) es a b Sink in
+    let R : Ending → Type 0 = λ halt. HaltsIn (script_talk read) (limits_of g.V.Files c.args.session.now) (ended (past_white p)) a b halt in
+    let P : List Entry → Type 0 = λ es. HaltsIn (script_talk read) (limits_of g.V.Files c.args.session.now) es a b Sink in
     subst R (sym sink) (subst P (sym (said_long p v.bytes.items (subst (λ (l : Bool). GathersPiece p v.bytes.items l) c.if-piece.true gathers)))
-    (refused_halts (script_talk read) Long a b refl no.Long refl refl (LacksPages g.V.Files.state g.V.Files.asks g.V.Files.lacks c.args.session.now) (omega arith) less)))
+    (refused_halts (script_talk read) Long a b refl no.Long refl refl (limits_of g.V.Files c.args.session.now) (omega arith) less)))
 
 pub returns-clause-carried : goal.returns-clause-carried
 returns-clause-carried g c = λ told read reader p gathers.
@@ -54,7 +53,7 @@ returns-in_err-carry_out-clause-halts g c = λ told. rw (err_is c.from_residual-
     let is : ended (past_white p) ≡ Bytes v.bytes.items ∷ [] = said_some p v.bytes.items (subst (λ (l : Bool). GathersPiece p v.bytes.items l) c.if-piece.false gathers) some in
     let a = standing_of g.V.Files.state g.V.Files.reads c.args.session.now (g.K.Sink.held c.args.out.now) in
     let b = standing_of g.V.Files.state g.V.Files.reads c.carry_out.new.session (g.K.Sink.held c.carry_out.new.out) in
-    let L = LacksPages g.V.Files.state g.V.Files.asks g.V.Files.lacks c.carry_out.new.session in
+    let L = limits_of g.V.Files c.carry_out.new.session in
     let P : List Entry → Type 0 = λ es. HaltsIn (script_talk read) L es a b c.in_err-carry_out.field-0.0 in
     let Q : List ℕ → Type 0 = λ bytes. HaltsIn (script_talk read) L (Bytes bytes ∷ []) a b c.in_err-carry_out.field-0.0 in
     subst P (sym is) (subst Q c.as_slice.ensures.value (c.in_err-carry_out.ensures.halts told read reader)))

@@ -9,8 +9,7 @@ use Rattle.padded.proofs.Facts.{err_is}
 use Rattle.reply_text.specs.WroteLess.{WroteLess}
 use Rattle.script_run.proofs.Gathering.{unclosed_some}
 use Rattle.answering.proofs.Single.{refused_carried, refused_halts}
-use Rattle.answering.specs.Carried.{Carried, HaltsIn, standing_of}
-use Rattle.antelope_engine.specs.Commands.{LacksPages}
+use Rattle.answering.specs.Carried.{Carried, HaltsIn, standing_of, limits_of}
 use Rattle.run_model.specs.Scripts.{script_talk}
 use Rattle.script_run.proofs.running.answer_unended.Goals as goal
 
@@ -32,10 +31,10 @@ returns-in_err-refuse-clause-halts g c = λ told. rw (err_is c.from_residual.res
     let b = standing_of g.V.Files.state g.V.Files.reads c.args.session.now (g.K.Sink.held c.refuse.new.out) in
     let less : WroteLess (g.K.Sink.held c.args.out.now) (g.K.Sink.held c.refuse.new.out) (refusal_text no.Unfinished) = search rules in
     let sink : c.in_err-refuse.field-0.0 ≡ Sink = search rules in
-    let R : Ending → Type 0 = λ halt. HaltsIn (script_talk read) (LacksPages g.V.Files.state g.V.Files.asks g.V.Files.lacks c.args.session.now) (unended (past_white p)) a b halt in
-    let P : List Entry → Type 0 = λ es. HaltsIn (script_talk read) (LacksPages g.V.Files.state g.V.Files.asks g.V.Files.lacks c.args.session.now) es a b Sink in
+    let R : Ending → Type 0 = λ halt. HaltsIn (script_talk read) (limits_of g.V.Files c.args.session.now) (unended (past_white p)) a b halt in
+    let P : List Entry → Type 0 = λ es. HaltsIn (script_talk read) (limits_of g.V.Files c.args.session.now) es a b Sink in
     subst R (sym sink) (subst P (sym (unclosed_some p v.bytes.items v.long gathers some))
-    (refused_halts (script_talk read) Unfinished a b refl no.Unfinished refl refl (LacksPages g.V.Files.state g.V.Files.asks g.V.Files.lacks c.args.session.now) (omega arith) less)))
+    (refused_halts (script_talk read) Unfinished a b refl no.Unfinished refl refl (limits_of g.V.Files c.args.session.now) (omega arith) less)))
 
 pub returns-then-is_empty-clause-silent : goal.returns-then-is_empty-clause-silent
 returns-then-is_empty-clause-silent g c = inl refl

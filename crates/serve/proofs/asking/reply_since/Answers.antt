@@ -1,7 +1,6 @@
 use Rattle.std.proofs.Common.{◌≡◌, Some, false, refl, ap, ◌∙◌, arith, drop, rules}
 use Rattle.std.specs.Prelude.{◌≤◌, Ok, Err}
-use Rattle.answering.specs.Carried.{standing_of}
-use Rattle.antelope_engine.specs.Commands.{LacksPages}
+use Rattle.answering.specs.Carried.{standing_of, limits_of}
 use Rattle.db_model.specs.ReplyText.{text}
 use Rattle.db_model.specs.Step.{step}
 use Rattle.session_model.specs.declared.step.Step.{Step}
@@ -56,9 +55,10 @@ returns-in-Err-Flash-clause-answered g c = λ told read bytes is.
     let h = g.K.Sink.held c.args.out.now in
     let k = g.K.Sink.held new.out.now in
     let reply = text ((step c.args.session.now.database c.args.command.now).1) in
-    let part = e.flash told (search rules) in
+    let off = e.flash told (search rules) in
     let done = says_part (serve_talk read) (Asked c.args.client bytes) (standing_of g.V.Files.state g.V.Files.reads c.args.session.now h) (standing_of g.V.Files.state g.V.Files.reads s k) c.args.command.now is
-    (e.reads told) (frame_part h k new.front c.args.client reply part) in
+    (e.reads told) (limits_of g.V.Files s) (frame_part h k new.front c.args.client reply off.part)
+    (λ changes. rw (off.unsaid changes) refl) off.mends in
     search (rules, done)
 
 -- there was no space, and so nothing went out
@@ -88,7 +88,7 @@ returns-in-Ok-NoSpace-clause-answered g c = λ told read bytes is.
     let on = new.on (fronted (g.K.Sink.held c.args.out.now) (g.K.Sink.faults c.args.out.now) (Some c.args.client) false) c.requires.begun in
     let same = on.silent fine does.1 in
     let done = finds_none (serve_talk read) (Asked c.args.client bytes) (standing_of g.V.Files.state g.V.Files.reads c.args.session.now (g.K.Sink.held c.args.out.now)) (standing_of g.V.Files.state g.V.Files.reads s (g.K.Sink.held new.out.now)) c.args.command.now is
-    (e.reads told) (LacksPages g.V.Files.state g.V.Files.asks g.V.Files.lacks s) n does.2
+    (e.reads told) (limits_of g.V.Files s) n does.2
     (rw c.in-Ok-NoSpace.field-0-is at (e.space told)) (e.goes_on kept).tells does.0 same in
     search (rules, done)
 

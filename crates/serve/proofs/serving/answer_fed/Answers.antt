@@ -1,7 +1,6 @@
 use Rattle.std.proofs.Common.{List, inl, inr, refl, ap, sym, subst, arith}
 use Rattle.answering.proofs.Single.{refused_carried, refused_halts}
-use Rattle.answering.specs.Carried.{Carried, HaltsIn, standing_of}
-use Rattle.antelope_engine.specs.Commands.{LacksPages}
+use Rattle.answering.specs.Carried.{Carried, HaltsIn, standing_of, limits_of}
 use Rattle.db_model.specs.declared.refusals.Refusal.TheVariants as no
 use Rattle.intake.specs.declared.ending.Ending.TheVariants.{Sink}
 use Rattle.serve.specs.Gathers.{client_in, command_in, told}
@@ -20,9 +19,9 @@ pub returns-in-Err-refuse-clause-halts : goal.returns-in-Err-refuse-clause-halts
 returns-in-Err-refuse-clause-halts g c = λ tells read reader.
     let a = standing_of g.V.Files.state g.V.Files.reads c.args.session.now (g.K.Sink.held c.args.out.now) in
     let b = standing_of g.V.Files.state g.V.Files.reads c.args.session.now (g.K.Sink.held c.refuse.new.out) in
-    let Lacks = LacksPages g.V.Files.state g.V.Files.asks g.V.Files.lacks c.args.session.now in
-    subst (λ (fs : List Frame). HaltsIn (serve_talk read) Lacks fs a b Sink) (ap (λ fed. told fed c.args.decoder.now) (sym c.in-Bad.is))
-    (refused_halts (serve_talk read) Broken a b refl no.Frame refl refl Lacks (omega arith) c.in-Err-refuse.ensures.failed)
+    let limits = limits_of g.V.Files c.args.session.now in
+    subst (λ (fs : List Frame). HaltsIn (serve_talk read) limits fs a b Sink) (ap (λ fed. told fed c.args.decoder.now) (sym c.in-Bad.is))
+    (refused_halts (serve_talk read) Broken a b refl no.Frame refl refl limits (omega arith) c.in-Err-refuse.ensures.failed)
 
 pub returns-in-Ok-refuse-2-clause-carried : goal.returns-in-Ok-refuse-2-clause-carried
 returns-in-Ok-refuse-2-clause-carried g c = λ tells read reader.
@@ -35,9 +34,9 @@ pub returns-in-Err-refuse-2-clause-halts : goal.returns-in-Err-refuse-2-clause-h
 returns-in-Err-refuse-2-clause-halts g c = λ tells read reader.
     let a = standing_of g.V.Files.state g.V.Files.reads c.args.session.now (g.K.Sink.held c.args.out.now) in
     let b = standing_of g.V.Files.state g.V.Files.reads c.args.session.now (g.K.Sink.held c.refuse-in-Long.new.out) in
-    let Lacks = LacksPages g.V.Files.state g.V.Files.asks g.V.Files.lacks c.args.session.now in
-    subst (λ (fs : List Frame). HaltsIn (serve_talk read) Lacks fs a b Sink) (ap (λ fed. told fed c.args.decoder.now) (sym c.in-Long.is))
-    (refused_halts (serve_talk read) (Long c.in-Long.client) a b refl no.Long refl refl Lacks (omega arith) c.in-Err-refuse-2.ensures.failed)
+    let limits = limits_of g.V.Files c.args.session.now in
+    subst (λ (fs : List Frame). HaltsIn (serve_talk read) limits fs a b Sink) (ap (λ fed. told fed c.args.decoder.now) (sym c.in-Long.is))
+    (refused_halts (serve_talk read) (Long c.in-Long.client) a b refl no.Long refl refl limits (omega arith) c.in-Err-refuse-2.ensures.failed)
 
 -- a frame has one reply
 pub returns-in-More-clause-silent : goal.returns-in-More-clause-silent

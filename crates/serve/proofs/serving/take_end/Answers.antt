@@ -1,7 +1,6 @@
 use Rattle.std.proofs.Common.{List, inl, inr, refl, sym, subst, ◌∙◌, arith}
 use Rattle.answering.proofs.Single.{refused_carried, refused_halts}
-use Rattle.answering.specs.Carried.{Carried, HaltsIn, standing_of}
-use Rattle.antelope_engine.specs.Commands.{LacksPages}
+use Rattle.answering.specs.Carried.{Carried, HaltsIn, standing_of, limits_of}
 use Rattle.db_model.specs.declared.refusals.Refusal.TheVariants as no
 use Rattle.intake.specs.declared.ending.Ending.TheVariants.{Sink}
 use Rattle.serve.proofs.Ending.{begun_unended, sink_flash, true_false}
@@ -29,9 +28,9 @@ returns-in-Err-clause-halts g c = record {
   halts = λ going tells read reader q k.
       let a = standing_of g.V.Files.state g.V.Files.reads c.args.session.now (g.K.Sink.held c.args.out.now) in
       let b = standing_of g.V.Files.state g.V.Files.reads c.args.session.now (g.K.Sink.held c.refuse.new.out) in
-      let Lacks = LacksPages g.V.Files.state g.V.Files.asks g.V.Files.lacks c.args.session.now in
-      subst (λ (fs : List Frame). HaltsIn (serve_talk read) Lacks fs a b Sink) (sym (begun_unended q (sym c.if-not-is_begun.false ∙ c.is_begun.ensures q k)))
-      (refused_halts (serve_talk read) Unfinished a b refl no.Unfinished refl refl Lacks (omega arith) c.in-Err.ensures.failed);
+      let limits = limits_of g.V.Files c.args.session.now in
+      subst (λ (fs : List Frame). HaltsIn (serve_talk read) limits fs a b Sink) (sym (begun_unended q (sym c.if-not-is_begun.false ∙ c.is_begun.ensures q k)))
+      (refused_halts (serve_talk read) Unfinished a b refl no.Unfinished refl refl limits (omega arith) c.in-Err.ensures.failed);
   on = record { faults = omega arith; replies = c.in-Err.ensures.frame.cause.later; store = refl; lent = refl };
 }
 

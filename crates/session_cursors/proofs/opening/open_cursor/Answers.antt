@@ -33,6 +33,7 @@ returns-then-is_open g c =
         tells = search rules;
         wants = search rules;
         lacks = search rules;
+        cut = search rules;
         untouched = search rules;
         same = search rules;
         reads = search rules;
@@ -49,7 +50,7 @@ returns-in_err-opened g c =
     let free : is_some (get_or base.opens c.in-Some.place None) ≡ false = sym c.is_open.ensures ∙ c.if-is_open.false in
     let costs = costs_opened state.files base.held base.opens c.args.number.now c.args.query.now c.in-Some.place e free c.in_err-opened.ensures.answered in
     record {
-      carried = failed_open g.V.Files (command.OpenCursor c.args.number.now c.args.query.now) base (record base { files = c.open_query.new.files }) _ c.from_residual.result c.from_residual.ensures.0
+      carried = failed_open g.V.Files (command.OpenCursor c.args.number.now c.args.query.now) base (record base { files = c.open_query.new.files }) _ c.from_residual.result c.requires.running c.from_residual.ensures.0
           (λ told. subst (λ (m : ℕ). g.V.Files.reads c.open_query.new.files ≤ g.V.Files.reads base.files + m) (sym costs) c.in_err-opened.ensures.reads)
           c.in_err-opened.ensures.frame;
       files_and_opens = refl;
@@ -85,6 +86,7 @@ returns-in-Ok g c =
         tells = search rules;
         wants = search rules;
         lacks = search rules;
+        cut = search rules;
         untouched = search rules;
         same = search rules;
         reads = λ told r. (
@@ -122,6 +124,7 @@ returns-in-Err g c =
         tells = search rules;
         wants = search rules;
         lacks = search rules;
+        cut = search rules;
         untouched = search rules;
         same = search rules;
         reads = λ told r. (

@@ -1,8 +1,10 @@
-use Rattle.std.proofs.Common.{arith, ◌≡◌, List, Some, sym, subst, ◌∙◌, length, ℤ}
+use Rattle.std.proofs.Common.{arith, ◌≡◌, inr, List, Some, ap, refl, sym, subst, ◌∙◌, length, ℤ}
+use Rattle.afl_base.proofs.CutLaws.{mends_as}
 use Rattle.afl_base.specs.Files.{State}
 use Rattle.catalog.specs.CatalogFile.{PutsIndex}
 use Rattle.db_model.specs.declared.schemas.IndexKind.TheVariants.{MemHash}
 use Rattle.session_indexes.specs.Made.{index_for, keys_at}
+use Rattle.session_indexes.specs.Parts.{MayPut}
 use Rattle.session_indexes.proofs.Effects.{table_made, taken_kept}
 use Rattle.session_indexes.proofs.Free.{free_nobodys}
 use Rattle.session_indexes.proofs.Keyed.{keys_by}
@@ -59,3 +61,16 @@ returns-in-Err-Space-clause-unrefused g c =
     let ks : List ℤ = keys_at s0 c.args.tuples.now c.args.site.now in
     let many : length ks ≡ c.count-slots.result = keys_many s0 c.args.tuples.now c.args.site.now c.count-slots.result c.count-slots.ensures.rows in
     tried_fine c.args.indexes.now ks c.in-Some.table (sym c.free_table.ensures ∙ c.in-Some.is) c.requires.apart (omega (arith, many, c.is_crowded.ensures.fits c.if-is_crowded.false))
+
+pub returns-in-Err-Failed-clause-cut : goal.returns-in-Err-Failed-clause-cut
+returns-in-Err-Failed-clause-cut g c = λ cuts told failed.
+    let s0 = g.V.Files.state c.args.files.now in
+    let site = c.args.site.now in
+    let same = c.in-Ok.ensures.frame.same in
+    let ks : List ℤ = keys_at s0 c.args.tuples.now site in
+    let many : length ks ≡ c.count-slots.result = keys_many s0 c.args.tuples.now site c.count-slots.result c.count-slots.ensures.rows in
+    let left = rw c.in-Err-Failed.field-0-is at (c.in-Err-Failed.ensures.cut cuts (ap (λ (s : State). s.tells) same ∙ told)) in
+    inr (mends_as (left refl) (λ after p. record {
+      unrefused = tried_fine c.args.indexes.now ks c.in-Some.table (sym c.free_table.ensures ∙ c.in-Some.is) c.requires.apart (omega (arith, many, c.is_crowded.ensures.fits c.if-is_crowded.false));
+      left = subst (λ (s : State). MayPut s after c.args.cat site.slot (Some (index_for site MemHash))) same p;
+    }))

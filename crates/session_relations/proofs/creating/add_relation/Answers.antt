@@ -1,15 +1,19 @@
-use Rattle.std.proofs.Common.{arith, get_or, ◌≡◌, ◌<◌, ℕ, Option, None, Some, ap, subst, sym, ◌∙◌}
+use Rattle.std.proofs.Common.{arith, get_or, inl, ◌≡◌, ◌<◌, ℕ, Option, None, Some, IsTrue, ap, subst, sym, ◌∙◌}
 use Rattle.db_model.specs.declared.schemas.Schema.{Schema}
-use Rattle.db_model.specs.Database.{free_from}
+use Rattle.db_model.specs.Database.{Database, free_from, with_relation}
 use Rattle.tuple_file.specs.declared.tuples.Tuples.{Tuples}
 use Rattle.session_model.specs.declared.held.Held.{Held}
+use Rattle.session_model.specs.Carried.{IsEither}
 use Rattle.session_model.specs.Frames.{with_tuples}
 use Rattle.session_model.specs.Running.{IsRelationSlot, IsRunning}
 use Rattle.session_model.specs.View.{view}
 use Rattle.session_model.proofs.Catalogs.{catalog_there}
+use Rattle.session_model.proofs.CutCatalogs.{database_of}
+use Rattle.stored.specs.Mended.{mended_base}
 use Rattle.stored.proofs.FewFiles.{few_files}
-use Rattle.session_relations.specs.Changes.{PutsSlot, Shows, bare_relation, bare_schema, changed_at}
-use Rattle.session_relations.proofs.Keeping.{both_spaces, changes_done, changes_handed, changes_then, space_handed}
+use Rattle.session_relations.specs.Changes.{MayMakeSlot, PutsSlot, Shows, bare_relation, bare_schema, changed_at}
+use Rattle.session_relations.proofs.CutViews.{created_cut}
+use Rattle.session_relations.proofs.Keeping.{both_spaces, changes_done, changes_handed, changes_then, failed_handed, space_handed}
 use Rattle.session_relations.proofs.Created.{new_tuples, shows_created, wants_first, wants_slot}
 use Rattle.session_relations.proofs.Shown.{shows_kept, shows_room, shows_then}
 use Rattle.session_relations.proofs.creating.add_relation.Goals as goal
@@ -130,3 +134,31 @@ returns-in_err-file-clause-frame g c =
 
 pub returns-clause-frame : goal.returns-clause-frame
 returns-clause-frame g c = changes_done g.V.Files _ _ _ _ (changes_then g.V.Files _ _ _ _ _ c.make_catalog.ensures.frame c.make_rows.ensures.frame)
+
+pub returns-in_err-cat-clause-cut : goal.returns-in_err-cat-clause-cut
+returns-in_err-cat-clause-cut g c = λ cuts told failed.
+    let m = c.make_catalog.ensures.cut cuts told (failed_handed c.make_catalog.result c.from_residual.result c.in_err-cat.field-0.0 c.in_err-cat.was c.from_residual.ensures.1 failed) in
+    record { files = m.files; mends_to = m.mends_to; is = inl m.is }
+
+pub returns-in_err-file-clause-cut : goal.returns-in_err-file-clause-cut
+returns-in_err-file-clause-cut g c = λ cuts told failed.
+    let s1 = g.V.Files.state c.make_catalog.new.files in
+    let tables = c.args.tables.now in
+    let opens = c.args.opens.now in
+    let slot = c.args.slot in
+    let name = c.args.name.now in
+    let cat = c.in_ok-cat.cat in
+    let made = c.in_ok-cat.ensures.made in
+    let h1 = c.make_catalog.new.held in
+    let told1 : IsTrue s1.tells = made.tells ∙ told in
+    let below : slot < 8 = omega arith in
+    let bare : c.bare_schema-schema.result ≡ bare_schema name = c.bare_schema-schema.ensures.schema in
+    let has : h1.cat ≡ Some cat = ap (λ (h : Held). h.cat) c.in_ok-cat.ensures.cat in
+    let free : get_or h1.relations slot None ≡ None =
+    ap (λ (h : Held). get_or h.relations slot None) c.in_ok-cat.ensures.cat ∙ nothing_free c.args.held.now.relations slot c.requires.slot in
+    let m = c.make_rows.ensures.cut cuts told1
+    (failed_handed c.make_rows.result c.from_residual-in_err-file.result c.in_err-file.field-0.0 c.in_err-file.was c.from_residual-in_err-file.ensures.1 failed) in
+    database_of m (λ after w.
+    let part : MayMakeSlot s1 after cat slot (bare_schema name) = subst (λ (s : Schema). MayMakeSlot s1 after cat slot s) bare w in
+    subst (λ (db : Database). IsEither db (with_relation db slot (Some (bare_relation name))) (mended_base after.files)) (made.seen told)
+    (created_cut s1 tables h1 opens made.running told1 slot cat has below after name free c.bare_schema-schema.ensures.name part))

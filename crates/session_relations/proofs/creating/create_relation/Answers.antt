@@ -42,4 +42,13 @@ returns-in-Err-Space g c =
 
 pub returns-in-Err-Failed : goal.returns-in-Err-Failed
 returns-in-Err-Failed g c =
-    record { carried = carries_failed g.V.Files (command.CreateRelation c.args.name.now) c.args.base.now _ _ (λ reads. absurd reads) (rw c.in-Err-Failed.field-0-is at c.in-Err-Failed.ensures.frame) }
+    let base = c.args.base.now in
+    let files = (g.V.Files.state base.files).files in
+    let old = view files base.held base.opens in
+    let name = c.args.name.now in
+    let cut = rw c.in-Err-Failed.field-0-is at c.in-Err-Failed.ensures.cut in
+    record {
+      carried = carries_failed g.V.Files (command.CreateRelation name) (create_relation old name) base c.add_relation.new.files c.add_relation.new.held refl refl (λ reads. absurd reads)
+          (with_relation old c.in-Ok.slot (Some (bare_relation name))) _ (c.in-Ok.ensures.made files base.opens) (λ cuts told. cut cuts told refl)
+          (rw c.in-Err-Failed.field-0-is at c.in-Err-Failed.ensures.frame);
+    }

@@ -83,7 +83,17 @@ returns-in-Err-Space g c =
 
 pub returns-in-Err-Failed : goal.returns-in-Err-Failed
 returns-in-Err-Failed g c =
+    let base = c.args.base.now in
+    let files = (g.V.Files.state base.files).files in
+    let old = view files base.held base.opens in
+    let relation = c.args.relation.now in
+    let found = c.in-Some.ensures.there in
+    let change = add_attribute c.args.name.now c.args.domain.now in
+    let grown : Relation = record { schema = c.in-Ok.grown.schema; rows = [] } in
+    let cut = rw c.in-Err-Failed.field-0-is at c.in-Err-Failed.ensures.cut in
     record {
-      carried = carries_failed g.V.Files (command.CreateAttribute c.args.name.now c.args.domain.now c.args.relation.now) c.args.base.now _ _ (λ reads. absurd reads)
+      carried = carries_failed g.V.Files (command.CreateAttribute c.args.name.now c.args.domain.now relation) (changed_by change old relation) base c.grow_relation.new.files c.grow_relation.new.held refl refl
+          (λ reads. absurd reads) (with_relation old c.in-Some.at.slot (Some grown)) _
+          (changed_made files base.held base.opens relation change c.in-Some.at.slot found.0 grown found.2 (c.in-Ok.ensures.made old found.0 found.1)) (λ cuts told. cut cuts told refl)
           (rw c.in-Err-Failed.field-0-is at c.in-Err-Failed.ensures.frame);
     }

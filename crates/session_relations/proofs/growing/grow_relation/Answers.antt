@@ -1,9 +1,12 @@
 use Rattle.std.proofs.Common.{arith, ◌<◌, ℕ, [], Some, refl, subst, sym}
+use Rattle.padded.proofs.Facts.{some_inside}
 use Rattle.session_model.specs.Frames.{with_tuples}
 use Rattle.session_model.specs.View.{view}
 use Rattle.session_model.proofs.Catalogs.{catalog_there}
+use Rattle.session_model.proofs.CutCatalogs.{database_of}
 use Rattle.session_relations.specs.Changes.{Shows, changed_at}
-use Rattle.session_relations.proofs.Keeping.{on_space, space_handed}
+use Rattle.session_relations.proofs.CutViews.{grown_cut}
+use Rattle.session_relations.proofs.Keeping.{failed_handed, on_space, space_handed}
 use Rattle.session_relations.proofs.Grown.{shows_grown}
 use Rattle.session_relations.proofs.Shown.{shows_room}
 use Rattle.session_relations.proofs.growing.grow_relation.Goals as goal
@@ -36,3 +39,14 @@ returns-in_err-put_slot-clause-kept g c =
 
 pub returns-in_err-put_slot-clause-held : goal.returns-in_err-put_slot-clause-held
 returns-in_err-put_slot-clause-held g c = on_space c.from_residual.result refl
+
+pub returns-in_err-put_slot-clause-cut : goal.returns-in_err-put_slot-clause-cut
+returns-in_err-put_slot-clause-cut g c = λ cuts told failed.
+    let s0 = g.V.Files.state c.args.files.now in
+    let slot = c.args.at.now.slot in
+    let grows = c.requires.grows in
+    let below : slot < 8 = omega (arith, some_inside c.args.held.now.relations slot grows.was grows.there, c.requires.running.eight) in
+    database_of
+    (c.put_slot.ensures.cut cuts told (failed_handed c.put_slot.result c.from_residual.result c.in_err-put_slot.field-0.0 c.in_err-put_slot.was c.from_residual.ensures.1 failed))
+    (λ after w.
+    grown_cut s0 c.args.tables.now c.args.held.now c.args.opens.now c.requires.running told slot c.args.at.now.cat c.requires.cat below after grows.was c.args.grown grows.there grows.empty grows.longer w)

@@ -84,4 +84,14 @@ returns-in-Err-Space g c =
 
 pub returns-in-Err-Failed : goal.returns-in-Err-Failed
 returns-in-Err-Failed g c =
-    record { carried = carries_failed g.V.Files (command.RemoveRelation c.args.relation.now) c.args.base.now _ _ (λ reads. absurd reads) (rw c.in-Err-Failed.field-0-is at c.in-Err-Failed.ensures.frame) }
+    let base = c.args.base.now in
+    let files = (g.V.Files.state base.files).files in
+    let old = view files base.held base.opens in
+    let name = c.args.relation.now in
+    let found = c.in-Some.ensures.there in
+    let cut = rw c.in-Err-Failed.field-0-is at c.in-Err-Failed.ensures.cut in
+    record {
+      carried = carries_failed g.V.Files (command.RemoveRelation name) (remove_relation old name) base c.take_relation.new.files c.take_relation.new.held refl refl (λ reads. absurd reads)
+          (with_relation old c.in-Some.at.slot None) _ (removal_made files base.held base.opens name c.in-Some.at.slot found.0 found.2 (c.in_default.ensures.free files)) (λ cuts told. cut cuts told refl)
+          (rw c.in-Err-Failed.field-0-is at c.in-Err-Failed.ensures.frame);
+    }

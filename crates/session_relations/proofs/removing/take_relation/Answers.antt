@@ -2,9 +2,11 @@ use Rattle.std.proofs.Common.{arith, ◌<◌, ℕ, length, None, refl, subst, sy
 use Rattle.session_model.specs.Frames.{with_tuples}
 use Rattle.session_model.specs.View.{view}
 use Rattle.session_model.proofs.Catalogs.{catalog_there}
+use Rattle.session_model.proofs.CutCatalogs.{database_of}
 use Rattle.session_model.proofs.Running.{relation_there}
 use Rattle.session_relations.specs.Changes.{Shows, changed_at}
-use Rattle.session_relations.proofs.Keeping.{on_space, space_handed}
+use Rattle.session_relations.proofs.CutViews.{taken_cut}
+use Rattle.session_relations.proofs.Keeping.{failed_handed, on_space, space_handed}
 use Rattle.session_relations.proofs.Found.{slot_item}
 use Rattle.session_relations.proofs.Gone.{shows_removed}
 use Rattle.session_relations.proofs.Shown.{shows_room}
@@ -49,3 +51,12 @@ returns-in_err-take_slot-clause-kept g c =
 
 pub returns-in_err-take_slot-clause-held : goal.returns-in_err-take_slot-clause-held
 returns-in_err-take_slot-clause-held g c = on_space c.from_residual.result refl
+
+pub returns-in_err-take_slot-clause-cut : goal.returns-in_err-take_slot-clause-cut
+returns-in_err-take_slot-clause-cut g c = λ cuts told failed.
+    let s0 = g.V.Files.state c.args.files.now in
+    let slot = c.args.at.now.slot in
+    let below : slot < 8 = omega arith in
+    database_of
+    (c.take_slot.ensures.cut cuts told (failed_handed c.take_slot.result c.from_residual.result c.in_err-take_slot.field-0.0 c.in_err-take_slot.was c.from_residual.ensures.1 failed))
+    (λ after w. taken_cut s0 c.args.tables.now c.args.held.now c.args.opens.now c.requires.running told slot c.args.at.now.cat c.requires.cat below after w)

@@ -5,6 +5,8 @@ use Rattle.index_set.specs.Inserts.{MayAllFollow}
 use Rattle.tuple_file.specs.Tuples.{rows}
 use Rattle.session_model.specs.Frames.{StaysAt}
 use Rattle.session_model.proofs.Frames.{complete_kept, rows_prepared}
+use Rattle.afl_base.proofs.CutLaws.{mends_as}
+use Rattle.session_rows.proofs.Cuts.{added_later, added_none, failed_too}
 use Rattle.session_rows.proofs.adding.add_row.Goals as goal
 
 pub returns-clause-complete : goal.returns-clause-complete
@@ -21,3 +23,16 @@ returns-clause-complete g c = λ told complete follow.
     (subst P (sym same) (complete_kept s0 s1 t.file (λ k other. f.bytes told k) c.args.tables.now (rows s0.files t) c.args.indexes.now c.requires.away complete))
     (c.in_ok-rooms.ensures.exact told)
     (subst Q (sym same) follow)
+
+pub returns-in_err-rooms-clause-cut : goal.returns-in_err-rooms-clause-cut
+returns-in_err-rooms-clause-cut g c = λ cuts told failed.
+    mends_as (c.in_err-rooms.ensures.cut cuts told (failed_too _ _ c.from_residual.ensures.1 failed))
+    (λ after f. added_none c.args.tuples.now c.args.indexes.now c.args.values.now (g.V.Files.state c.args.files.now) after told f)
+
+pub returns-in_err-write_row-clause-cut : goal.returns-in_err-write_row-clause-cut
+returns-in_err-write_row-clause-cut g c = λ cuts told failed.
+    let s0 = g.V.Files.state c.args.files.now in
+    let s1 = g.V.Files.state c.prepare_row.new.files in
+    let f = c.in_ok-rooms.ensures.contents in
+    mends_as (c.in_err-write_row.ensures.cut cuts (f.spares.tells ∙ told))
+    (λ after m. added_later c.args.tuples.now c.args.indexes.now c.args.values.now s0 s1 after told f m)

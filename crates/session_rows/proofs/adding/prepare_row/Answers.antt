@@ -1,5 +1,10 @@
-use Rattle.std.proofs.Common.{◌∙◌}
+use Rattle.std.proofs.Common.{◌∙◌, ◌≢◌}
 use Rattle.session_rows.proofs.Rooms.{exact_kept}
+use Rattle.afl_base.proofs.CutLaws.{mends_as, mends_now}
+use Rattle.afl_base.proofs.FrameLaws.{keeps_prepares, prepares_same, prepares_then}
+use Rattle.index_set.specs.Inserts.{IsNoTree}
+use Rattle.session_model.specs.Frames.{StaysAt}
+use Rattle.session_rows.proofs.Cuts.{failed_too}
 use Rattle.session_rows.proofs.adding.prepare_row.Goals as goal
 
 pub returns-clause-exact : goal.returns-clause-exact
@@ -8,3 +13,18 @@ returns-clause-exact g c = λ told.
     exact_kept (g.V.Files.state c.prepare.new.self) (g.V.Files.state c.prepare_all.new.files) c.args.tuples.now.file
     (λ k other. c.in_ok-rooms.ensures.contents.bytes after k)
     c.args.values.now c.in_ok-rooms.rooms c.args.indexes.now c.requires.away (c.in_ok-rooms.ensures.exact after)
+
+pub returns-in_err-prepare-clause-cut : goal.returns-in_err-prepare-clause-cut
+returns-in_err-prepare-clause-cut g c = λ cuts told failed.
+    let old = g.V.Files.state c.args.files.now in
+    mends_now old (c.in_err-prepare.ensures.cut cuts told (failed_too _ _ c.from_residual.ensures.1 failed)) (prepares_same old (StaysAt c.args.tuples.now.file c.args.indexes.now))
+
+pub returns-in_err-rooms-clause-cut : goal.returns-in_err-rooms-clause-cut
+returns-in_err-rooms-clause-cut g c = λ cuts told failed.
+    let old = g.V.Files.state c.args.files.now in
+    let mid = g.V.Files.state c.prepare.new.self in
+    let file = c.args.tuples.now.file in
+    let infos = c.args.indexes.now in
+    let made = keeps_prepares old mid file c.requires.holds.file.live c.in_ok-prepare.ensures.contents in
+    mends_as (c.in_err-rooms.ensures.cut cuts (made.spares.tells ∙ told) (failed_too _ _ c.from_residual-in_err-rooms.ensures.1 failed))
+    (λ after f. prepares_then old mid after (λ k. k ≢ file) (IsNoTree infos) (StaysAt file infos) made f (λ k stays. stays))

@@ -6,6 +6,9 @@ use Rattle.session_model.proofs.Frames.{bytes_spared, complete_added, complete_k
 use Rattle.index_set.specs.declared.info.Access.TheVariants.{Tree}
 use Rattle.index_set.proofs.Lists.{rooms_stay}
 use Rattle.session_rows.proofs.Rooms.{elsewhere, exact_kept}
+use Rattle.padded.proofs.Facts.{on_err}
+use Rattle.afl_base.proofs.CutLaws.{mends_as}
+use Rattle.session_rows.proofs.Cuts.{added_keys, added_row}
 use Rattle.session_rows.proofs.adding.write_row.Goals as goal
 use Rattle.tuple_file.proofs.Columns.{rows_counted}
 
@@ -42,3 +45,16 @@ returns-clause-added g c = record {
   others = search rules;
   tables = search rules;
 }
+
+pub returns-in_err-append-clause-cut : goal.returns-in_err-append-clause-cut
+returns-in_err-append-clause-cut g c = λ cuts told. on_err c.from_residual.result (mends_as (c.in_err-append.ensures.cut cuts told)
+    (λ after m. added_row c.args.tuples.now c.args.indexes.now c.args.values.now (g.V.Files.state c.args.files.now) after m))
+
+pub returns-in_err-insert_all-clause-cut : goal.returns-in_err-insert_all-clause-cut
+returns-in_err-insert_all-clause-cut g c = λ cuts told.
+    let s0 = g.V.Files.state c.args.files.now in
+    let s1 = g.V.Files.state c.append.new.files in
+    let t = c.args.tuples.now in
+    let spared = becomes_spares s0 s1 t.file _ _ c.requires.holds.file.live c.in_ok-append.ensures.appended in
+    on_err c.from_residual-in_err-insert_all.result (mends_as (c.in_err-insert_all.ensures.cut cuts (spared.tells ∙ told))
+    (λ after f. added_keys t c.args.indexes.now c.args.values.now s0 s1 after c.requires.away spared (c.in_ok-append.ensures.rows told) f))

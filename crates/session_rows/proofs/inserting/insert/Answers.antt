@@ -4,8 +4,9 @@ use Rattle.db_model.specs.declared.commands.Command.TheVariants as command
 use Rattle.db_model.specs.Step.{insert_into}
 use Rattle.session_model.proofs.Views.{named_none}
 use Rattle.session_model.proofs.Wanted.{wants_row}
-use Rattle.session_rows.proofs.Carried.{carries_failed, carries_of_one}
+use Rattle.session_rows.proofs.Carried.{between_one, carries_failed, carries_of_one}
 use Rattle.session_rows.proofs.Wants.{no_space}
+use Rattle.std.proofs.lemmas.Result.{on_err_weaker}
 use Rattle.session_rows.proofs.inserting.insert.Goals as goal
 use Rattle.session_model.proofs.Carrying.{carries_refused}
 
@@ -20,8 +21,17 @@ returns-in_default g c = record {
 pub returns-in_err-answer : goal.returns-in_err-answer
 returns-in_err-answer g c = record {
   carried =
-      carries_failed g.V.Files (command.Insert c.args.values.now c.args.relation.now) c.args.base.now _ c.insert_at.result _ c.from_residual.result c.in_err-answer.was c.from_residual.ensures.1
-      (λ reads. absurd reads) c.insert_at.ensures.frame;
+      let base = c.args.base.now in
+      let values = c.args.values.now in
+      let relation = c.args.relation.now in
+      let t = c.relation_at-tuples.result.now in
+      let there = c.relation_at-tuples.ensures in
+      carries_failed g.V.Files (command.Insert values relation) base _ c.insert_at.result _ c.from_residual.result c.in_err-answer.was c.from_residual.ensures.1
+      (λ reads. absurd reads)
+      (λ cuts told. on_err_weaker c.insert_at.result
+      (between_one g.V.Files base c.insert_at.new.files c.in-Some.k t c.requires.running told there (command.Insert values relation) (insert_into values) relation refl (c.in-Some.ensures.found t there))
+      (c.insert_at.ensures.cut cuts told))
+      c.insert_at.ensures.frame;
 }
 
 pub returns : goal.returns

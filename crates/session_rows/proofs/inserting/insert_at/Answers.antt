@@ -7,11 +7,15 @@ use Rattle.index_set.specs.Inserts.{AreApart, IsNoTree, KeepsTables}
 use Rattle.tuple_file.specs.Tuples.{rows, slots}
 use Rattle.session_model.specs.Frames.{StaysAt, WantsRow}
 use Rattle.session_model.specs.Indexed.{AreAllowed, index_of_info, infos_of}
-use Rattle.session_model.specs.View.{view}
+use Rattle.session_model.specs.View.{view, relation_of_rows}
 use Rattle.session_model.proofs.Readable.{are_numbers}
 use Rattle.session_model.proofs.Running.{RowsCome, are_allowed, are_apart, are_complete, are_held, away, indexes_seen, relation_there}
 use Rattle.session_rows.proofs.Changes.{goes_on}
 use Rattle.session_rows.proofs.Wants.{no_space}
+use Rattle.padded.proofs.Facts.{on_err}
+use Rattle.afl_base.proofs.CutLaws.{mends_as}
+use Rattle.db_model.specs.Step.{insert_into}
+use Rattle.session_rows.specs.CutRows.{MayChange}
 use Rattle.session_rows.proofs.inserting.insert_at.Goals as goal
 
 pub indexes_of-indexes-requires-clause-short : goal.indexes_of-indexes-requires-clause-short
@@ -88,3 +92,14 @@ returns-clause-wants g c = λ told.
     no_space c.in_ok-answer.answer _ _
     (λ need h. subst (λ (l : List IndexInfo). WantsRow (asks_few (g.V.Files.asks c.insert_row.new.files) new.files) new c.args.tuples.now l c.args.values.now need) c.indexes_of-indexes.ensures h)
     (c.in_ok-answer.ensures.wants told)
+
+pub returns-in_err-answer-clause-cut : goal.returns-in_err-answer-clause-cut
+returns-in_err-answer-clause-cut g c = λ cuts told.
+    let old = g.V.Files.state c.args.files.now in
+    let k = c.args.k in
+    let t = c.args.tuples.now in
+    let db = view old.files c.args.held.now c.args.opens.now in
+    let e : c.indexes_of-indexes.result ≡ infos_of k t c.args.held.now.indexes = c.indexes_of-indexes.ensures in
+    on_err c.from_residual.result (mends_as
+    (c.in_err-answer.ensures.cut cuts told k db refl (indexes_seen k t c.args.held.now.indexes ∙ ap (λ (l : List IndexInfo). map (index_of_info k) l) (sym e)))
+    (λ after m. subst (λ (l : List IndexInfo). MayChange old after t l (insert_into c.args.values.now k db (relation_of_rows old.files t))) e m))

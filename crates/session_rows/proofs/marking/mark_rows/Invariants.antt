@@ -1,4 +1,4 @@
-use Rattle.std.proofs.Common.{◌≡◌, ◌≢◌, ◌+◌, ◌≤◌, drop, length, IsTrue}
+use Rattle.std.proofs.Common.{◌≡◌, ◌≢◌, ◌+◌, ◌≤◌, take, length, IsTrue}
 use Rattle.afl_base.specs.Files.{file_at}
 use Rattle.afl_base.specs.Frames.{SparesOthers}
 use Rattle.tuple_file.specs.Tuples.{HoldsRows, rows, slots}
@@ -11,7 +11,7 @@ invariant-loop-slot g l = record {
   count : slots (g.V.Files.state l.files).files l.tuples ≡ slots (g.V.Files.state l.fn.files).files l.tuples;
   records : length l.slot-items ≤ l.slot-index + (file_at (g.V.Files.state l.files).files l.tuples.file).records;
   spared : SparesOthers (g.V.Files.state l.fn.files) (g.V.Files.state l.files) (λ k. k ≢ l.tuples.file);
-  told : IsTrue (g.V.Files.state l.fn.files).tells → marked (drop l.slot-index l.slot-items) (rows (g.V.Files.state l.files).files l.tuples) ≡ marked l.slot-items (rows (g.V.Files.state l.fn.files).files l.tuples);
+  told : IsTrue (g.V.Files.state l.fn.files).tells → rows (g.V.Files.state l.files).files l.tuples ≡ marked (take l.slot-index l.slot-items) (rows (g.V.Files.state l.fn.files).files l.tuples);
   store : length (g.V.Files.state l.files).store ≡ length (g.V.Files.state l.fn.files).store;
   lent : g.V.Files.lent l.files ≡ g.V.Files.lent l.fn.files;
   faults : g.V.Files.faults l.fn.files ≤ g.V.Files.faults l.files;

@@ -1,10 +1,13 @@
-use Rattle.std.proofs.Common.{rules, ◌≡◌, List, [], ap, ◌∙◌}
+use Rattle.std.proofs.Common.{rules, ◌≡◌, List, [], ap, ◌∙◌, ◌≢◌, refl}
 use Rattle.db_model.specs.declared.values.Value.{Value}
 use Rattle.db_model.specs.Item.{selects}
 use Rattle.lvm.proofs.Codes.{verdict-code}
 use Rattle.lvm.specs.Evaluate.{evaluated, verdict}
 use Rattle.tuple_file.proofs.Answered.{answered_by}
 use Rattle.tuple_file.specs.Tuples.{rows}
+use Rattle.afl_base.proofs.CutLaws.{either_as}
+use Rattle.afl_base.proofs.FrameLaws.{becomes_spares, spares_same}
+use Rattle.session_rows.proofs.Cuts.{failed_too, removed_all, removed_none}
 use Rattle.session_rows.proofs.marking.rewrite_rows.Goals as goal
 
 pub returns-clause-rows : goal.returns-clause-rows
@@ -14,3 +17,15 @@ returns-clause-rows g c = λ told condition code.
     (c.in_ok-rewrite.ensures.suit told) (λ tuple answer suits h.
     let e : answer ≡ verdict (evaluated c.args.code.now h.shown.now []) = search (rules, h.says.met) in
     e ∙ ap (λ (x : List Value). verdict (evaluated c.args.code.now x [])) h.shows ∙ verdict-code t.schema.attributes tuple condition c.args.code.now code) (c.in_ok-rewrite.ensures.rows told)
+
+pub returns-in_err-rewrite-clause-cut : goal.returns-in_err-rewrite-clause-cut
+returns-in_err-rewrite-clause-cut g c = λ cuts told failed condition code.
+    let old = g.V.Files.state c.args.files.now in
+    let t = c.args.tuples.now in
+    either_as old (c.in_err-rewrite.ensures.cut cuts told (failed_too _ _ c.from_residual.ensures.1 failed))
+    (removed_none old old t condition (spares_same old (λ k. k ≢ t.file)) refl)
+    (λ after said. removed_all old after t condition (becomes_spares old after t.file _ _ c.requires.holds.file.live said.0)
+    (answered_by t.schema.attributes _ (selects t.schema.attributes condition) (rows old.files t) (rows after.files t)
+    said.2 (λ tuple answer suits h.
+    let e : answer ≡ verdict (evaluated c.args.code.now h.shown.now []) = search (rules, h.says.met) in
+    e ∙ ap (λ (x : List Value). verdict (evaluated c.args.code.now x [])) h.shows ∙ verdict-code t.schema.attributes tuple condition c.args.code.now code) said.1))

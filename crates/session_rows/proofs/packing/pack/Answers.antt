@@ -6,8 +6,9 @@ use Rattle.session_model.specs.View.{view}
 use Rattle.session_model.proofs.Views.{named_none}
 use Rattle.session_model.proofs.Wanted.{relation_seen}
 use Rattle.session_rows.specs.Changes.{HasOnlyLiveRows}
-use Rattle.session_rows.proofs.Carried.{carries_failed, carries_of_one, if_found, unless_failed}
+use Rattle.session_rows.proofs.Carried.{between_one, carries_failed, carries_of_one, if_found, unless_failed}
 use Rattle.session_rows.proofs.Wants.{no_space, pack_wants}
+use Rattle.std.proofs.lemmas.Result.{on_err_weaker}
 use Rattle.session_rows.proofs.packing.pack.Goals as goal
 use Rattle.session_model.proofs.Carrying.{carries_refused}
 
@@ -19,8 +20,16 @@ returns-in_default-clause-carried g c =
 
 pub returns-in_err-answer-clause-carried : goal.returns-in_err-answer-clause-carried
 returns-in_err-answer-clause-carried g c =
-    carries_failed g.V.Files (command.Pack c.args.relation.now) c.args.base.now _ c.pack_at.result _ c.from_residual.result c.in_err-answer.was c.from_residual.ensures.1
-    (λ reads. absurd reads) c.pack_at.ensures.frame
+    let base = c.args.base.now in
+    let relation = c.args.relation.now in
+    let t = c.relation_at-tuples.result.now in
+    let there = c.relation_at-tuples.ensures in
+    carries_failed g.V.Files (command.Pack relation) base _ c.pack_at.result _ c.from_residual.result c.in_err-answer.was c.from_residual.ensures.1
+    (λ reads. absurd reads)
+    (λ cuts told. on_err_weaker c.pack_at.result
+    (between_one g.V.Files base c.pack_at.new.files c.in-Some.k t c.requires.running told there (command.Pack relation) pack_in relation refl (c.in-Some.ensures.found t there))
+    (c.pack_at.ensures.cut cuts told))
+    c.pack_at.ensures.frame
 
 pub returns-clause-carried : goal.returns-clause-carried
 returns-clause-carried g c =

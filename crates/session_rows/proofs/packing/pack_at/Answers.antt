@@ -1,15 +1,18 @@
-use Rattle.std.proofs.Common.{◌≡◌, ℕ, List, refl, sym, ◌∙◌}
+use Rattle.std.proofs.Common.{◌≡◌, ℕ, List, refl, sym, ◌∙◌, ◌≢◌, inr}
 use Rattle.afl_base.specs.declared.kind.FileError.TheVariants.{Space, Failed as FileFailed}
-use Rattle.afl_base.proofs.FrameLaws.{becomes_spares}
+use Rattle.afl_base.proofs.FrameLaws.{becomes_spares, spares_fewer}
 use Rattle.index_set.specs.declared.info.IndexInfo.{IndexInfo}
 use Rattle.session_model.specs.Frames.{StaysAt}
 use Rattle.session_model.specs.Indexed.{infos_of}
 use Rattle.session_model.proofs.Readable.{are_numbers}
 use Rattle.session_model.proofs.Running.{relation_there}
-use Rattle.session_model.specs.View.{relation_of_rows}
+use Rattle.session_model.specs.View.{relation_of_rows, view}
 use Rattle.session_rows.proofs.Carried.{changes_failed}
 use Rattle.session_rows.proofs.Changes.{keeps_all, relation_same, rows_dropped, waits_on}
 use Rattle.session_rows.proofs.Packs.{is_indexed, is_packed, is_read, may_pack, no_infos, none_counted, some_counted, wants_packed}
+use Rattle.afl_base.proofs.CutLaws.{either_as}
+use Rattle.db_model.specs.Step.{Fine, pack}
+use Rattle.session_rows.proofs.Cuts.{changed_none}
 use Rattle.session_rows.proofs.packing.pack_at.Goals as goal
 
 never_space : {need : ℕ} → Space need ≡ FileFailed → ⊥
@@ -95,3 +98,21 @@ returns-in-Ok-clause-idle g c = λ told live. c.in-Ok.ensures.same told live
 
 pub returns-in-Err-Failed-clause-frame : goal.returns-in-Err-Failed-clause-frame
 returns-in-Err-Failed-clause-frame g c = changes_failed g.V.Files _ _ _ (rw c.in-Err-Failed.field-0-is at c.in-Err-Failed.ensures.frame)
+
+pub returns-in-Err-Failed-clause-cut : goal.returns-in-Err-Failed-clause-cut
+returns-in-Err-Failed-clause-cut g c = λ cuts told.
+    let old = g.V.Files.state c.args.files.now in
+    let held = c.args.held.now in
+    let opens = c.args.opens.now in
+    let k = c.args.k in
+    let t = c.args.tuples.now in
+    let infos : List IndexInfo = infos_of k t held.indexes in
+    let none = none_counted c.indexes_of.result infos c.is_empty.result c.indexes_of.ensures c.is_empty.ensures c.if-not-is_empty.false in
+    let unread = sym (c.least_reader.ensures old.files) ∙ c.in_default.is in
+    let here = relation_there old c.args.tables.now held opens c.requires.running k t c.requires.there in
+    let left = (rw c.in-Err-Failed.field-0-is at c.in-Err-Failed.ensures.cut) cuts told refl in
+    either_as old left (changed_none old t infos (pack k (view old.files held opens) (relation_of_rows old.files t)))
+    (λ after packed. record {
+      others = spares_fewer old after (λ j. j ≢ t.file) (StaysAt t.file infos) (becomes_spares old after t.file _ _ here.holds.file.live packed.0) (λ j stays. stays.0);
+      relation = inr (Fine, is_packed old.files held opens k t after.files unread none packed.1);
+    })

@@ -7,8 +7,9 @@ use Rattle.cursor.specs.Remaining.{AreOnNumbers}
 use Rattle.session_model.proofs.Readable.{are_indexes, are_numbers, are_on_numbers, are_readable}
 use Rattle.session_model.proofs.Running.{relation_there, rows_change}
 use Rattle.session_rows.proofs.Changes.{goes_on}
-use Rattle.session_rows.proofs.Refusals.{is_read, is_refused, removal, removal_keys}
+use Rattle.session_rows.proofs.Refusals.{is_read, is_refused, removal, removal_keys, may_remove}
 use Rattle.session_rows.proofs.Wants.{no_space}
+use Rattle.padded.proofs.Facts.{on_err}
 use Rattle.session_rows.proofs.removing.remove_at.Goals as goal
 
 pub returns-in-Err-clause-changed : goal.returns-in-Err-clause-changed
@@ -82,3 +83,17 @@ returns-clause-wants g c = λ told.
     let complete = subst (λ (l : List IndexInfo). AreIndexesOf old c.args.tables.now (rows old.files t) l) (sym c.indexes_of-indexes.ensures)
     (are_indexes old c.args.tables.now c.args.held.now c.args.opens.now c.requires.running c.args.k t c.requires.there told) in
     no_space c.in_ok-answer.answer _ _ (λ need h. h tree c.in-Ok.ensures.code complete) (c.in_ok-answer.ensures.wants told)
+
+pub returns-in_err-answer-clause-accepted : goal.returns-in_err-answer-clause-accepted
+returns-in_err-answer-clause-accepted g c =
+    let old = g.V.Files.state c.args.files.now in
+    on_err c.from_residual.result (may_remove (condition_of c.args.condition.now) old.files c.args.held.now c.args.opens.now c.args.k c.args.tuples.now c.in-Ok.ensures.accepted
+    (sym (c.least_reader.ensures old.files) ∙ c.in_default.is))
+
+pub returns-in_err-answer-clause-cut : goal.returns-in_err-answer-clause-cut
+returns-in_err-answer-clause-cut g c = λ cuts told.
+    let old = g.V.Files.state c.args.files.now in
+    let t = c.args.tuples.now in
+    let complete = subst (λ (l : List IndexInfo). AreIndexesOf old c.args.tables.now (rows old.files t) l) (sym c.indexes_of-indexes.ensures)
+    (are_indexes old c.args.tables.now c.args.held.now c.args.opens.now c.requires.running c.args.k t c.requires.there told) in
+    on_err c.from_residual.result (c.in_err-answer.ensures.cut cuts told (condition_of c.args.condition.now) c.in-Ok.ensures.code complete)

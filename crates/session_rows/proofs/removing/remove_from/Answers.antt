@@ -3,7 +3,7 @@ use Rattle.db_model.specs.declared.commands.Command.TheVariants as command
 use Rattle.db_model.specs.Cond.{condition_of}
 use Rattle.db_model.specs.Step.{remove_from as remove_in}
 use Rattle.session_model.proofs.Views.{named_none}
-use Rattle.session_rows.proofs.Carried.{carries_failed, carries_of_one}
+use Rattle.session_rows.proofs.Carried.{between_removed, carries_failed, carries_of_one, on_both}
 use Rattle.session_rows.proofs.Wants.{no_space, remove_wants}
 use Rattle.session_rows.proofs.removing.remove_from.Goals as goal
 use Rattle.session_model.proofs.Carrying.{carries_refused}
@@ -19,8 +19,17 @@ returns-in_default g c = record {
 pub returns-in_err-answer : goal.returns-in_err-answer
 returns-in_err-answer g c = record {
   carried =
-      carries_failed g.V.Files (command.RemoveFrom c.args.relation.now c.args.condition.now) c.args.base.now _ c.remove_at.result _ c.from_residual.result c.in_err-answer.was c.from_residual.ensures.1
-      (λ reads. absurd reads) c.remove_at.ensures.frame;
+      let base = c.args.base.now in
+      let relation = c.args.relation.now in
+      let condition = c.args.condition.now in
+      let t = c.relation_at-tuples.result.now in
+      let there = c.relation_at-tuples.ensures in
+      carries_failed g.V.Files (command.RemoveFrom relation condition) base _ c.remove_at.result _ c.from_residual.result c.in_err-answer.was c.from_residual.ensures.1
+      (λ reads. absurd reads)
+      (λ cuts told. on_both c.remove_at.result
+      (between_removed g.V.Files base c.remove_at.new.files c.in-Some.k t c.requires.running told there relation condition (c.in-Some.ensures.found t there))
+      c.remove_at.ensures.accepted (c.remove_at.ensures.cut cuts told))
+      c.remove_at.ensures.frame;
 }
 
 pub returns : goal.returns

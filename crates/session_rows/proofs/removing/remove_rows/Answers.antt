@@ -1,6 +1,6 @@
-use Rattle.std.proofs.Common.{◌≡◌, ◌≢◌, ℕ, List, length, ap, subst, sym, ◌∙◌}
+use Rattle.std.proofs.Common.{◌≡◌, ◌≢◌, ℕ, List, length, ap, subst, sym, ◌∙◌, refl}
 use Rattle.afl_base.specs.Asked.{asks_few}
-use Rattle.afl_base.specs.Files.{size_at}
+use Rattle.afl_base.specs.Files.{size_at, State}
 use Rattle.afl_base.specs.Frames.{Prepares}
 use Rattle.db_model.specs.Answers.{selected}
 use Rattle.db_model.specs.Row.{Row}
@@ -10,6 +10,12 @@ use Rattle.session_model.proofs.Frames.{rows_prepared}
 use Rattle.session_rows.specs.Wanted.{WantsRemoval}
 use Rattle.session_rows.proofs.Changes.{replaces_prepared}
 use Rattle.session_rows.proofs.Removes.{counted, is_removed, is_selected, wants_selected}
+use Rattle.padded.proofs.Facts.{on_err}
+use Rattle.afl_base.proofs.CutLaws.{mends_now}
+use Rattle.afl_base.proofs.FrameLaws.{spares_same}
+use Rattle.lvm.specs.declared.instruction.Instruction.{Instruction}
+use Rattle.lvm.specs.Code.{IsCodeOf}
+use Rattle.session_rows.proofs.Cuts.{removed_none}
 use Rattle.session_rows.proofs.removing.remove_rows.Goals as goal
 
 pub returns-in-Ok-clause-removed : goal.returns-in-Ok-clause-removed
@@ -58,3 +64,33 @@ returns-in-Err-Space-clause-replaces g c =
     let space : Prepares old new (λ id. id ≢ t.file) =
     rw (c.in_ok-selected.ensures.frame.same ∙ c.in_ok-cursor.ensures.frame.same) at (rw c.in-Err-Space.field-0-is at c.in-Err-Space.ensures.space) in
     replaces_prepared old new t space c.requires.holds
+
+pub returns-in_err-cursor-clause-cut : goal.returns-in_err-cursor-clause-cut
+returns-in_err-cursor-clause-cut g c = λ cuts told.
+    let old = g.V.Files.state c.args.files.now in
+    let t = c.args.tuples.now in
+    on_err c.from_residual.result (λ condition code indexes.
+    mends_now old (subst (λ (s : State). g.V.Files.mends s.store old.files) (sym c.in_err-cursor.ensures.frame.same) (g.V.Files.mended c.args.files.now cuts told))
+    (removed_none old old t condition (spares_same old (λ k. k ≢ t.file)) refl))
+
+pub returns-in_err-selected-clause-cut : goal.returns-in_err-selected-clause-cut
+returns-in_err-selected-clause-cut g c = λ cuts told.
+    let old = g.V.Files.state c.args.files.now in
+    let t = c.args.tuples.now in
+    let same = c.in_err-selected.ensures.frame.same ∙ c.in_ok-cursor.ensures.frame.same in
+    on_err c.from_residual-in_err-selected.result (λ condition code indexes.
+    mends_now old (subst (λ (s : State). g.V.Files.mends s.store old.files) (sym same) (g.V.Files.mended c.args.files.now cuts told))
+    (removed_none old old t condition (spares_same old (λ k. k ≢ t.file)) refl))
+
+pub returns-in-Err-Failed-clause-cut : goal.returns-in-Err-Failed-clause-cut
+returns-in-Err-Failed-clause-cut g c = λ cuts told condition code indexes.
+    let old = g.V.Files.state c.args.files.now in
+    let mid = g.V.Files.state c.begin.new.files in
+    let t = c.args.tuples.now in
+    let begun = c.in_ok-cursor.ensures in
+    let is = is_selected old mid c.args.tables.now t c.copy.result c.args.indexes.now c.args.code c.in_ok-cursor.cursor c.in_ok-selected.selected c.copy.ensures begun.frame.same begun.begun.tuples
+    (λ told condition code indexes. (begun.begins told condition code indexes).slots_left) begun.fits c.in_ok-selected.ensures.selected told condition code indexes in
+    let same = c.in_ok-selected.ensures.frame.same ∙ begun.frame.same in
+    let coded = c.in_ok-selected.ensures.code ∙ begun.begun.code in
+    (rw same at (rw c.in-Err-Failed.field-0-is at c.in-Err-Failed.ensures.cut)) cuts told refl condition
+    (subst (λ (z : List Instruction). IsCodeOf t.schema.attributes condition z) (sym coded) code) is

@@ -1,9 +1,11 @@
 use Rattle.std.proofs.Common.{◌≡◌, ◌≤◌, length, None}
+use Rattle.stored_mend.specs.Mending.{MendsAsBefore}
 use Rattle.stored_mend.proofs.mending.remove_strays.Given as goal
 
 abbrev pub invariant-loop-slot : goal.invariant-loop-slot
 invariant-loop-slot g l = record {
   idle : (g.V.Files.state l.files).draft ≡ None;
+  kept : MendsAsBefore (g.V.Files.state l.fn.files) (g.V.Files.state l.files);
   store : length (g.V.Files.state l.files).store ≡ length (g.V.Files.state l.fn.files).store;
   lent : g.V.Files.lent l.files ≡ g.V.Files.lent l.fn.files;
   later : g.V.Files.reads l.fn.files ≤ g.V.Files.reads l.files;
@@ -13,6 +15,7 @@ invariant-loop-slot g l = record {
 abbrev pub invariant-loop-slot-2 : goal.invariant-loop-slot-2
 invariant-loop-slot-2 g l = record {
   idle : (g.V.Files.state l.files).draft ≡ None;
+  kept : MendsAsBefore (g.V.Files.state l.fn.files) (g.V.Files.state l.files);
   store : length (g.V.Files.state l.files).store ≡ length (g.V.Files.state l.fn.files).store;
   lent : g.V.Files.lent l.files ≡ g.V.Files.lent l.fn.files;
   later : g.V.Files.reads l.fn.files ≤ g.V.Files.reads l.files;

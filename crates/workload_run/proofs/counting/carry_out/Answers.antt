@@ -1,6 +1,6 @@
 use Rattle.std.proofs.Common.{◌≡◌, ◌≤◌, ◌<◌, Bool, IsTrue, arith, false, rules, subst, sym, ◌∙◌}
-use Rattle.antelope_engine.specs.Commands.{LacksPages}
-use Rattle.workload_run.proofs.Counts.{counted_next, rows_next, stops_here}
+use Rattle.answering.specs.Carried.{limits_of}
+use Rattle.workload_run.proofs.Counts.{breaks_here, counted_next, rows_next, stops_here}
 use Rattle.workload_run.proofs.counting.carry_out.Goals as goal
 
 pub returns-in-Ok-NoSpace-clause-space : goal.returns-in-Ok-NoSpace-clause-space
@@ -12,7 +12,7 @@ returns-in-Ok-NoSpace-clause-space g c = λ told.
     let command = c.nth_command.new.command in
     let n = c.in-Ok-NoSpace.need in
     let does = rw c.in-Ok-NoSpace.field-0-is at (e.done now) in
-    stops_here (LacksPages g.V.Files.state g.V.Files.asks g.V.Files.lacks s) c.args.seed c.loop-k.k c.args.count n command c.args.session.now.database c.loop-k.session.database s.database
+    stops_here (limits_of g.V.Files s) c.args.seed c.loop-k.k c.args.count n command c.args.session.now.database c.loop-k.session.database s.database
     c.loop-k.tally c.nth_command.ensures.command (inv.counted told) c.loop-k-test.true does.0 does.2
     (rw c.in-Ok-NoSpace.field-0-is at (e.space now))
 
@@ -42,3 +42,11 @@ loop-k-preserved g c =
       lent = e.frame.lent ∙ inv.lent;
       faults = let later = e.frame.cause.files_later in omega (arith, later, inv.faults);
     }
+
+pub returns-in-Err-Flash-clause-broken : goal.returns-in-Err-Flash-clause-broken
+returns-in-Err-Flash-clause-broken g c = λ told is.
+    let inv = c.loop-k.invariant in
+    let now : IsTrue (g.V.Files.state c.loop-k.session.files).tells = subst (λ (b : Bool). IsTrue b) (sym inv.tells) told in
+    let off = c.in-Err-Flash.ensures.flash now (search rules) in
+    breaks_here (limits_of g.V.Files c.exec.new.self) c.args.seed c.loop-k.k c.args.count c.nth_command.new.command c.args.session.now.database c.loop-k.session.database
+    c.loop-k.tally c.nth_command.ensures.command (inv.counted told) c.loop-k-test.true off.mends

@@ -1,5 +1,5 @@
 use Rattle.std.proofs.Common.{inr, rules}
-use Rattle.antelope_engine.specs.Commands.{LacksPages}
+use Rattle.answering.specs.Carried.{limits_of}
 use Rattle.db_model.specs.Workload.{first_commands}
 use Rattle.workload_run.proofs.Summing.{found_none, space_unsaid}
 use Rattle.workload_run.proofs.generating.generate.Goals as goal
@@ -10,7 +10,7 @@ returns-in-Ok-write_no_space-clause-halts g c = λ told.
     let session = c.carry_out.new.session in
     found_none (first_commands c.args.seed c.args.count) c.args.session.now.database session.database c.carry_out.new.tally
     (g.K.Sink.held c.args.out.now) (g.K.Sink.held c.write_no_space.new.out)
-    (LacksPages g.V.Files.state g.V.Files.asks g.V.Files.lacks session) c.in-Err-NoSpace.need until c.in-Ok-write_no_space.ensures.written
+    (limits_of g.V.Files session) c.in-Err-NoSpace.need until c.in-Ok-write_no_space.ensures.written
 
 pub returns-in-Err-write_no_space-clause-halts : goal.returns-in-Err-write_no_space-clause-halts
 returns-in-Err-write_no_space-clause-halts g c = λ told.
@@ -18,4 +18,4 @@ returns-in-Err-write_no_space-clause-halts g c = λ told.
     let session = c.carry_out.new.session in
     inr (space_unsaid (first_commands c.args.seed c.args.count) c.args.session.now.database session.database c.carry_out.new.tally
     (g.K.Sink.held c.args.out.now) (g.K.Sink.held c.write_no_space.new.out)
-    (LacksPages g.V.Files.state g.V.Files.asks g.V.Files.lacks session) c.in-Err-NoSpace.need until (search rules))
+    (limits_of g.V.Files session) c.in-Err-NoSpace.need until (search rules))

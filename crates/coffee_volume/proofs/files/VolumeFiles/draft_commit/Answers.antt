@@ -1,8 +1,4 @@
-use Rattle.std.proofs.Common.{◌≡◌, ◌&&◌, not, false, sym, subst, ◌∙◌}
-use Rattle.padded.proofs.Facts.{on_err, some_same}
-use Rattle.coffee_layout.specs.declared.file.FileAt.{FileAt}
-use Rattle.coffee_volume.specs.Cuts.{CommitsPart}
-use Rattle.coffee_volume.proofs.CutCommits.{commits_over}
+use Rattle.std.proofs.Common.{◌&&◌, not, false}
 use Rattle.coffee_volume.proofs.DraftWrites.{last_byte}
 use Rattle.coffee_volume.proofs.Tables.{free_entry, unnamed_entries}
 use Rattle.coffee_volume.proofs.files.VolumeFiles.draft_commit.Goals as goal
@@ -23,13 +19,3 @@ pub add-requires-clause-last : goal.add-requires-clause-last
 add-requires-clause-last g c =
     let v = c.args.self.now in
     last_byte (g.F.Flash.tells && not v.failed) (g.F.Flash.image v.flash) v.table v.draft c.drafted-draft.result c.drafted-draft.ensures c.requires.last
-
-pub returns-in_err-replace_by-in-Some-clause-cut : goal.returns-in_err-replace_by-in-Some-clause-cut
-returns-in_err-replace_by-in-Some-clause-cut g c = λ t u.
-    let v = c.args.self.now in
-    let old = g.F.Flash.image v.flash in
-    let new = g.F.Flash.image c.replace_by.new.self.flash in
-    let part = commits_over old new _ v.table c.in-Some.id c.drafted-draft.result v.regular c.in-Some.ensures.found (c.in_err-replace_by-in-Some.ensures.cut t u) in
-    on_err c.from_residual.result
-    (λ d begun. let same : c.drafted-draft.result ≡ d = some_same _ _ (sym c.drafted-draft.ensures ∙ begun) in
-    subst (λ (given : FileAt). CommitsPart old new v.table given) same part)

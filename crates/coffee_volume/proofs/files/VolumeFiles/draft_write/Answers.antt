@@ -1,4 +1,6 @@
 use Rattle.std.proofs.Common.{Option, refl, subst, ◌&&◌, not, length, arith}
+use Rattle.padded.proofs.Facts.{on_err}
+use Rattle.coffee_volume.proofs.MendedFiles.{written_draft_mends}
 use Rattle.coffee_volume.proofs.DraftWrites.{inside_draft, seen_written, stands_written}
 use Rattle.coffee_volume.proofs.Standing.{stands_failed}
 use Rattle.coffee_layout.specs.declared.file.FileAt.{FileAt}
@@ -25,8 +27,8 @@ invariant_of-self g c =
     let v = c.args.self.now in
     let after =
     stands_failed g.F.Flash.tells v.failed (g.F.Flash.image v.flash) (g.F.Flash.image c.write_extent.new.flash) v.table v.draft
-    (record { count = v.count; big = v.big; regular = v.regular; pending = v.pending; space = v.space; told = v.told }) c.write_extent.ensures.frame.size in
-    record { count = after.count; big = after.big; regular = after.regular; pending = after.pending; space = after.space; told = after.told; shown = λ told e is k low. absurd (none_held _ k c.clear.ensures low) }
+    (record { count = v.count; big = v.big; whole = v.whole; regular = v.regular; pending = v.pending; space = v.space; told = v.told }) c.write_extent.ensures.frame.size in
+    record { count = after.count; big = after.big; whole = after.whole; regular = after.regular; pending = after.pending; space = after.space; told = after.told; shown = λ told e is k low. absurd (none_held _ k c.clear.ensures low) }
 
 pub invariant_of-self-2 : goal.invariant_of-self-2
 invariant_of-self-2 g c =
@@ -34,21 +36,21 @@ invariant_of-self-2 g c =
     let after =
     stands_written g.F.Flash.tells v.failed (g.F.Flash.image v.flash) (g.F.Flash.image c.write_extent.new.flash) v.table v.draft c.drafted-draft.result c.args.at c.args.bytes.now
     (record {
-      stands = record { count = v.count; big = v.big; regular = v.regular; pending = v.pending; space = v.space; told = v.told };
+      stands = record { count = v.count; big = v.big; whole = v.whole; regular = v.regular; pending = v.pending; space = v.space; told = v.told };
       is = c.drafted-draft.ensures;
       range = c.requires.range;
       zeros = c.requires.zeros;
       size = c.write_extent.ensures.frame.size;
       written = c.in_ok-write_extent.ensures.written;
     }) in
-    record { count = after.count; big = after.big; regular = after.regular; pending = after.pending; space = after.space; told = after.told; shown = λ told e is k low. absurd (none_held _ k c.clear.ensures low) }
+    record { count = after.count; big = after.big; whole = after.whole; regular = after.regular; pending = after.pending; space = after.space; told = after.told; shown = λ told e is k low. absurd (none_held _ k c.clear.ensures low) }
 
 pub returns-clause-written : goal.returns-clause-written
 returns-clause-written g c =
     let v = c.args.self.now in
     seen_written g.F.Flash.tells v.failed (g.F.Flash.image v.flash) (g.F.Flash.image c.write_extent.new.flash) v.table v.draft c.drafted-draft.result c.args.at c.args.bytes.now
     (record {
-      stands = record { count = v.count; big = v.big; regular = v.regular; pending = v.pending; space = v.space; told = v.told };
+      stands = record { count = v.count; big = v.big; whole = v.whole; regular = v.regular; pending = v.pending; space = v.space; told = v.told };
       is = c.drafted-draft.ensures;
       range = c.requires.range;
       zeros = c.requires.zeros;
@@ -63,3 +65,12 @@ returns-clause-taken g c = λ told.
     let both = told_by g.F.Flash.tells v.failed told in
     free_taken old (g.F.Flash.image c.write_extent.new.flash)
     (c.in_ok-write_extent.ensures.free both.0 (places v.table) c.drafted-draft.result (subst (λ (o : Option FileAt). HoldsTable old (places v.table) o) c.drafted-draft.ensures (v.told both.0 both.1)) refl refl)
+
+pub returns-in_err-write_extent-clause-cut : goal.returns-in_err-write_extent-clause-cut
+returns-in_err-write_extent-clause-cut g c = λ u told.
+    let v = c.args.self.now in
+    let both = told_by g.F.Flash.tells v.failed told in
+    on_err c.from_residual.result
+    (written_draft_mends g.F.Flash.tells v.failed (g.F.Flash.image v.flash) (g.F.Flash.image c.write_extent.new.flash) v.table v.draft c.drafted-draft.result
+    (record { count = v.count; big = v.big; whole = v.whole; regular = v.regular; pending = v.pending; space = v.space; told = v.told }) told c.drafted-draft.ensures c.write_extent.ensures.frame.size
+    (c.write_extent.ensures.head both.0 u) (c.write_extent.ensures.other_pages both.0))

@@ -1,8 +1,10 @@
 use Rattle.std.proofs.Common.{◌≡◌, ◌+◌, ◌-◌, ◌≤◌, ◌<◌, ◌&&◌, not, ℕ, List, length, refl, sym, ap, ◌∙◌, arith}
 use Rattle.afl_base.specs.Files.{File}
 use Rattle.afl_base.proofs.FileLaws.{file_here}
+use Rattle.padded.proofs.Facts.{on_err}
 use Rattle.coffee_volume.specs.Volumes.{IsEntry}
 use Rattle.coffee_volume.specs.declared.entry.Entry.{Entry}
+use Rattle.coffee_volume.proofs.MendedFiles.{overwrite_mends}
 use Rattle.coffee_volume.proofs.Rooms.{regular_overwritten}
 use Rattle.coffee_volume.proofs.Standing.{Stands, stands_failed, stands_same, where_told}
 use Rattle.coffee_volume.proofs.States.{room_set}
@@ -14,9 +16,9 @@ use Rattle.coffee_volume.proofs.files.VolumeFiles.overwrite.Goals as goal
 pub invariant_of-self : goal.invariant_of-self
 invariant_of-self g c =
     let v = c.args.self.now in
-    let s : Stands g.F.Flash.tells v.failed (g.F.Flash.image v.flash) v.table v.draft = record { count = v.count; big = v.big; regular = v.regular; pending = v.pending; space = v.space; told = v.told } in
+    let s : Stands g.F.Flash.tells v.failed (g.F.Flash.image v.flash) v.table v.draft = record { count = v.count; big = v.big; whole = v.whole; regular = v.regular; pending = v.pending; space = v.space; told = v.told } in
     let k = stands_failed g.F.Flash.tells v.failed (g.F.Flash.image v.flash) (g.F.Flash.image c.overwrite_file.new.flash) v.table v.draft s c.overwrite_file.ensures.frame.size in
-    record { count = k.count; big = k.big; regular = k.regular; pending = k.pending; space = k.space; told = k.told; shown = λ told e is k low. absurd (none_held _ k c.clear.ensures low) }
+    record { count = k.count; big = k.big; whole = k.whole; regular = k.regular; pending = k.pending; space = k.space; told = k.told; shown = λ told e is k low. absurd (none_held _ k c.clear.ensures low) }
 
 pub invariant_of-self-2 : goal.invariant_of-self-2
 invariant_of-self-2 g c =
@@ -26,7 +28,7 @@ invariant_of-self-2 g c =
     let e : Entry = c.entry-entry.result in
     let i : ℕ = c.number.result in
     let bytes : List ℕ = c.args.bytes.now in
-    let s : Stands g.F.Flash.tells v.failed old v.table v.draft = record { count = v.count; big = v.big; regular = v.regular; pending = v.pending; space = v.space; told = v.told } in
+    let s : Stands g.F.Flash.tells v.failed old v.table v.draft = record { count = v.count; big = v.big; whole = v.whole; regular = v.regular; pending = v.pending; space = v.space; told = v.told } in
     let is : IsEntry v.table i e = rw c.number.ensures.value c.entry-entry.ensures.entry in
     let n : ℕ = c.in_ok-used.used in
     let taken : ℕ = c.from-taken.result in
@@ -38,7 +40,7 @@ invariant_of-self-2 g c =
     (regular_overwritten _ e c.in-Some.log n taken c.entry-entry.ensures.regular c.in-Some.is used few)
     (λ told no. (overwrite_sets old new v.table v.draft i e c.in-Some.log n c.args.at bytes (v.told told no) is c.overwrite_file.ensures.frame.size c.in-Some.is c.requires.some within
     (λ all. c.requires.last (all ∙ sym c.entry-entry.ensures.size)) (c.in_ok-used.ensures.becomes told)).holds) in
-    record { count = k.count; big = k.big; regular = k.regular; pending = k.pending; space = k.space; told = k.told; shown = λ told e is k low. absurd (none_held _ k c.clear.ensures low) }
+    record { count = k.count; big = k.big; whole = k.whole; regular = k.regular; pending = k.pending; space = k.space; told = k.told; shown = λ told e is k low. absurd (none_held _ k c.clear.ensures low) }
 
 pub returns-clause-overwritten : goal.returns-clause-overwritten
 returns-clause-overwritten g c =
@@ -89,3 +91,15 @@ returns-clause-units g c = λ told.
     let within : c.args.at + length bytes ≤ e.at.size = omega (arith, c.requires.range, c.entry-entry.ensures.size) in
     (overwrite_sets old new v.table v.draft c.args.id e c.in-Some.log c.in_ok-used.used c.args.at bytes (v.told both.0 both.1) c.entry-entry.ensures.entry c.overwrite_file.ensures.frame.size c.in-Some.is c.requires.some within
     (λ all. c.requires.last (all ∙ sym c.entry-entry.ensures.size)) (c.in_ok-used.ensures.becomes both.0)).units
+
+pub returns-in_err-used-clause-cut : goal.returns-in_err-used-clause-cut
+returns-in_err-used-clause-cut g c = λ u told.
+    let v = c.args.self.now in
+    let old = g.F.Flash.image v.flash in
+    let e : Entry = c.entry-entry.result in
+    let both = told_by g.F.Flash.tells v.failed told in
+    let s : Stands g.F.Flash.tells v.failed old v.table v.draft = record { count = v.count; big = v.big; whole = v.whole; regular = v.regular; pending = v.pending; space = v.space; told = v.told } in
+    let within : c.args.at + length c.args.bytes.now ≤ e.at.size = omega (arith, c.requires.range, c.entry-entry.ensures.size) in
+    on_err c.from_residual.result
+    (overwrite_mends g.F.Flash.tells v.failed old (g.F.Flash.image c.overwrite_file.new.flash) v.table v.draft c.args.id e c.in-Some.log c.args.at c.args.bytes.now s told c.overwrite_file.ensures.frame.size
+    c.entry-entry.ensures.entry c.in-Some.is within (λ all. c.requires.last (all ∙ sym c.entry-entry.ensures.size)) (c.in_err-used.ensures.cut both.0 u))

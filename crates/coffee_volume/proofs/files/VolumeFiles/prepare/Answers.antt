@@ -1,11 +1,12 @@
-use Rattle.std.proofs.Common.{◌≡◌, ◌∙◌, ◌&&◌, not, ℕ, None, IsTrue, ap, refl, subst, sym}
+use Rattle.std.proofs.Common.{◌≡◌, ◌∙◌, ◌&&◌, not, ℕ, None, IsTrue, ap, subst, sym}
 use Rattle.std.specs.Prelude.{Err}
 use Rattle.std.proofs.lemmas.Result.{err_from_is_err_and}
 use Rattle.coffee_volume.specs.Rooms.{pages_asked}
 use Rattle.coffee_volume.specs.Lowest.{LooksFor, log_for}
 use Rattle.coffee_volume.specs.Steps.{step_for}
 use Rattle.coffee_volume.specs.Volumes.{AtEntry, EntryTable, IsEntry, state_seen}
-use Rattle.coffee_volume.proofs.Moved.{keeps_itself, none_wanted}
+use Rattle.coffee_volume.proofs.MendedFiles.{between_mends}
+use Rattle.coffee_volume.proofs.Moved.{none_wanted}
 use Rattle.coffee_volume.proofs.Stepped.{asked_step}
 use Rattle.coffee_volume.proofs.Tables.{entry_seen, space_with}
 use Rattle.coffee_volume.proofs.Takings.{handed_on, nothing_taken, same_more, space_handed, steps_taken, stops_first, stops_log, turns_lowest}
@@ -158,29 +159,13 @@ returns-in_err-provide_log-clause-looked g c =
     }))
     c.provide_log.ensures.chooses.looked c.provide_log.ensures.chooses.looked)
 
-pub returns-in_err-reshape-clause-cut : goal.returns-in_err-reshape-clause-cut
-returns-in_err-reshape-clause-cut g c = λ told u failed.
-    let v = c.args.self.now in
-    let old = state_seen (g.F.Flash.tells && not v.failed) (g.F.Flash.image v.flash) v.table v.draft in
-    let said = err_from_is_err_and c.from_residual.result c.from_residual.ensures.1 in
-    record {
-      between = old;
-      table = v.table;
-      files = refl;
-      kept = keeps_itself old c.args.id c.requires.live;
-      off = c.reshape.ensures.cut told u (c.in_err-reshape.was ∙ sym (said.1 ∙ ap (λ e. Err e) said.2) ∙ failed);
-    }
-
 pub returns-in_err-provide_log-clause-cut : goal.returns-in_err-provide_log-clause-cut
-returns-in_err-provide_log-clause-cut g c = λ told u failed.
+returns-in_err-provide_log-clause-cut g c = λ u told failed.
+    let v = c.args.self.now in
     let mid = c.reshape.new.self in
+    let old = state_seen (g.F.Flash.tells && not v.failed) (g.F.Flash.image v.flash) v.table v.draft in
     let now = state_seen (g.F.Flash.tells && not mid.failed) (g.F.Flash.image mid.flash) mid.table mid.draft in
     let kept = c.in_ok-reshape.ensures.contents in
     let said = err_from_is_err_and c.from_residual-in_err-provide_log.result c.from_residual-in_err-provide_log.ensures.1 in
-    record {
-      between = now;
-      table = mid.table;
-      files = refl;
-      kept = kept;
-      off = c.provide_log.ensures.cut (subst IsTrue (sym kept.tells) told) u (c.in_err-provide_log.was ∙ sym (said.1 ∙ ap (λ e. Err e) said.2) ∙ failed);
-    }
+    between_mends old now c.args.id (g.F.Flash.image c.provide_log.new.self.flash) told c.requires.live kept
+    (c.provide_log.ensures.cut u (subst IsTrue (sym kept.tells) told) (c.in_err-provide_log.was ∙ sym (said.1 ∙ ap (λ e. Err e) said.2) ∙ failed))

@@ -13,6 +13,7 @@ invariant_of-self g c =
     record {
       count = v.count;
       big = rw same v.big;
+      whole = rw same v.whole;
       regular = rw same v.regular;
       pending = rw same v.pending;
       space = v.space;

@@ -4,9 +4,11 @@ use Rattle.coffee_layout.specs.declared.file.FileAt.{FileAt}
 use Rattle.coffee_merge.specs.Holding.{CommitsExtent, HoldsTable}
 use Rattle.coffee_volume.specs.Volumes.{IsPending, places, roomless}
 use Rattle.coffee_volume.proofs.Drafted.{commit_holds, commit_turns, free_place, pending_regular}
+use Rattle.padded.proofs.Facts.{on_err}
+use Rattle.coffee_volume.proofs.MendedFiles.{addition_mends}
 use Rattle.coffee_volume.proofs.Standing.{Stands, stands_committed, stands_failed, tells_by, where_told}
 use Rattle.coffee_volume.proofs.States.{seen_adds}
-use Rattle.coffee_volume.proofs.Tables.{length_places, new_name, no_entry, regular_new, told_by, unnamed_entries}
+use Rattle.coffee_volume.proofs.Tables.{length_places, lowest_inside, new_name, no_entry, regular_new, told_by, unnamed_entries}
 use Rattle.coffee_volume.proofs.Takings.{free_taken}
 use Rattle.coffee_volume.proofs.Windows.{none_held}
 use Rattle.coffee_volume.proofs.volume.Volume.add.Goals as goal
@@ -22,9 +24,9 @@ commit_extent-requires g c =
 pub invariant_of-self : goal.invariant_of-self
 invariant_of-self g c =
     let v = c.args.self.now in
-    let s : Stands g.F.Flash.tells v.failed (g.F.Flash.image v.flash) v.table v.draft = record { count = v.count; big = v.big; regular = v.regular; pending = v.pending; space = v.space; told = v.told } in
+    let s : Stands g.F.Flash.tells v.failed (g.F.Flash.image v.flash) v.table v.draft = record { count = v.count; big = v.big; whole = v.whole; regular = v.regular; pending = v.pending; space = v.space; told = v.told } in
     let k = stands_failed g.F.Flash.tells v.failed (g.F.Flash.image v.flash) (g.F.Flash.image c.commit_extent.new.flash) v.table v.draft s c.commit_extent.ensures.frame.size in
-    record { count = k.count; big = k.big; regular = k.regular; pending = k.pending; space = k.space; told = k.told; shown = λ told e is k low. absurd (none_held _ k c.clear.ensures low) }
+    record { count = k.count; big = k.big; whole = k.whole; regular = k.regular; pending = k.pending; space = k.space; told = k.told; shown = λ told e is k low. absurd (none_held _ k c.clear.ensures low) }
 
 pub invariant_of-self-2 : goal.invariant_of-self-2
 invariant_of-self-2 g c =
@@ -33,7 +35,7 @@ invariant_of-self-2 g c =
     let new = g.F.Flash.image c.commit_extent.new.flash in
     let d : FileAt = c.args.draft in
     let i : ℕ = c.number.result in
-    let s : Stands g.F.Flash.tells v.failed old v.table v.draft = record { count = v.count; big = v.big; regular = v.regular; pending = v.pending; space = v.space; told = v.told } in
+    let s : Stands g.F.Flash.tells v.failed old v.table v.draft = record { count = v.count; big = v.big; whole = v.whole; regular = v.regular; pending = v.pending; space = v.space; told = v.told } in
     let pending : IsPending (pages_of old) d = v.pending d c.requires.begun in
     let inside : i < length v.table = omega (arith, v.count, c.number.ensures.below) in
     let free : get_or v.table i None ≡ None = rw c.number.ensures.value c.requires.free in
@@ -45,7 +47,7 @@ invariant_of-self-2 g c =
     let k = stands_committed g.F.Flash.tells v.failed old new v.table v.draft i (roomless d) s c.commit_extent.ensures.frame.size
     (regular_new (pages_of old) v.table i (roomless d) v.regular inside (no_entry (g.F.Flash.tells && not v.failed) old v.table d.name unnamed) (pending_regular (pages_of old) d pending))
     (λ told fine. commit_holds old new (places v.table) i d pending.used (commits told fine)) in
-    record { count = k.count; big = k.big; regular = k.regular; pending = k.pending; space = k.space; told = k.told; shown = λ told e is k low. absurd (none_held _ k c.clear.ensures low) }
+    record { count = k.count; big = k.big; whole = k.whole; regular = k.regular; pending = k.pending; space = k.space; told = k.told; shown = λ told e is k low. absurd (none_held _ k c.clear.ensures low) }
 
 pub returns-clause-committed : goal.returns-clause-committed
 returns-clause-committed g c =
@@ -72,3 +74,17 @@ returns-clause-taken g c = λ told.
     let both = told_by g.F.Flash.tells v.failed told in
     free_taken old (g.F.Flash.image c.commit_extent.new.flash)
     (c.in_ok-commit_extent.ensures.free both.0 (places v.table) c.args.draft (subst (λ (o : Option FileAt). HoldsTable old (places v.table) o) c.requires.begun (v.told both.0 both.1)) refl)
+
+pub returns-in_err-commit_extent-clause-cut : goal.returns-in_err-commit_extent-clause-cut
+returns-in_err-commit_extent-clause-cut g c = λ u told.
+    let v = c.args.self.now in
+    let old = g.F.Flash.image v.flash in
+    let both = told_by g.F.Flash.tells v.failed told in
+    let d : FileAt = c.args.draft in
+    let unnamed = unnamed_entries (g.F.Flash.tells && not v.failed) old v.table d.name c.requires.unnamed in
+    let inside = lowest_inside false old v.table c.args.id v.count (v.space d c.requires.begun (unnamed_entries false old v.table d.name c.requires.unnamed)) c.requires.lowest in
+    on_err c.from_residual.result
+    (addition_mends g.F.Flash.tells v.failed old (g.F.Flash.image c.commit_extent.new.flash) v.table v.draft d c.args.id
+    (record { stands = record { count = v.count; big = v.big; whole = v.whole; regular = v.regular; pending = v.pending; space = v.space; told = v.told }; is = c.requires.begun; last = c.requires.last }) told
+    inside c.requires.free c.requires.lowest unnamed
+    (c.in_err-commit_extent.ensures.cut both.0 u))

@@ -16,7 +16,7 @@ use Rattle.coffee_volume.proofs.volume.Volume.grant.Goals as goal
 pub invariant_of-self : goal.invariant_of-self
 invariant_of-self g c =
     let v = c.args.self.now in
-    record { count = v.count; big = v.big; regular = v.regular; pending = v.pending; space = v.space; told = v.told; shown = λ told e is k low. absurd (none_held _ k c.clear.ensures low) }
+    record { count = v.count; big = v.big; whole = v.whole; regular = v.regular; pending = v.pending; space = v.space; told = v.told; shown = λ told e is k low. absurd (none_held _ k c.clear.ensures low) }
 
 pub invariant_of-self-2 : goal.invariant_of-self-2
 invariant_of-self-2 g c =
@@ -24,13 +24,13 @@ invariant_of-self-2 g c =
     let image = g.F.Flash.image v.flash in
     let e : Entry = c.entry-entry.result in
     let i : ℕ = c.number.result in
-    let s : Stands g.F.Flash.tells v.failed image v.table v.draft = record { count = v.count; big = v.big; regular = v.regular; pending = v.pending; space = v.space; told = v.told } in
+    let s : Stands g.F.Flash.tells v.failed image v.table v.draft = record { count = v.count; big = v.big; whole = v.whole; regular = v.regular; pending = v.pending; space = v.space; told = v.told } in
     let is : IsEntry v.table i e = rw c.number.ensures.value c.entry-entry.ensures.entry in
     let fine : IsRegular (pages_of image) (record { at = e.at; records = c.args.records; room = c.args.room }) =
     regular_granted (pages_of image) e c.args.records c.args.room c.entry-entry.ensures.regular (c.requires.ready e c.entry-entry.ensures.entry) (omega (arith, c.requires.most, c.entry-entry.ensures.size)) in
     let k = stands_same g.F.Flash.tells v.failed image image v.table v.draft i e (record { at = e.at; records = c.args.records; room = c.args.room }) s refl c.number.ensures.below is refl fine
     (λ told fine. subst (λ (t : List (Option FileAt)). HoldsTable image t v.draft) (sym (same_place (places v.table) i e.at (in_places v.table i e is))) (v.told told fine)) in
-    record { count = k.count; big = k.big; regular = k.regular; pending = k.pending; space = k.space; told = k.told; shown = λ told e is k low. absurd (none_held _ k c.clear.ensures low) }
+    record { count = k.count; big = k.big; whole = k.whole; regular = k.regular; pending = k.pending; space = k.space; told = k.told; shown = λ told e is k low. absurd (none_held _ k c.clear.ensures low) }
 
 pub returns-clause-contents : goal.returns-clause-contents
 returns-clause-contents g c =

@@ -6,6 +6,7 @@ use Rattle.coffee_layout.specs.Units.{pages_of}
 use Rattle.coffee_merge.specs.Holding.{HoldsTable}
 use Rattle.coffee_volume.specs.Volumes.{AreRegular, places}
 use Rattle.coffee_volume.proofs.MountedTables.{mounted_holds, mounted_keep, mounted_length, mounted_rooms}
+use Rattle.coffee_volume.proofs.Standing.{same_whole}
 use Rattle.coffee_volume.proofs.Tables.{seen_distinct}
 use Rattle.coffee_volume.proofs.Windows.{none_held}
 use Rattle.coffee_volume.proofs.volume.Volume.mount.Goals as goal
@@ -20,6 +21,7 @@ invariant_of-result g c =
     record {
       count = ap length c.in-Ok.ensures.table ∙ mounted_length files most;
       big = omega (arith, ap length c.check.ensures.frame.same, c.sectors.ensures.most);
+      whole = same_whole image (g.F.Flash.image c.check.new.flash) (omega (arith, size)) (ap length c.check.ensures.frame.same);
       regular = subst (λ i. AreRegular (pages_of i) c.in-Ok.table) (sym c.check.ensures.frame.same)
           (c.in-Ok.ensures.regular (pages_of image) (subst (λ fs. All (FitsIn (pages_of image)) fs) (sym c.deref.ensures.0) (rw c.in-Ok-Ok.field-0-is at c.in-Ok-Ok.ensures.fits)));
       pending = λ d is. absurd (cc);

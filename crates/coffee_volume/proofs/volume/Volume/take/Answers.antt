@@ -7,6 +7,7 @@ use Rattle.coffee_volume.specs.Steps.{need_of}
 use Rattle.coffee_volume.specs.Taking.{LiesIn}
 use Rattle.coffee_volume.specs.Volumes.{IsEntry, IsRegular, places, roomless}
 use Rattle.coffee_volume.specs.declared.entry.Entry.{Entry}
+use Rattle.coffee_volume.proofs.MendedFiles.{off_mends}
 use Rattle.coffee_volume.proofs.Moved.{kept_becomes, moved_becomes}
 use Rattle.coffee_volume.proofs.Standing.{Stands, holds_idle, same_pages, stands_idle, stands_still, where_told}
 use Rattle.coffee_volume.proofs.Stepped.{after_regular, after_same}
@@ -23,7 +24,7 @@ invariant_of-self-in-Ok g c =
     let e : Entry = c.entry-at.result in
     let to : FileAt = c.in-Ok.to in
     let i : ℕ = c.number.result in
-    let s : Stands g.F.Flash.tells v.failed old v.table v.draft = record { count = v.count; big = v.big; regular = v.regular; pending = v.pending; space = v.space; told = v.told } in
+    let s : Stands g.F.Flash.tells v.failed old v.table v.draft = record { count = v.count; big = v.big; whole = v.whole; regular = v.regular; pending = v.pending; space = v.space; told = v.told } in
     let is : IsEntry v.table i e = rw c.number.ensures.value c.entry-at.ensures.entry in
     let inside : i < length v.table = omega (arith, v.count, c.number.ensures.below) in
     let fits : FitsIn (pages_of old) to = subst (λ (n : ℕ). FitsIn n to) (same_pages old new c.take_step.ensures.frame.size) c.in-Ok.ensures.inside in
@@ -31,17 +32,17 @@ invariant_of-self-in-Ok g c =
     let same = after_same c.args.step e.at to c.in-Ok.ensures.after in
     let k = stands_idle g.F.Flash.tells v.failed old new v.table v.draft i (Some (roomless to)) s c.requires.idle c.take_step.ensures.frame.size (regular_same (pages_of old) v.table i e (roomless to) v.regular inside is same.name fine)
     (λ told fine. (c.in-Ok.ensures.moved told (places v.table) i (holds_idle g.F.Flash.tells v.failed old v.table v.draft s c.requires.idle told fine) (in_places v.table i e is)).moves.sets.holds) in
-    record { count = k.count; big = k.big; regular = k.regular; pending = k.pending; space = k.space; told = k.told; shown = λ told e is k low. absurd (none_held _ k c.clear.ensures low) }
+    record { count = k.count; big = k.big; whole = k.whole; regular = k.regular; pending = k.pending; space = k.space; told = k.told; shown = λ told e is k low. absurd (none_held _ k c.clear.ensures low) }
 
 pub invariant_of-self-in-Err-Space : goal.invariant_of-self-in-Err-Space
 invariant_of-self-in-Err-Space g c =
     let v = c.args.self.now in
     let old = g.F.Flash.image v.flash in
     let new = g.F.Flash.image c.take_step.new.flash in
-    let s : Stands g.F.Flash.tells v.failed old v.table v.draft = record { count = v.count; big = v.big; regular = v.regular; pending = v.pending; space = v.space; told = v.told } in
+    let s : Stands g.F.Flash.tells v.failed old v.table v.draft = record { count = v.count; big = v.big; whole = v.whole; regular = v.regular; pending = v.pending; space = v.space; told = v.told } in
     let k = stands_still g.F.Flash.tells v.failed old new v.table v.draft s c.requires.idle c.take_step.ensures.frame.size
     (λ told fine. (rw c.in-Err-Space.field-0-is at (c.in-Err-Space.ensures.left told) (places v.table) (holds_idle g.F.Flash.tells v.failed old v.table v.draft s c.requires.idle told fine)).stays.holds) in
-    record { count = k.count; big = k.big; regular = k.regular; pending = k.pending; space = k.space; told = k.told; shown = λ told e is k low. absurd (none_held _ k c.clear.ensures low) }
+    record { count = k.count; big = k.big; whole = k.whole; regular = k.regular; pending = k.pending; space = k.space; told = k.told; shown = λ told e is k low. absurd (none_held _ k c.clear.ensures low) }
 
 pub returns-in-Ok-clause-contents : goal.returns-in-Ok-clause-contents
 returns-in-Ok-clause-contents g c =
@@ -50,7 +51,7 @@ returns-in-Ok-clause-contents g c =
     let new = g.F.Flash.image c.take_step.new.flash in
     let e : Entry = c.entry-at.result in
     let id : ℕ = c.args.id in
-    let s : Stands g.F.Flash.tells v.failed old v.table v.draft = record { count = v.count; big = v.big; regular = v.regular; pending = v.pending; space = v.space; told = v.told } in
+    let s : Stands g.F.Flash.tells v.failed old v.table v.draft = record { count = v.count; big = v.big; whole = v.whole; regular = v.regular; pending = v.pending; space = v.space; told = v.told } in
     let holds = holds_idle g.F.Flash.tells v.failed old v.table v.draft s c.requires.idle in
     let inside : id < length v.table = omega (arith, v.count, c.number.ensures.below, c.number.ensures.value) in
     rw c.number.ensures.value
@@ -64,7 +65,7 @@ returns-in-Err-Space-clause-contents g c =
     let old = g.F.Flash.image v.flash in
     let new = g.F.Flash.image c.take_step.new.flash in
     let e : Entry = c.entry-at.result in
-    let s : Stands g.F.Flash.tells v.failed old v.table v.draft = record { count = v.count; big = v.big; regular = v.regular; pending = v.pending; space = v.space; told = v.told } in
+    let s : Stands g.F.Flash.tells v.failed old v.table v.draft = record { count = v.count; big = v.big; whole = v.whole; regular = v.regular; pending = v.pending; space = v.space; told = v.told } in
     kept_becomes (g.F.Flash.tells && not v.failed) old new v.table v.draft c.args.id e c.requires.idle c.entry-at.ensures.entry
     (where_told g.F.Flash.tells v.failed _ (λ told fine. (rw c.in-Err-Space.field-0-is at (c.in-Err-Space.ensures.left told) (places v.table) (holds_idle g.F.Flash.tells v.failed old v.table v.draft s c.requires.idle told fine)).stays.kept))
 
@@ -72,7 +73,7 @@ pub returns-in-Err-Space-clause-frame : goal.returns-in-Err-Space-clause-frame
 returns-in-Err-Space-clause-frame g c =
     let v = c.args.self.now in
     let old = g.F.Flash.image v.flash in
-    let s : Stands g.F.Flash.tells v.failed old v.table v.draft = record { count = v.count; big = v.big; regular = v.regular; pending = v.pending; space = v.space; told = v.told } in
+    let s : Stands g.F.Flash.tells v.failed old v.table v.draft = record { count = v.count; big = v.big; whole = v.whole; regular = v.regular; pending = v.pending; space = v.space; told = v.told } in
     record {
       store = search rules;
       lent = search rules;
@@ -90,7 +91,7 @@ returns-in-Ok-clause-chooses g c =
     let new = g.F.Flash.image c.take_step.new.flash in
     let e : Entry = c.entry-at.result in
     let id : ℕ = c.args.id in
-    let s : Stands g.F.Flash.tells v.failed old v.table v.draft = record { count = v.count; big = v.big; regular = v.regular; pending = v.pending; space = v.space; told = v.told } in
+    let s : Stands g.F.Flash.tells v.failed old v.table v.draft = record { count = v.count; big = v.big; whole = v.whole; regular = v.regular; pending = v.pending; space = v.space; told = v.told } in
     let inside : id < length v.table = omega (arith, v.count, c.number.ensures.below, c.number.ensures.value) in
     record {
       taken = λ told d is p free taken.
@@ -117,7 +118,7 @@ returns-in-Err-Space-clause-chooses g c =
     let old = g.F.Flash.image v.flash in
     let new = g.F.Flash.image c.take_step.new.flash in
     let e : Entry = c.entry-at.result in
-    let s : Stands g.F.Flash.tells v.failed old v.table v.draft = record { count = v.count; big = v.big; regular = v.regular; pending = v.pending; space = v.space; told = v.told } in
+    let s : Stands g.F.Flash.tells v.failed old v.table v.draft = record { count = v.count; big = v.big; whole = v.whole; regular = v.regular; pending = v.pending; space = v.space; told = v.told } in
     let need : c.in-Err-Space.need ≡ need_of c.args.step e.at = rw c.in-Err-Space.field-0-is at c.in-Err-Space.ensures.need in
     record {
       taken = search rules;
@@ -135,10 +136,12 @@ returns-in-Err-Space-clause-chooses g c =
     }
 
 pub returns-in-Err-Failed-clause-cut : goal.returns-in-Err-Failed-clause-cut
-returns-in-Err-Failed-clause-cut g c = λ told u failed.
+returns-in-Err-Failed-clause-cut g c = λ u told failed.
     let v = c.args.self.now in
+    let old = g.F.Flash.image v.flash in
     let e : Entry = c.entry-at.result in
     let id : ℕ = c.args.id in
     let both = told_by g.F.Flash.tells v.failed told in
-    let s : Stands g.F.Flash.tells v.failed (g.F.Flash.image v.flash) v.table v.draft = record { count = v.count; big = v.big; regular = v.regular; pending = v.pending; space = v.space; told = v.told } in
-    c.in-Err-Failed.ensures.cut both.0 u (ap Err c.in-Err-Failed.field-0-is) (places v.table) id (holds_idle g.F.Flash.tells v.failed (g.F.Flash.image v.flash) v.table v.draft s c.requires.idle both.0 both.1) (in_places v.table id e c.entry-at.ensures.entry)
+    let s : Stands g.F.Flash.tells v.failed old v.table v.draft = record { count = v.count; big = v.big; whole = v.whole; regular = v.regular; pending = v.pending; space = v.space; told = v.told } in
+    off_mends g.F.Flash.tells v.failed old (g.F.Flash.image c.take_step.new.flash) v.table v.draft s told c.requires.idle c.take_step.ensures.frame.size
+    (c.in-Err-Failed.ensures.cut both.0 u (ap Err c.in-Err-Failed.field-0-is) (places v.table) id (holds_idle g.F.Flash.tells v.failed old v.table v.draft s c.requires.idle both.0 both.1) (in_places v.table id e c.entry-at.ensures.entry))

@@ -2,7 +2,10 @@ use Rattle.std.proofs.Common.{◌≡◌, ℕ, List, subst, ◌+◌, ◌++◌, tr
 use Rattle.afl_base.specs.Files.{bytes_at}
 use Rattle.db_model.specs.Row.{Row, row_length, rows_bytes, rows_of}
 use Rattle.db_model.proofs.Rows.{rows_of-insert, length-row}
+use Rattle.padded.proofs.Facts.{on_err}
+use Rattle.afl_base.proofs.CutLaws.{mends_as}
 use Rattle.tuple_file.specs.Tuples.{slots}
+use Rattle.tuple_file.proofs.Cuts.{may_append}
 use Rattle.tuple_file.proofs.Slots.{holds_after}
 use Rattle.tuple_file.proofs.Written.{written_insert}
 use Rattle.tuple_file.proofs.tuples.Tuples.append.Goals as goal
@@ -28,3 +31,7 @@ returns-clause-holds g c more =
     holds_after old (g.V.Files.state c.append.new.self) c.args.self.now _ _ (count + 1) c.requires.holds c.in_ok-append.ensures.appended (omega (arith, wide, next, c.requires.holds.whole)) (omega (arith, more))
     (λ told. subst (λ (new : List ℕ). rows_bytes attributes (rows_of attributes (bytes ++ new)) ≡ bytes ++ new) (sym c.put_row.ensures)
     (written_insert attributes row count bytes c.requires.holds.whole c.requires.suits (c.requires.holds.written told)))
+
+pub returns-in_err-append-clause-cut : goal.returns-in_err-append-clause-cut
+returns-in_err-append-clause-cut g c = λ cuts told. on_err c.from_residual.result (mends_as (c.in_err-append.ensures.cut cuts told)
+    (λ after front. may_append (g.V.Files.state c.args.files.now) after c.args.self.now c.args.tuple.now c.put_row.new.row c.requires.holds c.requires.suits told c.put_row.ensures front))

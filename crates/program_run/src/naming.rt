@@ -1,0 +1,75 @@
+//! The words behind a program's name, and the image and the input that they name.
+
+#![tactic(auto)]
+
+ghost use Rattle.std.specs.Prelude.{◌≡◌, ◌↔◌, None, IfErr, false};
+ghost use Rattle.run_words.specs.Words.{form_of};
+ghost use Rattle.program_run.specs.Repairs.{is_repair};
+ghost use Rattle.program_run.specs.declared.failure.Failure.TheVariants.{Memory};
+
+use crate::failure::Failure;
+use run_words::{Form, form};
+use std::env;
+use std::env::Env;
+use std::io::ErrorKind;
+
+/// What words name: an image, and an input. `-` is standard input, and stands for none, too.
+#[derive(Drop)]
+pub struct Named<'w> {
+    pub image: &'w str,
+    pub input: &'w str,
+}
+
+/// The words behind the program's name. Where one of them is no text, there are none, so that they
+/// are words of no form.
+///
+/// # Errors
+///
+/// `Memory`, where there is none for them.
+pub fn words<R: Env + AllocGlobal>(rt: &R) -> Result<Vec<String>, Failure>
+    ensures { IfErr result (λ failure. failure ≡ Memory) }
+{
+    let mut words = Vec::new(rt.alloc());
+    let args = match env::args(rt) {
+        Ok(args) => args,
+        Err(error) if error.kind() == ErrorKind::OutOfMemory => return Err(Failure::Memory),
+        Err(_) => return Ok(words),
+    };
+    for word in args.skip(1) {
+        words.push(word).map_err(|_| Failure::Memory)?;
+    }
+    Ok(words)
+}
+
+/// What the words of a form, or of a repair, name. Words of no form name nothing.
+pub fn names(words: &[String]) -> Option<Named<'_>>
+    ensures none { (result ≡ None) ↔ ((form_of words.now ≡ None) × (is_repair words.now ≡ false)) }
+{
+    match (form(words), words) {
+        (Some(Form::Run | Form::Serve), [_, image, input]) => Some(Named {
+            image: image.as_str(),
+            input: input.as_str(),
+        }),
+        (Some(_), [_, image, ..]) => Some(alone(image)),
+        (None, [_, image]) if is_repair(words) => Some(alone(image)),
+        _ => None,
+    }
+}
+
+// An image alone.
+fn alone(image: &String) -> Named<'_> {
+    Named {
+        image: image.as_str(),
+        input: "-",
+    }
+}
+
+/// Whether the words are `repair IMAGE`.
+pub fn is_repair(words: &[String]) -> bool
+    ensures { result ≡ is_repair words.now }
+{
+    match words {
+        [word, _] => word.as_bytes() == b"repair".as_slice(),
+        _ => false,
+    }
+}

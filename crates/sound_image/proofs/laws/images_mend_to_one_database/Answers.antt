@@ -1,0 +1,11 @@
+use Rattle.sound_image.proofs.OneBase.{one_base, sound_is, table_mends}
+use Rattle.sound_image.proofs.laws.images_mend_to_one_database.Goals as goal
+
+pub returns-clause-one : goal.returns-clause-one
+returns-clause-one c = one_base
+
+pub returns-clause-sound : goal.returns-clause-sound
+returns-clause-sound c = sound_is
+
+pub returns-clause-files : goal.returns-clause-files
+returns-clause-files c = table_mends

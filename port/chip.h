@@ -1,0 +1,9 @@
+// Flash chips with the command set of Intel's (CFI), which are mapped into memory: two of 16 bits side by side, so that each
+// access is of 32 bits.
+#pragma once
+#include <stddef.h>
+#include <stdint.h>
+
+void chip_read(uintptr_t at, uint8_t *into, size_t count);
+int chip_program(uintptr_t at, const uint8_t *bytes, size_t count);
+int chip_erase(uintptr_t at);

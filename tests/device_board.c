@@ -1,0 +1,34 @@
+// A board in memory, on which tests/device tries node.c alone.
+#include "../port/node.h"
+
+enum { SECTORS = 4, SECTOR = 4096 };
+
+// What a chip does that is not well: nothing, though it says that it did; or a half, and says so.
+enum { WELL, IDLE, HALF };
+
+uint8_t chip[SECTORS * SECTOR];
+int chip_is;
+const char *form;
+int next_byte;
+uint8_t sent;
+
+const char *board_word(size_t place) { return place == 0 ? form : NULL; }
+int board_take(void) { return next_byte; }
+void board_put(uint8_t byte) { sent = byte; }
+uint32_t board_sectors(void) { return SECTORS; }
+
+void board_read(uint32_t sector, uint32_t at, uint8_t *into, size_t count) {
+    for (size_t place = 0; place < count; place++) into[place] = chip[sector * SECTOR + at + place];
+}
+
+int board_program(uint32_t sector, uint32_t at, const uint8_t *bytes, size_t count) {
+    size_t done = chip_is == WELL ? count : chip_is == HALF ? count / 2 : 0;
+    for (size_t place = 0; place < done; place++) chip[sector * SECTOR + at + place] &= bytes[place];
+    return chip_is != HALF;
+}
+
+int board_erase(uint32_t sector) {
+    if (chip_is != WELL) return 0;
+    for (size_t place = 0; place < SECTOR; place++) chip[sector * SECTOR + place] = 0xff;
+    return 1;
+}
