@@ -3,7 +3,6 @@ ghost use Rattle.std.specs.Prelude.{◌≤◌, IfSome, length};
 use crate::backing::Backing;
 use crate::bytes::program_bytes;
 use afl_base::{Failed, Flash, PageId, SectorId, Sink, Source};
-use std::fs::File;
 use std::io;
 use std::io::{ErrorKind, Read, Write};
 use std::marker::Model;
@@ -21,14 +20,14 @@ const TRIES: u32 = 1_000_000;
 /// A flash kept in an open file, byte after byte. It tells no contents, since others may write the
 /// file. What a call on the file failed to do is a fault of this flash.
 #[derive(Drop)]
-pub struct FileFlash {
-    file: File,
+pub struct FileFlash<F: FileExt + Drop> {
+    file: F,
     sectors: u16,
     reads: u64,
     faults: u64,
 }
 
-impl Model for FileFlash {
+impl<F: FileExt + Drop> Model for FileFlash<F> {
     ghost use Rattle.std.specs.Prelude.{◌≤◌};
     ghost use Rattle.afl_sim.specs.Devices.{FlashInFile};
 
@@ -39,14 +38,14 @@ impl Model for FileFlash {
     ghost invariant = { λ f. (4 ≤ f.sectors) × (f.sectors ≤ 4095) };
 }
 
-impl FileFlash {
+impl<F: FileExt + Drop> FileFlash<F> {
     ghost use Rattle.std.specs.Prelude.{◌≡◌, ◌↔◌, ◌*◌, IsSome, IfSome, is_err};
     ghost use Rattle.afl_sim.specs.Devices.{faults_counted};
     ghost use Rattle.afl_sim.specs.Lengths.{IsImageLength};
 
     /// A flash in `file`, which has `length` bytes and was opened for reading and writing. `None`
     /// comes exactly where `length` is not 4,096 times a number of sectors from 4 to 4,095.
-    pub fn new(file: File, length: u64) -> Option<FileFlash>
+    pub fn new(file: F, length: u64) -> Option<FileFlash<F>>
         ensures variant { IsSome result ↔ IsImageLength length }
         ensures sectors { IfSome result (λ flash. length ≡ 4096 * flash.sectors) }
         ensures reads { IfSome result (λ flash. flash.reads ≡ 0) }
@@ -80,7 +79,7 @@ impl FileFlash {
     }
 }
 
-impl Flash for FileFlash {
+impl<F: FileExt + Drop> Flash for FileFlash<F> {
     ghost use Rattle.std.specs.Prelude.{◌≡◌, ◌≢◌, ℕ, ◌+◌, ◌*◌, ◌≤◌, false, is_err, length, slice_range, IsTrue, OnErr, OnOk, []};
     ghost use Rattle.afl_base.specs.Causes.{CountsOne};
     ghost use Rattle.afl_base.specs.Cuts.{IsCutErase, IsCutProgram};
@@ -172,7 +171,7 @@ impl Flash for FileFlash {
     }
 }
 
-impl Backing for FileFlash {
+impl<F: FileExt + Drop> Backing for FileFlash<F> {
     ghost use Rattle.std.specs.Prelude.{◌≡◌, ◌≢◌, ℕ, ◌+◌, ◌*◌, ◌≤◌, false, is_err, length, IsTrue, OnErr, OnOk};
     ghost use Rattle.afl_base.specs.Causes.{CountsOne};
     ghost use Rattle.afl_base.specs.Cuts.{IsCutProgram};

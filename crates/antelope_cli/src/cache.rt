@@ -1,3 +1,4 @@
+use crate::files::ImageFile;
 use afl_base::{Flash, Sink, Source};
 use afl_sim::{CachedFlash, FileFlash};
 use program_run::carry_out;
@@ -18,7 +19,7 @@ pub fn status_in_memory<R, S, K>(
     words: &[String],
     script: &mut S,
     out: &mut K,
-    flash: FileFlash,
+    flash: FileFlash<ImageFile>,
 ) -> u8
 where
     R: AllocGlobal,

@@ -1,5 +1,56 @@
 use program_run::Failure;
+use std::env::{Env, FillError};
 use std::fs::{File, Files};
+use std::io;
+use std::os::unix::fs::FileExt;
+
+// Where it is set and not empty, writes wait for the disk.
+const SYNC: &str = "ANTELOPE_SYNC";
+
+/// The file of an image. Where the environment asks for it, a write is on the disk before its call returns.
+#[derive(Drop)]
+pub struct ImageFile {
+    file: File,
+    is_synced: bool,
+}
+
+impl ImageFile {
+    pub fn new<R: Env>(rt: &R, file: File) -> ImageFile {
+        ImageFile {
+            file,
+            is_synced: is_synced(rt),
+        }
+    }
+}
+
+impl FileExt for ImageFile {
+    ghost use Rattle.std.specs.Io.{ReadsAtMost, WritesAtMost};
+
+    fn read_at(&self, buf: &mut [u8], offset: u64) -> io::Result<usize>
+        ensures bound { ReadsAtMost result buf.new }
+    {
+        self.file.read_at(buf, offset)
+    }
+
+    fn write_at(&self, buf: &[u8], offset: u64) -> io::Result<usize>
+        ensures bound { WritesAtMost result buf.now }
+    {
+        let written = self.file.write_at(buf, offset)?;
+        if self.is_synced {
+            self.file.sync_data()?;
+        }
+        Ok(written)
+    }
+}
+
+/// Whether the environment asks that each write be on the disk before the next.
+pub fn is_synced<R: Env>(rt: &R) -> bool {
+    match rt.var(SYNC, &mut [0; 1]) {
+        Ok(length) => length > 0,
+        Err(FillError::TooLong) => true,
+        Err(FillError::NotPresent) => false,
+    }
+}
 
 /// The same file under a number of its own. Where the caller has closed a standard stream, a file
 /// that is opened takes its number, and replies would be written into the image.

@@ -1,6 +1,7 @@
-use crate::files::apart;
+use crate::files::{ImageFile, apart, is_synced};
 use afl_sim::FileFlash;
 use program_run::Failure;
+use std::env::Env;
 use std::fs;
 use std::fs::{File, Files, OpenOptions};
 use std::io::ErrorKind;
@@ -18,12 +19,13 @@ const NAMES: u32 = 1000;
 /// A flash in a file that is locked as long as the flash is kept, so that no other run has it.
 #[derive(Drop)]
 pub struct Image {
-    pub flash: FileFlash,
+    pub flash: FileFlash<ImageFile>,
     /// Whether this run made the file.
     pub is_new: bool,
 }
 
-/// The image in the file `path`, which is made with 256 erased sectors where there is none.
+/// The image in the file `path`, which is made with 256 erased sectors where there is none. Where writes wait for the
+/// disk, the name of a new file is there before the first.
 ///
 /// # Errors
 ///
@@ -31,18 +33,48 @@ pub struct Image {
 /// it is not 4 to 4,095 sectors long. A file that was made is removed again.
 pub fn open_image<R>(rt: &R, path: &str) -> Result<Image, Failure>
 where
-    R: Files<File = File> + AllocGlobal,
+    R: Env + Files<File = File> + AllocGlobal,
 {
     match OpenOptions::new().read(true).write(true).open(rt, path) {
         Ok(file) => Ok(Image {
             flash: take_found(rt, path, file)?,
             is_new: false,
         }),
-        Err(error) if error.kind() == ErrorKind::NotFound => Ok(Image {
-            flash: make(rt, path)?,
-            is_new: true,
-        }),
+        Err(error) if error.kind() == ErrorKind::NotFound => {
+            let image = Image {
+                flash: make(rt, path)?,
+                is_new: true,
+            };
+            if is_synced(rt) && keep_name(rt, path).is_err() {
+                remove_new(rt, path, image);
+                return Err(Failure::Open);
+            }
+            Ok(image)
+        }
         Err(_) => Err(Failure::Open),
+    }
+}
+
+// Waits until the name of a new file is on the disk.
+fn keep_name<R>(rt: &R, path: &str) -> Result<(), Failure>
+where
+    R: Files<File = File> + AllocGlobal,
+{
+    let folder = folder_of(path);
+    let Ok(folder) = format!(in rt.alloc(); "{folder}/.") else {
+        return Err(Failure::Open);
+    };
+    let Ok(folder) = File::open(rt, folder.as_str()) else {
+        return Err(Failure::Open);
+    };
+    folder.sync_all().map_err(|_| Failure::Open)
+}
+
+// The folder that a file is in.
+fn folder_of(path: &str) -> &str {
+    match path.rsplit_once('/') {
+        Some((folder, _)) => folder,
+        None => ".",
     }
 }
 
@@ -53,7 +85,10 @@ pub fn remove_new<R: Files<File = File>>(rt: &R, path: &str, image: Image) {
     }
 }
 
-fn take_found<R: Files<File = File>>(rt: &R, path: &str, file: File) -> Result<FileFlash, Failure> {
+fn take_found<R>(rt: &R, path: &str, file: File) -> Result<FileFlash<ImageFile>, Failure>
+where
+    R: Env + Files<File = File>,
+{
     let file = lock(file)?;
     let Ok(known) = file.metadata() else {
         return Err(Failure::Open);
@@ -63,19 +98,19 @@ fn take_found<R: Files<File = File>>(rt: &R, path: &str, file: File) -> Result<F
         Ok(named) if named.dev() == known.dev() && named.ino() == known.ino() => {}
         _ => return Err(Failure::Open),
     }
-    FileFlash::new(file, known.len()).ok_or(Failure::Length)
+    FileFlash::new(ImageFile::new(rt, file), known.len()).ok_or(Failure::Length)
 }
 
 // A file takes its name when it is whole and locked, so that no other run finds it before that. Where
 // the file system has no second names, it is made under its own.
-fn make<R>(rt: &R, path: &str) -> Result<FileFlash, Failure>
+fn make<R>(rt: &R, path: &str) -> Result<FileFlash<ImageFile>, Failure>
 where
-    R: Files<File = File> + AllocGlobal,
+    R: Env + Files<File = File> + AllocGlobal,
 {
     let Some((draft, file)) = begin_draft(rt, path) else {
         return make_in_place(rt, path);
     };
-    let made = match erased(file) {
+    let made = match erased(rt, file) {
         Ok(flash) => give_name(rt, draft.as_str(), path, flash),
         Err(failure) => Err(failure),
     };
@@ -83,12 +118,15 @@ where
     made
 }
 
-fn give_name<R: Files<File = File>>(
+fn give_name<R>(
     rt: &R,
     draft: &str,
     path: &str,
-    flash: FileFlash,
-) -> Result<FileFlash, Failure> {
+    flash: FileFlash<ImageFile>,
+) -> Result<FileFlash<ImageFile>, Failure>
+where
+    R: Env + Files<File = File>,
+{
     match fs::hard_link(rt, draft, path) {
         Ok(()) => Ok(flash),
         Err(error) if error.kind() == ErrorKind::AlreadyExists => Err(Failure::Open),
@@ -101,10 +139,7 @@ fn begin_draft<R>(rt: &R, path: &str) -> Option<(String, File)>
 where
     R: Files<File = File> + AllocGlobal,
 {
-    let folder = match path.rsplit_once('/') {
-        Some((folder, _)) => folder,
-        None => ".",
-    };
+    let folder = folder_of(path);
     for number in 0..NAMES {
         let name = format!(in rt.alloc(); "{folder}/.antelope-{number}").ok()?;
         match File::create_new(rt, name.as_str()) {
@@ -116,11 +151,14 @@ where
     None
 }
 
-fn make_in_place<R: Files<File = File>>(rt: &R, path: &str) -> Result<FileFlash, Failure> {
+fn make_in_place<R>(rt: &R, path: &str) -> Result<FileFlash<ImageFile>, Failure>
+where
+    R: Env + Files<File = File>,
+{
     let Ok(file) = File::create_new(rt, path) else {
         return Err(Failure::Open);
     };
-    let made = erased(file);
+    let made = erased(rt, file);
     if made.is_err() {
         let _ = fs::remove_file(rt, path);
     }
@@ -129,14 +167,17 @@ fn make_in_place<R: Files<File = File>>(rt: &R, path: &str) -> Result<FileFlash,
 
 // A new flash of zeros in an empty file. They are written, so that a disk without room for them is
 // met now and not in the middle of a command.
-fn erased(file: File) -> Result<FileFlash, Failure> {
+fn erased<R: Env>(rt: &R, file: File) -> Result<FileFlash<ImageFile>, Failure> {
     let file = lock(file)?;
     for sector in 0..NEW_SECTORS {
         if file.write_all_at(&ERASED, SECTOR * sector).is_err() {
             return Err(Failure::Open);
         }
     }
-    FileFlash::new(file, SECTOR * NEW_SECTORS).ok_or(Failure::Length)
+    if is_synced(rt) && file.sync_all().is_err() {
+        return Err(Failure::Open);
+    }
+    FileFlash::new(ImageFile::new(rt, file), SECTOR * NEW_SECTORS).ok_or(Failure::Length)
 }
 
 fn lock(file: File) -> Result<File, Failure> {

@@ -16,6 +16,9 @@
 //! A page of the image that was read once is not read from the file again: the run keeps it in memory,
 //! as much as the image is long. What it changes goes into the file at once. Where that memory is not
 //! to be had, the run reads from the file each time, and ends with no other status.
+//!
+//! Where `ANTELOPE_SYNC` is set in the environment and not empty, each write into the image is on the disk before the
+//! next, and before the reply to its command.
 #![tactic(auto)]
 
 mod cache;
@@ -71,7 +74,7 @@ fn with_script<R, K>(
     out: &mut K,
 ) -> Result<u8, Failure>
 where
-    R: Files<File = File> + AllocGlobal,
+    R: Env + Files<File = File> + AllocGlobal,
     K: Sink,
 {
     let image = open_image(rt, path)?;

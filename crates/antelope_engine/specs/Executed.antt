@@ -1,5 +1,5 @@
 -- What a session makes of a command and its reply.
-use Rattle.std.specs.Prelude.{◌≡◌, ◌+◌, ◌≤◌, IfOk, IsErrOf, IsTrue, Result}
+use Rattle.std.specs.Prelude.{◌≡◌, ◌+◌, ◌≤◌, IfOk, IsErrOf, Result}
 use Rattle.afl_base.specs.declared.files.Files.{Ghosts as FilesOf}
 use Rattle.afl_base.specs.declared.stream.Sink.{Ghosts as SinkOf}
 use Rattle.db_model.specs.declared.commands.Command.{Command}

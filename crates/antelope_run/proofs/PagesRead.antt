@@ -2,7 +2,6 @@
 use Rattle.std.proofs.Common.{◌≡◌, ℕ, ◌+◌, ◌≤◌, List, ◌++◌, Option, Some, subst, sym, arith}
 use Rattle.std.specs.Prelude.{⊤, Result, Ok, Err}
 use Rattle.std.specs.List.{AllByRecursion}
-use Rattle.db_model.specs.declared.commands.Command.{Command}
 use Rattle.intake.specs.declared.ending.InputEnding.{InputEnding}
 use Rattle.intake.specs.declared.ending.InputEnding.TheVariants.{Input, Long, Early}
 use Rattle.answering.specs.Carried.{Limits, Standing}

@@ -28,7 +28,7 @@ ComesTo form old new Failed = LeavesImage old new × (new.held ≡ old.held)
 -- where failures are cuts: what is left where the flash failed
 abbrev pub BreaksBy : Form → World → World → Came → Type 0
 BreaksBy form old new (Opened (Err (Early Flash))) = IsSound old.image × BrokenOff form old new
-BreaksBy form old new Failed = LeavesImage old new
+BreaksBy form old new Failed = LeavesImage old new × (new.held ≡ old.held)
 BreaksBy form old new _ = ⊤
 
 -- how far the bytes of an input came: to their end, or one byte past the limit

@@ -158,9 +158,9 @@ FindsNoSpace words old new = IsSound old.image × OnForm words (λ form. Spacele
 abbrev pub IsFaulted : Option Form → World → World → Type 0
 IsFaulted words old new = (LeavesImage old new × (new.held ≡ old.held)) ⊎ (IsSound old.image × OnForm words (λ form. Faulted form old new))
 
--- 4, where failures are cuts
+-- 4, where failures are cuts: nothing was written where no session was opened
 abbrev pub EndsBrokenOff : Option Form → World → World → Type 0
-EndsBrokenOff words old new = LeavesImage old new ⊎ (IsSound old.image × OnForm words (λ form. BrokenOff form old new))
+EndsBrokenOff words old new = (LeavesImage old new × (new.held ≡ old.held)) ⊎ (IsSound old.image × OnForm words (λ form. BrokenOff form old new))
 
 -- 5: of the line of an image that is not sound, the input unread, or of what is written of a sound one
 abbrev pub IsUnsaid : Option Form → World → World → Type 0

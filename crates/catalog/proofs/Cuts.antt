@@ -1,7 +1,8 @@
 -- What a change of a slot that broke off leaves of the file of the catalog.
-use Rattle.std.proofs.Common.{◌≡◌, ℕ, ◌+◌, ◌≤◌, List, [], ◌∷◌, ◌++◌, length, take, inl, inr, refl, sym, ap, ◌∙◌, arith}
+use Rattle.std.proofs.Common.{◌≡◌, ℕ, ◌+◌, ◌≤◌, List, ◌++◌, length, take, inl, inr, refl, sym, ap, ◌∙◌, arith}
 use Rattle.std.specs.Prelude.{IsTrue}
 use Rattle.std.proofs.Math.Seq.{take-append-add}
+use Rattle.std.proofs.lemmas.List.{nil_from_length}
 use Rattle.afl_base.specs.CutFiles.{AppendsFront, OverwritesFront}
 use Rattle.afl_base.specs.Fields.{put_at}
 use Rattle.afl_base.specs.Files.{Becomes, IsLive, State, bytes_at, size_at}
@@ -23,13 +24,9 @@ first_cut a b id at slot first live none e told front =
       inl (record {
         done = front.done;
         first = inl none;
-        is = front.is.bytes told ∙ ap (λ xs. xs ++ take front.done first) (nothing old none) ∙ ap (take front.done) all;
+        is = front.is.bytes told ∙ ap (λ xs. xs ++ take front.done first) (nil_from_length old none) ∙ ap (take front.done) all;
       }),
     )
-  where
-    nothing : (xs : List ℕ) → length xs ≡ 0 → xs ≡ []
-    nothing [] e = refl
-    nothing (x ∷ xs) e = absurd (omega (arith, e))
 
 -- a change of a catalog that was not empty, before its mark is to come
 pub slot_cut : (a b : State) (id at : ℕ) (slot : List ℕ) → IsLive a.files id → 1472 ≤ size_at a.files id → IsTrue a.tells → OverwritesFront a b id at slot → MayReplace a b id at slot

@@ -3,7 +3,6 @@ use Rattle.std.proofs.Common.{◌≡◌, sym, ap, subst, ◌∙◌, ℕ, ◌+◌
 use Rattle.std.specs.Prelude.{slice_range}
 use Rattle.std.proofs.lemmas.Bool.{cases_lt}
 use Rattle.std.proofs.lemmas.List.{get_or-append_right, get_or-drop, get_or-take, get_or_append_left, length-drop, length-take-le}
-use Rattle.coffee_layout.specs.declared.file.FileAt.{FileAt}
 use Rattle.coffee_volume.specs.Volumes.{EntryTable, IsEntry}
 use Rattle.coffee_volume.specs.Windows.{IsPart, Part, ShowsContent, ShowsFile, content_of}
 use Rattle.coffee_volume.specs.declared.entry.Entry.{Entry}

@@ -61,7 +61,7 @@ pub fn first_other_in(
 }
 
 /// A flash of so many bytes in a file.
-pub fn flash_in(file: Option<File>, length: u64) -> Option<FileFlash> {
+pub fn flash_in(file: Option<File>, length: u64) -> Option<FileFlash<File>> {
     FileFlash::new(file?, length)
 }
 

@@ -1,15 +1,12 @@
 -- Where a run goes no further, by what comes of an entry.
-use Rattle.std.proofs.Common.{◌≡◌, inl, ℕ, List, [], ◌∷◌, Option, refl, ap, sym, subst, ◌∙◌}
+use Rattle.std.proofs.Common.{◌≡◌, inl, ℕ, List, [], ◌∷◌, Option, refl, ap, sym, ◌∙◌}
 use Rattle.std.specs.Io.KnownBytes.{append_known}
-use Rattle.std.proofs.lemmas.List.{append-nil}
 use Rattle.answering.proofs.Single.{command_found, command_unsaid}
 use Rattle.answering.specs.Carried.{HaltsIn, Limits, Standing, no_space}
-use Rattle.db_model.specs.ReplyText.{text}
 use Rattle.intake.specs.declared.ending.Ending.TheVariants.{Space, Flash, Sink}
 use Rattle.reply_text.proofs.Pieces.{append_known-nil}
 use Rattle.reply_text.specs.WroteLess.{WroteLess}
-use Rattle.run_model.specs.Talk.{Talk, after_entry}
-use Rattle.session_model.specs.Steps.{WrotePart}
+use Rattle.run_model.specs.Talk.{Talk}
 use Rattle.serve.specs.Answered.{FindsNone, SaysLess, SaysPart}
 
 module _ {E : Type 0} (talk : Talk E) (entry : E) (limits : Limits) (a b : Standing) where

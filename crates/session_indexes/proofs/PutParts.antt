@@ -1,5 +1,5 @@
 -- What a change of an index slot that broke off has left, where calls follow one another.
-use Rattle.std.proofs.Common.{◌≡◌, ◌≢◌, ◌⊎◌, inl, inr, ℕ, ◌+◌, ◌*◌, List, [], ◌∷◌, length, take, Option, Some, refl, ap, sym, ◌∙◌, subst, arith, IsTrue}
+use Rattle.std.proofs.Common.{◌≡◌, ◌≢◌, ◌⊎◌, inl, inr, ℕ, ◌+◌, ◌*◌, List, length, take, Option, Some, refl, ap, sym, ◌∙◌, subst, arith, IsTrue}
 use Rattle.std.proofs.Math.Logic.{⊎_elim}
 use Rattle.std.proofs.Math.Seq.{take-length}
 use Rattle.afl_base.specs.CutFiles.{MendsToEither, MendsToState}
@@ -7,20 +7,16 @@ use Rattle.afl_base.specs.Files.{IsLive, KeepsBytes, State, Table, bytes_at, fil
 use Rattle.afl_base.specs.Frames.{SparesOthers}
 use Rattle.afl_base.proofs.CutLaws.{mends_as}
 use Rattle.afl_base.proofs.FrameLaws.{becomes_spares, spares_same, spares_then}
-use Rattle.afl_base.proofs.PutLaws.{put_at_nothing}
 use Rattle.catalog.specs.CatalogFile.{PutsIndex, ReplacesFront}
 use Rattle.db_model.specs.declared.schemas.IndexKind.{IndexKind}
 use Rattle.db_model.specs.Catalog.{Index, index_slot_bytes, with_index_slot}
 use Rattle.tuple_file.specs.declared.tuples.Tuples.{Tuples}
+use Rattle.stored.proofs.CatalogParts.{replaces_nothing}
 use Rattle.session_model.specs.declared.held.Indexed.{Indexed}
 use Rattle.session_model.specs.Running.{HasCatalogFile}
 use Rattle.session_indexes.specs.declared.sites.Site.{Site}
 use Rattle.session_indexes.specs.Parts.{IsMadeInPart, MayPut}
 use Rattle.session_indexes.proofs.Puts.{live_catalog}
-
-nothing : (bytes : List ℕ) → length bytes ≡ 0 → bytes ≡ []
-nothing [] e = refl
-nothing (b ∷ bytes) e = absurd (omega (arith, e))
 
 -- the files of a state, under the draft of another
 abbrev pub files_under : State → State → State
@@ -32,16 +28,7 @@ module _ (old : State) (cat slot : ℕ) (o : Option Index) (has : HasCatalogFile
 
   -- no byte is written
   no_part : (now : List ℕ) → now ≡ bytes_at old.files cat → ReplacesFront (bytes_at old.files cat) (1408 + 8 * slot) (index_slot_bytes o) now
-  no_part now e = ⊎_elim
-      (λ (none : length (bytes_at old.files cat) ≡ 0). inl (record { done = 0; first = inl none; is = e ∙ nothing (bytes_at old.files cat) none }))
-      (λ (some : (length (bytes_at old.files cat) ≡ 1472) ⊎ (length (bytes_at old.files cat) ≡ 1480)). inr (record {
-        done = 0;
-        within = omega arith;
-        whole = inl refl;
-        some = ⊎_elim (λ (first : length (bytes_at old.files cat) ≡ 1472). omega (arith, first)) (λ (second : length (bytes_at old.files cat) ≡ 1480). omega (arith, second)) some;
-        is = e ∙ sym (put_at_nothing (bytes_at old.files cat) (1408 + 8 * slot));
-      }))
-      has.1
+  no_part now e = subst (ReplacesFront (bytes_at old.files cat) (1408 + 8 * slot) (index_slot_bytes o)) (sym e) (replaces_nothing (bytes_at old.files cat) (1408 + 8 * slot) (index_slot_bytes o) has.1)
 
   -- the files are as they were
   pub may_same : MayPut old old cat slot o

@@ -10,13 +10,13 @@ use Rattle.catalog.specs.CatalogFile.{IsCatalogSize, PutsRelation, ReplacesFront
 use Rattle.db_model.specs.declared.schemas.Schema.{Schema}
 use Rattle.db_model.specs.Catalog.{relation_slot_bytes}
 use Rattle.space_model.specs.FileNames.{catalog_file, rows_file}
+use Rattle.stored.proofs.CatalogParts.{replaces_nothing}
 use Rattle.session_model.specs.Running.{HasCatalogFile}
 use Rattle.session_model.proofs.Catalogs.{named_at}
 use Rattle.session_model.proofs.CutCatalogs.{leaves_spares}
 use Rattle.session_model.proofs.Leaves.{leaves_becomes, leaves_creates, leaves_same, leaves_then}
 use Rattle.session_model.proofs.Running.{catalog_no_rows, differ}
 use Rattle.session_relations.specs.Changes.{MayMakeSlot, MayPutSlot, MayTakeSlot}
-use Rattle.session_relations.proofs.Parts.{replaces_nothing}
 use Rattle.session_relations.proofs.Slots.{not_free, prepared_catalog, prepared_put, rows_known, slot_gone, slot_put, still_named_beside}
 
 -- ---- a slot of the catalog is put

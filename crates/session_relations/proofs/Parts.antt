@@ -1,9 +1,7 @@
 -- A catalog whose relation slot was being changed is read as before, or with the slot as it was to be.
-use Rattle.std.proofs.Common.{◌≡◌, ◌⊎◌, inl, inr, ℕ, ◌+◌, ◌*◌, ◌%◌, ◌<◌, ◌≤◌, List, [], ◌∷◌, length, length-append, take, Option, Some, None, refl, sym, subst, ◌∙◌, arith, IsTrue}
+use Rattle.std.proofs.Common.{◌≡◌, ◌⊎◌, inl, inr, ℕ, ◌+◌, ◌*◌, ◌%◌, ◌<◌, ◌≤◌, List, [], ◌∷◌, length, length-append, take, Option, Some, None, sym, subst, ◌∙◌, arith, IsTrue}
 use Rattle.std.specs.Prelude.{slice_range}
-use Rattle.std.proofs.Math.Logic.{⊎_elim}
 use Rattle.afl_base.specs.Fields.{put_at}
-use Rattle.afl_base.proofs.PutLaws.{put_at_nothing}
 use Rattle.catalog.specs.CatalogFile.{IsCatalogSize, ReplacesFront}
 use Rattle.catalog.proofs.Replaced.{IsReadBack, read_back}
 use Rattle.db_model.specs.declared.schemas.Attribute.{Attribute}
@@ -18,19 +16,6 @@ use Rattle.session_relations.proofs.ReadBack.{longer, short_of}
 -- all slots are read as before, or that of the relation alone as another
 abbrev pub MayRead : (old now : List ℕ) (slot : ℕ) → Option Schema → Type 0
 MayRead old now slot o = ReadsSame old now ⊎ ReadsRelation old now slot o
-
-no_bytes : (bytes : List ℕ) → length bytes ≡ 0 → bytes ≡ []
-no_bytes [] e = refl
-no_bytes (b ∷ bytes) e = absurd (omega (arith, e))
-
--- nothing was written
-pub replaces_nothing : (old : List ℕ) (at : ℕ) (slot : List ℕ) → IsCatalogSize (length old) → ReplacesFront old at slot old
-replaces_nothing old at slot size = ⊎_elim
-    (λ (none : length old ≡ 0). inl (record { done = 0; first = inl none; is = no_bytes old none }))
-    (λ (some : (length old ≡ 1472) ⊎ (length old ≡ 1480)).
-    let long : 1472 ≤ length old = ⊎_elim (λ (first : length old ≡ 1472). omega (arith, first)) (λ (second : length old ≡ 1480). omega (arith, second)) some in
-    inr (record { done = 0; within = omega arith; whole = inl refl; some = long; is = sym (put_at_nothing old at) }))
-    size
 
 front_part : (at done : ℕ) (slot : List ℕ) → length slot ≡ 176 → (done ≡ 0) ⊎ ((done ≡ length slot) ⊎ ((at + done) % 128 ≡ 0)) → IsFrontPart at 176 done
 front_part at done slot long (inl none) = inl none

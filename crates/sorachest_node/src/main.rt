@@ -42,7 +42,7 @@ where
     Ok(carry_out(words, &mut source, &mut out, flash))
 }
 
-fn open_flash<R: Files<File = File>>(rt: &R, path: &str) -> Result<FileFlash, Failure> {
+fn open_flash<R: Files<File = File>>(rt: &R, path: &str) -> Result<FileFlash<File>, Failure> {
     let Ok(file) = OpenOptions::new().read(true).write(true).open(rt, path) else {
         return Err(Failure::Open);
     };

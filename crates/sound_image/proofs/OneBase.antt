@@ -4,7 +4,7 @@ use Rattle.std.specs.Prelude.{is_some, unwrap_or}
 use Rattle.std.specs.List.{Contains}
 use Rattle.std.specs.Str.{bytes_eq}
 use Rattle.std.proofs.lemmas.Slice.Eq.{bytes_eq-Decides}
-use Rattle.afl_base.specs.Files.{File, IsLive, Table, file_at, place}
+use Rattle.afl_base.specs.Files.{File, Table, file_at, place}
 use Rattle.afl_base.proofs.FileLaws.{place_live}
 use Rattle.coffee_cuts.specs.Cuts.{MendsTo, Nothing}
 use Rattle.coffee_cuts.proofs.OneSettling.{one_list}

@@ -5,7 +5,7 @@ use Rattle.afl_base.specs.declared.ids.PageId.{PageId}
 use Rattle.afl_base.proofs.Images.{length_or_at, length_zeros_at}
 use Rattle.coffee_cuts.specs.Cuts.{IsFound, MendsTo, UnderWay, Nothing, Beginning, Building, Erasing, Unnamed, Naming, Replacing, settled}
 use Rattle.coffee_cuts.proofs.SettledRules.{settled_kept}
-use Rattle.coffee_layout.specs.Files.{NamedFile, Placed, files_in, files_of, log_of, named_file}
+use Rattle.coffee_layout.specs.Files.{NamedFile, Placed, files_in, log_of, named_file}
 use Rattle.coffee_layout.specs.Rules.{first_repeated}
 use Rattle.coffee_layout.specs.Tiling.{units_of}
 use Rattle.coffee_merge.specs.Flags.{flagged, obsoleted}

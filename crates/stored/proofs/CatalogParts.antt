@@ -6,12 +6,12 @@ use Rattle.std.proofs.Math.Nat.{div-mul-le_self, mod-eq-sub-div-mul}
 use Rattle.std.proofs.Math.Seq.{take-append-add}
 use Rattle.std.proofs.lemmas.Bool.{cases_eq, cases_lt}
 use Rattle.std.proofs.lemmas.Grind.{flat_map-append}
-use Rattle.std.proofs.lemmas.List.{drop-drop, drop-take, drop_at, get_or-append-add, get_or-drop, get_or-set_other, get_or-set_same, get_or-take, length-take-le, take-append-drop, take-take, take_at}
+use Rattle.std.proofs.lemmas.List.{drop-drop, drop-take, drop_at, get_or-append-add, get_or-drop, get_or-set_other, get_or-set_same, get_or-take, length-take-le, nil_from_length, take-append-drop, take-take, take_at}
 use Rattle.std.proofs.lemmas.List.FromFn.{get_or-map-range_with_len, length-map-range_with_len}
 use Rattle.afl_base.specs.Fields.{put_at}
 use Rattle.afl_base.proofs.FieldLaws.{drop-put_at, length-put_at}
 use Rattle.afl_base.proofs.PutLaws.{put_at_nothing}
-use Rattle.catalog.specs.CatalogFile.{IsCatalogSize}
+use Rattle.catalog.specs.CatalogFile.{IsCatalogSize, ReplacesFront}
 use Rattle.catalog.proofs.Changes.{first_size, slot_put}
 use Rattle.catalog.proofs.PutRanges.{before_put, behind_put}
 use Rattle.catalog.proofs.Replaced.{IsReadBack, index_changed, relation_changed}
@@ -29,15 +29,11 @@ use Rattle.stored.proofs.MendedTables.{ReadsIndex, ReadsRelation, ReadsSame}
 
 -- ---- ranges
 
-range_is : (xs : List ℕ) (a b : ℕ) → a ≤ b → slice_range xs a b ≡ drop a (take b xs)
+pub range_is : (xs : List ℕ) (a b : ℕ) → a ≤ b → slice_range xs a b ≡ drop a (take b xs)
 range_is xs a b h = let e : a + (b - a) ≡ b = omega (arith, h) in sym (drop-take a (b - a) xs) ∙ ap (λ (n : ℕ). drop a (take n xs)) e
 
-range_take : (xs : List ℕ) (n a b : ℕ) → a ≤ b → b ≤ n → slice_range (take n xs) a b ≡ slice_range xs a b
+pub range_take : (xs : List ℕ) (n a b : ℕ) → a ≤ b → b ≤ n → slice_range (take n xs) a b ≡ slice_range xs a b
 range_take xs n a b h inside = range_is (take n xs) a b h ∙ ap (drop a) (take-take b n xs inside) ∙ sym (range_is xs a b h)
-
-nothing : (bytes : List ℕ) → length bytes ≡ 0 → bytes ≡ []
-nothing [] e = refl
-nothing (b ∷ bytes) e = absurd (omega (arith, e))
 
 -- ---- all slots as before
 
@@ -90,7 +86,7 @@ module _ (old whole : List ℕ) (n : ℕ) (long : length whole ≡ 1480) (size :
   few : length old ≡ 0 → n < 1472 → ReadsSame old (take n whole)
   few none short =
       let less : length (take n whole) ≡ n = length-take-le n whole (omega (arith, long, short)) in
-      reads_same old (take n whole) (whole_short (take n whole) (omega (arith, less, short)) ∙ sym (whole_sized old size ∙ nothing old none))
+      reads_same old (take n whole) (whole_short (take n whole) (omega (arith, less, short)) ∙ sym (whole_sized old size ∙ nil_from_length old none))
 
   enough : 1472 ≤ n → whole_bytes (take n whole) ≡ take n whole
   enough past = whole_long (take n whole) (by_length (cases_lt n 1480))
@@ -200,6 +196,15 @@ appended_index old slot n o size some below =
         sym (each_relation whole k inside) ∙ ap (λ (c : Catalog). get_or c.relations k None) (index_changed old slot o size below) ∙ each_relation old k inside
 
 -- ---- a slot that is written over in part
+
+-- of which nothing was written
+pub replaces_nothing : (old : List ℕ) (at : ℕ) (slot : List ℕ) → IsCatalogSize (length old) → ReplacesFront old at slot old
+replaces_nothing old at slot size = ⊎_elim
+    (λ (none : length old ≡ 0). inl (record { done = 0; first = inl none; is = nil_from_length old none }))
+    (λ (some : (length old ≡ 1472) ⊎ (length old ≡ 1480)).
+    let long : 1472 ≤ length old = ⊎_elim (λ (first : length old ≡ 1472). omega (arith, first)) (λ (second : length old ≡ 1480). omega (arith, second)) some in
+    inr (record { done = 0; within = omega arith; whole = inl refl; some = long; is = sym (put_at_nothing old at) }))
+    size
 
 -- the first bytes of a slot, up to where a region ends
 abbrev pub IsFrontPart : (at size n : ℕ) → Type 0
@@ -409,7 +414,7 @@ slot_read : ℕ → List ℕ → List Attribute → Option Schema
 slot_read first name attributes = if first == 0 then None else Some (record { name = up_to_zero name; attributes = attributes })
 
 -- a slot with the same front and the same end is read as the same
-same_reading : (xs ys : List ℕ) (count : ℕ) → take (16 + 18 * count) xs ≡ take (16 + 18 * count) ys → drop 160 xs ≡ drop 160 ys → slice_index ys 160 ≡ count → relation_slot_of xs ≡ relation_slot_of ys
+pub same_reading : (xs ys : List ℕ) (count : ℕ) → take (16 + 18 * count) xs ≡ take (16 + 18 * count) ys → drop 160 xs ≡ drop 160 ys → slice_index ys 160 ≡ count → relation_slot_of xs ≡ relation_slot_of ys
 unfolding slot_read
 same_reading xs ys count front end is =
     let m : ℕ = 16 + 18 * count in

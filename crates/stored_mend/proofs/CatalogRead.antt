@@ -11,12 +11,11 @@ use Rattle.afl_base.specs.Fields.{put_at}
 use Rattle.catalog.specs.Rules.{is_tree}
 use Rattle.catalog.proofs.Choices.{not_equal}
 use Rattle.catalog.proofs.PutRanges.{before_put, behind_put}
-use Rattle.db_model.specs.declared.schemas.Attribute.{Attribute}
 use Rattle.db_model.specs.declared.schemas.IndexKind.TheVariants.{Inline, MaxHeap, MemHash}
 use Rattle.db_model.specs.declared.schemas.Schema.{Schema}
-use Rattle.db_model.specs.Catalog.{attribute_of, attributes_of, catalog_of, index_at, index_slot_of, kind_from, relation_at, relation_slot_of, schema_of, version_of}
-use Rattle.db_model.specs.Row.{up_to_zero}
+use Rattle.db_model.specs.Catalog.{catalog_of, index_at, index_slot_of, kind_from, relation_at, relation_slot_of, schema_of, version_of}
 use Rattle.stored.specs.Mended.{has_time, mended_version, whole_bytes}
+use Rattle.stored.proofs.CatalogParts.{range_is, same_reading}
 use Rattle.stored.proofs.MendedBase.{slots_same, whole_long}
 use Rattle.stored.proofs.MendedTables.{ReadsSame}
 
@@ -81,13 +80,10 @@ version_marked bytes differs =
 
 -- ---- bytes behind the slots
 
-front_range : (xs : List ℕ) (a b : ℕ) → a ≤ b → slice_range xs a b ≡ drop a (take b xs)
-front_range xs a b h = let e : a + (b - a) ≡ b = omega (arith, h) in sym (drop-take a (b - a) xs) ∙ ap (λ (n : ℕ). drop a (take n xs)) e
-
 range_append : (xs ys : List ℕ) (a b : ℕ) → a ≤ b → b ≤ length xs → slice_range (xs ++ ys) a b ≡ slice_range xs a b
 range_append xs ys a b h inside =
     let front : take b (xs ++ ys) ≡ take b xs = sym (take-take b (length xs) (xs ++ ys) inside) ∙ ap (take b) (take_at xs ys (length xs) refl) in
-    front_range (xs ++ ys) a b h ∙ ap (drop a) front ∙ sym (front_range xs a b h)
+    range_is (xs ++ ys) a b h ∙ ap (drop a) front ∙ sym (range_is xs a b h)
 
 pub appended_reads : (old more : List ℕ) → 1472 ≤ length old → ReadsSame old (old ++ more)
 appended_reads old more long =
@@ -106,35 +102,6 @@ appended_reads old more long =
     }
 
 -- ---- bytes behind the attributes of a relation
-
--- what a relation's slot is read as, of its parts
-slot_read : ℕ → List ℕ → List Attribute → Option Schema
-slot_read first name attributes = if first == 0 then None else Some (record { name = up_to_zero name; attributes = attributes })
-
-range_take : (xs : List ℕ) (n a b : ℕ) → a ≤ b → b ≤ n → slice_range (take n xs) a b ≡ slice_range xs a b
-range_take xs n a b h inside = front_range (take n xs) a b h ∙ ap (drop a) (take-take b n xs inside) ∙ sym (front_range xs a b h)
-
--- a slot with the same front and the same end is read as the same
-same_reading : (xs ys : List ℕ) (count : ℕ) → take (16 + 18 * count) xs ≡ take (16 + 18 * count) ys → drop 160 xs ≡ drop 160 ys → slice_index ys 160 ≡ count → relation_slot_of xs ≡ relation_slot_of ys
-unfolding slot_read
-same_reading xs ys count front end is =
-    let m : ℕ = 16 + 18 * count in
-    let first : slice_index xs 0 ≡ slice_index ys 0 = sym (get_or-take m xs 0 0 (omega arith)) ∙ ap (λ (zs : List ℕ). slice_index zs 0) front ∙ get_or-take m ys 0 0 (omega arith) in
-    let name : take 16 xs ≡ take 16 ys = sym (take-take 16 m xs (omega arith)) ∙ ap (take 16) front ∙ take-take 16 m ys (omega arith) in
-    let number : slice_index xs 160 ≡ slice_index ys 160 = sym (get_or-drop 160 xs 0 0) ∙ ap (λ (zs : List ℕ). slice_index zs 0) end ∙ get_or-drop 160 ys 0 0 in
-    let fields : take (18 * count) (drop 16 xs) ≡ take (18 * count) (drop 16 ys) = sym (drop-take 16 (18 * count) xs) ∙ ap (drop 16) front ∙ drop-take 16 (18 * count) ys in
-    let attributes : attributes_of count (drop 16 xs) ≡ attributes_of count (drop 16 ys) =
-    slots_same (λ j. attribute_of (slice_range (drop 16 xs) (18 * j) (18 * j + 18))) (λ j. attribute_of (slice_range (drop 16 ys) (18 * j) (18 * j + 18))) 0 count
-    (λ j low inside.
-    ap attribute_of
-    (sym (range_take (drop 16 xs) (18 * count) (18 * j) (18 * j + 18) (omega arith) (omega (arith, inside)))
-    ∙ ap (λ (zs : List ℕ). slice_range zs (18 * j) (18 * j + 18)) fields
-    ∙ range_take (drop 16 ys) (18 * count) (18 * j) (18 * j + 18) (omega arith) (omega (arith, inside)))) in
-    ap (λ (f : ℕ). slot_read f (take 16 xs) (attributes_of (slice_index xs 160) (drop 16 xs))) first
-    ∙ ap (λ (n : List ℕ). slot_read (slice_index ys 0) n (attributes_of (slice_index xs 160) (drop 16 xs))) name
-    ∙ ap (λ (c : ℕ). slot_read (slice_index ys 0) (take 16 ys) (attributes_of c (drop 16 xs))) (number ∙ is)
-    ∙ ap (λ (fields : List Attribute). slot_read (slice_index ys 0) (take 16 ys) fields) attributes
-    ∙ ap (λ (c : ℕ). slot_read (slice_index ys 0) (take 16 ys) (attributes_of c (drop 16 ys))) (sym is)
 
 slot_front : (xs : List ℕ) (at m : ℕ) → m ≤ 176 → take m (slice_range xs at (at + 176)) ≡ slice_range xs at (at + m)
 slot_front xs at m few =

@@ -214,7 +214,7 @@ pub returns-in-Err-Failed-clause-comes : goal.returns-in-Err-Failed-clause-comes
 returns-in-Err-Failed-clause-comes g c = λ told. (record { same = search rules; unread = refl }, refl)
 
 pub returns-in-Err-Failed-clause-broken : goal.returns-in-Err-Failed-clause-broken
-returns-in-Err-Failed-clause-broken g c = λ told cuts. record { same = search rules; unread = refl }
+returns-in-Err-Failed-clause-broken g c = λ told cuts. (record { same = search rules; unread = refl }, refl)
 
 pub returns-in-Err-clause-comes : goal.returns-in-Err-clause-comes
 returns-in-Err-clause-comes g c = λ told.
@@ -224,7 +224,7 @@ returns-in-Err-clause-comes g c = λ told.
 pub returns-in-Err-clause-broken : goal.returns-in-Err-clause-broken
 returns-in-Err-clause-broken g c = λ told cuts.
     let same = c.close-in-Err.ensures.image ∙ ap (λ s. s.store) c.in-Err.ensures.frame.same ∙ rw (← c.new-session.ensures.files) at c.in-Ok.ensures.same in
-    record { same = same; unread = refl }
+    (record { same = same; unread = refl }, refl)
 
 pub returns-in-Err-clause-reads : goal.returns-in-Err-clause-reads
 returns-in-Err-clause-reads g c = λ told.
