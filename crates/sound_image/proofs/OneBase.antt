@@ -67,10 +67,10 @@ same_named old new name alike s = by_both (file_named name old) refl (file_named
 
 mended_of_same : (old new : Table) → AreAlikeByName old → HaveSameFiles old new → mended_base new ≡ mended_base old
 mended_of_same old new alike s = mended_same old new (record {
-    catalog = (same_named old new catalog_file alike s).1;
-    rows = λ k below used. (same_named old new (rows_file k) alike s).1;
-    trees = λ i below tree. (same_named old new (tree_file i) alike s).0;
-  })
+  catalog = (same_named old new catalog_file alike s).1;
+  rows = λ k below used. (same_named old new (rows_file k) alike s).1;
+  trees = λ i below tree. (same_named old new (tree_file i) alike s).0;
+})
 
 -- ---- what an image mends to
 
