@@ -1,4 +1,5 @@
 pub mod Codes
+pub mod Compared
 pub mod Counting
 pub mod Derived
 pub mod Evaluation

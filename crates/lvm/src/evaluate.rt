@@ -2,10 +2,12 @@
 
 #![tactic(auto)]
 
-ghost use Rattle.std.specs.Prelude.{◌≡◌, ◌+◌, ◌<◌, ◌≤◌, List, [], ◌∷◌, length, None, slice_get};
+ghost use Rattle.std.specs.Prelude.{◌≡◌, ◌+◌, ◌<◌, ◌≤◌, IfSome, IsTrue, List, [], ◌∷◌, length, None, slice_get};
 ghost use Rattle.db_model.specs.Item as item;
 ghost use Rattle.lvm.specs.Evaluate as spec;
-ghost use Rattle.lvm.specs.declared.evaluate.Item.TheVariants.{Number};
+ghost use Rattle.lvm.specs.declared.evaluate.Item.{Item};
+ghost use Rattle.lvm.specs.declared.evaluate.Item.TheVariants.{Number, Truth};
+ghost use Rattle.lvm.specs.declared.instruction.Instruction.TheVariants.{And};
 
 use crate::arithmetic::calculated;
 use crate::instruction::{Arithmetic, Instruction};
@@ -34,9 +36,79 @@ pub fn evaluated(instructions: &[Instruction], tuple: &Tuple) -> bool
     requires { length instructions.now ≤ 32 }
     ensures { result ≡ spec.verdict (spec.evaluated instructions.now tuple.now []) }
 {
-    if instructions.is_empty() {
-        return true;
+    match evaluated_at_once(instructions, tuple) {
+        Some(truth) => truth,
+        None => evaluated_by_steps(instructions, tuple),
     }
+}
+
+// The same where there is one comparison, or two, as in most conditions: these want no stack.
+fn evaluated_at_once(instructions: &[Instruction], tuple: &Tuple) -> Option<bool>
+    ensures { IfSome result (λ truth.
+        truth ≡ spec.verdict (spec.evaluated instructions.now tuple.now [])) }
+{
+    match instructions {
+        [] => Some(true),
+        [left, right, compare] => compared(left, right, compare, tuple),
+        _ => both_compared(instructions, tuple),
+    }
+}
+
+// The same of two comparisons and their AND.
+fn both_compared(instructions: &[Instruction], tuple: &Tuple) -> Option<bool>
+    ensures { IfSome result (λ truth.
+        truth ≡ spec.verdict (spec.evaluated instructions.now tuple.now [])) }
+{
+    let [
+        left,
+        right,
+        compare,
+        next_left,
+        next_right,
+        next_compare,
+        last,
+    ] = instructions
+    else {
+        return None;
+    };
+    if !is_and(last) {
+        return None;
+    }
+    let truth = compared(left, right, compare, tuple)?;
+    let next_truth = compared(next_left, next_right, next_compare, tuple)?;
+    Some(truth && next_truth)
+}
+
+fn is_and(instruction: &Instruction) -> bool
+    ensures { IsTrue result → instruction.now ≡ And }
+{
+    matches!(instruction, Instruction::And)
+}
+
+// What an attribute compared with a number is; None where the steps are others.
+fn compared(
+    left: &Instruction,
+    right: &Instruction,
+    compare: &Instruction,
+    tuple: &Tuple,
+) -> Option<bool>
+    ensures { IfSome result (λ truth. (stack : List Item)
+        → spec.evaluated (left.now ∷ right.now ∷ compare.now ∷ []) tuple.now stack
+        ≡ Truth truth ∷ stack) }
+{
+    match (left, right, compare) {
+        (Instruction::Attribute(at), Instruction::Number(number), Instruction::Compare(how)) => {
+            Some(comparison(*how, &item_at(tuple, *at), &Item::Number(Some(*number))))
+        }
+        _ => None,
+    }
+}
+
+// The same by a stack.
+fn evaluated_by_steps(instructions: &[Instruction], tuple: &Tuple) -> bool
+    requires { length instructions.now ≤ 32 }
+    ensures { result ≡ spec.verdict (spec.evaluated instructions.now tuple.now []) }
+{
     let mut stack = Stack::new();
     for instruction in instructions {
         step(instruction, tuple, &mut stack);

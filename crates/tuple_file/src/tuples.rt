@@ -113,7 +113,7 @@ impl Tuples {
         ensures reads { V.reads files.new ≤ V.reads files.old + 6 }
         ensures frame { OnlyReads V.state V.lent V.reads V.faults files.old files.new result }
     {
-        let at = row_length(&self.schema.attributes) as u32 * u32::from(slot);
+        let at = into.len() as u32 * u32::from(slot);
         files.read(self.file, at, into)
     }
 

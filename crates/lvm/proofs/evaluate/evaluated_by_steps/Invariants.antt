@@ -1,6 +1,6 @@
 use Rattle.std.proofs.Common.{◌≡◌, ◌≤◌, [], length, drop}
 use Rattle.lvm.specs.Evaluate as spec
-use Rattle.lvm.proofs.evaluate.evaluated.Given as goal
+use Rattle.lvm.proofs.evaluate.evaluated_by_steps.Given as goal
 
 abbrev pub invariant-loop-instruction : goal.invariant-loop-instruction
 invariant-loop-instruction l = record {
