@@ -15,11 +15,13 @@ pub struct ImageFile {
 }
 
 impl ImageFile {
-    pub fn new<R: Env>(rt: &R, file: File) -> ImageFile {
-        ImageFile {
-            file,
-            is_synced: is_synced(rt),
+    /// The open file of an image. What was written into it before is on the disk first, where that is asked for.
+    pub fn new<R: Env>(rt: &R, file: File) -> Result<ImageFile, Failure> {
+        let is_synced = is_synced(rt);
+        if is_synced && file.sync_all().is_err() {
+            return Err(Failure::Open);
         }
+        Ok(ImageFile { file, is_synced })
     }
 }
 

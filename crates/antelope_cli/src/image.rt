@@ -25,7 +25,7 @@ pub struct Image {
 }
 
 /// The image in the file `path`, which is made with 256 erased sectors where there is none. Where writes wait for the
-/// disk, the name of a new file is there before the first.
+/// disk, the file as it is found or made, and its name, are there before the first.
 ///
 /// # Errors
 ///
@@ -35,27 +35,25 @@ pub fn open_image<R>(rt: &R, path: &str) -> Result<Image, Failure>
 where
     R: Env + Files<File = File> + AllocGlobal,
 {
-    match OpenOptions::new().read(true).write(true).open(rt, path) {
-        Ok(file) => Ok(Image {
+    let image = match OpenOptions::new().read(true).write(true).open(rt, path) {
+        Ok(file) => Image {
             flash: take_found(rt, path, file)?,
             is_new: false,
-        }),
-        Err(error) if error.kind() == ErrorKind::NotFound => {
-            let image = Image {
-                flash: make(rt, path)?,
-                is_new: true,
-            };
-            if is_synced(rt) && keep_name(rt, path).is_err() {
-                remove_new(rt, path, image);
-                return Err(Failure::Open);
-            }
-            Ok(image)
-        }
-        Err(_) => Err(Failure::Open),
+        },
+        Err(error) if error.kind() == ErrorKind::NotFound => Image {
+            flash: make(rt, path)?,
+            is_new: true,
+        },
+        Err(_) => return Err(Failure::Open),
+    };
+    if is_synced(rt) && keep_name(rt, path).is_err() {
+        remove_new(rt, path, image);
+        return Err(Failure::Open);
     }
+    Ok(image)
 }
 
-// Waits until the name of a new file is on the disk.
+// Waits until the name of a file is on the disk.
 fn keep_name<R>(rt: &R, path: &str) -> Result<(), Failure>
 where
     R: Files<File = File> + AllocGlobal,
@@ -98,7 +96,7 @@ where
         Ok(named) if named.dev() == known.dev() && named.ino() == known.ino() => {}
         _ => return Err(Failure::Open),
     }
-    FileFlash::new(ImageFile::new(rt, file), known.len()).ok_or(Failure::Length)
+    FileFlash::new(ImageFile::new(rt, file)?, known.len()).ok_or(Failure::Length)
 }
 
 // A file takes its name when it is whole and locked, so that no other run finds it before that. Where
@@ -174,10 +172,7 @@ fn erased<R: Env>(rt: &R, file: File) -> Result<FileFlash<ImageFile>, Failure> {
             return Err(Failure::Open);
         }
     }
-    if is_synced(rt) && file.sync_all().is_err() {
-        return Err(Failure::Open);
-    }
-    FileFlash::new(ImageFile::new(rt, file), SECTOR * NEW_SECTORS).ok_or(Failure::Length)
+    FileFlash::new(ImageFile::new(rt, file)?, SECTOR * NEW_SECTORS).ok_or(Failure::Length)
 }
 
 fn lock(file: File) -> Result<File, Failure> {
