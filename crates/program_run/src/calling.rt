@@ -2,10 +2,11 @@
 
 #![tactic(auto)]
 
-ghost use Rattle.std.specs.Prelude.{◌≡◌, ◌⊎◌, ◌↔◌, None, false};
-ghost use Rattle.antelope_run.specs.Statuses.{IsStatus};
+ghost use Rattle.std.specs.Prelude.{◌≡◌, ◌⊎◌, ◌↔◌, IsTrue, List, None, false, true, ℕ};
+ghost use Rattle.antelope_run.specs.Statuses.{IsStatus, LeftBy};
 ghost use Rattle.program_run.specs.Repairs.{is_repair};
-ghost use Rattle.repair_run.specs.Repairs.{IsRepairStatus};
+ghost use Rattle.repair_run.specs.Repairs.{IsRepairStatus, Repairs};
+ghost use Rattle.run_model.specs.Runs.{world};
 ghost use Rattle.run_words.specs.Words.{form_of};
 
 use crate::naming::is_repair;
@@ -13,7 +14,8 @@ use afl_base::{Flash, Sink, Source};
 use antelope_run::top;
 use repair_run::repair;
 
-/// Repairs what is on a flash, or runs on it as the words ask, and answers the status that the program ends with.
+/// Repairs what is on a flash, or runs on it as the words ask, and answers the status that the program ends with. What
+/// was written is what `repair` or `top` promises; the flash is dropped, so nothing is said of what it holds.
 pub fn carry_out<F, S, K>(words: &[String], script: &mut S, out: &mut K, flash: F) -> u8
 where
     F: Flash + Drop,
@@ -21,6 +23,11 @@ where
     K: Sink,
     ensures only { IsStatus result ⊎ IsRepairStatus result }
     ensures words { (result ≡ 1) ↔ ((form_of words.now ≡ None) × (is_repair words.now ≡ false)) }
+    ensures ran { IsTrue F.tells → is_repair words.now ≡ false → (image : List ℕ) × LeftBy result (form_of words.now)
+        (world (F.image flash) (S.left script.old) (K.held out.old))
+        (world image (S.left script.new) (K.held out.new)) }
+    ensures repaired { IsTrue F.tells → is_repair words.now ≡ true → (image : List ℕ)
+        × Repairs result (F.image flash) image (K.held out.old) (K.held out.new) }
 {
     if is_repair(words) {
         repaired(out, flash)
@@ -38,6 +45,9 @@ where
     K: Sink,
     ensures only { IsStatus result }
     ensures words { (result ≡ 1) ↔ (form_of words.now ≡ None) }
+    ensures ran { IsTrue F.tells → (image : List ℕ) × LeftBy result (form_of words.now)
+        (world (F.image flash) (S.left script.old) (K.held out.old))
+        (world image (S.left script.new) (K.held out.new)) }
 {
     let (status, _) = top(words, script, out, flash);
     status
@@ -48,7 +58,9 @@ fn repaired<F, K>(out: &mut K, flash: F) -> u8
 where
     F: Flash + Drop,
     K: Sink,
-    ensures { IsRepairStatus result }
+    ensures only { IsRepairStatus result }
+    ensures repaired { IsTrue F.tells → (image : List ℕ)
+        × Repairs result (F.image flash) image (K.held out.old) (K.held out.new) }
 {
     let (status, _) = repair(out, flash);
     status
