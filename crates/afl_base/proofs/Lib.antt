@@ -11,3 +11,4 @@ pub mod PaddedLaws
 pub mod PutLaws
 pub mod UsedLaws
 pub mod Bits
+pub mod SparingLaws

@@ -15,3 +15,4 @@ pub mod Names
 pub mod Places
 pub mod Regions
 pub mod Shares
+pub mod Sparing

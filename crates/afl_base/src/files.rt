@@ -15,13 +15,14 @@ use crate::name::Name;
 /// of what all is kept in, and what that borrows. Where its failures are cuts, what all is kept in then
 /// mends to the files as they were before the call, or to what the call might have made of them.
 pub trait Files {
-    ghost use Rattle.std.specs.Prelude.{◌≡◌, ◌≢◌, ℕ, ◌+◌, ◌*◌, ◌-◌, ◌<◌, ◌≤◌, Bool, List, length, max, replicate, slice_index, slice_range, IsTrue, IsSome, IfSome, IfNone, IfOk, IsErrOf, OnErr, OnOk};
+    ghost use Rattle.std.specs.Prelude.{◌≡◌, ◌≢◌, ℕ, ◌+◌, ◌*◌, ◌-◌, ◌<◌, ◌≤◌, Bool, List, None, length, max, replicate, slice_index, slice_range, IsTrue, IsSome, IfSome, IfNone, IfOk, IsErrOf, OnErr, OnOk};
     ghost use Rattle.afl_base.specs.CutFiles.{AppendsFront, MendsToEither, MendsToState, OverwritesFront};
     ghost use Rattle.afl_base.specs.FileErrors.{OnSpace, UnlessFailed};
     ghost use Rattle.afl_base.specs.Files.{State, Table, AreDistinct, Appends, Commits, Creates, Drafts, IsKind, IsLive, IsNamed, IsUnnamed, Keeps, KeepsBytes, Overwrites, Removes, WritesDraft, bytes_at, draft_in, file_at, first_pages, is_live, size_at, used};
     ghost use Rattle.afl_base.specs.Fit.{fit};
     ghost use Rattle.afl_base.specs.Keeping.{Changes, ChangesOrLacks, OnlyReads};
     ghost use Rattle.afl_base.specs.Regions.{regions};
+    ghost use Rattle.afl_base.specs.Sparing.{TakesNoPage, StandsStill};
 
     // All files, the draft, whether bytes are told, and the bytes that all is kept in.
     ghost state: { Self → State };
@@ -35,6 +36,8 @@ pub trait Files {
     ghost lacks: { Self → ℕ → Type 0 };
     // `prepare` of this file for so many overwrites and bytes needs an extent of so many pages.
     ghost asks: { Self → ℕ → ℕ → ℕ → ℕ → Type 0 };
+    // Whether a page of what all is kept in is free.
+    ghost is_free: { List ℕ → ℕ → Bool };
     // Whether its failures are cuts: a call that failed did a front part of its writes.
     ghost cuts: { Bool };
     // Bytes that all is kept in mend to these files, whatever their ids and rooms.
@@ -43,6 +46,10 @@ pub trait Files {
     // Between calls they mend to the files that there are, also while a draft is begun.
     ghost mended: { (files : Self) → IsTrue cuts → IsTrue (state files).tells
         → mends (state files).store (state files).files };
+    // What is asked for while no draft is begun is seen in the state, where bytes are told.
+    ghost asks_seen: { (old new : Self) → state new ≡ state old → IsTrue (state old).tells
+        → (state old).draft ≡ None → (id overwrites bytes need : ℕ)
+        → asks new id overwrites bytes need → asks old id overwrites bytes need };
 
     /// Whether the place holds a file. There are 32 places, and no two files have one name.
     fn live(&self, id: FileId) -> bool
@@ -96,11 +103,13 @@ pub trait Files {
             (λ after. (id : ℕ) × Creates (state self.old) after id name kind) }
         ensures frame { ChangesOrLacks state lent reads faults lacks self.old self.new result };
 
-    /// Takes the file away. All others stay.
+    /// Takes the file away. All others stay, and no page that was free is taken.
     fn remove(&mut self, id: FileId) -> Result<(), Failed>
         requires live { IsLive (state self.old).files id }
         requires idle { (state self.old).draft ≡ None }
         ensures removed { OnOk result (Removes (state self.old) (state self.new) id) }
+        ensures spares { IsTrue (state self.old).tells → OnOk result
+            (TakesNoPage is_free (state self.old).store (state self.new).store) }
         ensures cut { IsTrue cuts → IsTrue (state self.old).tells → OnErr result
             (MendsToEither mends (state self.old).files (state self.new).store
             (λ after. Removes (state self.old) after id)) }
@@ -109,8 +118,8 @@ pub trait Files {
     /// Makes room in the file for at most 29 overwrites of one region each and for `bytes` more bytes,
     /// at most 4,096, with which it has at most 4,194,304 and, of kind `Fixed(n)`, at most
     /// `256 * n - 32`. `Space` names the pages that are asked for and lacking: for a doubling file at
-    /// most twice those that its bytes need, and for a fixed one at most 16. It never comes where no
-    /// extent is asked for when the call is made. The file's bytes never
+    /// most twice those that its bytes need, and for a fixed one at most 16. Where no extent is asked
+    /// for when the call is made it never comes, and what all is kept in stays. The file's bytes never
     /// change.
     fn prepare(&mut self, id: FileId, overwrites: u16, bytes: u32) -> Result<(), FileError>
         requires live { IsLive (state self.old).files id }
@@ -129,12 +138,14 @@ pub trait Files {
             → need ≤ 16) }
         ensures asked { OnSpace result (λ need. asks self.new id overwrites bytes need) }
         ensures unasked { ((n : ℕ) → asks self.old id overwrites bytes n → ⊥) → OnSpace result (λ need. ⊥) }
+        ensures still { ((n : ℕ) → asks self.old id overwrites bytes n → ⊥)
+            → OnOk result (StandsStill state asks self.old self.new) }
         ensures cut { IsTrue cuts → IsTrue (state self.old).tells → IsErrOf result FileError.Failed
             → mends (state self.new).store (state self.old).files }
         ensures frame { ChangesOrLacks state lent reads faults lacks self.old self.new result };
 
     /// Puts `bytes` in the place of those from byte `at` on. It takes one record of the room for each
-    /// region that is touched. The file's last byte may not become zero.
+    /// region that is touched. The file's last byte may not become zero. No page that was free is taken.
     fn overwrite(&mut self, id: FileId, at: u32, bytes: &[u8]) -> Result<(), Failed>
         requires live { IsLive (state self.old).files id }
         requires some { 1 ≤ length bytes.now }
@@ -143,6 +154,8 @@ pub trait Files {
         requires last { at + length bytes.now ≡ size_at (state self.old).files id
             → slice_index bytes.now (length bytes.now - 1) ≢ 0 }
         ensures overwritten { OnOk result (Overwrites (state self.old) (state self.new) id at bytes.now) }
+        ensures spares { IsTrue (state self.old).tells → OnOk result
+            (TakesNoPage is_free (state self.old).store (state self.new).store) }
         ensures records { OnOk result
             ((file_at (state self.new).files id).records + regions at (length bytes.now)
             ≡ (file_at (state self.old).files id).records) }
@@ -154,13 +167,15 @@ pub trait Files {
         ensures frame { Changes state lent reads faults self.old self.new result };
 
     /// Adds `bytes`, whose last is not zero, to the end of the file. All room for bytes is used up by
-    /// this, and the records stay.
+    /// this, and the records stay. No page that was free is taken.
     fn append(&mut self, id: FileId, bytes: &[u8]) -> Result<(), Failed>
         requires live { IsLive (state self.old).files id }
         requires some { 1 ≤ length bytes.now }
         requires room { length bytes.now ≤ (file_at (state self.old).files id).room }
         requires last { slice_index bytes.now (length bytes.now - 1) ≢ 0 }
         ensures appended { OnOk result (Appends (state self.old) (state self.new) id bytes.now) }
+        ensures spares { IsTrue (state self.old).tells → OnOk result
+            (TakesNoPage is_free (state self.old).store (state self.new).store) }
         ensures records { OnOk result
             ((file_at (state self.new).files id).records ≡ (file_at (state self.old).files id).records) }
         ensures room { OnOk result ((file_at (state self.new).files id).room ≡ 0) }

@@ -104,11 +104,13 @@ fn is_lacking(cap: usize, pages: u16) -> bool
 
 impl<const CAP: usize> Files for PlainFiles<CAP> {
     ghost use Rattle.std.specs.Prelude.{◌≡◌, ◌+◌, ◌*◌, ◌<◌, ◌≤◌, ℕ, ⊤, false, None, IsErrOf, IsTrue, OnOk, max, replicate, []};
+    ghost use Rattle.std.proofs.Common.{subst};
     ghost use Rattle.afl_base.specs.FileErrors.{OnSpace, UnlessFailed};
-    ghost use Rattle.afl_base.specs.Files.{Drafts, IsLive, IsNamed, IsUnnamed, Keeps, KeepsBytes, file_at, size_at, used};
+    ghost use Rattle.afl_base.specs.Files.{State, Drafts, IsLive, IsNamed, IsUnnamed, Keeps, KeepsBytes, file_at, size_at, used};
     ghost use Rattle.afl_base.specs.Fit.{fit};
     ghost use Rattle.afl_sim.specs.PlainFiles.{PlainLacks, asked_pages};
     ghost use Rattle.afl_base.specs.Keeping.{ChangesOrLacks};
+    ghost use Rattle.afl_base.specs.Sparing.{StandsStill};
 
     ghost state = { λ f. f };
 
@@ -122,12 +124,18 @@ impl<const CAP: usize> Files for PlainFiles<CAP> {
 
     ghost asks = { λ f id w b n. n ≡ asked_pages f.files id b };
 
+    // It has no pages.
+    ghost is_free = { λ store page. false };
+
     // It never fails, so nothing is ever to be mended.
     ghost cuts = { false };
 
     ghost mends = { λ store files. ⊤ };
 
     ghost mended = { λ f cuts tells. tt };
+
+    ghost asks_seen = { λ old new same tells idle id w b n asked.
+        subst (λ (f : State). n ≡ asked_pages f.files id b) same asked };
 
     fn live(&self, id: FileId) -> bool {
         self.table[id.number() as usize].is_some()
@@ -187,6 +195,9 @@ impl<const CAP: usize> Files for PlainFiles<CAP> {
         ensures asked { OnSpace result (λ need. need ≡ asked_pages self.new.files id bytes) }
         ensures unasked { ((n : ℕ) → n ≡ asked_pages self.old.files id bytes → ⊥)
             → OnSpace result (λ need. ⊥) }
+        ensures still { let files = ⟦<Self as Files>⟧ in
+            ((n : ℕ) → n ≡ asked_pages self.old.files id bytes → ⊥)
+            → OnOk result (StandsStill files.state files.asks self.old self.new) }
         ensures kept { OnSpace result (λ need. self.new ≡ self.old) }
         ensures cut { let files = ⟦<Self as Files>⟧ in IsTrue files.cuts → IsTrue self.old.tells
             → IsErrOf result FileError.Failed → files.mends self.new.store self.old.files }

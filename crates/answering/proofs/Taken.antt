@@ -1,5 +1,5 @@
 -- Laws of an input: its bytes are taken one after the other.
-use Rattle.std.specs.Prelude.{◌≡◌, ℕ, ◌≤◌, false, List, [], ◌++◌, IsTrue, Result}
+use Rattle.std.specs.Prelude.{◌≡◌, ℕ, ◌≤◌, false, List, [], ◌++◌, Option, IsTrue, Result}
 use Rattle.std.proofs.Common.{refl, sym, subst, ◌∙◌, arith}
 use Rattle.afl_base.specs.declared.files.Files.{Ghosts as FilesOf}
 use Rattle.afl_base.specs.Causes.{Rose}
@@ -9,7 +9,8 @@ use Rattle.db_model.specs.Reading.{IsReader}
 use Rattle.intake.specs.declared.ending.Ending.{Ending}
 use Rattle.run_model.specs.Line.{ComesInParts, Line}
 use Rattle.answering.specs.Carried.{Carried, HaltsIn, limits_of, standing_of}
-use Rattle.answering.specs.Taking.{CarriesEntries, KeepsRunning, HaltsInBytes, Input, Running, TakesBytes}
+use Rattle.antelope_engine.specs.Seen.{Seen}
+use Rattle.answering.specs.Taking.{CarriesEntries, KeepsRunning, HaltsInBytes, Input, Running, TakesBytes, running}
 use Rattle.answering.proofs.Composed.{carried_none, carried_then, halts_later, halts_sooner}
 
 rose_later : (a b c : ℕ) → a ≤ b → Rose b c → Rose a c
@@ -91,4 +92,20 @@ module _ {E Q P V : Type 0} (input : Input E Q P) (files : FilesOf V) (line : Li
         (halts_sooner (input.talk read) limits (input.cut.ended q xs) (input.cut.ended (input.cut.begun q xs) ys)
         (standing_of files.state files.reads a.session a.held) (standing_of files.state files.reads b.session b.held) halt (h.halts going told read reader q k));
     on = h.on;
+  }
+
+-- bytes that end no entry: only what is kept of the one at hand changes
+module _ {E Q P V : Type 0} (input : Input E Q P) (files : FilesOf V) (session : Seen V) (part part1 : P) (held : Option (List ℕ)) (replies : ℕ) (came : List ℕ) where
+  pub taken_silent : ((q : Q) → input.Keeps q part → input.Keeps (input.cut.begun q came) part1) → ((q : Q) → input.Keeps q part → input.cut.ended q came ≡ [])
+      → TakesBytes input files (running session part held replies) came (running session part1 held replies)
+  taken_silent keeps ends = record {
+    keeps = keeps;
+    carries = record {
+      going = λ e. e;
+      kept = λ e f. f;
+      carried = λ going told read reader q k.
+          let s = standing_of files.state files.reads session held in
+          subst (λ (es : List E). Carried (input.talk read) es s s) (sym (ends q k)) (carried_none (input.talk read) s);
+      on = record { faults = omega arith; replies = omega arith; store = refl; lent = refl };
+    };
   }

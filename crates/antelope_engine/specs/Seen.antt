@@ -41,6 +41,12 @@ OnNothingDone (Ok (Done Fine)) P = ⊤
 OnNothingDone (Ok (NoSpace need)) P = ⊤
 OnNothingDone (Err e) P = ⊤
 
+-- P, where the command was done or refused
+abbrev pub WhereDone : {E : Type 0} → Result Step E → Type 0 → Type 0
+WhereDone (Ok (Done came)) P = P
+WhereDone (Ok (NoSpace need)) P = ⊤
+WhereDone (Err e) P = ⊤
+
 -- whether a file failed
 abbrev pub is_flash : Fault → Bool
 is_flash Flash = true

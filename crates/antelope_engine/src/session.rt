@@ -5,6 +5,7 @@
 ghost use Rattle.std.specs.Prelude.{◌≡◌, ◌+◌, ◌*◌, ◌≤◌, None, true, false, IsTrue, IfErr, IfOk, IsErrOf, OnErr, OnOk, length, map, replicate};
 ghost use Rattle.std.specs.List.{range_with_len};
 ghost use Rattle.afl_base.specs.Keeping.{OnlyReads};
+ghost use Rattle.afl_base.specs.Sparing.{TakesNoPage};
 ghost use Rattle.db_model.specs.Ahead.{cost_of, no_cursors};
 ghost use Rattle.db_model.specs.Cost.{sum};
 ghost use Rattle.db_model.specs.ReplyText.{text};
@@ -16,11 +17,12 @@ ghost use Rattle.afl_base.specs.declared.fault.Fault.TheVariants.{Flash, Sink as
 ghost use Rattle.session_model.specs.Queries.{IsWellFormed};
 ghost use Rattle.session_model.specs.Carried.{ChangesAndSends};
 ghost use Rattle.session_model.specs.Steps.{Does};
+ghost use Rattle.session_model.specs.Wanted.{WantsNone};
 ghost use Rattle.stored.specs.Base.{base_of};
 ghost use Rattle.stored.specs.Sound.{BreaksFirst, IsSoundTable};
 ghost use Rattle.db_model.specs.Database.{bare};
 ghost use Rattle.antelope_engine.specs.Commands.{GoesOn, IsBrokenOff, LacksPages, LeavesFiles, StopsAtFault};
-ghost use Rattle.antelope_engine.specs.Seen.{WhereNoSpace, is_flash};
+ghost use Rattle.antelope_engine.specs.Seen.{WhereDone, WhereNoSpace, is_flash};
 ghost use Rattle.antelope_engine.specs.Started.{HasStartCause, OnBroken, UnlessBegun, files_after, files_left};
 
 use crate::executing::carry_out;
@@ -158,7 +160,7 @@ impl<V: Files> Session<V> {
     }
 
     /// Carries out a command and writes its reply. Where there is no space for it, which is no
-    /// error, nothing is changed or written.
+    /// error, nothing is changed or written. A command that wants no extent takes no page that was free.
     ///
     /// # Errors
     ///
@@ -181,6 +183,9 @@ impl<V: Files> Session<V> {
             → IsBrokenOff V.Files K.Sink command.now self.old.database self.new.files out.old out.new }
         ensures space { IsTrue (V.state self.old.files).tells → WhereNoSpace result (λ need.
             LacksPages V.state V.asks V.lacks self.new command.now need) }
+        ensures spares { let old = V.state self.old.files in IsTrue old.tells
+            → WantsNone (V.asks self.old.files) old.files self.old.database command.now
+            → WhereDone result (TakesNoPage V.is_free old.store (V.state self.new.files).store) }
         ensures silent { WhereNoSpace result (λ need.
             V.lacks self.new.files need × (K.held out.new ≡ K.held out.old)) }
         ensures goes_on { self.new.lost ≡ false → GoesOn V.state command.now self.old self.new }

@@ -181,14 +181,26 @@ abbrev pub open_of : List Token → List Node → Option Command
 open_of (Number z ∷ ts) nodes = option_map (λ q. command.OpenCursor z q) (query_of ts nodes)
 open_of _ nodes = None
 
+abbrev pub joined_of : List Token → Option Command
+joined_of ts = option_map (λ q. command.Ask q) (join_read ts)
+
+abbrev pub pack_of : List Token → Option Command
+pack_of ts = option_map (λ r. command.Pack r) (name_at ts 0)
+
+abbrev pub fetch_of : List Token → Option Command
+fetch_of ts = option_map (λ z. command.FetchCursor z) (number_at ts 0)
+
+abbrev pub close_of : List Token → Option Command
+close_of ts = option_map (λ z. command.CloseCursor z) (number_at ts 0)
+
 abbrev pub command_of : List Token → List Node → Option Command
 command_of (Word KCREATE ∷ ts) nodes = create_of ts
 command_of (Word KINSERT ∷ ts) nodes = insert_of ts
 command_of (Word KSELECT ∷ ts) nodes = selection_of ts nodes
-command_of (Word KJOIN ∷ ts) nodes = option_map (λ q. command.Ask q) (join_read ts)
+command_of (Word KJOIN ∷ ts) nodes = joined_of ts
 command_of (Word KREMOVE ∷ ts) nodes = remove_of ts nodes
-command_of (Word KPACK ∷ ts) nodes = option_map (λ r. command.Pack r) (name_at ts 0)
+command_of (Word KPACK ∷ ts) nodes = pack_of ts
 command_of (Word KOPEN ∷ ts) nodes = open_of ts nodes
-command_of (Word KFETCH ∷ ts) nodes = option_map (λ z. command.FetchCursor z) (number_at ts 0)
-command_of (Word KCLOSE ∷ ts) nodes = option_map (λ z. command.CloseCursor z) (number_at ts 0)
+command_of (Word KFETCH ∷ ts) nodes = fetch_of ts
+command_of (Word KCLOSE ∷ ts) nodes = close_of ts
 command_of _ nodes = None

@@ -1,16 +1,17 @@
 //! The command of tokens of which it is known that they spell one: each place tells its part.
 //!
 //! A command is put where an earlier one was; false comes only where the tokens spell none, and
-//! then nothing is said of what stands there.
+//! then nothing is said of what stands there. Each kind is made in a function of its own, so that no
+//! other fills a place on the stack for it.
 
 #![tactic(auto)]
 
-ghost use Rattle.std.specs.Prelude.{◌≡◌};
-ghost use Rattle.aql_parse.specs.Built.{aggregate_read, attribute_read, command_of, create_of, domain_read, index_of, insert_of, join_read, made, open_of, projected_tokens, query_of, remove_of, select_of, selection_of, unindex_of};
+ghost use Rattle.std.specs.Prelude.{◌≡◌, Some};
+ghost use Rattle.aql_parse.specs.Built.{aggregate_read, attribute_read, close_of, command_of, create_of, domain_read, fetch_of, index_of, insert_of, join_read, joined_of, made, open_of, pack_of, projected_tokens, query_of, relation_in, remove_of, select_of, selection_of, unindex_of};
 
 use crate::lists::{aggregates_in, names_in, relation_in, values_in};
 use crate::parts::{kind_at, name_at, number_at, token_name};
-use db_model::{Command, Condition, DomainAsked, Idents, Keyword, Query, Token, Tuple};
+use db_model::{Command, Condition, DomainAsked, Ident, Idents, Keyword, Query, Token, Tuple};
 use std::mem;
 
 /// Puts the command of its tokens and the nodes of its condition, which are taken.
@@ -21,38 +22,54 @@ pub fn command_of(tokens: &[Token], nodes: &mut Condition, command: &mut Command
         [Token::Word(Keyword::KCREATE), rest @ ..] => create_of(rest, command),
         [Token::Word(Keyword::KINSERT), rest @ ..] => insert_of(rest, command),
         [Token::Word(Keyword::KSELECT), rest @ ..] => selection_of(rest, nodes, command),
-        [Token::Word(Keyword::KJOIN), rest @ ..] => match join_of(rest) {
-            Some(query) => {
-                *command = Command::Ask(query);
-                true
-            }
-            None => false,
-        },
+        [Token::Word(Keyword::KJOIN), rest @ ..] => joined_of(rest, command),
         [Token::Word(Keyword::KREMOVE), rest @ ..] => remove_of(rest, nodes, command),
-        [Token::Word(Keyword::KPACK), rest @ ..] => match name_at(rest, 0) {
-            Some(relation) => {
-                *command = Command::Pack { relation };
-                true
-            }
-            None => false,
-        },
+        [Token::Word(Keyword::KPACK), rest @ ..] => pack_of(rest, command),
         [Token::Word(Keyword::KOPEN), rest @ ..] => open_of(rest, nodes, command),
-        [Token::Word(Keyword::KFETCH), rest @ ..] => match number_at(rest, 0) {
-            Some(number) => {
-                *command = Command::FetchCursor { number };
-                true
-            }
-            None => false,
-        },
-        [Token::Word(Keyword::KCLOSE), rest @ ..] => match number_at(rest, 0) {
-            Some(number) => {
-                *command = Command::CloseCursor { number };
-                true
-            }
-            None => false,
-        },
+        [Token::Word(Keyword::KFETCH), rest @ ..] => fetch_of(rest, command),
+        [Token::Word(Keyword::KCLOSE), rest @ ..] => close_of(rest, command),
         _ => false,
     }
+}
+
+fn joined_of(tokens: &[Token], command: &mut Command) -> bool
+    ensures { made result command.new ≡ joined_of tokens.now }
+{
+    let Some(query) = join_of(tokens) else {
+        return false;
+    };
+    *command = Command::Ask(query);
+    true
+}
+
+fn pack_of(tokens: &[Token], command: &mut Command) -> bool
+    ensures { made result command.new ≡ pack_of tokens.now }
+{
+    let Some(relation) = name_at(tokens, 0) else {
+        return false;
+    };
+    *command = Command::Pack { relation };
+    true
+}
+
+fn fetch_of(tokens: &[Token], command: &mut Command) -> bool
+    ensures { made result command.new ≡ fetch_of tokens.now }
+{
+    let Some(number) = number_at(tokens, 0) else {
+        return false;
+    };
+    *command = Command::FetchCursor { number };
+    true
+}
+
+fn close_of(tokens: &[Token], command: &mut Command) -> bool
+    ensures { made result command.new ≡ close_of tokens.now }
+{
+    let Some(number) = number_at(tokens, 0) else {
+        return false;
+    };
+    *command = Command::CloseCursor { number };
+    true
 }
 
 fn create_of(tokens: &[Token], command: &mut Command) -> bool
@@ -190,13 +207,19 @@ fn insert_of(tokens: &[Token], command: &mut Command) -> bool
             *into = relation;
             values_in(tokens, values)
         }
-        _ => {
-            let mut values = Tuple::new();
-            let fits = values_in(tokens, &mut values);
-            *command = Command::Insert { values, relation };
-            fits
-        }
+        _ => first_insert_of(tokens, relation, command),
     }
+}
+
+// Behind a command of another kind.
+fn first_insert_of(tokens: &[Token], relation: Ident, command: &mut Command) -> bool
+    requires { relation_in tokens.now ≡ Some relation }
+    ensures { made result command.new ≡ insert_of tokens.now }
+{
+    let mut values = Tuple::new();
+    let fits = values_in(tokens, &mut values);
+    *command = Command::Insert { values, relation };
+    fits
 }
 
 // Names or aggregates, behind SELECT.

@@ -8,7 +8,7 @@ use Rattle.afl_base.specs.Fields.{put_at}
 use Rattle.afl_base.proofs.FieldLaws.{drop-put_at}
 use Rattle.afl_base.proofs.PutLaws.{take-put_at}
 
-range_front : (xs : List ℕ) (a b : ℕ) → a ≤ b → slice_range xs a b ≡ drop a (take b xs)
+pub range_front : (xs : List ℕ) (a b : ℕ) → a ≤ b → slice_range xs a b ≡ drop a (take b xs)
 range_front xs a b h = let e : a + (b - a) ≡ b = omega (arith, h) in sym (drop-take a (b - a) xs) ∙ ap (λ (n : ℕ). drop a (take n xs)) e
 
 pub before_put : (old part : List ℕ) (at a b : ℕ) → a ≤ b → b ≤ at → at ≤ length old → slice_range (put_at old at part) a b ≡ slice_range old a b

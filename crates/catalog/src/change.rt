@@ -2,6 +2,7 @@ ghost use Rattle.std.specs.Prelude.{◌≡◌, ◌+◌, ◌-◌, ◌*◌, ◌≤
 ghost use Rattle.afl_base.specs.CutFiles.{MendsToState};
 ghost use Rattle.afl_base.specs.Keeping.{Changes};
 ghost use Rattle.afl_base.specs.Files.{Becomes, IsLive, bytes_at, file_at};
+ghost use Rattle.afl_base.specs.Sparing.{TakesNoPage};
 ghost use Rattle.db_model.specs.Catalog.{index_slot_bytes, relation_slot_bytes, with_slot};
 ghost use Rattle.catalog.specs.CatalogFile.{IsCatalogSize, IsPrepared, MayReplace, PutsIndex, PutsRelation, index_in};
 ghost use Rattle.space_model.specs.Wants.{room_for};
@@ -29,8 +30,9 @@ pub fn room_for(size: u32, at: u32, len: u32) -> (u16, u32)
     }
 }
 
-/// Puts the schema into a relation slot. All other slots stay. A catalog that was empty or of version
-/// 1 is of version 2 afterwards. After `Failed` nothing is known of the files but what a cut leaves.
+/// Puts the schema into a relation slot. All other slots stay, and no page that was free is taken. A
+/// catalog that was empty or of version 1 is of version 2 afterwards. After `Failed` nothing is known
+/// of the files but what a cut leaves.
 pub fn put_relation<V: Files>(
     files: &mut V,
     cat: FileId,
@@ -42,6 +44,8 @@ pub fn put_relation<V: Files>(
     requires prepared { IsPrepared (file_at (V.state files.old).files cat) (176 * id) 176 }
     ensures put { OnOk result
         (PutsRelation (V.state files.old) (V.state files.new) cat id (Some schema.now)) }
+    ensures spares { IsTrue (V.state files.old).tells → OnOk result
+        (TakesNoPage V.is_free (V.state files.old).store (V.state files.new).store) }
     ensures cut { IsTrue V.cuts → IsTrue (V.state files.old).tells → OnErr result
         (MendsToState V.mends (V.state files.new).store
         (λ after. MayReplace (V.state files.old) after cat (176 * id)
@@ -56,13 +60,16 @@ pub fn put_relation<V: Files>(
     )
 }
 
-/// Empties a relation slot. All other slots stay. A catalog that was empty or of version 1 is of
-/// version 2 afterwards. After `Failed` nothing is known of the files but what a cut leaves.
+/// Empties a relation slot. All other slots stay, and no page that was free is taken. A catalog that
+/// was empty or of version 1 is of version 2 afterwards. After `Failed` nothing is known of the files
+/// but what a cut leaves.
 pub fn clear_relation<V: Files>(files: &mut V, cat: FileId, id: RelationId) -> Result<(), Failed>
     requires live { IsLive (V.state files.old).files cat }
     requires form { IsCatalogSize (length (bytes_at (V.state files.old).files cat)) }
     requires prepared { IsPrepared (file_at (V.state files.old).files cat) (176 * id) 176 }
     ensures cleared { OnOk result (PutsRelation (V.state files.old) (V.state files.new) cat id None) }
+    ensures spares { IsTrue (V.state files.old).tells → OnOk result
+        (TakesNoPage V.is_free (V.state files.old).store (V.state files.new).store) }
     ensures cut { IsTrue V.cuts → IsTrue (V.state files.old).tells → OnErr result
         (MendsToState V.mends (V.state files.new).store
         (λ after. MayReplace (V.state files.old) after cat (176 * id) (relation_slot_bytes None))) }
@@ -72,8 +79,9 @@ pub fn clear_relation<V: Files>(files: &mut V, cat: FileId, id: RelationId) -> R
     replace(files, cat, 176 * u32::from(id.number()), &slot)
 }
 
-/// Puts the entry into an index slot. All other slots stay. A catalog that was empty or of version 1
-/// is of version 2 afterwards. After `Failed` nothing is known of the files but what a cut leaves.
+/// Puts the entry into an index slot. All other slots stay, and no page that was free is taken. A
+/// catalog that was empty or of version 1 is of version 2 afterwards. After `Failed` nothing is known
+/// of the files but what a cut leaves.
 pub fn put_index<V: Files>(
     files: &mut V,
     cat: FileId,
@@ -85,6 +93,8 @@ pub fn put_index<V: Files>(
     requires prepared { IsPrepared (file_at (V.state files.old).files cat) (1408 + 8 * id) 8 }
     ensures put { OnOk result
         (PutsIndex (V.state files.old) (V.state files.new) cat id (Some (index_in entry.now))) }
+    ensures spares { IsTrue (V.state files.old).tells → OnOk result
+        (TakesNoPage V.is_free (V.state files.old).store (V.state files.new).store) }
     ensures cut { IsTrue V.cuts → IsTrue (V.state files.old).tells → OnErr result
         (MendsToState V.mends (V.state files.new).store
         (λ after. MayReplace (V.state files.old) after cat (1408 + 8 * id)
@@ -99,13 +109,16 @@ pub fn put_index<V: Files>(
     )
 }
 
-/// Empties an index slot. All other slots stay. A catalog that was empty or of version 1 is of version
-/// 2 afterwards. After `Failed` nothing is known of the files but what a cut leaves.
+/// Empties an index slot. All other slots stay, and no page that was free is taken. A catalog that was
+/// empty or of version 1 is of version 2 afterwards. After `Failed` nothing is known of the files but
+/// what a cut leaves.
 pub fn clear_index<V: Files>(files: &mut V, cat: FileId, id: IndexId) -> Result<(), Failed>
     requires live { IsLive (V.state files.old).files cat }
     requires form { IsCatalogSize (length (bytes_at (V.state files.old).files cat)) }
     requires prepared { IsPrepared (file_at (V.state files.old).files cat) (1408 + 8 * id) 8 }
     ensures cleared { OnOk result (PutsIndex (V.state files.old) (V.state files.new) cat id None) }
+    ensures spares { IsTrue (V.state files.old).tells → OnOk result
+        (TakesNoPage V.is_free (V.state files.old).store (V.state files.new).store) }
     ensures cut { IsTrue V.cuts → IsTrue (V.state files.old).tells → OnErr result
         (MendsToState V.mends (V.state files.new).store
         (λ after. MayReplace (V.state files.old) after cat (1408 + 8 * id)
@@ -117,6 +130,7 @@ pub fn clear_index<V: Files>(files: &mut V, cat: FileId, id: IndexId) -> Result<
 }
 
 // Puts a slot, whose last byte is 1, in the place of the bytes from `at` on.
+#[tactic(auto, using(afl_base::proofs::SparingLaws::takes_no_page_on))]
 fn replace<V: Files>(files: &mut V, cat: FileId, at: u32, slot: &[u8]) -> Result<(), Failed>
     requires live { IsLive (V.state files.old).files cat }
     requires form { IsCatalogSize (length (bytes_at (V.state files.old).files cat)) }
@@ -126,6 +140,8 @@ fn replace<V: Files>(files: &mut V, cat: FileId, at: u32, slot: &[u8]) -> Result
     requires prepared { IsPrepared (file_at (V.state files.old).files cat) at (length slot.now) }
     ensures replaced { OnOk result (Becomes (V.state files.old) (V.state files.new) cat 1480
         (with_slot (bytes_at (V.state files.old).files cat) at slot.now)) }
+    ensures spares { IsTrue (V.state files.old).tells → OnOk result
+        (TakesNoPage V.is_free (V.state files.old).store (V.state files.new).store) }
     ensures cut { IsTrue V.cuts → IsTrue (V.state files.old).tells → OnErr result
         (MendsToState V.mends (V.state files.new).store
         (λ after. MayReplace (V.state files.old) after cat at slot.now)) }

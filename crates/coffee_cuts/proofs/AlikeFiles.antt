@@ -1,6 +1,5 @@
 -- Files in images that have the same bytes, where these are read.
-use Rattle.std.proofs.Common.{◌≡◌, ⊎_elim, ℕ, zero, suc, ◌+◌, ◌-◌, ◌*◌, ◌/◌, ◌%◌, ◌<◌, ◌≤◌, true, false, ◌==◌, nat_le, List, ◌∷◌, map, get_or, Option, Some, None, refl, ap, sym, subst, ◌∙◌, arith}
-use Rattle.std.specs.List.{range_with_len}
+use Rattle.std.proofs.Common.{◌≡◌, ⊎_elim, ℕ, zero, suc, ◌+◌, ◌-◌, ◌*◌, ◌/◌, ◌%◌, ◌<◌, ◌≤◌, true, false, ◌==◌, nat_le, List, ◌∷◌, get_or, Option, Some, None, refl, ap, sym, subst, ◌∙◌, arith}
 use Rattle.afl_base.specs.Fit.{first_fit, fit}
 use Rattle.afl_base.specs.declared.ids.PageId.{PageId}
 use Rattle.afl_base.specs.declared.kind.Kind.{Kind}
@@ -12,6 +11,7 @@ use Rattle.coffee_log.specs.Logs.{IsLog}
 use Rattle.coffee_log.proofs.LastRecords.{last_same}
 use Rattle.coffee_log.proofs.RecordLaws.{number_image}
 use Rattle.padded.proofs.Facts.{le_true, none_some, true_le, true_or_false, yes_no}
+use Rattle.coffee_layout.proofs.Frames.{map_same as map_alike}
 
 -- ALL BYTES
 
@@ -58,11 +58,6 @@ alike_file a b page pages log used size same is = record {
 }
 
 -- THE BYTES OF ONE FILE
-
-map_alike : (f g : ℕ → ℕ) (a n : ℕ) → ((p : ℕ) → a ≤ p → p < a + n → f p ≡ g p) → map f (range_with_len a n) ≡ map g (range_with_len a n)
-map_alike f g a zero same = refl
-map_alike f g a (suc n) same =
-    ap (λ x. x ∷ map f (range_with_len (a + 1) n)) (same a (omega arith) (omega arith)) ∙ ap (λ t. g a ∷ t) (map_alike f g (a + 1) n (λ p x y. same p (omega (arith, x)) (omega (arith, y))))
 
 pub bytes_alike : (a b : List ℕ) (page pages : ℕ) (log : Option PageId) → ((p : ℕ) → p < 256 * pages - 32 → file_byte a page log p ≡ file_byte b page log p) → file_bytes a page pages log ≡ file_bytes b page pages log
 unfolding file_bytes

@@ -34,6 +34,7 @@ use Rattle.coffee_cuts.specs.Cuts.{IsActiveAt, IsFound, Nothing, Replacing, Unde
 use Rattle.coffee_cuts.specs.Mending.{EndsRight, IsTable, MendsToTable, as_file}
 use Rattle.coffee_cuts.proofs.Drafts.{drafted_mends, off_draft, undrafted}
 use Rattle.coffee_cuts.proofs.Mended.{file_stays, mends_after, mends_holding, mends_same, named, sparing_set, sparing_without, whole_mends}
+use Rattle.coffee_merge.proofs.SoundHolders.{file_is}
 
 -- FILES THAT ARE FOUND
 
@@ -45,10 +46,6 @@ among_contains (y ∷ ys) x (inr a) = let r = among_contains ys x a in (suc r.0,
 found_file : (us : List Unit) (page : ℕ) (h : Header) → unit_begun us 0 page ≡ Some (Extent h) → (h.flags == 3 || h.flags == 11) ≡ true → Contains (files_in us) (record { page = page; header = h })
 found_file us page h begun file =
     among_contains (files_in us) (record { page = page; header = h }) (among_filter is_file (record { page = page; header = h }) (extents 0 us) (begun_extent us 0 page h begun) file)
-
-file_is : (log : Option PageId) → (file_flags log == 3 || file_flags log == 11) ≡ true
-file_is None = refl
-file_is (Some l) = refl
 
 -- the extent of a file is obsolete, and its log stands
 left_log : (image : List ℕ) (e : FileAt) (l : PageId) → IsTiled nowhere image (units_of image) → unit_begun (units_of image) 0 e.page.0 ≡ Some (Extent (file_header e))

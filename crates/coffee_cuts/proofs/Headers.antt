@@ -12,12 +12,12 @@ use Rattle.coffee_header.specs.declared.header.Header.{Header}
 use Rattle.coffee_layout.specs.Files.{extents}
 use Rattle.coffee_layout.specs.Marks.{IsLowestRun, active_pages, free_pages}
 use Rattle.coffee_layout.specs.Tiling.{IsTiled, KeepRules, broken_suffix, broken_unit, nowhere, units_of}
-use Rattle.coffee_layout.specs.Units.{is_active, is_active_flags, is_free, pages_of, size_of, total, unit_at, unit_of}
+use Rattle.coffee_layout.specs.Units.{is_active, is_active_flags, is_free, pages_of, total, unit_at, unit_of}
 use Rattle.coffee_layout.specs.declared.unit.Unit.{Unit}
 use Rattle.coffee_layout.specs.declared.unit.Unit.TheVariants.{Extent, Free, Isolated}
 use Rattle.coffee_layout.proofs.Frames.{ends_free, keep_rest, replaced, total-append}
 use Rattle.coffee_layout.proofs.FreeSectors.{free_sector}
-use Rattle.coffee_layout.proofs.MarkLaws.{mark_front, mark_rest, mark_unit, run_inside}
+use Rattle.coffee_layout.proofs.MarkLaws.{run_inside}
 use Rattle.coffee_layout.proofs.Tests.{eq_false}
 use Rattle.coffee_layout.proofs.Tilings.{unbroken_tiled, units_tiled}
 use Rattle.coffee_merge.specs.Begun.{active_at, active_header, unit_begun}
@@ -36,13 +36,14 @@ use Rattle.coffee_space.specs.Collection.{active_extents, is_active_extent}
 use Rattle.coffee_space.proofs.UnitsLeft.{isolated_unit}
 use Rattle.flash_range.specs.Range.{Outside}
 use Rattle.flash_range.proofs.Ranges.{or_on_zero, or_outside}
-use Rattle.padded.proofs.Facts.{eq_true, false_right, none_some, true_or_false, yes_no}
+use Rattle.padded.proofs.Facts.{eq_true, false_right, none_some, yes_no}
 use Rattle.padded.specs.Zeros.{is_zeros}
 use Rattle.coffee_cuts.specs.Cuts.{Beginning, Building, IsTornHeader, Unnamed}
 use Rattle.coffee_cuts.specs.Mending.{IsTable, MendsToTable}
 use Rattle.coffee_cuts.proofs.HeaderFronts.{IsFrontOf, free_head, front_whole, part_header}
 use Rattle.coffee_cuts.proofs.Mended.{mends_holding, whole_mends}
 use Rattle.coffee_cuts.proofs.ZeroPages.{free_pages_zero, zero_part, zeros_from}
+use Rattle.coffee_merge.proofs.Beginning.{lowest_front as front_used}
 
 -- AN EXTENT THAT BEGAN
 
@@ -69,35 +70,6 @@ begun_settles building old new table page flag g h long some begun good done out
           bodies (λ d none. absurd (none_some d none));
       kept = bodies_kept old all table size bodies;
     }
-
--- THE PAGE BEFORE A LOWEST RUN
-
-ends_mark : (u : Unit) (us : List Unit) → HavePages (u ∷ us) → ends_free (is_free u) us ≡ true → get_or (free_pages (u ∷ us)) (total (u ∷ us) - 1) false ≡ true
-ends_mark u [] h e =
-    let some = h.0 in
-    let last : total (u ∷ []) - 1 ≡ total [] + (size_of u - 1) = omega (arith, some) in
-    ap (λ k. get_or (free_pages (u ∷ [])) k false) last ∙ mark_unit is_free [] [] u (size_of u - 1) (omega (arith, some)) ∙ e
-ends_mark u (v ∷ vs) h e =
-    let some = h.0 in
-    let more = h.1.0 in
-    let back : total (u ∷ v ∷ vs) - 1 - total (u ∷ []) ≡ total (v ∷ vs) - 1 = omega (arith, some, more) in
-    mark_rest is_free (u ∷ []) (v ∷ vs) (total (u ∷ v ∷ vs) - 1) (omega (arith, some, more)) ∙ ap (λ k. get_or (free_pages (v ∷ vs)) k false) back ∙ ends_mark v vs h.1 e
-
--- is not free
-front_used : (front others : List Unit) (n : ℕ) → HavePages front → IsLowestRun (free_pages (front ++ others)) n (total front) → ends_free false front ≡ false
-front_used [] others n h low = refl
-front_used (u ∷ us) others n h low =
-    let some = h.0 in
-    ⊎_elim
-    (λ (free : ends_free (is_free u) us ≡ true).
-    absurd (low.lowest (total (u ∷ us) - 1) (omega (arith, some)) (λ i from to. ⊎_elim
-    (λ (a : i < total (u ∷ us)).
-    let last : i ≡ total (u ∷ us) - 1 = omega (arith, a, from) in
-    mark_front is_free (u ∷ us) others i a ∙ ap (λ k. get_or (free_pages (u ∷ us)) k false) last ∙ ends_mark u us h free)
-    (λ (a : total (u ∷ us) ≤ i). low.run i a (omega (arith, to, some)))
-    (cases_lt i (total (u ∷ us))))))
-    (λ (used : ends_free (is_free u) us ≡ false). used)
-    (true_or_false (ends_free (is_free u) us))
 
 -- AN ISOLATED PAGE
 

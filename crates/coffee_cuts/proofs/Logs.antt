@@ -5,7 +5,7 @@ use Rattle.afl_base.specs.Cuts.{IsCutProgram}
 use Rattle.afl_base.specs.Image.{or_at}
 use Rattle.afl_base.specs.Names.{is_file_name}
 use Rattle.afl_base.specs.declared.ids.PageId.{PageId}
-use Rattle.coffee_header.specs.Headers.{IsValid, header_bytes}
+use Rattle.coffee_header.specs.Headers.{header_bytes}
 use Rattle.coffee_layout.specs.FileBytes.{file_byte}
 use Rattle.coffee_layout.specs.Tiling.{nowhere, units_of}
 use Rattle.coffee_layout.specs.Units.{is_active_flags, is_free, pages_of}
@@ -28,16 +28,13 @@ use Rattle.coffee_cuts.proofs.HeaderFronts.{header_name}
 use Rattle.coffee_cuts.proofs.Headers.{torn_header_mends}
 use Rattle.coffee_cuts.proofs.Mended.{mends_moved}
 use Rattle.coffee_cuts.proofs.Reached.{kept_at}
+use Rattle.coffee_merge.proofs.Logged.{log_valid}
 
 -- the name of a file in a table
 held_name : (image : List ℕ) (table : Entries) (i : ℕ) (e : FileAt) → HoldsTable image table None → IsIn table i e → is_file_name e.name ≡ true
 held_name image table i e h is =
     let k = kept_at image (units_of image) 0 e.page.0 _ (Extent (file_header e)) (holds_tiled image table None h).keep (file_unit image table None i e h is) in
     header_name _ (file_header e) (unit_header _ (file_header e) k.1)
-
--- the header of a log
-log_valid : (name : List ℕ) → is_file_name name ≡ true → IsValid (log_header name)
-log_valid name good = record { log_page = omega arith; log_records = omega arith; log_record_size = omega arith; max_pages = omega arith; kind = refl; flags = refl; name = good }
 
 pub torn_log_mends : (whole new : List ℕ) (table : Entries) → IsTable whole table None → TearsLogHeader whole new table → MendsToTable new whole table
 torn_log_mends whole new table t c =

@@ -1,5 +1,5 @@
 -- An image mends to the files of a table where it is settled to one that holds them.
-use Rattle.std.proofs.Common.{◌≡◌, ◌≢◌, inl, ⊎_elim, ℕ, ◌≤◌, true, List, length, Option, Some, None, refl, ap, subst, ◌∙◌, arith, length-set}
+use Rattle.std.proofs.Common.{◌≡◌, ◌≢◌, inl, ⊎_elim, ℕ, ◌≤◌, true, List, length, Option, Some, None, refl, subst, ◌∙◌, arith, length-set}
 use Rattle.std.specs.Prelude.{set}
 use Rattle.std.specs.List.{Contains}
 use Rattle.afl_base.specs.declared.kind.Kind.{Kind}
@@ -7,24 +7,19 @@ use Rattle.coffee_layout.specs.Files.{NamedFile, files_of}
 use Rattle.coffee_layout.specs.Rules.{broken_image}
 use Rattle.coffee_layout.specs.Walks.{has_few}
 use Rattle.coffee_layout.specs.declared.file.FileAt.{FileAt}
-use Rattle.coffee_merge.specs.Holding.{Entries, HoldsTable, IsIn, IsStored, KeepsContent, Moves, Stays}
+use Rattle.coffee_merge.specs.Holding.{Entries, HoldsTable, IsIn, Moves, Stays}
 use Rattle.coffee_merge.specs.TableFiles.{SameFiles, file_of}
 use Rattle.coffee_merge.proofs.Holdings.{is_in_set}
-use Rattle.coffee_merge.proofs.MovedFiles.{bytes_same, moves_files}
+use Rattle.coffee_merge.proofs.MovedFiles.{moves_files}
 use Rattle.coffee_merge.proofs.SoundFiles.{entry_file, file_entry}
 use Rattle.coffee_merge.proofs.SoundImages.{held_sound}
 use Rattle.padded.proofs.Facts.{none_some, some_same}
 use Rattle.coffee_cuts.specs.Cuts.{IsFound, Nothing, UnderWay, settled}
 use Rattle.coffee_cuts.specs.Mending.{AreSparing, IsTable, MendsToTable}
+pub use Rattle.coffee_merge.proofs.MovedFiles.{content_same as file_stays}
 
 abbrev pub named : List ℕ → Kind → List ℕ → NamedFile
 named name kind bytes = record { name = name; kind = kind; bytes = bytes }
-
--- a file that keeps its content is the same to users
-pub file_stays : (old new : List ℕ) (e : FileAt) → IsStored old e → IsStored new e → KeepsContent old new e → file_of new e ≡ file_of old e
-file_stays old new e s t kept =
-    let room = s.fits.size in
-    ap (named e.name e.kind) (bytes_same old new e e s t refl (λ p low. kept p (omega (arith, low, room))))
 
 -- by way of an image that holds the table, and has the files of the settled one
 pub mends_by : (new whole mid : List ℕ) (table : Entries) (w : UnderWay) → IsFound new w → broken_image (settled new w) ≡ None → HoldsTable mid table None

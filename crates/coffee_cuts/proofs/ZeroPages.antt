@@ -12,6 +12,7 @@ use Rattle.coffee_layout.specs.declared.unit.Unit.{Unit}
 use Rattle.coffee_layout.specs.declared.unit.Unit.TheVariants.{Free}
 use Rattle.padded.proofs.Facts.{both_parts, true_eq}
 use Rattle.padded.specs.Zeros.{is_zeros}
+pub use Rattle.coffee_merge.proofs.Beginning.{zero_at as zero_part}
 
 -- images of one length whose pages are the same are one image
 pub images_same : (old new : List ℕ) → length new ≡ length old → ((p : ℕ) → page_bytes new p ≡ page_bytes old p) → new ≡ old
@@ -28,12 +29,6 @@ all_zero (b ∷ bytes) zero e z = absurd (omega (arith, e))
 all_zero (b ∷ bytes) (suc n) e z =
     let p = both_parts (b == 0) (is_zeros bytes) z in
     ap (λ x. x ∷ bytes) (true_eq b 0 p.0) ∙ ap (λ t. 0 ∷ t) (all_zero bytes n (omega (arith, e)) p.1)
-
--- a page inside a part that is zero
-pub zero_part : (xs : List ℕ) (k : ℕ) → is_zeros xs ≡ true → get_or xs k 0 ≡ 0
-zero_part [] k z = refl
-zero_part (x ∷ xs) zero z = true_eq x 0 (both_parts (x == 0) (is_zeros xs) z).0
-zero_part (x ∷ xs) (suc k) z = zero_part xs k (both_parts (x == 0) (is_zeros xs) z).1
 
 pub zeros_from : (xs : List ℕ) → ((k : ℕ) → k < length xs → get_or xs k 0 ≡ 0) → is_zeros xs ≡ true
 zeros_from [] f = refl

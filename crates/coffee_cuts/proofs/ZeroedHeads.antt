@@ -15,6 +15,7 @@ use Rattle.coffee_merge.proofs.HeaderMarks.{header_unit, unit_header}
 use Rattle.padded.proofs.Facts.{both_parts}
 use Rattle.padded.specs.Zeros.{is_zeros}
 use Rattle.coffee_cuts.proofs.HeaderFronts.{fields_are}
+use Rattle.coffee_space.proofs.UnitsLeft.{isolated_by}
 
 -- of 32 bytes the first r are zero now
 pub record IsZeroed (old new : List ℕ) (r : ℕ) : Type 0 where
@@ -34,10 +35,6 @@ marked_ninth bytes e = turn (is_zeros bytes) (bit_and (slice_index bytes 9) 34 =
     turn false true o e = refl
     turn false false None e = cc
     turn false false (Some g) e = cc
-
-isolated_by : (bytes : List ℕ) → is_zeros bytes ≡ false → bit_and (slice_index bytes 9) 34 == 34 ≡ true → unit_of bytes ≡ Some Isolated
-unfolding unit_of
-isolated_by bytes some bits = rw (some, bits) refl
 
 pub zeroed_isolated : (old new : List ℕ) (r : ℕ) → r ≤ 9 → IsZeroed old new r → unit_of old ≡ Some Isolated → unit_of new ≡ Some Isolated
 zeroed_isolated old new r few z is =

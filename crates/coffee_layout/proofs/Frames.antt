@@ -181,7 +181,7 @@ kept_byte old new page pages (Some l) p long keeps within =
     ap (λ t. get_or new (place_or (extent_place page (128 * (p / 128))) l.0 (last_in t (p / 128) 30) + p % 128) 0) (table_same old new l.0 long (keeps.logged l refl))
     ∙ byte_same old new page pages l p (last_in (table_of old l.0) (p / 128) 30) keeps within (λ i e. last_bound (table_of old l.0) (p / 128) 30 i e)
 
-map_same : (f g : ℕ → ℕ) (a n : ℕ) → ((p : ℕ) → a ≤ p → p < a + n → f p ≡ g p) → map f (range_with_len a n) ≡ map g (range_with_len a n)
+pub map_same : (f g : ℕ → ℕ) (a n : ℕ) → ((p : ℕ) → a ≤ p → p < a + n → f p ≡ g p) → map f (range_with_len a n) ≡ map g (range_with_len a n)
 map_same f g a zero same = refl
 map_same f g a (suc n) same = ap (λ x. x ∷ map f (range_with_len (a + 1) n)) (same a (omega arith) (omega arith)) ∙ ap (λ t. g a ∷ t) (map_same f g (a + 1) n (λ p x y. same p (omega arith) (omega arith)))
 

@@ -1,5 +1,5 @@
 -- A sector that was being erased, whose erase broke off again.
-use Rattle.std.proofs.Common.{◌≡◌, inl, inr, ⊎_elim, ℕ, zero, suc, [], ◌∷◌, ◌+◌, ◌-◌, ◌*◌, ◌<◌, ◌≤◌, true, ◌==◌, List, length, take, get_or, Some, refl, subst, sym, ◌∙◌, arith}
+use Rattle.std.proofs.Common.{◌≡◌, inl, inr, ⊎_elim, ℕ, zero, [], ◌∷◌, ◌+◌, ◌-◌, ◌*◌, ◌<◌, ◌≤◌, true, ◌==◌, List, length, take, get_or, Some, subst, sym, ◌∙◌, arith}
 use Rattle.std.specs.Prelude.{slice_range}
 use Rattle.std.proofs.lemmas.Bool.{cases_lt}
 use Rattle.std.proofs.lemmas.List.{ext_get_or, get_or-take, length-take}
@@ -11,7 +11,8 @@ use Rattle.coffee_merge.specs.Begun.{unit_begun}
 use Rattle.coffee_cuts.specs.Cuts.{IsErasing, IsHeadless, IsIdle}
 use Rattle.coffee_cuts.proofs.ZeroedHeads.{IsZeroed, zeroed_extent}
 use Rattle.padded.specs.Zeros.{is_zeros}
-use Rattle.padded.proofs.Facts.{both_parts, true_eq}
+use Rattle.coffee_merge.proofs.Beginning.{zero_at as zeros_in}
+use Rattle.coffee_cuts.proofs.ZeroPages.{zeros_from as zeros_all}
 
 module _ (old : List ℕ) (at n : ℕ) (fits : at + 4096 ≤ length old) (few : n ≤ 4096) where
   size : length (zeros_at old at n) ≡ length old
@@ -39,15 +40,6 @@ module _ (old : List ℕ) (at n : ℕ) (fits : at + 4096 ≤ length old) (few : 
       (λ (m : at + 4096 ≤ k). zeros_at_behind (zeros_at old at n) at 4096 k inside m ∙ zeros_at_behind old at n k (omega (arith, fits, few)) (omega (arith, m, few)) ∙ sym (zeros_at_behind old at 4096 k fits m))
       (cases_lt k (at + 4096)))
       (cases_lt k at))
-
-zeros_in : (xs : List ℕ) (k : ℕ) → is_zeros xs ≡ true → get_or xs k 0 ≡ 0
-zeros_in [] k z = refl
-zeros_in (x ∷ xs) zero z = true_eq x 0 (both_parts (x == 0) (is_zeros xs) z).0
-zeros_in (x ∷ xs) (suc k) z = zeros_in xs k (both_parts (x == 0) (is_zeros xs) z).1
-
-zeros_all : (xs : List ℕ) → ((k : ℕ) → k < length xs → get_or xs k 0 ≡ 0) → is_zeros xs ≡ true
-zeros_all [] f = refl
-zeros_all (x ∷ xs) f = rw (f 0 (omega arith)) (zeros_all xs (λ k less. f (suc k) (omega (arith, less))))
 
 module _ (old : List ℕ) (sector page n : ℕ) (e : IsErasing old sector page) (few : n ≤ 4096) where
   new : List ℕ

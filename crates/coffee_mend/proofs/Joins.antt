@@ -32,9 +32,7 @@ use Rattle.coffee_merge.specs.Outcomes.{LeavesAll}
 use Rattle.coffee_merge.proofs.MovedFiles.{stays_files}
 use Rattle.coffee_merge.proofs.SoundLogs.{used_is}
 use Rattle.coffee_mend.specs.Joined.{LacksRoom, IsJoined, JoinsFile, joined_at, old_log_header}
-
-same_flags : (g h : Header) → Some (Extent g) ≡ Some (Extent h) → g.flags ≡ h.flags
-same_flags g h e = let same : g ≡ h = cc in ap (λ (x : Header). x.flags) same
+use Rattle.coffee_merge.proofs.Retired.{one_flags as same_flags}
 
 -- OBSOLETE in the headers of a file and of its log: the log stands, and is obsolete
 log_gone : (image : List ℕ) (page log : ℕ) (g : Header) (name : List ℕ) → IsTiled nowhere image (units_of image) → unit_begun (units_of image) 0 page ≡ Some (Extent g) → g.flags ≡ 11

@@ -22,7 +22,7 @@ use Rattle.coffee_merge.specs.TableFiles.{SameFiles}
 use Rattle.coffee_merge.proofs.SoundImages.{held_sound}
 use Rattle.coffee_mend.specs.Joined.{LacksRoom, OwnsLog}
 use Rattle.coffee_mend.specs.Mended.{IsTornAs}
-use Rattle.coffee_merge.specs.Holding.{Entries, HoldsTable, IsIn, file_flags, file_header, log_header}
+use Rattle.coffee_merge.specs.Holding.{Entries, HoldsTable, IsIn, file_header, log_header}
 use Rattle.coffee_merge.proofs.Begun.{active_begun}
 use Rattle.coffee_merge.proofs.Holdings.{file_unit, holds_tiled, log_unit}
 use Rattle.coffee_merge.proofs.SoundEntries.{among_at, entry_at, table_by}
@@ -34,17 +34,12 @@ use Rattle.coffee_cuts.proofs.Reached.{IsReached, begun_at, reach}
 use Rattle.coffee_find.specs.Found.{IsTornAt}
 use Rattle.padded.proofs.Facts.{eq_true}
 use Rattle.coffee_mend.proofs.Unblanked.{away, others, same_units}
-
-same_header : (g h : Header) → Some (Extent g) ≡ Some (Extent h) → g ≡ h
-same_header g h e = cc
+use Rattle.coffee_merge.proofs.Retired.{file_not_log}
+use Rattle.coffee_merge.proofs.Holdings.{one_header as same_header}
 
 map_among : {A : Type 0} (f g : Placed → A) (xs : List Placed) → ((x : Placed) → Among x xs → f x ≡ g x) → map f xs ≡ map g xs
 map_among f g [] same = refl
 map_among f g (x ∷ xs) same = ap (λ a. a ∷ map f xs) (same x (inl refl)) ∙ ap (λ ys. g x ∷ ys) (map_among f g xs (λ y there. same y (inr there)))
-
-file_not_log : (log : Option PageId) → file_flags log ≡ 19 → ⊥
-file_not_log None e = absurd (omega (arith, e))
-file_not_log (Some l) e = absurd (omega (arith, e))
 
 module _ (old : List ℕ) (log place : ℕ) (whole : 256 * pages_of old ≡ length old) (inside : place + 128 ≤ length old) (t : IsTornAt old log place) where
   size : length (zeros_at old place 128) ≡ length old

@@ -49,7 +49,7 @@ free_zeros building image (suc n) page free rest k q low high =
     (λ (there : page ≢ q). free_zeros building image n (page + 1) true rest k.2 q (omega arith) (omega arith))
     (cases_eq page q)
 
-zero_at : (xs : List ℕ) (i : ℕ) → is_zeros xs ≡ true → get_or xs i 0 ≡ 0
+pub zero_at : (xs : List ℕ) (i : ℕ) → is_zeros xs ≡ true → get_or xs i 0 ≡ 0
 zero_at [] i all = refl
 zero_at (x ∷ xs) zero all = true_eq x 0 (both_parts (x == 0) (list_all (λ b. b == 0) xs) all).0
 zero_at (x ∷ xs) (suc i) all = zero_at xs i (both_parts (x == 0) (list_all (λ b. b == 0) xs) all).1
@@ -75,7 +75,7 @@ free_apart us page g q is low high free =
 -- THE PAGE BEFORE A LOWEST RUN
 
 -- the last page of units that end with a free page is free
-ends_mark : (u : Unit) (us : List Unit) → HavePages (u ∷ us) → ends_free (is_free u) us ≡ true → get_or (free_pages (u ∷ us)) (total (u ∷ us) - 1) false ≡ true
+pub ends_mark : (u : Unit) (us : List Unit) → HavePages (u ∷ us) → ends_free (is_free u) us ≡ true → get_or (free_pages (u ∷ us)) (total (u ∷ us) - 1) false ≡ true
 ends_mark u [] h e =
     let some = h.0 in
     let last : total (u ∷ []) - 1 ≡ total [] + (size_of u - 1) = omega arith in
@@ -87,7 +87,7 @@ ends_mark u (v ∷ vs) h e =
     mark_rest is_free (u ∷ []) (v ∷ vs) (total (u ∷ v ∷ vs) - 1) (omega arith) ∙ ap (λ k. get_or (free_pages (v ∷ vs)) k false) back ∙ ends_mark v vs h.1 e
 
 -- so that before a lowest run is not free
-lowest_front : (front others : List Unit) (n : ℕ) → HavePages front → IsLowestRun (free_pages (front ++ others)) n (total front) → ends_free false front ≡ false
+pub lowest_front : (front others : List Unit) (n : ℕ) → HavePages front → IsLowestRun (free_pages (front ++ others)) n (total front) → ends_free false front ≡ false
 lowest_front [] others n h low = refl
 lowest_front (u ∷ us) others n h low =
     let some = h.0 in

@@ -46,7 +46,7 @@ file_not_draft : (log : Option PageId) → file_flags log ≡ 2 → ⊥
 file_not_draft None e = absurd (omega arith)
 file_not_draft (Some l) e = absurd (omega arith)
 
-one_header : (g k : Header) → Some (Extent g) ≡ Some (Extent k) → g ≡ k
+pub one_header : (g k : Header) → Some (Extent g) ≡ Some (Extent k) → g ≡ k
 one_header g k e = cc
 
 -- two extents with different headers have no page in common

@@ -35,7 +35,7 @@ use Rattle.coffee_merge.proofs.Numbered.{numbered, numbered_extent}
 logged_header : (e : FileAt) (log : PageId) → e.log ≡ None → record (file_header e) { log_page = log.0 + 1; flags = bit_or (file_flags e.log) 8 } ≡ file_header (record e { log = Some log })
 logged_header e log none = ap (λ o. record (header_with e (bit_or (file_flags o) 8)) { log_page = log.0 + 1 }) none
 
-log_valid : (name : List ℕ) → is_file_name name ≡ true → IsValid (log_header name)
+pub log_valid : (name : List ℕ) → is_file_name name ≡ true → IsValid (log_header name)
 log_valid name good = record { log_page = omega arith; log_records = omega arith; log_record_size = omega arith; max_pages = omega arith; kind = refl; flags = refl; name = good }
 
 -- THE IMAGE

@@ -44,7 +44,7 @@ file_same old new e d s t name kind size same = named d.name e.name d.kind e.kin
     named : (a b : List ℕ) (k l : Kind) (x y : List ℕ) → a ≡ b → k ≡ l → x ≡ y → file a k x ≡ file b l y
     named a b k l x y p q r = cc
 
-content_same : (old new : List ℕ) (e : FileAt) → IsStored old e → IsStored new e → KeepsContent old new e → file_of new e ≡ file_of old e
+pub content_same : (old new : List ℕ) (e : FileAt) → IsStored old e → IsStored new e → KeepsContent old new e → file_of new e ≡ file_of old e
 content_same old new e s t kept = let room = s.fits.size in file_same old new e e s t refl refl refl (λ p low. kept p (omega arith))
 
 -- FILES

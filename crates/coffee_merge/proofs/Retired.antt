@@ -67,11 +67,11 @@ obsolete_flags (Some l) = (refl, refl, refl)
 pub inactive : (us : List Unit) (page : ℕ) (h : Header) → unit_begun us 0 page ≡ Some (Extent h) → is_active_flags h.flags ≡ false → active_at us page ≡ None
 inactive us page h is e = ap active_header is ∙ (rw e refl)
 
-file_not_log : (log : Option PageId) → file_flags log ≡ 19 → ⊥
+pub file_not_log : (log : Option PageId) → file_flags log ≡ 19 → ⊥
 file_not_log None e = absurd (omega arith)
 file_not_log (Some l) e = absurd (omega arith)
 
-one_flags : (g k : Header) → Some (Extent g) ≡ Some (Extent k) → g.flags ≡ k.flags
+pub one_flags : (g k : Header) → Some (Extent g) ≡ Some (Extent k) → g.flags ≡ k.flags
 one_flags g k e = let same : g ≡ k = cc in ap (λ (h : Header). h.flags) same
 
 -- AN OBSOLETE FILE

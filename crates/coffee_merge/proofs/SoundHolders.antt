@@ -120,7 +120,7 @@ file_no_log : (log : Option PageId) → file_flags log ≡ 19 → ⊥
 file_no_log None e = absurd (omega arith)
 file_no_log (Some l) e = absurd (omega arith)
 
-file_is : (log : Option PageId) → (file_flags log == 3 || file_flags log == 11) ≡ true
+pub file_is : (log : Option PageId) → (file_flags log == 3 || file_flags log == 11) ≡ true
 file_is None = refl
 file_is (Some l) = refl
 

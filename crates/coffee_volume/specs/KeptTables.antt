@@ -1,23 +1,28 @@
--- The table of a volume: its files are those that its image mends to between calls, which `Files` asks for.
+-- The table of a volume: its files are those that its image mends to between calls, and what it asks for is told by what is seen
+-- of it: `Files` wants both.
 use Rattle.std.proofs.Common.{◌≡◌, ℕ, ◌*◌, ◌/◌, ◌≤◌, Bool, true, false, not, ◌&&◌, List, length, get_or, Option, Some, None, IsTrue, refl, sym, ap, ◌∙◌, subst, arith}
 use Rattle.std.specs.Prelude.{option_map, is_some}
 use Rattle.std.specs.List.{Contains}
 use Rattle.std.proofs.Math.ListN.{get_or-map}
 use Rattle.std.proofs.lemmas.List.{length-map}
-use Rattle.afl_base.specs.Files.{File, IsLive, file_at, place}
+use Rattle.afl_base.specs.Files.{File, IsLive, State, file_at, place}
 use Rattle.afl_base.proofs.FileLaws.{file_here}
 use Rattle.coffee_cuts.specs.Mending.{IsTable, MendsToTable}
 use Rattle.coffee_cuts.proofs.Drafts.{drafted_mends}
 use Rattle.coffee_cuts.proofs.Mended.{whole_mends}
+use Rattle.coffee_layout.specs.Files.{Placed, entry_of}
 use Rattle.coffee_layout.specs.Units.{pages_of}
 use Rattle.coffee_layout.specs.Walks.{has_few}
 use Rattle.coffee_layout.specs.declared.file.FileAt.{FileAt}
 use Rattle.coffee_merge.specs.Holding.{Entries, HoldsTable, IsIn}
 use Rattle.coffee_merge.specs.TableFiles.{file_of as file_of_entry}
+use Rattle.coffee_merge.proofs.SoundHolders.{entry_among, entry_is, file_holder, placed}
 use Rattle.coffee_volume.specs.Cuts.{MendsToFiles}
 use Rattle.coffee_volume.specs.Mounting.{roomless_file}
-use Rattle.coffee_volume.specs.Volumes.{AreRegular, EntryTable, IsEntry, file_seen, files_seen, places}
+use Rattle.coffee_volume.specs.Rooms.{pages_asked}
+use Rattle.coffee_volume.specs.Volumes.{AreRegular, Asks, EntryTable, IsEntry, draft_seen, file_seen, files_seen, places, state_seen}
 use Rattle.coffee_volume.specs.declared.entry.Entry.{Entry}
+use Rattle.padded.proofs.Facts.{some_same}
 
 -- ENTRIES AND PLACES
 
@@ -109,3 +114,39 @@ pub kept_mend : (tells failed : Bool) (image : List ℕ) (table : EntryTable) (d
     → (IsTrue tells → failed ≡ false → HoldsTable image (places table) draft) → IsTrue (tells && not failed) → MendsToFiles image (files_seen (tells && not failed) image table)
 kept_mend tells failed image table draft count big whole regular holds told =
     files_mend (tells && not failed) image image table told (by_draft image (places table) draft (kept_table tells failed image table draft count big whole regular holds told))
+
+-- ASKING
+
+-- tables that one image holds have one entry of a name
+one_holding : (image : List ℕ) (t u : Entries) (i : ℕ) (e d : FileAt) → HoldsTable image t None → HoldsTable image u None → IsIn t i e → IsIn u i d → d.name ≡ e.name → d ≡ e
+one_holding image t u i e d h k is there same =
+    let holder = file_holder image t (placed d) h (entry_among image u i d k there) in
+    let named : holder.entry.name ≡ e.name = sym (ap (λ (f : Placed). f.header.name) holder.is) ∙ same in
+    let place : holder.place ≡ i = h.names holder.place i holder.entry e holder.is_in is named in
+    let one : holder.entry ≡ e = some_same holder.entry e (sym (subst (λ k. IsIn t k holder.entry) place holder.is_in) ∙ is) in
+    sym (entry_is image d (k.stored i d there)) ∙ ap (entry_of image) (holder.is ∙ ap placed one) ∙ entry_is image e (h.stored i e is)
+
+no_draft : (tells : Bool) (image : List ℕ) (draft : Option FileAt) → option_map (draft_seen tells image) draft ≡ None → draft ≡ None
+no_draft tells image None none = refl
+no_draft tells image (Some d) none = absurd (cc)
+
+-- volumes that are seen alike ask for the same, where they tell their bytes and have no draft
+pub seen_asks : (tells was now : Bool) (old new : List ℕ) (table other : EntryTable) (draft next : Option FileAt)
+    → (IsTrue tells → was ≡ false → HoldsTable old (places table) draft) → (IsTrue tells → now ≡ false → HoldsTable new (places other) next)
+    → state_seen (tells && not now) new other next ≡ state_seen (tells && not was) old table draft
+    → IsTrue (tells && not was) → option_map (draft_seen (tells && not was) old) draft ≡ None
+    → (id overwrites bytes need : ℕ) → Asks other id overwrites bytes need → Asks table id overwrites bytes need
+seen_asks tells was now old new table other draft next holds held same told idle id overwrites bytes need asks e is =
+    let then = told_by tells was told in
+    let still = told_by tells now (subst (λ (s : State). IsTrue s.tells) (sym same) told) in
+    let image : new ≡ old = ap (λ (s : State). s.store) same in
+    let none : draft ≡ None = no_draft (tells && not was) old draft idle in
+    let none_now : next ≡ None = no_draft (tells && not now) new next (ap (λ (s : State). s.draft) same ∙ idle) in
+    let h : HoldsTable old (places table) None = subst (HoldsTable old (places table)) none (holds then.0 then.1) in
+    let k : HoldsTable old (places other) None = subst (λ i. HoldsTable i (places other) None) image (subst (HoldsTable new (places other)) none_now (held still.0 still.1)) in
+    let files : files_seen (tells && not now) new other ≡ files_seen (tells && not was) old table = ap (λ (s : State). s.files) same in
+    let live : IsLive (files_seen (tells && not now) new other) id = subst (λ fs. IsLive fs id) (sym files) (seen_live (tells && not was) old table id e is) in
+    let r = entry_seen (tells && not now) new other id live in
+    let file = sym (file_of (tells && not now) new other id r.0 r.1) ∙ ap (λ fs. file_at fs id) files ∙ file_of (tells && not was) old table id e is in
+    let one : r.0.at ≡ e.at = one_holding old (places table) (places other) id e.at r.0.at h k (in_places table id e is) (in_places other id r.0 r.1) (ap (λ (f : File). f.name) file) in
+    subst (λ (at : FileAt). pages_asked at overwrites bytes ≡ Some need) one (asks r.0 r.1)

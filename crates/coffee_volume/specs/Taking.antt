@@ -1,5 +1,6 @@
 -- Taking: which pages that were free a call of `Volume` may leave in use.
 use Rattle.std.specs.Prelude.{◌≡◌, ◌⊎◌, ℕ, ◌+◌, ◌<◌, ◌≤◌, true, false, List, Some, None}
+use Rattle.afl_base.specs.Sparing.{TakesNoPage}
 use Rattle.afl_base.specs.declared.ids.PageId.{PageId}
 use Rattle.coffee_layout.specs.Tiling.{units_of}
 use Rattle.coffee_layout.specs.declared.file.FileAt.{FileAt}
@@ -34,7 +35,7 @@ TakesForDraft given old new = (p : ℕ) → is_free_at old p ≡ true → is_fre
 
 -- each page that was free is free
 abbrev pub TakesNone : (old new : List ℕ) → Type 0
-TakesNone old new = (p : ℕ) → is_free_at old p ≡ true → is_free_at new p ≡ true
+TakesNone old new = TakesNoPage is_free_at old new
 
 -- of the pages that were free, only those of a file and of its log may be in use now
 abbrev pub TakesWithin : FileAt → (old new : List ℕ) → Type 0

@@ -17,8 +17,10 @@ impl<F: Flash> Files for Volume<F> {
     ghost use Rattle.afl_base.specs.Fit.{fit};
     ghost use Rattle.afl_base.specs.Keeping.{Changes, ChangesOrLacks};
     ghost use Rattle.afl_base.specs.Regions.{regions};
+    ghost use Rattle.afl_base.specs.Sparing.{TakesNoPage, StandsStill};
+    ghost use Rattle.coffee_merge.specs.Holding.{is_free_at};
     ghost use Rattle.coffee_volume.specs.Cuts.{MendsToFiles};
-    ghost use Rattle.coffee_volume.specs.KeptTables.{kept_mend};
+    ghost use Rattle.coffee_volume.specs.KeptTables.{kept_mend, seen_asks};
     ghost use Rattle.coffee_volume.specs.Lowest.{Looks, PlacesDraft, PlacesFile, Provides, Stops};
     ghost use Rattle.coffee_volume.specs.Taking.{KeepsUnits, TakesForDraft, TakesForFile, TakesNone};
     ghost use Rattle.coffee_volume.specs.Volumes.{Asks, Lacks, WhereTold, state_seen};
@@ -35,12 +37,17 @@ impl<F: Flash> Files for Volume<F> {
 
     ghost asks = { λ v id w b n. Asks v.table id w b n };
 
+    ghost is_free = { is_free_at };
+
     ghost cuts = { F.cuts };
 
     ghost mends = { λ store files. MendsToFiles store files };
 
     ghost mended = { λ v cuts tells. kept_mend F.tells v.failed (F.image v.flash) v.table v.draft
         v.count v.big v.whole v.regular v.told tells };
+
+    ghost asks_seen = { λ old new same tells idle. seen_asks F.tells old.failed new.failed (F.image old.flash)
+        (F.image new.flash) old.table new.table old.draft new.draft old.told new.told same tells idle };
 
     fn live(&self, id: FileId) -> bool {
         self.table[id.number() as usize].is_some()
@@ -133,8 +140,8 @@ impl<F: Flash> Files for Volume<F> {
         requires idle { (⟦<Self as Files>⟧.state self.old).draft ≡ None }
         ensures removed { OnOk result (
             Removes (⟦<Self as Files>⟧.state self.old) (⟦<Self as Files>⟧.state self.new) id) }
-        ensures taken { OnOk result (
-            WhereTold (⟦<Self as Files>⟧.state self.old) (⟦<Self as Files>⟧.state self.new) TakesNone) }
+        ensures spares { let files = ⟦<Self as Files>⟧ in IsTrue (files.state self.old).tells → OnOk result
+            (TakesNoPage is_free_at (files.state self.old).store (files.state self.new).store) }
         ensures cut { let files = ⟦<Self as Files>⟧ in let old = files.state self.old in
             IsTrue files.cuts → IsTrue old.tells → OnErr result
             (MendsToEither files.mends old.files (files.state self.new).store (λ after. Removes old after id)) }
@@ -176,7 +183,10 @@ impl<F: Flash> Files for Volume<F> {
         ensures looked { OnSpace result (λ need.
             WhereTold (⟦<Self as Files>⟧.state self.old) (⟦<Self as Files>⟧.state self.new)
             (Stops (file_at (⟦<Self as Files>⟧.state self.old).files id).name overwrites bytes need)) }
-        ensures still { ((n : ℕ) → ⟦<Self as Files>⟧.asks self.old id overwrites bytes n → ⊥)
+        ensures still { let files = ⟦<Self as Files>⟧ in
+            ((n : ℕ) → files.asks self.old id overwrites bytes n → ⊥)
+            → OnOk result (StandsStill files.state files.asks self.old self.new) }
+        ensures unchanged { ((n : ℕ) → ⟦<Self as Files>⟧.asks self.old id overwrites bytes n → ⊥)
             → (⟦<Self as Files>⟧.state self.new).store ≡ (⟦<Self as Files>⟧.state self.old).store }
         ensures unasked { ((n : ℕ) → ⟦<Self as Files>⟧.asks self.old id overwrites bytes n → ⊥)
             → OnSpace result (λ need. ⊥) }
@@ -215,6 +225,8 @@ impl<F: Flash> Files for Volume<F> {
             ≡ (file_at (⟦<Self as Files>⟧.state self.old).files id).room) }
         ensures units { OnOk result (
             WhereTold (⟦<Self as Files>⟧.state self.old) (⟦<Self as Files>⟧.state self.new) KeepsUnits) }
+        ensures spares { let files = ⟦<Self as Files>⟧ in IsTrue (files.state self.old).tells → OnOk result
+            (TakesNoPage is_free_at (files.state self.old).store (files.state self.new).store) }
         ensures cut { let files = ⟦<Self as Files>⟧ in let old = files.state self.old in
             IsTrue files.cuts → IsTrue old.tells → OnErr result
             (MendsToState files.mends (files.state self.new).store (λ after. OverwritesFront old after id at bytes.now)) }
@@ -262,6 +274,8 @@ impl<F: Flash> Files for Volume<F> {
         ensures room { OnOk result ((file_at (⟦<Self as Files>⟧.state self.new).files id).room ≡ 0) }
         ensures units { OnOk result (
             WhereTold (⟦<Self as Files>⟧.state self.old) (⟦<Self as Files>⟧.state self.new) KeepsUnits) }
+        ensures spares { let files = ⟦<Self as Files>⟧ in IsTrue (files.state self.old).tells → OnOk result
+            (TakesNoPage is_free_at (files.state self.old).store (files.state self.new).store) }
         ensures cut { let files = ⟦<Self as Files>⟧ in let old = files.state self.old in
             IsTrue files.cuts → IsTrue old.tells → OnErr result
             (MendsToState files.mends (files.state self.new).store (λ after. AppendsFront old after id bytes.now)) }

@@ -8,7 +8,7 @@ ghost use Rattle.coffee_volume.specs.Lowest.{log_for};
 ghost use Rattle.coffee_volume.specs.Rooms.{pages_asked};
 ghost use Rattle.coffee_volume.specs.Steps.{IsAfter, MayTake, need_of, step_for};
 ghost use Rattle.coffee_volume.specs.Taking.{LiesIn};
-ghost use Rattle.coffee_volume.specs.Volumes.{AtEntry, FromTo};
+ghost use Rattle.coffee_volume.specs.Volumes.{AtEntry, FromTo, places};
 
 use crate::entry::Entry;
 use crate::step::{Step, lacks_log, step_for, take_step};
@@ -80,7 +80,7 @@ impl<F: Flash> Volume<F> {
         ensures ready { OnOk result (AtEntry self.new.table id
             (λ e. pages_asked e overwrites bytes ≡ None)) }
         ensures still { AtEntry self.old.table id (λ e. pages_asked e overwrites bytes ≡ None
-            → F.image self.new.flash ≡ F.image self.old.flash) }
+            → (F.image self.new.flash ≡ F.image self.old.flash) × (self.new.table ≡ self.old.table)) }
         ensures unasked { AtEntry self.old.table id (λ e. pages_asked e overwrites bytes ≡ None
             → OnSpace result (λ _. ⊥)) }
         ensures asked { OnSpace result (λ need. ⟦<Self as Files>⟧.asks self.new id overwrites bytes need) }
@@ -151,6 +151,7 @@ impl<F: Flash> Volume<F> {
             KeepsBytes (state self.old) (state self.new) id }
         ensures records { (file_at (⟦<Self as Files>⟧.state self.new).files id).records ≡ records }
         ensures room { (file_at (⟦<Self as Files>⟧.state self.new).files id).room ≡ room }
+        ensures places { places self.new.table ≡ places self.old.table }
         ensures flash { self.new.flash ≡ self.old.flash }
     {
         let entry = self.entry(id);

@@ -6,6 +6,7 @@ use Rattle.db_model.specs.declared.values.Value.{Value}
 use Rattle.db_model.specs.Answers.{live_tuples, pairs, same_value}
 use Rattle.db_model.specs.Cost.{chosen_cost, ranges_at, right_costs as costs_of_right}
 use Rattle.db_model.specs.Row.{Row, no_row}
+use Rattle.index_maxheap.specs.declared.places.Place.{Place}
 use Rattle.index_set.specs.declared.candidates.Candidates.{Candidates}
 use Rattle.index_set.specs.declared.info.IndexInfo.{IndexInfo}
 use Rattle.index_set.specs.Complete.{AreIndexesOf, AreReadable}
@@ -43,6 +44,11 @@ behind_pair c slot inner = record c { from = slot + 1; inner = Some inner }
 -- it stands at the next left row
 abbrev pub at_next_left : JoinCursor → JoinCursor
 at_next_left c = record c { at = c.at + 1; from = 0; inner = None }
+
+-- where its right side stands in a tree
+abbrev pub place_in : Option Candidates → Option Place
+place_in None = None
+place_in (Some inner) = inner.place
 
 -- a slot has a live row with this tuple
 abbrev pub HasLive : List Row → ℕ → List Value → Type 0

@@ -7,11 +7,12 @@ ghost use Rattle.afl_base.specs.Keeping.{OnlyReads};
 ghost use Rattle.db_model.specs.Row.{Row};
 ghost use Rattle.index_set.specs.Complete.{AreReadable};
 ghost use Rattle.tuple_file.specs.Tuples.{HoldsRows, rows, slots};
-ghost use Rattle.cursor.specs.Pairs.{FailsPair, FitsPairs, HasAnswered, HasLive, IsBegunJoin, MayReadPairs, MovesOn, PairsAt, PaysAt, StopsAt, YieldsPair, behind_pair, join_cost_ahead, join_cost_behind, matching, pairs_left, right_side_costs};
+ghost use Rattle.cursor.specs.Pairs.{FailsPair, FitsPairs, HasAnswered, HasLive, IsBegunJoin, MayReadPairs, MovesOn, PairsAt, PaysAt, StopsAt, YieldsPair, behind_pair, join_cost_ahead, join_cost_behind, matching, pairs_left, place_in, right_side_costs};
 
 use crate::partner::{Partner, Partnered, next_partner, value_at};
 use afl_base::{Failed, Files, SlotNo};
 use db_model::Tuple;
+use index_maxheap::Place;
 use index_set::{Candidates, HashTables, Indexes};
 use tuple_file::Tuples;
 
@@ -30,6 +31,18 @@ pub struct JoinCursor {
     pub from: u16,
     /// Where the right side stands, within one command.
     pub inner: Option<Candidates>,
+    /// Where it stood in a tree when it came to rest: nothing is asked of it.
+    pub hint: Option<Place>,
+}
+
+// Where candidates stand in a tree.
+fn place_in(inner: &Option<Candidates>) -> Option<Place>
+    ensures { result ≡ place_in inner.now }
+{
+    match inner {
+        Some(inner) => inner.place,
+        None => None,
+    }
 }
 
 impl JoinCursor {
@@ -71,16 +84,18 @@ impl JoinCursor {
             at: 0,
             from: 0,
             inner: None,
+            hint: None,
         }
     }
 
-    /// Forgets where the right side stands: the pairs to come are the same, and it goes on rightly
-    /// whatever is inserted from now on.
+    /// Holds where the right side stands for a hint alone: the pairs to come are the same, and it goes on
+    /// rightly whatever is inserted from now on.
     pub fn rest(&mut self)
-        ensures rests { self.new ≡ record self.old { inner = None } }
+        ensures rests { self.new ≡ record self.old { inner = None; hint = place_in self.old.inner } }
         ensures pairs { (lefts rights : List Row) → pairs_left self.new lefts rights
             ≡ pairs_left self.old lefts rights }
     {
+        self.hint = place_in(&self.inner);
         self.inner = None;
     }
 
@@ -138,6 +153,7 @@ impl JoinCursor {
             &self.right_indexes,
             &partner,
             &self.inner,
+            self.hint,
             self.from,
             self.right_slots,
             right,

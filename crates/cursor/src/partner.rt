@@ -17,6 +17,7 @@ ghost use Rattle.cursor.specs.Remaining.{passing};
 use crate::walk::{Test, next_row};
 use afl_base::{Failed, Files, SlotNo};
 use db_model::{Range, Tuple, Value};
+use index_maxheap::Place;
 use index_set::{Candidates, HashTables, Indexes};
 use tuple_file::Tuples;
 
@@ -101,7 +102,8 @@ fn ranges_for(partner: &Partner) -> [Range; 8]
     }
 }
 
-// The candidates of the right side: those that stand, else such as begin at a slot.
+// The candidates of the right side: those that stand, else such as begin at a slot, with a hint of where
+// that is in a tree.
 fn right_side<V: Files>(
     files: &mut V,
     tables: &HashTables,
@@ -109,6 +111,7 @@ fn right_side<V: Files>(
     indexes: &Indexes,
     partner: &Partner,
     inner: &Option<Candidates>,
+    hint: Option<Place>,
     from: u16,
     slots: u16,
 ) -> Result<Candidates, Failed>
@@ -137,7 +140,7 @@ fn right_side<V: Files>(
         None => {
             let ranges = ranges_for(partner);
             let mut begun = Candidates::begin(files, tables, indexes, &ranges, slots)?;
-            begun.skip(from);
+            begun.skip(from, hint);
             Ok(begun)
         }
     }
@@ -159,6 +162,7 @@ pub(crate) fn next_partner<V: Files>(
     indexes: &Indexes,
     partner: &Partner,
     inner: &Option<Candidates>,
+    hint: Option<Place>,
     from: u16,
     slots: u16,
     into: &mut Tuple,
@@ -187,7 +191,9 @@ pub(crate) fn next_partner<V: Files>(
         → V.reads files.new ≤ V.reads files.old + inner_cost inner.now cost all) }
     ensures frame { OnlyReads V.state V.lent V.reads V.faults files.old files.new result }
 {
-    let mut stands = right_side(files, tables, right, indexes, partner, inner, from, slots)?;
+    let mut stands = right_side(
+        files, tables, right, indexes, partner, inner, hint, from, slots,
+    )?;
     match next_row(files, tables, right, &mut stands, partner, into)? {
         None => Ok(None),
         Some(slot) => Ok(Some(Partnered {

@@ -106,11 +106,11 @@ impl SelectCursor {
         })
     }
 
-    /// Forgets where in a tree it stands: what remains is the same, and it goes on rightly whatever is
-    /// inserted from now on.
+    /// Holds where in a tree it stands for a hint alone: what remains is the same, and it goes on rightly
+    /// whatever is inserted from now on.
     pub fn rest(&mut self)
-        ensures rests { self.new
-            ≡ record self.old { candidates = record self.old.candidates { place = None } } }
+        ensures rests { let stood = self.old.candidates.place in self.new
+            ≡ record self.old { candidates = record self.old.candidates { place = None; hint = stood } } }
         ensures remaining { (all : List Row) → remaining self.new all ≡ remaining self.old all }
         ensures slots_left { (all : List Row) → slots_to_answer self.new all ≡ slots_to_answer self.old all }
         ensures waits { (all : List Row) → Waits self.old.candidates all

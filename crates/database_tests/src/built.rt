@@ -3,7 +3,7 @@ ghost use Rattle.std.specs.Prelude.{◌≡◌, OnOk, None};
 use crate::trees::{buckets, built_tree, finds_all, is_tree};
 use crate::volumes::mounted;
 use afl_base::{FileError, FileId, Files, Kind, get_u16};
-use afl_sim::{MemFlash, PlainFiles};
+use afl_sim::{CutFlash, MemFlash, PlainFiles};
 use file_steps::{appended, new_file, read_from, size_of};
 use std::test::Fail;
 
@@ -89,6 +89,15 @@ fn fills_a_path<V: Files>(files: &mut V) -> Result<bool, FileError>
 fn equal_keys_fill_a_path_and_its_chain(rt: HostRuntime) {
     let mut files: PlainFiles<4064> = PlainFiles::new();
     assert!(rt; fills_a_path(&mut files) == Ok(true));
+}
+
+// 256 pairs in eight buckets go out in 64 groups, with two writes more for each bucket.
+#[test]
+fn a_tree_is_built_in_few_writes(rt: HostRuntime) -> Result<(), Fail> {
+    let mut image = vec![in rt.alloc(); 0u8; 65_536]?;
+    let mut volume = mounted(CutFlash::new(&mut image, 120, 0).ok_or("no flash")?)?;
+    assert!(rt; fills_a_path(&mut volume) == Ok(true));
+    Ok(())
 }
 
 // The heads on the path of the key -1.

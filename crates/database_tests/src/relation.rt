@@ -6,6 +6,7 @@ ghost use Rattle.db_model.specs.Row.{row_length};
 ghost use Rattle.afl_base.specs.declared.kind.Kind.TheVariants.{Doubling};
 ghost use Rattle.index_set.specs.declared.info.TableId.TheVariants.{First};
 ghost use Rattle.index_set.specs.Tables.{entries};
+ghost use Rattle.tuple_file.specs.Tuples.{HoldsRows, slots};
 ghost use Rattle.database_tests.specs.Standing.{AreOurs, StandsOn, IsOurs, IsStanding, LeavesFiles, three_indexes};
 
 use crate::volumes::empty_file;
@@ -65,7 +66,7 @@ impl Relation {
             StandsOn (V.state files.old) (V.state files.new) self.now.tuples) }
     {
         let indexes = self.indexes();
-        let slot = SlotNo::new(self.tuples.count(files)).ok_or("no slot")?;
+        let slot = next_slot(files, &self.tuples)?;
         if slot.number() >= 600 {
             return Err(Fail::new("there are too many rows"));
         }
@@ -74,6 +75,17 @@ impl Relation {
         self.tuples.append(files, tuple)?;
         insert_all(files, tables, &indexes, &rooms, tuple, slot)?;
         Ok(())
+    }
+}
+
+// The slot behind the last row.
+fn next_slot<V: Files>(files: &V, tuples: &Tuples) -> Result<SlotNo, Fail>
+    requires { HoldsRows (V.state files.now) tuples.now }
+    ensures next { IfOk result (λ slot. slot ≡ slots (V.state files.now).files tuples.now) }
+{
+    match SlotNo::new(tuples.count(files)) {
+        Some(slot) => Ok(slot),
+        None => Err(Fail::new("no slot")),
     }
 }
 

@@ -1,15 +1,22 @@
 use afl_base::{Failed, Sink};
 use afl_sim::MemSink;
 use db_model::{Pool, Refusal, Text, Tuple, Value};
-use reply_text::{write_all, write_numbers, write_ok, write_refusal, write_row, write_rows};
+use reply_text::{
+    write_all, write_numbers, write_ok, write_projected, write_refusal, write_row, write_rows,
+};
 
-// Writes a row of two numbers and of a text between them, and then the count of rows.
-fn write_one_row<K: Sink>(out: &mut K) -> Result<(), Failed> {
+// Two numbers, and a text between them.
+fn three_values() -> Tuple {
     let mut row = Tuple::new();
     row.push(Value::Number(-32768));
     row.push(Value::Text(Text::new(b"a, b").unwrap_or_default()));
     row.push(Value::Number(140737488355327));
-    write_row(out, &row)?;
+    row
+}
+
+// Writes a row, and then the count of rows.
+fn write_one_row<K: Sink>(out: &mut K) -> Result<(), Failed> {
+    write_row(out, &three_values())?;
     write_rows(out, 1)
 }
 
@@ -19,6 +26,20 @@ fn a_reply_of_rows_has_a_line_a_row_and_their_number(rt: HostRuntime) {
     let mut out = MemSink::new(&mut room, None);
     assert!(rt; write_one_row(&mut out).is_ok());
     assert!(rt; out.written() == b"-32768,'a, b',140737488355327\nrows 1\n".as_slice());
+}
+
+fn write_some_values<K: Sink>(out: &mut K) -> Result<(), Failed> {
+    let row = three_values();
+    write_projected(out, &[2, 1, 2], &row)?;
+    write_projected(out, &[0, 3], &row)
+}
+
+#[test]
+fn a_row_of_some_values_has_them_in_the_order_of_their_places(rt: HostRuntime) {
+    let mut room = [0u8; 64];
+    let mut out = MemSink::new(&mut room, None);
+    assert!(rt; write_some_values(&mut out).is_ok());
+    assert!(rt; out.written() == b"140737488355327,'a, b',140737488355327\n-32768,0\n".as_slice());
 }
 
 fn write_three_values<K: Sink>(out: &mut K) -> Result<(), Failed> {

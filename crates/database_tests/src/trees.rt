@@ -130,7 +130,18 @@ pub fn put_key<V: Files>(
     Ok(())
 }
 
-// The first slot of a key from one on, where the search for the one before ended at a place.
+// Whether two searches found the same.
+fn same_slot(one: &Option<Found>, other: &Option<Found>) -> bool {
+    match (one, other) {
+        (Some(one), Some(other)) => one.slot.number() == other.slot.number(),
+        (Some(_), None) => false,
+        (None, Some(_)) => false,
+        (None, None) => true,
+    }
+}
+
+// The first slot of a key from one on, where the search for the one before ended at a place. A search
+// from the root that has the place for a hint must find the same.
 fn found<V: Files>(
     files: &mut V,
     index: FileId,
@@ -144,7 +155,12 @@ fn found<V: Files>(
     if !files.live(index) {
         return Err(FileError::Failed);
     }
-    Ok(next(files, index, key, place, from)?)
+    let found = next(files, index, key, place, None, from)?;
+    let hinted = next(files, index, key, None, place, from)?;
+    if !same_slot(&found, &hinted) {
+        return Err(FileError::Failed);
+    }
+    Ok(found)
 }
 
 /// Whether a search answers exactly the slots of a key among the first of a list.

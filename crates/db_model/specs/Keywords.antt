@@ -42,9 +42,9 @@ keyword_text KMAX = codes "MAX"
 keyword_text KMEAN = codes "MEAN"
 keyword_text KMEDIAN = codes "MEDIAN"
 
--- all of them
+-- all of them, those of INSERT and SELECT first
 unfoldable pub keywords : List Keyword
-keywords = KCREATE ∷ KRELATION ∷ KATTRIBUTE ∷ KINDEX ∷ KDOMAIN ∷ KINT ∷ KLONG ∷ KSTRING ∷ KIN ∷ KTYPE ∷ KINLINE ∷ KMAXHEAP ∷ KMEMHASH ∷ KINSERT ∷ KINTO ∷ KSELECT ∷ KFROM ∷ KWHERE ∷ KJOIN ∷ KON ∷ KPROJECT ∷ KREMOVE ∷ KPACK ∷ KOPEN ∷ KFETCH ∷ KCLOSE ∷ KAND ∷ KOR ∷ KNOT ∷ KCOUNT ∷ KSUM ∷ KMIN ∷ KMAX ∷ KMEAN ∷ KMEDIAN ∷ []
+keywords = KINSERT ∷ KINTO ∷ KSELECT ∷ KFROM ∷ KWHERE ∷ KCREATE ∷ KRELATION ∷ KATTRIBUTE ∷ KINDEX ∷ KDOMAIN ∷ KINT ∷ KLONG ∷ KSTRING ∷ KIN ∷ KTYPE ∷ KINLINE ∷ KMAXHEAP ∷ KMEMHASH ∷ KJOIN ∷ KON ∷ KPROJECT ∷ KREMOVE ∷ KPACK ∷ KOPEN ∷ KFETCH ∷ KCLOSE ∷ KAND ∷ KOR ∷ KNOT ∷ KCOUNT ∷ KSUM ∷ KMIN ∷ KMAX ∷ KMEAN ∷ KMEDIAN ∷ []
 
 -- those of so many letters
 abbrev pub keywords_of_length : ℕ → List Keyword

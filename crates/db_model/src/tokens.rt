@@ -89,7 +89,7 @@ pub enum Keyword {
     KMEDIAN,
 }
 
-// The keywords by the number of their letters.
+// The keywords by the number of their letters, those of INSERT and SELECT first.
 const OF_TWO: [Keyword; 3] = [Keyword::KIN, Keyword::KON, Keyword::KOR];
 
 const OF_THREE: [Keyword; 6] = [
@@ -102,10 +102,10 @@ const OF_THREE: [Keyword; 6] = [
 ];
 
 const OF_FOUR: [Keyword; 8] = [
-    Keyword::KLONG,
-    Keyword::KTYPE,
     Keyword::KINTO,
     Keyword::KFROM,
+    Keyword::KLONG,
+    Keyword::KTYPE,
     Keyword::KJOIN,
     Keyword::KPACK,
     Keyword::KOPEN,
@@ -113,20 +113,20 @@ const OF_FOUR: [Keyword; 8] = [
 ];
 
 const OF_FIVE: [Keyword; 5] = [
-    Keyword::KINDEX,
     Keyword::KWHERE,
+    Keyword::KINDEX,
     Keyword::KFETCH,
     Keyword::KCLOSE,
     Keyword::KCOUNT,
 ];
 
 const OF_SIX: [Keyword; 8] = [
+    Keyword::KINSERT,
+    Keyword::KSELECT,
     Keyword::KCREATE,
     Keyword::KDOMAIN,
     Keyword::KSTRING,
     Keyword::KINLINE,
-    Keyword::KINSERT,
-    Keyword::KSELECT,
     Keyword::KREMOVE,
     Keyword::KMEDIAN,
 ];

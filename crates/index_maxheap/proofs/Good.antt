@@ -14,9 +14,12 @@ use Rattle.index_maxheap.proofs.Firsts.{later_is}
 
 pub good_inserts : (old new : List ℕ) (keys more : List ℤ) (key : ℤ) (from : ℕ) (place : Option Place) → KeepsNumbers old new → IsPlaceOf old keys key from place → IsPlaceOf new (keys ++ more) key from place
 good_inserts old new keys more key from None keeps at = tt
-good_inserts old new keys more key from (Some place) keeps at =
-    subst (λ (ps : List Pair). IsPlaceAt new ps key from place.bucket place.pair place.hop) (sym (numbered-append 0 keys more))
-    (place_stays old new (numbered 0 keys) (numbered (0 + length keys) more) key from place.bucket place.pair place.hop keeps at)
+good_inserts old new keys more key from (Some place) keeps at = (
+  at.0,
+  at.1,
+  subst (λ (ps : List Pair). IsPlaceAt new ps key from place.bucket place.pair at.0) (sym (numbered-append 0 keys more))
+      (place_stays old new (numbered 0 keys) (numbered (0 + length keys) more) key from place.bucket place.pair at.0 keeps at.2),
+)
 
 pub good_again : (first then last : List ℕ) → KeepsNumbers first then → KeepsNumbers then last → KeepsNumbers first last
 good_again first then last a b = λ key hop some. b key hop (subst (λ (n : ℕ). n ≢ 0) (sym (a key hop some)) some) ∙ a key hop some
@@ -25,12 +28,15 @@ pub good_later : (bytes : List ℕ) (keys : List ℤ) (key : ℤ) (from to : ℕ
 good_later bytes keys key from to None h at = tt
 good_later bytes keys key from to (Some place) h at =
     let ps : List Pair = numbered 0 keys in
-    let rest : List Pair = drop place.pair (reaching (goes key) place.hop ps) in
-    record {
-      there = at.there;
-      some = at.some;
-      good = at.good;
-      rest = sym (filter_weaker (is_wanted key to) (is_wanted key from) (later_is key from to h) rest)
-          ∙ ap (filter (is_wanted key to)) at.rest
-          ∙ filter_weaker (is_wanted key to) (is_wanted key from) (later_is key from to h) ps;
-    }
+    let rest : List Pair = drop place.pair (reaching (goes key) at.0 ps) in (
+      at.0,
+      at.1,
+      record {
+        there = at.2.there;
+        some = at.2.some;
+        good = at.2.good;
+        rest = sym (filter_weaker (is_wanted key to) (is_wanted key from) (later_is key from to h) rest)
+            ∙ ap (filter (is_wanted key to)) at.2.rest
+            ∙ filter_weaker (is_wanted key to) (is_wanted key from) (later_is key from to h) ps;
+      },
+    )

@@ -2,6 +2,8 @@ pub mod Walked
 pub mod Told
 pub mod Grows
 pub mod Built
+pub mod Awaited
+pub mod Gathering
 pub mod Verified
 pub mod Opening
 pub mod Slots
@@ -12,3 +14,5 @@ pub mod Scans
 pub mod Onward
 pub mod Roots
 pub mod Good
+pub mod Chained
+pub mod Hinted

@@ -14,24 +14,34 @@ none_numbered (k ∷ ks) e = absurd cc
 pub root_start : (bytes : List ℕ) (keys : List ℤ) (key : ℤ) (from bucket : ℕ) → IsTreeOf bytes keys → bucket ≡ u16_at bytes 0 → IsStart bytes keys key from (record { bucket = bucket; pair = 0; hop = 0 })
 root_start bytes keys key from bucket tree is = record {
   none = λ z. none_numbered keys ((tree.each key 0).none (sym is ∙ z));
-  some = λ some. record {
-    there = is;
-    some = some;
-    good = record { full = λ i h. absurd (omega (arith, h)); within = omega arith; short = omega arith };
-    rest = refl;
-  };
+  some = λ some. (
+    0,
+    record { least = omega arith; exact = λ low. refl },
+    record {
+      there = is;
+      some = some;
+      good = record { full = λ i h. absurd (omega (arith, h)); within = omega arith; short = omega arith };
+      rest = refl;
+    },
+  );
 }
 
 -- the root's number is read once
-pub root_paid : (now was start e bucket : ℕ) → now ≤ was + walk_left e (Some (record { bucket = bucket; pair = 0; hop = 0 })) → was ≤ start + 3 → now ≤ start + walk_left e None
+pub root_paid : (now was start e bucket : ℕ) → now ≤ was + walk_left e (Some (record { bucket = bucket; pair = 0; hop = 0 })) → was ≤ start + 3 → now + 9 ≤ start + walk_left e None
 root_paid now was start e bucket more first = omega (arith, more, first)
 
-pub root_found : (now was start e bucket : ℕ) (place : Place) → now + walk_left e (Some place) ≤ was + walk_left e (Some (record { bucket = bucket; pair = 0; hop = 0 })) + 9 → was ≤ start + 3 → now + walk_left e (Some place) ≤ start + walk_left e None + 9
+pub root_found : (now was start e bucket : ℕ) (place : Place) → now + walk_left e (Some place) ≤ was + walk_left e (Some (record { bucket = bucket; pair = 0; hop = 0 })) + 9 → was ≤ start + 3 → now + walk_left e (Some place) ≤ start + walk_left e None
 root_found now was start e bucket place more first = omega (arith, more, first)
 
 -- and so for what is found
 pub roots_found : {E : Type 0} (r : Result (Option Found) E) (now was start e bucket : ℕ) → IfOk r (λ f. IfSome f (λ g. now + walk_left e (Some g.place) ≤ was + walk_left e (Some (record { bucket = bucket; pair = 0; hop = 0 })) + 9)) → was ≤ start + 3 →
-    IfOk r (λ f. IfSome f (λ g. now + walk_left e (Some g.place) ≤ start + walk_left e None + 9))
+    IfOk r (λ f. IfSome f (λ g. now + walk_left e (Some g.place) ≤ start + walk_left e None))
 roots_found (Err x) now was start e bucket more first = more
 roots_found (Ok None) now was start e bucket more first = more
 roots_found (Ok (Some g)) now was start e bucket more first = root_found now was start e bucket g.place more first
+
+-- a place, where the reads before it leave so many
+pub paid_later : {E : Type 0} (r : Result (Option Found) E) (now was start e most left : ℕ) → IfOk r (λ f. IfSome f (λ g. now + walk_left e (Some g.place) ≤ was + most)) → was + most ≤ start + left → IfOk r (λ f. IfSome f (λ g. now + walk_left e (Some g.place) ≤ start + left))
+paid_later (Err x) now was start e most left found before = found
+paid_later (Ok None) now was start e most left found before = found
+paid_later (Ok (Some g)) now was start e most left found before = omega (arith, found, before)

@@ -1,19 +1,13 @@
 -- What a look at a bucket finds, and how a walk goes on.
-use Rattle.std.proofs.Common.{◌≡◌, ◌≢◌, ◌≤◌, ◌<◌, ◌+◌, ◌*◌, ◌/◌, ◌-◌, ℕ, ℤ, zero, suc, List, length, get_or, refl, arith, ap, ◌∙◌, sym, ⊎_elim, add-one}
+use Rattle.std.proofs.Common.{◌≡◌, ◌≢◌, ◌≤◌, ◌<◌, ◌+◌, ◌*◌, ◌-◌, ℕ, ℤ, zero, suc, List, length, get_or, refl, arith, ap, ◌∙◌, ⊎_elim}
 use Rattle.std.specs.Prelude.{min, slice_range}
 use Rattle.afl_base.specs.Fields.{u16_at}
 use Rattle.index_tree.specs.Buckets.{IsFilled}
 use Rattle.index_tree.specs.Ends.{spot_behind, spot_of}
-use Rattle.db_model.specs.Cost.{keys_beside}
-use Rattle.index_tree.specs.Trees.{IsTreeOf, numbered}
-use Rattle.index_tree.proofs.Added.{zero_or}
-use Rattle.index_tree.proofs.Beside.{path_short}
-use Rattle.index_maxheap.specs.Walks.{Walks, reads_from}
 use Rattle.index_tree.specs.Pairs.{Pair, goes, reaching}
-use Rattle.index_tree.specs.TreeFile.{HoldsPairs, IsBucket, IsTree, next_number, key_at, last_at, number_of, place_of, slot_at}
+use Rattle.index_tree.specs.TreeFile.{HoldsPairs, IsBucket, next_number, key_at, last_at, number_of, place_of, slot_at}
 use Rattle.index_tree.proofs.Frames.{SameBytes, i32_same, part_same, u16_same}
 use Rattle.index_tree.proofs.Shared.{order}
-use Rattle.index_tree.proofs.Reach.{deep}
 
 -- ---- a bucket's bytes alone
 
@@ -58,13 +52,6 @@ looked file part number n rest some is bucket filled = filled_is part rest n (ho
 
 -- ---- the way on
 
-spot_level : (key : ℤ) (hop n : ℕ) → spot_behind key (min hop 4) n ≡ spot_behind key hop n
-spot_level key zero n = refl
-spot_level key (suc zero) n = refl
-spot_level key (suc (suc zero)) n = refl
-spot_level key (suc (suc (suc zero))) n = refl
-spot_level key (suc (suc (suc (suc hop)))) n = let e : min (suc (suc (suc (suc hop)))) 4 ≡ 4 = omega arith in rw e refl
-
 behind_spot : (bytes : List ℕ) (key : ℤ) (hop n : ℕ) → n ≢ 0 → next_number bytes key hop n ≡ u16_at bytes (spot_behind key hop n)
 behind_spot bytes key zero n some = refl
 behind_spot bytes key (suc zero) n some = refl
@@ -78,43 +65,3 @@ number_spot bytes key hop some = behind_spot bytes key hop (number_of bytes key 
 
 pub full_more : (key : ℤ) (ps : List Pair) (hop : ℕ) → ((i : ℕ) → i < hop → 32 ≤ length (reaching (goes key) i ps)) → 32 ≤ length (reaching (goes key) hop ps) → (i : ℕ) → i < hop + 1 → 32 ≤ length (reaching (goes key) i ps)
 full_more key ps hop full now i h = ⊎_elim (λ (k : hop ≤ i). let e : i ≡ hop = omega arith in rw e now) (λ (k : i < hop). full i k) (order hop i)
-
-pub walks_more : (bytes : List ℕ) (ps : List Pair) (key : ℤ) (hop at level n spot : ℕ) → Walks bytes ps key hop at level → n ≡ u16_at bytes at → n ≢ 0 → 32 ≤ length (reaching (goes key) hop ps) → spot ≡ spot_behind key level n →
-    Walks bytes ps key (hop + 1) spot (min (level + 1) 4)
-walks_more bytes ps key hop at level n spot walks number some full is =
-    let here : number_of bytes key hop ≡ n = walks.number ∙ sym number in
-    let there : spot ≡ spot_of bytes key (suc hop) = is ∙ ap (λ (l : ℕ). spot_behind key l n) walks.depth ∙ spot_level key hop n ∙ ap (spot_behind key hop) (sym here) in
-    let depth : level ≡ min hop 4 = walks.depth in
-    record {
-      full = full_more key ps hop walks.full full;
-      spot = rw add-one there;
-      number = rw add-one (number_spot bytes key hop (rw here some) ∙ ap (u16_at bytes) (sym there));
-      depth = omega arith;
-    }
-
--- in a chain the number stands in the bucket before
-pub chain_spot : (bytes : List ℕ) (key : ℤ) (level number next spot : ℕ) → level ≡ 4 → spot ≡ spot_behind key level number → next ≡ u16_at bytes (place_of number + 192) → next ≡ u16_at bytes spot
-chain_spot bytes key level number next spot last is there = there ∙ ap (u16_at bytes) (sym (is ∙ ap (λ (l : ℕ). spot_behind key l number) last))
-
--- a bucket lies on the path of its key
-pub walk_near : (bytes : List ℕ) (keys : List ℤ) (key : ℤ) (hop at level number : ℕ) → IsTreeOf bytes keys → Walks bytes (numbered 0 keys) key hop at level → number ≡ u16_at bytes at → number ≢ 0 → hop ≤ 4 + keys_beside key keys / 32
-walk_near bytes keys key hop at level number tree walks is some =
-    path_short key keys hop (record { full = walks.full; some = (tree.each key hop).some (λ z. some (is ∙ sym walks.number ∙ z)) })
-
--- the reads that are left pay for a look, and for the number behind
-pub look_paid_by : (now was start e hop number : ℕ) → (number ≢ 0 → hop ≤ 4 + e / 32) → (number ≡ 0 → now ≤ was) → now ≤ was + 9 → was + reads_from e hop ≤ start → now ≤ start
-look_paid_by now was start e hop number near none cost paid =
-    ⊎_elim
-    (λ (z : number ≡ 0). let less = none z in omega (arith, less, paid))
-    (λ (some : number ≢ 0). let close = near some in omega (arith, close, cost, paid))
-    (zero_or number)
-
-pub behind_paid : (now mid was start e hop level : ℕ) → hop ≤ 4 + e / 32 → level ≡ min hop 4 → mid ≤ was + 9 → now + 3 * level ≤ mid + 3 * min (level + 1) 4 → was + reads_from e hop ≤ start → now + reads_from e (hop + 1) ≤ start
-behind_paid now mid was start e hop level near depth look cost paid = omega (arith, near, depth, look, cost, paid)
-
--- no path is longer
-pub walk_ends : {X : Type 0} (bytes : List ℕ) (ps : List Pair) (key : ℤ) (hop at level : ℕ) → IsTree bytes ps → Walks bytes ps key hop at level → 1026 ≤ hop → X
-walk_ends bytes ps key hop at level tree walks far =
-    let long : 32 * hop + length (reaching (goes key) hop ps) ≤ length ps = deep (goes key) ps hop walks.full in
-    let few : length ps ≤ 32768 = tree.few in
-    absurd (omega arith)

@@ -1,14 +1,15 @@
 -- A tree that is built in a draft, slot by slot.
-use Rattle.std.specs.Prelude.{ℕ, ℤ, ◌≡◌, ◌≢◌, ◌+◌, ◌-◌, ◌*◌, ◌/◌, ◌<◌, ◌≤◌, List, [], ◌∷◌, ◌++◌, length, get_or, replicate, slice_range}
+use Rattle.std.specs.Prelude.{◌⊎◌, ℕ, ℤ, ◌≡◌, ◌≢◌, ◌+◌, ◌-◌, ◌*◌, ◌/◌, ◌%◌, ◌<◌, ◌≤◌, List, [], ◌∷◌, ◌++◌, length, get_or, replicate, set, slice_range}
 use Rattle.afl_base.specs.Fields.{put_at, u16_at}
-use Rattle.afl_base.specs.Files.{Drafts, State, WritesDraft, draft_in}
+use Rattle.afl_base.specs.Files.{Drafts, State, draft_in}
 use Rattle.padded.specs.Padded.{padded}
 use Rattle.db_model.specs.HashTree.{buckets, node}
-use Rattle.index_tree.specs.Buckets.{IsFirstBucket, IsPairBytes}
+use Rattle.index_tree.specs.Buckets.{IsPairBytes}
 use Rattle.index_tree.specs.Loads.{Counts}
 use Rattle.index_tree.specs.Pairs.{Pair, goes, pair_keys, reaching}
 use Rattle.index_tree.specs.Places.{SlotsRise}
 use Rattle.index_tree.specs.TreeFile.{IsTree, bucket_place, number_of, place_of}
+use Rattle.index_maxheap.specs.declared.groups.Nodes.{Nodes}
 
 -- behind a bucket's pairs are zeros
 abbrev pub IsBlank : List ℕ → List Pair → Type 0
@@ -40,12 +41,6 @@ pub record Builds (loads places : List ℕ) (opened : ℕ) (draft : List ℕ) (p
   pub fits : length tree ≤ length draft
   pub padding : draft ≡ padded (length draft) tree
 
--- what is kept where no bytes are told
-pub record IsSafeBuild (loads places : List ℕ) (opened most slot : ℕ) : Type 0 where
-  pub light : (i : ℕ) → get_or loads i 0 ≤ slot
-  pub inside : (i : ℕ) → get_or places i 0 + 195 ≤ bucket_place opened
-  pub under : opened ≤ most
-
 -- the draft has other bytes
 abbrev pub HasOtherDraft : State → State → Type 0
 HasOtherDraft old new = (bytes : List ℕ)
@@ -59,12 +54,73 @@ with_pair ps key slot = ps ++ record { key = key; slot = slot } ∷ []
 abbrev pub HasZeros : List ℕ → ℕ → ℕ → Type 0
 HasZeros bytes at n = slice_range bytes at (at + n) ≡ replicate n 0
 
--- a pair stands in the draft, and all else is as before
-abbrev pub DraftsPair : State → State → ℕ → Pair → Type 0
-DraftsPair old new at q = (six : List ℕ) × IsPairBytes six q × WritesDraft old new at six
+-- the last byte of a bucket stands behind so many buckets of the draft, and its number at a place before it
+abbrev pub DraftsBucket : State → State → (at opened : ℕ) → Type 0
+DraftsBucket old new at opened = (two : List ℕ) × (length two ≡ 2) × (u16_at two 0 ≡ opened + 1)
+    × Drafts old new (draft_in old).name (length (draft_in old).bytes) (put_at (put_at (draft_in old).bytes (bucket_place opened + 194) (1 ∷ [])) at two)
 
--- a bucket of one pair stands behind so many buckets of the draft, and its number at a place before it
-abbrev pub DraftsBucket : State → State → (at opened : ℕ) → Pair → Type 0
-DraftsBucket old new at opened q = (bucket two : List ℕ) × IsFirstBucket bucket q × (length two ≡ 2)
-    × (u16_at two 0 ≡ opened + 1)
-    × Drafts old new (draft_in old).name (length (draft_in old).bytes) (put_at (put_at (draft_in old).bytes (bucket_place opened) bucket) at two)
+-- ---- nodes
+
+-- what is kept where no bytes are told: where last buckets lie, each apart from all others
+pub record IsSafeBuild (nodes : Nodes) (most slot : ℕ) : Type 0 where
+  pub light : (i : ℕ) → get_or nodes.loads i 0 ≤ slot
+  pub inside : (i : ℕ) → get_or nodes.places i 0 + 195 ≤ bucket_place nodes.opened
+  pub under : nodes.opened ≤ most
+  pub behind : (i : ℕ) → 0 < get_or nodes.loads i 0 → 683 ≤ get_or nodes.places i 0
+  pub apart : (i j : ℕ) → i ≢ j → 0 < get_or nodes.loads i 0 → 0 < get_or nodes.loads j 0
+      → (get_or nodes.places i 0 + 195 ≤ get_or nodes.places j 0)
+      ⊎ (get_or nodes.places j 0 + 195 ≤ get_or nodes.places i 0)
+
+-- and the draft has as many bytes as buckets may come
+abbrev pub FitDraft : Nodes → State → Type 0
+FitDraft nodes state = (most slot : ℕ) × IsSafeBuild nodes most slot
+    × (length (draft_in state).bytes ≡ bucket_place most)
+
+-- the next bucket of a node lies behind all others
+abbrev pub with_bucket : Nodes → ℕ → Nodes
+with_bucket nodes node =
+    record nodes { places = set nodes.places node (bucket_place nodes.opened); opened = nodes.opened + 1 }
+
+-- ---- pairs that wait, in groups of four
+
+-- how many of a node wait: those of its last group, where that is not whole
+abbrev pub waiting : Nodes → ℕ → ℕ
+waiting nodes node = get_or nodes.loads node 0 % 4
+
+-- where in the draft that group belongs
+abbrev pub group_place : Nodes → ℕ → ℕ
+group_place nodes node = get_or nodes.places node 0 + 24 * (get_or nodes.loads node 0 % 32 / 4)
+
+-- one pair more of a node waits
+pub record TakesIn (old new : Nodes) (node : ℕ) (q : Pair) : Type 0 where
+  pub six : List ℕ
+  pub is : IsPairBytes six q
+  pub groups : new.groups ≡ put_at old.groups (24 * node + 6 * waiting old node) six
+  pub loads : new.loads ≡ set old.loads node (get_or old.loads node 0 + 1)
+  pub places : new.places ≡ old.places
+  pub opened : new.opened ≡ old.opened
+
+-- a byte of the draft belongs to one of so many pairs that wait, of a node from one on
+pub record IsAwaited (from : ℕ) (at count : ℕ → ℕ) (x : ℕ) : Type 0 where
+  pub node : ℕ
+  pub later : from ≤ node
+  pub among : node < 341
+  pub behind : at node ≤ x
+  pub before : x < at node + 6 * count node
+
+-- the draft has zeros for the pairs that wait, and is the full one when they stand there
+pub record Awaits (from : ℕ) (at count : ℕ → ℕ) (groups draft full : List ℕ) : Type 0 where
+  pub size : length draft ≡ length full
+  pub free : (x : ℕ) → IsAwaited from at count x → get_or draft x 0 ≡ 0
+  pub held : (node i : ℕ) → from ≤ node → node < 341 → i < 6 * count node
+      → get_or full (at node + i) 0 ≡ get_or groups (24 * node + i) 0
+  pub rest : (x : ℕ) → IsAwaited from at count x ⊎ (get_or draft x 0 ≡ get_or full x 0)
+
+abbrev pub NodesAwait : (from : ℕ) → Nodes → (draft full : List ℕ) → Type 0
+NodesAwait from nodes draft full = Awaits from (group_place nodes) (waiting nodes) nodes.groups draft full
+
+-- when all that waits stands in the draft, it has the tree of these pairs in front
+pub record Gathers (nodes : Nodes) (draft : List ℕ) (ps : List Pair) : Type 0 where
+  pub full : List ℕ
+  pub awaits : NodesAwait 0 nodes draft full
+  pub builds : Builds nodes.loads nodes.places nodes.opened full ps

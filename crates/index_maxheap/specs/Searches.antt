@@ -1,7 +1,8 @@
 -- Searches along the path of a key, and what they read.
 use Rattle.std.specs.Prelude.{ℕ, ℤ, ⊤, ◌≡◌, ◌≢◌, ◌+◌, ◌-◌, ◌*◌, ◌/◌, ◌<◌, ◌≤◌, min, List, [], ◌∷◌, length, drop, filter, Option, Some, None}
 use Rattle.index_tree.specs.Pairs.{Pair}
-use Rattle.index_tree.specs.Places.{IsPlaceAt, is_wanted, to_come}
+use Rattle.index_tree.specs.Places.{IsPlaceAt, is_wanted}
+use Rattle.index_tree.specs.TreeFile.{bucket_place, key_at, number_of, place_of, slot_at}
 use Rattle.index_tree.specs.Trees.{numbered}
 use Rattle.index_maxheap.specs.declared.places.Place.{Place}
 use Rattle.index_maxheap.specs.declared.searching.Scanned.{Scanned}
@@ -11,29 +12,55 @@ use Rattle.index_maxheap.specs.declared.searching.Step.TheVariants as step
 
 -- ---- places
 
+-- what a place tells of a hop: the hop itself at an upper node, and in a chain no more than it
+pub record TellsHop (told hop : ℕ) : Type 0 where
+  pub least : told ≤ hop
+  pub exact : told < 4 → hop ≡ told
+
 -- a place from which the slots of a key from one on are to come; None is the root
 abbrev pub IsPlaceOf : List ℕ → List ℤ → ℤ → ℕ → Option Place → Type 0
 IsPlaceOf bytes keys key from None = ⊤
-IsPlaceOf bytes keys key from (Some place) = IsPlaceAt bytes (numbered 0 keys) key from place.bucket place.pair place.hop
+IsPlaceOf bytes keys key from (Some place) = (hop : ℕ) × TellsHop place.hop hop
+    × IsPlaceAt bytes (numbered 0 keys) key from place.bucket place.pair hop
+
+-- ---- hints
+
+-- the pair before a place has the key, and the slot before one
+abbrev pub IsBehind : List ℕ → ℤ → ℕ → Place → Type 0
+IsBehind bytes key from place = (key_at bytes (place_of place.bucket) (place.pair - 1) ≡ key)
+    × (slot_at bytes (place_of place.bucket) (place.pair - 1) ≡ from)
+
+-- a place that may stand behind a pair of a file of so many bytes, of a search from a slot on
+pub record MayStand (place : Place) (from size : ℕ) : Type 0 where
+  pub begun : 0 < from
+  pub some : place.bucket ≢ 0
+  pub low : 0 < place.pair
+  pub short : place.pair ≤ 32
+  pub within : bucket_place place.bucket ≤ size
+
+-- a bucket stands on the path of a key, at a hop that is told
+abbrev pub IsOnPathAt : List ℕ → ℤ → ℕ → ℕ → Type 0
+IsOnPathAt bytes key bucket told = (hop : ℕ) × TellsHop told hop × (bucket ≡ number_of bytes key hop)
 
 -- ---- reads of a walk: a node's number 3, a bucket 9
-
-abbrev pub hops : Option Place → ℕ
-hops None = 0
-hops (Some place) = place.hop
 
 -- the numbers of nodes on the path that are still read
 abbrev pub numbers_left : Option Place → ℕ
 numbers_left None = 5
 numbers_left (Some place) = 4 - min place.hop 4
 
--- the reads of those before a hop
+-- the buckets, e keys having the same path; before the root one may be looked at that a hint names
+abbrev pub buckets_left : ℕ → Option Place → ℕ
+buckets_left e None = 6 + e / 32
+buckets_left e (Some place) = 5 + e / 32 - place.hop
+
+-- the reads of the numbers before a hop
 abbrev pub number_reads : ℕ → ℕ
 number_reads hop = 3 * min hop 4
 
--- what a walk still reads, e keys having the same path
+-- what a walk still reads
 abbrev pub walk_left : ℕ → Option Place → ℕ
-walk_left e place = 3 * numbers_left place + 9 * (6 + e / 32 - hops place)
+walk_left e place = 3 * numbers_left place + 9 * buckets_left e place
 
 -- ---- steps of a walk
 
@@ -57,8 +84,8 @@ pub record IsStart (bytes : List ℕ) (keys : List ℤ) (key : ℤ) (from : ℕ)
 
 -- what a look into one bucket comes to
 abbrev pub Steps : Step → List ℕ → List ℤ → ℤ → ℕ → Type 0
-Steps (step.Found slot place) bytes keys key from =
-    (filter (is_wanted key from) (numbered 0 keys) ≡ record { key = key; slot = slot } ∷ to_come (numbered 0 keys) key from place.hop place.pair)
+Steps (step.Found slot place) bytes keys key from = (rest : List Pair)
+    × (filter (is_wanted key from) (numbered 0 keys) ≡ record { key = key; slot = slot } ∷ rest)
     × IsPlaceOf bytes keys key (slot + 1) (Some place)
 Steps step.End bytes keys key from = filter (is_wanted key from) (numbered 0 keys) ≡ []
 Steps (step.Onward place) bytes keys key from = IsPlaceOf bytes keys key from (Some place)

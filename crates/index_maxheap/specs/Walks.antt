@@ -1,9 +1,9 @@
 -- Walks to the end of a path.
-use Rattle.std.specs.Prelude.{ℕ, ℤ, ⊤, ◌≡◌, ◌≢◌, ◌+◌, ◌*◌, ◌-◌, ◌/◌, ◌<◌, ◌≤◌, min, List, length}
-use Rattle.afl_base.specs.Fields.{u16_at}
+use Rattle.std.specs.Prelude.{ℕ, ℤ, ⊤, ◌≡◌, ◌≢◌, ◌+◌, ◌*◌, ◌<◌, ◌≤◌, List, length}
+use Rattle.db_model.specs.HashTree.{node}
 use Rattle.index_tree.specs.Ends.{IsPathEnd, spot_of}
 use Rattle.index_tree.specs.Pairs.{Pair, goes, reaching}
-use Rattle.index_tree.specs.TreeFile.{bucket_place, next_at, number_of, place_of}
+use Rattle.index_tree.specs.TreeFile.{bucket_place, key_at, next_at, number_of, place_of}
 use Rattle.index_maxheap.specs.declared.ends.Look.{Look}
 use Rattle.index_maxheap.specs.declared.ends.Look.TheVariants as look
 use Rattle.index_maxheap.specs.declared.rooms.End.{End}
@@ -27,16 +27,25 @@ IsSafeLook look.None number size = ⊤
 IsSafeLook (look.Room pair) number size = (number ≢ 0) × (pair < 32) × (bucket_place number ≤ size)
 IsSafeLook (look.Full next) number size = (number ≢ 0) × (bucket_place number ≤ size)
 
--- what a walk still reads from the bucket at a hop on, e keys having the same path
-abbrev pub reads_from : (e hop : ℕ) → ℕ
-reads_from e hop = 3 * (4 - min hop 4) + 9 * (6 + e / 32 - hop)
+-- the first key of the bucket with a number has the same lowest node as a key
+abbrev pub IsBeside : List ℕ → ℕ → ℤ → Type 0
+IsBeside bytes number key = node (key_at bytes (place_of number) 0) 4 ≡ node key 4
 
--- a walk has come to the spot of the number of the bucket at a hop
-pub record Walks (bytes : List ℕ) (ps : List Pair) (key : ℤ) (hop at level : ℕ) : Type 0 where
-  pub full : (i : ℕ) → i < hop → 32 ≤ length (reaching (goes key) i ps)
-  pub spot : at ≡ spot_of bytes key hop
-  pub number : number_of bytes key hop ≡ u16_at bytes at
-  pub depth : level ≡ min hop 4
+-- none of the first so many buckets of a path has the number, or there is no such number
+abbrev pub IsUnmet : List ℕ → ℤ → ℕ → ℕ → Type 0
+IsUnmet bytes key hops number = number ≢ 0 → (i : ℕ) → i < hops → number_of bytes key i ≢ number
+
+-- a bucket of a lowest node or of its chain
+pub record IsInChain (bytes : List ℕ) (key : ℤ) (hop number : ℕ) : Type 0 where
+  pub deep : 4 ≤ hop
+  pub there : number ≡ number_of bytes key hop
+  pub some : number ≢ 0
+
+-- the full bucket of a lowest node, and the number of the next bucket of its chain
+pub record IsFullLowest (bytes : List ℕ) (ps : List Pair) (key : ℤ) (number next : ℕ) : Type 0 where
+  pub place : IsInChain bytes key 4 number
+  pub full : 32 ≤ length (reaching (goes key) 4 ps)
+  pub onward : next ≡ next_at bytes (place_of number)
 
 -- the end of the path of a key: behind the pairs of a bucket, or a spot without a number
 abbrev pub Finds : End → List ℕ → List Pair → ℤ → Type 0

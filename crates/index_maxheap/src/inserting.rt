@@ -8,6 +8,7 @@ ghost use Rattle.afl_base.specs.Keeping.{Changes};
 ghost use Rattle.afl_base.specs.Files.{IsLive, bytes_at, file_at, size_at};
 ghost use Rattle.afl_base.specs.Frames.{SparesOthers};
 ghost use Rattle.afl_base.specs.Regions.{regions};
+ghost use Rattle.afl_base.specs.Sparing.{TakesNoPage};
 ghost use Rattle.index_tree.specs.Pairs.{pair};
 ghost use Rattle.index_tree.specs.Places.{KeepsNumbers};
 ghost use Rattle.index_tree.specs.Trees.{IsTreeOf};
@@ -38,6 +39,8 @@ pub fn insert<V: Files>(
         → length keys ≡ slot → room.now ≡ room_of (bytes_at (V.state files.old).files index) key.now
         → OnOk result (KeepsNumbers (bytes_at (V.state files.old).files index) (bytes_at (V.state files.new).files index)) }
     ensures only { OnOk result (OnlyIndexChanges (V.state files.old) (V.state files.new) index) }
+    ensures spares { IsTrue (V.state files.old).tells → OnOk result
+        (TakesNoPage V.is_free (V.state files.old).store (V.state files.new).store) }
     ensures cut { IsTrue V.cuts → IsTrue (V.state files.old).tells → OnErr result
         (MendsToState V.mends (V.state files.new).store
         (λ after. SparesOthers (V.state files.old) after (λ k. k ≢ index))) }
@@ -63,6 +66,8 @@ fn put_pair<V: Files>(
     requires records { regions at 6 ≤ (file_at (V.state files.old).files index).records }
     ensures put { OnOk result
         (PutsPair (V.state files.old) (V.state files.new) index at (pair key.now slot)) }
+    ensures spares { IsTrue (V.state files.old).tells → OnOk result
+        (TakesNoPage V.is_free (V.state files.old).store (V.state files.new).store) }
     ensures cut { IsTrue V.cuts → IsTrue (V.state files.old).tells → OnErr result
         (MendsToState V.mends (V.state files.new).store
         (λ after. SparesOthers (V.state files.old) after (λ k. k ≢ index))) }
@@ -89,6 +94,8 @@ fn put_bucket<V: Files>(
     requires room { 195 ≤ (file_at (V.state files.old).files index).room }
     ensures put { OnOk result
         (PutsBucket (V.state files.old) (V.state files.new) index at (pair key.now slot)) }
+    ensures spares { IsTrue (V.state files.old).tells → OnOk result
+        (TakesNoPage V.is_free (V.state files.old).store (V.state files.new).store) }
     ensures cut { IsTrue V.cuts → IsTrue (V.state files.old).tells → OnErr result
         (MendsToState V.mends (V.state files.new).store
         (λ after. SparesOthers (V.state files.old) after (λ k. k ≢ index))) }

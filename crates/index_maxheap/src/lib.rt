@@ -4,6 +4,8 @@
 mod building;
 mod bytes;
 mod ends;
+mod groups;
+mod hints;
 mod inserting;
 mod laws;
 mod loads;

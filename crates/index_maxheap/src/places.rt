@@ -3,7 +3,7 @@
 use afl_base::SlotNo;
 
 /// A place on the path of a key: the number of a bucket, a pair of it, and how many buckets of the path
-/// lie before it.
+/// lie before it, where these are fewer than four; in a chain it may say four for more.
 #[derive(Clone, Copy, Debug, PartialEq, Eq)]
 pub struct Place {
     pub bucket: u16,

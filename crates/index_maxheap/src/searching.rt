@@ -2,7 +2,7 @@
 
 #![tactic(auto)]
 
-ghost use Rattle.std.specs.Prelude.{◌≡◌, ◌+◌, ◌*◌, ◌-◌, ◌<◌, ◌≤◌, ◌&&◌, ℤ, List, MatchOption, Some, length, nat_lt, slice_range, IsTrue, IfOk, IfSome};
+ghost use Rattle.std.specs.Prelude.{◌≡◌, ◌+◌, ◌*◌, ◌-◌, ◌<◌, ◌≤◌, ◌&&◌, ℕ, ℤ, List, MatchOption, Some, length, nat_lt, slice_range, IsTrue, IfOk, IfSome};
 ghost use Rattle.afl_base.specs.Keeping.{OnlyReads};
 ghost use Rattle.std.specs.Ordering.{int_eq};
 ghost use Rattle.afl_base.specs.Files.{IsLive, bytes_at, size_at};
@@ -11,8 +11,9 @@ ghost use Rattle.afl_base.specs.Keys.{HasNone, IsFirstOf};
 ghost use Rattle.index_tree.specs.Pairs.{Pair};
 ghost use Rattle.index_tree.specs.TreeFile.{HoldsPairs, bucket_place, key_at, number_of, slot_at};
 ghost use Rattle.index_tree.specs.Trees.{IsTreeOf};
-ghost use Rattle.index_maxheap.specs.Searches.{IsPlaceOf, IsSafe, IsSafeStep, IsShort, IsStart, Scans, Steps, hop_after, number_reads, walk_left};
+ghost use Rattle.index_maxheap.specs.Searches.{IsPlaceOf, IsSafe, IsSafeStep, IsShort, IsStart, Scans, Steps, TellsHop, hop_after, number_reads, walk_left};
 
+use crate::hints::hinted;
 use crate::path::node;
 use crate::places::{Found, Place};
 use crate::tree::{BUCKET_SIZE, HEAD_SIZE, NEXT_AT, bucket_place, read_bucket, read_number};
@@ -34,14 +35,16 @@ pub enum Scanned {
     Passed,
 }
 
-fn slot_in(bytes: &[u8; BUCKET_SIZE], pair: u8) -> u16
+/// Slot + 1 in a pair of a bucket, 0 in an empty one.
+pub(crate) fn slot_in(bytes: &[u8; BUCKET_SIZE], pair: u8) -> u16
     requires { pair < 32 }
     ensures { result ≡ slot_at bytes.now 0 pair }
 {
     get_u16(bytes, 6 * usize::from(pair) + 4)
 }
 
-fn has_key(bytes: &[u8; BUCKET_SIZE], pair: u8, key: &i32) -> bool
+/// Whether a pair of a bucket has the key.
+pub(crate) fn has_key(bytes: &[u8; BUCKET_SIZE], pair: u8, key: &i32) -> bool
     requires { pair < 32 }
     ensures { result ≡ int_eq (key_at bytes.now 0 pair) key.now }
 {
@@ -91,9 +94,10 @@ fn number_onward<V: Files>(
     requires safe { IsSafe place }
     requires bytes { IsTrue (V.state files.old).tells
         → bytes.now ≡ slice_range (bytes_at (V.state files.old).files index) (bucket_place (place.bucket - 1)) (bucket_place (place.bucket - 1) + 195) }
-    ensures number { IsTrue (V.state files.old).tells
-        → place.bucket ≡ number_of (bytes_at (V.state files.old).files index) key.now place.hop
-        → IfOk result (λ n. n ≡ number_of (bytes_at (V.state files.old).files index) key.now (place.hop + 1)) }
+    ensures number { let bytes = bytes_at (V.state files.old).files index in
+        IsTrue (V.state files.old).tells → (hop : ℕ) → TellsHop place.hop hop
+        → place.bucket ≡ number_of bytes key.now hop
+        → IfOk result (λ n. n ≡ number_of bytes key.now (hop + 1)) }
     ensures reads { let before = V.reads files.old in
         V.reads files.new + number_reads place.hop ≤ before + number_reads (place.hop + 1) }
     ensures frame { OnlyReads V.state V.lent V.reads V.faults files.old files.new result }
@@ -218,13 +222,49 @@ fn walk<V: Files>(
     Ok(None)
 }
 
+// Walks from the root on. It leaves the reads of one bucket of those that are promised.
+fn walk_from_root<V: Files>(
+    files: &mut V,
+    index: FileId,
+    key: &i32,
+    from: u16,
+) -> Result<Option<Found>, Failed>
+    requires live { IsLive (V.state files.old).files index }
+    requires heads { 683 ≤ size_at (V.state files.old).files index }
+    ensures next { IsTrue (V.state files.old).tells → (keys : List ℤ)
+        → IsTreeOf (bytes_at (V.state files.old).files index) keys
+        → IfOk result (λ r. MatchOption r (HasNone key.now keys from)
+        (λ f. IsFirstOf key.now keys from f.slot
+        × IsPlaceOf (bytes_at (V.state files.old).files index) keys key.now (f.slot + 1) (Some f.place))) }
+    ensures forward { IfOk result (λ r. IfSome r (λ f. from ≤ f.slot)) }
+    ensures reads { IsTrue (V.state files.old).tells → (keys : List ℤ)
+        → IsTreeOf (bytes_at (V.state files.old).files index) keys
+        → V.reads files.new + 9 ≤ V.reads files.old + walk_left (keys_beside key.now keys) None }
+    ensures reads_found { IsTrue (V.state files.old).tells → (keys : List ℤ)
+        → IsTreeOf (bytes_at (V.state files.old).files index) keys
+        → IfOk result (λ r. IfSome r (λ f. V.reads files.new + walk_left (keys_beside key.now keys) (Some f.place)
+        ≤ V.reads files.old + walk_left (keys_beside key.now keys) None)) }
+    ensures frame { OnlyReads V.state V.lent V.reads V.faults files.old files.new result }
+{
+    let bucket = read_number(files, index, 0)?;
+    let root = Place {
+        bucket,
+        pair: 0,
+        hop: 0,
+    };
+    walk(files, index, root, key, from)
+}
+
 /// The first slot of the key, from one on, at or behind a place, and the place behind it. `place` is
-/// None for the root, or came from a call for the same key; `from` may have grown since.
+/// None for the root, or came from a call for the same key; `from` may have grown since. Nothing is
+/// asked of `hint`: from the root the search goes on where it names the place behind the slot before
+/// `from`, which one look tells.
 pub fn next<V: Files>(
     files: &mut V,
     index: FileId,
     key: &i32,
     place: Option<Place>,
+    hint: Option<Place>,
     from: u16,
 ) -> Result<Option<Found>, Failed>
     requires live { IsLive (V.state files.old).files index }
@@ -251,14 +291,9 @@ pub fn next<V: Files>(
     }
     match place {
         Some(place) => walk(files, index, place, key, from),
-        None => {
-            let bucket = read_number(files, index, 0)?;
-            let root = Place {
-                bucket,
-                pair: 0,
-                hop: 0,
-            };
-            walk(files, index, root, key, from)
-        }
+        None => match hinted(files, index, key, hint, from)? {
+            Some(place) => walk(files, index, place, key, from),
+            None => walk_from_root(files, index, key, from),
+        },
     }
 }

@@ -8,7 +8,7 @@ use Rattle.std.proofs.Math.Seq.{get_or-append_seam}
 use Rattle.std.proofs.Math.ListN.{get_or-append}
 use Rattle.std.specs.Prelude.{◌&&◌, nat_le}
 use Rattle.std.specs.Ordering.{int_eq}
-use Rattle.index_memhash.specs.Chains.{IsChained, IsTable, chain_at, entry_from, entry_held, end_link, first_from, hash}
+use Rattle.index_memhash.specs.Chains.{IsChained, IsHashTable, chain_at, entry_from, entry_held, end_link, first_from, hash}
 use Rattle.afl_base.specs.Keys.{is_key_at, key_in}
 use Rattle.padded.proofs.Facts.{le_true}
 
@@ -245,7 +245,7 @@ none_chained links last nowhere none = record {
 }
 
 -- a table of zeros
-pub zeros_table : IsTable (replicate 2048 (pos 0)) (replicate 2560 0) (replicate 512 0) 0
+pub zeros_table : IsHashTable (replicate 2048 (pos 0)) (replicate 2560 0) (replicate 512 0) 0
 zeros_table = record {
   few = omega arith;
   keys_size = length-replicate 2048 (pos 0);
@@ -328,8 +328,8 @@ module _ (keys : List ℤ) (links last : List ℕ) (len : ℕ) (key : ℤ) (size
       found_rest (512 + entry) n is (omega (arith, h)) (chain_of_entry entry e) (entry + 1) (omega arith) i (omega (arith, reaches, differ)) below here)
       (cases_eq i entry)
 
-pub table_more : (keys : List ℤ) (links last : List ℕ) (len : ℕ) (k : ℤ) → len < 2048 → IsTable keys links last len
-    → IsTable (set keys len k) (set (set links (end_link (hash k) (get_or last (hash k) 0)) (len + 1)) (512 + len) 0) (set last (hash k) (len + 1)) (len + 1)
+pub table_more : (keys : List ℤ) (links last : List ℕ) (len : ℕ) (k : ℤ) → len < 2048 → IsHashTable keys links last len
+    → IsHashTable (set keys len k) (set (set links (end_link (hash k) (get_or last (hash k) 0)) (len + 1)) (512 + len) 0) (set last (hash k) (len + 1)) (len + 1)
 table_more keys links last len k h t =
     let size = t.keys_size in
     let count : length (take len keys) ≡ len = length-take-le len keys (omega (arith, size, h)) in

@@ -44,7 +44,7 @@ pub record IsChained (keys : List ℤ) (links last : List ℕ) : Type 0 where
   pub ends : (chain : ℕ) → chain < 512 → entry_from keys chain (end_link chain (get_or last chain 0) - 511) ≡ 2048
 
 -- the arrays of a table with so many entries
-pub record IsTable (keys : List ℤ) (links last : List ℕ) (len : ℕ) : Type 0 where
+pub record IsHashTable (keys : List ℤ) (links last : List ℕ) (len : ℕ) : Type 0 where
   pub few : len ≤ 2048
   pub keys_size : length keys ≡ 2048
   pub links_size : length links ≡ 2560

@@ -26,13 +26,13 @@ pub struct HashTable {
 
 impl Model for HashTable {
     ghost use Rattle.std.specs.Prelude.{ℤ, List, take};
-    ghost use Rattle.index_memhash.specs.Chains.{IsTable};
+    ghost use Rattle.index_memhash.specs.Chains.{IsHashTable};
 
     ghost Value = { List ℤ };
 
     ghost view = { λ t. take t.len t.keys };
 
-    ghost invariant = { λ t. IsTable t.keys t.links t.last t.len };
+    ghost invariant = { λ t. IsHashTable t.keys t.links t.last t.len };
 }
 
 impl HashTable {

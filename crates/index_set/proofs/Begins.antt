@@ -1,6 +1,6 @@
 -- Where candidates begin, by each plan.
 use Rattle.std.proofs.Common.{◌≡◌, ◌≤◌, ◌<◌, ◌+◌, ◌-◌, ◌*◌, ℕ, ℤ, zero, suc, List, [], ◌∷◌, length, get_or, true, false, Option, None, refl, arith, ap, ◌∙◌, sym, subst}
-use Rattle.std.specs.Prelude.{◌&&◌, int_le}
+use Rattle.std.specs.Prelude.{int_le}
 use Rattle.index_maxheap.specs.declared.places.Place.{Place}
 use Rattle.std.specs.List.{filter, range_with_len}
 use Rattle.std.specs.Ordering.{int_eq}

@@ -7,7 +7,6 @@ use Rattle.db_model.specs.declared.schemas.IndexKind.{IndexKind}
 use Rattle.db_model.specs.Plan as model
 use Rattle.db_model.specs.Plan.{first_plan}
 use Rattle.index_set.specs.declared.choices.Plan.{Plan}
-use Rattle.index_set.specs.declared.choices.Plan.TheVariants as chosen
 use Rattle.index_set.specs.declared.info.IndexInfo.{IndexInfo}
 use Rattle.index_set.specs.Plans.{access_kind, kinds, plan_in}
 

@@ -18,7 +18,7 @@ use Rattle.index_set.specs.declared.info.Access.{Access}
 use Rattle.index_set.specs.declared.info.Access.TheVariants.{Order, Tree, Table as InTable}
 use Rattle.index_set.specs.declared.info.IndexInfo.{IndexInfo}
 use Rattle.index_set.specs.Complete.{IsHeld}
-use Rattle.index_set.specs.Inserts.{AreApart, AreRoomFor, AsksFor, HasKeyFor, HasRoom, HaveRoom, IsApart, IsDoublingTree, IsElsewhere, IsNoTree, IsRoomFor, SomeOf, is_key}
+use Rattle.index_set.specs.Inserts.{AreApart, AreRoomFor, AsksFor, HasKeyFor, HasRoom, HaveRoom, IsApart, IsDoublingTree, IsElsewhere, IsNoTree, IsRoomFor, OneAsksFor, SomeOf, is_key, tuple_key}
 use Rattle.index_set.specs.declared.info.TableId.{TableId}
 use Rattle.index_set.specs.Tables.{Tables, entries}
 use Rattle.index_tree.specs.Trees.{IsTreeOf}
@@ -182,6 +182,20 @@ pub asks_key : (asks : ℕ → ℕ → ℕ → ℕ → Type 0) (value : Option V
 asks_key asks value key s need Order has is h = h
 asks_key asks value key s need (Tree file) has is h = let P : ℤ → Type 0 = λ k. AsksFor asks s k need (Tree file) in subst P (is has) h
 asks_key asks value key s need (InTable number) has is h = h
+
+-- what a tree asks for is asked for as before, while its bytes stay and nothing more is asked for
+pub asks_before : (before now : ℕ → ℕ → ℕ → ℕ → Type 0) (a b : State) (key : ℤ) (need : ℕ) (access : Access) → ((id w n m : ℕ) → now id w n m → before id w n m) → ((k : ℕ) → bytes_at b.files k ≡ bytes_at a.files k) → AsksFor now b key need access → AsksFor before a key need access
+asks_before before now a b key need Order less same h = h
+asks_before before now a b key need (Tree file) less same h =
+    let P : List ℕ → Type 0 = λ bytes. (keys : List ℤ) → IsTreeOf bytes keys → before file ((room_of bytes key).overwrites) ((room_of bytes key).bytes) need in
+    subst P (same file) (λ keys tree. less file _ _ need (h keys tree))
+asks_before before now a b key need (InTable number) less same h = h
+
+pub one_asks_before : (before now : ℕ → ℕ → ℕ → ℕ → Type 0) (a b : State) (tuple : List Value) (need : ℕ) (infos : List IndexInfo) → ((id w n m : ℕ) → now id w n m → before id w n m) → ((k : ℕ) → bytes_at b.files k ≡ bytes_at a.files k)
+    → OneAsksFor now b tuple need infos → OneAsksFor before a tuple need infos
+one_asks_before before now a b tuple need [] less same h = absurd h
+one_asks_before before now a b tuple need (info ∷ infos) less same (inl h) = inl (asks_before before now a b (tuple_key tuple info) need info.access less same h)
+one_asks_before before now a b tuple need (info ∷ infos) less same (inr h) = inr (one_asks_before before now a b tuple need infos less same h)
 
 pub unless_failed : (A B : Type 0) {X Y : Type 0} (error : FileError) → (X → Y) → UnlessFailed {T = A} (Err error) X → UnlessFailed {T = B} (Err error) Y
 unless_failed A B (Space need) f h = f h

@@ -21,7 +21,7 @@ walk_over bytes ks key tree =
     let less : keys_beside key ks ≤ length ks = filter_few (same_path key) ks in
     over (keys_beside key ks) (omega (arith, few, same, less))
   where
-    over : (e : ℕ) → e ≤ 32768 → 3 * (4 - min 65535 4) + 9 * (6 + e / 32 - 65535) ≡ 0
+    over : (e : ℕ) → e ≤ 32768 → 3 * (4 - min 65535 4) + 9 * (5 + e / 32 - 65535) ≡ 0
     over e h = omega arith
 
 -- the key of a slot is that of its row

@@ -36,6 +36,8 @@ pub struct Candidates {
     pub search: Search,
     /// Where in a tree it stands, None for its root.
     pub place: Option<Place>,
+    /// Where it stood when it came to rest: nothing is asked of it, and a look tells whether it is so.
+    pub hint: Option<Place>,
     pub from: u16,
     /// Where an order's range ends, or `slots`.
     pub end: u16,

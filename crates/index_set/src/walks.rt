@@ -96,20 +96,21 @@ impl Candidates {
         }
     }
 
-    /// Forgets where in a tree it stands. The slots to come are the same, and whatever is inserted
-    /// from now on it goes on rightly.
+    /// Holds where in a tree it stands for a hint alone. The slots to come are the same, and whatever is
+    /// inserted from now on it goes on rightly.
     pub fn rest(&mut self)
-        ensures rests { self.new ≡ record self.old { place = None } }
+        ensures rests { self.new ≡ record self.old { place = None; hint = self.old.place } }
         ensures ahead { (all : List Row) → ahead self.new all ≡ ahead self.old all }
         ensures waits { (all : List Row) → Waits self.old all → Waits self.new all }
         ensures fits { (state : State) (tables : Tables) (all : List Row) → Fits self.old state tables all
             → Fits self.new state tables all }
     {
+        self.hint = self.place;
         self.place = None;
     }
 
-    /// Passes the slots below one, where it rests.
-    pub fn skip(&mut self, from: u16)
+    /// Passes the slots below one, where it rests. Nothing is asked of the hint where in a tree that is.
+    pub fn skip(&mut self, from: u16, hint: Option<Place>)
         requires within { from ≤ self.old.slots }
         requires rests { self.old.place ≡ None }
         ensures from { self.new.from ≡ max self.old.from from }
@@ -119,6 +120,7 @@ impl Candidates {
         ensures fits { (state : State) (tables : Tables) (all : List Row) → Fits self.old state tables all
             → Fits self.new state tables all }
     {
+        self.hint = hint;
         if self.from < from {
             self.from = from;
         }
@@ -242,7 +244,7 @@ impl Candidates {
         if self.slots <= self.from {
             return Ok(None);
         }
-        match next_in(files, file, key, self.place, self.from)? {
+        match next_in(files, file, key, self.place, self.hint, self.from)? {
             None => {
                 self.place = Some(BEHIND);
                 Ok(None)
@@ -305,6 +307,7 @@ fn between(search: Search, from: u16, end: u16, slots: u16) -> Candidates
     Candidates {
         search,
         place: None,
+        hint: None,
         from,
         end,
         slots,

@@ -20,12 +20,12 @@ use Rattle.padded.proofs.Facts.{neither_less}
 
 -- ---- members of lists that rise
 
-in_get : (xs : List Pair) (i : ℕ) → i < length xs → In (get_or xs i no_pair) xs
+pub in_get : (xs : List Pair) (i : ℕ) → i < length xs → In (get_or xs i no_pair) xs
 in_get [] i h = absurd (omega arith)
 in_get (x ∷ xs) zero h = inl refl
 in_get (x ∷ xs) (suc i) h = inr (in_get xs i (omega (arith, h)))
 
-rises_index : (xs : List Pair) (i j : ℕ) → SlotsRise xs → i < j → j < length xs → (get_or xs i no_pair).slot < (get_or xs j no_pair).slot
+pub rises_index : (xs : List Pair) (i j : ℕ) → SlotsRise xs → i < j → j < length xs → (get_or xs i no_pair).slot < (get_or xs j no_pair).slot
 rises_index [] i j r a b = absurd (omega arith)
 rises_index (x ∷ xs) zero zero r a b = absurd (omega arith)
 rises_index (x ∷ xs) zero (suc j) r a b = above_in x.slot (get_or xs j no_pair) xs r.0 (in_get xs j (omega (arith, b)))
@@ -46,12 +46,12 @@ in_earlier test ps p g (suc h) up i = ⊎_elim
     (λ (less : g < suc h). in_earlier test ps p g h (omega (arith, less)) (in_drop p 32 (reaching test h ps) (filter_in (test h) p (drop 32 (reaching test h ps)) i).1))
     (order (suc h) g)
 
-reach_goes : (test : ℕ → Pair → Bool) (ps : List Pair) (p : Pair) (h i : ℕ) → i < h → In p (reaching test h ps) → test i p ≡ true
+pub reach_goes : (test : ℕ → Pair → Bool) (ps : List Pair) (p : Pair) (h i : ℕ) → i < h → In p (reaching test h ps) → test i p ≡ true
 reach_goes test ps p h i less member =
     let on = in_earlier test ps p (suc i) h less member in
     (filter_in (test i) p (drop 32 (reaching test i ps)) on).0
 
-earlier_less : (test : ℕ → Pair → Bool) (ps : List Pair) (p : Pair) (g h i : ℕ) → SlotsRise ps → g < h → i < 32 → i < length (reaching test g ps) → In p (reaching test h ps) → (get_or (reaching test g ps) i no_pair).slot < p.slot
+pub earlier_less : (test : ℕ → Pair → Bool) (ps : List Pair) (p : Pair) (g h i : ℕ) → SlotsRise ps → g < h → i < 32 → i < length (reaching test g ps) → In p (reaching test h ps) → (get_or (reaching test g ps) i no_pair).slot < p.slot
 earlier_less test ps p g h i r less short there member =
     let on = in_earlier test ps p (suc g) h less member in
     rises_behind (reaching test g ps) i 32 p (rises_reach test g ps r) short there (filter_in (test g) p (drop 32 (reaching test g ps)) on).1

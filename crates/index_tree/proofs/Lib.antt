@@ -22,3 +22,4 @@ pub mod Numbered
 pub mod Stays
 pub mod Beside
 pub mod Paths
+pub mod OnPath

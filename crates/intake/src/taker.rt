@@ -5,10 +5,10 @@
 use crate::ending::Ending;
 use afl_base::Sink;
 
-/// What takes the bytes of an input one by one, carries out what they ask for, and writes the
-/// replies.
+/// What takes the bytes of an input one by one, or together where they end nothing, carries out
+/// what they ask for, and writes the replies.
 pub trait Taker {
-    ghost use Rattle.std.specs.Prelude.{◌≡◌, ◌⊎◌, ⊤, ℕ, ◌≤◌, List, [], ◌∷◌, ◌++◌, Result, Err, OnOk, IfErr};
+    ghost use Rattle.std.specs.Prelude.{◌≡◌, ◌⊎◌, ⊤, ℕ, ◌≤◌, List, [], ◌∷◌, ◌++◌, length, take, Result, Err, OnOk, IfErr};
     ghost use Rattle.buffered_sink.specs.Handing.{WroteFront};
     ghost use Rattle.intake.specs.declared.ending.Ending.{Ending};
     ghost use Rattle.intake.specs.Sent.{Sent};
@@ -39,6 +39,12 @@ pub trait Taker {
         ensures silent { (out.new ≡ out.old) ⊎ HasReply self.old byte }
         ensures stays { stays self.old self.new }
         ensures lent { K.lent out.new ≡ K.lent out.old };
+
+    /// Takes bytes in front of these that end no entry, as if one by one, and answers how many.
+    fn take_plain(&mut self, bytes: &[u8]) -> usize
+        ensures within { result ≤ length bytes.now }
+        ensures takes { (out : Out) → Takes (self.old, out) (take result bytes.now) (self.new, out) }
+        ensures stays { stays self.old self.new };
 
     /// Takes the end of the input.
     fn end<K: Sink>(&mut self, out: &mut K) -> Result<(), Ending>

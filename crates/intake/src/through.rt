@@ -126,10 +126,40 @@ fn take_all<T: Taker, K: Sink>(
     ensures stays { T.stays taker.old taker.new }
     ensures lent { K.lent out.new ≡ K.lent out.old }
 {
-    for byte in bytes {
-        take_byte(taker, out, waiting, *byte)?;
+    let mut taken = 0;
+    while taken < bytes.len() {
+        taken += take_some(taker, out, waiting, &bytes[taken..])?;
     }
     Ok(())
+}
+
+// Takes the bytes in front that end no entry, and the next one: how many they are.
+fn take_some<T: Taker, K: Sink>(
+    taker: &mut T,
+    out: &mut K,
+    waiting: &mut Waiting,
+    bytes: &[u8],
+) -> Result<usize, Ending>
+    requires some { 1 ≤ length bytes.now }
+    requires none { waiting.old.bytes ≡ [] }
+    ensures some { IfOk result (λ n. 1 ≤ n) }
+    ensures within { IfOk result (λ n. n ≤ length bytes.now) }
+    ensures takes { IfOk result (λ n. T.Takes
+        (taker.old, out_of (K.held out.old) (K.faults out.old)) (take n bytes.now)
+        (taker.new, out_of (K.held out.new) (K.faults out.new))) }
+    ensures halts { IfErr result (λ halt. T.Halts
+        (taker.old, out_of (K.held out.old) (K.faults out.old)) bytes.now
+        (taker.new, out_of (K.held out.new) (K.faults out.new)) halt) }
+    ensures none { OnOk result (waiting.new.bytes ≡ []) }
+    ensures stays { T.stays taker.old taker.new }
+    ensures lent { K.lent out.new ≡ K.lent out.old }
+{
+    let plain = taker.take_plain(bytes);
+    if plain == bytes.len() {
+        return Ok(plain);
+    }
+    take_byte(taker, out, waiting, bytes[plain])?;
+    Ok(plain + 1)
 }
 
 // Reads into the front of the buffer.

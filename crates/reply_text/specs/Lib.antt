@@ -1,2 +1,3 @@
 pub mod Commas
+pub mod Projected
 pub mod WroteLess

@@ -1,6 +1,6 @@
 #![tactic(auto, using(crate::proofs::Pieces::less_front, crate::proofs::Pieces::less_behind, crate::proofs::Pieces::less_third))]
 
-ghost use Rattle.std.specs.Prelude.{◌≡◌, ◌++◌, decimal, OnErr, OnOk};
+ghost use Rattle.std.specs.Prelude.{◌≡◌, [], ◌∷◌, ◌++◌, decimal, OnErr, OnOk};
 ghost use Rattle.afl_base.specs.Keeping.{Sends};
 ghost use Rattle.std.specs.Fmt.{signed_decimal};
 ghost use Rattle.std.specs.Io.KnownBytes.{append_known};
@@ -20,6 +20,16 @@ pub fn write_all<K: Sink>(out: &mut K, bytes: &[u8]) -> Result<(), Failed>
     while done < bytes.len() {
         done += out.write(&bytes[done..])?;
     }
+    Ok(())
+}
+
+// Appends one byte.
+pub fn write_byte<K: Sink>(out: &mut K, byte: u8) -> Result<(), Failed>
+    ensures written { OnOk result (K.held out.new ≡ append_known (K.held out.old) (byte ∷ [])) }
+    ensures failed { OnErr result (WroteLess (K.held out.old) (K.held out.new) (byte ∷ [])) }
+    ensures frame { Sends K.lent K.faults out.old out.new result }
+{
+    out.write(&[byte])?;
     Ok(())
 }
 
@@ -75,7 +85,7 @@ pub fn write_line_of_counts<K: Sink>(
 {
     write_count(out, words, count)?;
     write_count(out, next_words, next_count)?;
-    write_all(out, b"\n")
+    write_byte(out, b'\n')
 }
 
 // A line of these words.
@@ -86,7 +96,7 @@ pub fn write_line<K: Sink>(out: &mut K, words: &[u8]) -> Result<(), Failed>
     ensures frame { Sends K.lent K.faults out.old out.new result }
 {
     write_all(out, words)?;
-    write_all(out, b"\n")
+    write_byte(out, b'\n')
 }
 
 // A line of these words and a number in decimal.
@@ -99,7 +109,7 @@ pub fn write_line_with<K: Sink>(out: &mut K, words: &[u8], count: u64) -> Result
 {
     write_all(out, words)?;
     write_number(out, count)?;
-    write_all(out, b"\n")
+    write_byte(out, b'\n')
 }
 
 // A line of these words and a number in decimal, with `-` before it where it is negative.
@@ -116,5 +126,5 @@ pub fn write_line_with_signed<K: Sink>(
 {
     write_all(out, words)?;
     write_signed(out, number)?;
-    write_all(out, b"\n")
+    write_byte(out, b'\n')
 }

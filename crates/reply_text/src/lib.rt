@@ -11,4 +11,4 @@ mod rows;
 pub use bytes::{write_all, write_count, write_line_of_counts, write_number, write_signed};
 pub use lines::{write_ok, write_rows};
 pub use refusal::write_refusal;
-pub use rows::{write_numbers, write_row};
+pub use rows::{write_numbers, write_projected, write_row};

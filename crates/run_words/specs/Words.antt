@@ -64,13 +64,13 @@ all_named [] = Some []
 all_named (word ∷ words) =
     option_and_then (λ first. option_map (λ others. first ∷ others) (all_named words)) (named_rows (string_bytes word))
 
-abbrev pub is_named_among : List ℕ → List NamedRows → Bool
-is_named_among name all = list_any (λ other. bytes_eq other.relation name) all
+abbrev pub is_listed_among : List ℕ → List NamedRows → Bool
+is_listed_among name all = list_any (λ other. bytes_eq other.relation name) all
 
 -- no name is there twice
 abbrev pub names_differ : List NamedRows → Bool
 names_differ [] = true
-names_differ (first ∷ others) = not (is_named_among first.relation others) && names_differ others
+names_differ (first ∷ others) = not (is_listed_among first.relation others) && names_differ others
 
 -- 1 to 8 words NAME=ROWS with names that differ
 abbrev pub named_by : {A : Type 0} → List (String A) → Option Form

@@ -4,7 +4,7 @@
 
 ghost use Rattle.std.specs.Prelude.{◌≡◌, ◌≤◌, IfSome, length};
 ghost use Rattle.std.specs.List.{prefix_len};
-ghost use Rattle.run_words.specs.Words.{HasFewCommands, all_named, is_named_among, is_no_sign, named_by, named_rows, names_differ, planned_by, rows_alone, rows_word};
+ghost use Rattle.run_words.specs.Words.{HasFewCommands, all_named, is_listed_among, is_no_sign, named_by, named_rows, names_differ, planned_by, rows_alone, rows_word};
 
 use crate::digits::number;
 use crate::words::Form;
@@ -96,7 +96,7 @@ fn names_differ(all: &[NamedRows]) -> bool
     ensures { result ≡ names_differ all.now }
 {
     for (at, named) in all.iter().enumerate() {
-        if is_named_among(named.relation.bytes(), &all[at + 1..]) {
+        if is_listed_among(named.relation.bytes(), &all[at + 1..]) {
             return false;
         }
     }
@@ -104,8 +104,8 @@ fn names_differ(all: &[NamedRows]) -> bool
 }
 
 // Whether a name is among those of some.
-fn is_named_among(name: &[u8], all: &[NamedRows]) -> bool
-    ensures { result ≡ is_named_among name.now all.now }
+fn is_listed_among(name: &[u8], all: &[NamedRows]) -> bool
+    ensures { result ≡ is_listed_among name.now all.now }
 {
     for named in all {
         if named.relation.bytes() == name {

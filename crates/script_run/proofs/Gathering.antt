@@ -1,7 +1,11 @@
 -- What is kept of a piece as its bytes come, and what it asks for.
-use Rattle.std.proofs.Common.{◌≡◌, ℕ, ◌<◌, ◌≤◌, ◌⊎◌, inl, Bool, true, false, List, [], ◌∷◌, ◌++◌, length, take, refl, sym, ap, ◌∙◌, arith, ⊎_elim}
-use Rattle.std.specs.Prelude.{nat_lt, if◌then◌else◌}
-use Rattle.std.proofs.lemmas.List.{take_all, take-append-le, length-append, length-take}
+use Rattle.std.proofs.Common.{◌≡◌, ℕ, ◌+◌, ◌<◌, ◌≤◌, Bool, true, false, List, [], ◌∷◌, ◌++◌, length, take, drop, refl, sym, ap, ◌∙◌, arith, ⊎_elim}
+use Rattle.std.specs.Prelude.{nat_lt}
+use Rattle.std.specs.List.{prefix_len}
+use Rattle.std.proofs.Math.Numerals.{one-add}
+use Rattle.std.proofs.Math.Seq.{take-append-add}
+use Rattle.std.proofs.lemmas.List.{append-nil, take_all, take-append-le, length-append, length-take, length-take-le}
+use Rattle.std.proofs.lemmas.Bool.{cases_lt}
 use Rattle.std.proofs.lemmas.Bool.Decides.{nat_tests}
 use Rattle.db_model.specs.Pieces.{ended_by}
 use Rattle.db_model.specs.Script.{Entry, Long, Unfinished, Bytes, ended, ends_piece, unended, past_white}
@@ -9,47 +13,59 @@ use Rattle.db_model.specs.Tokens.{is_white}
 use Rattle.script_run.specs.Gathers.{GathersPiece}
 use Rattle.padded.proofs.Facts.{by_truth}
 
--- one byte behind those without white space in front
-abbrev pushed : List ℕ → ℕ → List ℕ
-pushed [] b = if is_white b then [] else b ∷ []
-pushed (x ∷ xs) b = x ∷ (xs ++ b ∷ [])
-
-past_push : (p : List ℕ) (b : ℕ) → past_white (p ++ b ∷ []) ≡ pushed (past_white p) b
-past_push [] b = refl
-past_push (x ∷ xs) b = let ih = past_push xs b in by_truth (is_white x) (λ e. rw e ih) (λ e. rw e refl)
-
-pushed_some : (t : List ℕ) (b : ℕ) → (0 < length t) ⊎ (is_white b ≡ false) → pushed t b ≡ t ++ b ∷ []
-pushed_some [] b h = ⊎_elim (λ (w : 0 < length {A = ℕ} []). absurd (omega arith)) (λ (w : is_white b ≡ false). rw w refl) h
-pushed_some (x ∷ xs) b h = refl
-
 none_kept : (t : List ℕ) → length (take 512 t) ≡ 0 → t ≡ []
 none_kept [] h = refl
 none_kept (x ∷ xs) h = absurd (omega (arith, length-take 512 (x ∷ xs)))
 
 -- ---- what is kept
 
-pub keep_white : (p bytes : List ℕ) (long : Bool) (b : ℕ) → GathersPiece p bytes long → length bytes ≡ 0 → is_white b ≡ true → GathersPiece (p ++ b ∷ []) bytes long
-keep_white p bytes long b g none white =
-    let empty : past_white p ≡ [] = none_kept (past_white p) (sym (ap length g.bytes_are) ∙ none) in
-    let same : past_white (p ++ b ∷ []) ≡ past_white p = past_push p b ∙ ap (λ t. pushed t b) empty ∙ (rw white (sym empty)) in
-    record { bytes_are = g.bytes_are ∙ ap (λ t. take 512 t) (sym same); long_is = g.long_is ∙ ap (λ t. nat_lt 512 (length t)) (sym same) }
+past_none : (p xs : List ℕ) → past_white p ≡ [] → past_white (p ++ xs) ≡ past_white xs
+past_none [] xs e = refl
+past_none (x ∷ p) xs e = let ih = past_none p xs in by_truth (is_white x) (λ w. rw w (ih (rw w at e))) (λ w. let some : x ∷ p ≡ [] = rw w at e in absurd (omega (arith, ap length some)))
 
-pub keep_full : (p bytes : List ℕ) (long : Bool) (b : ℕ) → GathersPiece p bytes long → length bytes ≡ 512 → GathersPiece (p ++ b ∷ []) bytes true
-keep_full p bytes long b g full =
-    let least : 512 ≤ length (past_white p) = omega (arith, ap length g.bytes_are, length-take 512 (past_white p)) in
-    let now : past_white (p ++ b ∷ []) ≡ past_white p ++ b ∷ [] = past_push p b ∙ pushed_some (past_white p) b (inl (omega arith)) in
-    let more : 512 < length (past_white (p ++ b ∷ [])) = omega (arith, ap length now, length-append (past_white p) (b ∷ [])) in
-    record { bytes_are = g.bytes_are ∙ sym (take-append-le 512 (past_white p) (b ∷ []) least) ∙ ap (λ t. take 512 t) (sym now); long_is = grind (arith, nat_tests) }
+past_some : (p xs : List ℕ) → 0 < length (past_white p) → past_white (p ++ xs) ≡ past_white p ++ xs
+past_some [] xs some = absurd (omega (arith, some))
+past_some (x ∷ p) xs some = let ih = past_some p xs in by_truth (is_white x) (λ w. rw w (ih (rw w at some))) (λ w. rw w refl)
 
-pub keep_more : (p bytes : List ℕ) (long : Bool) (b : ℕ) → GathersPiece p bytes long → length bytes < 512 → (0 < length bytes) ⊎ (is_white b ≡ false) → GathersPiece (p ++ b ∷ []) (bytes ++ b ∷ []) long
-keep_more p bytes long b g room some =
-    let short : length (past_white p) < 512 = omega (arith, ap length g.bytes_are, length-take 512 (past_white p)) in
-    let all : bytes ≡ past_white p = g.bytes_are ∙ take_all 512 (past_white p) (omega arith) in
-    let now : past_white (p ++ b ∷ []) ≡ bytes ++ b ∷ [] = past_push p b ∙ ap (λ t. pushed t b) (sym all) ∙ pushed_some bytes b some in
-    let many : length (past_white (p ++ b ∷ [])) ≤ 512 = omega (arith, ap length now, length-append bytes (b ∷ [])) in
-    let before : nat_lt 512 (length (past_white p)) ≡ false = grind (arith, nat_tests) in
-    let after : nat_lt 512 (length (past_white (p ++ b ∷ []))) ≡ false = grind (arith, nat_tests) in
-    record { bytes_are = sym now ∙ sym (take_all 512 (past_white (p ++ b ∷ [])) many); long_is = g.long_is ∙ before ∙ sym after }
+pub past_front : (xs : List ℕ) → drop (prefix_len is_white xs) xs ≡ past_white xs
+past_front [] = refl
+past_front (x ∷ xs) = let ih = past_front xs in by_truth (is_white x) (λ w. rw (w, one-add (prefix_len is_white xs)) ih) (λ w. rw w refl)
+
+-- the first n of them
+pub first_kept : (n room : ℕ) (t xs : List ℕ) → room + length (take n t) ≡ n → take n (t ++ xs) ≡ take n t ++ take room xs
+first_kept n room t xs e = ⊎_elim
+    (λ (long : n < length t).
+    let none : room ≡ 0 = omega (arith, e, length-take-le n t (omega (arith, long))) in
+    take-append-le n t xs (omega (arith, long)) ∙ sym (append-nil (take n t)) ∙ ap (λ m. take n t ++ take m xs) (sym none))
+    (λ (short : length t ≤ n).
+    let all = take_all n t short in
+    let is : n ≡ length t + room = omega (arith, e, ap length all) in
+    ap (λ m. take m (t ++ xs)) is ∙ take-append-add t xs room ∙ ap (λ ys. ys ++ take room xs) (sym all))
+    (cases_lt n (length t))
+
+module _ (room : ℕ) (t xs : List ℕ) (e : room + length (take 512 t) ≡ 512) where
+  pub more_come : room < length xs → true ≡ nat_lt 512 (length (t ++ xs))
+  more_come over = let many : 512 < length (t ++ xs) = omega (arith, e, over, length-append t xs, length-take 512 t) in grind (arith, nat_tests)
+
+  pub all_come : length xs ≤ room → nat_lt 512 (length t) ≡ nat_lt 512 (length (t ++ xs))
+  all_come few = ⊎_elim
+      (λ (w : 512 < length t). let many : 512 < length (t ++ xs) = omega (arith, w, length-append t xs) in grind (arith, nat_tests))
+      (λ (w : length t ≤ 512). let all : length (t ++ xs) ≤ 512 = omega (arith, w, e, few, length-append t xs, length-take 512 t) in grind (arith, nat_tests))
+      (cases_lt 512 (length t))
+
+module _ (p bytes1 : List ℕ) (long1 : Bool) where
+  pub kept_begun : (xs bytes : List ℕ) (long : Bool) → GathersPiece p bytes long → 0 < length bytes
+      → bytes1 ≡ take 512 (past_white p ++ xs) → long1 ≡ nat_lt 512 (length (past_white p ++ xs)) → GathersPiece (p ++ xs) bytes1 long1
+  kept_begun xs bytes long g some e f =
+      let now = past_some p xs (omega (arith, some, ap length g.bytes_are, length-take 512 (past_white p))) in
+      record { bytes_are = e ∙ ap (λ t. take 512 t) (sym now); long_is = f ∙ ap (λ t. nat_lt 512 (length t)) (sym now) }
+
+  pub kept_first : (xs bytes : List ℕ) (long : Bool) → GathersPiece p bytes long → length bytes ≡ 0
+      → bytes1 ≡ take 512 (past_white p ++ past_white xs) → long1 ≡ nat_lt 512 (length (past_white p ++ past_white xs)) → GathersPiece (p ++ xs) bytes1 long1
+  kept_first xs bytes long g none e f =
+      let empty = none_kept (past_white p) (sym (ap length g.bytes_are) ∙ none) in
+      let now : past_white (p ++ xs) ≡ past_white p ++ past_white xs = past_none p xs empty ∙ ap (λ t. t ++ past_white xs) (sym empty) in
+      record { bytes_are = e ∙ ap (λ t. take 512 t) (sym now); long_is = f ∙ ap (λ t. nat_lt 512 (length t)) (sym now) }
 
 -- ---- what a piece asks for
 

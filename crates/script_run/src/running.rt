@@ -2,12 +2,13 @@
 
 #![tactic(auto)]
 
-ghost use Rattle.std.specs.Prelude.{◌≡◌, ◌⊎◌, ◌≤◌, ◌∷◌, [], false, true, ℕ, List, Result, IfErr, IsErrOf, IsTrue, OnOk, length};
+ghost use Rattle.std.specs.Prelude.{◌≡◌, ◌⊎◌, ◌≤◌, ◌∷◌, [], false, true, ℕ, List, Result, IfErr, IsErrOf, IsTrue, OnOk, length, take};
 ghost use Rattle.db_model.specs.declared.commands.Command.{Command as AnyCommand};
 ghost use Rattle.db_model.specs.declared.refusals.Refusal.{Refusal as AnyRefusal};
 ghost use Rattle.db_model.specs.Reading.{IsReader};
 ghost use Rattle.db_model.specs.Script.{ended, past_white, unended};
 ghost use Rattle.intake.specs.declared.ending.Ending.TheVariants as Ending;
+ghost use Rattle.intake.specs.Through.{Out};
 ghost use Rattle.answering.specs.Carried.{Carried, ChangesOrHalts, HaltsIn, HasHaltCause, standing_of, limits_of};
 ghost use Rattle.answering.specs.Taking.{EndsInput, HaltsAtLast, HaltsInBytes, HasOne, TakesBytes, running};
 ghost use Rattle.run_model.specs.Scripts.{script_cut, script_talk};
@@ -69,6 +70,10 @@ impl<'a, V: Files> Taker for Runner<'a, V> {
             out,
             byte,
         )
+    }
+
+    fn take_plain(&mut self, bytes: &[u8]) -> usize {
+        take_plain(self.session, &mut self.piece, bytes)
     }
 
     fn end<K: Sink>(&mut self, out: &mut K) -> Result<(), Ending> {
@@ -140,6 +145,19 @@ fn take_byte<V: Files, K: Sink>(
     piece.clear();
     answered?;
     Ok(())
+}
+
+// Takes the bytes in front that end no command.
+fn take_plain<V: Files>(session: &Session<V>, piece: &mut Piece, bytes: &[u8]) -> usize
+    ensures within { result ≤ length bytes.now }
+    ensures takes { (out : Out) → TakesBytes script_input V.Files
+        (running session.now piece.old out.held out.faults) (take result bytes.now)
+        (running session.now piece.new out.held out.faults) }
+{
+    if session.is_stopped() {
+        return 0;
+    }
+    piece.push_plain(bytes)
 }
 
 // Takes the end of a script.

@@ -1,5 +1,5 @@
 -- Laws of a sink that stands before another: what is so of it since a time.
-use Rattle.std.proofs.Common.{◌≡◌, ℕ, ◌≤◌, ◌<◌, Bool, true, false, List, [], ◌∷◌, ◌++◌, length, take, refl, ap, sym, ◌∙◌, arith, length-append, Option, Some, None}
+use Rattle.std.proofs.Common.{◌≡◌, ℕ, ◌≤◌, ◌<◌, Bool, true, false, List, ◌++◌, length, take, refl, ap, sym, ◌∙◌, arith, length-append, Option, Some, None}
 use Rattle.std.proofs.lemmas.List.{length-take, take-append-le}
 use Rattle.std.specs.Io.KnownBytes.{append_known}
 use Rattle.afl_base.specs.Causes.{Rose}

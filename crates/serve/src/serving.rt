@@ -75,6 +75,10 @@ impl<'a, V: Files> Taker for Server<'a, V> {
         )
     }
 
+    fn take_plain(&mut self, _bytes: &[u8]) -> usize {
+        0
+    }
+
     fn end<K: Sink>(&mut self, out: &mut K) -> Result<(), Ending> {
         take_end(self.session, &self.decoder, out)
     }

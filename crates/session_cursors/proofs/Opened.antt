@@ -97,6 +97,7 @@ failed_open v c old new e (Err failed) runs is reads frame = record {
   tells = tt;
   wants = λ told. tt;
   lacks = tt;
+  spares = λ told none. tt;
   cut = λ cuts told. same_between v c old new.files runs cuts told frame.same;
   untouched = tt;
   same = λ r. frame.same;

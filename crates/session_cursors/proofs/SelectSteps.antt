@@ -29,7 +29,7 @@ left_rows places (Some slot) tuple old now e ended = sym (ap (λ (l : List (List
 
 -- where a cursor rests
 abbrev pub at_root : SelectCursor → SelectCursor
-at_root c = record c { candidates = record c.candidates { place = None } }
+at_root c = record c { candidates = record c.candidates { place = None; hint = c.candidates.place } }
 
 pub ended_rows : (found : Option ℕ) (now : List (List Value)) → IfNone found (now ≡ []) → found ≡ None → now ≡ []
 ended_rows None now h e = h

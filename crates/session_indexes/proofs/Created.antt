@@ -5,6 +5,7 @@ use Rattle.std.proofs.Math.Logic.{⊎_elim}
 use Rattle.afl_base.specs.Asked.{asks_few}
 use Rattle.afl_base.specs.CutFiles.{MendsToEither, MendsToState}
 use Rattle.afl_base.specs.Files.{KeepsBytes, State, Table}
+use Rattle.afl_base.specs.Fit.{fit}
 use Rattle.db_model.specs.declared.commands.Command.TheVariants as command
 use Rattle.db_model.specs.declared.refusals.Refusal.{Refusal}
 use Rattle.db_model.specs.declared.schemas.IndexKind.{IndexKind}
@@ -22,7 +23,7 @@ use Rattle.index_set.specs.declared.info.TableId.{TableId}
 use Rattle.index_set.specs.Inserts.{IsElsewhere}
 use Rattle.index_set.specs.Plans.{access_kind}
 use Rattle.index_set.specs.Tables.{Tables}
-use Rattle.space_model.specs.Enough.{keys_named}
+use Rattle.space_model.specs.Enough.{keys_named, tree_size}
 use Rattle.space_model.specs.FileNames.{asks_in, catalog_file, rows_file, size_in}
 use Rattle.space_model.specs.Wants.{WantsIndex}
 use Rattle.stored.specs.Mended.{MendsToDatabase}
@@ -37,7 +38,7 @@ use Rattle.session_model.specs.Frames.{with_indexed}
 use Rattle.session_model.specs.Indexed.{IsAllowedAt}
 use Rattle.session_model.specs.Running.{IsIndexSlot, IsIndexedOn, IsRunning, bytes_of_catalog}
 use Rattle.session_model.specs.View.{view}
-use Rattle.session_model.specs.Wanted.{WantsFew, room_in}
+use Rattle.session_model.specs.Wanted.{WantsFew, WantsNone, room_in}
 use Rattle.session_model.proofs.Aheads.{catalog_aheads, index_aheads}
 use Rattle.session_model.proofs.Catalogs.{IndexChanges, catalog_there, index_running, index_view, kept_index, room_running, room_view}
 use Rattle.session_model.proofs.CutCatalogs.{either_mends}
@@ -46,7 +47,7 @@ use Rattle.session_model.proofs.ReadAs.{running_alike}
 use Rattle.session_model.proofs.Running.{bytes_by, catalog_no_rows, catalog_no_tree, differ, relation_there}
 use Rattle.session_model.proofs.Wanted.{relation_seen, wants_catalog}
 use Rattle.session_indexes.specs.declared.sites.Site.{Site}
-use Rattle.session_indexes.specs.Made.{AsksIndex, IsMade, IsReadyFor, IsTried, IsUnrefused, KeepsTaken, index_for, indexed_for, keys_at}
+use Rattle.session_indexes.specs.Made.{AsksIndex, AsksNoIndex, IsMade, IsReadyFor, IsTried, IsUnrefused, KeepsTaken, index_for, indexed_for, keys_at}
 use Rattle.session_indexes.specs.Parts.{IsMadeInPart}
 use Rattle.session_indexes.specs.Sites.{IsSite}
 use Rattle.session_indexes.proofs.MendedIndexes.{make_between}
@@ -199,6 +200,21 @@ module _ (s0 : State) (before : Tables) (held : Held) (opens : List (Option Open
         unrefused h
         ∙ ap (λ (z : IndexKind). Ok (after_it (view s0.files held opens) z, Fine)) (sym of_kind)
         ∙ ap (λ (db : Database). Ok (db, Fine)) (sym (index_view s0 s1 before after held opens site.slot (Some (indexed_for site access)) cat r site_changes told))
+
+  -- ---- it wants no extent
+
+  nothing_by : (asks : ℕ → ℕ → ℕ → ℕ → Type 0) (want : IndexKind) (ks : List ℤ) → ((need : ℕ) → WantsIndex (size_in s0.files) (asks_in asks s0.files) (room_in s0.files) want ks site.slot need → ⊥)
+      → AsksNoIndex asks s0 cat site.slot want
+  nothing_by asks Inline ks none = λ need asked. none need (wants_catalog s0 before held opens r asks cat (1408 + 8 * site.slot) 8 need has asked)
+  nothing_by asks MemHash ks none = λ need asked. none need (wants_catalog s0 before held opens r asks cat (1408 + 8 * site.slot) 8 need has asked)
+  nothing_by asks MaxHeap ks none = none (fit (tree_size ks)) (inr refl)
+
+  -- nothing is asked for, where the command wants no extent
+  pub asks_nothing : (asks : ℕ → ℕ → ℕ → ℕ → Type 0) → WantsNone asks s0.files (view s0.files held opens) (command.CreateIndex name attribute kind) → AsksNoIndex asks s0 cat site.slot kind
+  asks_nothing asks none =
+      let ks = keys_named (view s0.files held opens) name attribute in
+      let P : Option ℕ → Type 0 = λ o. (need : ℕ) → IsSomeAnd o (λ slot. WantsIndex (size_in s0.files) (asks_in asks s0.files) (room_in s0.files) kind ks slot need) → ⊥ in
+      nothing_by asks kind ks (subst P (free_seen 0 held.indexes ∙ is.free) none)
 
   -- ---- there was no space
 

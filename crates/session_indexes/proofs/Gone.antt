@@ -21,10 +21,10 @@ use Rattle.session_model.specs.declared.held.Indexed.{Indexed}
 use Rattle.session_model.specs.declared.held.Open.{Open}
 use Rattle.session_model.specs.Aheads.{aheads_of}
 use Rattle.session_model.specs.Cells.{cell_from}
-use Rattle.session_model.specs.Frames.{with_indexed}
+use Rattle.session_model.specs.Frames.{AsksNoExtent, with_indexed}
 use Rattle.session_model.specs.Running.{HasCatalogFile, HasFile, IsRunning, ReadsRows}
 use Rattle.session_model.specs.View.{cursor_in, view}
-use Rattle.session_model.specs.Wanted.{WantsFew}
+use Rattle.session_model.specs.Wanted.{WantsFew, WantsNone, WantsOver}
 use Rattle.session_model.proofs.Aheads.{catalog_aheads, index_aheads}
 use Rattle.session_model.proofs.Catalogs.{IndexChanges, catalog_there, index_running, index_view, room_running, room_view}
 use Rattle.session_model.proofs.CutCatalogs.{database_of, either_mends}
@@ -108,6 +108,15 @@ module _ (s0 : State) (tables : Tables) (held : Held) (opens : List (Option Open
       either_mends (command.RemoveIndex name attribute) (remove_index db name attribute) db (with_index db standing.slot None) refl
       (removed s0.files held opens name attribute k t cell is.at is.place standing.slot is.found (is.unread s0.files))
       (database_of m (λ after p. take_between s0 tables held opens r told cat has after standing.slot is.below p))
+
+  -- nothing is asked for, where the command wants no extent
+  pub asks_nothing : (asks : ℕ → ℕ → ℕ → ℕ → Type 0) → WantsNone asks s0.files (view s0.files held opens) (command.RemoveIndex name attribute)
+      → AsksNoExtent asks s0.files cat (1408 + 8 * standing.slot) 8
+  asks_nothing asks none need asked =
+      let wanted : WantsOver asks s0.files (view s0.files held opens) (command.RemoveIndex name attribute) need =
+      rw (relation_seen s0.files held opens name k t cell, is.place, slot_seen k is.at 0 held.indexes, is.found)
+      (wants_catalog s0 tables held opens r asks cat (1408 + 8 * standing.slot) 8 need has asked) in
+      none need wanted
 
   module _ (s1 : State) (u : IsTaken s0 s1 cat standing.slot) where
     pub gone_changes : IndexChanges s0 s1 tables tables held opens standing.slot None cat

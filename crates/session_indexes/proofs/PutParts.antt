@@ -1,5 +1,5 @@
 -- What a change of an index slot that broke off has left, where calls follow one another.
-use Rattle.std.proofs.Common.{◌≡◌, ◌≢◌, ◌⊎◌, inl, inr, ℕ, ◌+◌, ◌*◌, List, length, take, Option, Some, refl, ap, sym, ◌∙◌, subst, arith, IsTrue}
+use Rattle.std.proofs.Common.{◌≡◌, ◌≢◌, inl, inr, ℕ, ◌+◌, ◌*◌, List, length, take, Option, Some, refl, ap, sym, ◌∙◌, subst, arith, IsTrue}
 use Rattle.std.proofs.Math.Logic.{⊎_elim}
 use Rattle.std.proofs.Math.Seq.{take-length}
 use Rattle.afl_base.specs.CutFiles.{MendsToEither, MendsToState}

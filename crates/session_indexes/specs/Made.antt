@@ -22,7 +22,7 @@ use Rattle.space_model.specs.Wants.{room_for}
 use Rattle.tuple_file.specs.declared.tuples.Tuples.{Tuples}
 use Rattle.tuple_file.specs.Tuples.{HoldsRows, rows, slots}
 use Rattle.session_model.specs.declared.held.Indexed.{Indexed}
-use Rattle.session_model.specs.Frames.{HasBytes, LeavesOthers}
+use Rattle.session_model.specs.Frames.{AsksNoExtent, HasBytes, LeavesOthers}
 use Rattle.session_model.specs.Indexed.{index_known}
 use Rattle.session_model.specs.Running.{AreOfDatabase, HasCatalogFile, HasFile}
 use Rattle.session_indexes.specs.declared.sites.Site.{Site}
@@ -101,3 +101,9 @@ abbrev pub AsksIndex : (ℕ → ℕ → ℕ → ℕ → Type 0) → State → �
 AsksIndex asks state cat slot Inline ks need = AsksIndexSlot asks state cat slot need
 AsksIndex asks state cat slot MemHash ks need = AsksIndexSlot asks state cat slot need
 AsksIndex asks state cat slot MaxHeap ks need = AsksIndexSlot asks state cat slot need ⊎ (need ≡ fit (tree_size ks))
+
+-- none is asked for: a tree always asks for one
+abbrev pub AsksNoIndex : (ℕ → ℕ → ℕ → ℕ → Type 0) → State → ℕ → ℕ → IndexKind → Type 0
+AsksNoIndex asks state cat slot Inline = AsksNoExtent asks state.files cat (1408 + 8 * slot) 8
+AsksNoIndex asks state cat slot MemHash = AsksNoExtent asks state.files cat (1408 + 8 * slot) 8
+AsksNoIndex asks state cat slot MaxHeap = ⊥

@@ -2,21 +2,23 @@
 
 #![tactic(auto)]
 
-ghost use Rattle.std.specs.Prelude.{◌≡◌, List, Option, IfOk, IsErrOf, IsTrue, OnErr, OnOk, length};
+ghost use Rattle.std.specs.Prelude.{◌≡◌, ◌+◌, ◌*◌, List, Option, IfOk, IsErrOf, IsTrue, OnErr, OnOk, length};
 ghost use Rattle.afl_base.specs.CutFiles.{MendsToEither};
 ghost use Rattle.afl_base.specs.Keeping.{ChangesOrLacks, OnlyReads};
 ghost use Rattle.afl_base.specs.Causes.{HasCause};
 ghost use Rattle.afl_base.specs.FileErrors.{HasFileCause, OnSpace, UnlessFailed};
 ghost use Rattle.afl_base.specs.Files.{KeepsBytes};
+ghost use Rattle.afl_base.specs.Sparing.{SparesWhere};
 ghost use Rattle.db_model.specs.Step.{first_fall, keys};
 ghost use Rattle.db_model.specs.declared.schemas.IndexKind.TheVariants.{Inline, MaxHeap, MemHash};
 ghost use Rattle.index_set.specs.Plans.{access_kind};
 ghost use Rattle.index_set.specs.Tables.{Tables as AnyTables};
+ghost use Rattle.session_model.specs.Frames.{AsksNoExtent};
 ghost use Rattle.session_model.specs.Indexed.{IsAllowedAt};
 ghost use Rattle.session_model.specs.declared.held.Indexed.{Indexed as AnyIndexed};
 ghost use Rattle.tuple_file.specs.Column.{IsNumber};
 ghost use Rattle.tuple_file.specs.Tuples.{HoldsRows, rows};
-ghost use Rattle.session_indexes.specs.Made.{AreElsewhere, AsksIndex, AsksIndexSlot, IsMade, IsReadyFor};
+ghost use Rattle.session_indexes.specs.Made.{AreElsewhere, AsksIndex, AsksIndexSlot, AsksNoIndex, IsMade, IsReadyFor};
 ghost use Rattle.session_indexes.specs.Made.{IsTried, IsUnrefused, KeepsTaken, keys_at};
 ghost use Rattle.session_indexes.specs.Parts.{IsMadeInPart};
 
@@ -69,6 +71,8 @@ fn make_order<V: Files>(
         OnSpace result (λ need. KeepsBytes old new cat) }
     ensures asked { OnSpace result (λ need.
         AsksIndexSlot (V.asks files.new) (V.state files.new) cat site.now.slot need) }
+    ensures spares { let asks = AsksNoExtent (V.asks files.old) (V.state files.old).files cat in
+        SparesWhere V.is_free (asks (1408 + 8 * site.now.slot) 8) (V.state files.old) (V.state files.new) result }
     ensures cut { let old = V.state files.old in let store = (V.state files.new).store in
         IsTrue V.cuts → IsTrue old.tells → IsErrOf result FileError.Failed
         → MendsToEither V.mends old.files store
@@ -145,6 +149,8 @@ fn make_table<V: Files>(
         OnSpace result (λ need. KeepsBytes old new cat) }
     ensures asked { OnSpace result (λ need.
         AsksIndexSlot (V.asks files.new) (V.state files.new) cat site.now.slot need) }
+    ensures spares { let asks = AsksNoExtent (V.asks files.old) (V.state files.old).files cat in
+        SparesWhere V.is_free (asks (1408 + 8 * site.now.slot) 8) (V.state files.old) (V.state files.new) result }
     ensures cut { let old = V.state files.old in let store = (V.state files.new).store in
         IsTrue V.cuts → IsTrue old.tells → IsErrOf result FileError.Failed
         → MendsToEither V.mends old.files store
@@ -203,6 +209,8 @@ pub fn make_index<V: Files>(
     ensures asked { let old = V.state files.old in let ks = keys_at old tuples.now site.now in
         IsTrue old.tells → OnSpace result (λ need.
         AsksIndex (V.asks files.new) (V.state files.new) cat site.now.slot kind ks need) }
+    ensures spares { let asks = AsksNoIndex (V.asks files.old) (V.state files.old) cat in
+        SparesWhere V.is_free (asks site.now.slot kind) (V.state files.old) (V.state files.new) result }
     ensures cut { let old = V.state files.old in let store = (V.state files.new).store in
         IsTrue V.cuts → IsTrue old.tells → IsErrOf result FileError.Failed
         → MendsToEither V.mends old.files store

@@ -2,18 +2,20 @@
 
 #![tactic(auto)]
 
-ghost use Rattle.std.specs.Prelude.{◌≡◌, Err, IfErr, IfOk, IsErrOf, IsTrue, None, OnOk, Some, length};
+ghost use Rattle.std.specs.Prelude.{◌≡◌, ◌+◌, ◌*◌, Err, IfErr, IfOk, IsErrOf, IsTrue, None, OnOk, Some, length};
 ghost use Rattle.afl_base.specs.CutFiles.{MendsToState};
 ghost use Rattle.afl_base.specs.Keeping.{Changes, ChangesOrLacks};
 ghost use Rattle.afl_base.specs.Causes.{HasCause};
 ghost use Rattle.afl_base.specs.FileErrors.{HasFileCause, OnSpace};
 ghost use Rattle.afl_base.specs.Files.{KeepsBytes, Table};
+ghost use Rattle.afl_base.specs.Sparing.{SparesWhere};
 ghost use Rattle.db_model.specs.Step.{remove_index};
 ghost use Rattle.db_model.specs.declared.commands.Command.TheVariants as command;
 ghost use Rattle.session_model.specs.Aheads.{aheads_of};
 ghost use Rattle.session_model.specs.Answers.{OnNoSpace};
 ghost use Rattle.session_model.specs.Cells.{cell_from};
 ghost use Rattle.session_model.specs.Carried.{Carries, Runs};
+ghost use Rattle.session_model.specs.Frames.{AsksNoExtent};
 ghost use Rattle.session_model.specs.Running.{HasCatalogFile, HasFile, IsRunning};
 ghost use Rattle.session_model.specs.Steps.{Answers};
 ghost use Rattle.session_model.specs.View.{view};
@@ -88,6 +90,8 @@ fn take_index<V: Files>(
         OnSpace result (λ need. KeepsBytes old new cat) }
     ensures asked { OnSpace result (λ need.
         AsksIndexSlot (V.asks files.new) (V.state files.new) cat slot need) }
+    ensures spares { let asks = AsksNoExtent (V.asks files.old) (V.state files.old).files cat in
+        SparesWhere V.is_free (asks (1408 + 8 * slot) 8) (V.state files.old) (V.state files.new) result }
     ensures cut { let old = V.state files.old in let store = (V.state files.new).store in
         IsTrue V.cuts → IsTrue old.tells → IsErrOf result FileError.Failed
         → MendsToState V.mends store (λ after. MayTake old after cat slot) }

@@ -8,8 +8,9 @@ ghost use Rattle.afl_base.specs.Keeping.{Changes, ChangesOrLacks};
 ghost use Rattle.afl_base.specs.Causes.{HasCause};
 ghost use Rattle.afl_base.specs.FileErrors.{HasFileCause, OnSpace, UnlessFailed};
 ghost use Rattle.afl_base.specs.Files.{KeepsBytes, file_at};
+ghost use Rattle.afl_base.specs.Sparing.{SparesWhere, TakesNoPage, StandsStill};
 ghost use Rattle.catalog.specs.CatalogFile.{IsPrepared, PutsIndex};
-ghost use Rattle.session_model.specs.Frames.{with_indexed};
+ghost use Rattle.session_model.specs.Frames.{AsksNoExtent, with_indexed};
 ghost use Rattle.session_model.specs.Running.{HasCatalogFile};
 ghost use Rattle.session_indexes.specs.Made.{AsksIndexSlot, index_for};
 ghost use Rattle.session_indexes.specs.Parts.{MayPut};
@@ -20,7 +21,8 @@ use catalog::{IndexEntry, clear_index, put_index};
 use db_model::IndexKind;
 use session_model::{Held, Indexed, prepare_catalog};
 
-/// Makes room for a change of an index slot. No byte changes.
+/// Makes room for a change of an index slot. No byte changes, and what all is kept in stays where no
+/// extent is asked for.
 pub fn prepare_slot<V: Files>(files: &mut V, cat: FileId, slot: IndexId) -> Result<(), FileError>
     requires idle { (V.state files.old).draft ≡ None }
     requires catalog { HasCatalogFile (V.state files.old).files (Some cat) }
@@ -30,6 +32,8 @@ pub fn prepare_slot<V: Files>(files: &mut V, cat: FileId, slot: IndexId) -> Resu
         OnOk result (IsPrepared file (1408 + 8 * slot) 8) }
     ensures asked { OnSpace result (λ need.
         AsksIndexSlot (V.asks files.new) (V.state files.new) cat slot need) }
+    ensures still { AsksNoExtent (V.asks files.old) (V.state files.old).files cat (1408 + 8 * slot) 8
+        → OnOk result (StandsStill V.state V.asks files.old files.new) }
     ensures cut { IsTrue V.cuts → IsTrue (V.state files.old).tells → IsErrOf result FileError.Failed
         → V.mends (V.state files.new).store (V.state files.old).files }
     ensures frame { ChangesOrLacks V.state V.lent V.reads V.faults V.lacks files.old files.new result }
@@ -50,6 +54,8 @@ pub fn put_site<V: Files>(
         IsPrepared file (1408 + 8 * site.now.slot) 8 }
     ensures put { let old = V.state files.old in let new = V.state files.new in
         OnOk result (PutsIndex old new cat site.now.slot (Some (index_for site.now kind))) }
+    ensures spares { IsTrue (V.state files.old).tells → OnOk result
+        (TakesNoPage V.is_free (V.state files.old).store (V.state files.new).store) }
     ensures cut { let old = V.state files.old in let store = (V.state files.new).store in
         IsTrue V.cuts → IsTrue old.tells → OnErr result (MendsToState V.mends store
         (λ after. MayPut old after cat site.now.slot (Some (index_for site.now kind)))) }
@@ -79,6 +85,8 @@ pub fn put_entry<V: Files>(
         OnSpace result (λ need. KeepsBytes old new cat) }
     ensures asked { OnSpace result (λ need.
         AsksIndexSlot (V.asks files.new) (V.state files.new) cat site.now.slot need) }
+    ensures spares { let asks = AsksNoExtent (V.asks files.old) (V.state files.old).files cat in
+        SparesWhere V.is_free (asks (1408 + 8 * site.now.slot) 8) (V.state files.old) (V.state files.new) result }
     ensures cut { let old = V.state files.old in let store = (V.state files.new).store in
         IsTrue V.cuts → IsTrue old.tells → IsErrOf result FileError.Failed
         → MendsToState V.mends store
@@ -100,6 +108,8 @@ pub fn clear_entry<V: Files>(files: &mut V, cat: FileId, slot: IndexId) -> Resul
         OnSpace result (λ need. KeepsBytes old new cat) }
     ensures asked { OnSpace result (λ need.
         AsksIndexSlot (V.asks files.new) (V.state files.new) cat slot need) }
+    ensures spares { let asks = AsksNoExtent (V.asks files.old) (V.state files.old).files cat in
+        SparesWhere V.is_free (asks (1408 + 8 * slot) 8) (V.state files.old) (V.state files.new) result }
     ensures cut { let old = V.state files.old in let store = (V.state files.new).store in
         IsTrue V.cuts → IsTrue old.tells → IsErrOf result FileError.Failed
         → MendsToState V.mends store (λ after. MayPut old after cat slot None) }

@@ -25,6 +25,7 @@ carries_refused v command base refusal runs refused = record {
   tells = refl;
   wants = λ told. tt;
   lacks = tt;
+  spares = λ told none. tt;
   cut = λ cuts told. tt;
   untouched = refl;
   same = λ reads. refl;

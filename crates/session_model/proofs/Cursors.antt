@@ -1,5 +1,5 @@
 -- What an open cursor has still to answer, where rows come behind the others.
-use Rattle.std.proofs.Common.{◌≡◌, ℕ, ◌≤◌, ◌⊎◌, List, [], ◌∷◌, map, get_or, Some, None, refl, ap, sym, ◌∙◌, subst, inl, inr, IsTrue}
+use Rattle.std.proofs.Common.{◌≡◌, ℕ, ◌≤◌, List, [], ◌∷◌, map, get_or, Some, None, refl, ap, sym, ◌∙◌, subst, inl, inr, IsTrue}
 use Rattle.std.proofs.Math.Logic.{⊎_elim}
 use Rattle.afl_base.specs.Files.{State}
 use Rattle.db_model.specs.declared.values.Value.{Value}

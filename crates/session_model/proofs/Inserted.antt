@@ -1,5 +1,5 @@
 -- A row was put behind the others of a relation, or there was no room for it.
-use Rattle.std.proofs.Common.{◌≡◌, ℕ, ◌+◌, ◌<◌, List, [], ◌∷◌, ◌++◌, length, get_or, Option, Some, None, refl, ap, sym, ◌∙◌, subst, arith, IsTrue}
+use Rattle.std.proofs.Common.{◌≡◌, ℕ, List, length, get_or, Option, Some, None, refl, ap, sym, subst, arith, IsTrue}
 use Rattle.afl_base.specs.Files.{State}
 use Rattle.afl_base.specs.Frames.{Prepares}
 use Rattle.db_model.specs.Row.{Row, no_row}

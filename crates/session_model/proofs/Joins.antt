@@ -3,6 +3,7 @@ use Rattle.std.proofs.Common.{◌≡◌, ℕ, ◌≤◌, List, [], ◌∷◌, ge
 use Rattle.std.specs.Prelude.{slice_get}
 use Rattle.std.specs.List.{AllByRecursion}
 use Rattle.afl_base.specs.Files.{State}
+use Rattle.index_maxheap.specs.declared.places.Place.{Place}
 use Rattle.index_set.specs.declared.candidates.Candidates.{Candidates}
 use Rattle.index_set.specs.declared.info.IndexInfo.{IndexInfo}
 use Rattle.index_set.specs.Complete.{AreIndexesOf, AreReadable, IsInfoOf, IsReadable}
@@ -47,8 +48,8 @@ begun_join_waits state held j k s t there_s there_t c left right indexes left_sl
     }
 
 -- it waits again where it has moved and rests
-pub join_waits : (state : State) (held : Held) (c d : JoinCursor) (at from : ℕ) → IsWaitingJoin state held c → d ≡ record c { at = at; from = from; inner = None } → from ≤ c.right_slots → IsWaitingJoin state held d
-join_waits state held c d at from w is within =
+pub join_waits : (state : State) (held : Held) (c d : JoinCursor) (at from : ℕ) (hint : Option Place) → IsWaitingJoin state held c → d ≡ record c { at = at; from = from; inner = None; hint = hint } → from ≤ c.right_slots → IsWaitingJoin state held d
+join_waits state held c d at from hint w is within =
     subst (λ (z : JoinCursor). IsWaitingJoin state held z) (sym is) (record {
       rests = refl;
       within = within;

@@ -4,6 +4,7 @@ use Rattle.afl_base.specs.declared.failed.Failed.{Failed}
 use Rattle.afl_base.specs.declared.files.Files.{Ghosts as FilesOf}
 use Rattle.afl_base.specs.declared.stream.Sink.{Ghosts as SinkOf}
 use Rattle.afl_base.specs.Keeping.{Changes}
+use Rattle.afl_base.specs.Sparing.{TakesNoPage}
 use Rattle.db_model.specs.declared.commands.Command.{Command}
 use Rattle.db_model.specs.Ahead.{Aheads, aheads_after, cost_of}
 use Rattle.db_model.specs.Between.{AreAlike, IsBetween}
@@ -15,11 +16,11 @@ use Rattle.session_model.specs.declared.base.Base.{Base}
 use Rattle.session_model.specs.declared.step.Outcome.{Outcome}
 use Rattle.afl_base.specs.declared.fault.Fault.{Fault}
 use Rattle.session_model.specs.Aheads.{aheads_of}
-use Rattle.session_model.specs.Answers.{OnNoSpace, OnNothing}
+use Rattle.session_model.specs.Answers.{OnDone, OnNoSpace, OnNothing}
 use Rattle.session_model.specs.Running.{IsRunning}
 use Rattle.session_model.specs.Steps.{Answers, HasFaultCause, Replies, UnlessFlash}
 use Rattle.session_model.specs.View.{view}
-use Rattle.session_model.specs.Wanted.{WantsFew}
+use Rattle.session_model.specs.Wanted.{WantsFew, WantsNone}
 use Rattle.stored.specs.Mended.{MendsToDatabase}
 
 -- ---- what a base is seen as
@@ -58,6 +59,9 @@ pub record Carries {V : Type 0} (v : FilesOf V) (command : Command) (old new : B
   pub wants : Tells v old → OnNoSpace result (λ need.
       WantsFew (v.asks new.files) (v.state new.files).files (database v new) command need)
   pub lacks : OnNoSpace result (λ need. v.lacks new.files need)
+  -- a command that wants no extent takes none
+  pub spares : Tells v old → WantsNone (v.asks old.files) (v.state old.files).files (database v old) command
+      → OnDone result (TakesNoPage v.is_free (v.state old.files).store (v.state new.files).store)
   -- where failures are cuts, the database before or after it, or, of a removal, one with some of the rows removed
   pub cut : IsTrue v.cuts → Tells v old → OnErr result (MendsBetween v new.files (database v old) command)
   -- a refusal, and a removal of no row, leave the files and what they are kept in

@@ -1,12 +1,13 @@
 -- Which files a command leaves, and which extents it asks for.
 use Rattle.std.specs.Prelude.{◌≡◌, ◌≢◌, ◌⊎◌, ℕ, List, Option, IsTrue, set}
-use Rattle.afl_base.specs.Files.{AreDistinct, IsNamed, IsUnnamed, State, bytes_at, file_at, place, size_at}
+use Rattle.afl_base.specs.Files.{AreDistinct, IsNamed, IsUnnamed, State, Table, bytes_at, file_at, place, size_at}
 use Rattle.afl_base.specs.declared.kind.Kind.TheVariants.{Fixed}
 use Rattle.db_model.specs.declared.values.Value.{Value}
 use Rattle.db_model.specs.Row.{row_length}
 use Rattle.index_set.specs.declared.info.IndexInfo.{IndexInfo}
 use Rattle.index_set.specs.Inserts.{IsNoTree, OneAsksFor}
 use Rattle.space_model.specs.FileNames.{catalog_file}
+use Rattle.space_model.specs.Wants.{room_for}
 use Rattle.tuple_file.specs.declared.tuples.Tuples.{Tuples}
 use Rattle.db_model.specs.declared.schemas.Schema.{Schema}
 use Rattle.session_model.specs.declared.held.Held.{Held}
@@ -40,6 +41,11 @@ pub record HasBytes (old new : State) (cat : ℕ) (told : List ℕ) : Type 0 whe
   pub kind : (file_at new.files cat).kind ≡ Fixed 6
   pub size : size_at new.files cat ≡ 1480
   pub bytes : IsTrue old.tells → bytes_at new.files cat ≡ told
+
+-- no extent is asked for, for a change of n bytes at a place of the catalog
+abbrev pub AsksNoExtent : (ℕ → ℕ → ℕ → ℕ → Type 0) → Table → (cat at n : ℕ) → Type 0
+AsksNoExtent asks files cat at n =
+    (need : ℕ) → asks cat ((room_for (size_at files cat) at n).0) ((room_for (size_at files cat) at n).1) need → ⊥
 
 -- ---- what is held after a change of the catalog, which is of version 2 then
 

@@ -1,13 +1,13 @@
 -- The database that files and what is held in memory stand for.
-use Rattle.std.specs.Prelude.{ℕ, pos, List, [], ◌∷◌, map, get_or, Option, unwrap_or, option_map}
+use Rattle.std.specs.Prelude.{List, [], ◌∷◌, map, Option, unwrap_or, option_map}
 use Rattle.afl_base.specs.Files.{File, Table, no_file, place}
 use Rattle.db_model.specs.declared.schemas.Schema.{Schema}
 use Rattle.db_model.specs.declared.values.Value.{Value}
-use Rattle.db_model.specs.declared.values.Value.TheVariants.{Number}
 use Rattle.db_model.specs.Database.{Cursor, Database, Relation}
 use Rattle.db_model.specs.Row.{rows_of}
 use Rattle.cursor.specs.Pairs.{pairs_left}
 use Rattle.cursor.specs.Remaining.{remaining}
+pub use Rattle.reply_text.specs.Projected.{project, value_at}
 use Rattle.tuple_file.specs.declared.tuples.Tuples.{Tuples}
 use Rattle.tuple_file.specs.Tuples.{rows}
 use Rattle.session_model.specs.declared.held.Held.{Held}
@@ -27,13 +27,6 @@ abbrev pub relation_of_rows : Table → Tuples → Relation
 relation_of_rows files t = relation_of_file (place files t.file) t.schema
 
 -- ---- cursors
-
-abbrev pub value_at : List Value → ℕ → Value
-value_at tuple place = get_or tuple place (Number (pos 0))
-
--- the values at some places of a tuple
-abbrev pub project : List ℕ → List Value → List Value
-project places tuple = map (value_at tuple) places
 
 abbrev pub value_in : List Value × List Value → Side → Value
 value_in pair (Left place) = value_at pair.0 place

@@ -16,6 +16,10 @@ room_in files slot key = ((room_of (bytes_named (tree_file slot) files) key).ove
 abbrev pub WantsOver : (ℕ → ℕ → ℕ → ℕ → Type 0) → Table → Database → Command → ℕ → Type 0
 WantsOver asks files db command need = Wants (size_in files) (asks_in asks files) (room_in files) db command need
 
+-- it asks for none
+abbrev pub WantsNone : (ℕ → ℕ → ℕ → ℕ → Type 0) → Table → Database → Command → Type 0
+WantsNone asks files db command = (need : ℕ) → WantsOver asks files db command need → ⊥
+
 -- and for no more pages than its files may
 abbrev pub WantsFew : (ℕ → ℕ → ℕ → ℕ → Type 0) → Table → Database → Command → ℕ → Type 0
 WantsFew asks files db command need = WantsOver (asks_few asks files) files db command need

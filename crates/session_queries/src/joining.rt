@@ -168,8 +168,10 @@ fn join_rows<V: Files, K: Sink>(
     ensures frame { Recites V.Files K.Sink files.old files.new out.old out.new result }
 {
     let most = u32::from(cursor.left_slots) * u32::from(cursor.right_slots);
+    let mut left = Tuple::new();
+    let mut right = Tuple::new();
     for count in 0..most {
-        match join_next(files, tables, cursor, places, out) {
+        match join_next(files, tables, cursor, places, &mut left, &mut right, out) {
             Ok(found) => {
                 if !found {
                     return Ok(count);
@@ -181,12 +183,15 @@ fn join_rows<V: Files, K: Sink>(
     Ok(most)
 }
 
-// Writes the next pair, and answers false exactly where there is none.
+// Writes the next pair, and answers false exactly where there is none. Its tuples stand in `left` and
+// `right`, which are kept from pair to pair.
 fn join_next<V: Files, K: Sink>(
     files: &mut V,
     tables: &HashTables,
     cursor: &mut JoinCursor,
     places: &Few<Side, 8>,
+    left: &mut Tuple,
+    right: &mut Tuple,
     out: &mut K,
 ) -> Result<bool, Fault>
     requires may_read { MayReadPairs (V.state files.old) cursor.old }
@@ -213,15 +218,13 @@ fn join_next<V: Files, K: Sink>(
         → V.reads files.new ≤ V.reads files.old + join_cost_ahead cursor.old lefts rights) }
     ensures frame { Recites V.Files K.Sink files.old files.new out.old out.new result }
 {
-    let mut left = Tuple::new();
-    let mut right = Tuple::new();
-    match cursor.next(files, tables, &mut left, &mut right) {
+    match cursor.next(files, tables, left, right) {
         Ok(true) => {}
         Ok(false) => return Ok(false),
         Err(_) => return Err(Fault::Flash),
     }
     let mut row = Tuple::new();
-    project_pair(places, &left, &right, &mut row);
+    project_pair(places, left, right, &mut row);
     match write_row(out, &row) {
         Ok(()) => Ok(true),
         Err(_) => Err(Fault::Sink),

@@ -27,8 +27,8 @@ use afl_base::{Fault, Files, Sink};
 use cursor::SelectCursor;
 use db_model::{Condition, Few, Ident, Idents, Refusal, Tuple};
 use index_set::HashTables;
-use reply_text::{write_row, write_rows};
-use session_model::{Held, Outcome, project};
+use reply_text::{write_projected, write_rows};
+use session_model::{Held, Outcome};
 use session_plans::{SelectPlan, plan_select};
 
 /// A relation, and what a SELECT asks of it.
@@ -124,9 +124,8 @@ fn select_rows<V: Files, K: Sink>(
 {
     let mut count = 0;
     let mut tuple = Tuple::new();
-    let mut row = Tuple::new();
     'rows: loop {
-        match select_next(files, tables, cursor, places, &mut tuple, &mut row, out) {
+        match select_next(files, tables, cursor, places, &mut tuple, out) {
             Ok(found) => {
                 if !found {
                     break;
@@ -142,15 +141,14 @@ fn select_rows<V: Files, K: Sink>(
     }
 }
 
-// Writes the next row, and answers false exactly where there is none. Its tuple and its values stand in
-// `tuple` and `row`, which are kept from row to row.
+// Writes the next row, and answers false exactly where there is none. Its tuple stands in `tuple`, which is
+// kept from row to row.
 fn select_next<V: Files, K: Sink>(
     files: &mut V,
     tables: &HashTables,
     cursor: &mut SelectCursor,
     places: &Few<u8, 8>,
     tuple: &mut Tuple,
-    row: &mut Tuple,
     out: &mut K,
 ) -> Result<bool, Fault>
     requires may_read { MayRead (V.state files.old) cursor.old.tuples cursor.old.candidates }
@@ -181,8 +179,7 @@ fn select_next<V: Files, K: Sink>(
         Ok(None) => return Ok(false),
         Err(_) => return Err(Fault::Flash),
     }
-    project(places, tuple, row);
-    match write_row(out, row) {
+    match write_projected(out, places.as_slice(), tuple) {
         Ok(()) => Ok(true),
         Err(_) => Err(Fault::Sink),
     }

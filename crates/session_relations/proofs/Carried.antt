@@ -6,6 +6,7 @@ use Rattle.afl_base.specs.declared.files.Files.{Ghosts as FilesOf}
 use Rattle.afl_base.specs.declared.kind.FileError.{FileError}
 use Rattle.afl_base.specs.declared.kind.FileError.TheVariants.{Space, Failed as FileFailed}
 use Rattle.afl_base.specs.Keeping.{ChangesOrLacks}
+use Rattle.afl_base.specs.Sparing.{TakesNoPage}
 use Rattle.db_model.specs.declared.commands.Command.{Command}
 use Rattle.db_model.specs.Ahead.{is_refused, moved}
 use Rattle.db_model.specs.Database.{Database}
@@ -16,7 +17,7 @@ use Rattle.session_model.specs.declared.held.Held.{Held}
 use Rattle.session_model.specs.Answers.{Changed}
 use Rattle.session_model.specs.Carried.{Carries, IsEither, Tells, aheads, database}
 use Rattle.session_model.specs.View.{view}
-use Rattle.session_model.specs.Wanted.{WantsFew}
+use Rattle.session_model.specs.Wanted.{WantsFew, WantsNone}
 use Rattle.stored.specs.Mended.{MendsToDatabase}
 use Rattle.session_relations.specs.Changes.{Shows}
 use Rattle.session_relations.proofs.Answered.{answers_fine, answers_space}
@@ -27,14 +28,16 @@ use Rattle.session_model.proofs.CutCatalogs.{either_mends}
 module _ {V : Type 0} (v : FilesOf V) (command : Command) (made : Outcome) (old : Base V) (files : V) (held : Held)
     (is : outcome (database v old) command ≡ upgraded made) (stays : moved (database v old) (aheads v old) command ≡ aheads v old) (changes : Reads command → ⊥) where
   pub carries_fine : {T : Type 0} {r : Result T FileError} (db : Database) → made ≡ Ok (db, Fine) → Shows (v.state old.files) (v.state files) old.tables held old.opens (record db { version = 2 })
+      → (Tells v old → WantsNone (v.asks old.files) (v.state old.files).files (database v old) command → TakesNoPage v.is_free (v.state old.files).store (v.state files).store)
       → ChangesOrLacks v.state v.lent v.reads v.faults v.lacks old.files files r → Carries v command old (record old { files = files; held = held }) (Ok answer.Fine)
-  carries_fine db e shows frame = record {
+  carries_fine db e shows spares frame = record {
     done = λ told. is ∙ answers_fine made (database v old) _ db e (shows.seen told);
     running = shows.running;
     ahead = λ told. ahead_stays (is_refused ((step (database v old) command).1)) (aheads v old) _ _ stays (shows.aheads told);
     tells = shows.tells;
     wants = λ told. tt;
     lacks = tt;
+    spares = spares;
     cut = λ cuts told. tt;
     untouched = tt;
     same = λ reads. absurd (changes reads);
@@ -52,6 +55,7 @@ module _ {V : Type 0} (v : FilesOf V) (command : Command) (made : Outcome) (old 
     tells = shows.tells;
     wants = wants;
     lacks = frame.lacks;
+    spares = λ told none. tt;
     cut = λ cuts told. tt;
     untouched = tt;
     same = λ reads. absurd (changes reads);
@@ -70,6 +74,7 @@ module _ {V : Type 0} (v : FilesOf V) (command : Command) (made : Outcome) (old 
     tells = tt;
     wants = λ told. tt;
     lacks = tt;
+    spares = λ told none. tt;
     cut = λ cuts told. either_mends command made (database v old) db is e (cut cuts told);
     untouched = tt;
     same = λ reads. absurd (changes reads);

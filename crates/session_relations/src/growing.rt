@@ -2,11 +2,12 @@
 
 #![tactic(auto)]
 
-ghost use Rattle.std.specs.Prelude.{◌≡◌, ◌<◌, ℕ, List, Option, [], Err, IfErr, IfOk, IfSome, IsErrOf, IsSome, IsTrue, None, Ok, OnOk, Some, get_or, length};
+ghost use Rattle.std.specs.Prelude.{◌≡◌, ◌*◌, ◌<◌, ℕ, List, Option, [], Err, IfErr, IfOk, IfSome, IsErrOf, IsSome, IsTrue, None, Ok, OnOk, Some, get_or, length};
 ghost use Rattle.afl_base.specs.CutFiles.{MendsToState};
 ghost use Rattle.afl_base.specs.Keeping.{ChangesOrLacks};
 ghost use Rattle.afl_base.specs.FileErrors.{OnSpace};
 ghost use Rattle.afl_base.specs.Files.{KeepsBytes};
+ghost use Rattle.afl_base.specs.Sparing.{SparesWhere};
 ghost use Rattle.catalog.specs.CatalogFile.{PutsRelation};
 ghost use Rattle.db_model.specs.declared.commands.Command.TheVariants as command;
 ghost use Rattle.db_model.specs.Catalog.{IsDomain};
@@ -15,6 +16,7 @@ ghost use Rattle.db_model.specs.Row.{Row};
 ghost use Rattle.db_model.specs.Step.{Fine, add_attribute, domain_asked};
 ghost use Rattle.db_model.specs.Typing.{is_attribute};
 ghost use Rattle.session_model.specs.Carried.{Carries, IsEither, Runs};
+ghost use Rattle.session_model.specs.Frames.{AsksNoExtent};
 ghost use Rattle.session_model.specs.Running.{HasCatalogFile, IsRunning};
 ghost use Rattle.session_model.specs.View.{view};
 ghost use Rattle.session_relations.specs.Changes.{AsksRelationSlot, Grows, IsLonger, MayPutSlot, Shows, changed_at};
@@ -195,6 +197,8 @@ fn grow_relation<V: Files>(
     ensures held { OnSpace result (λ _. held.new ≡ held.old) }
     ensures asked { OnSpace result (λ need.
         AsksRelationSlot (V.asks files.new) (V.state files.new).files at.now.cat at.now.slot need) }
+    ensures spares { let asks = AsksNoExtent (V.asks files.old) (V.state files.old).files at.now.cat in
+        SparesWhere V.is_free (asks (176 * at.now.slot) 176) (V.state files.old) (V.state files.new) result }
     ensures cut { let old = view (V.state files.old).files held.old opens.now in IsTrue V.cuts
         → IsTrue (V.state files.old).tells → IsErrOf result FileError.Failed
         → MendsToDatabase V.mends (V.state files.new).store (IsEither old
@@ -218,6 +222,8 @@ fn put_slot<V: Files>(files: &mut V, at: &Place, schema: &Schema) -> Result<(), 
         KeepsBytes (V.state files.old) (V.state files.new) at.now.cat) }
     ensures asked { OnSpace result (λ need.
         AsksRelationSlot (V.asks files.new) (V.state files.new).files at.now.cat at.now.slot need) }
+    ensures spares { let asks = AsksNoExtent (V.asks files.old) (V.state files.old).files at.now.cat in
+        SparesWhere V.is_free (asks (176 * at.now.slot) 176) (V.state files.old) (V.state files.new) result }
     ensures cut { IsTrue V.cuts → IsTrue (V.state files.old).tells → IsErrOf result FileError.Failed
         → MendsToState V.mends (V.state files.new).store
         (λ after. MayPutSlot (V.state files.old) after at.now.cat at.now.slot (Some schema.now)) }

@@ -2,14 +2,16 @@
 
 #![tactic(auto)]
 
-ghost use Rattle.std.specs.Prelude.{◌≡◌, ◌≤◌, Err, IfNone, IfSome, IsErrOf, IsSome, IsTrue, None, Ok, OnOk, Some, [], get_or, length, map, option_map};
+ghost use Rattle.std.specs.Prelude.{◌≡◌, ◌*◌, ◌≤◌, Err, IfNone, IfSome, IsErrOf, IsSome, IsTrue, None, Ok, OnOk, Some, [], get_or, length, map, option_map};
 ghost use Rattle.afl_base.specs.CutFiles.{MendsToState};
 ghost use Rattle.afl_base.specs.Keeping.{ChangesOrLacks};
 ghost use Rattle.afl_base.specs.FileErrors.{OnSpace};
 ghost use Rattle.afl_base.specs.Files.{IsNamed, IsUnnamed, KeepsBytes, Table};
+ghost use Rattle.afl_base.specs.Sparing.{SparesWhere};
 ghost use Rattle.db_model.specs.declared.commands.Command.TheVariants as command;
 ghost use Rattle.db_model.specs.Database.{reader_from, with_relation};
 ghost use Rattle.session_model.specs.Carried.{Carries, IsEither, Runs};
+ghost use Rattle.session_model.specs.Frames.{AsksNoExtent};
 ghost use Rattle.session_model.specs.Running.{HasCatalogFile, IsRunning};
 ghost use Rattle.session_model.specs.View.{cursor_in, view};
 ghost use Rattle.session_relations.specs.Changes.{AsksRelationSlot, MayTakeSlot, PutsSlot, Shows, changed_at, indexes_on, refuse_removal};
@@ -93,6 +95,8 @@ fn take_relation<V: Files>(
     ensures held { OnSpace result (λ _. held.new ≡ held.old) }
     ensures asked { OnSpace result (λ need.
         AsksRelationSlot (V.asks files.new) (V.state files.new).files at.now.cat at.now.slot need) }
+    ensures spares { let asks = AsksNoExtent (V.asks files.old) (V.state files.old).files at.now.cat in
+        SparesWhere V.is_free (asks (176 * at.now.slot) 176) (V.state files.old) (V.state files.new) result }
     ensures cut { let old = view (V.state files.old).files held.old opens.now in IsTrue V.cuts
         → IsTrue (V.state files.old).tells → IsErrOf result FileError.Failed
         → MendsToDatabase V.mends (V.state files.new).store
@@ -122,6 +126,8 @@ fn take_slot<V: Files>(files: &mut V, at: &Place, rows: FileId) -> Result<(), Fi
         KeepsBytes (V.state files.old) (V.state files.new) at.now.cat) }
     ensures asked { OnSpace result (λ need.
         AsksRelationSlot (V.asks files.new) (V.state files.new).files at.now.cat at.now.slot need) }
+    ensures spares { let asks = AsksNoExtent (V.asks files.old) (V.state files.old).files at.now.cat in
+        SparesWhere V.is_free (asks (176 * at.now.slot) 176) (V.state files.old) (V.state files.new) result }
     ensures cut { IsTrue V.cuts → IsTrue (V.state files.old).tells → IsErrOf result FileError.Failed
         → MendsToState V.mends (V.state files.new).store
         (λ after. MayTakeSlot (V.state files.old) after at.now.cat at.now.slot) }

@@ -9,6 +9,7 @@ use Rattle.afl_base.specs.declared.kind.FileError.TheVariants.{Failed as FileFai
 use Rattle.afl_base.specs.CutFiles.{MendsToState}
 use Rattle.afl_base.specs.Files.{Table}
 use Rattle.afl_base.specs.Keeping.{Changes, ChangesOrLacks}
+use Rattle.afl_base.specs.Sparing.{TakesNoPage}
 use Rattle.afl_base.proofs.FrameLaws.{spares_fewer}
 use Rattle.db_model.specs.declared.commands.Command.{Command}
 use Rattle.db_model.specs.declared.commands.Command.TheVariants as command
@@ -27,13 +28,13 @@ use Rattle.session_model.specs.declared.answer.Answer.{Answer}
 use Rattle.session_model.specs.declared.base.Base.{Base}
 use Rattle.session_model.specs.declared.held.Held.{Held}
 use Rattle.session_model.specs.declared.held.Open.{Open}
-use Rattle.session_model.specs.Answers.{Changed, OnNoSpace, OnNothing}
+use Rattle.session_model.specs.Answers.{Changed, OnDone, OnNoSpace, OnNothing}
 use Rattle.session_model.specs.Carried.{Carries, MendsBetween, Runs, Tells, aheads, database}
 use Rattle.session_model.specs.Cells.{cell_from}
 use Rattle.session_model.specs.Frames.{StaysAt}
 use Rattle.session_model.specs.Indexed.{infos_of}
 use Rattle.session_model.specs.View.{relation_of_rows, view}
-use Rattle.session_model.specs.Wanted.{WantsFew}
+use Rattle.session_model.specs.Wanted.{WantsFew, WantsNone}
 use Rattle.session_model.proofs.ReadAs.{rows_alike}
 use Rattle.session_model.proofs.Views.{gives_of_one, named_some, view_set}
 use Rattle.session_model.proofs.Wanted.{relation_seen}
@@ -50,9 +51,11 @@ pub carries_of_one : {V : Type 0} (v : FilesOf V) (command : Command) (change : 
     → (Tells v old → Changed (change k (database v old) (relation_of_rows (v.state old.files).files t)) (relation_of_rows (v.state old.files).files t) (relation_of_rows (v.state files).files t) a)
     → RunsOn (v.state old.files) (v.state files) tables old.held old.opens k
     → (Tells v old → OnNoSpace {E = Failed} (Ok a) (λ need. WantsFew (v.asks files) (v.state files).files (view (v.state files).files old.held old.opens) command need))
-    → OnNoSpace {E = Failed} (Ok a) (λ need. v.lacks files need) → OnNothing {E = Failed} (Ok a) (v.state files ≡ v.state old.files)
+    → OnNoSpace {E = Failed} (Ok a) (λ need. v.lacks files need)
+    → (Tells v old → WantsNone (v.asks old.files) (v.state old.files).files (database v old) command → OnDone {E = Failed} (Ok a) (TakesNoPage v.is_free (v.state old.files).store (v.state files).store))
+    → OnNothing {E = Failed} (Ok a) (v.state files ≡ v.state old.files)
     → Changes {E = Failed} v.state v.lent v.reads v.faults old.files files (Ok a) → Carries v command old (record old { files = files; tables = tables }) (Ok a)
-carries_of_one v command change name old files tables k t a is stays changes cell there made runs wants lacks untouched frame = record {
+carries_of_one v command change name old files tables k t a is stays changes cell there made runs wants lacks spares untouched frame = record {
   done = λ told. subst (λ o. Changed o (database v old) (view (v.state files).files old.held old.opens) a) (sym is)
       (gives_of_one change (v.state old.files).files (v.state files).files old.held old.held old.opens name k t a cell (one_of (v.state old.files) (v.state files) tables old.held old.opens k t there runs told) (made told));
   running = runs.running;
@@ -60,6 +63,7 @@ carries_of_one v command change name old files tables k t a is stays changes cel
   tells = runs.tells;
   wants = wants;
   lacks = lacks;
+  spares = spares;
   cut = λ cuts told. tt;
   untouched = untouched;
   same = λ reads. absurd (changes reads);
@@ -82,6 +86,7 @@ carries_failed {T = T} v command old new r e q was is changes cut frame =
       tells = tt;
       wants = λ told. tt;
       lacks = tt;
+      spares = λ told never. tt;
       cut = left;
       untouched = tt;
       same = λ reads. absurd (changes reads);

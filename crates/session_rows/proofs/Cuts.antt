@@ -1,10 +1,11 @@
 -- What a cut leaves of one relation, where calls follow one another.
-use Rattle.std.proofs.Common.{◌≡◌, ◌≢◌, ℕ, suc, ◌<◌, ◌≤◌, List, [], ◌∷◌, ◌++◌, length, map, get_or, take, drop, set, Option, Ok, Err, true, refl, ap, sym, ◌∙◌, arith, inl, inr, IsTrue}
+use Rattle.std.proofs.Common.{◌≡◌, ◌≢◌, ℕ, suc, ◌<◌, ◌≤◌, List, [], ◌∷◌, ◌++◌, length, map, get_or, take, drop, set, Option, Ok, Err, true, refl, ap, subst, sym, ◌∙◌, arith, inl, inr, IsTrue}
 use Rattle.std.specs.Prelude.{IsErrAnd, IsErrOf, Result, unwrap_or}
 use Rattle.std.proofs.Math.Logic.{⊎_elim}
 use Rattle.std.proofs.lemmas.List.{append-nil, drop_all, take_all}
 use Rattle.afl_base.specs.declared.kind.FileError.{FileError}
-use Rattle.afl_base.specs.declared.kind.FileError.TheVariants.{Failed}
+use Rattle.afl_base.specs.declared.kind.FileError.TheVariants.{Failed, Space}
+use Rattle.afl_base.specs.FileErrors.{UnlessFailed}
 use Rattle.afl_base.specs.Files.{File, State, bytes_at, no_file}
 use Rattle.afl_base.specs.Frames.{Prepares, SparesOthers}
 use Rattle.afl_base.proofs.FrameLaws.{spares_fewer, spares_same, spares_then}
@@ -36,6 +37,13 @@ failed_too {U = U} q e is failed =
     let same : ◌≡◌ {A = Result U FileError} (Err e) (Err Failed) = sym (err_is q e is) ∙ failed in
     let inner : e ≡ Failed = cc in
     ap (λ (x : FileError). Err x) inner
+
+on_error : (T U : Type 0) {P Q : Type 0} (e : FileError) → (P → Q) → UnlessFailed {T = T} (Err e) P → UnlessFailed {T = U} (Err e) Q
+on_error T U (Space need) f h = f h
+on_error T U Failed f h = tt
+
+pub unless_too : {T U P Q : Type 0} (call : Result T FileError) (q : Result U FileError) (e : FileError) → IsErrAnd q (λ y. y ≡ e) → (P → Q) → UnlessFailed {T = T} (Err e) P → UnlessFailed q Q
+unless_too {T = T} {U = U} {Q = Q} call q e is f h = subst (λ (r : Result U FileError). UnlessFailed r Q) (sym (err_is q e is)) (on_error T U e f h)
 
 -- ---- a row that is added
 

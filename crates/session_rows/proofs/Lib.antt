@@ -11,3 +11,4 @@ pub mod Fronts
 pub mod Marked
 pub mod Removes
 pub mod Refusals
+pub mod Unwanted

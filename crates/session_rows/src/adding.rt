@@ -2,13 +2,14 @@
 
 #![tactic(auto)]
 
-ghost use Rattle.std.specs.Prelude.{◌≡◌, ◌<◌, ◌≤◌, None, IsErrOf, IsTrue, IfOk, OnErr, OnOk};
+ghost use Rattle.std.specs.Prelude.{◌≡◌, ◌<◌, ◌≤◌, ℕ, None, IsErrOf, IsTrue, IfOk, OnErr, OnOk};
 ghost use Rattle.afl_base.specs.CutFiles.{MendsToState};
 ghost use Rattle.afl_base.specs.Keeping.{Changes, ChangesOrLacks};
 ghost use Rattle.afl_base.specs.Asked.{asks_few};
 ghost use Rattle.afl_base.specs.FileErrors.{OnSpace, UnlessFailed};
 ghost use Rattle.afl_base.specs.Files.{file_at};
 ghost use Rattle.afl_base.specs.Frames.{Prepares};
+ghost use Rattle.afl_base.specs.Sparing.{SparesWhere, StandsStill, TakesNoPage, WantsNothing};
 ghost use Rattle.db_model.specs.Row.{AllSuit, row_length};
 ghost use Rattle.index_set.specs.Complete.{AreComplete, AreHeld};
 ghost use Rattle.index_set.specs.Inserts.{AreApart, AreOpenFor, AreRoomFor, HaveKeys, HaveRoom, IsNoTree, MayAllFollow};
@@ -55,6 +56,8 @@ pub(crate) fn add_row<V: Files>(
     ensures wants { let asks = asks_few (V.asks files.new) (V.state files.new).files in
         IsTrue (V.state files.old).tells → OnSpace result (λ need.
         WantsRow asks (V.state files.new) tuples.now indexes.now values.now need) }
+    ensures spares { let wants = WantsRow (V.asks files.old) (V.state files.old) tuples.now in
+        SparesWhere V.is_free (WantsNothing (wants indexes.now values.now)) (V.state files.old) (V.state files.new) result }
     ensures cut { IsTrue V.cuts → IsTrue (V.state files.old).tells → IsErrOf result FileError.Failed
         → MendsToState V.mends (V.state files.new).store
         (λ after. MayAddRow (V.state files.old) after tuples.now indexes.now values.now) }
@@ -91,6 +94,9 @@ fn prepare_row<V: Files>(
     ensures wants { let asks = asks_few (V.asks files.new) (V.state files.new).files in
         IsTrue (V.state files.old).tells → OnSpace result (λ need.
         WantsRow asks (V.state files.new) tuples.now indexes.now values.now need) }
+    ensures still { IsTrue (V.state files.old).tells → ((need : ℕ)
+        → WantsRow (V.asks files.old) (V.state files.old) tuples.now indexes.now values.now need → ⊥)
+        → OnOk result (StandsStill V.state V.asks files.old files.new) }
     ensures cut { let stays = StaysAt tuples.now.file indexes.now in
         IsTrue V.cuts → IsTrue (V.state files.old).tells → IsErrOf result FileError.Failed
         → MendsToState V.mends (V.state files.new).store
@@ -133,6 +139,8 @@ fn write_row<V: Files>(
         → AreRoomFor (V.state files.old) values.now rooms.now indexes.now
         → MayAllFollow all values.now indexes.now
         → AreComplete (V.state files.new) tables.new now indexes.now) }
+    ensures spares { IsTrue (V.state files.old).tells → OnOk result
+        (TakesNoPage V.is_free (V.state files.old).store (V.state files.new).store) }
     ensures cut { IsTrue V.cuts → IsTrue (V.state files.old).tells → OnErr result
         (MendsToState V.mends (V.state files.new).store
         (λ after. MayAddRow (V.state files.old) after tuples.now indexes.now values.now)) }

@@ -6,13 +6,14 @@ ghost use Rattle.std.specs.Prelude.{◌≡◌, ◌≤◌, ◌⊎◌, ℕ, IfOk, 
 ghost use Rattle.afl_base.specs.CutFiles.{MendsToState};
 ghost use Rattle.afl_base.specs.Keeping.{Changes};
 ghost use Rattle.afl_base.specs.Asked.{asks_few};
+ghost use Rattle.afl_base.specs.Sparing.{WantsNothing};
 ghost use Rattle.db_model.specs.declared.commands.Command.TheVariants as command;
 ghost use Rattle.db_model.specs.Database.{Database, indexes_of};
 ghost use Rattle.db_model.specs.Step.{insert_into, slots_limit};
 ghost use Rattle.index_set.specs.Complete.{AreHeld};
 ghost use Rattle.index_set.specs.Inserts.{AreApart, IsNoTree};
 ghost use Rattle.tuple_file.specs.Tuples.{HoldsRows, slots};
-ghost use Rattle.session_model.specs.Answers.{Changed, OnNoSpace, OnNothing};
+ghost use Rattle.session_model.specs.Answers.{Changed, OnNoSpace, OnNothing, SparesDone};
 ghost use Rattle.session_model.specs.Frames.{WantsRow};
 ghost use Rattle.session_model.specs.Indexed.{AreAllowed, index_of_info, infos_of};
 ghost use Rattle.session_model.specs.Carried.{Carries, Runs};
@@ -81,6 +82,9 @@ fn insert_at<V: Files>(
         IsTrue (V.state files.old).tells → OnNoSpace result (λ need.
         WantsRow asks (V.state files.new) tuples.now infos values.now need) }
     ensures lacks { OnNoSpace result (λ need. V.lacks files.new need) }
+    ensures spares { let wants = WantsRow (V.asks files.old) (V.state files.old) tuples.now in
+        SparesDone V.is_free (WantsNothing (wants (infos_of k tuples.now held.now.indexes) values.now))
+        (V.state files.old) (V.state files.new) result }
     ensures cut { let old = V.state files.old in let r = relation_of_rows old.files tuples.now in
         let infos = infos_of k tuples.now held.now.indexes in
         let made = insert_into values.now k (view old.files held.now opens.now) r in
@@ -125,6 +129,8 @@ fn insert_row<V: Files>(
         IsTrue (V.state files.old).tells → OnNoSpace result (λ need.
         WantsRow asks (V.state files.new) tuples.now indexes.now values.now need) }
     ensures lacks { OnNoSpace result (λ need. V.lacks files.new need) }
+    ensures spares { let wants = WantsRow (V.asks files.old) (V.state files.old) tuples.now in
+        SparesDone V.is_free (WantsNothing (wants indexes.now values.now)) (V.state files.old) (V.state files.new) result }
     ensures cut { let old = V.state files.old in let r = relation_of_rows old.files tuples.now in
         IsTrue V.cuts → IsTrue old.tells → OnErr result ((k : ℕ) (db : Database)
         → db.version ≡ version → indexes_of db k ≡ map (index_of_info k) indexes.now

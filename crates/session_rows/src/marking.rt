@@ -2,7 +2,7 @@
 
 #![tactic(auto)]
 
-ghost use Rattle.std.specs.Prelude.{◌≡◌, ◌≢◌, ◌<◌, ◌≤◌, [], IsErrOf, IsTrue, None, OnErr, OnOk, Option, length, map};
+ghost use Rattle.std.specs.Prelude.{◌≡◌, ◌≢◌, ◌<◌, ◌≤◌, [], ℕ, IsErrOf, IsTrue, None, OnErr, OnOk, Option, length, map};
 ghost use Rattle.afl_base.specs.CutFiles.{MendsToState};
 ghost use Rattle.afl_base.specs.Keeping.{Changes, ChangesOrLacks};
 ghost use Rattle.afl_base.specs.Asked.{asks_few};
@@ -10,6 +10,7 @@ ghost use Rattle.afl_base.specs.FileErrors.{OnSpace};
 ghost use Rattle.afl_base.specs.Files.{file_at, size_at};
 ghost use Rattle.afl_base.specs.Fit.{fit};
 ghost use Rattle.afl_base.specs.Frames.{Prepares};
+ghost use Rattle.afl_base.specs.Sparing.{SparesWhere, TakesNoPage, WantsNothing};
 ghost use Rattle.db_model.specs.Cond.{Cond};
 ghost use Rattle.db_model.specs.Step.{removed_row};
 ghost use Rattle.lvm.specs.Code.{IsCodeOf};
@@ -55,6 +56,9 @@ pub(crate) fn remove_selected<V: Files>(
         WantsRemoval asks tuples.now.file selected.now.count records size need) }
     ensures none { selected.now.count ≡ 0 → length selected.now.first ≡ 0
         → OnOk result (V.state files.new ≡ V.state files.old) }
+    ensures spares { let size = size_at (V.state files.old).files tuples.now.file in
+        let wants = WantsRemoval (V.asks files.old) tuples.now.file selected.now.count in
+        SparesWhere V.is_free (WantsNothing (wants (length selected.now.first) size)) (V.state files.old) (V.state files.new) result }
     ensures cut { let attributes = tuples.now.schema.attributes in
         let all = rows (V.state files.old).files tuples.now in
         IsTrue V.cuts → IsTrue (V.state files.old).tells → IsErrOf result FileError.Failed
@@ -92,6 +96,8 @@ fn mark_slots<V: Files>(
     ensures asked { let asks = asks_few (V.asks files.new) (V.state files.new).files in
         OnSpace result (λ need. asks tuples.now.file (length slots.now) 0 need) }
     ensures none { length slots.now ≡ 0 → OnOk result (V.state files.new ≡ V.state files.old) }
+    ensures spares { let asks = V.asks files.old tuples.now.file (length slots.now) 0 in
+        SparesWhere V.is_free ((need : ℕ) → 1 ≤ length slots.now → asks need → ⊥) (V.state files.old) (V.state files.new) result }
     ensures cut { IsTrue V.cuts → IsTrue (V.state files.old).tells → IsErrOf result FileError.Failed
         → MendsToState V.mends (V.state files.new).store
         (λ after. MayMarkRows (V.state files.old) after tuples.now slots.now) }
@@ -120,6 +126,8 @@ fn mark_rows<V: Files>(
         (rows (V.state files.new).files tuples.now ≡ marked slots.now all) }
     ensures replaces { OnOk result
         (ReplacesRows (V.state files.old) (V.state files.new) tuples.now) }
+    ensures spares { IsTrue (V.state files.old).tells → OnOk result
+        (TakesNoPage V.is_free (V.state files.old).store (V.state files.new).store) }
     ensures cut { IsTrue V.cuts → IsTrue (V.state files.old).tells → OnErr result
         (MendsToState V.mends (V.state files.new).store
         (λ after. MayMarkRows (V.state files.old) after tuples.now slots.now)) }

@@ -5,10 +5,11 @@
 ghost use Rattle.std.specs.Prelude.{◌≡◌, IfOk, IfSome, IsTrue, None, OnErr, OnOk, Some, get_or};
 ghost use Rattle.afl_base.specs.CutFiles.{MendsToState};
 ghost use Rattle.afl_base.specs.Keeping.{Changes};
+ghost use Rattle.afl_base.specs.Sparing.{WantsNothing};
 ghost use Rattle.db_model.specs.declared.commands.Command.TheVariants as command;
 ghost use Rattle.db_model.specs.Database.{relation_named};
 ghost use Rattle.db_model.specs.Step.{pack as pack_in};
-ghost use Rattle.session_model.specs.Answers.{Changed, OnNoSpace, OnNothing};
+ghost use Rattle.session_model.specs.Answers.{Changed, OnNoSpace, OnNothing, SparesDone};
 ghost use Rattle.session_model.specs.Carried.{Carries, Runs, Tells, database};
 ghost use Rattle.session_model.specs.Indexed.{infos_of};
 ghost use Rattle.session_model.specs.Running.{IsRunning};
@@ -69,6 +70,8 @@ fn pack_at<V: Files>(
     ensures wants { let new = relation_of_rows (V.state files.new).files tuples.now in
         IsTrue (V.state files.old).tells → OnNoSpace result (λ need. WantsPackedRows new need) }
     ensures lacks { OnNoSpace result (λ need. V.lacks files.new need) }
+    ensures spares { let wants = WantsPackedRows (relation_of_rows (V.state files.old).files tuples.now) in
+        SparesDone V.is_free (WantsNothing wants) (V.state files.old) (V.state files.new) result }
     ensures cut { let old = V.state files.old in let r = relation_of_rows old.files tuples.now in
         let infos = infos_of k tuples.now held.now.indexes in
         let made = pack_in k (view old.files held.now opens.now) r in

@@ -2,27 +2,25 @@
 
 #![tactic(auto)]
 
-ghost use Rattle.std.specs.Prelude.{◌≡◌, IfOk, IsOk, IsTrue, None, OnErr, OnOk, Option, Some, get_or, length};
+ghost use Rattle.std.specs.Prelude.{◌≡◌, IfOk, IsOk, IsTrue, None, OnErr, OnOk, Some, get_or};
 ghost use Rattle.afl_base.specs.CutFiles.{MendsToState};
 ghost use Rattle.afl_base.specs.Keeping.{Changes};
 ghost use Rattle.afl_base.specs.Asked.{asks_few};
-ghost use Rattle.afl_base.specs.Files.{size_at};
+ghost use Rattle.afl_base.specs.Sparing.{TakesNoPage, WantsNothing};
 ghost use Rattle.db_model.specs.declared.commands.Command.TheVariants as command;
-ghost use Rattle.db_model.specs.Answers.{selected};
-ghost use Rattle.db_model.specs.Cond.{Cond, IsCondition, condition_of};
+ghost use Rattle.db_model.specs.Cond.{IsCondition, condition_of};
 ghost use Rattle.db_model.specs.Step.{remove_from as remove_in};
-ghost use Rattle.index_set.specs.Complete.{AreIndexesOf, AreReadable};
-ghost use Rattle.lvm.specs.Code.{IsCodeOf};
+ghost use Rattle.index_set.specs.Complete.{AreReadable};
 ghost use Rattle.tuple_file.specs.Tuples.{HoldsRows, rows, slots};
 ghost use Rattle.cursor.specs.Remaining.{AreOnNumbers};
-ghost use Rattle.session_model.specs.Answers.{Changed, OnNoSpace, OnNothing};
+ghost use Rattle.session_model.specs.Answers.{Changed, OnDone, OnNoSpace, OnNothing, SparesDone};
 ghost use Rattle.session_model.specs.Carried.{Carries, Runs};
 ghost use Rattle.session_model.specs.Running.{IsRunning};
 ghost use Rattle.session_model.specs.View.{relation_of_rows, view};
 ghost use Rattle.session_rows.specs.Changes.{ReplacesRows, RunsOn};
 ghost use Rattle.session_rows.specs.CutRows.{MayRemove};
 ghost use Rattle.session_rows.specs.Removals.{IsRemoval};
-ghost use Rattle.session_rows.specs.Wanted.{WantsRemoval};
+ghost use Rattle.session_rows.specs.Wanted.{OfCode, WantsRemovalBy};
 
 use crate::finding::relation_at;
 use crate::marking::remove_selected;
@@ -86,16 +84,14 @@ fn remove_at<V: Files>(
     ensures goes_on { OnOk result
         (RunsOn (V.state files.old) (V.state files.new) tables.now held.now opens.now k) }
     ensures wants { let asks = asks_few (V.asks files.new) (V.state files.new).files in
-        let attributes = tuples.now.schema.attributes in
-        let all = rows (V.state files.new).files tuples.now in
-        let count = length (selected attributes (condition_of condition.now) all) in
-        let size = size_at (V.state files.new).files tuples.now.file in
-        IsTrue (V.state files.old).tells → OnNoSpace result (λ need.
-        WantsRemoval asks tuples.now.file count count size need) }
+        IsTrue (V.state files.old).tells → OnNoSpace result
+        (WantsRemovalBy asks (V.state files.new) tuples.now (condition_of condition.now)) }
     ensures lacks { OnNoSpace result (λ need. V.lacks files.new need) }
     ensures accepted { let old = (V.state files.old).files in
         let made = remove_in (condition_of condition.now) k in
         OnErr result (IsOk (made (view old held.now opens.now) (relation_of_rows old tuples.now))) }
+    ensures spares { let wants = WantsRemovalBy (V.asks files.old) (V.state files.old) tuples.now in
+        SparesDone V.is_free (WantsNothing (wants (condition_of condition.now))) (V.state files.old) (V.state files.new) result }
     ensures cut { IsTrue V.cuts → IsTrue (V.state files.old).tells → OnErr result
         (MendsToState V.mends (V.state files.new).store
         (λ after. MayRemove (V.state files.old) after tuples.now (condition_of condition.now))) }
@@ -130,30 +126,24 @@ fn remove_rows<V: Files>(
     ensures removed { let attributes = tuples.now.schema.attributes in
         let old = rows (V.state files.old).files tuples.now in
         let new = rows (V.state files.new).files tuples.now in
-        IsTrue (V.state files.old).tells → IfOk result (λ answer. (condition : Option Cond)
-        → IsCodeOf attributes condition code
-        → AreIndexesOf (V.state files.old) tables.now old indexes.now
-        → IsRemoval attributes condition old new answer) }
+        IsTrue (V.state files.old).tells → IfOk result (λ answer.
+        OfCode code (V.state files.old) tables.now tuples.now indexes.now (λ condition.
+        IsRemoval attributes condition old new answer)) }
     ensures replaces { OnOk result
         (ReplacesRows (V.state files.old) (V.state files.new) tuples.now) }
     ensures wants { let asks = asks_few (V.asks files.new) (V.state files.new).files in
-        let attributes = tuples.now.schema.attributes in
-        let old = rows (V.state files.old).files tuples.now in
-        let all = rows (V.state files.new).files tuples.now in
-        let size = size_at (V.state files.new).files tuples.now.file in
-        IsTrue (V.state files.old).tells → OnNoSpace result (λ need. (condition : Option Cond)
-        → IsCodeOf attributes condition code
-        → AreIndexesOf (V.state files.old) tables.now old indexes.now
-        → WantsRemoval asks tuples.now.file (length (selected attributes condition all))
-        (length (selected attributes condition all)) size need) }
+        IsTrue (V.state files.old).tells → OnNoSpace result (λ need.
+        OfCode code (V.state files.old) tables.now tuples.now indexes.now (λ condition.
+        WantsRemovalBy asks (V.state files.new) tuples.now condition need)) }
     ensures lacks { OnNoSpace result (λ need. V.lacks files.new need) }
-    ensures cut { let attributes = tuples.now.schema.attributes in
-        let all = rows (V.state files.old).files tuples.now in
-        IsTrue V.cuts → IsTrue (V.state files.old).tells → OnErr result ((condition : Option Cond)
-        → IsCodeOf attributes condition code
-        → AreIndexesOf (V.state files.old) tables.now all indexes.now
-        → MendsToState V.mends (V.state files.new).store
-        (λ after. MayRemove (V.state files.old) after tuples.now condition)) }
+    ensures spares { let old = V.state files.old in IsTrue old.tells → OnDone result
+        (OfCode code old tables.now tuples.now indexes.now (λ condition.
+        WantsNothing (WantsRemovalBy (V.asks files.old) old tuples.now condition)
+        → TakesNoPage V.is_free old.store (V.state files.new).store)) }
+    ensures cut { IsTrue V.cuts → IsTrue (V.state files.old).tells → OnErr result
+        (OfCode code (V.state files.old) tables.now tuples.now indexes.now (λ condition.
+        MendsToState V.mends (V.state files.new).store
+        (λ after. MayRemove (V.state files.old) after tuples.now condition))) }
     ensures untouched { OnNothing result (V.state files.new ≡ V.state files.old) }
     ensures frame { Changes V.state V.lent V.reads V.faults files.old files.new result }
 {

@@ -1,24 +1,20 @@
 -- An image mends to one file of a name.
-use Rattle.std.proofs.Common.{◌≡◌, ℕ, zero, suc, ◌+◌, ◌*◌, ◌<◌, List, [], ◌∷◌, length, map, get_or, Option, Some, None, refl, ap, sym, subst, ◌∙◌, arith}
+use Rattle.std.proofs.Common.{◌≡◌, ℕ, zero, suc, ◌+◌, ◌*◌, ◌<◌, List, [], ◌∷◌, length, map, get_or, None, refl, ap, sym, subst, ◌∙◌, arith}
 use Rattle.std.specs.List.{Contains}
-use Rattle.afl_base.specs.declared.ids.PageId.{PageId}
 use Rattle.afl_base.proofs.Images.{length_or_at, length_zeros_at}
 use Rattle.coffee_cuts.specs.Cuts.{IsFound, MendsTo, UnderWay, Nothing, Beginning, Building, Erasing, Unnamed, Naming, Replacing, settled}
 use Rattle.coffee_cuts.proofs.SettledRules.{settled_kept}
 use Rattle.coffee_layout.specs.Files.{NamedFile, Placed, files_in, log_of, named_file}
 use Rattle.coffee_layout.specs.Rules.{first_repeated}
 use Rattle.coffee_layout.specs.Tiling.{units_of}
-use Rattle.coffee_merge.specs.Flags.{flagged, obsoleted}
+use Rattle.coffee_merge.specs.Flags.{flagged}
 use Rattle.coffee_merge.proofs.SoundEntries.{IsAt, at_same, one_place}
+use Rattle.coffee_cuts.proofs.TwoMarks.{obsoleted_long as gone_long}
 
 -- ---- the length of what is settled
 
 flagged_long : (image : List ℕ) (page flag : ℕ) → length (flagged image page flag) ≡ length image
 flagged_long image page flag = length_or_at image (256 * page + 9) (flag ∷ [])
-
-gone_long : (image : List ℕ) (page : ℕ) (log : Option PageId) → length (obsoleted image page log) ≡ length image
-gone_long image page None = flagged_long image page 4
-gone_long image page (Some log) = flagged_long (flagged image page 4) log.0 4 ∙ flagged_long image page 4
 
 settled_long : (image : List ℕ) (under_way : UnderWay) → IsFound image under_way → length (settled image under_way) ≡ length image
 settled_long image Nothing f = refl

@@ -26,11 +26,9 @@ use Rattle.padded.specs.Padded.{padded}
 use Rattle.stored.specs.Mended.{whole_bytes}
 use Rattle.stored.proofs.MendedBase.{slots_same, whole_long, whole_short, whole_sized}
 use Rattle.stored.proofs.MendedTables.{ReadsIndex, ReadsRelation, ReadsSame}
+pub use Rattle.catalog.proofs.PutRanges.{range_front as range_is}
 
 -- ---- ranges
-
-pub range_is : (xs : List ℕ) (a b : ℕ) → a ≤ b → slice_range xs a b ≡ drop a (take b xs)
-range_is xs a b h = let e : a + (b - a) ≡ b = omega (arith, h) in sym (drop-take a (b - a) xs) ∙ ap (λ (n : ℕ). drop a (take n xs)) e
 
 pub range_take : (xs : List ℕ) (n a b : ℕ) → a ≤ b → b ≤ n → slice_range (take n xs) a b ≡ slice_range xs a b
 range_take xs n a b h inside = range_is (take n xs) a b h ∙ ap (drop a) (take-take b n xs inside) ∙ sym (range_is xs a b h)

@@ -18,6 +18,7 @@ use Rattle.padded.proofs.Facts.{lt_false, lt_true}
 use Rattle.space_model.specs.FileNames.{bytes_named, is_there, rows_file, tree_file}
 use Rattle.stored.specs.Base.{relation_stored}
 use Rattle.stored.specs.Mended.{MendsToDatabase, mended_base, mended_catalog, mended_version, standing, whole_bytes, whole_catalog}
+pub use Rattle.db_model.proofs.Rows.{map_range_same as slots_same}
 
 -- ---- databases that are alike
 
@@ -51,12 +52,6 @@ alike_index a b i index e =
     alike_by (with_index a i index) (with_index b i index) (ap (λ (d : Database). d.relations) e) (ap (λ (d : Database). set d.indexes i index) e) (ap (λ (d : Database). d.cursors) e)
 
 -- ---- slots of lists that functions give
-
-pub slots_same : {X : Type 0} (f g : ℕ → X) (from n : ℕ) → ((k : ℕ) → from ≤ k → k < from + n → f k ≡ g k) → map f (range_with_len from n) ≡ map g (range_with_len from n)
-slots_same f g from zero h = refl
-slots_same f g from (suc n) h =
-    ap (λ x. x ∷ map f (range_with_len (from + 1) n)) (h from (omega arith) (omega arith))
-    ∙ ap (λ rest. g from ∷ rest) (slots_same f g (from + 1) n (λ k low high. h k (omega (arith, low)) (omega (arith, high))))
 
 -- all but one
 slots_but : {X : Type 0} (f g : ℕ → X) (from n at : ℕ) (x : X) → at < n → f (from + at) ≡ x → ((k : ℕ) → from ≤ k → k < from + n → k ≢ from + at → f k ≡ g k)

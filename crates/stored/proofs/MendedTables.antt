@@ -65,7 +65,7 @@ relation_there files slot r e = ⊎_elim
     absurd (none_some r (sym none ∙ e)))
     (cases_lt slot 8)
 
-read_schema : (o : Option Schema) (bytes : List ℕ) (r : Relation) → option_map (relation_read bytes) o ≡ Some r → o ≡ Some r.schema
+pub read_schema : (o : Option Schema) (bytes : List ℕ) (r : Relation) → option_map (relation_read bytes) o ≡ Some r → o ≡ Some r.schema
 read_schema None bytes r e = cc
 read_schema (Some schema) bytes r e = ap (option_map (λ (x : Relation). x.schema)) e
 

@@ -12,7 +12,7 @@ use Rattle.catalog.proofs.Decoding.{length-attributes}
 use Rattle.catalog.proofs.Named.{named_found, named_none}
 use Rattle.db_model.specs.declared.schemas.Schema.{Schema}
 use Rattle.db_model.specs.Catalog.{index_at, index_slot_bytes, relation_at, relation_slot_bytes, relation_slot_of, schema_of, version_of}
-use Rattle.db_model.specs.Database.{Database, Relation}
+use Rattle.db_model.specs.Database.{Database}
 use Rattle.space_model.specs.FileNames.{bytes_in_file, bytes_named, catalog_file, is_there, rows_file, tree_file}
 use Rattle.stored.specs.Mended.{mended_base, mended_version, standing, whole_bytes, whole_catalog}
 use Rattle.stored.proofs.CatalogParts.{overwritten_cleared, overwritten_index, relation_not_changed}
@@ -21,6 +21,7 @@ use Rattle.stored.proofs.MendedTables.{AreRowsKept, ReadsIndex, ReadsRelation, R
 use Rattle.stored_mend.specs.Mending.{HasInSlot, IsWholeCatalog, KeepsBase, MendsAsBefore, WantsMark}
 use Rattle.stored_mend.proofs.CatalogRead.{appended_reads, taken_back, version_by, version_marked}
 use Rattle.stored_mend.proofs.OneFile.{becomes_changes, catalog_changed}
+use Rattle.stored.proofs.MendedTables.{read_schema as schema_read}
 
 -- ---- steps
 
@@ -247,10 +248,6 @@ index_kept old new cat slot w below o tree unnamed = record {
     room long = omega (arith, long, below)
 
 -- ---- what is read of a slot stays
-
-schema_read : (o : Option Schema) (bytes : List ℕ) (r : Relation) → option_map (relation_read bytes) o ≡ Some r → o ≡ Some r.schema
-schema_read None bytes r e = cc
-schema_read (Some schema) bytes r e = ap (option_map (λ (x : Relation). x.schema)) e
 
 -- a relation that files mend to stays in its slot
 pub schema_kept : (old new : State) (slot : ℕ) (schema : Schema) → MendsAsBefore old new → slot < 8 → HasInSlot old slot (Some schema) → HasInSlot new slot (Some schema)

@@ -4,7 +4,7 @@ use Rattle.std.specs.Prelude.{slice_index, slice_range}
 use Rattle.std.specs.List.{list_any}
 use Rattle.std.proofs.Math.Logic.{⊎_elim}
 use Rattle.std.proofs.lemmas.Bool.{cases_eq, cases_lt}
-use Rattle.std.proofs.lemmas.List.{drop-drop, drop-take, get_or-drop, get_or-take, take-take, take_at}
+use Rattle.std.proofs.lemmas.List.{drop-drop, drop-take, get_or-drop, get_or-take, take-take}
 use Rattle.std.proofs.lemmas.List.Folds.{list_any_at}
 use Rattle.std.proofs.lemmas.List.FromFn.{get_or-map-range_with_len, length-map-range_with_len}
 use Rattle.afl_base.specs.Fields.{put_at}
@@ -15,9 +15,10 @@ use Rattle.db_model.specs.declared.schemas.IndexKind.TheVariants.{Inline, MaxHea
 use Rattle.db_model.specs.declared.schemas.Schema.{Schema}
 use Rattle.db_model.specs.Catalog.{catalog_of, index_at, index_slot_of, kind_from, relation_at, relation_slot_of, schema_of, version_of}
 use Rattle.stored.specs.Mended.{has_time, mended_version, whole_bytes}
-use Rattle.stored.proofs.CatalogParts.{range_is, same_reading}
+use Rattle.stored.proofs.CatalogParts.{same_reading}
 use Rattle.stored.proofs.MendedBase.{slots_same, whole_long}
 use Rattle.stored.proofs.MendedTables.{ReadsSame}
+use Rattle.padded.proofs.Facts.{slice_of_front as range_append}
 
 -- ---- the first byte of a slot
 
@@ -79,11 +80,6 @@ version_marked bytes differs =
     by_test false e = e
 
 -- ---- bytes behind the slots
-
-range_append : (xs ys : List ℕ) (a b : ℕ) → a ≤ b → b ≤ length xs → slice_range (xs ++ ys) a b ≡ slice_range xs a b
-range_append xs ys a b h inside =
-    let front : take b (xs ++ ys) ≡ take b xs = sym (take-take b (length xs) (xs ++ ys) inside) ∙ ap (take b) (take_at xs ys (length xs) refl) in
-    range_is (xs ++ ys) a b h ∙ ap (drop a) front ∙ sym (range_is xs a b h)
 
 pub appended_reads : (old more : List ℕ) → 1472 ≤ length old → ReadsSame old (old ++ more)
 appended_reads old more long =

@@ -2,7 +2,7 @@
 
 #![tactic(auto)]
 
-ghost use Rattle.std.specs.Prelude.{◌≡◌, ◌+◌, ◌≤◌, ◌↔◌, IsTrue, length, replicate, take};
+ghost use Rattle.std.specs.Prelude.{◌≡◌, ◌+◌, ◌++◌, ◌<◌, ◌≤◌, ◌↔◌, ◌∷◌, [], IsTrue, drop, length, replicate, take};
 ghost use Rattle.afl_base.specs.Fields.{put_at};
 ghost use Rattle.padded.specs.Padded.{padded};
 ghost use Rattle.db_model.specs.declared.schemas.Domain.TheVariants.{Time};
@@ -10,20 +10,36 @@ ghost use Rattle.db_model.specs.declared.values.Value.TheVariants.{Number};
 ghost use Rattle.db_model.specs.Row.{field_bytes, field_of, is_text_field, suits, text_or_empty, time_or_least, up_to_zero, width};
 
 use afl_base::{get_i32, get_i64, get_u16, put_bytes, put_i32, put_i64, put_u16};
-use db_model::{Domain, Text, Value, up_to_zero};
+use db_model::{Domain, Text, Tuple, Value, up_to_zero};
 use padded::is_zeros;
 
-// The field that `bytes` begin with, the least value of its domain where they are none.
+// Puts the field that `bytes` begin with behind the values, the least value of its domain where they are
+// none, and answers the bytes behind it.
 #[tactic(auto, unfolding(afl_base::specs::Fields::u16_at, afl_base::specs::Fields::i32_at, afl_base::specs::Fields::i64_at))]
-pub fn get_field(domain: Domain, bytes: &[u8]) -> Value
-    requires { width domain ≤ length bytes.now }
-    ensures { result ≡ field_of domain bytes.now }
+pub fn push_field<'a>(domain: Domain, bytes: &'a [u8], into: &mut Tuple) -> &'a [u8]
+    requires width { width domain ≤ length bytes.now }
+    requires room { length into.old < 8 }
+    ensures value { into.new ≡ into.old ++ field_of domain bytes.now ∷ [] }
+    ensures rest { result.now ≡ drop (width domain) bytes.now }
 {
     match domain {
-        Domain::Int => Value::Number(i64::from(get_u16(bytes, 0).cast_signed())),
-        Domain::Long => Value::Number(i64::from(get_i32(bytes, 0))),
-        Domain::Time => Value::Number(time_or_least(get_i64(bytes, 0))),
-        Domain::Str(n) => Value::Text(text_or_empty(&bytes[..n as usize])),
+        Domain::Int => {
+            into.push(Value::Number(i64::from(get_u16(bytes, 0).cast_signed())));
+            &bytes[2..]
+        }
+        Domain::Long => {
+            into.push(Value::Number(i64::from(get_i32(bytes, 0))));
+            &bytes[4..]
+        }
+        Domain::Time => {
+            into.push(Value::Number(time_or_least(get_i64(bytes, 0))));
+            &bytes[8..]
+        }
+        Domain::Str(n) => {
+            let (field, rest) = bytes.split_at(n as usize);
+            into.push(Value::Text(text_or_empty(field)));
+            rest
+        }
     }
 }
 

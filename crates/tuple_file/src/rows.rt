@@ -5,7 +5,7 @@
 ghost use Rattle.std.specs.Prelude.{◌≡◌, ◌==◌, ◌-◌, ◌+◌, ◌*◌, ◌<◌, ◌≤◌, ◌↔◌, ◌||◌, ℕ, IsTrue, length, slice_index, slice_range};
 ghost use Rattle.db_model.specs.Row.{AllSuit, fields_length, mark, row_at, row_bytes, row_length, row_of, tuple_of};
 
-use crate::fields::{get_field, is_field, put_field};
+use crate::fields::{is_field, push_field, put_field};
 use db_model::{Attributes, Tuple, row_length, width};
 
 // Whether a row is live.
@@ -25,8 +25,7 @@ pub fn get_tuple(attributes: &Attributes, row: &[u8], into: &mut Tuple)
     into.clear();
     let mut rest = row;
     for attribute in attributes.as_slice() {
-        into.push(get_field(attribute.domain, rest));
-        rest = &rest[width(attribute.domain)..];
+        rest = push_field(attribute.domain, rest, into);
     }
 }
 

@@ -7,6 +7,7 @@ ghost use Rattle.afl_base.specs.CutFiles.{MendsToState};
 ghost use Rattle.afl_base.specs.Keeping.{Changes, OnlyReads};
 ghost use Rattle.afl_base.specs.Files.{IsLive, State, bytes_at, file_at, size_at};
 ghost use Rattle.afl_base.specs.KeyColumn.{HasField, IsWidth, key_of};
+ghost use Rattle.afl_base.specs.Sparing.{TakesNoPage};
 ghost use Rattle.db_model.specs.Row.{AllSuit, fields_length, row_bytes, row_length, rows_bytes};
 ghost use Rattle.db_model.specs.Step.{key_of as key_of_value, slots_limit};
 ghost use Rattle.tuple_file.specs.Column.{IsNumber, column_of};
@@ -157,6 +158,8 @@ impl Tuples {
             (record { tuple = tuple.now; live = true })) }
         ensures records { OnOk result ((file_at (V.state files.new).files self.now.file).records
             ≡ (file_at (V.state files.old).files self.now.file).records) }
+        ensures spares { IsTrue (V.state files.old).tells → OnOk result
+            (TakesNoPage V.is_free (V.state files.old).store (V.state files.new).store) }
         ensures cut { IsTrue V.cuts → IsTrue (V.state files.old).tells → OnErr result
             (MendsToState V.mends (V.state files.new).store
             (λ after. MayAppendRow (V.state files.old) after self.now tuple.now)) }
@@ -187,6 +190,8 @@ impl Tuples {
             ≡ (file_at (V.state files.old).files self.now.file).records) }
         ensures room { OnOk result ((file_at (V.state files.new).files self.now.file).room
             ≡ (file_at (V.state files.old).files self.now.file).room) }
+        ensures spares { IsTrue (V.state files.old).tells → OnOk result
+            (TakesNoPage V.is_free (V.state files.old).store (V.state files.new).store) }
         ensures cut { IsTrue V.cuts → IsTrue (V.state files.old).tells → OnErr result
             (MendsToState V.mends (V.state files.new).store
             (λ after. MayMarkRow (V.state files.old) after self.now slot)) }

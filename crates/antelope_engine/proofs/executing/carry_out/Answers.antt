@@ -1,5 +1,6 @@
 use Rattle.std.proofs.Common.{◌≡◌, ◌≤◌, Bool, ap, length, refl, sym, subst, IsTrue, rules}
 use Rattle.afl_base.specs.Files.{State}
+use Rattle.afl_base.proofs.SparingLaws.{takes_no_page_same}
 use Rattle.db_model.specs.declared.commands.Command.{Command}
 use Rattle.db_model.specs.declared.commands.Command.TheVariants as command
 use Rattle.db_model.specs.Step.{Reads}
@@ -14,7 +15,7 @@ use Rattle.antelope_engine.proofs.Causes.{cause_done, cause_failed, cause_replie
 use Rattle.antelope_engine.proofs.Replies.{part_same}
 use Rattle.antelope_engine.proofs.Spaces.{err_moved, space_before, space_map, space_told}
 use Rattle.antelope_engine.proofs.Store.{few_at_most, few_wanted}
-use Rattle.antelope_engine.proofs.Untouched.{untouched_always, untouched_done}
+use Rattle.antelope_engine.proofs.Untouched.{spared_done, untouched_always, untouched_done}
 use Rattle.antelope_engine.specs.Writes.{WritesRows}
 use Rattle.antelope_engine.proofs.executing.carry_out.Goals as goal
 
@@ -47,6 +48,7 @@ returns-in-Ok g c =
         ahead = e.ahead;
         tells = ap (λ (s : State). s.tells) e.frame.same;
         running = e.running;
+        spares = λ told wants. takes_no_page_same g.V.Files.is_free (g.V.Files.state c.args.base.now.files).store _ (ap (λ (s : State). s.store) e.frame.same);
         untouched = untouched_always c.in-Ok.came _ e.frame.same;
         same = λ reads. e.frame.same;
         reads = λ told reads. e.reads told (c.requires.sound told);
@@ -82,6 +84,7 @@ returns-in-Err g c =
         ahead = λ told. unless_err Outcome Step stop _ (e.ahead told);
         tells = unless_any Step stop _ (ap (λ (s : State). s.tells) e.frame.same);
         running = unless_err Outcome Step stop _ e.running;
+        spares = search rules;
         untouched = search rules;
         same = λ reads. e.frame.same;
         reads = λ told reads. e.reads told (c.requires.sound told);
@@ -122,6 +125,7 @@ returns-in-Ok-write_answer g c =
         ahead = e.ahead;
         tells = e.tells;
         running = e.running;
+        spares = λ told wants. spared_done a step _ _ _ _ w.done (λ same. takes_no_page_same g.V.Files.is_free (g.V.Files.state c.args.base.now.files).store _ (ap (λ (s : State). s.store) same)) (e.spares told wants) e.untouched;
         untouched = untouched_done a step _ _ _ w.done e.untouched;
         same = e.same;
         reads = e.reads;
@@ -151,6 +155,7 @@ returns-in-Err-write_answer g c =
         ahead = e.ahead;
         tells = e.tells;
         running = e.running;
+        spares = search rules;
         untouched = search rules;
         same = e.same;
         reads = e.reads;
@@ -179,6 +184,7 @@ returns-in-Err-answer g c =
         ahead = search rules;
         tells = search rules;
         running = search rules;
+        spares = search rules;
         untouched = search rules;
         same = e.same;
         reads = e.reads;

@@ -2,7 +2,7 @@ use Rattle.std.proofs.Common.{◌≡◌, ◌≤◌, length}
 use Rattle.std.specs.Prelude.{IsSome, IsTrue}
 use Rattle.afl_base.specs.Files.{draft_in}
 use Rattle.afl_base.specs.KeyColumn.{key_of}
-use Rattle.index_maxheap.specs.Builds.{Builds, IsSafeBuild, HasOtherDraft}
+use Rattle.index_maxheap.specs.Builds.{Gathers, HasOtherDraft, IsSafeBuild}
 use Rattle.index_tree.specs.Pairs.{pairs_of}
 use Rattle.index_tree.specs.TreeFile.{bucket_place}
 use Rattle.index_maxheap.proofs.building.build.Given as goal
@@ -21,6 +21,6 @@ invariant-loop-slot g l =
       lent : g.V.Files.lent l.files ≡ g.V.Files.lent l.fn.files;
       reads_later : g.V.Files.reads l.fn.files ≤ g.V.Files.reads l.files;
       faults : g.V.Files.faults l.fn.files ≤ g.V.Files.faults l.files;
-      safe : IsSafeBuild l.loads l.places l.opened l.fn.most l.slot;
-      builds : IsTrue old.tells → Builds l.loads l.places l.opened (draft_in now).bytes (pairs_of (key_of old l.fn.column) l.slot);
+      safe : IsSafeBuild l.nodes l.fn.most l.slot;
+      gathers : IsTrue old.tells → Gathers l.nodes (draft_in now).bytes (pairs_of (key_of old l.fn.column) l.slot);
     }

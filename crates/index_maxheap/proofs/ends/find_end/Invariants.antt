@@ -1,28 +1,23 @@
-use Rattle.std.proofs.Common.{◌≡◌, ◌≤◌, ◌<◌, ◌+◌, ◌^◌, ℤ, List}
-use Rattle.std.specs.Prelude.{IsTrue, None}
+use Rattle.std.proofs.Common.{◌≡◌, ◌≤◌, ◌<◌, ◌+◌, ◌*◌, ℕ, ℤ, List, length}
+use Rattle.std.specs.Prelude.{IsTrue}
 use Rattle.afl_base.specs.Files.{bytes_at, size_at}
-use Rattle.afl_base.specs.Fields.{u16_at}
-use Rattle.db_model.specs.Cost.{keys_beside}
-use Rattle.index_maxheap.specs.Searches.{walk_left}
-use Rattle.index_maxheap.specs.Walks.{Walks, reads_from}
-use Rattle.index_tree.specs.Trees.{IsTreeOf}
-use Rattle.index_tree.specs.Pairs.{Pair}
-use Rattle.index_tree.specs.TreeFile.{IsTree}
+use Rattle.index_maxheap.specs.Walks.{IsUnmet}
+use Rattle.index_tree.specs.Pairs.{goes, reaching}
+use Rattle.index_tree.specs.TreeFile.{bucket_place}
+use Rattle.index_tree.specs.Trees.{IsTreeOf, numbered}
 use Rattle.index_maxheap.proofs.ends.find_end.Given as goal
 
-abbrev pub invariant-loop-hops : goal.invariant-loop-hops
-invariant-loop-hops g l =
+abbrev pub invariant-loop-level : goal.invariant-loop-level
+invariant-loop-level g l =
     let bytes = bytes_at (g.V.Files.state l.fn.files).files l.index in
     record {
       same : g.V.Files.state l.files ≡ g.V.Files.state l.fn.files;
       lent : g.V.Files.lent l.files ≡ g.V.Files.lent l.fn.files;
-      reads : g.V.Files.reads l.fn.files ≤ g.V.Files.reads l.files;
+      later : g.V.Files.reads l.fn.files ≤ g.V.Files.reads l.files;
       faults : g.V.Files.faults l.fn.files ≤ g.V.Files.faults l.files;
-      level : l.level ≤ 4;
-      safe : l.at + 3 ≤ size_at (g.V.Files.state l.fn.files).files l.index;
-      low : l.at < 2 ^ 25;
-      number : IsTrue (g.V.Files.state l.fn.files).tells → l.number ≡ u16_at bytes l.at;
-      left : IsTrue (g.V.Files.state l.fn.files).tells → (keys : List ℤ) → IsTreeOf bytes keys →
-          g.V.Files.reads l.files + reads_from (keys_beside l.key keys) l.hops ≤ g.V.Files.reads l.fn.files + walk_left (keys_beside l.key keys) None;
-      walks : IsTrue (g.V.Files.state l.fn.files).tells → (ps : List Pair) → IsTree bytes ps → Walks bytes ps l.key l.hops l.at l.level;
+      reads : g.V.Files.reads l.files ≤ g.V.Files.reads l.fn.files + 12 * l.level;
+      low : l.level ≤ 4;
+      range : bucket_place l.last ≤ size_at (g.V.Files.state l.fn.files).files l.index;
+      unmet : IsTrue (g.V.Files.state l.fn.files).tells → IsUnmet bytes l.key l.level l.last;
+      full : IsTrue (g.V.Files.state l.fn.files).tells → (keys : List ℤ) → IsTreeOf bytes keys → (i : ℕ) → i < l.level → 32 ≤ length (reaching (goes l.key) i (numbered 0 keys));
     }

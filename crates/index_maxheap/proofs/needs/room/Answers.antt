@@ -12,4 +12,4 @@ returns-then-size-gt268000-clause-room g c = λ told keys tree.
 
 pub returns-clause-room : goal.returns-clause-room
 returns-clause-room g c = λ told keys tree.
-    c.room_for-room.ensures.room ∙ room_found c.in_ok-end.end (bytes_at (g.V.Files.state c.args.files.now).files c.args.index) keys c.args.key.now tree (c.in_ok-end.ensures.finds told (numbered 0 keys) tree)
+    c.room_for-room.ensures.room ∙ room_found c.in_ok-end.end (bytes_at (g.V.Files.state c.args.files.now).files c.args.index) keys c.args.key.now tree (c.in_ok-end.ensures.finds told keys tree)

@@ -2,8 +2,6 @@ use Rattle.std.proofs.Common.{arith, ◌∙◌}
 use Rattle.std.specs.Prelude.{Some}
 use Rattle.afl_base.specs.Files.{bytes_at}
 use Rattle.db_model.specs.Cost.{keys_beside}
-use Rattle.index_tree.specs.Places.{to_come}
-use Rattle.index_tree.specs.Trees.{numbered}
 use Rattle.index_maxheap.specs.Searches.{walk_left}
 use Rattle.index_maxheap.proofs.Firsts.{has_none, is_first}
 use Rattle.index_maxheap.proofs.Onward.{look_paid, onward_paid, place_far, place_near}
@@ -28,7 +26,7 @@ returns-in-Found-clause-next g c = λ told keys tree start.
     let key = c.args.key.now in
     let walks = c.loop-hops.invariant.walks told keys tree start in
     let steps = rw c.in-Found.is at ((rw c.loop-hops.invariant.same at c.in_ok-slot.ensures.steps) told keys tree walks.0) in
-    (is_first key c.args.from c.in-Found.slot keys (to_come (numbered 0 keys) key c.args.from c.in-Found.behind.hop c.in-Found.behind.pair) steps.0, steps.1)
+    (is_first key c.args.from c.in-Found.slot keys steps.0 steps.1, steps.2)
 
 pub returns-in-Found-clause-reads : goal.returns-in-Found-clause-reads
 returns-in-Found-clause-reads g c = λ told keys tree start.

@@ -4,6 +4,7 @@ use Rattle.std.specs.Int.{w32}
 use Rattle.std.proofs.lemmas.Int.{to_z-of_z}
 use Rattle.index_set.specs.Inserts.{HasKeyFor, KeepsBuckets}
 use Rattle.afl_base.proofs.CutLaws.{mends_as}
+use Rattle.afl_base.proofs.SparingLaws.{takes_no_page_on}
 use Rattle.padded.proofs.Facts.{on_err}
 use Rattle.index_set.proofs.Lists.{here_of, spares_all}
 use Rattle.index_set.proofs.Inserted.{all_whole, complete_all, complete_next, enough_rooms, held_next, keeps_next, ready_next, room_next, spares_next, tables_next}
@@ -67,6 +68,7 @@ loop-nth-preserved g c =
       keeps = λ told rows count all exact.
           keeps_next xs n y below e c.requires.apart start before now t0 t1 t2 inv.spares inv.tables put.others put.tables rows c.args.tuple.now c.args.rooms.now c.get-room.result.now c.args.slot c.key_in-key.result
           count c.get-room.ensures has c.key_in-key.ensures (rw (to_z-of_z w32 _ fits) at (put.keeps (inv.spares.tells ∙ told))) all exact (inv.keeps told rows count all exact);
+      free = λ told. takes_no_page_on g.V.Files.is_free start.store before.store now.store (inv.free told) (put.spares (inv.spares.tells ∙ told));
       store = search rules;
       lent = search rules;
       faults = search rules;

@@ -4,10 +4,11 @@ use Rattle.std.specs.Int.{w32}
 use Rattle.std.proofs.lemmas.Int.{to_z-of_z}
 use Rattle.afl_base.specs.Asked.{asks_few}
 use Rattle.afl_base.proofs.CutLaws.{mends_as}
+use Rattle.afl_base.proofs.SparingLaws.{stays_on}
 use Rattle.db_model.specs.Step.{key_of}
 use Rattle.index_maxheap.specs.declared.rooms.Room.{Room}
 use Rattle.index_set.specs.Inserts.{AsksFor, HasKeyFor, SomeOf}
-use Rattle.index_set.proofs.Lists.{asks_key, count_more, exact_next, here_of, key_for, on_space, prepares_all, prepares_more, room_for, rooms_next, same_failure, some_of, unless_failed}
+use Rattle.index_set.proofs.Lists.{asks_before, asks_key, count_more, exact_next, here_of, key_for, on_space, prepares_all, prepares_more, room_for, rooms_next, same_failure, some_of, unless_failed}
 use Rattle.index_set.proofs.inserts.prepare_all.Goals as goal
 
 pub returns-in-Err-clause-contents : goal.returns-in-Err-clause-contents
@@ -66,6 +67,14 @@ loop-nth-preserved g c =
       exact = λ told. exact_next xs n y below e start c.args.tuple.now c.loop-nth.rooms c.push.new.self c.in-Ok.room c.push.ensures inv.count (inv.exact told)
           (key_for (slice_get c.args.tuple.now y.attribute) c.key_in-key.result start c.in-Ok.room y.access has c.key_in-key.ensures
           (room_for start before c.key_in-key.result c.in-Ok.room y.access (inv.prepares.bytes told) (rw (to_z-of_z w32 _ fits) at (c.in-Ok.ensures.exact (inv.prepares.spares.tells ∙ told)))));
+      still = λ told never.
+          let stayed = inv.still told never in
+          let asks = g.V.Files.asks c.args.files.now in
+          stays_on g.V.Files.state g.V.Files.asks c.args.files.now c.loop-nth.files c.prepare_one.new.files stayed
+          ((rw (to_z-of_z w32 _ fits) at c.in-Ok.ensures.still) (inv.prepares.spares.tells ∙ told)
+          (λ need asked. never need (some_of xs n y below e (λ info. AsksFor asks start (key_of (slice_get c.args.tuple.now info.attribute)) need info.access)
+          (asks_key asks (slice_get c.args.tuple.now y.attribute) c.key_in-key.result start need y.access has c.key_in-key.ensures
+          (asks_before asks (g.V.Files.asks c.loop-nth.files) start before c.key_in-key.result need y.access stayed.asks_less (inv.prepares.bytes told) asked)))));
       store = search rules;
       lent = search rules;
       faults = search rules;

@@ -25,9 +25,9 @@ returns-in_err-write_aggregate-clause-failed g c =
 pub returns-clause-written : goal.returns-clause-written
 unfolding numbers_text
 returns-clause-written g c =
-    on_ok_weaker c.write_all.result (λ e. held_line number_text c.args.numbers.now c.loop-at.at (g.K.Sink.held c.args.out.now) (g.K.Sink.held c.loop-at.out) _ c.loop-at-test.false c.loop-at.invariant.held e) c.write_all.ensures.written
+    on_ok_weaker c.write_byte.result (λ e. held_line number_text c.args.numbers.now c.loop-at.at (g.K.Sink.held c.args.out.now) (g.K.Sink.held c.loop-at.out) _ c.loop-at-test.false c.loop-at.invariant.held e) c.write_byte.ensures.written
 
 pub returns-clause-failed : goal.returns-clause-failed
 unfolding numbers_text
 returns-clause-failed g c =
-    on_err_weaker c.write_all.result (λ w. less_line number_text c.args.numbers.now c.loop-at.at (g.K.Sink.held c.args.out.now) (g.K.Sink.held c.loop-at.out) _ c.loop-at-test.false c.loop-at.invariant.held w) c.write_all.ensures.failed
+    on_err_weaker c.write_byte.result (λ w. less_line number_text c.args.numbers.now c.loop-at.at (g.K.Sink.held c.args.out.now) (g.K.Sink.held c.loop-at.out) _ c.loop-at-test.false c.loop-at.invariant.held w) c.write_byte.ensures.failed

@@ -25,9 +25,9 @@ returns-in_err-write_field-clause-failed g c =
 pub returns-clause-written : goal.returns-clause-written
 unfolding row_text
 returns-clause-written g c =
-    rw (← c.as_slice-value-items.ensures.items) (on_ok_weaker c.write_all.result (λ e. held_line value_text c.as_slice-value-items.result.now c.loop-at.at (g.K.Sink.held c.args.out.now) (g.K.Sink.held c.loop-at.out) _ c.loop-at-test.false c.loop-at.invariant.held e) c.write_all.ensures.written)
+    rw (← c.as_slice-value-items.ensures.items) (on_ok_weaker c.write_byte.result (λ e. held_line value_text c.as_slice-value-items.result.now c.loop-at.at (g.K.Sink.held c.args.out.now) (g.K.Sink.held c.loop-at.out) _ c.loop-at-test.false c.loop-at.invariant.held e) c.write_byte.ensures.written)
 
 pub returns-clause-failed : goal.returns-clause-failed
 unfolding row_text
 returns-clause-failed g c =
-    rw (← c.as_slice-value-items.ensures.items) (on_err_weaker c.write_all.result (λ w. less_line value_text c.as_slice-value-items.result.now c.loop-at.at (g.K.Sink.held c.args.out.now) (g.K.Sink.held c.loop-at.out) _ c.loop-at-test.false c.loop-at.invariant.held w) c.write_all.ensures.failed)
+    rw (← c.as_slice-value-items.ensures.items) (on_err_weaker c.write_byte.result (λ w. less_line value_text c.as_slice-value-items.result.now c.loop-at.at (g.K.Sink.held c.args.out.now) (g.K.Sink.held c.loop-at.out) _ c.loop-at-test.false c.loop-at.invariant.held w) c.write_byte.ensures.failed)

@@ -5,7 +5,7 @@ use Rattle.intake.specs.declared.ending.Ending.{Ending}
 use Rattle.db_model.specs.declared.refusals.Refusal.TheVariants as no
 use Rattle.db_model.specs.ReplyText.{refusal_text}
 use Rattle.run_model.specs.Scripts.{script_talk}
-use Rattle.std.specs.Prelude.{◌≤◌, ℕ, List, Option}
+use Rattle.std.specs.Prelude.{ℕ, List, Option}
 use Rattle.intake.specs.declared.ending.Ending.TheVariants.{Sink}
 use Rattle.padded.proofs.Facts.{err_is}
 use Rattle.reply_text.specs.WroteLess.{WroteLess}

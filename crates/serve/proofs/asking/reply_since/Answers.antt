@@ -1,5 +1,5 @@
 use Rattle.std.proofs.Common.{◌≡◌, Some, false, refl, ap, ◌∙◌, arith, drop, rules}
-use Rattle.std.specs.Prelude.{◌≤◌, Ok, Err}
+use Rattle.std.specs.Prelude.{Ok, Err}
 use Rattle.answering.specs.Carried.{standing_of, limits_of}
 use Rattle.db_model.specs.ReplyText.{text}
 use Rattle.db_model.specs.Step.{step}

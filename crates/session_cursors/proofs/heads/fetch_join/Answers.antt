@@ -2,7 +2,7 @@ use Rattle.std.proofs.Common.{◌≡◌, ◌<◌, ◌≤◌, ℕ, List, None, ma
 use Rattle.db_model.specs.declared.values.Value.{Value}
 use Rattle.db_model.specs.Ahead.{fetched, rows_named}
 use Rattle.cursor.specs.declared.join.JoinCursor.{JoinCursor}
-use Rattle.cursor.specs.Pairs.{pairs_left}
+use Rattle.cursor.specs.Pairs.{pairs_left, place_in}
 use Rattle.cursor.proofs.Joins.{all_passed}
 use Rattle.tuple_file.specs.Tuples.{rows}
 use Rattle.session_model.specs.Aheads.{ahead_of_join, join_stops}
@@ -47,7 +47,8 @@ returns-clause-left g c = λ told.
     let d = c.next.new.self in
     let fits = c.requires.can.fits told in
     let stands : d ≡ record o.cursor { at = d.at; from = d.from; inner = d.inner } = h.moves.stands in
-    let is : c.rest.new.self ≡ record o.cursor { at = d.at; from = d.from; inner = None } = c.rest.ensures.rests ∙ ap (λ (z : JoinCursor). record z { inner = None }) stands in
+    let hint = place_in d.inner in
+    let is : c.rest.new.self ≡ record o.cursor { at = d.at; from = d.from; inner = None; hint = hint } = c.rest.ensures.rests ∙ ap (λ (z : JoinCursor). record z { inner = None; hint = hint }) stands in
     let P : JoinCursor → Type 0 = λ z. map (project_pair o.places) (pairs_left z (rows files z.left) (rows files z.right)) ≡ drop 1 (join_left files o) in
     let Q : JoinCursor → Type 0 = λ z. map (project_pair o.places) (pairs_left z lefts rights) ≡ drop 1 (join_left files o) in
     subst P (sym is)
@@ -61,7 +62,8 @@ returns-clause-ahead g c = λ told.
     let d = c.next.new.self in
     let fits = c.requires.can.fits told in
     let stands : d ≡ record o.cursor { at = d.at; from = d.from; inner = d.inner } = h.moves.stands in
-    let is : c.rest.new.self ≡ record o.cursor { at = d.at; from = d.from; inner = None } = c.rest.ensures.rests ∙ ap (λ (z : JoinCursor). record z { inner = None }) stands in
+    let hint = place_in d.inner in
+    let is : c.rest.new.self ≡ record o.cursor { at = d.at; from = d.from; inner = None; hint = hint } = c.rest.ensures.rests ∙ ap (λ (z : JoinCursor). record z { inner = None; hint = hint }) stands in
     let P : JoinCursor → Type 0 = λ z. ahead_of_join state.files (record { cursor = z; places = o.places }) ≡ fetched (ahead_of_join state.files o) in
     subst P (sym is)
     (ahead_then state o d c.next.new.left c.next.new.right c.in_ok-found.found (record {
@@ -80,8 +82,9 @@ returns-clause-waits g c = λ held w.
     let h = c.in_ok-found.ensures in
     let d = c.next.new.self in
     let stands : d ≡ record o.cursor { at = d.at; from = d.from; inner = d.inner } = h.moves.stands in
-    join_waits (g.V.Files.state c.args.files.now) held o.cursor c.rest.new.self d.at d.from w
-    (c.rest.ensures.rests ∙ ap (λ (z : JoinCursor). record z { inner = None }) stands)
+    let hint = place_in d.inner in
+    join_waits (g.V.Files.state c.args.files.now) held o.cursor c.rest.new.self d.at d.from hint w
+    (c.rest.ensures.rests ∙ ap (λ (z : JoinCursor). record z { inner = None; hint = hint }) stands)
     (subst (λ (n : ℕ). d.from ≤ n) (ap (λ (z : JoinCursor). z.right_slots) stands) h.may_read.within)
 
 pub returns-clause-reads : goal.returns-clause-reads

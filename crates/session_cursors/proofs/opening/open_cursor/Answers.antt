@@ -1,5 +1,6 @@
 use Rattle.std.proofs.Common.{rules, ◌≡◌, ◌≤◌, ◌+◌, ℕ, Some, None, false, is_some, get_or, set, refl, ap, sym, subst, ◌∙◌, arith, Ok}
 use Rattle.afl_base.specs.Files.{State}
+use Rattle.afl_base.proofs.SparingLaws.{takes_no_page_same}
 use Rattle.db_model.specs.declared.commands.Command.TheVariants as command
 use Rattle.db_model.specs.declared.refusals.Refusal.TheVariants as no
 use Rattle.db_model.specs.Ahead.{aheads_after}
@@ -33,6 +34,7 @@ returns-then-is_open g c =
         tells = search rules;
         wants = search rules;
         lacks = search rules;
+        spares = λ told none. tt;
         cut = search rules;
         untouched = search rules;
         same = search rules;
@@ -86,6 +88,7 @@ returns-in-Ok g c =
         tells = search rules;
         wants = search rules;
         lacks = search rules;
+        spares = λ told none. takes_no_page_same g.V.Files.is_free _ _ (ap (λ (s : State). s.store) h.frame.same);
         cut = search rules;
         untouched = search rules;
         same = search rules;
@@ -124,6 +127,7 @@ returns-in-Err g c =
         tells = search rules;
         wants = search rules;
         lacks = search rules;
+        spares = λ told none. tt;
         cut = search rules;
         untouched = search rules;
         same = search rules;

@@ -8,7 +8,7 @@ use Rattle.session_model.specs.Aheads.{aheads_of}
 use Rattle.session_model.specs.Running.{IsRunning}
 use Rattle.session_model.specs.View.{view}
 use Rattle.session_model.specs.Wanted.{WantsFew}
-use Rattle.session_indexes.proofs.Created.{made_aheads, made_done, made_in_part, made_running, may_be, no_catalog, ready_for, refused_so, space_aheads, space_running, space_view, space_wants, tables_running}
+use Rattle.session_indexes.proofs.Created.{asks_nothing, made_aheads, made_done, made_in_part, made_running, may_be, no_catalog, ready_for, refused_so, space_aheads, space_running, space_view, space_wants, tables_running}
 use Rattle.session_indexes.proofs.Refused.{no_relation}
 use Rattle.session_indexes.proofs.creating.create_index.Goals as goal
 
@@ -29,6 +29,7 @@ returns-in_default g c = record {
     tells = search rules;
     wants = search rules;
     lacks = search rules;
+    spares = λ told none. tt;
     cut = search rules;
     untouched = search rules;
     same = search rules;
@@ -49,6 +50,7 @@ returns-in-Err g c = record {
     tells = search rules;
     wants = search rules;
     lacks = search rules;
+    spares = λ told none. tt;
     cut = search rules;
     untouched = search rules;
     same = search rules;
@@ -69,6 +71,7 @@ returns-in_default-cat g c = record {
     tells = search rules;
     wants = search rules;
     lacks = search rules;
+    spares = λ told none. tt;
     cut = search rules;
     untouched = search rules;
     same = search rules;
@@ -122,6 +125,13 @@ returns-in-Ok-Ok g c = record {
     tells = search rules;
     wants = search rules;
     lacks = search rules;
+    spares = λ told none. (
+        let s0 = g.V.Files.state c.args.base.now.files in
+        c.in-Ok-Ok.ensures.spares told
+        (asks_nothing s0 c.args.base.now.tables c.args.base.now.held c.args.base.now.opens c.requires.running c.in-Some-cat.cat c.in-Some-cat.is c.args.relation.now c.args.attribute.now c.args.kind
+        c.in-Some.found.0 c.in-Some.found.1.now c.in-Some.ensures.cell c.in-Some.ensures.there c.in-Ok.site c.in-Ok.ensures.relation c.in-Ok.ensures.site
+        (g.V.Files.asks c.args.base.now.files) none)
+        );
     cut = search rules;
     untouched = search rules;
     same = search rules;
@@ -156,6 +166,7 @@ returns-in-Ok-Err g c = record {
     tells = search rules;
     wants = search rules;
     lacks = search rules;
+    spares = λ told none. tt;
     cut = search rules;
     untouched = search rules;
     same = search rules;
@@ -213,6 +224,7 @@ returns-in-Err-Space g c = record {
         s1 c.make_index.new.tables kept tables (g.V.Files.asks c.make_index.new.files) c.in-Err-Space.need asked)
         );
     lacks = search rules;
+    spares = λ told none. tt;
     cut = search rules;
     untouched = search rules;
     same = search rules;
@@ -230,6 +242,7 @@ returns-in-Err-Failed g c = record {
     tells = search rules;
     wants = search rules;
     lacks = search rules;
+    spares = λ told none. tt;
     cut = λ cuts told. (
         let s0 = g.V.Files.state c.args.base.now.files in
         let left = rw c.in-Err-Failed.field-0-is at (c.in-Err-Failed.ensures.cut cuts told) in

@@ -1,5 +1,6 @@
-use Rattle.std.proofs.Common.{arith, ◌≡◌, inr, List, Some, ap, refl, sym, subst, ◌∙◌, length, ℤ}
+use Rattle.std.proofs.Common.{arith, ◌+◌, ◌*◌, ◌≡◌, inr, List, Some, ap, refl, sym, subst, ◌∙◌, length, ℤ}
 use Rattle.afl_base.proofs.CutLaws.{mends_as}
+use Rattle.afl_base.proofs.SparingLaws.{takes_no_page_on, takes_no_page_same}
 use Rattle.afl_base.specs.Files.{State}
 use Rattle.catalog.specs.CatalogFile.{PutsIndex}
 use Rattle.db_model.specs.declared.schemas.IndexKind.TheVariants.{MemHash}
@@ -9,6 +10,7 @@ use Rattle.session_indexes.proofs.Effects.{table_made, taken_kept}
 use Rattle.session_indexes.proofs.Free.{free_nobodys}
 use Rattle.session_indexes.proofs.Keyed.{keys_by}
 use Rattle.session_indexes.proofs.Planted.{allowed_number}
+use Rattle.session_indexes.proofs.Puts.{asks_as_before}
 use Rattle.session_indexes.proofs.Tried.{keys_many, tried_fine, tried_full, tried_long}
 use Rattle.session_indexes.proofs.making.make_table.Goals as goal
 
@@ -74,3 +76,13 @@ returns-in-Err-Failed-clause-cut g c = λ cuts told failed.
       unrefused = tried_fine c.args.indexes.now ks c.in-Some.table (sym c.free_table.ensures ∙ c.in-Some.is) c.requires.apart (omega (arith, many, c.is_crowded.ensures.fits c.if-is_crowded.false));
       left = subst (λ (s : State). MayPut s after c.args.cat site.slot (Some (index_for site MemHash))) same p;
     }))
+
+pub returns-in-Ok-put_entry-clause-spares : goal.returns-in-Ok-put_entry-clause-spares
+returns-in-Ok-put_entry-clause-spares g c = λ told none.
+    let free = g.V.Files.is_free in
+    let start = c.args.files.now in
+    let late = c.fill.new.files in
+    let same = c.in-Ok.ensures.frame.same in
+    let still = asks_as_before (g.V.Files.asks start) (g.V.Files.asks late) (g.V.Files.state start) (g.V.Files.state late) c.args.cat (1408 + 8 * c.args.site.now.slot) 8 same
+    (g.V.Files.asks_seen start late same told c.requires.ready.idle) none in
+    takes_no_page_on free _ _ _ (takes_no_page_same free _ _ (ap (λ (s : State). s.store) same)) (c.in-Ok-put_entry.ensures.spares (ap (λ (s : State). s.tells) same ∙ told) still)

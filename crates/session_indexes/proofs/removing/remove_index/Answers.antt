@@ -8,7 +8,7 @@ use Rattle.session_model.specs.View.{view}
 use Rattle.session_model.specs.Wanted.{WantsFew}
 use Rattle.session_model.proofs.Catalogs.{catalog_there}
 use Rattle.session_indexes.proofs.Created.{no_catalog}
-use Rattle.session_indexes.proofs.Gone.{file_there, gone_aheads, gone_done, gone_running, may_go, room_made, room_wants, same_aheads, same_view, taken_in_part}
+use Rattle.session_indexes.proofs.Gone.{asks_nothing, file_there, gone_aheads, gone_done, gone_running, may_go, room_made, room_wants, same_aheads, same_view, taken_in_part}
 use Rattle.session_indexes.proofs.Refused.{no_relation_of}
 use Rattle.session_indexes.proofs.removing.remove_index.Goals as goal
 
@@ -29,6 +29,7 @@ returns-in_default g c = record {
     tells = search rules;
     wants = search rules;
     lacks = search rules;
+    spares = λ told none. tt;
     cut = search rules;
     untouched = search rules;
     same = search rules;
@@ -49,6 +50,7 @@ returns-in-Err g c = record {
     tells = search rules;
     wants = search rules;
     lacks = search rules;
+    spares = λ told none. tt;
     cut = search rules;
     untouched = search rules;
     same = search rules;
@@ -69,6 +71,7 @@ returns-in_default-cat g c = record {
     tells = search rules;
     wants = search rules;
     lacks = search rules;
+    spares = λ told none. tt;
     cut = search rules;
     untouched = search rules;
     same = search rules;
@@ -116,6 +119,12 @@ returns-in-Ok-take_index g c = record {
     tells = search rules;
     wants = search rules;
     lacks = search rules;
+    spares = λ told none. (
+        let s0 = g.V.Files.state c.args.base.now.files in
+        c.in-Ok-take_index.ensures.spares told
+        (asks_nothing s0 c.args.base.now.tables c.args.base.now.held c.args.base.now.opens c.requires.running c.in-Some-cat.cat c.in-Some-cat.is c.args.relation.now c.args.attribute.now
+        c.in-Some.found.0 c.in-Some.found.1.now c.in-Some.ensures.cell c.in-Some.ensures.there c.in-Ok.standing c.in-Ok.ensures.stands (g.V.Files.asks c.args.base.now.files) none)
+        );
     cut = search rules;
     untouched = search rules;
     same = search rules;
@@ -164,6 +173,7 @@ returns-in-Err-Space g c = record {
         c.in-Some.found.0 c.in-Some.found.1.now c.in-Some.ensures.cell c.in-Some.ensures.there c.in-Ok.standing c.in-Ok.ensures.stands s1 kept (g.V.Files.asks c.take_index.new.files) c.in-Err-Space.need asked)
         );
     lacks = search rules;
+    spares = λ told none. tt;
     cut = search rules;
     untouched = search rules;
     same = search rules;
@@ -181,6 +191,7 @@ returns-in-Err-Failed g c = record {
     tells = search rules;
     wants = search rules;
     lacks = search rules;
+    spares = λ told none. tt;
     cut = λ cuts told. (
         let s0 = g.V.Files.state c.args.base.now.files in
         let left = rw c.in-Err-Failed.field-0-is at (c.in-Err-Failed.ensures.cut cuts told) in

@@ -1,5 +1,6 @@
 use Rattle.std.proofs.Common.{inl, inr, None, subst, ◌∙◌}
 use Rattle.afl_base.proofs.CutLaws.{either_as}
+use Rattle.afl_base.proofs.SparingLaws.{takes_no_page_on}
 use Rattle.index_set.specs.declared.info.Access.{Access}
 use Rattle.session_model.specs.Running.{HasFile}
 use Rattle.session_indexes.proofs.Gone.{taken_alone, taken_tree}
@@ -34,3 +35,7 @@ returns-in_default-clause-cut g c = λ cuts told failed.
     either_as s1 (c.in_default.ensures.cut cuts (put.tells ∙ told))
     (inl (may_whole s0 c.args.cat c.args.slot None c.requires.catalog told s1 put))
     (λ after gone. inr (taken_tree s0 s1 c.args.cat c.args.slot c.requires.idle c.requires.catalog put after c.in-Tree.file file gone))
+
+pub returns-in-Ok-remove-clause-spares : goal.returns-in-Ok-remove-clause-spares
+returns-in-Ok-remove-clause-spares g c = λ told none.
+    takes_no_page_on g.V.Files.is_free _ _ _ (c.in-Ok.ensures.spares told none) (c.in-Ok-remove.ensures.spares (c.in-Ok.ensures.cleared.tells ∙ told))

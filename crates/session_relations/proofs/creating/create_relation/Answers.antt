@@ -1,4 +1,4 @@
-use Rattle.std.proofs.Common.{Some, ap, refl}
+use Rattle.std.proofs.Common.{Some, ap, inr, refl}
 use Rattle.db_model.specs.declared.commands.Command.TheVariants as command
 use Rattle.db_model.specs.Database.{with_relation}
 use Rattle.db_model.specs.Step.{create_relation, upgraded}
@@ -24,7 +24,8 @@ returns-in-Ok-add_relation g c =
     let name = c.args.name.now in
     record {
       carried = carries_fine g.V.Files (command.CreateRelation name) (create_relation old name) base c.add_relation.new.files c.add_relation.new.held refl refl (λ reads. absurd reads)
-          (with_relation old c.in-Ok.slot (Some (bare_relation name))) (c.in-Ok.ensures.made files base.opens) c.in-Ok-add_relation.ensures.made c.add_relation.ensures.frame;
+          (with_relation old c.in-Ok.slot (Some (bare_relation name))) (c.in-Ok.ensures.made files base.opens) c.in-Ok-add_relation.ensures.made
+          (λ told none. absurd (none 16 (inr (inr refl)))) c.add_relation.ensures.frame;
     }
 
 pub returns-in-Err-Space : goal.returns-in-Err-Space

@@ -1,13 +1,27 @@
-use Rattle.std.proofs.Common.{arith, ◌<◌, ℕ, List, Option, Some, subst, ◌∙◌}
+use Rattle.std.proofs.Common.{arith, ◌≡◌, ◌<◌, ◌*◌, ℕ, List, Option, Some, unwrap_or, subst, sym, ◌∙◌}
 use Rattle.afl_base.specs.declared.kind.Kind.TheVariants.{Doubling}
-use Rattle.afl_base.specs.Files.{Creates}
+use Rattle.afl_base.specs.Files.{Creates, File, file_at, no_file, place}
 use Rattle.afl_base.proofs.CutLaws.{either_as, mends_as, mends_now}
+use Rattle.catalog.specs.CatalogFile.{IsPrepared}
 use Rattle.db_model.specs.declared.schemas.Schema.{Schema}
-use Rattle.space_model.specs.FileNames.{rows_file}
+use Rattle.space_model.specs.FileNames.{catalog_file, rows_file}
 use Rattle.session_relations.proofs.Cuts.{make_file, make_nothing, make_part, make_room}
 use Rattle.session_relations.proofs.Keeping.{failed_handed}
-use Rattle.session_relations.proofs.Slots.{prepared_catalog, prepared_put, slot_made}
+use Rattle.session_relations.proofs.Slots.{not_free, prepared_catalog, prepared_put, slot_made}
 use Rattle.session_relations.proofs.creating.make_rows.Goals as goal
+
+pub put_relation-requires-clause-prepared : goal.put_relation-requires-clause-prepared
+put_relation-requires-clause-prepared g c =
+    let s0 = g.V.Files.state c.args.files.now in
+    let s1 = g.V.Files.state c.prepare_catalog.new.files in
+    let s2 = g.V.Files.state c.create.new.self in
+    let cat = c.args.at.now.cat in
+    let slot = c.args.at.now.slot in
+    let has = prepared_catalog s0 s1 cat c.in_ok-prepare_catalog.ensures.contents c.requires.catalog in
+    let made = c.in_ok-file.ensures.created in
+    let same : place s2.files cat ≡ place s1.files cat = made.others cat (not_free s1.files cat c.in_ok-file.file catalog_file has.0 made.free) in
+    subst (λ (o : Option File). IsPrepared (unwrap_or o no_file) (176 * slot) 176) (sym same)
+    (subst (λ (n : ℕ). IsPrepared (file_at s1.files cat) (176 * n) 176) (c.from.ensures ∙ c.number.ensures.value) c.in_ok-prepare_catalog.ensures.prepared)
 
 pub returns-clause-put : goal.returns-clause-put
 returns-clause-put g c =

@@ -9,7 +9,7 @@ use Rattle.session_model.specs.View.{view}
 use Rattle.session_model.proofs.Running.{relation_there}
 use Rattle.session_relations.proofs.Answered.{changed_made, changed_missing, changed_refused}
 use Rattle.session_relations.proofs.Carried.{carries_failed, carries_fine, carries_space}
-use Rattle.session_relations.proofs.Found.{wants_found, without_catalog}
+use Rattle.session_relations.proofs.Found.{asks_nothing, wants_found, without_catalog}
 use Rattle.session_relations.proofs.growing.create_attribute.Goals as goal
 use Rattle.session_model.proofs.Carrying.{carries_refused}
 
@@ -54,7 +54,11 @@ returns-in-Ok-grow_relation g c =
       carried = carries_fine g.V.Files (command.CreateAttribute c.args.name.now c.args.domain.now relation) (changed_by change old relation) base c.grow_relation.new.files c.grow_relation.new.held refl refl
           (λ reads. absurd reads) (with_relation old c.in-Some.at.slot (Some grown))
           (changed_made files base.held base.opens relation change c.in-Some.at.slot found.0 grown found.2 (c.in-Ok.ensures.made old found.0 found.1))
-          c.in-Ok-grow_relation.ensures.made c.grow_relation.ensures.frame;
+          c.in-Ok-grow_relation.ensures.made
+          (λ told none. c.in-Ok-grow_relation.ensures.spares told
+          (asks_nothing (g.V.Files.state base.files) base.tables base.held base.opens (g.V.Files.asks base.files) relation c.in-Some.at.cat c.in-Some.at.slot found.0
+          c.requires.running c.in-Some.ensures.cat found.2 none))
+          c.grow_relation.ensures.frame;
     }
 
 pub returns-in-Err-Space : goal.returns-in-Err-Space
@@ -76,8 +80,8 @@ returns-in-Err-Space g c =
       carried = carries_space g.V.Files (command.CreateAttribute c.args.name.now c.args.domain.now relation) (changed_by change old relation) base now.files now.held refl refl
           (λ reads. absurd reads) (with_relation old c.in-Some.at.slot (Some grown)) c.in-Err-Space.need
           (changed_made files base.held base.opens relation change c.in-Some.at.slot found.0 grown found.2 (c.in-Ok.ensures.made old found.0 found.1)) kept
-          (λ told. wants_found (g.V.Files.state now.files) base.tables now.held base.opens (g.V.Files.asks now.files) relation c.in-Some.at.cat c.in-Some.at.slot c.in-Err-Space.need
-          found.0 kept.running has cell asked)
+          (λ told. wants_found (g.V.Files.state now.files) base.tables now.held base.opens (g.V.Files.asks now.files) relation c.in-Some.at.cat c.in-Some.at.slot found.0
+          kept.running has cell c.in-Err-Space.need asked)
           (rw c.in-Err-Space.field-0-is at c.in-Err-Space.ensures.frame);
     }
 

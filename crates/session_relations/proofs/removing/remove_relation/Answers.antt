@@ -10,7 +10,7 @@ use Rattle.session_model.specs.Cells.{cell_from}
 use Rattle.session_model.specs.View.{cursor_in, view}
 use Rattle.tuple_file.specs.declared.tuples.Tuples.{Tuples}
 use Rattle.session_relations.proofs.Carried.{carries_failed, carries_fine, carries_space}
-use Rattle.session_relations.proofs.Found.{wants_found, without_catalog}
+use Rattle.session_relations.proofs.Found.{asks_nothing, wants_found, without_catalog}
 use Rattle.session_relations.proofs.Gone.{removal_made, removal_missing, removal_refused}
 use Rattle.session_relations.proofs.removing.remove_relation.Goals as goal
 use Rattle.session_model.proofs.Cells.{cell_named}
@@ -57,7 +57,11 @@ returns-in-Ok g c =
     record {
       carried = carries_fine g.V.Files (command.RemoveRelation name) (remove_relation old name) base c.take_relation.new.files c.take_relation.new.held refl refl (λ reads. absurd reads)
           (with_relation old c.in-Some.at.slot None) (removal_made files base.held base.opens name c.in-Some.at.slot found.0 found.2 (c.in_default.ensures.free files))
-          c.in-Ok.ensures.made c.take_relation.ensures.frame;
+          c.in-Ok.ensures.made
+          (λ told none. c.in-Ok.ensures.spares told
+          (asks_nothing (g.V.Files.state base.files) base.tables base.held base.opens (g.V.Files.asks base.files) name c.in-Some.at.cat c.in-Some.at.slot found.0
+          c.requires.running c.in-Some.ensures.cat found.2 none))
+          c.take_relation.ensures.frame;
     }
 
 pub returns-in-Err-Space : goal.returns-in-Err-Space
@@ -77,8 +81,8 @@ returns-in-Err-Space g c =
       carried = carries_space g.V.Files (command.RemoveRelation name) (remove_relation old name) base now.files now.held refl refl (λ reads. absurd reads)
           (with_relation old c.in-Some.at.slot None) c.in-Err-Space.need
           (removal_made files base.held base.opens name c.in-Some.at.slot found.0 found.2 (c.in_default.ensures.free files)) kept
-          (λ told. wants_found (g.V.Files.state now.files) base.tables now.held base.opens (g.V.Files.asks now.files) name c.in-Some.at.cat c.in-Some.at.slot c.in-Err-Space.need
-          found.0 kept.running has cell asked)
+          (λ told. wants_found (g.V.Files.state now.files) base.tables now.held base.opens (g.V.Files.asks now.files) name c.in-Some.at.cat c.in-Some.at.slot found.0
+          kept.running has cell c.in-Err-Space.need asked)
           (rw c.in-Err-Space.field-0-is at c.in-Err-Space.ensures.frame);
     }
 

@@ -1,6 +1,8 @@
-use Rattle.std.proofs.Common.{inl, None, ◌∙◌}
+use Rattle.std.proofs.Common.{inl, ◌*◌, ℕ, None, subst, sym, ◌∙◌}
 use Rattle.afl_base.proofs.CutLaws.{either_as, mends_as, mends_now}
+use Rattle.afl_base.proofs.SparingLaws.{takes_no_page_on, takes_no_page_same}
 use Rattle.space_model.specs.FileNames.{rows_file}
+use Rattle.session_model.specs.Frames.{AsksNoExtent}
 use Rattle.session_relations.proofs.Cuts.{put_behind, put_nothing, take_file, take_slot}
 use Rattle.session_relations.proofs.Keeping.{failed_handed}
 use Rattle.session_relations.proofs.Slots.{prepared_catalog, prepared_put, slot_gone, still_named_beside}
@@ -50,3 +52,12 @@ returns-in_err-remove-clause-cut g c = λ cuts told failed.
     either_as s2 (c.in_err-remove.ensures.cut cuts (v.tells ∙ u.tells ∙ told))
     (take_slot s0 s1 s2 cat slot file c.requires.idle c.requires.catalog u v)
     (λ after w. take_file s0 s1 s2 cat slot file c.requires.idle c.requires.catalog u v after c.requires.named w)
+
+pub returns-clause-spares : goal.returns-clause-spares
+returns-clause-spares g c = λ told none.
+    let free = g.V.Files.is_free in
+    let u = c.in_ok-prepare_catalog.ensures.contents in
+    let v = c.in_ok-clear_relation.ensures.cleared in
+    let here = subst (λ (n : ℕ). AsksNoExtent (g.V.Files.asks c.args.files.now) (g.V.Files.state c.args.files.now).files c.args.at.now.cat (176 * n) 176) (sym (c.from.ensures ∙ c.number.ensures.value)) none in
+    takes_no_page_on free _ _ _ (takes_no_page_same free _ _ (c.in_ok-prepare_catalog.ensures.still here).store)
+    (takes_no_page_on free _ _ _ (c.in_ok-clear_relation.ensures.spares (u.tells ∙ told)) (c.in_ok-remove.ensures.spares (v.tells ∙ u.tells ∙ told)))

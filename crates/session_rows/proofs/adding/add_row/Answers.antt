@@ -1,4 +1,4 @@
-use Rattle.std.proofs.Common.{List, sym, subst, ◌∙◌}
+use Rattle.std.proofs.Common.{◌++◌, ◌∷◌, [], List, ap, sym, subst, true, ◌∙◌}
 use Rattle.db_model.specs.Row.{Row}
 use Rattle.index_set.specs.Complete.{AreComplete}
 use Rattle.index_set.specs.Inserts.{MayAllFollow}
@@ -6,6 +6,8 @@ use Rattle.tuple_file.specs.Tuples.{rows}
 use Rattle.session_model.specs.Frames.{StaysAt}
 use Rattle.session_model.proofs.Frames.{complete_kept, rows_prepared}
 use Rattle.afl_base.proofs.CutLaws.{mends_as}
+use Rattle.afl_base.proofs.FrameLaws.{spares_then}
+use Rattle.afl_base.proofs.SparingLaws.{takes_no_page_on, takes_no_page_same}
 use Rattle.session_rows.proofs.Cuts.{added_later, added_none, failed_too}
 use Rattle.session_rows.proofs.adding.add_row.Goals as goal
 
@@ -36,3 +38,30 @@ returns-in_err-write_row-clause-cut g c = λ cuts told failed.
     let f = c.in_ok-rooms.ensures.contents in
     mends_as (c.in_err-write_row.ensures.cut cuts (f.spares.tells ∙ told))
     (λ after m. added_later c.args.tuples.now c.args.indexes.now c.args.values.now s0 s1 after told f m)
+
+pub returns-clause-spares : goal.returns-clause-spares
+returns-clause-spares g c = λ told never.
+    let is_free = g.V.Files.is_free in
+    let s0 = g.V.Files.state c.args.files.now in
+    let s1 = g.V.Files.state c.prepare_row.new.files in
+    let s2 = g.V.Files.state c.write_row.new.files in
+    takes_no_page_on is_free s0.store s1.store s2.store (takes_no_page_same is_free s0.store s1.store (c.in_ok-rooms.ensures.still told never).store)
+    (c.in_ok-write_row.ensures.spares (c.in_ok-rooms.ensures.contents.spares.tells ∙ told))
+
+pub returns-clause-added : goal.returns-clause-added
+returns-clause-added g c =
+    let s0 = g.V.Files.state c.args.files.now in
+    let s1 = g.V.Files.state c.prepare_row.new.files in
+    let s2 = g.V.Files.state c.write_row.new.files in
+    let t = c.args.tuples.now in
+    let stays = StaysAt t.file c.args.indexes.now in
+    let f = c.in_ok-rooms.ensures.contents in
+    let put = c.in_ok-write_row.ensures.added in
+    record {
+      row = λ told. put.row (f.spares.tells ∙ told) ∙ ap (λ (all : List Row). all ++ record { tuple = c.args.values.now; live = true } ∷ []) (rows_prepared s0 s1 stays t f told);
+      count = put.count;
+      holds = put.holds;
+      held = put.held;
+      others = spares_then s0 s1 s2 stays stays stays f.spares put.others (λ k s. (s, s));
+      tables = put.tables;
+    }

@@ -8,6 +8,7 @@ use Rattle.index_set.proofs.Lists.{rooms_stay}
 use Rattle.session_rows.proofs.Rooms.{elsewhere, exact_kept}
 use Rattle.padded.proofs.Facts.{on_err}
 use Rattle.afl_base.proofs.CutLaws.{mends_as}
+use Rattle.afl_base.proofs.SparingLaws.{takes_no_page_on}
 use Rattle.session_rows.proofs.Cuts.{added_keys, added_row}
 use Rattle.session_rows.proofs.adding.write_row.Goals as goal
 use Rattle.tuple_file.proofs.Columns.{rows_counted}
@@ -58,3 +59,11 @@ returns-in_err-insert_all-clause-cut g c = λ cuts told.
     let spared = becomes_spares s0 s1 t.file _ _ c.requires.holds.file.live c.in_ok-append.ensures.appended in
     on_err c.from_residual-in_err-insert_all.result (mends_as (c.in_err-insert_all.ensures.cut cuts (spared.tells ∙ told))
     (λ after f. added_keys t c.args.indexes.now c.args.values.now s0 s1 after c.requires.away spared (c.in_ok-append.ensures.rows told) f))
+
+pub returns-clause-spares : goal.returns-clause-spares
+returns-clause-spares g c = λ told.
+    let s0 = g.V.Files.state c.args.files.now in
+    let s1 = g.V.Files.state c.append.new.files in
+    let s2 = g.V.Files.state c.insert_all.new.files in
+    let spared = becomes_spares s0 s1 c.args.tuples.now.file _ _ c.requires.holds.file.live c.in_ok-append.ensures.appended in
+    takes_no_page_on g.V.Files.is_free s0.store s1.store s2.store (c.in_ok-append.ensures.spares told) (c.in_ok-insert_all.ensures.spares (spared.tells ∙ told))

@@ -52,5 +52,7 @@ returns g c = record {
       (λ told. no_space c.in_ok-answer.answer _ _
       (λ need w. wants_row new now.tables base.held base.opens h.goes_on.running (asks_few (g.V.Files.asks now.files) new.files) relation k t values need (h.goes_on.tells ∙ told) there found w)
       (h.wants told))
-      h.lacks h.untouched h.frame;
+      h.lacks
+      (λ told never. h.spares told (λ need w. never need (wants_row (g.V.Files.state base.files) base.tables base.held base.opens c.requires.running (g.V.Files.asks base.files) relation k t values need told there found w)))
+      h.untouched h.frame;
 }

@@ -1,4 +1,4 @@
-use Rattle.std.proofs.Common.{◌≡◌, List, ap, map, refl, sym, subst, ◌∙◌}
+use Rattle.std.proofs.Common.{◌≡◌, ℕ, List, ap, map, refl, sym, subst, ◌∙◌}
 use Rattle.afl_base.specs.Asked.{asks_few}
 use Rattle.afl_base.specs.Frames.{SparesOthers}
 use Rattle.index_set.specs.declared.info.IndexInfo.{IndexInfo}
@@ -103,3 +103,9 @@ returns-in_err-answer-clause-cut g c = λ cuts told.
     on_err c.from_residual.result (mends_as
     (c.in_err-answer.ensures.cut cuts told k db refl (indexes_seen k t c.args.held.now.indexes ∙ ap (λ (l : List IndexInfo). map (index_of_info k) l) (sym e)))
     (λ after m. subst (λ (l : List IndexInfo). MayChange old after t l (insert_into c.args.values.now k db (relation_of_rows old.files t))) e m))
+
+pub returns-clause-spares : goal.returns-clause-spares
+returns-clause-spares g c = λ told never.
+    let old = g.V.Files.state c.args.files.now in
+    let wants : List IndexInfo → ℕ → Type 0 = λ l need. WantsRow (g.V.Files.asks c.args.files.now) old c.args.tuples.now l c.args.values.now need in
+    c.in_ok-answer.ensures.spares told (λ need wanted. never need (subst (λ (l : List IndexInfo). wants l need) c.indexes_of-indexes.ensures wanted))

@@ -11,6 +11,7 @@ use Rattle.db_model.specs.Step.{insert_into}
 use Rattle.session_model.specs.View.{relation_of_rows}
 use Rattle.session_rows.specs.Refused.{IsRefusedBy}
 use Rattle.session_rows.proofs.Cuts.{changed_added, changed_none}
+use Rattle.session_rows.proofs.Unwanted.{row_before}
 use Rattle.session_rows.proofs.inserting.insert_row.Goals as goal
 
 pub returns-in-Ok-clause-grows : goal.returns-in-Ok-clause-grows
@@ -54,3 +55,12 @@ returns-in-Err-Failed-clause-cut g c = λ cuts told k db version indexes.
     let accepted = subst (λ (no : Option Refusal). IsRefusedBy (insert_into values k db r) no (record r { rows = r.rows ++ record { tuple = values; live = true } ∷ [] }))
     c.in_default.is (c.in_ok-refusal.ensures.refused told k db version indexes) in
     mends_as left (λ after m. changed_added old after t infos values (insert_into values k db r) accepted m)
+
+pub returns-in-Ok-clause-spares : goal.returns-in-Ok-clause-spares
+returns-in-Ok-clause-spares g c = λ told never.
+    let asks = g.V.Files.asks in
+    let start = c.args.files.now in
+    let mid = c.refused_row.new.files in
+    let same = c.in_ok-refusal.ensures.frame.same in
+    (rw same at c.in-Ok.ensures.spares) told
+    (λ need wanted. never need (row_before (asks start) (asks mid) (g.V.Files.asks_seen start mid same told c.requires.idle) (g.V.Files.state start) c.args.tuples.now c.args.indexes.now c.args.values.now need wanted))

@@ -1,6 +1,7 @@
 use Rattle.std.proofs.Common.{◌≡◌, ◌≢◌, ◌<◌, ℕ, List, take, get_or, length, set, subst, sym, ap, ◌∙◌, add-one, arith}
 use Rattle.afl_base.specs.Files.{bytes_at}
 use Rattle.afl_base.proofs.FrameLaws.{becomes_spares, spares_then}
+use Rattle.afl_base.proofs.SparingLaws.{takes_no_page_on}
 use Rattle.db_model.specs.Row.{Row, no_row}
 use Rattle.tuple_file.specs.Tuples.{row, rows, slots}
 use Rattle.cursor.proofs.Walking.{row_there}
@@ -44,6 +45,7 @@ loop-slot-preserved g c =
           ∙ ap (λ (rs : List Row). set rs slot (dead (get_or rs slot no_row))) (inv.told told)
           ∙ marks_next R0 items i slot below here
           ∙ ap (λ (n : ℕ). marked (take n items) R0) (sym (add-one i));
+      free = λ told. takes_no_page_on g.V.Files.is_free s0.store s1.store s2.store (inv.free told) (h.spares (inv.spared.tells ∙ told));
       store = h.frame.store ∙ inv.store;
       lent = h.frame.lent ∙ inv.lent;
       faults = omega (arith, inv.faults, h.frame.cause.later);

@@ -1,4 +1,4 @@
-use Rattle.std.proofs.Common.{◌∙◌}
+use Rattle.std.proofs.Common.{◌∙◌, inr, refl}
 use Rattle.tuple_file.specs.Tuples.{rows}
 use Rattle.session_rows.proofs.Marked.{all_removed}
 use Rattle.afl_base.proofs.CutLaws.{mends_as}
@@ -18,3 +18,6 @@ pub returns-in_err-mark_slots-clause-cut : goal.returns-in_err-mark_slots-clause
 returns-in_err-mark_slots-clause-cut g c = λ cuts told failed condition code is.
     mends_as (c.in_err-mark_slots.ensures.cut cuts told (failed_too _ _ c.from_residual-in_err-mark_slots.ensures.1 failed))
     (λ after m. removed_front (g.V.Files.state c.args.files.now) after c.args.tuples.now condition c.args.selected.now c.if-selected-gt29.false is m)
+
+pub returns-in_ok-rewrite_rows-clause-spares : goal.returns-in_ok-rewrite_rows-clause-spares
+returns-in_ok-rewrite_rows-clause-spares g c = λ told never. absurd (never _ (inr (c.if-selected-gt29.true, refl)))

@@ -1,4 +1,5 @@
 use Rattle.std.proofs.Common.{refl}
+use Rattle.afl_base.specs.Asked.{asks_few}
 use Rattle.db_model.specs.declared.commands.Command.TheVariants as command
 use Rattle.db_model.specs.Database.{relation_named}
 use Rattle.db_model.specs.Step.{pack as pack_in}
@@ -43,8 +44,10 @@ returns-clause-carried g c =
     let h = c.in_ok-answer.ensures in
     carries_of_one g.V.Files (command.Pack relation) pack_in relation base files base.tables k t c.in_ok-answer.answer refl refl (λ reads. absurd reads) found there
     h.changed h.goes_on
-    (λ told. no_space c.in_ok-answer.answer _ _ (λ need w. pack_wants (g.V.Files.asks files) (g.V.Files.state files).files base.held base.opens relation k t need found w) (h.wants told))
-    h.lacks h.untouched h.frame
+    (λ told. no_space c.in_ok-answer.answer _ _ (λ need w. pack_wants (asks_few (g.V.Files.asks files) (g.V.Files.state files).files) (g.V.Files.state files).files base.held base.opens relation k t need found w) (h.wants told))
+    h.lacks
+    (λ told never. h.spares told (λ need w. never need (pack_wants (g.V.Files.asks base.files) (g.V.Files.state base.files).files base.held base.opens relation k t need found w)))
+    h.untouched h.frame
 
 pub returns-in_default-clause-idle : goal.returns-in_default-clause-idle
 returns-in_default-clause-idle g c = λ told. if_found (relation_named (view (g.V.Files.state c.args.base.now.files).files c.args.base.now.held c.args.base.now.opens) c.args.relation.now) (λ found. HasOnlyLiveRows found.1) _ refl

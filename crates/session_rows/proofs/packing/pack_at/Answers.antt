@@ -1,4 +1,4 @@
-use Rattle.std.proofs.Common.{◌≡◌, ℕ, List, refl, sym, ◌∙◌, ◌≢◌, inr}
+use Rattle.std.proofs.Common.{◌≡◌, ℕ, List, ap, refl, sym, ◌∙◌, ◌≢◌, inr}
 use Rattle.afl_base.specs.declared.kind.FileError.TheVariants.{Space, Failed as FileFailed}
 use Rattle.afl_base.proofs.FrameLaws.{becomes_spares, spares_fewer}
 use Rattle.index_set.specs.declared.info.IndexInfo.{IndexInfo}
@@ -12,7 +12,9 @@ use Rattle.session_rows.proofs.Changes.{keeps_all, relation_same, rows_dropped, 
 use Rattle.session_rows.proofs.Packs.{is_indexed, is_packed, is_read, may_pack, no_infos, none_counted, some_counted, wants_packed}
 use Rattle.afl_base.proofs.CutLaws.{either_as}
 use Rattle.db_model.specs.Step.{Fine, pack}
+use Rattle.afl_base.proofs.SparingLaws.{takes_no_page_same}
 use Rattle.session_rows.proofs.Cuts.{changed_none}
+use Rattle.session_rows.proofs.Unwanted.{none_removed}
 use Rattle.session_rows.proofs.packing.pack_at.Goals as goal
 
 never_space : {need : ℕ} → Space need ≡ FileFailed → ⊥
@@ -116,3 +118,10 @@ returns-in-Err-Failed-clause-cut g c = λ cuts told.
       others = spares_fewer old after (λ j. j ≢ t.file) (StaysAt t.file infos) (becomes_spares old after t.file _ _ here.holds.file.live packed.0) (λ j stays. stays.0);
       relation = inr (Fine, is_packed old.files held opens k t after.files unread none packed.1);
     })
+
+pub returns-in-Ok-clause-spares : goal.returns-in-Ok-clause-spares
+returns-in-Ok-clause-spares g c = λ told never.
+    let old = g.V.Files.state c.args.files.now in
+    let new = g.V.Files.state c.pack.new.files in
+    let same = c.in-Ok.ensures.same told (none_removed (relation_of_rows old.files c.args.tuples.now) never) in
+    takes_no_page_same g.V.Files.is_free old.store new.store (ap (λ s. s.store) same)

@@ -8,6 +8,7 @@ use Rattle.session_model.proofs.Readable.{are_indexes, are_numbers, are_on_numbe
 use Rattle.session_model.proofs.Running.{relation_there, rows_change}
 use Rattle.session_rows.proofs.Changes.{goes_on}
 use Rattle.session_rows.proofs.Refusals.{is_read, is_refused, removal, removal_keys, may_remove}
+use Rattle.session_rows.proofs.Unwanted.{on_done}
 use Rattle.session_rows.proofs.Wants.{no_space}
 use Rattle.padded.proofs.Facts.{on_err}
 use Rattle.session_rows.proofs.removing.remove_at.Goals as goal
@@ -97,3 +98,11 @@ returns-in_err-answer-clause-cut g c = λ cuts told.
     let complete = subst (λ (l : List IndexInfo). AreIndexesOf old c.args.tables.now (rows old.files t) l) (sym c.indexes_of-indexes.ensures)
     (are_indexes old c.args.tables.now c.args.held.now c.args.opens.now c.requires.running c.args.k t c.requires.there told) in
     on_err c.from_residual.result (c.in_err-answer.ensures.cut cuts told (condition_of c.args.condition.now) c.in-Ok.ensures.code complete)
+
+pub returns-clause-spares : goal.returns-clause-spares
+returns-clause-spares g c = λ told never.
+    let old = g.V.Files.state c.args.files.now in
+    let t = c.args.tuples.now in
+    let complete = subst (λ (l : List IndexInfo). AreIndexesOf old c.args.tables.now (rows old.files t) l) (sym c.indexes_of-indexes.ensures)
+    (are_indexes old c.args.tables.now c.args.held.now c.args.opens.now c.requires.running c.args.k t c.requires.there told) in
+    on_done c.in_ok-answer.answer _ _ (λ spares. spares (condition_of c.args.condition.now) c.in-Ok.ensures.code complete never) (c.in_ok-answer.ensures.spares told)

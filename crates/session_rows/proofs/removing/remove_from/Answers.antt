@@ -1,4 +1,5 @@
 use Rattle.std.proofs.Common.{refl}
+use Rattle.afl_base.specs.Asked.{asks_few}
 use Rattle.db_model.specs.declared.commands.Command.TheVariants as command
 use Rattle.db_model.specs.Cond.{condition_of}
 use Rattle.db_model.specs.Step.{remove_from as remove_in}
@@ -48,7 +49,9 @@ returns g c = record {
       carries_of_one g.V.Files (command.RemoveFrom relation condition) (remove_in (condition_of condition)) relation base files base.tables k t c.in_ok-answer.answer refl refl (λ reads. absurd reads) found there
       h.changed h.goes_on
       (λ told. no_space c.in_ok-answer.answer _ _
-      (λ need w. remove_wants new base.tables base.held base.opens h.goes_on.running (g.V.Files.asks files) relation condition k t need found there _ refl w)
+      (λ need w. remove_wants new base.tables base.held base.opens h.goes_on.running (asks_few (g.V.Files.asks files) new.files) relation condition k t need found there _ refl w)
       (h.wants told))
-      h.lacks h.untouched h.frame;
+      h.lacks
+      (λ told never. h.spares told (λ need w. never need (remove_wants (g.V.Files.state base.files) base.tables base.held base.opens c.requires.running (g.V.Files.asks base.files) relation condition k t need found there _ refl w)))
+      h.untouched h.frame;
 }

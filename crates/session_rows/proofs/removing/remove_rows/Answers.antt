@@ -16,6 +16,7 @@ use Rattle.afl_base.proofs.FrameLaws.{spares_same}
 use Rattle.lvm.specs.declared.instruction.Instruction.{Instruction}
 use Rattle.lvm.specs.Code.{IsCodeOf}
 use Rattle.session_rows.proofs.Cuts.{removed_none}
+use Rattle.session_rows.proofs.Unwanted.{removal_before}
 use Rattle.session_rows.proofs.removing.remove_rows.Goals as goal
 
 pub returns-in-Ok-clause-removed : goal.returns-in-Ok-clause-removed
@@ -94,3 +95,21 @@ returns-in-Err-Failed-clause-cut g c = λ cuts told condition code indexes.
     let coded = c.in_ok-selected.ensures.code ∙ begun.begun.code in
     (rw same at (rw c.in-Err-Failed.field-0-is at c.in-Err-Failed.ensures.cut)) cuts told refl condition
     (subst (λ (z : List Instruction). IsCodeOf t.schema.attributes condition z) (sym coded) code) is
+
+pub returns-in-Ok-clause-spares : goal.returns-in-Ok-clause-spares
+returns-in-Ok-clause-spares g c = λ told condition code indexes never.
+    let asks = g.V.Files.asks in
+    let start = c.args.files.now in
+    let late = c.select_slots.new.files in
+    let old = g.V.Files.state start in
+    let t = c.args.tuples.now in
+    let s = c.in_ok-selected.selected in
+    let size = size_at old.files t.file in
+    let begun = c.in_ok-cursor.ensures in
+    let all = rows old.files t in
+    let is = is_selected old (g.V.Files.state c.begin.new.files) c.args.tables.now t c.copy.result c.args.indexes.now c.args.code c.in_ok-cursor.cursor s c.copy.ensures begun.frame.same begun.begun.tuples
+    (λ told condition code indexes. (begun.begins told condition code indexes).slots_left) begun.fits c.in_ok-selected.ensures.selected told condition code indexes in
+    let same = c.in_ok-selected.ensures.frame.same ∙ begun.frame.same in
+    (rw same at c.in-Ok.ensures.spares) told (λ need wanted. never need
+    (wants_selected (asks start) t.file size need (length (selected t.schema.attributes condition all)) s (selected_slots t.schema.attributes condition all) is (counted t.schema.attributes condition all)
+    (removal_before (asks start) (asks late) (g.V.Files.asks_seen start late same told c.requires.idle) t.file s.count (length s.first) size need wanted)))

@@ -22,6 +22,9 @@ returns-in-Ok-clause-done g c = rw (← c.self.view_is) c.in-Ok.ensures.executed
 pub returns-in-Ok-clause-space : goal.returns-in-Ok-clause-space
 returns-in-Ok-clause-space g c = rw (← c.self.view_is) (pages_lack _ _ _ _ _ _ _ c.in-Ok.step _ _ c.in-Ok.ensures.executed)
 
+pub returns-in-Ok-clause-spares : goal.returns-in-Ok-clause-spares
+returns-in-Ok-clause-spares g c = rw (← c.self.view_is) c.in-Ok.ensures.executed.spares
+
 pub returns-in-Ok-clause-silent : goal.returns-in-Ok-clause-silent
 returns-in-Ok-clause-silent g c = both_there c.in-Ok.step _ _ c.in-Ok.ensures.executed.lacks c.in-Ok.ensures.executed.silent
 

@@ -10,6 +10,7 @@ use Rattle.coffee_volume.proofs.Standing.{Stands, stands_failed, stands_same, wh
 use Rattle.coffee_volume.proofs.States.{room_set}
 use Rattle.coffee_volume.proofs.Tables.{told_by}
 use Rattle.coffee_volume.proofs.Written.{append_becomes, append_sets}
+use Rattle.coffee_volume.proofs.Asking.{units_spared}
 use Rattle.coffee_volume.proofs.Windows.{none_held}
 use Rattle.coffee_volume.proofs.files.VolumeFiles.append.Goals as goal
 
@@ -107,3 +108,7 @@ returns-in_err-used-clause-cut g c = λ u told.
     on_err c.from_residual.result
     (append_mends g.F.Flash.tells v.failed old (g.F.Flash.image c.append_file.new.flash) v.table v.draft c.args.id e c.args.bytes.now s told c.append_file.ensures.frame.size
     c.entry-entry.ensures.entry fits (c.in_err-used.ensures.cut both.0 u))
+
+pub returns-clause-spares : goal.returns-clause-spares
+returns-clause-spares g c = λ told.
+    units_spared (g.F.Flash.image c.args.self.now.flash) (g.F.Flash.image c.append_file.new.flash) (returns-clause-units g c told)

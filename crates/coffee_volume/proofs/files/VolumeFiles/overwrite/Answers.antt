@@ -10,6 +10,7 @@ use Rattle.coffee_volume.proofs.Standing.{Stands, stands_failed, stands_same, wh
 use Rattle.coffee_volume.proofs.States.{room_set}
 use Rattle.coffee_volume.proofs.Tables.{told_by}
 use Rattle.coffee_volume.proofs.Written.{overwrite_becomes, overwrite_sets}
+use Rattle.coffee_volume.proofs.Asking.{units_spared}
 use Rattle.coffee_volume.proofs.Windows.{none_held}
 use Rattle.coffee_volume.proofs.files.VolumeFiles.overwrite.Goals as goal
 
@@ -103,3 +104,7 @@ returns-in_err-used-clause-cut g c = λ u told.
     on_err c.from_residual.result
     (overwrite_mends g.F.Flash.tells v.failed old (g.F.Flash.image c.overwrite_file.new.flash) v.table v.draft c.args.id e c.in-Some.log c.args.at c.args.bytes.now s told c.overwrite_file.ensures.frame.size
     c.entry-entry.ensures.entry c.in-Some.is within (λ all. c.requires.last (all ∙ sym c.entry-entry.ensures.size)) (c.in_err-used.ensures.cut both.0 u))
+
+pub returns-clause-spares : goal.returns-clause-spares
+returns-clause-spares g c = λ told.
+    units_spared (g.F.Flash.image c.args.self.now.flash) (g.F.Flash.image c.overwrite_file.new.flash) (returns-clause-units g c told)

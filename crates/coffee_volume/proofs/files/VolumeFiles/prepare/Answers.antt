@@ -4,7 +4,8 @@ use Rattle.std.proofs.lemmas.Result.{err_from_is_err_and}
 use Rattle.coffee_volume.specs.Rooms.{pages_asked}
 use Rattle.coffee_volume.specs.Lowest.{LooksFor, log_for}
 use Rattle.coffee_volume.specs.Steps.{step_for}
-use Rattle.coffee_volume.specs.Volumes.{AtEntry, EntryTable, IsEntry, state_seen}
+use Rattle.coffee_volume.specs.Volumes.{AtEntry, EntryTable, IsEntry, places, state_seen}
+use Rattle.coffee_volume.proofs.Asking.{asks_alike}
 use Rattle.coffee_volume.proofs.MendedFiles.{between_mends}
 use Rattle.coffee_volume.proofs.Moved.{none_wanted}
 use Rattle.coffee_volume.proofs.Stepped.{asked_step}
@@ -12,8 +13,8 @@ use Rattle.coffee_volume.proofs.Tables.{entry_seen, space_with}
 use Rattle.coffee_volume.proofs.Takings.{handed_on, nothing_taken, same_more, space_handed, steps_taken, stops_first, stops_log, turns_lowest}
 use Rattle.coffee_volume.proofs.files.VolumeFiles.prepare.Goals as goal
 
-pub returns-in_err-reshape-clause-still : goal.returns-in_err-reshape-clause-still
-returns-in_err-reshape-clause-still g c never =
+pub returns-in_err-reshape-clause-unchanged : goal.returns-in_err-reshape-clause-unchanged
+returns-in_err-reshape-clause-unchanged g c never =
     let v = c.args.self.now in
     let w : ℕ = c.args.overwrites in
     let b : ℕ = c.args.bytes in
@@ -21,8 +22,8 @@ returns-in_err-reshape-clause-still g c never =
     let none : pages_asked had.0.at w b ≡ None = none_wanted v.table c.args.id had.0 w b had.1 never in
     (c.reshape.ensures.still had.0 had.1 (asked_step had.0.at w b none)).0
 
-pub returns-in_err-provide_log-clause-still : goal.returns-in_err-provide_log-clause-still
-returns-in_err-provide_log-clause-still g c never =
+pub returns-in_err-provide_log-clause-unchanged : goal.returns-in_err-provide_log-clause-unchanged
+returns-in_err-provide_log-clause-unchanged g c never =
     let v = c.args.self.now in
     let w : ℕ = c.args.overwrites in
     let b : ℕ = c.args.bytes in
@@ -30,10 +31,10 @@ returns-in_err-provide_log-clause-still g c never =
     let none : pages_asked had.0.at w b ≡ None = none_wanted v.table c.args.id had.0 w b had.1 never in
     let first = c.reshape.ensures.still had.0 had.1 (asked_step had.0.at w b none) in
     let still : IsEntry c.reshape.new.self.table c.args.id had.0 = subst (λ (t : EntryTable). IsEntry t c.args.id had.0) (sym first.1) had.1 in
-    c.provide_log.ensures.still had.0 still none ∙ first.0
+    (c.provide_log.ensures.still had.0 still none).0 ∙ first.0
 
-pub returns-clause-still : goal.returns-clause-still
-returns-clause-still g c never =
+pub returns-clause-unchanged : goal.returns-clause-unchanged
+returns-clause-unchanged g c never =
     let v = c.args.self.now in
     let w : ℕ = c.args.overwrites in
     let b : ℕ = c.args.bytes in
@@ -41,7 +42,7 @@ returns-clause-still g c never =
     let none : pages_asked had.0.at w b ≡ None = none_wanted v.table c.args.id had.0 w b had.1 never in
     let first = c.reshape.ensures.still had.0 had.1 (asked_step had.0.at w b none) in
     let still : IsEntry c.reshape.new.self.table c.args.id had.0 = subst (λ (t : EntryTable). IsEntry t c.args.id had.0) (sym first.1) had.1 in
-    ap g.F.Flash.image c.grant.ensures.flash ∙ c.provide_log.ensures.still had.0 still none ∙ first.0
+    ap g.F.Flash.image c.grant.ensures.flash ∙ (c.provide_log.ensures.still had.0 still none).0 ∙ first.0
 
 pub returns-clause-taken : goal.returns-clause-taken
 returns-clause-taken g c =
@@ -169,3 +170,18 @@ returns-in_err-provide_log-clause-cut g c = λ u told failed.
     let said = err_from_is_err_and c.from_residual-in_err-provide_log.result c.from_residual-in_err-provide_log.ensures.1 in
     between_mends old now c.args.id (g.F.Flash.image c.provide_log.new.self.flash) told c.requires.live kept
     (c.provide_log.ensures.cut u (subst IsTrue (sym kept.tells) told) (c.in_err-provide_log.was ∙ sym (said.1 ∙ ap (λ e. Err e) said.2) ∙ failed))
+
+pub returns-clause-still : goal.returns-clause-still
+returns-clause-still g c never =
+    let v = c.args.self.now in
+    let w : ℕ = c.args.overwrites in
+    let b : ℕ = c.args.bytes in
+    let had = entry_seen (g.F.Flash.tells && not v.failed) (g.F.Flash.image v.flash) v.table c.args.id c.requires.live in
+    let none : pages_asked had.0.at w b ≡ None = none_wanted v.table c.args.id had.0 w b had.1 never in
+    let first = c.reshape.ensures.still had.0 had.1 (asked_step had.0.at w b none) in
+    let still : IsEntry c.reshape.new.self.table c.args.id had.0 = subst (λ (t : EntryTable). IsEntry t c.args.id had.0) (sym first.1) had.1 in
+    let second = c.provide_log.ensures.still had.0 still none in
+    record {
+      store = ap g.F.Flash.image c.grant.ensures.flash ∙ second.0 ∙ first.0;
+      asks_less = asks_alike v.table c.grant.new.self.table (c.grant.ensures.places ∙ ap places (second.1 ∙ first.1));
+    }

@@ -39,8 +39,8 @@ returns-clause-removed g c =
     (seen_removes (g.F.Flash.tells && not v.failed) old new _ v.table id e inside c.entry-file.ensures.entry v.regular
     (where_told g.F.Flash.tells v.failed _ (λ told no. (c.in_ok-retire_file.ensures.retired told _ id (holds_idle g.F.Flash.tells v.failed old v.table v.draft s idle told no) (in_places v.table id e c.entry-file.ensures.entry)).others)))
 
-pub returns-clause-taken : goal.returns-clause-taken
-returns-clause-taken g c = λ told.
+pub returns-clause-spares : goal.returns-clause-spares
+returns-clause-spares g c = λ told.
     let v = c.args.self.now in
     let old = g.F.Flash.image v.flash in
     let new = g.F.Flash.image c.retire_file.new.flash in

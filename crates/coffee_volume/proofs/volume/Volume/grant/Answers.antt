@@ -1,4 +1,4 @@
-use Rattle.std.proofs.Common.{◌<◌, ◌&&◌, not, ℕ, List, Option, length, refl, sym, subst, arith}
+use Rattle.std.proofs.Common.{◌<◌, ◌&&◌, not, ℕ, List, Option, Some, length, refl, sym, subst, ◌∙◌, arith}
 use Rattle.afl_base.proofs.FileLaws.{file_here}
 use Rattle.coffee_layout.specs.Units.{pages_of}
 use Rattle.coffee_layout.specs.declared.file.FileAt.{FileAt}
@@ -9,7 +9,7 @@ use Rattle.coffee_volume.proofs.Moved.{room_becomes, same_place}
 use Rattle.coffee_volume.proofs.Standing.{Stands, stands_same}
 use Rattle.coffee_volume.proofs.States.{room_set}
 use Rattle.coffee_volume.proofs.Stepped.{regular_granted}
-use Rattle.coffee_volume.proofs.Tables.{in_places}
+use Rattle.coffee_volume.proofs.Tables.{in_places, places_set}
 use Rattle.coffee_volume.proofs.Windows.{none_held}
 use Rattle.coffee_volume.proofs.volume.Volume.grant.Goals as goal
 
@@ -59,3 +59,12 @@ returns-clause-room g c =
     let inside : id < length v.table = omega (arith, v.count, c.number.ensures.below, c.number.ensures.value) in
     let there = file_here _ id _ (room_set (g.F.Flash.tells && not v.failed) (g.F.Flash.image v.flash) v.table id f inside) in
     rw (c.number.ensures.value, there) refl
+
+pub returns-clause-places : goal.returns-clause-places
+returns-clause-places g c =
+    let v = c.args.self.now in
+    let e : Entry = c.entry-entry.result in
+    let i : ℕ = c.number.result in
+    let f : Entry = record { at = e.at; records = c.args.records; room = c.args.room } in
+    let is : IsEntry v.table i e = rw c.number.ensures.value c.entry-entry.ensures.entry in
+    places_set v.table i (Some f) ∙ same_place (places v.table) i e.at (in_places v.table i e is)

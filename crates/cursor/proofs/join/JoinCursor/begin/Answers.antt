@@ -18,5 +18,6 @@ returns-clause-cost g c =
       at = 0;
       from = 0;
       inner = None;
+      hint = None;
     } in
     cost_begin begun (rows files c.args.left) (rows files c.args.right) refl refl c.count-left_slots.ensures.rows c.count-right_slots.ensures.rows refl

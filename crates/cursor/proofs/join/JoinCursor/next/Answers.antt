@@ -1,4 +1,4 @@
-use Rattle.std.proofs.Common.{rules, ◌≡◌, ◌+◌, ◌≤◌, ◌∙◌, None, ap, arith}
+use Rattle.std.proofs.Common.{rules, ◌+◌, ◌∙◌, None, ap, arith}
 use Rattle.tuple_file.specs.Tuples.{rows}
 use Rattle.cursor.specs.declared.join.JoinCursor.{JoinCursor}
 use Rattle.cursor.specs.Pairs.{FailsPair, FitsPairs, behind_pair}

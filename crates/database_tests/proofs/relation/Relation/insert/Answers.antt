@@ -1,4 +1,4 @@
-use Rattle.std.proofs.Common.{rules, ◌≡◌, ◌+◌, ◌<◌, ap, ◌∙◌, arith}
+use Rattle.std.proofs.Common.{◌≡◌, ◌+◌, ◌<◌, ap, sym, ◌∙◌, arith}
 use Rattle.tuple_file.specs.Tuples.{slots}
 use Rattle.database_tests.proofs.Standing.{goes_more, slots_before, stands_more}
 use Rattle.database_tests.proofs.relation.Relation.insert.Goals as goal
@@ -11,7 +11,7 @@ returns-clause-stands g c =
     let e = g.V.Files.state c.append.new.files in
     let f = g.V.Files.state c.insert_all.new.files in
     let t = c.args.self.now.tuples in
-    let old : slots a.files t ≡ c.in_ok-slot.slot = search rules in
+    let old : slots a.files t ≡ c.in_ok-slot.slot = sym c.in_ok-slot.ensures.next in
     let second = rw c.indexes-indexes.ensures.indexes at c.in_ok-rooms.ensures.contents in
     let keys = rw c.indexes-indexes.ensures.indexes at c.in_ok-insert_all.ensures.others in
     let held = rw c.indexes-indexes.ensures.indexes at c.in_ok-insert_all.ensures.held in
@@ -30,7 +30,7 @@ returns-clause-goes_on g c =
     let e = g.V.Files.state c.append.new.files in
     let f = g.V.Files.state c.insert_all.new.files in
     let t = c.args.self.now.tuples in
-    let old : slots a.files t ≡ c.in_ok-slot.slot = search rules in
+    let old : slots a.files t ≡ c.in_ok-slot.slot = sym c.in_ok-slot.ensures.next in
     let second = rw c.indexes-indexes.ensures.indexes at c.in_ok-rooms.ensures.contents in
     let keys = rw c.indexes-indexes.ensures.indexes at c.in_ok-insert_all.ensures.others in
     let before = slots_before a b d e f c.args.tables.now c.insert_all.new.tables t c.args.self.now.tree c.in_ok-slot.slot _ _ c.requires.stands c.in_ok-prepare.ensures.contents second c.in_ok-append.ensures.appended keys old in

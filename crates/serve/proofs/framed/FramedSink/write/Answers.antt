@@ -1,4 +1,4 @@
-use Rattle.std.proofs.Common.{◌∷◌, [], true, None, refl, take, ap, ◌∙◌, arith, ℕ}
+use Rattle.std.proofs.Common.{true, None, refl, take, ap, ◌∙◌, arith, ℕ}
 use Rattle.std.proofs.lemmas.List.{length-take}
 use Rattle.std.specs.Io.KnownBytes.{append_known}
 use Rattle.reply_text.proofs.Pieces.{append_known-nil}

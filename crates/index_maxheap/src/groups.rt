@@ -1,0 +1,95 @@
+//! Pairs on their way into a draft: those of a node go out in groups of four.
+
+#![tactic(auto)]
+
+ghost use Rattle.std.specs.Prelude.{◌≡◌, ◌+◌, ◌*◌, ◌/◌, ◌%◌, ◌^◌, ◌<◌, ◌≤◌, IsSome, IsTrue, OnErr, OnOk, get_or, length, slice_range};
+ghost use Rattle.afl_base.specs.Files.{WritesDraft, draft_in};
+ghost use Rattle.afl_base.specs.Keeping.{Changes};
+ghost use Rattle.index_maxheap.specs.Builds.{HasZeros, TakesIn, with_bucket};
+ghost use Rattle.index_tree.specs.Pairs.{pair};
+
+use crate::bytes::pair_bytes;
+use crate::tree::bucket_place;
+use afl_base::{Failed, Files, SlotNo, put_bytes};
+
+/// The pairs of a group, of which a bucket has eight.
+pub const GROUP: u16 = 4;
+
+/// The bytes of a pair.
+pub const PAIR_SIZE: usize = 6;
+
+/// The bytes of a group.
+pub const GROUP_SIZE: usize = GROUP as usize * PAIR_SIZE;
+
+/// Of each node how many pairs it has, where its last bucket lies, and the pairs of its last group: as
+/// long as that is not whole, the draft does not have them. And how many buckets there are.
+#[derive(Drop)]
+pub struct Nodes {
+    pub loads: [u16; 341],
+    pub places: [u32; 341],
+    pub groups: [u8; 341 * GROUP_SIZE],
+    pub opened: u16,
+}
+
+impl Nodes {
+    /// Has one pair more of a node wait.
+    pub fn take_in(&mut self, node: u16, key: &i32, slot: SlotNo)
+        requires node { node < 341 }
+        requires few { get_or self.old.loads node 0 < 65535 }
+        ensures { TakesIn self.old self.new node (pair key.now slot) }
+    {
+        let n = usize::from(node);
+        let load = self.loads[n];
+        let bytes = pair_bytes(key, slot);
+        let groups = &mut self.groups[..];
+        put_bytes(
+            groups,
+            GROUP_SIZE * n + PAIR_SIZE * usize::from(load % GROUP),
+            &bytes,
+        );
+        self.loads[n] = load + 1;
+    }
+
+    /// Opens a node's next bucket behind all others.
+    pub fn open(&mut self, node: u16)
+        requires node { node < 341 }
+        requires few { self.old.opened < 65535 }
+        ensures { self.new ≡ with_bucket self.old node }
+    {
+        self.places[usize::from(node)] = bucket_place(self.opened);
+        self.opened += 1;
+    }
+
+    /// Writes so many bytes of a node's group to a place of the draft.
+    pub fn write<V: Files>(
+        &self,
+        files: &mut V,
+        node: u16,
+        at: u32,
+        size: usize,
+    ) -> Result<(), Failed>
+        requires node { node < 341 }
+        requires size { size ≤ 24 }
+        requires begun { IsSome (V.state files.old).draft }
+        requires range { at + size ≤ length (draft_in (V.state files.old)).bytes }
+        requires zeros { IsTrue (V.state files.old).tells
+            → HasZeros (draft_in (V.state files.old)).bytes at size }
+        ensures written { OnOk result (WritesDraft (V.state files.old) (V.state files.new) at
+            (slice_range self.now.groups (24 * node) (24 * node + size))) }
+        ensures cut { IsTrue V.cuts → IsTrue (V.state files.old).tells → OnErr result
+            (V.mends (V.state files.new).store (V.state files.old).files) }
+        ensures frame { Changes V.state V.lent V.reads V.faults files.old files.new result }
+    {
+        let from = GROUP_SIZE * usize::from(node);
+        files.draft_write(at, &self.groups[from..from + size])?;
+        Ok(())
+    }
+}
+
+/// Where the last group of a node with so many pairs belongs, by where its last bucket lies.
+pub fn group_place(place: u32, load: u16) -> u32
+    requires { place < 2 ^ 25 }
+    ensures { result ≡ place + 24 * (load % 32 / 4) }
+{
+    place + GROUP_SIZE as u32 * u32::from(load % 32 / GROUP)
+}

@@ -1,6 +1,0 @@
-use Rattle.std.proofs.Common.{◌≡◌, drop}
-use Rattle.run_words.specs.Words.{is_named_among}
-use Rattle.run_words.proofs.planned.is_named_among.Given as goal
-
-abbrev pub invariant-loop-named : goal.invariant-loop-named
-invariant-loop-named l = is_named_among l.name (drop l.named-index l.all) ≡ is_named_among l.name l.all
