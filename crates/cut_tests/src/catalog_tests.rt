@@ -42,7 +42,7 @@ const OLD: &[Case] = &[
         sectors: 8,
         before: &[],
         asks: Asks::Script(MARKED),
-        times: 64,
+        times: 72,
         one_in: 4,
     },
     Case {
@@ -50,7 +50,7 @@ const OLD: &[Case] = &[
         sectors: 10,
         before: &[],
         asks: Asks::Script(INDEXED),
-        times: 64,
+        times: 72,
         one_in: 4,
     },
 ];

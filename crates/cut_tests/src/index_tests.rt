@@ -34,7 +34,7 @@ const INDEXES: &[Case] = &[
         sectors: 24,
         before: MADE,
         asks: Asks::Script(INDEXED),
-        times: 18,
+        times: 36,
         one_in: 32,
     },
     Case {
@@ -42,7 +42,7 @@ const INDEXES: &[Case] = &[
         sectors: 11,
         before: MADE,
         asks: Asks::Script(INDEXED),
-        times: 14,
+        times: 28,
         one_in: 32,
     },
 ];
@@ -53,7 +53,7 @@ const ROOMY: &[Case] = &[Case {
     sectors: 64,
     before: MADE,
     asks: Asks::Script(INDEXED),
-    times: 6,
+    times: 9,
     one_in: 32,
 }];
 
@@ -62,7 +62,7 @@ const LOADS: &[Case] = &[Case {
     sectors: 12,
     before: &[],
     asks: Asks::Script(LOADED),
-    times: 24,
+    times: 30,
     one_in: 64,
 }];
 

@@ -28,7 +28,7 @@ const SERVED_LINES: &[Case] = &[Case {
     sectors: 16,
     before: MADE,
     asks: Asks::Frames(SERVED),
-    times: 64,
+    times: 96,
     one_in: 16,
 }];
 
@@ -38,7 +38,7 @@ const GENERATED: &[Case] = &[
         sectors: 9,
         before: &[],
         asks: Asks::Generated("7", 40),
-        times: 40,
+        times: 54,
         one_in: 16,
     },
     Case {
@@ -46,7 +46,7 @@ const GENERATED: &[Case] = &[
         sectors: 64,
         before: &[],
         asks: Asks::Generated("11", 24),
-        times: 24,
+        times: 32,
         one_in: 64,
     },
 ];
