@@ -285,3 +285,7 @@ some_named (Some f) n named = refl
 
 pub named_live : (files : Table) (id : ℕ) (n : List ℕ) → IsNamed files id n → IsLive files id
 named_live files id n named = some_named (place files id) n named
+
+-- a file has one name
+pub one_name : (files : Table) (k : ℕ) (a b : List ℕ) → IsNamed files k a → IsNamed files k b → a ≡ b
+one_name files k a b e f = let g : Some a ≡ Some b = sym e ∙ f in cc

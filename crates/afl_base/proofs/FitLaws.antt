@@ -1,8 +1,8 @@
 -- `fit` is the least number of its form that holds the size.
-use Rattle.std.specs.Prelude.{◌≡◌, ℕ, zero, suc, ◌+◌, ◌-◌, ◌*◌, ◌^◌, ◌<◌, ◌≤◌, nat_le, if◌then◌else◌, true, false, refl}
+use Rattle.std.specs.Prelude.{◌≡◌, ℕ, zero, suc, ◌+◌, ◌-◌, ◌*◌, ◌^◌, ◌<◌, ◌≤◌, Bool, cond, nat_le, if◌then◌else◌, true, false, refl}
 use Rattle.std.proofs.Common.{arith, ◌∙◌}
 use Rattle.std.proofs.lemmas.Bool.Decides.{nat_tests}
-use Rattle.std.proofs.lemmas.Bool.{cases_lt}
+use Rattle.std.proofs.lemmas.Bool.{cases_lt, le-leb, leb-true}
 use Rattle.std.proofs.Math.Logic.{⊎_elim}
 use Rattle.std.proofs.Math.Nat.{le-mul_of_pos_right, mul_assoc, one-le-pow, pow-suc}
 use Rattle.afl_base.specs.Fit.{HoldsSize, first_fit, fit, IsFit}
@@ -80,3 +80,27 @@ fit_grows size more room few =
     let twice : 16 * 2 ^ suc j ≡ 2 * fit size = rw (pow-suc 2 j) (omega arith) in
     let enough : HoldsSize (16 * 2 ^ suc j) (size + more) = omega (arith, was.holds) in
     omega (arith, next.least (suc j) enough)
+
+-- ---- more bytes need no fewer pages
+
+fits_or_doubles : (t p s : ℕ) → p ≤ first_fit t p s
+fits_or_doubles zero p s = omega arith
+fits_or_doubles (suc t) p s = by_test (nat_le (s + 32) (256 * p)) (fits_or_doubles t (2 * p) s)
+  where
+    by_test : (b : Bool) {n : ℕ} → 2 * p ≤ n → p ≤ cond b p n
+    by_test true h = omega arith
+    by_test false h = omega (arith, h)
+
+pub first_fit_rises : (t p a b : ℕ) → a ≤ b → first_fit t p a ≤ first_fit t p b
+first_fit_rises zero p a b h = omega arith
+first_fit_rises (suc t) p a b h = by_tests (nat_le (a + 32) (256 * p)) (nat_le (b + 32) (256 * p)) (λ e. le-leb (a + 32) (256 * p) (let f = leb-true (b + 32) (256 * p) e in omega (arith, f, h))) (fits_or_doubles t (2 * p) b) (first_fit_rises t (2 * p) a b h)
+  where
+    by_tests : (x y : Bool) {m n : ℕ} → (y ≡ true → x ≡ true) → 2 * p ≤ n → m ≤ n → cond x p m ≤ cond y p n
+    by_tests true true e h k = omega arith
+    by_tests true false e h k = omega (arith, h)
+    by_tests false true e h k = let no : false ≡ true = e refl in cc
+    by_tests false false e h k = k
+
+pub fit_rises : (a b : ℕ) → a ≤ b → fit a ≤ fit b
+unfolding fit
+fit_rises a b h = first_fit_rises 11 16 a b h

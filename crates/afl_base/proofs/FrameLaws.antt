@@ -1,5 +1,5 @@
 -- What stays where some files change, or where room is made in them, call after call.
-use Rattle.std.proofs.Common.{◌≡◌, ◌≢◌, ℕ, List, length, Option, Some, unwrap_or, refl, ap, sym, ◌∙◌}
+use Rattle.std.proofs.Common.{◌≡◌, ◌≢◌, ℕ, IsTrue, List, length, Option, Some, unwrap_or, refl, ap, sym, ◌∙◌}
 use Rattle.std.proofs.Math.Logic.{⊎_elim}
 use Rattle.std.proofs.lemmas.Bool.{cases_eq}
 use Rattle.afl_base.specs.Files.{Becomes, File, IsLive, IsUnnamed, KeepsBytes, State, Table, bytes_at, file_at, name_at, no_file, size_at}
@@ -7,6 +7,21 @@ use Rattle.afl_base.specs.Frames.{Prepares, SparesOthers}
 use Rattle.afl_base.proofs.FileLaws.{named_here, named_live, names_stay, place_live}
 
 -- ---- one file
+
+-- the same bytes, said otherwise
+pub becomes_as : (a b : State) (id m n : ℕ) (xs ys : List ℕ) → Becomes a b id m xs → m ≡ n → (IsTrue a.tells → xs ≡ ys) → Becomes a b id n ys
+becomes_as a b id m n xs ys was size is = record {
+  live = was.live;
+  name = was.name;
+  kind = was.kind;
+  size = was.size ∙ size;
+  bytes = λ told. was.bytes told ∙ is told;
+  others = was.others;
+  names = was.names;
+  used = was.used;
+  draft = was.draft;
+  tells = was.tells;
+}
 
 module _ (old new : State) (id total : ℕ) (told : List ℕ) (was : IsLive old.files id) (u : Becomes old new id total told) where
   -- what is so of the file and of each place that stays is so of all

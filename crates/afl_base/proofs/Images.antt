@@ -215,3 +215,22 @@ range_in_page image page a b order fits exists =
     ∙ ap (λ i. get_or image i 0) e
     ∙ sym (range_at image (256 * page) (256 * page + 256) (a + k) (omega arith))
     ∙ sym (range_at (page_bytes image page) a b k (omega arith)))
+
+-- a byte that is the same in two lists is the same once both are programmed
+pub or_alike : (xs ys : List ℕ) (at : ℕ) (bytes : List ℕ) (k : ℕ) → k < length xs → k < length ys → get_or xs k 0 ≡ get_or ys k 0 → get_or (or_at xs at bytes) k 0 ≡ get_or (or_at ys at bytes) k 0
+or_alike xs ys at bytes k less few same =
+    ⊎_elim
+    (λ (l : k < at). or_at_before xs at bytes k l ∙ same ∙ sym (or_at_before ys at bytes k l))
+    (λ (l : at ≤ k). ⊎_elim
+    (λ (h : k < at + length bytes).
+    let e : at + (k - at) ≡ k = omega (arith, l) in
+    ap (λ j. get_or (or_at xs at bytes) j 0) (sym e)
+    ∙ or_at_inside xs at bytes (k - at) (omega (arith, e, less)) (omega (arith, l, h))
+    ∙ ap (λ j. bit_or (get_or xs j 0) (get_or bytes (k - at) 0)) e
+    ∙ ap (λ b. bit_or b (get_or bytes (k - at) 0)) same
+    ∙ ap (λ j. bit_or (get_or ys j 0) (get_or bytes (k - at) 0)) (sym e)
+    ∙ sym (or_at_inside ys at bytes (k - at) (omega (arith, e, few)) (omega (arith, l, h)))
+    ∙ ap (λ j. get_or (or_at ys at bytes) j 0) e)
+    (λ (h : at + length bytes ≤ k). or_at_behind xs at bytes k h ∙ same ∙ sym (or_at_behind ys at bytes k h))
+    (cases_lt k (at + length bytes)))
+    (cases_lt k at)

@@ -12,3 +12,4 @@ pub mod PutLaws
 pub mod UsedLaws
 pub mod Bits
 pub mod SparingLaws
+pub mod CauseLaws

@@ -1,5 +1,5 @@
 -- Calls that take no extent, one after the other.
-use Rattle.std.proofs.Common.{◌≡◌, ℕ, Bool, List, refl, ap, ◌∙◌}
+use Rattle.std.proofs.Common.{◌≡◌, ℕ, Bool, List, ap, ◌∙◌}
 use Rattle.afl_base.specs.Files.{State}
 use Rattle.afl_base.specs.Sparing.{TakesNoPage, StandsStill}
 
@@ -8,9 +8,6 @@ takes_no_page_same is_free old new same page free = ap (λ (store : List ℕ). i
 
 pub takes_no_page_on : (is_free : List ℕ → ℕ → Bool) (old mid new : List ℕ) → TakesNoPage is_free old mid → TakesNoPage is_free mid new → TakesNoPage is_free old new
 takes_no_page_on is_free old mid new first then page free = then page (first page free)
-
-pub stays_same : {S : Type 0} (state : S → State) (asks : S → ℕ → ℕ → ℕ → ℕ → Type 0) (same : S) → StandsStill state asks same same
-stays_same state asks same = record { store = refl; asks_less = λ id overwrites bytes need asked. asked }
 
 pub stays_on : {S : Type 0} (state : S → State) (asks : S → ℕ → ℕ → ℕ → ℕ → Type 0) (old mid new : S) → StandsStill state asks old mid → StandsStill state asks mid new → StandsStill state asks old new
 stays_on state asks old mid new first then = record {

@@ -10,6 +10,10 @@ OnSpace (Ok x) P = ⊤
 OnSpace (Err (Space need)) P = P need
 OnSpace (Err Failed) P = ⊤
 
+-- P, where the answer is Failed
+abbrev pub WhereFailed : {T : Type 0} → Result T FileError → Type 0 → Type 0
+WhereFailed result P = IsErrOf result Failed → P
+
 -- P, where the answer is not Failed
 abbrev pub UnlessFailed : {T : Type 0} → Result T FileError → Type 0 → Type 0
 UnlessFailed (Ok x) P = P

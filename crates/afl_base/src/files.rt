@@ -15,14 +15,15 @@ use crate::name::Name;
 /// of what all is kept in, and what that borrows. Where its failures are cuts, what all is kept in then
 /// mends to the files as they were before the call, or to what the call might have made of them.
 pub trait Files {
-    ghost use Rattle.std.specs.Prelude.{◌≡◌, ◌≢◌, ℕ, ◌+◌, ◌*◌, ◌-◌, ◌<◌, ◌≤◌, Bool, List, None, length, max, replicate, slice_index, slice_range, IsTrue, IsSome, IfSome, IfNone, IfOk, IsErrOf, OnErr, OnOk};
-    ghost use Rattle.afl_base.specs.CutFiles.{AppendsFront, MendsToEither, MendsToState, OverwritesFront};
-    ghost use Rattle.afl_base.specs.FileErrors.{OnSpace, UnlessFailed};
+    ghost use Rattle.std.specs.Prelude.{◌≡◌, ◌≢◌, ℕ, ◌+◌, ◌*◌, ◌-◌, ◌<◌, ◌≤◌, Bool, List, None, length, replicate, slice_index, slice_range, IsTrue, IsSome, IfSome, IfNone, IfOk, OnErr, OnOk};
+    ghost use Rattle.afl_base.specs.Asked.{AreFewFor};
+    ghost use Rattle.afl_base.specs.CutFiles.{AppendsFront, CutKeeps, CutKeepsOrLeaves, CutLeaves, OverwritesFront};
+    ghost use Rattle.afl_base.specs.FileErrors.{OnSpace, UnlessFailed, WhereFailed};
     ghost use Rattle.afl_base.specs.Files.{State, Table, AreDistinct, Appends, Commits, Creates, Drafts, IsKind, IsLive, IsNamed, IsUnnamed, Keeps, KeepsBytes, Overwrites, Removes, WritesDraft, bytes_at, draft_in, file_at, first_pages, is_live, size_at, used};
     ghost use Rattle.afl_base.specs.Fit.{fit};
     ghost use Rattle.afl_base.specs.Keeping.{Changes, ChangesOrLacks, OnlyReads};
     ghost use Rattle.afl_base.specs.Regions.{regions};
-    ghost use Rattle.afl_base.specs.Sparing.{TakesNoPage, StandsStill};
+    ghost use Rattle.afl_base.specs.Sparing.{SparesPages, StandsStill, WantsNothing};
 
     // All files, the draft, whether bytes are told, and the bytes that all is kept in.
     ghost state: { Self → State };
@@ -98,8 +99,7 @@ pub trait Files {
         ensures created { IfOk result (λ id. Creates (state self.old) (state self.new) id name kind) }
         ensures need { OnSpace result (λ need. need ≡ first_pages kind) }
         ensures kept { OnSpace result (λ _. Keeps (state self.old) (state self.new)) }
-        ensures cut { IsTrue cuts → IsTrue (state self.old).tells → IsErrOf result FileError.Failed
-            → MendsToEither mends (state self.old).files (state self.new).store
+        ensures cut { CutKeepsOrLeaves cuts mends state self.old self.new (WhereFailed result)
             (λ after. (id : ℕ) × Creates (state self.old) after id name kind) }
         ensures frame { ChangesOrLacks state lent reads faults lacks self.old self.new result };
 
@@ -108,11 +108,9 @@ pub trait Files {
         requires live { IsLive (state self.old).files id }
         requires idle { (state self.old).draft ≡ None }
         ensures removed { OnOk result (Removes (state self.old) (state self.new) id) }
-        ensures spares { IsTrue (state self.old).tells → OnOk result
-            (TakesNoPage is_free (state self.old).store (state self.new).store) }
-        ensures cut { IsTrue cuts → IsTrue (state self.old).tells → OnErr result
-            (MendsToEither mends (state self.old).files (state self.new).store
-            (λ after. Removes (state self.old) after id)) }
+        ensures spares { SparesPages is_free state self.old self.new result }
+        ensures cut { CutKeepsOrLeaves cuts mends state self.old self.new (OnErr result)
+            (λ after. Removes (state self.old) after id) }
         ensures frame { Changes state lent reads faults self.old self.new result };
 
     /// Makes room in the file for at most 29 overwrites of one region each and for `bytes` more bytes,
@@ -132,16 +130,12 @@ pub trait Files {
         ensures contents { UnlessFailed result (KeepsBytes (state self.old) (state self.new) id) }
         ensures records { OnOk result (overwrites ≤ (file_at (state self.new).files id).records) }
         ensures room { OnOk result (bytes ≤ (file_at (state self.new).files id).room) }
-        ensures need_doubling { OnSpace result (λ need. (file_at (state self.old).files id).kind ≡ Kind.Doubling
-            → need ≤ max 16 (2 * fit (size_at (state self.old).files id))) }
-        ensures need_fixed { OnSpace result (λ need. (n : ℕ) → (file_at (state self.old).files id).kind ≡ Kind.Fixed n
-            → need ≤ 16) }
+        ensures few { OnSpace result (AreFewFor (file_at (state self.old).files id)) }
         ensures asked { OnSpace result (λ need. asks self.new id overwrites bytes need) }
-        ensures unasked { ((n : ℕ) → asks self.old id overwrites bytes n → ⊥) → OnSpace result (λ need. ⊥) }
-        ensures still { ((n : ℕ) → asks self.old id overwrites bytes n → ⊥)
+        ensures unasked { WantsNothing (asks self.old id overwrites bytes) → OnSpace result (λ need. ⊥) }
+        ensures still { WantsNothing (asks self.old id overwrites bytes)
             → OnOk result (StandsStill state asks self.old self.new) }
-        ensures cut { IsTrue cuts → IsTrue (state self.old).tells → IsErrOf result FileError.Failed
-            → mends (state self.new).store (state self.old).files }
+        ensures cut { CutKeeps cuts mends state self.old self.new (WhereFailed result) }
         ensures frame { ChangesOrLacks state lent reads faults lacks self.old self.new result };
 
     /// Puts `bytes` in the place of those from byte `at` on. It takes one record of the room for each
@@ -154,16 +148,14 @@ pub trait Files {
         requires last { at + length bytes.now ≡ size_at (state self.old).files id
             → slice_index bytes.now (length bytes.now - 1) ≢ 0 }
         ensures overwritten { OnOk result (Overwrites (state self.old) (state self.new) id at bytes.now) }
-        ensures spares { IsTrue (state self.old).tells → OnOk result
-            (TakesNoPage is_free (state self.old).store (state self.new).store) }
+        ensures spares { SparesPages is_free state self.old self.new result }
         ensures records { OnOk result
             ((file_at (state self.new).files id).records + regions at (length bytes.now)
             ≡ (file_at (state self.old).files id).records) }
         ensures room { OnOk result
             ((file_at (state self.new).files id).room ≡ (file_at (state self.old).files id).room) }
-        ensures cut { IsTrue cuts → IsTrue (state self.old).tells → OnErr result
-            (MendsToState mends (state self.new).store
-            (λ after. OverwritesFront (state self.old) after id at bytes.now)) }
+        ensures cut { CutLeaves cuts mends state self.old self.new (OnErr result)
+            (λ after. OverwritesFront (state self.old) after id at bytes.now) }
         ensures frame { Changes state lent reads faults self.old self.new result };
 
     /// Adds `bytes`, whose last is not zero, to the end of the file. All room for bytes is used up by
@@ -174,14 +166,12 @@ pub trait Files {
         requires room { length bytes.now ≤ (file_at (state self.old).files id).room }
         requires last { slice_index bytes.now (length bytes.now - 1) ≢ 0 }
         ensures appended { OnOk result (Appends (state self.old) (state self.new) id bytes.now) }
-        ensures spares { IsTrue (state self.old).tells → OnOk result
-            (TakesNoPage is_free (state self.old).store (state self.new).store) }
+        ensures spares { SparesPages is_free state self.old self.new result }
         ensures records { OnOk result
             ((file_at (state self.new).files id).records ≡ (file_at (state self.old).files id).records) }
         ensures room { OnOk result ((file_at (state self.new).files id).room ≡ 0) }
-        ensures cut { IsTrue cuts → IsTrue (state self.old).tells → OnErr result
-            (MendsToState mends (state self.new).store
-            (λ after. AppendsFront (state self.old) after id bytes.now)) }
+        ensures cut { CutLeaves cuts mends state self.old self.new (OnErr result)
+            (λ after. AppendsFront (state self.old) after id bytes.now) }
         ensures frame { Changes state lent reads faults self.old self.new result };
 
     /// Begins a draft of `size` zero bytes, at most 4,194,304, for a doubling file of this name, new or
@@ -195,8 +185,7 @@ pub trait Files {
         ensures begun { OnOk result (Drafts (state self.old) (state self.new) name size (replicate size 0)) }
         ensures need { OnSpace result (λ need. need ≡ fit size) }
         ensures kept { OnSpace result (λ _. Keeps (state self.old) (state self.new)) }
-        ensures cut { IsTrue cuts → IsTrue (state self.old).tells → IsErrOf result FileError.Failed
-            → mends (state self.new).store (state self.old).files }
+        ensures cut { CutKeeps cuts mends state self.old self.new (WhereFailed result) }
         ensures frame { ChangesOrLacks state lent reads faults lacks self.old self.new result };
 
     /// Puts `bytes` into the draft from byte `at` on, where it has zeros.
@@ -206,8 +195,7 @@ pub trait Files {
         requires zeros { IsTrue (state self.old).tells
             → slice_range (draft_in (state self.old)).bytes at (at + length bytes.now) ≡ replicate (length bytes.now) 0 }
         ensures written { OnOk result (WritesDraft (state self.old) (state self.new) at bytes.now) }
-        ensures cut { IsTrue cuts → IsTrue (state self.old).tells → OnErr result
-            (mends (state self.new).store (state self.old).files) }
+        ensures cut { CutKeeps cuts mends state self.old self.new (OnErr result) }
         ensures frame { Changes state lent reads faults self.old self.new result };
 
     /// Makes the draft, empty or with a last byte that is not zero, the file of its name. A file that
@@ -217,8 +205,7 @@ pub trait Files {
         requires last { IsTrue (state self.old).tells → 1 ≤ length (draft_in (state self.old)).bytes
             → slice_index (draft_in (state self.old)).bytes (length (draft_in (state self.old)).bytes - 1) ≢ 0 }
         ensures committed { IfOk result (λ id. Commits (state self.old) (state self.new) id) }
-        ensures cut { IsTrue cuts → IsTrue (state self.old).tells → OnErr result
-            (MendsToEither mends (state self.old).files (state self.new).store
-            (λ after. (id : ℕ) × Commits (state self.old) after id)) }
+        ensures cut { CutKeepsOrLeaves cuts mends state self.old self.new (OnErr result)
+            (λ after. (id : ℕ) × Commits (state self.old) after id) }
         ensures frame { Changes state lent reads faults self.old self.new result };
 }

@@ -103,8 +103,9 @@ fn is_lacking(cap: usize, pages: u16) -> bool
 }
 
 impl<const CAP: usize> Files for PlainFiles<CAP> {
-    ghost use Rattle.std.specs.Prelude.{◌≡◌, ◌+◌, ◌*◌, ◌<◌, ◌≤◌, ℕ, ⊤, false, None, IsErrOf, IsTrue, OnOk, max, replicate, []};
+    ghost use Rattle.std.specs.Prelude.{◌≡◌, ◌+◌, ◌*◌, ◌<◌, ◌≤◌, ℕ, ⊤, false, None, IsErrOf, IsTrue, OnOk, replicate, []};
     ghost use Rattle.std.proofs.Common.{subst};
+    ghost use Rattle.afl_base.specs.Asked.{AreFewFor};
     ghost use Rattle.afl_base.specs.FileErrors.{OnSpace, UnlessFailed};
     ghost use Rattle.afl_base.specs.Files.{State, Drafts, IsLive, IsNamed, IsUnnamed, Keeps, KeepsBytes, file_at, size_at, used};
     ghost use Rattle.afl_base.specs.Fit.{fit};
@@ -188,10 +189,7 @@ impl<const CAP: usize> Files for PlainFiles<CAP> {
         ensures room { OnOk result (bytes ≤ (file_at self.new.files id).room) }
         ensures granted_records { OnOk result ((file_at self.new.files id).records ≡ overwrites) }
         ensures granted_room { OnOk result ((file_at self.new.files id).room ≡ bytes) }
-        ensures need_doubling { OnSpace result (λ need. (file_at self.old.files id).kind ≡ Kind.Doubling
-            → need ≤ max 16 (2 * fit (size_at self.old.files id))) }
-        ensures need_fixed { OnSpace result (λ need. (n : ℕ) → (file_at self.old.files id).kind ≡ Kind.Fixed n
-            → need ≤ 16) }
+        ensures few { OnSpace result (AreFewFor (file_at self.old.files id)) }
         ensures asked { OnSpace result (λ need. need ≡ asked_pages self.new.files id bytes) }
         ensures unasked { ((n : ℕ) → n ≡ asked_pages self.old.files id bytes → ⊥)
             → OnSpace result (λ need. ⊥) }

@@ -2,7 +2,7 @@
 use Rattle.std.specs.Prelude.{◌≡◌, ℕ, ◌≤◌, false, List, [], ◌++◌, Option, IsTrue, Result}
 use Rattle.std.proofs.Common.{refl, sym, subst, ◌∙◌, arith}
 use Rattle.afl_base.specs.declared.files.Files.{Ghosts as FilesOf}
-use Rattle.afl_base.specs.Causes.{Rose}
+use Rattle.afl_base.proofs.CauseLaws.{rose_later}
 use Rattle.db_model.specs.declared.commands.Command.{Command}
 use Rattle.db_model.specs.declared.refusals.Refusal.{Refusal}
 use Rattle.db_model.specs.Reading.{IsReader}
@@ -12,9 +12,6 @@ use Rattle.answering.specs.Carried.{Carried, HaltsIn, limits_of, standing_of}
 use Rattle.antelope_engine.specs.Seen.{Seen}
 use Rattle.answering.specs.Taking.{CarriesEntries, KeepsRunning, HaltsInBytes, Input, Running, TakesBytes, running}
 use Rattle.answering.proofs.Composed.{carried_none, carried_then, halts_later, halts_sooner}
-
-rose_later : (a b c : ℕ) → a ≤ b → Rose b c → Rose a c
-rose_later a b c low rose = omega (arith, low, rose)
 
 module _ {E Q P V : Type 0} (input : Input E Q P) (files : FilesOf V) (line : Line E) (parts : ComesInParts input.cut line) where
   on_then : (a b c : Running V P) → KeepsRunning input files a b → KeepsRunning input files b c → KeepsRunning input files a c

@@ -1,7 +1,10 @@
 -- What a session does that the words ask for.
-use Rattle.std.specs.Prelude.{◌≡◌, ◌≢◌, ◌≤◌, ◌+◌, ◌*◌, ⊤, ℕ, List, Option, Some, Result, Ok, Err}
+use Rattle.std.specs.Prelude.{◌≡◌, ◌≢◌, ◌≤◌, ◌+◌, ◌*◌, ⊤, ℕ, List, Option, Some, Result, Ok, Err, length}
 use Rattle.std.specs.List.{AllByRecursion}
 use Rattle.std.specs.Io.KnownBytes.{append_known}
+use Rattle.afl_base.specs.declared.files.Files.{Ghosts as FilesOf}
+use Rattle.afl_base.specs.declared.stream.Sink.{Ghosts as SinkOf}
+use Rattle.antelope_engine.specs.Seen.{Seen}
 use Rattle.db_model.specs.declared.commands.Command.{Command}
 use Rattle.db_model.specs.Workload.{first_commands}
 use Rattle.dump.specs.Parts.{slots_of_all}
@@ -16,7 +19,7 @@ use Rattle.afl_base.specs.declared.fault.Fault.{Fault}
 use Rattle.afl_base.specs.declared.fault.Fault.TheVariants as fault
 use Rattle.session_model.specs.Steps.{WrotePart}
 use Rattle.answering.specs.Carried.{Limits, Standing}
-use Rattle.answering.specs.Went.{Went}
+use Rattle.answering.specs.Went.{HasRunCause, Went}
 use Rattle.run_model.specs.Line.{Line}
 use Rattle.run_model.specs.Talk.{AsksToRead, Talk, talk_costs}
 use Rattle.space_plan.specs.Lines.{plan_reply}
@@ -95,3 +98,12 @@ OnlyHalts (Ok done) = ⊤
 OnlyHalts (Err (Early halt)) = ⊤
 OnlyHalts (Err Input) = ⊥
 OnlyHalts (Err Long) = ⊥
+
+-- what was done without the input: files and sink hold on to what they borrow, all is kept in as many bytes as before, and
+-- what failed has counted it
+pub record LeavesInput {V K : Type 0} (v : FilesOf V) (k : SinkOf K) (old new : Seen V) (before now : K) (result : Result ⊤ InputEnding) : Type 0 where
+  pub halts : OnlyHalts result
+  pub store : length (v.state new.files).store ≡ length (v.state old.files).store
+  pub borrows : v.lent new.files ≡ v.lent old.files
+  pub lent : k.lent now ≡ k.lent before
+  pub cause : (inputs : ℕ) → HasRunCause inputs inputs (v.faults old.files) (v.faults new.files) (k.faults before) (k.faults now) result

@@ -2,12 +2,11 @@
 
 #![tactic(auto)]
 
-ghost use Rattle.std.specs.Prelude.{◌≡◌, ◌≢◌, ◌≤◌, ◌+◌, ◌*◌, false, true, ℕ, Err, IsTrue, Some, length};
+ghost use Rattle.std.specs.Prelude.{◌≡◌, ◌≤◌, ◌+◌, ◌*◌, false, true, ℕ, Err, IsTrue, Some, length};
 ghost use Rattle.answering.specs.Carried.{limits_of, standing_of};
 ghost use Rattle.answering.specs.Went.{HasRunCause};
 ghost use Rattle.db_model.specs.Workload.{first_commands};
 ghost use Rattle.dump.specs.Parts.{slots_of_all};
-ghost use Rattle.dump.specs.Unchanged.{IsAsBefore};
 ghost use Rattle.dump_model.specs.Script.{script};
 ghost use Rattle.look.specs.Text.{database_lines};
 ghost use Rattle.intake.specs.declared.ending.Ending.TheVariants as Ending;
@@ -15,7 +14,7 @@ ghost use Rattle.intake.specs.declared.ending.InputEnding.TheVariants as InputEn
 ghost use Rattle.space_plan.specs.Lines.{plan_reply};
 ghost use Rattle.run_words.specs.declared.words.Form.TheVariants as Form;
 ghost use Rattle.antelope_run.specs.Comes.{ReachesBy};
-ghost use Rattle.antelope_run.specs.Does.{CarriedReads, DoesForm, Generates, OnlyHalts, OnlyTells, TellsOn, WritesText, halted, stopped};
+ghost use Rattle.antelope_run.specs.Does.{CarriedReads, DoesForm, Generates, LeavesInput, OnlyTells, TellsOn, WritesText, halted, stopped};
 ghost use Rattle.antelope_run.specs.Statuses.{TakesInput};
 ghost use Rattle.run_words.specs.Words.{HasFewCommands};
 
@@ -82,12 +81,7 @@ fn generate_all<V: Files, K: Sink>(
         (limits_of V.Files session.new) (first_commands seed count) result }
     ensures lost { session.old.lost ≡ false → session.new.lost ≡ true
         → result ≡ Err (InputEnding.Early Ending.Flash) }
-    ensures store { length (V.state session.new.files).store ≡ length (V.state session.old.files).store }
-    ensures halts { OnlyHalts result }
-    ensures borrows { V.lent session.new.files ≡ V.lent session.old.files }
-    ensures lent { K.lent out.new ≡ K.lent out.old }
-    ensures cause { (inputs : ℕ) → HasRunCause inputs inputs (V.faults session.old.files)
-        (V.faults session.new.files) (K.faults out.old) (K.faults out.new) result }
+    ensures frame { LeavesInput V.Files K.Sink session.old session.new out.old out.new result }
 {
     halted(generate(session, seed, count, out))
 }
@@ -112,15 +106,11 @@ fn plan<V: Files, K: Sink>(
     requires running { session.old.stopped ≡ false }
     ensures does { let old = standing_of V.state V.reads session.old (K.held out.old) in
         let new = standing_of V.state V.reads session.new (K.held out.new) in
-        IsTrue (V.state session.old.files).tells
-        → TellsOn old new result
+        IsTrue (V.state session.old.files).tells → TellsOn old new result
         × WritesText old new (plan_reply session.old.database rows.now sectors) result }
     ensures same { session.new ≡ session.old }
-    ensures halts { OnlyHalts result }
-    ensures lent { K.lent out.new ≡ K.lent out.old }
     ensures later { K.faults out.old ≤ K.faults out.new }
-    ensures cause { (inputs : ℕ) → HasRunCause inputs inputs (V.faults session.old.files)
-        (V.faults session.new.files) (K.faults out.old) (K.faults out.new) result }
+    ensures frame { LeavesInput V.Files K.Sink session.old session.new out.old out.new result }
 {
     match space_plan::write(session, rows, sectors, out) {
         Ok(()) => Ok(()),
@@ -135,19 +125,13 @@ fn dump_all<V: Files, K: Sink>(session: &mut Session<V>, out: &mut K) -> Result<
         let new = standing_of V.state V.reads session.new (K.held out.new) in
         IsTrue (V.state session.old.files).tells
         → TellsOn old new result × WritesText old new (script session.old.database) result }
-    ensures same { result ≢ Err (InputEnding.Early Ending.Flash) → IsAsBefore V.state session.old session.new }
     ensures files { V.state session.new.files ≡ V.state session.old.files }
     ensures reads { let slots = slots_of_all session.old.database.relations in
         V.reads session.new.files ≤ V.reads session.old.files + 6 * slots }
     ensures lost { session.old.lost ≡ false → session.new.lost ≡ true
         → result ≡ Err (InputEnding.Early Ending.Flash) }
-    ensures store { length (V.state session.new.files).store ≡ length (V.state session.old.files).store }
-    ensures halts { OnlyHalts result }
-    ensures borrows { V.lent session.new.files ≡ V.lent session.old.files }
-    ensures lent { K.lent out.new ≡ K.lent out.old }
     ensures later { K.faults out.old ≤ K.faults out.new }
-    ensures cause { (inputs : ℕ) → HasRunCause inputs inputs (V.faults session.old.files)
-        (V.faults session.new.files) (K.faults out.old) (K.faults out.new) result }
+    ensures frame { LeavesInput V.Files K.Sink session.old session.new out.old out.new result }
 {
     stopped(dump::write(session, out))
 }
@@ -159,19 +143,13 @@ fn look_all<V: Files, K: Sink>(session: &mut Session<V>, out: &mut K) -> Result<
         let new = standing_of V.state V.reads session.new (K.held out.new) in
         IsTrue (V.state session.old.files).tells
         → TellsOn old new result × WritesText old new (database_lines session.old.database) result }
-    ensures same { result ≢ Err (InputEnding.Early Ending.Flash) → IsAsBefore V.state session.old session.new }
     ensures files { V.state session.new.files ≡ V.state session.old.files }
     ensures reads { let slots = slots_of_all session.old.database.relations in
         V.reads session.new.files ≤ V.reads session.old.files + 6 * slots }
     ensures lost { session.old.lost ≡ false → session.new.lost ≡ true
         → result ≡ Err (InputEnding.Early Ending.Flash) }
-    ensures store { length (V.state session.new.files).store ≡ length (V.state session.old.files).store }
-    ensures halts { OnlyHalts result }
-    ensures borrows { V.lent session.new.files ≡ V.lent session.old.files }
-    ensures lent { K.lent out.new ≡ K.lent out.old }
     ensures later { K.faults out.old ≤ K.faults out.new }
-    ensures cause { (inputs : ℕ) → HasRunCause inputs inputs (V.faults session.old.files)
-        (V.faults session.new.files) (K.faults out.old) (K.faults out.new) result }
+    ensures frame { LeavesInput V.Files K.Sink session.old session.new out.old out.new result }
 {
     stopped(look::write_database(session, out))
 }

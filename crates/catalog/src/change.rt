@@ -1,8 +1,8 @@
-ghost use Rattle.std.specs.Prelude.{◌≡◌, ◌+◌, ◌-◌, ◌*◌, ◌≤◌, IsTrue, OnErr, OnOk, Some, None, length, slice_index};
-ghost use Rattle.afl_base.specs.CutFiles.{MendsToState};
+ghost use Rattle.std.specs.Prelude.{◌≡◌, ◌+◌, ◌-◌, ◌*◌, ◌≤◌, OnErr, OnOk, Some, None, length, slice_index};
+ghost use Rattle.afl_base.specs.CutFiles.{CutLeaves};
 ghost use Rattle.afl_base.specs.Keeping.{Changes};
 ghost use Rattle.afl_base.specs.Files.{Becomes, IsLive, bytes_at, file_at};
-ghost use Rattle.afl_base.specs.Sparing.{TakesNoPage};
+ghost use Rattle.afl_base.specs.Sparing.{SparesPages};
 ghost use Rattle.db_model.specs.Catalog.{index_slot_bytes, relation_slot_bytes, with_slot};
 ghost use Rattle.catalog.specs.CatalogFile.{IsCatalogSize, IsPrepared, MayReplace, PutsIndex, PutsRelation, index_in};
 ghost use Rattle.space_model.specs.Wants.{room_for};
@@ -44,12 +44,10 @@ pub fn put_relation<V: Files>(
     requires prepared { IsPrepared (file_at (V.state files.old).files cat) (176 * id) 176 }
     ensures put { OnOk result
         (PutsRelation (V.state files.old) (V.state files.new) cat id (Some schema.now)) }
-    ensures spares { IsTrue (V.state files.old).tells → OnOk result
-        (TakesNoPage V.is_free (V.state files.old).store (V.state files.new).store) }
-    ensures cut { IsTrue V.cuts → IsTrue (V.state files.old).tells → OnErr result
-        (MendsToState V.mends (V.state files.new).store
+    ensures spares { SparesPages V.is_free V.state files.old files.new result }
+    ensures cut { CutLeaves V.cuts V.mends V.state files.old files.new (OnErr result)
         (λ after. MayReplace (V.state files.old) after cat (176 * id)
-        (relation_slot_bytes (Some schema.now)))) }
+        (relation_slot_bytes (Some schema.now))) }
     ensures frame { Changes V.state V.lent V.reads V.faults files.old files.new result }
 {
     replace(
@@ -68,11 +66,9 @@ pub fn clear_relation<V: Files>(files: &mut V, cat: FileId, id: RelationId) -> R
     requires form { IsCatalogSize (length (bytes_at (V.state files.old).files cat)) }
     requires prepared { IsPrepared (file_at (V.state files.old).files cat) (176 * id) 176 }
     ensures cleared { OnOk result (PutsRelation (V.state files.old) (V.state files.new) cat id None) }
-    ensures spares { IsTrue (V.state files.old).tells → OnOk result
-        (TakesNoPage V.is_free (V.state files.old).store (V.state files.new).store) }
-    ensures cut { IsTrue V.cuts → IsTrue (V.state files.old).tells → OnErr result
-        (MendsToState V.mends (V.state files.new).store
-        (λ after. MayReplace (V.state files.old) after cat (176 * id) (relation_slot_bytes None))) }
+    ensures spares { SparesPages V.is_free V.state files.old files.new result }
+    ensures cut { CutLeaves V.cuts V.mends V.state files.old files.new (OnErr result)
+        (λ after. MayReplace (V.state files.old) after cat (176 * id) (relation_slot_bytes None)) }
     ensures frame { Changes V.state V.lent V.reads V.faults files.old files.new result }
 {
     let slot: [u8; 176] = unused_slot();
@@ -93,12 +89,10 @@ pub fn put_index<V: Files>(
     requires prepared { IsPrepared (file_at (V.state files.old).files cat) (1408 + 8 * id) 8 }
     ensures put { OnOk result
         (PutsIndex (V.state files.old) (V.state files.new) cat id (Some (index_in entry.now))) }
-    ensures spares { IsTrue (V.state files.old).tells → OnOk result
-        (TakesNoPage V.is_free (V.state files.old).store (V.state files.new).store) }
-    ensures cut { IsTrue V.cuts → IsTrue (V.state files.old).tells → OnErr result
-        (MendsToState V.mends (V.state files.new).store
+    ensures spares { SparesPages V.is_free V.state files.old files.new result }
+    ensures cut { CutLeaves V.cuts V.mends V.state files.old files.new (OnErr result)
         (λ after. MayReplace (V.state files.old) after cat (1408 + 8 * id)
-        (index_slot_bytes (Some (index_in entry.now))))) }
+        (index_slot_bytes (Some (index_in entry.now)))) }
     ensures frame { Changes V.state V.lent V.reads V.faults files.old files.new result }
 {
     replace(
@@ -117,12 +111,9 @@ pub fn clear_index<V: Files>(files: &mut V, cat: FileId, id: IndexId) -> Result<
     requires form { IsCatalogSize (length (bytes_at (V.state files.old).files cat)) }
     requires prepared { IsPrepared (file_at (V.state files.old).files cat) (1408 + 8 * id) 8 }
     ensures cleared { OnOk result (PutsIndex (V.state files.old) (V.state files.new) cat id None) }
-    ensures spares { IsTrue (V.state files.old).tells → OnOk result
-        (TakesNoPage V.is_free (V.state files.old).store (V.state files.new).store) }
-    ensures cut { IsTrue V.cuts → IsTrue (V.state files.old).tells → OnErr result
-        (MendsToState V.mends (V.state files.new).store
-        (λ after. MayReplace (V.state files.old) after cat (1408 + 8 * id)
-        (index_slot_bytes None))) }
+    ensures spares { SparesPages V.is_free V.state files.old files.new result }
+    ensures cut { CutLeaves V.cuts V.mends V.state files.old files.new (OnErr result)
+        (λ after. MayReplace (V.state files.old) after cat (1408 + 8 * id) (index_slot_bytes None)) }
     ensures frame { Changes V.state V.lent V.reads V.faults files.old files.new result }
 {
     let slot: [u8; 8] = unused_slot();
@@ -140,11 +131,9 @@ fn replace<V: Files>(files: &mut V, cat: FileId, at: u32, slot: &[u8]) -> Result
     requires prepared { IsPrepared (file_at (V.state files.old).files cat) at (length slot.now) }
     ensures replaced { OnOk result (Becomes (V.state files.old) (V.state files.new) cat 1480
         (with_slot (bytes_at (V.state files.old).files cat) at slot.now)) }
-    ensures spares { IsTrue (V.state files.old).tells → OnOk result
-        (TakesNoPage V.is_free (V.state files.old).store (V.state files.new).store) }
-    ensures cut { IsTrue V.cuts → IsTrue (V.state files.old).tells → OnErr result
-        (MendsToState V.mends (V.state files.new).store
-        (λ after. MayReplace (V.state files.old) after cat at slot.now)) }
+    ensures spares { SparesPages V.is_free V.state files.old files.new result }
+    ensures cut { CutLeaves V.cuts V.mends V.state files.old files.new (OnErr result)
+        (λ after. MayReplace (V.state files.old) after cat at slot.now) }
     ensures frame { Changes V.state V.lent V.reads V.faults files.old files.new result }
 {
     let size = files.size(cat);

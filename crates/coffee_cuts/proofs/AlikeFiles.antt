@@ -1,16 +1,17 @@
 -- Files in images that have the same bytes, where these are read.
-use Rattle.std.proofs.Common.{◌≡◌, ⊎_elim, ℕ, zero, suc, ◌+◌, ◌-◌, ◌*◌, ◌/◌, ◌%◌, ◌<◌, ◌≤◌, true, false, ◌==◌, nat_le, List, ◌∷◌, get_or, Option, Some, None, refl, ap, sym, subst, ◌∙◌, arith}
+use Rattle.std.proofs.Common.{◌≡◌, ⊎_elim, ℕ, ◌+◌, ◌-◌, ◌*◌, ◌/◌, ◌%◌, ◌<◌, ◌≤◌, true, ◌==◌, List, ◌∷◌, get_or, Option, Some, None, refl, ap, sym, subst, ◌∙◌, arith}
 use Rattle.afl_base.specs.Fit.{first_fit, fit}
 use Rattle.afl_base.specs.declared.ids.PageId.{PageId}
 use Rattle.afl_base.specs.declared.kind.Kind.{Kind}
 use Rattle.afl_base.specs.declared.kind.Kind.TheVariants.{Doubling, Fixed}
+use Rattle.afl_base.proofs.FitLaws.{first_fit_rises}
 use Rattle.coffee_layout.specs.FileBytes.{extent_place, file_byte, file_bytes, last_in, number_in, place_or, table_of, trimmed}
 use Rattle.coffee_layout.specs.Walks.{has_few_of}
 use Rattle.coffee_log.specs.FileChanges.{IsFile}
 use Rattle.coffee_log.specs.Logs.{IsLog}
 use Rattle.coffee_log.proofs.LastRecords.{last_same}
 use Rattle.coffee_log.proofs.RecordLaws.{number_image}
-use Rattle.padded.proofs.Facts.{le_true, none_some, true_le, true_or_false, yes_no}
+use Rattle.padded.proofs.Facts.{le_true, none_some, true_le}
 use Rattle.coffee_layout.proofs.Frames.{map_same as map_alike}
 
 -- ALL BYTES
@@ -74,30 +75,11 @@ used_file image page pages (Some l) used size is = is
 
 -- A LARGER SIZE
 
-fit_least : (turns pages size : ℕ) → pages ≤ first_fit turns pages size
-fit_least zero pages size = omega arith
-fit_least (suc n) pages size = ⊎_elim
-    (λ (holds : nat_le (size + 32) (256 * pages) ≡ true). rw holds (omega arith))
-    (λ (short : nat_le (size + 32) (256 * pages) ≡ false). rw short (let more = fit_least n (2 * pages) size in omega (arith, more)))
-    (true_or_false (nat_le (size + 32) (256 * pages)))
-
-fit_more : (turns pages size more : ℕ) → size ≤ more → first_fit turns pages size ≤ first_fit turns pages more
-fit_more zero pages size more low = omega arith
-fit_more (suc n) pages size more low = ⊎_elim
-    (λ (holds : nat_le (size + 32) (256 * pages) ≡ true). rw holds (fit_least (suc n) pages more))
-    (λ (short : nat_le (size + 32) (256 * pages) ≡ false).
-    let other : nat_le (more + 32) (256 * pages) ≡ false = ⊎_elim
-    (λ (holds : nat_le (more + 32) (256 * pages) ≡ true). let h = true_le (more + 32) (256 * pages) holds in yes_no (nat_le (size + 32) (256 * pages)) (le_true (size + 32) (256 * pages) (omega (arith, h, low))) short)
-    (λ (e : nat_le (more + 32) (256 * pages) ≡ false). e)
-    (true_or_false (nat_le (more + 32) (256 * pages))) in
-    rw (short, other) (fit_more n (2 * pages) size more low))
-    (true_or_false (nat_le (size + 32) (256 * pages)))
-
 -- a larger file needs no fewer pages
 pub few_more : (kind : Kind) (pages size more : ℕ) → size ≤ more → has_few_of kind pages size ≡ true → has_few_of kind pages more ≡ true
 unfolding fit
 few_more Doubling pages size more low few =
     let a = true_le pages (2 * first_fit 11 16 size) few in
-    let b = fit_more 11 16 size more low in
+    let b = first_fit_rises 11 16 size more low in
     le_true pages (2 * first_fit 11 16 more) (omega (arith, a, b))
 few_more (Fixed n) pages size more low few = refl

@@ -1,12 +1,7 @@
 -- Pages that are all zero, one behind the other.
-use Rattle.std.proofs.Common.{◌≡◌, ℕ, ◌+◌, ◌-◌, ◌*◌, ◌≤◌, true, List, drop, ap, sym, slice_range, take, ◌∙◌, arith}
+use Rattle.std.proofs.Common.{◌≡◌, ℕ, ◌+◌, ◌-◌, ◌*◌, ◌≤◌, true, List, ap, sym, slice_range, ◌∙◌, arith}
 use Rattle.padded.specs.Zeros.{is_zeros}
 use Rattle.coffee_layout.proofs.Zeros.{zeros_more}
-
-pub zeros_none : (xs : List ℕ) (a : ℕ) → is_zeros (slice_range xs a a) ≡ true
-zeros_none xs a =
-    let none : a - a ≡ 0 = omega arith in
-    ap (λ n. is_zeros (take n (drop a xs))) none
 
 -- a page more
 pub zeros_page : (image bytes : List ℕ) (from page : ℕ) → from ≤ page → bytes ≡ slice_range image (256 * page + 0) (256 * page + 0 + 256) → is_zeros bytes ≡ true

@@ -103,11 +103,6 @@ space_on r (Ok x) e P Q was is more p = tt
 space_on r (Err Failed) e P Q was is more p = tt
 space_on r (Err (Space need)) e P Q was is more p = let same : e ≡ Space need = cc in more need (rw (was ∙ ap (λ x. Err x) same) at p)
 
-pub space_both : {T : Type 0} (r : Result T FileError) (P Q : ℕ → Type 0) → OnSpace r P → OnSpace r Q → OnSpace r (λ need. P need × Q need)
-space_both (Ok x) P Q p q = tt
-space_both (Err (Space need)) P Q p q = (p, q)
-space_both (Err Failed) P Q p q = tt
-
 -- of a sound image, where no pages are had for a file that is listed
 pub lacks_room : (old new : List ℕ) (file : FileAt) (log : PageId) (need : ℕ) → broken_image old ≡ None → 256 * pages_of old ≡ length old → Contains (listed old) file → file.log ≡ Some log
     → ((table : Entries) → HoldsTable old table None → LeavesAll old new table need) → need ≡ file.pages → LacksRoom old new log.0 need

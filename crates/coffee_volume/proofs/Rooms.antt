@@ -2,31 +2,21 @@
 use Rattle.std.proofs.Common.{◌≡◌, ℕ, ◌+◌, ◌-◌, ◌*◌, ◌^◌, ◌<◌, ◌≤◌, true, Option, Some, None, refl, ◌∙◌, arith}
 use Rattle.std.specs.Prelude.{nat_le, min}
 use Rattle.std.proofs.lemmas.Bool.Decides.{nat_tests}
-use Rattle.afl_base.specs.Fit.{HoldsSize, fit}
+use Rattle.afl_base.specs.Fit.{fit}
 use Rattle.afl_base.specs.declared.ids.PageId.{PageId}
 use Rattle.afl_base.specs.declared.kind.Kind.{Kind}
 use Rattle.afl_base.specs.declared.kind.Kind.TheVariants.{Doubling, Fixed}
-use Rattle.afl_base.proofs.FitLaws.{is_fit}
+use Rattle.afl_base.proofs.FitLaws.{fit_rises}
 use Rattle.coffee_layout.specs.Walks.{has_few_of}
 use Rattle.coffee_volume.specs.Volumes.{IsRegular}
 use Rattle.coffee_volume.specs.declared.entry.Entry.{Entry}
 
--- more bytes need no fewer pages
-pub fit_rises : (size more : ℕ) → size ≤ more → more ≤ 8388576 → fit size ≤ fit more
-fit_rises size more less room =
-    let a = is_fit size (omega arith) in
-    let b = is_fit more room in
-    let j : ℕ = b.doubled.0 in
-    let is : fit more ≡ 16 * 2 ^ j = b.doubled.1 in
-    let enough : HoldsSize (16 * 2 ^ j) size = omega (arith, b.holds) in
-    omega (arith, a.least j enough)
-
--- so a file that grows in its extent keeps rule 13
+-- a file that grows in its extent keeps rule 13
 few_more : (pages a b : ℕ) → nat_le pages (2 * a) ≡ true → a ≤ b → nat_le pages (2 * b) ≡ true
 few_more pages a b few more = grind (arith, nat_tests)
 
 pub few_rises : (kind : Kind) (pages size more : ℕ) → has_few_of kind pages size ≡ true → size ≤ more → more ≤ 8388576 → has_few_of kind pages more ≡ true
-few_rises Doubling pages size more few less room = few_more pages (fit size) (fit more) few (fit_rises size more less room)
+few_rises Doubling pages size more few less room = few_more pages (fit size) (fit more) few (fit_rises size more less)
 few_rises (Fixed n) pages size more few less room = refl
 
 -- an overwrite takes records of the room

@@ -94,8 +94,8 @@ state_seen tells image table draft = record {
 }
 
 -- P of the bytes that all is kept in, before and now, where they are told
-abbrev pub WhereTold : (old new : State) → (List ℕ → List ℕ → Type 0) → Type 0
-WhereTold old new P = IsTrue old.tells → P old.store new.store
+abbrev pub WhereTold : {S : Type 0} → (S → State) → (old new : S) → (List ℕ → List ℕ → Type 0) → Type 0
+WhereTold state old new P = IsTrue (state old).tells → P (state old).store (state new).store
 
 -- no extent of so many pages can be had: the image is cramped, where it is told
 abbrev pub Lacks : Bool → List ℕ → ℕ → Type 0

@@ -1,5 +1,5 @@
 ghost use Rattle.std.specs.Prelude.{◌≡◌, ◌≢◌, ◌-◌, ◌≤◌, ℕ, Some, None, get_or, IsTrue, OnErr, OnOk};
-ghost use Rattle.afl_base.specs.CutFiles.{MendsToEither};
+ghost use Rattle.afl_base.specs.CutFiles.{CutKeepsOrLeaves};
 ghost use Rattle.afl_base.specs.Files.{Commits};
 ghost use Rattle.afl_base.specs.Keeping.{Changes};
 ghost use Rattle.afl_base.specs.Places.{AreTaken};
@@ -22,12 +22,10 @@ impl<F: Flash> Volume<F> {
             → file_byte (⟦<Self as Files>⟧.state self.old).store draft.page.0 None (draft.size - 1) ≢ 0 }
         ensures committed { OnOk result (
             Commits (⟦<Self as Files>⟧.state self.old) (⟦<Self as Files>⟧.state self.new) id) }
-        ensures taken { OnOk result (
-            WhereTold (⟦<Self as Files>⟧.state self.old) (⟦<Self as Files>⟧.state self.new) TakesNone) }
+        ensures taken { OnOk result (WhereTold ⟦<Self as Files>⟧.state self.old self.new TakesNone) }
         ensures cut { let files = ⟦<Self as Files>⟧ in let old = files.state self.old in
-            IsTrue files.cuts → IsTrue old.tells → OnErr result
-            (MendsToEither files.mends old.files (files.state self.new).store
-            (λ after. (id : ℕ) × Commits old after id)) }
+            CutKeepsOrLeaves files.cuts files.mends files.state self.old self.new (OnErr result)
+            (λ after. (id : ℕ) × Commits old after id) }
         ensures frame { let files = ⟦<Self as Files>⟧ in
             Changes files.state files.lent files.reads files.faults self.old self.new result }
     {
@@ -56,12 +54,10 @@ impl<F: Flash> Volume<F> {
             → file_byte (⟦<Self as Files>⟧.state self.old).store draft.page.0 None (draft.size - 1) ≢ 0 }
         ensures committed { OnOk result (
             Commits (⟦<Self as Files>⟧.state self.old) (⟦<Self as Files>⟧.state self.new) id) }
-        ensures taken { OnOk result (
-            WhereTold (⟦<Self as Files>⟧.state self.old) (⟦<Self as Files>⟧.state self.new) TakesNone) }
+        ensures taken { OnOk result (WhereTold ⟦<Self as Files>⟧.state self.old self.new TakesNone) }
         ensures cut { let files = ⟦<Self as Files>⟧ in let old = files.state self.old in
-            IsTrue files.cuts → IsTrue old.tells → OnErr result
-            (MendsToEither files.mends old.files (files.state self.new).store
-            (λ after. (id : ℕ) × Commits old after id)) }
+            CutKeepsOrLeaves files.cuts files.mends files.state self.old self.new (OnErr result)
+            (λ after. (id : ℕ) × Commits old after id) }
         ensures frame { let files = ⟦<Self as Files>⟧ in
             Changes files.state files.lent files.reads files.faults self.old self.new result }
     {

@@ -10,14 +10,15 @@ use coffee_log::{append_file, overwrite_file};
 use coffee_merge::{begin_extent, commit_extent, retire_file, write_extent};
 
 impl<F: Flash> Files for Volume<F> {
-    ghost use Rattle.std.specs.Prelude.{◌≡◌, ◌≢◌, ℕ, ◌+◌, ◌-◌, ◌*◌, ◌<◌, ◌≤◌, max, ◌&&◌, not, None, length, replicate, slice_index, slice_range, IfOk, IsErrOf, IsSome, IsTrue, OnErr, OnOk};
-    ghost use Rattle.afl_base.specs.CutFiles.{AppendsFront, MendsToEither, MendsToState, OverwritesFront};
-    ghost use Rattle.afl_base.specs.FileErrors.{OnSpace, UnlessFailed};
+    ghost use Rattle.std.specs.Prelude.{◌≡◌, ◌≢◌, ℕ, ◌+◌, ◌-◌, ◌*◌, ◌<◌, ◌≤◌, ◌&&◌, not, None, length, replicate, slice_index, slice_range, IfOk, IsSome, IsTrue, OnErr, OnOk};
+    ghost use Rattle.afl_base.specs.Asked.{AreFewFor};
+    ghost use Rattle.afl_base.specs.CutFiles.{AppendsFront, CutKeeps, CutKeepsOrLeaves, CutLeaves, OverwritesFront};
+    ghost use Rattle.afl_base.specs.FileErrors.{OnSpace, UnlessFailed, WhereFailed};
     ghost use Rattle.afl_base.specs.Files.{Appends, Commits, Creates, Drafts, IsKind, IsLive, IsNamed, IsUnnamed, Keeps, KeepsBytes, Overwrites, Removes, WritesDraft, draft_in, file_at, first_pages, size_at, used};
     ghost use Rattle.afl_base.specs.Fit.{fit};
     ghost use Rattle.afl_base.specs.Keeping.{Changes, ChangesOrLacks};
     ghost use Rattle.afl_base.specs.Regions.{regions};
-    ghost use Rattle.afl_base.specs.Sparing.{TakesNoPage, StandsStill};
+    ghost use Rattle.afl_base.specs.Sparing.{SparesPages, StandsStill, WantsNothing};
     ghost use Rattle.coffee_merge.specs.Holding.{is_free_at};
     ghost use Rattle.coffee_volume.specs.Cuts.{MendsToFiles};
     ghost use Rattle.coffee_volume.specs.KeptTables.{kept_mend, seen_asks};
@@ -83,21 +84,18 @@ impl<F: Flash> Files for Volume<F> {
         requires idle { (⟦<Self as Files>⟧.state self.old).draft ≡ None }
         ensures created { IfOk result (λ id.
             Creates (⟦<Self as Files>⟧.state self.old) (⟦<Self as Files>⟧.state self.new) id name kind) }
-        ensures taken { IfOk result (λ _.
-            WhereTold (⟦<Self as Files>⟧.state self.old) (⟦<Self as Files>⟧.state self.new) (TakesForFile name)) }
-        ensures lowest { IfOk result (λ _.
-            WhereTold (⟦<Self as Files>⟧.state self.old) (⟦<Self as Files>⟧.state self.new)
+        ensures taken { IfOk result (λ _. WhereTold ⟦<Self as Files>⟧.state self.old self.new
+            (TakesForFile name)) }
+        ensures lowest { IfOk result (λ _. WhereTold ⟦<Self as Files>⟧.state self.old self.new
             (PlacesFile name (first_pages kind))) }
-        ensures untaken { OnSpace result (λ _.
-            WhereTold (⟦<Self as Files>⟧.state self.old) (⟦<Self as Files>⟧.state self.new) TakesNone) }
-        ensures looked { OnSpace result (λ need.
-            WhereTold (⟦<Self as Files>⟧.state self.old) (⟦<Self as Files>⟧.state self.new) (Looks need)) }
+        ensures untaken { OnSpace result (λ _. WhereTold ⟦<Self as Files>⟧.state self.old self.new TakesNone) }
+        ensures looked { OnSpace result (λ need. WhereTold ⟦<Self as Files>⟧.state self.old self.new
+            (Looks need)) }
         ensures need { OnSpace result (λ need. need ≡ first_pages kind) }
         ensures kept { OnSpace result (λ _.
             Keeps (⟦<Self as Files>⟧.state self.old) (⟦<Self as Files>⟧.state self.new)) }
         ensures cut { let files = ⟦<Self as Files>⟧ in let old = files.state self.old in
-            IsTrue files.cuts → IsTrue old.tells → IsErrOf result FileError.Failed
-            → MendsToEither files.mends old.files (files.state self.new).store
+            CutKeepsOrLeaves files.cuts files.mends files.state self.old self.new (WhereFailed result)
             (λ after. (id : ℕ) × Creates old after id name kind) }
         ensures frame { let files = ⟦<Self as Files>⟧ in
             ChangesOrLacks files.state files.lent files.reads files.faults files.lacks self.old self.new result }
@@ -140,11 +138,10 @@ impl<F: Flash> Files for Volume<F> {
         requires idle { (⟦<Self as Files>⟧.state self.old).draft ≡ None }
         ensures removed { OnOk result (
             Removes (⟦<Self as Files>⟧.state self.old) (⟦<Self as Files>⟧.state self.new) id) }
-        ensures spares { let files = ⟦<Self as Files>⟧ in IsTrue (files.state self.old).tells → OnOk result
-            (TakesNoPage is_free_at (files.state self.old).store (files.state self.new).store) }
+        ensures spares { let files = ⟦<Self as Files>⟧ in SparesPages is_free_at files.state self.old self.new result }
         ensures cut { let files = ⟦<Self as Files>⟧ in let old = files.state self.old in
-            IsTrue files.cuts → IsTrue old.tells → OnErr result
-            (MendsToEither files.mends old.files (files.state self.new).store (λ after. Removes old after id)) }
+            CutKeepsOrLeaves files.cuts files.mends files.state self.old self.new (OnErr result)
+            (λ after. Removes old after id) }
         ensures frame { let files = ⟦<Self as Files>⟧ in
             Changes files.state files.lent files.reads files.faults self.old self.new result }
     {
@@ -174,31 +171,22 @@ impl<F: Flash> Files for Volume<F> {
         ensures records { OnOk result
             (overwrites ≤ (file_at (⟦<Self as Files>⟧.state self.new).files id).records) }
         ensures room { OnOk result (bytes ≤ (file_at (⟦<Self as Files>⟧.state self.new).files id).room) }
-        ensures taken { UnlessFailed result (
-            WhereTold (⟦<Self as Files>⟧.state self.old) (⟦<Self as Files>⟧.state self.new)
+        ensures taken { UnlessFailed result (WhereTold ⟦<Self as Files>⟧.state self.old self.new
             (TakesForFile (file_at (⟦<Self as Files>⟧.state self.old).files id).name)) }
-        ensures lowest { OnOk result (
-            WhereTold (⟦<Self as Files>⟧.state self.old) (⟦<Self as Files>⟧.state self.new)
+        ensures lowest { OnOk result (WhereTold ⟦<Self as Files>⟧.state self.old self.new
             (Provides (file_at (⟦<Self as Files>⟧.state self.old).files id).name overwrites bytes)) }
-        ensures looked { OnSpace result (λ need.
-            WhereTold (⟦<Self as Files>⟧.state self.old) (⟦<Self as Files>⟧.state self.new)
+        ensures looked { OnSpace result (λ need. WhereTold ⟦<Self as Files>⟧.state self.old self.new
             (Stops (file_at (⟦<Self as Files>⟧.state self.old).files id).name overwrites bytes need)) }
         ensures still { let files = ⟦<Self as Files>⟧ in
-            ((n : ℕ) → files.asks self.old id overwrites bytes n → ⊥)
+            WantsNothing (files.asks self.old id overwrites bytes)
             → OnOk result (StandsStill files.state files.asks self.old self.new) }
-        ensures unchanged { ((n : ℕ) → ⟦<Self as Files>⟧.asks self.old id overwrites bytes n → ⊥)
+        ensures unchanged { WantsNothing (⟦<Self as Files>⟧.asks self.old id overwrites bytes)
             → (⟦<Self as Files>⟧.state self.new).store ≡ (⟦<Self as Files>⟧.state self.old).store }
-        ensures unasked { ((n : ℕ) → ⟦<Self as Files>⟧.asks self.old id overwrites bytes n → ⊥)
-            → OnSpace result (λ need. ⊥) }
-        ensures need_doubling { OnSpace result (λ need.
-            (file_at (⟦<Self as Files>⟧.state self.old).files id).kind ≡ Kind.Doubling
-            → need ≤ max 16 (2 * fit (size_at (⟦<Self as Files>⟧.state self.old).files id))) }
-        ensures need_fixed { OnSpace result (λ need. (n : ℕ)
-            → (file_at (⟦<Self as Files>⟧.state self.old).files id).kind ≡ Kind.Fixed n → need ≤ 16) }
+        ensures unasked { WantsNothing (⟦<Self as Files>⟧.asks self.old id overwrites bytes) → OnSpace result (λ need. ⊥) }
+        ensures few { OnSpace result (AreFewFor (file_at (⟦<Self as Files>⟧.state self.old).files id)) }
         ensures asked { OnSpace result (λ need. ⟦<Self as Files>⟧.asks self.new id overwrites bytes need) }
-        ensures cut { let files = ⟦<Self as Files>⟧ in let old = files.state self.old in
-            IsTrue files.cuts → IsTrue old.tells → IsErrOf result FileError.Failed
-            → files.mends (files.state self.new).store old.files }
+        ensures cut { let files = ⟦<Self as Files>⟧ in
+            CutKeeps files.cuts files.mends files.state self.old self.new (WhereFailed result) }
         ensures frame { let files = ⟦<Self as Files>⟧ in
             ChangesOrLacks files.state files.lent files.reads files.faults files.lacks self.old self.new result }
     {
@@ -223,13 +211,11 @@ impl<F: Flash> Files for Volume<F> {
             + regions at (length bytes.now) ≡ (file_at (⟦<Self as Files>⟧.state self.old).files id).records) }
         ensures room { OnOk result ((file_at (⟦<Self as Files>⟧.state self.new).files id).room
             ≡ (file_at (⟦<Self as Files>⟧.state self.old).files id).room) }
-        ensures units { OnOk result (
-            WhereTold (⟦<Self as Files>⟧.state self.old) (⟦<Self as Files>⟧.state self.new) KeepsUnits) }
-        ensures spares { let files = ⟦<Self as Files>⟧ in IsTrue (files.state self.old).tells → OnOk result
-            (TakesNoPage is_free_at (files.state self.old).store (files.state self.new).store) }
+        ensures units { OnOk result (WhereTold ⟦<Self as Files>⟧.state self.old self.new KeepsUnits) }
+        ensures spares { let files = ⟦<Self as Files>⟧ in SparesPages is_free_at files.state self.old self.new result }
         ensures cut { let files = ⟦<Self as Files>⟧ in let old = files.state self.old in
-            IsTrue files.cuts → IsTrue old.tells → OnErr result
-            (MendsToState files.mends (files.state self.new).store (λ after. OverwritesFront old after id at bytes.now)) }
+            CutLeaves files.cuts files.mends files.state self.old self.new (OnErr result)
+            (λ after. OverwritesFront old after id at bytes.now) }
         ensures frame { let files = ⟦<Self as Files>⟧ in
             Changes files.state files.lent files.reads files.faults self.old self.new result }
     {
@@ -272,13 +258,11 @@ impl<F: Flash> Files for Volume<F> {
         ensures records { OnOk result ((file_at (⟦<Self as Files>⟧.state self.new).files id).records
             ≡ (file_at (⟦<Self as Files>⟧.state self.old).files id).records) }
         ensures room { OnOk result ((file_at (⟦<Self as Files>⟧.state self.new).files id).room ≡ 0) }
-        ensures units { OnOk result (
-            WhereTold (⟦<Self as Files>⟧.state self.old) (⟦<Self as Files>⟧.state self.new) KeepsUnits) }
-        ensures spares { let files = ⟦<Self as Files>⟧ in IsTrue (files.state self.old).tells → OnOk result
-            (TakesNoPage is_free_at (files.state self.old).store (files.state self.new).store) }
+        ensures units { OnOk result (WhereTold ⟦<Self as Files>⟧.state self.old self.new KeepsUnits) }
+        ensures spares { let files = ⟦<Self as Files>⟧ in SparesPages is_free_at files.state self.old self.new result }
         ensures cut { let files = ⟦<Self as Files>⟧ in let old = files.state self.old in
-            IsTrue files.cuts → IsTrue old.tells → OnErr result
-            (MendsToState files.mends (files.state self.new).store (λ after. AppendsFront old after id bytes.now)) }
+            CutLeaves files.cuts files.mends files.state self.old self.new (OnErr result)
+            (λ after. AppendsFront old after id bytes.now) }
         ensures frame { let files = ⟦<Self as Files>⟧ in
             Changes files.state files.lent files.reads files.faults self.old self.new result }
     {
@@ -316,21 +300,17 @@ impl<F: Flash> Files for Volume<F> {
             → used (⟦<Self as Files>⟧.state self.old).files < 32 }
         ensures begun { OnOk result (
             Drafts (⟦<Self as Files>⟧.state self.old) (⟦<Self as Files>⟧.state self.new) name size (replicate size 0)) }
-        ensures taken { OnOk result (
-            WhereTold (⟦<Self as Files>⟧.state self.old) (⟦<Self as Files>⟧.state self.new) (TakesForDraft name)) }
-        ensures lowest { OnOk result (
-            WhereTold (⟦<Self as Files>⟧.state self.old) (⟦<Self as Files>⟧.state self.new)
+        ensures taken { OnOk result (WhereTold ⟦<Self as Files>⟧.state self.old self.new (TakesForDraft name)) }
+        ensures lowest { OnOk result (WhereTold ⟦<Self as Files>⟧.state self.old self.new
             (PlacesDraft name (fit size))) }
-        ensures untaken { OnSpace result (λ _.
-            WhereTold (⟦<Self as Files>⟧.state self.old) (⟦<Self as Files>⟧.state self.new) TakesNone) }
-        ensures looked { OnSpace result (λ need.
-            WhereTold (⟦<Self as Files>⟧.state self.old) (⟦<Self as Files>⟧.state self.new) (Looks need)) }
+        ensures untaken { OnSpace result (λ _. WhereTold ⟦<Self as Files>⟧.state self.old self.new TakesNone) }
+        ensures looked { OnSpace result (λ need. WhereTold ⟦<Self as Files>⟧.state self.old self.new
+            (Looks need)) }
         ensures need { OnSpace result (λ need. need ≡ fit size) }
         ensures kept { OnSpace result (λ _.
             Keeps (⟦<Self as Files>⟧.state self.old) (⟦<Self as Files>⟧.state self.new)) }
-        ensures cut { let files = ⟦<Self as Files>⟧ in let old = files.state self.old in
-            IsTrue files.cuts → IsTrue old.tells → IsErrOf result FileError.Failed
-            → files.mends (files.state self.new).store old.files }
+        ensures cut { let files = ⟦<Self as Files>⟧ in
+            CutKeeps files.cuts files.mends files.state self.old self.new (WhereFailed result) }
         ensures frame { let files = ⟦<Self as Files>⟧ in
             ChangesOrLacks files.state files.lent files.reads files.faults files.lacks self.old self.new result }
     {
@@ -369,10 +349,9 @@ impl<F: Flash> Files for Volume<F> {
             ≡ replicate (length bytes.now) 0 }
         ensures written { OnOk result (
             WritesDraft (⟦<Self as Files>⟧.state self.old) (⟦<Self as Files>⟧.state self.new) at bytes.now) }
-        ensures taken { OnOk result (
-            WhereTold (⟦<Self as Files>⟧.state self.old) (⟦<Self as Files>⟧.state self.new) TakesNone) }
-        ensures cut { let files = ⟦<Self as Files>⟧ in let old = files.state self.old in
-            IsTrue files.cuts → IsTrue old.tells → OnErr result (files.mends (files.state self.new).store old.files) }
+        ensures taken { OnOk result (WhereTold ⟦<Self as Files>⟧.state self.old self.new TakesNone) }
+        ensures cut { let files = ⟦<Self as Files>⟧ in
+            CutKeeps files.cuts files.mends files.state self.old self.new (OnErr result) }
         ensures frame { let files = ⟦<Self as Files>⟧ in
             Changes files.state files.lent files.reads files.faults self.old self.new result }
     {
@@ -394,12 +373,10 @@ impl<F: Flash> Files for Volume<F> {
             (length (draft_in (⟦<Self as Files>⟧.state self.old)).bytes - 1) ≢ 0 }
         ensures committed { IfOk result (λ id.
             Commits (⟦<Self as Files>⟧.state self.old) (⟦<Self as Files>⟧.state self.new) id) }
-        ensures taken { OnOk result (
-            WhereTold (⟦<Self as Files>⟧.state self.old) (⟦<Self as Files>⟧.state self.new) TakesNone) }
+        ensures taken { OnOk result (WhereTold ⟦<Self as Files>⟧.state self.old self.new TakesNone) }
         ensures cut { let files = ⟦<Self as Files>⟧ in let old = files.state self.old in
-            IsTrue files.cuts → IsTrue old.tells → OnErr result
-            (MendsToEither files.mends old.files (files.state self.new).store
-            (λ after. (id : ℕ) × Commits old after id)) }
+            CutKeepsOrLeaves files.cuts files.mends files.state self.old self.new (OnErr result)
+            (λ after. (id : ℕ) × Commits old after id) }
         ensures frame { let files = ⟦<Self as Files>⟧ in
             Changes files.state files.lent files.reads files.faults self.old self.new result }
     {

@@ -1,5 +1,7 @@
-ghost use Rattle.std.specs.Prelude.{◌≡◌, ℕ, ◌+◌, ◌*◌, ◌≤◌, max, None, Some, IsErrOf, IsTrue, OnOk};
-ghost use Rattle.afl_base.specs.FileErrors.{OnSpace, UnlessFailed};
+ghost use Rattle.std.specs.Prelude.{◌≡◌, ℕ, ◌+◌, ◌*◌, ◌≤◌, None, Some, OnOk};
+ghost use Rattle.afl_base.specs.Asked.{AreFewFor};
+ghost use Rattle.afl_base.specs.CutFiles.{CutKeeps};
+ghost use Rattle.afl_base.specs.FileErrors.{OnSpace, UnlessFailed, WhereFailed};
 ghost use Rattle.afl_base.specs.Files.{IsLive, KeepsBytes, file_at, size_at};
 ghost use Rattle.afl_base.specs.Fit.{fit};
 ghost use Rattle.afl_base.specs.Keeping.{ChangesOrLacks};
@@ -40,17 +42,11 @@ impl<F: Flash> Volume<F> {
         ensures unasked { AtEntry self.old.table id (λ e. step_for e overwrites bytes ≡ None
             → OnSpace result (λ _. ⊥)) }
         ensures asked { OnSpace result (λ need. ⟦<Self as Files>⟧.asks self.new id overwrites bytes need) }
-        ensures need_doubling { OnSpace result (λ need.
-            (file_at (⟦<Self as Files>⟧.state self.old).files id).kind ≡ Kind.Doubling
-            → need ≤ max 16 (2 * fit (size_at (⟦<Self as Files>⟧.state self.old).files id))) }
-        ensures need_fixed { OnSpace result (λ need. (n : ℕ)
-            → (file_at (⟦<Self as Files>⟧.state self.old).files id).kind ≡ Kind.Fixed n → need ≤ 16) }
-        ensures chooses { let state = ⟦<Self as Files>⟧.state in
-            ChoosesPages (λ e. step_for e overwrites bytes) id self.old.table self.new.table
-            (state self.old) (state self.new) result }
-        ensures cut { let files = ⟦<Self as Files>⟧ in let old = files.state self.old in
-            IsTrue files.cuts → IsTrue old.tells → IsErrOf result FileError.Failed
-            → files.mends (files.state self.new).store old.files }
+        ensures few { OnSpace result (AreFewFor (file_at (⟦<Self as Files>⟧.state self.old).files id)) }
+        ensures chooses { ChoosesPages ⟦<Self as Files>⟧.state (λ e. step_for e overwrites bytes) id
+            self.old.table self.new.table self.old self.new result }
+        ensures cut { let files = ⟦<Self as Files>⟧ in
+            CutKeeps files.cuts files.mends files.state self.old self.new (WhereFailed result) }
         ensures frame { let files = ⟦<Self as Files>⟧ in
             ChangesOrLacks files.state files.lent files.reads files.faults files.lacks self.old self.new result }
     {
@@ -85,12 +81,10 @@ impl<F: Flash> Volume<F> {
             → OnSpace result (λ _. ⊥)) }
         ensures asked { OnSpace result (λ need. ⟦<Self as Files>⟧.asks self.new id overwrites bytes need) }
         ensures need { OnSpace result (λ need. need ≡ 16) }
-        ensures chooses { let state = ⟦<Self as Files>⟧.state in
-            ChoosesPages (λ e. log_for e overwrites bytes) id self.old.table self.new.table
-            (state self.old) (state self.new) result }
-        ensures cut { let files = ⟦<Self as Files>⟧ in let old = files.state self.old in
-            IsTrue files.cuts → IsTrue old.tells → IsErrOf result FileError.Failed
-            → files.mends (files.state self.new).store old.files }
+        ensures chooses { ChoosesPages ⟦<Self as Files>⟧.state (λ e. log_for e overwrites bytes) id
+            self.old.table self.new.table self.old self.new result }
+        ensures cut { let files = ⟦<Self as Files>⟧ in
+            CutKeeps files.cuts files.mends files.state self.old self.new (WhereFailed result) }
         ensures frame { let files = ⟦<Self as Files>⟧ in
             ChangesOrLacks files.state files.lent files.reads files.faults files.lacks self.old self.new result }
     {
@@ -111,12 +105,10 @@ impl<F: Flash> Volume<F> {
         ensures after { OnOk result (FromTo self.old.table self.new.table id (IsAfter step)) }
         ensures kept { OnSpace result (λ _. self.new.table ≡ self.old.table) }
         ensures need { OnSpace result (λ need. AtEntry self.old.table id (λ e. need ≡ need_of step e)) }
-        ensures chooses { let state = ⟦<Self as Files>⟧.state in
-            ChoosesPages (λ _. Some step) id self.old.table self.new.table
-            (state self.old) (state self.new) result }
-        ensures cut { let files = ⟦<Self as Files>⟧ in let old = files.state self.old in
-            IsTrue files.cuts → IsTrue old.tells → IsErrOf result FileError.Failed
-            → files.mends (files.state self.new).store old.files }
+        ensures chooses { ChoosesPages ⟦<Self as Files>⟧.state (λ _. Some step) id
+            self.old.table self.new.table self.old self.new result }
+        ensures cut { let files = ⟦<Self as Files>⟧ in
+            CutKeeps files.cuts files.mends files.state self.old self.new (WhereFailed result) }
         ensures frame { let files = ⟦<Self as Files>⟧ in
             ChangesOrLacks files.state files.lent files.reads files.faults files.lacks self.old self.new result }
     {

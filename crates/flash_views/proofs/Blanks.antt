@@ -1,34 +1,16 @@
 -- What is written beside bytes that read as zeros.
-use Rattle.std.proofs.Common.{◌≡◌, ℕ, ◌+◌, ◌-◌, ◌*◌, ◌<◌, ◌≤◌, ◌⊎◌, inl, inr, ⊎_elim, Bool, true, false, ◌&&◌, List, length, take, get_or, slice_range, bit_or, refl, sym, ap, ◌∙◌, arith}
+use Rattle.std.proofs.Common.{◌≡◌, ℕ, ◌+◌, ◌-◌, ◌*◌, ◌<◌, ◌≤◌, ◌⊎◌, inl, inr, ⊎_elim, false, ◌&&◌, List, length, take, get_or, slice_range, refl, sym, ap, ◌∙◌, arith}
 use Rattle.std.specs.Prelude.{nat_lt}
 use Rattle.std.proofs.lemmas.Bool.{cases_lt}
 use Rattle.std.proofs.lemmas.List.{ext_get_or, length-take}
 use Rattle.afl_base.specs.Cuts.{IsCutErase, IsCutProgram}
 use Rattle.afl_base.specs.Image.{or_at, page_bytes, zeros_at}
 use Rattle.afl_base.proofs.Bits.{or_at_nothing}
-use Rattle.afl_base.proofs.Images.{length_or_at, length_zeros_at, or_at_before, or_at_behind, or_at_inside, or_at_page, range_at, range_same, zeros_at_before, zeros_at_behind, zeros_at_inside}
+use Rattle.afl_base.proofs.Images.{length_or_at, length_zeros_at, or_alike, or_at_before, or_at_behind, or_at_page, range_at, range_same, zeros_at_before, zeros_at_behind, zeros_at_inside}
 use Rattle.flash_views.specs.Views.{meets_blank}
-use Rattle.padded.proofs.Facts.{lt_true}
+use Rattle.padded.proofs.Facts.{both_true, lt_true}
 
 -- ---- bytes that are alike stay alike
-
-or_alike : (xs ys : List ℕ) (at : ℕ) (bytes : List ℕ) (k : ℕ) → k < length xs → k < length ys → get_or xs k 0 ≡ get_or ys k 0 → get_or (or_at xs at bytes) k 0 ≡ get_or (or_at ys at bytes) k 0
-or_alike xs ys at bytes k less few same =
-    ⊎_elim
-    (λ (l : k < at). or_at_before xs at bytes k l ∙ same ∙ sym (or_at_before ys at bytes k l))
-    (λ (l : at ≤ k). ⊎_elim
-    (λ (h : k < at + length bytes).
-    let e : at + (k - at) ≡ k = omega (arith, l) in
-    ap (λ j. get_or (or_at xs at bytes) j 0) (sym e)
-    ∙ or_at_inside xs at bytes (k - at) (omega (arith, e, less)) (omega (arith, l, h))
-    ∙ ap (λ j. bit_or (get_or xs j 0) (get_or bytes (k - at) 0)) e
-    ∙ ap (λ b. bit_or b (get_or bytes (k - at) 0)) same
-    ∙ ap (λ j. bit_or (get_or ys j 0) (get_or bytes (k - at) 0)) (sym e)
-    ∙ sym (or_at_inside ys at bytes (k - at) (omega (arith, e, few)) (omega (arith, l, h)))
-    ∙ ap (λ j. get_or (or_at ys at bytes) j 0) e)
-    (λ (h : at + length bytes ≤ k). or_at_behind xs at bytes k h ∙ same ∙ sym (or_at_behind ys at bytes k h))
-    (cases_lt k (at + length bytes)))
-    (cases_lt k at)
 
 zeros_alike : (xs ys : List ℕ) (at n k : ℕ) → at + n ≤ length xs → at + n ≤ length ys → get_or xs k 0 ≡ get_or ys k 0 → get_or (zeros_at xs at n) k 0 ≡ get_or (zeros_at ys at n) k 0
 zeros_alike xs ys at n k fits room same =
@@ -110,16 +92,11 @@ pub let_through : (place at n : ℕ) → meets_blank place at n ≡ false → (a
 let_through place at n e =
     ⊎_elim
     (λ (l : at < place + 128). ⊎_elim
-    (λ (m : place < at + n). absurd (both (nat_lt at (place + 128)) (nat_lt place (at + n)) (lt_true at (place + 128) l) (lt_true place (at + n) m) e))
+    (λ (m : place < at + n). absurd (let is = both_true (nat_lt at (place + 128)) (nat_lt place (at + n)) (lt_true at (place + 128) l) (lt_true place (at + n) m) in cc))
     (λ (m : at + n ≤ place). inl m)
     (cases_lt place (at + n)))
     (λ (l : place + 128 ≤ at). inr l)
     (cases_lt at (place + 128))
-  where
-    both : (a b : Bool) → a ≡ true → b ≡ true → (a && b) ≡ false → ⊥
-    both true true e f g = cc
-    both true false e f g = cc
-    both false b e f g = cc
 
 -- of less of it no more is asked
 fewer : (place at n m : ℕ) → m ≤ n → (at + n ≤ place) ⊎ (place + 128 ≤ at) → (at + m ≤ place) ⊎ (place + 128 ≤ at)

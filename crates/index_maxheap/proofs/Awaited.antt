@@ -256,25 +256,6 @@ module _ (from from_ : ℕ) (at at_ count count_ : ℕ → ℕ) (groups groups_ 
     rest = rest_written;
   }
 
--- nothing of a node waits
-pub await_less : (at count : ℕ → ℕ) (groups draft full : List ℕ) (n : ℕ) → Awaits n at count groups draft full → count n ≡ 0 → Awaits (n + 1) at count groups draft full
-await_less at count groups draft full n a none = record {
-  size = a.size;
-  free = λ x v. (let later = v.later in a.free x (record { node = v.node; later = omega (arith, later); among = v.among; behind = v.behind; before = v.before }));
-  held = λ m i later among h. a.held m i (omega (arith, later)) among h;
-  rest = λ x. ⊎_elim
-      (λ (v : IsAwaited n at count x).
-      let later = v.later in
-      let behind = v.behind in
-      let before = v.before in
-      ⊎_elim
-      (λ (y : v.node ≤ n). let e : v.node ≡ n = omega (arith, y, later) in let count_is = ap count e in absurd (omega (arith, count_is, none, behind, before)))
-      (λ (y : n < v.node). inl (record { node = v.node; later = omega (arith, y); among = v.among; behind = behind; before = before }))
-      (order v.node n))
-      (λ (e : get_or draft x 0 ≡ get_or full x 0). inr e)
-      (a.rest x);
-}
-
 -- nothing waits
 pub await_none : (at count : ℕ → ℕ) (groups draft : List ℕ) → ((m : ℕ) → count m ≡ 0) → Awaits 0 at count groups draft draft
 await_none at count groups draft none = record {

@@ -29,6 +29,7 @@ use Rattle.index_tree.proofs.Inserted.{zero_u16}
 use Rattle.index_tree.proofs.Frames.{put_here}
 use Rattle.index_tree.proofs.Shared.{Full, Same, goes_self, grows, order, reach_same}
 use Rattle.index_tree.proofs.Spots.{u16_stays, byte_stays, chain_same, node_small}
+use Rattle.index_tree.proofs.OnPath.{node_spot}
 use Rattle.index_maxheap.proofs.Walked.{number_spot}
 
 -- ---- zeros
@@ -316,14 +317,6 @@ module _ (loads places : List ℕ) (opens : ℕ) (draft : List ℕ) (ps : List P
       positive : (n : ℕ) → n ≢ 0 → 0 < n
       positive zero s = absurd (s refl)
       positive (suc n) s = omega arith
-
-      node_spot : (bytes : List ℕ) (k : ℤ) (l : ℕ) → l ≤ 4 → spot_of bytes k l ≡ 2 * node k l
-      node_spot bytes k zero h = refl
-      node_spot bytes k (suc zero) h = refl
-      node_spot bytes k (suc (suc zero)) h = refl
-      node_spot bytes k (suc (suc (suc zero))) h = refl
-      node_spot bytes k (suc (suc (suc (suc zero)))) h = refl
-      node_spot bytes k (suc (suc (suc (suc (suc l))))) h = absurd (omega arith)
 
   spot_zero : number_of b.tree key hop ≡ 0 → u16_at b.tree (spot_of b.tree key hop) ≡ 0
   unfolding hop end_

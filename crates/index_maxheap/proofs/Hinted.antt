@@ -17,11 +17,6 @@ pub hop_here : (bytes : List ℕ) (key : ℤ) (bucket number level : ℕ) → le
 hop_here bytes key bucket number level low is same =
     (level, record { least = omega arith; exact = λ x. refl }, sym same ∙ is ∙ sym (node_number bytes key level (omega (arith, low))))
 
-pub hop_past : (bytes : List ℕ) (key : ℤ) (bucket hop : ℕ) → ((i : ℕ) → i < 4 → number_of bytes key i ≢ bucket) → bucket ≡ number_of bytes key hop → IsOnPathAt bytes key bucket 4
-hop_past bytes key bucket hop past there =
-    let far : 4 ≤ hop = ⊎_elim (λ (x : 4 ≤ hop). x) (λ (x : hop < 4). absurd (past hop x (sym there))) (order 4 hop) in
-    (hop, record { least = far; exact = λ x. absurd (omega (arith, x)) }, there)
-
 pub past_more : (bytes : List ℕ) (key : ℤ) (bucket number level : ℕ) → level < 4 → number ≡ u16_at bytes (2 * node key level) → number ≢ bucket → ((i : ℕ) → i < level → number_of bytes key i ≢ bucket) → (i : ℕ) → i < level + 1 → number_of bytes key i ≢ bucket
 past_more bytes key bucket number level low is other past i less = ⊎_elim
     (λ (here : level ≤ i). let e : i ≡ level = omega (arith, here, less) in λ z. other (is ∙ sym (node_number bytes key level (omega (arith, low))) ∙ sym (ap (number_of bytes key) e) ∙ z))

@@ -39,9 +39,3 @@ pub roots_found : {E : Type 0} (r : Result (Option Found) E) (now was start e bu
 roots_found (Err x) now was start e bucket more first = more
 roots_found (Ok None) now was start e bucket more first = more
 roots_found (Ok (Some g)) now was start e bucket more first = root_found now was start e bucket g.place more first
-
--- a place, where the reads before it leave so many
-pub paid_later : {E : Type 0} (r : Result (Option Found) E) (now was start e most left : ℕ) → IfOk r (λ f. IfSome f (λ g. now + walk_left e (Some g.place) ≤ was + most)) → was + most ≤ start + left → IfOk r (λ f. IfSome f (λ g. now + walk_left e (Some g.place) ≤ start + left))
-paid_later (Err x) now was start e most left found before = found
-paid_later (Ok None) now was start e most left found before = found
-paid_later (Ok (Some g)) now was start e most left found before = omega (arith, found, before)

@@ -2,7 +2,8 @@
 
 #![tactic(auto)]
 
-ghost use Rattle.std.specs.Prelude.{◌≡◌, ◌≢◌, ◌+◌, ◌*◌, ◌^◌, ◌<◌, ◌≤◌, ℕ, List, IfOk, IsSome, IsTrue, OnErr, OnOk, length, replicate};
+ghost use Rattle.std.specs.Prelude.{◌≡◌, ◌≢◌, ◌+◌, ◌*◌, ◌^◌, ◌<◌, ◌≤◌, ℕ, List, IsSome, IsTrue, OnErr, OnOk, length, replicate};
+ghost use Rattle.afl_base.specs.CutFiles.{CutKeeps};
 ghost use Rattle.afl_base.specs.Keeping.{Changes};
 ghost use Rattle.afl_base.specs.Files.{draft_in};
 ghost use Rattle.afl_base.specs.KeyColumn.{HasField, IsWidth, key_of};
@@ -31,8 +32,7 @@ fn write_bucket<V: Files>(files: &mut V, at: u32, opened: u16) -> Result<(), Fai
     requires zeros { IsTrue (V.state files.old).tells
         → HasZeros (draft_in (V.state files.old)).bytes at 2 }
     ensures written { OnOk result (DraftsBucket (V.state files.old) (V.state files.new) at opened) }
-    ensures cut { IsTrue V.cuts → IsTrue (V.state files.old).tells → OnErr result
-        (V.mends (V.state files.new).store (V.state files.old).files) }
+    ensures cut { CutKeeps V.cuts V.mends V.state files.old files.new (OnErr result) }
     ensures frame { Changes V.state V.lent V.reads V.faults files.old files.new result }
 {
     files.draft_write(bucket_place(opened) + (BUCKET_SIZE as u32 - 1), &[1])?;
@@ -79,8 +79,7 @@ fn build_slot<V: Files>(
         OnOk result (Gathers nodes.new (draft_in (V.state files.new)).bytes (with_pair ps key.now slot)) }
     ensures safe { OnOk result (IsSafeBuild nodes.new most (slot + 1)) }
     ensures only { OnOk result (HasOtherDraft (V.state files.old) (V.state files.new)) }
-    ensures cut { IsTrue V.cuts → IsTrue (V.state files.old).tells → OnErr result
-        (V.mends (V.state files.new).store (V.state files.old).files) }
+    ensures cut { CutKeeps V.cuts V.mends V.state files.old files.new (OnErr result) }
     ensures frame { Changes V.state V.lent V.reads V.faults files.old files.new result }
 {
     let level = level_with_room(&nodes.loads, key);
@@ -115,8 +114,7 @@ fn write_waiting<V: Files>(files: &mut V, nodes: &Nodes, node: u16) -> Result<()
         → NodesAwait node nodes.now (draft_in (V.state files.old)).bytes full
         → OnOk result (NodesAwait (node + 1) nodes.now (draft_in (V.state files.new)).bytes full) }
     ensures only { OnOk result (HasOtherDraft (V.state files.old) (V.state files.new)) }
-    ensures cut { IsTrue V.cuts → IsTrue (V.state files.old).tells → OnErr result
-        (V.mends (V.state files.new).store (V.state files.old).files) }
+    ensures cut { CutKeeps V.cuts V.mends V.state files.old files.new (OnErr result) }
     ensures frame { Changes V.state V.lent V.reads V.faults files.old files.new result }
 {
     let load = nodes.loads[usize::from(node)];
@@ -140,8 +138,7 @@ fn write_rest<V: Files>(files: &mut V, nodes: &Nodes) -> Result<(), Failed>
         → OnOk result (Builds nodes.now.loads nodes.now.places nodes.now.opened
         (draft_in (V.state files.new)).bytes ps) }
     ensures only { OnOk result (HasOtherDraft (V.state files.old) (V.state files.new)) }
-    ensures cut { IsTrue V.cuts → IsTrue (V.state files.old).tells → OnErr result
-        (V.mends (V.state files.new).store (V.state files.old).files) }
+    ensures cut { CutKeeps V.cuts V.mends V.state files.old files.new (OnErr result) }
     ensures frame { Changes V.state V.lent V.reads V.faults files.old files.new result }
 {
     for node in 0..341u16 {
@@ -173,8 +170,7 @@ pub fn build<V: Files>(
     ensures tree { IsTrue (V.state files.old).tells
         → OnOk result (IsTreeOf (draft_in (V.state files.new)).bytes (first_keys (key_of (V.state files.old) column) slots)) }
     ensures only { OnOk result (HasOtherDraft (V.state files.old) (V.state files.new)) }
-    ensures cut { IsTrue V.cuts → IsTrue (V.state files.old).tells → OnErr result
-        (V.mends (V.state files.new).store (V.state files.old).files) }
+    ensures cut { CutKeeps V.cuts V.mends V.state files.old files.new (OnErr result) }
     ensures frame { Changes V.state V.lent V.reads V.faults files.old files.new result }
 {
     files.draft_write(HEAD_SIZE as u32 - 1, &[1])?;

@@ -3,6 +3,7 @@
 #![tactic(auto)]
 
 ghost use Rattle.std.specs.Prelude.{◌≡◌, ◌+◌, ◌*◌, ◌/◌, ◌%◌, ◌^◌, ◌<◌, ◌≤◌, IsSome, IsTrue, OnErr, OnOk, get_or, length, slice_range};
+ghost use Rattle.afl_base.specs.CutFiles.{CutKeeps};
 ghost use Rattle.afl_base.specs.Files.{WritesDraft, draft_in};
 ghost use Rattle.afl_base.specs.Keeping.{Changes};
 ghost use Rattle.index_maxheap.specs.Builds.{HasZeros, TakesIn, with_bucket};
@@ -76,8 +77,7 @@ impl Nodes {
             → HasZeros (draft_in (V.state files.old)).bytes at size }
         ensures written { OnOk result (WritesDraft (V.state files.old) (V.state files.new) at
             (slice_range self.now.groups (24 * node) (24 * node + size))) }
-        ensures cut { IsTrue V.cuts → IsTrue (V.state files.old).tells → OnErr result
-            (V.mends (V.state files.new).store (V.state files.old).files) }
+        ensures cut { CutKeeps V.cuts V.mends V.state files.old files.new (OnErr result) }
         ensures frame { Changes V.state V.lent V.reads V.faults files.old files.new result }
     {
         let from = GROUP_SIZE * usize::from(node);

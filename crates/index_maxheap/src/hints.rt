@@ -19,22 +19,8 @@ use afl_base::{Failed, FileId, Files};
 fn may_stand(hint: Place, from: u16, size: u32) -> bool
     ensures stands { result ≡ true → MayStand hint from size }
 {
-    if hint.hop < 4 {
-        return false;
-    }
-    if from == 0 {
-        return false;
-    }
-    if hint.bucket == 0 {
-        return false;
-    }
-    if hint.pair == 0 {
-        return false;
-    }
-    if hint.pair > 32 {
-        return false;
-    }
-    bucket_place(hint.bucket) <= size
+    let is_in_chain = hint.hop >= 4 && hint.bucket != 0 && bucket_place(hint.bucket) <= size;
+    is_in_chain && from != 0 && hint.pair != 0 && hint.pair <= 32
 }
 
 // Whether the pair before a place has the key, and the slot before one.

@@ -3,12 +3,12 @@
 #![tactic(auto)]
 
 ghost use Rattle.std.specs.Prelude.{◌≡◌, ◌≢◌, ◌+◌, ◌-◌, ◌<◌, ◌≤◌, ◌∷◌, ◌++◌, ◌/◌, [], ℤ, List, length, IsTrue, OnErr, OnOk};
-ghost use Rattle.afl_base.specs.CutFiles.{MendsToState};
+ghost use Rattle.afl_base.specs.CutFiles.{CutLeaves};
 ghost use Rattle.afl_base.specs.Keeping.{Changes};
 ghost use Rattle.afl_base.specs.Files.{IsLive, bytes_at, file_at, size_at};
 ghost use Rattle.afl_base.specs.Frames.{SparesOthers};
 ghost use Rattle.afl_base.specs.Regions.{regions};
-ghost use Rattle.afl_base.specs.Sparing.{TakesNoPage};
+ghost use Rattle.afl_base.specs.Sparing.{SparesPages};
 ghost use Rattle.index_tree.specs.Pairs.{pair};
 ghost use Rattle.index_tree.specs.Places.{KeepsNumbers};
 ghost use Rattle.index_tree.specs.Trees.{IsTreeOf};
@@ -39,11 +39,9 @@ pub fn insert<V: Files>(
         → length keys ≡ slot → room.now ≡ room_of (bytes_at (V.state files.old).files index) key.now
         → OnOk result (KeepsNumbers (bytes_at (V.state files.old).files index) (bytes_at (V.state files.new).files index)) }
     ensures only { OnOk result (OnlyIndexChanges (V.state files.old) (V.state files.new) index) }
-    ensures spares { IsTrue (V.state files.old).tells → OnOk result
-        (TakesNoPage V.is_free (V.state files.old).store (V.state files.new).store) }
-    ensures cut { IsTrue V.cuts → IsTrue (V.state files.old).tells → OnErr result
-        (MendsToState V.mends (V.state files.new).store
-        (λ after. SparesOthers (V.state files.old) after (λ k. k ≢ index))) }
+    ensures spares { SparesPages V.is_free V.state files.old files.new result }
+    ensures cut { CutLeaves V.cuts V.mends V.state files.old files.new (OnErr result)
+        (λ after. SparesOthers (V.state files.old) after (λ k. k ≢ index)) }
     ensures frame { Changes V.state V.lent V.reads V.faults files.old files.new result }
 {
     match room.end {
@@ -66,11 +64,9 @@ fn put_pair<V: Files>(
     requires records { regions at 6 ≤ (file_at (V.state files.old).files index).records }
     ensures put { OnOk result
         (PutsPair (V.state files.old) (V.state files.new) index at (pair key.now slot)) }
-    ensures spares { IsTrue (V.state files.old).tells → OnOk result
-        (TakesNoPage V.is_free (V.state files.old).store (V.state files.new).store) }
-    ensures cut { IsTrue V.cuts → IsTrue (V.state files.old).tells → OnErr result
-        (MendsToState V.mends (V.state files.new).store
-        (λ after. SparesOthers (V.state files.old) after (λ k. k ≢ index))) }
+    ensures spares { SparesPages V.is_free V.state files.old files.new result }
+    ensures cut { CutLeaves V.cuts V.mends V.state files.old files.new (OnErr result)
+        (λ after. SparesOthers (V.state files.old) after (λ k. k ≢ index)) }
     ensures frame { Changes V.state V.lent V.reads V.faults files.old files.new result }
 {
     let bytes = pair_bytes(key, slot);
@@ -94,11 +90,9 @@ fn put_bucket<V: Files>(
     requires room { 195 ≤ (file_at (V.state files.old).files index).room }
     ensures put { OnOk result
         (PutsBucket (V.state files.old) (V.state files.new) index at (pair key.now slot)) }
-    ensures spares { IsTrue (V.state files.old).tells → OnOk result
-        (TakesNoPage V.is_free (V.state files.old).store (V.state files.new).store) }
-    ensures cut { IsTrue V.cuts → IsTrue (V.state files.old).tells → OnErr result
-        (MendsToState V.mends (V.state files.new).store
-        (λ after. SparesOthers (V.state files.old) after (λ k. k ≢ index))) }
+    ensures spares { SparesPages V.is_free V.state files.old files.new result }
+    ensures cut { CutLeaves V.cuts V.mends V.state files.old files.new (OnErr result)
+        (λ after. SparesOthers (V.state files.old) after (λ k. k ≢ index)) }
     ensures frame { Changes V.state V.lent V.reads V.faults files.old files.new result }
 {
     let number = ((files.size(index) - HEAD_SIZE as u32) / BUCKET_SIZE as u32 + 1) as u16;

@@ -2,15 +2,15 @@
 
 #![tactic(auto)]
 
-ghost use Rattle.std.specs.Prelude.{◌≡◌, ◌≢◌, ◌+◌, ◌<◌, ◌++◌, ◌∷◌, [], ℕ, ℤ, pos, negsuc, List, None, IsErrOf, IsTrue, OnErr, OnOk, IfOk, length, slice_get};
-ghost use Rattle.afl_base.specs.CutFiles.{MendsToState};
+ghost use Rattle.std.specs.Prelude.{◌≡◌, ◌≢◌, ◌+◌, ◌<◌, ◌++◌, ◌∷◌, [], ℕ, ℤ, pos, negsuc, List, None, IsTrue, OnErr, OnOk, IfOk, length, slice_get};
+ghost use Rattle.afl_base.specs.CutFiles.{CutLeaves};
 ghost use Rattle.afl_base.specs.Keeping.{Changes, ChangesOrLacks};
 ghost use Rattle.afl_base.specs.declared.kind.Kind.TheVariants as Kind;
 ghost use Rattle.afl_base.specs.Asked.{asks_few};
-ghost use Rattle.afl_base.specs.FileErrors.{OnSpace, UnlessFailed};
+ghost use Rattle.afl_base.specs.FileErrors.{OnSpace, UnlessFailed, WhereFailed};
 ghost use Rattle.afl_base.specs.Files.{IsLive, bytes_at, file_at};
 ghost use Rattle.afl_base.specs.Frames.{Prepares, SparesOthers};
-ghost use Rattle.afl_base.specs.Sparing.{TakesNoPage, StandsStill};
+ghost use Rattle.afl_base.specs.Sparing.{SparesPages, StandsStillWhere};
 ghost use Rattle.db_model.specs.Row.{Row, is_between};
 ghost use Rattle.db_model.specs.Step.{key_of};
 ghost use Rattle.index_maxheap.specs.Rooms.{HasRoomFor, room_of};
@@ -45,11 +45,9 @@ pub fn prepare_all<V: Files>(
     ensures asked { IsTrue (V.state files.old).tells → OnSpace result (λ need.
         OneAsksFor (asks_few (V.asks files.new) (V.state files.new).files) (V.state files.new) tuple.now need
         indexes.now) }
-    ensures still { IsTrue (V.state files.old).tells → ((need : ℕ)
-        → OneAsksFor (V.asks files.old) (V.state files.old) tuple.now need indexes.now → ⊥)
-        → OnOk result (StandsStill V.state V.asks files.old files.new) }
-    ensures cut { IsTrue V.cuts → IsTrue (V.state files.old).tells → IsErrOf result FileError.Failed
-        → MendsToState V.mends (V.state files.new).store
+    ensures still { StandsStillWhere V.state V.asks ((need : ℕ)
+        → OneAsksFor (V.asks files.old) (V.state files.old) tuple.now need indexes.now → ⊥) files.old files.new result }
+    ensures cut { CutLeaves V.cuts V.mends V.state files.old files.new (WhereFailed result)
         (λ after. Prepares (V.state files.old) after (IsNoTree indexes.now)) }
     ensures frame { ChangesOrLacks V.state V.lent V.reads V.faults V.lacks files.old files.new result }
 {
@@ -101,11 +99,9 @@ fn prepare_one<V: Files>(files: &mut V, access: Access, key: &i32) -> Result<Roo
         IsRoomFor (V.state files.old) key.now room access) }
     ensures asked { IsTrue (V.state files.old).tells → OnSpace result (λ need.
         AsksFor (asks_few (V.asks files.new) (V.state files.new).files) (V.state files.new) key.now need access) }
-    ensures still { IsTrue (V.state files.old).tells → ((need : ℕ)
-        → AsksFor (V.asks files.old) (V.state files.old) key.now need access → ⊥)
-        → OnOk result (StandsStill V.state V.asks files.old files.new) }
-    ensures cut { IsTrue V.cuts → IsTrue (V.state files.old).tells → IsErrOf result FileError.Failed
-        → MendsToState V.mends (V.state files.new).store
+    ensures still { StandsStillWhere V.state V.asks ((need : ℕ)
+        → AsksFor (V.asks files.old) (V.state files.old) key.now need access → ⊥) files.old files.new result }
+    ensures cut { CutLeaves V.cuts V.mends V.state files.old files.new (WhereFailed result)
         (λ after. Prepares (V.state files.old) after (λ id. IsApart id access)) }
     ensures frame { ChangesOrLacks V.state V.lent V.reads V.faults V.lacks files.old files.new result }
 {
@@ -131,11 +127,9 @@ fn prepare_tree<V: Files>(files: &mut V, file: FileId, key: &i32) -> Result<Room
         → (keys : List ℤ) → IsTreeOf bytes keys → OnSpace result (λ need.
         asks_few (V.asks files.new) (V.state files.new).files file
         ((room_of bytes key.now).overwrites) ((room_of bytes key.now).bytes) need) }
-    ensures still { IsTrue (V.state files.old).tells → ((need : ℕ)
-        → AsksFor (V.asks files.old) (V.state files.old) key.now need (access.Tree file) → ⊥)
-        → OnOk result (StandsStill V.state V.asks files.old files.new) }
-    ensures cut { IsTrue V.cuts → IsTrue (V.state files.old).tells → IsErrOf result FileError.Failed
-        → MendsToState V.mends (V.state files.new).store
+    ensures still { StandsStillWhere V.state V.asks ((need : ℕ)
+        → AsksFor (V.asks files.old) (V.state files.old) key.now need (access.Tree file) → ⊥) files.old files.new result }
+    ensures cut { CutLeaves V.cuts V.mends V.state files.old files.new (WhereFailed result)
         (λ after. Prepares (V.state files.old) after (λ id. id ≢ file)) }
     ensures frame { ChangesOrLacks V.state V.lent V.reads V.faults V.lacks files.old files.new result }
 {
@@ -177,11 +171,9 @@ pub fn insert_all<V: Files>(
     ensures others { OnOk result
         (SparesOthers (V.state files.old) (V.state files.new) (IsNoTree indexes.now)) }
     ensures tables { OnOk result (KeepsTables tables.old tables.new indexes.now) }
-    ensures spares { IsTrue (V.state files.old).tells → OnOk result
-        (TakesNoPage V.is_free (V.state files.old).store (V.state files.new).store) }
-    ensures cut { IsTrue V.cuts → IsTrue (V.state files.old).tells → OnErr result
-        (MendsToState V.mends (V.state files.new).store
-        (λ after. SparesOthers (V.state files.old) after (IsNoTree indexes.now))) }
+    ensures spares { SparesPages V.is_free V.state files.old files.new result }
+    ensures cut { CutLeaves V.cuts V.mends V.state files.old files.new (OnErr result)
+        (λ after. SparesOthers (V.state files.old) after (IsNoTree indexes.now)) }
     ensures frame { Changes V.state V.lent V.reads V.faults files.old files.new result }
 {
     let count = indexes.len();
@@ -218,11 +210,9 @@ fn insert_one<V: Files>(
     ensures others { OnOk result
         (SparesOthers (V.state files.old) (V.state files.new) (λ id. IsApart id access)) }
     ensures tables { OnOk result (KeepsTablesBeside access tables.old tables.new) }
-    ensures spares { IsTrue (V.state files.old).tells → OnOk result
-        (TakesNoPage V.is_free (V.state files.old).store (V.state files.new).store) }
-    ensures cut { IsTrue V.cuts → IsTrue (V.state files.old).tells → OnErr result
-        (MendsToState V.mends (V.state files.new).store
-        (λ after. SparesOthers (V.state files.old) after (λ id. IsApart id access))) }
+    ensures spares { SparesPages V.is_free V.state files.old files.new result }
+    ensures cut { CutLeaves V.cuts V.mends V.state files.old files.new (OnErr result)
+        (λ after. SparesOthers (V.state files.old) after (λ id. IsApart id access)) }
     ensures frame { Changes V.state V.lent V.reads V.faults files.old files.new result }
 {
     match access {

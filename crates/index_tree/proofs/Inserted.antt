@@ -148,20 +148,6 @@ first_is b c key n slot b_is c_is four two fits is small =
 
 -- ---- changes of the file
 
-pub becomes_as : (a b : State) (id m n : ℕ) (xs ys : List ℕ) → Becomes a b id m xs → m ≡ n → (IsTrue a.tells → xs ≡ ys) → Becomes a b id n ys
-becomes_as a b id m n xs ys was size is = record {
-  live = was.live;
-  name = was.name;
-  kind = was.kind;
-  size = was.size ∙ size;
-  bytes = λ told. was.bytes told ∙ is told;
-  others = was.others;
-  names = was.names;
-  used = was.used;
-  draft = was.draft;
-  tells = was.tells;
-}
-
 -- ---- answers
 
 pub on_ok : {T E P Q : Type 0} (r : Result T E) → (P → Q) → OnOk r P → OnOk r Q

@@ -2,11 +2,10 @@
 
 #![tactic(auto)]
 
-ghost use Rattle.std.specs.Prelude.{◌≡◌, ◌+◌, ◌*◌, List, Option, IfOk, IsErrOf, IsTrue, OnErr, OnOk, length};
-ghost use Rattle.afl_base.specs.CutFiles.{MendsToEither};
+ghost use Rattle.std.specs.Prelude.{◌≡◌, ◌+◌, ◌*◌, List, Option, IfOk, IsTrue, OnErr};
+ghost use Rattle.afl_base.specs.CutFiles.{CutKeepsOrLeaves};
 ghost use Rattle.afl_base.specs.Keeping.{ChangesOrLacks, OnlyReads};
-ghost use Rattle.afl_base.specs.Causes.{HasCause};
-ghost use Rattle.afl_base.specs.FileErrors.{HasFileCause, OnSpace, UnlessFailed};
+ghost use Rattle.afl_base.specs.FileErrors.{OnSpace, UnlessFailed, WhereFailed};
 ghost use Rattle.afl_base.specs.Files.{KeepsBytes};
 ghost use Rattle.afl_base.specs.Sparing.{SparesWhere};
 ghost use Rattle.db_model.specs.Step.{first_fall, keys};
@@ -73,9 +72,8 @@ fn make_order<V: Files>(
         AsksIndexSlot (V.asks files.new) (V.state files.new) cat site.now.slot need) }
     ensures spares { let asks = AsksNoExtent (V.asks files.old) (V.state files.old).files cat in
         SparesWhere V.is_free (asks (1408 + 8 * site.now.slot) 8) (V.state files.old) (V.state files.new) result }
-    ensures cut { let old = V.state files.old in let store = (V.state files.new).store in
-        IsTrue V.cuts → IsTrue old.tells → IsErrOf result FileError.Failed
-        → MendsToEither V.mends old.files store
+    ensures cut { let old = V.state files.old in
+        CutKeepsOrLeaves V.cuts V.mends V.state files.old files.new (WhereFailed result)
         (λ after. (xs : List (Option AnyIndexed))
         → IsMadeInPart old after xs cat tuples.now site.now Inline) }
     ensures frame { ChangesOrLacks V.state V.lent V.reads V.faults V.lacks files.old files.new result }
@@ -112,9 +110,8 @@ fn make_tree<V: Files>(
     ensures asked { let old = V.state files.old in let ks = keys_at old tuples.now site.now in
         IsTrue old.tells → OnSpace result (λ need.
         AsksIndex (V.asks files.new) (V.state files.new) cat site.now.slot MaxHeap ks need) }
-    ensures cut { let old = V.state files.old in let store = (V.state files.new).store in
-        IsTrue V.cuts → IsTrue old.tells → IsErrOf result FileError.Failed
-        → MendsToEither V.mends old.files store
+    ensures cut { let old = V.state files.old in
+        CutKeepsOrLeaves V.cuts V.mends V.state files.old files.new (WhereFailed result)
         (λ after. (xs : List (Option AnyIndexed))
         → IsMadeInPart old after xs cat tuples.now site.now MaxHeap) }
     ensures frame { ChangesOrLacks V.state V.lent V.reads V.faults V.lacks files.old files.new result }
@@ -151,9 +148,8 @@ fn make_table<V: Files>(
         AsksIndexSlot (V.asks files.new) (V.state files.new) cat site.now.slot need) }
     ensures spares { let asks = AsksNoExtent (V.asks files.old) (V.state files.old).files cat in
         SparesWhere V.is_free (asks (1408 + 8 * site.now.slot) 8) (V.state files.old) (V.state files.new) result }
-    ensures cut { let old = V.state files.old in let store = (V.state files.new).store in
-        IsTrue V.cuts → IsTrue old.tells → IsErrOf result FileError.Failed
-        → MendsToEither V.mends old.files store
+    ensures cut { let old = V.state files.old in
+        CutKeepsOrLeaves V.cuts V.mends V.state files.old files.new (WhereFailed result)
         (λ after. IsMadeInPart old after indexes.now cat tuples.now site.now MemHash) }
     ensures frame { ChangesOrLacks V.state V.lent V.reads V.faults V.lacks files.old files.new result }
 {
@@ -211,9 +207,8 @@ pub fn make_index<V: Files>(
         AsksIndex (V.asks files.new) (V.state files.new) cat site.now.slot kind ks need) }
     ensures spares { let asks = AsksNoIndex (V.asks files.old) (V.state files.old) cat in
         SparesWhere V.is_free (asks site.now.slot kind) (V.state files.old) (V.state files.new) result }
-    ensures cut { let old = V.state files.old in let store = (V.state files.new).store in
-        IsTrue V.cuts → IsTrue old.tells → IsErrOf result FileError.Failed
-        → MendsToEither V.mends old.files store
+    ensures cut { let old = V.state files.old in
+        CutKeepsOrLeaves V.cuts V.mends V.state files.old files.new (WhereFailed result)
         (λ after. IsMadeInPart old after held.now.indexes cat tuples.now site.now kind) }
     ensures frame { ChangesOrLacks V.state V.lent V.reads V.faults V.lacks files.old files.new result }
 {

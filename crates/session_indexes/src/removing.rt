@@ -2,24 +2,19 @@
 
 #![tactic(auto)]
 
-ghost use Rattle.std.specs.Prelude.{◌≡◌, ◌+◌, ◌*◌, Err, IfErr, IfOk, IsErrOf, IsTrue, None, OnOk, Some, length};
-ghost use Rattle.afl_base.specs.CutFiles.{MendsToState};
-ghost use Rattle.afl_base.specs.Keeping.{Changes, ChangesOrLacks};
-ghost use Rattle.afl_base.specs.Causes.{HasCause};
-ghost use Rattle.afl_base.specs.FileErrors.{HasFileCause, OnSpace};
+ghost use Rattle.std.specs.Prelude.{◌≡◌, ◌+◌, ◌*◌, Err, IfErr, IfOk, None, OnOk, Some, length};
+ghost use Rattle.afl_base.specs.CutFiles.{CutLeaves};
+ghost use Rattle.afl_base.specs.Keeping.{ChangesOrLacks};
+ghost use Rattle.afl_base.specs.FileErrors.{OnSpace, WhereFailed};
 ghost use Rattle.afl_base.specs.Files.{KeepsBytes, Table};
 ghost use Rattle.afl_base.specs.Sparing.{SparesWhere};
 ghost use Rattle.db_model.specs.Step.{remove_index};
 ghost use Rattle.db_model.specs.declared.commands.Command.TheVariants as command;
-ghost use Rattle.session_model.specs.Aheads.{aheads_of};
-ghost use Rattle.session_model.specs.Answers.{OnNoSpace};
 ghost use Rattle.session_model.specs.Cells.{cell_from};
 ghost use Rattle.session_model.specs.Carried.{Carries, Runs};
 ghost use Rattle.session_model.specs.Frames.{AsksNoExtent};
-ghost use Rattle.session_model.specs.Running.{HasCatalogFile, HasFile, IsRunning};
-ghost use Rattle.session_model.specs.Steps.{Answers};
+ghost use Rattle.session_model.specs.Running.{HasCatalogFile, HasFile};
 ghost use Rattle.session_model.specs.View.{view};
-ghost use Rattle.session_model.specs.Wanted.{WantsFew};
 ghost use Rattle.session_indexes.specs.Made.{AsksIndexSlot};
 ghost use Rattle.session_indexes.specs.Parts.{MayTake};
 ghost use Rattle.session_indexes.specs.Removed.{IsRemovable, IsTaken};
@@ -92,9 +87,9 @@ fn take_index<V: Files>(
         AsksIndexSlot (V.asks files.new) (V.state files.new) cat slot need) }
     ensures spares { let asks = AsksNoExtent (V.asks files.old) (V.state files.old).files cat in
         SparesWhere V.is_free (asks (1408 + 8 * slot) 8) (V.state files.old) (V.state files.new) result }
-    ensures cut { let old = V.state files.old in let store = (V.state files.new).store in
-        IsTrue V.cuts → IsTrue old.tells → IsErrOf result FileError.Failed
-        → MendsToState V.mends store (λ after. MayTake old after cat slot) }
+    ensures cut { let old = V.state files.old in
+        CutLeaves V.cuts V.mends V.state files.old files.new (WhereFailed result)
+        (λ after. MayTake old after cat slot) }
     ensures frame { ChangesOrLacks V.state V.lent V.reads V.faults V.lacks files.old files.new result }
 {
     match clear_entry(files, cat, slot) {

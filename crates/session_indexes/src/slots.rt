@@ -2,13 +2,12 @@
 
 #![tactic(auto)]
 
-ghost use Rattle.std.specs.Prelude.{◌≡◌, ◌+◌, ◌*◌, None, Some, IsErrOf, IsTrue, OnErr, OnOk, length};
-ghost use Rattle.afl_base.specs.CutFiles.{MendsToState};
+ghost use Rattle.std.specs.Prelude.{◌≡◌, ◌+◌, ◌*◌, None, Some, OnErr, OnOk, length};
+ghost use Rattle.afl_base.specs.CutFiles.{CutKeeps, CutLeaves};
 ghost use Rattle.afl_base.specs.Keeping.{Changes, ChangesOrLacks};
-ghost use Rattle.afl_base.specs.Causes.{HasCause};
-ghost use Rattle.afl_base.specs.FileErrors.{HasFileCause, OnSpace, UnlessFailed};
+ghost use Rattle.afl_base.specs.FileErrors.{OnSpace, UnlessFailed, WhereFailed};
 ghost use Rattle.afl_base.specs.Files.{KeepsBytes, file_at};
-ghost use Rattle.afl_base.specs.Sparing.{SparesWhere, TakesNoPage, StandsStill};
+ghost use Rattle.afl_base.specs.Sparing.{SparesPages, SparesWhere, StandsStill};
 ghost use Rattle.catalog.specs.CatalogFile.{IsPrepared, PutsIndex};
 ghost use Rattle.session_model.specs.Frames.{AsksNoExtent, with_indexed};
 ghost use Rattle.session_model.specs.Running.{HasCatalogFile};
@@ -34,8 +33,7 @@ pub fn prepare_slot<V: Files>(files: &mut V, cat: FileId, slot: IndexId) -> Resu
         AsksIndexSlot (V.asks files.new) (V.state files.new) cat slot need) }
     ensures still { AsksNoExtent (V.asks files.old) (V.state files.old).files cat (1408 + 8 * slot) 8
         → OnOk result (StandsStill V.state V.asks files.old files.new) }
-    ensures cut { IsTrue V.cuts → IsTrue (V.state files.old).tells → IsErrOf result FileError.Failed
-        → V.mends (V.state files.new).store (V.state files.old).files }
+    ensures cut { CutKeeps V.cuts V.mends V.state files.old files.new (WhereFailed result) }
     ensures frame { ChangesOrLacks V.state V.lent V.reads V.faults V.lacks files.old files.new result }
 {
     prepare_catalog(files, cat, 1408 + 8 * u32::from(slot.number()), 8)?;
@@ -54,11 +52,10 @@ pub fn put_site<V: Files>(
         IsPrepared file (1408 + 8 * site.now.slot) 8 }
     ensures put { let old = V.state files.old in let new = V.state files.new in
         OnOk result (PutsIndex old new cat site.now.slot (Some (index_for site.now kind))) }
-    ensures spares { IsTrue (V.state files.old).tells → OnOk result
-        (TakesNoPage V.is_free (V.state files.old).store (V.state files.new).store) }
-    ensures cut { let old = V.state files.old in let store = (V.state files.new).store in
-        IsTrue V.cuts → IsTrue old.tells → OnErr result (MendsToState V.mends store
-        (λ after. MayPut old after cat site.now.slot (Some (index_for site.now kind)))) }
+    ensures spares { SparesPages V.is_free V.state files.old files.new result }
+    ensures cut { let old = V.state files.old in
+        CutLeaves V.cuts V.mends V.state files.old files.new (OnErr result)
+        (λ after. MayPut old after cat site.now.slot (Some (index_for site.now kind))) }
     ensures frame { Changes V.state V.lent V.reads V.faults files.old files.new result }
 {
     let entry = IndexEntry {
@@ -87,9 +84,8 @@ pub fn put_entry<V: Files>(
         AsksIndexSlot (V.asks files.new) (V.state files.new) cat site.now.slot need) }
     ensures spares { let asks = AsksNoExtent (V.asks files.old) (V.state files.old).files cat in
         SparesWhere V.is_free (asks (1408 + 8 * site.now.slot) 8) (V.state files.old) (V.state files.new) result }
-    ensures cut { let old = V.state files.old in let store = (V.state files.new).store in
-        IsTrue V.cuts → IsTrue old.tells → IsErrOf result FileError.Failed
-        → MendsToState V.mends store
+    ensures cut { let old = V.state files.old in
+        CutLeaves V.cuts V.mends V.state files.old files.new (WhereFailed result)
         (λ after. MayPut old after cat site.now.slot (Some (index_for site.now kind))) }
     ensures frame { ChangesOrLacks V.state V.lent V.reads V.faults V.lacks files.old files.new result }
 {
@@ -110,9 +106,9 @@ pub fn clear_entry<V: Files>(files: &mut V, cat: FileId, slot: IndexId) -> Resul
         AsksIndexSlot (V.asks files.new) (V.state files.new) cat slot need) }
     ensures spares { let asks = AsksNoExtent (V.asks files.old) (V.state files.old).files cat in
         SparesWhere V.is_free (asks (1408 + 8 * slot) 8) (V.state files.old) (V.state files.new) result }
-    ensures cut { let old = V.state files.old in let store = (V.state files.new).store in
-        IsTrue V.cuts → IsTrue old.tells → IsErrOf result FileError.Failed
-        → MendsToState V.mends store (λ after. MayPut old after cat slot None) }
+    ensures cut { let old = V.state files.old in
+        CutLeaves V.cuts V.mends V.state files.old files.new (WhereFailed result)
+        (λ after. MayPut old after cat slot None) }
     ensures frame { ChangesOrLacks V.state V.lent V.reads V.faults V.lacks files.old files.new result }
 {
     prepare_slot(files, cat, slot)?;

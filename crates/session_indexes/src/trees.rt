@@ -2,10 +2,10 @@
 
 #![tactic(auto)]
 
-ghost use Rattle.std.specs.Prelude.{◌≡◌, ◌≢◌, ◌<◌, None, IfOk, IsErrOf, IsTrue, OnOk, length};
-ghost use Rattle.afl_base.specs.CutFiles.{MendsToState};
+ghost use Rattle.std.specs.Prelude.{◌≡◌, ◌≢◌, ◌<◌, None, IfOk, IsTrue, OnOk};
+ghost use Rattle.afl_base.specs.CutFiles.{CutKeeps, CutLeaves};
 ghost use Rattle.afl_base.specs.Keeping.{ChangesOrLacks};
-ghost use Rattle.afl_base.specs.FileErrors.{HasFileCause, OnSpace};
+ghost use Rattle.afl_base.specs.FileErrors.{OnSpace, WhereFailed};
 ghost use Rattle.afl_base.specs.Files.{IsUnnamed, Keeps, KeepsBytes, used};
 ghost use Rattle.afl_base.specs.Fit.{fit};
 ghost use Rattle.db_model.specs.Step.{keys};
@@ -46,8 +46,7 @@ fn draft_tree<V: Files>(
     ensures kept { OnSpace result (λ need. Keeps (V.state files.old) (V.state files.new)) }
     ensures need { let old = V.state files.old in IsTrue old.tells → OnSpace result (λ need.
         need ≡ fit (tree_size (keys attribute (rows old.files tuples.now)))) }
-    ensures cut { IsTrue V.cuts → IsTrue (V.state files.old).tells → IsErrOf result FileError.Failed
-        → V.mends (V.state files.new).store (V.state files.old).files }
+    ensures cut { CutKeeps V.cuts V.mends V.state files.old files.new (WhereFailed result) }
     ensures frame { ChangesOrLacks V.state V.lent V.reads V.faults V.lacks files.old files.new result }
 {
     let slots = tuples.count(files);
@@ -83,9 +82,9 @@ pub fn add_tree<V: Files>(
     ensures asked { let old = V.state files.old in let ks = keys_at old tuples.now site.now in
         IsTrue old.tells → OnSpace result (λ need.
         AsksIndex (V.asks files.new) (V.state files.new) cat site.now.slot MaxHeap ks need) }
-    ensures cut { let old = V.state files.old in let store = (V.state files.new).store in
-        IsTrue V.cuts → IsTrue old.tells → IsErrOf result FileError.Failed
-        → MendsToState V.mends store (λ after. MayPutTree old after cat tuples.now site.now) }
+    ensures cut { let old = V.state files.old in
+        CutLeaves V.cuts V.mends V.state files.old files.new (WhereFailed result)
+        (λ after. MayPutTree old after cat tuples.now site.now) }
     ensures frame { ChangesOrLacks V.state V.lent V.reads V.faults V.lacks files.old files.new result }
 {
     match prepare_slot(files, cat, site.slot) {

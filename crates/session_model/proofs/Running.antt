@@ -11,7 +11,7 @@ use Rattle.afl_base.specs.Files.{AreDistinct, File, IsLive, IsNamed, IsUnnamed, 
 use Rattle.afl_base.specs.Frames.{SparesOthers}
 use Rattle.afl_base.proofs.FrameLaws.{live_by_name, spares_fewer, unnamed_by_name}
 pub use Rattle.padded.proofs.Facts.{some_same}
-use Rattle.afl_base.proofs.FileLaws.{file_here, live_here, named_here, named_live, place_live}
+use Rattle.afl_base.proofs.FileLaws.{file_here, live_here, named_here, named_live, place_live, one_name}
 use Rattle.catalog.specs.CatalogFile.{IsCatalogSize}
 use Rattle.catalog.specs.Rules.{is_of_database}
 use Rattle.db_model.specs.Catalog.{Index, catalog_of}
@@ -119,14 +119,8 @@ catalog_no_rows k e = let same : ◌≡◌ {A = ℕ} 3 2 = ap (λ (l : List ℕ)
 pub catalog_no_tree : (i : ℕ) → catalog_file ≡ tree_file i → ⊥
 catalog_no_tree i e = let same : ◌≡◌ {A = ℕ} 3 2 = ap (λ (l : List ℕ). length l) e in absurd (omega arith)
 
-same_name : (files : Table) (id : ℕ) (n m : List ℕ) → IsNamed files id n → IsNamed files id m → n ≡ m
-same_name files id n m a b = some_same (sym a ∙ b)
-  where
-    some_same : Some n ≡ Some m → n ≡ m
-    some_same e = cc
-
 pub differ : (files : Table) (a b : ℕ) (n m : List ℕ) → IsNamed files a n → IsNamed files b m → (n ≡ m → ⊥) → a ≢ b
-differ files a b n m x y h e = h (same_name files b n m (subst (λ (j : ℕ). IsNamed files j n) e x) y)
+differ files a b n m x y h e = h (one_name files b n m (subst (λ (j : ℕ). IsNamed files j n) e x) y)
 
 -- a file of another name is no tree's
 apart_from_tree : (files : Table) (id i : ℕ) (n : List ℕ) (access : Access) → IsNamed files id n → (n ≡ tree_file i → ⊥) → HasFile files i access → IsApart id access

@@ -2,11 +2,12 @@
 
 #![tactic(auto)]
 
-ghost use Rattle.std.specs.Prelude.{◌≡◌, ◌+◌, ◌≤◌, None, IsErrOf, IsTrue, OnOk};
+ghost use Rattle.std.specs.Prelude.{◌≡◌, ◌+◌, ◌≤◌, None, OnOk};
+ghost use Rattle.afl_base.specs.CutFiles.{CutKeeps};
 ghost use Rattle.afl_base.specs.Keeping.{ChangesOrLacks};
 ghost use Rattle.afl_base.specs.declared.kind.Kind.TheVariants.{Fixed};
 ghost use Rattle.afl_base.specs.Asked.{asks_few};
-ghost use Rattle.afl_base.specs.FileErrors.{OnSpace, UnlessFailed};
+ghost use Rattle.afl_base.specs.FileErrors.{OnSpace, UnlessFailed, WhereFailed};
 ghost use Rattle.afl_base.specs.Files.{IsLive, KeepsBytes, file_at, size_at};
 ghost use Rattle.afl_base.specs.Sparing.{StandsStill};
 ghost use Rattle.catalog.specs.CatalogFile.{IsCatalogSize, IsPrepared};
@@ -37,8 +38,7 @@ pub fn prepare_catalog<V: Files>(
         asks_few (V.asks files.new) (V.state files.new).files cat ((room_for size at len).0) ((room_for size at len).1) need) }
     ensures still { AsksNoExtent (V.asks files.old) (V.state files.old).files cat at len
         → OnOk result (StandsStill V.state V.asks files.old files.new) }
-    ensures cut { IsTrue V.cuts → IsTrue (V.state files.old).tells → IsErrOf result FileError.Failed
-        → V.mends (V.state files.new).store (V.state files.old).files }
+    ensures cut { CutKeeps V.cuts V.mends V.state files.old files.new (WhereFailed result) }
     ensures frame { ChangesOrLacks V.state V.lent V.reads V.faults V.lacks files.old files.new result }
 {
     let (overwrites, bytes) = room_for(files.size(cat), at, len);

@@ -40,11 +40,6 @@ failed_handed {U = U} r q e was is failed =
     err_same : (x y : FileError) → ◌≡◌ {A = Result U FileError} (Err x) (Err y) → x ≡ y
     err_same x y e = cc
 
-pub both_spaces : {T : Type 0} (r : Result T FileError) (P Q : ℕ → Type 0) → OnSpace r P → OnSpace r Q → OnSpace r (λ need. P need × Q need)
-both_spaces (Ok x) P Q p q = tt
-both_spaces (Err (Space need)) P Q p q = (p, q)
-both_spaces (Err Failed) P Q p q = tt
-
 -- ---- what a call keeps that ends with an error of another's, or comes behind another
 
 module _ {V T U : Type 0} (v : FilesOf V) where

@@ -3,10 +3,10 @@
 #![tactic(auto)]
 
 ghost use Rattle.std.specs.Prelude.{◌≡◌, ◌<◌, ◌⊎◌, List, Option, Err, IfErr, IfOk, IsErrOf, IsTrue, None, Ok, OnOk, Some, length};
-ghost use Rattle.afl_base.specs.CutFiles.{MendsToState};
+ghost use Rattle.afl_base.specs.CutFiles.{CutLeaves};
 ghost use Rattle.afl_base.specs.Keeping.{ChangesOrLacks};
 ghost use Rattle.afl_base.specs.declared.kind.Kind.TheVariants.{Doubling};
-ghost use Rattle.afl_base.specs.FileErrors.{OnSpace};
+ghost use Rattle.afl_base.specs.FileErrors.{OnSpace, WhereFailed};
 ghost use Rattle.afl_base.specs.Files.{IsUnnamed, Keeps, KeepsBytes, Table, new_file, place, used};
 ghost use Rattle.db_model.specs.declared.commands.Command.TheVariants as command;
 ghost use Rattle.db_model.specs.Between.{AreAlike};
@@ -173,8 +173,7 @@ fn make_rows<V: Files>(files: &mut V, at: &Place, schema: &Schema) -> Result<Fil
     ensures asked { OnSpace result (λ need.
         AsksRelationSlot (V.asks files.new) (V.state files.new).files at.now.cat at.now.slot need
         ⊎ (need ≡ 16)) }
-    ensures cut { IsTrue V.cuts → IsTrue (V.state files.old).tells → IsErrOf result FileError.Failed
-        → MendsToState V.mends (V.state files.new).store
+    ensures cut { CutLeaves V.cuts V.mends V.state files.old files.new (WhereFailed result)
         (λ after. MayMakeSlot (V.state files.old) after at.now.cat at.now.slot schema.now) }
     ensures frame { ChangesOrLacks V.state V.lent V.reads V.faults V.lacks files.old files.new result }
 {

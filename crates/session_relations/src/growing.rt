@@ -3,9 +3,9 @@
 #![tactic(auto)]
 
 ghost use Rattle.std.specs.Prelude.{◌≡◌, ◌*◌, ◌<◌, ℕ, List, Option, [], Err, IfErr, IfOk, IfSome, IsErrOf, IsSome, IsTrue, None, Ok, OnOk, Some, get_or, length};
-ghost use Rattle.afl_base.specs.CutFiles.{MendsToState};
+ghost use Rattle.afl_base.specs.CutFiles.{CutLeaves};
 ghost use Rattle.afl_base.specs.Keeping.{ChangesOrLacks};
-ghost use Rattle.afl_base.specs.FileErrors.{OnSpace};
+ghost use Rattle.afl_base.specs.FileErrors.{OnSpace, WhereFailed};
 ghost use Rattle.afl_base.specs.Files.{KeepsBytes};
 ghost use Rattle.afl_base.specs.Sparing.{SparesWhere};
 ghost use Rattle.catalog.specs.CatalogFile.{PutsRelation};
@@ -224,8 +224,7 @@ fn put_slot<V: Files>(files: &mut V, at: &Place, schema: &Schema) -> Result<(), 
         AsksRelationSlot (V.asks files.new) (V.state files.new).files at.now.cat at.now.slot need) }
     ensures spares { let asks = AsksNoExtent (V.asks files.old) (V.state files.old).files at.now.cat in
         SparesWhere V.is_free (asks (176 * at.now.slot) 176) (V.state files.old) (V.state files.new) result }
-    ensures cut { IsTrue V.cuts → IsTrue (V.state files.old).tells → IsErrOf result FileError.Failed
-        → MendsToState V.mends (V.state files.new).store
+    ensures cut { CutLeaves V.cuts V.mends V.state files.old files.new (WhereFailed result)
         (λ after. MayPutSlot (V.state files.old) after at.now.cat at.now.slot (Some schema.now)) }
     ensures frame { ChangesOrLacks V.state V.lent V.reads V.faults V.lacks files.old files.new result }
 {

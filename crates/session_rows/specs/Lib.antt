@@ -4,3 +4,4 @@ pub mod Wanted
 pub mod Refused
 pub mod Marking
 pub mod Removals
+pub mod Ready

@@ -1,6 +1,11 @@
 -- Rows that are marked as removed one after the other, and the slots that are.
-use Rattle.std.specs.Prelude.{◌≡◌, ◌≤◌, ◌<◌, ℕ, false, List, [], ◌∷◌, drop, get_or, length, set, take}
+use Rattle.std.specs.Prelude.{◌≡◌, ◌≤◌, ◌<◌, ℕ, false, List, Option, [], ◌∷◌, drop, get_or, length, set, take}
+use Rattle.cursor.specs.Remaining.{selected_slots}
+use Rattle.db_model.specs.Cond.{Cond}
 use Rattle.db_model.specs.Row.{Row, no_row}
+use Rattle.lvm.specs.declared.instruction.Instruction.{Instruction}
+use Rattle.lvm.specs.Code.{IsCodeOf}
+use Rattle.tuple_file.specs.declared.tuples.Tuples.{Tuples}
 use Rattle.session_rows.specs.declared.selecting.Selected.{Selected}
 
 abbrev pub dead : Row → Row
@@ -24,3 +29,8 @@ pub record IsMarkedFront (s : Selected) (slots left : List ℕ) : Type 0 where
   pub within : s.count ≤ length slots
   pub first : s.first ≡ take 29 (take s.count slots)
   pub behind : drop s.count slots ≡ left
+
+-- P of the condition of a code, where what was selected of the rows is what the condition selects
+abbrev pub OfSelected : List Instruction → Selected → Tuples → List Row → (Option Cond → Type 0) → Type 0
+OfSelected code s tuples all P = (condition : Option Cond) → IsCodeOf tuples.schema.attributes condition code
+    → IsSelected s (selected_slots tuples.schema.attributes condition all) → P condition

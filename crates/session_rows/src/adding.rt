@@ -2,21 +2,22 @@
 
 #![tactic(auto)]
 
-ghost use Rattle.std.specs.Prelude.{◌≡◌, ◌<◌, ◌≤◌, ℕ, None, IsErrOf, IsTrue, IfOk, OnErr, OnOk};
-ghost use Rattle.afl_base.specs.CutFiles.{MendsToState};
+ghost use Rattle.std.specs.Prelude.{◌≡◌, ◌<◌, ◌≤◌, ℕ, IsTrue, IfOk, OnErr, OnOk};
+ghost use Rattle.afl_base.specs.CutFiles.{CutLeaves};
 ghost use Rattle.afl_base.specs.Keeping.{Changes, ChangesOrLacks};
 ghost use Rattle.afl_base.specs.Asked.{asks_few};
-ghost use Rattle.afl_base.specs.FileErrors.{OnSpace, UnlessFailed};
+ghost use Rattle.afl_base.specs.FileErrors.{OnSpace, UnlessFailed, WhereFailed};
 ghost use Rattle.afl_base.specs.Files.{file_at};
 ghost use Rattle.afl_base.specs.Frames.{Prepares};
-ghost use Rattle.afl_base.specs.Sparing.{SparesWhere, StandsStill, TakesNoPage, WantsNothing};
+ghost use Rattle.afl_base.specs.Sparing.{SparesPages, SparesWhere, StandsStillWhere, WantsNothing};
 ghost use Rattle.db_model.specs.Row.{AllSuit, row_length};
-ghost use Rattle.index_set.specs.Complete.{AreComplete, AreHeld};
-ghost use Rattle.index_set.specs.Inserts.{AreApart, AreOpenFor, AreRoomFor, HaveKeys, HaveRoom, IsNoTree, MayAllFollow};
-ghost use Rattle.tuple_file.specs.Tuples.{HoldsRows, rows, slots};
+ghost use Rattle.index_set.specs.Complete.{AreComplete};
+ghost use Rattle.index_set.specs.Inserts.{AreOpenFor, AreRoomFor, HaveKeys, HaveRoom, MayAllFollow};
+ghost use Rattle.tuple_file.specs.Tuples.{rows};
 ghost use Rattle.session_model.specs.Frames.{StaysAt, WantsRow};
 ghost use Rattle.session_rows.specs.Changes.{AddsRow};
 ghost use Rattle.session_rows.specs.CutRows.{MayAddRow};
+ghost use Rattle.session_rows.specs.Ready.{TakesRow};
 
 use afl_base::{Failed, FileError, Files, SlotNo};
 use db_model::{Tuple, row_length};
@@ -33,13 +34,8 @@ pub(crate) fn add_row<V: Files>(
     values: &Tuple,
     slot: SlotNo,
 ) -> Result<(), FileError>
-    requires idle { (V.state files.old).draft ≡ None }
-    requires holds { HoldsRows (V.state files.old) tuples.now }
-    requires slot { slot ≡ slots (V.state files.old).files tuples.now }
+    requires ready { TakesRow (V.state files.old) tables.old tuples.now indexes.now slot }
     requires suits { AllSuit tuples.now.schema.attributes values.now }
-    requires held { AreHeld (V.state files.old) tables.old slot indexes.now }
-    requires apart { AreApart indexes.now }
-    requires away { IsNoTree indexes.now tuples.now.file }
     requires keys { HaveKeys values.now indexes.now }
     requires open { AreOpenFor slot indexes.now }
     ensures added { OnOk result (AddsRow (V.state files.old) (V.state files.new)
@@ -58,8 +54,7 @@ pub(crate) fn add_row<V: Files>(
         WantsRow asks (V.state files.new) tuples.now indexes.now values.now need) }
     ensures spares { let wants = WantsRow (V.asks files.old) (V.state files.old) tuples.now in
         SparesWhere V.is_free (WantsNothing (wants indexes.now values.now)) (V.state files.old) (V.state files.new) result }
-    ensures cut { IsTrue V.cuts → IsTrue (V.state files.old).tells → IsErrOf result FileError.Failed
-        → MendsToState V.mends (V.state files.new).store
+    ensures cut { CutLeaves V.cuts V.mends V.state files.old files.new (WhereFailed result)
         (λ after. MayAddRow (V.state files.old) after tuples.now indexes.now values.now) }
     ensures frame { ChangesOrLacks V.state V.lent V.reads V.faults V.lacks files.old files.new result }
 {
@@ -77,12 +72,7 @@ fn prepare_row<V: Files>(
     values: &Tuple,
     slot: SlotNo,
 ) -> Result<Rooms, FileError>
-    requires idle { (V.state files.old).draft ≡ None }
-    requires holds { HoldsRows (V.state files.old) tuples.now }
-    requires slot { slot ≡ slots (V.state files.old).files tuples.now }
-    requires held { AreHeld (V.state files.old) tables.now slot indexes.now }
-    requires apart { AreApart indexes.now }
-    requires away { IsNoTree indexes.now tuples.now.file }
+    requires ready { TakesRow (V.state files.old) tables.now tuples.now indexes.now slot }
     requires keys { HaveKeys values.now indexes.now }
     ensures contents { let stays = StaysAt tuples.now.file indexes.now in
         UnlessFailed result (Prepares (V.state files.old) (V.state files.new) stays) }
@@ -94,12 +84,10 @@ fn prepare_row<V: Files>(
     ensures wants { let asks = asks_few (V.asks files.new) (V.state files.new).files in
         IsTrue (V.state files.old).tells → OnSpace result (λ need.
         WantsRow asks (V.state files.new) tuples.now indexes.now values.now need) }
-    ensures still { IsTrue (V.state files.old).tells → ((need : ℕ)
-        → WantsRow (V.asks files.old) (V.state files.old) tuples.now indexes.now values.now need → ⊥)
-        → OnOk result (StandsStill V.state V.asks files.old files.new) }
+    ensures still { StandsStillWhere V.state V.asks ((need : ℕ)
+        → WantsRow (V.asks files.old) (V.state files.old) tuples.now indexes.now values.now need → ⊥) files.old files.new result }
     ensures cut { let stays = StaysAt tuples.now.file indexes.now in
-        IsTrue V.cuts → IsTrue (V.state files.old).tells → IsErrOf result FileError.Failed
-        → MendsToState V.mends (V.state files.new).store
+        CutLeaves V.cuts V.mends V.state files.old files.new (WhereFailed result)
         (λ after. Prepares (V.state files.old) after stays) }
     ensures frame { ChangesOrLacks V.state V.lent V.reads V.faults V.lacks files.old files.new result }
 {
@@ -118,13 +106,8 @@ fn write_row<V: Files>(
     values: &Tuple,
     slot: SlotNo,
 ) -> Result<(), Failed>
-    requires idle { (V.state files.old).draft ≡ None }
-    requires holds { HoldsRows (V.state files.old) tuples.now }
-    requires slot { slot ≡ slots (V.state files.old).files tuples.now }
+    requires ready { TakesRow (V.state files.old) tables.old tuples.now indexes.now slot }
     requires suits { AllSuit tuples.now.schema.attributes values.now }
-    requires held { AreHeld (V.state files.old) tables.old slot indexes.now }
-    requires apart { AreApart indexes.now }
-    requires away { IsNoTree indexes.now tuples.now.file }
     requires keys { HaveKeys values.now indexes.now }
     requires open { AreOpenFor slot indexes.now }
     requires room { let file = file_at (V.state files.old).files tuples.now.file in
@@ -139,11 +122,9 @@ fn write_row<V: Files>(
         → AreRoomFor (V.state files.old) values.now rooms.now indexes.now
         → MayAllFollow all values.now indexes.now
         → AreComplete (V.state files.new) tables.new now indexes.now) }
-    ensures spares { IsTrue (V.state files.old).tells → OnOk result
-        (TakesNoPage V.is_free (V.state files.old).store (V.state files.new).store) }
-    ensures cut { IsTrue V.cuts → IsTrue (V.state files.old).tells → OnErr result
-        (MendsToState V.mends (V.state files.new).store
-        (λ after. MayAddRow (V.state files.old) after tuples.now indexes.now values.now)) }
+    ensures spares { SparesPages V.is_free V.state files.old files.new result }
+    ensures cut { CutLeaves V.cuts V.mends V.state files.old files.new (OnErr result)
+        (λ after. MayAddRow (V.state files.old) after tuples.now indexes.now values.now) }
     ensures frame { Changes V.state V.lent V.reads V.faults files.old files.new result }
 {
     tuples.append(files, values)?;

@@ -3,16 +3,14 @@
 #![tactic(auto)]
 
 ghost use Rattle.std.specs.Prelude.{◌≡◌, ◌≤◌, ◌⊎◌, ℕ, IfOk, IsTrue, None, OnErr, OnOk, Some, get_or, map};
-ghost use Rattle.afl_base.specs.CutFiles.{MendsToState};
+ghost use Rattle.afl_base.specs.CutFiles.{CutLeaves, MendsToState};
 ghost use Rattle.afl_base.specs.Keeping.{Changes};
 ghost use Rattle.afl_base.specs.Asked.{asks_few};
 ghost use Rattle.afl_base.specs.Sparing.{WantsNothing};
 ghost use Rattle.db_model.specs.declared.commands.Command.TheVariants as command;
 ghost use Rattle.db_model.specs.Database.{Database, indexes_of};
 ghost use Rattle.db_model.specs.Step.{insert_into, slots_limit};
-ghost use Rattle.index_set.specs.Complete.{AreHeld};
-ghost use Rattle.index_set.specs.Inserts.{AreApart, IsNoTree};
-ghost use Rattle.tuple_file.specs.Tuples.{HoldsRows, slots};
+ghost use Rattle.tuple_file.specs.Tuples.{slots};
 ghost use Rattle.session_model.specs.Answers.{Changed, OnNoSpace, OnNothing, SparesDone};
 ghost use Rattle.session_model.specs.Frames.{WantsRow};
 ghost use Rattle.session_model.specs.Indexed.{AreAllowed, index_of_info, infos_of};
@@ -21,6 +19,7 @@ ghost use Rattle.session_model.specs.Running.{IsRunning};
 ghost use Rattle.session_model.specs.View.{relation_of_rows, view};
 ghost use Rattle.session_rows.specs.Changes.{RelationGrows, RunsOn};
 ghost use Rattle.session_rows.specs.CutRows.{MayChange};
+ghost use Rattle.session_rows.specs.Ready.{TakesRow};
 
 use crate::adding::add_row;
 use crate::finding::relation_at;
@@ -88,9 +87,8 @@ fn insert_at<V: Files>(
     ensures cut { let old = V.state files.old in let r = relation_of_rows old.files tuples.now in
         let infos = infos_of k tuples.now held.now.indexes in
         let made = insert_into values.now k (view old.files held.now opens.now) r in
-        IsTrue V.cuts → IsTrue old.tells → OnErr result
-        (MendsToState V.mends (V.state files.new).store
-        (λ after. MayChange old after tuples.now infos made)) }
+        CutLeaves V.cuts V.mends V.state files.old files.new (OnErr result)
+        (λ after. MayChange old after tuples.now infos made) }
     ensures untouched { OnNothing result (V.state files.new ≡ V.state files.old) }
     ensures frame { Changes V.state V.lent V.reads V.faults files.old files.new result }
 {
@@ -108,15 +106,11 @@ fn insert_row<V: Files>(
     indexes: &Indexes,
     values: &Tuple,
 ) -> Result<Answer, Failed>
-    requires idle { (V.state files.old).draft ≡ None }
     requires version { (version ≡ 1) ⊎ (version ≡ 2) }
-    requires holds { HoldsRows (V.state files.old) tuples.now }
     requires few { slots (V.state files.old).files tuples.now ≤ slots_limit version }
-    requires held { let count = slots (V.state files.old).files tuples.now in
-        AreHeld (V.state files.old) tables.old count indexes.now }
+    requires ready { let count = slots (V.state files.old).files tuples.now in
+        TakesRow (V.state files.old) tables.old tuples.now indexes.now count }
     requires allowed { AreAllowed tuples.now.schema.attributes indexes.now }
-    requires apart { AreApart indexes.now }
-    requires away { IsNoTree indexes.now tuples.now.file }
     ensures changed { let old = (V.state files.old).files in let new = (V.state files.new).files in
         IsTrue (V.state files.old).tells → IfOk result (λ answer. (k : ℕ) (db : Database)
         → db.version ≡ version → indexes_of db k ≡ map (index_of_info k) indexes.now

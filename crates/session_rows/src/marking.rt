@@ -3,23 +3,22 @@
 #![tactic(auto)]
 
 ghost use Rattle.std.specs.Prelude.{◌≡◌, ◌≢◌, ◌<◌, ◌≤◌, [], ℕ, IsErrOf, IsTrue, None, OnErr, OnOk, Option, length, map};
-ghost use Rattle.afl_base.specs.CutFiles.{MendsToState};
+ghost use Rattle.afl_base.specs.CutFiles.{CutLeaves, MendsToState};
 ghost use Rattle.afl_base.specs.Keeping.{Changes, ChangesOrLacks};
 ghost use Rattle.afl_base.specs.Asked.{asks_few};
-ghost use Rattle.afl_base.specs.FileErrors.{OnSpace};
+ghost use Rattle.afl_base.specs.FileErrors.{OnSpace, WhereFailed};
 ghost use Rattle.afl_base.specs.Files.{file_at, size_at};
 ghost use Rattle.afl_base.specs.Fit.{fit};
 ghost use Rattle.afl_base.specs.Frames.{Prepares};
-ghost use Rattle.afl_base.specs.Sparing.{SparesWhere, TakesNoPage, WantsNothing};
+ghost use Rattle.afl_base.specs.Sparing.{SparesPages, SparesWhere, WantsNothing};
 ghost use Rattle.db_model.specs.Cond.{Cond};
 ghost use Rattle.db_model.specs.Step.{removed_row};
 ghost use Rattle.lvm.specs.Code.{IsCodeOf};
 ghost use Rattle.lvm.specs.Evaluate.{evaluated, verdict};
 ghost use Rattle.tuple_file.specs.Tuples.{HoldsRows, rows, slots as slots_of};
-ghost use Rattle.cursor.specs.Remaining.{selected_slots};
 ghost use Rattle.session_rows.specs.Changes.{ReplacesRows};
 ghost use Rattle.session_rows.specs.CutRows.{MayMarkRows, MayRemove};
-ghost use Rattle.session_rows.specs.Marking.{AreBelow, IsSelected, marked};
+ghost use Rattle.session_rows.specs.Marking.{AreBelow, OfSelected, marked};
 ghost use Rattle.session_rows.specs.Wanted.{WantsRemoval};
 
 use crate::selecting::Selected;
@@ -39,33 +38,27 @@ pub(crate) fn remove_selected<V: Files>(
     requires idle { (V.state files.old).draft ≡ None }
     requires holds { HoldsRows (V.state files.old) tuples.now }
     requires below { AreBelow (slots_of (V.state files.old).files tuples.now) selected.now.first }
-    ensures rows { let attributes = tuples.now.schema.attributes in
-        let all = rows (V.state files.old).files tuples.now in
-        IsTrue (V.state files.old).tells → OnOk result ((condition : Option Cond)
-        → IsCodeOf attributes condition code.now
-        → IsSelected selected.now (selected_slots attributes condition all)
-        → rows (V.state files.new).files tuples.now ≡ map (removed_row attributes condition) all) }
+    ensures rows { let all = rows (V.state files.old).files tuples.now in
+        IsTrue (V.state files.old).tells → OnOk result (OfSelected code.now selected.now tuples.now all
+        (λ condition. rows (V.state files.new).files tuples.now
+        ≡ map (removed_row tuples.now.schema.attributes condition) all)) }
     ensures replaces { OnOk result
         (ReplacesRows (V.state files.old) (V.state files.new) tuples.now) }
     ensures space { OnSpace result (λ need.
         Prepares (V.state files.old) (V.state files.new) (λ id. id ≢ tuples.now.file)) }
     ensures wants { let asks = asks_few (V.asks files.new) (V.state files.new).files in
         let size = size_at (V.state files.new).files tuples.now.file in
-        let records = length selected.now.first in
-        OnSpace result (λ need.
-        WantsRemoval asks tuples.now.file selected.now.count records size need) }
+        OnSpace result (WantsRemoval asks tuples.now.file selected.now.count (length selected.now.first) size) }
     ensures none { selected.now.count ≡ 0 → length selected.now.first ≡ 0
         → OnOk result (V.state files.new ≡ V.state files.old) }
     ensures spares { let size = size_at (V.state files.old).files tuples.now.file in
         let wants = WantsRemoval (V.asks files.old) tuples.now.file selected.now.count in
         SparesWhere V.is_free (WantsNothing (wants (length selected.now.first) size)) (V.state files.old) (V.state files.new) result }
-    ensures cut { let attributes = tuples.now.schema.attributes in
-        let all = rows (V.state files.old).files tuples.now in
-        IsTrue V.cuts → IsTrue (V.state files.old).tells → IsErrOf result FileError.Failed
-        → (condition : Option Cond) → IsCodeOf attributes condition code.now
-        → IsSelected selected.now (selected_slots attributes condition all)
-        → MendsToState V.mends (V.state files.new).store
-        (λ after. MayRemove (V.state files.old) after tuples.now condition) }
+    ensures cut { let all = rows (V.state files.old).files tuples.now in
+        IsTrue V.cuts → IsTrue (V.state files.old).tells → WhereFailed result
+        (OfSelected code.now selected.now tuples.now all (λ condition.
+        MendsToState V.mends (V.state files.new).store
+        (λ after. MayRemove (V.state files.old) after tuples.now condition))) }
     ensures frame { ChangesOrLacks V.state V.lent V.reads V.faults V.lacks files.old files.new result }
 {
     if selected.count > 29 {
@@ -98,8 +91,7 @@ fn mark_slots<V: Files>(
     ensures none { length slots.now ≡ 0 → OnOk result (V.state files.new ≡ V.state files.old) }
     ensures spares { let asks = V.asks files.old tuples.now.file (length slots.now) 0 in
         SparesWhere V.is_free ((need : ℕ) → 1 ≤ length slots.now → asks need → ⊥) (V.state files.old) (V.state files.new) result }
-    ensures cut { IsTrue V.cuts → IsTrue (V.state files.old).tells → IsErrOf result FileError.Failed
-        → MendsToState V.mends (V.state files.new).store
+    ensures cut { CutLeaves V.cuts V.mends V.state files.old files.new (WhereFailed result)
         (λ after. MayMarkRows (V.state files.old) after tuples.now slots.now) }
     ensures frame { ChangesOrLacks V.state V.lent V.reads V.faults V.lacks files.old files.new result }
 {
@@ -126,11 +118,9 @@ fn mark_rows<V: Files>(
         (rows (V.state files.new).files tuples.now ≡ marked slots.now all) }
     ensures replaces { OnOk result
         (ReplacesRows (V.state files.old) (V.state files.new) tuples.now) }
-    ensures spares { IsTrue (V.state files.old).tells → OnOk result
-        (TakesNoPage V.is_free (V.state files.old).store (V.state files.new).store) }
-    ensures cut { IsTrue V.cuts → IsTrue (V.state files.old).tells → OnErr result
-        (MendsToState V.mends (V.state files.new).store
-        (λ after. MayMarkRows (V.state files.old) after tuples.now slots.now)) }
+    ensures spares { SparesPages V.is_free V.state files.old files.new result }
+    ensures cut { CutLeaves V.cuts V.mends V.state files.old files.new (OnErr result)
+        (λ after. MayMarkRows (V.state files.old) after tuples.now slots.now) }
     ensures frame { Changes V.state V.lent V.reads V.faults files.old files.new result }
 {
     for slot in slots.as_slice() {

@@ -3,7 +3,7 @@
 #![tactic(auto)]
 
 ghost use Rattle.std.specs.Prelude.{◌≡◌, IfOk, IfSome, IsTrue, None, OnErr, OnOk, Some, get_or};
-ghost use Rattle.afl_base.specs.CutFiles.{MendsToState};
+ghost use Rattle.afl_base.specs.CutFiles.{CutLeaves};
 ghost use Rattle.afl_base.specs.Keeping.{Changes};
 ghost use Rattle.afl_base.specs.Sparing.{WantsNothing};
 ghost use Rattle.db_model.specs.declared.commands.Command.TheVariants as command;
@@ -75,9 +75,8 @@ fn pack_at<V: Files>(
     ensures cut { let old = V.state files.old in let r = relation_of_rows old.files tuples.now in
         let infos = infos_of k tuples.now held.now.indexes in
         let made = pack_in k (view old.files held.now opens.now) r in
-        IsTrue V.cuts → IsTrue old.tells → OnErr result
-        (MendsToState V.mends (V.state files.new).store
-        (λ after. MayChange old after tuples.now infos made)) }
+        CutLeaves V.cuts V.mends V.state files.old files.new (OnErr result)
+        (λ after. MayChange old after tuples.now infos made) }
     ensures untouched { OnNothing result (V.state files.new ≡ V.state files.old) }
     ensures idle { IsTrue (V.state files.old).tells
         → HasOnlyLiveRows (relation_of_rows (V.state files.old).files tuples.now)

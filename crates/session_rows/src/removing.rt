@@ -3,16 +3,14 @@
 #![tactic(auto)]
 
 ghost use Rattle.std.specs.Prelude.{◌≡◌, IfOk, IsOk, IsTrue, None, OnErr, OnOk, Some, get_or};
-ghost use Rattle.afl_base.specs.CutFiles.{MendsToState};
+ghost use Rattle.afl_base.specs.CutFiles.{CutLeaves, MendsToState};
 ghost use Rattle.afl_base.specs.Keeping.{Changes};
 ghost use Rattle.afl_base.specs.Asked.{asks_few};
 ghost use Rattle.afl_base.specs.Sparing.{TakesNoPage, WantsNothing};
 ghost use Rattle.db_model.specs.declared.commands.Command.TheVariants as command;
 ghost use Rattle.db_model.specs.Cond.{IsCondition, condition_of};
 ghost use Rattle.db_model.specs.Step.{remove_from as remove_in};
-ghost use Rattle.index_set.specs.Complete.{AreReadable};
-ghost use Rattle.tuple_file.specs.Tuples.{HoldsRows, rows, slots};
-ghost use Rattle.cursor.specs.Remaining.{AreOnNumbers};
+ghost use Rattle.tuple_file.specs.Tuples.{rows, slots};
 ghost use Rattle.session_model.specs.Answers.{Changed, OnDone, OnNoSpace, OnNothing, SparesDone};
 ghost use Rattle.session_model.specs.Carried.{Carries, Runs};
 ghost use Rattle.session_model.specs.Running.{IsRunning};
@@ -21,6 +19,7 @@ ghost use Rattle.session_rows.specs.Changes.{ReplacesRows, RunsOn};
 ghost use Rattle.session_rows.specs.CutRows.{MayRemove};
 ghost use Rattle.session_rows.specs.Removals.{IsRemoval};
 ghost use Rattle.session_rows.specs.Wanted.{OfCode, WantsRemovalBy};
+ghost use Rattle.session_rows.specs.Ready.{MaySelect};
 
 use crate::finding::relation_at;
 use crate::marking::remove_selected;
@@ -92,9 +91,8 @@ fn remove_at<V: Files>(
         OnErr result (IsOk (made (view old held.now opens.now) (relation_of_rows old tuples.now))) }
     ensures spares { let wants = WantsRemovalBy (V.asks files.old) (V.state files.old) tuples.now in
         SparesDone V.is_free (WantsNothing (wants (condition_of condition.now))) (V.state files.old) (V.state files.new) result }
-    ensures cut { IsTrue V.cuts → IsTrue (V.state files.old).tells → OnErr result
-        (MendsToState V.mends (V.state files.new).store
-        (λ after. MayRemove (V.state files.old) after tuples.now (condition_of condition.now))) }
+    ensures cut { CutLeaves V.cuts V.mends V.state files.old files.new (OnErr result)
+        (λ after. MayRemove (V.state files.old) after tuples.now (condition_of condition.now)) }
     ensures untouched { OnNothing result (V.state files.new ≡ V.state files.old) }
     ensures frame { Changes V.state V.lent V.reads V.faults files.old files.new result }
 {
@@ -118,11 +116,7 @@ fn remove_rows<V: Files>(
     indexes: &Indexes,
     code: Code,
 ) -> Result<Answer, Failed>
-    requires idle { (V.state files.old).draft ≡ None }
-    requires holds { HoldsRows (V.state files.old) tuples.now }
-    requires numbers { AreOnNumbers tuples.now.schema.attributes indexes.now }
-    requires readable { let state = V.state files.old in
-        AreReadable state (slots state.files tuples.now) indexes.now }
+    requires ready { MaySelect (V.state files.old) tuples.now indexes.now }
     ensures removed { let attributes = tuples.now.schema.attributes in
         let old = rows (V.state files.old).files tuples.now in
         let new = rows (V.state files.new).files tuples.now in

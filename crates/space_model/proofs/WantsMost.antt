@@ -1,12 +1,13 @@
 -- No command asks for more than the largest extent that is counted for it.
 use Rattle.std.proofs.Common.{◌≡◌, refl, ap, subst, ◌∙◌, ℕ, ℤ, zero, suc, ◌+◌, ◌-◌, ◌*◌, ◌<◌, ◌≤◌, ◌⊎◌, inl, inr, Bool, true, false, List, [], ◌∷◌, ◌++◌, length, arith, max}
-use Rattle.std.specs.Prelude.{unwrap_or, slice_get, Option, Some, None, IsSomeAnd, get_or, filter, nat_le, cond, ◌==◌}
+use Rattle.std.specs.Prelude.{unwrap_or, slice_get, Option, Some, None, IsSomeAnd, get_or, filter, cond, ◌==◌}
 use Rattle.std.specs.Option.{option_map_or}
 use Rattle.std.specs.Str.{bytes_eq}
 use Rattle.std.proofs.Math.Nat.{mul-le-mul_left, le-max_left, le-max_right}
 use Rattle.std.proofs.lemmas.List.{length-map}
-use Rattle.std.proofs.lemmas.Bool.{eq-eqb, le-leb, leb-true}
-use Rattle.afl_base.specs.Fit.{fit, first_fit}
+use Rattle.std.proofs.lemmas.Bool.{eq-eqb}
+use Rattle.afl_base.specs.Fit.{fit}
+use Rattle.afl_base.proofs.FitLaws.{fit_rises}
 use Rattle.db_model.specs.declared.commands.Command.{Command}
 use Rattle.db_model.specs.declared.commands.Command.TheVariants.{CreateRelation, CreateAttribute, CreateIndex, Insert, RemoveFrom, RemoveRelation, RemoveIndex, Pack}
 use Rattle.db_model.specs.declared.schemas.IndexKind.{IndexKind}
@@ -25,28 +26,6 @@ use Rattle.space_model.specs.FileNames.{catalog_file, rows_file, tree_file}
 use Rattle.space_model.specs.Wants.{room_for, WantsCatalog, WantsTree, WantsIndex, WantsMarks, WantsPacked, Wants, IsStoreOf, AsksFew}
 
 -- ---- extents
-
-fits_or_doubles : (t p s : ℕ) → p ≤ first_fit t p s
-fits_or_doubles zero p s = omega arith
-fits_or_doubles (suc t) p s = by_test (nat_le (s + 32) (256 * p)) (fits_or_doubles t (2 * p) s)
-  where
-    by_test : (b : Bool) {n : ℕ} → 2 * p ≤ n → p ≤ cond b p n
-    by_test true h = omega arith
-    by_test false h = omega (arith, h)
-
-first_fit_rises : (t p a b : ℕ) → a ≤ b → first_fit t p a ≤ first_fit t p b
-first_fit_rises zero p a b h = omega arith
-first_fit_rises (suc t) p a b h = by_tests (nat_le (a + 32) (256 * p)) (nat_le (b + 32) (256 * p)) (λ e. le-leb (a + 32) (256 * p) (let f = leb-true (b + 32) (256 * p) e in omega (arith, f, h))) (fits_or_doubles t (2 * p) b) (first_fit_rises t (2 * p) a b h)
-  where
-    by_tests : (x y : Bool) {m n : ℕ} → (y ≡ true → x ≡ true) → 2 * p ≤ n → m ≤ n → cond x p m ≤ cond y p n
-    by_tests true true e h k = omega arith
-    by_tests true false e h k = omega (arith, h)
-    by_tests false true e h k = let no : false ≡ true = e refl in cc
-    by_tests false false e h k = k
-
-pub fit_rises : (a b : ℕ) → a ≤ b → fit a ≤ fit b
-unfolding fit
-fit_rises a b h = first_fit_rises 11 16 a b h
 
 -- ---- files among the largest
 

@@ -6,7 +6,7 @@ use Rattle.std.proofs.lemmas.Bool.{cases_lt}
 use Rattle.afl_base.specs.Fit.{fit, first_fit}
 use Rattle.afl_base.proofs.FitLaws.{fit_here, fit_more}
 use Rattle.db_model.specs.Cost.{sum}
-use Rattle.space_model.proofs.WantsMost.{fit_rises}
+use Rattle.afl_base.proofs.FitLaws.{fit_rises}
 use Rattle.space_model.specs.Enough.{enough_for, largest, touched}
 
 -- ---- the largest extent

@@ -51,15 +51,6 @@ relation_not_changed old now slot o r e = record {
   indexes = r.indexes;
 }
 
-pub index_not_changed : (old now : List ℕ) (slot : ℕ) (o : Option Index) → ReadsIndex old now slot o → index_at (whole_bytes old) slot ≡ o → ReadsSame old now
-index_not_changed old now slot o r e = record {
-  relations = r.relations;
-  indexes = λ i below. ⊎_elim
-      (λ (same : i ≡ slot). ap (index_at (whole_bytes now)) same ∙ r.here ∙ sym e ∙ ap (index_at (whole_bytes old)) (sym same))
-      (λ (differs : i ≢ slot). r.indexes i below differs)
-      (cases_eq i slot);
-}
-
 -- ---- the first bytes of a catalog in which a slot was put
 
 length-with_slot : (old slot : List ℕ) (at : ℕ) → IsCatalogSize (length old) → at + length slot ≤ 1472 → length (with_slot old at slot) ≡ 1480

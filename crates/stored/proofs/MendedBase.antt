@@ -4,8 +4,7 @@ use Rattle.std.specs.Prelude.{is_some, nat_lt, option_map}
 use Rattle.std.specs.List.{range_with_len}
 use Rattle.std.proofs.Math.Nat.{zero-div}
 use Rattle.std.proofs.lemmas.List.FromFn.{get_or-map-range_with_len}
-use Rattle.afl_base.specs.CutFiles.{MendsToState}
-use Rattle.afl_base.specs.Files.{State, Table}
+use Rattle.afl_base.specs.Files.{Table}
 use Rattle.catalog.specs.CatalogFile.{IsCatalogSize}
 use Rattle.catalog.specs.Rules.{is_tree}
 use Rattle.db_model.specs.declared.schemas.Attribute.{Attribute}
@@ -13,11 +12,11 @@ use Rattle.db_model.specs.declared.schemas.Schema.{Schema}
 use Rattle.db_model.specs.Between.{AreAlike}
 use Rattle.db_model.specs.Catalog.{Index, catalog_of, index_at, relation_at}
 use Rattle.db_model.specs.Database.{Cursor, Database, Relation, empty_database, with_index, with_relation}
-use Rattle.db_model.specs.Row.{Row, row_at, row_length, rows_of}
+use Rattle.db_model.specs.Row.{row_at, row_length, rows_of}
 use Rattle.padded.proofs.Facts.{lt_false, lt_true}
 use Rattle.space_model.specs.FileNames.{bytes_named, is_there, rows_file, tree_file}
 use Rattle.stored.specs.Base.{relation_stored}
-use Rattle.stored.specs.Mended.{MendsToDatabase, mended_base, mended_catalog, mended_version, standing, whole_bytes, whole_catalog}
+use Rattle.stored.specs.Mended.{mended_base, mended_catalog, mended_version, standing, whole_bytes, whole_catalog}
 pub use Rattle.db_model.proofs.Rows.{map_range_same as slots_same}
 
 -- ---- databases that are alike
@@ -29,15 +28,9 @@ alike_by a b relations indexes cursors =
     ∙ ap (λ (is : List (Option Index)). made b.relations is a.cursors) indexes
     ∙ ap (λ (cs : List (Option Cursor)). made b.relations b.indexes cs) cursors
 
-pub alike_same : (a b : Database) → a ≡ b → AreAlike a b
-alike_same a b e = alike_by a b (ap (λ (d : Database). d.relations) e) (ap (λ (d : Database). d.indexes) e) (ap (λ (d : Database). d.cursors) e)
-
 pub alike_then : (a b c : Database) → AreAlike a b → AreAlike b c → AreAlike a c
 alike_then a b c e f =
     alike_by a c (ap (λ (d : Database). d.relations) e ∙ ap (λ (d : Database). d.relations) f) (ap (λ (d : Database). d.indexes) e ∙ ap (λ (d : Database). d.indexes) f) (ap (λ (d : Database). d.cursors) e ∙ ap (λ (d : Database). d.cursors) f)
-
-pub alike_back : (a b : Database) → AreAlike a b → AreAlike b a
-alike_back a b e = alike_by b a (sym (ap (λ (d : Database). d.relations) e)) (sym (ap (λ (d : Database). d.indexes) e)) (sym (ap (λ (d : Database). d.cursors) e))
 
 -- and of one version they are the same
 pub alike_is : (a b : Database) → AreAlike a b → a.version ≡ b.version → a ≡ b
@@ -182,18 +175,6 @@ index_waits files i index tree there =
 pub rows_of_none : (attributes : List Attribute) → rows_of attributes [] ≡ []
 rows_of_none attributes = ap (λ (n : ℕ). map (row_at attributes []) (range_with_len 0 n)) (zero-div (row_length attributes))
 
--- a relation whose file is empty
-pub read_empty : (bytes : List ℕ) (schema : Schema) → bytes ≡ [] → relation_read bytes schema ≡ record { schema = schema; rows = [] }
-read_empty bytes schema e = ap (λ (b : List ℕ). relation_read b schema) e ∙ ap (λ (rs : List Row). record { schema = schema; rows = rs }) (rows_of_none schema.attributes)
-
--- what is said of a slot, said of the catalog
-pub relation_unused : (files : Table) (k : ℕ) → k < 8 → get_or (mended_base files).relations k None ≡ None → relation_at (whole_catalog files) k ≡ None
-relation_unused files k below e = by_slot (relation_at (whole_catalog files) k) (sym (relation_mended_at files k below) ∙ e)
-  where
-    by_slot : (o : Option Schema) → option_map (relation_read (bytes_named (rows_file k) files)) o ≡ None → o ≡ None
-    by_slot None e = refl
-    by_slot (Some schema) e = cc
-
 pub index_there : (files : Table) (i : ℕ) (index : Index) → i < 8 → get_or (mended_base files).indexes i None ≡ Some index → index_at (whole_catalog files) i ≡ Some index
 index_there files i index below e =
     by_test (is_tree (index_at (whole_catalog files) i) && not (is_there (tree_file i) files)) (index_at (whole_catalog files) i) (sym (index_mended_at files i below) ∙ e)
@@ -229,13 +210,3 @@ unfolding mended_base mended_catalog
 mended_none files e = rw e refl
 
 -- ---- what a store mends to
-
-pub mends_by_state : (mends : List ℕ → Table → Type 0) (store : List ℕ) (IsLeft : State → Type 0) (Is : Database → Type 0) → ((after : State) → IsLeft after → Is (mended_base after.files))
-    → MendsToState mends store IsLeft → MendsToDatabase mends store Is
-mends_by_state mends store IsLeft Is so m = record { files = m.after.files; mends_to = m.mends_to; is = so m.after m.is }
-
-pub mends_by_files : (mends : List ℕ → Table → Type 0) (store : List ℕ) (files : Table) (Is : Database → Type 0) → Is (mended_base files) → mends store files → MendsToDatabase mends store Is
-mends_by_files mends store files Is so m = record { files = files; mends_to = m; is = so }
-
-pub mends_also : (mends : List ℕ → Table → Type 0) (store : List ℕ) (Is Also : Database → Type 0) → ((db : Database) → Is db → Also db) → MendsToDatabase mends store Is → MendsToDatabase mends store Also
-mends_also mends store Is Also so m = record { files = m.files; mends_to = m.mends_to; is = so (mended_base m.files) m.is }

@@ -12,7 +12,6 @@ use Rattle.db_model.specs.declared.schemas.Schema.{Schema}
 use Rattle.db_model.specs.Between.{AreAlike}
 use Rattle.db_model.specs.Catalog.{Index, index_at, relation_at}
 use Rattle.db_model.specs.Database.{Relation, with_index, with_relation}
-use Rattle.db_model.specs.Row.{Row, rows_of}
 use Rattle.padded.proofs.Facts.{none_some}
 use Rattle.space_model.specs.FileNames.{bytes_named, is_there, rows_file, tree_file}
 use Rattle.stored.specs.Base.{relation_stored}
@@ -48,12 +47,6 @@ mended_same old new f =
     (λ i below. index_stays old new i (ap (λ (bytes : List ℕ). index_at (whole_bytes bytes) i) f.catalog) (f.trees i below)))
     (version_same old new f.catalog)
 
--- the same but for the rows of one relation
-pub record AreFilesKeptBut (old new : Table) (slot : ℕ) : Type 0 where
-  pub catalog : catalog_bytes_in new ≡ catalog_bytes_in old
-  pub rows : (k : ℕ) → k < 8 → k ≢ slot → KeepsRowsOf old new k
-  pub trees : (i : ℕ) → i < 8 → KeepsTreeOf old new i
-
 -- what stands in a slot of what files mend to is read from there
 pub relation_there : (files : Table) (slot : ℕ) (r : Relation) → get_or (mended_base files).relations slot None ≡ Some r → (slot < 8) × (relation_mended files slot ≡ Some r)
 relation_there files slot r e = ⊎_elim
@@ -68,20 +61,6 @@ relation_there files slot r e = ⊎_elim
 pub read_schema : (o : Option Schema) (bytes : List ℕ) (r : Relation) → option_map (relation_read bytes) o ≡ Some r → o ≡ Some r.schema
 read_schema None bytes r e = cc
 read_schema (Some schema) bytes r e = ap (option_map (λ (x : Relation). x.schema)) e
-
--- then that relation has the whole rows of its file
-pub mended_rows : (old new : Table) (slot : ℕ) (r : Relation) (rs : List Row) → AreFilesKeptBut old new slot → get_or (mended_base old).relations slot None ≡ Some r
-    → rows_of r.schema.attributes (bytes_named (rows_file slot) new) ≡ rs → mended_base new ≡ with_relation (mended_base old) slot (Some (record r { rows = rs }))
-mended_rows old new slot r rs f there rows =
-    let at = relation_there old slot r there in
-    let schema : relation_at (whole_catalog new) slot ≡ Some r.schema =
-    ap (λ (bytes : List ℕ). relation_at (whole_bytes bytes) slot) f.catalog ∙ read_schema (relation_at (whole_catalog old) slot) (bytes_named (rows_file slot) old) r at.1 in
-    alike_is (mended_base new) (with_relation (mended_base old) slot (Some (record r { rows = rs })))
-    (base_one_relation old new slot (Some (record r { rows = rs })) at.0
-    (ap (option_map (relation_read (bytes_named (rows_file slot) new))) schema ∙ ap (λ (xs : List Row). Some (record r { rows = xs })) rows)
-    (λ k below differs. relation_stays old new k (ap (λ (bytes : List ℕ). relation_at (whole_bytes bytes) k) f.catalog) (f.rows k below differs))
-    (λ i below. index_stays old new i (ap (λ (bytes : List ℕ). index_at (whole_bytes bytes) i) f.catalog) (f.trees i below)))
-    (version_same old new f.catalog)
 
 -- the same catalog, and relations that are read as before
 pub mended_by : (old new : Table) → catalog_bytes_in new ≡ catalog_bytes_in old
@@ -103,17 +82,6 @@ mended_by old new catalog relations trees =
 -- a relation whose file has the same bytes
 pub relation_by : (old new : Table) (schemas : List (Option Schema)) (k : ℕ) → bytes_named (rows_file k) new ≡ bytes_named (rows_file k) old → relation_stored new schemas k ≡ relation_stored old schemas k
 relation_by old new schemas k e = ap (λ (bytes : List ℕ). option_map (relation_read bytes) (get_or schemas k None)) e
-
--- the tree of an index has come, or gone
-pub mended_tree : (old new : Table) (slot : ℕ) (o : Option Index) → slot < 8 → catalog_bytes_in new ≡ catalog_bytes_in old → ((k : ℕ) → k < 8 → KeepsRowsOf old new k)
-    → ((i : ℕ) → i < 8 → i ≢ slot → KeepsTreeOf old new i) → standing new slot (index_at (whole_catalog old) slot) ≡ o → mended_base new ≡ with_index (mended_base old) slot o
-mended_tree old new slot o below catalog rows trees is =
-    alike_is (mended_base new) (with_index (mended_base old) slot o)
-    (base_one_index old new slot o below
-    (ap (λ (bytes : List ℕ). standing new slot (index_at (whole_bytes bytes) slot)) catalog ∙ is)
-    (λ k inside. relation_stays old new k (ap (λ (bytes : List ℕ). relation_at (whole_bytes bytes) k) catalog) (rows k inside))
-    (λ i inside differs. index_stays old new i (ap (λ (bytes : List ℕ). index_at (whole_bytes bytes) i) catalog) (trees i inside differs)))
-    (version_same old new catalog)
 
 -- ---- another catalog
 
@@ -198,14 +166,4 @@ index_put old new now slot o below is read kept there = ⊎_elim
     (λ (s : ReadsSame (catalog_bytes_in old) now). inl (mended_alike old new (subst (ReadsSame (catalog_bytes_in old)) (sym is) s) kept.rows kept.trees))
     (λ (s : ReadsIndex (catalog_bytes_in old) now slot o). inr (mended_index old new slot o below
     (subst (λ (bytes : List ℕ). ReadsIndex (catalog_bytes_in old) bytes slot o) (sym is) s) kept.rows (λ i inside differs. kept.trees i inside) there))
-    read
-
--- an index whose tree is not there yet, in a slot that has none: the database before
-pub index_put_waits : (old new : Table) (now : List ℕ) (slot : ℕ) (o : Option Index) → slot < 8 → catalog_bytes_in new ≡ now
-    → ReadsSame (catalog_bytes_in old) now ⊎ ReadsIndex (catalog_bytes_in old) now slot o → AreRowsKept old new
-    → get_or (mended_base old).indexes slot None ≡ None → is_tree o ≡ true → is_there (tree_file slot) new ≡ false → AreAlike (mended_base new) (mended_base old)
-index_put_waits old new now slot o below is read kept none tree there = ⊎_elim
-    (λ (s : ReadsSame (catalog_bytes_in old) now). mended_alike old new (subst (ReadsSame (catalog_bytes_in old)) (sym is) s) kept.rows kept.trees)
-    (λ (s : ReadsIndex (catalog_bytes_in old) now slot o). mended_index_waits old new slot o below
-    (subst (λ (bytes : List ℕ). ReadsIndex (catalog_bytes_in old) bytes slot o) (sym is) s) kept.rows (λ i inside differs. kept.trees i inside) none tree there)
     read

@@ -7,6 +7,7 @@ use Rattle.afl_base.specs.Fields.{put_at}
 use Rattle.afl_base.specs.Files.{Appends, Becomes, IsNamed, IsUnnamed, KeepsBytes, Overwrites, State, Table, bytes_at, size_at}
 use Rattle.afl_base.proofs.FieldLaws.{length-put_at}
 use Rattle.afl_base.proofs.FileLaws.{becomes_then, named_live, names_stay, place_live}
+use Rattle.afl_base.proofs.FrameLaws.{becomes_as}
 use Rattle.catalog.specs.Rules.{catalog_bytes_in, is_tree}
 use Rattle.catalog.proofs.Decoding.{length-attributes}
 use Rattle.catalog.proofs.Named.{named_found, named_none}
@@ -75,25 +76,6 @@ slot_is n id e = by_test (nat_lt n 8) e
     by_test false e = cc
 
 -- the bytes that a step leaves, before and behind which room was made
-becomes_as : (a c : State) (id m n : ℕ) (first last : List ℕ) → Becomes a c id m first → m ≡ n → (IsTrue a.tells → first ≡ last) → Becomes a c id n last
-becomes_as a c id m n first last b size same = record {
-  live = b.live;
-  name = b.name;
-  kind = b.kind;
-  size = b.size ∙ size;
-  bytes = λ told. b.bytes told ∙ same told;
-  others = b.others;
-  names = b.names;
-  used = b.used;
-  draft = b.draft;
-  tells = b.tells;
-}
-
-pub prepared_overwrites : (a b c : State) (id at : ℕ) (bytes : List ℕ) → KeepsBytes a b id → Overwrites b c id at bytes → Overwrites a c id at bytes
-prepared_overwrites a b c id at bytes k o =
-    becomes_as a c id (size_at b.files id) (size_at a.files id) (put_at (bytes_at b.files id) at bytes) (put_at (bytes_at a.files id) at bytes)
-    (becomes_then a b c id (size_at a.files id) (size_at b.files id) (bytes_at a.files id) (put_at (bytes_at b.files id) at bytes) k o)
-    k.size (λ told. ap (λ (xs : List ℕ). put_at xs at bytes) (k.bytes told))
 
 pub prepared_appends : (a b c : State) (id : ℕ) (bytes : List ℕ) → KeepsBytes a b id → Appends b c id bytes → Appends a c id bytes
 prepared_appends a b c id bytes k o =

@@ -6,7 +6,7 @@ use Rattle.std.proofs.lemmas.List.{drop_at, length-take-le, take-replicate, get_
 use Rattle.std.proofs.Math.Seq.{take-add}
 use Rattle.afl_base.specs.Files.{Drafts, State, WritesDraft, draft_in}
 use Rattle.afl_base.proofs.Images.{length_range}
-use Rattle.afl_base.proofs.DraftLaws.{drafts_all, drafts_more, drafts_none}
+use Rattle.afl_base.proofs.DraftLaws.{drafts_more, drafts_none}
 use Rattle.padded.specs.Padded.{padded}
 
 -- the draft has its first n bytes, of so many
@@ -49,11 +49,6 @@ front_more a b c size n k bytes d inside room w =
     let fits : length piece ≡ k = length_range bytes n (n + k) inside ∙ width in
     let more = drafts_more a b c (draft_in a).name size front piece d (omega (arith, long, fits, room)) (subst (λ (m : ℕ). WritesDraft b c m piece) (sym long) w) in
     subst (λ (xs : List ℕ). Drafts a c (draft_in a).name size (padded size xs)) (ap (λ (xs : List ℕ). front ++ xs) same ∙ sym (take-add n k bytes)) more
-
--- all of it
-pub front_all : (a b : State) (size n : ℕ) (bytes : List ℕ) → HasFront a b size n bytes → n ≡ size → size ≤ length bytes → Drafts a b (draft_in a).name size (take size bytes)
-front_all a b size n bytes d all inside =
-    drafts_all a b (draft_in a).name size (take size bytes) (length-take-le size bytes inside) (subst (λ (m : ℕ). HasFront a b size m bytes) all d)
 
 -- the last byte of the first bytes
 pub last_of_front : (bytes : List ℕ) (size : ℕ) → 1 ≤ size → size ≤ length bytes → slice_index (take size bytes) (length (take size bytes) - 1) ≡ slice_index bytes (size - 1)

@@ -5,7 +5,7 @@ use Rattle.std.specs.List.{range_with_len}
 use Rattle.std.proofs.Math.Nat.{div-mul-le_self, mod-eq-sub-div-mul, mul-div_cancel_left, mul-div-le}
 use Rattle.std.proofs.lemmas.Bool.{cases_eq}
 use Rattle.std.proofs.lemmas.List.{drop-take, length-take-le, take-take}
-use Rattle.afl_base.proofs.FileLaws.{named_live, place_live}
+use Rattle.afl_base.proofs.FileLaws.{named_live, place_live, one_name}
 use Rattle.afl_base.specs.Files.{Becomes, File, IsNamed, State, Table, bytes_at, no_file}
 use Rattle.catalog.specs.CatalogFile.{IsCatalogSize}
 use Rattle.catalog.specs.Formed.{HasCatalogSize}
@@ -30,13 +30,10 @@ use Rattle.stored.proofs.NamesStay.{file_stays, there_stays}
 
 -- ---- one file
 
-same_name : (files : Table) (k : ℕ) (a b : List ℕ) → IsNamed files k a → IsNamed files k b → a ≡ b
-same_name files k a b e f = let g : Some a ≡ Some b = sym e ∙ f in cc
-
 -- the bytes of all other files are the same
 pub bytes_stay : (old new : State) (name n : List ℕ) → ChangesOne old new name → (n ≡ name → ⊥) → bytes_named n new.files ≡ bytes_named n old.files
 bytes_stay old new name n c differs =
-    ap bytes_in_file (file_stays old.files new.files n c.named (λ k is. c.others k (λ other. differs (same_name old.files k n name is other))))
+    ap bytes_in_file (file_stays old.files new.files n c.named (λ k is. c.others k (λ other. differs (one_name old.files k n name is other))))
 
 -- a tree counts for nothing
 pub tree_keeps : (old new : State) (i : ℕ) → ChangesOne old new (tree_file i) → mended_base new.files ≡ mended_base old.files
@@ -107,9 +104,6 @@ pub whole_size : (n m : ℕ) → n - n % m ≡ m * (n / m)
 whole_size n m = omega (arith, mod-eq-sub-div-mul n m, div-mul-le_self n m, mul_comm m (n / m))
 
 -- ---- steps
-
-pub kept_same : (a : State) → KeepsBase a a
-kept_same a = record { catalog = refl; base = λ told. refl; draft = refl; tells = refl }
 
 pub kept_then : (a b c : State) → KeepsBase a b → KeepsBase b c → KeepsBase a c
 kept_then a b c f g = record {

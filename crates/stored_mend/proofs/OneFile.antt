@@ -6,10 +6,9 @@ use Rattle.std.proofs.Math.Logic.{⊎_elim}
 use Rattle.std.proofs.lemmas.Bool.{cases_eq}
 use Rattle.std.proofs.lemmas.Slice.Eq.{bytes_eq-Decides}
 use Rattle.afl_base.specs.Files.{Becomes, File, IsNamed, OthersStay, Removes, State, Table, place}
-use Rattle.afl_base.proofs.FileLaws.{named_live, names_stay}
+use Rattle.afl_base.proofs.FileLaws.{named_live, names_stay, one_name}
 use Rattle.catalog.specs.Rules.{catalog_bytes_in, is_tree}
 use Rattle.db_model.specs.Catalog.{index_at, relation_at}
-use Rattle.padded.proofs.Facts.{some_same}
 use Rattle.space_model.specs.FileNames.{bytes_in_file, bytes_named, catalog_file, file_named, is_there, rows_file, tree_file}
 use Rattle.stored.specs.Mended.{mended_base, whole_bytes, whole_catalog}
 use Rattle.stored.proofs.MendedTables.{AreRowsKept, mended_same}
@@ -143,9 +142,6 @@ catalog_changed old new c = record {
 }
 
 -- ---- which steps change one file
-
-one_name : (files : Table) (id : ℕ) (a b : List ℕ) → IsNamed files id a → IsNamed files id b → a ≡ b
-one_name files id a b e f = some_same a b (sym e ∙ f)
 
 pub becomes_changes : (old new : State) (id total : ℕ) (told name : List ℕ) → Becomes old new id total told → IsNamed old.files id name → ChangesFile old.files new.files name
 becomes_changes old new id total told name b named = record {

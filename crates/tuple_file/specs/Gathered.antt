@@ -1,5 +1,5 @@
 -- Rows on their way into the draft of a relation's file.
-use Rattle.std.specs.Prelude.{◌≡◌, ℕ, ◌+◌, ◌-◌, List, length, drop, replicate}
+use Rattle.std.specs.Prelude.{◌≡◌, ℕ, ◌+◌, ◌-◌, ◌≤◌, IsSome, IsTrue, List, length, drop, replicate}
 use Rattle.afl_base.specs.Fields.{put_at}
 use Rattle.afl_base.specs.Files.{State, draft_in}
 
@@ -20,3 +20,9 @@ gathered state waiting = put_at (draft_in state).bytes waiting.at waiting.bytes
 abbrev pub IsFree : State → WaitingRows → Type 0
 IsFree state waiting =
     drop waiting.at (draft_in state).bytes ≡ replicate (length (draft_in state).bytes - waiting.at) 0
+
+-- rows may wait for it: it is begun, with at most 4 MiB, and has zeros where they belong
+pub record TakesRows (state : State) (waiting : WaitingRows) : Type 0 where
+  pub begun : IsSome state.draft
+  pub most : length (draft_in state).bytes ≤ 4194304
+  pub free : IsTrue state.tells → IsFree state waiting

@@ -2,16 +2,16 @@
 
 #![tactic(auto)]
 
-ghost use Rattle.std.specs.Prelude.{◌≡◌, ◌≢◌, ◌+◌, ◌-◌, ◌*◌, ◌≤◌, ◌<◌, Bool, IfOk, IsErrOf, IsOkUnless, IsSome, IsTrue, List, MatchBool, None, OnErr, OnOk, false, length, not, replicate, slice_index, true};
+ghost use Rattle.std.specs.Prelude.{◌≡◌, ◌≢◌, ◌+◌, ◌-◌, ◌*◌, ◌≤◌, ◌<◌, Bool, IfOk, IsOkUnless, IsSome, IsTrue, List, MatchBool, None, OnErr, OnOk, false, length, not, replicate, slice_index, true};
 ghost use Rattle.afl_base.specs.Keeping.{Changes, ChangesOrLacks, OnlyReads};
 ghost use Rattle.std.specs.Fn.{FnReturnsAt};
-ghost use Rattle.afl_base.specs.CutFiles.{MendsToEither};
-ghost use Rattle.afl_base.specs.FileErrors.{OnSpace};
+ghost use Rattle.afl_base.specs.CutFiles.{CutKeeps, CutKeepsOrLeaves};
+ghost use Rattle.afl_base.specs.FileErrors.{OnSpace, WhereFailed};
 ghost use Rattle.afl_base.specs.Files.{Commits, Drafts, IsLive, Keeps, draft_in, file_at, size_at};
 ghost use Rattle.afl_base.specs.Fit.{fit};
 ghost use Rattle.db_model.specs.Row.{AllRowsSuit, AllSuit, Row, row_length, rows_bytes};
 ghost use Rattle.tuple_file.specs.Drafts.{HasSlot, IsZeroDraft, PutsRow};
-ghost use Rattle.tuple_file.specs.Gathered.{IsFree, end_of_waiting, gathered};
+ghost use Rattle.tuple_file.specs.Gathered.{IsFree, TakesRows, end_of_waiting, gathered};
 ghost use Rattle.tuple_file.specs.Tuples.{AreAnswered, HoldsRows, IsAnswered, IsLiveTuple, IsRowFile, OnlyDraftChanges, OnlyRowsChange, live_rows, row, rows, slots};
 
 use crate::tuples::Tuples;
@@ -48,9 +48,7 @@ impl Tuples {
         ensures need { OnSpace result (λ need. need
             ≡ fit (size_at (V.state files.old).files self.now.file)) }
         ensures kept { OnSpace result (λ _. Keeps (V.state files.old) (V.state files.new)) }
-        ensures cut { IsTrue V.cuts → IsTrue (V.state files.old).tells
-            → IsErrOf result FileError.Failed
-            → MendsToEither V.mends (V.state files.old).files (V.state files.new).store
+        ensures cut { CutKeepsOrLeaves V.cuts V.mends V.state files.old files.new (WhereFailed result)
             (λ after. OnlyRowsChange (V.state files.old) after self.now
             × AreAnswered (FnReturnsAt F.Fn removed) (rows (V.state files.old).files self.now)
             (rows after.files self.now)
@@ -90,8 +88,7 @@ impl Tuples {
             × AllRowsSuit self.now.schema.attributes news
             × ((draft_in (V.state files.new)).bytes ≡ rows_bytes self.now.schema.attributes news)) }
         ensures only { OnOk result (OnlyDraftChanges (V.state files.old) (V.state files.new)) }
-        ensures cut { IsTrue V.cuts → IsTrue (V.state files.old).tells → OnErr result
-            (V.mends (V.state files.new).store (V.state files.old).files) }
+        ensures cut { CutKeeps V.cuts V.mends V.state files.old files.new (OnErr result) }
         ensures frame { Changes V.state V.lent V.reads V.faults files.old files.new result }
     {
         let mut waiting = Waiting::new();
@@ -116,11 +113,9 @@ impl Tuples {
             → (IsTrue (V.state files.old).tells
             → IsLiveTuple (V.state files.old).files self.now tuple.now)
             → F.pre removed.now tuple }
-        requires begun { IsSome (V.state files.old).draft }
+        requires takes { TakesRows (V.state files.old) waiting.old }
         requires range { HasSlot (V.state files.old) self.now slot }
-        requires most { length (draft_in (V.state files.old)).bytes ≤ 4194304 }
         requires behind { end_of_waiting waiting.old ≡ row_length self.now.schema.attributes * slot }
-        requires free { IsTrue (V.state files.old).tells → IsFree (V.state files.old) waiting.old }
         ensures row { IsTrue (V.state files.old).tells
             → OnOk result ((new : Row)
             × IsAnswered (FnReturnsAt F.Fn removed.now) (row (V.state files.old).files self.now slot) new
@@ -132,8 +127,7 @@ impl Tuples {
         ensures behind { OnOk result (end_of_waiting waiting.new
             ≡ row_length self.now.schema.attributes * (slot + 1)) }
         ensures only { OnOk result (OnlyDraftChanges (V.state files.old) (V.state files.new)) }
-        ensures cut { IsTrue V.cuts → IsTrue (V.state files.old).tells → OnErr result
-            (V.mends (V.state files.new).store (V.state files.old).files) }
+        ensures cut { CutKeeps V.cuts V.mends V.state files.old files.new (OnErr result) }
         ensures frame { Changes V.state V.lent V.reads V.faults files.old files.new result }
     {
         let mut tuple = Tuple::new();
@@ -167,9 +161,7 @@ impl Tuples {
             → OnSpace result (λ need. need ≡ fit (row_length self.now.schema.attributes
             * length (live_rows (V.state files.old).files self.now))) }
         ensures kept { OnSpace result (λ _. Keeps (V.state files.old) (V.state files.new)) }
-        ensures cut { IsTrue V.cuts → IsTrue (V.state files.old).tells
-            → IsErrOf result FileError.Failed
-            → MendsToEither V.mends (V.state files.old).files (V.state files.new).store
+        ensures cut { CutKeepsOrLeaves V.cuts V.mends V.state files.old files.new (WhereFailed result)
             (λ after. OnlyRowsChange (V.state files.old) after self.now
             × (rows after.files self.now ≡ live_rows (V.state files.old).files self.now)) }
         ensures frame { ChangesOrLacks V.state V.lent V.reads V.faults V.lacks files.old files.new result }
@@ -240,8 +232,7 @@ impl Tuples {
             → OnOk result ((draft_in (V.state files.new)).bytes
             ≡ rows_bytes self.now.schema.attributes (live_rows (V.state files.old).files self.now)) }
         ensures only { OnOk result (OnlyDraftChanges (V.state files.old) (V.state files.new)) }
-        ensures cut { IsTrue V.cuts → IsTrue (V.state files.old).tells → OnErr result
-            (V.mends (V.state files.new).store (V.state files.old).files) }
+        ensures cut { CutKeeps V.cuts V.mends V.state files.old files.new (OnErr result) }
         ensures frame { Changes V.state V.lent V.reads V.faults files.old files.new result }
     {
         let mut waiting = Waiting::new();
@@ -268,12 +259,10 @@ impl Tuples {
         requires slot { slot < slots (V.state files.old).files self.now }
         requires written { written ≤ room }
         requires few { room ≤ 32768 }
-        requires begun { IsSome (V.state files.old).draft }
+        requires takes { TakesRows (V.state files.old) waiting.old }
         requires size { length (draft_in (V.state files.old)).bytes
             ≡ row_length self.now.schema.attributes * room }
-        requires most { length (draft_in (V.state files.old)).bytes ≤ 4194304 }
         requires behind { end_of_waiting waiting.old ≡ row_length self.now.schema.attributes * written }
-        requires free { IsTrue (V.state files.old).tells → IsFree (V.state files.old) waiting.old }
         ensures live { IsTrue (V.state files.old).tells → written < room
             → (row (V.state files.old).files self.now slot).live ≡ true
             → IfOk result (λ now. (now ≡ written + 1)
@@ -290,8 +279,7 @@ impl Tuples {
             ≡ row_length self.now.schema.attributes * now) }
         ensures few { IfOk result (λ now. now ≤ room) }
         ensures only { OnOk result (OnlyDraftChanges (V.state files.old) (V.state files.new)) }
-        ensures cut { IsTrue V.cuts → IsTrue (V.state files.old).tells → OnErr result
-            (V.mends (V.state files.new).store (V.state files.old).files) }
+        ensures cut { CutKeeps V.cuts V.mends V.state files.old files.new (OnErr result) }
         ensures frame { Changes V.state V.lent V.reads V.faults files.old files.new result }
     {
         let mut tuple = Tuple::new();
@@ -312,9 +300,7 @@ impl Tuples {
             (file_at (V.state files.old).files self.now.file).name size (replicate size 0)) }
         ensures need { OnSpace result (λ need. need ≡ fit size) }
         ensures kept { OnSpace result (λ _. Keeps (V.state files.old) (V.state files.new)) }
-        ensures cut { IsTrue V.cuts → IsTrue (V.state files.old).tells
-            → IsErrOf result FileError.Failed
-            → V.mends (V.state files.new).store (V.state files.old).files }
+        ensures cut { CutKeeps V.cuts V.mends V.state files.old files.new (WhereFailed result) }
         ensures frame { ChangesOrLacks V.state V.lent V.reads V.faults V.lacks files.old files.new result }
     {
         let name = files.name(self.file);
@@ -333,9 +319,8 @@ impl Tuples {
             → slice_index (draft_in (V.state files.old)).bytes (length (draft_in (V.state files.old)).bytes - 1)
             ≢ 0 }
         ensures committed { OnOk result (Commits (V.state files.old) (V.state files.new) self.now.file) }
-        ensures cut { IsTrue V.cuts → IsTrue (V.state files.old).tells → OnErr result
-            (MendsToEither V.mends (V.state files.old).files (V.state files.new).store
-            (λ after. Commits (V.state files.old) after self.now.file)) }
+        ensures cut { CutKeepsOrLeaves V.cuts V.mends V.state files.old files.new (OnErr result)
+            (λ after. Commits (V.state files.old) after self.now.file) }
         ensures frame { Changes V.state V.lent V.reads V.faults files.old files.new result }
     {
         files.draft_commit()?;

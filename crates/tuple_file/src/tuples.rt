@@ -3,11 +3,11 @@
 #![tactic(auto)]
 
 ghost use Rattle.std.specs.Prelude.{◌≡◌, ◌+◌, ◌*◌, ◌≤◌, ◌<◌, ◌++◌, [], ◌∷◌, ◌⊎◌, ◌↔◌, IfOk, IsTrue, OnErr, OnOk, false, length, slice_get, true, ℕ, slice_set};
-ghost use Rattle.afl_base.specs.CutFiles.{MendsToState};
+ghost use Rattle.afl_base.specs.CutFiles.{CutLeaves};
 ghost use Rattle.afl_base.specs.Keeping.{Changes, OnlyReads};
 ghost use Rattle.afl_base.specs.Files.{IsLive, State, bytes_at, file_at, size_at};
 ghost use Rattle.afl_base.specs.KeyColumn.{HasField, IsWidth, key_of};
-ghost use Rattle.afl_base.specs.Sparing.{TakesNoPage};
+ghost use Rattle.afl_base.specs.Sparing.{SparesPages};
 ghost use Rattle.db_model.specs.Row.{AllSuit, fields_length, row_bytes, row_length, rows_bytes};
 ghost use Rattle.db_model.specs.Step.{key_of as key_of_value, slots_limit};
 ghost use Rattle.tuple_file.specs.Column.{IsNumber, column_of};
@@ -158,11 +158,9 @@ impl Tuples {
             (record { tuple = tuple.now; live = true })) }
         ensures records { OnOk result ((file_at (V.state files.new).files self.now.file).records
             ≡ (file_at (V.state files.old).files self.now.file).records) }
-        ensures spares { IsTrue (V.state files.old).tells → OnOk result
-            (TakesNoPage V.is_free (V.state files.old).store (V.state files.new).store) }
-        ensures cut { IsTrue V.cuts → IsTrue (V.state files.old).tells → OnErr result
-            (MendsToState V.mends (V.state files.new).store
-            (λ after. MayAppendRow (V.state files.old) after self.now tuple.now)) }
+        ensures spares { SparesPages V.is_free V.state files.old files.new result }
+        ensures cut { CutLeaves V.cuts V.mends V.state files.old files.new (OnErr result)
+            (λ after. MayAppendRow (V.state files.old) after self.now tuple.now) }
         ensures frame { Changes V.state V.lent V.reads V.faults files.old files.new result }
     {
         let mut bytes = [0; ROW_SIZE];
@@ -190,11 +188,9 @@ impl Tuples {
             ≡ (file_at (V.state files.old).files self.now.file).records) }
         ensures room { OnOk result ((file_at (V.state files.new).files self.now.file).room
             ≡ (file_at (V.state files.old).files self.now.file).room) }
-        ensures spares { IsTrue (V.state files.old).tells → OnOk result
-            (TakesNoPage V.is_free (V.state files.old).store (V.state files.new).store) }
-        ensures cut { IsTrue V.cuts → IsTrue (V.state files.old).tells → OnErr result
-            (MendsToState V.mends (V.state files.new).store
-            (λ after. MayMarkRow (V.state files.old) after self.now slot)) }
+        ensures spares { SparesPages V.is_free V.state files.old files.new result }
+        ensures cut { CutLeaves V.cuts V.mends V.state files.old files.new (OnErr result)
+            (λ after. MayMarkRow (V.state files.old) after self.now slot) }
         ensures frame { Changes V.state V.lent V.reads V.faults files.old files.new result }
     {
         let length = row_length(&self.schema.attributes) as u32;

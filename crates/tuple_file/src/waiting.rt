@@ -2,12 +2,13 @@
 
 #![tactic(auto)]
 
-ghost use Rattle.std.specs.Prelude.{◌≡◌, ◌+◌, ◌≤◌, ◌++◌, [], IsSome, IsTrue, OnErr, OnOk, length};
+ghost use Rattle.std.specs.Prelude.{◌≡◌, ◌+◌, ◌≤◌, ◌++◌, [], IsTrue, OnErr, OnOk, length};
+ghost use Rattle.afl_base.specs.CutFiles.{CutKeeps};
 ghost use Rattle.afl_base.specs.Fields.{put_at};
 ghost use Rattle.afl_base.specs.Files.{draft_in};
 ghost use Rattle.afl_base.specs.Keeping.{Changes};
 ghost use Rattle.db_model.specs.Row.{AllSuit, row_bytes, row_length};
-ghost use Rattle.tuple_file.specs.Gathered.{IsFree, end_of_waiting, gathered};
+ghost use Rattle.tuple_file.specs.Gathered.{IsFree, TakesRows, end_of_waiting, gathered};
 ghost use Rattle.tuple_file.specs.Tuples.{OnlyDraftChanges};
 
 use crate::rows::put_row;
@@ -60,11 +61,9 @@ impl Waiting {
     ) -> Result<(), Failed>
         requires short { row_length attributes.now ≤ 128 }
         requires suits { AllSuit attributes.now tuple.now }
-        requires begun { IsSome (V.state files.old).draft }
+        requires takes { TakesRows (V.state files.old) self.old }
         requires range { end_of_waiting self.old + row_length attributes.now
             ≤ length (draft_in (V.state files.old)).bytes }
-        requires most { length (draft_in (V.state files.old)).bytes ≤ 4194304 }
-        requires free { IsTrue (V.state files.old).tells → IsFree (V.state files.old) self.old }
         ensures put { IsTrue (V.state files.old).tells
             → OnOk result (gathered (V.state files.new) self.new
             ≡ put_at (gathered (V.state files.old) self.old) (end_of_waiting self.old)
@@ -73,8 +72,7 @@ impl Waiting {
             → OnOk result (IsFree (V.state files.new) self.new) }
         ensures end { OnOk result (end_of_waiting self.new ≡ end_of_waiting self.old + row_length attributes.now) }
         ensures only { OnOk result (OnlyDraftChanges (V.state files.old) (V.state files.new)) }
-        ensures cut { IsTrue V.cuts → IsTrue (V.state files.old).tells → OnErr result
-            (V.mends (V.state files.new).store (V.state files.old).files) }
+        ensures cut { CutKeeps V.cuts V.mends V.state files.old files.new (OnErr result) }
         ensures frame { Changes V.state V.lent V.reads V.faults files.old files.new result }
     {
         self.make_room(files, row_length(attributes))?;
@@ -85,10 +83,8 @@ impl Waiting {
     // Makes room for so many bytes.
     fn make_room<V: Files>(&mut self, files: &mut V, count: usize) -> Result<(), Failed>
         requires count { count ≤ 128 }
-        requires begun { IsSome (V.state files.old).draft }
+        requires takes { TakesRows (V.state files.old) self.old }
         requires range { end_of_waiting self.old ≤ length (draft_in (V.state files.old)).bytes }
-        requires most { length (draft_in (V.state files.old)).bytes ≤ 4194304 }
-        requires free { IsTrue (V.state files.old).tells → IsFree (V.state files.old) self.old }
         ensures same { IsTrue (V.state files.old).tells
             → OnOk result (gathered (V.state files.new) self.new ≡ gathered (V.state files.old) self.old) }
         ensures free { IsTrue (V.state files.old).tells
@@ -96,8 +92,7 @@ impl Waiting {
         ensures end { OnOk result (end_of_waiting self.new ≡ end_of_waiting self.old) }
         ensures room { OnOk result (length self.new.bytes + count ≤ 256) }
         ensures only { OnOk result (OnlyDraftChanges (V.state files.old) (V.state files.new)) }
-        ensures cut { IsTrue V.cuts → IsTrue (V.state files.old).tells → OnErr result
-            (V.mends (V.state files.new).store (V.state files.old).files) }
+        ensures cut { CutKeeps V.cuts V.mends V.state files.old files.new (OnErr result) }
         ensures frame { Changes V.state V.lent V.reads V.faults files.old files.new result }
     {
         if self.filled + count <= WAITING_SIZE {
@@ -122,10 +117,8 @@ impl Waiting {
 
     /// Writes all that waits.
     pub(crate) fn flush<V: Files>(&mut self, files: &mut V) -> Result<(), Failed>
-        requires begun { IsSome (V.state files.old).draft }
+        requires takes { TakesRows (V.state files.old) self.old }
         requires range { end_of_waiting self.old ≤ length (draft_in (V.state files.old)).bytes }
-        requires most { length (draft_in (V.state files.old)).bytes ≤ 4194304 }
-        requires free { IsTrue (V.state files.old).tells → IsFree (V.state files.old) self.old }
         ensures written { IsTrue (V.state files.old).tells → OnOk result
             ((draft_in (V.state files.new)).bytes ≡ gathered (V.state files.old) self.old) }
         ensures free { IsTrue (V.state files.old).tells
@@ -133,8 +126,7 @@ impl Waiting {
         ensures at { OnOk result (self.new.at ≡ end_of_waiting self.old) }
         ensures none { OnOk result (self.new.bytes ≡ []) }
         ensures only { OnOk result (OnlyDraftChanges (V.state files.old) (V.state files.new)) }
-        ensures cut { IsTrue V.cuts → IsTrue (V.state files.old).tells → OnErr result
-            (V.mends (V.state files.new).store (V.state files.old).files) }
+        ensures cut { CutKeeps V.cuts V.mends V.state files.old files.new (OnErr result) }
         ensures frame { Changes V.state V.lent V.reads V.faults files.old files.new result }
     {
         files.draft_write(self.at, &self.bytes[..self.filled])?;

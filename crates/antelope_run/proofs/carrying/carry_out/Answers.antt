@@ -20,13 +20,13 @@ pub returns-in-Gen-clause-does : goal.returns-in-Gen-clause-does
 returns-in-Gen-clause-does g c = λ told kept. rw c.in-Gen.is (c.generate_all.ensures.does told kept)
 
 pub returns-in-Gen-clause-cause : goal.returns-in-Gen-clause-cause
-returns-in-Gen-clause-cause g c = c.generate_all.ensures.cause (g.S.Source.faults c.args.input.now)
+returns-in-Gen-clause-cause g c = c.generate_all.ensures.frame.cause (g.S.Source.faults c.args.input.now)
 
 pub returns-in-Plan-clause-does : goal.returns-in-Plan-clause-does
 returns-in-Plan-clause-does g c = λ told kept. rw c.in-Plan.is (c.plan.ensures.does told)
 
 pub returns-in-Plan-clause-cause : goal.returns-in-Plan-clause-cause
-returns-in-Plan-clause-cause g c = c.plan.ensures.cause (g.S.Source.faults c.args.input.now)
+returns-in-Plan-clause-cause g c = c.plan.ensures.frame.cause (g.S.Source.faults c.args.input.now)
 
 pub returns-in-Dump-clause-does : goal.returns-in-Dump-clause-does
 returns-in-Dump-clause-does g c = λ told kept. rw c.in-Dump.is (c.dump_all.ensures.does told)
@@ -41,10 +41,10 @@ pub returns-in-Look-clause-same : goal.returns-in-Look-clause-same
 returns-in-Look-clause-same g c = λ tells. ap (λ s. s.store) c.look_all.ensures.files
 
 pub returns-in-Dump-clause-cause : goal.returns-in-Dump-clause-cause
-returns-in-Dump-clause-cause g c = c.dump_all.ensures.cause (g.S.Source.faults c.args.input.now)
+returns-in-Dump-clause-cause g c = c.dump_all.ensures.frame.cause (g.S.Source.faults c.args.input.now)
 
 pub returns-in-Look-clause-cause : goal.returns-in-Look-clause-cause
-returns-in-Look-clause-cause g c = c.look_all.ensures.cause (g.S.Source.faults c.args.input.now)
+returns-in-Look-clause-cause g c = c.look_all.ensures.frame.cause (g.S.Source.faults c.args.input.now)
 
 pub returns-in-Run-clause-reads : goal.returns-in-Run-clause-reads
 returns-in-Run-clause-reads g c = λ told. rw c.in-Run.is (λ read reader.
@@ -72,19 +72,19 @@ returns-in-Serve-clause-reaches g c =
 
 pub returns-in-Gen-clause-reaches : goal.returns-in-Gen-clause-reaches
 returns-in-Gen-clause-reaches g c =
-    reaches_none c.args.form (g.S.Source.left c.args.input.now) (g.S.Source.left c.args.input.now) (λ takes. (rw c.in-Gen.is at takes)) c.generate_all.result c.generate_all.ensures.halts
+    reaches_none c.args.form (g.S.Source.left c.args.input.now) (g.S.Source.left c.args.input.now) (λ takes. (rw c.in-Gen.is at takes)) c.generate_all.result c.generate_all.ensures.frame.halts
 
 pub returns-in-Plan-clause-reaches : goal.returns-in-Plan-clause-reaches
 returns-in-Plan-clause-reaches g c =
-    reaches_none c.args.form (g.S.Source.left c.args.input.now) (g.S.Source.left c.args.input.now) (λ takes. (rw c.in-Plan.is at takes)) c.plan.result c.plan.ensures.halts
+    reaches_none c.args.form (g.S.Source.left c.args.input.now) (g.S.Source.left c.args.input.now) (λ takes. (rw c.in-Plan.is at takes)) c.plan.result c.plan.ensures.frame.halts
 
 pub returns-in-Dump-clause-reaches : goal.returns-in-Dump-clause-reaches
 returns-in-Dump-clause-reaches g c =
-    reaches_none c.args.form (g.S.Source.left c.args.input.now) (g.S.Source.left c.args.input.now) (λ takes. (rw c.in-Dump.is at takes)) c.dump_all.result c.dump_all.ensures.halts
+    reaches_none c.args.form (g.S.Source.left c.args.input.now) (g.S.Source.left c.args.input.now) (λ takes. (rw c.in-Dump.is at takes)) c.dump_all.result c.dump_all.ensures.frame.halts
 
 pub returns-in-Look-clause-reaches : goal.returns-in-Look-clause-reaches
 returns-in-Look-clause-reaches g c =
-    reaches_none c.args.form (g.S.Source.left c.args.input.now) (g.S.Source.left c.args.input.now) (λ takes. (rw c.in-Look.is at takes)) c.look_all.result c.look_all.ensures.halts
+    reaches_none c.args.form (g.S.Source.left c.args.input.now) (g.S.Source.left c.args.input.now) (λ takes. (rw c.in-Look.is at takes)) c.look_all.result c.look_all.ensures.frame.halts
 
 pub returns-in-Run-clause-unread : goal.returns-in-Run-clause-unread
 returns-in-Run-clause-unread g c = λ none. absurd ((rw c.in-Run.is at none) tt)

@@ -1,3 +1,4 @@
+use Rattle.std.proofs.Common.{rules}
 use Rattle.answering.specs.Carried.{standing_of}
 use Rattle.antelope_run.proofs.Halts.{generated, generated_cause, generated_lost, generated_tells, halted_only}
 use Rattle.antelope_run.proofs.carrying.generate_all.Goals as goal
@@ -16,9 +17,11 @@ pub returns-clause-lost : goal.returns-clause-lost
 returns-clause-lost g c = λ kept lost.
     rw c.halted.ensures (generated_lost c.generate.result c.generate.new.session.lost (c.generate.ensures.lost kept) lost)
 
-pub returns-clause-cause : goal.returns-clause-cause
-returns-clause-cause g c = λ inputs.
-    rw c.halted.ensures (generated_cause c.generate.result inputs _ _ _ _ c.generate.ensures.frame.cause)
-
-pub returns-clause-halts : goal.returns-clause-halts
-returns-clause-halts g c = rw c.halted.ensures (halted_only c.generate.result)
+pub returns-clause-frame : goal.returns-clause-frame
+returns-clause-frame g c = record {
+  halts = rw c.halted.ensures (halted_only c.generate.result);
+  store = search rules;
+  borrows = search rules;
+  lent = search rules;
+  cause = λ inputs. rw c.halted.ensures (generated_cause c.generate.result inputs _ _ _ _ c.generate.ensures.frame.cause);
+}

@@ -1,4 +1,4 @@
-use Rattle.std.proofs.Common.{ap}
+use Rattle.std.proofs.Common.{rules, ap, length}
 use Rattle.answering.specs.Carried.{standing_of}
 use Rattle.antelope_run.proofs.Halts.{dumped, dumped_cause, dumped_lost, dumped_same, stopped_only, unless_flash}
 use Rattle.antelope_run.proofs.carrying.look_all.Goals as goal
@@ -13,20 +13,21 @@ returns-clause-does g c =
       dumped old new _ c.write_database.result (e.wrote told),
     )
 
-pub returns-clause-same : goal.returns-clause-same
-returns-clause-same g c = λ other. dumped_same c.write_database.result _ c.write_database.ensures.same (rw c.stopped.ensures at other)
-
 pub returns-clause-lost : goal.returns-clause-lost
 returns-clause-lost g c = λ kept lost.
     rw c.stopped.ensures (dumped_lost c.write_database.result c.write_database.new.session.lost
     (unless_flash c.write_database.result (λ same. same.kept kept) c.write_database.ensures.same) lost)
 
-pub returns-clause-cause : goal.returns-clause-cause
-returns-clause-cause g c = λ inputs.
-    rw c.stopped.ensures (dumped_cause c.write_database.result inputs _ _ _ _ c.write_database.ensures.frame.cause)
-
-pub returns-clause-halts : goal.returns-clause-halts
-returns-clause-halts g c = rw c.stopped.ensures (stopped_only c.write_database.result)
-
 pub returns-clause-files : goal.returns-clause-files
 returns-clause-files g c = c.write_database.ensures.frame.same
+
+pub returns-clause-frame : goal.returns-clause-frame
+returns-clause-frame g c =
+    let e = c.write_database.ensures in
+    record {
+      halts = rw c.stopped.ensures (stopped_only c.write_database.result);
+      store = ap (λ s. length s.store) e.frame.same;
+      borrows = search rules;
+      lent = search rules;
+      cause = λ inputs. rw c.stopped.ensures (dumped_cause c.write_database.result inputs _ _ _ _ e.frame.cause);
+    }

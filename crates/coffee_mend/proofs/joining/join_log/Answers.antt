@@ -3,12 +3,13 @@ use Rattle.std.specs.List.{Contains}
 use Rattle.coffee_layout.specs.Files.{listed}
 use Rattle.coffee_layout.specs.Rules.{broken_image}
 use Rattle.coffee_mend.specs.Joined.{IsJoined, LacksRoom}
-use Rattle.coffee_mend.proofs.Joins.{joined_log, lacks_room, space_both, space_on}
+use Rattle.coffee_mend.proofs.Joins.{joined_log, lacks_room, space_on}
 use Rattle.std.proofs.lemmas.Result.{err_from_is_err_and}
 use Rattle.std.specs.Prelude.{Err, None}
 use Rattle.coffee_merge.specs.Holding.{Entries, HoldsTable}
 use Rattle.coffee_merge.specs.Outcomes.{LeavesAll}
 use Rattle.coffee_mend.proofs.joining.join_log.Goals as goal
+use Rattle.afl_base.proofs.CauseLaws.{both_spaces}
 
 pub returns-clause-joined : goal.returns-clause-joined
 returns-clause-joined g c = λ told sound done.
@@ -35,4 +36,4 @@ returns-in_err-join_file-clause-left g c = λ told sound.
     (λ need. LacksRoom old new c.args.log.0 need) c.in_err-join_file.was (said.1 ∙ ap (λ e. Err e) said.2)
     (λ need leaves. subst (λ i. LacksRoom i new c.args.log.0 need) same
     (lacks_room mid new c.in-Some.file c.args.log need (ap broken_image same ∙ sound) (omega (arith, ap length same, c.sectors.ensures.size)) there c.in-Some.ensures.log leaves.0 leaves.1))
-    (space_both c.join_file.result (λ need. (table : Entries) → HoldsTable mid table None → LeavesAll mid new table need) (λ need. need ≡ c.in-Some.file.pages) (c.join_file.ensures.left told) c.join_file.ensures.need)
+    (both_spaces c.join_file.result (λ need. (table : Entries) → HoldsTable mid table None → LeavesAll mid new table need) (λ need. need ≡ c.in-Some.file.pages) (c.join_file.ensures.left told) c.join_file.ensures.need)

@@ -4,7 +4,7 @@ use Rattle.afl_base.specs.Fields.{put_at, u16_at, u16_bytes}
 use Rattle.afl_base.specs.Files.{bytes_at, size_at}
 use Rattle.afl_base.proofs.FileLaws.{becomes_then}
 use Rattle.afl_base.proofs.FieldLaws.{length-put_at, u16_at-put_at}
-use Rattle.index_tree.proofs.Inserted.{becomes_as}
+use Rattle.afl_base.proofs.FrameLaws.{becomes_as}
 use Rattle.index_maxheap.proofs.inserting.put_bucket.Goals as goal
 use Rattle.afl_base.proofs.Bits.{length_u16_bytes}
 

@@ -13,11 +13,12 @@ use Rattle.stored.specs.Mended.{mended_base}
 use Rattle.stored.proofs.FewFiles.{few_files}
 use Rattle.session_relations.specs.Changes.{MayMakeSlot, PutsSlot, Shows, bare_relation, bare_schema, changed_at}
 use Rattle.session_relations.proofs.CutViews.{created_cut}
-use Rattle.session_relations.proofs.Keeping.{both_spaces, changes_done, changes_handed, changes_then, failed_handed, space_handed}
+use Rattle.session_relations.proofs.Keeping.{changes_done, changes_handed, changes_then, failed_handed, space_handed}
 use Rattle.session_relations.proofs.Created.{new_tuples, shows_created, wants_first, wants_slot}
 use Rattle.session_relations.proofs.Shown.{shows_kept, shows_room, shows_then}
 use Rattle.session_relations.proofs.creating.add_relation.Goals as goal
 use Rattle.db_model.proofs.Standing.{nothing_free}
+use Rattle.afl_base.proofs.CauseLaws.{both_spaces}
 
 pub make_rows-requires-clause-catalog : goal.make_rows-requires-clause-catalog
 make_rows-requires-clause-catalog g c =

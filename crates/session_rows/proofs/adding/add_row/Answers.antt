@@ -22,7 +22,7 @@ returns-clause-complete g c = λ told complete follow.
     let P : List Row → Type 0 = λ all. AreComplete s1 c.args.tables.now all c.args.indexes.now in
     let Q : List Row → Type 0 = λ all. MayAllFollow all c.args.values.now c.args.indexes.now in
     c.in_ok-write_row.ensures.complete after
-    (subst P (sym same) (complete_kept s0 s1 t.file (λ k other. f.bytes told k) c.args.tables.now (rows s0.files t) c.args.indexes.now c.requires.away complete))
+    (subst P (sym same) (complete_kept s0 s1 t.file (λ k other. f.bytes told k) c.args.tables.now (rows s0.files t) c.args.indexes.now c.requires.ready.away complete))
     (c.in_ok-rooms.ensures.exact told)
     (subst Q (sym same) follow)
 

@@ -14,7 +14,7 @@ returns-clause-exact g c = λ told.
     let after = c.in_ok-prepare.ensures.contents.tells ∙ told in
     exact_kept (g.V.Files.state c.prepare.new.self) (g.V.Files.state c.prepare_all.new.files) c.args.tuples.now.file
     (λ k other. c.in_ok-rooms.ensures.contents.bytes after k)
-    c.args.values.now c.in_ok-rooms.rooms c.args.indexes.now c.requires.away (c.in_ok-rooms.ensures.exact after)
+    c.args.values.now c.in_ok-rooms.rooms c.args.indexes.now c.requires.ready.away (c.in_ok-rooms.ensures.exact after)
 
 pub returns-in_err-prepare-clause-cut : goal.returns-in_err-prepare-clause-cut
 returns-in_err-prepare-clause-cut g c = λ cuts told failed.
@@ -27,7 +27,7 @@ returns-in_err-rooms-clause-cut g c = λ cuts told failed.
     let mid = g.V.Files.state c.prepare.new.self in
     let file = c.args.tuples.now.file in
     let infos = c.args.indexes.now in
-    let made = keeps_prepares old mid file c.requires.holds.file.live c.in_ok-prepare.ensures.contents in
+    let made = keeps_prepares old mid file c.requires.ready.holds.file.live c.in_ok-prepare.ensures.contents in
     mends_as (c.in_err-rooms.ensures.cut cuts (made.spares.tells ∙ told) (failed_too _ _ c.from_residual-in_err-rooms.ensures.1 failed))
     (λ after f. prepares_then old mid after (λ k. k ≢ file) (IsNoTree infos) (StaysAt file infos) made f (λ k stays. stays))
 
@@ -37,7 +37,7 @@ returns-clause-still g c = λ told never.
     let state = g.V.Files.state in
     let start = c.args.files.now in
     let mid = c.prepare.new.self in
-    let made = keeps_prepares (state start) (state mid) c.args.tuples.now.file c.requires.holds.file.live c.in_ok-prepare.ensures.contents in
+    let made = keeps_prepares (state start) (state mid) c.args.tuples.now.file c.requires.ready.holds.file.live c.in_ok-prepare.ensures.contents in
     let stayed = c.in_ok-prepare.ensures.still (λ need asked. never need (inl (subst (λ (n : ℕ). asks start c.args.tuples.now.file 0 n need) c.row_length.ensures.value asked))) in
     stays_on state asks start mid c.prepare_all.new.files stayed (c.in_ok-rooms.ensures.still (made.spares.tells ∙ told)
     (λ need one. never need (inr (one_asks_before (asks start) (asks mid) (state start) (state mid) c.args.values.now need c.args.indexes.now stayed.asks_less (made.bytes told) one))))
@@ -49,6 +49,6 @@ returns-in_err-rooms-clause-contents g c =
     let after = g.V.Files.state c.prepare_all.new.files in
     let file = c.args.tuples.now.file in
     let infos = c.args.indexes.now in
-    let made = keeps_prepares old mid file c.requires.holds.file.live c.in_ok-prepare.ensures.contents in
+    let made = keeps_prepares old mid file c.requires.ready.holds.file.live c.in_ok-prepare.ensures.contents in
     unless_too c.prepare_all.result _ _ c.from_residual-in_err-rooms.ensures.1 (λ f. prepares_then old mid after (λ k. k ≢ file) (IsNoTree infos) (StaysAt file infos) made f (λ k stays. stays))
     c.in_err-rooms.ensures.contents

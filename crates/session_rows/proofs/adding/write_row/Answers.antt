@@ -18,7 +18,7 @@ insert_all-requires-clause-room g c =
     let s0 = g.V.Files.state c.args.files.now in
     let s1 = g.V.Files.state c.append.new.files in
     let file = c.args.tuples.now.file in
-    rooms_stay s0 s1 (Tree file) c.args.rooms.now c.args.indexes.now (becomes_spares s0 s1 file _ _ c.requires.holds.file.live c.in_ok-append.ensures.appended) (elsewhere file c.args.indexes.now c.requires.away) c.requires.rooms
+    rooms_stay s0 s1 (Tree file) c.args.rooms.now c.args.indexes.now (becomes_spares s0 s1 file _ _ c.requires.ready.holds.file.live c.in_ok-append.ensures.appended) (elsewhere file c.args.indexes.now c.requires.ready.away) c.requires.rooms
 
 pub returns-clause-complete : goal.returns-clause-complete
 returns-clause-complete g c = λ told complete exact follow.
@@ -28,13 +28,13 @@ returns-clause-complete g c = λ told complete exact follow.
     let t = c.args.tuples.now in
     let all = rows s0.files t in
     let row : Row = record { tuple = c.args.values.now; live = true } in
-    let spared = becomes_spares s0 s1 t.file _ _ c.requires.holds.file.live c.in_ok-append.ensures.appended in
+    let spared = becomes_spares s0 s1 t.file _ _ c.requires.ready.holds.file.live c.in_ok-append.ensures.appended in
     let bytes = bytes_spared s0 s1 t.file spared in
     let after = spared.tells ∙ told in
-    complete_added s0 s1 s2 c.args.tables.now c.insert_all.new.tables t c.args.indexes.now row c.requires.away c.in_ok-insert_all.ensures.others (c.in_ok-append.ensures.rows told)
-    (c.in_ok-insert_all.ensures.complete after all row (rows_counted s0.files t ∙ sym c.requires.slot) refl
-    (complete_kept s0 s1 t.file bytes c.args.tables.now all c.args.indexes.now c.requires.away complete)
-    (exact_kept s0 s1 t.file bytes c.args.values.now c.args.rooms.now c.args.indexes.now c.requires.away exact)
+    complete_added s0 s1 s2 c.args.tables.now c.insert_all.new.tables t c.args.indexes.now row c.requires.ready.away c.in_ok-insert_all.ensures.others (c.in_ok-append.ensures.rows told)
+    (c.in_ok-insert_all.ensures.complete after all row (rows_counted s0.files t ∙ sym c.requires.ready.next) refl
+    (complete_kept s0 s1 t.file bytes c.args.tables.now all c.args.indexes.now c.requires.ready.away complete)
+    (exact_kept s0 s1 t.file bytes c.args.values.now c.args.rooms.now c.args.indexes.now c.requires.ready.away exact)
     follow)
 
 pub returns-clause-added : goal.returns-clause-added
@@ -56,14 +56,14 @@ returns-in_err-insert_all-clause-cut g c = λ cuts told.
     let s0 = g.V.Files.state c.args.files.now in
     let s1 = g.V.Files.state c.append.new.files in
     let t = c.args.tuples.now in
-    let spared = becomes_spares s0 s1 t.file _ _ c.requires.holds.file.live c.in_ok-append.ensures.appended in
+    let spared = becomes_spares s0 s1 t.file _ _ c.requires.ready.holds.file.live c.in_ok-append.ensures.appended in
     on_err c.from_residual-in_err-insert_all.result (mends_as (c.in_err-insert_all.ensures.cut cuts (spared.tells ∙ told))
-    (λ after f. added_keys t c.args.indexes.now c.args.values.now s0 s1 after c.requires.away spared (c.in_ok-append.ensures.rows told) f))
+    (λ after f. added_keys t c.args.indexes.now c.args.values.now s0 s1 after c.requires.ready.away spared (c.in_ok-append.ensures.rows told) f))
 
 pub returns-clause-spares : goal.returns-clause-spares
 returns-clause-spares g c = λ told.
     let s0 = g.V.Files.state c.args.files.now in
     let s1 = g.V.Files.state c.append.new.files in
     let s2 = g.V.Files.state c.insert_all.new.files in
-    let spared = becomes_spares s0 s1 c.args.tuples.now.file _ _ c.requires.holds.file.live c.in_ok-append.ensures.appended in
+    let spared = becomes_spares s0 s1 c.args.tuples.now.file _ _ c.requires.ready.holds.file.live c.in_ok-append.ensures.appended in
     takes_no_page_on g.V.Files.is_free s0.store s1.store s2.store (c.in_ok-append.ensures.spares told) (c.in_ok-insert_all.ensures.spares (spared.tells ∙ told))

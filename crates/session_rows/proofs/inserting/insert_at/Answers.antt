@@ -26,34 +26,32 @@ pub indexes_of-indexes-requires-clause-numbers : goal.indexes_of-indexes-require
 indexes_of-indexes-requires-clause-numbers g c =
     are_numbers (g.V.Files.state c.args.files.now) c.args.tables.now c.args.held.now c.args.opens.now c.requires.running c.args.k c.args.tuples.now c.requires.there
 
-pub insert_row-requires-clause-holds : goal.insert_row-requires-clause-holds
-insert_row-requires-clause-holds g c =
-    (relation_there (g.V.Files.state c.args.files.now) c.args.tables.now c.args.held.now c.args.opens.now c.requires.running c.args.k c.args.tuples.now c.requires.there).holds
+pub insert_row-requires-clause-ready : goal.insert_row-requires-clause-ready
+insert_row-requires-clause-ready g c =
+    let old = g.V.Files.state c.args.files.now in
+    let tables = c.args.tables.now in
+    let held = c.args.held.now in
+    let opens = c.args.opens.now in
+    let t = c.args.tuples.now in
+    let running = c.requires.running in
+    let e = sym c.indexes_of-indexes.ensures in
+    record {
+      idle = running.idle;
+      holds = (relation_there old tables held opens running c.args.k t c.requires.there).holds;
+      next = refl;
+      held = subst (λ (l : List IndexInfo). AreHeld old tables (slots old.files t) l) e (are_held old tables held opens running c.args.k t c.requires.there);
+      apart = subst (λ (l : List IndexInfo). AreApart l) e (are_apart old tables held opens running c.args.k t);
+      away = subst (λ (l : List IndexInfo). IsNoTree l t.file) e (away old tables held opens running c.args.k t c.requires.there);
+    }
 
 pub insert_row-requires-clause-few : goal.insert_row-requires-clause-few
 insert_row-requires-clause-few g c =
     (relation_there (g.V.Files.state c.args.files.now) c.args.tables.now c.args.held.now c.args.opens.now c.requires.running c.args.k c.args.tuples.now c.requires.there).few
 
-pub insert_row-requires-clause-held : goal.insert_row-requires-clause-held
-insert_row-requires-clause-held g c =
-    let old = g.V.Files.state c.args.files.now in
-    subst (λ (l : List IndexInfo). AreHeld old c.args.tables.now (slots old.files c.args.tuples.now) l) (sym c.indexes_of-indexes.ensures)
-    (are_held old c.args.tables.now c.args.held.now c.args.opens.now c.requires.running c.args.k c.args.tuples.now c.requires.there)
-
 pub insert_row-requires-clause-allowed : goal.insert_row-requires-clause-allowed
 insert_row-requires-clause-allowed g c =
     subst (λ (l : List IndexInfo). AreAllowed c.args.tuples.now.schema.attributes l) (sym c.indexes_of-indexes.ensures)
     (are_allowed (g.V.Files.state c.args.files.now) c.args.tables.now c.args.held.now c.args.opens.now c.requires.running c.args.k c.args.tuples.now c.requires.there)
-
-pub insert_row-requires-clause-apart : goal.insert_row-requires-clause-apart
-insert_row-requires-clause-apart g c =
-    subst (λ (l : List IndexInfo). AreApart l) (sym c.indexes_of-indexes.ensures)
-    (are_apart (g.V.Files.state c.args.files.now) c.args.tables.now c.args.held.now c.args.opens.now c.requires.running c.args.k c.args.tuples.now)
-
-pub insert_row-requires-clause-away : goal.insert_row-requires-clause-away
-insert_row-requires-clause-away g c =
-    subst (λ (l : List IndexInfo). IsNoTree l c.args.tuples.now.file) (sym c.indexes_of-indexes.ensures)
-    (away (g.V.Files.state c.args.files.now) c.args.tables.now c.args.held.now c.args.opens.now c.requires.running c.args.k c.args.tuples.now c.requires.there)
 
 pub returns-clause-changed : goal.returns-clause-changed
 returns-clause-changed g c = λ told.

@@ -33,7 +33,7 @@ returns-in-Err-Space-clause-grows g c =
     let infos = c.args.indexes.now in
     let space : Prepares s0 s2 (StaysAt t.file infos) = rw same at (rw c.in-Err-Space.field-0-is at c.in-Err-Space.ensures.space) in
     let tables = rw c.in-Err-Space.field-0-is at c.in-Err-Space.ensures.same_tables in
-    rw tables (grows_prepared s0 s2 c.args.tables.now t infos space c.requires.holds c.requires.held c.requires.away)
+    rw tables (grows_prepared s0 s2 c.args.tables.now t infos space c.requires.ready.holds c.requires.ready.held c.requires.ready.away)
 
 pub returns-in_err-refusal-clause-cut : goal.returns-in_err-refusal-clause-cut
 returns-in_err-refusal-clause-cut g c = λ cuts told.
@@ -63,4 +63,4 @@ returns-in-Ok-clause-spares g c = λ told never.
     let mid = c.refused_row.new.files in
     let same = c.in_ok-refusal.ensures.frame.same in
     (rw same at c.in-Ok.ensures.spares) told
-    (λ need wanted. never need (row_before (asks start) (asks mid) (g.V.Files.asks_seen start mid same told c.requires.idle) (g.V.Files.state start) c.args.tuples.now c.args.indexes.now c.args.values.now need wanted))
+    (λ need wanted. never need (row_before (asks start) (asks mid) (g.V.Files.asks_seen start mid same told c.requires.ready.idle) (g.V.Files.state start) c.args.tuples.now c.args.indexes.now c.args.values.now need wanted))

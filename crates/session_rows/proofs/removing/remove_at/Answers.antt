@@ -32,21 +32,24 @@ pub indexes_of-indexes-requires-clause-numbers : goal.indexes_of-indexes-require
 indexes_of-indexes-requires-clause-numbers g c =
     are_numbers (g.V.Files.state c.args.files.now) c.args.tables.now c.args.held.now c.args.opens.now c.requires.running c.args.k c.args.tuples.now c.requires.there
 
-pub remove_rows-requires-clause-holds : goal.remove_rows-requires-clause-holds
-remove_rows-requires-clause-holds g c =
-    (relation_there (g.V.Files.state c.args.files.now) c.args.tables.now c.args.held.now c.args.opens.now c.requires.running c.args.k c.args.tuples.now c.requires.there).holds
-
-pub remove_rows-requires-clause-numbers : goal.remove_rows-requires-clause-numbers
-remove_rows-requires-clause-numbers g c =
-    subst (λ (l : List IndexInfo). AreOnNumbers c.args.tuples.now.schema.attributes l) (sym c.indexes_of-indexes.ensures)
-    (are_on_numbers (g.V.Files.state c.args.files.now) c.args.tables.now c.args.held.now c.args.opens.now c.requires.running c.args.k c.args.tuples.now c.requires.there)
-
-pub remove_rows-requires-clause-readable : goal.remove_rows-requires-clause-readable
-remove_rows-requires-clause-readable g c =
+pub remove_rows-requires : goal.remove_rows-requires
+remove_rows-requires g c =
     let old = g.V.Files.state c.args.files.now in
-    let n = slots old.files c.args.tuples.now in
-    subst (λ (l : List IndexInfo). AreReadable old n l) (sym c.indexes_of-indexes.ensures)
-    (are_readable old c.args.tables.now c.args.held.now c.args.opens.now c.requires.running c.args.k c.args.tuples.now c.requires.there n (omega arith))
+    let tables = c.args.tables.now in
+    let held = c.args.held.now in
+    let opens = c.args.opens.now in
+    let t = c.args.tuples.now in
+    let running = c.requires.running in
+    let e = sym c.indexes_of-indexes.ensures in
+    let n = slots old.files t in
+    record {
+      ready = record {
+        idle = running.idle;
+        holds = (relation_there old tables held opens running c.args.k t c.requires.there).holds;
+        numbers = subst (λ (l : List IndexInfo). AreOnNumbers t.schema.attributes l) e (are_on_numbers old tables held opens running c.args.k t c.requires.there);
+        readable = subst (λ (l : List IndexInfo). AreReadable old n l) e (are_readable old tables held opens running c.args.k t c.requires.there n (omega arith));
+      };
+    }
 
 pub returns-clause-changed : goal.returns-clause-changed
 returns-clause-changed g c = λ told.

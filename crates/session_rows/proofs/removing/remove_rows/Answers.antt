@@ -64,7 +64,7 @@ returns-in-Err-Space-clause-replaces g c =
     let t = c.args.tuples.now in
     let space : Prepares old new (λ id. id ≢ t.file) =
     rw (c.in_ok-selected.ensures.frame.same ∙ c.in_ok-cursor.ensures.frame.same) at (rw c.in-Err-Space.field-0-is at c.in-Err-Space.ensures.space) in
-    replaces_prepared old new t space c.requires.holds
+    replaces_prepared old new t space c.requires.ready.holds
 
 pub returns-in_err-cursor-clause-cut : goal.returns-in_err-cursor-clause-cut
 returns-in_err-cursor-clause-cut g c = λ cuts told.
@@ -112,4 +112,4 @@ returns-in-Ok-clause-spares g c = λ told condition code indexes never.
     let same = c.in_ok-selected.ensures.frame.same ∙ begun.frame.same in
     (rw same at c.in-Ok.ensures.spares) told (λ need wanted. never need
     (wants_selected (asks start) t.file size need (length (selected t.schema.attributes condition all)) s (selected_slots t.schema.attributes condition all) is (counted t.schema.attributes condition all)
-    (removal_before (asks start) (asks late) (g.V.Files.asks_seen start late same told c.requires.idle) t.file s.count (length s.first) size need wanted)))
+    (removal_before (asks start) (asks late) (g.V.Files.asks_seen start late same told c.requires.ready.idle) t.file s.count (length s.first) size need wanted)))

@@ -5,12 +5,15 @@ use Rattle.afl_sim.specs.PlainFiles.{plain_pages}
 use Rattle.afl_sim.proofs.PlainStates.{plain_becomes, plain_fits, plain_grows, plain_kept}
 use Rattle.afl_sim.proofs.plain_files.PlainFilesFiles.prepare.Goals as goal
 
-pub returns-then-is_lacking-clause-need_doubling : goal.returns-then-is_lacking-clause-need_doubling
-returns-then-is_lacking-clause-need_doubling g c is =
+pub returns-then-is_lacking-clause-few : goal.returns-then-is_lacking-clause-few
+returns-then-is_lacking-clause-few g c =
     let f : File = c.file-file.result in
     let here = file_here c.args.self.now.files c.args.id f c.file-file.ensures.file in
-    rw (here, c.pages-need.ensures, c.kind.ensures.value, c.size.ensures.value)
-    (plain_grows f.kind (length f.bytes) c.args.bytes (rw here at c.requires.most) c.requires.bytes (rw here at is))
+    record {
+      growing = λ is. rw (here, c.pages-need.ensures, c.kind.ensures.value, c.size.ensures.value)
+          (plain_grows f.kind (length f.bytes) c.args.bytes (rw here at c.requires.most) c.requires.bytes (rw here at is));
+      fixed = λ n is. search rules;
+    }
 
 pub grant-requires : goal.grant-requires
 grant-requires g c =

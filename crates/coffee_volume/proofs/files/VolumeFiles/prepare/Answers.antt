@@ -1,4 +1,4 @@
-use Rattle.std.proofs.Common.{◌≡◌, ◌∙◌, ◌&&◌, not, ℕ, None, IsTrue, ap, subst, sym}
+use Rattle.std.proofs.Common.{◌≡◌, ◌∙◌, ◌&&◌, not, ℕ, None, IsTrue, ap, arith, rules, subst, sym}
 use Rattle.std.specs.Prelude.{Err}
 use Rattle.std.proofs.lemmas.Result.{err_from_is_err_and}
 use Rattle.coffee_volume.specs.Rooms.{pages_asked}
@@ -185,3 +185,16 @@ returns-clause-still g c never =
       store = ap g.F.Flash.image c.grant.ensures.flash ∙ second.0 ∙ first.0;
       asks_less = asks_alike v.table c.grant.new.self.table (c.grant.ensures.places ∙ ap places (second.1 ∙ first.1));
     }
+
+pub returns-in_err-reshape-clause-few : goal.returns-in_err-reshape-clause-few
+returns-in_err-reshape-clause-few g c =
+    let said = err_from_is_err_and c.from_residual.result c.from_residual.ensures.1 in
+    space_handed c.reshape.result c.from_residual.result c.in_err-reshape.field-0.0 _ c.in_err-reshape.was (said.1 ∙ ap (λ e. Err e) said.2) c.reshape.ensures.few
+
+pub returns-in_err-provide_log-clause-few : goal.returns-in_err-provide_log-clause-few
+returns-in_err-provide_log-clause-few g c =
+    let said = err_from_is_err_and c.from_residual-in_err-provide_log.result c.from_residual-in_err-provide_log.ensures.1 in
+    space_handed c.provide_log.result c.from_residual-in_err-provide_log.result c.in_err-provide_log.field-0.0 _ c.in_err-provide_log.was (said.1 ∙ ap (λ e. Err e) said.2)
+    (space_with c.provide_log.result (λ need. need ≡ 16) (λ need. need ≡ 16) _
+    (λ need is _. record { growing = λ grows. search (rules, is); fixed = λ n fixed. omega (arith, is) })
+    c.provide_log.ensures.need c.provide_log.ensures.need)

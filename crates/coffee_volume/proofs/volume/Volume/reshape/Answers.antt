@@ -1,6 +1,7 @@
-use Rattle.std.proofs.Common.{◌≡◌, ◌&&◌, not, ℕ, Option, Some, IsTrue, ap, sym, subst, ◌∙◌, arith}
+use Rattle.std.proofs.Common.{◌≡◌, ◌*◌, ◌≤◌, ◌&&◌, max, not, ℕ, Option, Some, IsTrue, ap, sym, subst, ◌∙◌, arith}
 use Rattle.std.proofs.lemmas.Result.{on_ok_weaker}
 use Rattle.afl_base.specs.Files.{File}
+use Rattle.afl_base.specs.Fit.{fit}
 use Rattle.coffee_volume.specs.Lowest.{LooksFor, StepsTo}
 use Rattle.coffee_volume.specs.Steps.{MayTake, NeedsFew, need_of, step_for}
 use Rattle.coffee_volume.specs.Volumes.{Asks, AtEntry, EntryTable, IsEntry}
@@ -45,8 +46,8 @@ returns-in-Some-clause-asked g c =
     step_asks d.at c.args.overwrites c.args.bytes step asks ∙ ap (λ (k : ℕ). Some k) (sym (need d here)))
     c.take.ensures.kept c.take.ensures.need
 
-pub returns-in-Some-clause-need_doubling : goal.returns-in-Some-clause-need_doubling
-returns-in-Some-clause-need_doubling g c =
+pub returns-in-Some-clause-few : goal.returns-in-Some-clause-few
+returns-in-Some-clause-few g c =
     let v = c.args.self.now in
     let e : Entry = c.entry-at.result in
     let step : Step = c.in-Some.step in
@@ -54,23 +55,14 @@ returns-in-Some-clause-need_doubling g c =
     step_may _ e c.args.overwrites c.args.bytes step c.entry-at.ensures.regular (sym c.step_for.ensures ∙ c.in-Some.is) c.requires.bytes (omega (arith, c.requires.most, c.entry-at.ensures.size))
     (λ n is. omega (arith, c.requires.fixed n (ap (λ (f : File). f.kind) c.entry-at.ensures.file ∙ is), c.entry-at.ensures.size)) in
     let needs : NeedsFew e.at (need_of step e.at) = step_needs _ e step c.entry-at.ensures.regular may in
+    let kind = sym (ap (λ (f : File). f.kind) c.entry-at.ensures.file) in
     space_with c.take.result (λ need. (x : Entry) → IsEntry v.table c.args.id x → need ≡ need_of step x.at) (λ need. (x : Entry) → IsEntry v.table c.args.id x → need ≡ need_of step x.at) _
-    (λ n need _ is.
-    rw c.entry-at.ensures.size (omega (arith, need e c.entry-at.ensures.entry, needs.doubling (sym (ap (λ (f : File). f.kind) c.entry-at.ensures.file) ∙ is))))
-    c.take.ensures.need c.take.ensures.need
-
-pub returns-in-Some-clause-need_fixed : goal.returns-in-Some-clause-need_fixed
-returns-in-Some-clause-need_fixed g c =
-    let v = c.args.self.now in
-    let e : Entry = c.entry-at.result in
-    let step : Step = c.in-Some.step in
-    let may : MayTake step e.at =
-    step_may _ e c.args.overwrites c.args.bytes step c.entry-at.ensures.regular (sym c.step_for.ensures ∙ c.in-Some.is) c.requires.bytes (omega (arith, c.requires.most, c.entry-at.ensures.size))
-    (λ n is. omega (arith, c.requires.fixed n (ap (λ (f : File). f.kind) c.entry-at.ensures.file ∙ is), c.entry-at.ensures.size)) in
-    let needs : NeedsFew e.at (need_of step e.at) = step_needs _ e step c.entry-at.ensures.regular may in
-    space_with c.take.result (λ need. (x : Entry) → IsEntry v.table c.args.id x → need ≡ need_of step x.at) (λ need. (x : Entry) → IsEntry v.table c.args.id x → need ≡ need_of step x.at) _
-    (λ n need _ m is.
-    omega (arith, need e c.entry-at.ensures.entry, needs.fixed m (sym (ap (λ (f : File). f.kind) c.entry-at.ensures.file) ∙ is)))
+    (λ n need _.
+    let is = need e c.entry-at.ensures.entry in
+    record {
+      growing = λ grows. subst (λ (s : ℕ). n ≤ max 16 (2 * fit s)) (sym c.entry-at.ensures.size) (omega (arith, is, needs.doubling (kind ∙ grows)));
+      fixed = λ m fixed. omega (arith, is, needs.fixed m (kind ∙ fixed));
+    })
     c.take.ensures.need c.take.ensures.need
 
 pub returns-in-Some-clause-chooses : goal.returns-in-Some-clause-chooses
