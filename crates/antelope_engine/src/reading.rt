@@ -20,6 +20,7 @@ use crate::session::Session;
 use afl_base::{Failed, FileId, Files, IndexId, MOST_SLOTS, RelationId, SlotNo};
 use catalog::IndexEntry;
 use db_model::{IndexKind, Schema, Tuple};
+use index_maxheap::{BUCKET_SIZE, HEAD_SIZE};
 use index_set::Access;
 use session_model::Indexed;
 use tuple_file::Tuples;
@@ -192,7 +193,7 @@ fn slots_limit(version: u8) -> u16
 fn buckets_in(size: u32) -> u16
     ensures { (n : ℕ) → n ≤ 1365 → size ≡ 683 + 195 * n → result ≡ n }
 {
-    let buckets = size.saturating_sub(683) / 195;
+    let buckets = size.saturating_sub(HEAD_SIZE as u32) / BUCKET_SIZE as u32;
     if buckets > 65_535 {
         return 65_535;
     }

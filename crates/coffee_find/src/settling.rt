@@ -11,7 +11,7 @@ ghost use Rattle.flash_views.specs.Views.{blanked};
 use crate::overlays::overlay_of;
 use crate::trouble::{TornRecord, Trouble, UnderWay};
 use crate::walks::begun;
-use afl_base::{Failed, Flash, PageId};
+use afl_base::{Failed, Flash, PageId, SECTOR_SIZE};
 use coffee_layout::{Table, Unit, check, read_table, records_used};
 use flash_views::View;
 
@@ -52,7 +52,7 @@ fn torn_record<F: Flash>(flash: &mut F, log: PageId) -> Result<Verdict, Failed>
     if !is_active_at(flash, log, 19)? {
         return Ok(Verdict::Broken);
     }
-    let size = 4096 * u32::from(flash.sectors());
+    let size = SECTOR_SIZE as u32 * u32::from(flash.sectors());
     let mut table = [0; 60];
     read_table(flash, log.0, &mut table)?;
     let used = records_used(&table) as u32;

@@ -4,7 +4,7 @@ ghost use Rattle.afl_base.specs.declared.ids.SectorId.{SectorId as Sector};
 ghost use Rattle.flash_views.specs.Views.{FitsImage, StandAt, blanked, emptied, with_mark, overlaid};
 
 use crate::overlay::{Mark, Overlay};
-use afl_base::SectorId;
+use afl_base::{SECTOR_SIZE, SectorId};
 
 // Each function here is given the bytes that stand in an image from `place` on, and makes of them what
 // stands there once the image is changed.
@@ -38,7 +38,12 @@ fn put_sector(sector: Option<SectorId>, place: usize, into: &mut [u8])
         → StandAt image place into.old → StandAt (emptied image sector) place into.new }
 {
     if let Some(sector) = sector {
-        put_zeros(4096 * usize::from(sector.0), 4096, place, into);
+        put_zeros(
+            SECTOR_SIZE * usize::from(sector.0),
+            SECTOR_SIZE,
+            place,
+            into,
+        );
     }
 }
 

@@ -21,7 +21,7 @@ ghost use Rattle.session_start.specs.Judged.{AllEight, HoldsSlot, IsKept, MayBeU
 ghost use Rattle.session_start.specs.Reads.{all_reads, index_reads};
 
 use afl_base::{Failed, Files, KeyColumn};
-use index_set::{Access, HashTables, IndexInfo, Indexes, TableId, verify_all};
+use index_set::{Access, HashTables, IndexInfo, Indexes, MOST_KEYS, TableId, verify_all};
 use session_model::{Held, Indexed};
 use tuple_file::Tuples;
 
@@ -162,7 +162,7 @@ fn fill<V: Files>(
     ensures reads { V.reads files.new ≤ V.reads files.old + 6 * slots }
     ensures frame { OnlyReads V.state V.lent V.reads V.faults files.old files.new result }
 {
-    if slots > 2048 {
+    if slots > MOST_KEYS {
         return Ok(false);
     }
     tables.fill(files, table, column, slots)?;

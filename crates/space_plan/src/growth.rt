@@ -7,6 +7,7 @@ ghost use Rattle.db_model.specs.Row.{row_length};
 ghost use Rattle.space_plan.specs.Planned.{buckets_planned, slots_planned};
 
 use db_model::{Attributes, row_length};
+use index_maxheap::{BUCKET_SIZE, HEAD_SIZE};
 
 // The slots that a relation has at most.
 const SLOTS: u32 = 32_768;
@@ -32,5 +33,5 @@ pub fn tree_size(rows: u16, buckets: u16, slots: u16) -> u32
 {
     let of_rows = u32::from(buckets) + u32::from(rows);
     let of_slots = slots_planned(rows, slots) / 32 + 341;
-    683 + 195 * of_rows.min(of_slots)
+    HEAD_SIZE as u32 + BUCKET_SIZE as u32 * of_rows.min(of_slots)
 }
