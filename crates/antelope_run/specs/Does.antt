@@ -28,7 +28,7 @@ use Rattle.run_words.specs.declared.words.Form.{Form}
 use Rattle.run_words.specs.declared.words.Form.TheVariants.{Run, Gen, Plan, Serve, Dump, Look}
 use Rattle.antelope_run.specs.Statuses.{OnInput}
 
--- a text was written, or what a fault left of it
+-- a text was written to what a sink held, or what a fault left of it
 abbrev pub Wrote : (held held_now : Option (List ℕ)) → List ℕ → Result ⊤ InputEnding → Type 0
 Wrote held held_now text (Ok done) = held_now ≡ append_known held text
 Wrote held held_now text (Err (Early Sink)) = WroteLess held held_now text
@@ -45,7 +45,7 @@ module _ (old new : Standing) where
   Generates limits commands (Err Input) = ⊥
   Generates limits commands (Err Long) = ⊥
 
-  -- a text was written, and the database stays
+  -- a text was written, or what a fault left of it
   abbrev pub WritesText : List ℕ → Result ⊤ InputEnding → Type 0
   WritesText text result = Wrote old.held new.held text result
 
