@@ -195,6 +195,7 @@ module _ (whole : List ℕ) (table : Entries) (d e : FileAt) (i : ℕ) (t : IsTa
     one_name = named_so;
     new_has_none = ap log_number no_log;
     before = λ zero. front (none_number e.log zero);
+    logged = λ l named. record { header = log_header e.name; there = begun_active (units_of both) l.0 (log_header e.name) (replaced_log whole table d e i l t.holds is (sym (log_is e.log) ∙ named)) refl; flags_are = refl };
   }) (ap (obsoleted both e.page.0) (log_is e.log))
     where
       none_number : (log : Option PageId) → log_number log ≡ 0 → log ≡ None
@@ -226,6 +227,7 @@ module _ (whole : List ℕ) (table : Entries) (d e : FileAt) (i : ℕ) (t : IsTa
         one_name = sym named_so;
         new_has_none = ap log_number none;
         before = λ zero. front;
+        logged = λ l named. absurd (none_some l (sym (log_is d.log ∙ no_log) ∙ named));
       }) (subst (λ s. Stays whole s table) (sym back) new_stays)
 
   both_mend : MendsToTable both whole table ⊎ MendsToTable both whole after

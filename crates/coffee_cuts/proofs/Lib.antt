@@ -19,3 +19,11 @@ mod TornRecords
 pub mod TwoMarks
 pub mod ZeroPages
 pub mod ZeroedHeads
+pub mod FirstRules
+pub mod ErasedSectors
+pub mod Replaced
+pub mod NamedLogs
+pub mod LoneLogs
+pub mod TornRule
+pub mod TornLogs
+pub mod Shown

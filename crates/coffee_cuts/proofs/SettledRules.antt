@@ -157,7 +157,7 @@ module _ (image : List ℕ) (whole : 256 * pages_of image ≡ length image) (t :
       let ends = k.1 in
       omega (arith, ends, size, p)
 
-  fits : place + 128 ≤ length image
+  pub fits : place + 128 ≤ length image
   fits = ⊎_elim
       (λ (past : length image < place + 128).
       let z = zeros_past image place 128 past in

@@ -4,12 +4,14 @@
 
 mod torn;
 
-ghost use Rattle.std.specs.Prelude.{◌≡◌, ◌*◌, ℕ, List, None, length};
+ghost use Rattle.std.specs.Prelude.{◌≡◌, ◌*◌, ℕ, List, None, Some, length};
 ghost use Rattle.coffee_cuts.specs.Cuts.{MendsTo};
 ghost use Rattle.coffee_cuts.specs.Mending.{MendsToTable};
+ghost use Rattle.coffee_cuts.specs.Shown.{Shows};
 ghost use Rattle.coffee_layout.specs.Files.{NamedFile, files_of};
 ghost use Rattle.coffee_layout.specs.Rules.{broken_image};
 ghost use Rattle.coffee_layout.specs.declared.file.FileAt.{FileAt};
+ghost use Rattle.coffee_layout.specs.declared.unit.BadImage.{BadImage};
 ghost use Rattle.coffee_merge.specs.Holding.{Entries, IsIn};
 ghost use Rattle.coffee_merge.specs.TableFiles.{file_of};
 
@@ -35,4 +37,10 @@ pub fn cut_images_mend_to_one_list()
     ensures tables { (image first second : List ℕ) (table other : Entries) (sectors : ℕ) → length image ≡ 4096 * sectors
         → MendsToTable image first table → MendsToTable image second other
         → (i : ℕ) (e : FileAt) → IsIn table i e → (k : ℕ) × (f : FileAt) × IsIn other k f × (file_of first e ≡ file_of second f) }
+{}
+
+/// The first rule that an image breaks which a cut left, and its place, show what was under way.
+pub fn first_rules_show_what_was_under_way()
+    ensures { (image : List ℕ) (files : List NamedFile) (bad : BadImage) (sectors : ℕ) → length image ≡ 4096 * sectors
+        → broken_image image ≡ Some bad → (m : MendsTo image files) → Shows image bad m.under_way }
 {}

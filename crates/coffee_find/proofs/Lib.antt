@@ -2,3 +2,6 @@ mod FilesThere
 mod Insides
 mod UnitWalks
 mod ZeroPages
+pub mod NotZero
+pub mod Missed
+pub mod WithLogs

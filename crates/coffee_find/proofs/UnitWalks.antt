@@ -1,5 +1,5 @@
 -- A walk over the units of an image that may break any rule.
-use Rattle.std.proofs.Common.{◌≡◌, ⊎_elim, ℕ, zero, suc, ◌+◌, ◌*◌, ◌≤◌, ◌<◌, false, List, [], ◌∷◌, ◌++◌, get_or, Some, refl, ap, sym, subst, ◌∙◌, arith, append_assoc}
+use Rattle.std.proofs.Common.{◌≡◌, ⊎_elim, ℕ, zero, suc, ◌+◌, ◌*◌, ◌≤◌, ◌<◌, ◌≢◌, Option, None, false, List, [], ◌∷◌, ◌++◌, get_or, Some, refl, ap, sym, subst, ◌∙◌, arith, append_assoc}
 use Rattle.std.proofs.lemmas.Bool.{cases_lt}
 use Rattle.std.proofs.lemmas.List.{append-nil}
 use Rattle.coffee_cuts.specs.Cuts.{IsIdle}
@@ -10,8 +10,9 @@ use Rattle.coffee_layout.specs.declared.unit.Unit.{Unit}
 use Rattle.coffee_layout.proofs.Frames.{total-append}
 use Rattle.coffee_layout.proofs.MarkLaws.{mark_past}
 use Rattle.coffee_layout.proofs.Tilings.{units_end, units_step}
+use Rattle.coffee_cuts.proofs.Reached.{begun_past, no_unit, same_unit, units_stop}
 use Rattle.coffee_merge.specs.Begun.{unit_begun}
-use Rattle.coffee_merge.proofs.Begun.{HavePages, begun_here, begun_marks, begun_rest}
+use Rattle.coffee_merge.proofs.Begun.{HavePages, begun_here, begun_marks, begun_rest, begun_there}
 use Rattle.coffee_space.proofs.SectorMarks.{any_none}
 use Rattle.coffee_find.specs.Search.{AreIdle}
 
@@ -91,3 +92,61 @@ quiet_end image sector at behind w =
     (λ (less : q < at). w.quiet q less a b)
     (λ (past : at ≤ q). mark_past is_active (units_of image) q (omega (arith, pages, past)))
     (cases_lt q at))
+
+-- ---- pages to which the walk does not come
+
+none_of : (o : Option Unit) → ((u : Unit) → o ≡ Some u → ⊥) → o ≡ None
+none_of None f = refl
+none_of (Some u) f = absurd (f u refl)
+
+-- what begins at a page begins in what is left of the walk, where the page is not in front
+pub walked_rest : (image : List ℕ) (at page : ℕ) → at ≤ page → (w : Walked image at) → unit_begun (units_of image) 0 page ≡ unit_begun (units_from w.turns image at) at page
+walked_rest image at page low w =
+    let place = w.place in
+    ap (λ us. unit_begun us 0 page) w.whole ∙ begun_rest w.front (units_from w.turns image at) 0 at page w.pages (omega (arith, place)) low
+
+-- a walk that stands where no unit begins comes no further
+pub walk_stops : (image : List ℕ) (at page : ℕ) → at ≤ page → unit_at image at ≡ None → Walked image at → unit_begun (units_of image) 0 page ≡ None
+walk_stops image at page low none w = walked_rest image at page low w ∙ by_turns w.turns
+  where
+    by_turns : (n : ℕ) → unit_begun (units_from n image at) at page ≡ None
+    by_turns zero = refl
+    by_turns (suc n) = ⊎_elim
+        (λ (before : at < pages_of image). ap (λ us. unit_begun us at page) (units_stop n image at before none))
+        (λ (behind : pages_of image ≤ at). ap (λ us. unit_begun us at page) (units_end (suc n) image at behind))
+        (cases_lt at (pages_of image))
+
+-- nor one that has come to the end
+pub walk_ends : (image : List ℕ) (at page : ℕ) → pages_of image ≤ at → at ≤ page → Walked image at → unit_begun (units_of image) 0 page ≡ None
+walk_ends image at page behind low w = walked_rest image at page low w ∙ ap (λ us. unit_begun us at page) (units_end w.turns image at behind)
+
+-- nor one that stands at a unit which has no page, or ends behind the flash
+stuck : (n : ℕ) (image : List ℕ) (at page : ℕ) (u : Unit) → at < pages_of image → at ≢ page → unit_at image at ≡ Some u → size_of u ≡ 0 → unit_begun (units_from n image at) at page ≡ None
+stuck zero image at page u before other is none = refl
+stuck (suc n) image at page u before other is none =
+    let back : at + size_of u ≡ at = omega (arith, none) in
+    ap (λ us. unit_begun us at page) (units_step n image at u before is) ∙ begun_there u (units_from n image (at + size_of u)) at page other
+    ∙ ap (λ k. unit_begun (units_from n image k) k page) back ∙ stuck n image at page u before other is none
+
+past : (n : ℕ) (image : List ℕ) (at page : ℕ) (u : Unit) → at < pages_of image → at ≢ page → unit_at image at ≡ Some u → pages_of image < at + size_of u → unit_begun (units_from n image at) at page ≡ None
+past zero image at page u before other is far = refl
+past (suc n) image at page u before other is far =
+    ap (λ us. unit_begun us at page) (units_step n image at u before is) ∙ begun_there u (units_from n image (at + size_of u)) at page other
+    ∙ ap (λ us. unit_begun us (at + size_of u) page) (units_end n image (at + size_of u) (omega (arith, far)))
+
+pub walk_stuck : (image : List ℕ) (at page : ℕ) (u : Unit) → at < pages_of image → at ≤ page → at ≢ page → unit_at image at ≡ Some u → (1 ≤ size_of u → pages_of image < at + size_of u) → Walked image at
+    → unit_begun (units_of image) 0 page ≡ None
+walk_stuck image at page u before low other is far w = walked_rest image at page low w ∙ ⊎_elim
+    (λ (none : size_of u < 1). stuck w.turns image at page u before other is (omega (arith, none)))
+    (λ (some : 1 ≤ size_of u). past w.turns image at page u before other is (far some))
+    (cases_lt (size_of u) 1)
+
+-- a page that was passed begins no unit
+pub walk_passed : (image : List ℕ) (at next page : ℕ) (u : Unit) → at < pages_of image → at < page → page < next → next ≡ at + size_of u → unit_at image at ≡ Some u → Walked image at → unit_begun (units_of image) 0 page ≡ None
+walk_passed image at next page u before low less is_next is w = walked_rest image at page (omega (arith, low)) w ∙ by_turns w.turns
+  where
+    by_turns : (n : ℕ) → unit_begun (units_from n image at) at page ≡ None
+    by_turns zero = refl
+    by_turns (suc n) =
+        ap (λ us. unit_begun us at page) (units_step n image at u before is) ∙ begun_there u (units_from n image (at + size_of u)) at page (λ e. absurd (omega (arith, e, low)))
+        ∙ begun_past (units_from n image (at + size_of u)) (at + size_of u) page (omega (arith, less, is_next))

@@ -1,13 +1,17 @@
 -- What the steps of the search answer.
-use Rattle.std.specs.Prelude.{◌≡◌, ◌≤◌, ◌<◌, ⊤, ℕ, ◌+◌, ◌*◌, true, false, List, Option, Some, None}
+use Rattle.std.specs.Prelude.{slice_range, ◌/◌, ◌≡◌, ◌≢◌, ◌⊎◌, ◌≤◌, ◌<◌, ⊤, ℕ, ◌+◌, ◌*◌, true, false, List, Option, Some, None}
 use Rattle.std.specs.List.{Contains}
-use Rattle.coffee_cuts.specs.Cuts.{IsActiveAt, IsIdle, next_record}
+use Rattle.coffee_cuts.specs.Cuts.{HasTornRecord, IsActiveAt, IsIdle, IsSettled, next_record}
 use Rattle.coffee_header.specs.declared.header.Header.{Header}
 use Rattle.coffee_layout.specs.FileBytes.{table_of, used_in}
-use Rattle.coffee_layout.specs.Files.{files_in, is_file}
+use Rattle.coffee_layout.specs.Files.{files_in, is_file, log_of}
+use Rattle.afl_base.specs.declared.ids.PageId.{PageId}
+use Rattle.coffee_find.specs.declared.trouble.UnderWay.{UnderWay}
+use Rattle.coffee_find.specs.declared.trouble.UnderWay.TheVariants.{Nothing, Beginning, Building, Erasing, Unnamed, Naming, Replacing}
 use Rattle.coffee_layout.specs.Rules.{broken_image}
 use Rattle.coffee_layout.specs.Tiling.{units_of}
-use Rattle.coffee_layout.specs.Units.{is_active}
+use Rattle.coffee_layout.specs.Units.{is_active, unit_at}
+use Rattle.padded.specs.Zeros.{is_zeros}
 use Rattle.coffee_layout.specs.declared.unit.Unit.{Unit}
 use Rattle.coffee_layout.specs.declared.unit.Unit.TheVariants.{Extent, Free}
 use Rattle.coffee_merge.specs.Begun.{unit_begun}
@@ -74,3 +78,32 @@ pub record IsEmpty (u : Unit) : Type 0 where
 abbrev pub IsWanted : Option (List ℕ) → List ℕ → Type 0
 IsWanted None name = ⊤
 IsWanted (Some wanted) name = name ≡ wanted
+
+-- a unit is none of an extent under construction, a file without a log, or a log
+abbrev pub IsOfOthers : Unit → Type 0
+IsOfOthers u = (h : Header) → u ≡ Extent h → (h.flags ≢ 2) × (h.flags ≢ 3) × (h.flags ≢ 19)
+
+-- no such one begins at a page
+abbrev pub ShowsNoHeader : List ℕ → ℕ → Type 0
+ShowsNoHeader image page = (flags : ℕ) → (flags ≡ 2) ⊎ ((flags ≡ 3) ⊎ (flags ≡ 19)) → IsActiveAt image page flags → ⊥
+
+-- no unit begins at a page, and all behind it in its sector is zero
+pub record IsTornHead (image : List ℕ) (page : ℕ) : Type 0 where
+  pub torn : unit_at image page ≡ None
+  pub last : is_zeros (slice_range image (256 * page + 256) (4096 * (page / 16) + 4096)) ≡ true
+
+-- what a verdict leaves open: of an image that breaks a rule the record of no other log may be torn, and of which nothing is known is not settled
+abbrev pub MissesNone : List ℕ → Verdict → Type 0
+MissesNone image Sound = ⊤
+MissesNone image (Torn r) = (broken_image image ≢ None) × ((t : HasTornRecord image) → t.log ≡ r.log.0)
+MissesNone image Broken = IsSettled image → ⊥
+
+-- the log of an old extent is an active one
+abbrev pub NamesActiveLog : List ℕ → UnderWay → Type 0
+NamesActiveLog image Nothing = ⊤
+NamesActiveLog image (Beginning page) = ⊤
+NamesActiveLog image (Building page) = ⊤
+NamesActiveLog image (Erasing sector page) = ⊤
+NamesActiveLog image (Unnamed log) = ⊤
+NamesActiveLog image (Naming page) = ⊤
+NamesActiveLog image (Replacing old new) = (l : PageId) → log_of old.header ≡ Some l → IsActiveAt image l.0 19

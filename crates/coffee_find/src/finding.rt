@@ -1,7 +1,8 @@
-ghost use Rattle.std.specs.Prelude.{◌≡◌, ℕ, ◌+◌, ◌*◌, ◌≤◌, List, length, Some, IsTrue, IfOk, IfSome};
+ghost use Rattle.std.specs.Prelude.{◌≡◌, ℕ, ◌+◌, ◌*◌, ◌≤◌, List, length, Some, IsTrue, IfNone, IfOk, IfSome};
 ghost use Rattle.afl_base.specs.Keeping.{OnlyReads};
 ghost use Rattle.coffee_cuts.specs.Cuts.{IsFound};
 ghost use Rattle.coffee_find.specs.Found.{HasPage, IsInFlash, meant};
+ghost use Rattle.coffee_find.specs.Search.{IsOfOthers, ShowsNoHeader};
 ghost use Rattle.coffee_layout.specs.Tiling.{units_of};
 ghost use Rattle.coffee_layout.specs.Units.{pages_of};
 ghost use Rattle.coffee_merge.specs.Begun.{unit_begun};
@@ -38,7 +39,7 @@ pub(crate) fn find<F: Flash>(
     ensures found { IsTrue F.tells → IfOk result.1
         (λ o. IfSome o (λ u. IsFound (F.image flash) (meant u))) }
     ensures inside { IfOk result.1 (λ o. IfSome o (λ u. IsInFlash (length (F.image flash)) u)) }
-    ensures reads { F.reads result.0 ≤ F.reads flash + 66 * pages_of (F.image flash) + 18 }
+    ensures reads { F.reads result.0 ≤ F.reads flash + 67 * pages_of (F.image flash) + 18 }
     ensures frame { OnlyReads F.image F.lent F.reads F.faults flash result.0 result.1 }
 {
     let mut flash = flash;
@@ -61,6 +62,7 @@ pub(crate) fn find<F: Flash>(
 fn find_header<F: Flash>(flash: &mut F, page: PageId) -> Result<Option<UnderWay>, Failed>
     ensures found { IsTrue F.tells → IfOk result
         (λ o. IfSome o (λ u. IsFound (F.image flash.old) (meant u))) }
+    ensures none { IsTrue F.tells → IfOk result (λ o. IfNone o (ShowsNoHeader (F.image flash.old) page.0)) }
     ensures inside { IfOk result (λ o. IfSome o (λ u. IsInFlash (length (F.image flash.old)) u)) }
     ensures reads { F.reads flash.new ≤ F.reads flash.old + pages_of (F.image flash.old) }
     ensures frame { OnlyReads F.image F.lent F.reads F.faults flash.old flash.new result }
@@ -74,6 +76,7 @@ fn find_header<F: Flash>(flash: &mut F, page: PageId) -> Result<Option<UnderWay>
 fn by_unit(page: PageId, unit: &Unit) -> Option<UnderWay>
     ensures found { IfSome result (λ u. (image : List ℕ)
         → unit_begun (units_of image) 0 page.0 ≡ Some unit.now → IsFound image (meant u)) }
+    ensures none { IfNone result (IsOfOthers unit.now) }
     ensures inside { IfSome result (λ u. (size : ℕ) → HasPage size page.0 → IsInFlash size u) }
 {
     match unit {

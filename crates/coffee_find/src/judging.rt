@@ -38,7 +38,7 @@ fn judge_broken<F: Flash>(
     ensures judged { IsTrue F.tells → broken_image (F.image flash) ≡ Some bad
         → IfOk result.1 (λ j. IsJudged (F.image flash) j) }
     ensures inside { IfOk result.1 (λ j. IsJudgedInside (length (F.image flash)) j) }
-    ensures reads { F.reads result.0 ≤ F.reads flash + 2604 * pages_of (F.image flash) + 60 }
+    ensures reads { F.reads result.0 ≤ F.reads flash + 2607 * pages_of (F.image flash) + 60 }
     ensures frame { OnlyReads F.image F.lent F.reads F.faults flash result.0 result.1 }
 {
     let (flash, found) = search(flash, &bad, table);
@@ -57,7 +57,7 @@ fn search<F: Flash>(
 ) -> (F, Result<Option<Trouble>, Failed>)
     ensures found { IsTrue F.tells → IfOk result.1 (λ o. IfSome o (λ t. IsCutBy (F.image flash) t)) }
     ensures inside { IfOk result.1 (λ o. IfSome o (λ t. IsTroubleInside (length (F.image flash)) t)) }
-    ensures reads { F.reads result.0 ≤ F.reads flash + 2604 * pages_of (F.image flash) + 60 }
+    ensures reads { F.reads result.0 ≤ F.reads flash + 2607 * pages_of (F.image flash) + 60 }
     ensures frame { OnlyReads F.image F.lent F.reads F.faults flash result.0 result.1 }
 {
     let page = PageId(bad.place);
@@ -65,7 +65,7 @@ fn search<F: Flash>(
         1 => search_head(flash, page, table),
         2 | 3 | 4 => search_for(flash, Guess::Erased, page, table),
         5 | 6 => search_for(flash, Guess::Replaced, page, table),
-        8 | 9 => search_for(flash, Guess::Header, page, table),
+        7 | 8 | 9 => search_for(flash, Guess::Header, page, table),
         12 => search_for(flash, Guess::Nothing, page, table),
         _ => (flash, Ok(None)),
     }
@@ -80,7 +80,7 @@ fn search_head<F: Flash>(
 ) -> (F, Result<Option<Trouble>, Failed>)
     ensures found { IsTrue F.tells → IfOk result.1 (λ o. IfSome o (λ t. IsCutBy (F.image flash) t)) }
     ensures inside { IfOk result.1 (λ o. IfSome o (λ t. IsTroubleInside (length (F.image flash)) t)) }
-    ensures reads { F.reads result.0 ≤ F.reads flash + 2604 * pages_of (F.image flash) + 60 }
+    ensures reads { F.reads result.0 ≤ F.reads flash + 2607 * pages_of (F.image flash) + 60 }
     ensures frame { OnlyReads F.image F.lent F.reads F.faults flash result.0 result.1 }
 {
     let (flash, found) = search_for(flash, Guess::Header, page, table);
@@ -103,7 +103,7 @@ fn search_for<F: Flash>(
 ) -> (F, Result<Option<Trouble>, Failed>)
     ensures found { IsTrue F.tells → IfOk result.1 (λ o. IfSome o (λ t. IsCutBy (F.image flash) t)) }
     ensures inside { IfOk result.1 (λ o. IfSome o (λ t. IsTroubleInside (length (F.image flash)) t)) }
-    ensures reads { F.reads result.0 ≤ F.reads flash + 868 * pages_of (F.image flash) + 20 }
+    ensures reads { F.reads result.0 ≤ F.reads flash + 869 * pages_of (F.image flash) + 20 }
     ensures frame { OnlyReads F.image F.lent F.reads F.faults flash result.0 result.1 }
 {
     let (flash, found) = find(flash, guess, page);

@@ -1,9 +1,9 @@
-ghost use Rattle.std.specs.Prelude.{◌≡◌, ℕ, ◌+◌, ◌*◌, ◌≤◌, true, length, Some, None, IsTrue, IfOk, IfSome};
+ghost use Rattle.std.specs.Prelude.{◌≡◌, ℕ, ◌+◌, ◌*◌, ◌≤◌, true, false, length, Some, None, IsTrue, IfNone, IfOk, IfSome};
 ghost use Rattle.afl_base.specs.Keeping.{OnlyReads};
 ghost use Rattle.afl_base.specs.Image.{zeros_at};
-ghost use Rattle.coffee_cuts.specs.Cuts.{IsActiveAt, settled};
+ghost use Rattle.coffee_cuts.specs.Cuts.{IsActiveAt, IsSettled, settled};
 ghost use Rattle.coffee_find.specs.Found.{HasPage, HasRecord, IsSoundBut, IsInFlash, IsTroubleInside, meant};
-ghost use Rattle.coffee_find.specs.Search.{HasFlags, HasTorn, IsVerdict};
+ghost use Rattle.coffee_find.specs.Search.{HasFlags, HasTorn, IsVerdict, MissesNone};
 ghost use Rattle.coffee_layout.specs.Rules.{broken_image};
 ghost use Rattle.coffee_layout.specs.Units.{is_active_flags, pages_of};
 ghost use Rattle.flash_views.specs.Views.{blanked};
@@ -28,10 +28,12 @@ pub(crate) enum Verdict {
 // Judges an image, and says which record may be torn where rule 12 is the first that is broken.
 pub(crate) fn judged<F: Flash>(flash: &mut F, table: &mut Table) -> Result<Verdict, Failed>
     ensures verdict { IsTrue F.tells → IfOk result (λ v. IsVerdict (F.image flash.old) v) }
+    ensures misses { IsTrue F.tells → IfOk result (λ v. MissesNone (F.image flash.old) v) }
     ensures inside { IfOk result (λ v. HasTorn (length (F.image flash.old)) v) }
     ensures reads { F.reads flash.new ≤ F.reads flash.old + 401 * pages_of (F.image flash.old) + 1 }
     ensures frame { OnlyReads F.image F.lent F.reads F.faults flash.old flash.new result }
 {
+    flash.sectors();
     match check(flash, table)? {
         Ok(()) => Ok(Verdict::Sound),
         Err(bad) => if bad.rule == 12 {
@@ -45,10 +47,13 @@ pub(crate) fn judged<F: Flash>(flash: &mut F, table: &mut Table) -> Result<Verdi
 // The next record of the active log that begins at a page.
 fn torn_record<F: Flash>(flash: &mut F, log: PageId) -> Result<Verdict, Failed>
     ensures verdict { IsTrue F.tells → IfOk result (λ v. IsVerdict (F.image flash.old) v) }
+    ensures misses { IsTrue F.tells → broken_image (F.image flash.old) ≡ Some (record { rule = 12; place = log.0 })
+        → IfOk result (λ v. MissesNone (F.image flash.old) v) }
     ensures inside { IfOk result (λ v. HasTorn (length (F.image flash.old)) v) }
     ensures reads { F.reads flash.new ≤ F.reads flash.old + pages_of (F.image flash.old) + 1 }
     ensures frame { OnlyReads F.image F.lent F.reads F.faults flash.old flash.new result }
 {
+    flash.sectors();
     if !is_active_at(flash, log, 19)? {
         return Ok(Verdict::Broken);
     }
@@ -64,10 +69,12 @@ fn torn_record<F: Flash>(flash: &mut F, log: PageId) -> Result<Verdict, Failed>
 }
 
 // Whether an active extent with these flags begins at a page.
-fn is_active_at<F: Flash>(flash: &mut F, page: PageId, flags: u8) -> Result<bool, Failed>
+pub(crate) fn is_active_at<F: Flash>(flash: &mut F, page: PageId, flags: u8) -> Result<bool, Failed>
     requires active { is_active_flags flags ≡ true }
     ensures active { IsTrue F.tells → IfOk result
         (λ r. r ≡ true → IsActiveAt (F.image flash.old) page.0 flags) }
+    ensures none { IsTrue F.tells → IfOk result
+        (λ r. r ≡ false → IsActiveAt (F.image flash.old) page.0 flags → ⊥) }
     ensures inside { IfOk result (λ r. r ≡ true → HasPage (length (F.image flash.old)) page.0) }
     ensures reads { F.reads flash.new ≤ F.reads flash.old + pages_of (F.image flash.old) }
     ensures frame { OnlyReads F.image F.lent F.reads F.faults flash.old flash.new result }
@@ -80,7 +87,8 @@ fn is_active_at<F: Flash>(flash: &mut F, page: PageId, flags: u8) -> Result<bool
 
 // Whether a unit is an extent with these flags.
 fn has_flags(unit: &Unit, flags: u8) -> bool
-    ensures { result ≡ true → HasFlags unit.now flags }
+    ensures yes { result ≡ true → HasFlags unit.now flags }
+    ensures no { result ≡ false → HasFlags unit.now flags → ⊥ }
 {
     match unit {
         Unit::Free => false,
@@ -100,6 +108,8 @@ fn settled_verdict<F: Flash>(
     requires blank { (p : ℕ) → blank ≡ Some p → p + 128 ≤ length (F.image flash) }
     ensures verdict { IsTrue F.tells → IfOk result.1
         (λ v. IsVerdict (blanked (settled (F.image flash) (meant under_way.now)) blank) v) }
+    ensures misses { IsTrue F.tells → IfOk result.1
+        (λ v. MissesNone (blanked (settled (F.image flash) (meant under_way.now)) blank) v) }
     ensures inside { IfOk result.1 (λ v. HasTorn (length (F.image flash)) v) }
     ensures reads { F.reads result.0 ≤ F.reads flash + 401 * pages_of (F.image flash) + 1 }
     ensures frame { OnlyReads F.image F.lent F.reads F.faults flash result.0 result.1 }
@@ -119,6 +129,8 @@ pub(crate) fn settle<F: Flash>(
     requires lies { IsInFlash (length (F.image flash)) under_way }
     ensures settles { IsTrue F.tells → IfOk result.1 (λ o. IfSome o
         (λ t. (t.under_way ≡ under_way) × IsSoundBut (settled (F.image flash) (meant under_way)) t.torn)) }
+    ensures none { IsTrue F.tells → IfOk result.1 (λ o. IfNone o
+        (IsSettled (settled (F.image flash) (meant under_way)) → ⊥)) }
     ensures inside { IfOk result.1 (λ o. IfSome o (λ t. IsTroubleInside (length (F.image flash)) t)) }
     ensures reads { F.reads result.0 ≤ F.reads flash + 802 * pages_of (F.image flash) + 2 }
     ensures frame { OnlyReads F.image F.lent F.reads F.faults flash result.0 result.1 }
@@ -149,6 +161,8 @@ fn settle_torn<F: Flash>(
     requires inside { HasRecord (length (F.image flash)) (Some torn) }
     ensures settles { IsTrue F.tells → IfOk result.1 (λ o. IfSome o
         (λ t. broken_image (zeros_at (settled (F.image flash) (meant under_way)) torn.place 128) ≡ None)) }
+    ensures none { IsTrue F.tells → IfOk result.1 (λ o. IfNone o
+        (broken_image (zeros_at (settled (F.image flash) (meant under_way)) torn.place 128) ≡ None → ⊥)) }
     ensures is { IfOk result.1 (λ o. IfSome o (λ t. t ≡ record { under_way = under_way; torn = Some torn })) }
     ensures reads { F.reads result.0 ≤ F.reads flash + 401 * pages_of (F.image flash) + 1 }
     ensures frame { OnlyReads F.image F.lent F.reads F.faults flash result.0 result.1 }

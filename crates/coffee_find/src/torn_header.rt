@@ -1,6 +1,7 @@
-ghost use Rattle.std.specs.Prelude.{◌≡◌, ℕ, ◌+◌, ◌*◌, ◌/◌, ◌≤◌, ◌<◌, true, length, Some, None, IsTrue, IfOk, IfSome, slice_range};
+ghost use Rattle.std.specs.Prelude.{◌≡◌, ℕ, ◌+◌, ◌*◌, ◌/◌, ◌≤◌, ◌<◌, true, false, length, Some, None, IsTrue, IfNone, IfOk, IfSome, slice_range};
 ghost use Rattle.afl_base.specs.Keeping.{OnlyReads};
-ghost use Rattle.coffee_cuts.specs.Cuts.{IsFound};
+ghost use Rattle.coffee_cuts.specs.Cuts.{IsFound, IsTornHeader};
+ghost use Rattle.coffee_find.specs.Search.{IsTornHead};
 ghost use Rattle.coffee_find.specs.Found.{HasPage, IsInFlash, meant};
 ghost use Rattle.coffee_find.specs.declared.trouble.UnderWay.TheVariants.{Beginning};
 ghost use Rattle.coffee_layout.specs.Tiling.{units_of};
@@ -24,6 +25,8 @@ pub(crate) fn find_torn_header<F: Flash>(
 ) -> (F, Result<Option<UnderWay>, Failed>)
     ensures found { IsTrue F.tells → IfOk result.1
         (λ o. IfSome o (λ u. IsFound (F.image flash) (meant u))) }
+    ensures none { IsTrue F.tells → IfOk result.1
+        (λ o. IfNone o (HasPage (length (F.image flash)) page.0 → IsTornHeader (F.image flash) page.0 → ⊥)) }
     ensures inside { IfOk result.1 (λ o. IfSome o (λ u. IsInFlash (length (F.image flash)) u)) }
     ensures reads { F.reads result.0 ≤ F.reads flash + pages_of (F.image flash) + 17 }
     ensures frame { OnlyReads F.image F.lent F.reads F.faults flash result.0 result.1 }
@@ -41,6 +44,8 @@ fn is_torn_head<F: Flash>(flash: &mut F, page: PageId) -> Result<bool, Failed>
     ensures torn { IsTrue F.tells → IfOk result (λ r. r ≡ true → unit_at (F.image flash.old) page.0 ≡ None) }
     ensures last { IsTrue F.tells → IfOk result (λ r. r ≡ true
         → is_zeros (slice_range (F.image flash.old) (256 * page.0 + 256) (4096 * (page.0 / 16) + 4096)) ≡ true) }
+    ensures none { IsTrue F.tells → IfOk result (λ r. r ≡ false → HasPage (length (F.image flash.old)) page.0
+        → IsTornHead (F.image flash.old) page.0 → ⊥) }
     ensures inside { IfOk result (λ r. r ≡ true → HasPage (length (F.image flash.old)) page.0) }
     ensures reads { F.reads flash.new ≤ F.reads flash.old + 17 }
     ensures frame { OnlyReads F.image F.lent F.reads F.faults flash.old flash.new result }
@@ -58,6 +63,8 @@ fn is_torn_head<F: Flash>(flash: &mut F, page: PageId) -> Result<bool, Failed>
 fn find_isolated<F: Flash>(flash: F, page: PageId) -> (F, Result<Option<UnderWay>, Failed>)
     ensures found { IsTrue F.tells → IfOk result.1 (λ o. IfSome o
         (λ u. unit_begun (units_of (flagged (F.image flash) page.0 34)) 0 page.0 ≡ Some Isolated)) }
+    ensures none { IsTrue F.tells → IfOk result.1 (λ o. IfNone o
+        (unit_begun (units_of (flagged (F.image flash) page.0 34)) 0 page.0 ≡ Some Isolated → ⊥)) }
     ensures is { IfOk result.1 (λ o. IfSome o (λ u. u ≡ Beginning page)) }
     ensures reads { F.reads result.0 ≤ F.reads flash + pages_of (F.image flash) }
     ensures frame { OnlyReads F.image F.lent F.reads F.faults flash result.0 result.1 }
@@ -74,6 +81,8 @@ fn find_isolated<F: Flash>(flash: F, page: PageId) -> (F, Result<Option<UnderWay
 fn is_isolated<F: Flash>(flash: F, page: PageId) -> (F, Result<bool, Failed>)
     ensures isolated { IsTrue F.tells → IfOk result.1 (λ r. r ≡ true
         → unit_begun (units_of (flagged (F.image flash) page.0 34)) 0 page.0 ≡ Some Isolated) }
+    ensures none { IsTrue F.tells → IfOk result.1 (λ r. r ≡ false
+        → unit_begun (units_of (flagged (F.image flash) page.0 34)) 0 page.0 ≡ Some Isolated → ⊥) }
     ensures reads { F.reads result.0 ≤ F.reads flash + pages_of (F.image flash) }
     ensures frame { OnlyReads F.image F.lent F.reads F.faults flash result.0 result.1 }
 {
@@ -92,6 +101,8 @@ fn is_isolated<F: Flash>(flash: F, page: PageId) -> (F, Result<bool, Failed>)
 fn begins_isolated<F: Flash>(flash: &mut F, page: PageId) -> Result<bool, Failed>
     ensures isolated { IsTrue F.tells → IfOk result
         (λ r. r ≡ true → unit_begun (units_of (F.image flash.old)) 0 page.0 ≡ Some Isolated) }
+    ensures none { IsTrue F.tells → IfOk result
+        (λ r. r ≡ false → unit_begun (units_of (F.image flash.old)) 0 page.0 ≡ Some Isolated → ⊥) }
     ensures reads { F.reads flash.new ≤ F.reads flash.old + pages_of (F.image flash.old) }
     ensures frame { OnlyReads F.image F.lent F.reads F.faults flash.old flash.new result }
 {
@@ -102,7 +113,8 @@ fn begins_isolated<F: Flash>(flash: &mut F, page: PageId) -> Result<bool, Failed
 }
 
 fn is_isolated_page(unit: &Unit) -> bool
-    ensures { result ≡ true → unit.now ≡ Isolated }
+    ensures yes { result ≡ true → unit.now ≡ Isolated }
+    ensures no { result ≡ false → unit.now ≡ Isolated → ⊥ }
 {
     match unit {
         Unit::Free => false,

@@ -1,12 +1,14 @@
-ghost use Rattle.std.specs.Prelude.{◌≡◌, ℕ, ◌+◌, ◌*◌, ◌≤◌, ◌<◌, true, List, length, IsTrue, IfOk, IfSome};
+ghost use Rattle.std.specs.Prelude.{◌≡◌, ℕ, ◌+◌, ◌*◌, ◌≤◌, ◌<◌, true, List, length, Some, IsTrue, IfOk, IfSome};
+ghost use Rattle.afl_base.specs.declared.ids.PageId.{PageId};
 ghost use Rattle.afl_base.specs.Keeping.{OnlyReads};
-ghost use Rattle.coffee_cuts.specs.Cuts.{IsFound};
+ghost use Rattle.coffee_cuts.specs.Cuts.{IsActiveAt, IsFound};
 ghost use Rattle.coffee_find.specs.Found.{HasPage, IsInFlash, meant};
-ghost use Rattle.coffee_find.specs.Search.{IsFileAt, IsFileIn, IsWanted};
+ghost use Rattle.coffee_find.specs.Search.{IsFileAt, IsFileIn, IsWanted, NamesActiveLog};
 ghost use Rattle.coffee_find.specs.declared.trouble.UnderWay.TheVariants.{Replacing};
-ghost use Rattle.coffee_layout.specs.Files.{is_file};
+ghost use Rattle.coffee_layout.specs.Files.{is_file, log_of};
 ghost use Rattle.coffee_layout.specs.Units.{pages_of};
 
+use crate::settling::is_active_at;
 use crate::trouble::{PlacedFile, UnderWay};
 use crate::walks::onward;
 use afl_base::{Failed, Flash, Name, PageId};
@@ -18,7 +20,7 @@ pub(crate) fn find_replaced<F: Flash>(flash: &mut F) -> Result<Option<UnderWay>,
     ensures found { IsTrue F.tells → IfOk result
         (λ o. IfSome o (λ u. IsFound (F.image flash.old) (meant u))) }
     ensures inside { IfOk result (λ o. IfSome o (λ u. IsInFlash (length (F.image flash.old)) u)) }
-    ensures reads { F.reads flash.new ≤ F.reads flash.old + 66 * pages_of (F.image flash.old) }
+    ensures reads { F.reads flash.new ≤ F.reads flash.old + 67 * pages_of (F.image flash.old) }
     ensures frame { OnlyReads F.image F.lent F.reads F.faults flash.old flash.new result }
 {
     let pages = 16 * flash.sectors();
@@ -28,11 +30,46 @@ pub(crate) fn find_replaced<F: Flash>(flash: &mut F) -> Result<Option<UnderWay>,
             return Ok(None);
         };
         if let Some(twin) = twin_of(flash, &file)? {
-            return Ok(in_order(&file, &twin, pages));
+            return with_its_log(flash, in_order(&file, &twin, pages));
         }
         from = file.page.0 + 1;
     }
     Ok(None)
+}
+
+// What was found, where the log of an old extent is an active one.
+fn with_its_log<F: Flash>(
+    flash: &mut F,
+    found: Option<UnderWay>,
+) -> Result<Option<UnderWay>, Failed>
+    ensures same { IfOk result (λ r. IfSome r (λ u. found ≡ Some u)) }
+    ensures log { IsTrue F.tells → IfOk result (λ r. IfSome r (λ u. NamesActiveLog (F.image flash.old) u)) }
+    ensures reads { F.reads flash.new ≤ F.reads flash.old + pages_of (F.image flash.old) }
+    ensures frame { OnlyReads F.image F.lent F.reads F.faults flash.old flash.new result }
+{
+    match found {
+        Some(UnderWay::Replacing { old, new }) => {
+            if has_its_log(flash, &old.header)? {
+                Ok(Some(UnderWay::Replacing { old, new }))
+            } else {
+                Ok(None)
+            }
+        }
+        _ => Ok(None),
+    }
+}
+
+// Whether a file has no log, or an active one.
+fn has_its_log<F: Flash>(flash: &mut F, header: &Header) -> Result<bool, Failed>
+    ensures log { IsTrue F.tells → IfOk result (λ r. r ≡ true
+        → (l : PageId) → log_of header.now ≡ Some l → IsActiveAt (F.image flash.old) l.0 19) }
+    ensures reads { F.reads flash.new ≤ F.reads flash.old + pages_of (F.image flash.old) }
+    ensures frame { OnlyReads F.image F.lent F.reads F.faults flash.old flash.new result }
+{
+    if header.log_page == 0 {
+        return Ok(true);
+    }
+    is_active_at(flash, PageId(header.log_page - 1), 19)
 }
 
 // The first active file behind one that has its name.
@@ -125,7 +162,7 @@ fn is_wanted(name: &Name, wanted: &Option<Name>) -> bool
 fn in_order(first: &PlacedFile, second: &PlacedFile, pages: u16) -> Option<UnderWay>
     ensures found { IfSome result (λ u. (image : List ℕ) → IsFileIn image first.now → IsFileIn image second.now
         → first.now.page.0 < second.now.page.0 → first.now.header.name ≡ second.now.header.name
-        → IsFound image (meant u)) }
+        → NamesActiveLog image u → IsFound image (meant u)) }
     ensures inside { IfSome result (λ u. (size : ℕ) → size ≡ 256 * pages → HasPage size first.now.page.0
         → HasPage size second.now.page.0 → IsInFlash size u) }
 {

@@ -1,4 +1,4 @@
-ghost use Rattle.std.specs.Prelude.{◌≡◌, ℕ, ◌+◌, ◌*◌, ◌≤◌, ◌<◌, true, length, Some, IsTrue, IfOk, IfSome};
+ghost use Rattle.std.specs.Prelude.{◌≡◌, ℕ, ◌+◌, ◌*◌, ◌≤◌, ◌<◌, true, length, None, Some, IsTrue, IfNone, IfOk, IfSome};
 ghost use Rattle.afl_base.specs.Keeping.{OnlyReads};
 ghost use Rattle.coffee_cuts.specs.Cuts.{IsIdle};
 ghost use Rattle.coffee_find.specs.Found.{HasPage};
@@ -15,6 +15,8 @@ use coffee_layout::{Unit, next_unit};
 pub(crate) fn begun<F: Flash>(flash: &mut F, page: PageId) -> Result<Option<Unit>, Failed>
     ensures begun { IsTrue F.tells → IfOk result (λ r. IfSome r
         (λ u. unit_begun (units_of (F.image flash.old)) 0 page.0 ≡ Some u)) }
+    ensures none { IsTrue F.tells → IfOk result (λ r. IfNone r
+        (unit_begun (units_of (F.image flash.old)) 0 page.0 ≡ None)) }
     ensures inside { IfOk result (λ r. IfSome r (λ u. HasPage (length (F.image flash.old)) page.0)) }
     ensures reads { F.reads flash.new ≤ F.reads flash.old + pages_of (F.image flash.old) }
     ensures frame { OnlyReads F.image F.lent F.reads F.faults flash.old flash.new result }
@@ -38,7 +40,8 @@ pub(crate) fn begun<F: Flash>(flash: &mut F, page: PageId) -> Result<Option<Unit
 
 // The page behind a unit, None where it has no page or ends behind the flash.
 pub(crate) fn onward(page: u16, unit: &Unit, pages: u16) -> Option<u16>
-    ensures { IfSome result (λ n. (n ≡ page + size_of unit.now) × (page < n) × (n ≤ pages)) }
+    ensures next { IfSome result (λ n. (n ≡ page + size_of unit.now) × (page < n) × (n ≤ pages)) }
+    ensures none { IfNone result (1 ≤ size_of unit.now → pages < page + size_of unit.now) }
 {
     let size = unit.pages();
     if size == 0 || u32::from(pages) < u32::from(page) + u32::from(size) {

@@ -5,12 +5,12 @@ ghost use Rattle.padded.specs.Zeros.{is_zeros};
 use afl_base::{Failed, Flash, PageId};
 use padded::is_zeros;
 
-/// Whether the pages from one up to another are all zero: true only where they are.
+/// Whether the pages from one up to another are all zero.
 pub(crate) fn are_zero<F: Flash>(flash: &mut F, from: u16, to: u16) -> Result<bool, Failed>
     requires order { from ≤ to }
     requires inside { 256 * to ≤ length (F.image flash.old) }
     ensures zero { IsTrue F.tells → IfOk result
-        (λ r. r ≡ true → is_zeros (slice_range (F.image flash.old) (256 * from) (256 * to)) ≡ true) }
+        (λ r. r ≡ is_zeros (slice_range (F.image flash.old) (256 * from) (256 * to))) }
     ensures reads { F.reads flash.new + from ≤ F.reads flash.old + to }
     ensures frame { OnlyReads F.image F.lent F.reads F.faults flash.old flash.new result }
 {

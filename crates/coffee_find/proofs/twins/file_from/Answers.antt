@@ -24,7 +24,7 @@ returns-in-Some-wanted_file-clause-file g c = λ t.
 
 pub loop-at-preserved : goal.loop-at-preserved
 loop-at-preserved g c =
-    let next = c.in-Some-onward.ensures in
+    let next = c.in-Some-onward.ensures.next in
     record {
       within = next.2;
       size = c.loop-at.invariant.size;

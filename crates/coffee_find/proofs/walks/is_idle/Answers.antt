@@ -17,7 +17,7 @@ loop-at-init g c = record {
 
 pub loop-at-preserved : goal.loop-at-preserved
 loop-at-preserved g c =
-    let next = c.in-Some-onward.ensures in
+    let next = c.in-Some-onward.ensures.next in
     record {
       within = next.2;
       size = c.loop-at.invariant.size;
