@@ -7,7 +7,10 @@ import subprocess
 import time
 
 from .common import NO_FORM, ROOT, RUN, files, read, run, same, tried, write
-from .clones import BUILT, asked, begin_launch, built, copy_launcher, launch, lines_of, made, repository, without_rights
+from .clones import (
+    BUILT, asked, begin_launch, built, copy_launcher, launch, lines_of, made, repository, rows_of,
+    without_rights,
+)
 
 
 def test_the_launcher_runs_the_program_here():
@@ -77,6 +80,7 @@ def test_forms_of_the_usage_are_those_of_the_documents():
     manual = read(f"{ROOT}/docs/antelope.1").decode()
     shown = [re.sub(r"\\f[BIR]", "", it) for it in re.findall(r"^\.TP\n(\\fB\w+\\fR \\fI[A-Z].*)", manual, re.M)]
     same(shown, forms, "the forms of the manual page")
+    same(sorted(row[0].strip("| `") for row in rows_of("README.md", "command")), sorted(forms), "the forms of README.md")
 
 
 def test_what_is_wrong_with_words_of_no_form_is_told():

@@ -27,14 +27,14 @@ def drawn(image):
     return marks, [unit for it in rows for unit in it[2:] for unit in unit.split("; ")]
 
 
-def test_a_picture_is_the_one_of_the_readme():
+def test_a_picture_is_the_one_that_the_formats_show():
     run("run", "image", f"{EXAMPLES}/first.aql")
     run("run", "image", "-", script=b"CREATE INDEX readings.celsius TYPE MAXHEAP;REMOVE FROM readings WHERE minute = 0;")
     output, said, status = picture("image")
     same((said, status), ("", 0), "the end of the picture")
-    readme = [it[4:] for it in read(f"{ROOT}/README.md").decode().splitlines()]
-    at = next((at for at, it in enumerate(readme) if it.startswith("    0  CCCCCC")), len(readme))
-    shown = [it[:len(wanted)] for it, wanted in zip(readme[at:], output.splitlines())]
+    page = [it[4:] for it in read(f"{ROOT}/docs/FORMATS.md").decode().splitlines()]
+    at = next((at for at, it in enumerate(page) if it.startswith("    0  CCCCCC")), len(page))
+    shown = [it[:len(wanted)] for it, wanted in zip(page[at:], output.splitlines())]
     same("\n".join(shown) + "\n", output, "the picture")
 
 
