@@ -14,41 +14,53 @@ use crate::walks::{begun, is_idle};
 use crate::zeros::are_zero;
 use afl_base::{Failed, Flash, PageId, SectorId};
 use coffee_layout::{Unit, next_unit};
-use flash_views::{Overlay, View};
+use flash_views::{Handed, Overlay, View};
 
 /// The sector of a page, where that was being erased.
-pub(crate) fn find_erased<F: Flash>(flash: F, page: PageId) -> (F, Result<Option<UnderWay>, Failed>)
-    ensures found { IsTrue F.tells → IfOk result.1
-        (λ o. IfSome o (λ u. IsFound (F.image flash) (meant u))) }
-    ensures inside { IfOk result.1 (λ o. IfSome o (λ u. IsInFlash (length (F.image flash)) u)) }
-    ensures reads { F.reads result.0 ≤ F.reads flash + 17 * pages_of (F.image flash) + 18 }
-    ensures frame { OnlyReads F.image F.lent F.reads F.faults flash result.0 result.1 }
+pub(crate) fn find_erased<F: Flash>(flash: &mut F, page: PageId) -> Result<Option<UnderWay>, Failed>
+    ensures found { IsTrue F.tells → IfOk result
+        (λ o. IfSome o (λ u. IsFound (F.image flash.old) (meant u))) }
+    ensures inside { IfOk result (λ o. IfSome o (λ u. IsInFlash (length (F.image flash.old)) u)) }
+    ensures reads { F.reads flash.new ≤ F.reads flash.old + 17 * pages_of (F.image flash.old) + 18 }
+    ensures frame { OnlyReads F.image F.lent F.reads F.faults flash.old flash.new result }
 {
     let sector = SectorId(page.0 / 16);
     if flash.sectors() <= sector.0 {
-        return (flash, Ok(None));
+        return Ok(None);
     }
-    let (flash, front) = erased_front(flash, sector);
-    match front {
-        Ok(Some(page)) => {
-            let mut flash = flash;
-            let found = find_blank(&mut flash, sector, page);
-            (flash, found)
-        }
-        Ok(None) => (flash, Ok(None)),
-        Err(failed) => (flash, Err(failed)),
+    match erased_front(flash, sector)? {
+        Some(page) => find_blank(flash, sector, page),
+        None => Ok(None),
     }
 }
 
 // The first page of a sector at which a unit begins once the sector is erased, where no active extent
 // has a page in it then.
-fn erased_front<F: Flash>(flash: F, sector: SectorId) -> (F, Result<Option<PageId>, Failed>)
+fn erased_front<F: Flash>(flash: &mut F, sector: SectorId) -> Result<Option<PageId>, Failed>
+    requires sector { 4096 * sector.0 + 4096 ≤ length (F.image flash.old) }
+    ensures front { IsTrue F.tells → IfOk result (λ o. IfSome o
+        (λ p. IsFreeFront (zeros_at (F.image flash.old) (4096 * sector.0) 4096) sector.0 p.0)) }
+    ensures inside { IfOk result (λ o. IfSome o (λ p. LiesInSector sector.0 p.0)) }
+    ensures reads { F.reads flash.new ≤ F.reads flash.old + 17 * pages_of (F.image flash.old) }
+    ensures frame { OnlyReads F.image F.lent F.reads F.faults flash.old flash.new result }
+{
+    let mut front = Ok(None);
+    let _handed = erased_through(Handed { flash }, sector, &mut front);
+    front
+}
+
+// The same through a view.
+fn erased_through<F: Flash>(
+    flash: F,
+    sector: SectorId,
+    front: &mut Result<Option<PageId>, Failed>,
+) -> F
     requires sector { 4096 * sector.0 + 4096 ≤ length (F.image flash) }
-    ensures front { IsTrue F.tells → IfOk result.1 (λ o. IfSome o
+    ensures front { IsTrue F.tells → IfOk front.new (λ o. IfSome o
         (λ p. IsFreeFront (zeros_at (F.image flash) (4096 * sector.0) 4096) sector.0 p.0)) }
-    ensures inside { IfOk result.1 (λ o. IfSome o (λ p. LiesInSector sector.0 p.0)) }
-    ensures reads { F.reads result.0 ≤ F.reads flash + 17 * pages_of (F.image flash) }
-    ensures frame { OnlyReads F.image F.lent F.reads F.faults flash result.0 result.1 }
+    ensures inside { IfOk front.new (λ o. IfSome o (λ p. LiesInSector sector.0 p.0)) }
+    ensures reads { F.reads result ≤ F.reads flash + 17 * pages_of (F.image flash) }
+    ensures frame { OnlyReads F.image F.lent F.reads F.faults flash result front.new }
 {
     let overlay = Overlay {
         first: None,
@@ -57,8 +69,8 @@ fn erased_front<F: Flash>(flash: F, sector: SectorId) -> (F, Result<Option<PageI
         blank: None,
     };
     let mut view = View::new(flash, overlay);
-    let front = idle_front(&mut view, sector);
-    (view.into_flash(), front)
+    *front = idle_front(&mut view, sector);
+    view.into_flash()
 }
 
 // The first page of a sector at which a free page begins, where the sector has no active page.

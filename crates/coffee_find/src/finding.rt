@@ -32,29 +32,22 @@ pub(crate) enum Guess {
 
 /// What was under way, where the image shows what is guessed.
 pub(crate) fn find<F: Flash>(
-    flash: F,
+    flash: &mut F,
     guess: Guess,
     page: PageId,
-) -> (F, Result<Option<UnderWay>, Failed>)
-    ensures found { IsTrue F.tells → IfOk result.1
-        (λ o. IfSome o (λ u. IsFound (F.image flash) (meant u))) }
-    ensures inside { IfOk result.1 (λ o. IfSome o (λ u. IsInFlash (length (F.image flash)) u)) }
-    ensures reads { F.reads result.0 ≤ F.reads flash + 67 * pages_of (F.image flash) + 18 }
-    ensures frame { OnlyReads F.image F.lent F.reads F.faults flash result.0 result.1 }
+) -> Result<Option<UnderWay>, Failed>
+    ensures found { IsTrue F.tells → IfOk result
+        (λ o. IfSome o (λ u. IsFound (F.image flash.old) (meant u))) }
+    ensures inside { IfOk result (λ o. IfSome o (λ u. IsInFlash (length (F.image flash.old)) u)) }
+    ensures reads { F.reads flash.new ≤ F.reads flash.old + 67 * pages_of (F.image flash.old) + 18 }
+    ensures frame { OnlyReads F.image F.lent F.reads F.faults flash.old flash.new result }
 {
-    let mut flash = flash;
     match guess {
-        Guess::Nothing => (flash, Ok(Some(UnderWay::Nothing))),
-        Guess::Header => {
-            let found = find_header(&mut flash, page);
-            (flash, found)
-        }
+        Guess::Nothing => Ok(Some(UnderWay::Nothing)),
+        Guess::Header => find_header(flash, page),
         Guess::TornHeader => find_torn_header(flash, page),
         Guess::Erased => find_erased(flash, page),
-        Guess::Replaced => {
-            let found = find_replaced(&mut flash);
-            (flash, found)
-        }
+        Guess::Replaced => find_replaced(flash),
     }
 }
 

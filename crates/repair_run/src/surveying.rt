@@ -4,20 +4,31 @@ ghost use Rattle.coffee_find.specs.Found.{HasRecord, IsTroubleInside};
 
 use afl_base::{Failed, Flash};
 use coffee_find::{TornRecord, Trouble, overlay_of};
-use coffee_volume::{MountError, Volume};
-use flash_views::View;
+use coffee_volume::{Unlisted, Volume, list};
+use flash_views::{Handed, View};
 use stored_mend::survey;
 
 /// Whether the database of an image is one that a cut can have left, as it reads once what was found in its files is settled.
 /// Nothing is written, where it fails too.
+pub fn survey_image<F: Flash>(flash: &mut F, trouble: &Trouble) -> Result<bool, Failed>
+    requires inside { IsTroubleInside (length (F.image flash.old)) trouble.now }
+    ensures frame { OnlyReads F.image F.lent F.reads F.faults flash.old flash.new result }
+{
+    let mut surveyed = Err(Failed);
+    let _handed = survey_settled(Handed { flash }, trouble, &mut surveyed);
+    surveyed
+}
+
+// The same through a view.
 #[inline(never)]
-pub fn survey_image<F: Flash>(flash: F, trouble: &Trouble) -> (F, Result<bool, Failed>)
+fn survey_settled<F: Flash>(flash: F, trouble: &Trouble, surveyed: &mut Result<bool, Failed>) -> F
     requires inside { IsTroubleInside (length (F.image flash)) trouble.now }
-    ensures frame { OnlyReads F.image F.lent F.reads F.faults flash result.0 result.1 }
+    ensures frame { OnlyReads F.image F.lent F.reads F.faults flash result surveyed.new }
 {
     let overlay = overlay_of(&trouble.under_way, torn_place(&trouble.torn));
-    let (view, surveyed) = survey_view(View::new(flash, overlay));
-    (view.into_flash(), surveyed)
+    let mut view = View::new(flash, overlay);
+    *surveyed = survey_files(&mut view);
+    view.into_flash()
 }
 
 // Where the torn record begins.
@@ -31,18 +42,17 @@ fn torn_place(torn: &Option<TornRecord>) -> Option<u32>
 }
 
 // The same of an image as it reads now.
-fn survey_view<F: Flash>(flash: F) -> (F, Result<bool, Failed>)
-    ensures frame { OnlyReads F.image F.lent F.reads F.faults flash result.0 result.1 }
+fn survey_files<F: Flash>(flash: &mut F) -> Result<bool, Failed>
+    ensures frame { OnlyReads F.image F.lent F.reads F.faults flash.old flash.new result }
 {
-    match Volume::mount(flash) {
-        Ok(mut volume) => {
-            let surveyed = match survey(&mut volume) {
-                Ok(surveyed) => Ok(surveyed.is_ok()),
-                Err(failed) => Err(failed),
-            };
-            (volume.unmount(), surveyed)
-        }
-        Err(MountError::Bad { bad: _, flash }) => (flash, Ok(false)),
-        Err(MountError::Failed { flash }) => (flash, Err(Failed)),
+    let listed = match list(flash) {
+        Ok(listed) => listed,
+        Err(Unlisted::Bad(_)) => return Ok(false),
+        Err(Unlisted::Failed) => return Err(Failed),
+    };
+    let mut volume = Volume::over(Handed { flash }, listed);
+    match survey(&mut volume) {
+        Ok(surveyed) => Ok(surveyed.is_ok()),
+        Err(failed) => Err(failed),
     }
 }
