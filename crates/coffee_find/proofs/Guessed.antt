@@ -6,9 +6,7 @@ use Rattle.afl_base.specs.declared.ids.PageId.{PageId}
 use Rattle.afl_base.proofs.Images.{length_or_at}
 use Rattle.coffee_header.specs.declared.header.Header.{Header as ExtentHeader}
 use Rattle.coffee_layout.specs.Files.{Placed}
-use Rattle.coffee_layout.specs.Tiling.{units_of}
 use Rattle.coffee_layout.specs.declared.unit.Unit.TheVariants.{Isolated}
-use Rattle.coffee_merge.specs.Begun.{active_at}
 use Rattle.coffee_merge.specs.Flags.{flagged}
 use Rattle.coffee_cuts.specs.Cuts.{IsActiveAt, IsErasing, IsFound, IsSettled, IsTornHeader, UnderWay as CutWay, Beginning as was_beginning, Building as was_building, Erasing as was_erasing, Naming as was_naming, Nothing as was_nothing, Replacing as was_replacing, Unnamed as was_unnamed, settled}
 use Rattle.coffee_cuts.proofs.MarkedPages.{stands_at}

@@ -8,7 +8,6 @@ use Rattle.afl_base.specs.declared.ids.PageId.{PageId}
 use Rattle.coffee_header.specs.declared.header.Header.{Header}
 use Rattle.coffee_layout.specs.Files.{Placed, extents, files_in, is_file, log_of}
 use Rattle.coffee_layout.specs.Tiling.{units_of}
-use Rattle.coffee_layout.specs.declared.unit.Unit.{Unit}
 use Rattle.coffee_layout.specs.declared.unit.Unit.TheVariants.{Extent}
 use Rattle.coffee_merge.specs.Begun.{unit_begun}
 use Rattle.coffee_merge.specs.Flags.{flagged, obsoleted}
@@ -17,7 +16,7 @@ use Rattle.coffee_merge.proofs.SoundEntries.{log_back}
 use Rattle.coffee_merge.proofs.SoundUnits.{Among, among_filter, begun_extent}
 use Rattle.coffee_layout.proofs.Tests.{eq_false}
 use Rattle.padded.proofs.Facts.{filter_few, lt_false, lt_true, true_or_false, yes_no}
-use Rattle.coffee_cuts.specs.Cuts.{IsReplacing, Replacing as was_replacing}
+use Rattle.coffee_cuts.specs.Cuts.{Replacing as was_replacing}
 use Rattle.coffee_cuts.proofs.MarkedPages.{ninth, other_ninth}
 use Rattle.coffee_cuts.proofs.SettledRules.{KeepsSettled, begins, one_named, placed_at, settled_kept}
 use Rattle.coffee_cuts.proofs.TwoMarks.{IsFileFlags, IsMarked, active_ninth, file_begins, file_ninth, gone_marked, log_page_is, turned_begins}
@@ -254,9 +253,9 @@ ahead_step image pages from turn f size there low first alone ahead old new m =
     let before_new = not_past new m.found.new_there a.second in
     let here = file_left image pages size old new m f there apart_old in
     let among = among_filter is_file (left image pages size old new m f) (extents 0 (units_of (obsoleted image old.page (log_of old.header))))
-        (begun_extent (units_of (obsoleted image old.page (log_of old.header))) 0 f.page (left image pages size old new m f).header here.0) here.1 in
+    (begun_extent (units_of (obsoleted image old.page (log_of old.header))) 0 f.page (left image pages size old new m f).header here.0) here.1 in
     let gains = filter_gains (is_before from) (is_before (f.page + 1)) (left image pages size old new m f) (files_in (units_of (obsoleted image old.page (log_of old.header)))) weaker among
-        (lt_false f.page from low) (lt_true f.page (f.page + 1) (omega arith)) in
+    (lt_false f.page from low) (lt_true f.page (f.page + 1) (omega arith)) in
     record {
       first = omega (arith, apart_old, before_old);
       second = omega (arith, apart_new, before_new);

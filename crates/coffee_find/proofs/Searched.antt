@@ -1,10 +1,9 @@
 -- Where the search by the first broken rule finds nothing, an image mends to no files.
-use Rattle.std.proofs.Common.{◌≡◌, ◌≢◌, ◌⊎◌, inl, inr, ⊎_elim, ℕ, ◌*◌, ◌/◌, ◌≤◌, ◌<◌, List, length, Some, refl, ap, sym, arith}
-use Rattle.coffee_layout.specs.Files.{NamedFile}
+use Rattle.std.proofs.Common.{◌≡◌, ◌≢◌, ◌⊎◌, inl, inr, ⊎_elim, ℕ, ◌*◌, ◌≤◌, ◌<◌, List, length, Some, refl, ap, sym, arith}
 use Rattle.coffee_layout.specs.Rules.{broken_image}
 use Rattle.coffee_layout.specs.declared.unit.BadImage.{BadImage}
-use Rattle.coffee_cuts.specs.Cuts.{MendsTo, UnderWay, Nothing, Beginning, Building, Erasing, Unnamed, Naming, Replacing}
-use Rattle.coffee_cuts.specs.Shown.{IsTornAlone, Shows}
+use Rattle.coffee_cuts.specs.Cuts.{UnderWay, Nothing, Beginning, Building, Erasing, Unnamed, Naming, Replacing}
+use Rattle.coffee_cuts.specs.Shown.{Shows}
 use Rattle.coffee_cuts.proofs.Shown.{first_rules_show}
 use Rattle.coffee_find.specs.Found.{MendsToNone}
 use Rattle.coffee_find.specs.Guesses.{IsHeadWrong, IsWrong, MendsBy}

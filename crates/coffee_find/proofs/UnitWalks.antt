@@ -10,7 +10,7 @@ use Rattle.coffee_layout.specs.declared.unit.Unit.{Unit}
 use Rattle.coffee_layout.proofs.Frames.{total-append}
 use Rattle.coffee_layout.proofs.MarkLaws.{mark_past}
 use Rattle.coffee_layout.proofs.Tilings.{units_end, units_step}
-use Rattle.coffee_cuts.proofs.Reached.{begun_past, no_unit, same_unit, units_stop}
+use Rattle.coffee_cuts.proofs.Reached.{begun_past, units_stop}
 use Rattle.coffee_merge.specs.Begun.{unit_begun}
 use Rattle.coffee_merge.proofs.Begun.{HavePages, begun_here, begun_inside, begun_marks, begun_rest, begun_there, have_pages}
 use Rattle.coffee_space.proofs.SectorMarks.{any_each, any_none}
@@ -101,8 +101,8 @@ busy_unit image sector at next u before is behind onward part w idle =
     let from = part.from in
     let to = part.to in
     let mark : (q : ℕ) → at ≤ q → q < next → 16 * sector ≤ q → q < 16 * sector + 16 → ⊥ = λ q low less a b. yes_no (is_active u) part.active
-        (sym (begun_marks is_active (units_of image) at u q (walked_begun image at u before is w) low (omega (arith, less, behind)))
-        ∙ any_each (active_pages (units_of image)) (16 * sector) (16 * sector + 16) q idle a b) in
+    (sym (begun_marks is_active (units_of image) at u q (walked_begun image at u before is w) low (omega (arith, less, behind)))
+    ∙ any_each (active_pages (units_of image)) (16 * sector) (16 * sector + 16) q idle a b) in
     ⊎_elim
     (λ (front : at < 16 * sector). mark (16 * sector) (omega (arith, front)) from (omega arith) (omega arith))
     (λ (inner : 16 * sector ≤ at). mark at (omega arith) onward inner to)

@@ -1,7 +1,6 @@
-use Rattle.std.proofs.Common.{◌≡◌, ◌-◌, Bool, false}
+use Rattle.std.proofs.Common.{◌≡◌, ◌-◌, false}
 use Rattle.afl_base.specs.declared.ids.PageId.{PageId}
 use Rattle.coffee_cuts.specs.Cuts.{IsActiveAt}
-use Rattle.coffee_layout.specs.Files.{log_of}
 use Rattle.coffee_find.proofs.Pairs.{some_log}
 use Rattle.coffee_find.proofs.Results.{ok_then}
 use Rattle.coffee_find.proofs.twins.has_its_log.Goals as goal

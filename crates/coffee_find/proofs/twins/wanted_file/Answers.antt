@@ -1,7 +1,6 @@
-use Rattle.std.proofs.Common.{◌≡◌, ◌||◌, ◌==◌, List, ℕ, refl, ap, sym, subst, ◌∙◌, arith}
+use Rattle.std.proofs.Common.{◌≡◌, ◌||◌, ◌==◌, refl, ap, sym, subst, ◌∙◌, arith}
 use Rattle.coffee_header.specs.declared.header.Header.{Header}
-use Rattle.coffee_layout.specs.Files.{Placed, is_file}
-use Rattle.coffee_layout.specs.declared.unit.Unit.TheVariants.{Extent}
+use Rattle.coffee_layout.specs.Files.{is_file}
 use Rattle.padded.proofs.Facts.{yes_no}
 use Rattle.coffee_find.specs.Search.{IsWanted}
 use Rattle.coffee_find.proofs.FilesThere.{one_extent}
