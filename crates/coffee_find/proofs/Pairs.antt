@@ -22,7 +22,7 @@ use Rattle.coffee_cuts.proofs.SettledRules.{KeepsSettled, begins, one_named, pla
 use Rattle.coffee_cuts.proofs.TwoMarks.{IsFileFlags, IsMarked, active_ninth, file_begins, file_ninth, gone_marked, log_page_is, turned_begins}
 use Rattle.coffee_find.specs.Found.{meant, placed_of}
 use Rattle.coffee_find.specs.Guesses.{Means, MendsBy}
-use Rattle.coffee_find.specs.Search.{HasNoFile, IsFileIn, NamesActiveLog}
+use Rattle.coffee_find.specs.Search.{AreTwins, HasNoFile, NamesActiveLog}
 use Rattle.coffee_find.specs.declared.trouble.PlacedFile.{PlacedFile}
 use Rattle.coffee_find.specs.declared.trouble.UnderWay.{UnderWay}
 use Rattle.coffee_find.specs.declared.trouble.UnderWay.TheVariants.{Nothing, Beginning, Building, Erasing, Unnamed, Naming, Replacing}
@@ -167,16 +167,17 @@ module _ (image : List ℕ) (pages : ℕ) (size : length image ≡ 256 * pages) 
   -- ---- WHICH IS THE OLD ONE
 
   -- the first file has no log: it is the new one
-  pub first_new : (f g : PlacedFile) (o : Option UnderWay) → IsFileIn image f → IsFileIn image g → f.page.0 < g.page.0 → f.header.name ≡ g.header.name → f.header.log_page ≡ 0
+  pub first_new : (f g : PlacedFile) (o : Option UnderWay) → AreTwins image f g → f.header.log_page ≡ 0
       → IfSome o (λ u. u ≡ Replacing g f) → IfNone o (f.header.log_page ≡ 0 → pages < g.header.log_page) → Means (was_replacing old new) o
-  first_new f g o a b less named none some lacks = ⊎_elim
+  first_new f g o twins none some lacks = ⊎_elim
       (λ (s : (placed_of f ≡ old) × (placed_of g ≡ new)).
       let low = m.found.before (sym (ap (λ (p : Placed). p.header.log_page) s.0) ∙ none) in
       let here : f.page.0 ≡ old.page = ap (λ (p : Placed). p.page) s.0 in
       let there : g.page.0 ≡ new.page = ap (λ (p : Placed). p.page) s.1 in
-      absurd (omega (arith, low, here, there, less)))
+      let order = twins.order in
+      absurd (omega (arith, low, here, there, order)))
       (λ (s : (placed_of f ≡ new) × (placed_of g ≡ old)). by_result o s.0 s.1 some lacks)
-      (twins_are (placed_of f) (placed_of g) a b less named)
+      (twins_are (placed_of f) (placed_of g) twins.first_there twins.second_there twins.order twins.one_name)
     where
       by_result : (o : Option UnderWay) → placed_of f ≡ new → placed_of g ≡ old → IfSome o (λ u. u ≡ Replacing g f) → IfNone o (f.header.log_page ≡ 0 → pages < g.header.log_page) → Means (was_replacing old new) o
       by_result None is was some lacks =
@@ -187,12 +188,12 @@ module _ (image : List ℕ) (pages : ℕ) (size : length image ≡ 256 * pages) 
       by_result (Some u) is was some lacks = ap meant some ∙ ap (λ p. was_replacing p (placed_of f)) was ∙ ap (was_replacing old) is
 
   -- it has one: it is the old one
-  pub first_old : (f g : PlacedFile) (o : Option UnderWay) → IsFileIn image f → IsFileIn image g → f.page.0 < g.page.0 → f.header.name ≡ g.header.name → f.header.log_page ≢ 0
+  pub first_old : (f g : PlacedFile) (o : Option UnderWay) → AreTwins image f g → f.header.log_page ≢ 0
       → IfSome o (λ u. u ≡ Replacing f g) → IfNone o (g.header.log_page ≡ 0 → pages < f.header.log_page) → Means (was_replacing old new) o
-  first_old f g o a b less named logged some lacks = ⊎_elim
+  first_old f g o twins logged some lacks = ⊎_elim
       (λ (s : (placed_of f ≡ old) × (placed_of g ≡ new)). by_result o s.0 s.1 some lacks)
       (λ (s : (placed_of f ≡ new) × (placed_of g ≡ old)). absurd (logged (ap (λ (p : Placed). p.header.log_page) s.0 ∙ m.found.new_has_none)))
-      (twins_are (placed_of f) (placed_of g) a b less named)
+      (twins_are (placed_of f) (placed_of g) twins.first_there twins.second_there twins.order twins.one_name)
     where
       by_result : (o : Option UnderWay) → placed_of f ≡ old → placed_of g ≡ new → IfSome o (λ u. u ≡ Replacing f g) → IfNone o (g.header.log_page ≡ 0 → pages < f.header.log_page) → Means (was_replacing old new) o
       by_result None was is some lacks =

@@ -31,9 +31,10 @@ abbrev pub SettlesAs : List ℕ → CutWay → Option UnderWay → Type 0
 SettlesAs image way None = ⊥
 SettlesAs image way (Some found) = settled image (meant found) ≡ settled image way
 
--- whatever an image mends by of which a guess is right, what was found settles the image as that does
+-- whatever an image mends by, where a guess is right of it, what was found settles the image as that
 abbrev pub MissesNoWay : List ℕ → Guess → (page : ℕ) → Option UnderWay → Type 0
-MissesNoWay image guess page found = (way : CutWay) → IsGuess guess page way → MendsBy image way → SettlesAs image way found
+MissesNoWay image guess page found = (way : CutWay) → IsGuess guess page way → MendsBy image way
+    → SettlesAs image way found
 
 -- the image mends by nothing of which a guess is right
 abbrev pub IsWrong : List ℕ → (page : ℕ) → Guess → Type 0

@@ -58,6 +58,13 @@ pub record HasFlags (u : Unit) (flags : ℕ) : Type 0 where
 abbrev pub IsFileIn : List ℕ → PlacedFile → Type 0
 IsFileIn image f = Contains (files_in (units_of image)) (placed_of f)
 
+-- two active files have one name, and the first stands before the second
+pub record AreTwins (image : List ℕ) (first second : PlacedFile) : Type 0 where
+  pub first_there : IsFileIn image first
+  pub second_there : IsFileIn image second
+  pub order : first.page.0 < second.page.0
+  pub one_name : first.header.name ≡ second.header.name
+
 -- a unit at a page is an active file
 pub record IsFileAt (u : Unit) (page : ℕ) (f : PlacedFile) : Type 0 where
   pub at : f.page.0 ≡ page
@@ -76,11 +83,13 @@ pub record IsFreeFront (image : List ℕ) (sector page : ℕ) : Type 0 where
 
 -- no free page begins at a page from one up to another
 abbrev pub NoneFree : List ℕ → (from to : ℕ) → Type 0
-NoneFree image from to = (page : ℕ) → from ≤ page → page < to → unit_begun (units_of image) 0 page ≡ Some Free → ⊥
+NoneFree image from to = (page : ℕ) → from ≤ page → page < to
+    → unit_begun (units_of image) 0 page ≡ Some Free → ⊥
 
 -- where the units tile an image, no page of a sector is such a first one
 abbrev pub HasNoFront : List ℕ → (sector : ℕ) → Type 0
-HasNoFront image sector = IsTiled nowhere image (units_of image) → (page : ℕ) → LiesInSector sector page → IsFreeFront image sector page → ⊥
+HasNoFront image sector = IsTiled nowhere image (units_of image)
+    → (page : ℕ) → LiesInSector sector page → IsFreeFront image sector page → ⊥
 
 -- a sector is zero up to a page in it, and that is blank
 pub record IsBlankFrom (image : List ℕ) (sector page : ℕ) : Type 0 where
@@ -100,11 +109,13 @@ IsWanted (Some wanted) name = name ≡ wanted
 
 -- no active file from a page up to another has the wanted name
 abbrev pub HasNoFile : List ℕ → (from to : ℕ) → Option (List ℕ) → Type 0
-HasNoFile image from to wanted = (f : Placed) → Contains (files_in (units_of image)) f → from ≤ f.page → f.page < to → IsWanted wanted f.header.name → ⊥
+HasNoFile image from to wanted = (f : Placed) → Contains (files_in (units_of image)) f
+    → from ≤ f.page → f.page < to → IsWanted wanted f.header.name → ⊥
 
 -- a unit at a page is no active file that is looked for
 abbrev pub IsNoFile : Unit → (page from : ℕ) → Option (List ℕ) → Type 0
-IsNoFile u page from wanted = (f : Placed) → u ≡ Extent f.header → f.page ≡ page → is_file f ≡ true → from ≤ page → IsWanted wanted f.header.name → ⊥
+IsNoFile u page from wanted = (f : Placed) → u ≡ Extent f.header → f.page ≡ page → is_file f ≡ true
+    → from ≤ page → IsWanted wanted f.header.name → ⊥
 
 -- a unit is none of an extent under construction, a file without a log, or a log
 abbrev pub IsOfOthers : Unit → Type 0

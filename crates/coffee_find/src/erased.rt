@@ -41,8 +41,8 @@ pub(crate) fn find_erased<F: Flash>(flash: &mut F, page: PageId) -> Result<Optio
     }
 }
 
-// The first page of a sector at which a unit begins once the sector is erased, where no active extent
-// has a page in it then.
+// The first page of a sector at which a unit begins once the sector is erased, where no active
+// extent has a page in it then.
 fn erased_front<F: Flash>(flash: &mut F, sector: SectorId) -> Result<Option<PageId>, Failed>
     requires sector { 4096 * sector.0 + 4096 ≤ length (F.image flash.old) }
     ensures front { IsTrue F.tells → IfOk result (λ o. IfSome o
@@ -158,7 +158,8 @@ fn find_blank<F: Flash>(
     requires sector { 4096 * sector.0 + 4096 ≤ length (F.image flash.old) }
     requires page { LiesInSector sector.0 page.0 }
     ensures found { IsTrue F.tells → IfOk result (λ o. IfSome o (λ u.
-        IsFreeFront (zeros_at (F.image flash.old) (4096 * sector.0) 4096) sector.0 page.0 → IsFound (F.image flash.old) (meant u))) }
+        IsFreeFront (zeros_at (F.image flash.old) (4096 * sector.0) 4096) sector.0 page.0
+        → IsFound (F.image flash.old) (meant u))) }
     ensures none { IsTrue F.tells → IfOk result
         (λ o. IfNone o (IsBlankFrom (F.image flash.old) sector.0 page.0 → ⊥)) }
     ensures is { IfOk result (λ o. IfSome o (λ u. u ≡ Erasing sector page)) }
@@ -175,12 +176,14 @@ fn find_blank<F: Flash>(
     Ok(Some(UnderWay::Erasing { sector, page }))
 }
 
-// Whether no header of an extent with pages stands at a page: byte 9 is 0, as no header's is, or the
-// extent has no pages.
+// Whether no header of an extent with pages stands at a page: byte 9 is 0, as no header's is, or
+// the extent has no pages.
 fn is_headless<F: Flash>(flash: &mut F, page: PageId) -> Result<bool, Failed>
     requires page { HasPage (length (F.image flash.old)) page.0 }
-    ensures blank { IsTrue F.tells → IfOk result (λ r. r ≡ true → IsHeadless (F.image flash.old) page.0) }
-    ensures headed { IsTrue F.tells → IfOk result (λ r. r ≡ false → IsHeadless (F.image flash.old) page.0 → ⊥) }
+    ensures blank { IsTrue F.tells → IfOk result
+        (λ r. r ≡ true → IsHeadless (F.image flash.old) page.0) }
+    ensures headed { IsTrue F.tells → IfOk result
+        (λ r. r ≡ false → IsHeadless (F.image flash.old) page.0 → ⊥) }
     ensures reads { F.reads flash.new ≤ F.reads flash.old + 2 }
     ensures frame { OnlyReads F.image F.lent F.reads F.faults flash.old flash.new result }
 {

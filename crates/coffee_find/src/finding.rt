@@ -32,8 +32,8 @@ pub(crate) enum Guess {
     Replaced,
 }
 
-/// What was under way, where the image shows what is guessed: whatever it mends by of which the guess
-/// is right, what is found settles it as that does.
+/// What was under way, where the image shows what is guessed. Whatever the image mends by, where the
+/// guess is right of it, what is found settles the image as that.
 pub(crate) fn find<F: Flash>(
     flash: &mut F,
     guess: Guess,
@@ -41,7 +41,8 @@ pub(crate) fn find<F: Flash>(
 ) -> Result<Option<UnderWay>, Failed>
     ensures found { IsTrue F.tells → IfOk result
         (λ o. IfSome o (λ u. IsFound (F.image flash.old) (meant u))) }
-    ensures all { IsTrue F.tells → IfOk result (λ o. MissesNoWay (F.image flash.old) guess page.0 o) }
+    ensures all { IsTrue F.tells → IfOk result
+        (λ o. MissesNoWay (F.image flash.old) guess page.0 o) }
     ensures inside { IfOk result (λ o. IfSome o (λ u. IsInFlash (length (F.image flash.old)) u)) }
     ensures reads { F.reads flash.new ≤ F.reads flash.old + 67 * pages_of (F.image flash.old) + 18 }
     ensures frame { OnlyReads F.image F.lent F.reads F.faults flash.old flash.new result }
@@ -59,7 +60,8 @@ pub(crate) fn find<F: Flash>(
 fn find_header<F: Flash>(flash: &mut F, page: PageId) -> Result<Option<UnderWay>, Failed>
     ensures found { IsTrue F.tells → IfOk result
         (λ o. IfSome o (λ u. IsFound (F.image flash.old) (meant u))) }
-    ensures none { IsTrue F.tells → IfOk result (λ o. IfNone o (ShowsNoHeader (F.image flash.old) page.0)) }
+    ensures none { IsTrue F.tells → IfOk result
+        (λ o. IfNone o (ShowsNoHeader (F.image flash.old) page.0)) }
     ensures guess { IfOk result (λ o. IfSome o (λ u. IsGuess Header page.0 (meant u))) }
     ensures inside { IfOk result (λ o. IfSome o (λ u. IsInFlash (length (F.image flash.old)) u)) }
     ensures reads { F.reads flash.new ≤ F.reads flash.old + pages_of (F.image flash.old) }

@@ -103,7 +103,8 @@ fn search_for<F: Flash>(
     table: &mut Table,
 ) -> Result<Option<Trouble>, Failed>
     ensures found { IsTrue F.tells → IfOk result (λ o. IfSome o (λ t. IsCutBy (F.image flash.old) t)) }
-    ensures none { IsTrue F.tells → IfOk result (λ o. IfNone o (IsWrong (F.image flash.old) page.0 guess)) }
+    ensures none { IsTrue F.tells → IfOk result
+        (λ o. IfNone o (IsWrong (F.image flash.old) page.0 guess)) }
     ensures inside { IfOk result (λ o. IfSome o (λ t. IsTroubleInside (length (F.image flash.old)) t)) }
     ensures reads { F.reads flash.new ≤ F.reads flash.old + 869 * pages_of (F.image flash.old) + 20 }
     ensures frame { OnlyReads F.image F.lent F.reads F.faults flash.old flash.new result }

@@ -3,8 +3,8 @@ ghost use Rattle.afl_base.specs.declared.ids.PageId.{PageId};
 ghost use Rattle.afl_base.specs.Keeping.{OnlyReads};
 ghost use Rattle.coffee_cuts.specs.Cuts.{IsActiveAt, IsFound, Replacing as was_replacing};
 ghost use Rattle.coffee_find.specs.Found.{HasPage, IsInFlash, meant};
-ghost use Rattle.coffee_find.specs.Guesses.{MendsBy, Means, SettlesAs};
-ghost use Rattle.coffee_find.specs.Search.{HasNoFile, IsFileAt, IsFileIn, IsNoFile, IsWanted, NamesActiveLog};
+ghost use Rattle.coffee_find.specs.Guesses.{MendsBy, Means};
+ghost use Rattle.coffee_find.specs.Search.{AreTwins, HasNoFile, IsFileAt, IsFileIn, IsNoFile, IsWanted, NamesActiveLog};
 ghost use Rattle.coffee_find.specs.declared.trouble.UnderWay.TheVariants.{Replacing};
 ghost use Rattle.coffee_layout.specs.Files.{Placed, is_file, log_of};
 ghost use Rattle.coffee_layout.specs.Units.{pages_of};
@@ -16,7 +16,8 @@ use afl_base::{Failed, Flash, Name, PageId};
 use coffee_header::Header;
 use coffee_layout::{Unit, next_unit};
 
-/// Two active files of one name, where there are any among the first 33: the old one and the new one.
+/// Two active files of one name, where there are any among the first 33: the old one and the new
+/// one. Where the image mends by a file that was being replaced, they are the extents of that.
 pub(crate) fn find_replaced<F: Flash>(flash: &mut F) -> Result<Option<UnderWay>, Failed>
     ensures found { IsTrue F.tells → IfOk result
         (λ o. IfSome o (λ u. IsFound (F.image flash.old) (meant u))) }
@@ -86,7 +87,8 @@ fn twin_of<F: Flash>(flash: &mut F, file: &PlacedFile) -> Result<Option<PlacedFi
     ensures behind { IfOk result (λ r. IfSome r (λ f. file.now.page.0 < f.page.0)) }
     ensures named { IfOk result (λ r. IfSome r (λ f. f.header.name ≡ file.now.header.name)) }
     ensures none { IsTrue F.tells → IfOk result (λ r. IfNone r
-        ((to : ℕ) → HasNoFile (F.image flash.old) (file.now.page.0 + 1) to (Some file.now.header.name))) }
+        ((to : ℕ) → HasNoFile (F.image flash.old) (file.now.page.0 + 1) to
+        (Some file.now.header.name))) }
     ensures inside { IfOk result (λ r. IfSome r (λ f. HasPage (length (F.image flash.old)) f.page.0)) }
     ensures reads { F.reads flash.new ≤ F.reads flash.old + pages_of (F.image flash.old) }
     ensures frame { OnlyReads F.image F.lent F.reads F.faults flash.old flash.new result }
@@ -175,12 +177,11 @@ fn is_wanted(name: &Name, wanted: &Option<Name>) -> bool
 
 // Which of two files of one name is the old one, where the first stands before the second.
 fn in_order(first: &PlacedFile, second: &PlacedFile, pages: u16) -> Option<UnderWay>
-    ensures found { IfSome result (λ u. (image : List ℕ) → IsFileIn image first.now → IsFileIn image second.now
-        → first.now.page.0 < second.now.page.0 → first.now.header.name ≡ second.now.header.name
+    ensures found { IfSome result (λ u. (image : List ℕ) → AreTwins image first.now second.now
         → NamesActiveLog image u → IsFound image (meant u)) }
-    ensures all { (image : List ℕ) (old new : Placed) → length image ≡ 256 * pages → IsFileIn image first.now
-        → IsFileIn image second.now → first.now.page.0 < second.now.page.0 → first.now.header.name ≡ second.now.header.name
-        → MendsBy image (was_replacing old new) → Means (was_replacing old new) result }
+    ensures all { (image : List ℕ) (old new : Placed) → length image ≡ 256 * pages
+        → AreTwins image first.now second.now → MendsBy image (was_replacing old new)
+        → Means (was_replacing old new) result }
     ensures inside { IfSome result (λ u. (size : ℕ) → size ≡ 256 * pages → HasPage size first.now.page.0
         → HasPage size second.now.page.0 → IsInFlash size u) }
 {

@@ -2,7 +2,7 @@ use Rattle.std.proofs.Common.{◌+◌, ◌*◌, rules, arith, sym}
 use Rattle.std.proofs.lemmas.Option.{IfSome_then}
 use Rattle.coffee_cuts.specs.Cuts.{IsFound}
 use Rattle.coffee_find.specs.Found.{meant, placed_of}
-use Rattle.coffee_find.specs.Search.{IsFileIn, NamesActiveLog}
+use Rattle.coffee_find.specs.Search.{AreTwins, IsFileIn, NamesActiveLog}
 use Rattle.coffee_find.proofs.Pairs.{ahead_end, ahead_start, ahead_step, all_mean}
 use Rattle.coffee_find.proofs.WithLogs.{with_log}
 use Rattle.coffee_find.proofs.twins.find_replaced.Goals as goal
@@ -14,7 +14,8 @@ returns-in-Some-2-clause-found g c = λ t.
     let second : IsFileIn image c.in-Some-2.twin = (rw (c.file_from.ensures.frame.same, c.loop-turn.invariant.same, c.in-Some-2.is) at (c.in_ok-twin.ensures.file t)) in
     let behind = (rw c.in-Some-2.is at c.in_ok-twin.ensures.behind) in
     let named = (rw c.in-Some-2.is at c.in_ok-twin.ensures.named) in
-    let found = IfSome_then c.in_order.result c.in_order.ensures.found (λ u f. f image first second behind (sym named)) in
+    let twins : AreTwins image c.in-Some.file c.in-Some-2.twin = record { first_there = first; second_there = second; order = behind; one_name = sym named } in
+    let found = IfSome_then c.in_order.result c.in_order.ensures.found (λ u f. f image twins) in
     let log = rw (c.twin_of.ensures.frame.same, c.file_from.ensures.frame.same, c.loop-turn.invariant.same) at (c.with_its_log.ensures.log t) in
     with_log (λ u. IsFound image (meant u)) (NamesActiveLog image) c.in_order.result c.with_its_log.result found c.with_its_log.ensures.same log
 
@@ -64,8 +65,9 @@ returns-in-Some-2-clause-all g c = λ t.
     let second : IsFileIn image c.in-Some-2.twin = (rw (c.file_from.ensures.frame.same, c.loop-turn.invariant.same, c.in-Some-2.is) at (c.in_ok-twin.ensures.file t)) in
     let behind = (rw c.in-Some-2.is at c.in_ok-twin.ensures.behind) in
     let named = (rw c.in-Some-2.is at c.in_ok-twin.ensures.named) in
+    let twins : AreTwins image c.in-Some.file c.in-Some-2.twin = record { first_there = first; second_there = second; order = behind; one_name = sym named } in
     all_mean image (16 * c.sectors-pages.result) (omega (arith, size)) c.in_order.result c.with_its_log.result
-    (λ old new m. c.in_order.ensures.all image old new (omega (arith, size)) first second behind (sym named) m)
+    (λ old new m. c.in_order.ensures.all image old new (omega (arith, size)) twins m)
     c.with_its_log.ensures.same
     (rw (c.twin_of.ensures.frame.same, c.file_from.ensures.frame.same, c.loop-turn.invariant.same) at (c.with_its_log.ensures.none t))
 
