@@ -1,6 +1,7 @@
-ghost use Rattle.std.specs.Prelude.{◌≡◌, ◌≢◌, ◌+◌, ◌*◌, ◌≤◌, length, None, IsTrue, IfOk, IfSome, Some};
+ghost use Rattle.std.specs.Prelude.{◌≡◌, ◌≢◌, ◌+◌, ◌*◌, ◌≤◌, length, None, IsTrue, IfNone, IfOk, IfSome, Some};
 ghost use Rattle.afl_base.specs.Keeping.{OnlyReads};
-ghost use Rattle.coffee_find.specs.Found.{IsCutBy, IsJudgedInside, IsJudged, IsTroubleInside};
+ghost use Rattle.coffee_find.specs.Found.{IsCutBy, IsJudgedInside, IsJudged, IsTroubleInside, MendsToNone};
+ghost use Rattle.coffee_find.specs.Guesses.{IsHeadWrong, IsWrong};
 ghost use Rattle.coffee_layout.specs.Rules.{broken_image};
 ghost use Rattle.coffee_layout.specs.Units.{pages_of};
 
@@ -10,8 +11,10 @@ use crate::trouble::{Judgement, Trouble};
 use afl_base::{Failed, Flash, PageId};
 use coffee_layout::{BadImage, Table, check};
 
-/// Judges the image by reading alone; it stays as it was, after `Failed` too. `Sound` comes exactly where the rules 1 to 13 hold. `Cut` says what was under way when a run ended, and
-/// which record is torn: once that is settled, the image is sound. At most 4,000 reads for each page.
+/// Judges the image by reading alone; it stays as it was, after `Failed` too. `Sound` comes exactly
+/// where the rules 1 to 13 hold. `Cut` says what was under way when a run ended, and which record is
+/// torn: once that is settled, the image is sound. `Strange` comes exactly where the image breaks a
+/// rule and mends to no files. At most 4,000 reads for each page.
 pub fn judge<F: Flash>(flash: &mut F) -> Result<Judgement, Failed>
     ensures judged { IsTrue F.tells → IfOk result (λ j. IsJudged (F.image flash.old) j) }
     ensures inside { IfOk result (λ j. IsJudgedInside (length (F.image flash.old)) j) }
@@ -51,10 +54,13 @@ fn search<F: Flash>(
     table: &mut Table,
 ) -> Result<Option<Trouble>, Failed>
     ensures found { IsTrue F.tells → IfOk result (λ o. IfSome o (λ t. IsCutBy (F.image flash.old) t)) }
+    ensures none { IsTrue F.tells → broken_image (F.image flash.old) ≡ Some bad.now
+        → IfOk result (λ o. IfNone o (MendsToNone (F.image flash.old))) }
     ensures inside { IfOk result (λ o. IfSome o (λ t. IsTroubleInside (length (F.image flash.old)) t)) }
     ensures reads { F.reads flash.new ≤ F.reads flash.old + 2607 * pages_of (F.image flash.old) + 60 }
     ensures frame { OnlyReads F.image F.lent F.reads F.faults flash.old flash.new result }
 {
+    flash.sectors();
     let page = PageId(bad.place);
     match bad.rule {
         1 => search_head(flash, page, table),
@@ -74,6 +80,8 @@ fn search_head<F: Flash>(
     table: &mut Table,
 ) -> Result<Option<Trouble>, Failed>
     ensures found { IsTrue F.tells → IfOk result (λ o. IfSome o (λ t. IsCutBy (F.image flash.old) t)) }
+    ensures none { IsTrue F.tells → IfOk result
+        (λ o. IfNone o (IsHeadWrong (F.image flash.old) page.0)) }
     ensures inside { IfOk result (λ o. IfSome o (λ t. IsTroubleInside (length (F.image flash.old)) t)) }
     ensures reads { F.reads flash.new ≤ F.reads flash.old + 2607 * pages_of (F.image flash.old) + 60 }
     ensures frame { OnlyReads F.image F.lent F.reads F.faults flash.old flash.new result }
@@ -95,6 +103,8 @@ fn search_for<F: Flash>(
     table: &mut Table,
 ) -> Result<Option<Trouble>, Failed>
     ensures found { IsTrue F.tells → IfOk result (λ o. IfSome o (λ t. IsCutBy (F.image flash.old) t)) }
+    ensures none { IsTrue F.tells → IfOk result
+        (λ o. IfNone o (IsWrong (F.image flash.old) page.0 guess)) }
     ensures inside { IfOk result (λ o. IfSome o (λ t. IsTroubleInside (length (F.image flash.old)) t)) }
     ensures reads { F.reads flash.new ≤ F.reads flash.old + 869 * pages_of (F.image flash.old) + 20 }
     ensures frame { OnlyReads F.image F.lent F.reads F.faults flash.old flash.new result }

@@ -27,6 +27,7 @@ pub(crate) fn find_torn_header<F: Flash>(
         (λ o. IfSome o (λ u. IsFound (F.image flash.old) (meant u))) }
     ensures none { IsTrue F.tells → IfOk result
         (λ o. IfNone o (HasPage (length (F.image flash.old)) page.0 → IsTornHeader (F.image flash.old) page.0 → ⊥)) }
+    ensures is { IfOk result (λ o. IfSome o (λ u. u ≡ Beginning page)) }
     ensures inside { IfOk result (λ o. IfSome o (λ u. IsInFlash (length (F.image flash.old)) u)) }
     ensures reads { F.reads flash.new ≤ F.reads flash.old + pages_of (F.image flash.old) + 17 }
     ensures frame { OnlyReads F.image F.lent F.reads F.faults flash.old flash.new result }

@@ -1,6 +1,5 @@
-use Rattle.std.proofs.Common.{◌≡◌, ◌+◌, ◌*◌, inl, inr, Some, rules, arith, ap, sym, length, ◌∙◌}
+use Rattle.std.proofs.Common.{◌≡◌, inl, inr, arith, ap, length, ◌∙◌}
 use Rattle.coffee_layout.specs.FileBytes.{table_of, used_in}
-use Rattle.coffee_layout.specs.Rules.{broken_image}
 use Rattle.coffee_find.proofs.Missed.{is_broken, missed_full, missed_inactive, same_log}
 use Rattle.coffee_find.proofs.settling.torn_record.Goals as goal
 use Rattle.coffee_find.proofs.settling.torn_record.Goals.{then-used-eq30-via-then-used-eq30, then-used-eq30-via-else-used-eq30+then-size-place}
