@@ -2,11 +2,13 @@ ghost use Rattle.std.specs.Prelude.{◌≡◌, ℕ, ◌+◌, ◌≤◌, Some, le
 ghost use Rattle.afl_base.specs.Keeping.{OnlyReads};
 ghost use Rattle.coffee_find.specs.Found.{HasRecord, IsTroubleInside};
 
-use afl_base::{Failed, Flash};
-use coffee_find::{TornRecord, Trouble, overlay_of};
+use crate::room::has_room_in_front;
+use afl_base::{Failed, Files, Flash, SectorId};
+use catalog::catalog_file;
+use coffee_find::{TornRecord, Trouble, UnderWay, overlay_of};
 use coffee_volume::{MountError, Volume};
 use flash_views::View;
-use stored_mend::survey;
+use stored_survey::may_be_cut;
 
 /// Whether the database of an image is one that a cut can have left, as it reads once what was found in its files is settled.
 /// Nothing is written, where it fails too.
@@ -16,7 +18,8 @@ pub fn survey_image<F: Flash>(flash: F, trouble: &Trouble) -> (F, Result<bool, F
     ensures frame { OnlyReads F.image F.lent F.reads F.faults flash result.0 result.1 }
 {
     let overlay = overlay_of(&trouble.under_way, torn_place(&trouble.torn));
-    let (view, surveyed) = survey_view(View::new(flash, overlay));
+    let erased = erased_sector(&trouble.under_way);
+    let (view, surveyed) = survey_view(View::new(flash, overlay), erased);
     (view.into_flash(), surveyed)
 }
 
@@ -30,19 +33,63 @@ fn torn_place(torn: &Option<TornRecord>) -> Option<u32>
     }
 }
 
-// The same of an image as it reads now.
-fn survey_view<F: Flash>(flash: F) -> (F, Result<bool, Failed>)
+// The sector that was being erased.
+fn erased_sector(under_way: &UnderWay) -> Option<SectorId> {
+    match under_way {
+        UnderWay::Erasing { sector, page: _ } => Some(*sector),
+        _ => None,
+    }
+}
+
+// The same of an image as it reads now. Where there is no catalog, a sector is erased only for one that finds no free pages.
+fn survey_view<F: Flash>(flash: F, erased: Option<SectorId>) -> (F, Result<bool, Failed>)
+    ensures frame { OnlyReads F.image F.lent F.reads F.faults flash result.0 result.1 }
+{
+    let (mut flash, surveyed) = survey_files(flash);
+    match (surveyed, erased) {
+        (Ok(Surveyed::WithoutCatalog), Some(sector)) => match has_room_in_front(
+            &mut flash, sector,
+        ) {
+            Ok(has_room) => (flash, Ok(!has_room)),
+            Err(failed) => (flash, Err(failed)),
+        },
+        (Ok(surveyed), _) => (flash, Ok(surveyed != Surveyed::Strange)),
+        (Err(failed), _) => (flash, Err(failed)),
+    }
+}
+
+// What is found of the files.
+#[derive(Clone, Copy, PartialEq, Eq)]
+enum Surveyed {
+    // No cut leaves such files.
+    Strange,
+    // A cut can have left them, and there is no catalog.
+    WithoutCatalog,
+    // A cut can have left them.
+    Cut,
+}
+
+fn survey_files<F: Flash>(flash: F) -> (F, Result<Surveyed, Failed>)
     ensures frame { OnlyReads F.image F.lent F.reads F.faults flash result.0 result.1 }
 {
     match Volume::mount(flash) {
         Ok(mut volume) => {
-            let surveyed = match survey(&mut volume) {
-                Ok(surveyed) => Ok(surveyed.is_ok()),
-                Err(failed) => Err(failed),
-            };
+            let surveyed = survey(&mut volume);
             (volume.unmount(), surveyed)
         }
-        Err(MountError::Bad { bad: _, flash }) => (flash, Ok(false)),
+        Err(MountError::Bad { bad: _, flash }) => (flash, Ok(Surveyed::Strange)),
         Err(MountError::Failed { flash }) => (flash, Err(Failed)),
     }
+}
+
+fn survey<V: Files>(files: &mut V) -> Result<Surveyed, Failed>
+    ensures frame { OnlyReads V.state V.lent V.reads V.faults files.old files.new result }
+{
+    if !may_be_cut(files)? {
+        return Ok(Surveyed::Strange);
+    }
+    Ok(match files.find(catalog_file()) {
+        Some(_) => Surveyed::Cut,
+        None => Surveyed::WithoutCatalog,
+    })
 }
