@@ -1,5 +1,5 @@
 use Rattle.std.proofs.Common.{◌≡◌, ◌≤◌}
-use Rattle.stored_mend.proofs.row_bytes.holds_rows.Given as goal
+use Rattle.stored_survey.proofs.rows.holds_rows.Given as goal
 
 abbrev pub invariant-loop-slot : goal.invariant-loop-slot
 invariant-loop-slot g l = record {

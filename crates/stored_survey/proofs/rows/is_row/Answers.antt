@@ -1,6 +1,6 @@
 use Rattle.std.proofs.Common.{arith}
 use Rattle.std.proofs.lemmas.List.{length-drop, take_rest}
-use Rattle.stored_mend.proofs.row_bytes.is_row.Goals as goal
+use Rattle.stored_survey.proofs.rows.is_row.Goals as goal
 use Rattle.std.proofs.lemmas.Grind.{common_steps}
 use Rattle.padded.proofs.Facts.{drop_item}
 
