@@ -1,4 +1,4 @@
-ghost use Rattle.std.specs.Prelude.{◌≡◌, ℕ, ◌+◌, ◌*◌, ◌≤◌, true, false, length, Some, None, IsTrue, IfNone, IfOk, IfSome};
+ghost use Rattle.std.specs.Prelude.{◌≡◌, ◌≢◌, ℕ, ◌+◌, ◌*◌, ◌≤◌, true, false, length, Some, None, IsTrue, IfNone, IfOk, IfSome};
 ghost use Rattle.afl_base.specs.Keeping.{OnlyReads};
 ghost use Rattle.afl_base.specs.Image.{zeros_at};
 ghost use Rattle.coffee_cuts.specs.Cuts.{IsActiveAt, IsSettled, settled};
@@ -62,10 +62,18 @@ fn torn_record<F: Flash>(flash: &mut F, log: PageId) -> Result<Verdict, Failed>
     read_table(flash, log.0, &mut table)?;
     let used = records_used(&table) as u32;
     let place = 256 * u32::from(log.0) + 96 + 128 * used;
-    if used == 30 || size < place + 128 {
+    if is_full(used) || size < place + 128 {
         return Ok(Verdict::Broken);
     }
     Ok(Verdict::Torn(TornRecord { log, place }))
+}
+
+// Whether a log with so many records in use has none left.
+fn is_full(used: u32) -> bool
+    ensures yes { result ≡ true → used ≡ 30 }
+    ensures no { result ≡ false → used ≢ 30 }
+{
+    used == 30
 }
 
 // Whether an active extent with these flags begins at a page.
