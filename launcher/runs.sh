@@ -1,0 +1,67 @@
+# A run of the program on the streams of the caller.
+
+# What a file is, by device and number, and how long it is.
+identity() {
+    stat -L -c '%d:%i %s' -- "$1" 2>/dev/null
+}
+
+# Waits until a child is the program, or has ended: as a copy of the shell it would lose a signal.
+wait_for_program() {
+    shell=$(readlink "/proc/$$/exe") waits=0
+    while [ "$(readlink "/proc/$child/exe")" = "$shell" ] && [ "$waits" -lt 50 ]; do
+        sleep 0.01 2>/dev/null || sleep 1
+        waits=$((waits + 1))
+    done
+}
+
+pass_on() {
+    heard=yes passed_on=$1
+    [ "$child" ] || return
+    wait_for_program
+    kill "$child" 2>/dev/null
+}
+
+pass_signals_on() {
+    child='' passed_on=''
+    trap 'pass_on 129' HUP
+    trap 'pass_on 130' INT
+    trap 'pass_on 131' QUIT
+    trap 'pass_on 143' TERM
+}
+
+# Waits for the end of the program. A wait that a signal breaks off does not tell its status.
+wait_for_child() {
+    status=''
+    [ -z "$passed_on" ] || pass_on "$passed_on"
+    while
+        heard=''
+        wait "$child" 2>/dev/null
+        now=$?
+        [ "$now" -eq 127 ] || status=$now
+        [ "$heard" ]
+    do :; done
+    child=''
+    # what the shell ends with where it could not begin the program
+    case $status in '' | 126) say "$program could not be begun"; status=125 ;; esac
+    [ "$status" -ne 143 ] || status=${passed_on:-143}
+}
+
+# Begins the program and waits for its end. What a shell begins in the background ignores INT and QUIT, so each signal
+# goes on as TERM, and the status is that of the one that came.
+carry_out() {
+    was=$(identity "$image")
+    pass_signals_on
+    if { true 3<&0; } 2>/dev/null; then
+        exec 3<&0
+        "$program" "$@" <&3 3<&- &
+    else
+        "$program" "$@" <&- &
+    fi
+    child=$!
+    wait_for_child
+}
+
+# Carries out a form, and counts refusals where that is asked for.
+run_form() {
+    if [ "$strict" ]; then carry_out_strictly "$@"; else carry_out "$@"; fi
+}

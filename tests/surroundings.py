@@ -1,0 +1,39 @@
+"""What tests set before they begin, so that they pass however they are started.
+
+Ignored signals, a closed input, `umask 077`, another language or a hook of git change nothing. A folder for temporary
+files that is too small is told at the beginning.
+"""
+import os
+import shutil
+import signal
+import sys
+import tempfile
+
+# what the shell of the caller may have set, and what would change what the tests see
+UNWANTED = ("ANTELOPE_SYNC", "LANGUAGE", "GIT_DIR", "GIT_WORK_TREE", "GIT_INDEX_FILE", "CDPATH", "POSIXLY_CORRECT")
+SIGNALS = (signal.SIGHUP, signal.SIGINT, signal.SIGQUIT, signal.SIGTERM, signal.SIGPIPE)
+
+
+def default_signals():
+    """For `preexec_fn`: a process that `nohup` or `&` of a shell began hands on the signals that it ignores."""
+    for number in SIGNALS:
+        signal.signal(number, signal.SIG_DFL)
+
+
+def settle(megabytes):
+    """Sets what the caller may have set otherwise, and ends where the tests would not have enough room."""
+    for number in range(3):
+        try:
+            os.fstat(number)
+        except OSError:
+            os.open(os.devnull, os.O_RDWR)
+    os.umask(0o022)
+    signal.signal(signal.SIGCHLD, signal.SIG_DFL)
+    signal.pthread_sigmask(signal.SIG_SETMASK, ())
+    os.environ["LC_ALL"] = "C.UTF-8"
+    for name in UNWANTED:
+        os.environ.pop(name, None)
+    folder = tempfile.gettempdir()
+    free = shutil.disk_usage(folder).free >> 20
+    if free < megabytes:
+        sys.exit(f"the tests need {megabytes} MB for temporary files, and {folder} has {free}: TMPDIR may name another folder")
