@@ -8,6 +8,8 @@ import tempfile
 import time
 
 SECONDS = 40
+READY = "document.documentElement?.dataset.ready === 'yes'"
+KEYS = {"Enter": 13, "Escape": 27, "ArrowUp": 38, "ArrowDown": 40}
 
 
 class Browser:
@@ -71,7 +73,7 @@ class Browser:
         page.tell("Emulation.setDeviceMetricsOverride", width=width, height=height, deviceScaleFactor=1, mobile=False)
         page.tell("Emulation.setEmulatedMedia", features=[{"name": "prefers-color-scheme", "value": scheme}])
         page.tell("Page.navigate", url=address)
-        page.until("document.documentElement?.dataset.ready === 'yes'")
+        page.until(READY)
         return page
 
 
@@ -100,11 +102,28 @@ class Page:
                 raise AssertionError(f"it never came to {condition}")
             time.sleep(0.05)
 
+    def settled(self):
+        """The page, once nothing runs in it."""
+        self.until("document.documentElement.dataset.busy === 'no'")
+        return self
+
+    def reload(self):
+        self.evaluate("document.documentElement.dataset.ready = 'no'")
+        self.tell("Page.reload")
+        self.until(READY)
+
+    def text(self, place):
+        """The text of an element, by its name."""
+        return self.evaluate(f"document.getElementById('{place}').textContent")
+
+    def click(self, place):
+        self.evaluate(f"document.getElementById('{place}').click()")
+
     def type(self, text):
         self.tell("Input.insertText", text=text)
 
-    def press(self, key, code, control=False):
-        words = {"key": key, "code": code, "windowsVirtualKeyCode": 13, "modifiers": 2 if control else 0}
+    def press(self, key, control=False):
+        words = {"key": key, "code": key, "windowsVirtualKeyCode": KEYS[key], "modifiers": 2 if control else 0}
         for kind in ("rawKeyDown", "keyUp"):
             self.tell("Input.dispatchKeyEvent", type=kind, **words)
 
