@@ -1,4 +1,4 @@
-// What a file is, judged by its size and name before it is read, and how a long script is cut for saving.
+// Files that come and go: their kind by size and name, before they are read; a long script in parts; rows as CSV.
 
 const SECTOR = 4096;
 const LEAST_SECTORS = 4;

@@ -4,9 +4,9 @@ import { MOST_SHOWN, kindOf, partsOf } from './files.mjs';
 import { Keep } from './keep.mjs';
 import { STATUSES } from './library.mjs';
 import { Picture } from './picture.mjs';
+import { chosenIn } from './question.mjs';
 import { queryFor, relationsOf, rowsOf, valuesOf } from './relations.mjs';
 import { answersOf, isRefusal } from './replies.mjs';
-import { chosenIn } from './question.mjs';
 import { Runner, Stopped } from './runner.mjs';
 import { Script } from './script.mjs';
 import { Sheet, made, offer } from './sheet.mjs';
@@ -35,6 +35,7 @@ let isSound = true;
 let isBusy = false;
 let relations = [];
 let chosen;
+let answers = [];
 // What `repair` makes of an image that is not sound, until it is accepted.
 let repaired;
 
@@ -188,21 +189,21 @@ function areSame(one, other) {
     return at === these.length;
 }
 
-/** Shows the answers with rows, the last one first. */
+/** Offers the answers with rows, and shows the last one. */
 function showAnswers(text, lines) {
-    const answers = answersOf(text, lines, relations);
+    answers = answersOf(text, lines, relations);
     by('answer').hidden = answers.length === 0;
     by('which').replaceChildren(...answers.map((it, at) => new Option(it.command.slice(0, 120), at)));
     by('which').hidden = answers.length < 2;
-    by('which').onchange = () => {
-        const { command, columns, lines: [first, end] } = answers[by('which').value];
-        const rows = lines.slice(first, end).map(valuesOf);
-        const known = rows[0].map((_, at) => columns[at] ?? { name: `column ${at + 1}`, domain: '' });
-        answerSheet.show(known, rows, 'answer', answers.length < 2 ? command : '');
-    };
-    if (!answers.length) return;
     by('which').value = answers.length - 1;
-    by('which').onchange();
+    if (answers.length) showAnswer();
+}
+
+function showAnswer() {
+    const { command, columns, lines } = answers[by('which').value];
+    const rows = lines.map(valuesOf);
+    const known = rows[0].map((_, at) => columns[at] ?? { name: `column ${at + 1}`, domain: '' });
+    answerSheet.show(known, rows, 'answer', answers.length < 2 ? command : '');
 }
 
 // ---- relations
@@ -244,6 +245,7 @@ async function takeFile(file) {
     }
     if (file.size <= MOST_SHOWN) {
         script.text = await file.text();
+        by('script').focus();
         return;
     }
     const choices = { run: 'Run it', '': 'Cancel' };
@@ -258,7 +260,7 @@ async function takeSample() {
     const text = await (await fetch('sample.aql')).text();
     const { image: made } = await runner.call('run', new Uint8Array(SAMPLE_SECTORS * SECTOR), text);
     await take(made, 'sample');
-    by('script').value = SAMPLE_SCRIPT;
+    script.text = SAMPLE_SCRIPT;
     await carryOut(SAMPLE_SCRIPT);
 }
 
@@ -291,6 +293,7 @@ function listen() {
     };
     for (const [id, action] of Object.entries(clicks)) by(id).addEventListener('click', () => doing(action));
     by('stop').addEventListener('click', () => runner.stop());
+    by('which').addEventListener('change', showAnswer);
     by('save').addEventListener('click', event => {
         if (isBusy) event.preventDefault();
         doing(markSaved);

@@ -5,6 +5,7 @@ import { made } from './sheet.mjs';
 /** The value of the choice that is pressed; '' if the question is closed by Escape. */
 export function chosenIn(dialog, text, choices) {
     const asked = made('p', text);
+    asked.id = 'asked';
     const form = document.createElement('form');
     form.method = 'dialog';
     form.append(...Object.entries(choices).map(([value, label]) => {

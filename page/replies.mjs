@@ -41,7 +41,8 @@ export function answersOf(script, lines, relations) {
         if (verb === 'OPEN' && line === 'ok') cursors[tokens[1]] = tokens.slice(2);
         if (end > first) {
             const query = verb === 'FETCH' ? cursors[tokens[1]] ?? [] : tokens;
-            answers.push({ command: commands[at - 1]?.trim() ?? '', columns: columnsOf(query, relations), lines: [first, end] });
+            const command = commands[at - 1]?.trim() ?? '';
+            answers.push({ command, columns: columnsOf(query, relations), lines: lines.slice(first, end) });
             if (answers.length > MOST_ANSWERS) answers.shift();
         }
         first = end + 1;

@@ -26,7 +26,7 @@ export class Runner {
         return new Promise((accept, refuse) => {
             this.#refuse = refuse;
             this.#worker.onmessage = ({ data }) => (data.error ? refuse(new Error(data.error)) : accept(resultOf(data)));
-            this.#worker.onerror = event => refuse(new Error(event.message || 'the worker could not be started'));
+            this.#worker.onerror = event => this.#end(new Error(event.message || 'the worker could not be started'));
             this.#worker.postMessage({ module: this.#module, form, words });
         }).finally(() => {
             this.#isRunning = false;
@@ -35,9 +35,13 @@ export class Runner {
 
     /** Ends the call that runs; the next one gets a new worker. */
     stop() {
+        this.#end(new Stopped('Stopped'));
+    }
+
+    #end(why) {
         this.#worker?.terminate();
         this.#worker = undefined;
-        this.#refuse?.(new Stopped('Stopped'));
+        this.#refuse?.(why);
     }
 }
 

@@ -30,7 +30,6 @@ export class Script {
     set text(script) {
         this.remember();
         this.#field.value = script;
-        this.#field.focus();
     }
 
     /** Adds the script to the history; a long one would fill the storage. */

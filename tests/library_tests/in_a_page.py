@@ -236,7 +236,8 @@ def test_an_answer_is_a_table_a_csv_and_a_plot():
                     "SELECT v FROM r WHERE v > 9;")
         one_row = [["COUNT(v)", "MIN(v)LONG", "SUM(t)"], ["3", "-5", str(1782000000000 + 1782001800000 + 140737488355327)]]
         same(table_of(page, "answer-sheet"), one_row, "the aggregates")
-        page.evaluate("{ const which = document.getElementById('which'); which.value = 0; which.onchange(); }")
+        page.evaluate("document.getElementById('which').value = 0")
+        page.evaluate("document.getElementById('which').dispatchEvent(new Event('change'))")
         two_rows = [["2026-06-21 00:00", "-5", 'a,"b;'], ["2026-06-21 00:30", "7", "c"]]
         same(table_of(page, "answer-sheet")[1:], two_rows, "the rows")
         same(page.evaluate("document.querySelectorAll('#answer-sheet path.curve').length"), 1, "the curve")
@@ -353,6 +354,14 @@ def test_a_script_that_is_dropped_is_shown_and_the_one_before_is_kept():
         page.press("ArrowUp")
         page.press("ArrowUp")
         same(page.evaluate("document.getElementById('script').value"), "SELECT node FROM events;", "the one before")
+        page.evaluate("document.getElementById('script').value = 'PACK'")
+        page.click("sample")
+        page.settled().evaluate("document.getElementById('script').focus()")
+        seen = []
+        for _ in range(8):
+            page.press("ArrowUp")
+            seen.append(page.evaluate("document.getElementById('script').value"))
+        same("PACK" in seen, True, "that the sample's script keeps the one before it, too")
 
 
 def test_a_reload_loses_nothing_and_each_tab_has_an_image_of_its_own():
