@@ -20,6 +20,13 @@ export function kindOf({ name, size }) {
     return { why: `${name} has ${bytes}. An image has 4 to 4,095 sectors of 4,096 bytes; the name of a script ends in .aql.` };
 }
 
+/** A longer image: erased sectors are zeros at its end. */
+export function lengthened(image, sectors) {
+    const longer = new Uint8Array(Math.min(image.length + sectors * SECTOR, MOST_SECTORS * SECTOR));
+    longer.set(image);
+    return longer;
+}
+
 /** The parts of a script that one run each can take, cut after whole commands: each line of a dump is one. */
 export function partsOf(script) {
     const parts = [];

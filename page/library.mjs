@@ -11,7 +11,7 @@ const encoder = new TextEncoder();
 /** What each status means here. */
 export const STATUSES = {
     0: 'done',
-    3: 'the flash is full; the last command changed nothing, and none after it was run',
+    3: 'the flash is full (more sectors make room); the last command changed nothing, and none after it was run',
     5: 'the replies are longer than 16 MiB; the command whose reply is cut off was run, and none after it',
     6: 'the image is not sound, and was not changed',
     8: 'the script is longer than 16,777,216 bytes; the commands that are complete within them were run',

@@ -1,6 +1,6 @@
 // The page: an image in memory, and what is shown of it. The image changes only when a call has ended and it is kept.
 
-import { MOST_SHOWN, kindOf, partsOf } from './files.mjs';
+import { MOST_SHOWN, kindOf, lengthened, partsOf } from './files.mjs';
 import { Keep } from './keep.mjs';
 import { STATUSES } from './library.mjs';
 import { Picture } from './picture.mjs';
@@ -13,6 +13,7 @@ import { Sheet, made, offer } from './sheet.mjs';
 
 const SECTOR = 4096;
 const NEW_SECTORS = 256;
+const MORE_SECTORS = 256;
 const SAMPLE_SECTORS = 32;
 const SHOWN_LINES = 2000;
 const SAMPLE_SCRIPT = `SELECT MIN(celsius), MAX(celsius), MEAN(celsius)
@@ -140,7 +141,7 @@ async function showUnsound(reply) {
     const canRepair = repaired.status === 0;
     const what = {
         0: `Repair makes it sound again${lines.length ? ', and changes this in the database:' : ' and changes nothing in the database.'}`,
-        3: `A repair needs more room (${lines.at(-1)}). Add sectors of zeros to the end of the file, and open it again.`,
+        3: `A repair needs more room (${lines.at(-1)}): add sectors below.`,
         6: 'No power cut leaves an image like this, and repair refuses it.',
     }[repaired.status];
     by('notice').hidden = false;
@@ -279,6 +280,14 @@ async function saveScript() {
     say('The script is longer than one run takes. Save all its parts, and run them in this order:', items);
 }
 
+/** Makes the flash longer, as far as an image goes. */
+async function addSectors() {
+    const longer = lengthened(image, MORE_SECTORS);
+    if (longer.length === image.length) return say('An image has at most 4,095 sectors.');
+    await accept(longer, name, false);
+    await show();
+}
+
 async function markSaved() {
     await accept(image, name, true);
     showName();
@@ -289,6 +298,7 @@ function listen() {
         new: async () => await mayGo() && take(new Uint8Array(NEW_SECTORS * SECTOR), 'station'),
         sample: async () => await mayGo() && takeSample(),
         dump: saveScript,
+        more: addSectors,
         repair: () => tell(repaired, '', 'Repaired.'),
     };
     for (const [id, action] of Object.entries(clicks)) by(id).addEventListener('click', () => doing(action));
@@ -322,8 +332,8 @@ function listenToDrops() {
         addEventListener(kind, event => {
             event.preventDefault();
             document.body.classList.toggle('over', kind === 'dragover');
-            const file = kind === 'drop' && event.dataTransfer.files[0];
-            if (file) doing(() => takeFile(file));
+            const files = kind === 'drop' ? event.dataTransfer.files : [];
+            if (files.length) doing(() => (files.length > 1 ? say('Drop one file at a time.') : takeFile(files[0])));
         });
     }
 }

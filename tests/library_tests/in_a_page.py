@@ -210,6 +210,29 @@ def test_the_page_offers_no_repair_where_the_program_refuses_it():
         same(page.evaluate("document.getElementById('repair').hidden"), True, "that there is no repair")
 
 
+def test_a_full_flash_is_made_longer():
+    load = "CREATE RELATION n; CREATE ATTRIBUTE v DOMAIN LONG IN n;" + "INSERT (1) INTO n;" * 900
+    write("load", load.encode())
+    write("one", b"INSERT (2) INTO n;")
+    erased("small.img", 4)
+    erased("longest.img", 4095)
+    with opened() as page:
+        take(page, "small.img")
+        same(asked(page, load).endswith("no space 32\n"), True, "that the flash is full")
+        page.click("more")
+        same(page.settled().text("name"), "small, not saved", "the name of the longer image")
+        same(asked(page, "INSERT (2) INTO n;"), "ok\n", "the reply then")
+        program("run", "small.img", "load")
+        write("small.img", read("small.img") + bytes(256 * 4096))
+        same(program("run", "small.img", "one"), (0, b"ok\n"), "the program's reply")
+        same(image_of(page), of_bytes(read("small.img")), "the image")
+        drop(page, "longest.img")
+        choose(page, "go")
+        page.click("more")
+        same(page.settled().text("said"), "An image has at most 4,095 sectors.", "what is said of the longest")
+        same(image_of(page), of_bytes(read("longest.img")), "the longest image")
+
+
 def test_a_long_run_is_stopped_and_changes_nothing():
     write("load", b"CREATE RELATION r; CREATE ATTRIBUTE a DOMAIN INT IN r; CREATE ATTRIBUTE b DOMAIN INT IN r;"
                   + b"INSERT (1, 2) INTO r;" * 20000)
@@ -325,6 +348,18 @@ def test_unsaved_work_is_asked_for():
         same(image_of(page), of_bytes(read("other.img")), "the image that was dropped")
         page.click("new")
         same(page.settled().text("name"), "station", "that nothing is asked where nothing is lost")
+
+
+def test_several_files_at_once_are_refused():
+    with opened() as page:
+        was = image_of(page)
+        page.evaluate("""{
+            const files = new DataTransfer();
+            for (const name of ['a.aql', 'b.aql']) files.items.add(new File(['SELECT 1;'], name));
+            document.body.dispatchEvent(new DragEvent('drop', { dataTransfer: files, bubbles: true, cancelable: true }));
+        }""")
+        same(page.settled().text("said"), "Drop one file at a time.", "what is said of them")
+        same(image_of(page), was, "the image")
 
 
 def test_a_wrong_file_is_refused_by_its_size_and_changes_nothing():
