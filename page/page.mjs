@@ -51,7 +51,7 @@ async function doing(action) {
     setBusy(true);
     const ticking = setInterval(() => {
         const seconds = Math.round((performance.now() - begun) / 1000);
-        if (runner.isRunning) by('ended').textContent = `Running for ${seconds} s`;
+        if (runner.isRunning) by('running').textContent = `Running for ${seconds} s`;
     }, 1000);
     try {
         await action();
@@ -60,6 +60,7 @@ async function doing(action) {
         by('ended').textContent = error instanceof Stopped ? `Stopped. ${left}` : `Failed: ${error.message}. ${left}`;
     } finally {
         clearInterval(ticking);
+        by('running').textContent = '';
         setBusy(false);
     }
 }
@@ -154,6 +155,7 @@ async function showUnsound(reply) {
 
 async function carryOut(input) {
     script.remember();
+    by('ended').textContent = '';
     const begun = performance.now();
     const result = await runner.call('run', image, input);
     await tell(result, input, `${(performance.now() - begun).toFixed(1)} ms`);
@@ -178,9 +180,9 @@ function showReplies({ status, text }, took) {
     by('replies').replaceChildren(...last.map(it => made('span', `${it}\n`, isRefusal(it) ? 'refused' : '')));
     by('replies').scrollTop = by('replies').scrollHeight;
     const refused = status === 6 ? 0 : lines.filter(isRefusal).length;
-    const count = refused ? `, ${refused.toLocaleString('en')} refused` : '';
-    const part = last.length < lines.length ? ` The last ${SHOWN_LINES} of ${lines.length.toLocaleString('en')} lines.` : '';
-    by('ended').textContent = `Status ${status}: ${STATUSES[status]}${count}. ${took}${part}`;
+    const [count, shown, all] = [refused, last.length, lines.length].map(it => it.toLocaleString('en'));
+    const part = last.length < lines.length ? `, the last ${shown} of ${all} lines` : '';
+    by('ended').textContent = `Status ${status}: ${STATUSES[status]}${refused ? `, ${count} refused` : ''}. ${took}${part}`;
 }
 
 function areSame(one, other) {
@@ -299,7 +301,7 @@ function listen() {
         sample: async () => await mayGo() && takeSample(),
         dump: saveScript,
         more: addSectors,
-        repair: () => tell(repaired, '', 'Repaired.'),
+        repair: () => tell(repaired, '', 'Repaired'),
     };
     for (const [id, action] of Object.entries(clicks)) by(id).addEventListener('click', () => doing(action));
     by('stop').addEventListener('click', () => runner.stop());

@@ -29,7 +29,7 @@ export class Sheet {
     #csv;
     #plot;
     #axes;
-    #shown = { columns: [], rows: [], name: '', note: '' };
+    #shown = { columns: [], rows: [], name: '' };
 
     /** Fills an element with the template's parts. */
     constructor(place, template) {
@@ -51,22 +51,24 @@ export class Sheet {
 
     /** Shows rows of these columns, each with a `name` and a `domain`; `note` stands beside their number. */
     show(columns, rows, name, note = '') {
-        this.#shown = { columns, rows, name, note };
+        const hasAxes = namesOf(columns) === namesOf(this.#shown.columns);
+        this.#shown = { columns, rows, name };
         const part = rows.length > SHOWN_ROWS ? `The first ${SHOWN_ROWS} of ${rows.length.toLocaleString('en')} rows. ` : '';
         this.#about.textContent = part + note;
         this.#rows.replaceChildren(...(columns.length ? [tableOf(columns, rows)] : []));
         this.#csv.hidden = columns.length === 0;
-        this.#showAxes();
+        this.#showAxes(hasAxes);
     }
 
-    #showAxes() {
+    // The axes that were chosen stay, if the columns are the same.
+    #showAxes(hasAxes) {
         const numbers = this.#shown.columns.filter((_, at) => isNumber(this.#shown, at));
         const first = { x: numbers.length > 1 ? numbers[0] : NUMBER, y: numbers[1] ?? numbers[0] };
         for (const [axis, select] of Object.entries(this.#axes)) {
             const names = [...numbers, ...(axis === 'x' ? [NUMBER] : [])].map(it => it.name);
             const was = select.value;
             select.replaceChildren(...names.map(it => new Option(it)));
-            select.value = names.includes(was) ? was : first[axis]?.name;
+            select.value = hasAxes && names.includes(was) ? was : first[axis]?.name;
         }
         this.#draw();
     }
@@ -83,6 +85,10 @@ export class Sheet {
             .filter(pair => pair.every(it => it !== null)).map(pair => pair.map(Number));
         this.#plot.replaceChildren(plot(pairs, columns[x] ?? NUMBER, columns[y], this.#plot.clientWidth));
     }
+}
+
+function namesOf(columns) {
+    return columns.map(it => it.name).join();
 }
 
 // Whether a column has numbers: by its domain, or by its first value.

@@ -241,10 +241,11 @@ def test_a_long_run_is_stopped_and_changes_nothing():
     with opened() as page:
         take(page, "long.img")
         ask(page, "REMOVE FROM r WHERE a = 0; INSERT (5, 5) INTO r; JOIN r, r ON b PROJECT a;" * 50)
-        page.until("document.getElementById('ended').textContent.startsWith('Running for ')")
+        page.until("document.getElementById('running').textContent.startsWith('Running for ')")
         page.click("stop")
         same(page.settled().text("ended"), "Stopped. The image is as it was before.", "what is said of the run")
         same(image_of(page), of_bytes(read("long.img")), "the image")
+        same(page.text("running"), "", "what is said of a run that has ended")
         same(asked(page, "SELECT COUNT(a) FROM r;"), "20000\nrows 1\n", "the reply after that")
 
 
@@ -288,7 +289,7 @@ def test_130_000_replies_are_kept_and_the_last_of_them_shown():
         drop(page, "many.aql")
         choose(page, "run")
         same(page.text("replies"), "rows 0\n" * 2000, "the lines that are shown")
-        same("The last 2000 of 130,002 lines." in page.text("ended"), True, "what is said of them")
+        same(", the last 2,000 of 130,002 lines" in page.text("ended"), True, "what is said of them")
         erased("other")
         program("run", "other", "many.aql")
         same(image_of(page), of_bytes(read("other")), "the image")
@@ -310,6 +311,9 @@ def test_a_long_dump_comes_in_parts_that_runs_take():
     with opened() as page:
         take(page, "large.img")
         page.evaluate(WATCH_SAVING)
+        # what is read of an image after a run takes its time, and leaves the status as it is
+        asked(page, f"REMOVE FROM {names[0]} WHERE a0 = 0;")
+        same((page.text("ended")[:16], page.text("running")), ("Status 0: done. ", ""), "the status of a run")
         page.click("dump")
         page.settled()
         links = "Array.from(document.querySelectorAll('#items a'), it => it.download)"
