@@ -17,7 +17,8 @@ export function kindOf({ name, size }) {
             : { why: `${name} has ${bytes}, and a run takes a script of at most ${MOST_SCRIPT.toLocaleString('en')}.` };
     }
     if (size % SECTOR === 0 && size >= LEAST_SECTORS * SECTOR && size <= MOST_SECTORS * SECTOR) return { kind: 'image' };
-    return { why: `${name} has ${bytes}. An image has 4 to 4,095 sectors of 4,096 bytes; the name of a script ends in .aql.` };
+    const wanted = 'An image has 4 to 4,095 sectors of 4,096 bytes; the name of a script ends in .aql.';
+    return { why: `${name} has ${bytes}. ${wanted}` };
 }
 
 /** A longer image: erased sectors are zeros at its end. */

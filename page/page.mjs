@@ -29,8 +29,8 @@ const answerSheet = new Sheet(by('answer-sheet'), by('sheet'));
 
 let runner;
 let keep;
-let image;
-let name;
+let image = new Uint8Array(NEW_SECTORS * SECTOR);
+let name = 'station';
 let isSaved = true;
 let isSound = true;
 let isBusy = false;
@@ -107,7 +107,7 @@ async function accept(bytes, as, areSaved) {
 }
 
 function notKept(error) {
-    return `This browser cannot keep the image over a reload: ${error.message}. Save the image before you leave the page.`;
+    return `This browser cannot keep the image over a reload: ${error.message}. Save it before you leave the page.`;
 }
 
 /** Replaces the image. */
@@ -140,8 +140,9 @@ async function showUnsound(reply) {
     repaired = await runner.call('repair', image);
     const lines = linesOf(repaired.text).filter(it => it !== 'repaired');
     const canRepair = repaired.status === 0;
+    const effect = lines.length ? ', and changes this in the database:' : ' and changes nothing in the database.';
     const what = {
-        0: `Repair makes it sound again${lines.length ? ', and changes this in the database:' : ' and changes nothing in the database.'}`,
+        0: `Repair makes it sound again${effect}`,
         3: `A repair needs more room (${lines.at(-1)}): add sectors below.`,
         6: 'No power cut leaves an image like this, and repair refuses it.',
     }[repaired.status];
@@ -182,7 +183,8 @@ function showReplies({ status, text }, took) {
     const refused = status === 6 ? 0 : lines.filter(isRefusal).length;
     const [count, shown, all] = [refused, last.length, lines.length].map(it => it.toLocaleString('en'));
     const part = last.length < lines.length ? `, the last ${shown} of ${all} lines` : '';
-    by('ended').textContent = `Status ${status}: ${STATUSES[status]}${refused ? `, ${count} refused` : ''}. ${took}${part}`;
+    const refusals = refused ? `, ${count} refused` : '';
+    by('ended').textContent = `Status ${status}: ${STATUSES[status]}${refusals}. ${took}${part}`;
 }
 
 function areSame(one, other) {

@@ -49,11 +49,12 @@ export class Sheet {
         new ResizeObserver(() => this.#draw()).observe(this.#plot);
     }
 
-    /** Shows rows of these columns, each with a `name` and a `domain`; `note` stands beside their number. */
+    /** Shows rows of these columns, each with a `name` and a `domain`; `note` is shown beside them. */
     show(columns, rows, name, note = '') {
         const hasAxes = namesOf(columns) === namesOf(this.#shown.columns);
         this.#shown = { columns, rows, name };
-        const part = rows.length > SHOWN_ROWS ? `The first ${SHOWN_ROWS} of ${rows.length.toLocaleString('en')} rows. ` : '';
+        const all = rows.length.toLocaleString('en');
+        const part = rows.length > SHOWN_ROWS ? `The first ${SHOWN_ROWS} of ${all} rows. ` : '';
         this.#about.textContent = part + note;
         this.#rows.replaceChildren(...(columns.length ? [tableOf(columns, rows)] : []));
         this.#csv.hidden = columns.length === 0;

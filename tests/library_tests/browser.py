@@ -1,4 +1,4 @@
-"""A browser without a window, told what to do over a pipe."""
+"""A browser without a window, driven over a pipe."""
 import base64
 import contextlib
 import json
@@ -19,7 +19,7 @@ class Browser:
         self._from, from_it = os.pipe()
         words = ["chromium", "--headless=new", "--no-sandbox", "--disable-gpu", "--disable-dev-shm-usage", "--hide-scrollbars"]
         words += ["--remote-debugging-pipe", f"--user-data-dir={self._folder.name}", "--no-first-run", "about:blank"]
-        # the browser reads what it is told at 3 and writes what it answers at 4
+        # the browser reads its commands at 3 and writes its answers at 4
         shell = ["sh", "-c", f'exec "$@" 3<&{to_it} 4>&{from_it}', "sh", *words]
         quiet = {"stdin": subprocess.DEVNULL, "stdout": subprocess.DEVNULL, "stderr": subprocess.DEVNULL}
         self._begun = subprocess.Popen(shell, pass_fds=(to_it, from_it), **quiet)

@@ -1,4 +1,4 @@
-"""What the tests of the library share: what is built, how it is called beside the program, and what they are compared by."""
+"""What the tests of the library share: what is built, how it is called beside the program, and how it is compared."""
 import atexit
 import os
 import shutil

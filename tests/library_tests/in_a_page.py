@@ -258,7 +258,8 @@ def test_an_answer_is_a_table_a_csv_and_a_plot():
                     "INSERT (1782001800000, 7, 'c') INTO r; INSERT (140737488355327, 9, '') INTO r;"
                     "SELECT t, v, s FROM r WHERE v < 9; SELECT COUNT(v), MIN(v), SUM(t) FROM r;"
                     "SELECT v FROM r WHERE v > 9;")
-        one_row = [["COUNT(v)", "MIN(v)LONG", "SUM(t)"], ["3", "-5", str(1782000000000 + 1782001800000 + 140737488355327)]]
+        total = 1782000000000 + 1782001800000 + 140737488355327
+        one_row = [["COUNT(v)", "MIN(v)LONG", "SUM(t)"], ["3", "-5", str(total)]]
         same(table_of(page, "answer-sheet"), one_row, "the aggregates")
         page.evaluate("document.getElementById('which').value = 0")
         page.evaluate("document.getElementById('which').dispatchEvent(new Event('change'))")
@@ -285,7 +286,8 @@ def test_130_000_replies_are_kept_and_the_last_of_them_shown():
     with opened() as page:
         page.click("new")
         page.settled()
-        write("many.aql", b"CREATE RELATION r; CREATE ATTRIBUTE a DOMAIN INT IN r;" + b"SELECT a FROM r;" * 130000 + b"\n")
+        creates = b"CREATE RELATION r; CREATE ATTRIBUTE a DOMAIN INT IN r;"
+        write("many.aql", creates + b"SELECT a FROM r;" * 130000)
         drop(page, "many.aql")
         choose(page, "run")
         same(page.text("replies"), "rows 0\n" * 2000, "the lines that are shown")
@@ -369,7 +371,8 @@ def test_several_files_at_once_are_refused():
 def test_a_wrong_file_is_refused_by_its_size_and_changes_nothing():
     with opened() as page:
         was = image_of(page)
-        page.evaluate("for (const kind of ['arrayBuffer', 'text']) Blob.prototype[kind] = () => { window.wasRead = true; }")
+        watch = "Blob.prototype[kind] = () => { window.wasRead = true; }"
+        page.evaluate(f"for (const kind of ['arrayBuffer', 'text']) {watch}")
         for size in (0, 5, 3 * 4096, 4 * 4096 + 1, 4096 * 4096):
             write("wrong.img", bytes(size))
             page.evaluate("document.getElementById('said').textContent = ''")
@@ -463,7 +466,8 @@ def test_a_plot_of_many_rows_is_a_band_from_the_least_to_the_greatest():
         take(page, "noise.img")
         path = page.evaluate("document.querySelector('#relation-sheet path.band').getAttribute('d')")
         places = [tuple(map(float, it.split())) for it in path.strip("MZ").split("L")]
-        width, height = (page.evaluate(f"document.querySelector('#relation-sheet svg').viewBox.baseVal.{it}") for it in ("width", "height"))
+        width, height = page.evaluate("document.querySelector('#relation-sheet svg').getAttribute('viewBox')").split()[2:]
+        width, height = int(width), int(height)
         same(len(places) <= 2 * width, True, "that it has two places a column")
         # the plot's margins: 58 on the left, 18 on the right, 10 above, 28 below
         across = width - 58 - 18
