@@ -26,7 +26,7 @@ class Browser:
         os.close(to_it)
         os.close(from_it)
         self._answers, self._number, self._read = {}, 0, b""
-        self.requests = []
+        self.requests, self._loaded = [], set()
         return self
 
     def __exit__(self, *_):
@@ -62,6 +62,15 @@ class Browser:
                 self._answers[it["id"]] = it
             elif it["method"] == "Network.requestWillBeSent":
                 self.requests.append(it["params"]["request"]["url"])
+            elif it["method"] == "Page.loadEventFired":
+                self._loaded.add(it["sessionId"])
+
+    def reload(self, session):
+        """Returns when the page is loaded again: before that it answers nothing."""
+        self._loaded.discard(session)
+        self.tell("Page.reload", session)
+        while session not in self._loaded:
+            self._hear()
 
     def page(self, address, width, height, scheme="light"):
         """A page of this size, once it is ready."""
@@ -108,8 +117,7 @@ class Page:
         return self
 
     def reload(self):
-        self.evaluate("document.documentElement.dataset.ready = 'no'")
-        self.tell("Page.reload")
+        self._browser.reload(self._session)
         self.until(READY)
 
     def text(self, place):

@@ -492,5 +492,6 @@ def test_the_page_fits_a_telephone():
     with Site() as address, Browser() as browser:
         for name, width, height, scheme in SCREENS:
             page = browser.page(address, width, height, scheme)
+            page.evaluate("document.querySelector('details').open = true")
             same(page.evaluate("document.documentElement.scrollWidth"), width, f"the width of {name}")
             same(shown_rows(page) > 100, True, "that the sample is there")
