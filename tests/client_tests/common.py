@@ -11,7 +11,9 @@ import antelope
 ROOT = os.path.dirname(os.path.dirname(os.path.dirname(os.path.realpath(__file__))))
 CLIENTS = f"{ROOT}/clients"
 EXAMPLES = f"{ROOT}/examples"
-PROGRAM = f"{ROOT}/crates/antelope_cli/out/antelope_cli"
+PROGRAM = os.environ.get("SORACHEST_PROGRAM") or f"{ROOT}/crates/antelope_cli/out/antelope_cli"
+# what the clients start on an image
+os.environ["SORACHEST_PROGRAM"] = PROGRAM
 
 SENSORS = (
     "CREATE RELATION s; CREATE ATTRIBUTE k DOMAIN LONG IN s; CREATE ATTRIBUTE t DOMAIN STRING(5) IN s;"

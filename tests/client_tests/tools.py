@@ -40,6 +40,19 @@ def test_each_tool_says_what_it_does():
     same((begun.communicate()[0][:7], begun.returncode), (b"usage: ", 0), "help of the example")
 
 
+def test_each_command_of_the_package_is_there():
+    commands = dict(re.findall(r'^(sorachest-\w+) = "([\w.:]+)"$', read(f"{CLIENTS}/pyproject.toml").decode(), re.M))
+    same({f"sorachest-{it}" for it in ("csv", "hub", "plot", "reader")} <= set(commands), True, f"{commands}")
+    for command, call in commands.items():
+        module, _, name = call.partition(":")
+        code = f"import sys; sys.path.insert(0, {CLIENTS!r}); import {module} as it; sys.exit(it.{name}())"
+        words = [sys.executable, "-B", "-c", code, "--help"]
+        ended = subprocess.run(words, stdout=subprocess.PIPE)
+        same((ended.returncode, ended.stdout[:6]), (0, b"usage:"), f"the help of {command}")
+    words = [sys.executable, "-B", "-m", "sorachest", "ask", "--help"]
+    same(subprocess.run(words, cwd=CLIENTS, stdout=subprocess.PIPE).returncode, 0, "the help of the module")
+
+
 def test_the_words_of_the_language_are_those_of_its_page():
     page = read(f"{ROOT}/docs/AQL.md").decode()
     refusals = set(re.findall(r"^\| `no ([a-z]+)", page, re.M)) - {"frame", "unfinished"}
