@@ -22,6 +22,10 @@ SENSORS = (
 ROWS = [(5, "abc"), (-1, ""), (7, "it?,-")]
 
 
+class Skipped(Exception):
+    """The machine has not what a test is about."""
+
+
 def same(got, wanted, what):
     if got != wanted:
         raise AssertionError(f"{what}: {got!r:.400}, and not {wanted!r:.400}")

@@ -32,7 +32,7 @@ def test_commands_are_asked_by_hand():
 
 def test_each_tool_says_what_it_does():
     forms = ("", " hub", " ask"), ("", " in", " out")
-    tools = [f"antelope{it}" for it in forms[0]] + [f"antelope_csv{it}" for it in forms[1]] + ["plot", "reader"]
+    tools = [f"antelope{it}" for it in forms[0]] + [f"antelope_csv{it}" for it in forms[1]] + ["plot", "reader", "ship"]
     for words in map(str.split, tools):
         same(tool(*words, "--help")[0].startswith("usage: "), True, f"help of {words}")
         tool(*words, status=2)
@@ -42,7 +42,7 @@ def test_each_tool_says_what_it_does():
 
 def test_each_command_of_the_package_is_there():
     commands = dict(re.findall(r'^(sorachest-\w+) = "([\w.:]+)"$', read(f"{CLIENTS}/pyproject.toml").decode(), re.M))
-    same({f"sorachest-{it}" for it in ("csv", "hub", "plot", "reader")} <= set(commands), True, f"{commands}")
+    same({f"sorachest-{it}" for it in ("csv", "hub", "plot", "reader", "ship")} <= set(commands), True, f"{commands}")
     for command, call in commands.items():
         module, _, name = call.partition(":")
         code = f"import sys; sys.path.insert(0, {CLIENTS!r}); import {module} as it; sys.exit(it.{name}())"
