@@ -1,15 +1,19 @@
 #!/usr/bin/env python3
 """Rows as CSV, out of a station and into one.
 
-    antelope_csv.py out /dev/ttyUSB0 'SELECT minute, celsius FROM readings' > readings.csv
-    antelope_csv.py in readings.csv readings > readings.aql
-    antelope_csv.py in readings.csv readings --parts readings    (readings-001.aql, readings-002.aql ..)
-    antelope_csv.py in readings.csv readings --line /dev/ttyUSB0
+    sorachest-csv out station.img 'SELECT at, celsius FROM readings' --times at > readings.csv
+    sorachest-csv in readings.csv readings --create --scale 10 --dry-run
+    sorachest-csv in readings.csv readings > readings.aql
+    sorachest-csv in readings.csv readings --parts readings    (readings-001.aql, readings-002.aql ..)
+    sorachest-csv in readings.csv readings --line /dev/ttyUSB0
 
 The first line of a CSV names its columns, which stand in the order of the relation's attributes. Without
---domains a column is one of numbers where all its values are, as AQL writes them, and else one of texts.
-Where a value cannot be written in AQL its line is told, and nothing is written. What an image holds comes as
-CSV from reader.py, without a station.
+--domains they are guessed, and told at a terminal: INT, LONG or TIME for whole numbers, TIME for ISO times such
+as '2026-01-01 00:10', which become milliseconds since 1970 (of UTC if they name no zone), and STRING else. A
+decimal becomes a whole number by --scale: 21.5 by 10 is 215.
+
+If a value cannot be written in AQL its line is told, and nothing is written. --dry-run tells all of them, and
+what the columns are. What an image holds comes as CSV from sorachest-reader, without a station.
 """
 import argparse
 import csv
@@ -17,63 +21,19 @@ import re
 import sys
 
 from sorachest import tool
+from sorachest.cells import Column, Unfit
 from sorachest.dbapi import connect
 from sorachest.errors import DataError, Error
-from sorachest.values import MOST_TEXT, literal
+from sorachest.values import literal
 
 MOST_INPUT = 16_777_216
 MOST_COLUMNS = 8
+MOST_TOLD = 20
 NAME = "[A-Za-z][A-Za-z0-9_]{0,14}"
 KEYWORDS = (
     "CREATE RELATION ATTRIBUTE INDEX DOMAIN INT LONG STRING IN TYPE INLINE MAXHEAP MEMHASH INSERT INTO SELECT FROM"
     " WHERE JOIN ON PROJECT REMOVE PACK OPEN FETCH CLOSE AND OR NOT COUNT SUM MIN MAX MEAN MEDIAN"
 ).split()
-NUMBERS = {"INT": range(-(2**15), 2**15), "LONG": range(-(2**31), 2**31), "TIME": range(2**47)}
-
-
-class Unfit(Exception):
-    """The CSV has what AQL has not."""
-
-
-# Values of a column
-
-
-def number_in(numbers):
-    """A call that gives the number that a text means, which is one of these."""
-
-    def value(text):
-        if not re.fullmatch("[-+]?[0-9]{1,18}", text) or int(text) not in numbers:
-            raise Unfit(f"{text!r} is no number from {numbers[0]} to {numbers[-1]}")
-        return int(text)
-
-    return value
-
-
-def text_up_to(length):
-    """A call that gives a text of at most so many characters."""
-
-    def value(text):
-        if len(text) > length:
-            raise Unfit(f"{text!r} has more than {length} characters")
-        return text
-
-    return value
-
-
-def values_of(domain):
-    """A call that gives the value of a domain that a text means."""
-    if domain in NUMBERS:
-        return number_in(NUMBERS[domain])
-    found = re.fullmatch(r"STRING\(([0-9]{1,2})\)", domain)
-    if not found or not 1 <= int(found[1]) <= MOST_TEXT:
-        raise Unfit(f"{domain!r} is no domain: INT, LONG, TIME, or STRING(1) to STRING({MOST_TEXT})")
-    return text_up_to(int(found[1]))
-
-
-def guessed(texts):
-    """A call that gives the values of a column: numbers where all are, as AQL writes them, and else texts."""
-    are_numbers = all(re.fullmatch("0|-?[1-9][0-9]{0,17}", it) for it in texts)
-    return int if are_numbers else text_up_to(MOST_TEXT)
 
 
 # A CSV as commands
@@ -107,42 +67,116 @@ def read_table(path, delimiter):
     return [it.strip() for it in names], rows
 
 
-def inserts(relation, rows, domains):
+def by_column(texts, names):
+    """Settings as `NAME=VALUE` for a column, or `VALUE` for all, whose name is then None."""
+    found = {}
+    for text in texts:
+        name, _, value = text.rpartition("=")
+        if name and name not in names:
+            raise Unfit(f"there is no column {name}")
+        found[name or None] = value
+    return found
+
+
+def number_in(text):
+    if not re.fullmatch("-?[0-9]{1,18}", text):
+        raise Unfit(f"{text!r} is no whole number")
+    return int(text)
+
+
+def columns_of(wanted, names, rows):
+    """The columns, with their domains."""
+    domains = [it.strip().upper() for it in wanted.domains.split(",")] if wanted.domains else [None] * len(names)
+    if len(domains) != len(names):
+        raise Unfit(f"{len(domains)} domains for {len(names)} columns")
+    scales = {name: number_in(it) for name, it in by_column(wanted.scale, names).items()}
+    if any(it < 1 for it in scales.values()):
+        raise Unfit("a scale is at least 1")
+    blanks = {name: it if it == "skip" else number_in(it) for name, it in by_column(wanted.blank, names).items()}
+    columns = []
+    for at, (name, domain) in enumerate(zip(names, domains)):
+        how = {"domain": domain, "scale": scales.get(name), "all_scale": scales.get(None), "point": wanted.point}
+        how["blank"] = blanks.get(name, blanks.get(None))
+        columns.append(Column(name, [row[at] for _, row in rows], **how))
+    return columns
+
+
+def rows_to_put(columns, rows):
+    """The rows but for those that are left out for a blank in them."""
+
+    def is_left_out(row):
+        return any(it.is_skipped and it.is_blank(cell) for it, cell in zip(columns, row))
+
+    return [(line, row) for line, row in rows if not is_left_out(row)]
+
+
+def insert(relation, columns, row):
+    """The INSERT of a row."""
+    values = ", ".join(literal(it.value(cell)) for it, cell in zip(columns, row))
+    return f"INSERT ({values}) INTO {relation};\n"
+
+
+def inserts(relation, columns, rows):
     """An INSERT for each row."""
-    columns = list(zip(*(row for _, row in rows)))
-    readings = [values_of(it) for it in domains] if domains else [guessed(it) for it in columns]
     for line, row in rows:
         try:
-            values = [literal(value(text)) for value, text in zip(readings, row)]
+            yield insert(relation, columns, row)
         except (Unfit, DataError) as error:
             raise Unfit(f"line {line}: {error}") from error
-        yield f"INSERT ({', '.join(values)}) INTO {relation};\n"
 
 
-def creations(relation, names, domains):
+def creations(relation, columns):
     """The commands that make the relation."""
+    names = [it.name for it in columns]
     for at, name in enumerate(names):
         if not is_name(name):
             raise Unfit(f"{name!r} is no name in AQL")
         if name in names[:at]:
             raise Unfit(f"two columns are called {name}")
     yield f"CREATE RELATION {relation};\n"
-    for name, domain in zip(names, domains):
-        yield f"CREATE ATTRIBUTE {name} DOMAIN {domain} IN {relation};\n"
+    for it in columns:
+        yield f"CREATE ATTRIBUTE {it.name} DOMAIN {it.domain} IN {relation};\n"
 
 
-def commands(wanted):
-    """The commands that a CSV comes to, a line each."""
+def table_of(wanted):
+    """The columns of the CSV, and the rows that go in."""
     if not is_name(wanted.relation):
         raise Unfit(f"{wanted.relation!r} is no name in AQL")
     names, rows = read_table(wanted.csv, wanted.delimiter)
-    domains = [it.strip().upper() for it in wanted.domains.split(",")] if wanted.domains else []
-    if domains and len(domains) != len(names):
-        raise Unfit(f"{len(domains)} domains for {len(names)} columns")
-    if wanted.create and not domains:
-        raise Unfit("--create wants --domains")
-    created = creations(wanted.relation, names, domains) if wanted.create else ()
-    return [*created, *inserts(wanted.relation, rows, domains)]
+    columns = columns_of(wanted, names, rows)
+    return columns, rows_to_put(columns, rows), len(rows)
+
+
+def commands(wanted, columns, rows):
+    """The commands that a CSV comes to, a line each."""
+    created = creations(wanted.relation, columns) if wanted.create else ()
+    return [*created, *inserts(wanted.relation, columns, rows)]
+
+
+def describe(columns):
+    """A line for each column: its domain, and what was made of its cells."""
+    for it in columns:
+        guess = " (guessed)" if it.is_guessed else ""
+        scale = f", times {it.scale}" if it.scale != 1 else ""
+        blanks = f", {it.blanks} blank" if it.blanks else ""
+        yield f"{it.name}: {it.domain}{guess}{scale}{blanks}\n"
+
+
+def try_out(wanted, columns, rows, count):
+    """Tells what would be done, and each line that is in the way."""
+    sys.stdout.writelines(describe(columns))
+    list(creations(wanted.relation, columns) if wanted.create else ())
+    troubles, size = [], 0
+    for line, row in rows:
+        try:
+            size += len(insert(wanted.relation, columns, row))
+        except (Unfit, DataError) as error:
+            troubles.append(f"line {line}: {error}\n")
+    sys.stdout.writelines(troubles[:MOST_TOLD])
+    if len(troubles) > MOST_TOLD:
+        print(f"and {len(troubles) - MOST_TOLD} lines more")
+    print(f"{len(rows) - len(troubles)} rows of {count} fit, {size} bytes of INSERTs")
+    return 1 if troubles else 0
 
 
 def parts(lines, most):
@@ -174,7 +208,12 @@ def send(lines, wanted):
 
 def put_in(wanted):
     """Writes a CSV as a script, or sends it to a station."""
-    lines = commands(wanted)
+    columns, rows, count = table_of(wanted)
+    if wanted.dry_run:
+        return try_out(wanted, columns, rows, count)
+    lines = commands(wanted, columns, rows)
+    if sys.stderr.isatty() and any(it.is_guessed for it in columns):
+        sys.stderr.writelines(describe(columns))
     if wanted.line:
         send(lines, wanted)
     elif wanted.parts:
@@ -185,11 +224,13 @@ def put_in(wanted):
         raise Unfit(f"the script has more than {wanted.most} bytes, which one run does not take: use --parts")
     else:
         sys.stdout.writelines(lines)
+    return 0
 
 
 def put_out(wanted):
     """Writes the answer of a query as CSV, with a header."""
-    with connect(wanted.line, speed=wanted.speed, timeout=wanted.timeout) as station:
+    times = [it.strip() for it in wanted.times.split(",")]
+    with connect(wanted.line, speed=wanted.speed, timeout=wanted.timeout, times=times) as station:
         cursor = station.cursor()
         cursor.execute(wanted.query)
         if cursor.description is None:
@@ -206,6 +247,7 @@ def parse():
     form.set_defaults(do=put_out)
     tool.add_line(form)
     form.add_argument("query", help="SELECT or JOIN")
+    form.add_argument("--times", default="", help="attributes whose values are written as ISO times, as in 'at, until'")
     form = forms.add_parser("in", help=put_in.__doc__, description=put_in.__doc__)
     form.set_defaults(do=put_in)
     form.add_argument("csv", help="a file, whose first line names the columns")
@@ -213,6 +255,12 @@ def parse():
     form.add_argument("--domains", help="those of the columns, as in 'TIME, INT, STRING(8)'")
     form.add_argument("--create", action="store_true", help="make the relation first, with the names of the columns")
     form.add_argument("--delimiter", type=separator, default=",", help="what stands between values (,)")
+    text = "what decimals are multiplied by, or NAME=10 for one column, whole numbers too"
+    form.add_argument("--scale", action="append", default=[], metavar="10", help=text)
+    text = "the number for blank cells, or skip to leave their rows out; NAME=VALUE for one column"
+    form.add_argument("--blank", action="append", default=[], metavar="VALUE", help=text)
+    form.add_argument("--point", type=separator, default=".", help="what stands before the digits of a decimal (.)")
+    form.add_argument("--dry-run", action="store_true", help="tell the columns and what is in the way, and do nothing")
     form.add_argument("--parts", metavar="PART", help="write files PART-001.aql .., each small enough for a run")
     form.add_argument("--most", type=int, default=MOST_INPUT, help=f"bytes of a script ({MOST_INPUT})")
     tool.add_line(form, "--line")
