@@ -1,4 +1,4 @@
-"""Tests of the tools: commands by hand, CSV and plots."""
+"""Tests of the tools: commands by hand, how they end, and CSV."""
 import contextlib
 import os
 import pty
@@ -7,7 +7,6 @@ import signal
 import subprocess
 import sys
 import tty
-import xml.etree.ElementTree
 
 import antelope
 import antelope_csv
@@ -15,9 +14,6 @@ from client_tests.common import (
     CLIENTS, EXAMPLES, PROGRAM, ROOT, SENSORS, made, on_a_pty, program, read, same, station, tool, write,
 )
 from client_tests.lines import answered_by, framed
-
-SVG = "{http://www.w3.org/2000/svg}"
-
 
 # The command line
 
@@ -350,47 +346,3 @@ def test_csv_out_and_in_again_is_the_same_database():
         said = tool("antelope_csv", *words, "--create", "--line", path, status=1)[1]
         same("0 commands of 27 were carried out" in said, True, said)
     same(program("dump", "image"), wanted, "the dump of what was sent")
-
-
-# Plots
-
-
-def drawn(where, query):
-    """The places of the points of an SVG, and its texts."""
-    root = xml.etree.ElementTree.fromstring(tool("plot", where, query, "--svg")[0])
-    same(root.tag, f"{SVG}svg", "the root")
-    places = [(float(it.get("cx")), float(it.get("cy"))) for it in root.iter(f"{SVG}circle")]
-    return places, {it.text for it in root.iter(f"{SVG}text")}
-
-
-def test_a_plot_has_a_point_for_each_row():
-    where = station()
-    for query, points in (
-        ("SELECT k, k FROM s", 3),
-        ("SELECT k, k FROM s WHERE k = 5", 1),
-        ("SELECT k, k FROM s WHERE k > 9", 0),
-        ("JOIN s, s ON k PROJECT k, k", 3),
-        ("SELECT MAX(k), COUNT(t) FROM s", 1),
-    ):
-        circles, _ = drawn(where, query)
-        same(len(circles), points, f"points of {query}")
-        same(all(0 <= x <= 800 and 0 <= y <= 480 for x, y in circles), True, f"points of {query} are inside")
-    lines = tool("plot", where, "SELECT k, k FROM s", "--width", "20")[0].splitlines()
-    same(sum(it.count("*") for it in lines), 3, "points in the terminal")
-    same((lines[0], max(map(len, lines)) <= 20, len(lines)), ("k over k, 3 rows", True, 23), "the lines")
-    where = station("CREATE RELATION s; CREATE ATTRIBUTE k DOMAIN TIME IN s; INSERT (1700000000000) INTO s;")
-    lines = tool("plot", where, "SELECT k, k FROM s", "--width", "5")[0].splitlines()
-    same(lines[-1].split(), ["1700000000000"] * 2, "the numbers where there is little room")
-    where = station()
-    empty = "SELECT MIN(k), MAX(k) FROM s WHERE k > 9"
-    for query in ("SELECT k FROM s", "SELECT k, t FROM s", empty, "PACK s", "SELECT x FROM s"):
-        tool("plot", where, query, "--svg", status=1)
-
-
-def test_a_plot_puts_points_where_they_belong():
-    schema = "CREATE RELATION s; CREATE ATTRIBUTE k DOMAIN INT IN s; CREATE ATTRIBUTE v DOMAIN INT IN s;"
-    where = station(schema + "INSERT (0, 10) INTO s; INSERT (5, 20) INTO s; INSERT (10, 10) INTO s;")
-    circles, texts = drawn(where, "SELECT k, v FROM s")
-    (first, low), (middle, high), (last, as_low) = circles
-    same((middle - first, low == as_low, high < low), (last - middle, True, True), "the places")
-    same({"0", "10", "20", "k", "v"} <= texts, True, f"numbers and names in {texts}")
