@@ -15,7 +15,7 @@ MANY, FEW = 8 << 20, 1 << 20
 
 
 def is_time(name, times):
-    """Whether a name of a query's list has values that are times: an attribute, or an aggregate that is one of its values."""
+    """Whether a name of a query's list is one of these attributes, or an aggregate that is such a time, too."""
     found = re.fullmatch(r"(?:(?:MIN|MAX|MEAN|MEDIAN)\((\w+)\))|(\w+)", name, re.IGNORECASE)
     return bool(found) and (found[1] or found[2]) in times
 

@@ -101,6 +101,9 @@ def shipments(wanted, name, where, station):
         key = keys.get(relation) or (inline.get(relation) if inline.get(relation) in kinds else None)
         if key and key not in kinds:
             raise Unfit(f"the key {relation}.{key} is none of the attributes that are named")
+        missing = set(domains) - set(kinds)
+        if wanted.remove and missing:
+            raise Unfit(f"--remove wants all attributes of {relation}, and {min(missing)} is not named")
         made = [Attribute(it, kind_of(kinds[it]) if kinds[it] else asked_kind(station, relation, it)) for it in kinds]
         if key and dict(made)[key] == "text":
             raise Unfit(f"the key {relation}.{key} is a text")
@@ -137,6 +140,9 @@ def ship(wanted, shipment, cursor, target):
             progress.tell(done)
     finally:
         progress.end()
+    if wanted.anew and not done and target.keeps_places:
+        target.put(shipment, [], stored, reading.place())
+        stored = reading.place()
     if wanted.remove and stored.key is not None:
         stored = remove(wanted, shipment, cursor, target, stored)
     if target.keeps_places:
@@ -195,6 +201,9 @@ def ship_all(wanted):
         raise Unfit("of InfluxDB it is not known whether the rows are there: nothing is removed")
     if wanted.since is not None and target.keeps_places:
         raise Unfit("--since is for InfluxDB: other targets know where a call left off")
+    names = [name for name, _ in wanted.station]
+    if len(set(names)) < len(names):
+        raise Unfit("two stations have one name")
     status = 0
     with contextlib.closing(target):
         for name, where in wanted.station:
@@ -222,7 +231,8 @@ def batch(text):
 
 def parse():
     parser = tool.parser(__doc__)
-    parser.add_argument("station", nargs="+", type=station_of, metavar="[NAME=]LINE", help="a line, and what it is called")
+    text = "a line, and what it is called"
+    parser.add_argument("station", nargs="+", type=station_of, metavar="[NAME=]LINE", help=text)
     text = "a file of SQLite, postgresql://.., postgresql:KEY=VALUE.., or influx: for standard output"
     parser.add_argument("--into", required=True, metavar="TARGET", help=text)
     parser.add_argument("--relation", action="append", default=[], help="'r(at TIME, v)', again for each one")

@@ -39,7 +39,8 @@ def parsed(text):
     for part in found[2].split(",") if found[2] else ():
         name, _, domain = part.strip().partition(" ")
         domain = "".join(domain.split()).upper()
-        if not re.fullmatch(r"\w+", name) or not (domain in ("", *DOMAINS) or re.fullmatch(r"STRING(\(\d+\))?", domain)):
+        is_domain = domain in ("", *DOMAINS) or re.fullmatch(r"STRING(\(\d+\))?", domain)
+        if not is_domain or not re.fullmatch(r"\w+", name):
             raise Unfit(f"{part.strip()!r} is no attribute with a domain, as 'at TIME' is")
         attributes.append((name, domain))
     return found[1], attributes

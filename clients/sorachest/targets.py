@@ -96,13 +96,21 @@ def quoted(value):
     return str(value) if isinstance(value, int) else "'" + value.replace("'", "''") + "'"
 
 
-def copied(value):
+def copied(value, kind="text"):
     """A value as COPY reads it."""
+    if kind == "time":
+        return datetime_of(value).isoformat(" ", "milliseconds")
     if isinstance(value, int):
         return str(value)
     for sign, written in (("\\", "\\\\"), ("\t", "\\t"), ("\n", "\\n"), ("\r", "\\r")):
         value = value.replace(sign, written)
     return value
+
+
+# quotes are doubled and backslashes are not; what is committed is on the disk
+SETTINGS = (
+    "SET client_min_messages = warning;\nSET standard_conforming_strings = on;\nSET synchronous_commit = on;\n"
+)
 
 
 class Postgres:
@@ -112,7 +120,7 @@ class Postgres:
     keeps_places = True
 
     def __init__(self, name):
-        self._words = ["psql", "-X", "-q", "-A", "-t", "-v", "ON_ERROR_STOP=1", "-d", name]
+        self._words = ["psql", "-X", "-w", "-q", "-A", "-t", "-v", "ON_ERROR_STOP=1", "-d", name]
 
     def place(self, shipment):
         if self._run(f"SELECT to_regclass('{PLACES}') IS NOT NULL;") != "t\n":
@@ -135,12 +143,13 @@ class Postgres:
         same = " AND ".join(f"{name} IS NOT DISTINCT FROM {quoted(it)}" for name, it in zip(COLUMNS, old))
         move = f"UPDATE {PLACES} SET {sets} WHERE {self._which(shipment)} AND {same} RETURNING 1"
         script = [
-            "SET client_min_messages = warning;\nBEGIN;\n",
+            "BEGIN;\n",
             f"{PLACES_TABLE};\nINSERT INTO {PLACES} VALUES ({key}, {beginning}) ON CONFLICT DO NOTHING;\n",
             f"WITH moved AS ({move}) SELECT count(*) = 1 AS is_moved FROM moved \\gset\n",
-            "\\if :is_moved\n",
+            # rows do not stand in a branch: one that is not taken would be read as commands
+            "\\if :is_moved\n\\else\n\\q\n\\endif\n",
             *(self._copy(shipment, rows) if rows else ()),
-            "COMMIT;\n\\echo shipped\n\\else\nROLLBACK;\n\\endif\n",
+            "COMMIT;\n\\echo shipped\n",
         ]
         if self._run("".join(script)) != "shipped\n":
             raise Unfit(OTHERS)
@@ -153,17 +162,16 @@ class Postgres:
         yield f'COPY "{shipment.relation}" ({named(shipment)}) FROM STDIN;\n'
         kinds = [it.kind for it in shipment.attributes]
         for row in rows:
-            values = (datetime_of(it).isoformat(" ", "milliseconds") if kind == "time" else it for it, kind in zip(row, kinds))
-            yield "\t".join(map(copied, (shipment.station, *values))) + "\n"
+            yield "\t".join((copied(shipment.station), *map(copied, row, kinds))) + "\n"
         yield "\\.\n"
 
     def _which(self, shipment):
         return f"station = {quoted(shipment.station)} AND relation = {quoted(shipment.relation)}"
 
     def _run(self, script):
-        environment = {**os.environ, "PGCLIENTENCODING": "UTF8", "PGOPTIONS": "-c standard_conforming_strings=on"}
+        environment = {**os.environ, "PGCLIENTENCODING": "UTF8"}
         pipes = {"stdout": subprocess.PIPE, "stderr": subprocess.PIPE, "env": environment}
-        ended = subprocess.run(self._words, input=script.encode(), **pipes)
+        ended = subprocess.run(self._words, input=(SETTINGS + script).encode(), **pipes)
         if ended.returncode:
             raise Unfit(f"psql: {ended.stderr.decode(errors='replace').strip()}")
         return ended.stdout.decode()
@@ -187,7 +195,7 @@ class Influx:
     def put(self, shipment, rows, _, __):
         kinds = [it.kind for it in shipment.attributes]
         if "time" not in kinds or len(kinds) < 2:
-            raise Unfit("InfluxDB wants an attribute that is a TIME, as in 'readings(at TIME, celsius)', and another one")
+            raise Unfit("InfluxDB wants a TIME and another attribute, as in 'readings(at TIME, celsius)'")
         at = kinds.index("time")
         for row in rows:
             sys.stdout.write(self._point(shipment, row, at))
@@ -225,4 +233,7 @@ def open_target(name, is_plan):
     if name.startswith(("postgresql:", "postgres:")):
         is_uri = name.partition(":")[2].startswith("//")
         return Postgres(name if is_uri else name.partition(":")[2])
+    if name in ("", ":memory:"):
+        # rows that are there only until this ends would be taken for shipped
+        raise Unfit(f"{name!r} is no file")
     return Sqlite(name, is_plan)

@@ -69,7 +69,8 @@ def test_times_are_written_as_dates():
         at = texts.index(wanted[0]) if wanted[0] in texts else 0
         same(set(wanted) <= set(texts[at:]), True, f"{wanted} in {texts}")
         numbers = [it for it in drawn(where, "SELECT k, v FROM s", "--numbers")[2] if len(it) == 13]
-        same(all(start <= int(it) <= start + 2 * step for it in numbers) and len(numbers) > 1, True, f"numbers {numbers}")
+        are_within = all(start <= int(it) <= start + 2 * step for it in numbers)
+        same((len(numbers) > 1, are_within), (True, True), f"numbers {numbers}")
     lines = tool("plot", where, "SELECT k, v FROM s")[0].splitlines()
     same(lines[-1].split(), ["2026-01-01", "00:00", "2026-01-01", "00:02"], "the ends in the terminal")
     lines = tool("plot", where, "SELECT k, v FROM s", "--width", "5")[0].splitlines()

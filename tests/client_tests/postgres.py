@@ -28,14 +28,15 @@ class Server:
         self._as = {"user": "nobody", "group": pwd.getpwnam("nobody").pw_gid} if os.getuid() == 0 else {}
         if self._as:
             shutil.chown(folder, **self._as)
-        self._do("initdb", "-D", f"{folder}/data", "-A", "trust", "-N", "-U", "station", "--no-locale", "-E", "UTF8")
+        how = ("-A", "trust", "-N", "-U", "station", "--no-locale", "-E", "UTF8")
+        self._do("initdb", "-D", f"{folder}/data", *how)
         self.target = f"postgresql:host={folder} user=station dbname=postgres"
 
     def _do(self, *words):
-        how = {"stdin": subprocess.DEVNULL, "stdout": subprocess.DEVNULL, "stderr": subprocess.PIPE, "cwd": self._folder}
-        # a server that was begun keeps the pipe
+        # a server that was begun keeps what it writes to, which therefore is no pipe
         with tempfile.TemporaryFile() as said:
-            ended = subprocess.run([f"{self._binaries}/{words[0]}", *words[1:]], **{**how, "stderr": said}, **self._as)
+            how = {"stdin": subprocess.DEVNULL, "stdout": subprocess.DEVNULL, "stderr": said, "cwd": self._folder}
+            ended = subprocess.run([f"{self._binaries}/{words[0]}", *words[1:]], **how, **self._as)
             said.seek(0)
             same(ended.returncode, 0, f"{words}: {said.read().decode()}")
 
@@ -52,7 +53,7 @@ class Server:
 
     def ask(self, query):
         """The rows of an answer, as lists of texts."""
-        words = ["psql", "-X", "-A", "-t", "-F", "\t", "-h", self._folder, "-U", "station", "-d", "postgres", "-c", query]
+        words = ["psql", "-X", "-A", "-t", "-F", "\t", "-h", self._folder, "-U", "station", "-c", query, "postgres"]
         environment = {**os.environ, "PGTZ": "UTC"}
         ended = subprocess.run(words, stdout=subprocess.PIPE, stderr=subprocess.PIPE, env=environment)
         same((ended.returncode, ended.stderr), (0, b""), f"psql, asked {query}")

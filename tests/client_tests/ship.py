@@ -1,5 +1,6 @@
 """Tests of rows that are shipped into databases: each once, whatever breaks off."""
 import os
+import pty
 import random
 import signal
 import sqlite3
@@ -53,7 +54,8 @@ def ship(*words, status=0):
 
 
 def test_rows_of_several_stations_are_shipped_once():
-    made("north.img", READINGS + inserts(THREE) + "CREATE RELATION e; CREATE ATTRIBUTE k DOMAIN INT IN e; INSERT (5) INTO e;")
+    other = "CREATE RELATION e; CREATE ATTRIBUTE k DOMAIN INT IN e; INSERT (5) INTO e;"
+    made("north.img", READINGS + inserts(THREE) + other)
     with on_a_pty(READINGS + inserts(THREE[:1])) as path:
         south = (f"south={path}", "--relation", "n(at TIME, v, t)", "--key", "n.at")
         for count in (3, 0):
@@ -82,6 +84,17 @@ def test_a_plan_changes_nothing():
     same((read("target.db"), read("image")), after, "target and station")
 
 
+def test_a_terminal_sees_how_far_a_call_is():
+    made("image", READINGS + inserts(THREE))
+    near, far = pty.openpty()
+    command = [sys.executable, "-B", f"{CLIENTS}/ship.py", "s=image", "--into", "target.db", "--batch", "2"]
+    same(subprocess.run(command, stdout=subprocess.DEVNULL, stderr=far).returncode, 0, "the status")
+    os.close(far)
+    said = os.read(near, 4096)
+    os.close(near)
+    same(said, b"\rs n: 2 of 3 rows\rs n: 3 of 3 rows\r\x1b[K", "the progress")
+
+
 def test_rows_without_a_key_are_counted():
     made("image", SENSORS)
     words = ("s=image", "--into", "target.db")
@@ -96,6 +109,10 @@ def test_rows_without_a_key_are_counted():
     same(ship(*words, "--anew")[0], "s s: 5 rows, 10 in all\n", "anew")
     same(shipped("SELECT k FROM s ORDER BY rowid")[5:], [(5,), (-1,), (5,), (8,), (9,)], "what is there then")
     same(ship(*words)[0], "s s: 0 rows, 10 in all\n", "once more")
+    program("run", "image", "-", script="REMOVE FROM s;")
+    ship(*words, "--anew")
+    program("run", "image", "-", script="INSERT (3, '') INTO s;")
+    same(ship(*words)[0], "s s: 1 rows, 11 in all\n", "behind an empty relation")
 
 
 def test_rows_with_the_last_key_may_come_later():
@@ -152,6 +169,10 @@ def test_what_cannot_be_shipped_is_told():
         (("s=image", "--into", "influx:", "--remove", "rows"), "nothing is removed"),
         (("s=image", "--into", "t.db", "--since", "5"), "--since is for InfluxDB"),
         (("s=image", "--into", "file"), "file is not a database"),
+        (("s=image", "--into", ""), "'' is no file"),
+        (("s=image", "--into", ":memory:"), "':memory:' is no file"),
+        (("s=image", "s=image", "--into", "t.db"), "two stations have one name"),
+        (("s=image", "--into", "t.db", "--relation", "s(k)", "--key", "s.k", "--remove", "rows"), "and t is not named"),
         (("s=none.img", "--into", "t.db"), "'none.img'"),
     ):
         wrote, said = ship(*words, status=1)
@@ -243,6 +264,13 @@ def test_rows_come_into_postgresql():
         for station, rows in (("s", texts[:3]), (os.path.abspath(f"{name}/image"), texts)):
             where = station.replace("'", "''")
             same([tuple(it) for it in server.ask(f"SELECT at, v, t FROM n WHERE station = '{where}'")], rows, station)
+        shipment = shipping.Shipment("x", "n", [shipping.Attribute("v", "number")], None)
+        target = targets.Postgres(server.target.partition(":")[2])
+        place = shipping.BEGINNING._replace(seen=1, digest="x", shipped=1, standing=1)
+        target.put(shipment, [(1,)], shipping.BEGINNING, place)
+        refuses(shipping.Unfit, target.put, shipment, [(1,)], shipping.BEGINNING, place, says="another call")
+        same(server.ask("SELECT v FROM n WHERE station = 'x'"), [["1"]], "what a second call has not doubled")
+        same(target.place(shipment), place, "the place")
         server.stop()
         says = ship("s=image", "--into", server.target, status=1)[1]
         same(says.startswith("ship.py: s: "), True, says)
@@ -430,4 +458,5 @@ def test_a_server_that_breaks_off_loses_no_row_and_doubles_none():
             killed(60, *words)
         wanted = [[str(v), t] for _, v, t in rows]
         for station in ("s", "other"):
-            same(server.ask(f"SELECT v, t FROM n WHERE station = '{station}' ORDER BY v, ctid"), wanted, f"rows of {station}")
+            query = f"SELECT v, t FROM n WHERE station = '{station}' ORDER BY v, ctid"
+            same(server.ask(query), wanted, f"rows of {station}")
