@@ -82,32 +82,47 @@ def schemas(where):
     return {it.name: [(that.name, that.domain) for that in it.attributes] for it in database.relations}, inline
 
 
-def shipments(wanted, name, where, station):
-    """What is to be shipped of a station that is connected."""
-    told, inline = schemas(where) if kind_of_line(where) == "image" else ({}, {})
-    keys = dict(it.split(".") for it in wanted.key)
+def relations(wanted, told):
+    """The relations that are shipped, with the attributes that are named for each."""
     named = [parsed(it) for it in wanted.relation] or [(it, []) for it in told if told[it]]
     if not named:
         raise Unfit("its relations are not told: name them, as in --relation 'readings(at TIME, celsius)'")
-    folded = [it.casefold() for it, _ in named]
-    if len(set(folded)) < len(folded):
+    unknown = {it.split(".")[0] for it in wanted.key} - {it for it, _ in named}
+    if unknown and wanted.remove != "relation":
+        raise Unfit(f"the key of {min(unknown)} is of no relation that is shipped")
+    # the names of tables are without case
+    if len({it.casefold() for it, _ in named}) < len(named):
         raise Unfit("two relations would have one table")
-    for relation, attributes in named:
-        domains = dict(told.get(relation, ()))
-        attributes = attributes or list(domains.items())
-        if not attributes:
-            raise Unfit(f"the attributes of {relation} are not told: name them, as in '{relation}(at TIME, celsius)'")
-        kinds = {it: domain or domains.get(it, "") for it, domain in attributes}
-        key = keys.get(relation) or (inline.get(relation) if inline.get(relation) in kinds else None)
-        if key and key not in kinds:
-            raise Unfit(f"the key {relation}.{key} is none of the attributes that are named")
-        missing = set(domains) - set(kinds)
-        if wanted.remove and missing:
-            raise Unfit(f"--remove wants all attributes of {relation}, and {min(missing)} is not named")
-        made = [Attribute(it, kind_of(kinds[it]) if kinds[it] else asked_kind(station, relation, it)) for it in kinds]
-        if key and dict(made)[key] == "text":
-            raise Unfit(f"the key {relation}.{key} is a text")
-        yield Shipment(name, relation, made, key)
+    return named
+
+
+def shipment_of(wanted, name, station, relation, attributes, schema, inline):
+    """What is to be shipped of a relation, of which an image tells the schema and an INLINE index."""
+    domains = dict(schema)
+    attributes = attributes or schema
+    if not attributes:
+        raise Unfit(f"its attributes are not told: name them, as in '{relation}(at TIME, celsius)'")
+    kinds = {it: domain or domains.get(it, "") for it, domain in attributes}
+    key = dict(it.split(".") for it in wanted.key).get(relation) or (inline if inline in kinds else None)
+    missing = set(domains) - set(kinds)
+    if wanted.remove and missing:
+        raise Unfit(f"--remove wants all attributes of {relation}, and {min(missing)} is not named")
+    if wanted.remove and not key:
+        raise Unfit(f"--remove wants a key for {relation}")
+    if key and key not in kinds:
+        raise Unfit(f"the key {relation}.{key} is none of the attributes that are named")
+    made = [Attribute(it, kind_of(kinds[it]) if kinds[it] else asked_kind(station, relation, it)) for it in kinds]
+    if key and dict(made)[key] == "text":
+        raise Unfit(f"the key {relation}.{key} is a text")
+    return Shipment(name, relation, made, key)
+
+
+def is_there(station, relation):
+    """Whether a station has a relation: of one that it has not, no attribute is looked for."""
+    reply = station._reply(f"OPEN 1 SELECT a FROM {relation}")[-1]
+    if reply == "ok":
+        station._reply("CLOSE 1")
+    return reply != "no relation"
 
 
 # Shipping
@@ -179,17 +194,21 @@ def plan(wanted, shipment, cursor, target):
 def visit(wanted, name, where, target):
     """Ships from a station; one relation that does not fit keeps no other from it. Returns the status."""
     status, call = 0, plan if wanted.plan else ship
+    kind = kind_of_line(where)
     # a line that others share is held for no longer than a row takes
-    is_alone = kind_of_line(where) in ("image", "run")
-    how = {"client": wanted.client, "speed": wanted.speed, "timeout": wanted.timeout, "whole": is_alone}
+    how = {"client": wanted.client, "speed": wanted.speed, "timeout": wanted.timeout, "whole": kind in ("image", "run")}
     with connect(where, **how) as station:
-        for shipment in shipments(wanted, name, where, station):
-            if wanted.remove and not shipment.key:
-                raise Unfit(f"--remove wants a key for {shipment.relation}")
+        told, inline = schemas(where) if kind == "image" else ({}, {})
+        for relation, attributes in relations(wanted, told):
             try:
+                if wanted.remove == "relation" and not is_there(station, relation):
+                    print(f"{name} {relation}: it is not there", flush=True)
+                    continue
+                schema = told.get(relation, [])
+                shipment = shipment_of(wanted, name, station, relation, attributes, schema, inline.get(relation))
                 call(wanted, shipment, station.cursor(), target)
             except (Unfit, ProgrammingError) as error:
-                print(f"{tool.name()}: {name} {shipment.relation}: {error}", file=sys.stderr)
+                print(f"{tool.name()}: {name} {relation}: {error}", file=sys.stderr)
                 status = 1
     return status
 

@@ -20,6 +20,7 @@ Place = collections.namedtuple("Place", "by key seen digest shipped standing")
 
 NOTHING = hashlib.sha256().hexdigest()
 BEGINNING = Place("", None, 0, NOTHING, 0, 0)
+FALLEN = "without a key, and into another target, all rows are shipped"
 CHANGED = (
     "rows that were shipped are gone, or others stand in their places, or other attributes were named then; "
     "--anew ships all that is there, also what was shipped"
@@ -86,7 +87,7 @@ class Reading:
             if self._at is not None and self._key is not None and row[self._at] < self._key:
                 if batch:
                     yield batch
-                raise Unfit(f"its key falls from {self._key} to {row[self._at]}: without a key its rows are counted")
+                raise Unfit(f"its key falls from {self._key} to {row[self._at]}: {FALLEN}")
             self._count(row)
             self._shipped += 1
             self._standing += 1
@@ -137,10 +138,8 @@ def look_below(cursor, shipment, place):
     below = f"SELECT COUNT({shipment.key}) FROM {shipment.relation} WHERE {shipment.key} < {place.key}"
     there, shipped = count(cursor, below), place.standing - place.seen
     if there > shipped:
-        raise Unfit(
-            f"{there} rows have a {shipment.key} below {place.key}, and {shipped} of these were shipped: the key fell; "
-            "into another target, and without a key, all are shipped"
-        )
+        of_these = f"{shipped} of these were shipped: the key fell"
+        raise Unfit(f"{there} rows have a {shipment.key} below {place.key}, and {of_these}; {FALLEN}")
 
 
 def remove_rows(cursor, shipment, place):

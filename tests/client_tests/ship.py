@@ -115,6 +115,17 @@ def test_rows_without_a_key_are_counted():
     same(ship(*words)[0], "s s: 1 rows, 11 in all\n", "behind an empty relation")
 
 
+def test_rows_that_were_counted_may_have_a_key_from_then_on():
+    made("image", COUNTED + inserts(THREE))
+    words = ("s=image", "--into", "target.db")
+    ship(*words)
+    more = [(NEW_YEAR + 1500, 8, ""), (NEW_YEAR + 1501, 9, "")]
+    program("run", "image", "-", script="CREATE INDEX n.at TYPE INLINE;" + inserts(more))
+    same(ship(*words)[0], "s n: 2 rows, 5 in all\n", "what it said")
+    same(ship(*words, "--plan")[0].endswith(f"0 rows by at from {NEW_YEAR + 1501}\n"), True, "the plan")
+    same(rows_of("s"), THREE + more, "the rows")
+
+
 def test_rows_with_the_last_key_may_come_later():
     made("image", READINGS)
     for at, count in enumerate((1, 2, 0, 5)):
@@ -158,7 +169,7 @@ def test_what_cannot_be_shipped_is_told():
     write("file", "no database" * 100)
     for words, says in (
         ((where, "--into", "t.db"), "its relations are not told"),
-        ((where, "--into", "t.db", "--relation", "s"), "the attributes of s are not told"),
+        ((where, "--into", "t.db", "--relation", "s"), "s s: its attributes are not told"),
         ((where, "--into", "t.db", "--relation", "s(x)"), "s(x): no attribute 1"),
         ((where, "--into", "t.db", "--relation", "u(x)"), "u(x): no relation"),
         ((where, "--into", "t.db", "--relation", "s(k FLOAT)"), "is no attribute with a domain"),
@@ -171,6 +182,7 @@ def test_what_cannot_be_shipped_is_told():
         (("s=image", "--into", "file"), "file is not a database"),
         (("s=image", "--into", ""), "'' is no file"),
         (("s=image", "--into", ":memory:"), "':memory:' is no file"),
+        (("s=image", "--into", "t.db", "--key", "n.k"), "the key of n is of no relation that is shipped"),
         (("s=image", "s=image", "--into", "t.db"), "two stations have one name"),
         (("s=image", "--into", "t.db", "--relation", "s(k)", "--key", "s.k", "--remove", "rows"), "and t is not named"),
         (("s=none.img", "--into", "t.db"), "'none.img'"),
@@ -212,6 +224,9 @@ def test_a_relation_in_turn_is_removed_whole():
     words = ("s=image", "--into", "target.db")
     ship(*words, "--remove", "relation")
     same(program("dump", "image"), "", "the station")
+    with on_a_pty("CREATE RELATION r; CREATE ATTRIBUTE a DOMAIN INT IN r; INSERT (5) INTO r;") as path:
+        tool("ship", f"r={path}", *words[1:], "--relation", "r(a)", "--key", "r.a", "--remove", "relation")
+    same((shipped("SELECT a FROM r"), program("dump", "image")), ([(5,)], ""), "the same over a line")
     # it is made anew when its turn comes
     program("run", "image", "-", script=READINGS + inserts([(NEW_YEAR + 9000, 1, "")]))
     ship(*words)
@@ -222,6 +237,13 @@ def test_a_relation_in_turn_is_removed_whole():
         cursor.execute("INSERT (?, 1, '') INTO n", (NEW_YEAR + 1500,))
         same(shipping.remove_relation(cursor, station, place), None, "one to which a row came")
         same(cursor.execute("SELECT COUNT(v) FROM n").fetchall(), [(4,)], "its rows")
+    # while it is not there the others are shipped
+    program("run", "image", "-", script="REMOVE INDEX n.at; REMOVE RELATION n;" + SENSORS)
+    named = ("--relation", "n(at TIME, v, t)", "--key", "n.at", "--relation", "s(k, t)", "--key", "s.k")
+    program("run", "image", "-", script="REMOVE FROM s WHERE k < 0;")
+    wrote, _ = ship(*words, *named, "--remove", "relation")
+    same(wrote, "s n: it is not there\ns s: 2 rows, 2 in all\n", "what it said")
+    same("s n: n(v): no relation" in ship(*words, *named, status=1)[1], True, "without --remove that is an error")
     same(rows_of("s"), [*THREE, (NEW_YEAR + 9000, 1, "")], "the rows")
 
 
