@@ -42,7 +42,7 @@ class Guest:
         self.asked = bytearray()
         self.replies = bytearray()
         self.has_ended = False
-        self._heard_at = time.monotonic()
+        self._acted_at = time.monotonic()
 
     def fileno(self):
         return self._link.fileno()
@@ -62,7 +62,7 @@ class Guest:
         except OSError:
             came = b""
         self.has_ended = not came
-        self._heard_at = time.monotonic()
+        self._acted_at = time.monotonic()
         self.asked += came
         if not self.has_frame():
             del self.asked[MOST_PART:]
@@ -71,6 +71,7 @@ class Guest:
         """Gives as much of the replies as it takes; none to one that is gone."""
         try:
             del self.replies[:self._link.send(self.replies)]
+            self._acted_at = time.monotonic()
         except BlockingIOError:
             return
         except OSError:
@@ -82,8 +83,14 @@ class Guest:
         self.replies.clear()
 
     def silence(self):
-        """For how many seconds nothing has come, and nothing is under way."""
-        return 0 if self.replies or self.has_frame() else time.monotonic() - self._heard_at
+        """For how many seconds it has neither said anything nor taken its replies."""
+        is_next = self.has_frame() and not self.replies
+        return 0 if is_next else time.monotonic() - self._acted_at
+
+    def reply(self, text):
+        self.replies += text + END
+        # it was not silent while it waited
+        self._acted_at = time.monotonic()
 
     def has_frame(self):
         return END in self.asked
@@ -126,7 +133,7 @@ class Hub:
         listened = [self._line, *heard] + ([self._listener] if free else [])
         takers = [it for it in self._guests if it.replies]
         # while there is no room it is looked now and then whether someone waits for it
-        seconds = 0 if has_work else None if free else min(1.0, self._idle)
+        seconds = 0 if has_work else None if free else max(0.05, min(1.0, self._idle))
         ready, able, _ = select.select(listened, takers, [], seconds)
         for it in able:
             it.answer()
@@ -141,7 +148,7 @@ class Hub:
             self._let_go_of_the_silent()
 
     def _let_go_of_the_silent(self):
-        """Lets go of the client that was silent for longest, where another waits for its place."""
+        """Lets go of the client that was silent for longest, if another waits for its place."""
         guest = max(self._guests, key=Guest.silence)
         if guest.silence() >= self._idle and select.select([self._listener], [], [], 0)[0]:
             guest.leave()
@@ -153,13 +160,13 @@ class Hub:
             return
         payload = decode(part)
         if not payload or payload[0] not in CLIENTS:
-            guest.replies += b"\0no frame\n" + END
+            guest.reply(b"\0no frame\n")
         elif len(payload) > 1 + MOST_COMMAND:
-            guest.replies += payload[:1] + b"no long\n" + END
+            guest.reply(payload[:1] + b"no long\n")
         else:
             try:
                 text = self._line.ask(guest.number, payload[1:])
-                guest.replies += payload[:1] + text.encode("latin-1") + END
+                guest.reply(payload[:1] + text.encode("latin-1"))
             except LineClosed:
                 raise
             except LineFailed:

@@ -198,6 +198,18 @@ def test_a_silent_client_loses_its_place_to_one_that_waits():
                 same(cursor.execute("SELECT MAX(k) FROM s").fetchall(), [(7,)], "one of the others")
 
 
+def test_a_client_that_takes_no_replies_loses_its_place_to_one_that_waits():
+    script = SENSORS + "".join(f"INSERT ({it}, 'abcde') INTO s;" for it in range(3000))
+    with on_a_pty(script) as path, hub(path, "--idle", "0.5"), contextlib.ExitStack() as links:
+        for _ in range(4):
+            link = links.enter_context(socket.socket(socket.AF_UNIX))
+            link.connect("hub")
+            # more replies than a socket keeps
+            link.sendall(b"\x01SELECT k, t FROM s\xc0" * 30)
+        with antelope.connect("hub", timeout=20) as line:
+            same(line.cursor().execute("SELECT COUNT(k) FROM s").fetchall(), [(3003,)], "the fifth")
+
+
 def test_who_may_connect_to_a_hub_is_told_by_the_mode_of_its_socket():
     before = os.umask(0)
     try:
