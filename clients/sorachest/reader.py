@@ -1,12 +1,13 @@
 #!/usr/bin/env python3
 """Reads the rows of an image without the program that wrote it, by docs/FORMATS.md alone.
 
-    reader.py station.img                  what is in it
-    reader.py station.img --dump           a script that makes it anew, as `antelope dump` writes it
-    reader.py station.img --csv readings   the rows of a relation, with a header
+    sorachest-reader station.img                  what is in it
+    sorachest-reader station.img --dump           a script that makes it anew, as the form `dump` writes it
+    sorachest-reader station.img --csv readings   the rows of a relation, with a header
 
 It reads images that the program refuses, too, as far as their bytes allow: those of a run that was killed, and
-copies that are cut off. What it could not read it says on standard error, and then ends with 1.
+copies that are cut off. What it could not read it says on standard error, and then ends with 1. A status of 0 is
+no verdict on the image: the program judges that.
 """
 import collections
 import csv
