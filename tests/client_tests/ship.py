@@ -460,12 +460,12 @@ def test_a_line_that_is_cut_off_loses_no_row_and_doubles_none():
 
 
 def test_a_server_that_breaks_off_loses_no_row_and_doubles_none():
-    chance, rows = random.Random(8), many(1500)
+    chance, rows = random.Random(8), many(600)
     made("image", READINGS + inserts(rows))
     with postgres() as server:
         words = ("s=image", "--batch", "60", "--into", server.target)
         most = duration("other=image", *words[1:])
-        for at in range(6):
+        for at in range(4):
             seconds = chance.uniform(0.1, 0.9) * most
             if at % 2:
                 killed(seconds, *words)
@@ -476,7 +476,7 @@ def test_a_server_that_breaks_off_loses_no_row_and_doubles_none():
             same(call.communicate()[1].count(b"Traceback"), 0, "what it said")
             server.start()
         # one that was killed may have left a psql that still ends its transaction
-        for _ in range(3):
+        for _ in range(2):
             killed(60, *words)
         wanted = [[str(v), t] for _, v, t in rows]
         for station in ("s", "other"):
