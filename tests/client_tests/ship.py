@@ -475,9 +475,9 @@ def test_a_server_that_breaks_off_loses_no_row_and_doubles_none():
             server.stop()
             same(call.communicate()[1].count(b"Traceback"), 0, "what it said")
             server.start()
-        # one that was killed may have left a psql that still ends its transaction
-        for _ in range(2):
-            killed(60, *words)
+        # one that was killed may have left a psql that still ends its transaction, or a program with the image
+        has_ended = any(killed(60, *words) or time.sleep(0.2) for _ in range(20))
+        same(has_ended, True, "a call that is not broken off ends")
         wanted = [[str(v), t] for _, v, t in rows]
         for station in ("s", "other"):
             query = f"SELECT v, t FROM n WHERE station = '{station}' ORDER BY v, ctid"
