@@ -66,8 +66,8 @@ def postgres():
     binaries()
     with tempfile.TemporaryDirectory(prefix="sorachest-") as folder:
         server = Server(folder)
-        server.start()
         try:
+            server.start()
             yield server
         finally:
             if server.is_running():
