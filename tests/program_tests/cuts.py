@@ -110,6 +110,17 @@ def test_changes_of_each_of_eight_relations_are_cut():
         check_cuts(read("image"), commands, 5)
 
 
+def test_cuts_behind_many_pages_are_put_right():
+    write("image", bytes(256 * 4096))
+    script = "CREATE RELATION b; CREATE ATTRIBUTE k DOMAIN LONG IN b; CREATE ATTRIBUTE t DOMAIN STRING(32) IN b;"
+    script += "".join(f"INSERT ({key}, '{'x' * 32}') INTO b;" for key in range(4000)) + made(0, "MAXHEAP") + row(0, 0) + row(0, 1)
+    run("run", "image", "-", script=script.encode())
+    page = read("image").rindex(b"T1") // 256
+    if page < 1024:
+        raise AssertionError(f"the file of the rows begins at page {page}")
+    check_cuts(read("image"), [row(0, 2), "REMOVE INDEX r0.k;"], 3)
+
+
 def damaged(image):
     """What a damaged chip may hold of an image: one bit of the flags of a header, a page or a sector of zeros."""
     for page in range(0, len(image), 256):
