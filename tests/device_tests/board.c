@@ -1,10 +1,10 @@
-// A board in memory, on which tests/device tries node.c alone.
-#include "../port/node.h"
+// A board in memory, on which node.c is tried alone.
+#include "../../port/node.h"
 
 enum { SECTORS = 4, SECTOR = 4096 };
 
-// What a chip does that is not well: nothing, though it says that it did; or a half, and says so.
-enum { WELL, IDLE, HALF };
+// What a chip does that is not well: nothing, and says so of an erase alone; a half, and says so; nothing, and never says so.
+enum { WELL, IDLE, HALF, LIES };
 
 uint8_t chip[SECTORS * SECTOR];
 int chip_is;
@@ -28,7 +28,7 @@ int board_program(uint32_t sector, uint32_t at, const uint8_t *bytes, size_t cou
 }
 
 int board_erase(uint32_t sector) {
-    if (chip_is != WELL) return 0;
+    if (chip_is != WELL) return chip_is == LIES;
     for (size_t place = 0; place < SECTOR; place++) chip[sector * SECTOR + place] = 0xff;
     return 1;
 }
