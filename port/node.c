@@ -182,15 +182,15 @@ static int is_within(int file, int64_t at, usize count) {
     return file == FLASH && at >= 0 && count <= size && (uint64_t)at <= size - count;
 }
 
-static void read_inverted(uint64_t at, uint8_t *into, size_t count) {
-    board_read((uint32_t)(at / SECTOR), (uint32_t)(at % SECTOR), into, count);
+static int is_read_inverted(uint64_t at, uint8_t *into, size_t count) {
+    if (!board_read((uint32_t)(at / SECTOR), (uint32_t)(at % SECTOR), into, count)) return 0;
     for (size_t place = 0; place < count; place++) into[place] = (uint8_t)~into[place];
+    return 1;
 }
 
 int64_t pread(int file, uint8_t *into, usize count, int64_t at) {
     if (!is_within(file, at, count) || (uint64_t)at % SECTOR + count > SECTOR) return fail(EBADF);
-    read_inverted((uint64_t)at, into, (size_t)count);
-    return (int64_t)count;
+    return is_read_inverted((uint64_t)at, into, (size_t)count) ? (int64_t)count : fail(EIO);
 }
 
 static int holds_zeros(const uint8_t *bytes, size_t count) {
@@ -206,10 +206,8 @@ static int is_erase(const uint8_t *from, usize count, uint64_t at) {
 static int erase(uint64_t at) {
     uint8_t page[PAGE];
     if (!board_erase((uint32_t)(at / SECTOR))) return 0;
-    for (uint64_t end = at + SECTOR; at < end; at += PAGE) {
-        read_inverted(at, page, PAGE);
-        if (!holds_zeros(page, PAGE)) return 0;
-    }
+    for (uint64_t end = at + SECTOR; at < end; at += PAGE)
+        if (!is_read_inverted(at, page, PAGE) || !holds_zeros(page, PAGE)) return 0;
     return 1;
 }
 
@@ -222,12 +220,10 @@ static int is_or(const uint8_t *standing, const uint8_t *from, size_t count) {
 
 static int program(uint64_t at, const uint8_t *from, size_t count) {
     uint8_t page[PAGE];
-    read_inverted(at, page, count);
-    if (!is_or(page, from, count)) return 0;
+    if (!is_read_inverted(at, page, count) || !is_or(page, from, count)) return 0;
     for (size_t place = 0; place < count; place++) page[place] = (uint8_t)~from[place];
     if (!board_program((uint32_t)(at / SECTOR), (uint32_t)(at % SECTOR), page, count)) return 0;
-    read_inverted(at, page, count);
-    return memcmp(page, from, count) == 0;
+    return is_read_inverted(at, page, count) && memcmp(page, from, count) == 0;
 }
 
 int64_t pwrite(int file, const uint8_t *from, usize count, int64_t place) {

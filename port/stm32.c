@@ -22,10 +22,10 @@ uint32_t board_sectors(void) {
     return ask_host(HOST_LENGTH, &file) / SECTOR;
 }
 
-void board_read(uint32_t sector, uint32_t at, uint8_t *into, size_t count) {
+int board_read(uint32_t sector, uint32_t at, uint8_t *into, size_t count) {
     const uint32_t words[3] = {chip(), (uint32_t)into, count};
     seek(sector, at);
-    ask_host(HOST_READ, words);
+    return ask_host(HOST_READ, words) == 0;
 }
 
 static int is_put(uint32_t sector, uint32_t at, const uint8_t *bytes, size_t count) {
@@ -38,7 +38,7 @@ static int is_put(uint32_t sector, uint32_t at, const uint8_t *bytes, size_t cou
 // on a chip.
 int board_program(uint32_t sector, uint32_t at, const uint8_t *bytes, size_t count) {
     uint8_t page[PAGE];
-    board_read(sector, at, page, count);
+    if (!board_read(sector, at, page, count)) return 0;
     for (size_t place = 0; place < count; place++) page[place] &= bytes[place];
     for (size_t place = 0, many; place < count; place += many) {
         many = (at + place) % 2 == 0 && place + 1 < count ? 2 : 1;

@@ -11,7 +11,10 @@ static uintptr_t place_of(uint32_t sector, uint32_t at) { return flash_base + (u
 
 uint32_t board_sectors(void) { return SECTORS; }
 
-void board_read(uint32_t sector, uint32_t at, uint8_t *into, size_t count) { chip_read(place_of(sector, at), into, count); }
+int board_read(uint32_t sector, uint32_t at, uint8_t *into, size_t count) {
+    chip_read(place_of(sector, at), into, count);
+    return 1;
+}
 
 int board_program(uint32_t sector, uint32_t at, const uint8_t *bytes, size_t count) {
     return chip_program(place_of(sector, at), bytes, count);

@@ -3,8 +3,9 @@
 
 enum { SECTORS = 4, SECTOR = 4096 };
 
-// What a chip does that is not well: nothing, and says so of an erase alone; a half, and says so; nothing, and never says so.
-enum { WELL, IDLE, HALF, LIES };
+// What a chip does that is not well: nothing, and says so of an erase alone; a half, and says so; nothing, and never says so; or it cannot be
+// read.
+enum { WELL, IDLE, HALF, LIES, MUTE };
 
 uint8_t chip[SECTORS * SECTOR];
 int chip_is;
@@ -17,8 +18,10 @@ int board_take(void) { return next_byte; }
 void board_put(uint8_t byte) { sent = byte; }
 uint32_t board_sectors(void) { return SECTORS; }
 
-void board_read(uint32_t sector, uint32_t at, uint8_t *into, size_t count) {
+int board_read(uint32_t sector, uint32_t at, uint8_t *into, size_t count) {
+    if (chip_is == MUTE) return 0;
     for (size_t place = 0; place < count; place++) into[place] = chip[sector * SECTOR + at + place];
+    return 1;
 }
 
 int board_program(uint32_t sector, uint32_t at, const uint8_t *bytes, size_t count) {

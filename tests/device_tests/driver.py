@@ -8,7 +8,7 @@ import subprocess
 from .common import PORT, ROOT, SECTOR, Skipped, same
 
 RENAMED = "memcpy memmove memset memcmp bcmp read write pread pwrite open close statx __sysv_signal".split()
-WELL, IDLE, HALF, LIES = range(4)
+WELL, IDLE, HALF, LIES, MUTE = range(5)
 IN, OUT, FLASH = 0, 1, 3
 
 
@@ -65,9 +65,10 @@ def test_the_driver_tells_what_a_chip_has_not_done():
     calls, chip = driver()
     state = ctypes.c_int.in_dll(calls, "chip_is")
     same(put(calls, SECTOR + 9, b"\1"), 1, "a byte that an erase takes away")
-    for state.value in (IDLE, HALF, LIES):
+    for state.value in (IDLE, HALF, LIES, MUTE):
         same(put(calls, 0, b"\1\2"), -1, "a program")
         same(put(calls, SECTOR, bytes(SECTOR)), -1, "an erase")
+    same(taken(calls, 0, 2), -1, "a read")
     state.value = WELL
     same(put(calls, 0, b"\1\2"), 2, "the program again")
 
