@@ -51,6 +51,7 @@ def processors(wanted=tuple(PACKAGES)):
 
 built = set()
 OBJECTS = (("aarch64",), ("riscv64",), ("thumbv7em",), ("riscv32",), ("thumbv7em", "small"), ("thumbv7m",))
+FOR_COMPUTERS = ("x86_64",)
 
 
 def make_objects():
@@ -60,7 +61,7 @@ def make_objects():
     if subprocess.run([f"{PORT}/object", "ready"], stderr=subprocess.DEVNULL).returncode == 0:
         make(OBJECTS[0])
         with concurrent.futures.ThreadPoolExecutor(2) as pool:
-            list(pool.map(make, wanted))
+            list(pool.map(make, [*wanted, FOR_COMPUTERS]))
 
 
 def can_be_built():
