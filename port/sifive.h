@@ -45,7 +45,15 @@ static inline uint8_t port_take(void) {
 static inline int port_has_room(void) { return !(port[SENT] >> 31); }
 static inline void port_put(uint8_t byte) { port[SENT] = byte; }
 
+// qemu writes the chip's file beside the run, and what it has not yet written when the run ends is lost: it gets half a second.
+static inline void wait_for_chip(void) {
+    volatile uint32_t *const microseconds = (volatile uint32_t *)0x0200bff8;
+    const uint32_t begin = *microseconds;
+    while (*microseconds - begin < 500000) {}
+}
+
 static inline void power_off(int status) {
+    wait_for_chip();
     // the call that ends the program, with the reason that it ended by itself; on 32 bits it is the one that takes a status
     volatile uintptr_t reason[2] = {0x20026, (uintptr_t)status};
     register uintptr_t call __asm__("a0") = sizeof call == 8 ? 0x18 : 0x20;
