@@ -1,6 +1,8 @@
-// qemu-system-riscv64 -M virt: a 16550, a device that ends the run with a status, a second bank of flash of 128 blocks.
+// qemu-system-riscv64 and qemu-system-riscv32, -M virt: a 16550, a device that ends the run with a status, a second bank of flash of 128 blocks.
 #pragma once
 #include <stdint.h>
+
+#include "count_riscv.h"
 
 #ifndef SECTORS
 #define SECTORS 128
@@ -30,12 +32,4 @@ static inline void power_off(int status) {
     volatile uint32_t *end = (volatile uint32_t *)0x100000;
     *end = status ? (uint32_t)status << 16 | 0x3333 : 0x5555;
     for (;;) {}
-}
-
-static inline void count_instructions(void) {}
-
-static inline uint64_t instructions(void) {
-    uint64_t count;
-    __asm__ volatile("csrr %0, minstret" : "=r"(count));
-    return count;
 }

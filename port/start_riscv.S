@@ -1,4 +1,4 @@
-// Start of a 64-bit RISC-V board, in machine mode.
+// Start of a RISC-V board, of 64 bits or of 32, in machine mode.
 //
 // The code may not be written, and it lies below the stack: one that grows too far ends in `trap`, and not in other data.
 
@@ -18,8 +18,8 @@ _start:
     la t0, bss_low
     la t1, bss_high
 1:  bgeu t0, t1, 2f
-    sd zero, 0(t0)
-    addi t0, t0, 8
+    sw zero, 0(t0)
+    addi t0, t0, 4
     j 1b
 2:  call board_start
 3:  wfi
@@ -28,7 +28,5 @@ _start:
 // A stack that grew too far, or an access that no memory answers: the board ends with status 99.
     .balign 4
 trap:
-    li t0, 0x100000
-    li t1, (99 << 16) | 0x3333
-    sw t1, 0(t0)
-    j trap
+    la sp, stack_high
+    call board_trapped
