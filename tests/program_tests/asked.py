@@ -1,10 +1,13 @@
 """Strict runs, `ask`, the prompt, and what is said of refusals."""
+import fcntl
 import os
 import random
 import re
 import shutil
 import signal
+import struct
 import subprocess
+import termios
 import time
 
 from .common import NEW_IMAGE, ROOT, RUN, SENSORS, Skipped, length, needs, read, run, same, start, tried, write
@@ -196,7 +199,7 @@ def test_a_prompt_answers_line_by_line():
     wanted += "aql> SELECT v FROM n\n7\nrows 1\naql> \n"
     wanted += "aql> OPEN 1 SELECT v FROM n; FETCH 1\nok\n7\nrows 1\n"
     wanted += f"aql> SELECT v FRM n\nno syntax 8\nantelope: no syntax 8: {NO_COMMAND}\n    SELECT v FRM n\n            ^\n"
-    wanted += f"aql> PACK k; FETCH 1;\nno relation\nrows 0\nantelope: command 1: {NO_RELATION}\n    PACK k\naql> "
+    wanted += f"aql> PACK k; FETCH 1;\nno relation\nrows 0\nantelope: command 1: {NO_RELATION}\n    PACK k\naql> \n"
     same((shown, status), (wanted, 0), "the session")
     same(run("run", "image", "-", script=b"SELECT v FROM n;"), b"7\nrows 1\n", "what is there afterwards")
 
@@ -206,6 +209,26 @@ def test_a_prompt_makes_an_image_and_ends_with_quit():
     same(status, 0, "its status")
     same(["aql> CREATE RELATION n\nok\n" in shown, "\nCREATE INDEX relation.name TYPE kind" in shown], [True, True], shown)
     same(shown.endswith("aql> quit\n" + lines_of(made("new"))), True, f"the end of {shown!r}")
+
+
+def test_a_prompt_is_edited_where_rlwrap_is_there():
+    os.mkdir("bin")
+    write("bin/rlwrap", b'#!/bin/sh\necho "$SORACHEST_PROMPT: $*"\n')
+    os.chmod("bin/rlwrap", 0o755)
+    environment = {**os.environ, "PATH": f"{os.getcwd()}/bin:{os.environ['PATH']}"}
+    near, far = open_pty()
+    for columns, wanted in ((80, f"yes: -C antelope {tried.launcher} ask image\r\n"), (0, "image: type commands")):
+        fcntl.ioctl(near, termios.TIOCSWINSZ, struct.pack("HHHH", 24, columns, 0, 0))
+        begun = start("ask", "image", at=tried.launcher, stdin=far, stdout=far, stderr=far, env=environment)
+        shown = b""
+        while len(shown) < len(wanted):
+            shown += os.read(near, 1)
+        same(shown.decode(), wanted, f"what begins on {columns} columns")
+        if not columns:
+            os.write(near, b"\4")
+        same(begun.wait(), 0, "its status")
+    os.close(near)
+    os.close(far)
 
 
 def test_a_prompt_tells_why_it_cannot_begin_or_go_on():

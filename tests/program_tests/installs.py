@@ -4,8 +4,8 @@ import re
 import shutil
 import subprocess
 
-from .common import NEW_IMAGE, ROOT, read, same, tried, write
-from .clones import asked, built, copy_launcher, launch, lines_of, told
+from .common import NEW_IMAGE, ROOT, Skipped, read, same, tried, write
+from .clones import asked, built, copy_launcher, launch, lines_of
 
 
 def commands_of_clients():
@@ -105,6 +105,20 @@ def test_install_of_wrong_words_or_where_it_is_installed_is_refused():
     copy_launcher("installed")
     said = lines_of("this is installed, and a clone of the repository installs")
     same(launch("installed/antelope", "install", "here"), ("", said, 125), "an installed launcher")
+
+
+def test_arguments_are_completed():
+    if not shutil.which("bash"):
+        raise Skipped("there is no bash")
+    write("some.img", b"")
+    ask = 'COMP_WORDS=("$@"); COMP_CWORD=$(($# - 1)); _antelope; echo "${COMPREPLY[*]}"'
+    for words, wanted in (
+        ("antelope pl", "plan"), ("antelope r", "run repair"), ("antelope try --s", "--strict --sync"),
+        ("antelope --strict run so", "some.img"), ("antelope run some.img so", "some.img"), ("antelope dump some.img so", ""),
+    ):
+        command = ["bash", "-c", f"source '{ROOT}/docs/completions/antelope.bash'; {ask}", "bash", *words.split()]
+        completed = subprocess.run(command, stdout=subprocess.PIPE, check=True).stdout.decode()
+        same(completed, f"{wanted}\n", words)
 
 
 def test_the_version_is_the_same_everywhere():
