@@ -211,6 +211,20 @@ def test_a_prompt_makes_an_image_and_ends_with_quit():
     same(shown.endswith("aql> quit\n" + lines_of(made("new"))), True, f"the end of {shown!r}")
 
 
+def test_a_prompt_that_is_interrupted_lets_the_image_go():
+    near, far = open_pty()
+    begun = start("ask", "image", at=tried.launcher, stdin=far, stdout=far, stderr=far)
+    os.close(far)
+    shown = b""
+    while not shown.endswith(b"aql> "):
+        shown += os.read(near, 100)
+    same(run("run", "image", "-", status=7), b"", "what another run may do")
+    begun.send_signal(signal.SIGINT)
+    same(begun.wait(), 130, "its status")
+    os.close(near)
+    same(run("run", "image", "-", script=b"CREATE RELATION n;"), b"ok\n", "what another run may do then")
+
+
 def test_a_prompt_is_edited_where_rlwrap_is_there():
     os.mkdir("bin")
     write("bin/rlwrap", b'#!/bin/sh\necho "$SORACHEST_PROMPT: $*"\n')
