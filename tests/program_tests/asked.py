@@ -113,8 +113,8 @@ def test_refusals_that_cannot_be_counted_end_with_125():
     if subprocess.run(mount, stderr=subprocess.DEVNULL).returncode:
         raise Skipped("no small file system can be mounted here")
     try:
-        length_of_room = subprocess.run(["dd", "if=/dev/zero", "of=small/full", "bs=4096", "count=2"], stderr=subprocess.DEVNULL)
-        same(length_of_room.returncode, 1, "that the file system is full")
+        fill = ["dd", "if=/dev/zero", "of=small/full", "bs=4096", "count=2"]
+        same(subprocess.run(fill, stderr=subprocess.DEVNULL).returncode, 1, "that the file system is full")
         environment = {**os.environ, "TMPDIR": f"{os.getcwd()}/small"}
         command = [tried.launcher, "--strict", "run", "image", "script"]
         ended = subprocess.run(command, env=environment, stdout=subprocess.PIPE, stderr=subprocess.PIPE)

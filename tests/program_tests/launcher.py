@@ -89,8 +89,10 @@ def test_what_is_wrong_with_words_of_no_form_is_told():
     for words, wrong, form in WRONG:
         said = lines_of(wrong) + f"usage: antelope {form}\nantelope help prints all forms\n"
         same(launch("repo/antelope", *words.split(), path=path), ("", said, 1), words)
-    for words, wrong in (("fly image -", "'fly' is no form"), ("RUN image -", "'RUN' is no form"), ("--fast run", "there is no option --fast"),
-                         ("help run", "'help' is no form"), ("--version x", "there is no option --version")):
+    for words, wrong in (
+        ("fly image -", "'fly' is no form"), ("RUN image -", "'RUN' is no form"), ("help run", "'help' is no form"),
+        ("--fast run", "there is no option --fast"), ("--version x", "there is no option --version"),
+    ):
         same(launch("repo/antelope", *words.split(), path=path), ("", lines_of(wrong) + usage, 1), words)
     for words in ((), ("--strict",)):
         same(launch("repo/antelope", *words, path=path), ("", usage, 1), words)
