@@ -37,6 +37,7 @@ ask() {
     else
         input=$folder/script
         for command in "$@"; do write_command "$command"; done >"$input" || fail "$folder has no room for the commands"
+        [ -z "$header" ] || awk -f "$here/launcher/heads.awk" -f "$here/launcher/cut.awk" <"$input" >"$folder/heads"
         run_form run "$image" "$input"
     fi
 }

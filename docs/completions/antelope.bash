@@ -5,7 +5,7 @@ _antelope() {
     while ((at < COMP_CWORD)) && [[ ${COMP_WORDS[at]} == --* || ${COMP_WORDS[at]} == try ]]; do ((at++)); done
     COMPREPLY=()
     if ((COMP_CWORD == at)); then
-        mapfile -t COMPREPLY < <(compgen -W "$forms try install help --strict --sync --version" -- "$word")
+        mapfile -t COMPREPLY < <(compgen -W "$forms try install help --strict --sync --csv --header --version" -- "$word")
     elif ((COMP_CWORD == at + 1)) || [[ ${COMP_WORDS[at]} == run || ${COMP_WORDS[at]} == serve ]]; then
         mapfile -t COMPREPLY < <(compgen -f -- "$word")
     fi

@@ -165,6 +165,22 @@ def test_commands_are_asked_as_arguments():
     same(launch(tried.launcher, "ask", "image", longest)[::2], ("7\n-1\nrows 2\n", 0), "one of 512 bytes")
 
 
+def test_rows_are_asked_as_csv():
+    run("run", "image", "-", script=b"CREATE RELATION n; CREATE ATTRIBUTE v DOMAIN INT IN n;"
+        b"CREATE ATTRIBUTE t DOMAIN STRING(9) IN n; INSERT (7, 'a,b') INTO n; INSERT (-1, '') INTO n; INSERT (5, ' \"x-') INTO n;")
+    rows = '7,"a,b"\n-1,\n5," ""x-"\n'
+    same(launch(tried.launcher, "--csv", "ask", "image", "SELECT v, t FROM n"), (rows, "", 0), "rows")
+    commands = ("select v ,\n t FROM n WHERE v > 0;", "PACK n; SELECT MAX(v),MEAN( v )FROM n WHERE v>9", "JOIN n, n ON v PROJECT t",
+                "SELECT v FROM n WHERE v > 9", "OPEN 1 SELECT v FROM n", "FETCH 1")
+    wanted = 'v,t\n7,"a,b"\n5," ""x-"\nMAX(v),MEAN(v)\n,\nt\n"a,b"\n\n" ""x-"\n7\n'
+    same(launch(tried.launcher, "--header", "ask", "image", *commands), (wanted, "", 0), "rows behind their names")
+    said = lines_of(f"command 2: {NO_RELATION}") + "    PACK m\n"
+    came = launch(tried.launcher, "--header", "ask", "image", "SELECT v FROM n", "PACK m", "SELECT COUNT(v) FROM n")
+    same(came, ("v\n7\n-1\n5\nCOUNT(v)\n3\n", said, 11), "one that is refused")
+    with open("/dev/full", "wb") as full:
+        same(launch(tried.launcher, "--csv", "ask", "image", "SELECT v FROM n", stdout=full)[2], 5, "a full output")
+
+
 def typed(*lines, words=("image",)):
     """What a prompt shows when these lines are typed, each once the prompt is there, and the end of it."""
     near, far = open_pty()

@@ -66,6 +66,9 @@ WRONG = (
     ("gen image 4294967296 1", "4294967296 is too large: SEED is 0 to 4294967295", "gen IMAGE SEED COUNT"),
     ("gen image -1 4", "'-1' is no SEED, which is a number from 0 to 4294967295", "gen IMAGE SEED COUNT"),
     ("ask", "IMAGE is missing", "ask IMAGE COMMAND .."),
+    ("--csv ask", "IMAGE is missing", "ask IMAGE COMMAND .."),
+    ("--csv ask image", "--csv and --header want a COMMAND", "ask IMAGE COMMAND .."),
+    ("--header --strict run image -", "--csv and --header go with ask, and not with run", "run IMAGE SCRIPT"),
     ("--strict dump image", "--strict goes with run, and not with dump", "dump IMAGE"),
 )
 
