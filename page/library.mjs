@@ -1,31 +1,29 @@
-// The proved library in a page: each call lends it an image, an input and room for replies, and keeps nothing.
+// The proved library as a WebAssembly module: each call gets an image, an input and room for replies, and keeps nothing.
 //
-// The module has no imports, so it can reach nothing but the memory that it is lent.
+// The module has no imports, so it can reach nothing but its own memory.
 
 const ROOM = 16 << 20;
+// The longest dump: 262,144 rows on 16,773,120 bytes of flash take less than 40 MB of text.
+const DUMP_ROOM = 64 << 20;
 const PLACE = 16n;
 const encoder = new TextEncoder();
-const decoder = new TextDecoder();
 
-/** What a status means for the image at hand. */
+/** What each status means here. */
 export const STATUSES = {
-    0: 'all was done',
-    3: 'the flash has no room; the last command changed nothing',
-    5: 'the replies are longer than the room for them',
-    6: 'the image is not sound, and stays as it was',
-    8: 'the script has more than 16,777,216 bytes',
+    0: 'done',
+    3: 'the flash is full (more sectors make room); the last command changed nothing, and none after it was run',
+    5: 'the replies are longer than 16 MiB; the command whose reply is cut off was run, and none after it',
+    6: 'the image is not sound, and was not changed',
+    8: 'the script is longer than 16,777,216 bytes; the commands that are complete within them were run',
     10: 'an image has 4 to 4,095 sectors of 4,096 bytes',
 };
 
-/** The module, from bytes or from a response; an error says what a browser lacks. */
-export async function load(source) {
-    const module = source instanceof Response
-        ? await WebAssembly.compile(await source.arrayBuffer())
-        : await WebAssembly.compile(source);
-    return new Library(module);
+/** The library of a module's bytes. */
+export async function load(bytes) {
+    return new Library(await WebAssembly.compile(bytes));
 }
 
-class Library {
+export class Library {
     #module;
 
     constructor(module) {
@@ -33,19 +31,19 @@ class Library {
     }
 
     run(image, script) {
-        return this.#call('sorachest_run', image, bytesOf(script));
+        return this.#call('sorachest_run', image, { input: bytesOf(script) });
     }
 
     serve(image, line) {
-        return this.#call('sorachest_serve', image, line);
+        return this.#call('sorachest_serve', image, { input: line });
     }
 
     dump(image) {
-        return this.#call('sorachest_dump', image);
+        return this.#call('sorachest_dump', image, { room: DUMP_ROOM });
     }
 
     plan(image, rows) {
-        return this.#call('sorachest_plan', image, null, rows);
+        return this.#call('sorachest_plan', image, { rows });
     }
 
     look(image) {
@@ -56,16 +54,16 @@ class Library {
         return this.#call('sorachest_repair', image);
     }
 
-    // A module of its own for each call: its memory is as long as the image asks for, and is let go behind it.
-    #call(name, image, input, rows) {
+    // Each call has an instance of its own, so that its memory is freed after it.
+    #call(name, image, { input, rows, room: roomLength = ROOM } = {}) {
         const { exports } = new WebAssembly.Instance(this.#module, {});
         const lender = new Lender(exports);
         const ended = lender.lend(16);
         const words = [ended, ...lender.slice(image)];
         if (input) words.push(...lender.slice(input));
         if (rows !== undefined) words.push(rows);
-        const room = lender.lend(ROOM);
-        exports[name](...words, room, BigInt(ROOM));
+        const room = lender.lend(roomLength);
+        exports[name](...words, room, BigInt(roomLength));
         const memory = exports.memory.buffer;
         const view = new DataView(memory, Number(ended), 16);
         const from = Number(words[1]);
@@ -77,18 +75,14 @@ class Library {
     }
 }
 
-/** What a call came to: its status, the bytes that it wrote, and the image behind it. */
+/** The result of a call: its status, the bytes that it wrote, and the image after it. */
 class Ended {
     constructor(status, bytes, image) {
         Object.assign(this, { status, bytes, image });
     }
-
-    get replies() {
-        return decoder.decode(this.bytes);
-    }
 }
 
-// Memory behind the module's own, which is handed out from its front on.
+// The memory after the module's own data, which is handed out from its start.
 class Lender {
     #memory;
     #free;
@@ -98,7 +92,7 @@ class Lender {
         this.#free = __heap_base ? BigInt(__heap_base.value) : BigInt(memory.buffer.byteLength);
     }
 
-    /** The place of so many bytes. */
+    /** The place of free memory of this length. */
     lend(bytes) {
         const place = (this.#free + PLACE - 1n) / PLACE * PLACE;
         this.#free = place + BigInt(bytes);
@@ -107,7 +101,7 @@ class Lender {
         return place;
     }
 
-    /** The place and the length of a copy of these bytes, as the library takes a slice. */
+    /** The place and the length of a copy of these bytes: a slice, as the library takes it. */
     slice(bytes) {
         const place = this.lend(bytes.length);
         new Uint8Array(this.#memory.buffer).set(bytes, Number(place));
@@ -115,7 +109,7 @@ class Lender {
     }
 }
 
-// A memory of 64-bit addresses counts its pages in 64 bits, but not yet everywhere.
+// A memory with 64-bit addresses takes a BigInt, but not yet in every engine.
 function grow(memory, pages) {
     try {
         memory.grow(pages);

@@ -1,4 +1,4 @@
-// The flash as a picture: a square for each page, a row for a few sectors, in the colours of the legend.
+// The flash as a picture: a square for each page, some sectors in a row, in the colours of the legend.
 
 import { KINDS, countsOf, pagesOf } from './pages.mjs';
 
@@ -7,9 +7,9 @@ const NAMES = {
     rows: 'rows',
     tree: 'trees',
     log: 'logs',
-    building: 'being written',
+    building: 'under construction',
     waiting: 'to be collected',
-    broken: 'not known',
+    broken: 'unknown',
     free: 'free',
 };
 const STEPS = { ArrowLeft: () => -1, ArrowRight: () => 1, ArrowUp: columns => -columns, ArrowDown: columns => columns };
@@ -39,13 +39,13 @@ export class Picture {
         const counts = countsOf(this.#pages);
         const kinds = KINDS.filter(kind => counts[kind] || kind === 'free');
         this.#legend.replaceChildren(...kinds.map(kind => legendOf(kind, counts[kind])));
-        const told = kinds.map(kind => `${counts[kind]} ${NAMES[kind]}`).join(', ');
-        this.#canvas.setAttribute('aria-label', `${this.#pages.length} pages: ${told}`);
+        const described = kinds.map(kind => `${counts[kind]} ${NAMES[kind]}`).join(', ');
+        this.#canvas.setAttribute('aria-label', `${this.#pages.length} pages: ${described}`);
         this.#about.textContent = `${this.#pages.length / 16} sectors of 16 pages of 256 bytes. Point at a page, or use the arrow keys.`;
         this.#draw();
     }
 
-    // How many pages stand in a row, in whole sectors: fewer where there are few of them, and on a small screen.
+    // The pages in a row, whole sectors: fewer if the flash is small, and on a small screen.
     get #columns() {
         const wide = this.#pages.length <= 1024 ? 64 : this.#pages.length <= 16384 ? 128 : 256;
         return this.#canvas.parentElement.clientWidth < 600 ? wide / 2 : wide;

@@ -3,7 +3,7 @@
 const RELATION = /^relation (\S+) \((.*)\) rows (\d+) removed (\d+) slots left (\d+)$/;
 const INDEX = /^index (\S+)\.(\S+) (\S+)$/;
 
-/** The relations that the lines of `look` name, with their indexes. */
+/** The relations in the lines of `look`, with their indexes. */
 export function relationsOf(lines) {
     const relations = [];
     for (const line of lines.split('\n')) {
@@ -29,29 +29,35 @@ function attributesOf(text) {
     });
 }
 
-/** The rows of a reply to a query: texts stand in quotes, and hold none. */
+/** The rows of a reply to a query. */
 export function rowsOf(replies) {
     const lines = replies.split('\n');
     const end = lines.findIndex(it => it.startsWith('rows ') || it.startsWith('no '));
     return lines.slice(0, Math.max(end, 0)).map(valuesOf);
 }
 
-function valuesOf(line) {
-    return [...line.matchAll(/'([^']*)'|[^,]+/g)].map(it => it[1] ?? Number(it[0]));
+/** The values of a line: a text is in quotes and contains none, `-` is no value, and a sum may need a BigInt. */
+export function valuesOf(line) {
+    return [...line.matchAll(/'([^']*)'|[^,]+/g)].map(([token, text]) => {
+        if (text !== undefined) return text;
+        if (token === '-') return null;
+        return Number.isSafeInteger(Number(token)) ? Number(token) : BigInt(token);
+    });
 }
 
-/** The query for some attributes of all rows. */
-export function queryFor(relation, attributes) {
-    return `SELECT ${attributes.map(it => it.name).join(', ')} FROM ${relation.name};`;
+/** The query for all rows of a relation. */
+export function queryFor({ name, attributes }) {
+    return `SELECT ${attributes.map(it => it.name).join(', ')} FROM ${name};`;
 }
 
-/** Whether a value is a time since 1970 in milliseconds, as far as can be told: it is past the March of 1973. */
+/** Whether a TIME looks like milliseconds since 1970: it is after March 1973. */
 export function isClock(value, attribute) {
     return attribute.domain === 'TIME' && value >= 1e11;
 }
 
 /** How a value is written. */
 export function shown(value, attribute) {
+    if (value === null) return '–';
     if (!isClock(value, attribute)) return String(value);
     const end = [16, 19, 23][[60000, 1000, 1].findIndex(it => value % it === 0)];
     return new Date(value).toISOString().slice(0, end).replace('T', ' ');

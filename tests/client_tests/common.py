@@ -11,13 +11,19 @@ import antelope
 ROOT = os.path.dirname(os.path.dirname(os.path.dirname(os.path.realpath(__file__))))
 CLIENTS = f"{ROOT}/clients"
 EXAMPLES = f"{ROOT}/examples"
-PROGRAM = f"{ROOT}/crates/antelope_cli/out/antelope_cli"
+PROGRAM = os.environ.get("SORACHEST_PROGRAM") or f"{ROOT}/crates/antelope_cli/out/antelope_cli"
+# what the clients start on an image
+os.environ["SORACHEST_PROGRAM"] = PROGRAM
 
 SENSORS = (
     "CREATE RELATION s; CREATE ATTRIBUTE k DOMAIN LONG IN s; CREATE ATTRIBUTE t DOMAIN STRING(5) IN s;"
     "INSERT (5, 'abc') INTO s; INSERT (-1, '') INTO s; INSERT (7, 'it?,-') INTO s;"
 )
 ROWS = [(5, "abc"), (-1, ""), (7, "it?,-")]
+
+
+class Skipped(Exception):
+    """The machine has not what a test is about."""
 
 
 def same(got, wanted, what):

@@ -14,9 +14,9 @@ from client_tests.common import (
 
 
 @contextlib.contextmanager
-def hub(path, at="hub", status=0):
+def hub(path, *words, at="hub", status=0):
     """A hub that lends the line; it ends with this status, and its socket goes."""
-    command = [sys.executable, "-B", f"{CLIENTS}/antelope.py", "hub", path, at, "--timeout", "5"]
+    command = [sys.executable, "-B", f"{CLIENTS}/antelope.py", "hub", path, at, "--timeout", "5", *words]
     begun = subprocess.Popen(command, stderr=subprocess.PIPE)
     wait_for(at, begun)
     try:
@@ -152,6 +152,86 @@ def test_a_client_that_takes_no_replies_keeps_no_one_waiting():
         with antelope.connect("hub", timeout=5) as line:
             counts = [line.cursor().execute("SELECT COUNT(k) FROM s").fetchall()[0][0] for _ in range(20)]
         same((counts[0] < 3100, counts[0]), (True, counts[-1]), "the counts of rows")
+
+
+def processor_seconds(begun):
+    """What a process has taken of the processors so far."""
+    fields = read(f"/proc/{begun.pid}/stat").rpartition(b")")[2].split()
+    return (int(fields[11]) + int(fields[12])) / os.sysconf("SC_CLK_TCK")
+
+
+def test_a_client_that_sends_ends_alone_keeps_no_one_waiting():
+    with on_a_pty() as path, hub(path) as begun:
+        with contextlib.ExitStack() as links:
+            for _ in range(3):
+                link = links.enter_context(socket.socket(socket.AF_UNIX))
+                link.connect("hub")
+                link.sendall(b"\xc0" * 2_000_000)
+            with antelope.connect("hub", timeout=5) as line:
+                same(line.cursor().execute("SELECT k, t FROM s").fetchall(), ROWS, "rows")
+        # their places are free again, and nothing of theirs is left to do
+        with contextlib.ExitStack() as lines:
+            for _ in range(4):
+                lines.enter_context(antelope.connect("hub", timeout=5))
+            before = processor_seconds(begun)
+            time.sleep(0.5)
+            same(processor_seconds(begun) - before < 0.2, True, "it rests")
+
+
+def test_a_silent_client_loses_its_place_to_one_that_waits():
+    with on_a_pty() as path, hub(path, "--idle", "0.6"), contextlib.ExitStack() as lines:
+        silent, *others = [lines.enter_context(antelope.connect("hub")).cursor() for _ in range(4)]
+        deadline = time.monotonic() + 1.2
+        while time.monotonic() < deadline:
+            for cursor in others:
+                cursor.execute("SELECT MAX(k) FROM s")
+            time.sleep(0.02)
+        # while no one waits all stay
+        same(silent.execute("SELECT MAX(k) FROM s").fetchall(), [(7,)], "the silent one")
+        time.sleep(0.7)
+        for cursor in others:
+            cursor.execute("SELECT MAX(k) FROM s")
+        with antelope.connect("hub", timeout=5) as line:
+            same(line.cursor().execute("SELECT MAX(k) FROM s").fetchall(), [(7,)], "the fifth")
+            refuses(antelope.OperationalError, silent.execute, "SELECT MAX(k) FROM s", says="closed")
+            for cursor in others:
+                same(cursor.execute("SELECT MAX(k) FROM s").fetchall(), [(7,)], "one of the others")
+
+
+def test_a_client_that_takes_no_replies_loses_its_place_to_one_that_waits():
+    script = SENSORS + "".join(f"INSERT ({it}, 'abcde') INTO s;" for it in range(3000))
+    with on_a_pty(script) as path, hub(path, "--idle", "0.5"), contextlib.ExitStack() as links:
+        for _ in range(4):
+            link = links.enter_context(socket.socket(socket.AF_UNIX))
+            link.connect("hub")
+            # more replies than a socket keeps
+            link.sendall(b"\x01SELECT k, t FROM s\xc0" * 30)
+        with antelope.connect("hub", timeout=20) as line:
+            same(line.cursor().execute("SELECT COUNT(k) FROM s").fetchall(), [(3003,)], "the fifth")
+
+
+def test_who_may_connect_to_a_hub_is_told_by_the_mode_of_its_socket():
+    before = os.umask(0)
+    try:
+        with on_a_pty() as path:
+            for words, mode in (((), 0o600), (("--mode", "660", "--group", str(os.getgid())), 0o660)):
+                with hub(path, *words):
+                    same(os.stat("hub").st_mode & 0o777, mode, f"the mode with {words}")
+            tool("antelope", "hub", path, "hub", "--group", "no_such_group", status=1)
+            same(os.listdir("."), ["image"], "the files")
+    finally:
+        os.umask(before)
+
+
+def test_a_hub_leaves_what_has_taken_its_path():
+    with on_a_pty() as path:
+        command = [sys.executable, "-B", f"{CLIENTS}/antelope.py", "hub", path, "hub"]
+        begun = subprocess.Popen(command, stderr=subprocess.PIPE)
+        wait_for("hub", begun)
+        os.unlink("hub")
+        write("hub", "kept")
+        begun.terminate()
+        same((begun.communicate()[1], begun.returncode, read("hub")), (b"", 0, b"kept"), "how the hub ended")
 
 
 def test_a_hub_has_its_path_alone():

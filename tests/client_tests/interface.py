@@ -1,4 +1,6 @@
 """Tests of the database interface, call by call, and of values and refusals."""
+import datetime
+import enum
 import os
 import time
 
@@ -18,8 +20,10 @@ def test_the_module_says_what_it_is():
         same(getattr(antelope.Connection, name), kind, f"{name} of a connection")
     same(antelope.DatabaseError.__bases__ + antelope.InterfaceError.__bases__, (antelope.Error,) * 2, "errors")
     same(antelope.Error.__bases__ + antelope.Warning.__bases__, (Exception,) * 2, "exceptions")
-    for make in (antelope.Date, antelope.Time, antelope.Timestamp, antelope.TimestampFromTicks, antelope.Binary):
+    for make in (antelope.Time, antelope.TimeFromTicks, antelope.Binary):
         refuses(antelope.NotSupportedError, make, 1)
+    same(antelope.TimestampFromTicks(86400.25).isoformat(), "1970-01-02T00:00:00.250000+00:00", "a time by its ticks")
+    same(antelope.DateFromTicks(86400).isoformat(), "1970-01-02", "a day by its ticks")
 
 
 def test_rows_are_fetched_in_each_way():
@@ -200,6 +204,52 @@ def test_parameters_are_written_as_values():
         text = "a;b c"
         cursor.execute("INSERT (?, ?) INTO s", (-(2**31), text))
         same(cursor.execute("SELECT k FROM s WHERE t = ?", (text,)).fetchall(), [(-(2**31),)], "what was inserted")
+
+
+class Color(str, enum.Enum):
+    RED = "red"
+
+
+class Level(enum.IntEnum):
+    HIGH = 7
+
+
+def test_members_of_enumerations_are_written_as_their_values():
+    with connect() as line:
+        cursor = line.cursor()
+        cursor.execute("INSERT (?, ?) INTO s", (Level.HIGH, Color.RED))
+        same(cursor.execute("SELECT k, t FROM s WHERE t = ?", ("red",)).fetchall(), [(7, "red")], "what was inserted")
+
+
+TIMES = "CREATE RELATION n; CREATE ATTRIBUTE at DOMAIN TIME IN n; CREATE ATTRIBUTE v DOMAIN INT IN n;"
+
+
+def test_times_come_and_go_as_datetimes():
+    utc = datetime.timezone.utc
+    zone = datetime.timezone(datetime.timedelta(hours=2))
+    noon = datetime.datetime(2026, 1, 1, 12, tzinfo=utc)
+    rows = ((datetime.datetime(2026, 1, 1, 12), 1), (datetime.datetime(2026, 1, 1, 14, tzinfo=zone), 2))
+    with connect(TIMES, times=["at"]) as line:
+        cursor = line.cursor()
+        cursor.executemany("INSERT (?, ?) INTO n", (*rows, (antelope.Date(2026, 1, 2), 3)))
+        cursor.execute("SELECT v, at FROM n WHERE at = ?", (antelope.Timestamp(2026, 1, 1, 12, 0, 0, 999),))
+        same([it[1] for it in cursor.description], [antelope.NUMBER, antelope.DATETIME], "the types")
+        same(cursor.fetchall(), [(1, noon), (2, noon)], "the rows")
+        cursor.execute("SELECT MAX(at), COUNT(at), MIN(v) FROM n")
+        same(cursor.fetchall(), [(datetime.datetime(2026, 1, 2, tzinfo=utc), 3, 1)], "aggregates")
+        same(cursor.execute("SELECT MAX(at) FROM n WHERE v > 9").fetchall(), [(None,)], "no value")
+    with antelope.connect("image") as line:
+        # 2026-01-01 12:00 is 20,454.5 days behind 1970
+        same(line.cursor().execute("SELECT at FROM n").fetchone(), (20454 * 86400000 + 43200000,), "the number")
+    same(antelope.milliseconds(noon), 1767268800000, "milliseconds")
+    same(antelope.datetime_of(1767268800001) - noon, datetime.timedelta(milliseconds=1), "and back")
+
+
+def test_numbers_without_end_are_errors_of_the_interface():
+    refuses(antelope.DataError, lambda: antelope.literal(10**5000))
+    refuses(antelope.DataError, antelope.literal, float("inf"))
+    refuses(antelope.OperationalError, antelope.row_of, "1" * 5000)
+    same(antelope.row_of("-9223372036854775808"), (-(2**63),), "the least sum")
 
 
 def test_parameters_that_aql_cannot_write_are_refused():

@@ -90,8 +90,9 @@ def test_a_line_that_cannot_be_opened_is_told():
     for where, says in (
         ("none", "none: "),
         (".", ".: "),
-        ("file", "file: it is neither a port nor a socket"),
-        ("/dev/null", "/dev/null: it is neither a port nor a socket"),
+        # no image is so short
+        ("file", "ended with 10"),
+        ("/dev/null", "/dev/null: it is no port, no socket and no image"),
         ("tcp:127.0.0.1:1", "refused"),
         ("tcp:127.0.0.1:x", "tcp:HOST:PORT"),
         ("tcp:127.0.0.1", "tcp:HOST:PORT"),
@@ -99,7 +100,7 @@ def test_a_line_that_cannot_be_opened_is_told():
         ("run:", "no program is named"),
         ("run:./none", "./none"),
         ("run:'x", "run:'x: "),
-        ("run:/bin/true", "closed"),
+        ("run:/bin/true", "closed: /bin/true ended with 0"),
     ):
         refuses(antelope.OperationalError, antelope.connect, where, says=says)
     refuses(antelope.InterfaceError, lambda: antelope.connect("none", client=5))
@@ -107,6 +108,41 @@ def test_a_line_that_cannot_be_opened_is_told():
         refuses(antelope.OperationalError, lambda: antelope.connect(path, speed=7), says="7 bits a second")
         with antelope.connect(pathlib.Path(path), speed=9600) as line:
             same(line.cursor().execute("SELECT k, t FROM s").fetchall(), ROWS, "rows")
+
+
+def test_an_image_is_a_line():
+    station()
+    with antelope.connect(pathlib.Path("image")) as line:
+        cursor = line.cursor().execute("SELECT k, t FROM s")
+        same(cursor.fetchall(), ROWS, "the rows")
+    os.environ["SORACHEST_PROGRAM"], before = "./none", os.environ["SORACHEST_PROGRAM"]
+    try:
+        refuses(antelope.OperationalError, antelope.connect, "image", says="./none")
+    finally:
+        os.environ["SORACHEST_PROGRAM"] = before
+
+
+def test_a_program_is_started_anew_before_it_has_taken_all_it_takes():
+    where = station("CREATE RELATION n; CREATE ATTRIBUTE v DOMAIN INT IN n;" + "INSERT (1) INTO n;" * 9, sectors=1024)
+    # more bytes than one run takes
+    count = 32700
+    same(count * 514 > antelope_line.MOST_INPUT, True, "the bytes that are sent")
+    with antelope.connect(where) as line:
+        reading = line.cursor().execute("SELECT v FROM n")
+        same(reading.fetchone(), (1,), "a row that was fetched before")
+        line.cursor().executemany(f"INSERT (?{' ' * 491}) INTO n", ((it % 10000 + 10000,) for it in range(count)))
+        same(reading.fetchall(), [(1,)] * 8, "the rest of the answer")
+        query = "SELECT COUNT(v), SUM(v) FROM n WHERE v >= 10000"
+        total = sum(it % 10000 + 10000 for it in range(count))
+        same(line.cursor().execute(query).fetchall(), [(count, total)], "what was inserted")
+
+
+def test_a_line_of_several_clients_starts_its_program_anew():
+    with contextlib.closing(antelope_line.Line(station())) as line:
+        same(line.ask(2, b"OPEN 1 SELECT k FROM s"), "ok\n", "a cursor")
+        line._sent = antelope_line.MOST_INPUT - 4000
+        same([line.ask(3, b"SELECT MAX(k) FROM s"), line.ask(2, b"FETCH 1")], ["7\nrows 1\n", "no cursor\n"], "replies")
+        same(line.room() > antelope_line.MOST_INPUT - 4000, True, "the room")
 
 
 def test_an_answer_of_many_rows_comes_whole():

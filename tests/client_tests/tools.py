@@ -1,4 +1,4 @@
-"""Tests of the tools: commands by hand, CSV and plots."""
+"""Tests of the tools: commands by hand, how they end, and CSV."""
 import contextlib
 import os
 import pty
@@ -7,17 +7,13 @@ import signal
 import subprocess
 import sys
 import tty
-import xml.etree.ElementTree
 
 import antelope
 import antelope_csv
 from client_tests.common import (
-    CLIENTS, EXAMPLES, PROGRAM, ROOT, made, on_a_pty, program, read, same, station, tool, write,
+    CLIENTS, EXAMPLES, PROGRAM, ROOT, SENSORS, made, on_a_pty, program, read, same, station, tool, write,
 )
 from client_tests.lines import answered_by, framed
-
-SVG = "{http://www.w3.org/2000/svg}"
-
 
 # The command line
 
@@ -32,12 +28,25 @@ def test_commands_are_asked_by_hand():
 
 def test_each_tool_says_what_it_does():
     forms = ("", " hub", " ask"), ("", " in", " out")
-    tools = [f"antelope{it}" for it in forms[0]] + [f"antelope_csv{it}" for it in forms[1]] + ["plot", "reader"]
+    tools = [f"antelope{it}" for it in forms[0]] + [f"antelope_csv{it}" for it in forms[1]] + ["plot", "reader", "ship"]
     for words in map(str.split, tools):
         same(tool(*words, "--help")[0].startswith("usage: "), True, f"help of {words}")
         tool(*words, status=2)
     begun = tool_at(f"{EXAMPLES}/client.py", "--help", stdout=subprocess.PIPE)
     same((begun.communicate()[0][:7], begun.returncode), (b"usage: ", 0), "help of the example")
+
+
+def test_each_command_of_the_package_is_there():
+    commands = dict(re.findall(r'^(sorachest-\w+) = "([\w.:]+)"$', read(f"{CLIENTS}/pyproject.toml").decode(), re.M))
+    same({f"sorachest-{it}" for it in ("csv", "hub", "plot", "reader", "ship")} <= set(commands), True, f"{commands}")
+    for command, call in commands.items():
+        module, _, name = call.partition(":")
+        code = f"import sys; sys.path.insert(0, {CLIENTS!r}); import {module} as it; sys.exit(it.{name}())"
+        words = [sys.executable, "-B", "-c", code, "--help"]
+        ended = subprocess.run(words, stdout=subprocess.PIPE)
+        same((ended.returncode, ended.stdout[:6]), (0, b"usage:"), f"the help of {command}")
+    words = [sys.executable, "-B", "-m", "sorachest", "ask", "--help"]
+    same(subprocess.run(words, cwd=CLIENTS, stdout=subprocess.PIPE).returncode, 0, "the help of the module")
 
 
 def test_the_words_of_the_language_are_those_of_its_page():
@@ -194,8 +203,121 @@ def test_csv_that_aql_cannot_write_is_refused():
     for delimiter in ("", "ab", '"', "\n"):
         said = tool("antelope_csv", "in", "rows.csv", "s", "--delimiter", delimiter, status=2)[1]
         same("is not one character" in said, True, f"{delimiter!r}: {said}")
-    tool("antelope_csv", "in", "rows.csv", "s", "--create", status=1)
     tool("antelope_csv", "in", "none.csv", "s", status=1)
+
+
+def script_of(csv, *words):
+    """The script that a CSV comes to, a line each."""
+    write("rows.csv", csv)
+    return tool("antelope_csv", "in", "rows.csv", "s", *words)[0].splitlines()
+
+
+FIELD = "at,celsius,door\n2026-01-01 00:10,21.5,open\n2026-01-01T00:20:00+02:00,-3,\n2026-01-01,,shut\n"
+# minutes from 2026-01-01 00:00 of UTC: 10, 20 less 2 hours, 0
+FIELD_TIMES = [20454 * 86400000 + it * 60000 for it in (10, 20 - 120, 0)]
+
+
+def test_csv_of_the_field_comes_in():
+    first, second, third = FIELD_TIMES
+    created = [
+        "CREATE RELATION s;", "CREATE ATTRIBUTE at DOMAIN TIME IN s;", "CREATE ATTRIBUTE celsius DOMAIN INT IN s;",
+        "CREATE ATTRIBUTE door DOMAIN STRING(4) IN s;",
+    ]
+    rows = [f"INSERT ({first}, 215, 'open') INTO s;", f"INSERT ({second}, -30, '') INTO s;"]
+    blank = f"INSERT ({third}, -99, 'shut') INTO s;"
+    same(script_of(FIELD, "--scale", "10", "--blank", "skip", "--create"), created + rows, "a row that is left out")
+    words = ("--scale", "celsius=10", "--blank", "celsius=-99")
+    same(script_of(FIELD, *words), [*rows, blank], "a blank that is a number")
+    told = script_of(FIELD, *words, "--domains", "TIME, LONG, STRING(5)")
+    same(told, [*rows, blank], "the same where the domains are told")
+    pointed = FIELD.replace(",", ";").replace("21.5", "21,5")
+    words = ("--delimiter", ";", "--point", ",", "--scale", "10", "--blank", "-99")
+    same(script_of(pointed, *words), [*rows, blank], "a comma in a decimal")
+    write("rows.csv", FIELD)
+    for words, says in (
+        ((), "line 2: '21.5' times 1 is no whole number: --scale celsius=10 makes one of it"),
+        (("--scale", "10"), "line 4: celsius is blank"),
+        (("--scale", "100", "--domains", "TIME,INT,STRING(3)"), "line 2: 'open' has more than 3 characters"),
+        (("--scale", "2000", "--domains", "TIME,INT,STRING(4)"), "line 2: '21.5' makes 43000, which is no number from"),
+        (("--scale", "minute=10"), "there is no column minute"),
+        (("--scale", "0"), "a scale is at least 1"),
+        (("--blank", "none"), "'none' is no whole number"),
+    ):
+        said = tool("antelope_csv", "in", "rows.csv", "s", *words, status=1)[1]
+        same(says in said, True, f"{words}: {said}")
+
+
+def test_times_of_a_csv_are_milliseconds():
+    day = 20454 * 86400000
+    for text, milliseconds in (
+        ("2026-01-01", day),
+        ("2026-01-01 01:02", day + 3720000),
+        ("2026-01-01T01:02:03", day + 3723000),
+        ("2026-01-01 01:02:03.5Z", day + 3723500),
+        ("2026-01-01 01:02:03.045000 +00:30", day + 3723045 - 1800000),
+        ("2026-01-01T01:02:03,004-0100", day + 3723004 + 3600000),
+        ("1970-01-01 00:00", 0),
+        ("2024-02-29", 19782 * 86400000),
+    ):
+        same(script_of(f'at\n"{text}"\n'), [f"INSERT ({milliseconds}) INTO s;"], text)
+    for text, says in (
+        ("2025-02-29", "is no time"),
+        ("2026-01-01 24:00", "is no time"),
+        ("1969-12-31", "is no number from 0"),
+        ("2026-01-01 01:02:03.0005", "parts of a millisecond"),
+        ("yesterday", "is no number from 0"),
+    ):
+        write("rows.csv", f"at\n{text}\n")
+        said = tool("antelope_csv", "in", "rows.csv", "s", "--domains", "TIME", status=1)[1]
+        same(f"line 2: '{text}'" in said and says in said, True, said)
+
+
+def test_domains_are_guessed_as_narrow_as_the_cells_allow():
+    for cells, domain in (
+        (("-32768", "32767"), "INT"),
+        (("0", "32768"), "LONG"),
+        (("-2147483648",), "LONG"),
+        (("2147483648",), "TIME"),
+        (("140737488355328",), "STRING(15)"),
+        (("2147483648", "-1"), "STRING(10)"),
+        (("007", "8"), "STRING(3)"),
+        (("", ""), "STRING(1)"),
+        (("5", ""), "INT"),
+        (("2026-01-01", "5"), "STRING(10)"),
+    ):
+        write("rows.csv", "v,w\n" + "".join(f"{it},x\n" for it in cells))
+        wrote, _ = tool("antelope_csv", "in", "rows.csv", "s", "--dry-run", "--blank", "0")
+        same(wrote.splitlines()[0].partition(",")[0], f"v: {domain} (guessed)", f"what is guessed of {cells}")
+
+
+def test_a_dry_run_tells_what_is_in_the_way_and_does_nothing():
+    write("rows.csv", FIELD)
+    with on_a_pty() as path:
+        words = ("in", "rows.csv", "s", "--scale", "10", "--create", "--dry-run")
+        wrote, _ = tool("antelope_csv", *words, "--line", path, status=1)
+        lines = [
+            "at: TIME (guessed)", "celsius: INT (guessed), times 10, 1 blank", "door: STRING(4) (guessed), 1 blank",
+            "line 4: celsius is blank: --blank names what stands for that",
+            # two INSERTs of 44 and 40 bytes with their line ends
+            "2 rows of 3 fit, 84 bytes of INSERTs",
+        ]
+        same(wrote.splitlines(), lines, "what it said")
+    same(program("dump", "image"), program("dump", made_image()), "the station")
+    wrote, _ = tool("antelope_csv", *words, "--parts", "part", "--blank", "7")
+    same(wrote.splitlines()[-1], "3 rows of 3 fit, 126 bytes of INSERTs", "what it said of all")
+    same(os.path.exists("part-001.aql"), False, "a part")
+
+
+def made_image():
+    made("other", SENSORS)
+    return "other"
+
+
+def test_times_go_out_as_iso_times():
+    where = station("CREATE RELATION s; CREATE ATTRIBUTE at DOMAIN TIME IN s; INSERT (1767225600500) INTO s;")
+    wrote, _ = tool("antelope_csv", "out", where, "SELECT at, at FROM s", "--times", "at")
+    same(wrote, "at,at\n" + ",".join(["2026-01-01 00:00:00.500000+00:00"] * 2) + "\n", "the CSV")
+    same(script_of(wrote), ["INSERT (1767225600500, 1767225600500) INTO s;"], "and in again")
 
 
 def test_a_script_of_a_csv_comes_in_parts():
@@ -225,47 +347,3 @@ def test_csv_out_and_in_again_is_the_same_database():
         said = tool("antelope_csv", *words, "--create", "--line", path, status=1)[1]
         same("0 commands of 27 were carried out" in said, True, said)
     same(program("dump", "image"), wanted, "the dump of what was sent")
-
-
-# Plots
-
-
-def drawn(where, query):
-    """The places of the points of an SVG, and its texts."""
-    root = xml.etree.ElementTree.fromstring(tool("plot", where, query, "--svg")[0])
-    same(root.tag, f"{SVG}svg", "the root")
-    places = [(float(it.get("cx")), float(it.get("cy"))) for it in root.iter(f"{SVG}circle")]
-    return places, {it.text for it in root.iter(f"{SVG}text")}
-
-
-def test_a_plot_has_a_point_for_each_row():
-    where = station()
-    for query, points in (
-        ("SELECT k, k FROM s", 3),
-        ("SELECT k, k FROM s WHERE k = 5", 1),
-        ("SELECT k, k FROM s WHERE k > 9", 0),
-        ("JOIN s, s ON k PROJECT k, k", 3),
-        ("SELECT MAX(k), COUNT(t) FROM s", 1),
-    ):
-        circles, _ = drawn(where, query)
-        same(len(circles), points, f"points of {query}")
-        same(all(0 <= x <= 800 and 0 <= y <= 480 for x, y in circles), True, f"points of {query} are inside")
-    lines = tool("plot", where, "SELECT k, k FROM s", "--width", "20")[0].splitlines()
-    same(sum(it.count("*") for it in lines), 3, "points in the terminal")
-    same((lines[0], max(map(len, lines)) <= 20, len(lines)), ("k over k, 3 rows", True, 23), "the lines")
-    where = station("CREATE RELATION s; CREATE ATTRIBUTE k DOMAIN TIME IN s; INSERT (1700000000000) INTO s;")
-    lines = tool("plot", where, "SELECT k, k FROM s", "--width", "5")[0].splitlines()
-    same(lines[-1].split(), ["1700000000000"] * 2, "the numbers where there is little room")
-    where = station()
-    empty = "SELECT MIN(k), MAX(k) FROM s WHERE k > 9"
-    for query in ("SELECT k FROM s", "SELECT k, t FROM s", empty, "PACK s", "SELECT x FROM s"):
-        tool("plot", where, query, "--svg", status=1)
-
-
-def test_a_plot_puts_points_where_they_belong():
-    schema = "CREATE RELATION s; CREATE ATTRIBUTE k DOMAIN INT IN s; CREATE ATTRIBUTE v DOMAIN INT IN s;"
-    where = station(schema + "INSERT (0, 10) INTO s; INSERT (5, 20) INTO s; INSERT (10, 10) INTO s;")
-    circles, texts = drawn(where, "SELECT k, v FROM s")
-    (first, low), (middle, high), (last, as_low) = circles
-    same((middle - first, low == as_low, high < low), (last - middle, True, True), "the places")
-    same({"0", "10", "20", "k", "v"} <= texts, True, f"numbers and names in {texts}")

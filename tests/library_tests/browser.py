@@ -1,4 +1,4 @@
-"""A browser without a window, told what to do over a pipe."""
+"""A browser without a window, driven over a pipe."""
 import base64
 import contextlib
 import json
@@ -8,6 +8,8 @@ import tempfile
 import time
 
 SECONDS = 40
+READY = "document.documentElement?.dataset.ready === 'yes'"
+KEYS = {"Enter": 13, "Escape": 27, "ArrowUp": 38, "ArrowDown": 40}
 
 
 class Browser:
@@ -17,14 +19,14 @@ class Browser:
         self._from, from_it = os.pipe()
         words = ["chromium", "--headless=new", "--no-sandbox", "--disable-gpu", "--disable-dev-shm-usage", "--hide-scrollbars"]
         words += ["--remote-debugging-pipe", f"--user-data-dir={self._folder.name}", "--no-first-run", "about:blank"]
-        # the browser reads what it is told at 3 and writes what it answers at 4
+        # the browser reads its commands at 3 and writes its answers at 4
         shell = ["sh", "-c", f'exec "$@" 3<&{to_it} 4>&{from_it}', "sh", *words]
         quiet = {"stdin": subprocess.DEVNULL, "stdout": subprocess.DEVNULL, "stderr": subprocess.DEVNULL}
         self._begun = subprocess.Popen(shell, pass_fds=(to_it, from_it), **quiet)
         os.close(to_it)
         os.close(from_it)
         self._answers, self._number, self._read = {}, 0, b""
-        self.requests = []
+        self.requests, self._loaded = [], set()
         return self
 
     def __exit__(self, *_):
@@ -60,6 +62,15 @@ class Browser:
                 self._answers[it["id"]] = it
             elif it["method"] == "Network.requestWillBeSent":
                 self.requests.append(it["params"]["request"]["url"])
+            elif it["method"] == "Page.loadEventFired":
+                self._loaded.add(it["sessionId"])
+
+    def reload(self, session):
+        """Returns when the page is loaded again: before that it answers nothing."""
+        self._loaded.discard(session)
+        self.tell("Page.reload", session)
+        while session not in self._loaded:
+            self._hear()
 
     def page(self, address, width, height, scheme="light"):
         """A page of this size, once it is ready."""
@@ -71,7 +82,7 @@ class Browser:
         page.tell("Emulation.setDeviceMetricsOverride", width=width, height=height, deviceScaleFactor=1, mobile=False)
         page.tell("Emulation.setEmulatedMedia", features=[{"name": "prefers-color-scheme", "value": scheme}])
         page.tell("Page.navigate", url=address)
-        page.until("document.documentElement?.dataset.ready === 'yes'")
+        page.until(READY)
         return page
 
 
@@ -100,11 +111,27 @@ class Page:
                 raise AssertionError(f"it never came to {condition}")
             time.sleep(0.05)
 
+    def settled(self):
+        """The page, once nothing runs in it."""
+        self.until("document.documentElement.dataset.busy === 'no'")
+        return self
+
+    def reload(self):
+        self._browser.reload(self._session)
+        self.until(READY)
+
+    def text(self, place):
+        """The text of an element, by its name."""
+        return self.evaluate(f"document.getElementById('{place}').textContent")
+
+    def click(self, place):
+        self.evaluate(f"document.getElementById('{place}').click()")
+
     def type(self, text):
         self.tell("Input.insertText", text=text)
 
-    def press(self, key, code, control=False):
-        words = {"key": key, "code": code, "windowsVirtualKeyCode": 13, "modifiers": 2 if control else 0}
+    def press(self, key, control=False):
+        words = {"key": key, "code": key, "windowsVirtualKeyCode": KEYS[key], "modifiers": 2 if control else 0}
         for kind in ("rawKeyDown", "keyUp"):
             self.tell("Input.dispatchKeyEvent", type=kind, **words)
 

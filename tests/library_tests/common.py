@@ -1,14 +1,21 @@
-"""What the tests of the library share: what is built, how it is called beside the program, and what they are compared by."""
+"""What the tests of the library share: what is built, how it is called beside the program, and how it is compared."""
+import atexit
 import os
 import shutil
 import subprocess
+import tempfile
 
 ROOT = os.path.dirname(os.path.dirname(os.path.dirname(os.path.realpath(__file__))))
 HERE = f"{ROOT}/tests/library_tests"
 EXAMPLES = f"{ROOT}/examples"
-PROGRAM = f"{ROOT}/crates/antelope_cli/out/antelope_cli"
-SITE = f"{ROOT}/page/out"
+PROGRAM = os.environ.get("SORACHEST_PROGRAM", f"{ROOT}/crates/antelope_cli/out/antelope_cli")
+MODULE = os.environ.get("SORACHEST_MODULE")
 ARCHIVE = f"{ROOT}/c/out/libsorachest.a"
+SITE = f"{ROOT}/page/out"
+if MODULE:
+    # a module that was named by hand stays out of the folder of the proved one
+    SITE = tempfile.mkdtemp(prefix="sorachest-")
+    atexit.register(shutil.rmtree, SITE)
 
 
 class Skipped(Exception):

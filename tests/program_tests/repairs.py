@@ -107,7 +107,8 @@ def calls_of(*words, **how):
     """What the program wrote, and the calls that it made for its image: ("W", place, bytes), ("S",) or ("A", bytes written)."""
     if not shutil.which("cc"):
         raise Skipped("there is no cc")
-    subprocess.run(["cc", "-shared", "-fPIC", "-O1", f"{ROOT}/tests/calls.c", "-o", "calls.so", "-ldl"], check=True)
+    if not os.path.exists("calls.so"):
+        subprocess.run(["cc", "-shared", "-fPIC", "-O1", f"{ROOT}/tests/calls.c", "-o", "calls.so", "-ldl"], check=True)
     with contextlib.suppress(FileNotFoundError):
         os.remove("calls")
     told = {"LD_PRELOAD": os.path.abspath("calls.so"), "CALLS": os.path.abspath("calls")}

@@ -5,3 +5,8 @@ mod ZeroPages
 pub mod NotZero
 pub mod Missed
 pub mod WithLogs
+mod Erasings
+mod Guessed
+mod Searched
+mod Pairs
+mod Results

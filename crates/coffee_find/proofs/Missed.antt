@@ -1,5 +1,5 @@
 -- An image that breaks another rule than 12 first is not settled; and where it is 12, the record of that log alone may be torn.
-use Rattle.std.proofs.Common.{◌≡◌, ◌≢◌, ◌⊎◌, inl, inr, ⊎_elim, ℕ, ◌+◌, ◌*◌, ◌/◌, ◌≤◌, ◌<◌, List, length, Option, Some, None, refl, ap, sym, subst, ◌∙◌, arith}
+use Rattle.std.proofs.Common.{◌≡◌, ◌⊎◌, inl, inr, ⊎_elim, ℕ, ◌+◌, ◌*◌, ◌≤◌, ◌<◌, List, length, Option, Some, None, refl, ap, sym, subst, ◌∙◌, arith}
 use Rattle.std.specs.Prelude.{IfNone, IfOk, Result, Ok, Err}
 use Rattle.afl_base.specs.Image.{zeros_at}
 use Rattle.coffee_layout.specs.Rules.{broken_image}

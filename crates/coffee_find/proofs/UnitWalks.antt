@@ -4,17 +4,18 @@ use Rattle.std.proofs.lemmas.Bool.{cases_lt}
 use Rattle.std.proofs.lemmas.List.{append-nil}
 use Rattle.coffee_cuts.specs.Cuts.{IsIdle}
 use Rattle.coffee_layout.specs.Marks.{active_pages}
-use Rattle.coffee_layout.specs.Tiling.{units_from, units_of}
+use Rattle.coffee_layout.specs.Tiling.{IsTiled, nowhere, units_from, units_of}
 use Rattle.coffee_layout.specs.Units.{is_active, pages_of, size_of, total, unit_at}
 use Rattle.coffee_layout.specs.declared.unit.Unit.{Unit}
 use Rattle.coffee_layout.proofs.Frames.{total-append}
 use Rattle.coffee_layout.proofs.MarkLaws.{mark_past}
 use Rattle.coffee_layout.proofs.Tilings.{units_end, units_step}
-use Rattle.coffee_cuts.proofs.Reached.{begun_past, no_unit, same_unit, units_stop}
+use Rattle.coffee_cuts.proofs.Reached.{begun_past, units_stop}
 use Rattle.coffee_merge.specs.Begun.{unit_begun}
-use Rattle.coffee_merge.proofs.Begun.{HavePages, begun_here, begun_marks, begun_rest, begun_there}
-use Rattle.coffee_space.proofs.SectorMarks.{any_none}
-use Rattle.coffee_find.specs.Search.{AreIdle}
+use Rattle.coffee_merge.proofs.Begun.{HavePages, begun_here, begun_inside, begun_marks, begun_rest, begun_there, have_pages}
+use Rattle.coffee_space.proofs.SectorMarks.{any_each, any_none}
+use Rattle.padded.proofs.Facts.{yes_no}
+use Rattle.coffee_find.specs.Search.{AreIdle, HasActivePart}
 
 -- the walk came to a page, and each unit before it has a page
 pub record Walked (image : List ℕ) (at : ℕ) : Type 0 where
@@ -92,6 +93,46 @@ quiet_end image sector at behind w =
     (λ (less : q < at). w.quiet q less a b)
     (λ (past : at ≤ q). mark_past is_active (units_of image) q (omega (arith, pages, past)))
     (cases_lt q at))
+
+-- an active unit with a page in it
+pub busy_unit : (image : List ℕ) (sector at next : ℕ) (u : Unit) → at < pages_of image → unit_at image at ≡ Some u → next ≡ at + size_of u → at < next → HasActivePart u at next sector
+    → Walked image at → IsIdle (units_of image) sector → ⊥
+busy_unit image sector at next u before is behind onward part w idle =
+    let from = part.from in
+    let to = part.to in
+    let mark : (q : ℕ) → at ≤ q → q < next → 16 * sector ≤ q → q < 16 * sector + 16 → ⊥ = λ q low less a b. yes_no (is_active u) part.active
+    (sym (begun_marks is_active (units_of image) at u q (walked_begun image at u before is w) low (omega (arith, less, behind)))
+    ∙ any_each (active_pages (units_of image)) (16 * sector) (16 * sector + 16) q idle a b) in
+    ⊎_elim
+    (λ (front : at < 16 * sector). mark (16 * sector) (omega (arith, front)) from (omega arith) (omega arith))
+    (λ (inner : 16 * sector ≤ at). mark at (omega arith) onward inner to)
+    (cases_lt at (16 * sector))
+
+-- ---- a walk over a tiled image comes to its end
+
+stopped_total : (n : ℕ) (image : List ℕ) (at : ℕ) → unit_at image at ≡ None → units_from n image at ≡ []
+stopped_total zero image at none = refl
+stopped_total (suc n) image at none = ⊎_elim
+    (λ (before : at < pages_of image). units_stop n image at before none)
+    (λ (behind : pages_of image ≤ at). units_end (suc n) image at behind)
+    (cases_lt at (pages_of image))
+
+-- a unit stands before the end
+pub tiled_stands : (image : List ℕ) (at : ℕ) → at < pages_of image → unit_at image at ≡ None → Walked image at → IsTiled nowhere image (units_of image) → ⊥
+tiled_stands image at before none w tiled =
+    let all : units_of image ≡ w.front = w.whole ∙ ap (λ us. w.front ++ us) (stopped_total w.turns image at none) ∙ append-nil w.front in
+    let pages : total (units_of image) ≡ at = ap total all ∙ w.place in
+    let whole = tiled.whole in
+    absurd (omega (arith, pages, whole, before))
+
+-- and it has pages, which lie inside
+pub tiled_goes : (image : List ℕ) (at : ℕ) (u : Unit) → at < pages_of image → unit_at image at ≡ Some u → (1 ≤ size_of u → pages_of image < at + size_of u) → Walked image at → IsTiled nowhere image (units_of image) → ⊥
+tiled_goes image at u before is far w tiled =
+    let inside = begun_inside (units_of image) at u (have_pages nowhere image (units_of image) tiled) (walked_begun image at u before is w) in
+    let past = far inside.0 in
+    let low = inside.1 in
+    let whole = tiled.whole in
+    absurd (omega (arith, past, low, whole))
 
 -- ---- pages to which the walk does not come
 

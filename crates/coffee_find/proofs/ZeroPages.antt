@@ -1,5 +1,5 @@
 -- Pages that are all zero, one behind the other.
-use Rattle.std.proofs.Common.{◌≡◌, ℕ, ◌+◌, ◌-◌, ◌*◌, ◌≤◌, true, List, ap, sym, slice_range, ◌∙◌, arith}
+use Rattle.std.proofs.Common.{◌≡◌, ℕ, ◌+◌, ◌*◌, ◌≤◌, true, List, ap, sym, slice_range, ◌∙◌, arith}
 use Rattle.padded.specs.Zeros.{is_zeros}
 use Rattle.coffee_layout.proofs.Zeros.{zeros_more}
 

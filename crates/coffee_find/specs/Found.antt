@@ -2,10 +2,11 @@
 use Rattle.std.specs.Prelude.{◌≡◌, ◌≢◌, ⊤, ◌≤◌, ◌<◌, ℕ, ◌+◌, ◌*◌, List, Option, Some, None}
 use Rattle.afl_base.specs.Image.{zeros_at}
 use Rattle.afl_base.specs.declared.ids.PageId.{PageId}
-use Rattle.coffee_cuts.specs.Cuts.{IsActiveAt, IsFound, UnderWay as CutWay, Beginning as was_beginning, Building as was_building, Erasing as was_erasing, Naming as was_naming, Nothing as was_nothing, Replacing as was_replacing, Unnamed as was_unnamed, next_record, settled}
+use Rattle.coffee_cuts.specs.Cuts.{IsActiveAt, IsFound, MendsTo, UnderWay as CutWay, Beginning as was_beginning, Building as was_building, Erasing as was_erasing, Naming as was_naming, Nothing as was_nothing, Replacing as was_replacing, Unnamed as was_unnamed, next_record, settled}
 use Rattle.coffee_layout.specs.FileBytes.{table_of, used_in}
-use Rattle.coffee_layout.specs.Files.{Placed, log_of}
+use Rattle.coffee_layout.specs.Files.{NamedFile, Placed, log_of}
 use Rattle.coffee_layout.specs.Rules.{broken_image}
+use Rattle.coffee_layout.specs.declared.unit.BadImage.{BadImage}
 use Rattle.coffee_find.specs.declared.trouble.Judgement.{Judgement}
 use Rattle.coffee_find.specs.declared.trouble.Judgement.TheVariants.{Sound, Cut, Strange}
 use Rattle.coffee_find.specs.declared.trouble.PlacedFile.{PlacedFile}
@@ -74,11 +75,20 @@ pub record IsTroubleInside (size : ℕ) (trouble : Trouble) : Type 0 where
   pub under_way : IsInFlash size trouble.under_way
   pub torn : HasRecord size trouble.torn
 
+-- an image mends to no files
+abbrev pub MendsToNone : List ℕ → Type 0
+MendsToNone image = (files : List NamedFile) → MendsTo image files → ⊥
+
+-- no cut leaves such an image: this is the first rule that it breaks, and it mends to no files
+pub record IsStrange (image : List ℕ) (bad : BadImage) : Type 0 where
+  pub broken : broken_image image ≡ Some bad
+  pub mends : MendsToNone image
+
 -- what a judgement says of an image
 abbrev pub IsJudged : List ℕ → Judgement → Type 0
 IsJudged image Sound = broken_image image ≡ None
 IsJudged image (Cut trouble) = (broken_image image ≢ None) × IsCutBy image trouble
-IsJudged image (Strange bad) = broken_image image ≡ Some bad
+IsJudged image (Strange bad) = IsStrange image bad
 
 -- what a judgement names lies inside the flash
 abbrev pub IsJudgedInside : (size : ℕ) → Judgement → Type 0

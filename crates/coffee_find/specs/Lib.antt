@@ -1,2 +1,3 @@
 pub mod Found
+pub mod Guesses
 pub mod Search

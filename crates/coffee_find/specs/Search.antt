@@ -1,15 +1,15 @@
 -- What the steps of the search answer.
 use Rattle.std.specs.Prelude.{slice_range, ◌/◌, ◌≡◌, ◌≢◌, ◌⊎◌, ◌≤◌, ◌<◌, ⊤, ℕ, ◌+◌, ◌*◌, true, false, List, Option, Some, None}
 use Rattle.std.specs.List.{Contains}
-use Rattle.coffee_cuts.specs.Cuts.{HasTornRecord, IsActiveAt, IsIdle, IsSettled, next_record}
+use Rattle.coffee_cuts.specs.Cuts.{HasTornRecord, IsActiveAt, IsHeadless, IsIdle, IsSettled, next_record}
 use Rattle.coffee_header.specs.declared.header.Header.{Header}
 use Rattle.coffee_layout.specs.FileBytes.{table_of, used_in}
-use Rattle.coffee_layout.specs.Files.{files_in, is_file, log_of}
+use Rattle.coffee_layout.specs.Files.{Placed, files_in, is_file, log_of}
 use Rattle.afl_base.specs.declared.ids.PageId.{PageId}
 use Rattle.coffee_find.specs.declared.trouble.UnderWay.{UnderWay}
 use Rattle.coffee_find.specs.declared.trouble.UnderWay.TheVariants.{Nothing, Beginning, Building, Erasing, Unnamed, Naming, Replacing}
 use Rattle.coffee_layout.specs.Rules.{broken_image}
-use Rattle.coffee_layout.specs.Tiling.{units_of}
+use Rattle.coffee_layout.specs.Tiling.{IsTiled, nowhere, units_of}
 use Rattle.coffee_layout.specs.Units.{is_active, unit_at}
 use Rattle.padded.specs.Zeros.{is_zeros}
 use Rattle.coffee_layout.specs.declared.unit.Unit.{Unit}
@@ -23,6 +23,12 @@ use Rattle.coffee_find.specs.declared.settling.Verdict.TheVariants.{Sound, Torn,
 -- where a unit with these pages has one in a sector, it is not active
 abbrev pub AreIdle : Unit → (page next sector : ℕ) → Type 0
 AreIdle u page next sector = (q : ℕ) → page ≤ q → q < next → 16 * sector ≤ q → q < 16 * sector + 16 → is_active u ≡ false
+
+-- a unit with these pages is active, and has one in a sector
+pub record HasActivePart (u : Unit) (page next sector : ℕ) : Type 0 where
+  pub active : is_active u ≡ true
+  pub from : 16 * sector < next
+  pub to : page < 16 * sector + 16
 
 -- the next record of an active log begins at a place
 pub record IsNextRecord (image : List ℕ) (log place : ℕ) : Type 0 where
@@ -52,21 +58,43 @@ pub record HasFlags (u : Unit) (flags : ℕ) : Type 0 where
 abbrev pub IsFileIn : List ℕ → PlacedFile → Type 0
 IsFileIn image f = Contains (files_in (units_of image)) (placed_of f)
 
+-- two active files have one name, and the first stands before the second
+pub record AreTwins (image : List ℕ) (first second : PlacedFile) : Type 0 where
+  pub first_there : IsFileIn image first
+  pub second_there : IsFileIn image second
+  pub order : first.page.0 < second.page.0
+  pub one_name : first.header.name ≡ second.header.name
+
 -- a unit at a page is an active file
 pub record IsFileAt (u : Unit) (page : ℕ) (f : PlacedFile) : Type 0 where
   pub at : f.page.0 ≡ page
   pub is : u ≡ Extent f.header
   pub active : is_file (placed_of f) ≡ true
 
+-- a page lies in a sector
+pub record LiesInSector (sector page : ℕ) : Type 0 where
+  pub from : 16 * sector ≤ page
+  pub within : page < 16 * sector + 16
+
 -- the first page of a sector at which a unit begins is free, and the sector has no active page
 pub record IsFreeFront (image : List ℕ) (sector page : ℕ) : Type 0 where
   pub begins : unit_begun (units_of image) 0 page ≡ Some Free
   pub idle : IsIdle (units_of image) sector
 
--- a page lies in a sector
-pub record LiesInSector (sector page : ℕ) : Type 0 where
-  pub from : 16 * sector ≤ page
-  pub within : page < 16 * sector + 16
+-- no free page begins at a page from one up to another
+abbrev pub NoneFree : List ℕ → (from to : ℕ) → Type 0
+NoneFree image from to = (page : ℕ) → from ≤ page → page < to
+    → unit_begun (units_of image) 0 page ≡ Some Free → ⊥
+
+-- where the units tile an image, no page of a sector is such a first one
+abbrev pub HasNoFront : List ℕ → (sector : ℕ) → Type 0
+HasNoFront image sector = IsTiled nowhere image (units_of image)
+    → (page : ℕ) → LiesInSector sector page → IsFreeFront image sector page → ⊥
+
+-- a sector is zero up to a page in it, and that is blank
+pub record IsBlankFrom (image : List ℕ) (sector page : ℕ) : Type 0 where
+  pub zeros : is_zeros (slice_range image (4096 * sector) (256 * page)) ≡ true
+  pub blank : IsHeadless image page
 
 -- a unit is an extent without pages
 pub record IsEmpty (u : Unit) : Type 0 where
@@ -78,6 +106,16 @@ pub record IsEmpty (u : Unit) : Type 0 where
 abbrev pub IsWanted : Option (List ℕ) → List ℕ → Type 0
 IsWanted None name = ⊤
 IsWanted (Some wanted) name = name ≡ wanted
+
+-- no active file from a page up to another has the wanted name
+abbrev pub HasNoFile : List ℕ → (from to : ℕ) → Option (List ℕ) → Type 0
+HasNoFile image from to wanted = (f : Placed) → Contains (files_in (units_of image)) f
+    → from ≤ f.page → f.page < to → IsWanted wanted f.header.name → ⊥
+
+-- a unit at a page is no active file that is looked for
+abbrev pub IsNoFile : Unit → (page from : ℕ) → Option (List ℕ) → Type 0
+IsNoFile u page from wanted = (f : Placed) → u ≡ Extent f.header → f.page ≡ page → is_file f ≡ true
+    → from ≤ page → IsWanted wanted f.header.name → ⊥
 
 -- a unit is none of an extent under construction, a file without a log, or a log
 abbrev pub IsOfOthers : Unit → Type 0
@@ -98,12 +136,12 @@ MissesNone image Sound = ⊤
 MissesNone image (Torn r) = (broken_image image ≢ None) × ((t : HasTornRecord image) → t.log ≡ r.log.0)
 MissesNone image Broken = IsSettled image → ⊥
 
--- the log of an old extent is an active one
+-- a file was active in two extents, and the log of the old one, if any, is an active one
 abbrev pub NamesActiveLog : List ℕ → UnderWay → Type 0
-NamesActiveLog image Nothing = ⊤
-NamesActiveLog image (Beginning page) = ⊤
-NamesActiveLog image (Building page) = ⊤
-NamesActiveLog image (Erasing sector page) = ⊤
-NamesActiveLog image (Unnamed log) = ⊤
-NamesActiveLog image (Naming page) = ⊤
+NamesActiveLog image Nothing = ⊥
+NamesActiveLog image (Beginning page) = ⊥
+NamesActiveLog image (Building page) = ⊥
+NamesActiveLog image (Erasing sector page) = ⊥
+NamesActiveLog image (Unnamed log) = ⊥
+NamesActiveLog image (Naming page) = ⊥
 NamesActiveLog image (Replacing old new) = (l : PageId) → log_of old.header ≡ Some l → IsActiveAt image l.0 19

@@ -1,9 +1,12 @@
-ghost use Rattle.std.specs.Prelude.{◌≡◌, ℕ, ◌+◌, ◌*◌, ◌≤◌, ◌<◌, true, length, Some, IsTrue, IfOk, IfSome};
+ghost use Rattle.std.specs.Prelude.{◌≡◌, ℕ, ◌+◌, ◌*◌, ◌/◌, ◌≤◌, ◌<◌, true, false, length, Some, IsTrue, IfNone, IfOk, IfSome};
 ghost use Rattle.afl_base.specs.Image.{zeros_at};
 ghost use Rattle.afl_base.specs.Keeping.{OnlyReads};
-ghost use Rattle.coffee_cuts.specs.Cuts.{IsFound, IsHeadless};
+ghost use Rattle.coffee_cuts.specs.Cuts.{IsErasing, IsFound, IsHeadless, IsSettled};
 ghost use Rattle.coffee_find.specs.Found.{HasPage, IsInFlash, meant};
-ghost use Rattle.coffee_find.specs.Search.{IsEmpty, IsFreeFront, LiesInSector};
+ghost use Rattle.coffee_find.specs.Guesses.{IsGuess};
+ghost use Rattle.coffee_find.specs.Search.{HasNoFront, IsBlankFrom, IsEmpty, IsFreeFront, LiesInSector, NoneFree};
+ghost use Rattle.coffee_find.specs.declared.finding.Guess.TheVariants.{Erased};
+ghost use Rattle.coffee_find.specs.declared.trouble.UnderWay.TheVariants.{Erasing};
 ghost use Rattle.coffee_layout.specs.Tiling.{units_of};
 ghost use Rattle.coffee_layout.specs.Units.{pages_of};
 ghost use Rattle.coffee_layout.specs.declared.unit.Unit.TheVariants.{Free};
@@ -14,41 +17,65 @@ use crate::walks::{begun, is_idle};
 use crate::zeros::are_zero;
 use afl_base::{Failed, Flash, PageId, SectorId};
 use coffee_layout::{Unit, next_unit};
-use flash_views::{Overlay, View};
+use flash_views::{Handed, Overlay, View};
 
 /// The sector of a page, where that was being erased.
-pub(crate) fn find_erased<F: Flash>(flash: F, page: PageId) -> (F, Result<Option<UnderWay>, Failed>)
-    ensures found { IsTrue F.tells → IfOk result.1
-        (λ o. IfSome o (λ u. IsFound (F.image flash) (meant u))) }
-    ensures inside { IfOk result.1 (λ o. IfSome o (λ u. IsInFlash (length (F.image flash)) u)) }
-    ensures reads { F.reads result.0 ≤ F.reads flash + 17 * pages_of (F.image flash) + 18 }
-    ensures frame { OnlyReads F.image F.lent F.reads F.faults flash result.0 result.1 }
+pub(crate) fn find_erased<F: Flash>(flash: &mut F, page: PageId) -> Result<Option<UnderWay>, Failed>
+    ensures found { IsTrue F.tells → IfOk result
+        (λ o. IfSome o (λ u. IsFound (F.image flash.old) (meant u))) }
+    ensures none { IsTrue F.tells → IfOk result (λ o. IfNone o
+        ((p : ℕ) → IsErasing (F.image flash.old) (page.0 / 16) p
+        → IsSettled (zeros_at (F.image flash.old) (4096 * (page.0 / 16)) 4096) → ⊥)) }
+    ensures guess { IfOk result (λ o. IfSome o (λ u. IsGuess Erased page.0 (meant u))) }
+    ensures inside { IfOk result (λ o. IfSome o (λ u. IsInFlash (length (F.image flash.old)) u)) }
+    ensures reads { F.reads flash.new ≤ F.reads flash.old + 17 * pages_of (F.image flash.old) + 18 }
+    ensures frame { OnlyReads F.image F.lent F.reads F.faults flash.old flash.new result }
 {
     let sector = SectorId(page.0 / 16);
     if flash.sectors() <= sector.0 {
-        return (flash, Ok(None));
+        return Ok(None);
     }
-    let (flash, front) = erased_front(flash, sector);
-    match front {
-        Ok(Some(page)) => {
-            let mut flash = flash;
-            let found = find_blank(&mut flash, sector, page);
-            (flash, found)
-        }
-        Ok(None) => (flash, Ok(None)),
-        Err(failed) => (flash, Err(failed)),
+    match erased_front(flash, sector)? {
+        Some(page) => find_blank(flash, sector, page),
+        None => Ok(None),
     }
 }
 
-// The first page of a sector at which a unit begins once the sector is erased, where no active extent
-// has a page in it then.
-fn erased_front<F: Flash>(flash: F, sector: SectorId) -> (F, Result<Option<PageId>, Failed>)
+// The first page of a sector at which a unit begins once the sector is erased, where no active
+// extent has a page in it then.
+fn erased_front<F: Flash>(flash: &mut F, sector: SectorId) -> Result<Option<PageId>, Failed>
+    requires sector { 4096 * sector.0 + 4096 ≤ length (F.image flash.old) }
+    ensures front { IsTrue F.tells → IfOk result (λ o. IfSome o
+        (λ p. IsFreeFront (zeros_at (F.image flash.old) (4096 * sector.0) 4096) sector.0 p.0)) }
+    ensures lowest { IsTrue F.tells → IfOk result (λ o. IfSome o
+        (λ p. NoneFree (zeros_at (F.image flash.old) (4096 * sector.0) 4096) (16 * sector.0) p.0)) }
+    ensures none { IsTrue F.tells → IfOk result (λ o. IfNone o
+        (HasNoFront (zeros_at (F.image flash.old) (4096 * sector.0) 4096) sector.0)) }
+    ensures inside { IfOk result (λ o. IfSome o (λ p. LiesInSector sector.0 p.0)) }
+    ensures reads { F.reads flash.new ≤ F.reads flash.old + 17 * pages_of (F.image flash.old) }
+    ensures frame { OnlyReads F.image F.lent F.reads F.faults flash.old flash.new result }
+{
+    let mut front = Ok(None);
+    let _handed = erased_through(Handed { flash }, sector, &mut front);
+    front
+}
+
+// The same through a view.
+fn erased_through<F: Flash>(
+    flash: F,
+    sector: SectorId,
+    front: &mut Result<Option<PageId>, Failed>,
+) -> F
     requires sector { 4096 * sector.0 + 4096 ≤ length (F.image flash) }
-    ensures front { IsTrue F.tells → IfOk result.1 (λ o. IfSome o
+    ensures front { IsTrue F.tells → IfOk front.new (λ o. IfSome o
         (λ p. IsFreeFront (zeros_at (F.image flash) (4096 * sector.0) 4096) sector.0 p.0)) }
-    ensures inside { IfOk result.1 (λ o. IfSome o (λ p. LiesInSector sector.0 p.0)) }
-    ensures reads { F.reads result.0 ≤ F.reads flash + 17 * pages_of (F.image flash) }
-    ensures frame { OnlyReads F.image F.lent F.reads F.faults flash result.0 result.1 }
+    ensures lowest { IsTrue F.tells → IfOk front.new (λ o. IfSome o
+        (λ p. NoneFree (zeros_at (F.image flash) (4096 * sector.0) 4096) (16 * sector.0) p.0)) }
+    ensures none { IsTrue F.tells → IfOk front.new (λ o. IfNone o
+        (HasNoFront (zeros_at (F.image flash) (4096 * sector.0) 4096) sector.0)) }
+    ensures inside { IfOk front.new (λ o. IfSome o (λ p. LiesInSector sector.0 p.0)) }
+    ensures reads { F.reads result ≤ F.reads flash + 17 * pages_of (F.image flash) }
+    ensures frame { OnlyReads F.image F.lent F.reads F.faults flash result front.new }
 {
     let overlay = Overlay {
         first: None,
@@ -57,8 +84,8 @@ fn erased_front<F: Flash>(flash: F, sector: SectorId) -> (F, Result<Option<PageI
         blank: None,
     };
     let mut view = View::new(flash, overlay);
-    let front = idle_front(&mut view, sector);
-    (view.into_flash(), front)
+    *front = idle_front(&mut view, sector);
+    view.into_flash()
 }
 
 // The first page of a sector at which a free page begins, where the sector has no active page.
@@ -66,6 +93,10 @@ fn idle_front<F: Flash>(flash: &mut F, sector: SectorId) -> Result<Option<PageId
     requires sector { 4096 * sector.0 + 4096 ≤ length (F.image flash.old) }
     ensures front { IsTrue F.tells → IfOk result
         (λ o. IfSome o (λ p. IsFreeFront (F.image flash.old) sector.0 p.0)) }
+    ensures lowest { IsTrue F.tells → IfOk result
+        (λ o. IfSome o (λ p. NoneFree (F.image flash.old) (16 * sector.0) p.0)) }
+    ensures none { IsTrue F.tells → IfOk result
+        (λ o. IfNone o (HasNoFront (F.image flash.old) sector.0)) }
     ensures inside { IfOk result (λ o. IfSome o (λ p. LiesInSector sector.0 p.0)) }
     ensures reads { F.reads flash.new ≤ F.reads flash.old + 17 * pages_of (F.image flash.old) }
     ensures frame { OnlyReads F.image F.lent F.reads F.faults flash.old flash.new result }
@@ -80,10 +111,15 @@ fn idle_front<F: Flash>(flash: &mut F, sector: SectorId) -> Result<Option<PageId
     }
 }
 
+// The first page of a sector at which a free page begins.
 fn free_front<F: Flash>(flash: &mut F, sector: SectorId) -> Result<Option<PageId>, Failed>
     requires sector { 4096 * sector.0 + 4096 ≤ length (F.image flash.old) }
     ensures begins { IsTrue F.tells → IfOk result (λ o. IfSome o
         (λ p. unit_begun (units_of (F.image flash.old)) 0 p.0 ≡ Some Free)) }
+    ensures lowest { IsTrue F.tells → IfOk result
+        (λ o. IfSome o (λ p. NoneFree (F.image flash.old) (16 * sector.0) p.0)) }
+    ensures none { IsTrue F.tells → IfOk result
+        (λ o. IfNone o (NoneFree (F.image flash.old) (16 * sector.0) (16 * sector.0 + 16))) }
     ensures inside { IfOk result (λ o. IfSome o (λ p. LiesInSector sector.0 p.0)) }
     ensures reads { F.reads flash.new ≤ F.reads flash.old + 16 * pages_of (F.image flash.old) }
     ensures frame { OnlyReads F.image F.lent F.reads F.faults flash.old flash.new result }
@@ -102,6 +138,8 @@ fn free_front<F: Flash>(flash: &mut F, sector: SectorId) -> Result<Option<PageId
 fn is_free_at<F: Flash>(flash: &mut F, page: PageId) -> Result<bool, Failed>
     ensures free { IsTrue F.tells → IfOk result
         (λ r. r ≡ true → unit_begun (units_of (F.image flash.old)) 0 page.0 ≡ Some Free) }
+    ensures none { IsTrue F.tells → IfOk result
+        (λ r. r ≡ false → unit_begun (units_of (F.image flash.old)) 0 page.0 ≡ Some Free → ⊥) }
     ensures reads { F.reads flash.new ≤ F.reads flash.old + pages_of (F.image flash.old) }
     ensures frame { OnlyReads F.image F.lent F.reads F.faults flash.old flash.new result }
 {
@@ -120,7 +158,11 @@ fn find_blank<F: Flash>(
     requires sector { 4096 * sector.0 + 4096 ≤ length (F.image flash.old) }
     requires page { LiesInSector sector.0 page.0 }
     ensures found { IsTrue F.tells → IfOk result (λ o. IfSome o (λ u.
-        IsFreeFront (zeros_at (F.image flash.old) (4096 * sector.0) 4096) sector.0 page.0 → IsFound (F.image flash.old) (meant u))) }
+        IsFreeFront (zeros_at (F.image flash.old) (4096 * sector.0) 4096) sector.0 page.0
+        → IsFound (F.image flash.old) (meant u))) }
+    ensures none { IsTrue F.tells → IfOk result
+        (λ o. IfNone o (IsBlankFrom (F.image flash.old) sector.0 page.0 → ⊥)) }
+    ensures is { IfOk result (λ o. IfSome o (λ u. u ≡ Erasing sector page)) }
     ensures inside { IfOk result (λ o. IfSome o (λ u. IsInFlash (length (F.image flash.old)) u)) }
     ensures reads { F.reads flash.new ≤ F.reads flash.old + 18 }
     ensures frame { OnlyReads F.image F.lent F.reads F.faults flash.old flash.new result }
@@ -134,11 +176,14 @@ fn find_blank<F: Flash>(
     Ok(Some(UnderWay::Erasing { sector, page }))
 }
 
-// Whether no header of an extent with pages stands at a page: true only where byte 9 is 0, as no
-// header's is, or the extent has no pages.
+// Whether no header of an extent with pages stands at a page: byte 9 is 0, as no header's is, or
+// the extent has no pages.
 fn is_headless<F: Flash>(flash: &mut F, page: PageId) -> Result<bool, Failed>
     requires page { HasPage (length (F.image flash.old)) page.0 }
-    ensures blank { IsTrue F.tells → IfOk result (λ r. r ≡ true → IsHeadless (F.image flash.old) page.0) }
+    ensures blank { IsTrue F.tells → IfOk result
+        (λ r. r ≡ true → IsHeadless (F.image flash.old) page.0) }
+    ensures headed { IsTrue F.tells → IfOk result
+        (λ r. r ≡ false → IsHeadless (F.image flash.old) page.0 → ⊥) }
     ensures reads { F.reads flash.new ≤ F.reads flash.old + 2 }
     ensures frame { OnlyReads F.image F.lent F.reads F.faults flash.old flash.new result }
 {
@@ -155,7 +200,8 @@ fn is_headless<F: Flash>(flash: &mut F, page: PageId) -> Result<bool, Failed>
 
 // Whether a unit is an extent without pages.
 fn has_no_pages(unit: &Unit) -> bool
-    ensures { result ≡ true → IsEmpty unit.now }
+    ensures yes { result ≡ true → IsEmpty unit.now }
+    ensures no { result ≡ false → IsEmpty unit.now → ⊥ }
 {
     match unit {
         Unit::Free => false,

@@ -2,7 +2,9 @@ ghost use Rattle.std.specs.Prelude.{◌≡◌, ℕ, ◌+◌, ◌*◌, ◌≤◌,
 ghost use Rattle.afl_base.specs.Keeping.{OnlyReads};
 ghost use Rattle.coffee_cuts.specs.Cuts.{IsFound};
 ghost use Rattle.coffee_find.specs.Found.{HasPage, IsInFlash, meant};
+ghost use Rattle.coffee_find.specs.Guesses.{IsGuess, MissesNoWay};
 ghost use Rattle.coffee_find.specs.Search.{IsOfOthers, ShowsNoHeader};
+ghost use Rattle.coffee_find.specs.declared.finding.Guess.TheVariants.{Header};
 ghost use Rattle.coffee_layout.specs.Tiling.{units_of};
 ghost use Rattle.coffee_layout.specs.Units.{pages_of};
 ghost use Rattle.coffee_merge.specs.Begun.{unit_begun};
@@ -30,31 +32,27 @@ pub(crate) enum Guess {
     Replaced,
 }
 
-/// What was under way, where the image shows what is guessed.
+/// What was under way, where the image shows what is guessed. Whatever the image mends by, where the
+/// guess is right of it, what is found settles the image as that.
 pub(crate) fn find<F: Flash>(
-    flash: F,
+    flash: &mut F,
     guess: Guess,
     page: PageId,
-) -> (F, Result<Option<UnderWay>, Failed>)
-    ensures found { IsTrue F.tells → IfOk result.1
-        (λ o. IfSome o (λ u. IsFound (F.image flash) (meant u))) }
-    ensures inside { IfOk result.1 (λ o. IfSome o (λ u. IsInFlash (length (F.image flash)) u)) }
-    ensures reads { F.reads result.0 ≤ F.reads flash + 67 * pages_of (F.image flash) + 18 }
-    ensures frame { OnlyReads F.image F.lent F.reads F.faults flash result.0 result.1 }
+) -> Result<Option<UnderWay>, Failed>
+    ensures found { IsTrue F.tells → IfOk result
+        (λ o. IfSome o (λ u. IsFound (F.image flash.old) (meant u))) }
+    ensures all { IsTrue F.tells → IfOk result
+        (λ o. MissesNoWay (F.image flash.old) guess page.0 o) }
+    ensures inside { IfOk result (λ o. IfSome o (λ u. IsInFlash (length (F.image flash.old)) u)) }
+    ensures reads { F.reads flash.new ≤ F.reads flash.old + 67 * pages_of (F.image flash.old) + 18 }
+    ensures frame { OnlyReads F.image F.lent F.reads F.faults flash.old flash.new result }
 {
-    let mut flash = flash;
     match guess {
-        Guess::Nothing => (flash, Ok(Some(UnderWay::Nothing))),
-        Guess::Header => {
-            let found = find_header(&mut flash, page);
-            (flash, found)
-        }
+        Guess::Nothing => Ok(Some(UnderWay::Nothing)),
+        Guess::Header => find_header(flash, page),
         Guess::TornHeader => find_torn_header(flash, page),
         Guess::Erased => find_erased(flash, page),
-        Guess::Replaced => {
-            let found = find_replaced(&mut flash);
-            (flash, found)
-        }
+        Guess::Replaced => find_replaced(flash),
     }
 }
 
@@ -62,7 +60,9 @@ pub(crate) fn find<F: Flash>(
 fn find_header<F: Flash>(flash: &mut F, page: PageId) -> Result<Option<UnderWay>, Failed>
     ensures found { IsTrue F.tells → IfOk result
         (λ o. IfSome o (λ u. IsFound (F.image flash.old) (meant u))) }
-    ensures none { IsTrue F.tells → IfOk result (λ o. IfNone o (ShowsNoHeader (F.image flash.old) page.0)) }
+    ensures none { IsTrue F.tells → IfOk result
+        (λ o. IfNone o (ShowsNoHeader (F.image flash.old) page.0)) }
+    ensures guess { IfOk result (λ o. IfSome o (λ u. IsGuess Header page.0 (meant u))) }
     ensures inside { IfOk result (λ o. IfSome o (λ u. IsInFlash (length (F.image flash.old)) u)) }
     ensures reads { F.reads flash.new ≤ F.reads flash.old + pages_of (F.image flash.old) }
     ensures frame { OnlyReads F.image F.lent F.reads F.faults flash.old flash.new result }
@@ -77,6 +77,7 @@ fn by_unit(page: PageId, unit: &Unit) -> Option<UnderWay>
     ensures found { IfSome result (λ u. (image : List ℕ)
         → unit_begun (units_of image) 0 page.0 ≡ Some unit.now → IsFound image (meant u)) }
     ensures none { IfNone result (IsOfOthers unit.now) }
+    ensures guess { IfSome result (λ u. IsGuess Header page.0 (meant u)) }
     ensures inside { IfSome result (λ u. (size : ℕ) → HasPage size page.0 → IsInFlash size u) }
 {
     match unit {

@@ -16,27 +16,26 @@ use crate::walks::begun;
 use crate::zeros::are_zero;
 use afl_base::{Failed, Flash, PageId};
 use coffee_layout::{Unit, next_unit};
-use flash_views::{Mark, Overlay, View};
+use flash_views::{Handed, Mark, Overlay, View};
 
 /// A header that was being written at a page.
 pub(crate) fn find_torn_header<F: Flash>(
-    flash: F,
+    flash: &mut F,
     page: PageId,
-) -> (F, Result<Option<UnderWay>, Failed>)
-    ensures found { IsTrue F.tells → IfOk result.1
-        (λ o. IfSome o (λ u. IsFound (F.image flash) (meant u))) }
-    ensures none { IsTrue F.tells → IfOk result.1
-        (λ o. IfNone o (HasPage (length (F.image flash)) page.0 → IsTornHeader (F.image flash) page.0 → ⊥)) }
-    ensures inside { IfOk result.1 (λ o. IfSome o (λ u. IsInFlash (length (F.image flash)) u)) }
-    ensures reads { F.reads result.0 ≤ F.reads flash + pages_of (F.image flash) + 17 }
-    ensures frame { OnlyReads F.image F.lent F.reads F.faults flash result.0 result.1 }
+) -> Result<Option<UnderWay>, Failed>
+    ensures found { IsTrue F.tells → IfOk result
+        (λ o. IfSome o (λ u. IsFound (F.image flash.old) (meant u))) }
+    ensures none { IsTrue F.tells → IfOk result
+        (λ o. IfNone o (HasPage (length (F.image flash.old)) page.0 → IsTornHeader (F.image flash.old) page.0 → ⊥)) }
+    ensures is { IfOk result (λ o. IfSome o (λ u. u ≡ Beginning page)) }
+    ensures inside { IfOk result (λ o. IfSome o (λ u. IsInFlash (length (F.image flash.old)) u)) }
+    ensures reads { F.reads flash.new ≤ F.reads flash.old + pages_of (F.image flash.old) + 17 }
+    ensures frame { OnlyReads F.image F.lent F.reads F.faults flash.old flash.new result }
 {
-    let mut flash = flash;
-    match is_torn_head(&mut flash, page) {
-        Ok(true) => find_isolated(flash, page),
-        Ok(false) => (flash, Ok(None)),
-        Err(failed) => (flash, Err(failed)),
+    if !is_torn_head(flash, page)? {
+        return Ok(None);
     }
+    find_isolated(flash, page)
 }
 
 // Whether no unit begins at a page, and all behind it in its sector is zero.
@@ -60,31 +59,43 @@ fn is_torn_head<F: Flash>(flash: &mut F, page: PageId) -> Result<bool, Failed>
 }
 
 // The same, once the page is isolated.
-fn find_isolated<F: Flash>(flash: F, page: PageId) -> (F, Result<Option<UnderWay>, Failed>)
-    ensures found { IsTrue F.tells → IfOk result.1 (λ o. IfSome o
-        (λ u. unit_begun (units_of (flagged (F.image flash) page.0 34)) 0 page.0 ≡ Some Isolated)) }
-    ensures none { IsTrue F.tells → IfOk result.1 (λ o. IfNone o
-        (unit_begun (units_of (flagged (F.image flash) page.0 34)) 0 page.0 ≡ Some Isolated → ⊥)) }
-    ensures is { IfOk result.1 (λ o. IfSome o (λ u. u ≡ Beginning page)) }
-    ensures reads { F.reads result.0 ≤ F.reads flash + pages_of (F.image flash) }
-    ensures frame { OnlyReads F.image F.lent F.reads F.faults flash result.0 result.1 }
+fn find_isolated<F: Flash>(flash: &mut F, page: PageId) -> Result<Option<UnderWay>, Failed>
+    ensures found { IsTrue F.tells → IfOk result (λ o. IfSome o
+        (λ u. unit_begun (units_of (flagged (F.image flash.old) page.0 34)) 0 page.0 ≡ Some Isolated)) }
+    ensures none { IsTrue F.tells → IfOk result (λ o. IfNone o
+        (unit_begun (units_of (flagged (F.image flash.old) page.0 34)) 0 page.0 ≡ Some Isolated → ⊥)) }
+    ensures is { IfOk result (λ o. IfSome o (λ u. u ≡ Beginning page)) }
+    ensures reads { F.reads flash.new ≤ F.reads flash.old + pages_of (F.image flash.old) }
+    ensures frame { OnlyReads F.image F.lent F.reads F.faults flash.old flash.new result }
 {
-    let (flash, isolated) = is_isolated(flash, page);
-    match isolated {
-        Ok(true) => (flash, Ok(Some(UnderWay::Beginning { page }))),
-        Ok(false) => (flash, Ok(None)),
-        Err(failed) => (flash, Err(failed)),
+    if !is_isolated(flash, page)? {
+        return Ok(None);
     }
+    Ok(Some(UnderWay::Beginning { page }))
 }
 
 // Whether an isolated page begins at a page once it is isolated.
-fn is_isolated<F: Flash>(flash: F, page: PageId) -> (F, Result<bool, Failed>)
-    ensures isolated { IsTrue F.tells → IfOk result.1 (λ r. r ≡ true
+fn is_isolated<F: Flash>(flash: &mut F, page: PageId) -> Result<bool, Failed>
+    ensures isolated { IsTrue F.tells → IfOk result (λ r. r ≡ true
+        → unit_begun (units_of (flagged (F.image flash.old) page.0 34)) 0 page.0 ≡ Some Isolated) }
+    ensures none { IsTrue F.tells → IfOk result (λ r. r ≡ false
+        → unit_begun (units_of (flagged (F.image flash.old) page.0 34)) 0 page.0 ≡ Some Isolated → ⊥) }
+    ensures reads { F.reads flash.new ≤ F.reads flash.old + pages_of (F.image flash.old) }
+    ensures frame { OnlyReads F.image F.lent F.reads F.faults flash.old flash.new result }
+{
+    let mut isolated = Ok(false);
+    let _handed = isolated_through(Handed { flash }, page, &mut isolated);
+    isolated
+}
+
+// The same through a view.
+fn isolated_through<F: Flash>(flash: F, page: PageId, isolated: &mut Result<bool, Failed>) -> F
+    ensures isolated { IsTrue F.tells → IfOk isolated.new (λ r. r ≡ true
         → unit_begun (units_of (flagged (F.image flash) page.0 34)) 0 page.0 ≡ Some Isolated) }
-    ensures none { IsTrue F.tells → IfOk result.1 (λ r. r ≡ false
+    ensures none { IsTrue F.tells → IfOk isolated.new (λ r. r ≡ false
         → unit_begun (units_of (flagged (F.image flash) page.0 34)) 0 page.0 ≡ Some Isolated → ⊥) }
-    ensures reads { F.reads result.0 ≤ F.reads flash + pages_of (F.image flash) }
-    ensures frame { OnlyReads F.image F.lent F.reads F.faults flash result.0 result.1 }
+    ensures reads { F.reads result ≤ F.reads flash + pages_of (F.image flash) }
+    ensures frame { OnlyReads F.image F.lent F.reads F.faults flash result isolated.new }
 {
     let overlay = Overlay {
         first: Some(Mark { page, bits: 34 }),
@@ -93,8 +104,8 @@ fn is_isolated<F: Flash>(flash: F, page: PageId) -> (F, Result<bool, Failed>)
         blank: None,
     };
     let mut view = View::new(flash, overlay);
-    let isolated = begins_isolated(&mut view, page);
-    (view.into_flash(), isolated)
+    *isolated = begins_isolated(&mut view, page);
+    view.into_flash()
 }
 
 // Whether an isolated page begins at a page.

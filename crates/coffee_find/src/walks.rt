@@ -1,9 +1,9 @@
-ghost use Rattle.std.specs.Prelude.{◌≡◌, ℕ, ◌+◌, ◌*◌, ◌≤◌, ◌<◌, true, length, None, Some, IsTrue, IfNone, IfOk, IfSome};
+ghost use Rattle.std.specs.Prelude.{◌≡◌, ℕ, ◌+◌, ◌*◌, ◌≤◌, ◌<◌, true, false, length, None, Some, IsTrue, IfNone, IfOk, IfSome};
 ghost use Rattle.afl_base.specs.Keeping.{OnlyReads};
 ghost use Rattle.coffee_cuts.specs.Cuts.{IsIdle};
 ghost use Rattle.coffee_find.specs.Found.{HasPage};
-ghost use Rattle.coffee_find.specs.Search.{AreIdle};
-ghost use Rattle.coffee_layout.specs.Tiling.{units_of};
+ghost use Rattle.coffee_find.specs.Search.{AreIdle, HasActivePart};
+ghost use Rattle.coffee_layout.specs.Tiling.{IsTiled, nowhere, units_of};
 ghost use Rattle.coffee_layout.specs.Units.{pages_of, size_of};
 ghost use Rattle.coffee_merge.specs.Begun.{unit_begun};
 
@@ -50,10 +50,14 @@ pub(crate) fn onward(page: u16, unit: &Unit, pages: u16) -> Option<u16>
     Some(page + size)
 }
 
-/// Whether no active extent has a page in `sector`: true only where none has.
+/// Whether no active extent has a page in `sector`, where the units tile the image: true only where
+/// none has.
 pub(crate) fn is_idle<F: Flash>(flash: &mut F, sector: SectorId) -> Result<bool, Failed>
     ensures idle { IsTrue F.tells → IfOk result
         (λ r. r ≡ true → IsIdle (units_of (F.image flash.old)) sector.0) }
+    ensures busy { IsTrue F.tells → IfOk result
+        (λ r. r ≡ false → IsTiled nowhere (F.image flash.old) (units_of (F.image flash.old))
+        → IsIdle (units_of (F.image flash.old)) sector.0 → ⊥) }
     ensures reads { F.reads flash.new ≤ F.reads flash.old + pages_of (F.image flash.old) }
     ensures frame { OnlyReads F.image F.lent F.reads F.faults flash.old flash.new result }
 {
@@ -76,7 +80,8 @@ pub(crate) fn is_idle<F: Flash>(flash: &mut F, sector: SectorId) -> Result<bool,
 
 // Whether a unit with the pages from `page` to `next` is not active, or has none in `sector`.
 fn spares(unit: &Unit, page: u16, next: u16, sector: SectorId) -> bool
-    ensures { result ≡ true → AreIdle unit.now page next sector.0 }
+    ensures yes { result ≡ true → AreIdle unit.now page next sector.0 }
+    ensures no { result ≡ false → HasActivePart unit.now page next sector.0 }
 {
     if !unit.is_active() {
         return true;

@@ -2,5 +2,5 @@ mod Erasures
 mod Joins
 mod Mends
 mod Settlings
-mod TornRecords
+mod StandingLogs
 mod Unblanked

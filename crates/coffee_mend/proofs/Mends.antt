@@ -1,10 +1,11 @@
 -- What settling an image, and putting a file together with its log, come to.
-use Rattle.std.proofs.Common.{◌≡◌, inl, inr, ℕ, ◌+◌, ◌*◌, ◌≤◌, List, ◌∷◌, length, Some, None, refl, ap, sym, subst, ◌∙◌, arith}
+use Rattle.std.proofs.Common.{◌≡◌, inl, inr, ℕ, Bool, false, ◌+◌, ◌*◌, ◌≤◌, List, ◌∷◌, length, Some, None, refl, ap, sym, subst, ◌∙◌, arith}
 use Rattle.std.specs.List.{Contains}
 use Rattle.std.specs.Prelude.{Result, Ok, Err, IfErr}
-use Rattle.afl_base.specs.FileErrors.{OnSpace as on_space}
+use Rattle.afl_base.specs.Causes.{Rose}
+use Rattle.afl_base.specs.FileErrors.{HasFileCause, OnSpace as on_space}
 use Rattle.afl_base.specs.declared.kind.FileError.{FileError}
-use Rattle.afl_base.specs.declared.kind.FileError.TheVariants.{Space as file_space}
+use Rattle.afl_base.specs.declared.kind.FileError.TheVariants.{Space as file_space, Failed as file_failed}
 use Rattle.coffee_mend.specs.declared.mending.MendError.{MendError}
 use Rattle.coffee_mend.specs.declared.mending.MendError.TheVariants.{Space, Failed, Unsettled}
 use Rattle.afl_base.specs.Image.{zeros_at}
@@ -18,9 +19,8 @@ use Rattle.coffee_layout.specs.Files.{NamedFile, files_of}
 use Rattle.coffee_layout.specs.Rules.{broken_image}
 use Rattle.coffee_layout.specs.Units.{pages_of}
 use Rattle.coffee_mend.specs.Joined.{IsJoined, LacksRoom}
-use Rattle.coffee_mend.specs.Mended.{ReturnsFlash, IsCrowded, IsMended, IsSoundAs, IsTornAs, OnLacking}
-use Rattle.coffee_mend.proofs.TornRecords.{still_torn, torn_files}
-use Rattle.coffee_mend.proofs.Unblanked.{unjoined}
+use Rattle.coffee_mend.specs.Mended.{HasMendCause, IsCrowded, IsMended, IsSoundAs, IsTornAs, MendsFlash, OnFlashFailed, OnLacking, UnlessUnsettled}
+use Rattle.coffee_mend.proofs.Unblanked.{still_torn, torn_files, unjoined}
 
 -- ---- a flash of which 128 bytes read as zeros
 
@@ -31,15 +31,16 @@ module _ {F : Type 0} (image lent : F → List ℕ) (reads : F → ℕ) (flash b
   pub has_page : (page : ℕ) → place + 128 ≤ length (image flash) → HasPage (length (image flash)) page → HasPage (length (zeros_at (image before) from 128)) page
   has_page page inside h = omega (arith, h, ap length old_same, length_zeros_at (image flash) place 128 inside)
 
-  pub handed_back : place + 128 ≤ length (image flash) → to + 128 ≤ length (image back) → length (zeros_at (image after) to 128) ≡ length (zeros_at (image before) from 128)
-      → to ∷ lent after ≡ from ∷ lent before → reads before ≤ reads after → ReturnsFlash image lent reads flash back
-  handed_back inside there long borrowed later =
+  pub handed_back : {T : Type 0} (faults : F → ℕ) (r : Result T MendError) → place + 128 ≤ length (image flash) → to + 128 ≤ length (image back) → length (zeros_at (image after) to 128) ≡ length (zeros_at (image before) from 128)
+      → to ∷ lent after ≡ from ∷ lent before → reads before ≤ reads after → HasMendCause (faults before) (faults after) r → MendsFlash image lent reads faults flash back r
+  handed_back faults r inside there long borrowed later cause =
       let held : lent after ≡ lent before = cc in
       let new : length (zeros_at (image after) to 128) ≡ length (image back) = ap (λ f. length (zeros_at (image f) to 128)) (sym is_back) ∙ length_zeros_at (image back) to 128 there in
       record {
         size = sym new ∙ long ∙ ap length old_same ∙ length_zeros_at (image flash) place 128 inside;
         lent = ap lent is_back ∙ held ∙ ap lent is_before;
         later = omega (arith, later, ap reads is_back, ap reads is_before);
+        cause = subst (λ f. HasMendCause (faults flash) (faults f) r) (sym is_back) (subst (λ f. HasMendCause (faults f) (faults after) r) is_before cause);
       }
 
   pub joined_back : (log : ℕ) → IsTornAt (image flash) log place → to + 128 ≤ length (image back) → to ∷ lent after ≡ from ∷ lent before
@@ -66,15 +67,35 @@ module _ {F : Type 0} (image lent : F → List ℕ) (reads : F → ℕ) (flash b
 
 -- ---- answers
 
--- what a call says of its error, in a place where that is known
-pub space_known : {T : Type 0} (r : Result T FileError) (e : FileError) (need : ℕ) (P : ℕ → Type 0) → r ≡ Err e → e ≡ file_space need → on_space r P → P need
-space_known r e need P is same p = rw (is ∙ ap (λ x. Err x) same) at p
+-- what a call says of its error, where that is known
+pub space_known : {T : Type 0} (r : Result T FileError) (need : ℕ) (P : ℕ → Type 0) → r ≡ Err (file_space need) → on_space r P → P need
+space_known r need P is p = rw is at p
 
-pub space_more : {F : Type 0} (P Q : ℕ → F → Type 0) (r : Result F (MendError F)) → ((need : ℕ) (f : F) → P need f → Q need f) → IfErr r (λ e. OnLacking e P) → IfErr r (λ e. OnLacking e Q)
-space_more P Q (Ok f) more p = tt
-space_more P Q (Err (Space need f)) more p = more need f p
-space_more P Q (Err (Failed f)) more p = tt
-space_more P Q (Err (Unsettled f)) more p = tt
+pub space_more : {T : Type 0} (P Q : ℕ → Type 0) (r : Result T MendError) → ((need : ℕ) → P need → Q need) → IfErr r (λ e. OnLacking e P) → IfErr r (λ e. OnLacking e Q)
+space_more P Q (Ok x) more p = tt
+space_more P Q (Err (Space need)) more p = more need p
+space_more P Q (Err Failed) more p = tt
+space_more P Q (Err Unsettled) more p = tt
+
+-- the faults of a flash of which 128 bytes read as zeros are those of the flash inside, where no write was refused
+pub inner_cause : {T U : Type 0} (r : Result T MendError) (done : Result U FileError) (refused : Bool) (first last before now : ℕ) → first ≡ 0 → (refused ≡ false → last ≡ 0) → HasFileCause (first + before) (last + now) done
+    → UnlessUnsettled r (refused ≡ false) → IfErr r (λ e. OnFlashFailed e (done ≡ Err file_failed)) → HasMendCause before now r
+inner_cause r done refused first last before now none granted cause unless failed = by_result r unless failed
+  where
+    count : refused ≡ false → before ≤ now
+    count not_refused = let later = cause.later in omega (arith, later, none, granted not_refused)
+
+    risen : refused ≡ false → done ≡ Err file_failed → Rose before now
+    risen not_refused is =
+        let start : first + before ≡ before = omega (arith, none) in
+        let end : last + now ≡ now = omega (arith, granted not_refused) in
+        subst (Rose before) end (subst (λ n. Rose n (last + now)) start (cause.failed is))
+
+    by_result : {T : Type 0} (r : Result T MendError) → UnlessUnsettled r (refused ≡ false) → IfErr r (λ e. OnFlashFailed e (done ≡ Err file_failed)) → HasMendCause before now r
+    by_result (Ok x) unless failed = record { later = count unless; failed = tt }
+    by_result (Err (Space need)) unless failed = record { later = count unless; failed = tt }
+    by_result (Err Failed) unless failed = record { later = count unless; failed = risen unless failed }
+    by_result (Err Unsettled) unless failed = record { later = tt; failed = tt }
 
 -- ---- what was found
 

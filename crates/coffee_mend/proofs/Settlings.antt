@@ -8,8 +8,9 @@ use Rattle.coffee_layout.specs.Files.{NamedFile, Placed, files_of, log_of}
 use Rattle.coffee_merge.specs.CutMarks.{IsOneOf}
 use Rattle.coffee_merge.specs.Flags.{flagged, obsoleted}
 use Rattle.coffee_mend.proofs.Erasures.{erasing_again, whole_same}
+use Rattle.coffee_mend.proofs.StandingLogs.{log_stands}
 use Rattle.coffee_mend.specs.Mended.{MendAlike}
-use Rattle.coffee_mend.specs.Settling.{IsCutSettling, LeavesLog}
+use Rattle.coffee_mend.specs.Settling.{IsCutSettling}
 
 -- where the images once settled are the same
 alike : (old new : List ℕ) (u v : UnderWay) → IsFound old u → IsSettled (settled old u) → IsFound new v → settled new v ≡ settled old u → MendAlike old new
@@ -37,10 +38,10 @@ one old new u found settles cut = ⊎_elim (undone old new u found settles) (don
 
 -- the old extent is obsolete, and its log is not
 half : (old new : List ℕ) (from to : Placed) (log : Option PageId) → log_of from.header ≡ log → IsFound old (Replacing from to) → IsSettled (settled old (Replacing from to))
-    → ((l : PageId) → log_of from.header ≡ Some l → IsActiveAt (flagged old from.page 4) l.0 19) → new ≡ flagged old from.page 4 → MendAlike old new
-half old new from to None none found settles log is = done old new (Replacing from to) found settles (is ∙ ap (obsoleted old from.page) (sym none))
-half old new from to (Some l) some found settles log is =
-    alike old new (Replacing from to) (Unnamed l.0) found settles (subst (λ i. IsActiveAt i l.0 19) (sym is) (log l some)) (ap (λ i. flagged i l.0 4) is ∙ ap (obsoleted old from.page) (sym some))
+    → new ≡ flagged old from.page 4 → MendAlike old new
+half old new from to None none found settles is = done old new (Replacing from to) found settles (is ∙ ap (obsoleted old from.page) (sym none))
+half old new from to (Some l) some found settles is =
+    alike old new (Replacing from to) (Unnamed l.0) found settles (subst (λ i. IsActiveAt i l.0 19) (sym is) (log_stands old from to l found some)) (ap (λ i. flagged i l.0 4) is ∙ ap (obsoleted old from.page) (sym some))
 
 -- a front part of the sector is erased
 erased : (old new : List ℕ) (sector page : ℕ) → IsFound old (Erasing sector page) → IsSettled (settled old (Erasing sector page)) → IsCutErase old new sector → MendAlike old new
@@ -49,13 +50,13 @@ erased old new sector page found settles cut =
     (subst (λ i. IsErasing i sector page) (sym cut.is) (erasing_again old sector page cut.done found cut.within))
     (ap (λ i. zeros_at i (4096 * sector) 4096) cut.is ∙ whole_same old (4096 * sector) cut.done found.inside cut.within)
 
-pub settling_mends : (old new : List ℕ) (u : UnderWay) → IsFound old u → IsSettled (settled old u) → LeavesLog old u → IsCutSettling old new u → MendAlike old new
-settling_mends old new Nothing found settles by cut = undone old new Nothing found settles cut
-settling_mends old new (Beginning page) found settles by cut = one old new (Beginning page) found settles cut
-settling_mends old new (Building page) found settles by cut = one old new (Building page) found settles cut
-settling_mends old new (Erasing sector page) found settles by cut = erased old new sector page found settles cut
-settling_mends old new (Unnamed log) found settles by cut = one old new (Unnamed log) found settles cut
-settling_mends old new (Naming page) found settles by cut = one old new (Naming page) found settles cut
-settling_mends old new (Replacing from to) found settles by cut =
+pub settling_mends : (old new : List ℕ) (u : UnderWay) → IsFound old u → IsSettled (settled old u) → IsCutSettling old new u → MendAlike old new
+settling_mends old new Nothing found settles cut = undone old new Nothing found settles cut
+settling_mends old new (Beginning page) found settles cut = one old new (Beginning page) found settles cut
+settling_mends old new (Building page) found settles cut = one old new (Building page) found settles cut
+settling_mends old new (Erasing sector page) found settles cut = erased old new sector page found settles cut
+settling_mends old new (Unnamed log) found settles cut = one old new (Unnamed log) found settles cut
+settling_mends old new (Naming page) found settles cut = one old new (Naming page) found settles cut
+settling_mends old new (Replacing from to) found settles cut =
     ⊎_elim (undone old new (Replacing from to) found settles)
-    (λ more. ⊎_elim (half old new from to (log_of from.header) refl found settles by) (done old new (Replacing from to) found settles) more) cut
+    (λ more. ⊎_elim (half old new from to (log_of from.header) refl found settles) (done old new (Replacing from to) found settles) more) cut

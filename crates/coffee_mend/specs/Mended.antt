@@ -1,5 +1,5 @@
 -- What mending makes of an image, and why it could not.
-use Rattle.std.specs.Prelude.{◌≡◌, ⊤, ℕ, ◌≤◌, List, length, None}
+use Rattle.std.specs.Prelude.{◌≡◌, ⊤, ℕ, ◌≤◌, List, length, None, Result, Ok, Err, IfErr}
 use Rattle.std.specs.List.{Contains}
 use Rattle.afl_base.specs.Causes.{Rose}
 use Rattle.coffee_cuts.specs.Cuts.{MendsTo}
@@ -49,43 +49,39 @@ pub record IsCrowded (old new : List ℕ) (need : ℕ) : Type 0 where
   pub wants : OwnsLog (units_of new) log need
   pub cramped : IsCramped (units_of new) need
 
--- the flash that is handed back
-abbrev pub flash_behind : {F : Type 0} → MendError F → F
-flash_behind (Space need flash) = flash
-flash_behind (Failed flash) = flash
-flash_behind (Unsettled flash) = flash
-
 -- P, where the error is that the flash failed
-abbrev pub OnFlashFailed : {F : Type 0} → MendError F → Type 0 → Type 0
-OnFlashFailed (Space need flash) P = ⊤
-OnFlashFailed (Failed flash) P = P
-OnFlashFailed (Unsettled flash) P = ⊤
+abbrev pub OnFlashFailed : MendError → Type 0 → Type 0
+OnFlashFailed (Space need) P = ⊤
+OnFlashFailed Failed P = P
+OnFlashFailed Unsettled P = ⊤
 
 -- the error is that the flash failed
-abbrev pub IsFailure : {F : Type 0} → MendError F → Type 0
-IsFailure (Space need flash) = ⊥
-IsFailure (Failed flash) = ⊤
-IsFailure (Unsettled flash) = ⊥
+abbrev pub IsFailure : MendError → Type 0
+IsFailure (Space need) = ⊥
+IsFailure Failed = ⊤
+IsFailure Unsettled = ⊥
 
--- P of the pages that are lacking, and of the flash, where that is the error
-abbrev pub OnLacking : {F : Type 0} → MendError F → (ℕ → F → Type 0) → Type 0
-OnLacking (Space need flash) P = P need flash
-OnLacking (Failed flash) P = ⊤
-OnLacking (Unsettled flash) P = ⊤
+-- P of the pages that are lacking, where that is the error
+abbrev pub OnLacking : MendError → (ℕ → Type 0) → Type 0
+OnLacking (Space need) P = P need
+OnLacking Failed P = ⊤
+OnLacking Unsettled P = ⊤
 
--- P, unless the image is not what was found
-abbrev pub UnlessUnsettled : {F : Type 0} → MendError F → Type 0 → Type 0
-UnlessUnsettled (Space need flash) P = P
-UnlessUnsettled (Failed flash) P = P
-UnlessUnsettled (Unsettled flash) P = ⊤
+-- P, unless the answer is that the image is not what was found
+abbrev pub UnlessUnsettled : {T : Type 0} → Result T MendError → Type 0 → Type 0
+UnlessUnsettled (Ok x) P = P
+UnlessUnsettled (Err (Space need)) P = P
+UnlessUnsettled (Err Failed) P = P
+UnlessUnsettled (Err Unsettled) P = ⊤
 
 -- the count of faults has not fallen, unless the image is not what was found, and the flash failed only where it rose
-pub record HasMendCause {F : Type 0} (before now : ℕ) (error : MendError F) : Type 0 where
-  pub later : UnlessUnsettled error (before ≤ now)
-  pub failed : OnFlashFailed error (Rose before now)
+pub record HasMendCause {T : Type 0} (before now : ℕ) (result : Result T MendError) : Type 0 where
+  pub later : UnlessUnsettled result (before ≤ now)
+  pub failed : IfErr result (λ e. OnFlashFailed e (Rose before now))
 
--- the flash that is handed back has the size that it had, and borrows what it borrowed
-pub record ReturnsFlash {F : Type 0} (image : F → List ℕ) (borrows : F → List ℕ) (reads : F → ℕ) (old new : F) : Type 0 where
+-- a call that mends a flash: it has the size that it had, and borrows what it borrowed
+pub record MendsFlash {F T : Type 0} (image : F → List ℕ) (borrows : F → List ℕ) (reads faults : F → ℕ) (old new : F) (result : Result T MendError) : Type 0 where
   pub size : length (image new) ≡ length (image old)
   pub lent : borrows new ≡ borrows old
   pub later : reads old ≤ reads new
+  pub cause : HasMendCause (faults old) (faults new) result

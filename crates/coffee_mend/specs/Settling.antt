@@ -1,11 +1,9 @@
 -- What a cut leaves of the write that settles what was under way, or of the two.
-use Rattle.std.specs.Prelude.{◌≡◌, ⊤, ℕ, List, Some}
+use Rattle.std.specs.Prelude.{◌≡◌, ℕ, List}
 use Rattle.afl_base.specs.Cuts.{IsCutErase}
-use Rattle.coffee_cuts.specs.Cuts.{IsActiveAt, UnderWay, Nothing, Beginning, Building, Erasing, Unnamed, Naming, Replacing, settled}
-use Rattle.afl_base.specs.declared.ids.PageId.{PageId}
+use Rattle.coffee_cuts.specs.Cuts.{UnderWay, Nothing, Beginning, Building, Erasing, Unnamed, Naming, Replacing, settled}
 use Rattle.coffee_layout.specs.Files.{log_of}
 use Rattle.coffee_merge.specs.CutMarks.{IsCutObsolete, IsOneOf}
-use Rattle.coffee_merge.specs.Flags.{flagged}
 
 -- a flag is there or not, a front part of the sector is erased, the old extent is obsolete or not, or its log too
 abbrev pub IsCutSettling : (old new : List ℕ) → UnderWay → Type 0
@@ -16,13 +14,3 @@ IsCutSettling old new (Erasing sector page) = IsCutErase old new sector
 IsCutSettling old new (Unnamed log) = IsOneOf new old (settled old (Unnamed log))
 IsCutSettling old new (Naming page) = IsOneOf new old (settled old (Naming page))
 IsCutSettling old new (Replacing from to) = IsCutObsolete old new from.page (log_of from.header)
-
--- where a file has an old extent with a log, the log stands once that extent is obsolete
-abbrev pub LeavesLog : List ℕ → UnderWay → Type 0
-LeavesLog image Nothing = ⊤
-LeavesLog image (Beginning page) = ⊤
-LeavesLog image (Building page) = ⊤
-LeavesLog image (Erasing sector page) = ⊤
-LeavesLog image (Unnamed log) = ⊤
-LeavesLog image (Naming page) = ⊤
-LeavesLog image (Replacing from to) = (l : PageId) → log_of from.header ≡ Some l → IsActiveAt (flagged image from.page 4) l.0 19

@@ -1,82 +1,99 @@
-ghost use Rattle.std.specs.Prelude.{◌≡◌, ℕ, ◌+◌, ◌*◌, ◌≤◌, None, Some, length, IsTrue, IfErr, IfOk, MatchResult};
+ghost use Rattle.std.specs.Prelude.{◌≡◌, ℕ, ◌+◌, ◌*◌, ◌≤◌, Err, None, Ok, Some, false, true, length, IsTrue, IfErr, OnOk};
 ghost use Rattle.afl_base.specs.Image.{zeros_at};
+ghost use Rattle.afl_base.specs.declared.kind.FileError.TheVariants.{Failed as FaultOfFile, Space as LackOfSpace};
 ghost use Rattle.coffee_find.specs.Found.{HasRecord, IsCutBy, IsTornAt, IsTroubleInside, meant};
-ghost use Rattle.coffee_mend.specs.Mended.{ReturnsFlash, HasMendCause, IsCrowded, IsFailure, IsMended, IsSoundAs, IsTornAs, OnFlashFailed, OnLacking, flash_behind};
+ghost use Rattle.coffee_mend.specs.Mended.{IsCrowded, IsFailure, IsMended, IsSoundAs, IsTornAs, MendsFlash, OnFlashFailed, OnLacking, UnlessUnsettled};
 ghost use Rattle.coffee_mend.specs.Settling.{IsCutSettling};
 
 use crate::joining::join_log;
 use crate::settling::settle;
 use afl_base::{FileError, Flash};
 use coffee_find::{TornRecord, Trouble};
-use flash_views::Blanked;
+use flash_views::{Blanked, Handed};
 
-/// Why an image was not mended. The flash is handed back.
-pub enum MendError<F> {
+/// Why an image was not mended.
+#[derive(Clone, Copy, PartialEq, Eq, Debug)]
+pub enum MendError {
     /// No extent of `need` pages can be had for the file whose record is torn.
-    Space { need: u16, flash: F },
+    Space { need: u16 },
     /// The flash failed, and its count of faults rose.
-    Failed { flash: F },
+    Failed,
     /// The image is not what was found in it, as on a flash that answers otherwise at each read.
-    Unsettled { flash: F },
+    Unsettled,
 }
 
 /// Puts right what a cut left of an image: it is sound then, and has just the files that it mends to. It
 /// asks for pages only where a record is torn. Where the flash fails in the write that settles what was
 /// under way, `cut_settlings_mend` says what it leaves.
-pub fn mend<F: Flash>(mut flash: F, trouble: &Trouble) -> Result<F, MendError<F>>
-    requires inside { IsTroubleInside (length (F.image flash)) trouble.now }
-    ensures mended { IsTrue F.tells → IsCutBy (F.image flash) trouble.now
-        → IfOk result (λ f. IsMended (F.image flash) (F.image f)) }
-    ensures space { IsTrue F.tells → IsCutBy (F.image flash) trouble.now
-        → IfErr result (λ e. OnLacking e (λ need f. IsCrowded (F.image flash) (F.image f) need)) }
+pub fn mend<F: Flash>(flash: &mut F, trouble: &Trouble) -> Result<(), MendError>
+    requires inside { IsTroubleInside (length (F.image flash.old)) trouble.now }
+    ensures mended { IsTrue F.tells → IsCutBy (F.image flash.old) trouble.now
+        → OnOk result (IsMended (F.image flash.old) (F.image flash.new)) }
+    ensures space { IsTrue F.tells → IsCutBy (F.image flash.old) trouble.now
+        → IfErr result (λ e. OnLacking e (λ need. IsCrowded (F.image flash.old) (F.image flash.new) need)) }
     ensures failures { trouble.now.torn ≡ None → IfErr result (λ e. IsFailure e) }
     ensures cut { IsTrue F.tells → IsTrue F.cuts → trouble.now.torn ≡ None
         → IfErr result (λ e. OnFlashFailed e
-        (IsCutSettling (F.image flash) (F.image (flash_behind e)) (meant trouble.now.under_way))) }
-    ensures back { MatchResult result
-        (λ f. ReturnsFlash F.image F.lent F.reads flash f)
-        (λ e. ReturnsFlash F.image F.lent F.reads flash (flash_behind e)) }
-    ensures cause { MatchResult result
-        (λ f. F.faults flash ≤ F.faults f)
-        (λ e. HasMendCause (F.faults flash) (F.faults (flash_behind e)) e) }
+        (IsCutSettling (F.image flash.old) (F.image flash.new) (meant trouble.now.under_way))) }
+    ensures frame { MendsFlash F.image F.lent F.reads F.faults flash.old flash.new result }
 {
     flash.sectors();
-    let Ok(()) = settle(&mut flash, &trouble.under_way) else {
-        return Err(MendError::Failed { flash });
+    let Ok(()) = settle(flash, &trouble.under_way) else {
+        return Err(MendError::Failed);
     };
     match trouble.torn {
-        None => Ok(flash),
+        None => Ok(()),
         Some(torn) => join_torn(flash, &torn),
     }
 }
 
 // Puts a file together with its log, of which a record is torn.
-fn join_torn<F: Flash>(flash: F, torn: &TornRecord) -> Result<F, MendError<F>>
+fn join_torn<F: Flash>(flash: &mut F, torn: &TornRecord) -> Result<(), MendError>
+    requires torn { HasRecord (length (F.image flash.old)) (Some torn.now) }
+    ensures joined { IsTrue F.tells → IsTornAt (F.image flash.old) torn.now.log.0 torn.now.place
+        → OnOk result (IsSoundAs (zeros_at (F.image flash.old) torn.now.place 128) (F.image flash.new)) }
+    ensures space { IsTrue F.tells → IsTornAt (F.image flash.old) torn.now.log.0 torn.now.place
+        → IfErr result (λ e. OnLacking e (λ need.
+        IsTornAs (F.image flash.old) (F.image flash.new) torn.now.log.0 torn.now.place need)) }
+    ensures frame { MendsFlash F.image F.lent F.reads F.faults flash.old flash.new result }
+{
+    let mut joined = Err(MendError::Unsettled);
+    let _handed = join_blanked(Handed { flash }, torn, &mut joined);
+    joined
+}
+
+// The same over a flash of which the record reads as zeros.
+fn join_blanked<F: Flash>(flash: F, torn: &TornRecord, joined: &mut Result<(), MendError>) -> F
     requires torn { HasRecord (length (F.image flash)) (Some torn.now) }
     ensures joined { IsTrue F.tells → IsTornAt (F.image flash) torn.now.log.0 torn.now.place
-        → IfOk result (λ f. IsSoundAs (zeros_at (F.image flash) torn.now.place 128) (F.image f)) }
+        → OnOk joined.new (IsSoundAs (zeros_at (F.image flash) torn.now.place 128) (F.image result)) }
     ensures space { IsTrue F.tells → IsTornAt (F.image flash) torn.now.log.0 torn.now.place
-        → IfErr result (λ e. OnLacking e (λ need f.
-        IsTornAs (F.image flash) (F.image f) torn.now.log.0 torn.now.place need)) }
-    ensures back { MatchResult result
-        (λ f. ReturnsFlash F.image F.lent F.reads flash f)
-        (λ e. ReturnsFlash F.image F.lent F.reads flash (flash_behind e)) }
-    ensures cause { MatchResult result
-        (λ f. F.faults flash ≤ F.faults f)
-        (λ e. HasMendCause (F.faults flash) (F.faults (flash_behind e)) e) }
+        → IfErr joined.new (λ e. OnLacking e (λ need.
+        IsTornAs (F.image flash) (F.image result) torn.now.log.0 torn.now.place need)) }
+    ensures frame { MendsFlash F.image F.lent F.reads F.faults flash result joined.new }
 {
     flash.sectors();
     let mut blanked = Blanked::new(flash, torn.place);
-    let joined = join_log(&mut blanked, torn.log);
-    let refused = blanked.has_refused();
-    let flash = blanked.into_flash();
+    let done = join_log(&mut blanked, torn.log);
+    *joined = came_of(done, blanked.has_refused());
+    blanked.into_flash()
+}
+
+// What joining came to. A write that was refused, or a file that is not found, shows that the image is not
+// what was found.
+fn came_of(done: Result<bool, FileError>, refused: bool) -> Result<(), MendError>
+    ensures joined { OnOk result (done ≡ Ok true) }
+    ensures lacking { IfErr result (λ e. OnLacking e (λ need. done ≡ Err (LackOfSpace need))) }
+    ensures failed { IfErr result (λ e. OnFlashFailed e (done ≡ Err FaultOfFile)) }
+    ensures granted { UnlessUnsettled result (refused ≡ false) }
+{
     if refused {
-        return Err(MendError::Unsettled { flash });
+        return Err(MendError::Unsettled);
     }
-    match joined {
-        Ok(true) => Ok(flash),
-        Ok(false) => Err(MendError::Unsettled { flash }),
-        Err(FileError::Space { need }) => Err(MendError::Space { need, flash }),
-        Err(FileError::Failed) => Err(MendError::Failed { flash }),
+    match done {
+        Ok(true) => Ok(()),
+        Ok(false) => Err(MendError::Unsettled),
+        Err(FileError::Space { need }) => Err(MendError::Space { need }),
+        Err(FileError::Failed) => Err(MendError::Failed),
     }
 }

@@ -1,16 +1,20 @@
 -- Mounting: the table of a volume that was just mounted, and why a flash could not be.
-use Rattle.std.specs.Prelude.{◌≡◌, ◌≢◌, ⊤, ℕ, ◌-◌, ◌≤◌, true, List, ◌++◌, length, map, replicate, Some, None, IsTrue}
+use Rattle.std.specs.Prelude.{◌≡◌, ◌≢◌, ⊤, ℕ, Bool, ◌-◌, ◌≤◌, true, List, ◌++◌, length, map, replicate, Some, None, IsTrue}
 use Rattle.std.specs.List.{Contains}
 use Rattle.afl_base.specs.Causes.{Rose}
 use Rattle.afl_base.specs.Files.{File, IsLive, State, Table, file_at}
 use Rattle.coffee_layout.specs.Files.{NamedFile, files_of, listed}
+use Rattle.coffee_layout.specs.Rules.{broken_image}
+use Rattle.coffee_layout.specs.Units.{pages_of}
 use Rattle.coffee_layout.specs.Walks.{has_few}
 use Rattle.coffee_layout.specs.declared.file.FileAt.{FileAt}
 use Rattle.coffee_layout.specs.declared.unit.BadImage.{BadImage}
 use Rattle.coffee_merge.specs.Holding.{IsIn, Entries, has_shape}
-use Rattle.coffee_volume.specs.Volumes.{EntryTable, entry_name, roomless, state_seen}
+use Rattle.coffee_volume.specs.Volumes.{AreRegular, EntryTable, entry_name, roomless, state_seen}
 use Rattle.coffee_volume.specs.declared.mount.MountError.{MountError}
 use Rattle.coffee_volume.specs.declared.mount.MountError.TheVariants.{Bad, Failed}
+use Rattle.coffee_volume.specs.declared.mount.Unlisted.{Unlisted}
+use Rattle.coffee_volume.specs.declared.mount.Unlisted.TheVariants.{Bad as NotSound, Failed as Unread}
 
 -- THE TABLE
 
@@ -79,3 +83,22 @@ OnFailed (Failed flash) P = P
 pub record HasMountCause {F : Type 0} (before now : ℕ) (error : MountError F) : Type 0 where
   pub later : before ≤ now
   pub failed : OnFailed error (Rose before now)
+
+-- the table of an image: where it is told, that of its files
+pub record IsListed (tells : Bool) (image : List ℕ) (table : EntryTable) : Type 0 where
+  pub files : List FileAt
+  pub few : length files ≤ 32
+  pub table_is : table ≡ mounted_table files
+  pub regular : AreRegular (pages_of image) table
+  pub told : IsTrue tells → files ≡ listed image
+  pub sound : IsTrue tells → broken_image image ≡ None
+
+-- P of the broken rule, where that is the reason
+abbrev pub OnBad : Unlisted → (BadImage → Type 0) → Type 0
+OnBad (NotSound bad) P = P bad
+OnBad Unread P = ⊤
+
+-- P, where the reason is that the flash failed
+abbrev pub OnFault : Unlisted → Type 0 → Type 0
+OnFault (NotSound bad) P = ⊤
+OnFault Unread P = P

@@ -12,5 +12,5 @@ mod volume;
 mod window;
 
 pub use laws::{cramped_volume_is_small, images_mend_to_one_set_of_files};
-pub use mount::MountError;
+pub use mount::{Listed, MountError, Unlisted, list};
 pub use volume::Volume;

@@ -1,5 +1,6 @@
 ghost use Rattle.std.specs.Prelude.{◌≡◌, ℕ, ◌+◌, ◌*◌, ◌≤◌, None, Some, length, IsTrue, IfOk, IfErr, OnOk, MatchOption, MatchResult};
 ghost use Rattle.std.specs.List.{All};
+ghost use Rattle.afl_base.specs.Causes.{Rose};
 ghost use Rattle.afl_base.specs.Files.{AreDistinct, IsLive, file_at};
 ghost use Rattle.coffee_layout.specs.Files.{FitsIn};
 ghost use Rattle.coffee_layout.specs.Marks.{IsCramped};
@@ -8,7 +9,7 @@ ghost use Rattle.coffee_layout.specs.Tiling.{units_of};
 ghost use Rattle.coffee_layout.specs.Units.{pages_of};
 ghost use Rattle.coffee_merge.specs.Holding.{has_shape};
 ghost use Rattle.coffee_volume.specs.Asking.{AsksOf};
-ghost use Rattle.coffee_volume.specs.Mounting.{HasEach, HasMountCause, HasOnly, HaveNoRoom, KeepFileRules, MayBeListed, OnBadImage, WhereIdle, flash_of, mounted_state, mounted_table};
+ghost use Rattle.coffee_volume.specs.Mounting.{HasEach, HasMountCause, HasOnly, HaveNoRoom, IsListed, KeepFileRules, MayBeListed, OnBad, OnBadImage, OnFault, WhereIdle, flash_of, mounted_state, mounted_table};
 ghost use Rattle.coffee_volume.specs.Volumes.{AreRegular, places};
 
 use crate::entry::EntryTable;
@@ -23,6 +24,48 @@ pub enum MountError<F> {
     Bad { bad: BadImage, flash: F },
     /// The flash failed, and its count of faults rose.
     Failed { flash: F },
+}
+
+/// The files that an image lists.
+#[derive(Drop)]
+pub struct Listed {
+    pub(crate) table: EntryTable,
+}
+
+/// Why there are no files.
+#[derive(Drop)]
+pub enum Unlisted {
+    /// The image breaks a rule of 1 to 13: the first one, with its first place.
+    Bad(BadImage),
+    /// The flash failed, and its count of faults rose.
+    Failed,
+}
+
+/// Judges the image and lists its files, whose ids are given in page order from 0. At most 448 reads for each
+/// page of the flash. Nothing is written, where it fails too.
+pub fn list<F: Flash>(flash: &mut F) -> Result<Listed, Unlisted>
+    ensures sound { IsTrue F.tells → OnOk result (broken_image (F.image flash.old) ≡ None) }
+    ensures listed { IfOk result (λ l. IsListed F.tells (F.image flash.old) l.table) }
+    ensures bad { IsTrue F.tells
+        → IfErr result (λ e. OnBad e (λ bad. broken_image (F.image flash.old) ≡ Some bad)) }
+    ensures same { F.image flash.new ≡ F.image flash.old }
+    ensures lent { F.lent flash.new ≡ F.lent flash.old }
+    ensures reads { F.reads flash.new ≤ F.reads flash.old + 448 * pages_of (F.image flash.old) }
+    ensures reads_later { F.reads flash.old ≤ F.reads flash.new }
+    ensures later { F.faults flash.old ≤ F.faults flash.new }
+    ensures cause { IfErr result (λ e. OnFault e (Rose (F.faults flash.old) (F.faults flash.new))) }
+{
+    flash.sectors();
+    let mut listed = coffee_layout::Table::new();
+    match check(flash, &mut listed) {
+        Ok(Ok(())) => {}
+        Ok(Err(bad)) => return Err(Unlisted::Bad(bad)),
+        Err(_) => return Err(Unlisted::Failed),
+    }
+    match table_of(&listed) {
+        Ok(table) => Ok(Listed { table }),
+        Err(bad) => Err(Unlisted::Bad(bad)),
+    }
 }
 
 impl<F: Flash> Volume<F> {
@@ -73,6 +116,42 @@ impl<F: Flash> Volume<F> {
             Err(bad) => Err(MountError::Bad { bad, flash }),
         }
     }
+
+    /// The files of a flash that were listed.
+    pub fn over(flash: F, listed: Listed) -> Volume<F>
+        requires listed { IsListed F.tells (F.image flash) listed.table }
+        ensures files { IsTrue F.tells → ⟦<Self as Files>⟧.state result ≡ mounted_state (F.image flash) }
+        ensures tells { (⟦<Self as Files>⟧.state result).tells ≡ F.tells }
+        ensures idle { (⟦<Self as Files>⟧.state result).draft ≡ None }
+        ensures rooms { HaveNoRoom (⟦<Self as Files>⟧.state result).files }
+        ensures places { length (⟦<Self as Files>⟧.state result).files ≡ 32 }
+        ensures distinct { AreDistinct (⟦<Self as Files>⟧.state result).files }
+        ensures same { (⟦<Self as Files>⟧.state result).store ≡ F.image flash }
+        ensures lent { ⟦<Self as Files>⟧.lent result ≡ F.lent flash }
+        ensures reads { ⟦<Self as Files>⟧.reads result ≡ F.reads flash }
+        ensures faults { ⟦<Self as Files>⟧.faults result ≡ F.faults flash }
+    {
+        flash.sectors();
+        let Listed { table } = listed;
+        Volume {
+            flash,
+            table,
+            draft: None,
+            failed: false,
+            window: Window::new(),
+        }
+    }
+
+    /// What the flash holds at the end: where no draft is begun and no call failed, the image keeps its
+    /// rules, and its files are those of the volume.
+    pub fn ends(&self)
+        ensures sound { WhereIdle (⟦<Self as Files>⟧.state self.now)
+            (broken_image (⟦<Self as Files>⟧.state self.now).store ≡ None) }
+        ensures each { WhereIdle (⟦<Self as Files>⟧.state self.now)
+            (HasEach (⟦<Self as Files>⟧.state self.now) (⟦<Self as Files>⟧.state self.now).store) }
+        ensures only { WhereIdle (⟦<Self as Files>⟧.state self.now)
+            (HasOnly (⟦<Self as Files>⟧.state self.now) (⟦<Self as Files>⟧.state self.now).store) }
+    {}
 
     /// Hands the flash back. A draft that was not committed is lost. Where none is begun and no call
     /// failed, the image keeps its rules, and its files are those of the volume.

@@ -117,10 +117,10 @@ pub fn dumped(alloc: Global, image: &mut [u8]) -> Vec<u8> {
     }
 }
 
-fn repaired<F: Flash + Drop>(alloc: Global, flash: F) -> Result<Ended, AllocError> {
+fn repaired<F: Flash>(alloc: Global, flash: &mut F) -> Result<Ended, AllocError> {
     let mut room = of_zeros(alloc, 8_192)?;
     let mut out = MemSink::new(room.as_mut_slice(), None);
-    let (status, _) = repair(&mut out, flash);
+    let status = repair(&mut out, flash);
     Ok(Ended {
         status,
         written: Vec::from_slice(alloc, out.written())?,
@@ -129,10 +129,10 @@ fn repaired<F: Flash + Drop>(alloc: Global, flash: F) -> Result<Ended, AllocErro
 
 /// Repairs an image.
 pub fn put_right(alloc: Global, image: &mut [u8], cut: Cut) -> Ended {
-    let Some(flash) = CutFlash::new(image, cut.writes, cut.front) else {
+    let Some(mut flash) = CutFlash::new(image, cut.writes, cut.front) else {
         return nothing(alloc);
     };
-    match repaired(alloc, flash) {
+    match repaired(alloc, &mut flash) {
         Ok(ended) => ended,
         Err(_) => nothing(alloc),
     }

@@ -3,10 +3,12 @@
 #![tactic(auto)]
 
 mod blanked;
+mod handed;
 mod over;
 mod overlay;
 mod view;
 
 pub use blanked::Blanked;
+pub use handed::Handed;
 pub use overlay::{Mark, Overlay};
 pub use view::View;

@@ -1,6 +1,8 @@
 ghost use Rattle.std.specs.Prelude.{◌≡◌, None, OnOk};
 
-use crate::database::{ROWS, no_relation, one_index, one_relation, put_catalog, put_growing};
+use crate::database::{
+    ROWS, first_relation, no_relation, one_index, one_relation, put_catalog, put_growing,
+};
 use crate::mended::{byte_at, is_mended, size_named};
 use afl_base::{FileError, Files};
 use afl_sim::PlainFiles;
@@ -8,7 +10,7 @@ use afl_sim::PlainFiles;
 fn takes_a_first_catalog_back<V: Files>(files: &mut V) -> Result<bool, FileError>
     requires idle { (V.state files.old).draft ≡ None }
 {
-    put_catalog(files, &one_relation(2), 33)?;
+    put_catalog(files, &first_relation(), 176)?;
     put_growing(files, b"T0", b"")?;
     let lines = b"catalog taken back\nrelation of slot 0 removed\n";
     let mended = is_mended(files, lines)?;
@@ -70,7 +72,7 @@ fn empties_a_slot<V: Files>(files: &mut V) -> Result<bool, FileError>
     requires idle { (V.state files.old).draft ≡ None }
 {
     let mut bytes = one_relation(2);
-    bytes[0] = 0;
+    bytes[..128].fill(0);
     put_catalog(files, &bytes, 1480)?;
     put_growing(files, b"T0", &ROWS)?;
     let mended = is_mended(files, b"relation of slot 0 removed\n")?;
@@ -79,7 +81,7 @@ fn empties_a_slot<V: Files>(files: &mut V) -> Result<bool, FileError>
 }
 
 #[test]
-fn a_slot_without_a_name_is_emptied(rt: HostRuntime) {
+fn a_slot_that_is_empty_up_to_a_region_is_emptied(rt: HostRuntime) {
     let mut files: PlainFiles<4064> = PlainFiles::new();
     assert!(rt; empties_a_slot(&mut files) == Ok(true));
 }
@@ -91,7 +93,7 @@ fn takes_an_attribute_back<V: Files>(files: &mut V) -> Result<bool, FileError>
     bytes[34] = b'a';
     bytes[50] = 4;
     put_catalog(files, &bytes, 1472)?;
-    put_growing(files, b"T0", &ROWS)?;
+    put_growing(files, b"T0", b"")?;
     let mended = is_mended(files, b"attribute of r taken back\n")?;
     let zero = byte_at(files, b"CAT", 34)? == Some(0) && byte_at(files, b"CAT", 50)? == Some(0);
     let kept = byte_at(files, b"CAT", 16)? == Some(b'k');
@@ -120,21 +122,35 @@ fn an_index_without_its_tree_is_taken_back(rt: HostRuntime) {
     assert!(rt; takes_an_index_back(&mut files) == Ok(true));
 }
 
-fn removes_strays<V: Files>(files: &mut V) -> Result<bool, FileError>
+fn removes_rows<V: Files>(files: &mut V) -> Result<bool, FileError>
     requires idle { (V.state files.old).draft ≡ None }
 {
     put_catalog(files, &no_relation(), 1480)?;
     put_growing(files, b"T2", &ROWS)?;
-    put_growing(files, b"X3", b"tree")?;
-    let lines = b"relation of slot 2 removed\nindex of slot 3 removed\n";
-    let mended = is_mended(files, lines)?;
-    Ok(mended && size_named(files, b"T2").is_none() && size_named(files, b"X3").is_none())
+    let mended = is_mended(files, b"relation of slot 2 removed\n")?;
+    Ok(mended && size_named(files, b"T2").is_none())
 }
 
 #[test]
-fn files_that_the_catalog_does_not_ask_for_are_removed(rt: HostRuntime) {
+fn rows_that_the_catalog_does_not_ask_for_are_removed(rt: HostRuntime) {
     let mut files: PlainFiles<4064> = PlainFiles::new();
-    assert!(rt; removes_strays(&mut files) == Ok(true));
+    assert!(rt; removes_rows(&mut files) == Ok(true));
+}
+
+fn removes_a_tree<V: Files>(files: &mut V) -> Result<bool, FileError>
+    requires idle { (V.state files.old).draft ≡ None }
+{
+    put_catalog(files, &one_relation(2), 1480)?;
+    put_growing(files, b"T0", &ROWS)?;
+    put_growing(files, b"X3", b"tree")?;
+    let mended = is_mended(files, b"index of slot 3 removed\n")?;
+    Ok(mended && size_named(files, b"X3").is_none() && size_named(files, b"T0") == Some(15))
+}
+
+#[test]
+fn a_tree_that_the_catalog_does_not_ask_for_is_removed(rt: HostRuntime) {
+    let mut files: PlainFiles<4064> = PlainFiles::new();
+    assert!(rt; removes_a_tree(&mut files) == Ok(true));
 }
 
 fn takes_a_row_back<V: Files>(files: &mut V) -> Result<bool, FileError>
@@ -157,10 +173,9 @@ fn builds_a_tree<V: Files>(files: &mut V) -> Result<bool, FileError>
     requires idle { (V.state files.old).draft ≡ None }
 {
     put_catalog(files, &one_index(), 1480)?;
-    put_growing(files, b"T0", &ROWS[..11])?;
+    put_growing(files, b"T0", &ROWS)?;
     put_growing(files, b"X0", b"a part of a tree")?;
-    let lines = b"row of r taken back\nindex on r.k built anew\n";
-    let mended = is_mended(files, lines)?;
+    let mended = is_mended(files, b"index on r.k built anew\n")?;
     let first_key = byte_at(files, b"X0", 683)? == Some(7);
     Ok(mended && first_key && size_named(files, b"X0") == Some(878))
 }

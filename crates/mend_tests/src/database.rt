@@ -18,6 +18,13 @@ pub fn no_relation() -> [u8; 1480] {
     bytes
 }
 
+/// The bytes of a catalog of version 2 with the relation r, which has no attributes yet.
+pub fn first_relation() -> [u8; 1480] {
+    let mut bytes = no_relation();
+    bytes[0] = b'r';
+    bytes
+}
+
 /// The bytes of a catalog of version 2 with the relation r of an attribute k. Its domain has this code: 1
 /// is INT, 2 LONG, 4 TIME.
 pub fn one_relation(domain: u8) -> [u8; 1480] {

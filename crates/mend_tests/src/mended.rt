@@ -5,7 +5,8 @@ ghost use Rattle.std.specs.Prelude.{◌≡◌, None, OnOk};
 use afl_base::{Failed, FileError, Files, Name};
 use afl_sim::MemSink;
 use catalog::load;
-use stored_mend::{Report, mend_database, survey, write_report};
+use stored_mend::{Report, mend_database, write_report};
+use stored_survey::may_be_cut;
 
 /// Whether the files are found to be those of a cut, are put right with these lines, and then keep all
 /// rules, so that there is no more to be done.
@@ -13,7 +14,7 @@ pub fn is_mended<V: Files>(files: &mut V, lines: &[u8]) -> Result<bool, FileErro
     requires idle { (V.state files.old).draft ≡ None }
     ensures idle { OnOk result ((V.state files.new).draft ≡ None) }
 {
-    if survey(files)?.is_err() {
+    if !may_be_cut(files)? {
         return Ok(false);
     }
     let mut report = Report::new();
@@ -23,7 +24,7 @@ pub fn is_mended<V: Files>(files: &mut V, lines: &[u8]) -> Result<bool, FileErro
     }
     let mut again = Report::new();
     mend_database(files, &mut again)?;
-    Ok(has_lines(&again, b"") && survey(files)?.is_ok())
+    Ok(has_lines(&again, b"") && may_be_cut(files)?)
 }
 
 // Whether a report has these lines.

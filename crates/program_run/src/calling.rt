@@ -54,7 +54,7 @@ where
 }
 
 #[inline(never)]
-fn repaired<F, K>(out: &mut K, flash: F) -> u8
+fn repaired<F, K>(out: &mut K, mut flash: F) -> u8
 where
     F: Flash + Drop,
     K: Sink,
@@ -62,6 +62,5 @@ where
     ensures repaired { IsTrue F.tells → (image : List ℕ)
         × Repairs result (F.image flash) image (K.held out.old) (K.held out.new) }
 {
-    let (status, _) = repair(out, flash);
-    status
+    repair(out, &mut flash)
 }

@@ -1,20 +1,25 @@
 -- The database that an image mends to is the one that stands in it once it is repaired.
 use Rattle.std.proofs.Common.{◌≡◌, inl, inr, ⊎_elim, ℕ, ◌*◌, List, length, Option, None, refl, ap, sym, subst, ◌∙◌, arith}
-use Rattle.std.specs.Prelude.{Result, Ok, Err}
+use Rattle.std.specs.Prelude.{⊤, Result, Ok, Err, IfErr, IfOk, OnOk}
+use Rattle.std.proofs.lemmas.Result.{IfOk-weaker, on_ok_weaker}
 use Rattle.afl_base.specs.Files.{State}
-use Rattle.coffee_cuts.specs.Cuts.{Nothing}
+use Rattle.coffee_cuts.specs.Cuts.{MendsTo, Nothing, settled}
+use Rattle.coffee_find.specs.Found.{IsCutBy, meant}
+use Rattle.coffee_find.specs.declared.trouble.Trouble.{Trouble}
 use Rattle.coffee_layout.specs.Files.{files_of}
 use Rattle.coffee_layout.specs.Rules.{broken_image}
+use Rattle.coffee_layout.specs.declared.unit.BadImage.{BadImage}
 use Rattle.coffee_mend.specs.Mended.{IsMended}
 use Rattle.coffee_volume.specs.Cuts.{MendsToFiles}
 use Rattle.coffee_volume.specs.Mounting.{HasEach, HasOnly, mounted_state}
 use Rattle.db_model.specs.Database.{Database}
-use Rattle.sound_image.specs.Images.{IsSound, base, files_of_image}
+use Rattle.sound_image.specs.Images.{IsFirstBroken, IsSound, base, files_of_image}
 use Rattle.sound_image.specs.Mending.{ImageMendsTo}
 use Rattle.sound_image.proofs.Mounted.{mounted_files}
 use Rattle.sound_image.proofs.OneBase.{one_base, own_files, sound_base, sound_is, table_mends}
 use Rattle.stored.specs.Mended.{mended_base}
-use Rattle.repair_run.specs.Repairs.{Ends, IsMendable, Leaves, Repairs, database_in, status_after}
+use Rattle.stored.specs.Sound.{BreaksFirst, IsSoundTable}
+use Rattle.repair_run.specs.Repairs.{IsMendable, Leaves, Repairs, database_in, status_after}
 use Rattle.repair_run.specs.declared.came.Came.{Came}
 use Rattle.repair_run.specs.declared.came.Came.TheVariants.{Sound, Repaired, Strange}
 use Rattle.repair_run.specs.declared.came.Hindrance.{Hindrance}
@@ -22,35 +27,64 @@ use Rattle.repair_run.specs.declared.came.Hindrance.TheVariants.{Spaceless, Unse
 
 -- ---- what is left
 
-mendable : (image : List ℕ) (Is : Database → Type 0) → ImageMendsTo image Is → IsMendable image
-mendable image Is m = inr (m.mends_to.named, m.mends_to.mends)
+-- an image that breaks a rule, and of whose files a cut left this: it is not sound, and can be mended
+pub found : (old first : List ℕ) (judged : Result ⊤ BadImage) (bad : BadImage) (trouble : Trouble) → ((image : List ℕ) (rule place : ℕ) → IsSound image → IsFirstBroken image rule place → ⊥)
+    → ((image : List ℕ) (t : Trouble) → IsCutBy image t → MendsTo image (files_of (settled image (meant t.under_way)))) → first ≡ old
+    → IfErr judged (λ b. IsFirstBroken old b.rule b.place) → judged ≡ Err bad → IsCutBy first trouble → (IsSound old → ⊥) × IsCutBy old trouble × IsMendable old
+found old first judged bad trouble unbroken mends same broken is cut =
+    let first_broken : IsFirstBroken old bad.rule bad.place = rw is at broken in
+    let cut_old : IsCutBy old trouble = subst (λ i. IsCutBy i trouble) same cut in
+    (λ sound. unbroken old bad.rule bad.place sound first_broken, cut_old, inr (files_of (settled old (meant trouble.under_way)), mends old trouble cut_old))
 
-pub ends_hindered : (db : Database) (new : List ℕ) (why : Hindrance) → Ends db new (Err why)
-ends_hindered db new (Spaceless need) = λ old unsound m. (unsound, mendable old (λ mended. mended ≡ db) m)
-ends_hindered db new (Unsettled bad) = λ old unsound m. (unsound, mendable old (λ mended. mended ≡ db) m)
-ends_hindered db new Failed = λ old unsound m. inr (unsound, mendable old (λ mended. mended ≡ db) m)
+-- and is so whatever hinders it behind its first write
+pub left_hindered : (old new : List ℕ) (came : Result Came Hindrance) (why : Hindrance) → (IsSound old → ⊥) → IsMendable old → came ≡ Err why → Leaves old new came
+left_hindered old new came why unsound mendable is = subst (Leaves old new) (sym is) (by_reason why)
+  where
+    by_reason : (why : Hindrance) → Leaves old new (Err why)
+    by_reason (Spaceless need) = (unsound, mendable)
+    by_reason (Unsettled bad) = (unsound, mendable)
+    by_reason Failed = inr (unsound, mendable)
 
--- a sound image stands for the database that its files mend to
-pub ends_repaired : (mid new : List ℕ) → new ≡ mid → IsSound new → Ends (database_in mid) new (Ok Repaired)
-ends_repaired mid new same sound = λ old unsound m. (
-  unsound,
-  mendable old (λ mended. mended ≡ database_in mid) m,
-  sound,
-  record { files = m.files; mends_to = m.mends_to; is = sym (m.is ∙ ap database_in (sym same) ∙ sound_base new sound) },
-)
-
--- where the files are sound, and where they were mended
-pub own_base : (image new : List ℕ) → new ≡ image → broken_image image ≡ None → ImageMendsTo image (λ mended. mended ≡ database_in new)
-own_base image new same sound = record { files = files_of_image image; mends_to = own_files image sound; is = ap database_in (sym same) }
-
-pub mended_files_base : (old new : List ℕ) → IsMended old new → ImageMendsTo old (λ mended. mended ≡ database_in new)
+mended_files_base : (old new : List ℕ) → IsMended old new → ImageMendsTo old (λ mended. mended ≡ database_in new)
 mended_files_base old new m = record { files = files_of_image new; mends_to = table_mends old new m.files m.mends m.kept m.only; is = refl }
 
--- ---- a volume that is mended, and handed back
+-- a sound image stands for the database that its files mend to
+pub left_repaired : (old mid late new : List ℕ) → (IsSound old → ⊥) → IsMended old mid → database_in late ≡ database_in mid → new ≡ late → IsSound late → Leaves old new (Ok Repaired)
+left_repaired old mid late new unsound m kept same sound =
+    let b = mended_files_base old mid m in
+    let sound_now : IsSound new = subst IsSound (sym same) sound in (
+      unsound,
+      inr (m.files, m.mends),
+      sound_now,
+      record { files = b.files; mends_to = b.mends_to; is = sym (b.is ∙ sym kept ∙ ap database_in (sym same) ∙ sound_base new sound_now) },
+    )
 
-pub handed_base : (old new : List ℕ) (before after : State) (sectors : ℕ) → length new ≡ 4096 * sectors → before ≡ mounted_state old
+-- ---- a volume over an image
+
+-- what is judged of its files is judged of the image
+pub judged_sound : {E : Type 0} (image mid : List ℕ) (state : State) (judged : Result (Result ⊤ BadImage) E) → state ≡ mounted_state mid → mid ≡ image → broken_image image ≡ None
+    → IfOk judged (λ r. OnOk r (IsSoundTable state.files)) → IfOk judged (λ r. OnOk r (IsSound image))
+judged_sound image mid state judged mounted same unbroken says =
+    let files : state.files ≡ files_of_image image = ap (λ (s : State). s.files) mounted ∙ mounted_files mid ∙ ap files_of_image same in
+    IfOk-weaker judged (λ r. OnOk r (IsSoundTable state.files)) (λ r. OnOk r (IsSound image))
+    (λ r sound. on_ok_weaker r (λ table. record { volume = unbroken; database = subst IsSoundTable files table }) sound) says
+
+pub judged_bad : {E : Type 0} (image mid : List ℕ) (state : State) (judged : Result (Result ⊤ BadImage) E) → state ≡ mounted_state mid → mid ≡ image → broken_image image ≡ None
+    → IfOk judged (λ r. IfErr r (λ bad. BreaksFirst state.files bad.rule bad.place)) → IfOk judged (λ r. IfErr r (λ bad. IsFirstBroken image bad.rule bad.place))
+judged_bad image mid state judged mounted same unbroken says =
+    let files : state.files ≡ files_of_image image = ap (λ (s : State). s.files) mounted ∙ mounted_files mid ∙ ap files_of_image same in
+    IfOk-weaker judged (λ r. IfErr r (λ bad. BreaksFirst state.files bad.rule bad.place)) (λ r. IfErr r (λ bad. IsFirstBroken image bad.rule bad.place))
+    (λ r broken. by_error files r broken) says
+  where
+    by_error : state.files ≡ files_of_image image → (r : Result ⊤ BadImage) → IfErr r (λ bad. BreaksFirst state.files bad.rule bad.place) → IfErr r (λ bad. IsFirstBroken image bad.rule bad.place)
+    by_error files (Ok x) broken = tt
+    by_error files (Err bad) broken = inr (unbroken, subst (λ table. BreaksFirst table bad.rule bad.place) files broken)
+
+-- the database in the files of one that is mended
+
+pub volume_base : (old new : List ℕ) (before after : State) (sectors : ℕ) → length new ≡ 4096 * sectors → before ≡ mounted_state old
     → mended_base after.files ≡ mended_base before.files → broken_image new ≡ None → HasEach after new → HasOnly after new → database_in new ≡ database_in old
-handed_base old new before after sectors size is kept sound each only =
+volume_base old new before after sectors size is kept sound each only =
     let m : MendsToFiles new after.files = record {
       named = files_of new;
       mends = record { under_way = Nothing; found = tt; settles = inl sound; files_are = refl };

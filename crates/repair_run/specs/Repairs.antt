@@ -4,6 +4,7 @@ use Rattle.std.specs.Io.KnownBytes.{append_known}
 use Rattle.coffee_cuts.specs.Cuts.{MendsTo}
 use Rattle.coffee_layout.specs.Files.{NamedFile}
 use Rattle.coffee_layout.specs.Rules.{broken_image}
+use Rattle.coffee_layout.specs.declared.unit.BadImage.{BadImage}
 use Rattle.db_model.specs.Database.{Database}
 use Rattle.db_model.specs.ReplyText.{line, refusal_text}
 use Rattle.db_model.specs.declared.refusals.Refusal.TheVariants as no
@@ -46,13 +47,18 @@ IsSaid status mended came held now =
 abbrev pub IsMendable : List ℕ → Type 0
 IsMendable image = (broken_image image ≡ None) ⊎ ((files : List NamedFile) × MendsTo image files)
 
+-- no cut leaves an image so: it is as it was, and this is its first broken rule
+pub record IsLeftStrange (old new : List ℕ) (bad : BadImage) : Type 0 where
+  pub same : new ≡ old
+  pub first : IsFirstBroken old bad.rule bad.place
+
 -- what is left of an image: it is sound, and as it was; it was not sound, and is, and stands for the database that it
 -- mended to; it is as it was, and this is its first broken rule; or the repair came to no end. It is written only where it is
 -- not sound, and its files can be put right
 abbrev pub Leaves : (old new : List ℕ) → Result Came Hindrance → Type 0
 Leaves old new (Ok Sound) = IsSound old × (new ≡ old)
 Leaves old new (Ok Repaired) = (IsSound old → ⊥) × IsMendable old × IsSound new × ImageMendsTo old (λ db. base new ≡ db)
-Leaves old new (Ok (Strange bad)) = (new ≡ old) × IsFirstBroken old bad.rule bad.place
+Leaves old new (Ok (Strange bad)) = IsLeftStrange old new bad
 Leaves old new (Err (Spaceless need)) = (IsSound old → ⊥) × IsMendable old
 Leaves old new (Err (Unsettled bad)) = (IsSound old → ⊥) × IsMendable old
 Leaves old new (Err Failed) = (new ≡ old) ⊎ ((IsSound old → ⊥) × IsMendable old)
@@ -60,10 +66,6 @@ Leaves old new (Err Failed) = (new ≡ old) ⊎ ((IsSound old → ⊥) × IsMend
 -- the database that the files of an image mend to
 abbrev pub database_in : List ℕ → Database
 database_in image = mended_base (files_of_image image)
-
--- what is left of any image that is not sound and mends to a database, behind its first write
-abbrev pub Ends : Database → (new : List ℕ) → Result Came Hindrance → Type 0
-Ends db new came = (old : List ℕ) → (IsSound old → ⊥) → ImageMendsTo old (λ mended. mended ≡ db) → Leaves old new came
 
 -- what a repair that ended with a status left of an image and of a sink
 pub record Repairs (status : ℕ) (old new : List ℕ) (held now : Option (List ℕ)) : Type 0 where

@@ -1,3 +1,4 @@
+use afl_base::Failed;
 use coffee_layout::BadImage;
 
 /// What a repair came to.
@@ -20,4 +21,15 @@ pub enum Hindrance {
     Unsettled(BadImage),
     /// The flash failed.
     Failed,
+}
+
+impl From<Failed> for Hindrance {
+    ghost use Rattle.std.specs.Prelude.{◌≡◌};
+    ghost use Rattle.repair_run.specs.declared.came.Hindrance.TheVariants.{Failed as fault_of_flash};
+
+    ghost from_gives = { λ failed hindrance. hindrance ≡ fault_of_flash };
+
+    fn from(_failed: Failed) -> Hindrance {
+        Hindrance::Failed
+    }
 }

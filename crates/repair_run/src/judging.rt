@@ -6,29 +6,28 @@ ghost use Rattle.stored.specs.Sound.{BreaksFirst, IsSoundTable};
 
 use afl_base::{Failed, Files, Flash};
 use coffee_layout::BadImage;
-use coffee_volume::{MountError, Volume};
+use coffee_volume::{Unlisted, Volume, list};
+use flash_views::Handed;
 use index_set::HashTables;
 use session_start::open_database;
-use sound_image::mounted_files_are_the_images;
 
-/// Judges an image by all twenty rules, and hands its flash back. Nothing is written, where it fails too. The inner error comes
-/// exactly where the image is not sound, and names its first broken rule and that rule's first place.
+/// Judges an image by all twenty rules. Nothing is written, where it fails too. The inner error comes exactly where the
+/// image is not sound, and names its first broken rule and that rule's first place.
 #[inline(never)]
-pub fn judge_image<F: Flash>(flash: F) -> (F, Result<Result<(), BadImage>, Failed>)
-    ensures sound { IsTrue F.tells → IfOk result.1 (λ r. OnOk r (IsSound (F.image flash))) }
-    ensures bad { IsTrue F.tells → IfOk result.1 (λ r. IfErr r (λ bad. IsFirstBroken (F.image flash) bad.rule bad.place)) }
-    ensures same { F.image result.0 ≡ F.image flash }
-    ensures lent { F.lent result.0 ≡ F.lent flash }
-    ensures cause { HasCause (F.faults flash) (F.faults result.0) result.1 }
+pub fn judge_image<F: Flash>(flash: &mut F) -> Result<Result<(), BadImage>, Failed>
+    ensures sound { IsTrue F.tells → IfOk result (λ r. OnOk r (IsSound (F.image flash.old))) }
+    ensures bad { IsTrue F.tells → IfOk result (λ r. IfErr r (λ bad. IsFirstBroken (F.image flash.old) bad.rule bad.place)) }
+    ensures same { F.image flash.new ≡ F.image flash.old }
+    ensures lent { F.lent flash.new ≡ F.lent flash.old }
+    ensures cause { HasCause (F.faults flash.old) (F.faults flash.new) result }
 {
-    mounted_files_are_the_images();
-    let mut volume = match Volume::mount(flash) {
-        Ok(volume) => volume,
-        Err(MountError::Bad { bad, flash }) => return (flash, Ok(Err(bad))),
-        Err(MountError::Failed { flash }) => return (flash, Err(Failed)),
+    let listed = match list(flash) {
+        Ok(listed) => listed,
+        Err(Unlisted::Bad(bad)) => return Ok(Err(bad)),
+        Err(Unlisted::Failed) => return Err(Failed),
     };
-    let judged = judge_database(&mut volume);
-    (volume.unmount(), judged)
+    let mut volume = Volume::over(Handed { flash }, listed);
+    judge_database(&mut volume)
 }
 
 // Judges the database in files, by the rules 14 to 20.

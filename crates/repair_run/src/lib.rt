@@ -7,6 +7,7 @@ mod laws;
 mod lines;
 mod mending;
 mod repairing;
+mod room;
 mod surveying;
 
 pub use judging::judge_image;

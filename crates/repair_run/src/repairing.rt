@@ -1,9 +1,8 @@
-ghost use Rattle.std.specs.Prelude.{◌≡◌, Err, IfErr, None, IsTrue, OnOk, length};
+ghost use Rattle.std.specs.Prelude.{◌≡◌, ◌≤◌, Err, IfSome, IsTrue, List, OnOk, length, ℕ};
 ghost use Rattle.afl_base.specs.Causes.{Rose};
-ghost use Rattle.coffee_find.specs.Found.{IsCutBy, IsTroubleInside};
-ghost use Rattle.coffee_layout.specs.Rules.{broken_image};
-ghost use Rattle.sound_image.specs.Images.{IsFirstBroken, IsSound};
-ghost use Rattle.repair_run.specs.Repairs.{Ends, IsRepairStatus, Leaves, Repairs, database_in};
+ghost use Rattle.coffee_find.specs.Found.{IsCutBy, IsJudged, IsJudgedInside, IsTroubleInside};
+ghost use Rattle.coffee_mend.specs.Mended.{IsMended};
+ghost use Rattle.repair_run.specs.Repairs.{IsRepairStatus, Leaves, Repairs};
 ghost use Rattle.repair_run.specs.declared.came.Hindrance.TheVariants.{Failed as FaultOfFlash};
 
 use crate::came::{Came, Hindrance};
@@ -11,14 +10,14 @@ use crate::judging::judge_image;
 use crate::lines::say;
 use crate::mending::mend_image;
 use crate::surveying::survey_image;
-use afl_base::{Failed, Flash, Sink};
+use afl_base::{Flash, Sink};
 use coffee_find::{Judgement, Trouble, UnderWay, cut_images_mend, judge};
 use coffee_layout::BadImage;
 use coffee_mend::{MendError, mend};
 use sound_image::sound_image_breaks_no_rule;
 use stored_mend::Report;
 
-/// Puts an image right that a power cut left, and answers the status that the program ends with, and the flash.
+/// Puts an image right that a power cut left, and answers the status that the program ends with.
 ///
 /// | status | comes |
 /// |---|---|
@@ -26,168 +25,77 @@ use stored_mend::Report;
 /// | 3 | the flash has no room for what is to be put right, and `no space N` was written |
 /// | 4, 5 | only where the flash, the sink counted a fault |
 /// | 6 | the image is not sound, and no cut leaves such a one: `no image RULE PLACE` was written |
-pub fn repair<F: Flash, K: Sink>(out: &mut K, flash: F) -> (u8, F)
-    ensures only { IsRepairStatus result.0 }
-    ensures told { IsTrue F.tells → Repairs result.0 (F.image flash) (F.image result.1) (K.held out.old) (K.held out.new) }
-    ensures flash { result.0 ≡ 4 → Rose (F.faults flash) (F.faults result.1) }
-    ensures sink { result.0 ≡ 5 → Rose (K.faults out.old) (K.faults out.new) }
-    ensures size { length (F.image result.1) ≡ length (F.image flash) }
-    ensures lent { F.lent result.1 ≡ F.lent flash }
+pub fn repair<F: Flash, K: Sink>(out: &mut K, flash: &mut F) -> u8
+    ensures only { IsRepairStatus result }
+    ensures told { IsTrue F.tells
+        → Repairs result (F.image flash.old) (F.image flash.new) (K.held out.old) (K.held out.new) }
+    ensures flash { result ≡ 4 → Rose (F.faults flash.old) (F.faults flash.new) }
+    ensures sink { result ≡ 5 → Rose (K.faults out.old) (K.faults out.new) }
+    ensures size { length (F.image flash.new) ≡ length (F.image flash.old) }
+    ensures lent { F.lent flash.new ≡ F.lent flash.old }
     ensures sink_lent { K.lent out.new ≡ K.lent out.old }
 {
     let mut report = Report::new();
-    let (flash, came) = put_right(flash, &mut report);
-    (say(out, &report, came), flash)
+    let came = put_right(flash, &mut report);
+    say(out, &report, came)
 }
 
-// What a repair comes to.
-fn put_right<F: Flash>(flash: F, report: &mut Report) -> (F, Result<Came, Hindrance>)
-    ensures leaves { IsTrue F.tells → Leaves (F.image flash) (F.image result.0) result.1 }
-    ensures size { length (F.image result.0) ≡ length (F.image flash) }
-    ensures lent { F.lent result.0 ≡ F.lent flash }
-    ensures cause { result.1 ≡ Err FaultOfFlash → Rose (F.faults flash) (F.faults result.0) }
-{
-    let (flash, judged) = judge_image(flash);
-    match judged {
-        Ok(judged) => put_judged_right(flash, report, judged),
-        Err(Failed) => (flash, Err(Hindrance::Failed)),
-    }
-}
-
-// The same of an image of which it is known whether it is sound.
-fn put_judged_right<F: Flash>(
-    flash: F,
-    report: &mut Report,
-    judged: Result<(), BadImage>,
-) -> (F, Result<Came, Hindrance>)
-    ensures leaves { IsTrue F.tells → OnOk judged (IsSound (F.image flash))
-        → IfErr judged (λ bad. IsFirstBroken (F.image flash) bad.rule bad.place)
-        → Leaves (F.image flash) (F.image result.0) result.1 }
-    ensures size { length (F.image result.0) ≡ length (F.image flash) }
-    ensures lent { F.lent result.0 ≡ F.lent flash }
-    ensures cause { result.1 ≡ Err FaultOfFlash → Rose (F.faults flash) (F.faults result.0) }
+// What a repair comes to. What is wrong is found by reading alone, before anything is written; the files are put right
+// first, and then the database in them.
+fn put_right<F: Flash>(flash: &mut F, report: &mut Report) -> Result<Came, Hindrance>
+    ensures leaves { IsTrue F.tells → Leaves (F.image flash.old) (F.image flash.new) result }
+    ensures size { length (F.image flash.new) ≡ length (F.image flash.old) }
+    ensures lent { F.lent flash.new ≡ F.lent flash.old }
+    ensures cause { result ≡ Err FaultOfFlash → Rose (F.faults flash.old) (F.faults flash.new) }
 {
     sound_image_breaks_no_rule();
-    match judged {
-        Ok(()) => (flash, Ok(Came::Sound)),
-        Err(bad) => put_broken_right(flash, report, bad),
-    }
-}
-
-// The same of an image that is not sound. What is wrong is found by reading alone, before anything is written.
-fn put_broken_right<F: Flash>(
-    flash: F,
-    report: &mut Report,
-    bad: BadImage,
-) -> (F, Result<Came, Hindrance>)
-    ensures leaves { IsTrue F.tells → (IsSound (F.image flash) → ⊥) → IsFirstBroken (F.image flash) bad.rule bad.place
-        → Leaves (F.image flash) (F.image result.0) result.1 }
-    ensures size { length (F.image result.0) ≡ length (F.image flash) }
-    ensures lent { F.lent result.0 ≡ F.lent flash }
-    ensures cause { result.1 ≡ Err FaultOfFlash → Rose (F.faults flash) (F.faults result.0) }
-{
-    let (flash, found) = judge(flash);
-    match found {
-        Ok(Judgement::Sound) => put_database_right(flash, report, bad),
-        Ok(Judgement::Cut(trouble)) => put_files_right(flash, report, bad, &trouble),
-        Ok(Judgement::Strange(_)) => (flash, Ok(Came::Strange(bad))),
-        Err(Failed) => (flash, Err(Hindrance::Failed)),
-    }
-}
-
-// The same, where the files are sound.
-fn put_database_right<F: Flash>(
-    flash: F,
-    report: &mut Report,
-    bad: BadImage,
-) -> (F, Result<Came, Hindrance>)
-    ensures leaves { IsTrue F.tells → (IsSound (F.image flash) → ⊥) → IsFirstBroken (F.image flash) bad.rule bad.place
-        → broken_image (F.image flash) ≡ None → Leaves (F.image flash) (F.image result.0) result.1 }
-    ensures size { length (F.image result.0) ≡ length (F.image flash) }
-    ensures lent { F.lent result.0 ≡ F.lent flash }
-    ensures cause { result.1 ≡ Err FaultOfFlash → Rose (F.faults flash) (F.faults result.0) }
-{
-    let nothing = Trouble {
-        under_way: UnderWay::Nothing,
-        torn: None,
-    };
-    let (flash, surveyed) = survey_image(flash, &nothing);
-    match surveyed {
-        Ok(true) => end_repair(flash, report),
-        Ok(false) => (flash, Ok(Came::Strange(bad))),
-        Err(Failed) => (flash, Err(Hindrance::Failed)),
-    }
-}
-
-// The same, where a cut left the files: they are put right first, and then the database in them.
-fn put_files_right<F: Flash>(
-    flash: F,
-    report: &mut Report,
-    bad: BadImage,
-    trouble: &Trouble,
-) -> (F, Result<Came, Hindrance>)
-    requires inside { IsTroubleInside (length (F.image flash)) trouble.now }
-    ensures leaves { IsTrue F.tells → (IsSound (F.image flash) → ⊥) → IsFirstBroken (F.image flash) bad.rule bad.place
-        → IsCutBy (F.image flash) trouble.now → Leaves (F.image flash) (F.image result.0) result.1 }
-    ensures size { length (F.image result.0) ≡ length (F.image flash) }
-    ensures lent { F.lent result.0 ≡ F.lent flash }
-    ensures cause { result.1 ≡ Err FaultOfFlash → Rose (F.faults flash) (F.faults result.0) }
-{
-    let (flash, surveyed) = survey_image(flash, trouble);
-    match surveyed {
-        Ok(true) => mend_files(flash, report, bad, trouble),
-        Ok(false) => (flash, Ok(Came::Strange(bad))),
-        Err(Failed) => (flash, Err(Hindrance::Failed)),
-    }
-}
-
-// Puts right what a cut left in the files, and then the database.
-fn mend_files<F: Flash>(
-    flash: F,
-    report: &mut Report,
-    bad: BadImage,
-    trouble: &Trouble,
-) -> (F, Result<Came, Hindrance>)
-    requires inside { IsTroubleInside (length (F.image flash)) trouble.now }
-    ensures leaves { IsTrue F.tells → (IsSound (F.image flash) → ⊥) → IsCutBy (F.image flash) trouble.now
-        → Leaves (F.image flash) (F.image result.0) result.1 }
-    ensures size { length (F.image result.0) ≡ length (F.image flash) }
-    ensures lent { F.lent result.0 ≡ F.lent flash }
-    ensures cause { result.1 ≡ Err FaultOfFlash → Rose (F.faults flash) (F.faults result.0) }
-{
     cut_images_mend();
+    let Err(bad) = judge_image(flash)? else {
+        return Ok(Came::Sound);
+    };
+    let Some(trouble) = trouble_of(judge(flash)?) else {
+        return Ok(Came::Strange(bad));
+    };
+    if !survey_image(flash, &trouble)? {
+        return Ok(Came::Strange(bad));
+    }
+    mend_files(flash, &trouble, bad)?;
+    mend_image(flash, report)?;
+    match judge_image(flash)? {
+        Ok(()) => Ok(Came::Repaired),
+        Err(bad) => Err(Hindrance::Unsettled(bad)),
+    }
+}
+
+// What a cut left of the files: nothing where they are sound. None where no cut leaves such files.
+fn trouble_of(judgement: Judgement) -> Option<Trouble>
+    ensures cut { IfSome result (λ t. (image : List ℕ) → IsJudged image judgement → IsCutBy image t) }
+    ensures inside { IfSome result (λ t. (size : ℕ) → IsJudgedInside size judgement → IsTroubleInside size t) }
+{
+    match judgement {
+        Judgement::Sound => Some(Trouble {
+            under_way: UnderWay::Nothing,
+            torn: None,
+        }),
+        Judgement::Cut(trouble) => Some(trouble),
+        Judgement::Strange(_) => None,
+    }
+}
+
+// Puts right what a cut left of the files of an image that breaks this rule first.
+fn mend_files<F: Flash>(flash: &mut F, trouble: &Trouble, bad: BadImage) -> Result<(), Hindrance>
+    requires inside { IsTroubleInside (length (F.image flash.old)) trouble.now }
+    ensures mended { IsTrue F.tells → IsCutBy (F.image flash.old) trouble.now
+        → OnOk result (IsMended (F.image flash.old) (F.image flash.new)) }
+    ensures size { length (F.image flash.new) ≡ length (F.image flash.old) }
+    ensures lent { F.lent flash.new ≡ F.lent flash.old }
+    ensures later { OnOk result (F.faults flash.old ≤ F.faults flash.new) }
+    ensures cause { result ≡ Err FaultOfFlash → Rose (F.faults flash.old) (F.faults flash.new) }
+{
     match mend(flash, trouble) {
-        Ok(flash) => end_repair(flash, report),
-        Err(MendError::Space { need, flash }) => (flash, Err(Hindrance::Spaceless { need })),
-        Err(MendError::Failed { flash }) => (flash, Err(Hindrance::Failed)),
-        Err(MendError::Unsettled { flash }) => (flash, Err(Hindrance::Unsettled(bad))),
-    }
-}
-
-// Puts the database right, and judges the image once more behind it.
-fn end_repair<F: Flash>(flash: F, report: &mut Report) -> (F, Result<Came, Hindrance>)
-    ensures ends { IsTrue F.tells → Ends (database_in (F.image flash)) (F.image result.0) result.1 }
-    ensures size { length (F.image result.0) ≡ length (F.image flash) }
-    ensures lent { F.lent result.0 ≡ F.lent flash }
-    ensures cause { result.1 ≡ Err FaultOfFlash → Rose (F.faults flash) (F.faults result.0) }
-{
-    let (flash, mended) = mend_image(flash, report);
-    match mended {
-        Ok(()) => judge_repaired(flash),
-        Err(hindrance) => (flash, Err(hindrance)),
-    }
-}
-
-fn judge_repaired<F: Flash>(flash: F) -> (F, Result<Came, Hindrance>)
-    ensures ends { IsTrue F.tells → Ends (database_in (F.image flash)) (F.image result.0) result.1 }
-    ensures size { length (F.image result.0) ≡ length (F.image flash) }
-    ensures lent { F.lent result.0 ≡ F.lent flash }
-    ensures cause { result.1 ≡ Err FaultOfFlash → Rose (F.faults flash) (F.faults result.0) }
-{
-    let (flash, judged) = judge_image(flash);
-    match judged {
-        Ok(Ok(())) => (flash, Ok(Came::Repaired)),
-        Ok(Err(bad)) => (flash, Err(Hindrance::Unsettled(bad))),
-        Err(Failed) => (flash, Err(Hindrance::Failed)),
+        Ok(()) => Ok(()),
+        Err(MendError::Space { need }) => Err(Hindrance::Spaceless { need }),
+        Err(MendError::Failed) => Err(Hindrance::Failed),
+        Err(MendError::Unsettled) => Err(Hindrance::Unsettled(bad)),
     }
 }

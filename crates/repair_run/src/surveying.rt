@@ -2,22 +2,36 @@ ghost use Rattle.std.specs.Prelude.{◌≡◌, ℕ, ◌+◌, ◌≤◌, Some, le
 ghost use Rattle.afl_base.specs.Keeping.{OnlyReads};
 ghost use Rattle.coffee_find.specs.Found.{HasRecord, IsTroubleInside};
 
-use afl_base::{Failed, Flash};
-use coffee_find::{TornRecord, Trouble, overlay_of};
-use coffee_volume::{MountError, Volume};
-use flash_views::View;
-use stored_mend::survey;
+use crate::room::has_room_in_front;
+use afl_base::{Failed, Files, Flash, SectorId};
+use catalog::catalog_file;
+use coffee_find::{TornRecord, Trouble, UnderWay, overlay_of};
+use coffee_volume::{Unlisted, Volume, list};
+use flash_views::{Handed, View};
+use stored_survey::may_be_cut;
 
 /// Whether the database of an image is one that a cut can have left, as it reads once what was found in its files is settled.
 /// Nothing is written, where it fails too.
+pub fn survey_image<F: Flash>(flash: &mut F, trouble: &Trouble) -> Result<bool, Failed>
+    requires inside { IsTroubleInside (length (F.image flash.old)) trouble.now }
+    ensures frame { OnlyReads F.image F.lent F.reads F.faults flash.old flash.new result }
+{
+    let mut surveyed = Err(Failed);
+    let _handed = survey_settled(Handed { flash }, trouble, &mut surveyed);
+    surveyed
+}
+
+// The same through a view.
 #[inline(never)]
-pub fn survey_image<F: Flash>(flash: F, trouble: &Trouble) -> (F, Result<bool, Failed>)
+fn survey_settled<F: Flash>(flash: F, trouble: &Trouble, surveyed: &mut Result<bool, Failed>) -> F
     requires inside { IsTroubleInside (length (F.image flash)) trouble.now }
-    ensures frame { OnlyReads F.image F.lent F.reads F.faults flash result.0 result.1 }
+    ensures frame { OnlyReads F.image F.lent F.reads F.faults flash result surveyed.new }
 {
     let overlay = overlay_of(&trouble.under_way, torn_place(&trouble.torn));
-    let (view, surveyed) = survey_view(View::new(flash, overlay));
-    (view.into_flash(), surveyed)
+    let erased = erased_sector(&trouble.under_way);
+    let mut view = View::new(flash, overlay);
+    *surveyed = survey_view(&mut view, erased);
+    view.into_flash()
 }
 
 // Where the torn record begins.
@@ -30,19 +44,59 @@ fn torn_place(torn: &Option<TornRecord>) -> Option<u32>
     }
 }
 
-// The same of an image as it reads now.
-fn survey_view<F: Flash>(flash: F) -> (F, Result<bool, Failed>)
-    ensures frame { OnlyReads F.image F.lent F.reads F.faults flash result.0 result.1 }
-{
-    match Volume::mount(flash) {
-        Ok(mut volume) => {
-            let surveyed = match survey(&mut volume) {
-                Ok(surveyed) => Ok(surveyed.is_ok()),
-                Err(failed) => Err(failed),
-            };
-            (volume.unmount(), surveyed)
-        }
-        Err(MountError::Bad { bad: _, flash }) => (flash, Ok(false)),
-        Err(MountError::Failed { flash }) => (flash, Err(Failed)),
+// The sector that was being erased.
+fn erased_sector(under_way: &UnderWay) -> Option<SectorId> {
+    match under_way {
+        UnderWay::Erasing { sector, page: _ } => Some(*sector),
+        _ => None,
     }
+}
+
+// The same of an image as it reads now. Where there is no catalog, a sector is erased only for one that finds no free pages.
+fn survey_view<F: Flash>(flash: &mut F, erased: Option<SectorId>) -> Result<bool, Failed>
+    ensures frame { OnlyReads F.image F.lent F.reads F.faults flash.old flash.new result }
+{
+    let surveyed = survey_files(flash)?;
+    match (surveyed, erased) {
+        (Surveyed::WithoutCatalog, Some(sector)) => {
+            let has_room = has_room_in_front(flash, sector)?;
+            Ok(!has_room)
+        }
+        _ => Ok(surveyed != Surveyed::Strange),
+    }
+}
+
+// What is found of the files.
+#[derive(Clone, Copy, PartialEq, Eq)]
+enum Surveyed {
+    // No cut leaves such files.
+    Strange,
+    // A cut can have left them, and there is no catalog.
+    WithoutCatalog,
+    // A cut can have left them.
+    Cut,
+}
+
+fn survey_files<F: Flash>(flash: &mut F) -> Result<Surveyed, Failed>
+    ensures frame { OnlyReads F.image F.lent F.reads F.faults flash.old flash.new result }
+{
+    let listed = match list(flash) {
+        Ok(listed) => listed,
+        Err(Unlisted::Bad(_)) => return Ok(Surveyed::Strange),
+        Err(Unlisted::Failed) => return Err(Failed),
+    };
+    let mut volume = Volume::over(Handed { flash }, listed);
+    survey(&mut volume)
+}
+
+fn survey<V: Files>(files: &mut V) -> Result<Surveyed, Failed>
+    ensures frame { OnlyReads V.state V.lent V.reads V.faults files.old files.new result }
+{
+    if !may_be_cut(files)? {
+        return Ok(Surveyed::Strange);
+    }
+    Ok(match files.find(catalog_file()) {
+        Some(_) => Surveyed::Cut,
+        None => Surveyed::WithoutCatalog,
+    })
 }

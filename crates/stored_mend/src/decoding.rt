@@ -54,7 +54,8 @@ fn attributes_in(n: usize, bytes: &[u8]) -> Option<Attributes>
     Some(attributes)
 }
 
-fn attribute_in(bytes: &[u8]) -> Option<Attribute>
+/// The attribute of these bytes, None where no catalog has such ones.
+pub fn attribute_in(bytes: &[u8]) -> Option<Attribute>
     requires { length bytes.now ≡ 18 }
     ensures { IfSome result (λ attribute. attribute ≡ attribute_of bytes.now) }
 {
@@ -74,7 +75,8 @@ pub fn name_in(field: &[u8]) -> Option<Ident>
     Ident::new(name)
 }
 
-fn domain_in(code: u8, length: u8) -> Option<Domain>
+/// The domain of a code and a length, None where there is none.
+pub fn domain_in(code: u8, length: u8) -> Option<Domain>
     ensures { IfSome result (λ domain. domain ≡ domain_from code length) }
 {
     match (code, length) {

@@ -105,7 +105,7 @@ impl Case {
         self.images = self.images.saturating_add(1);
         let mut image = Vec::from_slice(alloc, image)?;
         let came = match MemFlash::new(image.as_mut_slice()) {
-            Some(flash) => mended(flash),
+            Some(mut flash) => mended(&mut flash),
             None => Came::Strange,
         };
         if came != Came::Mended {
@@ -133,7 +133,7 @@ impl Case {
         for writes in 0..1_000u64 {
             let mut part = Vec::from_slice(alloc, image)?;
             let came = match CutFlash::new(part.as_mut_slice(), writes, front(random)) {
-                Some(flash) => mended(flash),
+                Some(mut flash) => mended(&mut flash),
                 None => Came::Strange,
             };
             if came != Came::Failed {

@@ -17,15 +17,14 @@ pub enum Came {
 }
 
 /// Mends the image of a flash.
-pub fn mended<F: Flash + Drop>(flash: F) -> Came {
-    let (flash, found) = judge(flash);
-    match found {
+pub fn mended<F: Flash>(flash: &mut F) -> Came {
+    match judge(flash) {
         Ok(Judgement::Sound) => Came::Mended,
         Ok(Judgement::Cut(trouble)) => match mend(flash, &trouble) {
-            Ok(_) => Came::Mended,
-            Err(MendError::Space { need: _, flash: _ }) => Came::Spaceless,
-            Err(MendError::Failed { flash: _ }) => Came::Failed,
-            Err(MendError::Unsettled { flash: _ }) => Came::Strange,
+            Ok(()) => Came::Mended,
+            Err(MendError::Space { need: _ }) => Came::Spaceless,
+            Err(MendError::Failed) => Came::Failed,
+            Err(MendError::Unsettled) => Came::Strange,
         },
         Ok(Judgement::Strange(_)) => Came::Strange,
         Err(_) => Came::Failed,

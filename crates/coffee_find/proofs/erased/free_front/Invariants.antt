@@ -1,5 +1,6 @@
-use Rattle.std.proofs.Common.{◌≡◌, ◌+◌, ◌*◌, ◌≤◌}
+use Rattle.std.proofs.Common.{◌≡◌, ◌+◌, ◌*◌, ◌≤◌, IsTrue}
 use Rattle.coffee_layout.specs.Units.{pages_of}
+use Rattle.coffee_find.specs.Search.{NoneFree}
 use Rattle.coffee_find.proofs.erased.free_front.Given as goal
 
 abbrev pub invariant-loop-k : goal.invariant-loop-k
@@ -9,4 +10,5 @@ invariant-loop-k g l = record {
   reads : g.F.Flash.reads l.flash ≤ g.F.Flash.reads l.fn.flash + l.k * pages_of (g.F.Flash.image l.fn.flash);
   later : g.F.Flash.reads l.fn.flash ≤ g.F.Flash.reads l.flash;
   faults : g.F.Flash.faults l.fn.flash ≤ g.F.Flash.faults l.flash;
+  passed : IsTrue g.F.Flash.tells → NoneFree (g.F.Flash.image l.fn.flash) (16 * l.sector.0) (16 * l.sector.0 + l.k);
 }

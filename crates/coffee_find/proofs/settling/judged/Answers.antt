@@ -1,4 +1,4 @@
-use Rattle.std.proofs.Common.{◌≡◌, Some, rules, arith}
+use Rattle.std.proofs.Common.{◌≡◌, Some}
 use Rattle.coffee_layout.specs.Rules.{broken_image}
 use Rattle.coffee_find.proofs.Missed.{other_rule}
 use Rattle.coffee_find.proofs.settling.judged.Goals as goal

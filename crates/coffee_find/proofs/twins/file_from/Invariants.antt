@@ -1,5 +1,6 @@
 use Rattle.std.proofs.Common.{◌≡◌, ◌+◌, ◌-◌, ◌*◌, ◌≤◌, length, IsTrue}
 use Rattle.coffee_find.proofs.UnitWalks.{Walked}
+use Rattle.coffee_find.specs.Search.{HasNoFile}
 use Rattle.coffee_find.proofs.twins.file_from.Given as goal
 
 abbrev pub invariant-loop-at : goal.invariant-loop-at
@@ -12,6 +13,7 @@ invariant-loop-at g l = record {
   later : g.F.Flash.reads l.fn.flash ≤ g.F.Flash.reads l.flash;
   faults : g.F.Flash.faults l.fn.flash ≤ g.F.Flash.faults l.flash;
   walked : IsTrue g.F.Flash.tells → Walked (g.F.Flash.image l.fn.flash) l.at;
+  passed : IsTrue g.F.Flash.tells → HasNoFile (g.F.Flash.image l.fn.flash) l.from l.at l.name;
 }
 
 abbrev pub decreases-loop-at : goal.decreases-loop-at
