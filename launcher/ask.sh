@@ -11,6 +11,8 @@ makes_relation() {
 edit_lines() {
     [ $# -eq 2 ] && [ -t 0 ] && [ -t 1 ] && [ -z "${SORACHEST_PROMPT-}" ] || return 0
     command -v rlwrap >/dev/null || return 0
+    # it takes no terminal without columns
+    case $(stty size 2>/dev/null) in '' | *' 0') return 0 ;; esac
     export SORACHEST_PROMPT=yes
     exec rlwrap -C antelope "$here/antelope" ${tried:+try} "$@"
 }
@@ -35,6 +37,7 @@ ask() {
     else
         input=$folder/script
         for command in "$@"; do write_command "$command"; done >"$input" || fail "$folder has no room for the commands"
+        [ -z "$header" ] || awk -f "$here/launcher/heads.awk" -f "$here/launcher/cut.awk" <"$input" >"$folder/heads"
         run_form run "$image" "$input"
     fi
 }
@@ -99,7 +102,7 @@ prompt() {
     input=$folder/line
     if begin_session; then
         echo "$image: type commands, help, or Ctrl-D to end"
-        while printf 'aql> '; IFS= read -r line; do
+        while printf 'aql> '; IFS= read -r line || { echo; false; }; do
             case $line in
                 help | '?') print_commands ;;
                 quit | exit) break ;;

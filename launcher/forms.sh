@@ -17,7 +17,7 @@ keywords='CREATE RELATION ATTRIBUTE INDEX DOMAIN INT LONG STRING IN TYPE INLINE 
 WHERE JOIN ON PROJECT REMOVE PACK OPEN FETCH CLOSE AND OR NOT COUNT SUM MIN MAX MEAN MEDIAN'
 
 usage() {
-    echo "usage: antelope [--strict] [--sync] [try] FORM, where FORM is one of"
+    echo "usage: antelope [OPTION ..] [try] FORM, where FORM is one of"
     echo "$forms" | while IFS='|' read -r words does; do printf '    %-26s%s\n' "$words" "$does"; done
     cat <<'END'
 SCRIPT and INPUT may be - for standard input. run, serve and gen make an IMAGE that is not there.
@@ -25,6 +25,7 @@ SCRIPT and INPUT may be - for standard input. run, serve and gen make an IMAGE t
     try SCRIPT                the same on a new image, which is not kept
     --strict                  ends with status 11 if a command of SCRIPT was refused
     --sync                    waits until each write is on the disk, for a machine whose power may fail
+    --csv, --header           for ask: prints the rows alone as CSV; the same behind a line of names
     install PREFIX [try]      installs the program, its tools and documents below PREFIX
     help, --version           prints this; prints the version
 For example: antelope try run station.img examples/first.aql
@@ -102,9 +103,10 @@ is_of() {
 find_form() {
     if [ "${1-}" = ask ]; then
         form='ask IMAGE COMMAND ..' image=${2-} input=-
-        [ $# -ge 2 ]
+        [ $# -ge 2 ] && { [ $# -gt 2 ] || [ -z "$csv" ]; }
         return
     fi
+    [ -z "$csv" ] || return 1
     while IFS='|' read -r form _; do
         case $form in ask*) continue ;; esac
         case $strict:$form in :* | *SCRIPT*) is_of "$form" "$@" && return ;; esac

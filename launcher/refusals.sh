@@ -3,6 +3,16 @@
 # how many refusals are shown one by one
 most_shown=10
 
+# Lets the replies out as they come, with `--csv` their rows alone, and copies them.
+let_out() {
+    heads=''
+    [ -z "$header" ] || heads=$folder/heads
+    case $csv in
+        '') exec tee "$folder/copy" ;;
+        *) tee "$folder/copy" | HEADS=$heads LC_ALL=C awk -f "$here/launcher/csv.awk" ;;
+    esac
+}
+
 # Lets the replies out as they come, and finds the refusals in a copy of them: a line for each of the first ones, and
 # one that counts them and all commands.
 carry_out_strictly() {
@@ -12,7 +22,7 @@ carry_out_strictly() {
         /^no / && refused++ < most { print all, $0 }
         END { print "counts", refused + 0, all + 0 }' <"$folder/copy" >"$folder/refusals" 2>/dev/null &
     counting=$!
-    tee "$folder/copy" <"$folder/replies" 2>/dev/null &
+    let_out <"$folder/replies" 2>/dev/null &
     copying=$!
     carry_out "$@" >"$folder/replies"
     wait "$copying" || [ "$status" -ne 0 ] || status=5

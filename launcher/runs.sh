@@ -8,7 +8,7 @@ identity() {
 # Waits until a child is the program, or has ended: as a copy of the shell it would lose a signal.
 wait_for_program() {
     shell=$(readlink "/proc/$$/exe") waits=0
-    while [ "$(readlink "/proc/$child/exe")" = "$shell" ] && [ "$waits" -lt 50 ]; do
+    while [ "$shell" ] && [ "$(readlink "/proc/$child/exe")" = "$shell" ] && [ "$waits" -lt 50 ]; do
         sleep 0.01 2>/dev/null || sleep 1
         waits=$((waits + 1))
     done

@@ -14,6 +14,13 @@ holder() {
     fi
 }
 
+no_input() {
+    case $input in
+        *' '*) say "there is no file '$input'; antelope ask $image takes commands as arguments" ;;
+        *) say "there is no $input" ;;
+    esac
+}
+
 # Why a run could not begin, as far as its files tell.
 not_opened() {
     within=$(dirname -- "$image")
@@ -23,7 +30,7 @@ not_opened() {
     elif [ -L "$image" ] && [ ! -e "$image" ]; then say "$image is a link to nothing"
     elif [ ! -d "$within" ]; then say "there is no directory $within"
     elif [ ! -e "$image" ] && [ ! -w "$within" ]; then say "you may not make a file in $within"
-    elif [ "${input--}" != - ] && [ ! -e "$input" ]; then say "there is no $input"
+    elif [ "${input--}" != - ] && [ ! -e "$input" ]; then no_input
     elif [ "${input--}" != - ] && [ ! -r "$input" ]; then say "you may not read $input"
     elif [ "$synced" ] && [ ! -r "$within" ]; then say "you may not read the directory $within, whose names --sync keeps"
     elif [ -e "$image" ]; then holder

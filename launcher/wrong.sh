@@ -80,8 +80,10 @@ say_what_is_wrong() {
         usage >&2
         return
     fi
-    case $strict:$form in
-        yes:*SCRIPT* | :*) say_wrong_word "$form" "$@" ;;
+    case $csv:$strict:$#:$form in
+        yes:*:2:ask*) say "--csv and --header want a COMMAND" ;;
+        ::* | *:ask* | :yes:*SCRIPT*) say_wrong_word "$form" "$@" ;;
+        yes:*) say "--csv and --header go with ask, and not with $1" ;;
         *) say "--strict goes with run, and not with $1" ;;
     esac
     echo "usage: antelope $form" >&2

@@ -2,6 +2,10 @@
 
 Ignored signals, a closed input, `umask 077`, another language or a hook of git change nothing. A folder for temporary
 files that is too small is told at the beginning.
+
+    python3 tests/surroundings.py MEGABYTES TOOL ..
+
+ends with 1, and says so, where there is less room for temporary files, or no such tool: before an hour of proofs.
 """
 import os
 import shutil
@@ -37,3 +41,13 @@ def settle(megabytes):
     free = shutil.disk_usage(folder).free >> 20
     if free < megabytes:
         sys.exit(f"the tests need {megabytes} MB for temporary files, and {folder} has {free}: TMPDIR may name another folder")
+
+
+def main(megabytes, *tools):
+    settle(int(megabytes))
+    missing = [it for it in tools if not shutil.which(it)]
+    return f"the gate needs {' and '.join(missing)} on the path" if missing else 0
+
+
+if __name__ == "__main__":
+    sys.exit(main(*sys.argv[1:]))

@@ -33,7 +33,7 @@ from sorachest.values import (
     TimestampFromTicks, bind, columns, datetime_of, literal, milliseconds, row_of, row_text,
 )
 
-__version__ = "0.1.0"
+__version__ = "0.5.0"
 
 apilevel = "2.0"
 threadsafety = 1

@@ -1,10 +1,13 @@
 """Strict runs, `ask`, the prompt, and what is said of refusals."""
+import fcntl
 import os
 import random
 import re
 import shutil
 import signal
+import struct
 import subprocess
+import termios
 import time
 
 from .common import NEW_IMAGE, ROOT, RUN, SENSORS, Skipped, length, needs, read, run, same, start, tried, write
@@ -110,8 +113,8 @@ def test_refusals_that_cannot_be_counted_end_with_125():
     if subprocess.run(mount, stderr=subprocess.DEVNULL).returncode:
         raise Skipped("no small file system can be mounted here")
     try:
-        length_of_room = subprocess.run(["dd", "if=/dev/zero", "of=small/full", "bs=4096", "count=2"], stderr=subprocess.DEVNULL)
-        same(length_of_room.returncode, 1, "that the file system is full")
+        fill = ["dd", "if=/dev/zero", "of=small/full", "bs=4096", "count=2"]
+        same(subprocess.run(fill, stderr=subprocess.DEVNULL).returncode, 1, "that the file system is full")
         environment = {**os.environ, "TMPDIR": f"{os.getcwd()}/small"}
         command = [tried.launcher, "--strict", "run", "image", "script"]
         ended = subprocess.run(command, env=environment, stdout=subprocess.PIPE, stderr=subprocess.PIPE)
@@ -162,6 +165,22 @@ def test_commands_are_asked_as_arguments():
     same(launch(tried.launcher, "ask", "image", longest)[::2], ("7\n-1\nrows 2\n", 0), "one of 512 bytes")
 
 
+def test_rows_are_asked_as_csv():
+    run("run", "image", "-", script=b"CREATE RELATION n; CREATE ATTRIBUTE v DOMAIN INT IN n;"
+        b"CREATE ATTRIBUTE t DOMAIN STRING(9) IN n; INSERT (7, 'a,b') INTO n; INSERT (-1, '') INTO n; INSERT (5, ' \"x-') INTO n;")
+    rows = '7,"a,b"\n-1,\n5," ""x-"\n'
+    same(launch(tried.launcher, "--csv", "ask", "image", "SELECT v, t FROM n"), (rows, "", 0), "rows")
+    commands = ("select v ,\n t FROM n WHERE v > 0;", "PACK n; SELECT MAX(v),MEAN( v )FROM n WHERE v>9", "JOIN n, n ON v PROJECT t",
+                "SELECT v FROM n WHERE v > 9", "OPEN 1 SELECT v FROM n", "FETCH 1")
+    wanted = 'v,t\n7,"a,b"\n5," ""x-"\nMAX(v),MEAN(v)\n,\nt\n"a,b"\n\n" ""x-"\n7\n'
+    same(launch(tried.launcher, "--header", "ask", "image", *commands), (wanted, "", 0), "rows behind their names")
+    said = lines_of(f"command 2: {NO_RELATION}") + "    PACK m\n"
+    came = launch(tried.launcher, "--header", "ask", "image", "SELECT v FROM n", "PACK m", "SELECT COUNT(v) FROM n")
+    same(came, ("v\n7\n-1\n5\nCOUNT(v)\n3\n", said, 11), "one that is refused")
+    with open("/dev/full", "wb") as full:
+        same(launch(tried.launcher, "--csv", "ask", "image", "SELECT v FROM n", stdout=full)[2], 5, "a full output")
+
+
 def typed(*lines, words=("image",)):
     """What a prompt shows when these lines are typed, each once the prompt is there, and the end of it."""
     near, far = open_pty()
@@ -196,7 +215,7 @@ def test_a_prompt_answers_line_by_line():
     wanted += "aql> SELECT v FROM n\n7\nrows 1\naql> \n"
     wanted += "aql> OPEN 1 SELECT v FROM n; FETCH 1\nok\n7\nrows 1\n"
     wanted += f"aql> SELECT v FRM n\nno syntax 8\nantelope: no syntax 8: {NO_COMMAND}\n    SELECT v FRM n\n            ^\n"
-    wanted += f"aql> PACK k; FETCH 1;\nno relation\nrows 0\nantelope: command 1: {NO_RELATION}\n    PACK k\naql> "
+    wanted += f"aql> PACK k; FETCH 1;\nno relation\nrows 0\nantelope: command 1: {NO_RELATION}\n    PACK k\naql> \n"
     same((shown, status), (wanted, 0), "the session")
     same(run("run", "image", "-", script=b"SELECT v FROM n;"), b"7\nrows 1\n", "what is there afterwards")
 
@@ -206,6 +225,40 @@ def test_a_prompt_makes_an_image_and_ends_with_quit():
     same(status, 0, "its status")
     same(["aql> CREATE RELATION n\nok\n" in shown, "\nCREATE INDEX relation.name TYPE kind" in shown], [True, True], shown)
     same(shown.endswith("aql> quit\n" + lines_of(made("new"))), True, f"the end of {shown!r}")
+
+
+def test_a_prompt_that_is_interrupted_lets_the_image_go():
+    near, far = open_pty()
+    begun = start("ask", "image", at=tried.launcher, stdin=far, stdout=far, stderr=far)
+    os.close(far)
+    shown = b""
+    while not shown.endswith(b"aql> "):
+        shown += os.read(near, 100)
+    same(run("run", "image", "-", status=7), b"", "what another run may do")
+    begun.send_signal(signal.SIGINT)
+    same(begun.wait(), 130, "its status")
+    os.close(near)
+    same(run("run", "image", "-", script=b"CREATE RELATION n;"), b"ok\n", "what another run may do then")
+
+
+def test_a_prompt_is_edited_where_rlwrap_is_there():
+    os.mkdir("bin")
+    write("bin/rlwrap", b'#!/bin/sh\necho "$SORACHEST_PROMPT: $*"\n')
+    os.chmod("bin/rlwrap", 0o755)
+    environment = {**os.environ, "PATH": f"{os.getcwd()}/bin:{os.environ['PATH']}"}
+    near, far = open_pty()
+    for columns, wanted in ((80, f"yes: -C antelope {tried.launcher} ask image\r\n"), (0, "image: type commands")):
+        fcntl.ioctl(near, termios.TIOCSWINSZ, struct.pack("HHHH", 24, columns, 0, 0))
+        begun = start("ask", "image", at=tried.launcher, stdin=far, stdout=far, stderr=far, env=environment)
+        shown = b""
+        while len(shown) < len(wanted):
+            shown += os.read(near, 1)
+        same(shown.decode(), wanted, f"what begins on {columns} columns")
+        if not columns:
+            os.write(near, b"\4")
+        same(begun.wait(), 0, "its status")
+    os.close(near)
+    os.close(far)
 
 
 def test_a_prompt_tells_why_it_cannot_begin_or_go_on():

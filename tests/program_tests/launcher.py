@@ -66,6 +66,9 @@ WRONG = (
     ("gen image 4294967296 1", "4294967296 is too large: SEED is 0 to 4294967295", "gen IMAGE SEED COUNT"),
     ("gen image -1 4", "'-1' is no SEED, which is a number from 0 to 4294967295", "gen IMAGE SEED COUNT"),
     ("ask", "IMAGE is missing", "ask IMAGE COMMAND .."),
+    ("--csv ask", "IMAGE is missing", "ask IMAGE COMMAND .."),
+    ("--csv ask image", "--csv and --header want a COMMAND", "ask IMAGE COMMAND .."),
+    ("--header --strict run image -", "--csv and --header go with ask, and not with run", "run IMAGE SCRIPT"),
     ("--strict dump image", "--strict goes with run, and not with dump", "dump IMAGE"),
 )
 
@@ -89,8 +92,10 @@ def test_what_is_wrong_with_words_of_no_form_is_told():
     for words, wrong, form in WRONG:
         said = lines_of(wrong) + f"usage: antelope {form}\nantelope help prints all forms\n"
         same(launch("repo/antelope", *words.split(), path=path), ("", said, 1), words)
-    for words, wrong in (("fly image -", "'fly' is no form"), ("RUN image -", "'RUN' is no form"), ("--fast run", "there is no option --fast"),
-                         ("help run", "'help' is no form"), ("--version x", "there is no option --version")):
+    for words, wrong in (
+        ("fly image -", "'fly' is no form"), ("RUN image -", "'RUN' is no form"), ("help run", "'help' is no form"),
+        ("--fast run", "there is no option --fast"), ("--version x", "there is no option --version"),
+    ):
         same(launch("repo/antelope", *words.split(), path=path), ("", lines_of(wrong) + usage, 1), words)
     for words in ((), ("--strict",)):
         same(launch("repo/antelope", *words, path=path), ("", usage, 1), words)

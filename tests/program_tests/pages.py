@@ -141,6 +141,16 @@ def test_what_the_promises_name_is_there():
     ended = subprocess.run([f"{ROOT}/docs/clauses", "--check"], stdout=subprocess.PIPE, stderr=subprocess.STDOUT)
     said = ended.stdout.decode()
     same((ended.returncode, said.endswith("all are there\n"), said.count("\n")), (0, True, 1), f"what it said: {said}")
+    # the script takes the page from its own folder
+    os.mkdir("docs")
+    shutil.copy(f"{ROOT}/docs/clauses", "docs")
+    shutil.copy(f"{ROOT}/crates.txt", ".")
+    os.symlink(f"{ROOT}/crates", "crates")
+    page = read(f"{ROOT}/docs/PROMISES.md").decode()
+    same("`top`" in page or "`top:" in page, True, "that the page names top")
+    write("docs/PROMISES.md", page.replace("`top", "`topp").encode())
+    ended = subprocess.run(["docs/clauses", "--check"], stdout=subprocess.PIPE, stderr=subprocess.STDOUT)
+    same((ended.returncode, b"topp" in ended.stdout), (1, True), f"what it said of another name: {ended.stdout[:200]}")
 
 
 def test_the_python_that_the_readme_shows_answers_as_shown():
@@ -150,8 +160,9 @@ def test_the_python_that_the_readme_shows_answers_as_shown():
     same(len(shown), 1, "the number of blocks")
     write("shown", shown[0].encode())
     command = [sys.executable, "-m", "doctest", "shown"]
-    ended = subprocess.run(command, stdout=subprocess.PIPE, stderr=subprocess.STDOUT, **how)
+    ended = subprocess.run(command, stdout=subprocess.PIPE, stderr=subprocess.PIPE, **how)
     same((ended.stdout.decode(), ended.returncode), ("", 0), "what differs")
+    same([it for it in ended.stderr.decode().splitlines() if it not in LEFT_OUT], [], "what was said")
 
 
 def test_the_exchange_that_aql_shows_is_answered_so():

@@ -40,6 +40,8 @@ def test_causes_of_7_are_told():
     told(7, "there is no directory none", "dump", "none/image")
     told(7, "there is no script", "run", "image", "script")
     told(7, "there is no script", "run", "new", "script")
+    command = "SELECT MAX(v) FROM n;"
+    told(7, f"there is no file '{command}'; antelope ask image takes commands as arguments", "run", "image", command)
     told(7, f"{'a' * 256} could not be made: {MAY_BE}", "run", "a" * 256, "-")
     for words in (("run", "", "-"), ("run", "new", ""), ("serve", "image", ""), ("dump", "")):
         told(7, "an empty argument names no file", *words)
