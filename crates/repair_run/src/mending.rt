@@ -1,10 +1,11 @@
-ghost use Rattle.std.specs.Prelude.{◌≡◌, ◌≤◌, Err, IsTrue, OnOk, length};
+ghost use Rattle.std.specs.Prelude.{◌≡◌, ◌≤◌, ◌*◌, Err, IsTrue, None, OnOk, length, ℕ};
 ghost use Rattle.afl_base.specs.Causes.{Rose};
+ghost use Rattle.coffee_volume.specs.Mounting.{mounted_state};
 ghost use Rattle.repair_run.specs.Repairs.{database_in};
 ghost use Rattle.repair_run.specs.declared.came.Hindrance.TheVariants.{Failed as FaultOfFlash};
 
 use crate::came::Hindrance;
-use afl_base::{FileError, Flash};
+use afl_base::{FileError, Files, Flash};
 use coffee_volume::{Unlisted, Volume, list};
 use flash_views::Handed;
 use stored_mend::{Report, mend_database};
@@ -26,7 +27,25 @@ pub fn mend_image<F: Flash>(flash: &mut F, report: &mut Report) -> Result<(), Hi
         Err(Unlisted::Failed) => return Err(Hindrance::Failed),
     };
     let mut volume = Volume::over(Handed { flash }, listed);
-    match mend_database(&mut volume, report) {
+    mend_volume(&mut volume, report)
+}
+
+// The same of the files of a volume that was just listed.
+fn mend_volume<F: Flash>(volume: &mut Volume<F>, report: &mut Report) -> Result<(), Hindrance>
+    requires idle { (⟦<Volume<F> as Files>⟧.state volume.old).draft ≡ None }
+    requires listed { let files = ⟦<Volume<F> as Files>⟧ in IsTrue (files.state volume.old).tells
+        → files.state volume.old ≡ mounted_state (files.state volume.old).store }
+    requires sectors { (n : ℕ) × (length (⟦<Volume<F> as Files>⟧.state volume.old).store ≡ 4096 * n) }
+    ensures base { let files = ⟦<Volume<F> as Files>⟧ in IsTrue (files.state volume.old).tells → OnOk result
+        (database_in (files.state volume.new).store ≡ database_in (files.state volume.old).store) }
+    ensures size { let files = ⟦<Volume<F> as Files>⟧ in
+        length (files.state volume.new).store ≡ length (files.state volume.old).store }
+    ensures lent { ⟦<Volume<F> as Files>⟧.lent volume.new ≡ ⟦<Volume<F> as Files>⟧.lent volume.old }
+    ensures later { ⟦<Volume<F> as Files>⟧.faults volume.old ≤ ⟦<Volume<F> as Files>⟧.faults volume.new }
+    ensures cause { result ≡ Err FaultOfFlash
+        → Rose (⟦<Volume<F> as Files>⟧.faults volume.old) (⟦<Volume<F> as Files>⟧.faults volume.new) }
+{
+    match mend_database(volume, report) {
         Ok(()) => {}
         Err(FileError::Space { need }) => return Err(Hindrance::Spaceless { need }),
         Err(FileError::Failed) => return Err(Hindrance::Failed),

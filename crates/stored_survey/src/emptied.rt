@@ -25,7 +25,7 @@ pub fn is_edge(slot: u16, at: usize) -> bool
 pub fn is_unused_slot(bytes: &[u8]) -> bool
     requires { length bytes.now ≡ 176 }
 {
-    is_zeros(&bytes[..175]) && bytes[175] == 1
+    bytes[175] == 1 && is_zeros(&bytes[0..175])
 }
 
 /// Whether zeros stand in front up to where a region begins, and behind them the rest of a relation.

@@ -55,21 +55,37 @@ fn half_of_relation<V: Files>(
         return Ok(Half::Nothing);
     };
     let rows = files.find(rows_file(id));
-    match &catalog.relations[slot as usize] {
-        None if !is_unused_slot(&bytes) => Ok(Half::Emptying(slot)),
-        None if rows.is_some() => Ok(Half::LoneRows(slot)),
-        Some(schema) if !ends_with_attributes(&bytes, schema) => Ok(Half::Growing(slot)),
-        Some(schema) if ends_in_a_row(files, rows, schema) => Ok(Half::AddingRow(slot)),
+    let Some(schema) = &catalog.relations[slot as usize] else {
+        return Ok(half_of_unused(&bytes, slot, rows.is_some()));
+    };
+    if !ends_with_attributes(&bytes, schema) {
+        return Ok(Half::Growing(slot));
+    }
+    match rows {
+        Some(file) if ends_in_a_row(files, file, schema) => Ok(Half::AddingRow(slot)),
         _ => Ok(Half::Nothing),
     }
 }
 
-// Whether less than a row stands at the end of a file of rows.
-fn ends_in_a_row<V: Files>(files: &V, rows: Option<FileId>, schema: &Schema) -> bool {
-    match rows {
-        Some(file) => files.size(file) % row_length(&schema.attributes) as u32 != 0,
-        None => false,
+// What is half done of a slot without a relation.
+fn half_of_unused(bytes: &[u8], slot: u16, has_rows: bool) -> Half
+    requires { length bytes.now ≡ 176 }
+{
+    if !is_unused_slot(bytes) {
+        return Half::Emptying(slot);
     }
+    if has_rows {
+        Half::LoneRows(slot)
+    } else {
+        Half::Nothing
+    }
+}
+
+// Whether less than a row stands at the end of a file of rows.
+fn ends_in_a_row<V: Files>(files: &V, file: FileId, schema: &Schema) -> bool
+    requires live { IsLive (V.state files.now).files file }
+{
+    files.size(file) % row_length(&schema.attributes) as u32 != 0
 }
 
 fn half_of_index<V: Files>(files: &mut V, catalog: &Catalog, slot: u16) -> Result<Half, Failed>

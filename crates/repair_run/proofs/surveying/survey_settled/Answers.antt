@@ -10,7 +10,7 @@ pub returns : goal.returns
 returns g c =
     let size = length (g.F.Flash.image c.args.flash) in
     let inside = c.overlay_of-overlay.ensures.inside size c.requires.inside.under_way (c.torn_place.ensures.inside size c.requires.inside.torn) in
-    let frame = c.survey_files.ensures.frame in
+    let frame = c.survey_view.ensures.frame in
     let image = frame.same ∙ c.new-view.ensures.image in
     let lent = frame.lent ∙ c.new-view.ensures.lent in
     let same = c.into_flash.ensures.same c.args.flash c.overlay_of-overlay.result inside image lent in
