@@ -14,45 +14,59 @@ enum {
 };
 
 // How often a status is read before a chip is taken for broken.
-static const uint32_t most = 1u << 28;
+#ifndef MOST_POLLS
+#define MOST_POLLS (1u << 28)
+#endif
 
-static volatile uint32_t *word_at(uintptr_t at) { return (volatile uint32_t *)(at & ~(uintptr_t)3); }
+// ---- The bus: memory, or what BUS names
+
+#ifdef BUS
+#include BUS
+#else
+static uint8_t bus_get_byte(uintptr_t at) { return *(volatile uint8_t *)at; }
+static uint32_t bus_get(uintptr_t at) { return *(volatile uint32_t *)at; }
+static void bus_put(uintptr_t at, uint32_t word) { *(volatile uint32_t *)at = word; }
+#endif
+
+static uintptr_t word_at(uintptr_t at) { return at & ~(uintptr_t)3; }
+
+// ---- What is done over it
 
 void chip_read(uintptr_t at, uint8_t *into, size_t count) {
-    for (; count && at & 3; at++, count--) *into++ = *(volatile uint8_t *)at;
+    for (; count && at & 3; at++, count--) *into++ = bus_get_byte(at);
     for (; count >= 4; at += 4, count -= 4, into += 4) {
-        uint32_t word = *word_at(at);
+        uint32_t word = bus_get(at);
         into[0] = (uint8_t)word;
         into[1] = (uint8_t)(word >> 8);
         into[2] = (uint8_t)(word >> 16);
         into[3] = (uint8_t)(word >> 24);
     }
-    for (; count; at++, count--) *into++ = *(volatile uint8_t *)at;
+    for (; count; at++, count--) *into++ = bus_get_byte(at);
 }
 
 // Waits until the chips are done, and has them read their array again. Whether all went well.
-static int is_done(volatile uint32_t *word) {
-    for (uint32_t tries = 0; tries < most; tries++) {
-        uint32_t status = *word;
+static int is_done(uintptr_t word) {
+    for (uint32_t tries = 0; tries < MOST_POLLS; tries++) {
+        uint32_t status = bus_get(word);
         if ((status & READY) != READY) continue;
-        *word = CLEAR_STATUS;
-        *word = READ_ARRAY;
+        bus_put(word, CLEAR_STATUS);
+        bus_put(word, READ_ARRAY);
         return (status & FAILED) == 0;
     }
     return 0;
 }
 
-static int program_word(volatile uint32_t *word, uint32_t bits) {
-    uint32_t standing = *word;
+static int program_word(uintptr_t word, uint32_t bits) {
+    uint32_t standing = bus_get(word);
     if ((standing & bits) == standing) return 1;
-    *word = PROGRAM;
-    *word = standing & bits;
+    bus_put(word, PROGRAM);
+    bus_put(word, standing & bits);
     return is_done(word);
 }
 
 int chip_program(uintptr_t at, const uint8_t *bytes, size_t count) {
     while (count) {
-        volatile uint32_t *word = word_at(at);
+        uintptr_t word = word_at(at);
         uint32_t bits = 0xffffffff;
         do {
             uint32_t shift = 8 * (at & 3);
@@ -65,8 +79,8 @@ int chip_program(uintptr_t at, const uint8_t *bytes, size_t count) {
 }
 
 int chip_erase(uintptr_t at) {
-    volatile uint32_t *word = word_at(at);
-    *word = ERASE;
-    *word = CONFIRM;
+    uintptr_t word = word_at(at);
+    bus_put(word, ERASE);
+    bus_put(word, CONFIRM);
     return is_done(word);
 }

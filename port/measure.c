@@ -1,6 +1,7 @@
 // Figures of a run: the instructions that it took, less those in which the line was waited for, and how much of the stack and of
 // the heap it used. The linker puts the calls with `__wrap_` before those of node.c.
 #include "measure.h"
+#include "calls.h"
 #include "node.h"
 
 static const uint64_t paint = 0xa5a5a5a5a5a5a5a5;
@@ -10,8 +11,8 @@ extern uint64_t stack_low[], stack_high[];
 // of node.c
 extern size_t heap_most;
 
-int64_t __real_read(int file, uint8_t *into, size_t count);
-int64_t __real_write(int file, const uint8_t *from, size_t count);
+int64_t __real_read(int file, uint8_t *into, usize count);
+int64_t __real_write(int file, const uint8_t *from, usize count);
 
 static uint64_t (*counter)(void);
 static uint64_t counted, since;
@@ -19,14 +20,14 @@ static uint64_t counted, since;
 static void stop(void) { counted += counter() - since; }
 static void go_on(void) { since = counter(); }
 
-int64_t __wrap_read(int file, uint8_t *into, size_t count) {
+int64_t __wrap_read(int file, uint8_t *into, usize count) {
     stop();
     int64_t answer = __real_read(file, into, count);
     go_on();
     return answer;
 }
 
-int64_t __wrap_write(int file, const uint8_t *from, size_t count) {
+int64_t __wrap_write(int file, const uint8_t *from, usize count) {
     stop();
     int64_t answer = __real_write(file, from, count);
     go_on();

@@ -7,12 +7,14 @@
 //   pwrite   of at most 256 bytes within a page programs. What is written contains what stands there, bit for bit, or it
 //            fails; and it fails unless the chip then holds just that. Where the power goes, a front part of the bytes is
 //            done; two bytes at an even place are done both or not at all.
-//   pwrite   of 4,096 zeros on a sector's start erases that sector. Where the power goes, a front part of it is erased.
+//   pwrite   of 4,096 zeros on a sector's start erases that sector, or it fails; and it fails unless the chip then holds
+//            just that. Where the power goes, a front part of it is erased.
 //   nothing  else writes into the flash, and what pwrite has answered stands there, also without power.
 //   read     waits for one byte of the line, so that each command is answered when it is whole. 0 is its end.
 //   write    has sent all bytes when it answers.
 //
 // A call that fails answers -1, and the program ends with a status that says so. What it takes of the heap are its words.
+#include "calls.h"
 #include "node.h"
 
 enum { PAGE = 256, SECTOR = 4096, LINE_IN = 0, LINE_OUT = 1, FLASH = 3, END = 4, EIO = 5, EBADF = 9 };
@@ -45,7 +47,7 @@ void *memset(void *into, int byte, size_t count) {
     typedef uint64_t __attribute__((may_alias)) word;
     uint8_t *to = into;
     if (both_aligned(into, into))
-        for (; count >= 8; count -= 8, to += 8) *(word *)to = 0x0101010101010101 * (uint8_t)byte;
+        for (; count >= 8; count -= 8, to += 8) *(word *)to = 0x0101010101010101u * (uint8_t)byte;
     while (count--) *to++ = (uint8_t)byte;
     return into;
 }
@@ -61,11 +63,6 @@ int bcmp(const void *one, const void *other, size_t count) { return memcmp(one, 
 
 // ---- The heap, for the words alone: of what was taken only the last can grow in its place or be given back
 
-struct taken {
-    uint64_t well;
-    void *at;
-};
-
 // The ten words that a form has at most and the program's name take 256 bytes each. A list of them has places of 24 bytes, first
 // 4, then 8 and 16 elsewhere; and it is copied once without the name.
 static _Alignas(16) uint8_t heap[11 * 256 + (4 + 8 + 16 + 16) * 24];
@@ -73,26 +70,40 @@ static size_t heap_used, last_taken;
 size_t heap_most;
 
 // The last that is taken is so many bytes from here on.
-static int take_up_to(size_t begin, size_t count) {
+static int take_up_to(size_t begin, usize count) {
     if (count > sizeof heap - begin) return 0;
     last_taken = begin;
-    heap_used = begin + ((count + !count + 15) & ~(size_t)15);
+    heap_used = begin + (((size_t)count + !count + 15) & ~(size_t)15);
     if (heap_used > heap_most) heap_most = heap_used;
     return 1;
 }
 
 static int is_last(const void *taken) { return taken == heap + last_taken; }
 
-struct taken rattle_alloc(size_t count, size_t alignment) {
+void node_alloc(struct taken *taken, usize count, usize alignment) {
     (void)alignment; // never more than 16
     uint8_t *at = heap + heap_used;
-    return (struct taken){(uint64_t)take_up_to(heap_used, count), at};
+    *taken = (struct taken){(uint64_t)take_up_to(heap_used, count), (uintptr_t)at};
 }
 
-struct taken rattle_realloc(void *old, size_t kept, size_t count, size_t alignment) {
-    if (is_last(old)) return (struct taken){(uint64_t)take_up_to(last_taken, count), old};
-    struct taken taken = rattle_alloc(count, alignment);
-    if (taken.well) memcpy(taken.at, old, kept < count ? kept : count);
+void node_realloc(struct taken *taken, void *old, usize kept, usize count, usize alignment) {
+    if (is_last(old)) {
+        *taken = (struct taken){(uint64_t)take_up_to(last_taken, count), (uintptr_t)old};
+        return;
+    }
+    node_alloc(taken, count, alignment);
+    if (taken->well) memcpy((void *)(uintptr_t)taken->at, old, (size_t)(kept < count ? kept : count));
+}
+
+struct taken rattle_alloc(usize count, usize alignment) {
+    struct taken taken;
+    node_alloc(&taken, count, alignment);
+    return taken;
+}
+
+struct taken rattle_realloc(void *old, usize kept, usize count, usize alignment) {
+    struct taken taken;
+    node_realloc(&taken, old, kept, count, alignment);
     return taken;
 }
 
@@ -105,8 +116,8 @@ void rattle_dealloc(void *old) {
 enum { NO_SUCH = -1, NO_ROOM = -2 };
 
 // The word at a place behind the program's name, which is word 0: how many bytes it has.
-int64_t rattle_arg(size_t place, uint8_t *into, size_t room) {
-    const char *word = place == 0 ? "node" : board_word(place - 1);
+int64_t rattle_arg(usize place, uint8_t *into, usize room) {
+    const char *word = place == 0 ? "node" : board_word((size_t)place - 1);
     size_t count = 0;
     if (!word) return NO_SUCH;
     for (; word[count]; count++) {
@@ -116,12 +127,12 @@ int64_t rattle_arg(size_t place, uint8_t *into, size_t room) {
     return (int64_t)count;
 }
 
-int64_t rattle_env(const uint8_t *name, uint8_t *into, size_t room) {
+int64_t rattle_env(const uint8_t *name, uint8_t *into, usize room) {
     (void)name, (void)into, (void)room;
     return NO_SUCH;
 }
 
-int64_t rattle_env_at(size_t place, uint8_t *into, size_t room) {
+int64_t rattle_env_at(usize place, uint8_t *into, usize room) {
     (void)place, (void)into, (void)room;
     return NO_SUCH;
 }
@@ -147,7 +158,7 @@ static int ends_input(int byte) {
     return byte == END && form && form[0] != 's';
 }
 
-int64_t read(int file, uint8_t *into, size_t count) {
+int64_t read(int file, uint8_t *into, usize count) {
     static int has_ended;
     if (file != LINE_IN) return fail(EBADF);
     if (has_ended || count == 0) return 0;
@@ -158,34 +169,45 @@ int64_t read(int file, uint8_t *into, size_t count) {
     return 1;
 }
 
-int64_t write(int file, const uint8_t *from, size_t count) {
+int64_t write(int file, const uint8_t *from, usize count) {
     if (file != LINE_OUT) return fail(EBADF);
-    for (size_t place = 0; place < count; place++) board_put(from[place]);
+    for (usize place = 0; place < count; place++) board_put(from[place]);
     return (int64_t)count;
 }
 
 // ---- The flash
 
-static int is_within(int file, int64_t at, size_t count) {
+static int is_within(int file, int64_t at, usize count) {
     uint64_t size = (uint64_t)SECTOR * board_sectors();
     return file == FLASH && at >= 0 && count <= size && (uint64_t)at <= size - count;
 }
 
-static void read_inverted(uint64_t at, uint8_t *into, size_t count) {
-    board_read((uint32_t)(at / SECTOR), (uint32_t)(at % SECTOR), into, count);
+static int is_read_inverted(uint64_t at, uint8_t *into, size_t count) {
+    if (!board_read((uint32_t)(at / SECTOR), (uint32_t)(at % SECTOR), into, count)) return 0;
     for (size_t place = 0; place < count; place++) into[place] = (uint8_t)~into[place];
+    return 1;
 }
 
-int64_t pread(int file, uint8_t *into, size_t count, int64_t at) {
-    if (!is_within(file, at, count) || at % SECTOR + count > SECTOR) return fail(EBADF);
-    read_inverted((uint64_t)at, into, count);
-    return (int64_t)count;
+int64_t pread(int file, uint8_t *into, usize count, int64_t at) {
+    if (!is_within(file, at, count) || (uint64_t)at % SECTOR + count > SECTOR) return fail(EBADF);
+    return is_read_inverted((uint64_t)at, into, (size_t)count) ? (int64_t)count : fail(EIO);
 }
 
-static int is_erase(const uint8_t *from, size_t count, uint64_t at) {
-    if (count != SECTOR || at % SECTOR) return 0;
+static int holds_zeros(const uint8_t *bytes, size_t count) {
     for (size_t place = 0; place < count; place++)
-        if (from[place]) return 0;
+        if (bytes[place]) return 0;
+    return 1;
+}
+
+static int is_erase(const uint8_t *from, usize count, uint64_t at) {
+    return count == SECTOR && at % SECTOR == 0 && holds_zeros(from, SECTOR);
+}
+
+static int erase(uint64_t at) {
+    uint8_t page[PAGE];
+    if (!board_erase((uint32_t)(at / SECTOR))) return 0;
+    for (uint64_t end = at + SECTOR; at < end; at += PAGE)
+        if (!is_read_inverted(at, page, PAGE) || !holds_zeros(page, PAGE)) return 0;
     return 1;
 }
 
@@ -198,20 +220,18 @@ static int is_or(const uint8_t *standing, const uint8_t *from, size_t count) {
 
 static int program(uint64_t at, const uint8_t *from, size_t count) {
     uint8_t page[PAGE];
-    read_inverted(at, page, count);
-    if (!is_or(page, from, count)) return 0;
+    if (!is_read_inverted(at, page, count) || !is_or(page, from, count)) return 0;
     for (size_t place = 0; place < count; place++) page[place] = (uint8_t)~from[place];
     if (!board_program((uint32_t)(at / SECTOR), (uint32_t)(at % SECTOR), page, count)) return 0;
-    read_inverted(at, page, count);
-    return memcmp(page, from, count) == 0;
+    return is_read_inverted(at, page, count) && memcmp(page, from, count) == 0;
 }
 
-int64_t pwrite(int file, const uint8_t *from, size_t count, int64_t at) {
-    if (!is_within(file, at, count)) return fail(EBADF);
-    if (is_erase(from, count, (uint64_t)at))
-        return board_erase((uint32_t)(at / SECTOR)) ? (int64_t)count : fail(EIO);
+int64_t pwrite(int file, const uint8_t *from, usize count, int64_t place) {
+    uint64_t at = (uint64_t)place;
+    if (!is_within(file, place, count)) return fail(EBADF);
+    if (is_erase(from, count, at)) return erase(at) ? (int64_t)count : fail(EIO);
     if (at % PAGE + count > PAGE) return fail(EBADF);
-    return program((uint64_t)at, from, count) ? (int64_t)count : fail(EIO);
+    return program(at, from, (size_t)count) ? (int64_t)count : fail(EIO);
 }
 
 int open(const char *name, int how, ...) {
@@ -223,10 +243,13 @@ int open(const char *name, int how, ...) {
 // and at byte 0 which of these are told.
 int statx(int folder, const char *name, int how, int wanted, uint8_t *into) {
     (void)folder, (void)name, (void)how, (void)wanted;
+    const uint32_t told = 0x7ff;
+    const uint16_t kind = 0100644;
+    const uint64_t size = (uint64_t)SECTOR * board_sectors();
     memset(into, 0, 256);
-    *(uint32_t *)into = 0x7ff;
-    *(uint16_t *)(into + 28) = 0100644;
-    *(uint64_t *)(into + 40) = (uint64_t)SECTOR * board_sectors();
+    memcpy(into, &told, sizeof told);
+    memcpy(into + 28, &kind, sizeof kind);
+    memcpy(into + 40, &size, sizeof size);
     return 0;
 }
 
@@ -235,7 +258,7 @@ int close(int file) {
     return 0;
 }
 
-int64_t __sysv_signal(int64_t number, int64_t handler) {
+int64_t __sysv_signal(int number, int64_t handler) {
     (void)number, (void)handler;
     return 0;
 }

@@ -17,7 +17,8 @@ void board_put(uint8_t byte);
 
 // A NOR flash of 4 to 4,095 sectors of 4,096 bytes, each erased alone. Bytes are as the chip has them: an erased one is ff.
 uint32_t board_sectors(void);
-void board_read(uint32_t sector, uint32_t at, uint8_t *into, size_t count);
+// Whether the bytes were read.
+int board_read(uint32_t sector, uint32_t at, uint8_t *into, size_t count);
 // Clears the bits that are 0 in `bytes`, in rising order of bytes, and never sets one. Whether the chip reported that it did.
 int board_program(uint32_t sector, uint32_t at, const uint8_t *bytes, size_t count);
 // Sets all bits of a sector. Whether the chip reported that it did.

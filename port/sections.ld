@@ -23,5 +23,5 @@ SECTIONS {
         bss_high = .;
     } >ram
     ASSERT(SIZEOF(.data) == 0, "data that are not zero would have to be copied into RAM")
-    /DISCARD/ : { *(.eh_frame*) *(.comment) *(.note*) *(.ARM.attributes) *(.riscv.attributes) }
+    /DISCARD/ : { *(.eh_frame*) *(.ARM.exidx*) *(.comment) *(.note*) *(.ARM.attributes) *(.riscv.attributes) }
 }

@@ -1,4 +1,4 @@
-// qemu-system-riscv64 -M virt: a 16550, a device that ends the run with a status, a second bank of flash of 128 blocks.
+// qemu-system-riscv64 and qemu-system-riscv32, -M virt: a 16550, a device that ends the run with a status, a second bank of flash of 128 blocks.
 #pragma once
 #include <stdint.h>
 
@@ -35,7 +35,14 @@ static inline void power_off(int status) {
 static inline void count_instructions(void) {}
 
 static inline uint64_t instructions(void) {
+#if __riscv_xlen == 64
     uint64_t count;
     __asm__ volatile("csrr %0, minstret" : "=r"(count));
     return count;
+#else
+    uint32_t high, low, again;
+    do __asm__ volatile("csrr %0, minstreth\n\tcsrr %1, minstret\n\tcsrr %2, minstreth" : "=r"(high), "=r"(low), "=r"(again));
+    while (high != again);
+    return (uint64_t)high << 32 | low;
+#endif
 }

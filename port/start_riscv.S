@@ -1,4 +1,4 @@
-// Start of a 64-bit RISC-V board, in machine mode.
+// Start of a RISC-V board, of 64 bits or of 32, in machine mode.
 //
 // The code may not be written, and it lies below the stack: one that grows too far ends in `trap`, and not in other data.
 
@@ -18,8 +18,8 @@ _start:
     la t0, bss_low
     la t1, bss_high
 1:  bgeu t0, t1, 2f
-    sd zero, 0(t0)
-    addi t0, t0, 8
+    sw zero, 0(t0)
+    addi t0, t0, 4
     j 1b
 2:  call board_start
 3:  wfi

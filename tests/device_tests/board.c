@@ -1,10 +1,11 @@
-// A board in memory, on which tests/device tries node.c alone.
-#include "../port/node.h"
+// A board in memory, on which node.c is tried alone.
+#include "../../port/node.h"
 
 enum { SECTORS = 4, SECTOR = 4096 };
 
-// What a chip does that is not well: nothing, though it says that it did; or a half, and says so.
-enum { WELL, IDLE, HALF };
+// What a chip does that is not well: nothing, and says so of an erase alone; a half, and says so; nothing, and never says so; or it cannot be
+// read.
+enum { WELL, IDLE, HALF, LIES, MUTE };
 
 uint8_t chip[SECTORS * SECTOR];
 int chip_is;
@@ -17,8 +18,10 @@ int board_take(void) { return next_byte; }
 void board_put(uint8_t byte) { sent = byte; }
 uint32_t board_sectors(void) { return SECTORS; }
 
-void board_read(uint32_t sector, uint32_t at, uint8_t *into, size_t count) {
+int board_read(uint32_t sector, uint32_t at, uint8_t *into, size_t count) {
+    if (chip_is == MUTE) return 0;
     for (size_t place = 0; place < count; place++) into[place] = chip[sector * SECTOR + at + place];
+    return 1;
 }
 
 int board_program(uint32_t sector, uint32_t at, const uint8_t *bytes, size_t count) {
@@ -28,7 +31,7 @@ int board_program(uint32_t sector, uint32_t at, const uint8_t *bytes, size_t cou
 }
 
 int board_erase(uint32_t sector) {
-    if (chip_is != WELL) return 0;
+    if (chip_is != WELL) return chip_is == LIES;
     for (size_t place = 0; place < SECTOR; place++) chip[sector * SECTOR + place] = 0xff;
     return 1;
 }

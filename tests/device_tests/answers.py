@@ -1,0 +1,77 @@
+"""Boards that answer as the program for Linux does, and leave the same bytes."""
+from .common import EXAMPLES, MAIN, SECTOR, Pair, boot, build, chip_of, examples, linux, processors, read, same, write
+
+
+def test_a_board_answers_as_linux_does():
+    """The examples one behind another on one chip, and each form."""
+    for processor in processors():
+        both = Pair(build(processor))
+        for name in examples():
+            replies = both.do("run", "-", script=read(f"{EXAMPLES}/{name}.aql"))
+            if name == examples()[0]:
+                same(replies, read(f"{EXAMPLES}/{name}.expected"), f"the replies to {name}")
+        for words in (("plan", "100"), ("plan", "readings=100"), ("plan", "none=1"), ("dump",), ("look",), ("repair",)):
+            both.do(*words)
+
+
+def test_a_board_that_is_built_for_size_answers_as_linux_does():
+    both = Pair(build(processors(("thumbv7em",))[0], "small"))
+    for name in examples():
+        both.do("run", "-", script=read(f"{EXAMPLES}/{name}.aql"))
+
+
+# so many generated commands leave a flash that is collected by the next ones
+FILLING = {"aarch64": "1325", "riscv64": "1235", "thumbv7em": "1235"}
+
+
+def test_generated_commands_collect_the_same_sectors():
+    for processor in processors(MAIN):
+        both = Pair(build(processor))
+        linux.run("gen", "image", "2", FILLING[processor])
+        was = read("image")
+        chip_of(was, processor)
+        both.do("gen", "3", "40")
+        erased = {at // SECTOR for at, (old, new) in enumerate(zip(was, read("image"))) if old & ~new}
+        same(len(erased) > 50, True, f"that of {len(erased)} sectors many were erased")
+
+
+def refuses(processor):
+    both = Pair(build(processor))
+    same(boot(both.board, "gen", "chip", "1", "0", status=1), b"", "words of no form")
+    same(boot(both.board, "fly", "chip", status=1), b"", "words of no form")
+    both.do("run", "-", script=read(f"{EXAMPLES}/first.aql"))
+    image = bytearray(read("image"))
+    image[9] = 1
+    write("image", image)
+    chip_of(image, processor)
+    for words in (("run", "-"), ("dump",), ("repair",)):
+        same(both.do(*words, status=6), b"no image 1 0\n", f"{words}")
+
+
+def test_words_and_flashes_that_are_refused_end_as_on_linux():
+    for processor in processors(("aarch64", "thumbv7em")):
+        refuses(processor)
+
+
+def fills(processor):
+    both = Pair(build(processor))
+    insert = b"INSERT ('%s') INTO n;" % (b"x" * 32)
+    script = b"CREATE RELATION n; CREATE ATTRIBUTE s DOMAIN STRING(32) IN n;" + insert * 9_000
+    rows = linux.run("run", "image", "-", script=script, status=3).count(b"ok\n") - 2
+    both = Pair(both.board)
+    linux.run("run", "image", "-", script=script[:len(script) - (9_000 - rows + 3) * len(insert)])
+    chip_of(read("image"), processor)
+    replies = both.do("run", "-", script=insert * 10, status=3).splitlines()
+    same((replies[:-1], replies[-1][:9]), ([b"ok"] * 3, b"no space "), "the replies")
+
+
+def test_a_flash_without_room_ends_with_3():
+    for processor in processors(("aarch64", "thumbv7em")):
+        fills(processor)
+
+
+def test_a_firmware_feeds_the_program_byte_by_byte():
+    for processor in processors():
+        both = Pair(build(processor, "task"))
+        for name in examples():
+            both.do("run", "-", script=read(f"{EXAMPLES}/{name}.aql"))
