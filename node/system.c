@@ -1,20 +1,23 @@
-/* The calls that the proved program makes of a system, over the callbacks of a firmware. `build` gives them these names.
+/* The calls that the proved program makes of a system, over the callbacks of a firmware.
  *
- * They run on the program's stack. What each owes stands at the head of port/node.c; here an erase is read back, too.
- * What the program counts has 64 bits on every processor.
+ * They run on the program's stack. What each owes stands at the head of port/node.c.
  */
 #include "inside.h"
 
-typedef uint64_t usize;
+/* Names that no system has, so that a firmware may have the usual ones; `build` gives them to the program, too. */
+#define read sorachest_os_read
+#define write sorachest_os_write
+#define pread sorachest_os_pread
+#define pwrite sorachest_os_pwrite
+#define open sorachest_os_open
+#define close sorachest_os_close
+#define statx sorachest_os_statx
+#define __sysv_signal sorachest_os_signal
+#include "../port/calls.h"
 
 enum { PAGE = 256, SECTOR = SORACHEST_SECTOR, LINE_IN = 0, LINE_OUT = 1, FLASH = 3, EIO = 5, EBADF = 9 };
 
 /* ---- The heap, for the words alone: of what was taken only the last can grow in its place or be given back */
-
-/* Whether there was room, and an address as a number of 64 bits. */
-struct taken {
-    uint64_t well, at;
-};
 
 static int take_up_to(size_t begin, usize count) {
     struct sorachest *db = sorachest_running;
@@ -119,7 +122,7 @@ static void wait_for_input(struct sorachest *db) {
     }
 }
 
-int64_t sorachest_os_read(int file, uint8_t *into, usize room) {
+int64_t read(int file, uint8_t *into, usize room) {
     struct sorachest *db = sorachest_running;
     if (file != LINE_IN) return fail(EBADF);
     if (room == 0) return 0;
@@ -132,7 +135,7 @@ int64_t sorachest_os_read(int file, uint8_t *into, usize room) {
     return (int64_t)count;
 }
 
-int64_t sorachest_os_write(int file, const uint8_t *from, usize count) {
+int64_t write(int file, const uint8_t *from, usize count) {
     struct sorachest *db = sorachest_running;
     if (file != LINE_OUT) return fail(EBADF);
     for (usize place = 0; place < count; place++) {
@@ -172,7 +175,7 @@ static int read_inverted(uint64_t at, uint8_t *into, size_t count) {
     return 1;
 }
 
-int64_t sorachest_os_pread(int file, uint8_t *into, usize count, int64_t at) {
+int64_t pread(int file, uint8_t *into, usize count, int64_t at) {
     if (!is_within(file, at, count) || (uint64_t)at % SECTOR + count > SECTOR) return fail(EBADF);
     return read_inverted((uint64_t)at, into, (size_t)count) ? (int64_t)count : fail(EIO);
 }
@@ -205,7 +208,7 @@ static int program(uint64_t at, const uint8_t *from, size_t count) {
     return ask(WANTS_PROGRAM, at, page, count) && read_inverted(at, page, count) && memcmp(page, from, count) == 0;
 }
 
-int64_t sorachest_os_pwrite(int file, const uint8_t *from, usize count, int64_t at) {
+int64_t pwrite(int file, const uint8_t *from, usize count, int64_t at) {
     if (!is_within(file, at, count)) return fail(EBADF);
     if (count == SECTOR && at % SECTOR == 0 && are_zeros(from, SECTOR))
         return erase((uint64_t)at) ? (int64_t)count : fail(EIO);
@@ -213,14 +216,14 @@ int64_t sorachest_os_pwrite(int file, const uint8_t *from, usize count, int64_t 
     return program((uint64_t)at, from, (size_t)count) ? (int64_t)count : fail(EIO);
 }
 
-int sorachest_os_open(const char *name, int how, ...) {
+int open(const char *name, int how, ...) {
     (void)name, (void)how;
     return FLASH;
 }
 
 /* The size of the flash is all that is asked for: Linux has it at byte 40, the kind of the file, a plain one, at byte 28,
  * and at byte 0 which of these are told. */
-int sorachest_os_statx(int folder, const char *name, int how, int wanted, uint8_t *into) {
+int statx(int folder, const char *name, int how, int wanted, uint8_t *into) {
     (void)folder, (void)name, (void)how, (void)wanted;
     uint32_t told = 0x7ff;
     uint16_t kind = 0100644;
@@ -232,12 +235,12 @@ int sorachest_os_statx(int folder, const char *name, int how, int wanted, uint8_
     return 0;
 }
 
-int sorachest_os_close(int file) {
+int close(int file) {
     (void)file;
     return 0;
 }
 
-int64_t sorachest_os_signal(int number, int64_t handler) {
+int64_t __sysv_signal(int number, int64_t handler) {
     (void)number, (void)handler;
     return 0;
 }

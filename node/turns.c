@@ -9,7 +9,7 @@
 #include <valgrind/memcheck.h>
 #endif
 
-/* port/switch_*.S and switch_*.S: keeps this stack at `kept`, and goes on with another one that was kept so. */
+/* port/switch_*.S and switch_x86_64.S: keeps this stack at `kept`, and goes on with another one that was kept so. */
 extern void switch_stack(void **kept, void *other);
 /* A stack on which nothing has run, as switch_stack keeps it: going on with it calls `begin`. */
 extern void *new_stack(void *high, void (*begin)(void));
