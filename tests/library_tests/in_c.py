@@ -84,7 +84,7 @@ def test_the_example_leaves_an_image_that_it_cannot_write_whole():
     same(run_example(":", "image", example("first"))[0], 0, "the status at first")
     was = read("image")
     # blocks of 512 bytes; the signal would end it
-    done = run_example("trap '' XFSZ; ulimit -f 1024", "image", example("station"))
+    done = run_example("trap '' XFSZ; ulimit -S -f 1024", "image", example("station"))
     same((done[0], done[1]), (1, b""), "its status and replies where the disk is full")
     same((read("image") == was, os.path.exists("image.new")), (True, False), "that the image is as it was, and nothing beside it")
 
