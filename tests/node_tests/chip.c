@@ -109,8 +109,8 @@ struct sorachest_config *new_config(uint32_t sectors) {
     parts->config.program = put;
     parts->config.erase = erase;
     parts->config.sectors = sectors;
-    parts->config.memory = malloc(LENT);
-    parts->config.memory_size = LENT;
+    parts->config.memory = malloc(SORACHEST_MEMORY);
+    parts->config.memory_size = SORACHEST_MEMORY;
     if (!parts->config.memory) exit(1);
     begin_thread(&parts->config);
     return &parts->config;

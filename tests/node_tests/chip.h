@@ -16,8 +16,6 @@ struct chip {
     void *of_test;
 };
 
-enum { LENT = 192 * 1024 };
-
 /* A config over an erased chip and memory, both from the heap, and with a thread under THREADS. */
 struct sorachest_config *new_config(uint32_t sectors);
 void drop_config(struct sorachest_config *config);

@@ -9,7 +9,6 @@ NODE = f"{ROOT}/node"
 BUILT = f"{NODE}/out/{os.uname().machine}"
 LIBRARY = f"{BUILT}/lib/libsorachest_node.a"
 PROGRAM = os.environ.get("SORACHEST_PROGRAM", PROVED)
-IS_PROVED = "PORT_MODULE" not in os.environ
 
 # The library's own files in C, compiled anew, over the program as it is.
 PARTS = [f"{NODE}/{it}.c" for it in ("sorachest_node", "turns", "system", "values")] + [f"{BUILT}/program.o", f"{BUILT}/switch.o"]

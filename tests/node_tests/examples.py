@@ -5,8 +5,8 @@ import signal
 import subprocess
 import time
 
-from library_tests.common import ended, needs, read, same, write
-from node_tests.common import LIBRARY, NODE, WARNINGS, program
+from library_tests.common import ended, erased, needs, read, same, write
+from node_tests.common import HERE, LIBRARY, NODE, WARNINGS, program
 
 EXAMPLES = f"{NODE}/examples"
 INVERTED = bytes(255 - byte for byte in range(256))
@@ -15,7 +15,7 @@ INVERTED = bytes(255 - byte for byte in range(256))
 def made(every):
     """The logger on this machine, which stores a reading every so many milliseconds."""
     needs("cc")
-    words = ["cc", *WARNINGS, f"-DLOGGER_EVERY={every}", "-DLOGGER_MEMORY=196608", f"{EXAMPLES}/logger.c", f"{EXAMPLES}/board_host.c", LIBRARY]
+    words = ["cc", *WARNINGS, f"-DLOGGER_EVERY={every}", f"{EXAMPLES}/logger.c", f"{EXAMPLES}/board_host.c", LIBRARY]
     status, _, said = ended([*words, "-o", os.path.abspath("logger")])
     same((status, said), (0, ""), "what the compiler said of the logger")
     return [os.path.abspath("logger"), "chip"]
@@ -109,16 +109,30 @@ def test_a_logger_that_loses_its_power_loses_no_reading():
     cut(made(3_600_000), 40, 300)
 
 
-def on_the_board(every):
+def on_the_board(**how):
+    """The command that switches a board on, with what it runs built anew."""
     needs("qemu-system-arm")
-    done = ended([f"{EXAMPLES}/stm32", "build"], env={**os.environ, "LOGGER_EVERY": str(every)})
+    done = ended([f"{EXAMPLES}/stm32", "build"], env={**os.environ, **how})
     same(done[0], 0, f"the status of the build, which said {done[2]}")
     return [f"{EXAMPLES}/stm32", "chip"]
 
 
 def test_the_logger_runs_on_a_microcontroller():
-    shell_and_timer(on_the_board(100))
+    shell_and_timer(on_the_board(LOGGER_EVERY="100"))
 
 
 def test_a_microcontroller_that_loses_its_power_loses_no_reading():
-    cut(on_the_board(3_600_000), 15, 300)
+    cut(on_the_board(LOGGER_EVERY="3600000"), 15, 300)
+
+
+def test_what_calls_take_on_a_microcontroller():
+    keyed = "CREATE RELATION n; CREATE ATTRIBUTE k DOMAIN INT IN n; CREATE ATTRIBUTE v DOMAIN INT IN n; CREATE INDEX n.k TYPE INLINE;"
+    write("script", (keyed + "".join(f"INSERT ({it}, 7) INTO n;" for it in range(1000))).encode())
+    erased("image", 128)
+    same(program("run", "image", "script")[0], 0, "the status of the program")
+    write("chip", read("image").translate(INVERTED))
+    command = on_the_board(LOGGER_SOURCE=f"{HERE}/figures.c")
+    done = ended(command, env={**os.environ, "BOARD": "-icount shift=0"})
+    same((done[0], b"FAILED" in done[1], done[1].count(b"\n")), (0, False, 10), f"the end of {done[1]}")
+    print(done[1].decode(), end="")
+    ended([f"{EXAMPLES}/stm32", "build"])

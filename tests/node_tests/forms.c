@@ -68,7 +68,7 @@ int main(int words, char **word) {
     } else {
         status = sorachest_repair(&db, config, print, NULL);
     }
-    fprintf(stderr, "memory %zu\n", sorachest_memory_used(&db));
+    fprintf(stderr, "memory %zu of %d\n", sorachest_memory_used(&db), SORACHEST_MEMORY);
     int closed = sorachest_close(&db);
     invert(bytes, sectors * SECTOR);
     rewind(file);

@@ -4,8 +4,8 @@ import re
 import shutil
 import subprocess
 
-from library_tests.common import EXAMPLES, Skipped, erased, example, needs, read, same, write
-from node_tests.common import IS_PROVED, NODE, compiled, program
+from library_tests.common import EXAMPLES, erased, example, needs, read, same, write
+from node_tests.common import compiled, program
 
 
 def beside(made, form, image, script=None, before=()):
@@ -117,19 +117,14 @@ def test_a_flash_that_a_cut_left_is_judged_as_by_the_program():
 
 
 def test_the_memory_that_the_header_asks_for_is_enough():
-    if not IS_PROVED:
-        raise Skipped("the module is not the proved one, and its stack is another")
-    made, most = compiled("forms"), 0
+    made, used = compiled("forms"), []
     erased("image")
-    for name in names():
-        most = max(most, beside(made, "run", "image", example(name))[1])
+    used += [beside(made, "run", "image", example(name))[1] for name in names()]
     for seed in range(10):
         write("script", script(seed, 400).encode())
         erased("image", 64)
-        most = max(most, beside(made, "run", "image", "script")[1], *(beside(made, it, "image")[1] for it in ("look", "dump", "repair")))
-    write("cut", bytes(64 * 4096))
-    program("gen", "cut", "7", "500")
-    most = max(most, beside(made, "repair", "cut")[1])
-    print(f"the deepest of these calls took {most} bytes of memory")
-    lent = int(re.search(r"SORACHEST_MEMORY = (\d+) \* 1024", read(f"{NODE}/sorachest_node.h").decode())[1]) * 1024
-    same(most + 2048 <= lent, True, f"that {lent} bytes are enough for them, and 2,048 for interrupts")
+        used.append(beside(made, "run", "image", "script")[1])
+        used += [beside(made, form, "image")[1] for form in ("look", "dump", "repair")]
+    lent = int(re.search(rb" of (\d+)", subprocess.run([made, "look", "image"], stderr=subprocess.PIPE, stdout=subprocess.PIPE).stderr)[1])
+    print(f"the deepest of these calls took {max(used)} bytes of memory")
+    same(max(used) + 2048 <= lent, True, f"that {lent} bytes are enough for them, and 2,048 for interrupts")
