@@ -44,12 +44,7 @@ extern "C" {
 
 enum {
     SORACHEST_SECTOR = 4096,
-    /* Bytes of memory that are enough; fewer are refused. On a computer they do not matter. */
-#ifdef __x86_64__
-    SORACHEST_MEMORY = 160 * 1024,
-#else
-    SORACHEST_MEMORY = 104 * 1024,
-#endif
+    SORACHEST_MEMORY = 104 * 1024,  /* bytes of memory that are enough on each processor; fewer are refused */
     SORACHEST_THREAD_MEMORY = 2048, /* the same where the stack is a thread's own, see `wait` and `wake` */
     SORACHEST_MOST_COMMAND = 512,   /* bytes of a command; a longer one is refused with `no long` */
     SORACHEST_MOST_LINE = 299,      /* bytes of a reply's line */
