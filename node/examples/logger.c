@@ -1,7 +1,7 @@
 /* A logger, as a firmware has it: a timer stores a reading, and a shell on the serial line asks meanwhile.
  *
  * A line is a command of AQL, and is answered as `antelope run` does; `?` tells how much memory the database used. board.h is
- * what a board gives: board_host.c has it on a computer, board_stm32.c on qemu's STM32F405.
+ * what a board gives: board_host.c has it on a computer, board_qemu.c on boards of qemu.
  */
 #include "../sorachest_node.h"
 #include "board.h"

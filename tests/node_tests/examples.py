@@ -5,8 +5,8 @@ import signal
 import subprocess
 import time
 
-from library_tests.common import ended, erased, needs, read, same, write
-from node_tests.common import HERE, LIBRARY, NODE, WARNINGS, program
+from library_tests.common import ended, needs, read, same, write
+from node_tests.common import LIBRARY, NODE, WARNINGS, program
 
 EXAMPLES = f"{NODE}/examples"
 INVERTED = bytes(255 - byte for byte in range(256))
@@ -123,16 +123,3 @@ def test_the_logger_runs_on_a_microcontroller():
 
 def test_a_microcontroller_that_loses_its_power_loses_no_reading():
     cut(on_the_board(LOGGER_EVERY="3600000"), 15, 300)
-
-
-def test_what_calls_take_on_a_microcontroller():
-    keyed = "CREATE RELATION n; CREATE ATTRIBUTE k DOMAIN INT IN n; CREATE ATTRIBUTE v DOMAIN INT IN n; CREATE INDEX n.k TYPE INLINE;"
-    write("script", (keyed + "".join(f"INSERT ({it}, 7) INTO n;" for it in range(1000))).encode())
-    erased("image", 128)
-    same(program("run", "image", "script")[0], 0, "the status of the program")
-    write("chip", read("image").translate(INVERTED))
-    command = on_the_board(LOGGER_SOURCE=f"{HERE}/figures.c")
-    done = ended(command, env={**os.environ, "BOARD": "-icount shift=0"})
-    same((done[0], b"FAILED" in done[1], done[1].count(b"\n")), (0, False, 10), f"the end of {done[1]}")
-    print(done[1].decode(), end="")
-    ended([f"{EXAMPLES}/stm32", "build"])

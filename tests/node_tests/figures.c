@@ -1,7 +1,7 @@
-/* What calls take on an STM32F405 of qemu, in the place of the logger: with -icount shift=0 a tick of its timer is an instruction. */
+/* What calls take on a board of qemu, in the place of the logger: with -icount shift=0 its timer counts instructions. */
 #include "board.h"
 #include "../../node/sorachest_node.h"
-#include "../../port/stm32.h"
+#include BOARD
 
 static _Alignas(16) uint8_t memory[SORACHEST_MEMORY];
 static struct sorachest db;

@@ -1,6 +1,6 @@
-/* The logger's board on qemu's STM32F405: port/stm32.h has its port, its timer and its flash, which is a file of the host. */
+/* The logger's board in qemu, over a board of port/, whose header BOARD names: it has the port, the timer and the flash. */
 #include "board.h"
-#include "../../port/stm32.h"
+#include BOARD
 
 uint32_t board_milliseconds(void) { return (uint32_t)(instructions() / 1000000); }
 
