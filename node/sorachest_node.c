@@ -169,6 +169,7 @@ static int make_ready(struct sorachest *db, size_t length) {
 }
 
 static void hand_over(struct sorachest *db, const struct command *command) {
+    db->command = command->text;
     db->input = command->text;
     db->input_left = command->length;
     db->behind = command->behind;

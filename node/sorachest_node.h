@@ -97,7 +97,7 @@ struct sorachest {
     const struct sorachest_config *config;
     const char *form;
     void *of_caller, *of_program;
-    const char *script, *input, *behind;
+    const char *script, *command, *input, *behind;
     size_t input_left;
     uint32_t taken;
     uint32_t asked_sector, asked_at;
@@ -138,6 +138,10 @@ int sorachest_columns(const struct sorachest *db);
 int sorachest_type(const struct sorachest *db, int column);
 int64_t sorachest_int(const struct sorachest *db, int column);
 const char *sorachest_text(const struct sorachest *db, int column, size_t *length);
+
+/* What the command calls a column, as `celsius` or `MAX(celsius)`: bytes of the command, without a 0 behind them. NULL for a
+ * column that is not there, and for a row of FETCH. */
+const char *sorachest_name(const struct sorachest *db, int column, size_t *length);
 
 /* A value of a row: an INT, LONG or TIME, or a text. */
 struct sorachest_value {

@@ -46,17 +46,59 @@ const char *sorachest_text(const struct sorachest *db, int column, size_t *lengt
     return at;
 }
 
+/* ---- Names of columns: the list behind SELECT, or behind the PROJECT of a JOIN */
+
+static int is_letter(char byte) { return (byte >= 'a' && byte <= 'z') || (byte >= 'A' && byte <= 'Z'); }
+static int is_of_word(char byte) { return is_letter(byte) || is_digit(byte) || byte == '_'; }
+static int is_white(char byte) { return byte == ' ' || byte == '\t' || byte == '\r' || byte == '\n'; }
+
+static const char *behind_white(const char *at) {
+    while (is_white(*at)) at++;
+    return at;
+}
+
+/* What stands behind a keyword, in any letter case; NULL where another word stands there. */
+static const char *behind_keyword(const char *at, const char *keyword) {
+    while (*keyword && (*at & ~0x20) == *keyword) at++, keyword++;
+    return *keyword || is_of_word(*at) ? NULL : at;
+}
+
+static const char *behind_word(const char *at) {
+    if (!is_of_word(*at)) return at + 1;
+    while (is_of_word(*at)) at++;
+    return at;
+}
+
+static int ends_list(const char *at) { return !*at || *at == ';' || behind_keyword(at, "FROM"); }
+
+static const char *list_of(const char *command) {
+    const char *at = behind_white(command);
+    const char *list = behind_keyword(at, "SELECT");
+    if (list || !behind_keyword(at, "JOIN")) return list;
+    while (*at && *at != ';' && !behind_keyword(at, "PROJECT")) at = behind_white(behind_word(at));
+    return behind_keyword(at, "PROJECT");
+}
+
+const char *sorachest_name(const struct sorachest *db, int column, size_t *length) {
+    const char *first = column_at(db, column) ? list_of(db->command) : NULL, *end = first;
+    for (int item = 0; first && item <= column; item++) {
+        first = behind_white(item ? end + 1 : first);
+        for (end = first; !ends_list(end) && *end != ','; end = behind_word(end)) {}
+    }
+    while (first && end > first && is_white(end[-1])) end--;
+    if (length) *length = first ? (size_t)(end - first) : 0;
+    return first;
+}
+
 /* ---- Rows */
 
 enum { MOST_NAME = 15 };
 static const int64_t most_number = 999999999999999999;
 
-static int is_letter(char byte) { return (byte >= 'a' && byte <= 'z') || (byte >= 'A' && byte <= 'Z'); }
-
 static int is_name(const char *name) {
     size_t length = 0;
     if (!name || !is_letter(name[0])) return 0;
-    while (is_letter(name[length]) || is_digit(name[length]) || name[length] == '_') length++;
+    while (is_of_word(name[length])) length++;
     return !name[length] && length <= MOST_NAME;
 }
 

@@ -89,6 +89,7 @@ static void step(void) {
     for (int column = -1; column < 3; column++) {
         size_t length;
         if (sorachest_text(&me->db, column, &length)) MUST(length <= SORACHEST_MOST_TEXT);
+        if (sorachest_name(&me->db, column, &length)) MUST(length > 0 && status == SORACHEST_ROW);
         MUST(sorachest_int(&me->db, column) == 0 || status == SORACHEST_ROW);
     }
 }

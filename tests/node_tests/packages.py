@@ -3,7 +3,7 @@ import os
 import re
 import shutil
 
-from library_tests.common import ended, needs, read, same, write
+from library_tests.common import ROOT, Skipped, ended, needs, read, same, write
 from node_tests.common import BUILT, NODE
 
 USER = b"""#include <sorachest_node.h>
@@ -12,14 +12,16 @@ int main(void) { return sorachest_version() != SORACHEST_VERSION; }
 
 
 def targets():
-    """What was built."""
-    return sorted(it for it in os.listdir(f"{NODE}/out") if os.path.exists(f"{NODE}/out/{it}/lib/sorachest_node.o"))
+    """What was built of the header as it stands."""
+    header = read(f"{NODE}/sorachest_node.h")
+    copies = {it: f"{NODE}/out/{it}/include/sorachest_node.h" for it in os.listdir(f"{NODE}/out")}
+    return sorted(it for it, copy in copies.items() if os.path.exists(copy) and read(copy) == header)
 
 
 def test_the_header_s_calls_are_the_only_names():
     needs("nm")
     declared = set(re.findall(r"^(?!static|typedef)\w.*\b(sorachest_\w+)\(.*;$", read(f"{NODE}/sorachest_node.h").decode(), re.M))
-    same(len(declared), 19, "how many calls there are")
+    same(len(declared), 20, "how many calls there are")
     for target in targets():
         status, told, said = ended(["nm", "--extern-only", f"{NODE}/out/{target}/lib/sorachest_node.o"])
         same((status, said), (0, ""), f"the end of nm for {target}")
@@ -57,6 +59,32 @@ target_link_libraries(user PRIVATE sorachest::node)
     same(ended(["made/user"])[0], 0, "the status of the program")
     write("CMakeLists.txt", read("CMakeLists.txt").replace(b"sorachest 1", b"sorachest 2"))
     same(ended(["cmake", "-S", ".", "-B", "other", prefix])[0] != 0, True, "that another number of the interface is refused")
+
+
+FIRMWARE = b"""
+#include <sorachest_node.h>
+void *memcpy(void *into, const void *from, size_t count) { return (void)from, (void)count, into; }
+void *memmove(void *into, const void *from, size_t count) { return (void)from, (void)count, into; }
+void *memset(void *into, int byte, size_t count) { return (void)byte, (void)count, into; }
+int memcmp(const void *one, const void *other, size_t count) { return (void)one, (void)other, (int)count; }
+void __aeabi_ldivmod(void) {}
+void __aeabi_uldivmod(void) {}
+float half(float number) { return number / 2; }
+void _start(void) { sorachest_close(0); }
+"""
+
+
+def test_a_firmware_that_computes_with_floating_point_links_it():
+    needs("arm-none-eabi-ld")
+    if "thumbv7em" not in targets():
+        raise Skipped("it was not built for thumbv7em")
+    write("user.c", FIRMWARE)
+    clang = f"{os.path.dirname(os.path.dirname(os.path.realpath(shutil.which('rt'))))}/toolchain/bin/clang"
+    built = f"{NODE}/out/thumbv7em"
+    words = ["--target=thumbv7em-unknown-none-eabihf", "-mcpu=cortex-m4", "-mfloat-abi=hard", "-ffreestanding", "-fno-builtin"]
+    words += ["-isystem", f"{ROOT}/port/include", f"-I{built}/include", "-c", "user.c", "-o", "user.o"]
+    same(ended([clang, *words])[0], 0, "the status of the compiler")
+    same(ended(["arm-none-eabi-ld", "user.o", f"{built}/lib/sorachest_node.o", "-o", "user"]), (0, b"", ""), "the end of the linker")
 
 
 def test_the_two_headers_are_not_for_one_program():

@@ -144,6 +144,29 @@ static void test_columns_that_have_no_value(void) {
     close_all();
 }
 
+static int is_called(int column, const char *name) {
+    size_t length;
+    const char *told = sorachest_name(&db, column, &length);
+    return told && length == strlen(name) && !memcmp(told, name, length);
+}
+
+static void test_columns_are_called_as_the_command_calls_them(void) {
+    size_t length = 9;
+    open_keyed(8);
+    MUST(exec("CREATE RELATION s; CREATE ATTRIBUTE k DOMAIN INT IN s; CREATE ATTRIBUTE from_ DOMAIN INT IN s") == SORACHEST_OK);
+    MUST(insert(&db, 1, "x") == SORACHEST_OK && exec("INSERT (1, 2) INTO s") == SORACHEST_OK);
+    MUST(sorachest_query(&db, "PACK r; select k ,\tt,k\nfrom r WHERE t <> ','") == SORACHEST_OK && !sorachest_name(&db, 0, &length));
+    MUST(sorachest_step(&db) == SORACHEST_ROW && is_called(0, "k") && is_called(1, "t") && is_called(2, "k"));
+    MUST(!sorachest_name(&db, 3, &length) && length == 0 && !sorachest_name(&db, -1, NULL) && sorachest_finish(&db) == SORACHEST_OK);
+    MUST(sorachest_query(&db, " SELECT MAX( k ) , COUNT(from_)FROM s;") == SORACHEST_OK && sorachest_step(&db) == SORACHEST_ROW);
+    MUST(is_called(0, "MAX( k )") && is_called(1, "COUNT(from_)") && sorachest_finish(&db) == SORACHEST_OK && !sorachest_name(&db, 0, NULL));
+    MUST(sorachest_query(&db, "JOIN r, s ON k PROJECT from_, t") == SORACHEST_OK && sorachest_step(&db) == SORACHEST_ROW);
+    MUST(is_called(0, "from_") && is_called(1, "t") && sorachest_int(&db, 0) == 2 && sorachest_finish(&db) == SORACHEST_OK);
+    MUST(sorachest_query(&db, "OPEN 1 SELECT k FROM r; FETCH 1") == SORACHEST_OK && sorachest_step(&db) == SORACHEST_ROW);
+    MUST(!sorachest_name(&db, 0, &length) && sorachest_int(&db, 0) == 1 && sorachest_finish(&db) == SORACHEST_OK);
+    close_all();
+}
+
 static void test_the_longest_line_is_whole(void) {
     char command[600], *to = command;
     open_new(8);
@@ -382,7 +405,8 @@ static void test_a_callback_may_use_another_database(void) {
 #define TEST(name) {#name, test_##name}
 static const struct { const char *name; void (*test)(void); } tests[] = {
     TEST(rows_of_two_databases_mixed), TEST(a_refused_command_ends_a_script), TEST(a_command_has_at_most_512_bytes),
-    TEST(rows_that_nobody_wants_are_passed_over), TEST(columns_that_have_no_value), TEST(the_longest_line_is_whole),
+    TEST(rows_that_nobody_wants_are_passed_over), TEST(columns_that_have_no_value),
+    TEST(columns_are_called_as_the_command_calls_them), TEST(the_longest_line_is_whole),
     TEST(typed_values_are_stored_as_they_are), TEST(values_that_no_row_can_have_are_told), TEST(a_full_flash_ends_no_session),
     TEST(a_session_outlives_the_input_of_a_run), TEST(what_was_answered_is_there_after_a_failure),
     TEST(a_flash_that_does_other_than_it_says_is_told), TEST(opening_and_looking_write_nothing),
