@@ -4,18 +4,19 @@ processor whose addresses have 32 bits. PROCESSOR is thumbv7em, thumbv7m or risc
 
 `usize` keeps its 64 bits, and each object its size and the places in it. Why the program does the same:
 
-1. The module may not depend on where its objects lie. So take it as run by a 64-bit processor on which all of them lie below
-   2 GiB. The upper half of each address is then 0. Here a register holds the lower half alone.
-2. Memory looks the same. A global is bytes, a variable is bytes, a number or an address, and a place in it is so many bytes
-   away: no type with an address in it says how large something is. An address in memory keeps its 8 bytes; the lower 4 are
-   the address, and the upper 4 are written as 0. A pair is read and written member by member, each at its place.
-3. An access lies within its object, whose size fits into 31 bits. So each offset and each length that an access uses fits,
-   too, and loses nothing when it is cut to 32 bits.
-4. An address becomes a number by `ptrtoaddr` alone, which puts zeros above it. That number is used to see how an address is
-   aligned, or, less another one, to see whether two pieces overlap. No number becomes an address. Two addresses are compared as
-   equal or without a sign.
-5. A call out of the module is one of `border`, whose numbers have the same widths in `calls.h`. The two that answer a pair go
-   through a place in memory, since C would answer it otherwise there.
+1. What the module does may not depend on where its objects lie. So take it as run by a 64-bit processor on which all of them
+   lie below 4 GiB, and none has 2 GiB or more. There the upper half of each address is 0. Here a register has the lower half.
+2. Memory holds the same bytes. A global is bytes, a variable is bytes, a number or an address, and a place in it is so many
+   bytes away: no type with an address in it says how large something is. An address in memory keeps its 8 bytes; the lower 4
+   are the address, and the upper 4 are written as 0. So what is copied, or read as a number, is the same, too. A pair is read
+   and written member by member, each at its place.
+3. An access lies within its object. So each offset and each length that an access uses fits into 32 bits, and loses nothing
+   when it is cut to them.
+4. In a register an address becomes a number by `ptrtoaddr` alone, which puts zeros above it. That number is used to see how an
+   address is aligned, or, less another one, to see whether two pieces overlap. No number becomes an address. Two addresses
+   are compared as equal or without a sign.
+5. A call out of the module is one of `BORDER`, whose numbers have the same widths in `calls.h`. The two that answer a pair
+   leave it in memory, since C would answer it otherwise here.
 
 What is not listed here is refused, with its line. LLVM's own meaning of these forms is trusted, and its code for the processor.
 """
@@ -133,7 +134,7 @@ def halves(kind):
 
 
 def a_load(start, rest):
-    found = known(rf" ({ONE}|{BYTES}|{PAIR}), ptr ({ADDRESS}){ALIGN}((?:, !\w+ !\d+)*)", rest)
+    found = known(rf" ({ONE}|{BYTES}|{PAIR}), ptr ({ADDRESS}){ALIGN}((?:, !(?:noundef|range|nonnull) !\d+)*)", rest)
     kind, place, align, _ = found.groups()
     if not re.fullmatch(PAIR, kind):
         return [start + rest]

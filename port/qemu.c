@@ -54,3 +54,6 @@ void board_start(void) {
 #endif
     power_off(status);
 }
+
+// What start code calls for a trap, if it does not end the board itself.
+void board_trapped(void) { power_off(99); }

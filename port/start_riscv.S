@@ -28,7 +28,5 @@ _start:
 // A stack that grew too far, or an access that no memory answers: the board ends with status 99.
     .balign 4
 trap:
-    li t0, 0x100000
-    li t1, (99 << 16) | 0x3333
-    sw t1, 0(t0)
-    j trap
+    la sp, stack_high
+    call board_trapped

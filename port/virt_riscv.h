@@ -2,6 +2,8 @@
 #pragma once
 #include <stdint.h>
 
+#include "count_riscv.h"
+
 #ifndef SECTORS
 #define SECTORS 128
 #endif
@@ -30,19 +32,4 @@ static inline void power_off(int status) {
     volatile uint32_t *end = (volatile uint32_t *)0x100000;
     *end = status ? (uint32_t)status << 16 | 0x3333 : 0x5555;
     for (;;) {}
-}
-
-static inline void count_instructions(void) {}
-
-static inline uint64_t instructions(void) {
-#if __riscv_xlen == 64
-    uint64_t count;
-    __asm__ volatile("csrr %0, minstret" : "=r"(count));
-    return count;
-#else
-    uint32_t high, low, again;
-    do __asm__ volatile("csrr %0, minstreth\n\tcsrr %1, minstret\n\tcsrr %2, minstreth" : "=r"(high), "=r"(low), "=r"(again));
-    while (high != again);
-    return (uint64_t)high << 32 | low;
-#endif
 }

@@ -92,6 +92,8 @@ REFUSED_LINES = (
     "%x = load <2 x ptr>, ptr %a0, align 8",
     "store { { ptr, i8 }, i8 } poison, ptr %a0, align 8",
     "%x = extractvalue { ptr, i64, i64 } poison, 0",
+    # what says that two accesses of other types do not meet
+    "%x = load i64, ptr %a0, align 8, !tbaa !1",
     # memory that others see, or that changes by itself
     "%x = load volatile i64, ptr %a0, align 8",
     "%x = load atomic i64, ptr %a0 seq_cst, align 8",

@@ -20,6 +20,15 @@ def test_a_board_that_is_built_for_size_answers_as_linux_does():
         both.do("run", "-", script=read(f"{EXAMPLES}/{name}.aql"))
 
 
+def test_a_board_with_a_serial_chip_answers_as_linux_does():
+    """Over a controller and a chip that are qemu's own."""
+    both = Pair(build(processors(("riscv32",))[0], "serial"))
+    for name in examples():
+        both.do("run", "-", script=read(f"{EXAMPLES}/{name}.aql"))
+    both.do("gen", "5", "60")
+    both.do("look")
+
+
 # so many generated commands leave a flash that is collected by the next ones
 FILLING = {"aarch64": "1325", "riscv64": "1235", "thumbv7em": "1235"}
 
@@ -33,6 +42,13 @@ def test_generated_commands_collect_the_same_sectors():
         both.do("gen", "3", "40")
         erased = {at // SECTOR for at, (old, new) in enumerate(zip(was, read("image"))) if old & ~new}
         same(len(erased) > 50, True, f"that of {len(erased)} sectors many were erased")
+
+
+def test_generated_commands_leave_the_same_bytes_on_a_microcontroller():
+    board = build(processors(("thumbv7em",))[0])
+    for seed in range(20, 32):
+        both = Pair(board)
+        both.do("gen", str(seed), str(40 * (seed - 19)))
 
 
 def refuses(processor):

@@ -96,7 +96,8 @@ EDGES = sorted({(1 << bits) + it & (1 << 64) - 1 for bits in (0, 1, 15, 16, 17, 
 def test_numbers_of_64_bits_are_divided():
     if not shutil.which("cc"):
         raise Skipped("there is no cc")
-    subprocess.run(["cc", "-shared", "-fPIC", "-O1", "-o", "divide.so", f"{PORT}/divide.c"], check=True)
+    words = ["-fsanitize=undefined", "-fsanitize-undefined-trap-on-error", "-o", "divide.so"]
+    subprocess.run(["cc", "-shared", "-fPIC", "-O1", *words, f"{PORT}/divide.c"], check=True)
     calls, left = ctypes.CDLL(f"{os.getcwd()}/divide.so"), ctypes.c_uint64()
     calls.divide_unsigned.restype, calls.divide_signed.restype = ctypes.c_uint64, ctypes.c_int64
     pairs = [(number, by) for number in EDGES for by in EDGES if by]

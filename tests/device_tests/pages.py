@@ -15,7 +15,7 @@ def shown_boards(page):
 
 
 def test_the_boards_that_the_pages_show_write_what_is_shown():
-    for it in ("aarch64", "thumbv7em"):
+    for it in ("aarch64", "thumbv7em", "riscv32"):
         processors((it,))
     can_be_built()
     how, here = {"stdin": subprocess.DEVNULL}, os.getcwd()
