@@ -21,7 +21,8 @@
  * Nothing is allocated.
  *
  * Each open database has a struct, memory and a flash of its own. Calls on several databases may be mixed, and a callback
- * may use another database; but only one thread at a time is inside of these calls, whichever database they are about.
+ * may use another database; but only one thread at a time is inside of these calls, whichever database they are about, and
+ * no interrupt is.
  *
  * c/sorachest.h is the interface for images in memory. One program takes one of the two.
  */
@@ -167,11 +168,12 @@ static inline struct sorachest_value sorachest_of_text(const char *text, size_t 
 int sorachest_insert(struct sorachest *db, const char *relation, const struct sorachest_value *values, size_t count);
 
 /* The last line that the database wrote, with a 0 behind it: a row, `ok`, `rows 2`, `no attribute 1`. Empty where it has
- * written none since the call began. */
+ * written none since the call began. A call that is MISUSE or VALUE leaves it. */
 const char *sorachest_reply(const struct sorachest *db);
 
-/* Ends the session. A row that is there is lost, and commands that have not begun are not carried out. It may be left out:
- * between calls nothing is written. OK, also for a closed database; MISUSE from within a callback. */
+/* Ends the session. The command under way is finished, and those that have not begun are not carried out. It may be left out:
+ * between calls nothing is written. OK, also for a closed database; FLASH, where that command failed; MISUSE from within a
+ * callback. */
 int sorachest_close(struct sorachest *db);
 
 /* Forms of a closed database. `row` is called for each line, which sorachest_reply tells. The database is closed behind them.
