@@ -46,7 +46,7 @@ static struct taken take_more(void *old, usize kept, usize count) {
     return taken;
 }
 
-/* Where an address has 32 bits the pair is handed over in memory (port/addresses32.py). No alignment is more than 16. */
+/* Where an address has 32 bits the pair is handed over in memory (port/addresses32.py). No alignment is more than 8. */
 #if __SIZEOF_POINTER__ > 4
 struct taken rattle_alloc(usize count, usize alignment) {
     (void)alignment;

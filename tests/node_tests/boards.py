@@ -83,8 +83,9 @@ def test_calls_on_32_bit_riscv():
 def test_calls_on_a_microcontroller():
     needs("qemu-system-arm")
     write("chip", keyed_image(128))
-    done = ended([f"{EXAMPLES}/stm32", "build"], env={**os.environ, "LOGGER_SOURCE": f"{HERE}/figures.c"})
+    how = {"env": {**os.environ, "LOGGER_SOURCE": f"{HERE}/figures.c", "BOARD": "-icount shift=0"}}
+    done = ended([f"{EXAMPLES}/stm32", "build"], **how)
     same(done[0], 0, f"the status of the build, which said {done[2]}")
-    done = ended([f"{EXAMPLES}/stm32", "chip"], env={**os.environ, "BOARD": "-icount shift=0"})
+    done = ended([f"{EXAMPLES}/stm32", "chip"], **how)
     same(done[0], 0, f"the status of the board, which said {done[2]}")
     print(f"thumbv7em:\n{figures(done[1])}", end="")

@@ -109,17 +109,18 @@ def test_a_logger_that_loses_its_power_loses_no_reading():
     cut(made(3_600_000), 40, 300)
 
 
-def on_the_board(**how):
-    """The command that switches a board on, with what it runs built anew."""
+def on_the_board(every):
+    """The command that switches a board on, on which the logger stores a reading every so many milliseconds."""
     needs("qemu-system-arm")
-    done = ended([f"{EXAMPLES}/stm32", "build"], env={**os.environ, **how})
+    command = ["env", f"LOGGER_EVERY={every}", f"{EXAMPLES}/stm32"]
+    done = ended([*command, "build"])
     same(done[0], 0, f"the status of the build, which said {done[2]}")
-    return [f"{EXAMPLES}/stm32", "chip"]
+    return [*command, "chip"]
 
 
 def test_the_logger_runs_on_a_microcontroller():
-    shell_and_timer(on_the_board(LOGGER_EVERY="100"))
+    shell_and_timer(on_the_board(100))
 
 
 def test_a_microcontroller_that_loses_its_power_loses_no_reading():
-    cut(on_the_board(LOGGER_EVERY="3600000"), 15, 300)
+    cut(on_the_board(3_600_000), 15, 300)
