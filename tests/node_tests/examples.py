@@ -92,13 +92,14 @@ def cut(command, times, many):
                 raise AssertionError(f"of {answered} readings that were answered {stands} are there; it said {one.said}")
             answered = stands
             one.send("".join(f"INSERT ({2_000_000 + turn * 1000 + it}, 77) INTO readings\n" for it in range(many)))
-            time.sleep(0.01 + rnd.random() * 0.2)
+            said = [one.line() for _ in range(rnd.randrange(1, many // 4))]
+            time.sleep(rnd.random() * 0.01)
             os.killpg(one.begun.pid, signal.SIGKILL)
-            said = one.begun.stdout.read().decode().split("\n")[:-1]
-            same({it.strip() for it in said} <= {"ok"}, True, f"that all of {said[:3]} are ok")
+            said += one.begun.stdout.read().decode().split("\n")[:-1]
+            same({it.strip() for it in said}, {"ok"}, f"what is said of {said[:3]}")
             answered += len(said)
     print(f"{times} loggers lost their power, {repaired} were repaired, {answered} readings were answered and are there")
-    same(answered > times, True, f"that {answered} readings are many")
+    same(answered > 10 * times, True, f"that {answered} readings are many")
 
 
 def test_the_logger_stores_and_answers():
