@@ -12,9 +12,9 @@ KEYED = "CREATE RELATION n; CREATE ATTRIBUTE k DOMAIN INT IN n; CREATE ATTRIBUTE
 
 # Of a processor: the header of its board, its start, its linker's name, further files, how many sectors the chips have, and qemu.
 BOARDS = {
-    "aarch64": ("virt_aarch64.h", "aarch64", "aarch64elf", [], 256, ["qemu-system-aarch64", "-M", "virt", "-cpu", "cortex-a53", "-m", "16M", "-semihosting"]),
-    "riscv64": ("virt_riscv.h", "riscv", "elf64lriscv", [], 128, ["qemu-system-riscv64", "-M", "virt", "-m", "16M", "-bios", "none"]),
-    "riscv32": ("virt_riscv.h", "riscv", "elf32lriscv", ["divide.c"], 128, ["qemu-system-riscv32", "-M", "virt", "-m", "16M", "-bios", "none"]),
+    "aarch64": ("virt_aarch64.h", "aarch64", "aarch64elf", [], 256, "qemu-system-aarch64 -cpu cortex-a53 -semihosting -kernel elf"),
+    "riscv64": ("virt_riscv.h", "riscv", "elf64lriscv", [], 128, "qemu-system-riscv64 -bios none -device loader,file=elf"),
+    "riscv32": ("virt_riscv.h", "riscv", "elf32lriscv", ["divide.c"], 128, "qemu-system-riscv32 -bios none -device loader,file=elf"),
 }
 
 
@@ -41,8 +41,9 @@ def linked(target):
         done = ended([f"{tools}/clang", *words, "-c", source, "-o", f"{os.path.basename(source)}.o"])
         same((done[0], done[2]), (0, ""), f"the end of the compiler of {source}")
     objects = [os.path.abspath(f"{os.path.basename(it)}.o") for it in sources]
+    objects += [f"{NODE}/out/{target}/lib/sorachest_node.o", "-o", os.path.abspath("elf")]
     places = ["--gc-sections", "--defsym=ram_size=0x28000", "--defsym=stack_size=0x4000", "-T", f"{kind}.ld"]
-    done = ended([f"{tools}/ld.lld", "-m", emulation, *places, *objects, f"{NODE}/out/{target}/lib/sorachest_node.o", "-o", os.path.abspath("elf")], cwd=PORT)
+    done = ended([f"{tools}/ld.lld", "-m", emulation, *places, *objects], cwd=PORT)
     same((done[0], done[2]), (0, ""), "the end of the linker")
 
 
@@ -52,7 +53,7 @@ def figures(told):
 
 
 def on_virt(target):
-    sectors, qemu = BOARDS[target][4:]
+    sectors, qemu = BOARDS[target][4], BOARDS[target][5].split()
     needs(qemu[0])
     chip = keyed_image(128)
     linked(target)
@@ -60,8 +61,7 @@ def on_virt(target):
         for at in range(0, len(chip), SECTOR):
             file.write(chip[at:at + SECTOR] + b"\xff" * (BLOCK - SECTOR))
         file.write(b"\xff" * (BLOCK * sectors - file.tell()))
-    kernel = ["-kernel", "elf"] if target == "aarch64" else ["-device", "loader,file=elf"]
-    words = [*qemu, *kernel, "-drive", "if=pflash,unit=1,format=raw,file=chip", "-icount", "shift=0"]
+    words = [*qemu, "-M", "virt", "-m", "16M", "-drive", "if=pflash,unit=1,format=raw,file=chip", "-icount", "shift=0"]
     words += ["-nic", "none", "-nographic", "-monitor", "none", "-serial", "stdio"]
     status, told, said = ended(words)
     same((status, said), (0, ""), f"the end of the board, which told {told}")

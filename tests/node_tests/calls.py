@@ -67,5 +67,6 @@ def test_the_header_is_one_of_c_and_of_cpp():
     needs("cc", "c++")
     for compiler, language in (("cc", "-std=c99"), ("cc", "-std=c17"), ("c++", "-std=c++11"), ("c++", "-std=c++20")):
         kind = "c++" if compiler == "c++" else "c"
-        done = ended([compiler, language, "-Wall", "-Wextra", "-Wpedantic", "-Werror", "-fsyntax-only", "-x", kind, f"{NODE}/sorachest_node.h"])
+        words = [compiler, language, "-Wall", "-Wextra", "-Wpedantic", "-Werror", "-fsyntax-only", "-x", kind]
+        done = ended([*words, f"{NODE}/sorachest_node.h"])
         same(done[0], 0, f"the status of {compiler} {language}, which said {done[2]}")

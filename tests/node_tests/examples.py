@@ -68,7 +68,8 @@ def shell_and_timer(command):
         same(one.ask("SELECT " + "k," * 300), ["no long"], "what is said of a line that is too long")
         while one.count() < 3:
             time.sleep(0.05)
-        same(one.ask("SELECT number, celsius FROM readings WHERE number < 3"), ["0,18", "1,20", "2,22", "rows 3"], "the first readings")
+        first = ["0,18", "1,20", "2,22", "rows 3"]
+        same(one.ask("SELECT number, celsius FROM readings WHERE number < 3"), first, "the first readings")
         same(int(one.ask("?")[0].split()[1]) > 10_000, True, "that the memory is told")
         first = one.count()
     with Logger(command) as other:
@@ -77,7 +78,8 @@ def shell_and_timer(command):
         rows = other.ask("SELECT number FROM readings")[:-1]
         same(rows, [str(it) for it in range(len(rows))], "the numbers of the readings")
     write("image", read("chip").translate(INVERTED))
-    same(program("look", "image")[1].startswith(b"relation readings (number LONG, celsius INT) rows "), True, "what the program reads from the chip")
+    looked = program("look", "image")[1]
+    same(looked.startswith(b"relation readings (number LONG, celsius INT) rows "), True, f"that {looked} is what stands there")
 
 
 def cut(command, times, many, unheard=0):

@@ -4,7 +4,7 @@ import re
 import shutil
 import subprocess
 
-from library_tests.common import EXAMPLES, erased, example, needs, read, same, write
+from library_tests.common import EXAMPLES, ended, erased, example, needs, read, same, write
 from node_tests.common import compiled, program
 
 
@@ -43,6 +43,10 @@ def test_examples_answer_so_where_each_access_is_watched():
         beside(made, "run", "image", example(name), ["valgrind", "--quiet", "--error-exitcode=99", "--leak-check=full"])
 
 
+TEXTS = ["", ";", " ", "0123456789", "(", "a b"]
+AGGREGATES = ["COUNT", "SUM", "MIN", "MAX", "MEAN", "MEDIAN"]
+
+
 def condition(rnd, key):
     one = f"{key} {rnd.choice(['=', '<', '>=', '<>'])} {rnd.randint(-200, 200)}"
     return one if rnd.random() < 0.7 else f"{one} {rnd.choice(['AND', 'OR'])} {key} < {rnd.randint(-200, 200)}"
@@ -55,9 +59,9 @@ def command(rnd):
     return rnd.choices([
         lambda: f"INSERT ({key}, 'x,{rnd.randint(0, 999)}') INTO a",
         lambda: f"INSERT ({key}, {rnd.randint(-10**9, 10**9)}) INTO b",
-        lambda: f"INSERT ({rnd.randint(-40000, 40000)}, '{rnd.choice(['', ';', ' ', '0123456789', '(', 'a b'])}') INTO {relation}",
+        lambda: f"INSERT ({rnd.randint(-40000, 40000)}, '{rnd.choice(TEXTS)}') INTO {relation}",
         lambda: f"SELECT k, {name} FROM {relation} WHERE {condition(rnd, 'k')}",
-        lambda: f"SELECT {rnd.choice(['COUNT', 'SUM', 'MIN', 'MAX', 'MEAN', 'MEDIAN'])}({name}) FROM {relation} WHERE {condition(rnd, 'k')}",
+        lambda: f"SELECT {rnd.choice(AGGREGATES)}({name}) FROM {relation} WHERE {condition(rnd, 'k')}",
         lambda: f"REMOVE FROM {relation} WHERE k = {key}",
         lambda: f"CREATE INDEX {relation}.k TYPE {rnd.choice(['INLINE', 'MAXHEAP', 'MEMHASH'])}",
         lambda: f"REMOVE INDEX {relation}.k",
@@ -125,6 +129,6 @@ def test_the_memory_that_the_header_asks_for_is_enough():
         erased("image", 64)
         used.append(beside(made, "run", "image", "script")[1])
         used += [beside(made, form, "image")[1] for form in ("look", "dump", "repair")]
-    lent = int(re.search(rb" of (\d+)", subprocess.run([made, "look", "image"], stderr=subprocess.PIPE, stdout=subprocess.PIPE).stderr)[1])
+    lent = int(re.search(r" of (\d+)", ended([made, "look", "image"])[2])[1])
     print(f"the deepest of these calls took {max(used)} bytes of memory")
     same(max(used) + 2048 <= lent, True, f"that {lent} bytes are enough for them, and 2,048 for interrupts")

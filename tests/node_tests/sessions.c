@@ -369,7 +369,9 @@ static void wake_nobody(const struct sorachest_config *of, int whose) { (void)of
 
 static void test_arguments_that_are_none(void) {
     struct sorachest_config *well = new_config(8), bad;
-#define REFUSED_WITH(change) (bad = *well, change, sorachest_open(&db, &bad) == SORACHEST_MISUSE && sorachest_repair(&db, &bad, NULL, NULL) == SORACHEST_MISUSE)
+#define REFUSED_WITH(change)                                             \
+    (bad = *well, change, sorachest_open(&db, &bad) == SORACHEST_MISUSE && \
+                              sorachest_repair(&db, &bad, NULL, NULL) == SORACHEST_MISUSE)
     MUST(sorachest_open(&db, NULL) == SORACHEST_MISUSE && sorachest_dump(&db, NULL, NULL, NULL) == SORACHEST_MISUSE);
     MUST(REFUSED_WITH(bad.read = NULL) && REFUSED_WITH(bad.program = NULL) && REFUSED_WITH(bad.erase = NULL));
     MUST(REFUSED_WITH(bad.sectors = 3) && REFUSED_WITH(bad.sectors = 4096) && REFUSED_WITH(bad.memory = NULL));
