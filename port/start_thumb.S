@@ -1,11 +1,18 @@
 // Start of a Cortex-M board.
 //
-// The program has the stack of processes, which lies lowest in RAM: below it is nothing that could be written. Faults have a stack
-// of their own, so that one that grew too far still ends in `trap`.
+// The program has the stack of processes, which lies lowest in RAM, and what lies below RAM may not be written. Faults have a stack
+// of their own, so that one that grew too far still ends in `trap`. A firmware that uses core-coupled memory opens that again.
 
     .syntax unified
     .thumb
     .set FAULT_STACK, 256
+
+    .set MPU, 0xe000ed94
+    .set ON_ABOVE_DEFAULTS, 5
+    .set FROM_0, 0x10                           // the region 0, from address 0 on
+    .set READ_ONLY, 6 << 24
+    .set OF_MEMORY, 1 << 17
+    .set UP_TO_RAM, 28 << 1 | 1                 // 512 MiB
 
     .section .start, "ax"
     .globl _start
@@ -22,6 +29,14 @@ _start:
     msr psp, r0
     movs r0, #2
     msr control, r0
+    ldr r0, =MPU
+    movs r1, #FROM_0
+    str r1, [r0, #8]
+    ldr r1, =READ_ONLY | OF_MEMORY | UP_TO_RAM
+    str r1, [r0, #12]
+    movs r1, #ON_ABOVE_DEFAULTS
+    str r1, [r0]
+    dsb
     isb
     ldr r0, =bss_low
     ldr r1, =bss_high

@@ -7,7 +7,7 @@ import subprocess
 from .common import PORT, ROOT, Skipped, can_be_built, same
 
 TESTS = f"{ROOT}/tests/device_tests"
-CASES = 25
+CASES = 15
 # what the program and its driver call by a name of the system's, or of the compiler's
 NAMES = "main read write pread pwrite open close statx __sysv_signal memcpy memmove memset memcmp bcmp".split()
 SANITIZERS = ["-fsanitize=address,undefined", "-fno-sanitize-recover=all", "-fno-builtin", "-g", "-O1", "-no-pie", "-Wall", "-Wextra", "-Werror"]
