@@ -10,7 +10,7 @@ INVERTED = bytes(255 - byte for byte in range(256))
 BLOCK, SECTOR = 0x40000, 4096
 KEYED = "CREATE RELATION n; CREATE ATTRIBUTE k DOMAIN INT IN n; CREATE ATTRIBUTE v DOMAIN INT IN n; CREATE INDEX n.k TYPE INLINE;"
 
-# Of a processor: the header of its board, its start, its linker's name, further files, how many sectors the chips have, and qemu.
+# Of a processor: the header of its board, its start, its linker's name, further files, how many blocks its chips have, and qemu.
 BOARDS = {
     "aarch64": ("virt_aarch64.h", "aarch64", "aarch64elf", [], 256, "qemu-system-aarch64 -cpu cortex-a53 -semihosting -kernel elf"),
     "riscv64": ("virt_riscv.h", "riscv", "elf64lriscv", [], 128, "qemu-system-riscv64 -bios none -device loader,file=elf"),
@@ -36,7 +36,7 @@ def linked(target):
     sources = [f"{PORT}/{it}" for it in (f"start_{kind}.S", "node.c", "virt.c", "chip.c", *further)]
     sources += [f"{EXAMPLES}/board_qemu.c", f"{HERE}/figures.c"]
     words = [*flags, "-std=c11", "-Os", "-ffreestanding", "-fno-builtin", "-ffunction-sections", "-Wall", "-Wextra", "-Werror"]
-    words += ["-isystem", f"{PORT}/include", f"-I{PORT}", f"-I{EXAMPLES}", f'-DBOARD="{header}"']
+    words += ["-isystem", f"{PORT}/include", f"-I{PORT}", f"-I{EXAMPLES}", f'-DBOARD="{header}"', "-DSECTORS=128"]
     for source in sources:
         done = ended([f"{tools}/clang", *words, "-c", source, "-o", f"{os.path.basename(source)}.o"])
         same((done[0], done[2]), (0, ""), f"the end of the compiler of {source}")
