@@ -79,15 +79,13 @@ static int guard_stands(const struct sorachest_config *config) {
 }
 
 static void give_turn(struct sorachest *db) {
-    struct sorachest *before = sorachest_running; /* a callback may use another database */
-    sorachest_running = db;
+    sorachest_running = db; /* each time, since a callback may have used another database */
     if (has_thread(db->config)) {
         db->config->wake(db->config, SORACHEST_THREAD);
         db->config->wait(db->config, SORACHEST_CALLER);
     } else {
         switch_stack(&db->of_caller, db->of_program);
     }
-    sorachest_running = before;
 }
 
 int sorachest_go_on(struct sorachest *db) {
