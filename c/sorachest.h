@@ -1,4 +1,5 @@
-/* Sorachest for C: a relational database on the image of a NOR flash, in memory that the caller lends.
+/* Sorachest for C: a relational database on the image of a NOR flash, which stands whole in memory that the caller lends.
+ * For a flash chip, of which a firmware reads and programs a part at a time, take node/sorachest_node.h.
  *
  * Nothing is kept from one call to the next, nothing is allocated, and no call waits: each opens the database on the
  * image, does what it is asked for, and leaves all of it in the image. What each call leaves there and writes is proved;
@@ -19,6 +20,10 @@
  */
 #ifndef SORACHEST_H
 #define SORACHEST_H
+
+#ifdef SORACHEST_NODE_H
+#error "sorachest.h and sorachest_node.h have calls of the same names: a program takes one of them"
+#endif
 
 #include <stddef.h>
 #include <stdint.h>

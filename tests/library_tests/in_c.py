@@ -46,6 +46,56 @@ def test_the_example_answers_as_the_program():
         same(read("image") == read("other"), True, f"that the image behind {name} is the program's")
 
 
+def run_example(before, image, script=None):
+    """The example over an image, in a shell that has said something before: its status, what it wrote and what it said."""
+    words = ["sh", "-c", f'{before}; exec "$0" "$1" <"$2"', os.path.abspath("made"), image, script or "/dev/null"]
+    return ended(words)
+
+
+def test_the_example_leaves_what_is_no_image_as_it_is():
+    compiled(f"{ROOT}/c/example.c")
+    # too long for an image, of no length of one, and not sound
+    unsound = bytearray(256 * 4096)
+    unsound[9] = 1
+    for content, status in ((b"film" * 5_000_000, 1), (b"a letter", 10), (bytes(unsound), 6)):
+        write("film", content)
+        done = run_example(":", "film", example("first"))
+        same(done[0], status, f"the status over {len(content)} bytes, of which it said {done[2]}")
+        same(read("film") == content, True, f"that {len(content)} bytes are as they were")
+    same(sorted(it for it in os.listdir(".") if it.startswith("film")), ["film"], "the files beside it")
+
+
+def test_the_example_leaves_what_it_may_not_read_as_it_is():
+    compiled(f"{ROOT}/c/example.c")
+    os.mkdir("folder")
+    same(run_example(":", "folder", example("first"))[:2], (1, b""), "what it does to a folder")
+    same(run_example(":", "folder/none/image", example("first"))[:2], (1, b""), "what it does where there is no folder")
+    if os.geteuid() == 0:
+        return
+    erased("image")
+    os.chmod("image", 0o222)
+    same(run_example(":", "image", example("first"))[:2], (1, b""), "what it does to a file that it may not read")
+    os.chmod("image", 0o644)
+    same(read("image") == bytes(256 * 4096), True, "that the file is as it was")
+
+
+def test_the_example_leaves_an_image_that_it_cannot_write_whole():
+    compiled(f"{ROOT}/c/example.c")
+    same(run_example(":", "image", example("first"))[0], 0, "the status at first")
+    was = read("image")
+    # blocks of 512 bytes; the signal would end it
+    done = run_example("trap '' XFSZ; ulimit -S -f 1024", "image", example("station"))
+    same((done[0], done[1]), (1, b""), "its status and replies where the disk is full")
+    same((read("image") == was, os.path.exists("image.new")), (True, False), "that the image is as it was, and nothing beside it")
+
+
+def test_the_example_tells_that_its_replies_were_lost():
+    made = compiled(f"{ROOT}/c/example.c")
+    done = ended(["sh", "-c", 'exec "$0" image <"$1" >/dev/full', made, example("first")])
+    same(done[0], 1, "the status")
+    same(program("run", "other", example("first"))[0] == 0 and read("image") == read("other"), True, "that all was carried out")
+
+
 def test_the_readme_shows_what_the_example_writes():
     shown = "".join(f"    {it}\n" for it in read(f"{EXAMPLES}/first.expected").decode().splitlines())
     page = read(f"{ROOT}/README.md").decode()
