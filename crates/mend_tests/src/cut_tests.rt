@@ -1,7 +1,8 @@
 ghost use Rattle.std.specs.Prelude.{◌≡◌, None, OnOk};
 
 use crate::database::{
-    ROWS, first_relation, no_relation, one_index, one_relation, put_catalog, put_growing,
+    ROWS, emptied_relation, first_relation, no_relation, one_index, one_relation, put_catalog,
+    put_growing,
 };
 use crate::mended::{byte_at, is_mended, size_named};
 use afl_base::{FileError, Files};
@@ -71,9 +72,7 @@ fn a_sound_catalog_of_version_1_stays(rt: HostRuntime) {
 fn empties_a_slot<V: Files>(files: &mut V) -> Result<bool, FileError>
     requires idle { (V.state files.old).draft ≡ None }
 {
-    let mut bytes = one_relation(2);
-    bytes[..128].fill(0);
-    put_catalog(files, &bytes, 1480)?;
+    put_catalog(files, &emptied_relation(), 1480)?;
     put_growing(files, b"T0", &ROWS)?;
     let mended = is_mended(files, b"relation of slot 0 removed\n")?;
     let emptied = byte_at(files, b"CAT", 160)? == Some(0);

@@ -36,6 +36,15 @@ pub fn one_relation(domain: u8) -> [u8; 1480] {
     bytes
 }
 
+/// The same, whose slot was being emptied: it is zero up to where a region begins.
+pub fn emptied_relation() -> [u8; 1480] {
+    let mut bytes = one_relation(2);
+    for at in 0..128 {
+        bytes[at] = 0;
+    }
+    bytes
+}
+
 /// The same with a MAXHEAP index on r.k in slot 0.
 pub fn one_index() -> [u8; 1480] {
     let mut bytes = one_relation(2);
