@@ -28,6 +28,8 @@ use space_plan::FurtherRows;
 use workload_run::generate;
 
 /// Carries out what a form asks for on a flash of so many sectors.
+// Not inlined, since its caller would keep a second session on its stack.
+#[inline(never)]
 pub fn carry_out<V: Files, S: Source, K: Sink>(
     form: Form,
     sectors: u16,

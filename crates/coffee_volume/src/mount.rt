@@ -71,6 +71,7 @@ pub fn list<F: Flash>(flash: &mut F) -> Result<Listed, Unlisted>
 impl<F: Flash> Volume<F> {
     /// Judges the image and lists its files, whose ids are given in page order from 0. At most 448
     /// reads for each page of the flash. Nothing is written, where it fails too.
+    #[inline(never)]
     pub fn mount(mut flash: F) -> Result<Volume<F>, MountError<F>>
         ensures sound { IsTrue F.tells → OnOk result (broken_image (F.image flash) ≡ None) }
         ensures files { IsTrue F.tells → IfOk result (λ v.

@@ -1,9 +1,9 @@
-use Rattle.std.proofs.Common.{refl, rules}
+use Rattle.std.proofs.Common.{rules}
 use Rattle.lent.proofs.Memory.{repairs}
 use Rattle.lent.proofs.repairing.repair_lent.Goals as goal
 
 pub returns-clause-told : goal.returns-clause-told
 returns-clause-told c = λ n.
-    let ran = c.repair-status in
+    let ran = c.repair_handed-status in
     repairs ran.result c.new-out.result.bytes.now ran.new.out.count
-    (ran.ensures.told refl) c.new-flash.ensures.bytes c.new-out.ensures.count (search rules) (search rules)
+    ran.ensures.told c.new-flash.ensures.bytes c.new-out.ensures.count (search rules) (search rules)
