@@ -31,6 +31,10 @@ def settle(megabytes):
             os.fstat(number)
         except OSError:
             os.open(os.devnull, os.O_RDWR)
+    # what a shell has ignored for what it puts behind; a hangup stays ignored, as nohup wants it
+    for number in (signal.SIGINT, signal.SIGQUIT, signal.SIGTERM):
+        if signal.getsignal(number) == signal.SIG_IGN:
+            signal.signal(number, signal.SIG_DFL)
     os.umask(0o022)
     signal.signal(signal.SIGCHLD, signal.SIG_DFL)
     signal.pthread_sigmask(signal.SIG_SETMASK, ())
