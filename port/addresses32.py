@@ -70,18 +70,20 @@ define internal {pair} @rattle_{name}({named}) {{
 INT = r"i(?:1|8|16|32|64|128|256)\b"
 ONE = rf"(?:{INT}|ptr\b)"
 PAIR = rf"(?:\{{ {ONE}, {ONE} \}}|\[2 x i64\])"
-BYTES, BITS = r"<\d+ x i8>", r"<\d+ x i1>"
+BYTES, BITS, LANES = r"<\d+ x i8>", r"<\d+ x i1>", r"<\d+ x i(?:8|16|32|64)>"
 NAME = r'(?:[-\w.$]+|"[^"]*")'
 LIST = r"<i\d+ -?\d+(?:, i\d+ -?\d+)*>"
-NUMBER = rf"(?:%{NAME}|-?\d+|true|false|poison|undef|zeroinitializer|{LIST})"
+SPLAT = r"splat \(i\d+ -?\d+\)"
+NUMBER = rf"(?:%{NAME}|-?\d+|true|false|poison|undef|zeroinitializer|{SPLAT}|{LIST})"
 ADDRESS = rf"(?:[%@]{NAME}|null|poison|undef)"
 VALUE = rf"(?:{NUMBER}|{ADDRESS})"
 GIVEN = r"(?: noundef| zeroext| signext| nonnull| noalias| readonly| range\(i\d+ -?\d+, -?\d+\))*"
-KIND = rf"(?:void|{ONE}|{PAIR})"
+KIND = rf"(?:void|{ONE}|{PAIR}|{BYTES})"
 ALIGN = r", align (\d+)"
 
 MOVE = r"@llvm\.(?:memset\.p0|memmove\.p0\.p0|memcpy\.p0\.p0)\."
-PURE = rf"@llvm\.(?:cttz|ctlz|ctpop|bswap|bitreverse|fshl|fshr|umin|umax|smin|smax|abs)\.{INT}"
+# The last one is of the toolchain's processor. clang for another one refuses it where it is not dead code.
+PURE = rf"@llvm\.(?:(?:cttz|ctlz|ctpop|bswap|bitreverse|fshl|fshr|umin|umax|smin|smax|abs)\.{INT}|aarch64\.neon\.addp\.v16i8)"
 NEEDS_NOTHING = r"@llvm\.(?:trap|donothing)"
 
 SIZES = {"i8": 1, "i16": 2, "i32": 4, "i64": 8, "ptr": 8}
@@ -181,7 +183,7 @@ def an_address_as_number(start, rest):
 
 
 CALL = re.compile(rf"{GIVEN} ({KIND})(?: \(ptr, i32, \.\.\.\))? ({ADDRESS})\((.*)\)((?: #\d+)*)")
-ARGUMENT = re.compile(rf"(?:{ONE}|{PAIR}){GIVEN} {VALUE}")
+ARGUMENT = re.compile(rf"(?:{ONE}|{PAIR}|{BYTES}){GIVEN} {VALUE}")
 
 
 class Calls:
@@ -212,7 +214,7 @@ class Calls:
 
 FLAGS = r"(?: nuw| nsw| nneg| exact| disjoint)*"
 OF_TWO = alike(rf"{FLAGS} (?:{INT}|{BYTES}) {NUMBER}, {NUMBER}")
-OF_ONE = alike(rf"{FLAGS} (?:{INT}|{BITS}) {NUMBER} to (?:{INT}|{BYTES})")
+OF_ONE = alike(rf"{FLAGS} (?:{INT}|{BITS}|{LANES}) {NUMBER} to (?:{INT}|{LANES})")
 UNSIGNED = r"(?:eq|ne|ult|ule|ugt|uge)"
 RULES = {
     **dict.fromkeys("add sub mul udiv sdiv urem srem and or xor shl lshr ashr".split(), OF_TWO),
@@ -221,6 +223,7 @@ RULES = {
     "select": alike(rf" i1 {NUMBER}, {ONE} {VALUE}, {ONE} {VALUE}"),
     "phi": alike(rf" {ONE} \[ {VALUE}, %{NAME} \](?:, \[ {VALUE}, %{NAME} \])*"),
     "shufflevector": alike(rf" {BYTES} {NUMBER}, {BYTES} {NUMBER}, <\d+ x i32> {NUMBER}"),
+    "extractelement": alike(rf" {LANES} {NUMBER}, i32 \d+"),
     "extractvalue": alike(rf" {PAIR} {VALUE}, [01]"),
     "insertvalue": alike(rf" {PAIR} {VALUE}, {ONE} {VALUE}, [01]"),
     "getelementptr": alike(rf"(?: inbounds| nusw| nuw)* i8, ptr {ADDRESS}, i64 {NUMBER}"),

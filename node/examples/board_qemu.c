@@ -16,3 +16,6 @@ void board_start(void) {
     count_instructions();
     power_off(logger());
 }
+
+/* What start code calls for a trap, where it does not end the board itself. */
+void board_trapped(void) { power_off(99); }
