@@ -5,12 +5,13 @@ use Rattle.afl_base.specs.FileErrors.{HasFileCause, OnSpace}
 use Rattle.afl_base.specs.Files.{State}
 use Rattle.afl_base.specs.declared.kind.FileError.{FileError}
 
--- a call that only reads, of files or of a flash: all that is seen of it stays, on a failure too, and
--- it holds on to what it borrows
+-- a call that only reads, of files or of a flash: all that is seen of it stays, on a failure too, it
+-- holds on to what it borrows, and on success no fault was counted
 pub record OnlyReads {S A T E : Type 0} (seen : S → A) (borrows : S → List ℕ) (reads faults : S → ℕ) (old new : S) (result : Result T E) : Type 0 where
   pub same : seen new ≡ seen old
   pub lent : borrows new ≡ borrows old
   pub later : reads old ≤ reads new
+  pub faultless : OnOk result (faults new ≡ faults old)
   pub cause : HasCause (faults old) (faults new) result
 
 -- a call that may change files: what all is kept in has as many bytes as before

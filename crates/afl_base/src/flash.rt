@@ -40,7 +40,6 @@ pub trait Flash {
             (into.new ≡ slice_range (image self.old) (256 * page.0 + at) (256 * page.0 + at + length into.old)) }
         ensures counted { CountsOne (reads self.old) (reads self.new) }
         ensures reads { reads self.new ≤ reads self.old + 1 }
-        ensures faultless { OnOk result (faults self.new ≡ faults self.old) }
         ensures frame { OnlyReads image lent reads faults self.old self.new result };
 
     /// Makes each byte of `page` from byte `at` on `old OR given`. After `Failed` that page may hold

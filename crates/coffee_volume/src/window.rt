@@ -14,8 +14,13 @@ use std::marker::Model;
 // The most bytes that are held: those of a page.
 const WINDOW_SIZE: usize = 256;
 
+// The most bytes that a read may skip and go on: those of the longest row, of which a scan by one
+// field skips the others.
+const MOST_SKIPPED: u32 = 128;
+
 /// Bytes of the file that was read last. Where reads go on in order, each beginning where the one
-/// before it ended, what stands behind in the same page is read with them, and so each page once.
+/// before it ended or a little behind, what stands behind in the same page is read with them, and so
+/// each page once.
 #[derive(Drop)]
 pub(crate) struct Window {
     file: u16,
@@ -84,7 +89,7 @@ impl Window {
         // What the number of sectors promises bounds the size.
         flash.sectors();
         self.turn_to(id.number());
-        let goes_on = self.end == at;
+        let goes_on = self.end <= at && at - self.end <= MOST_SKIPPED;
         self.end = at + into.len() as u32;
         let given = self.give(at, into);
         self.read_rest(flash, file, at + given as u32, &mut into[given..], goes_on)?;

@@ -11,7 +11,7 @@ invariant-loop-at g l = record {
   lent : g.F.Flash.lent l.flash ≡ g.F.Flash.lent l.fn.flash;
   reads : g.F.Flash.reads l.flash ≤ g.F.Flash.reads l.fn.flash + l.at;
   later : g.F.Flash.reads l.fn.flash ≤ g.F.Flash.reads l.flash;
-  faults : g.F.Flash.faults l.fn.flash ≤ g.F.Flash.faults l.flash;
+  faults : g.F.Flash.faults l.flash ≡ g.F.Flash.faults l.fn.flash;
   walked : IsTrue g.F.Flash.tells → Walked (g.F.Flash.image l.fn.flash) l.at;
   passed : IsTrue g.F.Flash.tells → HasNoFile (g.F.Flash.image l.fn.flash) l.from l.at l.name;
 }

@@ -11,6 +11,6 @@ invariant-loop-turn g l = record {
   lent : g.F.Flash.lent l.flash ≡ g.F.Flash.lent l.fn.flash;
   reads : g.F.Flash.reads l.flash ≤ g.F.Flash.reads l.fn.flash + l._turn * (2 * pages_of (g.F.Flash.image l.fn.flash));
   later : g.F.Flash.reads l.fn.flash ≤ g.F.Flash.reads l.flash;
-  faults : g.F.Flash.faults l.fn.flash ≤ g.F.Flash.faults l.flash;
+  faults : g.F.Flash.faults l.flash ≡ g.F.Flash.faults l.fn.flash;
   ahead : IsTrue g.F.Flash.tells → AreAhead (g.F.Flash.image l.fn.flash) l.from l._turn;
 }

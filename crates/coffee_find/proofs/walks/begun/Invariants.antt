@@ -12,7 +12,7 @@ invariant-loop-at g l = record {
   lent : g.F.Flash.lent l.flash ≡ g.F.Flash.lent l.fn.flash;
   reads : g.F.Flash.reads l.flash ≤ g.F.Flash.reads l.fn.flash + l.at;
   later : g.F.Flash.reads l.fn.flash ≤ g.F.Flash.reads l.flash;
-  faults : g.F.Flash.faults l.fn.flash ≤ g.F.Flash.faults l.flash;
+  faults : g.F.Flash.faults l.flash ≡ g.F.Flash.faults l.fn.flash;
   walked : IsTrue g.F.Flash.tells → Walked (g.F.Flash.image l.fn.flash) l.at;
   passed : IsTrue g.F.Flash.tells → l.fn.page.0 < l.at → unit_begun (units_of (g.F.Flash.image l.fn.flash)) 0 l.fn.page.0 ≡ None;
 }

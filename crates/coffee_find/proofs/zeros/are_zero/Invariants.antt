@@ -9,6 +9,6 @@ invariant-loop-page g l = record {
   lent : g.F.Flash.lent l.flash ≡ g.F.Flash.lent l.fn.flash;
   reads : g.F.Flash.reads l.flash + l.from ≤ g.F.Flash.reads l.fn.flash + l.page;
   later : g.F.Flash.reads l.fn.flash ≤ g.F.Flash.reads l.flash;
-  faults : g.F.Flash.faults l.fn.flash ≤ g.F.Flash.faults l.flash;
+  faults : g.F.Flash.faults l.flash ≡ g.F.Flash.faults l.fn.flash;
   zero : IsTrue g.F.Flash.tells → is_zeros (slice_range (g.F.Flash.image l.fn.flash) (256 * l.from) (256 * l.page)) ≡ true;
 }

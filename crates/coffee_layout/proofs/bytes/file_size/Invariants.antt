@@ -12,7 +12,7 @@ invariant-loop-region g l = record {
   zeros : IsTrue g.F.Flash.tells → (p : ℕ) → 128 * l.region ≤ p → p < 256 * l.pages - 32 → file_byte (g.F.Flash.image l.fn.flash) l.page.0 l.log p ≡ 0;
   reads : g.F.Flash.reads l.flash + 3 * l.region ≤ g.F.Flash.reads l.fn.flash + 6 * l.pages;
   later : g.F.Flash.reads l.fn.flash ≤ g.F.Flash.reads l.flash;
-  faults : g.F.Flash.faults l.fn.flash ≤ g.F.Flash.faults l.flash;
+  faults : g.F.Flash.faults l.flash ≡ g.F.Flash.faults l.fn.flash;
 }
 
 abbrev pub decreases-loop-region : goal.decreases-loop-region

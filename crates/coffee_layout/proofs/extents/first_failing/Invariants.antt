@@ -14,7 +14,7 @@ invariant-loop-page g l = record {
   lent : g.F.Flash.lent l.flash ≡ g.F.Flash.lent l.fn.flash;
   reads : g.F.Flash.reads l.flash ≤ g.F.Flash.reads l.fn.flash + 20 * l.page;
   later : g.F.Flash.reads l.fn.flash ≤ g.F.Flash.reads l.flash;
-  faults : g.F.Flash.faults l.fn.flash ≤ g.F.Flash.faults l.flash;
+  faults : g.F.Flash.faults l.flash ≡ g.F.Flash.faults l.fn.flash;
   searched : IsTrue g.F.Flash.tells → (us : List Unit) (files : List Placed) → IsTiled nowhere (g.F.Flash.image l.fn.flash) us → HasEntries l.rule (g.F.Flash.image l.fn.flash) l.table files
       → Searched (keeps_rule l.rule (g.F.Flash.image l.fn.flash) files) (g.F.Flash.image l.fn.flash) us l.page;
 }

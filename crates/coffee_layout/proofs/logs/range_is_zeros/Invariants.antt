@@ -14,7 +14,7 @@ invariant-loop-at g l = record {
   zeros : IsTrue g.F.Flash.tells → is_zeros (slice_range (g.F.Flash.image l.fn.flash) l.at l.fn.to) ≡ is_zeros (slice_range (g.F.Flash.image l.fn.flash) l.fn.from l.fn.to);
   reads : g.F.Flash.reads l.flash ≤ g.F.Flash.reads l.fn.flash + pages_touched l.fn.from (l.at - l.fn.from);
   later : g.F.Flash.reads l.fn.flash ≤ g.F.Flash.reads l.flash;
-  faults : g.F.Flash.faults l.fn.flash ≤ g.F.Flash.faults l.flash;
+  faults : g.F.Flash.faults l.flash ≡ g.F.Flash.faults l.fn.flash;
 }
 
 abbrev pub decreases-loop-at : goal.decreases-loop-at

@@ -16,5 +16,5 @@ invariant-loop-i g l = record {
   measured : IsTrue g.F.Flash.tells → (files : List Placed) → LogsFit (pages_of (g.F.Flash.image l.fn.flash)) files → l.fn.table ≡ map (λ f. entry_with f 0 0) files → l.table ≡ half_measured (g.F.Flash.image l.fn.flash) l.i files;
   reads : g.F.Flash.reads l.flash ≤ g.F.Flash.reads l.fn.flash + l.i * (1 + 6 * pages_of (g.F.Flash.image l.fn.flash));
   later : g.F.Flash.reads l.fn.flash ≤ g.F.Flash.reads l.flash;
-  faults : g.F.Flash.faults l.fn.flash ≤ g.F.Flash.faults l.flash;
+  faults : g.F.Flash.faults l.flash ≡ g.F.Flash.faults l.fn.flash;
 }

@@ -12,7 +12,7 @@ invariant-loop-file g l = record {
   lent : g.F.Flash.lent l.flash ≡ g.F.Flash.lent l.fn.flash;
   reads : g.F.Flash.reads l.flash ≤ g.F.Flash.reads l.fn.flash + l.file-index * (1 + pages_of (g.F.Flash.image l.fn.flash));
   later : g.F.Flash.reads l.fn.flash ≤ g.F.Flash.reads l.flash;
-  faults : g.F.Flash.faults l.fn.flash ≤ g.F.Flash.faults l.flash;
+  faults : g.F.Flash.faults l.flash ≡ g.F.Flash.faults l.fn.flash;
   searched : IsTrue g.F.Flash.tells → (us : List Unit) → IsTiled nowhere (g.F.Flash.image l.fn.flash) us → l.table ≡ map (λ f. entry_with f 0 0) (files_in us)
       → first_failing (names_its_log (logs_in us)) (drop l.file-index (files_in us)) ≡ first_failing (names_its_log (logs_in us)) (files_in us);
 }

@@ -13,7 +13,7 @@ invariant-loop-page g l = record {
   lent : g.F.Flash.lent l.flash ≡ g.F.Flash.lent l.fn.flash;
   reads : g.F.Flash.reads l.flash ≤ g.F.Flash.reads l.fn.flash + l.page;
   later : g.F.Flash.reads l.fn.flash ≤ g.F.Flash.reads l.flash;
-  faults : g.F.Flash.faults l.fn.flash ≤ g.F.Flash.faults l.flash;
+  faults : g.F.Flash.faults l.flash ≡ g.F.Flash.faults l.fn.flash;
   placed : All (λ e. IsPlaced (pages_of (g.F.Flash.image l.fn.flash)) e) l.table.items;
   judged : IsTrue g.F.Flash.tells → Judged (g.F.Flash.image l.fn.flash) l.page l.after_free l.table.items l.extra;
 }

@@ -13,7 +13,7 @@ invariant-loop-done g l = record {
   bytes : IsTrue g.F.Flash.tells → l.table ≡ table_of (g.F.Flash.image l.fn.flash) l.log.0 → (k : ℕ) → k < l.done → get_or l.into k 0 ≡ file_byte (g.F.Flash.image l.fn.flash) l.page.0 (Some l.log) (l.at + k);
   reads : g.F.Flash.reads l.flash ≤ g.F.Flash.reads l.fn.flash + 2 * regions l.at l.done;
   later : g.F.Flash.reads l.fn.flash ≤ g.F.Flash.reads l.flash;
-  faults : g.F.Flash.faults l.fn.flash ≤ g.F.Flash.faults l.flash;
+  faults : g.F.Flash.faults l.flash ≡ g.F.Flash.faults l.fn.flash;
 }
 
 abbrev pub decreases-loop-done : goal.decreases-loop-done

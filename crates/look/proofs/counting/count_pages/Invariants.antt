@@ -13,7 +13,7 @@ invariant-loop-page g l = record {
   lent : g.F.Flash.lent l.flash ≡ g.F.Flash.lent l.fn.flash;
   reads : g.F.Flash.reads l.flash ≤ g.F.Flash.reads l.fn.flash + l.page;
   later : g.F.Flash.reads l.fn.flash ≤ g.F.Flash.reads l.flash;
-  faults : g.F.Flash.faults l.fn.flash ≤ g.F.Flash.faults l.flash;
+  faults : g.F.Flash.faults l.flash ≡ g.F.Flash.faults l.fn.flash;
   all_counted : all_pages l.counts ≡ l.page;
   walked : IsTrue g.F.Flash.tells → (building : ℕ → Bool) (us : List Unit) → IsTiled building (g.F.Flash.image l.fn.flash) us → Counted building (g.F.Flash.image l.fn.flash) us l.page l.counts;
 }

@@ -14,5 +14,5 @@ invariant-loop-at g l = record {
   reads : g.V.Files.reads l.session.files ≤ g.V.Files.reads l.fn.session.files + 6 * l.at;
   lent : g.V.Files.lent l.session.files ≡ g.V.Files.lent l.fn.session.files;
   reads_later : g.V.Files.reads l.fn.session.files ≤ g.V.Files.reads l.session.files;
-  later : g.V.Files.faults l.fn.session.files ≤ g.V.Files.faults l.session.files;
+  later : g.V.Files.faults l.session.files ≡ g.V.Files.faults l.fn.session.files;
 }
