@@ -1,12 +1,13 @@
 -- Walks over candidates, whose rows are read one after the other.
-use Rattle.std.proofs.Common.{◌≡◌, ℕ, ◌+◌, ◌*◌, ◌<◌, ◌≤◌, Bool, true, false, cond, ◌&&◌, ◌==◌, List, [], ◌∷◌, length, get_or, slice_get, Option, Some, None, refl, ap, sym, ◌∙◌, subst, arith, eqb-true}
+use Rattle.std.proofs.Common.{◌≡◌, ℕ, ◌+◌, ◌-◌, ◌*◌, ◌<◌, ◌≤◌, Bool, true, false, cond, ◌&&◌, ◌==◌, List, [], ◌∷◌, length, get_or, slice_get, Option, Some, None, refl, ap, sym, ◌∙◌, subst, arith, eqb-true}
 use Rattle.std.proofs.lemmas.Bool.{false≢true}
 use Rattle.std.proofs.lemmas.List.FromFn.{get_or-map-range_with_len}
 use Rattle.afl_base.specs.Files.{State}
 use Rattle.db_model.specs.declared.schemas.Attribute.{Attribute}
 use Rattle.db_model.specs.declared.values.Value.{Value}
 use Rattle.db_model.specs.Cost.{passed}
-use Rattle.db_model.specs.Row.{Row, no_row, row_at, rows_of, slots_in_bytes}
+use Rattle.std.specs.Prelude.{slice_index, slice_range}
+use Rattle.db_model.specs.Row.{Row, fields_length, no_row, row_at, row_length, row_of, rows_of, slots_in_bytes, tuple_of}
 use Rattle.index_set.specs.declared.candidates.Candidates.{Candidates}
 use Rattle.index_set.specs.declared.candidates.Search.{Search}
 use Rattle.index_set.specs.declared.candidates.Search.TheVariants as by
@@ -21,9 +22,23 @@ row_there attributes bytes slot below =
     let e : 0 + slot ≡ slot = omega arith in
     get_or-map-range_with_len (row_at attributes bytes) 0 (slots_in_bytes attributes bytes) slot slot no_row below e
 
--- a row was read, and its tuple passes a test or not
-pub is_answer : (test : List Value → Bool) (r there : Row) (tuple : List Value) (live : Bool) → r ≡ there → there ≡ record { tuple = tuple; live = live } → live && test tuple ≡ is_live_and test r
-is_answer test r there tuple live e f = sym (ap (is_live_and test) (e ∙ f))
+-- the row of a slot, of its bytes
+pub row_of_bytes : (attributes : List Attribute) (bytes row : List ℕ) (slot : ℕ) (live : Bool) → slot < slots_in_bytes attributes bytes
+    → row ≡ slice_range bytes (row_length attributes * slot) (row_length attributes * slot + row_length attributes) → length row ≡ row_length attributes
+    → live ≡ (slice_index row (length row - 1) == 1) → get_or (rows_of attributes bytes) slot no_row ≡ record { tuple = tuple_of attributes row; live = live }
+row_of_bytes attributes bytes row slot live below same long is =
+    let last : fields_length attributes ≡ length row - 1 = omega (arith, long) in
+    row_there attributes bytes slot below
+    ∙ ap (row_of attributes) (sym same)
+    ∙ ap (λ (b : Bool). record { tuple = tuple_of attributes row; live = b }) (ap (λ (n : ℕ). slice_index row n == 1) last ∙ sym is)
+
+-- the row is removed
+pub not_live : (test : List Value → Bool) (r : Row) (tuple : List Value) (live : Bool) → r ≡ record { tuple = tuple; live = live } → live ≡ false → false ≡ is_live_and test r
+not_live test r tuple live e f = sym (ap (is_live_and test) (e ∙ ap (λ (b : Bool). record { tuple = tuple; live = b }) f))
+
+-- the row is live, and its tuple passes a test or not
+pub live_answer : (test : List Value → Bool) (r : Row) (tuple : List Value) (live answer : Bool) → r ≡ record { tuple = tuple; live = live } → live ≡ true → answer ≡ test tuple → answer ≡ is_live_and test r
+live_answer test r tuple live answer e f h = h ∙ sym (ap (is_live_and test) (e ∙ ap (λ (b : Bool). record { tuple = tuple; live = b }) f))
 
 -- the walk has come from some candidates to others and has passed no row that is answered
 pub record Walking (state : State) (tables : Tables) (all : List Row) (test : List Value → Bool) (before now : Candidates) (reads reads_now : ℕ) : Type 0 where

@@ -1,6 +1,7 @@
 //! Machines that answer a query row by row.
 #![tactic(auto)]
 
+mod fields;
 mod join;
 mod laws;
 mod partner;

@@ -2,7 +2,7 @@
 
 #![tactic(auto)]
 
-ghost use Rattle.std.specs.Prelude.{None, ◌≡◌, ◌==◌, ◌+◌, ◌-◌, ◌<◌, ◌≤◌, ◌∷◌, [], true, IfOk, IfSome, IsTrue, MatchOption, OnErr, get_or, slice_get, if◌then◌else◌};
+ghost use Rattle.std.specs.Prelude.{None, ◌≡◌, ◌==◌, ◌+◌, ◌-◌, ◌<◌, ◌≤◌, ◌∷◌, [], true, IfOk, IfSome, IsTrue, MatchOption, OnErr, get_or, option_map, slice_get, if◌then◌else◌};
 ghost use Rattle.afl_base.specs.Keeping.{OnlyReads};
 ghost use Rattle.db_model.specs.declared.schemas.Range.TheVariants.{Between};
 ghost use Rattle.db_model.specs.Answers.{same_value};
@@ -10,16 +10,17 @@ ghost use Rattle.db_model.specs.Cost.{ranges_at};
 ghost use Rattle.db_model.specs.Ranges.{everything};
 ghost use Rattle.index_set.specs.Complete.{AreIndexesOf};
 ghost use Rattle.index_set.specs.Walks.{Fits, IsSafeBy, ahead, cost_ahead};
+ghost use Rattle.tuple_file.specs.Lent.{value_in};
 ghost use Rattle.tuple_file.specs.Tuples.{rows};
 ghost use Rattle.cursor.specs.Pairs.{FindsPartner, FitsInner, HasAhead, HasLive, MayReadRight, PaysRight, StandsBehind, belongs, inner_cost, partners, right_side_cost};
 ghost use Rattle.cursor.specs.Remaining.{passing};
 
 use crate::walk::{Test, next_row};
 use afl_base::{Failed, Files, SlotNo};
-use db_model::{Range, Tuple, Value};
+use db_model::{Attribute, Range, Tuple, Value};
 use index_maxheap::Place;
 use index_set::{Candidates, HashTables, Indexes};
-use tuple_file::Tuples;
+use tuple_file::{Field, Tuples, field_at};
 
 /// The value of a left tuple, and the place at which a right tuple has the same.
 #[derive(Drop)]
@@ -33,8 +34,8 @@ impl Test for Partner {
 
     ghost passes = { λ partner tuple. belongs partner.value partner.on tuple };
 
-    fn holds(&self, tuple: &Tuple) -> bool {
-        same_value(&self.value, &value_at(tuple, self.on))
+    fn holds<'a>(&self, attributes: &'a [Attribute], row: &'a [u8]) -> bool {
+        same_value(&self.value, field_at(attributes, row, self.on))
     }
 }
 
@@ -48,14 +49,15 @@ pub(crate) fn value_at(tuple: &Tuple, place: u8) -> Option<Value>
     }
 }
 
-fn same_value(a: &Option<Value>, b: &Option<Value>) -> bool
-    ensures { result ≡ same_value a.now b.now }
+// Whether the value and that of a field are the same.
+fn same_value(a: &Option<Value>, b: Option<Field<'_>>) -> bool
+    ensures { result ≡ same_value a.now (option_map value_in b.entry) }
 {
     match (a, b) {
-        (Some(Value::Number(x)), Some(Value::Number(y))) => x == y,
-        (Some(Value::Text(x)), Some(Value::Text(y))) => x.bytes() == y.bytes(),
-        (Some(Value::Number(_)), Some(Value::Text(_))) => false,
-        (Some(Value::Text(_)), Some(Value::Number(_))) => false,
+        (Some(Value::Number(x)), Some(Field::Number(y))) => *x == y,
+        (Some(Value::Text(x)), Some(Field::Text(y))) => x.bytes() == y,
+        (Some(Value::Number(_)), Some(Field::Text(_))) => false,
+        (Some(Value::Text(_)), Some(Field::Number(_))) => false,
         (Some(Value::Number(_)), None) => false,
         (Some(Value::Text(_)), None) => false,
         (None, _) => false,

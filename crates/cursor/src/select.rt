@@ -18,9 +18,10 @@ ghost use Rattle.lvm.specs.Code.{IsCodeOf};
 ghost use Rattle.tuple_file.specs.Tuples.{HoldsRows, rows, slots};
 ghost use Rattle.cursor.specs.Remaining.{AreOnNumbers, BeginsBy, IsBegun, MayRead, Yields, next_cost, remaining, slots_to_answer};
 
+use crate::fields::Fields;
 use crate::walk::{Test, next_row};
 use afl_base::{Failed, Files, SlotNo};
-use db_model::{Range, Tuple};
+use db_model::{Attribute, Range, Tuple};
 use index_set::{Candidates, HashTables, Indexes};
 use lvm::Code;
 use tuple_file::Tuples;
@@ -38,8 +39,8 @@ impl Test for Code {
 
     ghost passes = { passes_code };
 
-    fn holds(&self, tuple: &Tuple) -> bool {
-        self.eval(tuple)
+    fn holds<'a>(&self, attributes: &'a [Attribute], row: &'a [u8]) -> bool {
+        self.eval_on(&Fields { attributes, row })
     }
 }
 

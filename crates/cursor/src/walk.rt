@@ -2,7 +2,7 @@
 
 #![tactic(auto)]
 
-ghost use Rattle.std.specs.Prelude.{None, ◌≡◌, ◌+◌, ◌<◌, ◌≤◌, ◌∷◌, [], true, IfNone, IfOk, IfSome, IsTrue, MatchOption, OnErr, OnOk, List, get_or, length};
+ghost use Rattle.std.specs.Prelude.{None, ◌≡◌, ◌+◌, ◌<◌, ◌≤◌, ◌∷◌, [], true, IfNone, IfOk, IfSome, IsTrue, MatchOption, OnErr, List, get_or, length};
 ghost use Rattle.afl_base.specs.Keeping.{OnlyReads};
 ghost use Rattle.db_model.specs.Row.{AllSuit, Row, no_row};
 ghost use Rattle.index_set.specs.Walks.{Advances, Fits, ahead, cost_ahead};
@@ -10,25 +10,27 @@ ghost use Rattle.tuple_file.specs.Tuples.{HoldsRows, row, rows, slots};
 ghost use Rattle.cursor.specs.Remaining.{MayRead, StepsTo, cost_of_slots, is_live_and, passed_until};
 
 use afl_base::{Failed, Files, SlotNo};
-use db_model::Tuple;
+use db_model::{Attribute, Tuple};
 use index_set::{Candidates, HashTables};
-use tuple_file::Tuples;
+use tuple_file::{ROW_SIZE, Tuples, get_tuple, is_live};
 
 /// A test of tuples.
 pub(crate) trait Test {
-    ghost use Rattle.std.specs.Prelude.{◌≡◌, Bool, List};
-    ghost use Rattle.afl_base.specs.Keeping.{OnlyReads};
+    ghost use Rattle.std.specs.Prelude.{◌≡◌, ◌≤◌, Bool, List, length};
     ghost use Rattle.db_model.specs.declared.values.Value.{Value};
+    ghost use Rattle.db_model.specs.Row.{fields_length, tuple_of};
 
     /// Whether a tuple passes.
     ghost passes: { Self → List Value → Bool };
 
-    /// Whether the tuple passes.
-    fn holds(&self, tuple: &Tuple) -> bool
-        ensures { result ≡ passes self.now tuple.now };
+    /// Whether the tuple of a row passes. Of the row no more is decoded than is asked for.
+    fn holds<'a>(&self, attributes: &'a [Attribute], row: &'a [u8]) -> bool
+        requires { fields_length attributes.now ≤ length row.now }
+        ensures { result ≡ passes self.now (tuple_of attributes.now row.now) };
 }
 
-// Whether the row in a slot is live and passes. Its tuple stands in `into`.
+// Whether the row in a slot is live and passes: its bytes are tested first, and its tuple stands in
+// `into` where it does.
 fn is_answer<V: Files, T: Test>(
     files: &mut V,
     tuples: &Tuples,
@@ -44,12 +46,22 @@ fn is_answer<V: Files, T: Test>(
     ensures row { let state = V.state files.old in let all = rows state.files tuples.now in
         IsTrue state.tells → IfOk result (λ yes. IsTrue yes
         → get_or all slot no_row ≡ record { tuple = into.new; live = true }) }
-    ensures suits { OnOk result (AllSuit tuples.now.schema.attributes into.new) }
+    ensures suits { IfOk result (λ yes. IsTrue yes
+        → AllSuit tuples.now.schema.attributes into.new) }
     ensures reads { V.reads files.new ≤ V.reads files.old + 6 }
     ensures frame { OnlyReads V.state V.lent V.reads V.faults files.old files.new result }
 {
-    let live = tuples.row(files, slot, into)?;
-    Ok(live && test.holds(into))
+    let mut bytes = [0; ROW_SIZE];
+    let row = &mut bytes[..tuples.length()];
+    tuples.row_bytes(files, slot, row)?;
+    if !is_live(row) {
+        return Ok(false);
+    }
+    if !test.holds(tuples.schema.attributes.as_slice(), row) {
+        return Ok(false);
+    }
+    get_tuple(&tuples.schema.attributes, row, into);
+    Ok(true)
 }
 
 /// The next slot of the candidates whose row is live and passes, `None` exactly after the last. Its

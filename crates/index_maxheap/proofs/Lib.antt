@@ -1,5 +1,6 @@
 pub mod Walked
 pub mod Told
+pub mod CutInserts
 pub mod Grows
 pub mod Built
 pub mod Awaited

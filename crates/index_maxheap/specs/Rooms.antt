@@ -1,12 +1,14 @@
 -- What an insert needs, and where it writes.
-use Rattle.std.specs.Prelude.{ℕ, zero, suc, ℤ, ⊤, ◌≡◌, ◌+◌, ◌-◌, ◌*◌, ◌/◌, ◌≤◌, List, ◌++◌, length}
+use Rattle.std.specs.Prelude.{ℕ, zero, suc, ℤ, ⊤, ◌≡◌, ◌≢◌, ◌⊎◌, ◌+◌, ◌-◌, ◌*◌, ◌/◌, ◌≤◌, List, ◌++◌, length, take}
 use Rattle.afl_base.specs.Files.{State, Becomes, Overwrites, bytes_at, file_at, size_at}
 use Rattle.afl_base.specs.Fields.{put_at, u16_at}
+use Rattle.afl_base.specs.Frames.{SparesOthers}
 use Rattle.afl_base.specs.Regions.{regions}
 use Rattle.index_tree.specs.Buckets.{IsFirstBucket, IsPairBytes}
 use Rattle.index_tree.specs.Pairs.{Pair}
 use Rattle.index_tree.specs.Ends.{path_end, filled_of, spot_of}
-use Rattle.index_tree.specs.TreeFile.{number_of, place_of}
+use Rattle.index_tree.specs.TreeFile.{NamesOnly, number_of, place_of}
+use Rattle.index_tree.specs.Trees.{IsTreeOf}
 use Rattle.index_maxheap.specs.declared.rooms.End.{End}
 use Rattle.index_maxheap.specs.declared.rooms.End.TheVariants as end
 use Rattle.index_maxheap.specs.declared.rooms.Room.{Room}
@@ -63,3 +65,32 @@ abbrev pub PutsBucket : State → State → (index at : ℕ) → Pair → Type 0
 PutsBucket old new index at q = (bucket two : List ℕ) × IsFirstBucket bucket q × (length two ≡ 2)
     × (u16_at two 0 ≡ (size_at old.files index - 683) / 195 + 1)
     × Becomes old new index (size_at old.files index + 195) (put_at (bytes_at old.files index ++ bucket) at two)
+
+-- ---- what a cut leaves
+
+-- of the bytes of a pair a front part stands at a place, and no other file has changed
+pub record MayPutPair (old after : State) (index at : ℕ) (q : Pair) : Type 0 where
+  pub others : SparesOthers old after (λ k. k ≢ index)
+  pub six : List ℕ
+  pub pair_is : IsPairBytes six q
+  pub done : ℕ
+  pub within : done ≤ 6
+  pub bytes : bytes_at after.files index ≡ put_at (bytes_at old.files index) at (take done six)
+
+-- of a bucket of one pair a front part stands at the end of the file; or all of it, and at its spot a part of its number
+pub record MayPutBucket (old after : State) (index at : ℕ) (q : Pair) : Type 0 where
+  pub others : SparesOthers old after (λ k. k ≢ index)
+  pub bucket : List ℕ
+  pub two : List ℕ
+  pub first : IsFirstBucket bucket q
+  pub long : length two ≡ 2
+  pub number : u16_at two 0 ≡ (size_at old.files index - 683) / 195 + 1
+  pub done : ℕ
+  pub bytes : ((done ≤ 195) × (bytes_at after.files index ≡ bytes_at old.files index ++ take done bucket))
+      ⊎ ((done ≤ 2) × (bytes_at after.files index ≡ put_at (bytes_at old.files index ++ bucket) at (take done two)))
+
+-- no other file has changed, and the pairs of a tree name no slots but those that it had, and the next one
+pub record MayInsert (old after : State) (index : ℕ) (room : Room) (key : ℤ) (slot : ℕ) : Type 0 where
+  pub others : SparesOthers old after (λ k. k ≢ index)
+  pub names : (keys : List ℤ) → IsTreeOf (bytes_at old.files index) keys → length keys ≡ slot
+      → room ≡ room_of (bytes_at old.files index) key → NamesOnly (slot + 1) (bytes_at after.files index)

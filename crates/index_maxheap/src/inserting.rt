@@ -2,17 +2,16 @@
 
 #![tactic(auto)]
 
-ghost use Rattle.std.specs.Prelude.{◌≡◌, ◌≢◌, ◌+◌, ◌-◌, ◌<◌, ◌≤◌, ◌∷◌, ◌++◌, ◌/◌, [], ℤ, List, length, IsTrue, OnErr, OnOk};
+ghost use Rattle.std.specs.Prelude.{◌≡◌, ◌+◌, ◌-◌, ◌<◌, ◌≤◌, ◌∷◌, ◌++◌, ◌/◌, [], ℤ, List, length, IsTrue, OnErr, OnOk};
 ghost use Rattle.afl_base.specs.CutFiles.{CutLeaves};
 ghost use Rattle.afl_base.specs.Keeping.{Changes};
 ghost use Rattle.afl_base.specs.Files.{IsLive, bytes_at, file_at, size_at};
-ghost use Rattle.afl_base.specs.Frames.{SparesOthers};
 ghost use Rattle.afl_base.specs.Regions.{regions};
 ghost use Rattle.afl_base.specs.Sparing.{SparesPages};
 ghost use Rattle.index_tree.specs.Pairs.{pair};
 ghost use Rattle.index_tree.specs.Places.{KeepsNumbers};
 ghost use Rattle.index_tree.specs.Trees.{IsTreeOf};
-ghost use Rattle.index_maxheap.specs.Rooms.{HasRoomFor, OnlyIndexChanges, PutsBucket, PutsPair, room_of};
+ghost use Rattle.index_maxheap.specs.Rooms.{HasRoomFor, MayInsert, MayPutBucket, MayPutPair, OnlyIndexChanges, PutsBucket, PutsPair, room_of};
 
 use crate::bytes::{first_bucket, pair_bytes};
 use crate::rooms::{End, Room};
@@ -20,7 +19,7 @@ use crate::tree::{BUCKET_SIZE, HEAD_SIZE};
 use afl_base::{Failed, FileId, Files, SlotNo, put_u16};
 
 /// Puts the pair of the key and the next slot into the tree, with the room that `room` said it needs.
-/// Where that found no tree, it does nothing.
+/// Where that found no tree, it does nothing. What a cut leaves of a tree names the slots of rows alone.
 pub fn insert<V: Files>(
     files: &mut V,
     index: FileId,
@@ -41,7 +40,7 @@ pub fn insert<V: Files>(
     ensures only { OnOk result (OnlyIndexChanges (V.state files.old) (V.state files.new) index) }
     ensures spares { SparesPages V.is_free V.state files.old files.new result }
     ensures cut { CutLeaves V.cuts V.mends V.state files.old files.new (OnErr result)
-        (λ after. SparesOthers (V.state files.old) after (λ k. k ≢ index)) }
+        (λ after. MayInsert (V.state files.old) after index room.now key.now slot) }
     ensures frame { Changes V.state V.lent V.reads V.faults files.old files.new result }
 {
     match room.end {
@@ -66,7 +65,7 @@ fn put_pair<V: Files>(
         (PutsPair (V.state files.old) (V.state files.new) index at (pair key.now slot)) }
     ensures spares { SparesPages V.is_free V.state files.old files.new result }
     ensures cut { CutLeaves V.cuts V.mends V.state files.old files.new (OnErr result)
-        (λ after. SparesOthers (V.state files.old) after (λ k. k ≢ index)) }
+        (λ after. MayPutPair (V.state files.old) after index at (pair key.now slot)) }
     ensures frame { Changes V.state V.lent V.reads V.faults files.old files.new result }
 {
     let bytes = pair_bytes(key, slot);
@@ -92,7 +91,7 @@ fn put_bucket<V: Files>(
         (PutsBucket (V.state files.old) (V.state files.new) index at (pair key.now slot)) }
     ensures spares { SparesPages V.is_free V.state files.old files.new result }
     ensures cut { CutLeaves V.cuts V.mends V.state files.old files.new (OnErr result)
-        (λ after. SparesOthers (V.state files.old) after (λ k. k ≢ index)) }
+        (λ after. MayPutBucket (V.state files.old) after index at (pair key.now slot)) }
     ensures frame { Changes V.state V.lent V.reads V.faults files.old files.new result }
 {
     let number = ((files.size(index) - HEAD_SIZE as u32) / BUCKET_SIZE as u32 + 1) as u16;

@@ -10,3 +10,4 @@ pub mod Costs
 pub mod Fronts
 pub mod Begins
 pub mod Verified
+pub mod CutKeys

@@ -1,8 +1,9 @@
 -- What an insert needs of the indexes of a relation, and what it leaves.
-use Rattle.std.specs.Prelude.{◌≡◌, ◌≢◌, ◌<◌, ◌⊎◌, ⊤, ℕ, ℤ, pos, negsuc, ◌++◌, [], ◌∷◌, Bool, false, List, Option, Some, None, IsTrue, slice_get}
+use Rattle.std.specs.Prelude.{◌≡◌, ◌≢◌, ◌+◌, ◌<◌, ◌⊎◌, ⊤, ℕ, ℤ, pos, negsuc, ◌++◌, [], ◌∷◌, Bool, false, List, Option, Some, None, IsTrue, length, slice_get}
 use Rattle.std.specs.List.{AllByRecursion}
 use Rattle.afl_base.specs.declared.kind.Kind.TheVariants.{Doubling}
 use Rattle.afl_base.specs.Files.{State, IsLive, bytes_at, file_at}
+use Rattle.afl_base.specs.Frames.{SparesOthers}
 use Rattle.db_model.specs.declared.values.Value.{Value}
 use Rattle.db_model.specs.declared.values.Value.TheVariants.{Number, Text}
 use Rattle.db_model.specs.Row.{Row, is_between}
@@ -15,7 +16,9 @@ use Rattle.index_set.specs.declared.info.TableId.TheVariants.{First, Second}
 use Rattle.index_maxheap.specs.declared.rooms.Room.{Room}
 use Rattle.index_maxheap.specs.Rooms.{HasRoomFor, room_of}
 use Rattle.index_set.specs.Tables.{Tables, entries}
+use Rattle.index_set.specs.Complete.{AreComplete, IsComplete}
 use Rattle.index_tree.specs.Places.{KeepsNumbers}
+use Rattle.index_tree.specs.TreeFile.{NamesOnly}
 use Rattle.index_tree.specs.Trees.{IsTreeOf}
 
 -- some index of the list has the property
@@ -154,3 +157,25 @@ AsksFor asks state key n (Table number) = ⊥
 -- by one of the trees of a list
 abbrev pub OneAsksFor : (ℕ → ℕ → ℕ → ℕ → Type 0) → State → List Value → ℕ → List IndexInfo → Type 0
 OneAsksFor asks state tuple n infos = SomeOf (λ info. AsksFor asks state (tuple_key tuple info) n info.access) infos
+
+-- ---- what a cut leaves
+
+-- the pairs of a tree name no slots behind so many
+abbrev pub NamesFew : State → ℕ → Access → Type 0
+NamesFew state slots Order = ⊤
+NamesFew state slots (Tree file) = NamesOnly slots (bytes_at state.files file)
+NamesFew state slots (Table number) = ⊤
+
+abbrev pub AllNameFew : State → ℕ → List IndexInfo → Type 0
+AllNameFew state slots infos = AllByRecursion (λ info. NamesFew state slots info.access) infos
+
+-- a key was being put into an index: no file has changed but its tree's, whose pairs name no slot behind the key's
+pub record MayInsertKey (old after : State) (tables : Tables) (access : Access) (room : Room) (key : ℤ) (slot : ℕ) : Type 0 where
+  pub others : SparesOthers old after (λ id. IsApart id access)
+  pub names : (keys : List ℤ) → length keys ≡ slot → IsComplete old tables access keys → IsRoomFor old key room access → NamesFew after (slot + 1) access
+
+-- so with the keys of a tuple, and all indexes of a list
+pub record MayInsertKeys (old after : State) (tables : Tables) (infos : List IndexInfo) (rooms : List Room) (tuple : List Value) (slot : ℕ) : Type 0 where
+  pub others : SparesOthers old after (IsNoTree infos)
+  pub names : (all : List Row) (row : Row) → length all ≡ slot → row.tuple ≡ tuple → AreComplete old tables all infos → AreRoomFor old tuple rooms infos
+      → MayAllFollow all tuple infos → AllNameFew after (slot + 1) infos

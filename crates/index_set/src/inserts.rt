@@ -16,7 +16,7 @@ ghost use Rattle.db_model.specs.Step.{key_of};
 ghost use Rattle.index_maxheap.specs.Rooms.{HasRoomFor, room_of};
 ghost use Rattle.index_set.specs.Complete.{AreComplete, AreHeld, IsComplete, IsHeld};
 ghost use Rattle.index_set.specs.declared.info.Access.TheVariants as access;
-ghost use Rattle.index_set.specs.Inserts.{AllKeepBuckets, AreApart, AreOpenFor, AreRoomFor, AsksFor, HasRoom, HaveKeys, HaveRoom, IsApart, IsDoublingTree, IsNoTree, IsOpenFor, IsRoomFor, KeepsBuckets, KeepsTables, KeepsTablesBeside, MayAllFollow, MayFollow, OneAsksFor, is_key};
+ghost use Rattle.index_set.specs.Inserts.{AllKeepBuckets, AreApart, AreOpenFor, AreRoomFor, AsksFor, HasRoom, HaveKeys, HaveRoom, IsApart, IsDoublingTree, IsNoTree, IsOpenFor, IsRoomFor, KeepsBuckets, KeepsTables, KeepsTablesBeside, MayAllFollow, MayFollow, MayInsertKey, MayInsertKeys, OneAsksFor, is_key};
 ghost use Rattle.index_tree.specs.Trees.{IsTreeOf};
 
 use crate::info::{Access, Indexes, Rooms};
@@ -142,7 +142,7 @@ fn prepare_tree<V: Files>(files: &mut V, file: FileId, key: &i32) -> Result<Room
 }
 
 /// Adds the tuple's keys, as those of the next slot, to each index of the list, in the rooms that
-/// were made for them.
+/// were made for them. What a cut leaves of a tree names the slots of rows alone.
 pub fn insert_all<V: Files>(
     files: &mut V,
     tables: &mut HashTables,
@@ -173,7 +173,7 @@ pub fn insert_all<V: Files>(
     ensures tables { OnOk result (KeepsTables tables.old tables.new indexes.now) }
     ensures spares { SparesPages V.is_free V.state files.old files.new result }
     ensures cut { CutLeaves V.cuts V.mends V.state files.old files.new (OnErr result)
-        (λ after. SparesOthers (V.state files.old) after (IsNoTree indexes.now)) }
+        (λ after. MayInsertKeys (V.state files.old) after tables.old indexes.now rooms.now tuple.now slot) }
     ensures frame { Changes V.state V.lent V.reads V.faults files.old files.new result }
 {
     let count = indexes.len();
@@ -212,7 +212,7 @@ fn insert_one<V: Files>(
     ensures tables { OnOk result (KeepsTablesBeside access tables.old tables.new) }
     ensures spares { SparesPages V.is_free V.state files.old files.new result }
     ensures cut { CutLeaves V.cuts V.mends V.state files.old files.new (OnErr result)
-        (λ after. SparesOthers (V.state files.old) after (λ id. IsApart id access)) }
+        (λ after. MayInsertKey (V.state files.old) after tables.old access room.now key.now slot) }
     ensures frame { Changes V.state V.lent V.reads V.faults files.old files.new result }
 {
     match access {

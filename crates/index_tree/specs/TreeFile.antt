@@ -76,3 +76,8 @@ pub record IsTree (bytes : List ℕ) (ps : List Pair) : Type 0 where
       → IsBucket bytes (number_of bytes key hop) (reaching (goes key) hop ps)
   pub upper : (key : ℤ) (hop : ℕ) → hop < 4 → number_of bytes key hop ≢ 0
       → next_at bytes (place_of (number_of bytes key hop)) ≡ 0
+
+-- no pair of these bytes names a slot behind so many
+abbrev pub NamesOnly : ℕ → List ℕ → Type 0
+NamesOnly slots bytes = (bucket pair : ℕ) → pair < 32 → bucket_place bucket + 6 * pair + 6 ≤ length bytes
+    → slot_at bytes (bucket_place bucket) pair ≤ slots

@@ -1,11 +1,9 @@
 -- Two comparisons and the AND of both.
 use Rattle.std.proofs.Common.{◌≡◌, Bool, ◌&&◌, ◌<◌, ◌≤◌, List, [], ◌∷◌, length, slice_index_or, ap, ◌∙◌, refl, arith}
 use Rattle.db_model.specs.declared.values.Value.{Value}
-use Rattle.lvm.specs.declared.evaluate.Item.{Item}
-use Rattle.lvm.specs.declared.evaluate.Item.TheVariants.{Truth}
 use Rattle.lvm.specs.declared.instruction.Instruction.{Instruction}
 use Rattle.lvm.specs.declared.instruction.Instruction.TheVariants.{And}
-use Rattle.lvm.specs.Evaluate.{evaluated, verdict}
+use Rattle.lvm.specs.Evaluate.{Item, Truth, evaluated, verdict}
 
 -- a list of seven items, by its items
 seven : (xs : List Instruction) (a b c d e f g : Instruction) → 7 ≤ length xs → length xs < 8 → a ≡ slice_index_or xs 0 a → b ≡ slice_index_or xs 1 b → c ≡ slice_index_or xs 2 c → d ≡ slice_index_or xs 3 d

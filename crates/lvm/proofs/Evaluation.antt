@@ -8,14 +8,13 @@ use Rattle.db_model.specs.declared.values.Value.{Value}
 use Rattle.db_model.specs.declared.values.Value.TheVariants as value
 use Rattle.db_model.specs.Cond.{Leaf, Number, Text, Attribute as Name, Arithmetic, Plus, Minus, Times, Over, Expr, Tip, Arith, Tree, OfExpr, OfCond, leaf_node, arithmetic_node, joined, joined_all}
 use Rattle.db_model.specs.Item as db
-use Rattle.lvm.specs.declared.evaluate.Item.{Item}
-use Rattle.lvm.specs.declared.evaluate.Item.TheVariants as item
 use Rattle.lvm.specs.declared.instruction.Arithmetic.TheVariants as sign
 use Rattle.lvm.specs.declared.instruction.Arithmetic as signs
 use Rattle.lvm.specs.declared.instruction.Instruction.{Instruction}
 use Rattle.lvm.specs.declared.instruction.Instruction.TheVariants as step
 use Rattle.lvm.specs.Instruction.{instruction_for, instructions_for, arithmetic}
-use Rattle.lvm.specs.Evaluate.{item_of_value, calculation, item_comparison, stepped, evaluated}
+use Rattle.lvm.specs.Evaluate as item
+use Rattle.lvm.specs.Evaluate.{Item, item_of_value, calculation, item_comparison, stepped, evaluated}
 use Rattle.lvm.proofs.Joining.{by_join, keeps_pace}
 
 -- an item of the definitions as one of the stack

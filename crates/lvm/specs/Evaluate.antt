@@ -1,18 +1,22 @@
 -- What the steps of a condition make of a tuple.
-use Rattle.std.specs.Prelude.{Bool, true, false, not, ◌&&◌, ◌||◌, List, [], ◌∷◌, Option, Some, None, slice_get}
+use Rattle.std.specs.Prelude.{ℕ, ℤ, Bool, true, false, not, ◌&&◌, ◌||◌, List, [], ◌∷◌, Option, Some, None, slice_get}
 use Rattle.std.specs.Ordering.{int_cmp, nat_cmp}
 use Rattle.std.specs.Cmp.Lexicographic.{slice_cmp}
 use Rattle.db_model.specs.declared.commands.Compare.{Compare}
 use Rattle.db_model.specs.declared.values.Value.{Value}
 use Rattle.db_model.specs.declared.values.Value.TheVariants as value
 use Rattle.db_model.specs.Item.{calculated, satisfies}
-use Rattle.lvm.specs.declared.evaluate.Item.{Item}
-use Rattle.lvm.specs.declared.evaluate.Item.TheVariants.{Number, Text, Truth}
 use Rattle.lvm.specs.declared.instruction.Arithmetic.{Arithmetic}
 use Rattle.lvm.specs.declared.instruction.Instruction.{Instruction}
 use Rattle.lvm.specs.declared.instruction.Instruction.TheVariants as step
 use Rattle.lvm.specs.Instruction.{arithmetic}
 use Rattle.lvm.specs.Stack.{rest, top_or}
+
+-- a result: a number, which may be undefined, a text or a truth value
+pub data Item : Type 0 where
+  Number : Option ℤ → Item
+  Text : List ℕ → Item
+  Truth : Bool → Item
 
 abbrev pub item_of_value : Option Value → Item
 item_of_value (Some (value.Number z)) = Number (Some z)

@@ -17,6 +17,7 @@ use crate::evaluate::evaluated;
 use crate::instruction::{Instruction, instruction_for};
 use crate::kind::ill_typed;
 use crate::side::derived;
+use crate::values::Values;
 use db_model::{Attribute, Condition, Few, Node, Range, Refusal, Schema, Tuple};
 use std::marker::Model;
 
@@ -73,6 +74,14 @@ impl Code {
             → result ≡ selects attributes condition tuple.now }
     {
         evaluated(self.instructions.as_slice(), tuple)
+    }
+
+    /// The same of values that are read as they are asked for.
+    pub fn eval_on<V: Values>(&self, values: &V) -> bool
+        requires { V.readable values.now }
+        ensures { result ≡ verdict (evaluated self.now (V.values values.now) []) }
+    {
+        evaluated(self.instructions.as_slice(), values)
     }
 
     /// The range of the numbers of the attribute at a place, counted from 0. Each tuple that

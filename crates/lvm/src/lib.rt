@@ -5,9 +5,13 @@ mod arithmetic;
 mod code;
 mod evaluate;
 mod instruction;
+mod item;
 mod kind;
 pub mod laws;
 mod side;
 mod stack;
+mod values;
 
 pub use code::Code;
+pub use item::Item;
+pub use values::Values;

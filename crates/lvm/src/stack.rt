@@ -5,35 +5,36 @@
 ghost use Rattle.std.specs.Prelude.{◌≡◌, ◌<◌, ◌≤◌, [], ◌∷◌, length};
 ghost use Rattle.lvm.specs.Stack.{rest, top_or};
 
-use arrayvec::ArrayVec;
 use std::marker::Model;
 
-/// A stack of at most `N` items. Contracts see it as a list, the top first.
+/// A stack of at most `N` items, which are put in place. Contracts see it as a list, the top first.
 #[derive(Drop)]
 pub struct Stack<T, const N: usize> {
-    items: ArrayVec<T, N>,
+    items: [T; N],
+    len: usize,
 }
 
 impl<T, const N: usize> Model for Stack<T, N> {
-    ghost use Rattle.std.specs.Prelude.{◌≤◌, List, length, reverse};
+    ghost use Rattle.std.specs.Prelude.{◌≡◌, ◌≤◌, List, length, reverse, take};
     ghost use Rattle.std.specs.Coded.{coded_list};
 
     ghost Value = { List T };
 
     ghost coded = { coded_list T.code };
 
-    ghost view = { λ s. reverse s.items.items };
+    ghost view = { λ s. reverse (take s.len s.items) };
 
-    ghost invariant = { λ s. length s.items.items ≤ N };
+    ghost invariant = { λ s. (s.len ≤ N) × (length s.items ≡ N) };
 }
 
-impl<T: Default, const N: usize> Stack<T, N> {
+impl<T: Default + Copy, const N: usize> Stack<T, N> {
     /// The empty stack.
     pub fn new() -> Self
         ensures { result ≡ [] }
     {
         Stack {
-            items: ArrayVec::new(),
+            items: [T::default(); N],
+            len: 0,
         }
     }
 }
@@ -44,7 +45,8 @@ impl<T: Default + Copy, const N: usize> Stack<T, N> {
         requires { length self.old < N }
         ensures { self.new ≡ item ∷ self.old }
     {
-        self.items.push(item);
+        self.items[self.len] = item;
+        self.len += 1;
     }
 
     /// Takes the item from the top, `other` where there is none.
@@ -53,7 +55,11 @@ impl<T: Default + Copy, const N: usize> Stack<T, N> {
         ensures rest { self.new ≡ rest self.old }
         ensures fewer { length self.new ≤ length self.old }
     {
-        self.items.pop().unwrap_or(other)
+        if self.len == 0 {
+            return other;
+        }
+        self.len -= 1;
+        self.items[self.len]
     }
 
     /// Takes the two items from the top, the lower one first, and `other` for each that lacks.

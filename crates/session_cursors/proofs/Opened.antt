@@ -25,7 +25,7 @@ use Rattle.session_model.specs.Aheads.{ahead_in, aheads_of}
 use Rattle.session_model.specs.Carried.{Carries, Runs, Tells, aheads, database}
 use Rattle.session_model.specs.View.{cursor_in, view}
 use Rattle.session_model.proofs.Opens.{cursor_view}
-use Rattle.session_model.proofs.ReadAs.{same_between}
+use Rattle.session_model.proofs.CutHeld.{same_between}
 use Rattle.session_cursors.specs.Opened.{BeginsAnswer}
 use Rattle.session_cursors.proofs.Places.{ahead_set, aheads_put, done_costs, done_moves, mapped_at, refused_stays}
 
@@ -98,7 +98,7 @@ failed_open v c old new e (Err failed) runs is reads frame = record {
   wants = λ told. tt;
   lacks = tt;
   spares = λ told none. tt;
-  cut = λ cuts told. same_between v c old new.files runs cuts told frame.same;
+  cut = λ cuts told sound. same_between v c old new.files runs cuts told sound frame.same;
   untouched = tt;
   same = λ r. frame.same;
   reads = λ told r. reads told;

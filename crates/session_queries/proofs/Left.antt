@@ -91,7 +91,7 @@ answers_rows v k c leaves old files before now result runs reply reads frame = r
 -- ---- the frame, of what was read and what was sent
 
 nothing_read : {V : Type 0} (v : FilesOf V) (files : V) → OnlyReads {T = ⊤} {E = ⊤} v.state v.lent v.reads v.faults files files (Ok tt)
-nothing_read v files = record { same = refl; lent = refl; later = omega arith; cause = record { later = omega arith; failed = tt } }
+nothing_read v files = record { same = refl; lent = refl; later = omega arith; faultless = refl; cause = record { later = omega arith; failed = tt } }
 
 pub unread_frame : {V K A E : Type 0} (v : FilesOf V) (k : SinkOf K) (old new : V) (out : K) (e : E) → OnlyReads {T = A} {E = E} v.state v.lent v.reads v.faults old new (Err e) → Recites {T = Outcome} v k old new out out (Err Flash)
 unread_frame v k old new out e read = record {

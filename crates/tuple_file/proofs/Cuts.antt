@@ -6,7 +6,7 @@ use Rattle.std.proofs.Math.Logic.{⊎_elim}
 use Rattle.std.proofs.lemmas.Nat.{div-mul-add}
 use Rattle.std.proofs.Math.Seq.{take-length}
 use Rattle.std.proofs.lemmas.Bool.{cases_lt}
-use Rattle.std.proofs.lemmas.List.{drop-append-le, length-append, length-drop, length-take-le, take-append-le}
+use Rattle.std.proofs.lemmas.List.{drop-append-le, length-append, length-drop, length-take-le, take-append-le, take_at}
 use Rattle.afl_base.specs.CutFiles.{AppendsFront, MendsToEither, OverwritesFront}
 use Rattle.afl_base.specs.Fields.{put_at}
 use Rattle.afl_base.specs.Files.{Commits, IsNamed, IsUnnamed, State, Table, bytes_at, draft_in, file_at, name_at, place, used}
@@ -18,11 +18,12 @@ use Rattle.db_model.specs.declared.schemas.Attribute.{Attribute}
 use Rattle.db_model.specs.declared.values.Value.{Value}
 use Rattle.db_model.specs.Row.{AllRowsSuit, AllSuit, Row, fields_length, row_at, row_bytes, row_length, row_of, rows_bytes, rows_of, slots_in_bytes}
 use Rattle.db_model.proofs.Rows.{length-row, map_range_same, rows_back, rows_of-insert, slot_inside}
-use Rattle.tuple_file.specs.CutRows.{MayAppendRow, MayMarkRow}
+use Rattle.tuple_file.specs.CutRows.{HasWholeRows, MayAppendRow, MayMarkRow}
 use Rattle.tuple_file.specs.declared.tuples.Tuples.{Tuples}
 use Rattle.tuple_file.specs.Tuples.{HoldsRows, IsRowFile, OnlyRowsChange, rows, slots}
-use Rattle.tuple_file.proofs.Marks.{rows-mark}
+use Rattle.tuple_file.proofs.Marks.{rows-mark, written-mark}
 use Rattle.tuple_file.proofs.Slots.{slots_of_whole}
+use Rattle.tuple_file.proofs.Written.{written_insert}
 
 -- ---- what is mended to
 
@@ -42,13 +43,17 @@ module _ (attributes : List Attribute) (bytes part : List ℕ) (n : ℕ) (long :
       ∙ take-append-le (size * k + size - size * k) (drop (size * k) bytes) part (omega (arith, left, long, inside))
 
   -- less than a row behind whole rows is no row
-  pub rows_of-part : length part < row_length attributes → rows_of attributes (bytes ++ part) ≡ rows_of attributes bytes
-  rows_of-part short =
+  slots_of-part : length part < row_length attributes → slots_in_bytes attributes (bytes ++ part) ≡ n
+  slots_of-part short =
       let size = row_length attributes in
       let turned : n * size ≡ size * n = mul_comm n size in
       let whole : length (bytes ++ part) ≡ n * size + length part = length-append bytes part ∙ omega (arith, long, turned) in
-      let many : slots_in_bytes attributes (bytes ++ part) ≡ n = ap (λ (m : ℕ). m / size) whole ∙ div-mul-add n size (length part) short in
-      ap (λ (m : ℕ). map (row_at attributes (bytes ++ part)) (range_with_len 0 m)) many
+      ap (λ (m : ℕ). m / size) whole ∙ div-mul-add n size (length part) short
+
+  pub rows_of-part : length part < row_length attributes → rows_of attributes (bytes ++ part) ≡ rows_of attributes bytes
+  rows_of-part short =
+      let size = row_length attributes in
+      ap (λ (m : ℕ). map (row_at attributes (bytes ++ part)) (range_with_len 0 m)) (slots_of-part short)
       ∙ map_range_same (row_at attributes (bytes ++ part)) (row_at attributes bytes) 0 n (λ k low high. ap (row_of attributes) (slot_stays k (omega (arith, high))))
       ∙ ap (λ (m : ℕ). map (row_at attributes bytes) (range_with_len 0 m)) (sym (slots_of_whole attributes bytes n long))
 
@@ -65,11 +70,23 @@ may_append old after tuples tuple bytes holds suits tells is front =
     record {
       others = becomes_spares old after tuples.file _ _ holds.file.live front.is;
       rows = ⊎_elim
-          (λ (less : front.done < row_length attributes). inl (ap (rows_of attributes) now ∙ rows_of-part attributes was (take front.done bytes) n holds.whole (omega (arith, length-take-le front.done bytes front.within, less))))
+          (λ (less : front.done < row_length attributes).
+          let part : List ℕ = take front.done bytes in
+          let short : length part < row_length attributes = omega (arith, length-take-le front.done bytes front.within, less) in
+          inl (
+            ap (rows_of attributes) now ∙ rows_of-part attributes was part n holds.whole short,
+            ap (λ bs. take (row_length attributes * slots_in_bytes attributes bs) bs) now
+                ∙ ap (λ (m : ℕ). take (row_length attributes * m) (was ++ part)) (slots_of-part attributes was part n holds.whole short)
+                ∙ take_at was part (row_length attributes * n) holds.whole,
+          ))
           (λ (more : row_length attributes ≤ front.done).
           let all : length bytes ≡ front.done = omega (arith, long, more, front.within) in
           let whole : take front.done bytes ≡ bytes = subst (λ (m : ℕ). take m bytes ≡ bytes) all (take-length bytes) in
-          inr (ap (rows_of attributes) (now ∙ ap (λ xs. was ++ xs) (whole ∙ is)) ∙ rows_of-insert attributes row n was holds.whole suits))
+          let put : bytes_at after.files tuples.file ≡ was ++ row_bytes attributes row = now ∙ ap (λ xs. was ++ xs) (whole ∙ is) in
+          inr (
+            ap (rows_of attributes) put ∙ rows_of-insert attributes row n was holds.whole suits,
+            subst (λ bs. rows_bytes attributes (rows_of attributes bs) ≡ bs) (sym put) (written_insert attributes row n was holds.whole suits (holds.written tells)),
+          ))
           (cases_lt front.done (row_length attributes));
     }
 
@@ -84,6 +101,13 @@ may_mark old after tuples slot at holds below tells place front =
     let few : front.done ≤ 1 = front.within in
     record {
       others = becomes_spares old after tuples.file _ _ holds.file.live front.is;
+      whole = ⊎_elim
+          (λ (none : front.done < 1). let is : front.done ≡ 0 = omega (arith, none) in
+          subst (λ bs. rows_bytes attributes (rows_of attributes bs) ≡ bs) (sym (now ∙ ap part is ∙ put_at_nothing was at)) (holds.written tells))
+          (λ (some : 1 ≤ front.done). let is : front.done ≡ 1 = omega (arith, some, few) in
+          subst (λ bs. rows_bytes attributes (rows_of attributes bs) ≡ bs) (sym (now ∙ ap part is ∙ ap (λ (m : ℕ). put_at was m (3 ∷ [])) place))
+          (written-mark attributes was (slots old.files tuples) slot holds.whole below (holds.written tells)))
+          (cases_lt front.done 1);
       rows = ⊎_elim
           (λ (none : front.done < 1). let is : front.done ≡ 0 = omega (arith, none) in inl (ap (rows_of attributes) (now ∙ ap part is ∙ put_at_nothing was at)))
           (λ (some : 1 ≤ front.done). let is : front.done ≡ 1 = omega (arith, some, few) in
@@ -116,3 +140,8 @@ only_committed old mid after tuples file idle same tells name done =
 pub rows_committed : (mid after : State) (tuples : Tuples) (news : List Row) → IsTrue mid.tells → Commits mid after tuples.file → (draft_in mid).bytes ≡ rows_bytes tuples.schema.attributes news
     → AllRowsSuit tuples.schema.attributes news → rows after.files tuples ≡ news
 rows_committed mid after tuples news told done is suit = ap (rows_of tuples.schema.attributes) (done.bytes told ∙ is) ∙ rows_back tuples.schema.attributes news suit
+
+-- and its bytes are those of its rows
+pub whole_committed : (mid after : State) (tuples : Tuples) (news : List Row) → IsTrue mid.tells → Commits mid after tuples.file → (draft_in mid).bytes ≡ rows_bytes tuples.schema.attributes news
+    → AllRowsSuit tuples.schema.attributes news → HasWholeRows after tuples
+whole_committed mid after tuples news told done is suit = ap (rows_bytes tuples.schema.attributes) (rows_committed mid after tuples news told done is suit) ∙ sym (done.bytes told ∙ is)

@@ -2,4 +2,5 @@ pub mod Column
 pub mod CutRows
 pub mod Drafts
 pub mod Gathered
+pub mod Lent
 pub mod Tuples

@@ -10,6 +10,7 @@ ghost use Rattle.afl_base.specs.FileErrors.{OnSpace, WhereFailed};
 ghost use Rattle.afl_base.specs.Files.{Commits, Drafts, IsLive, Keeps, draft_in, file_at, size_at};
 ghost use Rattle.afl_base.specs.Fit.{fit};
 ghost use Rattle.db_model.specs.Row.{AllRowsSuit, AllSuit, Row, row_length, rows_bytes};
+ghost use Rattle.tuple_file.specs.CutRows.{HasWholeRows};
 ghost use Rattle.tuple_file.specs.Drafts.{HasSlot, IsZeroDraft, PutsRow};
 ghost use Rattle.tuple_file.specs.Gathered.{IsFree, TakesRows, end_of_waiting, gathered};
 ghost use Rattle.tuple_file.specs.Tuples.{AreAnswered, HoldsRows, IsAnswered, IsLiveTuple, IsRowFile, OnlyDraftChanges, OnlyRowsChange, live_rows, row, rows, slots};
@@ -52,7 +53,8 @@ impl Tuples {
             (λ after. OnlyRowsChange (V.state files.old) after self.now
             × AreAnswered (FnReturnsAt F.Fn removed) (rows (V.state files.old).files self.now)
             (rows after.files self.now)
-            × AllRowsSuit self.now.schema.attributes (rows after.files self.now)) }
+            × AllRowsSuit self.now.schema.attributes (rows after.files self.now)
+            × HasWholeRows after self.now) }
         ensures frame { ChangesOrLacks V.state V.lent V.reads V.faults V.lacks files.old files.new result }
     {
         let slots = self.count(files);
@@ -163,7 +165,8 @@ impl Tuples {
         ensures kept { OnSpace result (λ _. Keeps (V.state files.old) (V.state files.new)) }
         ensures cut { CutKeepsOrLeaves V.cuts V.mends V.state files.old files.new (WhereFailed result)
             (λ after. OnlyRowsChange (V.state files.old) after self.now
-            × (rows after.files self.now ≡ live_rows (V.state files.old).files self.now)) }
+            × (rows after.files self.now ≡ live_rows (V.state files.old).files self.now)
+            × HasWholeRows after self.now) }
         ensures frame { ChangesOrLacks V.state V.lent V.reads V.faults V.lacks files.old files.new result }
     {
         let slots = self.count(files);

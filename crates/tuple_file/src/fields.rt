@@ -44,7 +44,7 @@ pub fn push_field<'a>(domain: Domain, bytes: &'a [u8], into: &mut Tuple) -> &'a 
 }
 
 // This number where it is a time, else the least time.
-fn time_or_least(number: i64) -> i64
+pub fn time_or_least(number: i64) -> i64
     ensures { result ≡ time_or_least number }
 {
     if is_time(number) { number } else { 0 }
@@ -87,7 +87,7 @@ pub fn is_field(domain: Domain, bytes: &[u8]) -> bool
 }
 
 // Whether a field is a text with zeros behind it.
-fn is_text_field(field: &[u8]) -> bool
+pub fn is_text_field(field: &[u8]) -> bool
     ensures { result ≡ is_text_field field.now }
 {
     let front = up_to_zero(field);

@@ -2,10 +2,13 @@
 #![tactic(auto)]
 
 mod drafts;
+mod field;
 mod fields;
 pub mod laws;
 mod rows;
 mod tuples;
 mod waiting;
 
-pub use tuples::Tuples;
+pub use field::{Field, field_at};
+pub use rows::{get_tuple, is_live};
+pub use tuples::{ROW_SIZE, Tuples};

@@ -8,7 +8,7 @@ ghost use Rattle.db_model.specs.Row.{AllSuit, fields_length, mark, row_at, row_b
 use crate::fields::{is_field, push_field, put_field};
 use db_model::{Attributes, Tuple, row_length, width};
 
-// Whether a row is live.
+/// Whether a row is live.
 pub fn is_live(row: &[u8]) -> bool
     requires { 1 ≤ length row.now }
     ensures { result ≡ (slice_index row.now (length row.now - 1) == 1) }
@@ -16,7 +16,7 @@ pub fn is_live(row: &[u8]) -> bool
     row[row.len() - 1] == 1
 }
 
-// Fills `into` with the fields of a row.
+/// Fills `into` with the fields of a row.
 pub fn get_tuple(attributes: &Attributes, row: &[u8], into: &mut Tuple)
     requires { fields_length attributes.now ≤ length row.now }
     ensures tuple { into.new ≡ tuple_of attributes.now row.now }

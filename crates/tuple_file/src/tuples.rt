@@ -19,7 +19,7 @@ use afl_base::{Failed, FileId, Files, KeyColumn, MOST_SLOTS, SlotNo};
 use db_model::{Attributes, Schema, Tuple, fields_length, row_length, width};
 
 /// The most bytes of a row.
-pub(crate) const ROW_SIZE: usize = 128;
+pub const ROW_SIZE: usize = 128;
 
 // The most bytes of rows that are read at once.
 const PIECE_SIZE: usize = 1_024;
@@ -76,6 +76,34 @@ impl Tuples {
         ensures frame { OnlyReads V.state V.lent V.reads V.faults files.old files.new result }
     {
         self.get(files, slot.number(), into)
+    }
+
+    /// The bytes of a row.
+    pub fn length(&self) -> usize
+        requires { row_length self.now.schema.attributes ≤ 128 }
+        ensures value { result ≡ row_length self.now.schema.attributes }
+        ensures short { result ≤ 128 }
+    {
+        row_length(&self.schema.attributes)
+    }
+
+    /// Fills `into` with the bytes of the row in the slot.
+    pub fn row_bytes<V: Files>(
+        &self,
+        files: &mut V,
+        slot: SlotNo,
+        into: &mut [u8],
+    ) -> Result<(), Failed>
+        requires holds { HoldsRows (V.state files.old) self.now }
+        requires slot { slot < slots (V.state files.old).files self.now }
+        requires size { length into.old ≡ row_length self.now.schema.attributes }
+        ensures bytes { IsTrue (V.state files.old).tells
+            → OnOk result (into.new ≡ slot_bytes (V.state files.old).files self.now slot) }
+        ensures size { length into.new ≡ length into.old }
+        ensures reads { V.reads files.new ≤ V.reads files.old + 6 }
+        ensures frame { OnlyReads V.state V.lent V.reads V.faults files.old files.new result }
+    {
+        self.read(files, slot.number(), into)
     }
 
     // The row in the slot of this number.

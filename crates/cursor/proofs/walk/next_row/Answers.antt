@@ -34,7 +34,7 @@ slots-preserved g c =
       same = search rules;
       lent = search rules;
       reads_later = omega (arith, inv.reads_later, h.frame.later, read.frame.later);
-      faults = omega (arith, inv.faults, h.frame.cause.later, read.frame.cause.later);
+      faults = omega (arith, inv.faults, h.frame.faultless, read.frame.faultless);
       passes = passes_by c.in-Some.slot before c.next.new.self (advances_then (Some c.in-Some.slot) before c.slots.candidates c.next.new.self inv.passes inv.later advances);
       later = (let forward = advances.forward in let order = forward.0 in let from = forward.1 in omega (arith, inv.later, order, from));
       told = λ told fits.

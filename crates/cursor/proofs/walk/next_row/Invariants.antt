@@ -9,7 +9,7 @@ invariant-slots g l = record {
   same : g.V.Files.state l.files ≡ g.V.Files.state l.fn.files;
   lent : g.V.Files.lent l.files ≡ g.V.Files.lent l.fn.files;
   reads_later : g.V.Files.reads l.fn.files ≤ g.V.Files.reads l.files;
-  faults : g.V.Files.faults l.fn.files ≤ g.V.Files.faults l.files;
+  faults : g.V.Files.faults l.files ≡ g.V.Files.faults l.fn.files;
   passes : Advances None l.fn.candidates l.candidates;
   later : l.fn.candidates.from ≤ l.candidates.from;
   told : IsTrue (g.V.Files.state l.fn.files).tells → Fits l.fn.candidates (g.V.Files.state l.fn.files) l.tables (rows (g.V.Files.state l.fn.files).files l.tuples)

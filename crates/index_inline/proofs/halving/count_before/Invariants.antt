@@ -11,7 +11,7 @@ invariant-halves g l = record {
   within : l.high ≤ l.slots;
   same : g.V.Files.state l.files ≡ g.V.Files.state l.fn.files;
   lent : g.V.Files.lent l.files ≡ g.V.Files.lent l.fn.files;
-  later : g.V.Files.faults l.fn.files ≤ g.V.Files.faults l.files;
+  later : g.V.Files.faults l.files ≡ g.V.Files.faults l.fn.files;
   passed : IsTrue (g.V.Files.state l.fn.files).tells → KeysRise (key_of (g.V.Files.state l.fn.files) l.column) l.slots
       → (i : ℕ) → i < l.low → passes_end l.upper l.within (key_of (g.V.Files.state l.fn.files) l.column i) ≡ true;
   failed : IsTrue (g.V.Files.state l.fn.files).tells → KeysRise (key_of (g.V.Files.state l.fn.files) l.column) l.slots

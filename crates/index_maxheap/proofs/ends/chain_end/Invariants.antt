@@ -12,7 +12,7 @@ invariant-loop-turns g l =
       same : g.V.Files.state l.files ≡ g.V.Files.state l.fn.files;
       lent : g.V.Files.lent l.files ≡ g.V.Files.lent l.fn.files;
       later : g.V.Files.reads l.fn.files ≤ g.V.Files.reads l.files;
-      faults : g.V.Files.faults l.fn.files ≤ g.V.Files.faults l.files;
+      faults : g.V.Files.faults l.files ≡ g.V.Files.faults l.fn.files;
       reads : g.V.Files.reads l.files ≤ g.V.Files.reads l.fn.files + 9 * l.turns;
       chain : IsTrue (g.V.Files.state l.fn.files).tells → (keys : List ℤ) (key : ℤ) (hop : ℕ) → IsTreeOf bytes keys → IsInChain bytes key hop l.fn.start → IsInChain bytes key (hop + l.turns) l.number;
     }

@@ -14,7 +14,7 @@ invariant-loop-level g l =
       same : g.V.Files.state l.files ≡ g.V.Files.state l.fn.files;
       lent : g.V.Files.lent l.files ≡ g.V.Files.lent l.fn.files;
       later : g.V.Files.reads l.fn.files ≤ g.V.Files.reads l.files;
-      faults : g.V.Files.faults l.fn.files ≤ g.V.Files.faults l.files;
+      faults : g.V.Files.faults l.files ≡ g.V.Files.faults l.fn.files;
       reads : g.V.Files.reads l.files ≤ g.V.Files.reads l.fn.files + 12 * l.level;
       low : l.level ≤ 4;
       range : bucket_place l.last ≤ size_at (g.V.Files.state l.fn.files).files l.index;

@@ -11,7 +11,7 @@ invariant-loop-level g l =
       same : g.V.Files.state l.files ≡ g.V.Files.state l.fn.files;
       lent : g.V.Files.lent l.files ≡ g.V.Files.lent l.fn.files;
       later : g.V.Files.reads l.fn.files ≤ g.V.Files.reads l.files;
-      faults : g.V.Files.faults l.fn.files ≤ g.V.Files.faults l.files;
+      faults : g.V.Files.faults l.files ≡ g.V.Files.faults l.fn.files;
       reads : g.V.Files.reads l.files ≤ g.V.Files.reads l.fn.files + 3 * l.level;
       past : IsTrue (g.V.Files.state l.fn.files).tells → (i : ℕ) → i < l.level → number_of bytes l.key i ≢ l.bucket;
     }

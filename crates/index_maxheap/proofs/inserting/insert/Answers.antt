@@ -1,6 +1,8 @@
 use Rattle.std.proofs.Common.{rules}
 use Rattle.afl_base.specs.Files.{bytes_at, size_at}
 use Rattle.index_tree.proofs.Inserted.{on_ok}
+use Rattle.afl_base.proofs.CutLaws.{mends_as}
+use Rattle.index_maxheap.proofs.CutInserts.{bucket_cut, on_error, pair_cut}
 use Rattle.index_maxheap.proofs.Grows.{grown_bucket, grown_pair, keeps_itself, tree_grown}
 use Rattle.index_maxheap.proofs.Told.{room_told}
 use Rattle.index_maxheap.proofs.inserting.insert.Goals as goal
@@ -52,3 +54,14 @@ pub returns-in-Nowhere-clause-only : goal.returns-in-Nowhere-clause-only
 returns-in-Nowhere-clause-only g c =
     let old = g.V.Files.state c.args.files.now in
     (size_at old.files c.args.index, bytes_at old.files c.args.index, keeps_itself old c.args.index c.requires.live)
+
+pub returns-in-Pair-clause-cut : goal.returns-in-Pair-clause-cut
+returns-in-Pair-clause-cut g c = λ cuts told.
+    let old = g.V.Files.state c.args.files.now in
+    on_error c.put_pair.result (λ m. mends_as m (λ after part. pair_cut old after c.args.index c.args.slot c.args.room.now c.args.key.now (search rules) c.in-Pair.at c.in-Pair.is part)) (c.put_pair.ensures.cut cuts told)
+
+pub returns-in-Bucket-clause-cut : goal.returns-in-Bucket-clause-cut
+returns-in-Bucket-clause-cut g c = λ cuts told.
+    let old = g.V.Files.state c.args.files.now in
+    let within = rw c.in-Bucket.is at c.requires.room.place.within in
+    on_error c.put_bucket.result (λ m. mends_as m (λ after part. bucket_cut old after c.args.index c.args.slot c.args.room.now c.args.key.now (search rules) c.in-Bucket.at c.in-Bucket.is within.0 part)) (c.put_bucket.ensures.cut cuts told)

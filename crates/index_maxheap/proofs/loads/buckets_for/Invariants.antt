@@ -15,7 +15,7 @@ invariant-loop-slot g l =
       lent : g.V.Files.lent l.files ≡ g.V.Files.lent l.fn.files;
       reads : g.V.Files.reads l.files ≤ g.V.Files.reads l.fn.files + 6 * l.slot;
       reads_later : g.V.Files.reads l.fn.files ≤ g.V.Files.reads l.files;
-      faults : g.V.Files.faults l.fn.files ≤ g.V.Files.faults l.files;
+      faults : g.V.Files.faults l.files ≡ g.V.Files.faults l.fn.files;
       few : (i : ℕ) → get_or l.loads i 0 ≤ l.slot;
       opened : l.buckets ≤ l.slot;
       kept : AreLoads l.loads l.slot l.buckets;

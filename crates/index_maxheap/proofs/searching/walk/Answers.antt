@@ -60,7 +60,7 @@ loop-hops-preserved g c =
       same = c.in_ok-slot.ensures.frame.same ∙ inv.same;
       lent = c.in_ok-slot.ensures.frame.lent ∙ inv.lent;
       reads_later = omega (arith, c.in_ok-slot.ensures.frame.later, inv.reads_later);
-      faults = omega (arith, c.in_ok-slot.ensures.frame.cause.later, inv.faults);
+      faults = omega (arith, c.in_ok-slot.ensures.frame.faultless, inv.faults);
       safe = safe.0;
       near = (let next = safe.1 in let near = inv.near in omega (arith, next, near));
       walks = λ told keys tree start.

@@ -14,7 +14,7 @@ invariant-loop-hops g l =
       same : g.V.Files.state l.files ≡ old;
       lent : g.V.Files.lent l.files ≡ g.V.Files.lent l.fn.files;
       reads_later : g.V.Files.reads l.fn.files ≤ g.V.Files.reads l.files;
-      faults : g.V.Files.faults l.fn.files ≤ g.V.Files.faults l.files;
+      faults : g.V.Files.faults l.files ≡ g.V.Files.faults l.fn.files;
       safe : IsSafe l.place;
       near : l.place.hop ≡ l.fn.start.hop + l.hops;
       walks : IsTrue old.tells → (keys : List ℤ) → IsTreeOf bytes keys → IsStart bytes keys l.key l.from l.fn.start →

@@ -20,7 +20,7 @@ loop-slot-init g c = record {
   lent = c.in_ok-read_heads.ensures.frame.lent;
   reads = omega (arith, c.in_ok-read_heads.ensures.reads);
   reads_later = c.in_ok-read_heads.ensures.frame.later;
-  faults = c.in_ok-read_heads.ensures.frame.cause.later;
+  faults = c.in_ok-read_heads.ensures.frame.faultless;
   light = λ i. zeros_few i 0;
   inside = λ i. (let z = zeros_few i 0 in omega (arith, z, c.if-size.false, c.size-size.ensures));
   low = λ i. (let z = zeros_few i 0 in omega (arith, z));
@@ -59,7 +59,7 @@ loop-slot-preserved g c =
       lent = c.in_ok-verify_slot.ensures.frame.lent ∙ c.in_ok-key.ensures.frame.lent ∙ inv.lent;
       reads = omega (arith, c.in_ok-verify_slot.ensures.reads, c.in_ok-key.ensures.reads, inv.reads);
       reads_later = omega (arith, c.in_ok-verify_slot.ensures.frame.later, c.in_ok-key.ensures.frame.later, inv.reads_later);
-      faults = omega (arith, c.in_ok-verify_slot.ensures.frame.cause.later, c.in_ok-key.ensures.frame.cause.later, inv.faults);
+      faults = omega (arith, c.in_ok-verify_slot.ensures.frame.faultless, c.in_ok-key.ensures.frame.faultless, inv.faults);
       light = light.1;
       inside = rw (c.in_ok-key.ensures.frame.same, inv.same) at c.in_ok-verify_slot.ensures.inside;
       low = c.in_ok-verify_slot.ensures.low;

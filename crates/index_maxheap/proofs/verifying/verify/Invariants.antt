@@ -16,7 +16,7 @@ invariant-loop-slot g l =
       lent : g.V.Files.lent l.files ≡ g.V.Files.lent l.fn.files;
       reads : g.V.Files.reads l.files ≤ g.V.Files.reads l.fn.files + (15 * l.slot + 18);
       reads_later : g.V.Files.reads l.fn.files ≤ g.V.Files.reads l.files;
-      faults : g.V.Files.faults l.fn.files ≤ g.V.Files.faults l.files;
+      faults : g.V.Files.faults l.files ≡ g.V.Files.faults l.fn.files;
       light : (i : ℕ) → get_or l.loads i 0 ≤ l.slot;
       inside : (i : ℕ) → get_or l.places i 0 + 195 ≤ size_at old.files l.index;
       low : (i : ℕ) → get_or l.places i 0 < 2 ^ 25;

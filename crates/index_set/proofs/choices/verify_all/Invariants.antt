@@ -15,6 +15,6 @@ invariant-loop-nth g l =
       held : AreDoublingTrees start l.indexes → AreHeld start l.tables l.slots (take l.nth l.indexes);
       most : g.V.Files.reads l.files ≤ g.V.Files.reads l.fn.files + most_reads_of_all l.slots (take l.nth l.indexes);
       lent : g.V.Files.lent l.files ≡ g.V.Files.lent l.fn.files;
-      faults : g.V.Files.faults l.fn.files ≤ g.V.Files.faults l.files;
+      faults : g.V.Files.faults l.files ≡ g.V.Files.faults l.fn.files;
       reads : g.V.Files.reads l.fn.files ≤ g.V.Files.reads l.files;
     }

@@ -7,6 +7,7 @@ use Rattle.afl_base.proofs.CutLaws.{mends_as}
 use Rattle.afl_base.proofs.SparingLaws.{takes_no_page_on}
 use Rattle.padded.proofs.Facts.{on_err}
 use Rattle.index_set.proofs.Lists.{here_of, spares_all}
+use Rattle.index_set.proofs.CutKeys.{all_named}
 use Rattle.index_set.proofs.Inserted.{all_whole, complete_all, complete_next, enough_rooms, held_next, keeps_next, ready_next, room_next, spares_next, tables_next}
 use Rattle.index_set.proofs.inserts.insert_all.Goals as goal
 
@@ -83,8 +84,17 @@ returns-in_err-insert_one-clause-cut g c = λ cuts told.
     let inv = c.loop-nth.invariant in
     let below : n < length xs = search rules in
     let e : y ≡ get_or xs n y = c.get-info.ensures in
+    let fits : FitsSigned w32 c.key_in-key.result = search rules in
+    let has = here_of xs n y below e (λ info. HasKeyFor (slice_get c.args.tuple.now info.attribute) info.access) c.requires.keys in
+    let start = g.V.Files.state c.args.files.now in
+    let before = g.V.Files.state c.loop-nth.files in
     on_err c.from_residual.result (mends_as (c.in_err-insert_one.ensures.cut cuts (inv.spares.tells ∙ told))
-    (λ after spared. spares_all xs n y below e _ _ after inv.spares spared))
+    (λ after m. record {
+      others = spares_all xs n y below e _ _ after inv.spares m.others;
+      names = λ rows row count is all exact may.
+          all_named xs n y below e c.requires.apart start before after c.args.tables.now c.loop-nth.tables inv.spares inv.tables m.others rows row c.args.tuple.now c.args.rooms.now c.get-room.result.now c.args.slot c.key_in-key.result
+          count is c.get-room.ensures has c.key_in-key.ensures (rw (to_z-of_z w32 _ fits) at m.names) all exact (inv.complete told rows row count is all exact may);
+    }))
 
 pub returns-clause-complete : goal.returns-clause-complete
 returns-clause-complete g c = λ told rows row count is all exact may.

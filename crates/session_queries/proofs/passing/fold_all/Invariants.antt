@@ -11,7 +11,7 @@ invariant-loop-pass g l = record {
   same : g.V.Files.state l.files ≡ g.V.Files.state l.fn.files;
   lent : g.V.Files.lent l.files ≡ g.V.Files.lent l.fn.files;
   reads_later : g.V.Files.reads l.fn.files ≤ g.V.Files.reads l.files;
-  files_later : g.V.Files.faults l.fn.files ≤ g.V.Files.faults l.files;
+  files_later : g.V.Files.faults l.files ≡ g.V.Files.faults l.fn.files;
   tuples : l.cursor.tuples ≡ l.fn.cursor.tuples;
   code : l.cursor.code ≡ l.fn.cursor.code;
   many : length l.tallies ≡ length l.fn.tallies;

@@ -75,7 +75,7 @@ lefts-preserved g c =
       same = c.in_ok-partnered.ensures.frame.same ∙ inv.same;
       lent = c.in_ok-partnered.ensures.frame.lent ∙ inv.lent;
       reads_later = omega (arith, inv.reads_later, c.in_ok-partnered.ensures.frame.later);
-      faults = omega (arith, inv.faults, c.in_ok-partnered.ensures.frame.cause.later);
+      faults = omega (arith, inv.faults, c.in_ok-partnered.ensures.frame.faultless);
       stands = ap (λ (x : JoinCursor). record x { at = now.at + 1; from = 0; inner = None }) inv.stands;
       later = omega (arith, inv.later);
       end = λ within. let here = c.lefts-test.true in let same = ap (λ (x : JoinCursor). x.left_slots) inv.stands in omega (arith, here, same);

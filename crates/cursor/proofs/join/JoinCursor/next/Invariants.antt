@@ -8,7 +8,7 @@ invariant-lefts g l = record {
   same : g.V.Files.state l.files ≡ g.V.Files.state l.fn.files;
   lent : g.V.Files.lent l.files ≡ g.V.Files.lent l.fn.files;
   reads_later : g.V.Files.reads l.fn.files ≤ g.V.Files.reads l.files;
-  faults : g.V.Files.faults l.fn.files ≤ g.V.Files.faults l.files;
+  faults : g.V.Files.faults l.files ≡ g.V.Files.faults l.fn.files;
   stands : l.self ≡ record l.fn.self { at = l.self.at; from = l.self.from; inner = l.self.inner };
   later : l.fn.self.at ≤ l.self.at;
   end : l.fn.self.at ≤ l.fn.self.left_slots → l.self.at ≤ l.fn.self.left_slots;

@@ -13,7 +13,7 @@ invariant-loop-at g l = record {
   size : length (entries l.self l.table) ≡ l.at;
   other : (other : TableId) → other ≢ l.table → entries l.self other ≡ entries l.fn.self other;
   lent : g.V.Files.lent l.files ≡ g.V.Files.lent l.fn.files;
-  faults : g.V.Files.faults l.fn.files ≤ g.V.Files.faults l.files;
+  faults : g.V.Files.faults l.files ≡ g.V.Files.faults l.fn.files;
   reads_later : g.V.Files.reads l.fn.files ≤ g.V.Files.reads l.files;
   reads : g.V.Files.reads l.files ≤ g.V.Files.reads l.fn.files + 6 * l.at;
 }

@@ -12,7 +12,7 @@ invariant-loop-slot g l =
       reads : g.V.Files.reads l.files ≤ g.V.Files.reads l.fn.files + 6 * l.slot;
       lent : g.V.Files.lent l.files ≡ g.V.Files.lent l.fn.files;
       later : g.V.Files.reads l.fn.files ≤ g.V.Files.reads l.files;
-      faults : g.V.Files.faults l.fn.files ≤ g.V.Files.faults l.files;
+      faults : g.V.Files.faults l.files ≡ g.V.Files.faults l.fn.files;
       within : l.slot ≤ l.fn.count;
       each : IsTrue (g.V.Files.state l.fn.files).tells → (k : ℕ) → k < l.slot → row_bytes attributes (row files l.fn.self k) ≡ slot_bytes files l.fn.self k;
     }

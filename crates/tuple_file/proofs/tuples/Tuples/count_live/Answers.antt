@@ -22,7 +22,7 @@ loop-slot-preserved g c =
       same = read.ensures.frame.same ∙ inv.same;
       lent = read.ensures.frame.lent ∙ inv.lent;
       later = omega (arith, read.ensures.frame.later, inv.later);
-      faults = omega (arith, read.ensures.frame.cause.later, inv.faults);
+      faults = omega (arith, read.ensures.frame.faultless, inv.faults);
       few = omega (arith, inv.few, one, c.from.ensures);
       live = λ told.
           ap (λ n. c.loop-slot.live + n) c.from.ensures

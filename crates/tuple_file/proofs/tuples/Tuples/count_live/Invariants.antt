@@ -11,7 +11,7 @@ invariant-loop-slot g l =
       same : g.V.Files.state l.files ≡ g.V.Files.state l.fn.files;
       lent : g.V.Files.lent l.files ≡ g.V.Files.lent l.fn.files;
       later : g.V.Files.reads l.fn.files ≤ g.V.Files.reads l.files;
-      faults : g.V.Files.faults l.fn.files ≤ g.V.Files.faults l.files;
+      faults : g.V.Files.faults l.files ≡ g.V.Files.faults l.fn.files;
       few : l.live ≤ l.slot;
       live : IsTrue (g.V.Files.state l.fn.files).tells → l.live ≡ length (living (first_rows l.fn.self.schema.attributes bytes l.slot));
     }

@@ -3,7 +3,7 @@ use Rattle.afl_base.specs.Files.{State, Table, draft_in, file_at}
 use Rattle.db_model.specs.Row.{AllRowsSuit, rows_bytes}
 use Rattle.db_model.proofs.Rows.{rows_back}
 use Rattle.tuple_file.specs.Tuples.{live_rows, rows}
-use Rattle.tuple_file.proofs.Cuts.{either_follows, only_committed, rows_committed}
+use Rattle.tuple_file.proofs.Cuts.{either_follows, only_committed, rows_committed, whole_committed}
 use Rattle.tuple_file.proofs.Drafted.{last_mark}
 use Rattle.tuple_file.proofs.Packed.{living_all}
 use Rattle.tuple_file.proofs.Slots.{slots_of_whole}
@@ -45,4 +45,5 @@ returns-in_err-commit-clause-cut g c = λ cuts told failed.
     either_follows mid.files old.files files (c.in_err-commit.ensures.cut cuts (tells ∙ told)) (λ after done. (
       only_committed old mid after tuples c.requires.holds.file c.requires.idle files tells (drafted.only.name ∙ begun.name ∙ ap (λ (s : State). (file_at s.files tuples.file).name) read) done,
       rows_committed mid after tuples (live_rows old.files tuples) (tells ∙ told) done live suit,
+      whole_committed mid after tuples (live_rows old.files tuples) (tells ∙ told) done live suit,
     ))

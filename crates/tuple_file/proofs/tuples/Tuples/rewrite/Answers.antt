@@ -4,7 +4,7 @@ use Rattle.afl_base.specs.Files.{Table}
 use Rattle.db_model.specs.Row.{AllRowsSuit, Row}
 use Rattle.db_model.proofs.Rows.{rows_back}
 use Rattle.tuple_file.specs.Tuples.{AreAnswered, rows}
-use Rattle.tuple_file.proofs.Cuts.{either_follows, only_committed, rows_committed}
+use Rattle.tuple_file.proofs.Cuts.{either_follows, only_committed, rows_committed, whole_committed}
 use Rattle.tuple_file.proofs.Drafted.{last_mark}
 use Rattle.tuple_file.proofs.Slots.{slots_of_whole}
 use Rattle.tuple_file.proofs.tuples.Tuples.rewrite.Goals as goal
@@ -40,4 +40,5 @@ returns-in_err-commit-clause-cut g c = λ cuts told failed.
       only_committed old mid after tuples c.requires.holds.file c.requires.idle files tells (drafted.only.name ∙ begun.name) done,
       subst (λ (news : List Row). AreAnswered answers (rows old.files tuples) news) (sym same) answered,
       subst (λ (news : List Row). AllRowsSuit attributes news) (sym same) said.2,
+      whole_committed mid after tuples said.0 (tells ∙ told) done said.3 said.2,
     ))
