@@ -48,7 +48,7 @@ mark_cut a b c id at slot live size h told v front =
       becomes_spares a c id _ _ live (becomes_then a b c id (length old) _ put _ v front.is),
       inl (record {
         done = length put + front.done;
-        first = inr (omega (arith, long));
+        first = inr (size, omega (arith, long));
         is = front.is.bytes (v.tells ∙ told) ∙ ap (λ xs. xs ++ take front.done version_mark) (v.bytes told) ∙ sym (take-append-add put version_mark front.done)
             ∙ ap (take (length put + front.done)) whole;
       }),

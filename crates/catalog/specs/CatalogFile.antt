@@ -28,11 +28,11 @@ PutsIndex old new cat slot index = Becomes old new cat 1480 (with_index_slot (by
 
 -- ---- changes that broke off
 
--- the bytes are the first ones of the catalog with the slot: it was empty, or no more than its mark
--- was to come
+-- the bytes are the first ones of the catalog with the slot: it was empty, or it was of version 1 and no
+-- more than its mark was to come
 pub record IsFrontOfCatalog (old : List ℕ) (at : ℕ) (slot now : List ℕ) : Type 0 where
   pub done : ℕ
-  pub first : (length old ≡ 0) ⊎ (1472 ≤ done)
+  pub first : (length old ≡ 0) ⊎ ((length old ≡ 1472) × (1472 ≤ done))
   pub is : now ≡ take done (with_slot old at slot)
 
 -- of the slot a front part stands in a catalog that was not empty: none, all, or the bytes up to where

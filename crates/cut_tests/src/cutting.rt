@@ -1,7 +1,7 @@
 //! Stories that are cut at each of their writes.
 
 use crate::random::Random;
-use crate::running::{Cut, Ended, NO_CUT, copied, dumped, enlarged, put_right};
+use crate::running::{Cut, Ended, NO_CUT, copied, dumped, enlarged, look_over, put_right};
 use crate::stories::{Mark, Story};
 use std::alloc::Global;
 
@@ -27,6 +27,8 @@ pub struct Wrong {
 pub enum Trouble {
     /// The run ended otherwise than a cut one.
     Run(u8),
+    /// The check ended so, and foretold other lines than those of the repair, or changed the image.
+    Check(u8),
     /// The repair ended so.
     Repair(u8),
     /// A repair that was cut ended so.
@@ -105,6 +107,17 @@ fn is_repaired(ended: &Ended) -> bool {
     ended.status == 0 && (text == b"sound\n".as_slice() || text.ends_with(b"repaired\n"))
 }
 
+// Whether a check foretold what a repair then said.
+fn foretells(check: &Ended, repair: &Ended) -> bool {
+    let foretold = check.written.as_slice();
+    let said = repair.written.as_slice();
+    check.status == 0
+        && match foretold.strip_suffix(b"to be repaired\n".as_slice()) {
+            Some(lines) => said.strip_suffix(b"repaired\n".as_slice()) == Some(lines),
+            None => foretold == said,
+        }
+}
+
 // A cut of a story, and how much was written before.
 #[derive(Clone, Copy)]
 struct Place<'a> {
@@ -113,9 +126,22 @@ struct Place<'a> {
     written: usize,
 }
 
-// Repairs an image, on a larger flash where there is no space, and tells what is wrong behind it.
+// What a check foretells of an image, of one in three, since it takes time.
+fn foretold_of(alloc: Global, place: Place, image: &mut [u8]) -> Option<Ended> {
+    if place.cut.writes % 3 == 0 {
+        Some(look_over(alloc, image))
+    } else {
+        None
+    }
+}
+
+// Checks an image and repairs it, on a larger flash where there is no space, and tells what is wrong behind it.
 fn end_repair(alloc: Global, place: Place, image: &[u8]) -> Option<Trouble> {
     let mut now = copied(alloc, image);
+    let foretold = foretold_of(alloc, place, now.as_mut_slice());
+    if now.as_slice() != image {
+        return Some(Trouble::Check(0));
+    }
     let mut ended = put_right(alloc, now.as_mut_slice(), NO_CUT);
     if ended.status == 3
         && image.len() < ENOUGH
@@ -126,6 +152,10 @@ fn end_repair(alloc: Global, place: Place, image: &[u8]) -> Option<Trouble> {
     }
     if !is_repaired(&ended) {
         return Some(Trouble::Repair(ended.status));
+    }
+    match &foretold {
+        Some(check) if !foretells(check, &ended) => return Some(Trouble::Check(check.status)),
+        _ => {}
     }
     let database = dumped(alloc, now.as_mut_slice());
     if may_be(place.story, place.cut, place.written, database.as_slice()) {

@@ -4,7 +4,7 @@
 use afl_base::Flash;
 use afl_sim::{CutFlash, MemSink, MemSource};
 use antelope_run::top;
-use repair_run::repair;
+use repair_run::{check, repair};
 use std::alloc::{AllocError, Global};
 
 const SECTOR: usize = 4_096;
@@ -125,6 +125,27 @@ fn repaired<F: Flash>(alloc: Global, flash: &mut F) -> Result<Ended, AllocError>
         status,
         written: Vec::from_slice(alloc, out.written())?,
     })
+}
+
+fn checked<F: Flash>(alloc: Global, flash: &mut F) -> Result<Ended, AllocError> {
+    let mut room = of_zeros(alloc, 8_192)?;
+    let mut out = MemSink::new(room.as_mut_slice(), None);
+    let status = check(&mut out, flash);
+    Ok(Ended {
+        status,
+        written: Vec::from_slice(alloc, out.written())?,
+    })
+}
+
+/// Checks an image.
+pub fn look_over(alloc: Global, image: &mut [u8]) -> Ended {
+    let Some(mut flash) = CutFlash::new(image, NO_CUT.writes, NO_CUT.front) else {
+        return nothing(alloc);
+    };
+    match checked(alloc, &mut flash) {
+        Ok(ended) => ended,
+        Err(_) => nothing(alloc),
+    }
 }
 
 /// Repairs an image.

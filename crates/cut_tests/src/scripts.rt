@@ -123,5 +123,6 @@ fn number_of(what: Trouble) -> u64 {
         Trouble::Repair(status) => 2_000 + u64::from(status),
         Trouble::CutRepair(status) => 3_000 + u64::from(status),
         Trouble::Database => 4_000,
+        Trouble::Check(status) => 5_000 + u64::from(status),
     }
 }

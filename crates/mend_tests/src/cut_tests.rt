@@ -2,7 +2,7 @@ ghost use Rattle.std.specs.Prelude.{◌≡◌, None, OnOk};
 
 use crate::database::{
     ROWS, emptied_relation, first_relation, no_relation, one_index, one_relation, put_catalog,
-    put_growing,
+    put_growing, six_attributes,
 };
 use crate::mended::{byte_at, is_mended, size_named};
 use afl_base::{FileError, Files};
@@ -22,6 +22,21 @@ fn takes_a_first_catalog_back<V: Files>(files: &mut V) -> Result<bool, FileError
 fn a_first_catalog_that_is_not_whole_is_taken_back(rt: HostRuntime) {
     let mut files: PlainFiles<4064> = PlainFiles::new();
     assert!(rt; takes_a_first_catalog_back(&mut files) == Ok(true));
+}
+
+fn takes_a_first_name_back<V: Files>(files: &mut V) -> Result<bool, FileError>
+    requires idle { (V.state files.old).draft ≡ None }
+{
+    put_catalog(files, b"interior", 2)?;
+    put_growing(files, b"T0", b"")?;
+    let lines = b"catalog taken back\nrelation of slot 0 removed\n";
+    is_mended(files, lines)
+}
+
+#[test]
+fn a_first_catalog_whose_name_is_cut_to_a_keyword_is_taken_back(rt: HostRuntime) {
+    let mut files: PlainFiles<4064> = PlainFiles::new();
+    assert!(rt; takes_a_first_name_back(&mut files) == Ok(true));
 }
 
 fn completes_a_mark<V: Files>(files: &mut V) -> Result<bool, FileError>
@@ -103,6 +118,21 @@ fn takes_an_attribute_back<V: Files>(files: &mut V) -> Result<bool, FileError>
 fn an_attribute_that_is_not_counted_is_taken_back(rt: HostRuntime) {
     let mut files: PlainFiles<4064> = PlainFiles::new();
     assert!(rt; takes_an_attribute_back(&mut files) == Ok(true));
+}
+
+fn takes_a_name_back<V: Files>(files: &mut V) -> Result<bool, FileError>
+    requires idle { (V.state files.old).draft ≡ None }
+{
+    put_catalog(files, &six_attributes(b"long"), 1480)?;
+    put_growing(files, b"T0", b"")?;
+    let mended = is_mended(files, b"attribute of r taken back\n")?;
+    Ok(mended && byte_at(files, b"CAT", 124)? == Some(0))
+}
+
+#[test]
+fn the_name_longitude_that_is_cut_to_a_keyword_is_taken_back(rt: HostRuntime) {
+    let mut files: PlainFiles<4064> = PlainFiles::new();
+    assert!(rt; takes_a_name_back(&mut files) == Ok(true));
 }
 
 fn takes_an_index_back<V: Files>(files: &mut V) -> Result<bool, FileError>

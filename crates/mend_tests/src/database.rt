@@ -36,6 +36,23 @@ pub fn one_relation(domain: u8) -> [u8; 1480] {
     bytes
 }
 
+/// The same with six attributes, INTs, and these bytes behind them. A region ends four bytes behind them.
+pub fn six_attributes(behind: &[u8]) -> [u8; 1480] {
+    let mut bytes = no_relation();
+    bytes[0] = b'r';
+    for place in 0..6 {
+        bytes[16 + 18 * place] = b'a' + place as u8;
+        bytes[32 + 18 * place] = 1;
+    }
+    bytes[160] = 6;
+    for (at, byte) in behind.iter().enumerate() {
+        if at < 18 {
+            bytes[124 + at] = *byte;
+        }
+    }
+    bytes
+}
+
 /// The same, whose slot was being emptied: it is zero up to where a region begins.
 pub fn emptied_relation() -> [u8; 1480] {
     let mut bytes = one_relation(2);

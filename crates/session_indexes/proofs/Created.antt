@@ -16,7 +16,9 @@ use Rattle.db_model.specs.Catalog.{Catalog as Slots, catalog_of}
 use Rattle.db_model.specs.Database.{Database, with_index}
 use Rattle.db_model.specs.Refusing.{◌>>◌}
 use Rattle.db_model.specs.Row.{rows_of}
-use Rattle.db_model.specs.Step.{Fine, Outcome, Reply, create_index, keys, outcome, refuse_kind, upgraded}
+use Rattle.db_model.specs.Sound.{IsSoundDatabase}
+use Rattle.db_model.specs.Step.{Fine, Outcome, Reply, create_index, keys, outcome, refuse_kind, replied, upgraded}
+use Rattle.db_model.proofs.SoundSteps.{step_sound}
 use Rattle.index_set.specs.declared.info.Access.{Access}
 use Rattle.index_set.specs.declared.info.Access.TheVariants.{Table as InTable}
 use Rattle.index_set.specs.declared.info.TableId.{TableId}
@@ -26,7 +28,7 @@ use Rattle.index_set.specs.Tables.{Tables}
 use Rattle.space_model.specs.Enough.{keys_named, tree_size}
 use Rattle.space_model.specs.FileNames.{asks_in, catalog_file, rows_file, size_in}
 use Rattle.space_model.specs.Wants.{WantsIndex}
-use Rattle.stored.specs.Mended.{MendsToDatabase}
+use Rattle.stored.specs.Mends.{MendsToDatabase}
 use Rattle.tuple_file.specs.declared.tuples.Tuples.{Tuples}
 use Rattle.tuple_file.specs.Tuples.{rows}
 use Rattle.session_model.specs.declared.held.Held.{Held}
@@ -50,6 +52,8 @@ use Rattle.session_indexes.specs.declared.sites.Site.{Site}
 use Rattle.session_indexes.specs.Made.{AsksIndex, AsksNoIndex, IsMade, IsReadyFor, IsTried, IsUnrefused, KeepsTaken, index_for, indexed_for, keys_at}
 use Rattle.session_indexes.specs.Parts.{IsMadeInPart}
 use Rattle.session_indexes.specs.Sites.{IsSite}
+use Rattle.session_model.proofs.CutHeld.{cut_held}
+use Rattle.session_indexes.proofs.CutTables.{make_table}
 use Rattle.session_indexes.proofs.MendedIndexes.{make_between}
 use Rattle.session_indexes.proofs.Refused.{free_seen, placed}
 use Rattle.db_model.proofs.Standing.{nothing_free}
@@ -140,14 +144,19 @@ module _ (s0 : State) (before : Tables) (held : Held) (opens : List (Option Open
 
   -- ---- it broke off
 
-  pub made_in_part : {mends : List ℕ → Table → Type 0} {store : List ℕ} → IsTrue s0.tells → MendsToEither mends s0.files store (λ after. IsMadeInPart s0 after held.indexes cat t site kind)
+  pub made_in_part : {mends : List ℕ → Table → Type 0} {store : List ℕ} → IsTrue s0.tells → IsSoundDatabase (view s0.files held opens)
+      → MendsToEither mends s0.files store (λ after. IsMadeInPart s0 after held.indexes cat t site kind)
       → MendsToDatabase mends store (IsBetween (view s0.files held opens) (command.CreateIndex name attribute kind))
-  made_in_part {mends} {store} told = ⊎_elim
-      (λ (same : mends store s0.files). record { files = s0.files; mends_to = same; is = inl (running_alike s0 before held opens r told) })
+  unfolding unrefused after_it
+  made_in_part {mends} {store} told sound = ⊎_elim
+      (λ (same : mends store s0.files). record { files = s0.files; mends_to = same; cut = cut_held s0 before held opens r told sound; is = inl (running_alike s0 before held opens r told) })
       (λ (m : MendsToState mends store (λ after. IsMadeInPart s0 after held.indexes cat t site kind)).
       let db : Database = view s0.files held opens in
+      let next : IsSoundDatabase (record (with_index db site.slot (Some (index_for site kind))) { version = 2 }) =
+      subst IsSoundDatabase (ap (λ (o : Outcome). (replied db o).0) (unrefused m.is.unrefused)) (step_sound db (command.CreateIndex name attribute kind) tt sound) in
+      let either = make_between s0 before held opens r told cat has m.after t site kind ready_for empty m.is.left in
       either_mends (command.CreateIndex name attribute kind) (create_index db name attribute kind) db (with_index db site.slot (Some (index_for site kind))) refl (done m.is.unrefused)
-      (record { files = m.after.files; mends_to = m.mends_to; is = make_between s0 before held opens r told cat has m.after t site kind ready_for empty m.is.left }))
+      (record { files = m.after.files; mends_to = m.mends_to; cut = make_table s0 before held opens r told sound cat has m.after t site ready_for there kind m.is.left next either; is = either }))
 
   -- ---- it is made
 

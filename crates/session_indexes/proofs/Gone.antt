@@ -10,11 +10,13 @@ use Rattle.catalog.specs.CatalogFile.{PutsIndex}
 use Rattle.db_model.specs.declared.commands.Command.TheVariants as command
 use Rattle.db_model.specs.Between.{IsBetween}
 use Rattle.db_model.specs.Database.{Database, reader_from, with_index}
-use Rattle.db_model.specs.Step.{Fine, Outcome, Reply, outcome, remove_index, upgraded}
+use Rattle.db_model.specs.Sound.{IsSoundDatabase}
+use Rattle.db_model.specs.Step.{Fine, Outcome, Reply, outcome, remove_index, replied, upgraded}
+use Rattle.db_model.proofs.SoundSteps.{step_sound}
 use Rattle.index_set.specs.declared.info.Access.{Access}
 use Rattle.index_set.specs.Tables.{Tables}
 use Rattle.space_model.specs.FileNames.{catalog_file, tree_file}
-use Rattle.stored.specs.Mended.{MendsToDatabase}
+use Rattle.stored.specs.Mends.{MendsToDatabase}
 use Rattle.tuple_file.specs.declared.tuples.Tuples.{Tuples}
 use Rattle.session_model.specs.declared.held.Held.{Held}
 use Rattle.session_model.specs.declared.held.Indexed.{Indexed}
@@ -35,6 +37,9 @@ use Rattle.session_indexes.specs.declared.removing.Standing.{Standing}
 use Rattle.session_indexes.specs.Made.{AsksIndexSlot}
 use Rattle.session_indexes.specs.Parts.{MayTake}
 use Rattle.session_indexes.specs.Removed.{IsRemovable, IsTaken}
+use Rattle.session_model.specs.Indexed.{index_known}
+use Rattle.session_model.proofs.Sound.{seen}
+use Rattle.session_indexes.proofs.CutTables.{take_table}
 use Rattle.session_indexes.proofs.MendedIndexes.{take_between}
 use Rattle.session_indexes.proofs.Refused.{removed, slot_seen}
 use Rattle.session_indexes.proofs.Puts.{live_catalog}
@@ -101,13 +106,19 @@ module _ (s0 : State) (tables : Tables) (held : Held) (opens : List (Option Open
   unfolding made
   may_go = ok_by _ (record (with_index (view s0.files held opens) standing.slot None) { version = 2 }) Fine made
 
-  pub taken_in_part : {mends : List ℕ → Table → Type 0} {store : List ℕ} → IsTrue s0.tells → MendsToState mends store (λ after. MayTake s0 after cat standing.slot)
+  pub taken_in_part : {mends : List ℕ → Table → Type 0} {store : List ℕ} → IsTrue s0.tells → IsSoundDatabase (view s0.files held opens) → MendsToState mends store (λ after. MayTake s0 after cat standing.slot)
       → MendsToDatabase mends store (IsBetween (view s0.files held opens) (command.RemoveIndex name attribute))
-  taken_in_part told m =
+  unfolding made
+  taken_in_part told sound m =
       let db : Database = view s0.files held opens in
+      let next : IsSoundDatabase (record (with_index db standing.slot None) { version = 2 }) =
+      subst IsSoundDatabase (ap (λ (o : Outcome). (replied db o).0) made) (step_sound db (command.RemoveIndex name attribute) tt sound) in
+      let at : get_or (map (option_map index_known) held.indexes) standing.slot None ≡ Some (index_known is.index) = seen index_known held.indexes standing.slot is.index is.there in
       either_mends (command.RemoveIndex name attribute) (remove_index db name attribute) db (with_index db standing.slot None) refl
       (removed s0.files held opens name attribute k t cell is.at is.place standing.slot is.found (is.unread s0.files))
-      (database_of m (λ after p. take_between s0 tables held opens r told cat has after standing.slot is.below p))
+      (database_of m
+      (λ after p. take_table s0 tables held opens r told sound cat has standing.slot is.below after (index_known is.index) at p next (take_between s0 tables held opens r told cat has after standing.slot is.below p))
+      (λ after p. take_between s0 tables held opens r told cat has after standing.slot is.below p))
 
   -- nothing is asked for, where the command wants no extent
   pub asks_nothing : (asks : ℕ → ℕ → ℕ → ℕ → Type 0) → WantsNone asks s0.files (view s0.files held opens) (command.RemoveIndex name attribute)

@@ -8,4 +8,5 @@ pub mod Free
 pub mod Effects
 pub mod Tried
 pub mod Created
+pub mod CutTables
 pub mod Gone

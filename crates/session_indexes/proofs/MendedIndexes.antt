@@ -57,7 +57,7 @@ module _ (old : List ℕ) (slot : ℕ) (o : Option Index) (size : IsCatalogSize 
   old_is : whole_bytes old ≡ old
   old_is = whole_sized old size
 
-  reads_put : ReadsIndex old (with_index_slot old slot o) slot o
+  pub reads_put : ReadsIndex old (with_index_slot old slot o) slot o
   reads_put =
       let now : List ℕ = with_index_slot old slot o in
       let eight : length (catalog_of old).indexes ≡ 8 = length-map-range_with_len (index_at old) 0 8 in

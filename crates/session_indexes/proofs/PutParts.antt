@@ -2,12 +2,15 @@
 use Rattle.std.proofs.Common.{◌≡◌, ◌≢◌, inl, inr, ℕ, ◌+◌, ◌*◌, List, length, take, Option, Some, refl, ap, sym, ◌∙◌, subst, arith, IsTrue}
 use Rattle.std.proofs.Math.Logic.{⊎_elim}
 use Rattle.std.proofs.Math.Seq.{take-length}
+use Rattle.std.proofs.lemmas.List.{take_all}
+use Rattle.afl_base.specs.Fields.{put_at}
 use Rattle.afl_base.specs.CutFiles.{MendsToEither, MendsToState}
 use Rattle.afl_base.specs.Files.{IsLive, KeepsBytes, State, Table, bytes_at, file_at, name_at, place, used}
 use Rattle.afl_base.specs.Frames.{SparesOthers}
 use Rattle.afl_base.proofs.CutLaws.{mends_as}
 use Rattle.afl_base.proofs.FrameLaws.{becomes_spares, spares_same, spares_then}
-use Rattle.catalog.specs.CatalogFile.{PutsIndex, ReplacesFront}
+use Rattle.catalog.specs.CatalogFile.{IsCatalogSize, PutsIndex, ReplacesFront}
+use Rattle.catalog.proofs.Changes.{slot_put}
 use Rattle.db_model.specs.declared.schemas.IndexKind.{IndexKind}
 use Rattle.db_model.specs.Catalog.{Index, index_slot_bytes, with_index_slot}
 use Rattle.tuple_file.specs.declared.tuples.Tuples.{Tuples}
@@ -43,7 +46,20 @@ module _ (old : State) (cat slot : ℕ) (o : Option Index) (has : HasCatalogFile
       let whole : List ℕ = with_index_slot (bytes_at old.files cat) slot o in
       let long : length whole ≡ 1480 = ap length (sym (u.bytes told)) ∙ u.size in
       let all : take 1480 whole ≡ whole = subst (λ (n : ℕ). take n whole ≡ whole) long (take-length whole) in
-      (becomes_spares old new cat _ _ live u, inl (record { done = 1480; first = inr (omega arith); is = u.bytes told ∙ sym all }))
+      (becomes_spares old new cat _ _ live u, by_size all has.1)
+    where
+      by_size : take 1480 (with_index_slot (bytes_at old.files cat) slot o) ≡ with_index_slot (bytes_at old.files cat) slot o → IsCatalogSize (length (bytes_at old.files cat))
+          → ReplacesFront (bytes_at old.files cat) (1408 + 8 * slot) (index_slot_bytes o) (bytes_at new.files cat)
+      by_size all (inl none) = inl (record { done = 1480; first = inl none; is = u.bytes told ∙ sym all })
+      by_size all (inr (inl first)) = inl (record { done = 1480; first = inr (first, omega arith); is = u.bytes told ∙ sym all })
+      by_size all (inr (inr second)) = inr (record {
+        done = length (index_slot_bytes o);
+        within = omega arith;
+        whole = inr (inl refl);
+        some = omega (arith, second);
+        is = u.bytes told ∙ slot_put (bytes_at old.files cat) (bytes_at old.files cat) (index_slot_bytes o) (1408 + 8 * slot) (rw second refl)
+            ∙ ap (λ (xs : List ℕ). put_at (bytes_at old.files cat) (1408 + 8 * slot) xs) (sym (take_all (length (index_slot_bytes o)) (index_slot_bytes o) (omega arith)));
+      })
 
   -- room was made, and it broke off afterwards, whatever draft was begun in between
   module _ (mid next : State) (u : KeepsBytes old mid cat) (files : next.files ≡ mid.files) where

@@ -18,7 +18,9 @@ use Rattle.index_set.specs.declared.info.Access.{Access}
 use Rattle.index_set.specs.declared.info.Access.TheVariants.{Order, Tree, Table as InTable}
 use Rattle.index_set.specs.Tables.{Tables}
 use Rattle.space_model.specs.FileNames.{bytes_in_file, bytes_named, catalog_file, file_named, is_there, rows_file, tree_file}
-use Rattle.stored.specs.Mended.{MendsToDatabase, mended_base}
+use Rattle.stored.specs.CutTables.{IsCutTable}
+use Rattle.stored.specs.Mended.{mended_base}
+use Rattle.stored.specs.Mends.{MendsToDatabase}
 use Rattle.stored.proofs.MendedBase.{alike_index, alike_relation, alike_then, relation_read}
 use Rattle.stored.proofs.MendedTables.{KeepsRowsOf, KeepsTreeOf, ReadsIndex, ReadsRelation, ReadsSame, mended_alike, mended_index, mended_relation}
 use Rattle.tuple_file.specs.declared.tuples.Tuples.{Tuples}
@@ -86,6 +88,14 @@ module _ (old after : State) (tables : Tables) (held : Held) (opens : List (Opti
   pub rows_kept : (k : ℕ) → k < 8 → rows_file k ≢ name → bytes_named (rows_file k) after.files ≡ bytes_named (rows_file k) old.files
   rows_kept k below other = ap bytes_in_file (same_file (rows_file k) (λ same. catalog_no_rows k (sym same)) other (rows_once k below))
 
+  -- the rows of a slot are there if they were there
+  pub rows_there_kept : (k : ℕ) → k < 8 → rows_file k ≢ name → is_there (rows_file k) after.files ≡ is_there (rows_file k) old.files
+  rows_there_kept k below other = ap is_some (same_file (rows_file k) (λ same. catalog_no_rows k (sym same)) other (rows_once k below))
+
+  -- the tree of a slot has the bytes that it had
+  pub tree_bytes_kept : (i : ℕ) → i < 8 → tree_file i ≢ name → bytes_named (tree_file i) after.files ≡ bytes_named (tree_file i) old.files
+  tree_bytes_kept i below other = ap bytes_in_file (same_file (tree_file i) (λ same. catalog_no_tree i (sym same)) other (tree_once i below))
+
   -- and the tree of a slot is there if it was there
   pub tree_kept : (i : ℕ) → i < 8 → tree_file i ≢ name → is_there (tree_file i) after.files ≡ is_there (tree_file i) old.files
   tree_kept i below other = ap is_some (same_file (tree_file i) (λ same. catalog_no_tree i (sym same)) other (tree_once i below))
@@ -145,9 +155,10 @@ pub either_mends : {mends : List ℕ → Table → Type 0} {store : List ℕ} (c
 either_mends command made db after is e m = record {
   files = m.files;
   mends_to = m.mends_to;
+  cut = m.cut;
   is = either_between command made db after (mended_base m.files) is e m.is;
 }
 
 -- files of a state that is so mend to such a database
-pub database_of : {mends : List ℕ → Table → Type 0} {store : List ℕ} {P : State → Type 0} {Is : Database → Type 0} → MendsToState mends store P → ((s : State) → P s → Is (mended_base s.files)) → MendsToDatabase mends store Is
-database_of m follows = record { files = m.after.files; mends_to = m.mends_to; is = follows m.after m.is }
+pub database_of : {mends : List ℕ → Table → Type 0} {store : List ℕ} {P : State → Type 0} {Is : Database → Type 0} → MendsToState mends store P → ((s : State) → P s → IsCutTable s.files) → ((s : State) → P s → Is (mended_base s.files)) → MendsToDatabase mends store Is
+database_of m cut follows = record { files = m.after.files; mends_to = m.mends_to; cut = cut m.after m.is; is = follows m.after m.is }

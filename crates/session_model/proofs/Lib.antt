@@ -3,6 +3,10 @@ pub mod Answered
 pub mod Catalogs
 pub mod Cursors
 pub mod CutCatalogs
+pub mod CutForms
+pub mod CutHeld
+pub mod CutPuts
+pub mod CutSlots
 pub mod Frames
 pub mod Grown
 pub mod Inserted

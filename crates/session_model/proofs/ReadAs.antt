@@ -89,7 +89,7 @@ module _ (old after : State) (tables : Tables) (held : Held) (opens : List (Opti
       named_found after.files id name (named id ∙ is) (λ k also. r.distinct k id name (sym (named k) ∙ also) is)
       ∙ place_live after.files id (named_live after.files id name (named id ∙ is))
 
-  catalog_here : catalog_bytes_in after.files ≡ bytes_of_catalog old.files held.cat
+  pub catalog_here : catalog_bytes_in after.files ≡ bytes_of_catalog old.files held.cat
   catalog_here = by_cat held.cat r.catalog catalog
     where
       by_cat : (o : Option ℕ) → HasCatalogFile old.files o → bytes_of_catalog after.files o ≡ bytes_of_catalog old.files o → catalog_bytes_in after.files ≡ bytes_of_catalog old.files o
@@ -125,23 +125,15 @@ module _ (old after : State) (tables : Tables) (held : Held) (opens : List (Opti
 pub running_alike : (state : State) (tables : Tables) (held : Held) (opens : List (Option Open)) → IsRunning state tables held opens → IsTrue state.tells → AreAlike (mended_base state.files) (bare (view state.files held opens))
 running_alike state tables held opens r told = read_alike state.files held (after_read_as state state tables held opens r told (λ k. refl) refl) opens
 
--- a command that failed has left its files as they were
-pub same_between : {V : Type 0} (v : FilesOf V) (command : Command) (base : Base V) (files : V) → Runs v base → IsTrue v.cuts → Tells v base → v.state files ≡ v.state base.files → MendsBetween v files (database v base) command
-same_between v command base files r cuts told same = record {
-  files = (v.state base.files).files;
-  mends_to = subst (λ (s : State). v.mends s.store (v.state base.files).files) (sym same) (v.mended base.files cuts told);
-  is = inl (running_alike (v.state base.files) base.tables base.held base.opens r told);
-}
-
 -- ---- the rows of one relation may have changed, and its trees hold anything
 
 module _ (old after : State) (tables : Tables) (held : Held) (opens : List (Option Open)) (r : IsRunning old tables held opens) (told : IsTrue old.tells) (k : ℕ) (t : Tuples) (there : get_or held.relations k None ≡ Some t)
     (spared : SparesOthers old after (StaysAt t.file (infos_of k t held.indexes))) where
-  catalog_stays : (o : Option ℕ) → HasCatalogFile old.files o → bytes_of_catalog after.files o ≡ bytes_of_catalog old.files o
+  pub catalog_stays : (o : Option ℕ) → HasCatalogFile old.files o → bytes_of_catalog after.files o ≡ bytes_of_catalog old.files o
   catalog_stays None h = refl
   catalog_stays (Some cat) h = bytes_by old.files after.files cat (spared.others cat (cat_stays old tables held opens r k cat t there h.0))
 
-  read_spared : AreReadAs after.files held
+  pub read_spared : AreReadAs after.files held
   read_spared = after_read_as old after tables held opens r told spared.named (catalog_stays held.cat r.catalog)
 
   changes : OneChanges old.files after.files held held [] k t

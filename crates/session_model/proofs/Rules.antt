@@ -43,6 +43,9 @@ stranger : (o : Option File) → ((f : File) → o ≡ Some f → is_of_database
 stranger None h = refl
 stranger (Some f) h = not_true (is_of_database f.name f.kind) (h f refl)
 
+pub stranger_none : (files : Table) → ((id : ℕ) (f : File) → place files id ≡ Some f → is_of_database f.name f.kind ≡ true) → (id : ℕ) → is_stranger files id ≡ false
+stranger_none files known id = stranger (place files id) (known id)
+
 pub no_strangers : (files : Table) → ((id : ℕ) (f : File) → place files id ≡ Some f → is_of_database f.name f.kind ≡ true) → first 32 (is_stranger files) ≡ None
 no_strangers files known = first_nothing (is_stranger files) 32 (λ k below. stranger (place files k) (known k))
 

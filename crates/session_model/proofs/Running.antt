@@ -201,7 +201,7 @@ module _ (state : State) (tables : Tables) (held : Held) (opens : List (Option O
   apart_slots : (k i j : ℕ) (x y : Indexed) → get_or held.indexes i None ≡ Some x → get_or held.indexes j None ≡ Some y → x.relation ≢ k → y.relation ≡ k → i ≢ j
   apart_slots k i j x y a b other rel e = other (same_slot i x y a (ap (λ (n : ℕ). get_or held.indexes n None) e ∙ b) ∙ rel)
 
-  tree_stays : (k i g : ℕ) (t : Tuples) (x : Indexed) → get_or held.indexes i None ≡ Some x → x.relation ≢ k → get_or held.relations k None ≡ Some t → IsNamed state.files g (tree_file i) → StaysAt t.file (infos_of k t held.indexes) g
+  pub tree_stays : (k i g : ℕ) (t : Tuples) (x : Indexed) → get_or held.indexes i None ≡ Some x → x.relation ≢ k → get_or held.relations k None ≡ Some t → IsNamed state.files g (tree_file i) → StaysAt t.file (infos_of k t held.indexes) g
   tree_stays k i g t x e other there named = (
     differ state.files g t.file (tree_file i) (rows_file k) named (relation_there k t there).named (λ same. row_no_tree k i (sym same)),
     no_tree k t g (tree_file i) named (λ j y e2 rel. trees_apart i j (apart_slots k i j x y e e2 other rel)),

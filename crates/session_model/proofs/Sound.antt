@@ -50,17 +50,17 @@ use Rattle.stored.proofs.SameBase.{first_nothing}
 -- ---- slots
 
 -- what stands in a slot of what is seen
-seen : {A B : Type 0} (f : A → B) (xs : List (Option A)) (i : ℕ) (x : A) → get_or xs i None ≡ Some x → get_or (map (option_map f) xs) i None ≡ Some (f x)
+pub seen : {A B : Type 0} (f : A → B) (xs : List (Option A)) (i : ℕ) (x : A) → get_or xs i None ≡ Some x → get_or (map (option_map f) xs) i None ≡ Some (f x)
 seen f [] i x e = absurd (cc)
 seen f (o ∷ xs) zero x e = ap (option_map f) e
 seen f (o ∷ xs) (suc i) x e = seen f xs i x e
 
-record Seen {A B : Type 0} (f : A → B) (xs : List (Option A)) (i : ℕ) (y : B) : Type 0 where
-  from : A
-  there : get_or xs i None ≡ Some from
-  is : f from ≡ y
+pub record Seen {A B : Type 0} (f : A → B) (xs : List (Option A)) (i : ℕ) (y : B) : Type 0 where
+  pub from : A
+  pub there : get_or xs i None ≡ Some from
+  pub is : f from ≡ y
 
-seen_back : {A B : Type 0} (f : A → B) (xs : List (Option A)) (i : ℕ) (y : B) → get_or (map (option_map f) xs) i None ≡ Some y → Seen f xs i y
+pub seen_back : {A B : Type 0} (f : A → B) (xs : List (Option A)) (i : ℕ) (y : B) → get_or (map (option_map f) xs) i None ≡ Some y → Seen f xs i y
 seen_back f [] i y e = absurd (cc)
 seen_back f (None ∷ xs) zero y e = absurd (cc)
 seen_back f (Some x ∷ xs) zero y e = record { from = x; there = refl; is = some_same (f x) y e }
@@ -83,18 +83,18 @@ module _ (state : State) (tables : Tables) (held : Held) (opens : List (Option O
   none_asks : ℕ → ℕ → ℕ → ℕ → Type 0
   none_asks id w b n = ⊥
 
-  named_bytes : (id : ℕ) (name : List ℕ) → IsNamed state.files id name → bytes_named name state.files ≡ bytes_at state.files id
+  pub named_bytes : (id : ℕ) (name : List ℕ) → IsNamed state.files id name → bytes_named name state.files ≡ bytes_at state.files id
   named_bytes id name named = bytes_by_name state tables held opens r none_asks id name named
 
   -- ---- the catalog
 
-  catalog_seen : catalog_bytes_in state.files ≡ bytes_of_catalog state.files held.cat
+  pub catalog_seen : catalog_bytes_in state.files ≡ bytes_of_catalog state.files held.cat
   catalog_seen = catalog_found state.files held.cat r.catalog (λ id named. named_bytes id catalog_file named)
 
-  abbrev slots_held : Slots
+  abbrev pub slots_held : Slots
   slots_held = record { version = held.version; relations = map (option_map schema_in) held.relations; indexes = map (option_map index_known) held.indexes }
 
-  catalog_is : catalog_in state.files ≡ slots_held
+  pub catalog_is : catalog_in state.files ≡ slots_held
   catalog_is = ap catalog_of catalog_seen ∙ r.listed told
 
   -- ---- the database
@@ -137,7 +137,7 @@ module _ (state : State) (tables : Tables) (held : Held) (opens : List (Option O
     abbrev bytes_held : List ℕ
     bytes_held = bytes_of_catalog state.files held.cat
 
-    size_held : IsCatalogSize (length (bytes_of_catalog state.files held.cat))
+    pub size_held : IsCatalogSize (length (bytes_of_catalog state.files held.cat))
     size_held = by_cat held.cat r.catalog
       where
         by_cat : (o : Option ℕ) → HasCatalogFile state.files o → IsCatalogSize (length (bytes_of_catalog state.files o))
@@ -242,7 +242,7 @@ module _ (state : State) (tables : Tables) (held : Held) (opens : List (Option O
     not_there : (name : List ℕ) → IsUnnamed state.files name → is_there name state.files ≡ false
     not_there name none = ap is_some (named_none state.files name none)
 
-    rows_there : (k : ℕ) → k < 8 → is_there (rows_file k) state.files ≡ is_some (get_or (map (option_map schema_in) held.relations) k None)
+    pub rows_there : (k : ℕ) → k < 8 → is_there (rows_file k) state.files ≡ is_some (get_or (map (option_map schema_in) held.relations) k None)
     rows_there k below =
         by_slot (get_or held.relations k None) (r.relations k below)
         ∙ ap is_some (sym (get_or-map (option_map schema_in) held.relations k None None (omega (arith, below, r.eight))))
@@ -256,7 +256,7 @@ module _ (state : State) (tables : Tables) (held : Held) (opens : List (Option O
     tree_by i x (Tree g) e h = there_named g (tree_file i) h
     tree_by i x (InTable number) e h = not_there (tree_file i) h
 
-    trees_there : (i : ℕ) → i < 8 → is_there (tree_file i) state.files ≡ is_tree (get_or (map (option_map index_known) held.indexes) i None)
+    pub trees_there : (i : ℕ) → i < 8 → is_there (tree_file i) state.files ≡ is_tree (get_or (map (option_map index_known) held.indexes) i None)
     trees_there i below =
         by_slot (get_or held.indexes i None) refl (r.indexes i below)
         ∙ ap is_tree (sym (get_or-map (option_map index_known) held.indexes i None None (omega (arith, below, r.eight_indexes))))
@@ -273,7 +273,7 @@ module _ (state : State) (tables : Tables) (held : Held) (opens : List (Option O
 
     -- ---- rows and indexes
 
-    rows_kept : (k : ℕ) → k < 8 → KeepsRows state.files k
+    pub rows_kept : (k : ℕ) → k < 8 → KeepsRows state.files k
     rows_kept k below schema at =
         let from = seen_back schema_in held.relations k schema (sym (ap (λ (c : Slots). get_or c.relations k None) catalog_is) ∙ at) in
         let t = from.from in
@@ -300,7 +300,7 @@ module _ (state : State) (tables : Tables) (held : Held) (opens : List (Option O
     kept_by i x (Tree g) ks file h suits = let P : List ℕ → Type 0 = λ bytes. IsTreeOf bytes ks in subst P (sym (named_bytes g (tree_file i) file)) h
     kept_by i x (InTable number) ks file h suits = suits
 
-    index_kept : (i : ℕ) → i < 8 → KeepsIndex state.files i
+    pub index_kept : (i : ℕ) → i < 8 → KeepsIndex state.files i
     index_kept i below index at =
         let from = seen_back index_known held.indexes i index (sym (ap (λ (c : Slots). get_or c.indexes i None) catalog_is) ∙ at) in
         let x = from.from in

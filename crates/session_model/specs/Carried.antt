@@ -21,7 +21,7 @@ use Rattle.session_model.specs.Running.{IsRunning}
 use Rattle.session_model.specs.Steps.{Answers, HasFaultCause, Replies, UnlessFlash}
 use Rattle.session_model.specs.View.{view}
 use Rattle.session_model.specs.Wanted.{WantsFew, WantsNone}
-use Rattle.stored.specs.Mended.{MendsToDatabase}
+use Rattle.stored.specs.Mends.{MendsToDatabase}
 
 -- ---- what a base is seen as
 
@@ -63,7 +63,7 @@ pub record Carries {V : Type 0} (v : FilesOf V) (command : Command) (old new : B
   pub spares : Tells v old → WantsNone (v.asks old.files) (v.state old.files).files (database v old) command
       → OnDone result (TakesNoPage v.is_free (v.state old.files).store (v.state new.files).store)
   -- where failures are cuts, the database before or after it, or, of a removal, one with some of the rows removed
-  pub cut : IsTrue v.cuts → Tells v old → OnErr result (MendsBetween v new.files (database v old) command)
+  pub cut : IsTrue v.cuts → Tells v old → IsSoundDatabase (database v old) → OnErr result (MendsBetween v new.files (database v old) command)
   -- a refusal, and a removal of no row, leave the files and what they are kept in
   pub untouched : OnNothing result (v.state new.files ≡ v.state old.files)
   -- and so does a command that changes at most a cursor, where it fails, too

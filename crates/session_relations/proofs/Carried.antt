@@ -1,5 +1,5 @@
 -- What a command makes of the database of a session: a refusal, a change of the catalog, or a failure.
-use Rattle.std.proofs.Common.{◌≡◌, ℕ, Ok, Err, refl, sym, ◌∙◌, subst}
+use Rattle.std.proofs.Common.{◌≡◌, ℕ, Ok, Err, refl, sym, ◌∙◌, ap, subst}
 use Rattle.std.specs.Prelude.{IsTrue, Result}
 use Rattle.afl_base.specs.declared.failed.Failed.{Failed}
 use Rattle.afl_base.specs.declared.files.Files.{Ghosts as FilesOf}
@@ -10,7 +10,9 @@ use Rattle.afl_base.specs.Sparing.{TakesNoPage}
 use Rattle.db_model.specs.declared.commands.Command.{Command}
 use Rattle.db_model.specs.Ahead.{is_refused, moved}
 use Rattle.db_model.specs.Database.{Database}
-use Rattle.db_model.specs.Step.{Fine, Outcome, Reads, outcome, step, upgraded}
+use Rattle.db_model.specs.Sound.{BringsNames, IsSoundDatabase}
+use Rattle.db_model.specs.Step.{Fine, Outcome, Reads, outcome, replied, step, upgraded}
+use Rattle.db_model.proofs.SoundSteps.{step_sound}
 use Rattle.session_model.specs.declared.answer.Answer.TheVariants as answer
 use Rattle.session_model.specs.declared.base.Base.{Base}
 use Rattle.session_model.specs.declared.held.Held.{Held}
@@ -18,7 +20,7 @@ use Rattle.session_model.specs.Answers.{Changed}
 use Rattle.session_model.specs.Carried.{Carries, IsEither, Tells, aheads, database}
 use Rattle.session_model.specs.View.{view}
 use Rattle.session_model.specs.Wanted.{WantsFew, WantsNone}
-use Rattle.stored.specs.Mended.{MendsToDatabase}
+use Rattle.stored.specs.Mends.{MendsToDatabase}
 use Rattle.session_relations.specs.Changes.{Shows}
 use Rattle.session_relations.proofs.Answered.{answers_fine, answers_space}
 use Rattle.session_model.proofs.Carrying.{ahead_stays}
@@ -38,7 +40,7 @@ module _ {V : Type 0} (v : FilesOf V) (command : Command) (made : Outcome) (old 
     wants = λ told. tt;
     lacks = tt;
     spares = spares;
-    cut = λ cuts told. tt;
+    cut = λ cuts told sound. tt;
     untouched = tt;
     same = λ reads. absurd (changes reads);
     reads = λ told reads. absurd (changes reads);
@@ -56,7 +58,7 @@ module _ {V : Type 0} (v : FilesOf V) (command : Command) (made : Outcome) (old 
     wants = wants;
     lacks = frame.lacks;
     spares = λ told none. tt;
-    cut = λ cuts told. tt;
+    cut = λ cuts told sound. tt;
     untouched = tt;
     same = λ reads. absurd (changes reads);
     reads = λ told reads. absurd (changes reads);
@@ -65,7 +67,7 @@ module _ {V : Type 0} (v : FilesOf V) (command : Command) (made : Outcome) (old 
 
   -- where the files failed
   pub carries_failed : {T : Type 0} (db : Database) (failed : Failed) → made ≡ Ok (db, Fine)
-      → (IsTrue v.cuts → Tells v old → MendsToDatabase v.mends (v.state files).store (IsEither (database v old) db))
+      → (IsTrue v.cuts → Tells v old → IsSoundDatabase (database v old) → (BringsNames command → IsSoundDatabase (record db { version = 2 })) → MendsToDatabase v.mends (v.state files).store (IsEither (database v old) db))
       → ChangesOrLacks {T = T} v.state v.lent v.reads v.faults v.lacks old.files files (Err FileFailed) → Carries v command old (record old { files = files; held = held }) (Err failed)
   carries_failed db failed e cut frame = record {
     done = λ told. tt;
@@ -75,7 +77,7 @@ module _ {V : Type 0} (v : FilesOf V) (command : Command) (made : Outcome) (old 
     wants = λ told. tt;
     lacks = tt;
     spares = λ told none. tt;
-    cut = λ cuts told. either_mends command made (database v old) db is e (cut cuts told);
+    cut = λ cuts told sound. either_mends command made (database v old) db is e (cut cuts told sound (λ brings. subst IsSoundDatabase (ap (λ (o : Outcome). (replied (database v old) o).0) (is ∙ ap upgraded e)) (step_sound (database v old) command brings sound)));
     untouched = tt;
     same = λ reads. absurd (changes reads);
     reads = λ told reads. absurd (changes reads);

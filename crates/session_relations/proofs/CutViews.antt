@@ -47,11 +47,11 @@ use Rattle.session_relations.proofs.ReadBack.{longer}
 use Rattle.session_relations.proofs.Shown.{shows_made}
 
 -- no bytes are no rows
-rows_of_none : (schema : Schema) → rows_of schema.attributes [] ≡ []
+pub rows_of_none : (schema : Schema) → rows_of schema.attributes [] ≡ []
 rows_of_none schema = ap (λ (n : ℕ). map (row_at schema.attributes []) (range_with_len 0 n)) (zero-div (row_length schema.attributes))
 
 -- where each file of a name has no bytes, there are none under the name
-none_written : (files : Table) (name : List ℕ) → ((id : ℕ) → IsNamed files id name → bytes_at files id ≡ []) → bytes_named name files ≡ []
+pub none_written : (files : Table) (name : List ℕ) → ((id : ℕ) → IsNamed files id name → bytes_at files id ≡ []) → bytes_named name files ≡ []
 none_written [] name empty = refl
 none_written (None ∷ files) name empty = none_written files name (λ id is. empty (suc id) is)
 none_written (Some f ∷ files) name empty =
@@ -65,7 +65,7 @@ module _ (old : State) (tables : Tables) (held : Held) (opens : List (Option Ope
   abbrev bytes : List ℕ
   bytes = bytes_at old.files cat
 
-  there : HasCatalogFile old.files (Some cat)
+  pub there : HasCatalogFile old.files (Some cat)
   there = catalog_there old tables held opens cat r has
 
   bytes_held : bytes_of_catalog old.files held.cat ≡ bytes
@@ -80,23 +80,23 @@ module _ (old : State) (tables : Tables) (held : Held) (opens : List (Option Ope
       ∙ ap (option_map schema_in) e
 
   -- and has the bytes for it
-  slot_written : (o : Option Tuples) → get_or held.relations k None ≡ o → 1472 ≤ length bytes → slice_range bytes (176 * k) (176 * k + 176) ≡ relation_slot_bytes (option_map schema_in o)
+  pub slot_written : (o : Option Tuples) → get_or held.relations k None ≡ o → 1472 ≤ length bytes → slice_range bytes (176 * k) (176 * k + 176) ≡ relation_slot_bytes (option_map schema_in o)
   slot_written o e long =
       let written : IsWrittenOrEmpty bytes = subst IsWrittenOrEmpty bytes_held (r.written told) in
       (written (omega (arith, long))).relations k below ∙ ap relation_slot_bytes (slot_seen o e)
 
   -- no rows file but that of the slot, and no tree, has come, changed or gone
   module _ (after : State) (l : LeavesOthers old after (rows_file k)) where
-    other_rows : (j : ℕ) → j < 8 → j ≢ k → KeepsRowsOf old.files after.files j
+    pub other_rows : (j : ℕ) → j < 8 → j ≢ k → KeepsRowsOf old.files after.files j
     other_rows j inside differs used = rows_kept old after tables held opens r (rows_file k) l j inside (rows_apart j k differs)
 
-    all_rows : bytes_named (rows_file k) after.files ≡ bytes_named (rows_file k) old.files → (j : ℕ) → j < 8 → KeepsRowsOf old.files after.files j
+    pub all_rows : bytes_named (rows_file k) after.files ≡ bytes_named (rows_file k) old.files → (j : ℕ) → j < 8 → KeepsRowsOf old.files after.files j
     all_rows here j inside used = ⊎_elim
         (λ (same : j ≡ k). subst (λ (m : ℕ). bytes_named (rows_file m) after.files ≡ bytes_named (rows_file m) old.files) (sym same) here)
         (λ (differs : j ≢ k). other_rows j inside differs used)
         (cases_eq j k)
 
-    all_trees : (i : ℕ) → i < 8 → KeepsTreeOf old.files after.files i
+    pub all_trees : (i : ℕ) → i < 8 → KeepsTreeOf old.files after.files i
     all_trees i inside tree = tree_kept old after tables held opens r (rows_file k) l i inside (λ same. row_no_tree k i (sym same))
 
   -- a new relation was being made

@@ -1,5 +1,6 @@
 -- What a command on relations leaves of files where it was cut off.
-use Rattle.std.proofs.Common.{◌≡◌, ◌≢◌, ℕ, ◌*◌, ◌<◌, inr, List, [], length, Option, Some, None, unwrap_or, refl, ap, sym, ◌∙◌, subst, IsTrue}
+use Rattle.std.proofs.Common.{◌≡◌, ◌≢◌, ℕ, ◌*◌, ◌<◌, inl, inr, List, [], length, Option, Some, None, unwrap_or, refl, ap, sym, ◌∙◌, subst, IsTrue}
+use Rattle.std.specs.Prelude.{option_map}
 use Rattle.std.proofs.Math.Logic.{⊎_elim}
 use Rattle.std.proofs.lemmas.Bool.{cases_eq}
 use Rattle.afl_base.specs.declared.kind.Kind.TheVariants.{Doubling}
@@ -11,6 +12,7 @@ use Rattle.db_model.specs.declared.schemas.Schema.{Schema}
 use Rattle.db_model.specs.Catalog.{relation_slot_bytes}
 use Rattle.space_model.specs.FileNames.{catalog_file, rows_file}
 use Rattle.stored.proofs.CatalogParts.{replaces_nothing}
+use Rattle.stored.proofs.SoundCut.{named_there}
 use Rattle.session_model.specs.Running.{HasCatalogFile}
 use Rattle.session_model.proofs.Catalogs.{named_at}
 use Rattle.session_model.proofs.CutCatalogs.{leaves_spares}
@@ -45,6 +47,7 @@ module _ (a : State) (cat slot : ℕ) (schema : Schema) (told : IsTrue a.tells) 
         bytes = subst (λ (bytes : List ℕ). ReplacesFront bytes (176 * slot) (relation_slot_bytes (Some schema)) (bytes_at b.files cat)) (u.bytes told)
             (replaces_nothing (bytes_at b.files cat) (176 * slot) (relation_slot_bytes (Some schema)) now.1);
         empty = λ id is. absurd (u.names (rows_file slot) none id is);
+        there = inl (u.bytes told);
       }
 
   pub make_nothing : MayMakeSlot a a cat slot schema
@@ -53,6 +56,7 @@ module _ (a : State) (cat slot : ℕ) (schema : Schema) (told : IsTrue a.tells) 
     named = has.0;
     bytes = replaces_nothing (bytes_at a.files cat) (176 * slot) (relation_slot_bytes (Some schema)) has.1;
     empty = λ id is. absurd (none id is);
+    there = inl refl;
   }
 
   module _ (b c : State) (file : ℕ) (u : KeepsBytes a b cat) (v : Creates b c file (rows_file slot) Doubling) where
@@ -92,6 +96,7 @@ module _ (a : State) (cat slot : ℕ) (schema : Schema) (told : IsTrue a.tells) 
               let was : IsNamed c.files id (rows_file slot) = sym (w.0.named id) ∙ is in
               ap (λ (o : Option File). (unwrap_or o no_file).bytes) (w.0.others id (differ c.files id cat (rows_file slot) catalog_file was has_still.0 (λ e. catalog_no_rows slot (sym e))))
               ∙ no_rows id was;
+          there = inr (named_there d.files file (rows_file slot) (w.0.named file ∙ ap (option_map (λ (f : File). f.name)) v.file));
         }
 
     -- the file was made

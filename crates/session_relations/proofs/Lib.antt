@@ -1,6 +1,9 @@
 pub mod Answered
 pub mod Carried
 pub mod Created
+pub mod CutGrown
+pub mod CutPlaces
+pub mod CutTables
 pub mod CutViews
 pub mod Cuts
 pub mod Found

@@ -1,5 +1,5 @@
 -- What a change of the catalog makes of a session.
-use Rattle.std.specs.Prelude.{◌≡◌, ◌⊎◌, ◌≤◌, ◌*◌, ℕ, Bool, false, ◌==◌, List, [], ◌∷◌, ◌++◌, length, filter, map, get_or, Option, Some, None, option_map, Result, IsTrue, ⊤}
+use Rattle.std.specs.Prelude.{◌≡◌, ◌⊎◌, ◌≤◌, ◌*◌, ℕ, Bool, true, false, ◌==◌, List, [], ◌∷◌, ◌++◌, length, filter, map, get_or, Option, Some, None, option_map, Result, IsTrue, ⊤}
 use Rattle.afl_base.specs.Asked.{asks_few}
 use Rattle.afl_base.specs.Files.{IsNamed, State, Table, bytes_at, size_at}
 use Rattle.catalog.specs.CatalogFile.{MayReplace, ReplacesFront}
@@ -12,7 +12,7 @@ use Rattle.db_model.specs.Refusing.{◌>>◌}
 use Rattle.db_model.specs.Row.{row_length}
 use Rattle.db_model.specs.Step.{refuse_indexed, refuse_read}
 use Rattle.index_set.specs.Tables.{Tables}
-use Rattle.space_model.specs.FileNames.{catalog_file, rows_file}
+use Rattle.space_model.specs.FileNames.{catalog_file, is_there, rows_file}
 use Rattle.space_model.specs.Wants.{room_for}
 use Rattle.tuple_file.specs.declared.tuples.Tuples.{Tuples}
 use Rattle.tuple_file.specs.Tuples.{slots}
@@ -63,6 +63,8 @@ pub record MayMakeSlot (old after : State) (cat slot : ℕ) (schema : Schema) : 
   pub named : IsNamed after.files cat catalog_file
   pub bytes : ReplacesFront (bytes_at old.files cat) (176 * slot) (relation_slot_bytes (Some schema)) (bytes_at after.files cat)
   pub empty : (id : ℕ) → IsNamed after.files id (rows_file slot) → bytes_at after.files id ≡ []
+  -- the file is there before the catalog is changed
+  pub there : (bytes_at after.files cat ≡ bytes_at old.files cat) ⊎ (is_there (rows_file slot) after.files ≡ true)
 
 -- the catalog was being changed, or the slot is unused, and the file of its rows is there still or gone
 abbrev pub MayTakeSlot : (old after : State) (cat slot : ℕ) → Type 0

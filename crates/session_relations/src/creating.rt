@@ -12,6 +12,7 @@ ghost use Rattle.db_model.specs.declared.commands.Command.TheVariants as command
 ghost use Rattle.db_model.specs.Between.{AreAlike};
 ghost use Rattle.db_model.specs.Database.{bare, free_from, with_relation};
 ghost use Rattle.db_model.specs.Names.{is_name};
+ghost use Rattle.db_model.specs.Sound.{IsSoundDatabase};
 ghost use Rattle.db_model.specs.Step as machine;
 ghost use Rattle.db_model.specs.Step.{Fine};
 ghost use Rattle.space_model.specs.FileNames.{rows_file};
@@ -21,7 +22,7 @@ ghost use Rattle.session_model.specs.Running.{HasCatalogFile, IsRunning};
 ghost use Rattle.session_model.specs.View.{view};
 ghost use Rattle.session_model.specs.Wanted.{WantsFew};
 ghost use Rattle.session_relations.specs.Changes.{AsksRelationSlot, MayMakeSlot, PutsSlot, Shows, bare_relation, bare_schema, changed_at};
-ghost use Rattle.stored.specs.Mended.{MendsToDatabase};
+ghost use Rattle.stored.specs.Mends.{MendsToDatabase};
 
 use crate::finding::{Place, free_slot};
 use afl_base::{Failed, FileError, FileId, Files, Kind, RelationId};
@@ -103,8 +104,9 @@ fn add_relation<V: Files>(
         WantsFew (V.asks files.new) (V.state files.new).files new
         (command.CreateRelation name.now) need) }
     ensures cut { let old = view (V.state files.old).files held.old opens.now in IsTrue V.cuts
-        → IsTrue (V.state files.old).tells → IsErrOf result FileError.Failed
-        → MendsToDatabase V.mends (V.state files.new).store
+        → IsTrue (V.state files.old).tells → IsSoundDatabase old
+        → (IsTrue (is_name name.now) → IsSoundDatabase (changed_at old slot (Some (bare_relation name.now))))
+        → IsErrOf result FileError.Failed → MendsToDatabase V.mends (V.state files.new).store
         (IsEither old (with_relation old slot (Some (bare_relation name.now)))) }
     ensures frame { ChangesOrLacks V.state V.lent V.reads V.faults V.lacks files.old files.new result }
 {
@@ -145,7 +147,7 @@ fn make_catalog<V: Files>(
         × (held.new ≡ held.old) × (held.old.cat ≡ None)) }
     ensures need { OnSpace result (λ need. need ≡ 6) }
     ensures cut { let old = view (V.state files.old).files held.old opens.now in IsTrue V.cuts
-        → IsTrue (V.state files.old).tells → IsErrOf result FileError.Failed
+        → IsTrue (V.state files.old).tells → IsSoundDatabase old → IsErrOf result FileError.Failed
         → MendsToDatabase V.mends (V.state files.new).store (λ now. AreAlike now (bare old)) }
     ensures frame { ChangesOrLacks V.state V.lent V.reads V.faults V.lacks files.old files.new result }
 {

@@ -11,7 +11,9 @@ ghost use Rattle.afl_base.specs.Sparing.{SparesWhere};
 ghost use Rattle.catalog.specs.CatalogFile.{PutsRelation};
 ghost use Rattle.db_model.specs.declared.commands.Command.TheVariants as command;
 ghost use Rattle.db_model.specs.Catalog.{IsDomain};
-ghost use Rattle.db_model.specs.Database.{Database, with_relation};
+ghost use Rattle.db_model.specs.Database.{Database, Relation, with_relation};
+ghost use Rattle.db_model.specs.Names.{is_name};
+ghost use Rattle.db_model.specs.Sound.{IsSoundDatabase};
 ghost use Rattle.db_model.specs.Row.{Row};
 ghost use Rattle.db_model.specs.Step.{Fine, add_attribute, domain_asked};
 ghost use Rattle.db_model.specs.Typing.{is_attribute};
@@ -20,7 +22,7 @@ ghost use Rattle.session_model.specs.Frames.{AsksNoExtent};
 ghost use Rattle.session_model.specs.Running.{HasCatalogFile, IsRunning};
 ghost use Rattle.session_model.specs.View.{view};
 ghost use Rattle.session_relations.specs.Changes.{AsksRelationSlot, Grows, IsLonger, MayPutSlot, Shows, changed_at};
-ghost use Rattle.stored.specs.Mended.{MendsToDatabase};
+ghost use Rattle.stored.specs.Mends.{MendsToDatabase};
 ghost use Rattle.tuple_file.specs.declared.tuples.Tuples.{Tuples as AnyTuples};
 ghost use Rattle.tuple_file.specs.Tuples.{HoldsRows, rows};
 
@@ -84,6 +86,7 @@ fn grown_at<V: Files>(
         → add_attribute name.now domain.now at.now.slot db
         (record { schema = t.schema; rows = rows (V.state files.now).files t })
         ≡ Ok (record { schema = grown.schema; rows = [] }, Fine)) }
+    ensures named { OnOk result (IsTrue (is_name name.now)) }
     ensures refused { IfErr result (λ refusal. (db : Database) (t : AnyTuples)
         → get_or held.now.relations at.now.slot None ≡ Some t
         → add_attribute name.now domain.now at.now.slot db
@@ -104,6 +107,7 @@ fn with_attribute(
 ) -> Result<Tuples, Refusal>
     ensures longer { IfOk result (λ grown. IsLonger tuples.now grown) }
     ensures empty { OnOk result (slots ≡ 0) }
+    ensures named { OnOk result (IsTrue (is_name name.now)) }
     ensures made { IfOk result (λ grown. (slot : ℕ) (db : Database) (rows : List Row)
         → length rows ≡ slots
         → add_attribute name.now domain.now slot db
@@ -199,10 +203,12 @@ fn grow_relation<V: Files>(
         AsksRelationSlot (V.asks files.new) (V.state files.new).files at.now.cat at.now.slot need) }
     ensures spares { let asks = AsksNoExtent (V.asks files.old) (V.state files.old).files at.now.cat in
         SparesWhere V.is_free (asks (176 * at.now.slot) 176) (V.state files.old) (V.state files.new) result }
-    ensures cut { let old = view (V.state files.old).files held.old opens.now in IsTrue V.cuts
-        → IsTrue (V.state files.old).tells → IsErrOf result FileError.Failed
-        → MendsToDatabase V.mends (V.state files.new).store (IsEither old
-        (with_relation old at.now.slot (Some (record { schema = grown.schema; rows = [] })))) }
+    ensures cut { let old = view (V.state files.old).files held.old opens.now in
+        let now : Relation = record { schema = grown.schema; rows = [] } in IsTrue V.cuts
+        → IsTrue (V.state files.old).tells → IsSoundDatabase old
+        → IsSoundDatabase (changed_at old at.now.slot (Some now)) → IsErrOf result FileError.Failed
+        → MendsToDatabase V.mends (V.state files.new).store
+        (IsEither old (with_relation old at.now.slot (Some now))) }
     ensures frame { ChangesOrLacks V.state V.lent V.reads V.faults V.lacks files.old files.new result }
 {
     put_slot(files, at, &grown.schema)?;

@@ -10,13 +10,14 @@ ghost use Rattle.afl_base.specs.Files.{IsNamed, IsUnnamed, KeepsBytes, Table};
 ghost use Rattle.afl_base.specs.Sparing.{SparesWhere};
 ghost use Rattle.db_model.specs.declared.commands.Command.TheVariants as command;
 ghost use Rattle.db_model.specs.Database.{reader_from, with_relation};
+ghost use Rattle.db_model.specs.Sound.{IsSoundDatabase};
 ghost use Rattle.session_model.specs.Carried.{Carries, IsEither, Runs};
 ghost use Rattle.session_model.specs.Frames.{AsksNoExtent};
 ghost use Rattle.session_model.specs.Running.{HasCatalogFile, IsRunning};
 ghost use Rattle.session_model.specs.View.{cursor_in, view};
 ghost use Rattle.session_relations.specs.Changes.{AsksRelationSlot, MayTakeSlot, PutsSlot, Shows, changed_at, indexes_on, refuse_removal};
 ghost use Rattle.space_model.specs.FileNames.{rows_file};
-ghost use Rattle.stored.specs.Mended.{MendsToDatabase};
+ghost use Rattle.stored.specs.Mends.{MendsToDatabase};
 ghost use Rattle.tuple_file.specs.declared.tuples.Tuples.{Tuples as AnyTuples};
 
 use crate::finding::{Place, find_place, has_index};
@@ -98,7 +99,8 @@ fn take_relation<V: Files>(
     ensures spares { let asks = AsksNoExtent (V.asks files.old) (V.state files.old).files at.now.cat in
         SparesWhere V.is_free (asks (176 * at.now.slot) 176) (V.state files.old) (V.state files.new) result }
     ensures cut { let old = view (V.state files.old).files held.old opens.now in IsTrue V.cuts
-        → IsTrue (V.state files.old).tells → IsErrOf result FileError.Failed
+        → IsTrue (V.state files.old).tells → IsSoundDatabase old
+        → IsSoundDatabase (changed_at old at.now.slot None) → IsErrOf result FileError.Failed
         → MendsToDatabase V.mends (V.state files.new).store
         (IsEither old (with_relation old at.now.slot None)) }
     ensures frame { ChangesOrLacks V.state V.lent V.reads V.faults V.lacks files.old files.new result }

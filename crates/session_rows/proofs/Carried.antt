@@ -20,6 +20,8 @@ use Rattle.db_model.specs.Between.{AreAlike}
 use Rattle.db_model.specs.Cond.{condition_of}
 use Rattle.db_model.specs.Database.{Database, Relation, bare, with_relation}
 use Rattle.db_model.specs.Row.{Row}
+use Rattle.db_model.specs.Sound.{BringsNames, IsSoundDatabase}
+use Rattle.db_model.proofs.SoundSteps.{step_sound}
 use Rattle.db_model.specs.Step.{Outcome, Reads, Reply, changed_by, outcome, remove_from, removed_row, replied, step}
 use Rattle.index_set.specs.Tables.{Tables}
 use Rattle.tuple_file.specs.declared.tuples.Tuples.{Tuples}
@@ -39,7 +41,8 @@ use Rattle.session_model.proofs.ReadAs.{rows_alike}
 use Rattle.session_model.proofs.Views.{gives_of_one, named_some, view_set}
 use Rattle.session_model.proofs.Wanted.{relation_seen}
 use Rattle.session_rows.specs.Changes.{RunsOn}
-use Rattle.session_rows.specs.CutRows.{MayChange, MayRemove}
+use Rattle.session_rows.specs.CutRows.{KeepsRows, MayChange, MayRemove}
+use Rattle.session_rows.proofs.CutTables.{changed_cut, kept_cut, removed_cut}
 use Rattle.session_rows.proofs.Changes.{one_of}
 use Rattle.session_rows.proofs.Cuts.{map_whole}
 use Rattle.session_rows.proofs.Refusals.{accepted_removal}
@@ -64,7 +67,7 @@ carries_of_one v command change name old files tables k t a is stays changes cel
   wants = wants;
   lacks = lacks;
   spares = spares;
-  cut = λ cuts told. tt;
+  cut = λ cuts told sound. tt;
   untouched = untouched;
   same = λ reads. absurd (changes reads);
   reads = λ told reads. absurd (changes reads);
@@ -73,11 +76,11 @@ carries_of_one v command change name old files tables k t a is stays changes cel
 
 -- a failure
 pub carries_failed : {V T : Type 0} (v : FilesOf V) (command : Command) (old new : Base V) (r : Result T Failed) (e : Failed) (q : Result Answer Failed) → r ≡ Err e → IsErrAnd q (λ y. y ≡ e)
-    → (Reads command → ⊥) → (IsTrue v.cuts → Tells v old → OnErr r (MendsBetween v new.files (database v old) command))
+    → (Reads command → ⊥) → (IsTrue v.cuts → Tells v old → IsSoundDatabase (database v old) → OnErr r (MendsBetween v new.files (database v old) command))
     → Changes v.state v.lent v.reads v.faults old.files new.files r → Carries v command old new q
 carries_failed {T = T} v command old new r e q was is changes cut frame =
     let said = err_from_is_err_and q is in
-    let left = subst (λ (z : Result T Failed). IsTrue v.cuts → Tells v old → OnErr z (MendsBetween v new.files (database v old) command)) was cut in
+    let left = subst (λ (z : Result T Failed). IsTrue v.cuts → Tells v old → IsSoundDatabase (database v old) → OnErr z (MendsBetween v new.files (database v old) command)) was cut in
     let f = subst (λ (z : Result T Failed). Changes v.state v.lent v.reads v.faults old.files new.files z) was frame in
     subst (λ (z : Result Answer Failed). Carries v command old new z) (sym said.1) (record {
       done = λ told. tt;
@@ -112,13 +115,14 @@ put_same files held opens k t there =
 alike : {now a b : Database} → AreAlike now (bare a) → a ≡ b → AreAlike now (bare b)
 alike {now} h e = subst (λ (z : Database). AreAlike now (bare z)) e h
 
-module _ {V : Type 0} (v : FilesOf V) (base : Base V) (files : V) (k : ℕ) (t : Tuples) (runs : Runs v base) (told : Tells v base) (there : get_or base.held.relations k None ≡ Some t) where
+module _ {V : Type 0} (v : FilesOf V) (base : Base V) (files : V) (k : ℕ) (t : Tuples) (runs : Runs v base) (told : Tells v base) (there : get_or base.held.relations k None ≡ Some t)
+    (sound : IsSoundDatabase (database v base)) where
   -- a relation of which all or nothing was changed
   pub between_one : (command : Command) (change : ℕ → Database → Relation → Result (Relation × Reply) Refusal) (name : List ℕ) → outcome (database v base) command ≡ changed_by change (database v base) name
-      → cell_from name 0 base.held.relations ≡ Some (k, t)
-      → MendsToState v.mends (v.state files).store (λ after. MayChange (v.state base.files) after t (infos_of k t base.held.indexes) (change k (database v base) (relation_of_rows (v.state base.files).files t)))
+      → cell_from name 0 base.held.relations ≡ Some (k, t) → BringsNames command
+      → MendsToState v.mends (v.state files).store (λ after. MayChange (v.state base.files) after base.tables t (infos_of k t base.held.indexes) (change k (database v base) (relation_of_rows (v.state base.files).files t)))
       → MendsBetween v files (database v base) command
-  between_one command change name is cell m =
+  between_one command change name is cell brings m =
       let old = v.state base.files in
       let db = database v base in
       let after = m.after in
@@ -126,11 +130,18 @@ module _ {V : Type 0} (v : FilesOf V) (base : Base V) (files : V) (k : ℕ) (t :
       let put = rows_alike old after base.tables base.held base.opens runs told k t there m.is.others in record {
         files = after.files;
         mends_to = m.mends_to;
+        cut = ⊎_elim
+            (λ (e : KeepsRows old after t). kept_cut old base.tables base.held base.opens runs told sound k t there after m.is.others e)
+            (λ s.
+            let made = is ∙ made_of_one change old.files base.held base.opens name k t now s.0 cell s.1 in
+            let step_is : (step db command).0 ≡ with_relation db k (Some now) = ap (λ (o : Outcome). (replied db o).0) made in
+            changed_cut old base.tables base.held base.opens runs told sound k t there after m.is.others (subst IsSoundDatabase step_is (step_sound db command brings sound)) s.2)
+            m.is.left;
         is = ⊎_elim
-            (λ e. inl (alike (put (rows old.files t) (ap (λ (r : Relation). r.rows) e)) (put_same old.files base.held base.opens k t there)))
+            (λ (e : KeepsRows old after t). inl (alike (put (rows old.files t) e.same) (put_same old.files base.held base.opens k t there)))
             (λ s. inr (inl (alike (put (rows after.files t) refl)
             (sym (ap (λ (o : Outcome). (replied db o).0) (is ∙ made_of_one change old.files base.held base.opens name k t now s.0 cell s.1))))))
-            m.is.relation;
+            m.is.left;
       }
 
   -- rows of which those in the first slots are removed
@@ -149,6 +160,7 @@ module _ {V : Type 0} (v : FilesOf V) (base : Base V) (files : V) (k : ℕ) (t :
       let made = made_of_one (remove_from condition) old.files base.held base.opens name k t _ _ cell (accepted_removal condition k db (relation_of_rows old.files t) accepted) in record {
         files = after.files;
         mends_to = m.mends_to;
+        cut = removed_cut old base.tables base.held base.opens runs told sound k t there after m.is.others m.is.whole condition front.done front.is;
         is = ⊎_elim
             (λ none. inl (alike (put all (front.is ∙ ap (λ (n : ℕ). map change (take n all) ++ drop n all) none)) (put_same old.files base.held base.opens k t there)))
             (λ some. inr (⊎_elim

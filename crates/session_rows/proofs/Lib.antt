@@ -1,5 +1,6 @@
 pub mod Carried
 pub mod Changes
+pub mod CutTables
 pub mod Cuts
 pub mod Rooms
 pub mod Suited

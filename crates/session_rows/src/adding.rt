@@ -3,7 +3,7 @@
 #![tactic(auto)]
 
 ghost use Rattle.std.specs.Prelude.{◌≡◌, ◌<◌, ◌≤◌, ℕ, IsTrue, IfOk, OnErr, OnOk};
-ghost use Rattle.afl_base.specs.CutFiles.{CutLeaves};
+ghost use Rattle.afl_base.specs.CutFiles.{CutLeaves, MendsToState};
 ghost use Rattle.afl_base.specs.Keeping.{Changes, ChangesOrLacks};
 ghost use Rattle.afl_base.specs.Asked.{asks_few};
 ghost use Rattle.afl_base.specs.FileErrors.{OnSpace, UnlessFailed, WhereFailed};
@@ -55,7 +55,7 @@ pub(crate) fn add_row<V: Files>(
     ensures spares { let wants = WantsRow (V.asks files.old) (V.state files.old) tuples.now in
         SparesWhere V.is_free (WantsNothing (wants indexes.now values.now)) (V.state files.old) (V.state files.new) result }
     ensures cut { CutLeaves V.cuts V.mends V.state files.old files.new (WhereFailed result)
-        (λ after. MayAddRow (V.state files.old) after tuples.now indexes.now values.now) }
+        (λ after. MayAddRow (V.state files.old) after tables.old tuples.now indexes.now values.now) }
     ensures frame { ChangesOrLacks V.state V.lent V.reads V.faults V.lacks files.old files.new result }
 {
     let rooms = prepare_row(files, tables, tuples, indexes, values, slot)?;
@@ -123,8 +123,10 @@ fn write_row<V: Files>(
         → MayAllFollow all values.now indexes.now
         → AreComplete (V.state files.new) tables.new now indexes.now) }
     ensures spares { SparesPages V.is_free V.state files.old files.new result }
-    ensures cut { CutLeaves V.cuts V.mends V.state files.old files.new (OnErr result)
-        (λ after. MayAddRow (V.state files.old) after tuples.now indexes.now values.now) }
+    ensures cut { IsTrue V.cuts → IsTrue (V.state files.old).tells → OnErr result
+        (AreRoomFor (V.state files.old) values.now rooms.now indexes.now
+        → MendsToState V.mends (V.state files.new).store
+        (λ after. MayAddRow (V.state files.old) after tables.old tuples.now indexes.now values.now)) }
     ensures frame { Changes V.state V.lent V.reads V.faults files.old files.new result }
 {
     tuples.append(files, values)?;

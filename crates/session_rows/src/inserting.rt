@@ -88,7 +88,7 @@ fn insert_at<V: Files>(
         let infos = infos_of k tuples.now held.now.indexes in
         let made = insert_into values.now k (view old.files held.now opens.now) r in
         CutLeaves V.cuts V.mends V.state files.old files.new (OnErr result)
-        (λ after. MayChange old after tuples.now infos made) }
+        (λ after. MayChange old after tables.old tuples.now infos made) }
     ensures untouched { OnNothing result (V.state files.new ≡ V.state files.old) }
     ensures frame { Changes V.state V.lent V.reads V.faults files.old files.new result }
 {
@@ -129,7 +129,7 @@ fn insert_row<V: Files>(
         IsTrue V.cuts → IsTrue old.tells → OnErr result ((k : ℕ) (db : Database)
         → db.version ≡ version → indexes_of db k ≡ map (index_of_info k) indexes.now
         → MendsToState V.mends (V.state files.new).store
-        (λ after. MayChange old after tuples.now indexes.now (insert_into values.now k db r))) }
+        (λ after. MayChange old after tables.old tuples.now indexes.now (insert_into values.now k db r))) }
     ensures untouched { OnNothing result (V.state files.new ≡ V.state files.old) }
     ensures frame { Changes V.state V.lent V.reads V.faults files.old files.new result }
 {

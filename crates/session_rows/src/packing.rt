@@ -76,7 +76,7 @@ fn pack_at<V: Files>(
         let infos = infos_of k tuples.now held.now.indexes in
         let made = pack_in k (view old.files held.now opens.now) r in
         CutLeaves V.cuts V.mends V.state files.old files.new (OnErr result)
-        (λ after. MayChange old after tuples.now infos made) }
+        (λ after. MayChange old after tables.now tuples.now infos made) }
     ensures untouched { OnNothing result (V.state files.new ≡ V.state files.old) }
     ensures idle { IsTrue (V.state files.old).tells
         → HasOnlyLiveRows (relation_of_rows (V.state files.old).files tuples.now)

@@ -8,19 +8,26 @@ use Rattle.afl_base.specs.Files.{File, Table, file_at, place}
 use Rattle.afl_base.proofs.FileLaws.{place_live}
 use Rattle.coffee_cuts.specs.Cuts.{MendsTo, Nothing}
 use Rattle.coffee_cuts.proofs.OneSettling.{one_list}
-use Rattle.coffee_layout.specs.Files.{NamedFile, files_of}
+use Rattle.coffee_layout.specs.Files.{NamedFile, files_of, listed}
 use Rattle.coffee_layout.specs.Rules.{broken_image}
+use Rattle.coffee_layout.specs.Units.{pages_of}
+use Rattle.coffee_merge.proofs.SoundTables.{sound_few}
 use Rattle.coffee_volume.specs.Cuts.{MendsToFiles}
-use Rattle.coffee_volume.specs.Mounting.{roomless_file}
+use Rattle.coffee_volume.specs.Mounting.{mounted_table, roomless_file}
+use Rattle.coffee_volume.proofs.MountedTables.{mounted_length}
+use Rattle.coffee_volume.proofs.Tables.{length_seen}
 use Rattle.db_model.specs.Database.{Database}
 use Rattle.space_model.specs.FileNames.{bytes_in_file, catalog_file, file_named, rows_file, tree_file}
 use Rattle.space_model.proofs.NamedFiles.{named_place}
+use Rattle.stored.specs.CutTables.{IsCutTable}
 use Rattle.stored.specs.Mended.{mended_base}
 use Rattle.stored.specs.Same.{HasLike, HaveSameFiles}
 use Rattle.stored.proofs.MendedSound.{mended_of_sound}
 use Rattle.stored.proofs.MendedTables.{mended_same}
+use Rattle.stored.proofs.SoundCut.{sound_table_is_cut}
 use Rattle.sound_image.specs.Images.{IsSound, base, file_from, files_of_image}
-use Rattle.sound_image.specs.Mending.{ImageMendsTo}
+use Rattle.sound_image.specs.Mending.{ImageMendsTo, ImageReadsAs}
+use Rattle.sound_image.proofs.Mounted.{mounted_files}
 use Rattle.sound_image.proofs.OneName.{one_file}
 use Rattle.sound_image.proofs.SameFiles.{live_there}
 
@@ -146,7 +153,18 @@ sound_base image s = mended_of_sound (files_of_image image) s.database
 pub own_files : (image : List ℕ) → broken_image image ≡ None → MendsToFiles image (files_of_image image)
 own_files image sound = table_mends image image (files_of image) (record { under_way = Nothing; found = tt; settles = inl sound; files_are = refl }) (λ f has. has) (λ f has. has)
 
+-- these are ones that a cut can have left
+pub sound_cut : (image : List ℕ) (sectors : ℕ) → length image ≡ 4096 * sectors → IsSound image → IsCutTable (files_of_image image)
+sound_cut image sectors size s =
+    let whole : 256 * pages_of image ≡ length image = omega (arith, size) in
+    let places : length (files_of_image image) ≡ 32 =
+    ap length (sym (mounted_files image)) ∙ length_seen true image (mounted_table (listed image)) ∙ mounted_length (listed image) (sound_few image s.volume whole) in
+    sound_table_is_cut (files_of_image image) s.database places
+
+pub sound_mends : (image : List ℕ) (sectors : ℕ) → length image ≡ 4096 * sectors → IsSound image → ImageMendsTo image (λ mended. mended ≡ base image)
+sound_mends image sectors size s = record { files = files_of_image image; mends_to = own_files image s.volume; cut = sound_cut image sectors size s; is = sound_base image s }
+
 -- and so to one database
-pub sound_is : (image : List ℕ) (db : Database) (sectors : ℕ) → length image ≡ 4096 * sectors → IsSound image → ImageMendsTo image (λ mended. mended ≡ db) → base image ≡ db
+pub sound_is : (image : List ℕ) (db : Database) (sectors : ℕ) → length image ≡ 4096 * sectors → IsSound image → ImageReadsAs image (λ mended. mended ≡ db) → base image ≡ db
 sound_is image db sectors size s m =
     sym (sound_base image s) ∙ one_base image (files_of_image image) m.files sectors size (own_files image s.volume) m.mends_to ∙ m.is

@@ -13,7 +13,7 @@ ghost use Rattle.db_model.specs.declared.commands.Command.{Command};
 ghost use Rattle.db_model.specs.Database.{Database, empty_database};
 ghost use Rattle.session_model.specs.Wanted.{WantsOver};
 ghost use Rattle.sound_image.specs.Images.{IsFirstBroken, IsSound, base, files_of_image};
-ghost use Rattle.sound_image.specs.Mending.{ImageMendsTo};
+ghost use Rattle.sound_image.specs.Mending.{ImageMendsTo, ImageReadsAs};
 ghost use Rattle.space_model.specs.Enough.{most};
 ghost use Rattle.space_model.specs.Wants.{AsksLittle};
 ghost use Rattle.stored.specs.Base.{base_of};
@@ -78,8 +78,10 @@ pub fn images_mend_to_one_database()
     ensures one { (image : List ℕ) (files others : Table) (sectors : ℕ) → length image ≡ 4096 * sectors
         → MendsToFiles image files → MendsToFiles image others → mended_base files ≡ mended_base others }
     ensures sound { (image : List ℕ) (db : Database) (sectors : ℕ) → length image ≡ 4096 * sectors
-        → IsSound image → ImageMendsTo image (λ mended. mended ≡ db) → base image ≡ db }
+        → IsSound image → ImageReadsAs image (λ mended. mended ≡ db) → base image ≡ db }
     ensures own { (image : List ℕ) → IsSound image → mended_base (files_of_image image) ≡ base image }
+    ensures itself { (image : List ℕ) (sectors : ℕ) → length image ≡ 4096 * sectors
+        → IsSound image → ImageMendsTo image (λ mended. mended ≡ base image) }
     ensures files { (old new : List ℕ) (named : List NamedFile) → MendsTo old named
         → ((f : NamedFile) → Contains named f → Contains (files_of new) f)
         → ((f : NamedFile) → Contains (files_of new) f → Contains named f)

@@ -6,7 +6,8 @@ use Rattle.std.proofs.Math.Nat.{div-mul-le_self, mod-eq-sub-div-mul}
 use Rattle.std.proofs.Math.Seq.{take-append-add}
 use Rattle.std.proofs.lemmas.Bool.{cases_eq, cases_lt}
 use Rattle.std.proofs.lemmas.Grind.{flat_map-append}
-use Rattle.std.proofs.lemmas.List.{drop-drop, drop-take, drop_at, get_or-append-add, get_or-drop, get_or-set_other, get_or-set_same, get_or-take, length-take-le, nil_from_length, take-append-drop, take-take, take_at}
+use Rattle.std.proofs.lemmas.List.Concat.{flat_map-cons}
+use Rattle.std.proofs.lemmas.List.{append-nil, length-replicate, take-append-le, take-replicate, drop-drop, drop-take, drop_at, get_or-append-add, get_or-drop, get_or-set_other, get_or-set_same, get_or-take, length-take-le, nil_from_length, take-append-drop, take-take, take_at}
 use Rattle.std.proofs.lemmas.List.FromFn.{get_or-map-range_with_len, length-map-range_with_len}
 use Rattle.afl_base.specs.Fields.{put_at}
 use Rattle.afl_base.proofs.FieldLaws.{drop-put_at, length-put_at}
@@ -53,7 +54,7 @@ relation_not_changed old now slot o r e = record {
 
 -- ---- the first bytes of a catalog in which a slot was put
 
-length-with_slot : (old slot : List ℕ) (at : ℕ) → IsCatalogSize (length old) → at + length slot ≤ 1472 → length (with_slot old at slot) ≡ 1480
+pub length-with_slot : (old slot : List ℕ) (at : ℕ) → IsCatalogSize (length old) → at + length slot ≤ 1472 → length (with_slot old at slot) ≡ 1480
 length-with_slot old slot at size room =
     ⊎_elim
     (λ (none : length old ≡ 0). first_size old slot at none room)
@@ -129,10 +130,10 @@ module _ (old : List ℕ) (slot : ℕ) (o : Option Schema) (size : IsCatalogSize
   put_index i inside = sym (each_index put i inside) ∙ ap (λ (c : Catalog). get_or c.indexes i None) (relation_changed old slot o size below back) ∙ each_index old i inside
 
   -- its first bytes
-  pub appended_relation : (n : ℕ) → (length old ≡ 0) ⊎ (1472 ≤ n) → ReadsSame old (take n put) ⊎ ReadsRelation old (take n put) slot o
+  pub appended_relation : (n : ℕ) → (length old ≡ 0) ⊎ ((length old ≡ 1472) × (1472 ≤ n)) → ReadsSame old (take n put) ⊎ ReadsRelation old (take n put) slot o
   appended_relation n some =
       ⊎_elim
-      (λ (less : n < 1472). inl (few old put n put_size size (⊎_elim (λ (none : length old ≡ 0). none) (λ (past : 1472 ≤ n). absurd (omega (arith, less, past))) some) less))
+      (λ (less : n < 1472). inl (few old put n put_size size (⊎_elim (λ (none : length old ≡ 0). none) (λ (past : (length old ≡ 1472) × (1472 ≤ n)). absurd (omega (arith, less, past.1))) some) less))
       (λ (past : 1472 ≤ n). inr (record {
         here = front_relation old put n put_size size slot past below ∙ put_here;
         relations = λ k inside differs. front_relation old put n put_size size k past inside ∙ put_other k inside differs ∙ ap (λ (bytes : List ℕ). relation_at bytes k) (sym (whole_sized old size));
@@ -150,11 +151,11 @@ module _ (old : List ℕ) (slot : ℕ) (o : Option Schema) (size : IsCatalogSize
         indexes = λ i inside. ap (λ (bytes : List ℕ). index_at bytes i) whole ∙ put_index i inside ∙ ap (λ (bytes : List ℕ). index_at bytes i) (sym (whole_sized old size));
       }
 
-pub appended_index : (old : List ℕ) (slot n : ℕ) (o : Option Index) → IsCatalogSize (length old) → (length old ≡ 0) ⊎ (1472 ≤ n) → slot < 8
+pub appended_index : (old : List ℕ) (slot n : ℕ) (o : Option Index) → IsCatalogSize (length old) → (length old ≡ 0) ⊎ ((length old ≡ 1472) × (1472 ≤ n)) → slot < 8
     → ReadsSame old (take n (with_index_slot old slot o)) ⊎ ReadsIndex old (take n (with_index_slot old slot o)) slot o
 appended_index old slot n o size some below =
     ⊎_elim
-    (λ (less : n < 1472). inl (few old whole n long size (⊎_elim (λ (none : length old ≡ 0). none) (λ (past : 1472 ≤ n). absurd (omega (arith, less, past))) some) less))
+    (λ (less : n < 1472). inl (few old whole n long size (⊎_elim (λ (none : length old ≡ 0). none) (λ (past : (length old ≡ 1472) × (1472 ≤ n)). absurd (omega (arith, less, past.1))) some) less))
     (λ (past : 1472 ≤ n). inr (record {
       here = front_index old whole n long size slot past below ∙ here;
       relations = λ k inside. front_relation old whole n long size k past inside ∙ relation k inside ∙ ap (λ (bytes : List ℕ). relation_at bytes k) (sym (whole_sized old size));
@@ -200,7 +201,7 @@ abbrev pub IsFrontPart : (at size n : ℕ) → Type 0
 IsFrontPart at size n = (n ≡ 0) ⊎ ((n ≡ size) ⊎ ((at + n) % 128 ≡ 0))
 
 -- what stands in the slot then
-here_part : (old slot : List ℕ) (at size n : ℕ) → length slot ≡ size → n ≤ size → at + size ≤ length old
+pub here_part : (old slot : List ℕ) (at size n : ℕ) → length slot ≡ size → n ≤ size → at + size ≤ length old
     → slice_range (put_at old at (take n slot)) at (at + size) ≡ take n slot ++ drop n (slice_range old at (at + size))
 here_part old slot at size n long few room =
     let part : List ℕ = take n slot in
@@ -220,7 +221,7 @@ here_part old slot at size n long few room =
 
 module _ (old slot : List ℕ) (n : ℕ) (long : 1472 ≤ length old) where
   -- of a relation
-  over_relation : (k : ℕ) (o : Option Schema) → length slot ≡ 176 → n ≤ 176 → k < 8 → relation_slot_of (take n slot ++ drop n (slice_range old (176 * k) (176 * k + 176))) ≡ o
+  pub over_relation : (k : ℕ) (o : Option Schema) → length slot ≡ 176 → n ≤ 176 → k < 8 → relation_slot_of (take n slot ++ drop n (slice_range old (176 * k) (176 * k + 176))) ≡ o
       → ReadsRelation old (put_at old (176 * k) (take n slot)) k o
   over_relation k o size few below is =
       let at : ℕ = 176 * k in
@@ -279,7 +280,7 @@ not_written old slot at n none = reads_same old (put_at old at (take n slot)) (a
 
 -- ---- index slots
 
-index_part : (i n : ℕ) → i < 8 → n ≤ 8 → IsFrontPart (1408 + 8 * i) 8 n → (n ≡ 0) ⊎ (n ≡ 8)
+pub index_part : (i n : ℕ) → i < 8 → n ≤ 8 → IsFrontPart (1408 + 8 * i) 8 n → (n ≡ 0) ⊎ (n ≡ 8)
 index_part i n below few (inl none) = inl none
 index_part i n below few (inr (inl all)) = inr all
 index_part i n below few (inr (inr ends)) =
@@ -317,7 +318,7 @@ overwritten_index old slot n o long below few part =
 -- ---- relation slots
 
 -- the name is written whole or not at all
-relation_part : (k n : ℕ) → k < 8 → n ≤ 176 → IsFrontPart (176 * k) 176 n → (n ≡ 0) ⊎ (16 ≤ n)
+pub relation_part : (k n : ℕ) → k < 8 → n ≤ 176 → IsFrontPart (176 * k) 176 n → (n ≡ 0) ⊎ (16 ≤ n)
 relation_part k n below few (inl none) = inl none
 relation_part k n below few (inr (inl all)) = inr (omega (arith, all))
 relation_part k n below few (inr (inr ends)) =
@@ -330,7 +331,7 @@ relation_part k n below few (inr (inr ends)) =
     (cases_lt n 16)
 
 -- where the ends of two slots are the same, and as much as differs is written, all is
-back_same : (a b back : List ℕ) (n : ℕ) → length a ≡ length b → length a ≤ n → take n (a ++ back) ++ drop n (b ++ back) ≡ a ++ back
+pub back_same : (a b back : List ℕ) (n : ℕ) → length a ≡ length b → length a ≤ n → take n (a ++ back) ++ drop n (b ++ back) ≡ a ++ back
 back_same a b back n same past =
     let more : ℕ = n - length a in
     let sum : length a + more ≡ n = omega (arith, past) in
@@ -340,18 +341,18 @@ back_same a b back n same past =
     (ap (λ (xs : List ℕ). take (length a + more) (a ++ back) ++ xs) behind ∙ take-append-drop (length a + more) (a ++ back))
 
 -- behind the name of a relation without attributes
-bare_end : List ℕ
+pub bare_end : List ℕ
 bare_end = replicate 159 0 ++ 1 ∷ []
 
-bare_slot : (name : List ℕ) → relation_slot_bytes (Some (record { name = name; attributes = [] })) ≡ padded 16 name ++ bare_end
+pub bare_slot : (name : List ℕ) → relation_slot_bytes (Some (record { name = name; attributes = [] })) ≡ padded 16 name ++ bare_end
 unfolding bare_end
 bare_slot name = append_assoc (padded 16 name ++ padded 144 []) (padded 15 (0 ∷ [])) (1 ∷ []) ∙ append_assoc (padded 16 name) (padded 144 []) (padded 15 (0 ∷ []) ++ 1 ∷ [])
 
-unused_slot : relation_slot_bytes None ≡ replicate 16 0 ++ bare_end
+pub unused_slot : relation_slot_bytes None ≡ replicate 16 0 ++ bare_end
 unfolding bare_end
 unused_slot = refl
 
-name_size : (name : List ℕ) → IsTrue (is_name name) → length (padded 16 name) ≡ 16
+pub name_size : (name : List ℕ) → IsTrue (is_name name) → length (padded 16 name) ≡ 16
 unfolding bare_end
 name_size name e =
     let size : length (relation_slot_bytes (Some (record { name = name; attributes = [] }))) ≡ 176 = length-relation_slot (Some (record { name = name; attributes = [] })) (e, omega arith, tt) in
@@ -425,7 +426,7 @@ same_reading xs ys count front end is =
     ∙ ap (λ (c : ℕ). slot_read (slice_index ys 0) (take 16 ys) (attributes_of c (drop 16 ys))) (sym is)
 
 -- what differs lies in front of what is written, or behind it
-front_part : (new old : List ℕ) (m n : ℕ) → take m new ≡ take m old → take m (take n new ++ drop n old) ≡ take m old
+pub front_part : (new old : List ℕ) (m n : ℕ) → take m new ≡ take m old → take m (take n new ++ drop n old) ≡ take m old
 front_part new old m n same = ⊎_elim
     (λ (less : n < m).
     let written : take n new ≡ take n old = sym (take-take n m new (omega (arith, less))) ∙ ap (take n) same ∙ take-take n m old (omega (arith, less)) in
@@ -445,7 +446,7 @@ front_part new old m n same = ⊎_elim
         let tail : take m new ≡ take m old = ap (drop 1) same in
         ap (λ x. x ∷ take m (take n new ++ drop n old)) head ∙ ap (λ xs. b ∷ xs) (by_front new old m n tail (omega (arith, more)))
 
-end_part : (new old : List ℕ) (m n : ℕ) → length new ≡ length old → n ≤ m → drop m (take n new ++ drop n old) ≡ drop m old
+pub end_part : (new old : List ℕ) (m n : ℕ) → length new ≡ length old → n ≤ m → drop m (take n new ++ drop n old) ≡ drop m old
 end_part new old m zero same less = refl
 end_part [] [] (suc m) (suc n) same less = refl
 end_part [] (b ∷ old) (suc m) (suc n) same less = absurd (omega (arith, same))
@@ -531,31 +532,149 @@ module _ (schema : Schema) (a : Attribute) (short : FitsSlot schema) (more : Fit
   slot_front_size s h =
       length-append (padded 16 s.name ++ padded 144 (flat_map attribute_bytes s.attributes)) (length s.attributes ∷ []) ∙ ap (λ n. n + 1) (fields_size s h)
 
-  -- as many attributes as before, or one more
-  read_in_part : (n : ℕ) → n ≤ 176 → (relation_slot_of (take n (relation_slot_bytes (Some longer)) ++ drop n (relation_slot_bytes (Some schema))) ≡ Some schema)
-      ⊎ (relation_slot_of (take n (relation_slot_bytes (Some longer)) ++ drop n (relation_slot_bytes (Some schema))) ≡ Some longer)
-  read_in_part n few =
-      let new : List ℕ = relation_slot_bytes (Some longer) in
+  -- where the number of attributes is written, all is
+  pub grown_whole : (n : ℕ) → 161 ≤ n → take n (relation_slot_bytes (Some longer)) ++ drop n (relation_slot_bytes (Some schema)) ≡ relation_slot_bytes (Some longer)
+  grown_whole n past =
       let was : List ℕ = relation_slot_bytes (Some schema) in
-      let new_size : length new ≡ 176 = more.back.0 in
-      let was_size : length was ≡ 176 = short.back.0 in
-      ⊎_elim
-      (λ (less : n < 161). inl (same_reading (take n new ++ drop n was) was count
-      (front_part new was (16 + 18 * count) n (slot_after ∙ sym slot_before))
-      (end_part new was 160 n (new_size ∙ sym was_size) (omega (arith, less)))
-      number_before ∙ short.back.1))
-      (λ (past : 161 ≤ n).
       let new_front : List ℕ = padded 16 longer.name ++ padded 144 (flat_map attribute_bytes longer.attributes) ++ length longer.attributes ∷ [] in
       let was_front : List ℕ = padded 16 schema.name ++ padded 144 (flat_map attribute_bytes schema.attributes) ++ length schema.attributes ∷ [] in
       let new_long : length new_front ≡ 161 = slot_front_size longer more in
       let was_long : length was_front ≡ 161 = slot_front_size schema short in
-      inr (ap relation_slot_of
-      (ap (λ (xs : List ℕ). take n xs ++ drop n was) (slot_parts longer)
+      ap (λ (xs : List ℕ). take n xs ++ drop n was) (slot_parts longer)
       ∙ ap (λ (xs : List ℕ). take n (new_front ++ slot_tail) ++ drop n xs) (slot_parts schema)
       ∙ back_same new_front was_front slot_tail n (new_long ∙ sym was_long) (omega (arith, new_long, past))
-      ∙ sym (slot_parts longer))
-      ∙ more.back.1))
+      ∙ sym (slot_parts longer)
+
+  -- before that, it has the attributes that it had
+  pub grown_less : (n : ℕ) → n < 161 → relation_slot_of (take n (relation_slot_bytes (Some longer)) ++ drop n (relation_slot_bytes (Some schema))) ≡ Some schema
+  grown_less n less =
+      let new : List ℕ = relation_slot_bytes (Some longer) in
+      let was : List ℕ = relation_slot_bytes (Some schema) in
+      let new_size : length new ≡ 176 = more.back.0 in
+      let was_size : length was ≡ 176 = short.back.0 in
+      same_reading (take n new ++ drop n was) was count
+      (front_part new was (16 + 18 * count) n (slot_after ∙ sym slot_before))
+      (end_part new was 160 n (new_size ∙ sym was_size) (omega (arith, less)))
+      number_before ∙ short.back.1
+
+  -- as many attributes as before, or one more
+  read_in_part : (n : ℕ) → n ≤ 176 → (relation_slot_of (take n (relation_slot_bytes (Some longer)) ++ drop n (relation_slot_bytes (Some schema))) ≡ Some schema)
+      ⊎ (relation_slot_of (take n (relation_slot_bytes (Some longer)) ++ drop n (relation_slot_bytes (Some schema))) ≡ Some longer)
+  read_in_part n few = ⊎_elim
+      (λ (less : n < 161). inl (grown_less n less))
+      (λ (past : 161 ≤ n). inr (ap relation_slot_of (grown_whole n past) ∙ more.back.1))
       (cases_lt n 161)
+
+  -- ---- its bytes
+
+  -- what is before the new attribute is as it was
+  pub grown_none : (n : ℕ) → n ≤ 16 + 18 * count → take n (relation_slot_bytes (Some longer)) ++ drop n (relation_slot_bytes (Some schema)) ≡ relation_slot_bytes (Some schema)
+  grown_none n few =
+      let new : List ℕ = relation_slot_bytes (Some longer) in
+      let was : List ℕ = relation_slot_bytes (Some schema) in
+      let m : ℕ = 16 + 18 * count in
+      ap (λ (xs : List ℕ). xs ++ drop n was) (sym (take-take n m new few) ∙ ap (take n) (slot_after ∙ sym slot_before) ∙ take-take n m was few)
+      ∙ take-append-drop n was
+
+  abbrev front : List ℕ
+  front = padded 16 schema.name ++ flat
+
+  abbrev attribute : List ℕ
+  attribute = flat_map attribute_bytes (a ∷ [])
+
+  attribute_is : flat_map attribute_bytes (a ∷ []) ≡ attribute_bytes a
+  attribute_is = flat_map-cons attribute_bytes a [] ∙ append-nil (attribute_bytes a)
+
+  all_is : flat_map attribute_bytes (schema.attributes ++ a ∷ []) ≡ flat ++ flat_map attribute_bytes (a ∷ [])
+  all_is = flat_map-append attribute_bytes schema.attributes (a ∷ [])
+
+  more_count : length (schema.attributes ++ a ∷ []) ≡ count + 1
+  more_count = length-append schema.attributes (a ∷ [])
+
+  pub attribute_size : length (attribute_bytes a) ≡ 18
+  attribute_size =
+      let all : length (flat_map attribute_bytes (schema.attributes ++ a ∷ [])) ≡ 18 * length (schema.attributes ++ a ∷ []) = more.attributes in
+      let parts = ap length all_is ∙ length-append flat (flat_map attribute_bytes (a ∷ [])) in
+      let last = ap length attribute_is in
+      omega (arith, all, parts, more_count, flat_is, last)
+
+  -- the parts of both slots, of which the first is the same
+  was_parts : relation_slot_bytes (Some schema) ≡ front ++ (replicate (144 - length flat) 0 ++ (padded 15 (count ∷ []) ++ 1 ∷ []))
+  was_parts = slot_begins (padded 16 schema.name) flat (replicate (144 - length flat) 0) (padded 15 (count ∷ []))
+
+  new_parts : relation_slot_bytes (Some longer)
+      ≡ front ++ (attribute_bytes a ++ (replicate (144 - length (flat_map attribute_bytes (schema.attributes ++ a ∷ []))) 0 ++ (padded 15 (length (schema.attributes ++ a ∷ []) ∷ []) ++ 1 ∷ [])))
+  new_parts =
+      let all : List ℕ = flat_map attribute_bytes (schema.attributes ++ a ∷ []) in
+      let zeros : List ℕ = replicate (144 - length all) 0 in
+      let number : List ℕ = padded 15 (length (schema.attributes ++ a ∷ []) ∷ []) in
+      let split : all ++ zeros ≡ flat ++ (attribute_bytes a ++ zeros) = ap (λ (xs : List ℕ). xs ++ zeros) (all_is ∙ ap (λ (xs : List ℕ). flat ++ xs) attribute_is) ∙ append_assoc flat (attribute_bytes a) zeros in
+      ap (λ (xs : List ℕ). padded 16 schema.name ++ xs ++ number ++ 1 ∷ []) split
+      ∙ slot_begins (padded 16 schema.name) flat (attribute_bytes a ++ zeros) number
+      ∙ ap (λ (xs : List ℕ). front ++ xs) (append_assoc (attribute_bytes a) zeros (number ++ 1 ∷ []))
+
+  room_was : 16 + 18 * count ≤ length (relation_slot_bytes (Some schema))
+  room_was = let e : length (relation_slot_bytes (Some schema)) ≡ 176 = short.back.0 in omega (arith, e, short.few)
+
+  -- with a part of the new attribute behind the others
+  pub grown_some : (n u : ℕ) → n ≡ 16 + 18 * count + u → u ≤ 18
+      → take n (relation_slot_bytes (Some longer)) ++ drop n (relation_slot_bytes (Some schema)) ≡ put_at (relation_slot_bytes (Some schema)) (16 + 18 * count) (take u (attribute_bytes a))
+  unfolding put_at
+  grown_some n u is few =
+      let was : List ℕ = relation_slot_bytes (Some schema) in
+      let new : List ℕ = relation_slot_bytes (Some longer) in
+      let rest : List ℕ = replicate (144 - length (flat_map attribute_bytes (schema.attributes ++ a ∷ []))) 0 ++ (padded 15 (length (schema.attributes ++ a ∷ []) ∷ []) ++ 1 ∷ []) in
+      let sum : n ≡ length front + u = is ∙ ap (λ (m : ℕ). m + u) (sym begin_is) in
+      let written : take n new ≡ front ++ take u (attribute_bytes a) =
+      ap (take n) new_parts ∙ ap (λ (m : ℕ). take m (front ++ (attribute_bytes a ++ rest))) sum ∙ take-append-add front (attribute_bytes a ++ rest) u
+      ∙ ap (λ (xs : List ℕ). front ++ xs) (take-append-le u (attribute_bytes a) rest (omega (arith, few, attribute_size))) in
+      let size : length (take u (attribute_bytes a)) ≡ u = length-take-le u (attribute_bytes a) (omega (arith, few, attribute_size)) in
+      ap (λ (xs : List ℕ). xs ++ drop n was) written
+      ∙ ap (λ (xs : List ℕ). (xs ++ take u (attribute_bytes a)) ++ drop n was) (sym slot_before)
+      ∙ ap (λ (m : ℕ). (take (16 + 18 * count) was ++ take u (attribute_bytes a)) ++ drop m was) (is ∙ ap (λ (m : ℕ). 16 + 18 * count + m) (sym size))
+
+  -- behind it stand zeros in both, up to their number
+  pub grown_all : (n m : ℕ) → n ≡ 16 + 18 * count + 18 + m → n ≤ 160
+      → take n (relation_slot_bytes (Some longer)) ++ drop n (relation_slot_bytes (Some schema)) ≡ put_at (relation_slot_bytes (Some schema)) (16 + 18 * count) (attribute_bytes a)
+  unfolding put_at
+  grown_all n m is few =
+      let was : List ℕ = relation_slot_bytes (Some schema) in
+      let new : List ℕ = relation_slot_bytes (Some longer) in
+      let all : List ℕ = flat_map attribute_bytes (schema.attributes ++ a ∷ []) in
+      let zeros : List ℕ = replicate (144 - length all) 0 in
+      let tail : List ℕ = padded 15 (length (schema.attributes ++ a ∷ []) ∷ []) ++ 1 ∷ [] in
+      let end : List ℕ = padded 15 (count ∷ []) ++ 1 ∷ [] in
+      let behind : List ℕ = drop (16 + 18 * count + 18) was in
+      let many : length all ≡ 18 * length (schema.attributes ++ a ∷ []) = more.attributes in
+      let some : m ≤ 144 - length all = omega (arith, many, more_count, is, few) in
+      let more_zeros : length zeros ≡ 144 - length all = length-replicate {A = ℕ} (144 - length all) 0 in
+      let first : length (front ++ attribute_bytes a) ≡ 16 + 18 * count + 18 = length-append front (attribute_bytes a) ∙ omega (arith, begin_is, attribute_size) in
+      let sum : n ≡ length (front ++ attribute_bytes a) + m = is ∙ ap (λ (z : ℕ). z + m) (sym first) in
+      let written : take n new ≡ (front ++ attribute_bytes a) ++ replicate {A = ℕ} m 0 =
+      ap (take n) (new_parts ∙ sym (append_assoc front (attribute_bytes a) (zeros ++ tail))) ∙ ap (λ (z : ℕ). take z ((front ++ attribute_bytes a) ++ (zeros ++ tail))) sum
+      ∙ take-append-add (front ++ attribute_bytes a) (zeros ++ tail) m
+      ∙ ap (λ (xs : List ℕ). (front ++ attribute_bytes a) ++ xs) (take-append-le m zeros tail (omega (arith, some, more_zeros)) ∙ take-replicate m (144 - length all) 0 some) in
+      let left : drop (16 + 18 * count) was ≡ replicate (144 - length flat) 0 ++ end = ap (drop (16 + 18 * count)) was_parts ∙ drop_at front (replicate (144 - length flat) 0 ++ end) (16 + 18 * count) begin_is in
+      let gap : 144 - length flat ≡ 18 + (144 - length all) = omega (arith, flat_is, many, more_count, is, few) in
+      let eighteen : length (replicate {A = ℕ} 18 0) ≡ 18 = refl in
+      let eight : List ℕ = replicate 18 0 in
+      let there : behind ≡ zeros ++ end =
+      sym (drop-drop 18 (16 + 18 * count) was)
+      ∙ ap (drop 18) (left ∙ ap (λ (z : ℕ). replicate z 0 ++ end) gap ∙ ap (λ (xs : List ℕ). xs ++ end) (replicate-add 18 (144 - length all)) ∙ append_assoc eight zeros end)
+      ∙ drop_at eight (zeros ++ end) 18 eighteen in
+      let zero_front : List ℕ = replicate m 0 in
+      let same : zero_front ≡ take m behind = sym (ap (take m) there ∙ take-append-le m zeros end (omega (arith, some, more_zeros)) ∙ take-replicate m (144 - length all) 0 some) in
+      ap (λ (xs : List ℕ). xs ++ drop n was) (written ∙ ap (λ (xs : List ℕ). (front ++ attribute_bytes a) ++ xs) same)
+      ∙ ap (λ (z : ℕ). ((front ++ attribute_bytes a) ++ take m behind) ++ drop z was) is
+      ∙ ap (λ (xs : List ℕ). ((front ++ attribute_bytes a) ++ take m behind) ++ xs) (sym (drop-drop m (16 + 18 * count + 18) was))
+      ∙ append_assoc (front ++ attribute_bytes a) (take m behind) (drop m behind)
+      ∙ ap (λ (xs : List ℕ). (front ++ attribute_bytes a) ++ xs) (take-append-drop m behind)
+      ∙ ap (λ (xs : List ℕ). (xs ++ attribute_bytes a) ++ behind) (sym slot_before)
+      ∙ ap (λ (z : ℕ). (take (16 + 18 * count) was ++ attribute_bytes a) ++ drop (16 + 18 * count + z) was) (sym attribute_size)
+    where
+      replicate-add : (p q : ℕ) → replicate {A = ℕ} (p + q) 0 ≡ replicate p 0 ++ replicate q 0
+      replicate-add zero q = let e : 0 + q ≡ q = omega arith in ap (λ (n : ℕ). replicate {A = ℕ} n 0) e
+      replicate-add (suc p) q = let e : suc p + q ≡ suc (p + q) = omega arith in ap (λ (n : ℕ). replicate {A = ℕ} n 0) e ∙ ap (λ (xs : List ℕ). 0 ∷ xs) (replicate-add p q)
 
 -- a relation gets one attribute more
 pub overwritten_attribute : (old : List ℕ) (slot n : ℕ) (schema : Schema) (a : Attribute) → 1472 ≤ length old → slot < 8 → n ≤ 176

@@ -11,6 +11,7 @@ pub mod MendedTables
 pub mod NamesStay
 pub mod SameBase
 pub mod SoundBase
+pub mod SoundCut
 pub mod SoundSlots
 pub mod StoreOf
 pub mod TableSums

@@ -70,7 +70,7 @@ any_slot test (Some x ∷ slots) e none = by_test (test (Some x)) refl e (λ h. 
     by_test true t h rest = (0, x, refl, t)
     by_test false t h rest = let r = rest h in (suc r.0, r.1, r.2, r.3)
 
-time_there : (version : ℕ) (attributes : List Attribute) → AllByRecursion (IsSoundAttribute version) attributes → list_any (λ (a : Attribute). is_time_domain a.domain) attributes ≡ true → version ≡ 2
+pub time_there : (version : ℕ) (attributes : List Attribute) → AllByRecursion (IsSoundAttribute version) attributes → list_any (λ (a : Attribute). is_time_domain a.domain) attributes ≡ true → version ≡ 2
 time_there version [] h e = cc
 time_there version (a ∷ attributes) h e = by_domain a.domain refl e (λ f. time_there version attributes h.1 f)
   where

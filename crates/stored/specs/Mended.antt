@@ -51,9 +51,3 @@ mended_base files = let catalog = mended_catalog files in record {
   indexes = catalog.indexes;
   cursors = replicate 4 None;
 }
-
--- a store mends to files that mend to a database which is so
-pub record MendsToDatabase (mends : List ℕ → Table → Type 0) (store : List ℕ) (Is : Database → Type 0) : Type 0 where
-  pub files : Table
-  pub mends_to : mends store files
-  pub is : Is (mended_base files)

@@ -2,6 +2,8 @@
 //! The definitions are in `specs`; the functions here do nothing, and their contracts are laws of theirs.
 #![tactic(auto)]
 
+mod half;
+
 ghost use Rattle.std.specs.Prelude.{◌≡◌, ◌+◌, ◌<◌, ◌≤◌, ℕ, None, length, replicate};
 ghost use Rattle.afl_base.specs.Files.{AreDistinct, Table};
 ghost use Rattle.afl_base.specs.Shares.{gap_for, shares};
@@ -12,9 +14,12 @@ ghost use Rattle.space_model.specs.Enough.{enough};
 ghost use Rattle.space_model.specs.FileNames.{size_in};
 ghost use Rattle.space_model.specs.Wants.{IsStoreOf};
 ghost use Rattle.stored.specs.Base.{base_of};
+ghost use Rattle.stored.specs.CutTables.{IsCutTable};
 ghost use Rattle.stored.specs.Files.{HasItsFiles};
 ghost use Rattle.stored.specs.Same.{HaveSameFiles};
 ghost use Rattle.stored.specs.Sound.{BreaksFirst, IsSoundTable};
+
+pub use half::Half;
 
 /// Which database files stand for, and whether they are sound, does not depend on their order.
 pub fn order_of_files_does_not_matter()
@@ -58,4 +63,9 @@ pub fn sound_files_are_a_sound_database()
 pub fn sound_files_have_their_sizes()
     ensures { (files : Table) → length files ≡ 32 → AreDistinct files → IsSoundTable files
         → IsStoreOf (size_in files) (base_of files) }
+{}
+
+/// Sound files are ones that a cut can have left: nothing is half done.
+pub fn sound_files_are_ones_that_a_cut_can_have_left()
+    ensures { (files : Table) → length files ≡ 32 → IsSoundTable files → IsCutTable files }
 {}

@@ -6,10 +6,11 @@ ghost use Rattle.std.specs.Prelude.{◌≡◌, ◌≤◌, ◌<◌, ◌+◌, ◌*
 ghost use Rattle.afl_base.specs.Files.{IsLive, size_at};
 ghost use Rattle.afl_base.specs.Keeping.{OnlyReads};
 
+use crate::grown::name_begun;
 use afl_base::{Failed, FileId, Files, IndexId, RelationId};
 use catalog::{catalog_file, rows_file, tree_file};
 use padded::is_zeros;
-use stored_mend::{SIZE_OF_VERSION_1, name_in};
+use stored_mend::SIZE_OF_VERSION_1;
 
 /// Whether the first catalog was being begun: no file stands but `CAT`, which is empty or begins as a
 /// catalog of one relation without attributes, and `T0`, which is empty.
@@ -77,7 +78,7 @@ fn begins_catalog<V: Files>(files: &mut V, cat: FileId, size: u32) -> Result<boo
     let mut name = [0; 16];
     let shown = &mut name[..size.min(16) as usize];
     files.read(cat, 0, shown)?;
-    if name_in(shown).is_none() {
+    if name_begun(shown).is_none() {
         return Ok(false);
     }
     for piece in 2..184u32 {

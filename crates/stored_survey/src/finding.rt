@@ -8,12 +8,12 @@ ghost use Rattle.afl_base.specs.Keeping.{OnlyReads};
 
 use crate::emptied::is_unused_slot;
 use crate::grown::ends_with_attributes;
-use crate::half::Half;
 use crate::indexes::has_whole_tree;
 use crate::reading::relation_bytes;
 use afl_base::{Failed, FileId, Files, IndexId, RelationId};
 use catalog::{Catalog, rows_file, tree_file};
 use db_model::{IndexKind, Schema, row_length};
+use stored::Half;
 
 /// The first thing that is half done: of the relations by slot, and then of the indexes.
 pub fn find_half<V: Files>(files: &mut V, cat: FileId, catalog: &Catalog) -> Result<Half, Failed>

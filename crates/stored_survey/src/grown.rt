@@ -5,9 +5,10 @@
 ghost use Rattle.std.specs.Prelude.{◌≡◌, ◌≤◌, ◌<◌, ◌+◌, ◌*◌, length};
 
 use crate::emptied::{ATTRIBUTE_SIZE, ATTRIBUTES_AT, ends_attribute, is_edge};
-use db_model::{Attribute, Schema, row_length, width};
+use afl_base::put_bytes;
+use db_model::{Attribute, Ident, Schema, row_length, up_to_zero, width};
 use padded::is_zeros;
-use stored_mend::{attribute_in, name_in};
+use stored_mend::attribute_in;
 
 /// Whether nothing stands behind the attributes of a relation.
 pub fn ends_with_attributes(bytes: &[u8], schema: &Schema) -> bool
@@ -88,5 +89,23 @@ fn is_part(slot: u16, bytes: &[u8], at: usize, begin: usize) -> bool
 
 // Whether these are the first bytes of an attribute, of whose domain none is there.
 fn begins_attribute(bytes: &[u8]) -> bool {
-    bytes.len() <= 16 && name_in(bytes).is_some()
+    bytes.len() <= 16 && name_begun(bytes).is_some()
+}
+
+/// A name whose field begins with these bytes. Where it may go on it is taken for one of 15 letters, since
+/// its first letters may be a keyword, and no keyword is so long.
+pub fn name_begun(shown: &[u8]) -> Option<Ident> {
+    let front = up_to_zero(shown);
+    if front.len() < shown.len() {
+        if !is_zeros(&shown[front.len()..]) {
+            return None;
+        }
+        return Ident::new(front);
+    }
+    if front.len() > 15 {
+        return None;
+    }
+    let mut longest = *b"zzzzzzzzzzzzzzz";
+    put_bytes(&mut longest, 0, front);
+    Ident::new(&longest)
 }

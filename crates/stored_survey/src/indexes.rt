@@ -6,12 +6,12 @@ ghost use Rattle.std.specs.Prelude.{◌≡◌, ◌≤◌, ◌<◌, length};
 ghost use Rattle.afl_base.specs.Files.{IsLive};
 ghost use Rattle.afl_base.specs.Keeping.{OnlyReads};
 
-use crate::half::Half;
 use afl_base::{Failed, FileId, Files, IndexId, get_u16};
 use catalog::{Catalog, IndexEntry, tree_file};
 use db_model::{Domain, IndexKind, Schema};
 use index_inline::ordered;
 use index_maxheap::{BUCKET_SIZE, HEAD_SIZE, verify};
+use stored::Half;
 use stored_mend::keys_of;
 
 // The bytes of the pairs of a bucket, and of one pair.

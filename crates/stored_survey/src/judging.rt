@@ -8,13 +8,13 @@ ghost use Rattle.afl_base.specs.Keeping.{OnlyReads};
 
 use crate::begun::is_begun;
 use crate::finding::find_half;
-use crate::half::Half;
 use crate::indexes::is_sound_index;
 use crate::mark::ends_as_cut;
 use crate::reading::read_catalog;
 use crate::relations::is_sound_relation;
 use afl_base::{Failed, FileId, Files};
 use catalog::{Catalog, load};
+use stored::Half;
 use stored_mend::whole_catalog;
 
 /// Whether the files are ones that a cut can have left, which `mend_database` puts right: one thing may be

@@ -8,8 +8,8 @@
 mod begun;
 mod emptied;
 mod finding;
+mod foretelling;
 mod grown;
-mod half;
 mod indexes;
 mod judging;
 mod mark;
@@ -17,4 +17,5 @@ mod reading;
 mod relations;
 mod rows;
 
+pub use foretelling::foretell;
 pub use judging::may_be_cut;

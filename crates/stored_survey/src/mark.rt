@@ -3,14 +3,16 @@
 #![tactic(auto)]
 
 ghost use Rattle.std.specs.Prelude.{◌≡◌, ◌≤◌, ◌<◌, length};
+ghost use Rattle.std.specs.Bool.{Decides};
 ghost use Rattle.afl_base.specs.Files.{IsLive, size_at};
 ghost use Rattle.afl_base.specs.Keeping.{OnlyReads};
+ghost use Rattle.stored.specs.CutTables.{IsBehindSlot};
 
-use crate::half::Half;
 use crate::reading::{has_time, is_time};
 use afl_base::{Failed, FileId, Files, RelationId};
 use catalog::{Catalog, rows_file};
 use db_model::Schema;
+use stored::Half;
 use stored_mend::{SIZE_OF_VERSION_1, VERSION_MARK};
 
 /// Whether the catalog ends as it may beside what is half done: with its slots in version 1, and with the
@@ -36,7 +38,7 @@ pub fn ends_as_cut<V: Files>(
         return Ok(false);
     }
     let count = (size - SIZE_OF_VERSION_1) as usize;
-    if count < 8 && !half.comes_behind_slots() {
+    if count < 8 && !comes_behind_slots(half) {
         return Ok(false);
     }
     let mut mark = [0; 8];
@@ -81,5 +83,16 @@ fn has_no_bytes<V: Files>(files: &V, id: RelationId) -> bool {
     match files.find(rows_file(id)) {
         Some(file) => files.size(file) == 0,
         None => true,
+    }
+}
+
+// Whether the mark may be there in part beside it: the mark is the last that a command writes into the
+// catalog.
+fn comes_behind_slots(half: &Half) -> bool
+    ensures is { Decides result (IsBehindSlot half.now) }
+{
+    match half {
+        Half::Nothing | Half::LoneRows(_) | Half::Treeless(_) | Half::LoneTree(_) => true,
+        Half::Emptying(_) | Half::Growing(_) | Half::AddingRow(_) | Half::AddingKey(_) => false,
     }
 }

@@ -9,12 +9,12 @@ ghost use Rattle.db_model.specs.Step.{slots_limit};
 
 use crate::emptied::{is_emptied_in_part, is_unused_slot};
 use crate::grown::{ends_with_attributes, is_grown_in_part};
-use crate::half::Half;
 use crate::reading::relation_bytes;
 use crate::rows::holds_rows;
 use afl_base::{Failed, FileId, Files, RelationId};
 use catalog::{Catalog, rows_file};
 use db_model::{Ident, Schema, row_length};
+use stored::Half;
 
 /// Whether a relation slot and its rows are sound but for what is half done.
 pub fn is_sound_relation<V: Files>(

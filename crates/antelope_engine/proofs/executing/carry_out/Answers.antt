@@ -8,7 +8,7 @@ use Rattle.session_model.specs.declared.step.Outcome.{Outcome}
 use Rattle.session_model.specs.declared.step.Step.{Step}
 use Rattle.session_model.specs.Carried.{database}
 use Rattle.session_model.specs.Wanted.{WantsOver}
-use Rattle.session_model.proofs.ReadAs.{same_between}
+use Rattle.session_model.proofs.CutHeld.{same_between}
 use Rattle.space_model.specs.Enough.{most}
 use Rattle.antelope_engine.proofs.Asked.{at_sink, replied_flash, replied_sink, unless_any, unless_err}
 use Rattle.antelope_engine.proofs.Causes.{cause_done, cause_failed, cause_replied, cause_stopped, cause_unreplied}
@@ -74,7 +74,7 @@ returns-in-Err g c =
             (at_sink _ stop _ sink (e.seen told), replied_sink _ stop _ _ sink (e.reply told));
         flash = λ told is. record {
           part = replied_flash _ stop _ _ (err_moved Step Outcome stop _ is) (e.reply told);
-          mends = λ cuts. same_between g.V.Files c.args.command.now c.args.base.now c.write.new.base.files c.requires.running cuts told e.frame.same;
+          mends = λ cuts. same_between g.V.Files c.args.command.now c.args.base.now c.write.new.base.files c.requires.running cuts told (c.requires.sound told) e.frame.same;
           unsaid = λ changes. absurd (changes (rows_read c.args.command.now c.if-writes_rows.ensures));
         };
         silent = search rules;
@@ -176,7 +176,7 @@ returns-in-Err-answer g c =
       executed = record {
         done = search rules;
         sink = search rules;
-        flash = λ told is. record { part = part_same _ _ _ refl; mends = λ cuts. e.cut cuts told; unsaid = λ changes. refl };
+        flash = λ told is. record { part = part_same _ _ _ refl; mends = λ cuts. e.cut cuts told (c.requires.sound told); unsaid = λ changes. refl };
         silent = search rules;
         wants = search rules;
         fewest = search rules;

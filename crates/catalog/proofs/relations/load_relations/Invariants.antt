@@ -16,5 +16,5 @@ invariant-loop-slot g l = record {
   lent : g.V.Files.lent l.files ≡ g.V.Files.lent l.fn.files;
   reads : g.V.Files.reads l.files ≤ g.V.Files.reads l.fn.files + 9 * l.slot;
   later : g.V.Files.reads l.fn.files ≤ g.V.Files.reads l.files;
-  faults : g.V.Files.faults l.fn.files ≤ g.V.Files.faults l.files;
+  faults : g.V.Files.faults l.files ≡ g.V.Files.faults l.fn.files;
 }

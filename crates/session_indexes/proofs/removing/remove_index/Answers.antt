@@ -192,11 +192,11 @@ returns-in-Err-Failed g c = record {
     wants = search rules;
     lacks = search rules;
     spares = λ told none. tt;
-    cut = λ cuts told. (
+    cut = λ cuts told sound. (
         let s0 = g.V.Files.state c.args.base.now.files in
         let left = rw c.in-Err-Failed.field-0-is at (c.in-Err-Failed.ensures.cut cuts told) in
         taken_in_part s0 c.args.base.now.tables c.args.base.now.held c.args.base.now.opens c.requires.running c.in-Some-cat.cat c.in-Some-cat.is c.args.relation.now c.args.attribute.now
-        c.in-Some.found.0 c.in-Some.found.1.now c.in-Some.ensures.cell c.in-Some.ensures.there c.in-Ok.standing c.in-Ok.ensures.stands told (left refl)
+        c.in-Some.found.0 c.in-Some.found.1.now c.in-Some.ensures.cell c.in-Some.ensures.there c.in-Ok.standing c.in-Ok.ensures.stands told sound (left refl)
         );
     untouched = search rules;
     same = search rules;

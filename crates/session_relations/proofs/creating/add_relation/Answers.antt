@@ -12,6 +12,8 @@ use Rattle.session_model.proofs.CutCatalogs.{database_of}
 use Rattle.stored.specs.Mended.{mended_base}
 use Rattle.stored.proofs.FewFiles.{few_files}
 use Rattle.session_relations.specs.Changes.{MayMakeSlot, PutsSlot, Shows, bare_relation, bare_schema, changed_at}
+use Rattle.db_model.specs.Sound.{IsSoundDatabase}
+use Rattle.session_relations.proofs.CutTables.{created_table}
 use Rattle.session_relations.proofs.CutViews.{created_cut}
 use Rattle.session_relations.proofs.Keeping.{changes_done, changes_handed, changes_then, failed_handed, space_handed}
 use Rattle.session_relations.proofs.Created.{new_tuples, shows_created, wants_first, wants_slot}
@@ -137,12 +139,12 @@ pub returns-clause-frame : goal.returns-clause-frame
 returns-clause-frame g c = changes_done g.V.Files _ _ _ _ (changes_then g.V.Files _ _ _ _ _ c.make_catalog.ensures.frame c.make_rows.ensures.frame)
 
 pub returns-in_err-cat-clause-cut : goal.returns-in_err-cat-clause-cut
-returns-in_err-cat-clause-cut g c = λ cuts told failed.
-    let m = c.make_catalog.ensures.cut cuts told (failed_handed c.make_catalog.result c.from_residual.result c.in_err-cat.field-0.0 c.in_err-cat.was c.from_residual.ensures.1 failed) in
-    record { files = m.files; mends_to = m.mends_to; is = inl m.is }
+returns-in_err-cat-clause-cut g c = λ cuts told sound after failed.
+    let m = c.make_catalog.ensures.cut cuts told sound (failed_handed c.make_catalog.result c.from_residual.result c.in_err-cat.field-0.0 c.in_err-cat.was c.from_residual.ensures.1 failed) in
+    record { files = m.files; mends_to = m.mends_to; cut = m.cut; is = inl m.is }
 
 pub returns-in_err-file-clause-cut : goal.returns-in_err-file-clause-cut
-returns-in_err-file-clause-cut g c = λ cuts told failed.
+returns-in_err-file-clause-cut g c = λ cuts told sound makes failed.
     let s1 = g.V.Files.state c.make_catalog.new.files in
     let tables = c.args.tables.now in
     let opens = c.args.opens.now in
@@ -159,7 +161,13 @@ returns-in_err-file-clause-cut g c = λ cuts told failed.
     ap (λ (h : Held). get_or h.relations slot None) c.in_ok-cat.ensures.cat ∙ nothing_free c.args.held.now.relations slot c.requires.slot in
     let m = c.make_rows.ensures.cut cuts told1
     (failed_handed c.make_rows.result c.from_residual-in_err-file.result c.in_err-file.field-0.0 c.in_err-file.was c.from_residual-in_err-file.ensures.1 failed) in
-    database_of m (λ after w.
+    let lowest : free_from 0 h1.relations ≡ Some slot = ap (λ (h : Held). free_from 0 h.relations) c.in_ok-cat.ensures.cat ∙ c.requires.slot in
+    let good = c.bare_schema-schema.ensures.name in
+    let sound1 = subst IsSoundDatabase (sym (made.seen told)) sound in
+    let made1 = subst (λ (db : Database). IsSoundDatabase (changed_at db slot (Some (bare_relation name)))) (sym (made.seen told)) (makes good) in
+    database_of m
+    (λ after w. created_table s1 tables h1 opens made.running told1 sound1 slot cat has below after name free lowest good made1 (subst (λ (s : Schema). MayMakeSlot s1 after cat slot s) bare w))
+    (λ after w.
     let part : MayMakeSlot s1 after cat slot (bare_schema name) = subst (λ (s : Schema). MayMakeSlot s1 after cat slot s) bare w in
     subst (λ (db : Database). IsEither db (with_relation db slot (Some (bare_relation name))) (mended_base after.files)) (made.seen told)
     (created_cut s1 tables h1 opens made.running told1 slot cat has below after name free c.bare_schema-schema.ensures.name part))

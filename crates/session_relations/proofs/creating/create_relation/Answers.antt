@@ -50,6 +50,6 @@ returns-in-Err-Failed g c =
     let cut = rw c.in-Err-Failed.field-0-is at c.in-Err-Failed.ensures.cut in
     record {
       carried = carries_failed g.V.Files (command.CreateRelation name) (create_relation old name) base c.add_relation.new.files c.add_relation.new.held refl refl (λ reads. absurd reads)
-          (with_relation old c.in-Ok.slot (Some (bare_relation name))) _ (c.in-Ok.ensures.made files base.opens) (λ cuts told. cut cuts told refl)
+          (with_relation old c.in-Ok.slot (Some (bare_relation name))) _ (c.in-Ok.ensures.made files base.opens) (λ cuts told sound makes. cut cuts told sound makes refl)
           (rw c.in-Err-Failed.field-0-is at c.in-Err-Failed.ensures.frame);
     }

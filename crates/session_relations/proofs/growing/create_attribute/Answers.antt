@@ -98,6 +98,6 @@ returns-in-Err-Failed g c =
     record {
       carried = carries_failed g.V.Files (command.CreateAttribute c.args.name.now c.args.domain.now relation) (changed_by change old relation) base c.grow_relation.new.files c.grow_relation.new.held refl refl
           (λ reads. absurd reads) (with_relation old c.in-Some.at.slot (Some grown)) _
-          (changed_made files base.held base.opens relation change c.in-Some.at.slot found.0 grown found.2 (c.in-Ok.ensures.made old found.0 found.1)) (λ cuts told. cut cuts told refl)
+          (changed_made files base.held base.opens relation change c.in-Some.at.slot found.0 grown found.2 (c.in-Ok.ensures.made old found.0 found.1)) (λ cuts told sound makes. cut cuts told sound (makes c.in-Ok.ensures.named) refl)
           (rw c.in-Err-Failed.field-0-is at c.in-Err-Failed.ensures.frame);
     }

@@ -5,6 +5,7 @@ use Rattle.session_model.specs.View.{view}
 use Rattle.session_model.proofs.Catalogs.{catalog_there}
 use Rattle.session_model.proofs.CutCatalogs.{database_of}
 use Rattle.session_relations.specs.Changes.{Shows, changed_at}
+use Rattle.session_relations.proofs.CutGrown.{grown_table}
 use Rattle.session_relations.proofs.CutViews.{grown_cut}
 use Rattle.session_relations.proofs.Keeping.{failed_handed, on_space, space_handed}
 use Rattle.session_relations.proofs.Grown.{shows_grown}
@@ -41,12 +42,14 @@ pub returns-in_err-put_slot-clause-held : goal.returns-in_err-put_slot-clause-he
 returns-in_err-put_slot-clause-held g c = on_space c.from_residual.result refl
 
 pub returns-in_err-put_slot-clause-cut : goal.returns-in_err-put_slot-clause-cut
-returns-in_err-put_slot-clause-cut g c = λ cuts told failed.
+returns-in_err-put_slot-clause-cut g c = λ cuts told sound grown failed.
     let s0 = g.V.Files.state c.args.files.now in
     let slot = c.args.at.now.slot in
     let grows = c.requires.grows in
     let below : slot < 8 = omega (arith, some_inside c.args.held.now.relations slot grows.was grows.there, c.requires.running.eight) in
     database_of
     (c.put_slot.ensures.cut cuts told (failed_handed c.put_slot.result c.from_residual.result c.in_err-put_slot.field-0.0 c.in_err-put_slot.was c.from_residual.ensures.1 failed))
+    (λ after w.
+    grown_table s0 c.args.tables.now c.args.held.now c.args.opens.now c.requires.running told sound slot c.args.at.now.cat c.requires.cat below grows.was c.args.grown grows.there grows.empty grows.longer grown after w)
     (λ after w.
     grown_cut s0 c.args.tables.now c.args.held.now c.args.opens.now c.requires.running told slot c.args.at.now.cat c.requires.cat below after grows.was c.args.grown grows.there grows.empty grows.longer w)

@@ -96,6 +96,6 @@ returns-in-Err-Failed g c =
     let cut = rw c.in-Err-Failed.field-0-is at c.in-Err-Failed.ensures.cut in
     record {
       carried = carries_failed g.V.Files (command.RemoveRelation name) (remove_relation old name) base c.take_relation.new.files c.take_relation.new.held refl refl (λ reads. absurd reads)
-          (with_relation old c.in-Some.at.slot None) _ (removal_made files base.held base.opens name c.in-Some.at.slot found.0 found.2 (c.in_default.ensures.free files)) (λ cuts told. cut cuts told refl)
+          (with_relation old c.in-Some.at.slot None) _ (removal_made files base.held base.opens name c.in-Some.at.slot found.0 found.2 (c.in_default.ensures.free files)) (λ cuts told sound makes. cut cuts told sound (makes tt) refl)
           (rw c.in-Err-Failed.field-0-is at c.in-Err-Failed.ensures.frame);
     }

@@ -5,6 +5,7 @@ use Rattle.session_model.proofs.Catalogs.{catalog_there}
 use Rattle.session_model.proofs.CutCatalogs.{database_of}
 use Rattle.session_model.proofs.Running.{relation_there}
 use Rattle.session_relations.specs.Changes.{Shows, changed_at}
+use Rattle.session_relations.proofs.CutTables.{taken_table}
 use Rattle.session_relations.proofs.CutViews.{taken_cut}
 use Rattle.session_relations.proofs.Keeping.{failed_handed, on_space, space_handed}
 use Rattle.session_relations.proofs.Found.{slot_item}
@@ -53,10 +54,15 @@ pub returns-in_err-take_slot-clause-held : goal.returns-in_err-take_slot-clause-
 returns-in_err-take_slot-clause-held g c = on_space c.from_residual.result refl
 
 pub returns-in_err-take_slot-clause-cut : goal.returns-in_err-take_slot-clause-cut
-returns-in_err-take_slot-clause-cut g c = λ cuts told failed.
+returns-in_err-take_slot-clause-cut g c = λ cuts told sound taken failed.
     let s0 = g.V.Files.state c.args.files.now in
     let slot = c.args.at.now.slot in
     let below : slot < 8 = omega arith in
+    let t = c.in-Some.tuples in
+    let held = c.args.held.now in
+    let inside : slot < length held.relations = omega (arith, c.requires.running.eight) in
+    let there = slot_item held.relations c.number.result slot c.index-held-number.result t c.number.ensures.value inside c.index-held-number.is c.in-Some.is in
     database_of
     (c.take_slot.ensures.cut cuts told (failed_handed c.take_slot.result c.from_residual.result c.in_err-take_slot.field-0.0 c.in_err-take_slot.was c.from_residual.ensures.1 failed))
+    (λ after w. taken_table s0 c.args.tables.now c.args.held.now c.args.opens.now c.requires.running told sound slot c.args.at.now.cat c.requires.cat below t there taken after w)
     (λ after w. taken_cut s0 c.args.tables.now c.args.held.now c.args.opens.now c.requires.running told slot c.args.at.now.cat c.requires.cat below after w)

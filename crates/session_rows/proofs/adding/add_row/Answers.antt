@@ -29,15 +29,15 @@ returns-clause-complete g c = λ told complete follow.
 pub returns-in_err-rooms-clause-cut : goal.returns-in_err-rooms-clause-cut
 returns-in_err-rooms-clause-cut g c = λ cuts told failed.
     mends_as (c.in_err-rooms.ensures.cut cuts told (failed_too _ _ c.from_residual.ensures.1 failed))
-    (λ after f. added_none c.args.tuples.now c.args.indexes.now c.args.values.now (g.V.Files.state c.args.files.now) after told f)
+    (λ after f. added_none c.args.tuples.now c.args.indexes.now c.args.values.now c.args.tables.now (g.V.Files.state c.args.files.now) after c.requires.ready.holds told f)
 
 pub returns-in_err-write_row-clause-cut : goal.returns-in_err-write_row-clause-cut
 returns-in_err-write_row-clause-cut g c = λ cuts told failed.
     let s0 = g.V.Files.state c.args.files.now in
     let s1 = g.V.Files.state c.prepare_row.new.files in
     let f = c.in_ok-rooms.ensures.contents in
-    mends_as (c.in_err-write_row.ensures.cut cuts (f.spares.tells ∙ told))
-    (λ after m. added_later c.args.tuples.now c.args.indexes.now c.args.values.now s0 s1 after told f m)
+    mends_as (c.in_err-write_row.ensures.cut cuts (f.spares.tells ∙ told) (c.in_ok-rooms.ensures.exact told))
+    (λ after m. added_later c.args.tuples.now c.args.indexes.now c.args.values.now c.args.tables.now s0 s1 after c.requires.ready.holds c.requires.ready.away told f m)
 
 pub returns-clause-spares : goal.returns-clause-spares
 returns-clause-spares g c = λ told never.

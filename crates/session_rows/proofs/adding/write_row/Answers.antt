@@ -1,7 +1,9 @@
-use Rattle.std.proofs.Common.{rules, true, refl, sym, ◌∙◌}
+use Rattle.std.proofs.Common.{rules, true, ◌≡◌, ℕ, List, refl, subst, sym, ◌∙◌}
+use Rattle.afl_base.specs.Files.{bytes_at}
 use Rattle.afl_base.proofs.FrameLaws.{becomes_spares}
-use Rattle.db_model.specs.Row.{Row}
-use Rattle.tuple_file.specs.Tuples.{rows}
+use Rattle.db_model.specs.Row.{Row, rows_bytes, rows_of}
+use Rattle.tuple_file.specs.Tuples.{rows, slots}
+use Rattle.tuple_file.proofs.Written.{written_insert}
 use Rattle.session_model.proofs.Frames.{bytes_spared, complete_added, complete_kept}
 use Rattle.index_set.specs.declared.info.Access.TheVariants.{Tree}
 use Rattle.index_set.proofs.Lists.{rooms_stay}
@@ -48,17 +50,20 @@ returns-clause-added g c = record {
 }
 
 pub returns-in_err-append-clause-cut : goal.returns-in_err-append-clause-cut
-returns-in_err-append-clause-cut g c = λ cuts told. on_err c.from_residual.result (mends_as (c.in_err-append.ensures.cut cuts told)
-    (λ after m. added_row c.args.tuples.now c.args.indexes.now c.args.values.now (g.V.Files.state c.args.files.now) after m))
+returns-in_err-append-clause-cut g c = λ cuts told. on_err c.from_residual.result (λ exact. mends_as (c.in_err-append.ensures.cut cuts told)
+    (λ after m. added_row c.args.tuples.now c.args.indexes.now c.args.values.now c.args.tables.now (g.V.Files.state c.args.files.now) after c.requires.ready.away m))
 
 pub returns-in_err-insert_all-clause-cut : goal.returns-in_err-insert_all-clause-cut
 returns-in_err-insert_all-clause-cut g c = λ cuts told.
     let s0 = g.V.Files.state c.args.files.now in
     let s1 = g.V.Files.state c.append.new.files in
     let t = c.args.tuples.now in
-    let spared = becomes_spares s0 s1 t.file _ _ c.requires.ready.holds.file.live c.in_ok-append.ensures.appended in
-    on_err c.from_residual-in_err-insert_all.result (mends_as (c.in_err-insert_all.ensures.cut cuts (spared.tells ∙ told))
-    (λ after f. added_keys t c.args.indexes.now c.args.values.now s0 s1 after c.requires.ready.away spared (c.in_ok-append.ensures.rows told) f))
+    let put = c.in_ok-append.ensures in
+    let spared = becomes_spares s0 s1 t.file _ _ c.requires.ready.holds.file.live put.appended in
+    let whole = subst (λ (bs : List ℕ). rows_bytes t.schema.attributes (rows_of t.schema.attributes bs) ≡ bs) (sym (put.appended.bytes told))
+    (written_insert t.schema.attributes (record { tuple = c.args.values.now; live = true }) (slots s0.files t) (bytes_at s0.files t.file) c.requires.ready.holds.whole c.requires.suits (c.requires.ready.holds.written told)) in
+    on_err c.from_residual-in_err-insert_all.result (λ exact. mends_as (c.in_err-insert_all.ensures.cut cuts (spared.tells ∙ told))
+    (λ after m. added_keys t c.args.indexes.now c.args.values.now c.args.tables.now s0 s1 after c.args.rooms.now c.args.slot c.requires.ready.away spared (put.rows told) whole c.requires.ready.next m exact))
 
 pub returns-clause-spares : goal.returns-clause-spares
 returns-clause-spares g c = λ told.

@@ -28,8 +28,8 @@ returns-in_err-answer g c = record {
       let there = c.relation_at-tuples.ensures in
       carries_failed g.V.Files (command.Insert values relation) base _ c.insert_at.result _ c.from_residual.result c.in_err-answer.was c.from_residual.ensures.1
       (λ reads. absurd reads)
-      (λ cuts told. on_err_weaker c.insert_at.result
-      (between_one g.V.Files base c.insert_at.new.files c.in-Some.k t c.requires.running told there (command.Insert values relation) (insert_into values) relation refl (c.in-Some.ensures.found t there))
+      (λ cuts told sound. on_err_weaker c.insert_at.result
+      (between_one g.V.Files base c.insert_at.new.files c.in-Some.k t c.requires.running told there sound (command.Insert values relation) (insert_into values) relation refl (c.in-Some.ensures.found t there) tt)
       (c.insert_at.ensures.cut cuts told))
       c.insert_at.ensures.frame;
 }

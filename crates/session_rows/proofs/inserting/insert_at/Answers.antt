@@ -100,7 +100,7 @@ returns-in_err-answer-clause-cut g c = λ cuts told.
     let e : c.indexes_of-indexes.result ≡ infos_of k t c.args.held.now.indexes = c.indexes_of-indexes.ensures in
     on_err c.from_residual.result (mends_as
     (c.in_err-answer.ensures.cut cuts told k db refl (indexes_seen k t c.args.held.now.indexes ∙ ap (λ (l : List IndexInfo). map (index_of_info k) l) (sym e)))
-    (λ after m. subst (λ (l : List IndexInfo). MayChange old after t l (insert_into c.args.values.now k db (relation_of_rows old.files t))) e m))
+    (λ after m. subst (λ (l : List IndexInfo). MayChange old after c.args.tables.now t l (insert_into c.args.values.now k db (relation_of_rows old.files t))) e m))
 
 pub returns-clause-spares : goal.returns-clause-spares
 returns-clause-spares g c = λ told never.

@@ -41,7 +41,7 @@ returns-in_err-refusal-clause-cut g c = λ cuts told.
     let r = relation_of_rows old.files c.args.tuples.now in
     on_err c.from_residual.result (λ k db version indexes.
     mends_now old (subst (λ (s : State). g.V.Files.mends s.store old.files) (sym c.in_err-refusal.ensures.frame.same) (g.V.Files.mended c.args.files.now cuts told))
-    (changed_none old c.args.tuples.now c.args.indexes.now (insert_into c.args.values.now k db r)))
+    (changed_none old c.args.tables.now c.args.tuples.now c.args.indexes.now (insert_into c.args.values.now k db r) c.requires.ready.holds))
 
 pub returns-in-Err-Failed-clause-cut : goal.returns-in-Err-Failed-clause-cut
 returns-in-Err-Failed-clause-cut g c = λ cuts told k db version indexes.
@@ -54,7 +54,7 @@ returns-in-Err-Failed-clause-cut g c = λ cuts told k db version indexes.
     let left = (rw same at (rw c.in-Err-Failed.field-0-is at c.in-Err-Failed.ensures.cut)) cuts told refl in
     let accepted = subst (λ (no : Option Refusal). IsRefusedBy (insert_into values k db r) no (record r { rows = r.rows ++ record { tuple = values; live = true } ∷ [] }))
     c.in_default.is (c.in_ok-refusal.ensures.refused told k db version indexes) in
-    mends_as left (λ after m. changed_added old after t infos values (insert_into values k db r) accepted m)
+    mends_as left (λ after m. changed_added old after c.args.tables.now t infos values (insert_into values k db r) accepted (c.in_ok-refusal.ensures.follow told c.in_default.is) m)
 
 pub returns-in-Ok-clause-spares : goal.returns-in-Ok-clause-spares
 returns-in-Ok-clause-spares g c = λ told never.

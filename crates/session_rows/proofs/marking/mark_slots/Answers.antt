@@ -9,7 +9,7 @@ returns-in_err-prepare-clause-cut g c = λ cuts told failed.
     let old = g.V.Files.state c.args.files.now in
     let t = c.args.tuples.now in
     mends_now old (c.in_err-prepare.ensures.cut cuts told (failed_too _ _ c.from_residual.ensures.1 failed))
-    (marked_none old old t c.args.slots.now told (prepares_same old (λ id. id ≢ t.file)))
+    (marked_none old old t c.args.slots.now c.requires.holds told (prepares_same old (λ id. id ≢ t.file)))
 
 pub returns-in_err-mark_rows-clause-cut : goal.returns-in_err-mark_rows-clause-cut
 returns-in_err-mark_rows-clause-cut g c = λ cuts told failed.

@@ -23,8 +23,8 @@ returns-in_err-rewrite-clause-cut g c = λ cuts told failed condition code.
     let old = g.V.Files.state c.args.files.now in
     let t = c.args.tuples.now in
     either_as old (c.in_err-rewrite.ensures.cut cuts told (failed_too _ _ c.from_residual.ensures.1 failed))
-    (removed_none old old t condition (spares_same old (λ k. k ≢ t.file)) refl)
-    (λ after said. removed_all old after t condition (becomes_spares old after t.file _ _ c.requires.holds.file.live said.0)
+    (removed_none old old t condition (c.requires.holds.written told) (spares_same old (λ k. k ≢ t.file)) refl)
+    (λ after said. removed_all old after t condition said.3 (becomes_spares old after t.file _ _ c.requires.holds.file.live said.0)
     (answered_by t.schema.attributes _ (selects t.schema.attributes condition) (rows old.files t) (rows after.files t)
     said.2 (λ tuple answer suits h.
     let e : answer ≡ verdict (evaluated c.args.code.now h.shown.now []) = search (rules, h.says.met) in

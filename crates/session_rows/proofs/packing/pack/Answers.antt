@@ -27,8 +27,8 @@ returns-in_err-answer-clause-carried g c =
     let there = c.relation_at-tuples.ensures in
     carries_failed g.V.Files (command.Pack relation) base _ c.pack_at.result _ c.from_residual.result c.in_err-answer.was c.from_residual.ensures.1
     (λ reads. absurd reads)
-    (λ cuts told. on_err_weaker c.pack_at.result
-    (between_one g.V.Files base c.pack_at.new.files c.in-Some.k t c.requires.running told there (command.Pack relation) pack_in relation refl (c.in-Some.ensures.found t there))
+    (λ cuts told sound. on_err_weaker c.pack_at.result
+    (between_one g.V.Files base c.pack_at.new.files c.in-Some.k t c.requires.running told there sound (command.Pack relation) pack_in relation refl (c.in-Some.ensures.found t there) tt)
     (c.pack_at.ensures.cut cuts told))
     c.pack_at.ensures.frame
 

@@ -1,7 +1,9 @@
-use Rattle.std.proofs.Common.{◌≡◌, ℕ, List, ap, refl, sym, ◌∙◌, ◌≢◌, inr}
+use Rattle.std.proofs.Common.{◌≡◌, ℕ, List, length, arith, ap, refl, subst, sym, ◌∙◌, ◌≢◌, inr}
 use Rattle.afl_base.specs.declared.kind.FileError.TheVariants.{Space, Failed as FileFailed}
 use Rattle.afl_base.proofs.FrameLaws.{becomes_spares, spares_fewer}
 use Rattle.index_set.specs.declared.info.IndexInfo.{IndexInfo}
+use Rattle.index_set.specs.Inserts.{AllNameFew}
+use Rattle.tuple_file.specs.Tuples.{slots}
 use Rattle.session_model.specs.Frames.{StaysAt}
 use Rattle.session_model.specs.Indexed.{infos_of}
 use Rattle.session_model.proofs.Readable.{are_numbers}
@@ -113,10 +115,18 @@ returns-in-Err-Failed-clause-cut g c = λ cuts told.
     let unread = sym (c.least_reader.ensures old.files) ∙ c.in_default.is in
     let here = relation_there old c.args.tables.now held opens c.requires.running k t c.requires.there in
     let left = (rw c.in-Err-Failed.field-0-is at c.in-Err-Failed.ensures.cut) cuts told refl in
-    either_as old left (changed_none old t infos (pack k (view old.files held opens) (relation_of_rows old.files t)))
+    either_as old left (changed_none old c.args.tables.now t infos (pack k (view old.files held opens) (relation_of_rows old.files t)) here.holds)
     (λ after packed. record {
       others = spares_fewer old after (λ j. j ≢ t.file) (StaysAt t.file infos) (becomes_spares old after t.file _ _ here.holds.file.live packed.0) (λ j stays. stays.0);
-      relation = inr (Fine, is_packed old.files held opens k t after.files unread none packed.1);
+      left = inr (
+        Fine,
+        is_packed old.files held opens k t after.files unread none packed.1,
+        record {
+          whole = packed.2;
+          some = λ indexed. absurd (omega (arith, none, indexed));
+          names = λ complete follows. subst (λ (l : List IndexInfo). AllNameFew after (slots after.files t) l) (sym (no_infos infos none)) tt;
+        },
+      );
     })
 
 pub returns-in-Ok-clause-spares : goal.returns-in-Ok-clause-spares

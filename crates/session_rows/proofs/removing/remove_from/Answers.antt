@@ -27,8 +27,8 @@ returns-in_err-answer g c = record {
       let there = c.relation_at-tuples.ensures in
       carries_failed g.V.Files (command.RemoveFrom relation condition) base _ c.remove_at.result _ c.from_residual.result c.in_err-answer.was c.from_residual.ensures.1
       (λ reads. absurd reads)
-      (λ cuts told. on_both c.remove_at.result
-      (between_removed g.V.Files base c.remove_at.new.files c.in-Some.k t c.requires.running told there relation condition (c.in-Some.ensures.found t there))
+      (λ cuts told sound. on_both c.remove_at.result
+      (between_removed g.V.Files base c.remove_at.new.files c.in-Some.k t c.requires.running told there sound relation condition (c.in-Some.ensures.found t there))
       c.remove_at.ensures.accepted (c.remove_at.ensures.cut cuts told))
       c.remove_at.ensures.frame;
 }

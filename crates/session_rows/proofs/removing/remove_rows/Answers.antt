@@ -72,7 +72,7 @@ returns-in_err-cursor-clause-cut g c = λ cuts told.
     let t = c.args.tuples.now in
     on_err c.from_residual.result (λ condition code indexes.
     mends_now old (subst (λ (s : State). g.V.Files.mends s.store old.files) (sym c.in_err-cursor.ensures.frame.same) (g.V.Files.mended c.args.files.now cuts told))
-    (removed_none old old t condition (spares_same old (λ k. k ≢ t.file)) refl))
+    (removed_none old old t condition (c.requires.ready.holds.written told) (spares_same old (λ k. k ≢ t.file)) refl))
 
 pub returns-in_err-selected-clause-cut : goal.returns-in_err-selected-clause-cut
 returns-in_err-selected-clause-cut g c = λ cuts told.
@@ -81,7 +81,7 @@ returns-in_err-selected-clause-cut g c = λ cuts told.
     let same = c.in_err-selected.ensures.frame.same ∙ c.in_ok-cursor.ensures.frame.same in
     on_err c.from_residual-in_err-selected.result (λ condition code indexes.
     mends_now old (subst (λ (s : State). g.V.Files.mends s.store old.files) (sym same) (g.V.Files.mended c.args.files.now cuts told))
-    (removed_none old old t condition (spares_same old (λ k. k ≢ t.file)) refl))
+    (removed_none old old t condition (c.requires.ready.holds.written told) (spares_same old (λ k. k ≢ t.file)) refl))
 
 pub returns-in-Err-Failed-clause-cut : goal.returns-in-Err-Failed-clause-cut
 returns-in-Err-Failed-clause-cut g c = λ cuts told condition code indexes.

@@ -9,7 +9,7 @@ abbrev pub invariant-slots : goal.invariant-slots
 invariant-slots g l = record {
   same : g.V.Files.state l.files ≡ g.V.Files.state l.fn.files;
   lent : g.V.Files.lent l.files ≡ g.V.Files.lent l.fn.files;
-  faults : g.V.Files.faults l.fn.files ≤ g.V.Files.faults l.files;
+  faults : g.V.Files.faults l.files ≡ g.V.Files.faults l.fn.files;
   reads : g.V.Files.reads l.fn.files ≤ g.V.Files.reads l.files;
   tuples : l.cursor.tuples ≡ l.fn.cursor.tuples;
   code : l.cursor.code ≡ l.fn.cursor.code;

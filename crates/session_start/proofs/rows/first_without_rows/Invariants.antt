@@ -13,5 +13,5 @@ invariant-loop-slot g l =
       reads : g.V.Files.reads l.files ≤ g.V.Files.reads l.fn.files + 6 * all_slots start.files (take l.slot l.held.relations);
       lent : g.V.Files.lent l.files ≡ g.V.Files.lent l.fn.files;
       later : g.V.Files.reads l.fn.files ≤ g.V.Files.reads l.files;
-      faults : g.V.Files.faults l.fn.files ≤ g.V.Files.faults l.files;
+      faults : g.V.Files.faults l.files ≡ g.V.Files.faults l.fn.files;
     }

@@ -1,4 +1,4 @@
-use Rattle.sound_image.proofs.OneBase.{one_base, sound_is, table_mends}
+use Rattle.sound_image.proofs.OneBase.{one_base, sound_is, sound_mends, table_mends}
 use Rattle.sound_image.proofs.laws.images_mend_to_one_database.Goals as goal
 
 pub returns-clause-one : goal.returns-clause-one
@@ -6,6 +6,9 @@ returns-clause-one c = one_base
 
 pub returns-clause-sound : goal.returns-clause-sound
 returns-clause-sound c = sound_is
+
+pub returns-clause-itself : goal.returns-clause-itself
+returns-clause-itself c = sound_mends
 
 pub returns-clause-files : goal.returns-clause-files
 returns-clause-files c = table_mends

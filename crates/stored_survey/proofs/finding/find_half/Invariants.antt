@@ -6,7 +6,7 @@ invariant-loop-slot g l = record {
   same : g.V.Files.state l.files ≡ g.V.Files.state l.fn.files;
   lent : g.V.Files.lent l.files ≡ g.V.Files.lent l.fn.files;
   later : g.V.Files.reads l.fn.files ≤ g.V.Files.reads l.files;
-  faults : g.V.Files.faults l.fn.files ≤ g.V.Files.faults l.files;
+  faults : g.V.Files.faults l.files ≡ g.V.Files.faults l.fn.files;
 }
 
 abbrev pub invariant-loop-slot-2 : goal.invariant-loop-slot-2
@@ -14,5 +14,5 @@ invariant-loop-slot-2 g l = record {
   same : g.V.Files.state l.files ≡ g.V.Files.state l.fn.files;
   lent : g.V.Files.lent l.files ≡ g.V.Files.lent l.fn.files;
   later : g.V.Files.reads l.fn.files ≤ g.V.Files.reads l.files;
-  faults : g.V.Files.faults l.fn.files ≤ g.V.Files.faults l.files;
+  faults : g.V.Files.faults l.files ≡ g.V.Files.faults l.fn.files;
 }

@@ -7,5 +7,5 @@ invariant-loop-slot g l = record {
   long : length l.relations ≡ 8;
   lent : g.V.Files.lent l.files ≡ g.V.Files.lent l.fn.files;
   later : g.V.Files.reads l.fn.files ≤ g.V.Files.reads l.files;
-  faults : g.V.Files.faults l.fn.files ≤ g.V.Files.faults l.files;
+  faults : g.V.Files.faults l.files ≡ g.V.Files.faults l.fn.files;
 }
