@@ -21,12 +21,13 @@ ghost use Rattle.serve_model.specs.Served.{serve_talk};
 ghost use Rattle.sound_image.specs.Images.{IsSound, base};
 ghost use Rattle.space_plan.specs.Growth.{KeepsToPlan, commands_of};
 ghost use Rattle.space_plan.specs.Planned.{planned};
+ghost use Rattle.space_plan.specs.Rings.{KeepsToRing, KeepsToSlots};
 
 use dump_model::{packed_databases_have_the_same_script, scripts_make_their_database};
 use run_model::{scripts_are_answered_in_order, scripts_come_in_parts};
 use serve_model::frames_come_in_parts;
 use sound_image::erased_image_is_sound;
-use space_plan::planned_flash_has_enough;
+use space_plan::{planned_flash_has_enough, planned_flash_has_enough_for_rings};
 use stored::sound_files_are_a_sound_database;
 
 /// A run of the script of a sound database over an image without relations, as an erased flash has, which
@@ -66,6 +67,24 @@ pub fn planned_runs_find_space()
         → planned (base old.image) rows ≤ length old.image / 4096 → HasSpace (Some Run) old }
 {
     planned_flash_has_enough();
+    scripts_are_answered_in_order();
+    sound_files_are_a_sound_database();
+}
+
+/// And so does a script that takes rows out again: one of INSERT, REMOVE FROM, PACK and what reads, in which at any time
+/// each relation has at most so many slots more than now as were planned for by its name; or one without hash trees, in
+/// which relations may come and go, and at any time none is larger than its slot was planned for.
+pub fn planned_rings_find_space()
+    ensures rows { (read : List ℕ → Result Command Refusal) → IsReader read
+        → (rows : List ℕ → ℕ) (old : World) (text : List ℕ) → IsSound old.image
+        → old.left ≡ Some text → KeepsToRing rows (base old.image) (commands_of read (commands text))
+        → planned (base old.image) rows ≤ length old.image / 4096 → HasSpace (Some Run) old }
+    ensures slots { (read : List ℕ → Result Command Refusal) → IsReader read
+        → (rows : List ℕ → ℕ) (old : World) (text : List ℕ) → IsSound old.image
+        → old.left ≡ Some text → KeepsToSlots rows (base old.image) (commands_of read (commands text))
+        → planned (base old.image) rows ≤ length old.image / 4096 → HasSpace (Some Run) old }
+{
+    planned_flash_has_enough_for_rings();
     scripts_are_answered_in_order();
     sound_files_are_a_sound_database();
 }

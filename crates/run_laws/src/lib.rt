@@ -5,5 +5,5 @@ mod laws;
 
 pub use laws::{
     dumped_scripts_make_their_image, dumps_are_made_again, one_place_finds_no_space,
-    one_place_is_unsaid, planned_runs_find_space,
+    one_place_is_unsaid, planned_rings_find_space, planned_runs_find_space,
 };

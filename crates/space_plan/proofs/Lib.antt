@@ -5,6 +5,10 @@ pub mod Longer
 pub mod MoreBuckets
 pub mod Names
 pub mod PlannedSpace
+pub mod RingSpace
+pub mod Ringed
 pub mod Scripts
+pub mod SlotSpace
+pub mod Treeless
 pub mod Trees
 pub mod WorkedPlans

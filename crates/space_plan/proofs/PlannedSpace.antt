@@ -108,7 +108,7 @@ module _ (most : List ℕ → ℕ) where
 
 -- ---- an INSERT asks for no more than twice the largest file
 
-largest-append : (xs ys : List ℕ) → largest (xs ++ ys) ≡ max (largest xs) (largest ys)
+pub largest-append : (xs ys : List ℕ) → largest (xs ++ ys) ≡ max (largest xs) (largest ys)
 largest-append [] ys = omega arith
 largest-append (x ∷ xs) ys = let e = largest-append xs ys in omega (arith, e)
 
@@ -125,7 +125,7 @@ largest-filter db test (index ∷ indexes) = by_test (test index) (largest-filte
     by_test false h = let b = largest-append (index_sizes db index) (tree_sizes db indexes) in omega (arith, h, b)
 
 -- a relation that is found by its name is among those
-named_among : (name : List ℕ) (n : ℕ) (slots : List (Option Relation)) (s : ℕ × Relation) → relation_from name n slots ≡ Some s → fit (rows_size s.1) ≤ largest (map rows_size (used_things slots))
+pub named_among : (name : List ℕ) (n : ℕ) (slots : List (Option Relation)) (s : ℕ × Relation) → relation_from name n slots ≡ Some s → fit (rows_size s.1) ≤ largest (map rows_size (used_things slots))
 named_among name n [] s e = cc
 named_among name n (None ∷ slots) s e = named_among name (n + 1) slots s e
 named_among name n (Some r ∷ slots) s e = by_test (bytes_eq r.schema.name name) (λ f. named_among name (n + 1) slots s f) e
@@ -135,7 +135,7 @@ named_among name n (Some r ∷ slots) s e = by_test (bytes_eq r.schema.name name
     by_test true later e = let same : fit (rows_size r) ≡ fit (rows_size s.1) = ap (λ (o : Option (ℕ × Relation)). option_map_or (λ (x : ℕ × Relation). fit (rows_size x.1)) o 0) e in omega (arith, same)
     by_test false later e = let rest = later e in omega (arith, rest)
 
-insert_among : (db : Database) (name : List ℕ) (o : Option (ℕ × Relation)) → relation_named db name ≡ o → largest (option_map_or (λ s. rows_size s.1 ∷ tree_sizes db (indexes_of db s.0)) o []) ≤ largest (file_sizes db)
+pub insert_among : (db : Database) (name : List ℕ) (o : Option (ℕ × Relation)) → relation_named db name ≡ o → largest (option_map_or (λ s. rows_size s.1 ∷ tree_sizes db (indexes_of db s.0)) o []) ≤ largest (file_sizes db)
 insert_among db name None e = omega arith
 insert_among db name (Some s) e =
     let rows = named_among name 0 db.relations s e in

@@ -24,7 +24,7 @@ sound_few db s slot r there =
 
 -- ---- the commands in front
 
-all_behind : {A : Type 0} (P : A → Type 0) (xs : List A) (y : A) (ys : List A) → AllByRecursion P (xs ++ y ∷ ys) → P y
+pub all_behind : {A : Type 0} (P : A → Type 0) (xs : List A) (y : A) (ys : List A) → AllByRecursion P (xs ++ y ∷ ys) → P y
 all_behind P [] y ys h = h.0
 all_behind P (x ∷ xs) y ys h = all_behind P xs y ys h.1
 
@@ -55,7 +55,7 @@ has_enough rows db front rest command few plan = by_command command (all_behind 
 -- ---- entries
 
 module _ (read : List ℕ → Result Command Refusal) where
-  commands_of-append : (xs ys : List Entry) → commands_of read (xs ++ ys) ≡ commands_of read xs ++ commands_of read ys
+  pub commands_of-append : (xs ys : List Entry) → commands_of read (xs ++ ys) ≡ commands_of read xs ++ commands_of read ys
   commands_of-append [] ys = refl
   commands_of-append (Long ∷ xs) ys = commands_of-append xs ys
   commands_of-append (Unfinished ∷ xs) ys = commands_of-append xs ys
@@ -66,7 +66,7 @@ module _ (read : List ℕ → Result Command Refusal) where
       by_read (Ok c) same = ap (λ cs. c ∷ cs) same
       by_read (Err refusal) same = same
 
-  last_of : (db : Database) (entries : List Entry) → last read db entries ≡ after_all db (commands_of read entries)
+  pub last_of : (db : Database) (entries : List Entry) → last read db entries ≡ after_all db (commands_of read entries)
   last_of db [] = refl
   last_of db (Long ∷ entries) = last_of db entries
   last_of db (Unfinished ∷ entries) = last_of db entries

@@ -105,3 +105,15 @@ year_plan = refl
 pub thirds_plan : planned (year 3) (λ name. 25303) ≡ 3077
 unfolding fit
 thirds_plan = refl
+
+-- ---- a ring of three days, with a relation of 1,440 rows for each
+
+abbrev turn : ℕ → Option Relation
+turn n = Some (record {
+  schema = record { name = 100 ∷ (48 + n) ∷ []; attributes = record { name = codes "minute"; domain = Long } ∷ record { name = codes "celsius"; domain = Int } ∷ [] };
+  rows = [];
+})
+
+pub ring_plan : planned (database (map turn (range_with_len 0 3) ++ replicate 5 None) (replicate 8 None)) (λ name. 1440) ≡ 101
+unfolding fit
+ring_plan = refl

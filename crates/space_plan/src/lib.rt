@@ -10,7 +10,10 @@ mod sectors;
 mod writing;
 
 pub use further::{FurtherRows, NamedRows};
-pub use laws::{planned_flash_has_enough, planned_space_suffices, sound_databases_have_few_rows};
+pub use laws::{
+    planned_flash_has_enough, planned_flash_has_enough_for_rings, planned_space_suffices,
+    sound_databases_have_few_rows,
+};
 pub use line::write_plan;
 pub use planning::planned;
 pub use writing::write;
