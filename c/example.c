@@ -2,7 +2,7 @@
  *
  *     cc example.c libsorachest.a -o example && ./example chip.img <script.aql
  *
- * The file is as it was, or holds the image as the replies tell of it. What is too long or cannot be read is left alone.
+ * The file stays as it was, or holds the image that the replies describe. A file that is too long or unreadable stays as it is.
  */
 #define _POSIX_C_SOURCE 200809L
 #include "sorachest.h"
@@ -15,7 +15,7 @@ enum { SECTOR = 4096, SECTORS = 256, MOST_SECTORS = 4095, MOST_INPUT = 1 << 24, 
 
 static uint8_t image[MOST_SECTORS * SECTOR], script[MOST_INPUT + 1], replies[ROOM];
 
-/* Reads an image, and answers whether it is there as a whole; one that is not there is of erased sectors. */
+/* Reads an image, and returns whether all of it was read. An image that does not exist has erased sectors. */
 static int load(const char *path, size_t *length) {
     FILE *file = fopen(path, "rb");
     *length = SECTORS * SECTOR;
@@ -26,7 +26,7 @@ static int load(const char *path, size_t *length) {
     return is_whole;
 }
 
-/* Writes a file beside, which takes the name when it is whole. */
+/* Writes another file, which gets the name when it is complete. */
 static int save(const char *path, size_t length) {
     char beside[MOST_PATH];
     if (snprintf(beside, sizeof beside, "%s.new", path) >= (int)sizeof beside) return 0;
@@ -47,12 +47,12 @@ int main(int words, char **word) {
 
     struct sorachest_ended ended = sorachest_run(image, image_length, script, script_length, replies, sizeof replies);
 
-    if (ended.status == SORACHEST_NO_SPACE) fprintf(stderr, "the flash is full: put sectors of zeros behind it\n");
-    if (ended.status == SORACHEST_NOT_SOUND) fprintf(stderr, "the image is not sound: sorachest_repair may put it right\n");
+    if (ended.status == SORACHEST_NO_SPACE) fprintf(stderr, "the flash is full: append sectors of zeros\n");
+    if (ended.status == SORACHEST_NOT_SOUND) fprintf(stderr, "the image is not sound: sorachest_check reports what sorachest_repair would change\n");
     int is_as_it_was = ended.status == SORACHEST_WRONG_LENGTH || ended.status == SORACHEST_NOT_SOUND;
     if (!is_as_it_was && !save(word[1], image_length))
         return fprintf(stderr, "%s cannot be written, and is as it was\n", word[1]), EXIT_FAILURE;
-    /* behind the image, so that no reply tells of what was not kept */
+    /* after the image, so that no reply describes what was not saved */
     if (fwrite(replies, 1, ended.written, stdout) != ended.written || fflush(stdout)) return EXIT_FAILURE;
     return ended.status;
 }

@@ -1,23 +1,23 @@
 # Commands as arguments, and a prompt.
 
-# Whether commands behind `ask IMAGE` may make an image: one of them creates, or they are still to be typed.
+# Whether the commands of `ask IMAGE` may make an image: one of them creates something, or they are still to be typed.
 makes_relation() {
     [ $# -gt 2 ] || return 0
     shift 2
     case "$*" in *[Cc][Rr][Ee][Aa][Tt][Ee]*) ;; *) return 1 ;; esac
 }
 
-# Gives a prompt history and editing where rlwrap is there, which runs the launcher again.
+# Gives the prompt history and editing, if there is an rlwrap; that runs the launcher again.
 edit_lines() {
     [ $# -eq 2 ] && [ -t 0 ] && [ -t 1 ] && [ -z "${SORACHEST_PROMPT-}" ] || return 0
     command -v rlwrap >/dev/null || return 0
-    # it takes no terminal without columns
+    # it refuses a terminal without columns
     case $(stty size 2>/dev/null) in '' | *' 0') return 0 ;; esac
     export SORACHEST_PROMPT=yes
     exec rlwrap -C antelope "$here/antelope" ${tried:+try} "$@"
 }
 
-# A command for a script. The end of its line ends a quote that it leaves open.
+# Prints a command for a script. The line end closes a quote that the command leaves open.
 write_command() {
     quotes=$(printf %s "$1" | tr -cd "'")
     end=';'
@@ -36,7 +36,7 @@ ask() {
         run_form run "$image" -
     else
         input=$folder/script
-        for command in "$@"; do write_command "$command"; done >"$input" || fail "$folder has no room for the commands"
+        for command in "$@"; do write_command "$command"; done >"$input" || fail "$folder has no space for the commands"
         [ -z "$header" ] || awk -f "$here/launcher/heads.awk" -f "$here/launcher/cut.awk" <"$input" >"$folder/heads"
         run_form run "$image" "$input"
     fi
@@ -58,7 +58,7 @@ docs/AQL.md is the language. Ctrl-D, or quit, ends the session.
 END
 }
 
-# Passes on the replies to so many commands, and notes the refusals among them. Fails where the program has ended.
+# Passes on the replies to this many commands, and notes the refusals among them. Fails if the program has ended.
 pass_replies() {
     left=$1 at=0
     while [ "$left" -gt 0 ]; do
@@ -72,7 +72,7 @@ pass_replies() {
     done
 }
 
-# Carries out a line that was typed, and says what its refusals mean.
+# Carries out a line that was typed, and explains its refusals.
 answer() {
     printf '%s\n' "$1" >"$input"
     wanted=$(LC_ALL=C awk -f "$here/launcher/count.awk" -f "$here/launcher/cut.awk" <"$input")
@@ -83,7 +83,7 @@ answer() {
     [ "$(wc -l <"$folder/refusals")" -eq 1 ] || say_refusals
 }
 
-# Begins the program on a pipe, and waits until it has the image: closing a cursor changes nothing.
+# Starts the program on a pipe, and waits until it has the image: closing a cursor changes nothing.
 begin_session() {
     mkfifo "$folder/commands" "$folder/replies" || exit 125
     exec 4<>"$folder/commands"
@@ -97,7 +97,7 @@ begin_session() {
     IFS= read -r reply <&5 && [ "$reply" = "no cursor" ]
 }
 
-# Answers lines one by one, over one run that has the image as long as the session goes.
+# Answers lines one by one, in one run that has the image until the session ends.
 prompt() {
     input=$folder/line
     if begin_session; then

@@ -1,6 +1,6 @@
-# How the program comes to stand where it is run from.
+# Builds or finds the program.
 
-# Whether a program is there, and newer than the sources.
+# Whether the program exists and is newer than the sources.
 is_current() {
     [ -x "$program" ] && [ -z "$(find "$here/crates" "$here/crates.txt" \
         -name out -prune -o -type f -newer "$program" -print -quit)" ]
@@ -12,7 +12,7 @@ needs_tools() {
     done
 }
 
-# Takes a lock in a folder, which it makes, as descriptor 9. The kernel takes it back from a call that was killed.
+# Makes a folder and locks it, by descriptor 9. The kernel releases the lock if the call is killed.
 lock_folder() {
     mkdir -p "$1" 2>/dev/null
     (: >>"$1/lock") 2>/dev/null || fail "$1 cannot be written"
@@ -20,7 +20,7 @@ lock_folder() {
     flock -n 9 || { say "another call is building the program, and this one waits for it"; flock 9; }
 }
 
-# Compiles the program without its proofs, unless one is there that was made of these sources.
+# Compiles the program without its proofs, unless one of these sources exists.
 compile_unproved() {
     program=$out/unproved/antelope_cli
     is_current && return
@@ -31,23 +31,23 @@ compile_unproved() {
         say "compiling the program without its proofs: about half a minute, once"
         touch "$out/unproved/start"
         "$here/.ci/unproved" "$program.new" 9>&- || fail "the program was not compiled"
-        # a source that was changed meanwhile is newer
+        # a source that was changed meanwhile must be newer
         touch -r "$out/unproved/start" "$program.new"
         mv "$program.new" "$program"
     fi
     exec 9>&-
 }
 
-# Proves and builds the program unless it is there.
+# Proves and builds the program unless it exists.
 build_proved() {
     is_current && return
     . "$here/.ci/build"
 }
 
-# Has the program stand in `program`, and says if it is one without proofs.
+# Sets `program`, and says if it is one without proofs.
 prepare_program() {
     if [ "$installed" ]; then
-        [ -x "$program" ] || fail "there is no $program, which belongs to it"
+        [ -x "$program" ] || fail "$program is missing"
         [ ! -e "$here/unproved" ] || tried=yes
     elif [ "$tried" ]; then
         compile_unproved
@@ -58,9 +58,9 @@ prepare_program() {
         say "a try: this program was compiled without its proofs$([ "$form" ] || echo ", and its image is not kept")"
 }
 
-# Installs the program, its tools and documents below a prefix, with `try` the program without proofs.
+# Installs the program, its tools and documents under a prefix; with `try` the program without proofs.
 install_below() {
-    [ -z "$installed" ] || fail "this is installed, and a clone of the repository installs"
+    [ -z "$installed" ] || fail "this is an installed program: run install in a clone of the repository"
     if [ "${2-}" = try ]; then
         compile_unproved
     elif [ $# -eq 1 ]; then

@@ -1,6 +1,6 @@
-# Says what the refusals mean that are listed in the file REFUSALS: a line of a command's number and its reply for each
-# of the first, and one of how many refusals and commands there were. The script is cut by `cut.awk`; it is empty where
-# it cannot be read again. `asked` is set for commands that were typed, whose lines nobody counts.
+# Explains the refusals in the file REFUSALS. It has a line for each of the first ones, a command's number and its reply,
+# and one that counts the refusals and all commands. `cut.awk` cuts the script, which is empty if it cannot be read again.
+# `asked` is set for commands that were typed: their line numbers are left out.
 function say(text) {
     print "antelope: " text
 }
@@ -23,22 +23,22 @@ function read_refusals(    entry, part) {
 function meaning(text,    part, n) {
     split(text, part, " ")
     n = part[3]
-    if (part[2] == "syntax") return "this is no command; it could be one up to the mark"
+    if (part[2] == "syntax") return "this is not a command: it goes wrong at the mark"
     if (part[2] == "long") return "a command has at most 512 bytes"
-    if (part[2] == "unfinished") return "the last command has no ; behind it"
+    if (part[2] == "unfinished") return "the last command does not end with ;"
     if (part[2] == "relation") return "there is no relation of that name"
-    if (part[2] == "attribute") return "name " n " of the command is no attribute of the relation"
-    if (part[2] == "exists") return "the name is taken, or the attribute has an index"
-    if (part[2] == "empty") return "only a relation without rows takes another attribute"
+    if (part[2] == "attribute") return "name " n " of the command is not an attribute of the relation"
+    if (part[2] == "exists") return "the name is taken, or the attribute already has an index"
+    if (part[2] == "empty") return "the relation has rows, or slots of removed rows, so it gets no more attributes"
     if (part[2] == "value") return "value " n " does not fit its attribute, or there are too few or too many values"
-    if (part[2] == "type") return "part " n " mixes numbers and texts, or is an aggregate that its attribute does not have"
-    if (part[2] == "domain") return "a STRING has 1 to 32 bytes, and this kind of index does not suit every domain"
+    if (part[2] == "type") return "part " n " mixes numbers and texts, or is an aggregate that its attribute does not allow"
+    if (part[2] == "domain") return "a STRING has 1 to 32 bytes; or this kind of index does not allow the domain"
     if (part[2] == "full") return "the limit is reached: " part[4] " " part[3]
-    if (part[2] == "ordered") return "under an INLINE index keys never fall, and " n " comes before"
+    if (part[2] == "ordered") return "under an INLINE index keys must not fall, and the key before is " n
     if (part[2] == "inuse") return "cursor " n " is open on the relation: CLOSE " n
     if (part[2] == "indexed") return "the relation has an index: REMOVE INDEX first"
     if (part[2] == "index") return "the attribute has no index"
-    if (part[2] == "cursor") return "no cursor of that number is open; they are 1 to 4"
+    if (part[2] == "cursor") return "no cursor of that number is open; cursors are 1 to 4"
     if (part[2] == "open") return "that cursor is open: CLOSE it first"
     if (part[2] == "space") return "the flash has no " n " free pages in a row"
     return "docs/AQL.md lists the replies"

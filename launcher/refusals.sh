@@ -1,9 +1,9 @@
-# Commands that were refused: how many, which, and what each reply means.
+# Refused commands: how many, which, and what each reply means.
 
 # how many refusals are shown one by one
 most_shown=10
 
-# Lets the replies out as they come, with `--csv` their rows alone, and copies them.
+# Passes the replies on as they come, with `--csv` only their rows, and copies them.
 let_out() {
     heads=''
     [ -z "$header" ] || heads=$folder/heads
@@ -13,7 +13,7 @@ let_out() {
     esac
 }
 
-# Lets the replies out as they come, and finds the refusals in a copy of them: a line for each of the first ones, and
+# Passes the replies on as they come, and finds the refusals in a copy of them: a line for each of the first ones, and
 # one that counts them and all commands.
 carry_out_strictly() {
     [ "${folder-}" ] || make_folder
@@ -31,7 +31,7 @@ carry_out_strictly() {
     judge_refusals
 }
 
-# Makes the status 11 where a command was refused, and says which. At 6 the one line that begins so is no reply.
+# Makes the status 11 if a command was refused, and says which. At 6 the line that begins with `no ` is not a reply.
 judge_refusals() {
     counts=$(tail -n 1 "$folder/refusals" 2>/dev/null)
     case $counts in
@@ -48,7 +48,7 @@ judge_refusals() {
     say_refusals
 }
 
-# Says what the refusals mean that were found, each below its command where that can be read again.
+# Explains the refusals that were found, each with its command if that can be read again.
 say_refusals() {
     script=/dev/null asked=''
     [ ! -f "$input" ] || script=$input

@@ -1,11 +1,11 @@
-# A run of the program on the streams of the caller.
+# Runs the program on the streams of the caller.
 
-# What a file is, by device and number, and how long it is.
+# Prints which file it is, by device and number, and its length.
 identity() {
     stat -L -c '%d:%i %s' -- "$1" 2>/dev/null
 }
 
-# Waits until a child is the program, or has ended: as a copy of the shell it would lose a signal.
+# Waits until the child has become the program, or has ended: until then it is a copy of the shell and loses signals.
 wait_for_program() {
     shell=$(readlink "/proc/$$/exe") waits=0
     while [ "$shell" ] && [ "$(readlink "/proc/$child/exe")" = "$shell" ] && [ "$waits" -lt 50 ]; do
@@ -29,7 +29,7 @@ pass_signals_on() {
     trap 'pass_on 143' TERM
 }
 
-# Waits for the end of the program. A wait that a signal breaks off does not tell its status.
+# Waits for the end of the program. A wait that a signal interrupts does not return its status.
 wait_for_child() {
     status=''
     [ -z "$passed_on" ] || pass_on "$passed_on"
@@ -41,13 +41,13 @@ wait_for_child() {
         [ "$heard" ]
     do :; done
     child=''
-    # what the shell ends with where it could not begin the program
-    case $status in '' | 126) say "$program could not be begun"; status=125 ;; esac
+    # the shell's status if it could not start the program
+    case $status in '' | 126) say "$program could not be started"; status=125 ;; esac
     [ "$status" -ne 143 ] || status=${passed_on:-143}
 }
 
-# Begins the program and waits for its end. What a shell begins in the background ignores INT and QUIT, so each signal
-# goes on as TERM, and the status is that of the one that came.
+# Starts the program and waits for its end. A background process of a shell ignores INT and QUIT, so each signal is passed
+# on as TERM, and the status is that of the signal that came.
 carry_out() {
     was=$(identity "$image")
     pass_signals_on
@@ -61,7 +61,7 @@ carry_out() {
     wait_for_child
 }
 
-# Carries out a form, and counts refusals where that is asked for.
+# Runs a form, and counts refusals under `--strict`.
 run_form() {
     if [ "$strict" ]; then carry_out_strictly "$@"; else carry_out "$@"; fi
 }

@@ -1,4 +1,4 @@
-# What is wrong with words that are of no form.
+# What is wrong with the arguments.
 
 # The line of `forms` that was meant, if there is one.
 meant() {
@@ -9,12 +9,12 @@ meant() {
     done
 }
 
-# Says why a word is no such number of at most so many digits in this range.
+# Says why an argument is not a number in this range with at most this many digits.
 not_number() {
     value=${2#"${2%%[!0]*}"}
     case $2 in
         '') say "$1 is missing: it is a number from $4 to $5" ;;
-        *[!0-9]*) say "'$2' is no $1, which is a number from $4 to $5" ;;
+        *[!0-9]*) say "$1 must be a number from $4 to $5, not '$2'" ;;
         *)
             if [ ${#value} -gt ${#5} ] || [ "${value:-0}" -gt "$5" ]; then say "$2 $6: $1 is $4 to $5"
             elif [ "${value:-0}" -lt "$4" ]; then say "$2 is too small: $1 is $4 to $5"
@@ -24,11 +24,11 @@ not_number() {
     esac
 }
 
-# Says why a word is no name of a relation with a number of rows.
+# Says why an argument is not NAME=ROWS.
 not_named() {
     case $1 in
         *=*) ;;
-        *) say "'$1' is no NAME=ROWS, such as readings=1000"; return ;;
+        *) say "'$1' is not NAME=ROWS, such as readings=1000"; return ;;
     esac
     if ! is_name "${1%%=*}"; then say "'${1%%=*}' cannot be the name of a relation"
     elif ! is_number "${1#*=}" 5 0 32767; then say_misfit ROWS "${1#*=}"
@@ -36,7 +36,7 @@ not_named() {
     fi
 }
 
-# Says why a word does not fit its place.
+# Says why an argument does not fit its place.
 say_misfit() {
     case $1 in
         SEED) not_number SEED "$2" 10 0 4294967295 "is too large" ;;
@@ -46,7 +46,7 @@ say_misfit() {
     esac
 }
 
-# Says which word of a form is missing, does not fit, or is one too many.
+# Says which argument is missing, does not fit, or is one too many.
 say_wrong_word() {
     places=$1 named=' '
     shift
@@ -63,10 +63,10 @@ say_wrong_word() {
     say "at most eight relations may be named"
 }
 
-# Says what is wrong, and shows the form that was meant, or all.
+# Says what is wrong, and shows the usage of the command that was meant, or of all.
 say_what_is_wrong() {
     if [ $# -eq 0 ]; then
-        [ -z "$tried" ] || say "try takes a form, or one argument: a file with a script, or -"
+        [ -z "$tried" ] || say "try takes a command, or one argument: a script file, or -"
         usage >&2
         return
     fi
@@ -74,18 +74,18 @@ say_what_is_wrong() {
     if [ -z "$form" ]; then
         case $tried:$#:$1 in
             *:--*) say "there is no option $1" ;;
-            yes:1:*) say "'$1' is neither a form nor a script that can be read" ;;
-            *) say "'$1' is no form" ;;
+            yes:1:*) say "'$1' is neither a command nor a readable script" ;;
+            *) say "there is no command '$1'" ;;
         esac
         usage >&2
         return
     fi
     case $csv:$strict:$#:$form in
-        yes:*:2:ask*) say "--csv and --header want a COMMAND" ;;
+        yes:*:2:ask*) say "--csv and --header need a COMMAND" ;;
         ::* | *:ask* | :yes:*SCRIPT*) say_wrong_word "$form" "$@" ;;
-        yes:*) say "--csv and --header go with ask, and not with $1" ;;
-        *) say "--strict goes with run, and not with $1" ;;
+        yes:*) say "--csv and --header work with ask, not with $1" ;;
+        *) say "--strict works with run, not with $1" ;;
     esac
     echo "usage: antelope $form" >&2
-    echo "antelope help prints all forms" >&2
+    echo "antelope help shows all commands" >&2
 }

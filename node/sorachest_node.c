@@ -9,15 +9,15 @@ int sorachest_version(void) { return SORACHEST_VERSION; }
 const char *sorachest_error(int status) {
     switch (status) {
     case SORACHEST_OK: return "done";
-    case SORACHEST_ROW: return "a row is there";
+    case SORACHEST_ROW: return "there is a row";
     case SORACHEST_REFUSED: return "the command was refused, and the reply says why";
-    case SORACHEST_NO_SPACE: return "the flash has no room for it";
+    case SORACHEST_NO_SPACE: return "the flash is full";
     case SORACHEST_FLASH: return "the flash failed: repair it, and open it again";
-    case SORACHEST_NOT_SOUND: return "the flash holds no sound database: repair puts right what a power cut left";
-    case SORACHEST_MISUSE: return "this call may not come now, or not with these arguments";
-    case SORACHEST_VALUE: return "no relation can have such a name, or no row such a value";
-    case SORACHEST_STACK: return "the memory was too small, and bytes below it may be lost";
-    default: return "no status of sorachest_node.h";
+    case SORACHEST_NOT_SOUND: return "the flash holds no sound database: repair it, if a power cut was the cause";
+    case SORACHEST_MISUSE: return "the call is not allowed now, or an argument is wrong";
+    case SORACHEST_VALUE: return "no relation can have such a name or value";
+    case SORACHEST_STACK: return "the memory was too small, and bytes below it may be overwritten";
+    default: return "not a status of sorachest_node.h";
     }
 }
 
@@ -27,7 +27,7 @@ static int of_program(int status) {
     case 3: return SORACHEST_NO_SPACE;
     case 4: return SORACHEST_FLASH;
     case 6: return SORACHEST_NOT_SOUND;
-    default: return SORACHEST_MISUSE; /* the others are about words, lengths and an output: none of them comes */
+    default: return SORACHEST_MISUSE; /* the others are about arguments, lengths and an output, and do not occur */
     }
 }
 
@@ -110,8 +110,16 @@ static int whole(struct sorachest *db, const struct sorachest_config *config, co
     return end(db, of_program(db->status));
 }
 
+int sorachest_check(struct sorachest *db, const struct sorachest_config *config, sorachest_row *row, void *context) {
+    return whole(db, config, "check", row, context);
+}
+
 int sorachest_repair(struct sorachest *db, const struct sorachest_config *config, sorachest_row *row, void *context) {
     return whole(db, config, "repair", row, context);
+}
+
+int sorachest_collect(struct sorachest *db, const struct sorachest_config *config, sorachest_row *row, void *context) {
+    return whole(db, config, "collect", row, context);
 }
 
 int sorachest_dump(struct sorachest *db, const struct sorachest_config *config, sorachest_row *row, void *context) {

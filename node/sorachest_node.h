@@ -16,21 +16,19 @@
  *     if (status == SORACHEST_OK)
  *         while ((status = sorachest_step(&db)) == SORACHEST_ROW) use(sorachest_int(&db, 0), sorachest_int(&db, 1));
  *
- * The language is docs/AQL.md. The database is the proved program `run`, which stands on a stack of its own in `memory`
- * from one call to the next. It runs only inside of these calls. The callbacks run on the caller's stack, and may wait.
- * Nothing is allocated.
+ * The language is in docs/AQL.md. The database is the proved program `run`. Between calls it waits, on a stack of its own in
+ * `memory`; it runs only inside these calls. The callbacks run on the caller's stack, and may wait. Nothing is allocated.
  *
- * Each open database has a struct, memory and a flash of its own. Calls on several databases may be mixed, and a callback
- * may use another database; but only one thread at a time is inside of these calls, whichever database they are about, and
- * no interrupt is.
+ * Each open database has its own struct, memory and flash. You may mix calls on several databases, and a callback may use
+ * another database. But only one thread at a time may be inside these calls, on any database, and no interrupt handler.
  *
- * c/sorachest.h is the interface for images in memory. One program takes one of the two.
+ * c/sorachest.h is the interface for images in memory. A program can use only one of the two.
  */
 #ifndef SORACHEST_NODE_H
 #define SORACHEST_NODE_H
 
 #ifdef SORACHEST_H
-#error "sorachest.h and sorachest_node.h have calls of the same names: a program takes one of them"
+#error "sorachest.h and sorachest_node.h declare calls of the same names: include one of them"
 #endif
 
 #include <stddef.h>
@@ -40,42 +38,42 @@
 extern "C" {
 #endif
 
-/* The number of this interface. It rises where a call or a struct changes; sorachest_version tells the object's. */
+/* The version of this interface. It rises when a call or a struct changes. sorachest_version returns that of the object. */
 #define SORACHEST_VERSION 1
 
 enum {
     SORACHEST_SECTOR = 4096,
-    SORACHEST_MEMORY = 104 * 1024,  /* bytes of memory that are enough on each processor; fewer are refused */
-    SORACHEST_THREAD_MEMORY = 2048, /* the same where the stack is a thread's own, see `wait` and `wake` */
+    SORACHEST_MEMORY = 104 * 1024,  /* bytes of memory, enough on every processor; fewer are refused */
+    SORACHEST_THREAD_MEMORY = 2048, /* the same if a thread's own stack is used, see `wait` and `wake` */
     SORACHEST_MOST_COMMAND = 512,   /* bytes of a command; a longer one is refused with `no long` */
-    SORACHEST_MOST_LINE = 299,      /* bytes of a reply's line */
+    SORACHEST_MOST_LINE = 299,      /* bytes of a line of a reply */
     SORACHEST_MOST_TEXT = 32,       /* bytes of a text */
     SORACHEST_MOST_VALUES = 8       /* values of a row */
 };
 
-/* What calls answer. sorachest_error has a text for each. */
+/* What calls return. sorachest_error has a text for each. */
 enum {
     SORACHEST_OK = 0,
-    SORACHEST_ROW = 1,         /* step: a row is there */
-    SORACHEST_REFUSED = -1,    /* the reply is `no ..` (docs/AQL.md). That command changed nothing, and the session goes on */
-    SORACHEST_NO_SPACE = -3,   /* the reply is `no space N`. That command changed nothing, and the session goes on */
-    SORACHEST_FLASH = -4,      /* a callback failed, or the flash does not hold what it was given: the session has ended */
+    SORACHEST_ROW = 1,         /* step: there is a row */
+    SORACHEST_REFUSED = -1,    /* the reply is `no ..` (docs/AQL.md). That command changed nothing, and the session continues */
+    SORACHEST_NO_SPACE = -3,   /* the reply is `no space N`. That command changed nothing, and the session continues */
+    SORACHEST_FLASH = -4,      /* a callback failed, or the flash does not hold what was written: the session has ended */
     SORACHEST_NOT_SOUND = -6,  /* the reply is `no image RULE PLACE` (docs/FORMATS.md). Nothing was written */
-    SORACHEST_MISUSE = -20,    /* the call is none that may come now, or its arguments are none: nothing was done */
-    SORACHEST_VALUE = -21,     /* insert: a name or a value that no relation can have: nothing was done */
-    SORACHEST_STACK = -22      /* the database wrote below its memory: bytes there may be lost, so reset */
+    SORACHEST_MISUSE = -20,    /* the call is not allowed now, or an argument is wrong: nothing was done */
+    SORACHEST_VALUE = -21,     /* insert: no relation can have such a name or value: nothing was done */
+    SORACHEST_STACK = -22      /* the database wrote below its memory, and may have overwritten what is there: reset */
 };
 
-/* What the caller gives. It stays as it is while the database is open. */
+/* What the caller provides. It must not change while the database is open. */
 struct sorachest_config {
-    void *context; /* for the callbacks alone */
+    void *context; /* for the callbacks only */
 
-    /* The flash. Each answers 0, or another number where it failed. `at` and `count` stay within one sector of 4,096 bytes.
-     * Bytes are as the chip has them: an erased one is ff. What is answered with 0 stands in the flash, also without power.
-     * No callback may make a call on its own database. */
+    /* The flash. Each returns 0, or another number if it failed. `at` and `count` stay within one sector of 4,096 bytes. Bytes
+     * are as the chip has them: an erased one is ff. When a callback returns 0, the bytes are in the flash, also without
+     * power. No callback may make a call on its own database. */
     int (*read)(const struct sorachest_config *config, uint32_t sector, uint32_t at, void *into, size_t count);
-    /* At most 256 bytes within a page of 256. Clears the bits that are 0 in `bytes`, in rising order of bytes. Where the
-     * power goes, two bytes at an even place are both done, or neither. */
+    /* At most 256 bytes within a page of 256. Clears the bits that are 0 in `bytes`, byte by byte in rising order. If the power
+     * goes, two bytes at an even place are both done or neither. */
     int (*program)(const struct sorachest_config *config, uint32_t sector, uint32_t at, const void *bytes, size_t count);
     int (*erase)(const struct sorachest_config *config, uint32_t sector);
     uint32_t sectors; /* 4 to 4,095 */
@@ -83,17 +81,17 @@ struct sorachest_config {
     void *memory; /* aligned to 8 */
     size_t memory_size;
 
-    /* NULL, or both: in place of a switched stack, for a system whose threads may have no stack but their own. A thread of
-     * the firmware's calls sorachest_thread. `wake` gives the semaphore `whose`, and `wait` takes it. `memory` then needs
-     * SORACHEST_THREAD_MEMORY bytes, and the stack of that thread SORACHEST_MEMORY. */
+    /* Both or neither (NULL). With both, the database runs in a thread of the firmware, which calls sorachest_thread, and not on
+     * a switched stack: for systems that check stacks. `wake` gives the semaphore `whose`, and `wait` takes it. `memory` then
+     * needs SORACHEST_THREAD_MEMORY bytes, and the stack of that thread SORACHEST_MEMORY. */
     void (*wait)(const struct sorachest_config *config, int whose);
     void (*wake)(const struct sorachest_config *config, int whose);
 };
 
-/* Whose turn a semaphore gives. Both begin with 0. */
+/* The semaphores. Both begin with 0. */
 enum { SORACHEST_CALLER, SORACHEST_THREAD };
 
-/* A database. It begins as zeros, or with sorachest_open. Its members are the library's. */
+/* A database. Begin with zeros, or with sorachest_open. The members belong to the library. */
 struct sorachest {
     const struct sorachest_config *config;
     const char *form;
@@ -111,37 +109,37 @@ struct sorachest {
     char line[SORACHEST_MOST_LINE + 1];
 };
 
-/* Opens the flash: reads all of it, judges it, and writes nothing. An erased flash is an empty database.
- * OK, NOT_SOUND, FLASH, MISUSE. Where it is not OK, the database stays closed. */
+/* Opens the flash: reads and checks all of it, and writes nothing. An erased flash is an empty database.
+ * Returns OK, NOT_SOUND, FLASH or MISUSE. If it is not OK, the database stays closed. */
 int sorachest_open(struct sorachest *db, const struct sorachest_config *config);
 
-/* Carries out a command of AQL, or several with a `;` between them, and calls `row` for each row, unless it is NULL. What
- * `row` answers but 0 makes exec pass over the other rows. Commands behind one that is refused are not carried out.
+/* Carries out a command of AQL, or several separated by `;`, and calls `row` for each row, unless it is NULL. If `row` returns
+ * anything but 0, exec skips the other rows. Commands after a refused one are not carried out.
  *
- * OK: all are done, and stand in the flash, also without power. REFUSED, NO_SPACE: those before the last one tried are.
- * FLASH: those before the one under way are; of that one, what sorachest_repair says. The database is then closed.
- * MISUSE: no text, a closed database, rows of an earlier query that are not finished, or a call from within a callback. */
+ * OK: all commands are done, and in the flash, also without power. REFUSED, NO_SPACE: all before the last one tried are.
+ * FLASH: all before the interrupted one are; that one may be there in part, see sorachest_repair. The database is then closed.
+ * MISUSE: `command` is NULL, the database is closed, an earlier query has rows left, or the call came from a callback. */
 typedef int sorachest_row(void *context, const struct sorachest *db);
 int sorachest_exec(struct sorachest *db, const char *command, sorachest_row *row, void *context);
 
-/* The same, row by row: steps are taken until one answers something else than ROW, which is what exec answers. The bytes of
- * `command` stay until then. Where no more rows are wanted, finish takes the steps that are left. query alone does nothing
- * to the flash, and answers OK or MISUSE. */
+/* The same, row by row. Call step until it returns something other than ROW; that is what exec would return. `command` must
+ * stay unchanged until then. If you need no more rows, call finish, which takes the steps that are left. query itself does not
+ * touch the flash, and returns OK or MISUSE. */
 int sorachest_query(struct sorachest *db, const char *command);
 int sorachest_step(struct sorachest *db);
 int sorachest_finish(struct sorachest *db);
 
-/* The columns of the row that is there, counted from 0. A column that has no value, as the MAX of no rows, is NONE; so is
- * one that is not there. int answers 0 for what is no number. text answers NULL for what is no text, and else its bytes,
- * without quotes and without a 0 behind them; `length` may be NULL. They stay until the next call. */
+/* The columns of the current row, counted from 0. A column without a value, such as the MAX of no rows, has the type NONE, and
+ * so has a column that does not exist. int returns 0 if the value is not a number. text returns NULL if it is not a text, or
+ * else its bytes, without quotes and with no 0 at the end; `length` may be NULL. They stay until the next call. */
 enum { SORACHEST_NONE, SORACHEST_INT, SORACHEST_TEXT };
 int sorachest_columns(const struct sorachest *db);
 int sorachest_type(const struct sorachest *db, int column);
 int64_t sorachest_int(const struct sorachest *db, int column);
 const char *sorachest_text(const struct sorachest *db, int column, size_t *length);
 
-/* What the command calls a column, as `celsius` or `MAX(celsius)`: bytes of the command, without a 0 behind them. NULL for a
- * column that is not there, and for a row of FETCH. */
+/* The name of a column in the command, such as `celsius` or `MAX(celsius)`: bytes of the command, with no 0 at the end. NULL if
+ * the column does not exist, and for a row of FETCH. */
 const char *sorachest_name(const struct sorachest *db, int column, size_t *length);
 
 /* A value of a row: an INT, LONG or TIME, or a text. */
@@ -162,38 +160,44 @@ static inline struct sorachest_value sorachest_of_text(const char *text, size_t 
     return value;
 }
 
-/* INSERT of 1 to 8 values. Answers as exec does. A value that does not suit its attribute is REFUSED (`no value N`). A text
- * with a quote, a byte that is not 0x20 to 0x7e, or more than 32 bytes, a number of more than 18 digits, and a name that is
- * no name are VALUE. */
+/* INSERT of 1 to 8 values. Returns what exec returns. A value that does not suit its attribute is REFUSED (`no value N`).
+ * VALUE: a text has a quote, a byte that is not 0x20 to 0x7e, or more than 32 bytes; a number has more than 18 digits; or
+ * `relation` cannot be a name. */
 int sorachest_insert(struct sorachest *db, const char *relation, const struct sorachest_value *values, size_t count);
 
-/* The last line that the database wrote, with a 0 behind it: a row, `ok`, `rows 2`, `no attribute 1`. Empty where it has
- * written none since the call began. A call that is MISUSE or VALUE leaves it. */
+/* The last line that the database wrote, ended by a 0: a row, `ok`, `rows 2`, `no attribute 1`. Empty if it has written none
+ * since the last call began. A call that returns MISUSE or VALUE does not change it. */
 const char *sorachest_reply(const struct sorachest *db);
 
-/* Ends the session. The command under way is finished, and those that have not begun are not carried out. It may be left out:
- * between calls nothing is written. OK, also for a closed database; FLASH, where that command failed; MISUSE from within a
- * callback. */
+/* Ends the session. The current command is finished; later ones are not carried out. You may leave it out, since nothing is
+ * written between calls. OK, also for a closed database; FLASH if the current command failed; MISUSE from a callback. */
 int sorachest_close(struct sorachest *db);
 
-/* Forms of a closed database. `row` is called for each line, which sorachest_reply tells. The database is closed behind them.
+/* These work on a closed database, and leave it closed. They call `row` for each line, which sorachest_reply returns.
  *
- * repair puts right what a power cut or a failing callback left: the database is then that before the command that was under
- * way, or that after it. `sound`, or a line for each thing that was put right, and `repaired`. It may be cut off, and is
- * called again then. OK; NOT_SOUND: no cut leaves such a flash; NO_SPACE: more sectors are wanted for it; FLASH.
- * dump writes the script that makes the database again, look what stands in the flash. Both write nothing into it. */
+ * repair repairs the flash after a power cut or a failed callback. The database is then as before the interrupted command, or
+ * as after it. The lines are `sound`; or one for each change, and `repaired`. If repair itself is interrupted, call it again.
+ * OK; NOT_SOUND: no power cut leaves such a flash; NO_SPACE: it needs more sectors; FLASH.
+ * check gives the lines that repair would give if the flash has room, with `to be repaired` as the last one. OK both times;
+ * NOT_SOUND, FLASH.
+ * collect erases the sectors that hold only old data. The database stays, and an INSERT does not have to erase before the free
+ * pages are used up. `sectors erased N`. OK; NOT_SOUND; FLASH: repair the flash then.
+ * dump gives the script that makes the database again; look the relations, indexes and pages. check, dump and look write
+ * nothing into the flash. */
+int sorachest_check(struct sorachest *db, const struct sorachest_config *config, sorachest_row *row, void *context);
 int sorachest_repair(struct sorachest *db, const struct sorachest_config *config, sorachest_row *row, void *context);
+int sorachest_collect(struct sorachest *db, const struct sorachest_config *config, sorachest_row *row, void *context);
 int sorachest_dump(struct sorachest *db, const struct sorachest_config *config, sorachest_row *row, void *context);
 int sorachest_look(struct sorachest *db, const struct sorachest_config *config, sorachest_row *row, void *context);
 
-/* What a thread of the firmware's does where `wait` and `wake` are given. It never returns: a thread that waits in `wait` for
- * a closed database may be ended from outside. It is begun before the database is opened, or soon after. */
+/* What the thread of the firmware runs if `wait` and `wake` are set. It never returns. You may end the thread from outside
+ * while it waits in `wait` and the database is closed. Start it before you open the database, or soon after. */
 void sorachest_thread(const struct sorachest_config *config);
 
-/* The most bytes of `memory` that were in use since it was opened. The stack of a thread is not counted. */
+/* The most bytes of `memory` in use since the database was opened. A thread's own stack is not counted. */
 size_t sorachest_memory_used(const struct sorachest *db);
 
-/* A short text for what a call answered. */
+/* A short text for what a call returned. */
 const char *sorachest_error(int status);
 
 int sorachest_version(void);

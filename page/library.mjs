@@ -50,8 +50,16 @@ export class Library {
         return this.#call('sorachest_look', image);
     }
 
+    check(image) {
+        return this.#call('sorachest_check', image);
+    }
+
     repair(image) {
         return this.#call('sorachest_repair', image);
+    }
+
+    collect(image) {
+        return this.#call('sorachest_collect', image);
     }
 
     // Each call has an instance of its own, so that its memory is freed after it.

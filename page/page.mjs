@@ -135,21 +135,20 @@ function showName() {
     by('name').textContent = isSaved ? name : `${name}, not saved`;
 }
 
-/** Says what is wrong with the image, and what `repair` makes of a copy. */
+/** Says what is wrong with the image, and what `repair` makes of a copy, or would with more sectors. */
 async function showUnsound(reply) {
+    const lines = linesOf((await runner.call('check', image)).text).slice(0, -1);
     repaired = await runner.call('repair', image);
-    const lines = linesOf(repaired.text).filter(it => it !== 'repaired');
-    const canRepair = repaired.status === 0;
     const effect = lines.length ? ', and changes this in the database:' : ' and changes nothing in the database.';
     const what = {
         0: `Repair makes it sound again${effect}`,
-        3: `A repair needs more room (${lines.at(-1)}): add sectors below.`,
+        3: `A repair needs more room (${repaired.text.trim()}): add sectors below. It makes the image sound again${effect}`,
         6: 'No power cut leaves an image like this, and repair refuses it.',
     }[repaired.status];
     by('notice').hidden = false;
     by('why').textContent = `This image is not sound: ${reply} (a rule of docs/FORMATS.md and its place). ${what}`;
-    by('effects').replaceChildren(...(canRepair ? lines.map(it => made('li', it)) : []));
-    by('repair').hidden = !canRepair;
+    by('effects').replaceChildren(...lines.map(it => made('li', it)));
+    by('repair').hidden = repaired.status !== 0;
 }
 
 // ---- queries

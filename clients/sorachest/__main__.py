@@ -27,7 +27,7 @@ def main():
     form = forms.add_parser("ask", help=ask.__doc__, description=ask.__doc__)
     form.set_defaults(do=ask)
     tool.add_line(form)
-    form.add_argument("--client", type=int, choices=CLIENTS, default=1, help="who asks (1)")
+    form.add_argument("--client", type=int, choices=CLIENTS, default=1, help="the number of the client (1)")
     form.add_argument("commands", nargs="+", metavar="command", help="a command of AQL")
     hub_form = forms.add_parser("hub", help=hub.SUMMARY, description=hub.__doc__, formatter_class=tool.Description)
     hub.add_arguments(hub_form)

@@ -27,10 +27,10 @@ def value_of(value, is_time):
 def connect(line, *, client=1, speed=None, timeout=TIMEOUT, whole=False, times=()):
     """A connection over a line.
 
-    `client` is its number, 1 to 4, `speed` the bits a second of a port (as it is set, if not given), and
-    `timeout` how many seconds a reply may take. Rows are fetched one by one as they are asked for; with
-    `whole` an answer comes in one reply, which is faster, and holds the line as long as it takes. Values of
-    the attributes that `times` names are milliseconds since 1970, and come as datetimes of UTC.
+    `client` is its number, 1 to 4, `speed` the bits a second of a port (its current setting by default), and
+    `timeout` how many seconds to wait for a reply. Rows are fetched one by one as they are needed. With
+    `whole` an answer comes in one reply, which is faster, but other clients wait for all of it. Values of
+    the attributes in `times` are milliseconds since 1970, and are returned as datetimes of UTC.
     """
     if client not in CLIENTS:
         raise InterfaceError(f"a client's number is 1 to 4, and not {client}")

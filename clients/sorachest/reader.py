@@ -2,12 +2,12 @@
 """Reads the rows of an image without the program that wrote it, by docs/FORMATS.md alone.
 
     sorachest-reader station.img                  what is in it
-    sorachest-reader station.img --dump           a script that makes it anew, as the form `dump` writes it
+    sorachest-reader station.img --dump           a script that makes it again, as `antelope dump` prints it
     sorachest-reader station.img --csv readings   the rows of a relation, with a header
 
-It reads images that the program refuses, too, as far as their bytes allow: those of a run that was killed, and
-copies that are cut off. What it could not read it says on standard error, and then ends with 1. A status of 0 is
-no verdict on the image: the program judges that.
+It also reads images that the program refuses, as far as possible: those of a run that was killed, and truncated
+copies. It reports on standard error what it cannot read, and then ends with 1. A status of 0 does not mean that the
+image is sound: `antelope check` tests that.
 """
 import collections
 import csv
@@ -262,7 +262,7 @@ def main():
     parser = tool.parser(__doc__)
     parser.add_argument("image", help="the image of a flash")
     how = parser.add_mutually_exclusive_group()
-    how.add_argument("--dump", action="store_true", help="write a script that makes the database anew")
+    how.add_argument("--dump", action="store_true", help="write a script that makes the database again")
     how.add_argument("--csv", metavar="RELATION", help="write the rows of a relation as CSV")
     wanted = parser.parse_args()
     try:

@@ -250,22 +250,22 @@ def batch(text):
 
 def parse():
     parser = tool.parser(__doc__)
-    text = "a line, and what it is called"
+    text = "a line, with a name for the station"
     parser.add_argument("station", nargs="+", type=station_of, metavar="[NAME=]LINE", help=text)
     text = "a file of SQLite, postgresql://.., postgresql:KEY=VALUE.., or influx: for standard output"
     parser.add_argument("--into", required=True, metavar="TARGET", help=text)
     parser.add_argument("--relation", action="append", default=[], help="'r(at TIME, v)', again for each one")
     text = "RELATION.ATTRIBUTE whose values never fall, again for each relation"
     parser.add_argument("--key", action="append", type=key_of, default=[], help=text)
-    parser.add_argument("--plan", action="store_true", help="say what would be shipped, and change nothing")
+    parser.add_argument("--plan", action="store_true", help="show what would be shipped, and change nothing")
     text = "remove from the station what is in the target"
     parser.add_argument("--remove", choices=("rows", "relation"), help=text)
-    text = "ship all that is there, as if nothing had been shipped"
+    text = "ship all rows, as if none had been shipped before"
     parser.add_argument("--anew", action="store_true", help=text)
     parser.add_argument("--since", type=int, help="the key to begin with, for InfluxDB")
     parser.add_argument("--batch", type=batch, default=BATCH, help=f"rows of a transaction ({BATCH})")
-    parser.add_argument("--client", type=int, choices=range(1, 5), default=1, help="who asks (1)")
-    parser.add_argument("--speed", type=int, help="bits a second of a port; as it is set, if not given")
+    parser.add_argument("--client", type=int, choices=range(1, 5), default=1, help="the number of the client (1)")
+    parser.add_argument("--speed", type=int, help="bits a second of a port (its current setting)")
     parser.add_argument("--timeout", type=float, default=TIMEOUT, help=f"seconds to wait for a reply ({TIMEOUT:g})")
     return parser.parse_args()
 

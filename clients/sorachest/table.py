@@ -234,7 +234,7 @@ def put_out(wanted):
         cursor = station.cursor()
         cursor.execute(wanted.query)
         if cursor.description is None:
-            raise Unfit(f"{wanted.query}: that is no query, and was carried out")
+            raise Unfit(f"{wanted.query}: this is not a query, and was carried out")
         writer = csv.writer(sys.stdout, lineterminator="\n")
         writer.writerow(it[0] for it in cursor.description)
         writer.writerows(cursor)
@@ -254,13 +254,13 @@ def parse():
     form.add_argument("relation", help="the relation that the rows go into")
     form.add_argument("--domains", help="those of the columns, as in 'TIME, INT, STRING(8)'")
     form.add_argument("--create", action="store_true", help="make the relation first, with the names of the columns")
-    form.add_argument("--delimiter", type=separator, default=",", help="what stands between values (,)")
-    text = "what decimals are multiplied by, or NAME=10 for one column, whole numbers too"
+    form.add_argument("--delimiter", type=separator, default=",", help="the character between values (,)")
+    text = "multiply decimals by this; NAME=10 for one column, including whole numbers"
     form.add_argument("--scale", action="append", default=[], metavar="10", help=text)
     text = "the number for blank cells, or skip to leave their rows out; NAME=VALUE for one column"
     form.add_argument("--blank", action="append", default=[], metavar="VALUE", help=text)
-    form.add_argument("--point", type=separator, default=".", help="what stands before the digits of a decimal (.)")
-    form.add_argument("--dry-run", action="store_true", help="tell the columns and what is in the way, and do nothing")
+    form.add_argument("--point", type=separator, default=".", help="the decimal point (.)")
+    form.add_argument("--dry-run", action="store_true", help="print the columns and what is wrong with them, and do nothing else")
     form.add_argument("--parts", metavar="PART", help="write files PART-001.aql .., each small enough for a run")
     form.add_argument("--most", type=int, default=MOST_INPUT, help=f"bytes of a script ({MOST_INPUT})")
     tool.add_line(form, "--line")

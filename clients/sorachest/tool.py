@@ -21,7 +21,7 @@ def add_line(parser, word="line", **how):
     """The arguments that say which line is meant, and how it is spoken on."""
     text = "an image, a port's or a socket's path, tcp:HOST:PORT, or run:COMMAND"
     parser.add_argument(word, help=text, **how)
-    parser.add_argument("--speed", type=int, help="bits a second of a port; as it is set, if not given")
+    parser.add_argument("--speed", type=int, help="bits a second of a port (its current setting)")
     parser.add_argument("--timeout", type=float, default=TIMEOUT, help=f"seconds to wait for a reply ({TIMEOUT:g})")
 
 

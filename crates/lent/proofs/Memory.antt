@@ -1,7 +1,9 @@
 -- What a run says of the memory that was lent.
 use Rattle.std.proofs.Common.{◌≡◌, ◌⊎◌, ℕ, List, [], Some, inl, inr, subst, sym, take}
 use Rattle.antelope_run.specs.Statuses.{HasSpace, LeftBy}
+use Rattle.collect_run.specs.Collects.{Collects}
 use Rattle.lent.specs.Memory.{LeavesMemory}
+use Rattle.repair_run.specs.Checks.{Checks}
 use Rattle.repair_run.specs.Repairs.{Repairs}
 use Rattle.run_model.specs.Runs.{world}
 use Rattle.run_words.specs.declared.words.Form.{Form}
@@ -21,6 +23,20 @@ pub repairs : (status : ℕ) (room : List ℕ) (count : ℕ) {lent old kept new 
     → lent ≡ old → held ≡ 0 → kept ≡ new → wrote ≡ replies → Repairs status old new (Some []) (Some (take count replies))
 repairs status room count {lent = lent} {kept = kept} {wrote = wrote} left same none now front =
     rw (← same, ← now, ← front) (subst (λ h. Repairs status lent kept (Some (take h room)) (Some (take count wrote))) none left)
+
+-- and of a check
+pub checks : (status : ℕ) (room : List ℕ) (count : ℕ) {lent old wrote replies : List ℕ} {held : ℕ}
+    → Checks status lent (Some (take held room)) (Some (take count wrote))
+    → lent ≡ old → held ≡ 0 → wrote ≡ replies → Checks status old (Some []) (Some (take count replies))
+checks status room count {lent = lent} {wrote = wrote} left same none front =
+    rw (← same, ← front) (subst (λ h. Checks status lent (Some (take h room)) (Some (take count wrote))) none left)
+
+-- and of a collection
+pub collects : (status : ℕ) (room : List ℕ) (count : ℕ) {lent old kept new wrote replies : List ℕ} {held : ℕ}
+    → Collects status lent kept (Some (take held room)) (Some (take count wrote))
+    → lent ≡ old → held ≡ 0 → kept ≡ new → wrote ≡ replies → Collects status old new (Some []) (Some (take count replies))
+collects status room count {lent = lent} {kept = kept} {wrote = wrote} left same none now front =
+    rw (← same, ← now, ← front) (subst (λ h. Collects status lent kept (Some (take h room)) (Some (take count wrote))) none left)
 
 -- space that a run finds over the memory it finds over what holds it
 pub has_space : (form : Form) (input room : List ℕ) {lent old : List ℕ} {held : ℕ} → lent ≡ old → held ≡ 0

@@ -2,6 +2,8 @@
 use Rattle.std.specs.Prelude.{◌≡◌, ◌≢◌, ◌↔◌, ◌⊎◌, ℕ, ◌≤◌, List, [], length, take, Option, Some}
 use Rattle.afl_sim.specs.Lengths.{IsImageLength}
 use Rattle.antelope_run.specs.Statuses.{HasSpace, IsWithinLimit, LeftBy}
+use Rattle.collect_run.specs.Collects.{Collects}
+use Rattle.repair_run.specs.Checks.{Checks}
 use Rattle.repair_run.specs.Repairs.{Repairs}
 use Rattle.run_model.specs.Runs.{world}
 use Rattle.run_words.specs.declared.words.Form.{Form}
@@ -14,6 +16,14 @@ IsLentStatus s = (s ≡ 0) ⊎ (s ≡ 3) ⊎ (s ≡ 5) ⊎ (s ≡ 6) ⊎ (s ≡ 
 -- and of a repair
 abbrev pub IsLentRepairStatus : ℕ → Type 0
 IsLentRepairStatus s = (s ≡ 0) ⊎ (s ≡ 3) ⊎ (s ≡ 5) ⊎ (s ≡ 6) ⊎ (s ≡ 10)
+
+-- and of a check
+abbrev pub IsLentCheckStatus : ℕ → Type 0
+IsLentCheckStatus s = (s ≡ 0) ⊎ (s ≡ 5) ⊎ (s ≡ 6) ⊎ (s ≡ 10)
+
+-- and of a collection
+abbrev pub IsLentCollectStatus : ℕ → Type 0
+IsLentCollectStatus s = (s ≡ 0) ⊎ (s ≡ 5) ⊎ (s ≡ 6) ⊎ (s ≡ 10)
 
 -- what a run of a form leaves by its status: `old` was the image and `new` is, and these bytes of replies were written
 abbrev pub LeavesMemory : Form → (old input : List ℕ) → (status : ℕ) → (new replies : List ℕ) → Type 0
@@ -40,3 +50,22 @@ pub record RepairsInMemory (old : List ℕ) (status written : ℕ) (new room : L
   pub within : written ≤ length room
   pub full : status ≡ 5 → written ≡ length room
   pub told : status ≢ 10 → Repairs status old new (Some []) (Some (take written room))
+
+-- the same of a check, behind which the image is as it was
+pub record ChecksInMemory (old : List ℕ) (status written : ℕ) (new room : List ℕ) : Type 0 where
+  pub only : IsLentCheckStatus status
+  pub size : (status ≢ 10) ↔ IsImageLength (length old)
+  pub same : new ≡ old
+  pub stays : status ≡ 10 → written ≡ 0
+  pub within : written ≤ length room
+  pub full : status ≡ 5 → written ≡ length room
+  pub told : status ≢ 10 → Checks status old (Some []) (Some (take written room))
+
+-- the same of a collection
+pub record CollectsInMemory (old : List ℕ) (status written : ℕ) (new room : List ℕ) : Type 0 where
+  pub only : IsLentCollectStatus status
+  pub size : (status ≢ 10) ↔ IsImageLength (length old)
+  pub stays : status ≡ 10 → (new ≡ old) × (written ≡ 0)
+  pub within : written ≤ length room
+  pub full : status ≡ 5 → written ≡ length room
+  pub told : status ≢ 10 → Collects status old new (Some []) (Some (take written room))

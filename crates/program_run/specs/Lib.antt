@@ -1,1 +1,1 @@
-pub mod Repairs
+pub mod Upkeep

@@ -1,4 +1,4 @@
-//! What a program over an image makes of its words: which image and input they name, and a run or a repair on a flash.
+//! What a program over an image makes of its words: which image and input they name, and a run or upkeep on a flash.
 #![tactic(auto)]
 
 mod calling;
@@ -7,4 +7,4 @@ mod naming;
 
 pub use calling::carry_out;
 pub use failure::Failure;
-pub use naming::{Named, names, words};
+pub use naming::{Named, Upkeep, names, upkeep_of, words};

@@ -2,9 +2,9 @@
 
 #![tactic(auto)]
 
-ghost use Rattle.std.specs.Prelude.{◌≡◌, ◌↔◌, None, IfErr, false};
+ghost use Rattle.std.specs.Prelude.{◌≡◌, ◌↔◌, None, IfErr};
 ghost use Rattle.run_words.specs.Words.{form_of};
-ghost use Rattle.program_run.specs.Repairs.{is_repair};
+ghost use Rattle.program_run.specs.Upkeep.{upkeep_named, upkeep_of};
 ghost use Rattle.program_run.specs.declared.failure.Failure.TheVariants.{Memory};
 
 use crate::failure::Failure;
@@ -12,6 +12,17 @@ use run_words::{Form, form};
 use std::env;
 use std::env::Env;
 use std::io::ErrorKind;
+
+/// What is done to an image that is no run on it.
+#[derive(Clone, Copy, PartialEq, Eq, Debug)]
+pub enum Upkeep {
+    /// It is put right.
+    Repair,
+    /// It is told what a repair would put right.
+    Check,
+    /// What a collection takes is erased.
+    Collect,
+}
 
 /// What words name: an image, and an input. `-` is standard input, and stands for none, too.
 #[derive(Drop)]
@@ -41,9 +52,9 @@ pub fn words<R: Env + AllocGlobal>(rt: &R) -> Result<Vec<String>, Failure>
     Ok(words)
 }
 
-/// What the words of a form, or of a repair, name. Words of no form name nothing.
+/// What the words of a form, or of upkeep, name. Words of no form name nothing.
 pub fn names(words: &[String]) -> Option<Named<'_>>
-    ensures none { (result ≡ None) ↔ ((form_of words.now ≡ None) × (is_repair words.now ≡ false)) }
+    ensures none { (result ≡ None) ↔ ((form_of words.now ≡ None) × (upkeep_of words.now ≡ None)) }
 {
     match (form(words), words) {
         (Some(Form::Run | Form::Serve), [_, image, input]) => Some(Named {
@@ -51,7 +62,7 @@ pub fn names(words: &[String]) -> Option<Named<'_>>
             input: input.as_str(),
         }),
         (Some(_), [_, image, ..]) => Some(alone(image)),
-        (None, [_, image]) if is_repair(words) => Some(alone(image)),
+        (None, [_, image]) if upkeep_of(words).is_some() => Some(alone(image)),
         _ => None,
     }
 }
@@ -64,12 +75,27 @@ fn alone(image: &String) -> Named<'_> {
     }
 }
 
-/// Whether the words are `repair IMAGE`.
-pub fn is_repair(words: &[String]) -> bool
-    ensures { result ≡ is_repair words.now }
+/// The upkeep that the words ask for: `repair IMAGE`, `check IMAGE` or `collect IMAGE`.
+pub fn upkeep_of(words: &[String]) -> Option<Upkeep>
+    ensures { result ≡ upkeep_of words.now }
 {
     match words {
-        [word, _] => word.as_bytes() == b"repair".as_slice(),
-        _ => false,
+        [word, _] => upkeep_named(word.as_bytes()),
+        _ => None,
     }
+}
+
+fn upkeep_named(name: &[u8]) -> Option<Upkeep>
+    ensures { result ≡ upkeep_named name.now }
+{
+    if name == b"repair".as_slice() {
+        return Some(Upkeep::Repair);
+    }
+    if name == b"check".as_slice() {
+        return Some(Upkeep::Check);
+    }
+    if name == b"collect".as_slice() {
+        return Some(Upkeep::Collect);
+    }
+    None
 }

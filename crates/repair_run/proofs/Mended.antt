@@ -14,12 +14,13 @@ use Rattle.coffee_volume.specs.Cuts.{MendsToFiles}
 use Rattle.coffee_volume.specs.Mounting.{HasEach, HasOnly, mounted_state}
 use Rattle.db_model.specs.Database.{Database}
 use Rattle.sound_image.specs.Images.{IsFirstBroken, IsSound, base, files_of_image}
-use Rattle.sound_image.specs.Mending.{ImageMendsTo}
+use Rattle.sound_image.specs.Mending.{ImageReadsAs}
 use Rattle.sound_image.proofs.Mounted.{mounted_files}
 use Rattle.sound_image.proofs.OneBase.{one_base, own_files, sound_base, sound_is, table_mends}
 use Rattle.stored.specs.Mended.{mended_base}
 use Rattle.stored.specs.Sound.{BreaksFirst, IsSoundTable}
-use Rattle.repair_run.specs.Repairs.{IsMendable, Leaves, Repairs, database_in, status_after}
+use Rattle.repair_run.specs.Findings.{IsMendable}
+use Rattle.repair_run.specs.Repairs.{Leaves, Repairs, database_in, status_after}
 use Rattle.repair_run.specs.declared.came.Came.{Came}
 use Rattle.repair_run.specs.declared.came.Came.TheVariants.{Sound, Repaired, Strange}
 use Rattle.repair_run.specs.declared.came.Hindrance.{Hindrance}
@@ -45,7 +46,7 @@ left_hindered old new came why unsound mendable is = subst (Leaves old new) (sym
     by_reason (Unsettled bad) = (unsound, mendable)
     by_reason Failed = inr (unsound, mendable)
 
-mended_files_base : (old new : List ℕ) → IsMended old new → ImageMendsTo old (λ mended. mended ≡ database_in new)
+mended_files_base : (old new : List ℕ) → IsMended old new → ImageReadsAs old (λ mended. mended ≡ database_in new)
 mended_files_base old new m = record { files = files_of_image new; mends_to = table_mends old new m.files m.mends m.kept m.only; is = refl }
 
 -- a sound image stands for the database that its files mend to
@@ -95,7 +96,7 @@ volume_base old new before after sectors size is kept sound each only =
 
 -- ---- laws
 
-left_there : (old new : List ℕ) (came : Result Came Hindrance) (db : Database) (sectors : ℕ) → length old ≡ 4096 * sectors → ImageMendsTo old (λ mended. mended ≡ db)
+left_there : (old new : List ℕ) (came : Result Came Hindrance) (db : Database) (sectors : ℕ) → length old ≡ 4096 * sectors → ImageReadsAs old (λ mended. mended ≡ db)
     → Leaves old new came → 0 ≡ status_after came → IsSound new × (base new ≡ db)
 left_there old new (Ok Sound) db sectors size m l e =
     let same : new ≡ old = l.1 in
@@ -108,13 +109,13 @@ left_there old new (Err (Spaceless need)) db sectors size m l e = absurd (omega 
 left_there old new (Err (Unsettled bad)) db sectors size m l e = absurd (omega (arith, e))
 left_there old new (Err Failed) db sectors size m l e = absurd (omega (arith, e))
 
-pub repaired_base : (old new : List ℕ) (held now : Option (List ℕ)) (db : Database) (sectors : ℕ) → length old ≡ 4096 * sectors → ImageMendsTo old (λ mended. mended ≡ db)
+pub repaired_base : (old new : List ℕ) (held now : Option (List ℕ)) (db : Database) (sectors : ℕ) → length old ≡ 4096 * sectors → ImageReadsAs old (λ mended. mended ≡ db)
     → Repairs 0 old new held now → IsSound new × (base new ≡ db)
 repaired_base old new held now db sectors size m r = ⊎_elim
     (λ (all : (0 ≡ status_after r.came) × _). left_there old new r.came db sectors size m r.leaves all.0)
     (λ (less : (0 ≡ 5) × _). absurd (let five : 0 ≡ 5 = less.0 in omega (arith, five)))
     r.says
 
-pub mended_is : (old new : List ℕ) (db : Database) (sectors : ℕ) → length old ≡ 4096 * sectors → ImageMendsTo old (λ mended. mended ≡ db) → IsMended old new → database_in new ≡ db
+pub mended_is : (old new : List ℕ) (db : Database) (sectors : ℕ) → length old ≡ 4096 * sectors → ImageReadsAs old (λ mended. mended ≡ db) → IsMended old new → database_in new ≡ db
 mended_is old new db sectors size m is =
     one_base old (files_of_image new) m.files sectors size (table_mends old new is.files is.mends is.kept is.only) m.mends_to ∙ m.is

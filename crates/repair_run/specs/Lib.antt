@@ -1,1 +1,4 @@
+pub mod Checks
+pub mod Findings
 pub mod Repairs
+pub mod Rooms

@@ -1,9 +1,6 @@
 -- What a repair leaves of an image, and what it says of it.
-use Rattle.std.specs.Prelude.{◌≡◌, ◌⊎◌, ℕ, List, [], ◌++◌, Option, None, Result, Ok, Err, codes}
+use Rattle.std.specs.Prelude.{◌≡◌, ◌⊎◌, ℕ, List, [], ◌++◌, Option, Result, Ok, Err, codes}
 use Rattle.std.specs.Io.KnownBytes.{append_known}
-use Rattle.coffee_cuts.specs.Cuts.{MendsTo}
-use Rattle.coffee_layout.specs.Files.{NamedFile}
-use Rattle.coffee_layout.specs.Rules.{broken_image}
 use Rattle.coffee_layout.specs.declared.unit.BadImage.{BadImage}
 use Rattle.db_model.specs.Database.{Database}
 use Rattle.db_model.specs.ReplyText.{line, refusal_text}
@@ -11,10 +8,11 @@ use Rattle.db_model.specs.declared.refusals.Refusal.TheVariants as no
 use Rattle.reply_text.specs.WroteLess.{WroteLess}
 use Rattle.run_model.specs.Runs.{image_line}
 use Rattle.sound_image.specs.Images.{IsFirstBroken, IsSound, base, files_of_image}
-use Rattle.sound_image.specs.Mending.{ImageMendsTo}
+use Rattle.sound_image.specs.Mending.{ImageReadsAs}
 use Rattle.stored.specs.Mended.{mended_base}
 use Rattle.stored_mend.specs.Report.{report_text}
 use Rattle.stored_mend.specs.declared.report.Mended.{Mended}
+use Rattle.repair_run.specs.Findings.{IsMendable}
 use Rattle.repair_run.specs.declared.came.Came.{Came}
 use Rattle.repair_run.specs.declared.came.Came.TheVariants.{Sound, Repaired, Strange}
 use Rattle.repair_run.specs.declared.came.Hindrance.{Hindrance}
@@ -43,10 +41,6 @@ abbrev pub IsSaid : (status : ℕ) → List Mended → Result Came Hindrance →
 IsSaid status mended came held now =
     ((status ≡ status_after came) × (now ≡ append_known held (said mended came))) ⊎ ((status ≡ 5) × WroteLess held now (said mended came))
 
--- the files of an image are sound, or they are where what a cut left is settled
-abbrev pub IsMendable : List ℕ → Type 0
-IsMendable image = (broken_image image ≡ None) ⊎ ((files : List NamedFile) × MendsTo image files)
-
 -- no cut leaves an image so: it is as it was, and this is its first broken rule
 pub record IsLeftStrange (old new : List ℕ) (bad : BadImage) : Type 0 where
   pub same : new ≡ old
@@ -57,7 +51,7 @@ pub record IsLeftStrange (old new : List ℕ) (bad : BadImage) : Type 0 where
 -- not sound, and its files can be put right
 abbrev pub Leaves : (old new : List ℕ) → Result Came Hindrance → Type 0
 Leaves old new (Ok Sound) = IsSound old × (new ≡ old)
-Leaves old new (Ok Repaired) = (IsSound old → ⊥) × IsMendable old × IsSound new × ImageMendsTo old (λ db. base new ≡ db)
+Leaves old new (Ok Repaired) = (IsSound old → ⊥) × IsMendable old × IsSound new × ImageReadsAs old (λ db. base new ≡ db)
 Leaves old new (Ok (Strange bad)) = IsLeftStrange old new bad
 Leaves old new (Err (Spaceless need)) = (IsSound old → ⊥) × IsMendable old
 Leaves old new (Err (Unsettled bad)) = (IsSound old → ⊥) × IsMendable old

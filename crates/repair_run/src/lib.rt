@@ -1,7 +1,9 @@
-//! Puts right an image of a flash that a power cut left.
+//! Puts right an image of a flash that a power cut left, or tells by reading alone what that would come to.
 #![tactic(auto)]
 
 mod came;
+mod checking;
+mod finding;
 mod judging;
 mod laws;
 mod lines;
@@ -9,7 +11,9 @@ mod mending;
 mod repairing;
 mod room;
 mod surveying;
+mod verdicts;
 
+pub use checking::check;
 pub use judging::judge_image;
 pub use laws::repaired_images_stand_for_what_they_mended_to;
 pub use repairing::repair;

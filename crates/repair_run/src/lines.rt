@@ -66,8 +66,8 @@ fn write_repaired<K: Sink>(out: &mut K, report: &Report) -> Result<(), Failed>
     write_all(out, b"repaired\n")
 }
 
-// The line of an image that is not sound.
-fn write_broken<K: Sink>(out: &mut K, bad: BadImage) -> Result<(), Failed>
+/// Writes the line of an image that is not sound.
+pub fn write_broken<K: Sink>(out: &mut K, bad: BadImage) -> Result<(), Failed>
     ensures written { let all = image_line bad.rule bad.place in
         OnOk result (K.held out.new ≡ append_known (K.held out.old) all) }
     ensures failed { let all = image_line bad.rule bad.place in

@@ -1,20 +1,21 @@
-ghost use Rattle.std.specs.Prelude.{◌≡◌, ◌≤◌, Err, IfSome, IsTrue, List, OnOk, length, ℕ};
+ghost use Rattle.std.specs.Prelude.{◌≡◌, ◌≤◌, Err, IsTrue, OnOk, length};
 ghost use Rattle.afl_base.specs.Causes.{Rose};
-ghost use Rattle.coffee_find.specs.Found.{IsCutBy, IsJudged, IsJudgedInside, IsTroubleInside};
+ghost use Rattle.coffee_find.specs.Found.{IsCutBy, IsTroubleInside};
 ghost use Rattle.coffee_mend.specs.Mended.{IsMended};
+ghost use Rattle.repair_run.specs.Findings.{IsMendable};
 ghost use Rattle.repair_run.specs.Repairs.{IsRepairStatus, Leaves, Repairs};
+ghost use Rattle.sound_image.specs.Images.{IsSound};
 ghost use Rattle.repair_run.specs.declared.came.Hindrance.TheVariants.{Failed as FaultOfFlash};
 
 use crate::came::{Came, Hindrance};
+use crate::finding::{Finding, find_out};
 use crate::judging::judge_image;
 use crate::lines::say;
 use crate::mending::mend_image;
-use crate::surveying::survey_image;
 use afl_base::{Flash, Sink};
-use coffee_find::{Judgement, Trouble, UnderWay, cut_images_mend, judge};
+use coffee_find::Trouble;
 use coffee_layout::BadImage;
 use coffee_mend::{MendError, mend};
-use sound_image::sound_image_breaks_no_rule;
 use stored_mend::Report;
 
 /// Puts an image right that a power cut left, and answers the status that the program ends with.
@@ -40,45 +41,41 @@ pub fn repair<F: Flash, K: Sink>(out: &mut K, flash: &mut F) -> u8
     say(out, &report, came)
 }
 
-// What a repair comes to. What is wrong is found by reading alone, before anything is written; the files are put right
-// first, and then the database in them.
+// What a repair comes to. What is wrong is found by reading alone, before anything is written.
 fn put_right<F: Flash>(flash: &mut F, report: &mut Report) -> Result<Came, Hindrance>
     ensures leaves { IsTrue F.tells → Leaves (F.image flash.old) (F.image flash.new) result }
     ensures size { length (F.image flash.new) ≡ length (F.image flash.old) }
     ensures lent { F.lent flash.new ≡ F.lent flash.old }
     ensures cause { result ≡ Err FaultOfFlash → Rose (F.faults flash.old) (F.faults flash.new) }
 {
-    sound_image_breaks_no_rule();
-    cut_images_mend();
-    let Err(bad) = judge_image(flash)? else {
-        return Ok(Came::Sound);
-    };
-    let Some(trouble) = trouble_of(judge(flash)?) else {
-        return Ok(Came::Strange(bad));
-    };
-    if !survey_image(flash, &trouble)? {
-        return Ok(Came::Strange(bad));
+    match find_out(flash)? {
+        Finding::Sound => Ok(Came::Sound),
+        Finding::Strange(bad) => Ok(Came::Strange(bad)),
+        Finding::Cut { trouble, bad } => put_cut_right(flash, &trouble, bad, report),
     }
-    mend_files(flash, &trouble, bad)?;
+}
+
+// Puts an image right of whose files a cut left this, and which breaks this rule first: first the files, and then the
+// database in them.
+fn put_cut_right<F: Flash>(
+    flash: &mut F,
+    trouble: &Trouble,
+    bad: BadImage,
+    report: &mut Report,
+) -> Result<Came, Hindrance>
+    requires inside { IsTroubleInside (length (F.image flash.old)) trouble.now }
+    ensures leaves { IsTrue F.tells → (IsSound (F.image flash.old) → ⊥)
+        → IsCutBy (F.image flash.old) trouble.now → IsMendable (F.image flash.old)
+        → Leaves (F.image flash.old) (F.image flash.new) result }
+    ensures size { length (F.image flash.new) ≡ length (F.image flash.old) }
+    ensures lent { F.lent flash.new ≡ F.lent flash.old }
+    ensures cause { result ≡ Err FaultOfFlash → Rose (F.faults flash.old) (F.faults flash.new) }
+{
+    mend_files(flash, trouble, bad)?;
     mend_image(flash, report)?;
     match judge_image(flash)? {
         Ok(()) => Ok(Came::Repaired),
         Err(bad) => Err(Hindrance::Unsettled(bad)),
-    }
-}
-
-// What a cut left of the files: nothing where they are sound. None where no cut leaves such files.
-fn trouble_of(judgement: Judgement) -> Option<Trouble>
-    ensures cut { IfSome result (λ t. (image : List ℕ) → IsJudged image judgement → IsCutBy image t) }
-    ensures inside { IfSome result (λ t. (size : ℕ) → IsJudgedInside size judgement → IsTroubleInside size t) }
-{
-    match judgement {
-        Judgement::Sound => Some(Trouble {
-            under_way: UnderWay::Nothing,
-            torn: None,
-        }),
-        Judgement::Cut(trouble) => Some(trouble),
-        Judgement::Strange(_) => None,
     }
 }
 

@@ -1,4 +1,5 @@
 ghost use Rattle.std.specs.Prelude.{◌≡◌, ℕ, ◌+◌, ◌≤◌, Some, length};
+ghost use Rattle.afl_base.specs.Causes.{HasCause};
 ghost use Rattle.afl_base.specs.Keeping.{OnlyReads};
 ghost use Rattle.coffee_find.specs.Found.{HasRecord, IsTroubleInside};
 
@@ -8,13 +9,16 @@ use catalog::catalog_file;
 use coffee_find::{TornRecord, Trouble, UnderWay, overlay_of};
 use coffee_volume::{Unlisted, Volume, list};
 use flash_views::{Handed, View};
-use stored_survey::may_be_cut;
+use stored_mend::Report;
+use stored_survey::{foretell, may_be_cut};
 
 /// Whether the database of an image is one that a cut can have left, as it reads once what was found in its files is settled.
 /// Nothing is written, where it fails too.
 pub fn survey_image<F: Flash>(flash: &mut F, trouble: &Trouble) -> Result<bool, Failed>
     requires inside { IsTroubleInside (length (F.image flash.old)) trouble.now }
-    ensures frame { OnlyReads F.image F.lent F.reads F.faults flash.old flash.new result }
+    ensures same { F.image flash.new ≡ F.image flash.old }
+    ensures lent { F.lent flash.new ≡ F.lent flash.old }
+    ensures cause { HasCause (F.faults flash.old) (F.faults flash.new) result }
 {
     let mut surveyed = Err(Failed);
     let _handed = survey_settled(Handed { flash }, trouble, &mut surveyed);
@@ -25,13 +29,66 @@ pub fn survey_image<F: Flash>(flash: &mut F, trouble: &Trouble) -> Result<bool, 
 #[inline(never)]
 fn survey_settled<F: Flash>(flash: F, trouble: &Trouble, surveyed: &mut Result<bool, Failed>) -> F
     requires inside { IsTroubleInside (length (F.image flash)) trouble.now }
-    ensures frame { OnlyReads F.image F.lent F.reads F.faults flash result surveyed.new }
+    ensures same { F.image result ≡ F.image flash }
+    ensures lent { F.lent result ≡ F.lent flash }
+    ensures cause { HasCause (F.faults flash) (F.faults result) surveyed.new }
 {
     let overlay = overlay_of(&trouble.under_way, torn_place(&trouble.torn));
     let erased = erased_sector(&trouble.under_way);
     let mut view = View::new(flash, overlay);
     *surveyed = survey_view(&mut view, erased);
     view.into_flash()
+}
+
+/// Adds to a report what a repair would put right in the database of an image, of which `survey_image` tells that a cut can
+/// have left it. Nothing is written, where it fails too.
+pub fn foretell_image<F: Flash>(
+    flash: &mut F,
+    trouble: &Trouble,
+    report: &mut Report,
+) -> Result<(), Failed>
+    requires inside { IsTroubleInside (length (F.image flash.old)) trouble.now }
+    ensures same { F.image flash.new ≡ F.image flash.old }
+    ensures lent { F.lent flash.new ≡ F.lent flash.old }
+    ensures cause { HasCause (F.faults flash.old) (F.faults flash.new) result }
+{
+    let mut foretold = Err(Failed);
+    let _handed = foretell_settled(Handed { flash }, trouble, report, &mut foretold);
+    foretold
+}
+
+// The same through a view.
+#[inline(never)]
+fn foretell_settled<F: Flash>(
+    flash: F,
+    trouble: &Trouble,
+    report: &mut Report,
+    foretold: &mut Result<(), Failed>,
+) -> F
+    requires inside { IsTroubleInside (length (F.image flash)) trouble.now }
+    ensures same { F.image result ≡ F.image flash }
+    ensures lent { F.lent result ≡ F.lent flash }
+    ensures cause { HasCause (F.faults flash) (F.faults result) foretold.new }
+{
+    let overlay = overlay_of(&trouble.under_way, torn_place(&trouble.torn));
+    let mut view = View::new(flash, overlay);
+    *foretold = foretell_view(&mut view, report);
+    view.into_flash()
+}
+
+// The same of an image as it reads now.
+fn foretell_view<F: Flash>(flash: &mut F, report: &mut Report) -> Result<(), Failed>
+    ensures same { F.image flash.new ≡ F.image flash.old }
+    ensures lent { F.lent flash.new ≡ F.lent flash.old }
+    ensures cause { HasCause (F.faults flash.old) (F.faults flash.new) result }
+{
+    let listed = match list(flash) {
+        Ok(listed) => listed,
+        Err(Unlisted::Bad(_)) => return Ok(()),
+        Err(Unlisted::Failed) => return Err(Failed),
+    };
+    let mut volume = Volume::over(Handed { flash }, listed);
+    foretell(&mut volume, report)
 }
 
 // Where the torn record begins.
@@ -54,7 +111,9 @@ fn erased_sector(under_way: &UnderWay) -> Option<SectorId> {
 
 // The same of an image as it reads now. Where there is no catalog, a sector is erased only for one that finds no free pages.
 fn survey_view<F: Flash>(flash: &mut F, erased: Option<SectorId>) -> Result<bool, Failed>
-    ensures frame { OnlyReads F.image F.lent F.reads F.faults flash.old flash.new result }
+    ensures same { F.image flash.new ≡ F.image flash.old }
+    ensures lent { F.lent flash.new ≡ F.lent flash.old }
+    ensures cause { HasCause (F.faults flash.old) (F.faults flash.new) result }
 {
     let surveyed = survey_files(flash)?;
     match (surveyed, erased) {
@@ -78,7 +137,9 @@ enum Surveyed {
 }
 
 fn survey_files<F: Flash>(flash: &mut F) -> Result<Surveyed, Failed>
-    ensures frame { OnlyReads F.image F.lent F.reads F.faults flash.old flash.new result }
+    ensures same { F.image flash.new ≡ F.image flash.old }
+    ensures lent { F.lent flash.new ≡ F.lent flash.old }
+    ensures cause { HasCause (F.faults flash.old) (F.faults flash.new) result }
 {
     let listed = match list(flash) {
         Ok(listed) => listed,

@@ -4,9 +4,9 @@
 ghost use Rattle.std.specs.Prelude.{[]};
 ghost use Rattle.space_plan.specs.declared.further.FurtherRows.TheVariants.{Each};
 ghost use Rattle.run_words.specs.declared.words.Form.TheVariants as Form;
-ghost use Rattle.lent.specs.Memory.{RepairsInMemory, RunsInMemory};
+ghost use Rattle.lent.specs.Memory.{ChecksInMemory, CollectsInMemory, RepairsInMemory, RunsInMemory};
 
-use lent::{Ended, repair_lent, run_lent};
+use lent::{Ended, check_lent, collect_lent, repair_lent, run_lent};
 use run_words::Form;
 use space_plan::FurtherRows;
 
@@ -52,10 +52,26 @@ pub extern "C" fn sorachest_look(image: &mut [u8], replies: &mut [u8]) -> Ended
     run_lent(Form::Look, image, b"", replies)
 }
 
+/// Tells what a repair would put right.
+#[unsafe(no_mangle)]
+pub extern "C" fn sorachest_check(image: &mut [u8], replies: &mut [u8]) -> Ended
+    ensures { ChecksInMemory image.old result.status result.written image.new replies.new }
+{
+    check_lent(image, replies)
+}
+
 /// Puts right what a power cut left.
 #[unsafe(no_mangle)]
 pub extern "C" fn sorachest_repair(image: &mut [u8], replies: &mut [u8]) -> Ended
     ensures { RepairsInMemory image.old result.status result.written image.new replies.new }
 {
     repair_lent(image, replies)
+}
+
+/// Erases what a collection takes.
+#[unsafe(no_mangle)]
+pub extern "C" fn sorachest_collect(image: &mut [u8], replies: &mut [u8]) -> Ended
+    ensures { CollectsInMemory image.old result.status result.written image.new replies.new }
+{
+    collect_lent(image, replies)
 }

@@ -13,7 +13,7 @@ invariant-loop-done g l = record {
   reads : g.F.Flash.reads l.flash ≤ g.F.Flash.reads l.fn.flash + pages_touched l.place l.done;
   later : g.F.Flash.reads l.fn.flash ≤ g.F.Flash.reads l.flash;
   counted : min (g.F.Flash.reads l.fn.flash + pages_touched l.place l.done) (2 ^ 64 - 1) ≤ g.F.Flash.reads l.flash;
-  faults : g.F.Flash.faults l.fn.flash ≤ g.F.Flash.faults l.flash;
+  faults : g.F.Flash.faults l.flash ≡ g.F.Flash.faults l.fn.flash;
 }
 
 abbrev pub decreases-loop-done : goal.decreases-loop-done

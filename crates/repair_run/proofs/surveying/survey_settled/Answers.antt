@@ -1,4 +1,4 @@
-use Rattle.std.proofs.Common.{◌∙◌, length, arith}
+use Rattle.std.proofs.Common.{◌∙◌, length}
 use Rattle.repair_run.proofs.surveying.survey_settled.Goals as goal
 
 pub new-view-requires : goal.new-view-requires
@@ -10,19 +10,13 @@ pub returns : goal.returns
 returns g c =
     let size = length (g.F.Flash.image c.args.flash) in
     let inside = c.overlay_of-overlay.ensures.inside size c.requires.inside.under_way (c.torn_place.ensures.inside size c.requires.inside.torn) in
-    let frame = c.survey_view.ensures.frame in
-    let image = frame.same ∙ c.new-view.ensures.image in
-    let lent = frame.lent ∙ c.new-view.ensures.lent in
+    let read = c.survey_view.ensures in
+    let image = read.same ∙ c.new-view.ensures.image in
+    let lent = read.lent ∙ c.new-view.ensures.lent in
     let same = c.into_flash.ensures.same c.args.flash c.overlay_of-overlay.result inside image lent in
     let faults = c.into_flash.ensures.faults c.args.flash c.overlay_of-overlay.result inside image lent in
-    let later = frame.later in
-    let before = c.new-view.ensures.reads in
-    let now = c.into_flash.ensures.reads in
     record {
-      frame = record {
-        same = same.image;
-        lent = same.lent;
-        later = omega (arith, later, before, now);
-        cause = rw (← c.new-view.ensures.faults) (rw faults frame.cause);
-      };
+      same = same.image;
+      lent = same.lent;
+      cause = rw (← c.new-view.ensures.faults) (rw faults read.cause);
     }

@@ -1,0 +1,9 @@
+use Rattle.std.proofs.Common.{rules}
+use Rattle.lent.proofs.Memory.{checks}
+use Rattle.lent.proofs.checking.check_lent.Goals as goal
+
+pub returns-clause-told : goal.returns-clause-told
+returns-clause-told c = λ n.
+    let ran = c.check_handed-status in
+    checks ran.result c.new-out.result.bytes.now ran.new.out.count
+    ran.ensures.told c.new-flash.ensures.bytes c.new-out.ensures.count (search rules)
