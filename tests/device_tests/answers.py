@@ -1,4 +1,6 @@
 """Boards that answer as the program for Linux does, and leave the same bytes."""
+from random_scripts import script
+
 from .common import EXAMPLES, MAIN, SECTOR, Pair, boot, build, chip_of, examples, linux, processors, read, same, write
 
 
@@ -10,7 +12,7 @@ def test_a_board_answers_as_linux_does():
             replies = both.do("run", "-", script=read(f"{EXAMPLES}/{name}.aql"))
             if name == examples()[0]:
                 same(replies, read(f"{EXAMPLES}/{name}.expected"), f"the replies to {name}")
-        for words in (("plan", "100"), ("plan", "readings=100"), ("plan", "none=1"), ("dump",), ("look",), ("repair",)):
+        for words in (("plan", "100"), ("plan", "readings=100"), ("plan", "none=1"), ("dump",), ("look",), ("check",), ("repair",), ("collect",)):
             both.do(*words)
 
 
@@ -46,9 +48,20 @@ def test_generated_commands_collect_the_same_sectors():
 
 def test_generated_commands_leave_the_same_bytes_on_a_microcontroller():
     board = build(processors(("thumbv7em",))[0])
-    for seed in range(20, 32):
+    for seed in range(20, 60):
         both = Pair(board)
-        both.do("gen", str(seed), str(40 * (seed - 19)))
+        both.do("gen", str(seed), str(6 * (seed - 19)))
+
+
+def test_random_scripts_leave_the_same_bytes_on_a_microcontroller():
+    board, lines = build(processors(("thumbv7em",))[0]), 0
+    for seed in range(40):
+        # eight scripts one behind another on one chip
+        if seed % 8 == 0:
+            both = Pair(board)
+        lines += both.do("run", "-", script=script(seed, 100).encode()).count(b"\n")
+    print(f"{lines} lines of 40 random scripts were the same")
+    same(lines > 40 * 100, True, f"that {lines} lines are many")
 
 
 def refuses(processor):
@@ -60,7 +73,7 @@ def refuses(processor):
     image[9] = 1
     write("image", image)
     chip_of(image, processor)
-    for words in (("run", "-"), ("dump",), ("repair",)):
+    for words in (("run", "-"), ("dump",), ("check",), ("repair",), ("collect",)):
         same(both.do(*words, status=6), b"no image 1 0\n", f"{words}")
 
 

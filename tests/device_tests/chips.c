@@ -18,7 +18,7 @@
 
 enum { SECTORS = 8, SECTOR = 4096, SIZE = SECTORS * SECTOR, ROWS = 60 };
 
-enum kind { WELL, PROTECTED, NEVER_READY, STRANGE_STATUS, STUCK_AT_0, STUCK_AT_1, NOISE, NO_ERASE, NO_PROGRAM, HALF, HALF_DEAD, GONE, KINDS };
+enum kind { WELL, PROTECTED, NEVER_READY, STRANGE_STATUS, STUCK_AT_0, STUCK_AT_1, NOISE, NO_ERASE, NO_PROGRAM, HALF, DENIED, HALF_DEAD, GONE, KINDS };
 
 // Whether each row that was acknowledged has to be there when the chip is well again. What a chip gives wrongly when it is read
 // cannot be told from what it holds, so of such chips only is wanted that the program ends.
@@ -36,6 +36,7 @@ static const struct {
     {"erase says done and did nothing", 1},
     {"program says done and did nothing", 1},
     {"half is done, and says so", 1},
+    {"all is done, and says that it failed", 1},
     {"one half of the chip is dead", 1},
     {"gone", 1},
 };
@@ -117,7 +118,7 @@ static int exchange(void *context, const uint8_t *head, size_t head_count, const
         case 0x20: if (may_write) erase_cells(at); may_write = 0; break;
         default: abort();
     }
-    return !(misbehaves(HALF) && (head[0] == 0x02 || head[0] == 0x20));
+    return !((misbehaves(HALF) || misbehaves(DENIED)) && (head[0] == 0x02 || head[0] == 0x20));
 }
 
 static struct nor chip = {.exchange = exchange, .most_polls = 1000};
@@ -154,7 +155,7 @@ uint32_t bus_get(uintptr_t at) {
 static void changed(uint32_t failed) {
     state = STATUS;
     status = misbehaves(NEVER_READY) ? 0 : misbehaves(PROTECTED) ? 0x00820082 : 0x00800080;
-    if (misbehaves(HALF)) status |= failed;
+    if (misbehaves(HALF) || misbehaves(DENIED)) status |= failed;
     if (misbehaves(HALF_DEAD)) status &= 0xffff;
     if (misbehaves(GONE)) status = 0xffffffff;
 }

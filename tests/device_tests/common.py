@@ -34,7 +34,6 @@ def loaded(name):
 
 
 linux = loaded("program")
-linux.SECONDS = 170
 same, read, write, Skipped = linux.same, linux.read, linux.write, linux.Skipped
 
 

@@ -41,7 +41,7 @@ def test_every_form_fits_into_the_memory_of_a_board():
     for words in measured():
         board, most = build(*words, "measure"), {"stack": 0, "heap": 0}
         runs = [("run", f"{EXAMPLES}/{it}.aql") for it in examples()]
-        runs += [("gen", "7", "100"), ("plan", "100"), ("dump",), ("look",), ("repair",)]
+        runs += [("gen", "7", "100"), ("plan", "100"), ("dump",), ("look",), ("check",), ("repair",), ("collect",)]
         # as many words as a form has
         runs += [("plan", *(f"a2345678901234{it}=32767" for it in range(8)))]
         for form, *given in runs:

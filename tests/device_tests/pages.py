@@ -22,8 +22,10 @@ def test_the_boards_that_the_pages_show_write_what_is_shown():
     for place, page in enumerate(PAGES):
         os.mkdir(str(place))
         os.chdir(str(place))
-        for name in ("port", "examples", "antelope"):
+        for name in ("port", "examples"):
             os.symlink(f"{ROOT}/{name}", name)
+        # the launcher would prove the program in the place of one that was given
+        os.symlink(f"{ROOT}/antelope" if linux.tried.is_proved else linux.tried.program, "antelope")
         shown = shown_boards(page)
         same(len(shown) > 1, True, f"that {page} shows boards")
         for command, lines in shown:

@@ -42,6 +42,8 @@ static void *call(void *none) {
     else if (!strcmp(form, "dump")) ended = sorachest_dump(image, image_length, replies, room);
     else if (!strcmp(form, "plan")) ended = sorachest_plan(image, image_length, rows, replies, room);
     else if (!strcmp(form, "look")) ended = sorachest_look(image, image_length, replies, room);
+    else if (!strcmp(form, "check")) ended = sorachest_check(image, image_length, replies, room);
+    else if (!strcmp(form, "collect")) ended = sorachest_collect(image, image_length, replies, room);
     else if (!strcmp(form, "repair")) ended = sorachest_repair(image, image_length, replies, room);
     else exit(102);
     return NULL;

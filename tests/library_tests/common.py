@@ -77,7 +77,7 @@ def all_forms_beside(call):
     erased("image")
     for name in ("first", "station", "joins", "cursors"):
         same(beside(call, "image", "run", example(name))[0], 0, f"the status of {name}")
-    for words in (["dump"], ["look"], ["plan", "0"], ["plan", "32767"], ["repair"]):
+    for words in (["dump"], ["look"], ["plan", "0"], ["plan", "32767"], ["check"], ["repair"], ["collect"]):
         same(beside(call, "image", *words)[0], 0, f"the status of {words}")
     write("line", b"\1SELECT MAX(celsius) FROM readings\xc0\2FETCH 1\xc0\7\xc0\3SELECT\xc0unfinished")
     same(beside(call, "image", "serve", "line")[0], 0, "the status of serve")
@@ -97,8 +97,9 @@ def not_sound(call):
     image[1583:1585] = b"\x1e\0"
     write("cut", image)
     same(beside(call, "cut", "run", example("first"))[0], 6, "the status over an image that was cut")
-    same(beside(call, "cut", "repair")[0], 0, "the status of its repair")
+    same(beside(call, "cut", "check"), (0, b"row of readings taken back\nto be repaired\n"), "what a check foretells")
+    same(beside(call, "cut", "repair"), (0, b"row of readings taken back\nrepaired\n"), "its repair")
     image[9] = 1
     write("cut", image)
-    for form in ("look", "repair"):
+    for form in ("look", "check", "repair", "collect"):
         same(beside(call, "cut", form)[0], 6, f"the status of {form} over an image that is not sound")

@@ -1,10 +1,12 @@
 """The static library, called from C."""
 import os
+import random
 import re
 
 from library_tests.common import (
     ARCHIVE, EXAMPLES, HERE, ROOT, all_forms_beside, beside, ended, erased, example, needs, program, read, same, write,
 )
+from random_scripts import EDGES, broken, broken_line, damaged, script
 
 WARNINGS = ["-std=c11", "-O1", "-g", "-Wall", "-Wextra", "-Werror", f"-I{ROOT}/c"]
 
@@ -33,7 +35,7 @@ def test_every_form_answers_as_the_program_where_each_access_is_watched():
     erased("image", 16)
     for name in ("first", "joins", "cursors"):
         beside(lambda *words: ended([*watch, *words]), "image", "run", example(name))
-    for words in (["dump"], ["look"], ["plan", "100"], ["repair"]):
+    for words in (["dump"], ["look"], ["plan", "100"], ["check"], ["repair"], ["collect"]):
         beside(lambda *given: ended([*watch, *given]), "image", *words)
 
 
@@ -97,9 +99,9 @@ def test_the_example_tells_that_its_replies_were_lost():
 
 
 def test_the_readme_shows_what_the_example_writes():
-    shown = "".join(f"    {it}\n" for it in read(f"{EXAMPLES}/first.expected").decode().splitlines())
+    last = read(f"{EXAMPLES}/first.expected").decode().splitlines()[-1]
     page = read(f"{ROOT}/README.md").decode()
-    same(page.count(f"    $ ./example chip.img <examples/first.aql\n{shown}\n"), 1, "how often it is shown")
+    same(page.count(f"    $ ./example chip.img <examples/first.aql | tail -n 1\n    {last}\n\n"), 1, "how often it is shown")
 
 
 def test_a_room_that_is_full_ends_with_5():
@@ -113,12 +115,57 @@ def test_a_room_that_is_full_ends_with_5():
     same(call("run", "image", example("first"), "34")[0], 5, "the status where the last line is cut off")
 
 
+def test_broken_scripts_are_answered_as_by_the_program():
+    call, replies, statuses = calls(), 0, set()
+    for seed in range(200):
+        write("script", broken(random.Random(seed), script(seed, 40).encode(), EDGES))
+        erased("image", 16)
+        status, wrote = beside(call, "image", "run", "script")
+        statuses.add(status)
+        replies += wrote.count(b"\n")
+    print(f"{replies} lines of broken scripts were the same")
+    same((statuses, replies > 5_000), ({0}, True), f"their statuses, and that {replies} replies are many")
+
+
+def test_broken_frames_are_answered_as_by_the_program():
+    call, kinds = calls(), {b"no frame": 0, b"no long": 0, b"no unfinished": 0, b"ok": 0}
+    for seed in range(200):
+        write("line", broken_line(seed, 40))
+        erased("image", 16)
+        status, wrote = beside(call, "image", "serve", "line")
+        same(status, 0, f"the status of line {seed}")
+        for it in kinds:
+            kinds[it] += wrote.count(it)
+    print(f"of broken frames: {kinds}")
+    same(min(kinds.values()) > 10, True, f"that there are some of each kind: {kinds}")
+
+
+def test_broken_images_are_judged_as_by_the_program():
+    call, refused, repaired = calls(), 0, 0
+    erased("image", 16)
+    write("script", script(1, 300).encode())
+    program("run", "image", "script")
+    was = read("image")
+    for seed in range(120):
+        write("image", damaged(random.Random(seed), was))
+        for words in (["look"], ["dump"], ["plan", "9"], ["check"]):
+            status, _ = beside(call, "image", *words)
+        refused += status == 6
+        status, wrote = beside(call, "image", "repair")
+        repaired += wrote.endswith(b"repaired\n")
+        # what a repair calls sound can be used
+        if status == 0:
+            same(beside(call, "image", "run", "script")[0] in (0, 3), True, f"the status of a run over image {seed}")
+    print(f"of 120 broken images {refused} were refused, and {repaired} repaired")
+    same(min(refused, repaired) > 5, True, f"that {refused} and {repaired} are some")
+
+
 def test_a_length_that_no_image_has_ends_with_10():
     call = calls()
     for length in (0, 4096, 3 * 4096, 4 * 4096 + 1, 4096 * 4096):
         content = b"\1" * length
         write("image", content)
-        for form in ("run", "serve", "dump", "look", "repair"):
+        for form in ("run", "serve", "dump", "look", "check", "repair", "collect"):
             same(call(form, "image", example("first"))[:2], (10, b""), f"{form} over {length} bytes")
         same(call("plan", "image", "1")[:2], (10, b""), f"plan over {length} bytes")
         same(read("image") == content, True, "that it is as it was")
@@ -128,7 +175,7 @@ def test_no_call_takes_more_stack_than_the_header_says():
     call, most = calls(), 0
     for name in ("first", "station", "joins", "cursors"):
         most = max(most, int(re.fullmatch(r"stack (\d+)\n", call("run", "image", example(name))[2])[1]))
-    for words in (["dump", "image"], ["look", "image"], ["plan", "image", "9"], ["repair", "image"]):
+    for words in (["dump", "image"], ["look", "image"], ["plan", "image", "9"], ["check", "image"], ["repair", "image"], ["collect", "image"]):
         most = max(most, int(re.fullmatch(r"stack (\d+)\n", call(*words)[2])[1]))
     print(f"the deepest of these calls took {most} bytes of stack")
     same(most <= 96 * 1024, True, "that 96 KiB were enough")

@@ -34,6 +34,7 @@ static int take(const struct sorachest_config *config, uint32_t sector, uint32_t
     struct chip *chip = chip_of(config);
     must(sector < chip->sectors && at < SECTOR && count > 0 && count <= SECTOR - at, "bytes that are no part of a sector");
     chip->reads++;
+    chip->bytes_read += (long)count;
     if (chip->within) chip->within(chip);
     if (chip->reads_fail) return 5;
     memcpy(into, chip->bytes + (size_t)sector * SECTOR + at, count);

@@ -65,6 +65,10 @@ int main(int words, char **word) {
         status = sorachest_dump(&db, config, print, NULL);
     } else if (!strcmp(word[1], "look")) {
         status = sorachest_look(&db, config, print, NULL);
+    } else if (!strcmp(word[1], "check")) {
+        status = sorachest_check(&db, config, print, NULL);
+    } else if (!strcmp(word[1], "collect")) {
+        status = sorachest_collect(&db, config, print, NULL);
     } else {
         status = sorachest_repair(&db, config, print, NULL);
     }

@@ -318,7 +318,9 @@ static void test_opening_and_looking_write_nothing(void) {
     MUST(sorachest_open(&db, config) == SORACHEST_OK && rows_of(&db, "SELECT k FROM r") == 1);
     MUST(exec("OPEN 1 SELECT k FROM r; FETCH 1") == SORACHEST_OK && sorachest_close(&db) == SORACHEST_OK);
     MUST(sorachest_look(&db, config, NULL, NULL) == SORACHEST_OK && sorachest_dump(&db, config, NULL, NULL) == SORACHEST_OK);
+    MUST(sorachest_check(&db, config, NULL, NULL) == SORACHEST_OK && replies("sound"));
     MUST(sorachest_repair(&db, config, NULL, NULL) == SORACHEST_OK && replies("sound"));
+    MUST(sorachest_collect(&db, config, NULL, NULL) == SORACHEST_OK && replies("sectors erased 0"));
     MUST(chip_of(config)->programs == 0 && chip_of(config)->erases == 0);
     chip_of(config)->bytes[9] = 0xfe; /* no cut leaves this */
     MUST(sorachest_open(&db, config) == SORACHEST_NOT_SOUND && sorachest_repair(&db, config, NULL, NULL) == SORACHEST_NOT_SOUND);
@@ -371,7 +373,9 @@ static void test_arguments_that_are_none(void) {
     struct sorachest_config *well = new_config(8), bad;
 #define REFUSED_WITH(change)                                             \
     (bad = *well, change, sorachest_open(&db, &bad) == SORACHEST_MISUSE && \
-                              sorachest_repair(&db, &bad, NULL, NULL) == SORACHEST_MISUSE)
+                              sorachest_check(&db, &bad, NULL, NULL) == SORACHEST_MISUSE && \
+                              sorachest_repair(&db, &bad, NULL, NULL) == SORACHEST_MISUSE && \
+                              sorachest_collect(&db, &bad, NULL, NULL) == SORACHEST_MISUSE)
     MUST(sorachest_open(&db, NULL) == SORACHEST_MISUSE && sorachest_dump(&db, NULL, NULL, NULL) == SORACHEST_MISUSE);
     MUST(REFUSED_WITH(bad.read = NULL) && REFUSED_WITH(bad.program = NULL) && REFUSED_WITH(bad.erase = NULL));
     MUST(REFUSED_WITH(bad.sectors = 3) && REFUSED_WITH(bad.sectors = 4096) && REFUSED_WITH(bad.memory = NULL));

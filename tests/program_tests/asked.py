@@ -28,7 +28,7 @@ def test_a_strict_run_without_refusals_ends_with_0():
 
 # what the launcher says of replies, from the pages of the language
 NO_RELATION = "no relation: there is no relation of that name"
-NO_COMMAND = "this is no command; it could be one up to the mark"
+NO_COMMAND = "this is not a command: it goes wrong at the mark"
 NO_VALUE = "no value 1: value 1 does not fit its attribute, or there are too few or too many values"
 
 
@@ -54,7 +54,7 @@ def test_a_strict_run_tells_the_refusals():
         (b"PACK n;" + b"x" * 600 + b";PACK m;",
          refusals(2, 3, 2, 1, (2, "no long: a command has at most 512 bytes", "x" * 100), (3, NO_RELATION, "PACK m"))),
         (b"PACK n; PACK n;\n PACK n",
-         refusals(1, 3, 3, 2, (3, "no unfinished: the last command has no ; behind it", "PACK n"))),
+         refusals(1, 3, 3, 2, (3, "no unfinished: the last command does not end with ;", "PACK n"))),
         (b"INSERT (';x') INTO s;\nPACK m;PACK '\n;",
          refusals(2, 3, 2, 2, (2, NO_RELATION, "PACK m"), (3, f"no syntax 4: {NO_COMMAND}", "PACK '", "    ^"))),
         (b"PACK\nn\nx;", refusals(1, 1, 1, 1, (1, f"no syntax 6: {NO_COMMAND}", "n", " ^"))),
@@ -158,7 +158,7 @@ def test_commands_are_asked_as_arguments():
     output = launch(tried.launcher, "ask", "image", "SELECT v FRM n", "SELECT 'v FROM n", "SELECT MAX(v) FROM n")
     said += lines_of(f"command 2: no syntax 6: {NO_COMMAND}") + "    SELECT 'v FROM n\n          ^\n"
     same(output, ("no syntax 8\nno syntax 6\n7\nrows 1\n", said, 11), "refused ones")
-    said = lines_of("no attribute 1: name 1 of the command is no attribute of the relation") + "    SELECT k FROM n\n"
+    said = lines_of("no attribute 1: name 1 of the command is not an attribute of the relation") + "    SELECT k FROM n\n"
     same(launch(tried.launcher, "ask", "image", "SELECT k FROM n"), ("no attribute 1\n", said, 11), "a refused one alone")
     same(launch(tried.launcher, "ask", "image", input=b"SELECT v FROM n;")[::2], ("7\n-1\nrows 2\n", 0), "standard input")
     longest = "SELECT v FROM n" + " " * 497
@@ -268,7 +268,7 @@ def test_a_prompt_tells_why_it_cannot_begin_or_go_on():
     length("image", 4 * 4096)
     insert = "; ".join(["INSERT (1) INTO n"] * 200)
     shown, status = typed("CREATE RELATION n; CREATE ATTRIBUTE v DOMAIN LONG IN n", *[insert] * 5)
-    same((status, "no space 32\nantelope: the flash in image has no room" in shown), (3, True), f"a full flash: {shown[-300:]}")
+    same((status, "no space 32\nantelope: the flash in image is full" in shown), (3, True), f"a full flash: {shown[-300:]}")
     same(run("run", "image", "-", script=b"SELECT COUNT(v) FROM n;"), b"812\nrows 1\n", "the rows")
 
 

@@ -30,7 +30,7 @@ def lines_of(*said):
 
 
 def made(image):
-    return f"{image} was not there and was made"
+    return f"{image} did not exist and was created"
 
 
 RT = """#!/bin/sh

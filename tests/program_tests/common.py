@@ -14,10 +14,11 @@ NEW_IMAGE = bytes(256 * 4096)
 SENSORS = b"CREATE RELATION n; CREATE ATTRIBUTE v DOMAIN INT IN n;"
 RUN = ("run", "image", "-")
 NOT_BUILT = "the program is not built, or older than its sources: it is proved and built first"
-# arguments of no form
+# wrong arguments
 NO_FORM = (
     *("", "run", "run image", "run image - -", "RUN image -", "dump", "dump image -", "look", "look image -"),
     *("LOOK image", "serve image", "fly image -", "repair", "repair image -", "Repair image"),
+    *("check", "check image -", "Check image", "check image n=1"),
     *("gen image 1", "gen image -1 4", "gen image 1 0", "gen image 1 100001", "gen image 4294967296 1"),
     *("gen image 00000000001 1", "gen image 1 0000001", "plan image", "plan image 32768", "plan image 000001"),
     *("plan image n=1 n=2", "plan image n=", "plan image =1", "plan image n=32768", "plan image n=000001"),

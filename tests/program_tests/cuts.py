@@ -1,7 +1,5 @@
 """Cuts at each write of a run over eight relations and eight indexes, and of the repairs behind them; damage that no cut leaves."""
-import subprocess
-
-from .common import read, run, same, tried, write
+from .common import ended, read, run, same, start, write
 from .repairs import calls_of
 
 SIZE = 64 * 4096
@@ -58,17 +56,29 @@ def dumps_of(image, commands):
     return dumps
 
 
+def foretold(image, status=0):
+    """What a repair of an image is to say, by a check, which leaves it."""
+    was = read(image)
+    said = run("check", image, status=status)
+    same(read(image), was, "an image that was checked")
+    return said.replace(b"to be repaired\n", b"repaired\n")
+
+
 def check_repaired(allowed, what):
-    """Repairs the image `cut`, also by repairs that are cut at each of their writes: each leaves one of these databases."""
+    """Repairs the image `cut`, also by repairs that are cut at each of their writes: each says what a check foretold, and leaves one of
+    these databases."""
     cut = read("cut")
+    to_come = foretold("cut")
     last, calls = calls_of("repair", "cut")
+    same(last, to_come, f"{what}: what the repair said")
     if run("dump", "cut") not in allowed:
         raise AssertionError(f"{what}: behind the repair stands another database")
     same(run("repair", "cut"), b"sound\n", f"{what}: a second repair")
     for number, call in enumerate(calls):
         if call[0] == "W":
             write("cut", left_at(cut, calls, number, len(call[2]) // 2 if len(call[2]) > 2 else 0))
-            run("repair", "cut")
+            to_come = foretold("cut")
+            same(run("repair", "cut"), to_come, f"{what}: what a repair said behind one that was cut at call {number}")
             if run("dump", "cut") not in allowed:
                 raise AssertionError(f"{what}: behind a repair that was cut at call {number} stands another database")
     return last != b"sound\n"
@@ -154,12 +164,14 @@ def check_damage(image):
     refused = 0
     for what, now in damaged(image):
         write("damaged", now)
-        ended = subprocess.run([tried.program, "repair", "damaged"], stdout=subprocess.DEVNULL).returncode
-        if ended == 6:
+        status, said = ended(start("repair", "damaged"))
+        write("checked", now)
+        same(foretold("checked", status), said, f"the check of {what}")
+        if status == 6:
             refused += 1
             same(read("damaged"), now, f"what was refused: {what}")
             continue
-        same(ended, 0, f"the status of the repair of {what}")
+        same(status, 0, f"the status of the repair of {what}")
         left = rows_of("damaged")
         same(list(left), list(before), f"the relations: {what}")
         shorter = [name for name in before if left[name] != before[name]]

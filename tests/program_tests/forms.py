@@ -33,6 +33,21 @@ def test_input_that_cannot_be_read_ends_with_2():
     unchanged("image", NEW_IMAGE)
 
 
+def test_streams_that_do_not_block_end_a_run_as_soon_as_it_would_wait():
+    write("script", b"x;" * 50_000)
+    for at, words, status in ((0, ("run", "image", "-"), 2), (1, ("run", "image", "script"), 5)):
+        ends = os.pipe()
+        os.set_blocking(ends[at], False)
+        run(*words, status=status, **{("stdin", "stdout")[at]: ends[at]})
+        for it in ends:
+            os.close(it)
+
+
+def test_a_chip_that_was_read_out_and_not_inverted_has_no_relation():
+    write("image", b"\xff" * len(NEW_IMAGE))
+    same(run("look", "image"), b"flash sectors 256 pages free 0 in files 0 in logs 0 to be collected 4096\n", "what is on it")
+
+
 def test_closed_streams_do_not_reach_the_image():
     write("script", SENSORS + b"SELECT v FROM n;")
     for streams, status in (("<&-", 0), (">&-", 5), ("2>&-", 0), ("<&- >&-", 5), ("<&- >&- 2>&-", 5)):
@@ -42,7 +57,7 @@ def test_closed_streams_do_not_reach_the_image():
 
 
 def test_forms_without_an_input_read_none():
-    for form in ("gen image 1 4", "plan image 100", "dump image", "look image", "repair image"):
+    for form in ("gen image 1 4", "plan image 100", "dump image", "look image", "check image", "repair image", "collect image"):
         words = form.split()
         begun = start(*words)
         # it may have ended by now

@@ -103,7 +103,7 @@ def test_install_of_wrong_words_or_where_it_is_installed_is_refused():
     same(launch("repo/antelope", "install", "here", "really", path=path), ("", said, 1), "another word")
     os.mkdir("installed")
     copy_launcher("installed")
-    said = lines_of("this is installed, and a clone of the repository installs")
+    said = lines_of("this is an installed program: run install in a clone of the repository")
     same(launch("installed/antelope", "install", "here"), ("", said, 125), "an installed launcher")
 
 
@@ -113,7 +113,7 @@ def test_arguments_are_completed():
     write("some.img", b"")
     ask = 'COMP_WORDS=("$@"); COMP_CWORD=$(($# - 1)); _antelope; echo "${COMPREPLY[*]}"'
     for words, wanted in (
-        ("antelope pl", "plan"), ("antelope r", "run repair"), ("antelope try --s", "--strict --sync"),
+        ("antelope pl", "plan"), ("antelope c", "check collect"), ("antelope r", "run repair"), ("antelope try --s", "--strict --sync"),
         ("antelope --strict run so", "some.img"), ("antelope run some.img so", "some.img"), ("antelope dump some.img so", ""),
     ):
         command = ["bash", "-c", f"source '{ROOT}/docs/completions/antelope.bash'; {ask}", "bash", *words.split()]
@@ -129,5 +129,4 @@ def test_the_version_is_the_same_everywhere():
         ("clients/sorachest/__init__.py", r'^__version__ = "(.*)"$'),
         ("c/sorachest.h", r'^#define SORACHEST_VERSION "(.*)"$'),
     ):
-        told = re.findall(known, read(f"{ROOT}/{path}").decode() if os.path.exists(f"{ROOT}/{path}") else "", re.M)
-        same(told, [version] * len(told), f"the version of {path}")
+        same(re.findall(known, read(f"{ROOT}/{path}").decode(), re.M), [version], f"the version of {path}")

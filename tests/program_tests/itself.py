@@ -24,7 +24,7 @@ def test_a_name_of_no_test_is_an_error():
 def test_a_build_is_not_begun_without_a_line():
     path = repository()
     shutil.copytree(f"{ROOT}/tests/program_tests", "repo/tests/program_tests")
-    for name in ("program", "surroundings.py"):
+    for name in ("program", "surroundings.py", "random_scripts.py"):
         shutil.copy(f"{ROOT}/tests/{name}", f"repo/tests/{name}")
     output, said, status = launch("repo/tests/program", "a_comparison_that_fails_marks_what_differs", path=path)
     same((output.splitlines()[0], status), (NOT_BUILT, 0), "its first line and its status")
@@ -34,4 +34,10 @@ def test_a_build_is_not_begun_without_a_line():
 def test_a_name_of_no_row_of_the_bench_is_an_error():
     ended = subprocess.run([f"{ROOT}/bench/run", "nosuchrow"], stdout=subprocess.PIPE, stderr=subprocess.PIPE)
     said = b"there is no nosuchrow; the names are inserts, " in ended.stderr
+    same((ended.returncode, ended.stdout, said), (1, b"", True), "its end")
+
+
+def test_a_name_of_no_life_of_the_bench_is_an_error():
+    ended = subprocess.run([f"{ROOT}/bench/life", "nosuchlife"], stdout=subprocess.PIPE, stderr=subprocess.PIPE)
+    said = b"there is no nosuchlife; the lives are days-3-11, " in ended.stderr
     same((ended.returncode, ended.stdout, said), (1, b"", True), "its end")

@@ -32,44 +32,45 @@ def test_forms_that_write_say_that_they_made_their_image():
 
 
 def test_forms_that_only_read_make_no_image():
-    for words in ("plan typo 0", "plan typo n=1", "dump typo", "look typo", "repair typo", "ask typo SELECT"):
+    for words in ("plan typo 0", "plan typo n=1", "dump typo", "look typo", "check typo", "repair typo", "collect typo", "ask typo SELECT"):
         same(launch(tried.launcher, *words.split()), ("", lines_of("there is no typo"), 7), words)
     files()
     run("run", "image", "-")
-    for words in ("plan image 0", "dump image", "look image", "repair image"):
+    for words in ("plan image 0", "dump image", "look image", "check image"):
         same(launch(tried.launcher, *words.split())[1:], ("", 0), words)
 
 
-# arguments of no form, what is wrong with them, and the form that was meant
+# wrong arguments, what is wrong with them, and the command that was meant
 WRONG = (
     ("run", "IMAGE is missing", "run IMAGE SCRIPT"),
     ("run image", "SCRIPT is missing", "run IMAGE SCRIPT"),
     ("run image - x", "'x' is one argument too many", "run IMAGE SCRIPT"),
     ("serve image", "INPUT is missing", "serve IMAGE INPUT"),
+    ("check image -", "'-' is one argument too many", "check IMAGE"),
     ("repair image -", "'-' is one argument too many", "repair IMAGE"),
     ("plan image", "ROWS is missing", "plan IMAGE ROWS"),
     ("plan image 40000", "40000 rows are too many: ROWS is 0 to 32767", "plan IMAGE ROWS"),
     ("plan image 123456789012345678901234567890", "123456789012345678901234567890 rows are too many: ROWS is 0 to 32767",
      "plan IMAGE ROWS"),
     ("plan image 000001", "000001 has more than 5 digits: ROWS is 0 to 32767", "plan IMAGE ROWS"),
-    ("plan image many", "'many' is no ROWS, which is a number from 0 to 32767", "plan IMAGE ROWS"),
+    ("plan image many", "ROWS must be a number from 0 to 32767, not 'many'", "plan IMAGE ROWS"),
     ("plan image n=32768", "32768 rows are too many: ROWS is 0 to 32767", "plan IMAGE NAME=ROWS .."),
     ("plan image n=", "ROWS is missing: it is a number from 0 to 32767", "plan IMAGE NAME=ROWS .."),
     ("plan image Int=5", "'Int' cannot be the name of a relation", "plan IMAGE NAME=ROWS .."),
     ("plan image 1n=1", "'1n' cannot be the name of a relation", "plan IMAGE NAME=ROWS .."),
     ("plan image n=1 n=2", "n is named twice", "plan IMAGE NAME=ROWS .."),
-    ("plan image n=1 5", "'5' is no NAME=ROWS, such as readings=1000", "plan IMAGE NAME=ROWS .."),
+    ("plan image n=1 5", "'5' is not NAME=ROWS, such as readings=1000", "plan IMAGE NAME=ROWS .."),
     ("plan image a=1 b=1 c=1 d=1 e=1 f=1 g=1 h=1 i=1", "at most eight relations may be named", "plan IMAGE NAME=ROWS .."),
     ("gen image 1 0", "0 is too small: COUNT is 1 to 100000", "gen IMAGE SEED COUNT"),
     ("gen image 1 100001", "100001 commands are too many: COUNT is 1 to 100000", "gen IMAGE SEED COUNT"),
     ("gen image 1 0000001", "0000001 has more than 6 digits: COUNT is 1 to 100000", "gen IMAGE SEED COUNT"),
     ("gen image 4294967296 1", "4294967296 is too large: SEED is 0 to 4294967295", "gen IMAGE SEED COUNT"),
-    ("gen image -1 4", "'-1' is no SEED, which is a number from 0 to 4294967295", "gen IMAGE SEED COUNT"),
+    ("gen image -1 4", "SEED must be a number from 0 to 4294967295, not '-1'", "gen IMAGE SEED COUNT"),
     ("ask", "IMAGE is missing", "ask IMAGE COMMAND .."),
     ("--csv ask", "IMAGE is missing", "ask IMAGE COMMAND .."),
-    ("--csv ask image", "--csv and --header want a COMMAND", "ask IMAGE COMMAND .."),
-    ("--header --strict run image -", "--csv and --header go with ask, and not with run", "run IMAGE SCRIPT"),
-    ("--strict dump image", "--strict goes with run, and not with dump", "dump IMAGE"),
+    ("--csv ask image", "--csv and --header need a COMMAND", "ask IMAGE COMMAND .."),
+    ("--header --strict run image -", "--csv and --header work with ask, not with run", "run IMAGE SCRIPT"),
+    ("--strict dump image", "--strict works with run, not with dump", "dump IMAGE"),
 )
 
 
@@ -90,10 +91,10 @@ def test_what_is_wrong_with_words_of_no_form_is_told():
     path = repository()
     usage = launch("repo/antelope", "help", path=path)[0]
     for words, wrong, form in WRONG:
-        said = lines_of(wrong) + f"usage: antelope {form}\nantelope help prints all forms\n"
+        said = lines_of(wrong) + f"usage: antelope {form}\nantelope help shows all commands\n"
         same(launch("repo/antelope", *words.split(), path=path), ("", said, 1), words)
     for words, wrong in (
-        ("fly image -", "'fly' is no form"), ("RUN image -", "'RUN' is no form"), ("help run", "'help' is no form"),
+        ("fly image -", "there is no command 'fly'"), ("RUN image -", "there is no command 'RUN'"), ("help run", "there is no command 'help'"),
         ("--fast run", "there is no option --fast"), ("--version x", "there is no option --version"),
     ):
         same(launch("repo/antelope", *words.split(), path=path), ("", lines_of(wrong) + usage, 1), words)
@@ -228,9 +229,9 @@ def test_a_try_of_no_form_ends_with_125():
     path = repository()
     write("script", b"SELECT")
     for words, wrong in (
-        ([], "try takes a form, or one argument: a file with a script, or -"),
-        (["no such file"], "'no such file' is neither a form nor a script that can be read"),
-        (["script", "script"], "'script' is no form"),
+        ([], "try takes a command, or one argument: a script file, or -"),
+        (["no such file"], "'no such file' is neither a command nor a readable script"),
+        (["script", "script"], "there is no command 'script'"),
         (["gen", "image", "1", "0"], "0 is too small: COUNT is 1 to 100000"),
     ):
         output, said, status = launch("repo/antelope", "try", *words, path=path)

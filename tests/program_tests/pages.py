@@ -196,9 +196,9 @@ def test_the_loop_that_operating_shows_serves_on_behind_the_limit():
             reply += os.read(near, 100)
         same(reply, b"\00121\nrows 1\n\xc0", "the reply")
     said = begun.communicate()[1].decode()
-    line = "standard input has more than 16,777,216 bytes; the commands that came whole in these were carried out"
+    line = "standard input has more than 16,777,216 bytes; the commands that were complete within these were carried out"
     # that the line was hung up may come as an end, or as a fault
-    hung_up = "standard input could not be read on; station.img is as the commands left it that had come whole"
+    hung_up = "standard input could not be read to its end; station.img is as left by the commands that had arrived whole"
     if said != lines_of(line) + lines_of(hung_up):
         same(said, lines_of(line), "how its runs ended")
     same(begun.returncode, 0, "the status of the loop")

@@ -54,6 +54,51 @@ def test_repair_of_a_strange_image_leaves_it():
         unchanged("strange", image)
 
 
+def test_a_check_reads_alone_and_tells_what_a_repair_would_do():
+    run("run", "image", "-", script=INDEXED + inserts(0, 3))
+    was = read("image")
+    same(run("check", "image", script=b"x"), b"sound\n", "one with rows")
+    unchanged("image", was)
+    image = bytearray(was)
+    # two bytes of a fourth row of five
+    place = image.index(b"T0") - 10 + 32 + 3 * 5
+    image[place:place + 2] = b"\x07\x01"
+    write("image", image)
+    same(run("check", "image"), b"row of n taken back\nto be repaired\n", "what is to come")
+    unchanged("image", image)
+    same(run("check", "image", limit="exec >/dev/full", status=5), b"", "where it cannot be said")
+    unchanged("image", image)
+    image[9] = 1
+    write("image", image)
+    same(run("check", "image", status=6), b"no image 1 0\n", "one that no cut leaves")
+    unchanged("image", image)
+
+
+def test_a_collection_erases_the_sectors_that_hold_only_old_data():
+    run("run", "image", "-", script=b"".join(b"CREATE RELATION %c; " % it for it in b"abcde"))
+    was = read("image")
+    same(run("collect", "image", script=b"x"), b"sectors erased 0\n", "while nothing is old")
+    unchanged("image", was)
+    # CAT has the pages 0 to 5, T0 6 to 21, the log of CAT 22 to 37, and T1 to T4 16 each behind it: of what is removed
+    # the sectors 3 and 4 hold nothing else, and the pages of T1 and T3 in other sectors are isolated
+    run("run", "image", "-", script=b"REMOVE RELATION b; REMOVE RELATION c; REMOVE RELATION d;")
+    was, dumped = bytearray(read("image")), run("dump", "image")
+    same(run("collect", "image", limit="exec >/dev/full", status=5), b"", "where it cannot be said")
+    collected = bytearray(was[:3 * 4096] + bytes(2 * 4096) + was[5 * 4096:])
+    for page in (*range(38, 48), *range(80, 86)):
+        collected[256 * page + 9] |= 34
+    unchanged("image", collected)
+    write("image", was)
+    same(run("collect", "image"), b"sectors erased 2\n", "where two sectors are old")
+    unchanged("image", collected)
+    same((run("dump", "image"), run("collect", "image")), (dumped, b"sectors erased 0\n"), "behind it")
+    # the header of CAT names a log at page 254, where none is
+    was[:] = b"\xff" + was[1:]
+    write("image", was)
+    same(run("collect", "image", status=6), b"no image 8 0\n", "an image that is not sound")
+    unchanged("image", was)
+
+
 def test_a_row_that_was_cut_is_taken_back():
     run("run", "image", "-", script=INDEXED + inserts(0, 3))
     image = bytearray(read("image"))

@@ -93,20 +93,20 @@ def test_a_wrong_length_is_told():
 def test_what_stopped_a_run_is_told():
     run("run", "image", "-", script=SENSORS)
     os.mkdir("folder")
-    whole = "image is as the commands left it that had come whole"
-    told(2, f"folder is a directory, which could not be read on; {whole}", "run", "image", "folder")
+    whole = "image is as left by the commands that had arrived whole"
+    told(2, f"folder is a directory, which could not be read to its end; {whole}", "run", "image", "folder")
     closed = subprocess.run(["sh", "-c", '"$@" <&-', "sh", tried.launcher, *RUN], stderr=subprocess.PIPE)
-    same(closed.stderr.decode(), lines_of(f"standard input could not be read on; {whole}"), "a closed input")
+    same(closed.stderr.decode(), lines_of(f"standard input could not be read to its end; {whole}"), "a closed input")
     needs("/dev/full")
     with open("/dev/full", "wb") as full:
-        line = "standard output could not be written; image is as the commands left it that were carried out"
+        line = "standard output could not be written; image is as left by the commands that were carried out"
         told(5, line, *RUN, input=b"INSERT (1) INTO n;", stdout=full)
-    line = "/dev/zero has more than 16,777,216 bytes; the commands that came whole in these were carried out"
+    line = "/dev/zero has more than 16,777,216 bytes; the commands that were complete within these were carried out"
     told(8, line, "run", "image", "/dev/zero")
     length("small", 4 * 4096)
     script = b"CREATE RELATION n; CREATE ATTRIBUTE v DOMAIN LONG IN n;" + b"INSERT (1) INTO n;" * 900
-    line = "the flash in small has no room: the last command changed nothing"
-    plan = "27 sectors suffice for one more row in each relation, and it has 4"
+    line = "the flash in small is full: the last command changed nothing"
+    plan = "27 sectors are enough for one more row in each relation, and it has 4"
     same(told(3, f"{line}; {plan}", "run", "small", "-", input=script), "ok\n" * 814 + "no space 32\n", "replies")
     same(run("plan", "small", "1"), b"sectors needed 27 present 4\n", "the plan")
 
@@ -118,19 +118,35 @@ def test_an_image_that_is_not_sound_is_told():
     write("image", image)
     output, said, status = launch(tried.launcher, *RUN)
     same((output, status), ("no image 1 0\n", 6), "its output")
-    parts = ("image is not sound and stays as it was", "docs/FORMATS.md", "antelope repair image puts it right")
+    parts = ("image is not sound, and was not changed", "docs/FORMATS.md", "antelope check image prints what antelope repair image would change")
     same([it for it in parts if it not in said], [], f"what is wanting in {said!r}")
-    output, said, status = launch(tried.launcher, "repair", "image")
-    same((output, status), ("no image 1 0\n", 6), "the output of a repair")
-    parts = ("no power cut leaves an image like image", "docs/FORMATS.md", "clients/reader.py")
-    same([it for it in parts if it not in said], [], f"what is wanting in {said!r}")
+    for form in ("check", "repair"):
+        output, said, status = launch(tried.launcher, form, "image")
+        same((output, status), ("no image 1 0\n", 6), f"the output of {form}")
+        parts = ("image cannot be repaired, since no power cut leaves such an image", "docs/FORMATS.md", "clients/reader.py")
+        same([it for it in parts if it not in said], [], f"what is wanting in {said!r}")
     unchanged("image", image)
+
+
+def test_a_repair_tells_which_relations_are_there_now():
+    length("image", 16 * 4096)
+    same(launch(tried.launcher, "repair", "image"), ("sound\n", lines_of("image now has no relation"), 0), "of none")
+    run("run", "image", "-", script=SENSORS + b"INSERT (1) INTO n; CREATE INDEX n.v TYPE INLINE; CREATE RELATION m; INSERT (2) INTO n;")
+    image = bytearray(read("image"))
+    # the last byte of the file that begins behind this name is the mark of the second row
+    place = image.index(b"T0") - 10 + 32 + 3
+    image[place + 2] = 0
+    write("image", image)
+    relations = ("n (v INT) rows 1 removed 0 slots left 32767", "m () rows 0 removed 0 slots left 32768")
+    now = lines_of(*(f"image now has relation {it}" for it in relations))
+    same(launch(tried.launcher, "repair", "image"), ("row of n taken back\nrepaired\n", now, 0), "of two")
+    same(launch(tried.launcher, "check", "image"), ("sound\n", "", 0), "a check of what is sound")
 
 
 def test_a_limit_on_files_is_told_and_leaves_no_image():
     length("small", 4 * 4096)
     write("script", b"x;" * 2000)
-    whole = "standard output could not be written; small is as the commands left it that were carried out"
+    whole = "standard output could not be written; small is as left by the commands that were carried out"
     with open("replies", "wb") as replies:
         for blocks, words, status, line in (
             (8, RUN, 7, f"image could not be made: {MAY_BE}"),
@@ -175,7 +191,7 @@ def test_a_program_that_cannot_be_begun_ends_with_125():
             ended = subprocess.run(["repo/antelope", *strict, *RUN], stdin=subprocess.DEVNULL, **how)
             program = f"{os.getcwd()}/repo/crates/antelope_cli/out/antelope_cli"
             last = ended.stderr.decode().splitlines()[-1]
-            same((last, ended.stdout, ended.returncode), (f"antelope: {program} could not be begun", b"", 125), f"{content}")
+            same((last, ended.stdout, ended.returncode), (f"antelope: {program} could not be started", b"", 125), f"{content}")
         shutil.rmtree("repo")
         shutil.rmtree("bin")
 
@@ -196,12 +212,12 @@ def test_an_image_that_others_touch_during_a_run_is_told():
     was = read("image")
     same(others(lambda: None), "", "what is said where nobody did")
     write("image", was)
-    gone = "image was removed or renamed by others during the run, and what the run wrote is no longer in it"
+    gone = "image was removed or renamed by others during the run: what the run wrote is no longer in it"
     same(others(lambda: os.rename("image", "other")), lines_of(gone), "a renamed image")
     os.rename("other", "image")
     write("image", was)
     write("new", was)
-    replaced = "image was replaced by others during the run, and what the run wrote is not in it"
+    replaced = "image was replaced by others during the run: what the run wrote is not in it"
     same(others(lambda: os.rename("new", "image")), lines_of(replaced), "a replaced image")
     cut = "image was changed by others during the run: it had 1048576 bytes and has 4096"
     same(others(lambda: os.truncate("image", 4096)), lines_of(cut), "an image that was cut")
