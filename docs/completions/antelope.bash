@@ -1,6 +1,6 @@
 # Completion of antelope for bash.
 _antelope() {
-    local forms='run ask serve gen plan dump look repair' at=1 word=${COMP_WORDS[COMP_CWORD]}
+    local forms='run ask serve gen plan dump look check repair collect' at=1 word=${COMP_WORDS[COMP_CWORD]}
     # options and `try` come before the form
     while ((at < COMP_CWORD)) && [[ ${COMP_WORDS[at]} == --* || ${COMP_WORDS[at]} == try ]]; do ((at++)); done
     COMPREPLY=()
