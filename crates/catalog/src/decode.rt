@@ -13,7 +13,7 @@ use crate::types::IndexEntry;
 use afl_base::RelationId;
 use db_model::{Attribute, Attributes, Domain, Ident, IndexKind, Schema, row_length, up_to_zero};
 
-// What a relation slot holds, None where it is not of the catalog's form.
+/// What a relation slot holds, None where it is not of the catalog's form.
 pub fn read_relation(slot: &[u8], version: u8) -> Option<Option<Schema>>
     requires { length slot.now ≡ 176 }
     ensures { result ≡ (if is_relation_slot version slot.now (relation_slot_of slot.now)
@@ -58,8 +58,8 @@ fn read_attributes(n: usize, bytes: &[u8], version: u8) -> Option<Attributes>
     Some(attributes)
 }
 
-// The attribute in 18 bytes, None where its name or its domain is none.
-fn read_attribute(bytes: &[u8], version: u8) -> Option<Attribute>
+/// The attribute in 18 bytes, None where its name or its domain is none.
+pub fn read_attribute(bytes: &[u8], version: u8) -> Option<Attribute>
     requires { length bytes.now ≡ 18 }
     ensures { result ≡ (if is_attribute_slot version (attribute_of bytes.now)
         then Some (attribute_of bytes.now) else None) }
@@ -91,8 +91,8 @@ fn is_domain(version: u8, domain: Domain) -> bool
     }
 }
 
-// Whether a row of the attributes has at most 128 bytes, and no two have one name.
-fn is_row(attributes: &Attributes) -> bool
+/// Whether a row of the attributes has at most 128 bytes, and no two have one name.
+pub fn is_row(attributes: &Attributes) -> bool
     ensures { result ≡ is_row attributes.now }
 {
     row_length(attributes) <= 128 && are_distinct(attributes.as_slice())

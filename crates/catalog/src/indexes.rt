@@ -13,8 +13,8 @@ use crate::types::IndexEntry;
 use afl_base::{Failed, FileId, Files};
 use db_model::{Attribute, Domain, IndexKind, Schema};
 
-// The index slots, or the first that is not of the catalog's form, stands on no attribute that its kind
-// allows, on one with an index before it, or is a third hash table.
+/// The index slots, or the first that is not of the catalog's form, stands on no attribute that its kind
+/// allows, on one with an index before it, or is a third hash table.
 pub fn load_indexes<V: Files>(
     files: &mut V,
     cat: FileId,

@@ -37,7 +37,7 @@ fn name_of(bytes: &[u8]) -> Name
     }
 }
 
-// The first file that no database has.
+/// The first file that no database has.
 pub fn first_stranger<V: Files>(files: &V) -> Option<u16>
     ensures { result ≡ first 32 (is_stranger (V.state files.now).files) }
 {

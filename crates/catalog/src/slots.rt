@@ -9,7 +9,7 @@ use crate::types::IndexEntry;
 use afl_base::put_bytes;
 use db_model::{Attribute, Domain, Few, IndexKind, Schema};
 
-// A relation slot of the schema.
+/// A relation slot of the schema.
 pub fn relation_slot(schema: &Schema) -> Few<u8, 176>
     ensures { result ≡ relation_slot_bytes (Some schema.now) }
 {
@@ -106,7 +106,7 @@ fn kind_code(kind: IndexKind) -> u8
     }
 }
 
-// A slot that is not used.
+/// A slot that is not used.
 pub fn unused_slot<const N: usize>() -> [u8; N]
     requires { 1 ≤ N }
     ensures { result ≡ replicate (N - 1) 0 ++ 1 ∷ [] }
@@ -140,7 +140,7 @@ fn put_copies(bytes: &mut [u8], at: usize, part: &[u8], n: usize)
     }
 }
 
-// The bytes of a catalog of version 2 with one used slot, which stands at `at`.
+/// The bytes of a catalog of version 2 with one used slot, which stands at `at`.
 pub fn first_catalog(at: usize, slot: &[u8]) -> [u8; SIZE_OF_VERSION_2 as usize]
     requires { at + length slot.now ≤ 1472 }
     ensures value { result ≡ put_at empty_bytes at slot.now }
