@@ -224,15 +224,21 @@ impl<V: Files> Session<V> {
         let _lost = self.lost;
     }
 
-    /// Hands the files back. Wherever they did not fail, they are sound and stand for the database
-    /// without its cursors.
+    /// The files. Wherever they did not fail, they are sound and stand for the database without its cursors.
+    pub fn files(&self) -> &V
+        ensures files { result.now ≡ self.now.files }
+        ensures sound { IsTrue (V.state self.now.files).tells → self.now.lost ≡ false
+            → IsSoundTable (V.state self.now.files).files }
+        ensures base { IsTrue (V.state self.now.files).tells → self.now.lost ≡ false
+            → base_of (V.state self.now.files).files ≡ bare self.now.database }
+        ensures idle { self.now.lost ≡ false → (V.state self.now.files).draft ≡ None }
+    {
+        &self.base.files
+    }
+
+    /// Hands the files back.
     pub fn close(self) -> V
         ensures files { result ≡ self.files }
-        ensures sound { IsTrue (V.state result).tells → self.lost ≡ false
-            → IsSoundTable (V.state result).files }
-        ensures base { IsTrue (V.state result).tells → self.lost ≡ false
-            → base_of (V.state result).files ≡ bare self.database }
-        ensures idle { self.lost ≡ false → (V.state result).draft ≡ None }
     {
         self.base.files
     }

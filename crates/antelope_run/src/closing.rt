@@ -9,7 +9,7 @@ ghost use Rattle.antelope_run.specs.HandedBack.{HandsBack};
 use afl_base::{Files, Flash};
 use antelope_engine::Session;
 use coffee_volume::Volume;
-use sound_image::hand_back;
+use sound_image::sound_files_are_a_sound_image;
 
 /// Closes a session and hands back its flash.
 pub fn close<F: Flash>(session: Session<Volume<F>>) -> F
@@ -21,5 +21,7 @@ pub fn close<F: Flash>(session: Session<Volume<F>>) -> F
     ensures reads { F.reads result ≡ ⟦<Volume<F> as Files>⟧.reads session.files }
     ensures faults { F.faults result ≡ ⟦<Volume<F> as Files>⟧.faults session.files }
 {
-    hand_back(session.close())
+    let volume = session.close();
+    sound_files_are_a_sound_image(&volume);
+    volume.unmount()
 }

@@ -152,7 +152,17 @@ impl<F: Flash> Volume<F> {
             (HasEach (⟦<Self as Files>⟧.state self.now) (⟦<Self as Files>⟧.state self.now).store) }
         ensures only { WhereIdle (⟦<Self as Files>⟧.state self.now)
             (HasOnly (⟦<Self as Files>⟧.state self.now) (⟦<Self as Files>⟧.state self.now).store) }
-    {}
+        ensures asked { let state = ⟦<Self as Files>⟧.state self.now in
+            WhereIdle state ((id overwrites bytes need : ℕ) → IsLive state.files id
+            → ⟦<Self as Files>⟧.asks self.now id overwrites bytes need
+            → AsksOf state.store (file_at state.files id).name overwrites bytes need) }
+        ensures cramped { IsTrue (⟦<Self as Files>⟧.state self.now).tells
+            → (n : ℕ) → ⟦<Self as Files>⟧.lacks self.now n
+            → IsCramped (units_of (⟦<Self as Files>⟧.state self.now).store) n }
+        ensures size { (n : ℕ) × (length (⟦<Self as Files>⟧.state self.now).store ≡ 4096 * n) }
+    {
+        self.flash.sectors();
+    }
 
     /// Hands the flash back. A draft that was not committed is lost. Where none is begun and no call
     /// failed, the image keeps its rules, and its files are those of the volume.

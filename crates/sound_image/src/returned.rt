@@ -1,4 +1,4 @@
-//! A flash that is handed back.
+//! The image that a volume stands on.
 
 #![tactic(auto)]
 
@@ -28,27 +28,21 @@ pub(crate) fn tell_places<V: Files>(files: &V)
     }
 }
 
-/// Hands back the flash of a volume whose files are a sound database: the image is sound and stands for that database,
-/// and what a command wanted of the files and lacked it lacks there.
-pub fn hand_back<F: Flash>(volume: Volume<F>) -> F
-    ensures image { F.image result ≡ (⟦<Volume<F> as Files>⟧.state volume).store }
-    ensures lent { F.lent result ≡ ⟦<Volume<F> as Files>⟧.lent volume }
-    ensures reads { F.reads result ≡ ⟦<Volume<F> as Files>⟧.reads volume }
-    ensures faults { F.faults result ≡ ⟦<Volume<F> as Files>⟧.faults volume }
-    ensures sound { let state = ⟦<Volume<F> as Files>⟧.state volume in
-        IsTrue state.tells → state.draft ≡ None → IsSoundTable state.files → IsSound (F.image result) }
-    ensures base { let state = ⟦<Volume<F> as Files>⟧.state volume in
+/// A volume whose files are a sound database stands on a sound image of that database, and what a command wanted of the
+/// files and lacked it lacks there.
+pub fn sound_files_are_a_sound_image<F: Flash>(volume: &Volume<F>)
+    ensures sound { let state = ⟦<Volume<F> as Files>⟧.state volume.now in
+        IsTrue state.tells → state.draft ≡ None → IsSoundTable state.files → IsSound state.store }
+    ensures base { let state = ⟦<Volume<F> as Files>⟧.state volume.now in
         IsTrue state.tells → state.draft ≡ None → IsSoundTable state.files
-        → base (F.image result) ≡ base_of state.files }
-    ensures lacks { let state = ⟦<Volume<F> as Files>⟧.state volume in
+        → base state.store ≡ base_of state.files }
+    ensures lacks { let state = ⟦<Volume<F> as Files>⟧.state volume.now in
         IsTrue state.tells → state.draft ≡ None → IsSoundTable state.files
         → (command : Command) (n : ℕ)
-        → WantsOver (⟦<Volume<F> as Files>⟧.asks volume) state.files (base_of state.files) command n
+        → WantsOver (⟦<Volume<F> as Files>⟧.asks volume.now) state.files (base_of state.files) command n
         → n ≤ most (base_of state.files) command
-        → ⟦<Volume<F> as Files>⟧.lacks volume n → LacksFor (F.image result) command n }
+        → ⟦<Volume<F> as Files>⟧.lacks volume.now n → LacksFor state.store command n }
 {
-    tell_places(&volume);
-    let flash = volume.unmount();
-    flash.sectors();
-    flash
+    tell_places(volume);
+    volume.ends();
 }

@@ -1,5 +1,5 @@
 use Rattle.session_model.proofs.Sound.{base_is, files_sound}
-use Rattle.antelope_engine.proofs.session.Session.close.Goals as goal
+use Rattle.antelope_engine.proofs.session.Session.files.Goals as goal
 
 pub returns-clause-sound : goal.returns-clause-sound
 returns-clause-sound g c = rw (← c.self.view_is) (λ told kept.
