@@ -114,6 +114,20 @@ def test_words_at_their_limits_are_of_a_form():
         same(launch("repo/antelope", *words.split(), path=path), (f"{words}\n", "", 0), words)
 
 
+def test_the_keywords_and_ranges_are_those_of_the_definitions():
+    language = read(f"{ROOT}/crates/db_model/specs/Keywords.antt").decode()
+    keywords = sorted(re.findall(r'^keyword_text \w+ = codes "(\w+)"$', language, re.M))
+    same(len(keywords), 35, "the keywords of the language")
+    forms = read(f"{ROOT}/launcher/forms.sh").decode()
+    same(sorted(re.search(r"^keywords='([^']*)'", forms, re.M)[1].split()), keywords, "the keywords of the launcher")
+    table = read(f"{ROOT}/clients/sorachest/table.py").decode()
+    named = re.search(r"^KEYWORDS = \(\n(.*?)\n\)", table, re.M | re.S)[1]
+    same(sorted(" ".join(re.findall(r'"([^"]*)"', named)).split()), keywords, "the keywords of the clients")
+    words = read(f"{ROOT}/crates/run_words/specs/Words.antt").decode()
+    defined = sorted(set(re.findall(r"number_word (\d+ \d+ \d+)", words)))
+    same(sorted(set(re.findall(r'is_number "[^"]*" (\d+ \d+ \d+)', forms))), defined, "the ranges of numbers")
+
+
 def test_the_launcher_tells_its_version():
     version = read(f"{ROOT}/VERSION").decode().strip()
     same(bool(re.fullmatch(r"\d+\.\d+\.\d+", version)), True, f"that {version} is a version")
