@@ -32,7 +32,8 @@ where
         memory.bytes.as_mut_slice(),
         memory.known.as_mut_slice(),
     );
-    carry_out(words, script, out, flash)
+    let (status, _flash) = carry_out(words, script, out, flash);
+    status
 }
 
 // Memory for so many sectors, or for none where it is wanting.

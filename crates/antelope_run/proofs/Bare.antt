@@ -1,5 +1,6 @@
 -- What a command wants and the most that is counted for it do not depend on cursors.
-use Rattle.std.proofs.Common.{◌≡◌, ◌≤◌, ℕ, ℤ, List, Option, refl, ap, subst, sym, ◌∙◌}
+use Rattle.std.proofs.Common.{◌≡◌, ◌≤◌, ℕ, ℤ, List, Option, None, refl, ap, subst, sym, ◌∙◌}
+use Rattle.std.specs.Prelude.{IsTrue}
 use Rattle.afl_base.specs.Files.{State}
 use Rattle.antelope_engine.specs.Seen.{Seen}
 use Rattle.antelope_engine.specs.Commands.{LacksPages}
@@ -10,7 +11,11 @@ use Rattle.session_model.specs.Wanted.{WantsOver, room_in}
 use Rattle.space_model.specs.Enough.{most}
 use Rattle.space_model.specs.FileNames.{asks_in, size_in}
 use Rattle.space_model.specs.Wants.{Wants}
+use Rattle.sound_image.specs.Images.{IsSound, base}
+use Rattle.sound_image.specs.Lacking.{LacksFor}
 use Rattle.stored.specs.Base.{base_of}
+use Rattle.stored.specs.Sound.{IsSoundTable}
+use Rattle.antelope_run.specs.SessionImage.{IsImageOf}
 
 module _ (size_of : List ℕ → Option ℕ) (asks : List ℕ → ℕ → ℕ → ℕ → Type 0) (room : ℕ → ℤ → ℕ × ℕ) (db : Database) (n : ℕ) where
   pub wants_bare : (c : Command) → Wants size_of asks room db c n → Wants size_of asks room (bare db) c n
@@ -58,3 +63,26 @@ lacked {V = V} state asks lacks session closed c n is base l = record {
   few = subst (λ (m : ℕ). n ≤ m) (sym (ap (λ (db : Database). most db c) base ∙ most_bare session.database c)) l.few;
   none = subst (λ (v : V). lacks v n) (sym is) l.none;
 }
+
+module _ {V : Type 0} (state : V → State) (asks : V → ℕ → ℕ → ℕ → ℕ → Type 0) (lacks : V → ℕ → Type 0) where
+  -- files that are a sound database stand on a sound image of it
+  abbrev pub StandOnImage : V → Type 0
+  StandOnImage files = IsTrue (state files).tells → (state files).draft ≡ None → IsSoundTable (state files).files
+      → IsSound (state files).store
+      × (base (state files).store ≡ base_of (state files).files)
+      × ((c : Command) (n : ℕ) → WantsOver (asks files) (state files).files (base_of (state files).files) c n → n ≤ most (base_of (state files).files) c → lacks files n
+      → LacksFor (state files).store c n)
+
+  -- and so do the files of a session
+  pub session_image : (session : Seen V) (files : V) → files ≡ session.files → StandOnImage files
+      → IsTrue (state session.files).tells → (state session.files).draft ≡ None → IsSoundTable (state session.files).files → base_of (state session.files).files ≡ bare session.database
+      → (image : List ℕ) → image ≡ (state session.files).store → IsImageOf session.database (LacksPages state asks lacks session) image
+  session_image session files is stand told idle sound same image on =
+      let here = subst StandOnImage is stand told idle sound in
+      subst (λ (i : List ℕ). IsImageOf session.database (LacksPages state asks lacks session) i) (sym on) (record {
+        sound = here.0;
+        base_is = here.1 ∙ same;
+        lacks = λ c n l.
+            let lack = lacked state asks lacks session session.files c n refl same l in
+            here.2 c n lack.wants lack.few lack.none;
+      })

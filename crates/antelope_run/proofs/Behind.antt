@@ -12,7 +12,7 @@ use Rattle.intake.specs.declared.ending.InputEnding.TheVariants.{Input, Long, Ea
 use Rattle.reply_text.proofs.Pieces.{less_behind, less_front}
 use Rattle.run_words.specs.declared.words.Form.{Form}
 use Rattle.run_words.specs.declared.words.Form.TheVariants.{Run, Gen, Plan, Serve, Dump, Look}
-use Rattle.antelope_run.specs.Comes.{ReachesBy}
+use Rattle.antelope_run.specs.Steps.{ReachesBy}
 use Rattle.antelope_run.specs.Does.{OnlyHalts, Wrote, stopped}
 use Rattle.antelope_run.specs.Follows.{WritesBehind, is_look}
 use Rattle.antelope_run.proofs.Halts.{reaches_none}

@@ -21,7 +21,7 @@ use Rattle.run_model.specs.Line.{Line}
 use Rattle.run_model.specs.Runs.{CarriedOut, FoundNoSpace, InputBrokenOff, InputCutOff, InputEnded, InputFaulted, InputFoundNoSpace, InputTooLong, InputUnsaid, ReplyUnsaid, SpaceUnsaid, StopsAt, World, WroteFrom, WroteInFront, WroteWithin, machine_from, world}
 use Rattle.run_model.specs.Talk.{Talk, after_entry, last_database, talk_output}
 use Rattle.run_model.proofs.Talks.{output-append}
-use Rattle.antelope_run.specs.HandedBack.{HandsBack}
+use Rattle.antelope_run.specs.SessionImage.{IsImageOf}
 
 -- less than some bytes, behind others
 pub wrote_within : (least all whole : List ℕ) (old before now : Option (List ℕ)) → before ≡ append_known old least → WroteLess before now all → whole ≡ least ++ all
@@ -41,7 +41,7 @@ module _ {E : Type 0} (talk : Talk E) (a b : Standing) (image image_now : List �
   abbrev pub After : World
   After = world image_now left_now b.held
 
-  module _ (limits : Limits) (back : HandsBack b.database limits.Lacks image_now) where
+  module _ (limits : Limits) (back : IsImageOf b.database limits.Lacks image_now) where
     pub carried_out : (entries : List E) → Carried talk entries a b → CarriedOut (machine_from talk a.database) entries Before After
     carried_out entries c = record {
       written = c.held;
@@ -105,7 +105,7 @@ told_on line talk a b left left_now limits (Err (Early Flash)) w other = absurd 
 
 module _ {E : Type 0} (line : Line E) (talk : Talk E) (a b : Standing) (image image_now : List ℕ) (left left_now : Option (List ℕ)) (start : a.database ≡ base image)
     (limits : Limits) where
-  module _ (back : HandsBack b.database limits.Lacks image_now) where
+  module _ (back : IsImageOf b.database limits.Lacks image_now) where
     pub ended : CarriedAll line talk a b left left_now → InputEnded line talk (world image left a.held) (world image_now left_now b.held)
     ended t = record {
       bytes = t.bytes;

@@ -1,5 +1,5 @@
 -- What generated commands and a dumped script come to, as a run.
-use Rattle.std.proofs.Common.{◌≡◌, ◌≢◌, ℕ, Bool, true, false, List, Option, Some, refl, ap}
+use Rattle.std.proofs.Common.{◌≡◌, ◌≢◌, ℕ, Bool, true, false, List, Option, refl, ap}
 use Rattle.std.specs.Prelude.{⊤, IfErr, IsErrOf, OnOk, Result, Ok, Err}
 use Rattle.db_model.specs.declared.commands.Command.{Command}
 use Rattle.dump.specs.Appends.{AppendsText}
@@ -14,9 +14,9 @@ use Rattle.answering.specs.Carried.{HasHaltCause, Limits, Standing}
 use Rattle.answering.specs.Went.{HasRunCause, Reaches}
 use Rattle.workload_run.specs.Summed.{StopsCommands, SummedUp}
 use Rattle.run_words.specs.declared.words.Form.{Form}
-use Rattle.antelope_run.specs.Comes.{ReachesBy}
 use Rattle.antelope_run.specs.Does.{Generates, OnlyHalts, WritesText, halted, stopped}
-use Rattle.antelope_run.specs.Statuses.{TakesInput}
+use Rattle.antelope_run.specs.Promise.{TakesInput}
+use Rattle.antelope_run.specs.Steps.{ReachesBy}
 
 clash : {Goal : Type 0} → false ≡ true → Goal
 clash e = absurd (let n : ⊥ = cc in n)
@@ -117,7 +117,7 @@ module _ (form : Form) (left left_now : Option (List ℕ)) where
   reaches_by (Err Long) h = h
   reaches_by (Err (Early k)) h = tt
 
-  pub reaches_none : (TakesInput (Some form) → ⊥) → (result : Result ⊤ InputEnding) → OnlyHalts result → ReachesBy form result left left_now
+  pub reaches_none : (TakesInput form → ⊥) → (result : Result ⊤ InputEnding) → OnlyHalts result → ReachesBy form result left left_now
   reaches_none none (Ok x) h = λ takes. absurd (none takes)
   reaches_none none (Err Input) h = absurd h
   reaches_none none (Err Long) h = absurd h

@@ -1,5 +1,5 @@
 -- From what a session did to what a run leaves behind, by the form of its words.
-use Rattle.std.proofs.Common.{◌≡◌, ◌≢◌, ◌⊎◌, inl, inr, true, false, ℕ, ◌/◌, List, [], ◌++◌, length, Option, Some, refl, ap, subst, sym, ◌∙◌}
+use Rattle.std.proofs.Common.{◌≡◌, ◌≢◌, ◌⊎◌, inl, inr, true, false, ℕ, ◌/◌, List, [], ◌++◌, length, Option, refl, ap, subst, sym, ◌∙◌}
 use Rattle.std.specs.Prelude.{⊤, IsTrue, Result, Ok, Err}
 use Rattle.std.specs.Io.KnownBytes.{append_known}
 use Rattle.db_model.specs.declared.commands.Command.{Command}
@@ -21,34 +21,23 @@ use Rattle.sound_image.specs.Mending.{ImageMendsTo}
 use Rattle.answering.specs.Carried.{Limits, Standing}
 use Rattle.answering.specs.Went.{Went}
 use Rattle.run_model.specs.Line.{Line}
-use Rattle.run_model.specs.Runs.{CarriedOut, FoundNoSpace, InputCutOff, InputEnded, InputFaulted, InputFoundNoSpace, InputTooLong, InputUnsaid, SpaceUnsaid, StandsAfter, StopsAt, World, WroteWithin, world}
+use Rattle.run_model.specs.Runs.{CarriedOut, FoundNoSpace, SpaceUnsaid, StandsAfter, StopsAt, World, WroteWithin, world}
 use Rattle.run_model.specs.Talk.{Talk}
-use Rattle.space_plan.specs.declared.further.FurtherRows.{FurtherRows}
 use Rattle.space_plan.specs.Lines.{plan_reply}
 use Rattle.workload_run.specs.Counted as counted
 use Rattle.workload_run.specs.Summed.{summed}
 use Rattle.workload_run.specs.Summed as sums
 use Rattle.run_words.specs.declared.words.Form.{Form}
 use Rattle.run_words.specs.declared.words.Form.TheVariants.{Run, Gen, Plan, Serve, Dump, Look}
-use Rattle.antelope_run.specs.Comes.{BreaksBy}
 use Rattle.antelope_run.specs.declared.came.Came.TheVariants.{Opened}
 use Rattle.antelope_run.specs.Does.{DoesForm, Generates, OnlyTells, TellsOn, WritesText, Wrote}
 use Rattle.antelope_run.specs.Follows.{WritesBehind, is_look}
-use Rattle.antelope_run.specs.HandedBack.{HandsBack}
-use Rattle.antelope_run.specs.Left as left
-use Rattle.antelope_run.specs.Statuses.{BrokenOff, LeavesImage, LineBrokenOff, LineUnsaid, OnInput, TellsText, TellsLess, dumped_text, nothing_yet, planned_text, summed_from, TakesInput}
+use Rattle.antelope_run.specs.SessionImage.{IsImageOf}
+use Rattle.antelope_run.specs.Endings.{BrokenOff, CommandsLeave, InputLeaves, LeavesBehind, LeavesImage, LineBrokenOff, LineUnsaid, TellsText, TellsLess, TextLeaves, dumped_text, nothing_yet, planned_text, summed_from}
+use Rattle.antelope_run.specs.Promise.{TakesInput}
+use Rattle.antelope_run.specs.Steps.{BreaksBy}
 use Rattle.antelope_run.proofs.Behind.{wrote_on}
 use Rattle.antelope_run.proofs.Finished.{broken_off, cut_off, ended, faulted, found_no_space, told_on, too_long, unsaid, wrote_within}
-
--- ---- an input
-
-abbrev pub LeavesInput : {E : Type 0} → Line E → Talk E → World → World → Result ⊤ InputEnding → Type 0
-LeavesInput line talk old new (Ok done) = InputEnded line talk old new
-LeavesInput line talk old new (Err Input) = InputCutOff line talk old new
-LeavesInput line talk old new (Err Long) = InputTooLong line talk old new
-LeavesInput line talk old new (Err (Early Space)) = InputFoundNoSpace line talk old new
-LeavesInput line talk old new (Err (Early Flash)) = InputFaulted line talk old new
-LeavesInput line talk old new (Err (Early Sink)) = InputUnsaid line talk old new
 
 module _ (a b : Standing) (image image_now : List ℕ) (before now : Option (List ℕ)) (limits : Limits) (start : a.database ≡ base image) (told : IsTrue a.tells) where
   abbrev Old : World
@@ -58,9 +47,9 @@ module _ (a b : Standing) (image image_now : List ℕ) (before now : Option (Lis
   New = world image_now now b.held
 
   abbrev pub Back : Result ⊤ InputEnding → Type 0
-  Back result = IsTrue b.tells → result ≢ Err (Early Flash) → HandsBack b.database limits.Lacks image_now
+  Back result = IsTrue b.tells → result ≢ Err (Early Flash) → IsImageOf b.database limits.Lacks image_now
 
-  leaves_input : {E : Type 0} (line : Line E) (talk : Talk E) (result : Result ⊤ InputEnding) → Back result → Went line talk a b before now limits result → LeavesInput line talk Old New result
+  leaves_input : {E : Type 0} (line : Line E) (talk : Talk E) (result : Result ⊤ InputEnding) → Back result → Went line talk a b before now limits result → InputLeaves line talk Old New result
   leaves_input line talk (Ok done) back w =
       let other : ◌≢◌ {A = Result ⊤ InputEnding} (Ok done) (Err (Early Flash)) = λ e. (let n : ⊥ = cc in n) in
       ended line talk a b image image_now before now start limits (back (w.carried.tells ∙ told) other) w
@@ -78,28 +67,12 @@ module _ (a b : Standing) (image image_now : List ℕ) (before now : Option (Lis
       let other : ◌≢◌ {A = Result ⊤ InputEnding} (Err (Early Sink)) (Err (Early Flash)) = λ e. (let n : ⊥ = cc in n) in
       unsaid line talk a b image image_now before now start limits (back (told_on line talk a b before now limits (Err (Early Sink)) w other ∙ told) other) w
 
-  by_run : (result : Result ⊤ InputEnding) → OnInput Run (λ E line talk. LeavesInput line talk Old New result) → left.LeavesBehind Run Old New result
-  by_run (Ok done) h = h
-  by_run (Err Input) h = h
-  by_run (Err Long) h = h
-  by_run (Err (Early Space)) h = h
-  by_run (Err (Early Flash)) h = h
-  by_run (Err (Early Sink)) h = h
-
-  by_serve : (result : Result ⊤ InputEnding) → OnInput Serve (λ E line talk. LeavesInput line talk Old New result) → left.LeavesBehind Serve Old New result
-  by_serve (Ok done) h = h
-  by_serve (Err Input) h = h
-  by_serve (Err Long) h = h
-  by_serve (Err (Early Space)) h = h
-  by_serve (Err (Early Flash)) h = h
-  by_serve (Err (Early Sink)) h = h
-
   -- ---- generated commands
 
   less_of : (all : List ℕ) → WroteLess a.held b.held all → WroteWithin [] all a.held b.held
   less_of all w = wrote_within [] all all a.held a.held b.held (sym (append_known-nil a.held)) w refl
 
-  module _ (commands : List Command) (back : HandsBack b.database limits.Lacks image_now) where
+  module _ (commands : List Command) (back : IsImageOf b.database limits.Lacks image_now) where
     all_made : sums.SummedUp commands a.database b.database a.held b.held → CarriedOut (summed_from a.database) commands Old New
     all_made s = record { written = s.held; stands = record { sound = back.sound; base_is = back.base_is ∙ ap bare s.database } }
 
@@ -140,7 +113,7 @@ module _ (a b : Standing) (image image_now : List ℕ) (before now : Option (Lis
     unsaid_by (inl s) = inl (line_unsaid s)
     unsaid_by (inr s) = inr (subst (λ (db : Database). SpaceUnsaid (summed_from db) nothing_yet commands Old New) start (space_unsaid_at s))
 
-  by_gen : (seed count : ℕ) (result : Result ⊤ InputEnding) → Back result → TellsOn a b result → Generates a b limits (first_commands seed count) result → left.LeavesBehind (Gen seed count) Old New result
+  by_gen : (seed count : ℕ) (result : Result ⊤ InputEnding) → Back result → TellsOn a b result → Generates a b limits (first_commands seed count) result → CommandsLeave (first_commands seed count) Old New result
   by_gen seed count (Ok done) back tells g =
       let other : ◌≢◌ {A = Result ⊤ InputEnding} (Ok done) (Err (Early Flash)) = λ e. (let n : ⊥ = cc in n) in
       subst (λ (db : Database). CarriedOut (summed_from db) (first_commands seed count) Old New) start
@@ -196,23 +169,15 @@ module _ (a b : Standing) (image image_now : List ℕ) (before now : Option (Lis
     told_less : (image_now ≡ image) → WroteLess a.held b.held (text image) → TellsLess text Old New
     told_less same w = record { leaves = record { same = same; unread = unread }; written = less_of (text image) w }
 
-  by_plan : (rows : FurtherRows) → now ≡ before → (result : Result ⊤ InputEnding) → Stays → WritesText a b (planned_text rows image) result → left.LeavesBehind (Plan rows) Old New result
-  by_plan rows unread (Ok done) stays w = told_all (planned_text rows) unread stays w
-  by_plan rows unread (Err Input) stays w = absurd w
-  by_plan rows unread (Err Long) stays w = absurd w
-  by_plan rows unread (Err (Early Space)) stays w = absurd w
-  by_plan rows unread (Err (Early Flash)) stays w = (record { same = stays; unread = unread }, record { part = w.written; rest = w.left; split = w.whole; held = w.held })
-  by_plan rows unread (Err (Early Sink)) stays w = told_less (planned_text rows) unread stays w
+  by_text : (text : List ℕ → List ℕ) → now ≡ before → (result : Result ⊤ InputEnding) → Stays → WritesText a b (text image) result → TextLeaves text Old New result
+  by_text text unread (Ok done) stays w = told_all text unread stays w
+  by_text text unread (Err Input) stays w = absurd w
+  by_text text unread (Err Long) stays w = absurd w
+  by_text text unread (Err (Early Space)) stays w = absurd w
+  by_text text unread (Err (Early Flash)) stays w = (record { same = stays; unread = unread }, record { part = w.written; rest = w.left; split = w.whole; held = w.held })
+  by_text text unread (Err (Early Sink)) stays w = told_less text unread stays w
 
-  by_dump : now ≡ before → (result : Result ⊤ InputEnding) → Stays → WritesText a b (dumped_text image) result → left.LeavesBehind Dump Old New result
-  by_dump unread (Ok done) stays w = told_all dumped_text unread stays w
-  by_dump unread (Err Input) stays w = absurd w
-  by_dump unread (Err Long) stays w = absurd w
-  by_dump unread (Err (Early Space)) stays w = absurd w
-  by_dump unread (Err (Early Flash)) stays w = (record { same = stays; unread = unread }, record { part = w.written; rest = w.left; split = w.whole; held = w.held })
-  by_dump unread (Err (Early Sink)) stays w = told_less dumped_text unread stays w
-
-  by_look : (held : Option (List ℕ)) → now ≡ before → (result : Result ⊤ InputEnding) → Stays → Wrote a.held held (look_text image) result → left.LeavesBehind Look Old (world image_now now held) result
+  by_look : (held : Option (List ℕ)) → now ≡ before → (result : Result ⊤ InputEnding) → Stays → Wrote a.held held (look_text image) result → LeavesBehind Look Old (world image_now now held) result
   by_look held unread (Ok done) stays w = record { leaves = record { same = stays; unread = unread }; written = w }
   by_look held unread (Err Input) stays w = absurd w
   by_look held unread (Err Long) stays w = absurd w
@@ -226,32 +191,32 @@ module _ (a b : Standing) (image image_now : List ℕ) (before now : Option (Lis
   -- ---- each form, and what follows once the flash is handed back
 
   module _ (done result : Result ⊤ InputEnding) (held : Option (List ℕ)) where
-    on_same : (form : Form) → (result ≡ done) × (held ≡ b.held) → left.LeavesBehind form Old New done → left.LeavesBehind form Old (world image_now now held) result
+    on_same : (form : Form) → (result ≡ done) × (held ≡ b.held) → LeavesBehind form Old New done → LeavesBehind form Old (world image_now now held) result
     on_same form same h =
-        subst (λ r. left.LeavesBehind form Old (world image_now now held) r) (sym same.0)
-        (subst (λ k. left.LeavesBehind form Old (world image_now now k) done) (sym same.1) h)
+        subst (λ r. LeavesBehind form Old (world image_now now held) r) (sym same.0)
+        (subst (λ k. LeavesBehind form Old (world image_now now k) done) (sym same.1) h)
 
     pub leaves : (sectors : ℕ) → sectors ≡ length image / 4096 → (form : Form) → Back done → (OnlyTells form → Stays) → (OnlyTells form → now ≡ before)
         → DoesForm a b sectors before now limits form done
         → (is_look form ≡ false → (result ≡ done) × (held ≡ b.held)) → (is_look form ≡ true → WritesBehind (flash_line image) done result b.held held)
-        → left.LeavesBehind form Old (world image_now now held) result
-    leaves sectors many Run back stays unread d same told = on_same Run (same refl) (by_run done (λ read reader. leaves_input _ _ done back (d read reader)))
-    leaves sectors many Serve back stays unread d same told = on_same Serve (same refl) (by_serve done (λ read reader. leaves_input _ _ done back (d read reader)))
+        → LeavesBehind form Old (world image_now now held) result
+    leaves sectors many Run back stays unread d same told = on_same Run (same refl) (λ read reader. leaves_input _ _ done back (d read reader))
+    leaves sectors many Serve back stays unread d same told = on_same Serve (same refl) (λ read reader. leaves_input _ _ done back (d read reader))
     leaves sectors many (Gen seed count) back stays unread d same told = on_same (Gen seed count) (same refl) (by_gen seed count done back d.0 d.1)
     leaves sectors many (Plan rows) back stays unread d same told =
         on_same (Plan rows) (same refl)
-        (by_plan rows (unread tt) done (stays tt)
+        (by_text (planned_text rows) (unread tt) done (stays tt)
         (subst (λ (db : Database). WritesText a b (plan_reply db rows (length image / 4096)) done) start
         (subst (λ (n : ℕ). WritesText a b (plan_reply a.database rows n) done) many d.1)))
     leaves sectors many Dump back stays unread d same told =
-        on_same Dump (same refl) (by_dump (unread tt) done (stays tt) (subst (λ (db : Database). WritesText a b (script db) done) start d.1))
+        on_same Dump (same refl) (by_text dumped_text (unread tt) done (stays tt) (subst (λ (db : Database). WritesText a b (script db) done) start d.1))
     leaves sectors many Look back stays unread d same told =
         by_look held (unread tt) result (stays tt)
         (wrote_on a.held b.held held (database_lines (base image)) (flash_line image) done result
         (subst (λ (db : Database). WritesText a b (database_lines db) done) start d.1) (told refl))
 
 -- what only tells of an image takes no input
-pub tells_alone : (form : Form) → OnlyTells form → TakesInput (Some form) → ⊥
+pub tells_alone : (form : Form) → OnlyTells form → TakesInput form → ⊥
 tells_alone Run h takes = h
 tells_alone Serve h takes = h
 tells_alone (Gen seed count) h takes = h

@@ -11,7 +11,8 @@ use Rattle.sound_image.specs.Images.{IsFirstBroken}
 use Rattle.antelope_run.specs.declared.came.Came.{Came}
 use Rattle.antelope_run.specs.declared.came.Came.TheVariants.{Refused, Unsaid}
 use Rattle.run_words.specs.declared.words.Form.{Form}
-use Rattle.antelope_run.specs.Comes.{BreaksBy, ComesTo, HasCameCause, OnOpened, OnUnopened}
+use Rattle.antelope_run.specs.Promise.{ComesTo, Counts}
+use Rattle.antelope_run.specs.Steps.{BreaksBy, HasCameCause, OnOpened, OnUnopened}
 use Rattle.antelope_run.proofs.Finished.{wrote_within}
 
 module _ (came : Came) where
@@ -47,15 +48,15 @@ module _ (came : Came) where
   on_unopened P p (inl e) = subst (λ (k : Came). OnUnopened k P) (sym e) p
   on_unopened P p (inr e) = subst (λ (k : Came). OnUnopened k P) (sym e) p
 
-  pub refused_cause : (i j f g r s : ℕ) → IsUnopened → (came ≡ Unsaid → Rose r s) → HasCameCause i j f g r s came
-  refused_cause i j f g r s (inl e) rose = subst (λ (k : Came). HasCameCause i j f g r s k) (sym e) (record {
+  pub refused_cause : (old new : Counts) → IsUnopened → (came ≡ Unsaid → Rose old.sink new.sink) → HasCameCause old new came
+  refused_cause old new (inl e) rose = subst (λ (k : Came). HasCameCause old new k) (sym e) (record {
     input = λ h. absurd (let n : ⊥ = cc in n);
     flash_failed = λ h. absurd (let n : ⊥ = cc in n);
     sink_failed = λ h. absurd (let n : ⊥ = cc in n);
     unsaid = λ h. absurd (let n : ⊥ = cc in n);
     unopened = λ h. absurd (let n : ⊥ = cc in n);
   })
-  refused_cause i j f g r s (inr e) rose = subst (λ (k : Came). HasCameCause i j f g r s k) (sym e) (record {
+  refused_cause old new (inr e) rose = subst (λ (k : Came). HasCameCause old new k) (sym e) (record {
     input = λ h. absurd (let n : ⊥ = cc in n);
     flash_failed = λ h. absurd (let n : ⊥ = cc in n);
     sink_failed = λ h. absurd (let n : ⊥ = cc in n);

@@ -21,12 +21,15 @@ use Rattle.session_model.specs.Steps.{WrotePart}
 use Rattle.answering.specs.Carried.{Limits, Standing}
 use Rattle.answering.specs.Went.{HasRunCause, Went}
 use Rattle.run_model.specs.Line.{Line}
+use Rattle.run_model.specs.Scripts.{script_line, script_talk}
 use Rattle.run_model.specs.Talk.{AsksToRead, Talk, talk_costs}
+use Rattle.serve_model.specs.Frames.{frame_line}
+use Rattle.serve_model.specs.Served.{serve_talk}
 use Rattle.space_plan.specs.Lines.{plan_reply}
 use Rattle.workload_run.specs.Summed.{StopsCommands, SummedUp}
 use Rattle.run_words.specs.declared.words.Form.{Form}
 use Rattle.run_words.specs.declared.words.Form.TheVariants.{Run, Gen, Plan, Serve, Dump, Look}
-use Rattle.antelope_run.specs.Statuses.{OnInput}
+use Rattle.antelope_run.specs.Endings.{OnReader}
 
 -- a text was written to what a sink held, or what a fault left of it
 abbrev pub Wrote : (held held_now : Option (List ℕ)) → List ℕ → Result ⊤ InputEnding → Type 0
@@ -59,16 +62,17 @@ module _ (old new : Standing) where
   DoesForm sectors left left_now limits (Plan rows) result = TellsOn result × WritesText (plan_reply old.database rows sectors) result
   DoesForm sectors left left_now limits Dump result = TellsOn result × WritesText (script old.database) result
   DoesForm sectors left left_now limits Look result = TellsOn result × WritesText (database_lines old.database) result
-  DoesForm sectors left left_now limits form result = OnInput form (λ E line talk. Went line talk old new left left_now limits result)
+  DoesForm sectors left left_now limits Run result = OnReader (λ read. Went script_line (script_talk read) old new left left_now limits result)
+  DoesForm sectors left left_now limits Serve result = OnReader (λ read. Went frame_line (serve_talk read) old new left left_now limits result)
 
 -- what an input whose entries only read makes a session read
-abbrev pub InputReads : Standing → Option (List ℕ) → ℕ → (E : Type 0) → Line E → Talk E → Type 0
-InputReads old left reads E line talk = (text : List ℕ) → left ≡ Some text → AllByRecursion (AsksToRead talk) (line.all text)
+abbrev pub InputReads : {E : Type 0} → Line E → Talk E → Standing → Option (List ℕ) → ℕ → Type 0
+InputReads line talk old left reads = (text : List ℕ) → left ≡ Some text → AllByRecursion (AsksToRead talk) (line.all text)
     → reads ≤ old.reads + talk_costs talk old.database old.aheads (line.all text)
 
 abbrev pub CarriedReads : Form → Standing → Option (List ℕ) → ℕ → Type 0
-CarriedReads Run old left reads = OnInput Run (InputReads old left reads)
-CarriedReads Serve old left reads = OnInput Serve (InputReads old left reads)
+CarriedReads Run old left reads = OnReader (λ read. InputReads script_line (script_talk read) old left reads)
+CarriedReads Serve old left reads = OnReader (λ read. InputReads frame_line (serve_talk read) old left reads)
 CarriedReads (Plan rows) old left reads = reads ≡ old.reads
 CarriedReads Dump old left reads = reads ≤ old.reads + 6 * slots_of_all old.database.relations
 CarriedReads Look old left reads = reads ≤ old.reads + 6 * slots_of_all old.database.relations

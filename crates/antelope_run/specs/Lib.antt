@@ -1,6 +1,6 @@
-pub mod Comes
 pub mod Does
+pub mod Endings
 pub mod Follows
-pub mod HandedBack
-pub mod Left
-pub mod Statuses
+pub mod SessionImage
+pub mod Promise
+pub mod Steps

@@ -2,15 +2,15 @@
 
 #![tactic(auto)]
 
-ghost use Rattle.std.specs.Prelude.{◌≡◌, ◌≢◌, ◌≤◌, ◌-◌, ◌/◌, ◌⊎◌, ◌↔◌, false, ℕ, List, Result, Some, None, IsTrue, IfErr, OnErr, OnOk, length};
-ghost use Rattle.std.specs.Io.KnownBytes.{append_known, IsAtEnd};
+ghost use Rattle.std.specs.Prelude.{◌≡◌, ◌≢◌, ◌-◌, ◌⊎◌, ◌↔◌, None, Some, IsTrue};
+ghost use Rattle.std.specs.Io.KnownBytes.{append_known};
 ghost use Rattle.afl_base.specs.Causes.{Rose};
 ghost use Rattle.reply_text.specs.WroteLess.{WroteLess};
 ghost use Rattle.run_model.specs.Runs.{image_line, world};
-ghost use Rattle.sound_image.specs.Images.{IsSound};
-ghost use Rattle.antelope_run.specs.Comes.{BreaksBy, ComesTo, HasCameCause, OnOpened, OnUnopened, ReachesBy, status_by};
-ghost use Rattle.antelope_run.specs.Statuses.{CausedBy, EndsBrokenOff, HasSpace, IsWithinLimit, IsStatus, BorrowsTheSame, LeftBy, ReadsAtMost, TakenBy, TakesInput};
+ghost use Rattle.run_words.specs.declared.words.Form.{Form};
 ghost use Rattle.run_words.specs.Words.{HasFewCommands, form_of};
+ghost use Rattle.antelope_run.specs.Promise.{BorrowsTheSame, CausedBy, ComesTo, IsRun, IsStatus, ReadsAtMost, TakenBy, TakesInput, counted, moment, status_by};
+ghost use Rattle.antelope_run.specs.Steps.{BreaksBy, HasCameCause, OnOpened, OnUnopened, ReachesBy};
 ghost use Rattle.antelope_run.specs.declared.came.Came.TheVariants as AnyCame;
 
 use crate::came::Came;
@@ -21,6 +21,7 @@ use afl_base::{Failed, Flash, Sink, Source};
 use answering::write_image_line;
 use antelope_engine::Session;
 use coffee_volume::{MountError, Volume};
+use flash_views::Handed;
 use intake::{Ending, InputEnding};
 use run_words::{Form, form};
 use sound_image::mounted_files_are_the_images;
@@ -48,64 +49,45 @@ pub fn top<F: Flash, S: Source, K: Sink>(
     ensures words { (result.0 ≡ 1) ↔ (form_of words.now ≡ None) }
     ensures words_leave { result.0 ≡ 1
         → (script.new ≡ script.old) × (out.new ≡ out.old) × (result.1 ≡ flash) }
-    ensures caused { CausedBy result.0 (S.faults script.old) (S.faults script.new) (F.faults flash)
-        (F.faults result.1) (K.faults out.old) (K.faults out.new) }
-    ensures taken { TakenBy S.left result.0 (form_of words.now) script.old script.new }
+    ensures caused { CausedBy result.0 (counted F.Flash S.Source K.Sink flash script.old out.old)
+        (counted F.Flash S.Source K.Sink result.1 script.new out.new) }
+    ensures taken { (form : Form) → form_of words.now ≡ Some form
+        → TakenBy S.left result.0 form script.old script.new }
     ensures kept { BorrowsTheSame F.Flash K.Sink flash result.1 out.old out.new }
-    ensures told { IsTrue F.tells → LeftBy result.0 (form_of words.now)
-        (world (F.image flash) (S.left script.old) (K.held out.old))
-        (world (F.image result.1) (S.left script.new) (K.held out.new)) }
-    ensures broken_off { IsTrue F.tells → IsTrue F.cuts → result.0 ≡ 4 → EndsBrokenOff (form_of words.now)
-        (world (F.image flash) (S.left script.old) (K.held out.old))
-        (world (F.image result.1) (S.left script.new) (K.held out.new)) }
-    ensures unsound { IsTrue F.tells → form_of words.now ≢ None → (IsSound (F.image flash) → ⊥)
-        → (result.0 ≡ 4) ⊎ (result.0 ≡ 5) ⊎ (result.0 ≡ 6) }
-    ensures no_fault { IsTrue F.tells → IsSound (F.image flash)
-        → IsWithinLimit (form_of words.now) (S.left script.old)
-        → (Rose (S.faults script.old) (S.faults script.new) → ⊥) → (Rose (F.faults flash) (F.faults result.1) → ⊥)
-        → (Rose (K.faults out.old) (K.faults out.new) → ⊥) → (result.0 ≡ 0) ⊎ (result.0 ≡ 3) }
-    ensures suffices { IsTrue F.tells → IsSound (F.image flash)
-        → HasSpace (form_of words.now) (world (F.image flash) (S.left script.old) (K.held out.old)) → result.0 ≢ 3 }
-    ensures reads { IsTrue F.tells → ReadsAtMost (form_of words.now)
-        (world (F.image flash) (S.left script.old) (K.held out.old)) (F.reads result.1 - F.reads flash) }
+    ensures runs { IsTrue F.tells → (form : Form) → form_of words.now ≡ Some form → IsRun form F.cuts result.0
+        (moment F.Flash S.Source K.Sink flash script.old out.old)
+        (moment F.Flash S.Source K.Sink result.1 script.new out.new) }
 {
     match form(words) {
-        Some(form) => carry(form, script, out, flash),
+        Some(form) => {
+            let mut flash = flash;
+            let status = carry(form, script, out, &mut flash);
+            (status, flash)
+        }
         None => (1, flash),
     }
 }
 
-/// Does what `top` does behind its words: carries out a form, and answers the status and the flash.
+/// Does what `top` does behind its words: carries out a form on a flash, and answers the status.
 pub fn carry<F: Flash, S: Source, K: Sink>(
     form: Form,
     input: &mut S,
     out: &mut K,
-    flash: F,
-) -> (u8, F)
+    flash: &mut F,
+) -> u8
     requires commands { HasFewCommands form }
-    ensures only { IsStatus result.0 × (result.0 ≢ 1) }
-    ensures caused { CausedBy result.0 (S.faults input.old) (S.faults input.new) (F.faults flash)
-        (F.faults result.1) (K.faults out.old) (K.faults out.new) }
-    ensures taken { TakenBy S.left result.0 (Some form) input.old input.new }
-    ensures kept { BorrowsTheSame F.Flash K.Sink flash result.1 out.old out.new }
-    ensures told { IsTrue F.tells → LeftBy result.0 (Some form)
-        (world (F.image flash) (S.left input.old) (K.held out.old))
-        (world (F.image result.1) (S.left input.new) (K.held out.new)) }
-    ensures broken_off { IsTrue F.tells → IsTrue F.cuts → result.0 ≡ 4 → EndsBrokenOff (Some form)
-        (world (F.image flash) (S.left input.old) (K.held out.old))
-        (world (F.image result.1) (S.left input.new) (K.held out.new)) }
-    ensures unsound { IsTrue F.tells → (IsSound (F.image flash) → ⊥)
-        → (result.0 ≡ 4) ⊎ (result.0 ≡ 5) ⊎ (result.0 ≡ 6) }
-    ensures no_fault { IsTrue F.tells → IsSound (F.image flash) → IsWithinLimit (Some form) (S.left input.old)
-        → (Rose (S.faults input.old) (S.faults input.new) → ⊥) → (Rose (F.faults flash) (F.faults result.1) → ⊥)
-        → (Rose (K.faults out.old) (K.faults out.new) → ⊥) → (result.0 ≡ 0) ⊎ (result.0 ≡ 3) }
-    ensures suffices { IsTrue F.tells → IsSound (F.image flash)
-        → HasSpace (Some form) (world (F.image flash) (S.left input.old) (K.held out.old)) → result.0 ≢ 3 }
-    ensures reads { IsTrue F.tells → ReadsAtMost (Some form)
-        (world (F.image flash) (S.left input.old) (K.held out.old)) (F.reads result.1 - F.reads flash) }
+    ensures only { IsStatus result × (result ≢ 1) }
+    ensures caused { CausedBy result (counted F.Flash S.Source K.Sink flash.old input.old out.old)
+        (counted F.Flash S.Source K.Sink flash.new input.new out.new) }
+    ensures taken { TakenBy S.left result form input.old input.new }
+    ensures kept { BorrowsTheSame F.Flash K.Sink flash.old flash.new out.old out.new }
+    ensures runs { IsTrue F.tells → IsRun form F.cuts result
+        (moment F.Flash S.Source K.Sink flash.old input.old out.old)
+        (moment F.Flash S.Source K.Sink flash.new input.new out.new) }
 {
-    let (came, flash) = run_form(form, input, out, flash);
-    (status(came), flash)
+    let mut came = Came::Failed;
+    let _handed = run_form(form, input, out, Handed { flash }, &mut came);
+    status(came)
 }
 
 // The status that the program ends with.
@@ -123,35 +105,42 @@ fn status(came: Came) -> u8
     }
 }
 
-// Carries out what a form asks for.
+// Carries out what a form asks for on a flash that comes back alone: so it is known to be the same one.
 fn run_form<F: Flash, S: Source, K: Sink>(
     form: Form,
     input: &mut S,
     out: &mut K,
     flash: F,
-) -> (Came, F)
+    came: &mut Came,
+) -> F
     requires commands { HasFewCommands form }
     ensures comes { IsTrue F.tells → ComesTo form
         (world (F.image flash) (S.left input.old) (K.held out.old))
-        (world (F.image result.1) (S.left input.new) (K.held out.new)) result.0 }
+        (world (F.image result) (S.left input.new) (K.held out.new)) came.new }
     ensures broken { IsTrue F.tells → IsTrue F.cuts → BreaksBy form
         (world (F.image flash) (S.left input.old) (K.held out.old))
-        (world (F.image result.1) (S.left input.new) (K.held out.new)) result.0 }
-    ensures reaches { OnOpened result.0 (λ done. ReachesBy form done (S.left input.old) (S.left input.new)) }
-    ensures unread { OnUnopened result.0 (input.new ≡ input.old) }
-    ensures untouched { (TakesInput (Some form) → ⊥) → input.new ≡ input.old }
-    ensures reads { IsTrue F.tells → ReadsAtMost (Some form)
-        (world (F.image flash) (S.left input.old) (K.held out.old)) (F.reads result.1 - F.reads flash) }
-    ensures kept { BorrowsTheSame F.Flash K.Sink flash result.1 out.old out.new }
-    ensures cause { HasCameCause (S.faults input.old) (S.faults input.new)
-        (F.faults flash) (F.faults result.1) (K.faults out.old) (K.faults out.new) result.0 }
+        (world (F.image result) (S.left input.new) (K.held out.new)) came.new }
+    ensures reaches { OnOpened came.new (λ done. ReachesBy form done (S.left input.old) (S.left input.new)) }
+    ensures unread { OnUnopened came.new (input.new ≡ input.old) }
+    ensures untouched { (TakesInput form → ⊥) → input.new ≡ input.old }
+    ensures reads { let old = moment F.Flash S.Source K.Sink flash input.old out.old in IsTrue F.tells
+        → ReadsAtMost form old.world (F.reads result - old.reads) }
+    ensures kept { BorrowsTheSame F.Flash K.Sink flash result out.old out.new }
+    ensures cause { HasCameCause (counted F.Flash S.Source K.Sink flash input.old out.old)
+        (counted F.Flash S.Source K.Sink result input.new out.new) came.new }
 {
     mounted_files_are_the_images();
     let sectors = flash.sectors();
     let volume = match Volume::mount(flash) {
         Ok(volume) => volume,
-        Err(MountError::Bad { bad, flash }) => return (refuse(out, bad.rule, bad.place), flash),
-        Err(MountError::Failed { flash }) => return (Came::Failed, flash),
+        Err(MountError::Bad { bad, flash }) => {
+            *came = refuse(out, bad.rule, bad.place);
+            return flash;
+        }
+        Err(MountError::Failed { flash }) => {
+            *came = Came::Failed;
+            return flash;
+        }
     };
     // The session stays in its place until it is closed.
     let mut session = Session::new(volume);
@@ -160,11 +149,17 @@ fn run_form<F: Flash, S: Source, K: Sink>(
             let looks = is_look(&form);
             let done = carry_out(form, sectors, &mut session, input, out);
             let mut flash = close(session);
-            let told = tell_flash(looks, done, &mut flash, out);
-            (Came::Opened(told), flash)
+            *came = Came::Opened(tell_flash(looks, done, &mut flash, out));
+            flash
         }
-        Ok(Err(broken)) => (refuse(out, broken.rule, broken.place), close(session)),
-        Err(Failed) => (Came::Failed, close(session)),
+        Ok(Err(broken)) => {
+            *came = refuse(out, broken.rule, broken.place);
+            close(session)
+        }
+        Err(Failed) => {
+            *came = Came::Failed;
+            close(session)
+        }
     }
 }
 

@@ -13,9 +13,9 @@ ghost use Rattle.intake.specs.declared.ending.Ending.TheVariants as Ending;
 ghost use Rattle.intake.specs.declared.ending.InputEnding.TheVariants as InputEnding;
 ghost use Rattle.space_plan.specs.Lines.{plan_reply};
 ghost use Rattle.run_words.specs.declared.words.Form.TheVariants as Form;
-ghost use Rattle.antelope_run.specs.Comes.{ReachesBy};
 ghost use Rattle.antelope_run.specs.Does.{CarriedReads, DoesForm, Generates, LeavesInput, OnlyTells, TellsOn, WritesText, halted, stopped};
-ghost use Rattle.antelope_run.specs.Statuses.{TakesInput};
+ghost use Rattle.antelope_run.specs.Promise.{TakesInput};
+ghost use Rattle.antelope_run.specs.Steps.{ReachesBy};
 ghost use Rattle.run_words.specs.Words.{HasFewCommands};
 
 use afl_base::{Failed, Fault, Files, Sink, Source};
@@ -51,7 +51,7 @@ pub fn carry_out<V: Files, S: Source, K: Sink>(
         (standing_of V.state V.reads session.old (K.held out.old)) (S.left input.old) (V.reads session.new.files) }
     ensures same { OnlyTells form
         → (V.state session.new.files).store ≡ (V.state session.old.files).store }
-    ensures unread { (TakesInput (Some form) → ⊥) → input.new ≡ input.old }
+    ensures unread { (TakesInput form → ⊥) → input.new ≡ input.old }
     ensures borrows { V.lent session.new.files ≡ V.lent session.old.files }
     ensures lent { K.lent out.new ≡ K.lent out.old }
     ensures later { OnlyTells form → K.faults out.old ≤ K.faults out.new }

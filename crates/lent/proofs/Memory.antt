@@ -1,6 +1,6 @@
 -- What a run says of the memory that was lent.
 use Rattle.std.proofs.Common.{◌≡◌, ◌⊎◌, ℕ, List, [], Some, inl, inr, subst, sym, take}
-use Rattle.antelope_run.specs.Statuses.{HasSpace, LeftBy}
+use Rattle.antelope_run.specs.Promise.{HasSpace, LeftBy}
 use Rattle.collect_run.specs.Collects.{Collects}
 use Rattle.lent.specs.Memory.{LeavesMemory}
 use Rattle.repair_run.specs.Checks.{Checks}
@@ -10,11 +10,11 @@ use Rattle.run_words.specs.declared.words.Form.{Form}
 
 -- a run over a flash, a source and a sink that hold the memory, of which the sink held nothing
 pub leaves : (form : Form) (status : ℕ) (input rest room : List ℕ) (count : ℕ) {lent old kept new wrote replies : List ℕ} {held : ℕ}
-    → LeftBy status (Some form) (world lent (Some input) (Some (take held room))) (world kept (Some rest) (Some (take count wrote)))
+    → LeftBy status form (world lent (Some input) (Some (take held room))) (world kept (Some rest) (Some (take count wrote)))
     → lent ≡ old → held ≡ 0 → kept ≡ new → wrote ≡ replies → LeavesMemory form old input status new (take count replies)
 leaves form status input rest room count {lent = lent} {kept = kept} {wrote = wrote} left same none now front = (
   Some rest,
-  rw (← same, ← now, ← front) (subst (λ h. LeftBy status (Some form) (world lent (Some input) (Some (take h room))) (world kept (Some rest) (Some (take count wrote)))) none left),
+  rw (← same, ← now, ← front) (subst (λ h. LeftBy status form (world lent (Some input) (Some (take h room))) (world kept (Some rest) (Some (take count wrote)))) none left),
 )
 
 -- the same of a repair
@@ -40,10 +40,10 @@ collects status room count {lent = lent} {kept = kept} {wrote = wrote} left same
 
 -- space that a run finds over the memory it finds over what holds it
 pub has_space : (form : Form) (input room : List ℕ) {lent old : List ℕ} {held : ℕ} → lent ≡ old → held ≡ 0
-    → HasSpace (Some form) (world old (Some input) (Some [])) → HasSpace (Some form) (world lent (Some input) (Some (take held room)))
+    → HasSpace form (world old (Some input) (Some [])) → HasSpace form (world lent (Some input) (Some (take held room)))
 has_space form input room {old = old} {held = held} same none has =
-    subst (λ i. HasSpace (Some form) (world i (Some input) (Some (take held room)))) (sym same)
-    (subst (λ h. HasSpace (Some form) (world old (Some input) (Some (take h room)))) (sym none) has)
+    subst (λ i. HasSpace form (world i (Some input) (Some (take held room)))) (sym same)
+    (subst (λ h. HasSpace form (world old (Some input) (Some (take h room)))) (sym none) has)
 
 pub ends_of : {status : ℕ} → (status ≡ 0) ⊎ (status ≡ 3) → (status ≡ 0) ⊎ (status ≡ 3) ⊎ (status ≡ 10)
 ends_of (inl e) = inl e

@@ -1,7 +1,7 @@
 -- What a call leaves in memory that is lent: of an image, and of the replies.
 use Rattle.std.specs.Prelude.{◌≡◌, ◌≢◌, ◌↔◌, ◌⊎◌, ℕ, ◌≤◌, List, [], length, take, Option, Some}
 use Rattle.afl_sim.specs.Lengths.{IsImageLength}
-use Rattle.antelope_run.specs.Statuses.{HasSpace, IsWithinLimit, LeftBy}
+use Rattle.antelope_run.specs.Promise.{HasSpace, IsWithinLimit, LeftBy}
 use Rattle.collect_run.specs.Collects.{Collects}
 use Rattle.repair_run.specs.Checks.{Checks}
 use Rattle.repair_run.specs.Repairs.{Repairs}
@@ -28,7 +28,7 @@ IsLentCollectStatus s = (s ≡ 0) ⊎ (s ≡ 5) ⊎ (s ≡ 6) ⊎ (s ≡ 10)
 -- what a run of a form leaves by its status: `old` was the image and `new` is, and these bytes of replies were written
 abbrev pub LeavesMemory : Form → (old input : List ℕ) → (status : ℕ) → (new replies : List ℕ) → Type 0
 LeavesMemory form old input status new replies =
-    (rest : Option (List ℕ)) × LeftBy status (Some form) (world old (Some input) (Some [])) (world new rest (Some replies))
+    (rest : Option (List ℕ)) × LeftBy status form (world old (Some input) (Some [])) (world new rest (Some replies))
 
 -- all of it in one: `room` is the memory for replies behind the run, of which the first bytes were written
 pub record RunsInMemory (form : Form) (old input : List ℕ) (status written : ℕ) (new room : List ℕ) : Type 0 where
@@ -39,8 +39,8 @@ pub record RunsInMemory (form : Form) (old input : List ℕ) (status written : �
   pub full : status ≡ 5 → written ≡ length room
   pub told : status ≢ 10 → LeavesMemory form old input status new (take written room)
   pub unsound : (IsSound old → ⊥) → (status ≡ 5) ⊎ (status ≡ 6) ⊎ (status ≡ 10)
-  pub no_fault : IsSound old → IsWithinLimit (Some form) (Some input) → written ≢ length room → (status ≡ 0) ⊎ (status ≡ 3) ⊎ (status ≡ 10)
-  pub suffices : IsSound old → HasSpace (Some form) (world old (Some input) (Some [])) → status ≢ 3
+  pub no_fault : IsSound old → IsWithinLimit form (Some input) → written ≢ length room → (status ≡ 0) ⊎ (status ≡ 3) ⊎ (status ≡ 10)
+  pub suffices : IsSound old → HasSpace form (world old (Some input) (Some [])) → status ≢ 3
 
 -- the same of a repair
 pub record RepairsInMemory (old : List ℕ) (status written : ℕ) (new room : List ℕ) : Type 0 where

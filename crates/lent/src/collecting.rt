@@ -6,10 +6,8 @@ ghost use Rattle.lent.specs.Memory.{IsLentCollectStatus};
 
 use crate::ended::Ended;
 use crate::flash::LentFlash;
-use crate::handed::Handed;
 use crate::length::sectors_of;
 use crate::sink::LentSink;
-use afl_base::{Flash, Sink};
 use collect_run::collect;
 
 /// Erases each sector of the image in `image` that a collection takes, and puts the line that says how many in
@@ -32,42 +30,9 @@ pub fn collect_lent(image: &mut [u8], replies: &mut [u8]) -> Ended
     };
     let mut out = LentSink::new(replies);
     let mut flash = LentFlash::new(image, sectors);
-    let mut handed = Handed { flash: &mut flash };
-    let status = collect_handed(&mut out, &mut handed);
+    let status = collect(&mut out, &mut flash);
     Ended {
         status,
         written: out.count,
     }
-}
-
-// Collects an image on a flash that is handed over, which tells it and never fails.
-fn collect_handed<F: Flash>(out: &mut LentSink, handed: &mut Handed<F>) -> u8
-    requires tells { IsTrue F.tells }
-    requires faultless { (flash : F) → F.faults flash ≡ 0 }
-    ensures only { (result ≡ 0) ⊎ (result ≡ 5) ⊎ (result ≡ 6) }
-    ensures same_reference { handed.new.flash.ghost_name ≡ handed.old.flash.ghost_name }
-    ensures lent { F.lent handed.new.flash.now ≡ F.lent handed.old.flash.now }
-    ensures sink_lent { out.new.bytes.ghost_name ≡ out.old.bytes.ghost_name }
-    ensures sink { result ≡ 5 → Rose out.old.faults out.new.faults }
-    ensures told { Collects result (F.image handed.old.flash.now) (F.image handed.new.flash.now)
-        (Some (take out.old.count out.old.bytes.now)) (Some (take out.new.count out.new.bytes.now)) }
-{
-    let mut status = 0;
-    let _handed = collect_through(out, handed, &mut status);
-    status
-}
-
-// The same of any flash, which comes back alone.
-fn collect_through<F: Flash, K: Sink>(out: &mut K, flash: F, status: &mut u8) -> F
-    ensures only { IsCollectStatus status.new }
-    ensures told { IsTrue F.tells
-        → Collects status.new (F.image flash) (F.image result) (K.held out.old) (K.held out.new) }
-    ensures flash { status.new ≡ 4 → Rose (F.faults flash) (F.faults result) }
-    ensures sink { status.new ≡ 5 → Rose (K.faults out.old) (K.faults out.new) }
-    ensures lent { F.lent result ≡ F.lent flash }
-    ensures sink_lent { K.lent out.new ≡ K.lent out.old }
-{
-    let mut flash = flash;
-    *status = collect(out, &mut flash);
-    flash
 }

@@ -5,7 +5,6 @@ mod checking;
 mod collecting;
 mod ended;
 mod flash;
-mod handed;
 mod length;
 mod repairing;
 mod running;

@@ -2,13 +2,14 @@
 
 #![tactic(auto)]
 
-ghost use Rattle.std.specs.Prelude.{◌≡◌, ◌⊎◌, ◌↔◌, IfSome, IsTrue, List, None, ℕ};
-ghost use Rattle.antelope_run.specs.Statuses.{IsStatus, LeftBy};
+ghost use Rattle.std.specs.Prelude.{◌≡◌, ◌⊎◌, ◌↔◌, IfSome, IsTrue, None, Some};
+ghost use Rattle.antelope_run.specs.Promise.{IsStatus, LeftBy};
 ghost use Rattle.collect_run.specs.Collects.{Collects, IsCollectStatus};
 ghost use Rattle.program_run.specs.Upkeep.{IsUpkeepStatus, Keeps, upkeep_of};
 ghost use Rattle.repair_run.specs.Checks.{Checks, IsCheckStatus};
 ghost use Rattle.repair_run.specs.Repairs.{IsRepairStatus, Repairs};
 ghost use Rattle.run_model.specs.Runs.{world};
+ghost use Rattle.run_words.specs.declared.words.Form.{Form};
 ghost use Rattle.run_words.specs.Words.{form_of};
 
 use crate::naming::{Upkeep, upkeep_of};
@@ -17,53 +18,55 @@ use antelope_run::top;
 use collect_run::collect;
 use repair_run::{check, repair};
 
-/// Does the upkeep of a flash that the words ask for, or runs on it as they ask, and answers the status that the program
-/// ends with. What was written is what `repair`, `check`, `collect` or `top` promises; the flash is dropped, so nothing is said of
-/// what it holds.
-pub fn carry_out<F, S, K>(words: &[String], script: &mut S, out: &mut K, flash: F) -> u8
-where
-    F: Flash + Drop,
-    S: Source,
-    K: Sink,
-    ensures only { IsStatus result ⊎ IsUpkeepStatus result }
-    ensures words { (result ≡ 1) ↔ ((form_of words.now ≡ None) × (upkeep_of words.now ≡ None)) }
-    ensures ran { IsTrue F.tells → upkeep_of words.now ≡ None → (image : List ℕ) × LeftBy result (form_of words.now)
+/// Does the upkeep of a flash that the words ask for, or runs on it as they ask. The answer is the status that the program
+/// ends with, and the flash. What was written, and what the flash holds, is what `repair`, `check`, `collect` or `top` promises.
+pub fn carry_out<F: Flash, S: Source, K: Sink>(
+    words: &[String],
+    script: &mut S,
+    out: &mut K,
+    flash: F,
+) -> (u8, F)
+    ensures only { IsStatus result.0 ⊎ IsUpkeepStatus result.0 }
+    ensures words { (result.0 ≡ 1) ↔ ((form_of words.now ≡ None) × (upkeep_of words.now ≡ None)) }
+    ensures ran { IsTrue F.tells → upkeep_of words.now ≡ None
+        → (form : Form) → form_of words.now ≡ Some form → LeftBy result.0 form
         (world (F.image flash) (S.left script.old) (K.held out.old))
-        (world image (S.left script.new) (K.held out.new)) }
-    ensures kept { IsTrue F.tells → IfSome (upkeep_of words.now) (λ upkeep. (image : List ℕ)
-        × Keeps upkeep result (F.image flash) image (K.held out.old) (K.held out.new)) }
+        (world (F.image result.1) (S.left script.new) (K.held out.new)) }
+    ensures kept { IsTrue F.tells → IfSome (upkeep_of words.now) (λ upkeep.
+        Keeps upkeep result.0 (F.image flash) (F.image result.1) (K.held out.old) (K.held out.new)) }
 {
     match upkeep_of(words) {
-        Some(upkeep) => keep(upkeep, out, flash),
+        Some(upkeep) => {
+            let mut flash = flash;
+            let status = keep(upkeep, out, &mut flash);
+            (status, flash)
+        }
         None => run(words, script, out, flash),
     }
 }
 
 // Each has a frame of its own on the stack.
 #[inline(never)]
-fn run<F, S, K>(words: &[String], script: &mut S, out: &mut K, flash: F) -> u8
-where
-    F: Flash + Drop,
-    S: Source,
-    K: Sink,
-    ensures only { IsStatus result }
-    ensures words { (result ≡ 1) ↔ (form_of words.now ≡ None) }
-    ensures ran { IsTrue F.tells → (image : List ℕ) × LeftBy result (form_of words.now)
+fn run<F: Flash, S: Source, K: Sink>(
+    words: &[String],
+    script: &mut S,
+    out: &mut K,
+    flash: F,
+) -> (u8, F)
+    ensures only { IsStatus result.0 }
+    ensures words { (result.0 ≡ 1) ↔ (form_of words.now ≡ None) }
+    ensures ran { IsTrue F.tells → (form : Form) → form_of words.now ≡ Some form → LeftBy result.0 form
         (world (F.image flash) (S.left script.old) (K.held out.old))
-        (world image (S.left script.new) (K.held out.new)) }
+        (world (F.image result.1) (S.left script.new) (K.held out.new)) }
 {
-    let (status, _) = top(words, script, out, flash);
-    status
+    top(words, script, out, flash)
 }
 
 // The upkeep of a flash.
-fn keep<F, K>(upkeep: Upkeep, out: &mut K, flash: F) -> u8
-where
-    F: Flash + Drop,
-    K: Sink,
+fn keep<F: Flash, K: Sink>(upkeep: Upkeep, out: &mut K, flash: &mut F) -> u8
     ensures only { IsUpkeepStatus result }
-    ensures kept { IsTrue F.tells → (image : List ℕ)
-        × Keeps upkeep result (F.image flash) image (K.held out.old) (K.held out.new) }
+    ensures kept { IsTrue F.tells → Keeps upkeep result
+        (F.image flash.old) (F.image flash.new) (K.held out.old) (K.held out.new) }
 {
     match upkeep {
         Upkeep::Repair => repaired(out, flash),
@@ -73,36 +76,28 @@ where
 }
 
 #[inline(never)]
-fn repaired<F, K>(out: &mut K, mut flash: F) -> u8
-where
-    F: Flash + Drop,
-    K: Sink,
+fn repaired<F: Flash, K: Sink>(out: &mut K, flash: &mut F) -> u8
     ensures only { IsRepairStatus result }
-    ensures repaired { IsTrue F.tells → (image : List ℕ)
-        × Repairs result (F.image flash) image (K.held out.old) (K.held out.new) }
+    ensures repaired { IsTrue F.tells
+        → Repairs result (F.image flash.old) (F.image flash.new) (K.held out.old) (K.held out.new) }
 {
-    repair(out, &mut flash)
+    repair(out, flash)
 }
 
 #[inline(never)]
-fn checked<F, K>(out: &mut K, mut flash: F) -> u8
-where
-    F: Flash + Drop,
-    K: Sink,
+fn checked<F: Flash, K: Sink>(out: &mut K, flash: &mut F) -> u8
     ensures only { IsCheckStatus result }
-    ensures checked { IsTrue F.tells → Checks result (F.image flash) (K.held out.old) (K.held out.new) }
+    ensures checked { IsTrue F.tells → Checks result (F.image flash.old) (K.held out.old) (K.held out.new) }
+    ensures same { F.image flash.new ≡ F.image flash.old }
 {
-    check(out, &mut flash)
+    check(out, flash)
 }
 
 #[inline(never)]
-fn collected<F, K>(out: &mut K, mut flash: F) -> u8
-where
-    F: Flash + Drop,
-    K: Sink,
+fn collected<F: Flash, K: Sink>(out: &mut K, flash: &mut F) -> u8
     ensures only { IsCollectStatus result }
-    ensures collected { IsTrue F.tells → (image : List ℕ)
-        × Collects result (F.image flash) image (K.held out.old) (K.held out.new) }
+    ensures collected { IsTrue F.tells
+        → Collects result (F.image flash.old) (F.image flash.new) (K.held out.old) (K.held out.new) }
 {
-    collect(out, &mut flash)
+    collect(out, flash)
 }

@@ -3,7 +3,7 @@ use Rattle.std.proofs.Common.{◌≡◌, ◌≤◌, ◌⊎◌, ℕ, ◌/◌, Lis
 use Rattle.std.specs.Prelude.{◌≢◌, Result, Ok}
 use Rattle.afl_base.specs.Files.{Table}
 use Rattle.run_words.specs.declared.words.Form.TheVariants.{Run}
-use Rattle.antelope_run.specs.Statuses.{HasSpace}
+use Rattle.antelope_run.specs.Promise.{HasSpace}
 use Rattle.db_model.specs.declared.commands.Command.{Command}
 use Rattle.db_model.specs.declared.refusals.Refusal.{Refusal}
 use Rattle.db_model.specs.Database.{Database}
@@ -45,7 +45,7 @@ module _ (read : List ℕ → Result Command Refusal) (db : Database) (sectors :
 
 -- the space of a run is that before the commands of its input
 pub has_space : (read : List ℕ → Result Command Refusal) → IsReader read → (old : World) (text : List ℕ) → old.left ≡ Some text
-    → HasEnough (machine_from (script_talk read) (base old.image)) (length old.image / 4096) (commands text) → HasSpace (Some Run) old
+    → HasEnough (machine_from (script_talk read) (base old.image)) (length old.image / 4096) (commands text) → HasSpace Run old
 has_space read reader old text told each =
     let some : old.left ≢ None = λ none. (let n : ⊥ = cc in n) in (
       some,

@@ -4,7 +4,7 @@
 
 ghost use Rattle.std.specs.Prelude.{◌≡◌, ◌≤◌, ◌/◌, ℕ, List, length, Some, Result};
 ghost use Rattle.run_words.specs.declared.words.Form.TheVariants.{Run};
-ghost use Rattle.antelope_run.specs.Statuses.{RunEnds, HasSpace};
+ghost use Rattle.antelope_run.specs.Promise.{HasSpace, LeftBy};
 ghost use Rattle.db_model.specs.declared.commands.Command.{Command};
 ghost use Rattle.db_model.specs.declared.refusals.Refusal.{Refusal};
 ghost use Rattle.db_model.specs.Database.{Database, empty_database};
@@ -35,7 +35,7 @@ use stored::sound_files_are_a_sound_database;
 pub fn dumped_scripts_make_their_image()
     ensures { (read : List ℕ → Result Command Refusal) → IsReader read
         → (db : Database) (old new : World) → IsSoundDatabase db → old.left ≡ Some (script db)
-        → base old.image ≡ empty_database → RunEnds (Some Run) old new → Remakes db old new }
+        → base old.image ≡ empty_database → LeftBy 0 Run old new → Remakes db old new }
 {
     scripts_make_their_database();
     scripts_are_answered_in_order();
@@ -64,7 +64,7 @@ pub fn planned_runs_find_space()
     ensures { (read : List ℕ → Result Command Refusal) → IsReader read
         → (rows : List ℕ → ℕ) (old : World) (text : List ℕ) → IsSound old.image
         → old.left ≡ Some text → KeepsToPlan rows (base old.image) (commands_of read (commands text))
-        → planned (base old.image) rows ≤ length old.image / 4096 → HasSpace (Some Run) old }
+        → planned (base old.image) rows ≤ length old.image / 4096 → HasSpace Run old }
 {
     planned_flash_has_enough();
     scripts_are_answered_in_order();
@@ -78,11 +78,11 @@ pub fn planned_rings_find_space()
     ensures rows { (read : List ℕ → Result Command Refusal) → IsReader read
         → (rows : List ℕ → ℕ) (old : World) (text : List ℕ) → IsSound old.image
         → old.left ≡ Some text → KeepsToRing rows (base old.image) (commands_of read (commands text))
-        → planned (base old.image) rows ≤ length old.image / 4096 → HasSpace (Some Run) old }
+        → planned (base old.image) rows ≤ length old.image / 4096 → HasSpace Run old }
     ensures slots { (read : List ℕ → Result Command Refusal) → IsReader read
         → (rows : List ℕ → ℕ) (old : World) (text : List ℕ) → IsSound old.image
         → old.left ≡ Some text → KeepsToSlots rows (base old.image) (commands_of read (commands text))
-        → planned (base old.image) rows ≤ length old.image / 4096 → HasSpace (Some Run) old }
+        → planned (base old.image) rows ≤ length old.image / 4096 → HasSpace Run old }
 {
     planned_flash_has_enough_for_rings();
     scripts_are_answered_in_order();

@@ -39,7 +39,8 @@ where
     let flash = open_flash(rt, names.image)?;
     let mut source = StdSource::new(stdin);
     let mut out = StdSink::new(stdout);
-    Ok(carry_out(words, &mut source, &mut out, flash))
+    let (status, _flash) = carry_out(words, &mut source, &mut out, flash);
+    Ok(status)
 }
 
 fn open_flash<R: Files<File = File>>(rt: &R, path: &str) -> Result<FileFlash<File>, Failure> {

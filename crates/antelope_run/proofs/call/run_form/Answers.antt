@@ -13,7 +13,7 @@ use Rattle.run_model.specs.Runs.{world}
 use Rattle.antelope_run.proofs.Opened.{mounted_within, opened_within}
 use Rattle.antelope_run.proofs.ReadsLeft.{not_true, reads_behind, unopened_reads}
 use Rattle.antelope_run.proofs.Refusals.{none_opened, nothing_broken, on_unopened, refused_cause, refused_comes}
-use Rattle.antelope_run.specs.Comes.{ComesTo}
+use Rattle.antelope_run.specs.Promise.{ComesTo}
 use Rattle.antelope_run.specs.Does.{OnlyTells}
 use Rattle.antelope_run.specs.Follows.{WritesBehind}
 use Rattle.look.specs.Text.{flash_line}
@@ -35,14 +35,14 @@ returns-in-Ok-Ok-clause-comes g c = λ told.
     let told_now = ap (λ s. s.tells) began.frame.same ∙ tells in
     let many : c.sectors-sectors.result ≡ length image / 4096 = (let size = c.sectors-sectors.ensures.size in omega (arith, size)) in
     let stays : OnlyTells c.args.form → g.F.Flash.image c.close-flash.result ≡ image = λ only. c.close-flash.ensures.image ∙ c.carry_out-done.ensures.same only ∙ ap (λ s. s.store) began.frame.same ∙ store in
-    let follows = c.tell_flash-told.ensures in
+    let follows = c.tell_flash.ensures in
     let left = g.S.Source.left c.carry_out-done.new.input in
-    let held = g.K.Sink.held c.tell_flash-told.new.out in
-    subst (λ (now : List ℕ). ComesTo c.args.form (world image (g.S.Source.left c.args.input.now) (g.K.Sink.held c.args.out.now)) (world now left held) (Opened c.tell_flash-told.result))
+    let held = g.K.Sink.held c.tell_flash.new.out in
+    subst (λ (now : List ℕ). ComesTo c.args.form (world image (g.S.Source.left c.args.input.now) (g.K.Sink.held c.args.out.now)) (world now left held) (Opened c.tell_flash.result))
     (sym follows.frame.same) (
       sound,
       leaves _ _ image (g.F.Flash.image c.close-flash.result) (g.S.Source.left c.args.input.now) left _ start told_now
-          c.carry_out-done.result c.tell_flash-told.result held c.sectors-sectors.result many c.args.form
+          c.carry_out-done.result c.tell_flash.result held c.sectors-sectors.result many c.args.form
           (λ tells_now other. c.close-flash.ensures.back tells_now (not_true _ c.carry_out-done.new.session.lost (c.carry_out-done.ensures.lost kept) other))
           stays
           (λ only. ap g.S.Source.left (c.carry_out-done.ensures.unread (tells_alone c.args.form only)))
@@ -50,7 +50,7 @@ returns-in-Ok-Ok-clause-comes g c = λ told.
           (λ other. let same = follows.others (c.is_look-looks.ensures ∙ other) in (same.0, ap g.K.Sink.held same.2))
           (λ looks.
           let same = stays (look_tells c.args.form looks) in
-          subst (λ (i : List ℕ). WritesBehind (flash_line i) c.carry_out-done.result c.tell_flash-told.result (g.K.Sink.held c.carry_out-done.new.out) held) same
+          subst (λ (i : List ℕ). WritesBehind (flash_line i) c.carry_out-done.result c.tell_flash.result (g.K.Sink.held c.carry_out-done.new.out) held) same
           (follows.wrote (c.is_look-looks.ensures ∙ looks) told (ap broken_image same ∙ sound.volume))),
     )
 
@@ -70,13 +70,13 @@ returns-in-Ok-Ok-clause-broken g c = λ told cuts.
     let closed = c.close-flash.ensures.image in
     let stays : OnlyTells c.args.form → g.F.Flash.image c.close-flash.result ≡ image = λ only. closed ∙ c.carry_out-done.ensures.same only ∙ ap (λ s. s.store) began.frame.same ∙ store in
     let unread : OnlyTells c.args.form → g.S.Source.left c.carry_out-done.new.input ≡ g.S.Source.left c.args.input.now = λ only. ap g.S.Source.left (c.carry_out-done.ensures.unread (tells_alone c.args.form only)) in
-    let follows = c.tell_flash-told.ensures in
+    let follows = c.tell_flash.ensures in
     let left = g.S.Source.left c.carry_out-done.new.input in
     let was = world image (g.S.Source.left c.args.input.now) (g.K.Sink.held c.args.out.now) in
     let mid = world (g.F.Flash.image c.close-flash.result) left (g.K.Sink.held c.carry_out-done.new.out) in
-    let new = world (g.F.Flash.image c.tell_flash-told.new.flash) left (g.K.Sink.held c.tell_flash-told.new.out) in
-    broken_opened c.args.form was new c.tell_flash-told.result sound
-    (breaks_by c.args.form was mid new c.carry_out-done.result c.tell_flash-told.result
+    let new = world (g.F.Flash.image c.tell_flash.new.flash) left (g.K.Sink.held c.tell_flash.new.out) in
+    broken_opened c.args.form was new c.tell_flash.result sound
+    (breaks_by c.args.form was mid new c.carry_out-done.result c.tell_flash.result
     (λ failed. breaks _ _ image (g.F.Flash.image c.close-flash.result) (g.S.Source.left c.args.input.now) left _ start told_now
     (λ db command b. subst (λ (i : List ℕ). ImageMendsTo i (IsBetween db command)) (sym closed) (b cuts))
     c.sectors-sectors.result c.args.form stays unread (rw failed at (c.carry_out-done.ensures.does told_now kept)))
@@ -86,8 +86,8 @@ returns-in-Ok-Ok-clause-broken g c = λ told cuts.
 
 pub returns-in-Ok-Ok-clause-reaches : goal.returns-in-Ok-Ok-clause-reaches
 returns-in-Ok-Ok-clause-reaches g c =
-    let follows = c.tell_flash-told.ensures in
-    reaches_on (g.S.Source.left c.args.input.now) (g.S.Source.left c.carry_out-done.new.input) c.carry_out-done.result c.tell_flash-told.result c.args.form
+    let follows = c.tell_flash.ensures in
+    reaches_on (g.S.Source.left c.args.input.now) (g.S.Source.left c.carry_out-done.new.input) c.carry_out-done.result c.tell_flash.result c.args.form
     (λ other. (follows.others (c.is_look-looks.ensures ∙ other)).0) follows.halts c.carry_out-done.ensures.reaches
 
 pub returns-in-Ok-Ok-clause-reads : goal.returns-in-Ok-Ok-clause-reads
@@ -101,14 +101,14 @@ returns-in-Ok-Ok-clause-reads g c = λ told.
     let sound : IsSound image = record { volume = c.in-Ok.ensures.sound told; database = subst IsSoundTable files (rw c.in-Ok-Ok.field-0-is at (began.sound tells)) } in
     let start : c.begin.new.self.database ≡ base image = (rw c.in-Ok-Ok.field-0-is at (began.base tells)) ∙ ap base_of files in
     let opened = opened_within image _ files _ _ _ c.sectors-sectors.result c.sectors-sectors.ensures.size c.sectors-sectors.ensures.least (rw (← at) at c.in-Ok.ensures.reads) (began.reads tells) in
-    let follows = c.tell_flash-told.ensures in
+    let follows = c.tell_flash.ensures in
     let closed = c.close-flash.ensures.reads in
     let store = rw (← at) at c.in-Ok.ensures.same in
     let size : length (g.F.Flash.image c.close-flash.result) ≡ length image = ap length c.close-flash.ensures.image ∙ c.carry_out-done.ensures.store ∙ ap (λ s. length s.store) began.frame.same ∙ ap length store in
     let read = follows.reads in
-    let few : g.F.Flash.reads c.tell_flash-told.new.flash ≤ g.F.Flash.reads c.close-flash.result + length image / 256 = omega (arith, read, size) in
+    let few : g.F.Flash.reads c.tell_flash.new.flash ≤ g.F.Flash.reads c.close-flash.result + length image / 256 = omega (arith, read, size) in
     reads_behind image (g.S.Source.left c.args.input.now) (g.K.Sink.held c.args.out.now) (g.F.Flash.reads c.args.flash)
-    _ _ start (rw c.in-Ok-Ok.field-0-is at began.aheads) opened (g.F.Flash.reads c.tell_flash-told.new.flash) (rw closed at few) c.args.form
+    _ _ start (rw c.in-Ok-Ok.field-0-is at began.aheads) opened (g.F.Flash.reads c.tell_flash.new.flash) (rw closed at few) c.args.form
     (λ other. ap g.F.Flash.reads (follows.others (c.is_look-looks.ensures ∙ other)).1 ∙ closed) sound (c.carry_out-done.ensures.reads (ap (λ s. s.tells) began.frame.same ∙ tells))
 
 pub returns-in-Ok-Ok-clause-cause : goal.returns-in-Ok-Ok-clause-cause
@@ -116,19 +116,19 @@ returns-in-Ok-Ok-clause-cause g c =
     let cause = c.carry_out-done.ensures.cause in
     let mounted = rw (← c.new-session.ensures.files) at c.in-Ok.ensures.cause in
     let later = c.in-Ok-Ok.ensures.frame.cause.later in
-    let follows = c.tell_flash-told.ensures.frame in
+    let follows = c.tell_flash.ensures.frame in
     let files = cause.files_later in
     let closed = c.close-flash.ensures.faults in
     let low : g.F.Flash.faults c.args.flash ≤ g.F.Flash.faults c.close-flash.result = omega (arith, closed, files, later, mounted) in
     record {
-      input = λ e. let is : c.tell_flash-told.result ≡ Err Input = cc in cause.input (follows.input is);
+      input = λ e. let is : c.tell_flash.result ≡ Err Input = cc in cause.input (follows.input is);
       flash_failed = λ e.
-          let is : c.tell_flash-told.result ≡ Err (Early Flash) = cc in
+          let is : c.tell_flash.result ≡ Err (Early Flash) = cc in
           rose_by _ _ _ low follows.later (λ was. (let rose = cause.flash was in omega (arith, rose, later, mounted, closed))) (follows.flash is);
       sink_failed = λ e.
-          let is : c.tell_flash-told.result ≡ Err (Early Sink) = cc in
+          let is : c.tell_flash.result ≡ Err (Early Sink) = cc in
           rose_when c.is_look-looks.result _ _ _ (λ looks. c.carry_out-done.ensures.later (look_tells c.args.form (sym c.is_look-looks.ensures ∙ looks)))
-          (λ other. sym (c.tell_flash-told.ensures.others other).0 ∙ is) follows.sink_later cause.sink (follows.sink is);
+          (λ other. sym (c.tell_flash.ensures.others other).0 ∙ is) follows.sink_later cause.sink (follows.sink is);
       unsaid = λ e. absurd (let n : ⊥ = cc in n);
       unopened = λ e. absurd (let n : ⊥ = cc in n);
     }
@@ -159,7 +159,7 @@ pub returns-in-Err-Bad-clause-unread : goal.returns-in-Err-Bad-clause-unread
 returns-in-Err-Bad-clause-unread g c = on_unopened c.refuse.result _ refl c.refuse.ensures.only
 
 pub returns-in-Err-Bad-clause-cause : goal.returns-in-Err-Bad-clause-cause
-returns-in-Err-Bad-clause-cause g c = refused_cause c.refuse.result _ _ _ _ _ _ c.refuse.ensures.only c.refuse.ensures.rose
+returns-in-Err-Bad-clause-cause g c = refused_cause c.refuse.result _ _ c.refuse.ensures.only c.refuse.ensures.rose
 
 pub returns-in-Err-Failed-clause-reads : goal.returns-in-Err-Failed-clause-reads
 returns-in-Err-Failed-clause-reads g c = λ told.
@@ -206,7 +206,7 @@ pub returns-in-Ok-Err-clause-unread : goal.returns-in-Ok-Err-clause-unread
 returns-in-Ok-Err-clause-unread g c = on_unopened c.refuse-in-Ok-Err.result _ refl c.refuse-in-Ok-Err.ensures.only
 
 pub returns-in-Ok-Err-clause-cause : goal.returns-in-Ok-Err-clause-cause
-returns-in-Ok-Err-clause-cause g c = refused_cause c.refuse-in-Ok-Err.result _ _ _ _ _ _ c.refuse-in-Ok-Err.ensures.only c.refuse-in-Ok-Err.ensures.rose
+returns-in-Ok-Err-clause-cause g c = refused_cause c.refuse-in-Ok-Err.result _ _ c.refuse-in-Ok-Err.ensures.only c.refuse-in-Ok-Err.ensures.rose
 
 -- the flash failed
 

@@ -4,6 +4,6 @@ use Rattle.lent.proofs.checking.check_lent.Goals as goal
 
 pub returns-clause-told : goal.returns-clause-told
 returns-clause-told c = λ n.
-    let ran = c.check_handed-status in
+    let ran = c.check-status in
     checks ran.result c.new-out.result.bytes.now ran.new.out.count
-    ran.ensures.told c.new-flash.ensures.bytes c.new-out.ensures.count (search rules)
+    (ran.ensures.told (search rules)) c.new-flash.ensures.bytes c.new-out.ensures.count (search rules)
